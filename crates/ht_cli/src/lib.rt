@@ -1,0 +1,5 @@
+//! The commands of the program.
+#![tactic(auto)]
+
+pub mod status;
+pub mod words;

@@ -1,0 +1,36 @@
+//! The lines that end an output, or stand for it.
+ghost use Rattle.std.specs.Prelude.{◌≡◌, IfOk};
+ghost use Rattle.ht_text.specs.Lines.{end_text, refused_text, usage_text};
+
+use std::alloc::{AllocError, Global};
+
+/// The line `end N frames`: the input was a whole capture of so many frames. Only memory can fail.
+#[tactic(auto, unfolding(crate::specs::Lines::end_text))]
+pub fn end_line(alloc: Global, frames: u16) -> Result<Vec<u8>, AllocError>
+    ensures { IfOk result (λ v. v.items ≡ end_text frames) }
+{
+    let text = format!(in alloc; "end {frames} frames\n")?;
+    Ok(text.into_bytes())
+}
+
+/// The line `refused NAME at OFFSET`: the kind of the input's first fault, and the number of octets
+/// that stand before it. Only memory can fail.
+#[tactic(auto, unfolding(crate::specs::Lines::refused_text))]
+pub fn refused_line(alloc: Global, name: &str, offset: u64) -> Result<Vec<u8>, AllocError>
+    ensures { IfOk result (λ v. v.items ≡ refused_text name.now offset) }
+{
+    let text = format!(in alloc; "refused {name} at {offset}\n")?;
+    Ok(text.into_bytes())
+}
+
+/// The line that says how the program is called. Only memory can fail.
+#[tactic(auto, unfolding(crate::specs::Lines::usage_text))]
+pub fn usage_line(alloc: Global) -> Result<Vec<u8>, AllocError>
+    ensures { IfOk result (λ v. v.items ≡ usage_text) }
+{
+    let text = String::from_str(
+        alloc,
+        "usage: radio COMMAND then options as --NAME DIGITS\n",
+    )?;
+    Ok(text.into_bytes())
+}
