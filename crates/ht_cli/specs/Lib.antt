@@ -1,1 +1,2 @@
+pub mod OneFrame
 pub mod Words

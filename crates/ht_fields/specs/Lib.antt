@@ -1,0 +1,4 @@
+pub mod Cases
+pub mod Grammar
+pub mod Meanings
+pub mod Reading
