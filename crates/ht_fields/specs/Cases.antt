@@ -27,7 +27,8 @@ joined (x ∷ xs) = x ++ joined xs
 abbrev pub Leads : {S I : Type 0} → Grammar S I → S → List (List ℕ) → List I → S → Type 0
 Leads f s [] items t = (items ≡ []) × (s ≡ t)
 Leads f s (x ∷ xs) items t =
-    (next : _) × (here : List _) × (later : List _) × IsField (f.due s) x (Good next here) × Leads f next xs later t × (items ≡ here ++ later)
+    (next : _) × (here : List _) × (later : List _)
+    × IsField (f.due s) x (Good next here) × Leads f next xs later t × (items ≡ here ++ later)
 
 -- the first so many octets are good fields that give these items, and then this state and the rest of the octets are left
 pub record Reaches {S I : Type 0} (f : Grammar S I) (octets : List ℕ) (items : List I) (offset : ℕ) (state : S) (rest : List ℕ) : Type 0 where
@@ -42,7 +43,8 @@ IsFile f octets items = (offset : ℕ) × (state : _) × Reaches f octets items 
 
 -- the octets are good fields with these items, and then fewer octets than the next field has
 abbrev pub IsClean : {S I : Type 0} → Grammar S I → List ℕ → List I → Type 0
-IsClean f octets items = (offset : ℕ) × (state : _) × (rest : List ℕ) × Reaches f octets items offset state rest × IsShort (f.due state) rest
+IsClean f octets items =
+    (offset : ℕ) × (state : _) × (rest : List ℕ) × Reaches f octets items offset state rest × IsShort (f.due state) rest
 
 -- the first so many octets are a file with these items, and at least one octet follows
 abbrev pub HasTrailing : {S I : Type 0} → Grammar S I → List ℕ → List I → ℕ → Type 0
@@ -52,7 +54,8 @@ HasTrailing f octets items offset =
 -- the first so many octets are good fields with these items, and the field that follows is whole and bad
 abbrev pub HasFault : {S I : Type 0} → Grammar S I → List ℕ → List I → Kind → ℕ → Type 0
 HasFault f octets items kind offset =
-    (state : _) × (bad : List ℕ) × (rest : List ℕ) × Reaches f octets items offset state (bad ++ rest) × IsField (f.due state) bad (Bad kind)
+    (state : _) × (bad : List ℕ) × (rest : List ℕ)
+    × Reaches f octets items offset state (bad ++ rest) × IsField (f.due state) bad (Bad kind)
 
 -- the cases by name
 pub data Case : Type 0 where
@@ -67,3 +70,16 @@ Meets f octets items File = IsFile f octets items
 Meets f octets items Clean = IsClean f octets items
 Meets f octets items (Longer offset) = HasTrailing f octets items offset
 Meets f octets items (Faulty kind offset) = HasFault f octets items kind offset
+
+-- for some file and some field of it, the octets are the fields before that one and then fewer octets than it has
+abbrev pub IsCut : {S I : Type 0} → Grammar S I → List ℕ → Type 0
+IsCut f octets =
+    (fields : List (List ℕ)) × (cut : List ℕ) × (behind : List (List ℕ)) × (items : List _) × (state : _) × (rest : List ℕ)
+    × Leads f f.start (fields ++ cut ∷ behind) items state × IsEnd (f.due state)
+    × (octets ≡ joined fields ++ rest) × (length rest < length cut)
+
+-- wherever good fields lead, more good fields lead to the end of a file
+abbrev pub CanEnd : {S I : Type 0} → Grammar S I → Type 0
+CanEnd f =
+    (fields : List (List ℕ)) (items : List _) (state : _) → Leads f f.start fields items state
+    → (more : List (List ℕ)) × (later : List _) × (last : _) × Leads f state more later last × IsEnd (f.due last)

@@ -1,4 +1,5 @@
 pub mod Cases
 pub mod Grammar
 pub mod Meanings
+pub mod Readers
 pub mod Reading

@@ -1,5 +1,5 @@
 -- What octets mean in a format: the items that they give, and the first fault, if there is one.
-use Rattle.std.specs.Prelude.{◌≡◌, ℕ, zero, suc, ◌+◌, List, [], ◌∷◌, ◌++◌, Option, Some, None}
+use Rattle.std.specs.Prelude.{ℕ, zero, suc, ◌+◌, List, [], ◌∷◌, ◌++◌, Option, Some, None}
 use Rattle.ht_io.specs.declared.faults.Kind.{Kind}
 use Rattle.ht_io.specs.declared.faults.Kind.TheVariants.{Truncated, Trailing}
 use Rattle.ht_io.specs.declared.faults.FormatFault.{FormatFault}

@@ -34,3 +34,45 @@ pub fn read_field<S: Source>(source: &mut S, into: &mut [u8]) -> Field
     }
     Field::Whole
 }
+
+#[cfg(test)]
+mod tests {
+    use super::*;
+    use ht_io::MemSource;
+    use std::test::Fail;
+
+    // Octets 1 to 9 in pieces, with one failure in front of the octet 6.
+    #[test]
+    fn smoke(rt: HostRuntime) -> Result<(), Fail> {
+        let bytes = [1, 2, 3, 4, 5, 6, 7, 8, 9].to_vec(rt.alloc())?;
+        let cuts = [1, 2, 7].to_vec(rt.alloc())?;
+        let failing = [5].to_vec(rt.alloc())?;
+        let mut source = MemSource::new(bytes, cuts, failing);
+        let cases = [
+            (Field::Whole, [1, 2, 3, 4]),
+            (Field::Broken, [5, 0, 0, 0]),
+            (Field::Whole, [6, 7, 8, 9]),
+            (Field::Ended(0), [0, 0, 0, 0]),
+        ];
+        for (read, octets) in cases {
+            let mut into = [0; 4];
+            assert_eq!(rt; read_field(&mut source, &mut into), read);
+            assert_eq!(rt; into, octets, "after {read:?}");
+        }
+        Ok(())
+    }
+
+    // An input that ends within a field, and a field of no octets, which takes none.
+    #[test]
+    fn refusals(rt: HostRuntime) -> Result<(), Fail> {
+        let bytes = [1, 2, 3].to_vec(rt.alloc())?;
+        let none = Vec::new(rt.alloc());
+        let also_none = Vec::new(rt.alloc());
+        let mut source = MemSource::new(bytes, none, also_none);
+        assert_eq!(rt; read_field(&mut source, &mut []), Field::Whole);
+        let mut into = [0; 4];
+        assert_eq!(rt; read_field(&mut source, &mut into), Field::Ended(3));
+        assert_eq!(rt; into, [1, 2, 3, 0]);
+        Ok(())
+    }
+}

@@ -21,7 +21,8 @@ pub fn demo_line(
     pilot_sum: u128,
     code: u64,
 ) -> Result<Vec<u8>, AllocError>
-    ensures { IfOk result (λ v. v.items ≡ demo_text frames symbols jobs matched data_sum pilot_sum code) }
+    ensures { IfOk result (λ v.
+        v.items ≡ demo_text frames symbols jobs matched data_sum pilot_sum code) }
 {
     let mut text = format!(in alloc;
         "demo frames {frames} symbols {symbols} jobs {jobs} matched {matched}"

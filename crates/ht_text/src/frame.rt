@@ -23,7 +23,8 @@ pub fn frame_line(
     code: u32,
     octets: Option<&[u8]>,
 ) -> Result<Vec<u8>, AllocError>
-    ensures { IfOk result (λ v. v.items ≡ frame_text frame data_sum pilot_sum code (option_copied octets.entry)) }
+    ensures { IfOk result (λ v.
+        v.items ≡ frame_text frame data_sum pilot_sum code (option_copied octets.entry)) }
 {
     let mut text = format!(in alloc; "frame {frame}")?;
     push_sums(&mut text, data_sum, pilot_sum, u64::from(code))?;
@@ -35,7 +36,8 @@ pub fn frame_line(
 // Appends the octets, or that there was no seed.
 #[tactic(auto, unfolding(crate::specs::Lines::outcome_text))]
 fn push_outcome(text: &mut String, octets: Option<&[u8]>) -> Result<(), AllocError>
-    ensures { OnOk result (string_bytes text.new ≡ string_bytes text.old ++ outcome_text (option_copied octets.entry)) }
+    ensures { OnOk result (string_bytes text.new
+        ≡ string_bytes text.old ++ outcome_text (option_copied octets.entry)) }
 {
     let Some(octets) = octets else {
         return text.push_str(" seed zero");
@@ -48,6 +50,7 @@ fn push_outcome(text: &mut String, octets: Option<&[u8]>) -> Result<(), AllocErr
 fn push_hex(text: &mut String, octets: &[u8]) -> Result<(), AllocError>
     ensures { OnOk result (string_bytes text.new ≡ string_bytes text.old ++ hex octets.now) }
 {
+    text.reserve(2 * octets.len())?;
     for octet in octets {
         text.push(digit(*octet / 16))?;
         text.push(digit(*octet % 16))?;

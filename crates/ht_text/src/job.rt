@@ -25,10 +25,27 @@ pub fn job_line(
     ensures { IfOk result (λ v. v.items ≡ job_text place_frame symbol carrier distance points.now) }
 {
     let mut text = String::with_capacity(alloc, LONGEST)?;
-    write!(text, "job {place_frame} {symbol} {carrier} {distance}")?;
-    push_points(&mut text, points)?;
-    text.push_str("\n")?;
+    push_job_line(&mut text, place_frame, symbol, carrier, distance, points)?;
     Ok(text.into_bytes())
+}
+
+/// Appends to `text` the line that `job_line` makes, so that the lines of many jobs are one text.
+///
+/// Only memory can fail; what `text` then holds is left open.
+#[tactic(auto, unfolding(crate::specs::Lines::job_text))]
+pub fn push_job_line(
+    text: &mut String,
+    place_frame: u16,
+    symbol: u32,
+    carrier: u8,
+    distance: u128,
+    points: &[i8],
+) -> Result<(), AllocError>
+    ensures { OnOk result (string_bytes text.new ≡ string_bytes text.old ++ job_text place_frame symbol carrier distance points.now) }
+{
+    write!(text, "job {place_frame} {symbol} {carrier} {distance}")?;
+    push_points(text, points)?;
+    text.push_str("\n")
 }
 
 // Appends a space and the number, for each number.

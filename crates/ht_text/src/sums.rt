@@ -12,7 +12,8 @@ pub(crate) fn push_sums(
     pilot_sum: u128,
     code: u64,
 ) -> Result<(), AllocError>
-    ensures { OnOk result (string_bytes text.new ≡ string_bytes text.old ++ sums_text data_sum pilot_sum code) }
+    ensures { OnOk result
+        (string_bytes text.new ≡ string_bytes text.old ++ sums_text data_sum pilot_sum code) }
 {
     write!(text, " data {data_sum} pilot {pilot_sum} code {code}")
 }

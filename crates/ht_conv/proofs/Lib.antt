@@ -1,0 +1,5 @@
+pub mod Counts
+pub mod MidStream
+pub mod Running
+pub mod Values
+pub mod Window

@@ -1,0 +1,4 @@
+pub mod Puncturing
+pub mod Code
+pub mod Continued
+pub mod Register

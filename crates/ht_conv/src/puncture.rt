@@ -1,0 +1,59 @@
+//! Puncturing: which coded bits of each step are sent.
+ghost use Rattle.std.specs.Prelude.{◌≡◌, ◌+◌, ◌<◌, ◌^◌, length, slice_index_or};
+ghost use Rattle.ht_conv.specs.Puncturing.{kept_of, period_of, sent_count};
+
+use ht_rate::Pattern;
+
+/// Which of a step's two coded bits are sent.
+#[derive(Clone, Copy, Debug, PartialEq, Eq)]
+pub enum Kept {
+    /// A and then B.
+    Both,
+    /// A alone; B is stolen.
+    A,
+    /// B alone; A is stolen.
+    B,
+}
+
+static HALF: [Kept; 1] = [Kept::Both];
+
+static TWO_THIRDS: [Kept; 2] = [Kept::Both, Kept::A];
+
+static THREE_QUARTERS: [Kept; 3] = [Kept::Both, Kept::A, Kept::B];
+
+static FIVE_SIXTHS: [Kept; 5] = [Kept::Both, Kept::A, Kept::B, Kept::A, Kept::B];
+
+// What is kept of each step of one period.
+pub(crate) fn period(pattern: Pattern) -> &'static [Kept]
+    ensures { result.now ≡ period_of pattern }
+{
+    match pattern {
+        Pattern::Half => &HALF,
+        Pattern::TwoThirds => &TWO_THIRDS,
+        Pattern::ThreeQuarters => &THREE_QUARTERS,
+        Pattern::FiveSixths => &FIVE_SIXTHS,
+    }
+}
+
+/// Which coded bits of a step are sent. Steps count from 0 at the first input bit.
+pub fn kept_at(pattern: Pattern, step: u32) -> Kept
+    ensures { result ≡ kept_of pattern step }
+{
+    let period = period(pattern);
+    period[step as usize % period.len()]
+}
+
+/// How many coded bits are sent of so many steps.
+pub fn sent(pattern: Pattern, steps: u32) -> u64
+    ensures { result ≡ sent_count pattern steps }
+{
+    kept_of_steps(pattern, steps as usize) as u64
+}
+
+// One bit of each step is kept, and a second one of the first step of each period.
+pub(crate) fn kept_of_steps(pattern: Pattern, steps: usize) -> usize
+    requires { steps < 2 ^ 63 }
+    ensures { result ≡ sent_count pattern steps }
+{
+    steps + steps.div_ceil(period(pattern).len())
+}

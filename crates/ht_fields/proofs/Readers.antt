@@ -1,0 +1,104 @@
+-- What a reader may conclude from a field that was read.
+use Rattle.std.specs.Prelude.{◌≡◌, ℕ, ◌+◌, ◌-◌, ◌<◌, List, [], ◌∷◌, ◌++◌, length, take, Option}
+use Rattle.std.proofs.Common.{refl, ap, ◌∙◌, sym, subst, arith}
+use Rattle.std.proofs.lemmas.List.{length-take-le}
+use Rattle.ht_io.specs.Octets.{Takes}
+use Rattle.ht_io.specs.declared.faults.Kind.{Kind}
+use Rattle.ht_io.specs.declared.faults.Kind.TheVariants.{Truncated, Trailing}
+use Rattle.ht_fields.specs.declared.read.Field.TheVariants.{Whole, Ended, Broken}
+use Rattle.ht_fields.specs.Grammar.{Grammar, Due, End, Wants, Verdict, Good, Bad, field}
+use Rattle.ht_fields.specs.Cases.{IsEnd, IsField, IsShort}
+use Rattle.ht_fields.specs.Meanings.{Meaning, before, refused, meaning}
+use Rattle.ht_fields.specs.Reading.{TakesAll, ReadsField}
+use Rattle.ht_fields.specs.Readers.{shown, Gives, Refuses, RunsOut, Finishes, IsEarly, Breaks}
+use Rattle.ht_fields.proofs.Steps.{good_field, bad_field, early_end, whole_file, trailing_octet}
+
+-- a field of so many octets is due
+abbrev pub HasWidth : {S I : Type 0} → Due S I → ℕ → Type 0
+HasWidth End width = ⊥
+HasWidth (Wants beyond judge) width = width ≡ beyond + 1
+
+short : {S I : Type 0} (d : Due S I) (width : ℕ) (octets : List ℕ) → HasWidth d width → length octets < width → IsShort d octets
+short End width octets w few = w
+short (Wants beyond judge) width octets w few = omega arith
+
+-- A field whose width is at least one has this width, and is judged once it is whole.
+pub width_is : {S I : Type 0} (width : ℕ) (judge : List ℕ → Verdict S I) → 0 < width → HasWidth (field width judge) width
+width_is width judge some = omega arith
+
+pub field_is : {S I : Type 0} (width : ℕ) (judge : List ℕ → Verdict S I) (x : List ℕ) (verdict : Verdict S I)
+    → 0 < width → length x ≡ width → judge x ≡ verdict → IsField (field width judge) x verdict
+field_is width judge x verdict some len is = let width_of : length x ≡ (width - 1) + 1 = omega arith in (width_of, is)
+
+-- A field was read whole and is good.
+pub field_gives : {S I : Type 0} (f : Grammar S I) (s t : S) (at behind : ℕ) (items : List I) (left after : Option (List ℕ)) (into : List ℕ)
+    → ReadsField left after Whole into → IsField (f.due s) into (Good t items) → behind ≡ at + length into
+    → Gives (shown f s at left) (shown f t behind after) items
+field_gives f s t at behind items left after into r p is =
+    record {
+      taken = into;
+      octets = r;
+      place = is;
+      means = λ rest. good_field f s t at into items rest p ∙ ap (λ n. before items (meaning f t n rest)) (sym is);
+    }
+
+-- A field was read whole and is bad.
+pub field_refuses : {S I : Type 0} (f : Grammar S I) (s : S) (at : ℕ) (kind : Kind) (left after : Option (List ℕ)) (into : List ℕ)
+    → ReadsField left after Whole into → IsField (f.due s) into (Bad kind) → Refuses (shown f s at left) after (record { kind = kind; offset = at })
+field_refuses f s at kind left after into r p =
+    record { taken = into; octets = r; means = λ rest. bad_field f s at into rest kind p }
+
+-- The input ended within a field.
+pub field_runs_out : {S I : Type 0} (f : Grammar S I) (s : S) (at count : ℕ) (left after : Option (List ℕ)) (into : List ℕ)
+    → ReadsField left after (Ended count) into → HasWidth (f.due s) (length into) → RunsOut (shown f s at left) after (record { kind = Truncated; offset = at + count })
+field_runs_out f s at count left after into r w =
+    let len : length (take count into) ≡ count = length-take-le count into (omega (arith, r.0)) in
+    record {
+      taken = take count into;
+      octets = r.1;
+      kind = refl;
+      place = ap (λ n. at + n) (sym len);
+      means = early_end f s at (take count into) (short (f.due s) (length into) (take count into) w (omega (arith, len, r.0)))
+          ∙ ap (λ n. refused Truncated (at + n)) len;
+    }
+
+-- The source failed within a field.
+pub field_breaks : {S I : Type 0} (f : Grammar S I) (s : S) (at : ℕ) (left after : Option (List ℕ)) (into : List ℕ)
+    → ReadsField left after Broken into → HasWidth (f.due s) (length into) → Breaks (shown f s at left) after
+field_breaks {I = I} f s at left after into r w =
+    let taken = take r.0 into in
+    let len : length taken ≡ r.0 = length-take-le r.0 into (omega (arith, r.1)) in
+    let is = early_end f s at taken (short (f.due s) (length into) taken w (omega (arith, len, r.1))) in
+    record {
+      taken = taken;
+      octets = r.2;
+      items = ap (λ (m : Meaning I). m.items) is;
+      early = subst (λ (m : Meaning I). IsEarly (at + length taken) m.fault) (sym is) refl;
+    }
+
+-- An octet was read where the end is due.
+pub end_refuses : {S I : Type 0} (f : Grammar S I) (s : S) (at : ℕ) (left after : Option (List ℕ)) (into : List ℕ)
+    → ReadsField left after Whole into → length into ≡ 1 → IsEnd (f.due s) → Refuses (shown f s at left) after (record { kind = Trailing; offset = at })
+end_refuses f s at left after [] r one e = absurd (omega arith)
+end_refuses f s at left after (x ∷ xs) r one e =
+    record { taken = x ∷ xs; octets = r; means = λ rest. trailing_octet f s at x (xs ++ rest) e }
+
+-- None was left where the end is due.
+pub end_finishes : {S I : Type 0} (f : Grammar S I) (s : S) (at count : ℕ) (left after : Option (List ℕ)) (into : List ℕ)
+    → ReadsField left after (Ended count) into → length into ≡ 1 → IsEnd (f.due s) → Finishes (shown f s at left) after
+end_finishes f s at count left after into r one e =
+    let none : count ≡ 0 = omega (arith, r.0) in
+    record { octets = subst (λ n. TakesAll left after (take n into)) none r.1; means = whole_file f s at e }
+
+-- The source failed where the end is due.
+pub end_breaks : {S I : Type 0} (f : Grammar S I) (s : S) (at : ℕ) (left after : Option (List ℕ)) (into : List ℕ)
+    → ReadsField left after Broken into → length into ≡ 1 → IsEnd (f.due s) → Breaks (shown f s at left) after
+end_breaks {I = I} f s at left after into r one e =
+    let none : r.0 ≡ 0 = omega (arith, r.1) in
+    let is = whole_file f s at e in
+    record {
+      taken = [];
+      octets = subst (λ n. Takes left after (take n into)) none r.2;
+      items = ap (λ (m : Meaning I). m.items) is;
+      early = subst (λ (m : Meaning I). IsEarly (at + 0) m.fault) (sym is) tt;
+    }

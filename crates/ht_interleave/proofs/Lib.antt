@@ -1,0 +1,7 @@
+pub mod Filling
+pub mod Inverse
+pub mod Only
+pub mod Rotation
+pub mod Shapes
+pub mod StepFacts
+mod Values

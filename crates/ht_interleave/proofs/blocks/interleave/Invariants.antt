@@ -1,0 +1,14 @@
+use Rattle.std.proofs.Common.{◌+◌, ◌*◌}
+use Rattle.ht_interleave.specs.Steps.{rows_of, axis_bits_of}
+use Rattle.ht_interleave.proofs.Filling.{Filled}
+use Rattle.ht_interleave.proofs.blocks.interleave.Given as goal
+
+abbrev pub invariant-loop-column : goal.invariant-loop-column
+invariant-loop-column l = Filled l.rate l.stream l.from l.into l.place (rows_of l.rate * l.column)
+
+abbrev pub invariant-loop-group : goal.invariant-loop-group
+invariant-loop-group l = Filled l.rate l.stream l.from l.into l.place (rows_of l.rate * l.column + axis_bits_of l.rate * l.group)
+
+abbrev pub invariant-loop-lane : goal.invariant-loop-lane
+invariant-loop-lane l =
+    Filled l.rate l.stream l.from l.into l.place (rows_of l.rate * l.column + axis_bits_of l.rate * l.group + l.lane)

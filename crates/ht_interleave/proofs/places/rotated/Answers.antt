@@ -1,0 +1,7 @@
+use Rattle.std.proofs.Common.{◌≡◌}
+use Rattle.ht_interleave.specs.Steps.{third}
+use Rattle.ht_interleave.proofs.places.rotated.Goals as goal
+
+pub returns-clause-value : goal.returns-clause-value
+unfolding third
+returns-clause-value c = cc

@@ -1,0 +1,23 @@
+-- What is seen of a source in memory.
+use Rattle.std.specs.Prelude.{◌≡◌, ◌⊎◌, ◌+◌, ◌≤◌, ℕ, List, ◌++◌, All, Contains, nat_eq}
+use Rattle.std.specs.List.{before_first, after_first}
+
+-- the octets left, the offset of the first of them, and where no read passes: at cuts, and at failing offsets, which fail once for each entry
+pub record Reading : Type 0 where
+  pub left : List ℕ
+  pub at : ℕ
+  pub cuts : List ℕ
+  pub failing : List ℕ
+  pub faults : ℕ
+
+-- the list without its first entry that is x: what stands before it, and what stands after it
+abbrev pub without_first : ℕ → List ℕ → List ℕ
+without_first x xs = before_first (λ y. nat_eq y x) xs ++ after_first (λ y. nat_eq y x) xs
+
+-- no stop lies behind the first and before the last of the offsets that a read goes over
+abbrev pub PassesNone : List ℕ → ℕ → ℕ → Type 0
+PassesNone stops at count = All (λ stop. (stop ≤ at) ⊎ (at + count ≤ stop)) stops
+
+-- a read takes all that it has room for, or ends at a stop
+abbrev pub IsFull : List ℕ → ℕ → ℕ → ℕ → Type 0
+IsFull stops at room count = (count ≡ room) ⊎ Contains stops (at + count)

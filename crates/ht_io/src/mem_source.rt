@@ -1,0 +1,139 @@
+//! A source over octets in memory, for tests: it reads in pieces and fails where it is told to.
+ghost use Rattle.std.specs.Prelude.{◌≡◌, ◌⊎◌, ◌↔◌, ◌+◌, ◌<◌, ◌≤◌, [], ◌++◌, length, take, drop, min, All, Contains, Some, nat_eq, position, IsTrue, IsSome, IsErr, IfOk, OnErr, if◌then◌else◌};
+ghost use Rattle.ht_io.specs.Causes.{Rose, one_more};
+ghost use Rattle.ht_io.specs.Reading.{without_first, PassesNone, IsFull};
+
+use crate::{Failed, Source};
+use std::marker::Model;
+
+/// Octets in memory. No read passes a cut or a failing offset, and a read that starts at a failing
+/// offset fails once for each entry that names it.
+#[derive(Drop)]
+pub struct MemSource {
+    bytes: Vec<u8>,
+    at: usize,
+    cuts: Vec<u64>,
+    failing: Vec<u64>,
+    faults: u64,
+}
+
+impl Model for MemSource {
+    ghost use Rattle.std.specs.Prelude.{◌≤◌, drop, vec_len};
+    ghost use Rattle.ht_io.specs.Reading.{Reading};
+
+    ghost Value = { Reading };
+
+    ghost view = { λ s. record { left = drop s.at s.bytes.items; at = s.at; cuts = s.cuts.items; failing = s.failing.items; faults = s.faults } };
+
+    ghost invariant = { λ s. s.at ≤ vec_len s.bytes };
+}
+
+impl MemSource {
+    /// A source of these octets, with offsets counted from the first of them. It takes no memory.
+    pub fn new(bytes: Vec<u8>, cuts: Vec<u64>, failing: Vec<u64>) -> MemSource
+        ensures { result ≡ record { left = bytes.items; at = 0; cuts = cuts.items; failing = failing.items; faults = 0 } }
+    {
+        MemSource {
+            bytes,
+            at: 0,
+            cuts,
+            failing,
+            faults: 0,
+        }
+    }
+}
+
+// How many of `most` octets from `at` on come before the stop.
+fn nearer(stop: u64, at: usize, most: usize) -> usize
+    requires { 0 < most }
+    ensures some { 0 < result }
+    ensures within { result ≤ most }
+    ensures passes { (stop ≤ at) ⊎ (at + result ≤ stop) }
+    ensures full { (result ≡ most) ⊎ (stop ≡ at + result) }
+{
+    let stop = stop as usize;
+    if at < stop && stop - at < most {
+        stop - at
+    } else {
+        most
+    }
+}
+
+// How many of `room` octets from `at` on come before the next of the stops.
+fn room_before(stops: &[u64], at: usize, room: usize) -> usize
+    requires { 0 < room }
+    ensures some { 0 < result }
+    ensures within { result ≤ room }
+    ensures passes_none { PassesNone stops.now at result }
+    ensures full { IsFull stops.now at room result }
+{
+    let mut most = room;
+    for stop in stops {
+        most = nearer(*stop, at, most);
+    }
+    most
+}
+
+// Where the first entry that names the offset stands.
+fn first_at(failing: &[u64], at: usize) -> Option<usize>
+    ensures found { IsSome result ↔ Contains failing.now at }
+    ensures first { result ≡ position (λ entry. nat_eq entry at) failing.now }
+{
+    failing.iter().position(|entry| *entry == at as u64)
+}
+
+// Takes out the first entry that names the offset, if there is one.
+fn spend(failing: &mut Vec<u64>, at: usize) -> bool
+    ensures found { IsTrue result ↔ Contains failing.old.items at }
+    ensures spent { failing.new.items ≡ (if result then without_first at failing.old.items else failing.old.items) }
+{
+    match first_at(failing, at) {
+        Some(index) => {
+            failing.remove(index);
+            true
+        }
+        None => false,
+    }
+}
+
+impl Source for MemSource {
+    ghost left = { λ s. Some s.left };
+
+    ghost faults = { λ s. s.faults };
+
+    ghost place = { λ _. 0 };
+
+    fn read(&mut self, into: &mut [u8]) -> Result<usize, Failed>
+        requires room { 0 < length into.old }
+        ensures within { IfOk result (λ count. count ≤ length into.new) }
+        ensures taken { IfOk result (λ count. self.old.left ≡ take count into.new ++ self.new.left) }
+        ensures ended { IfOk result (λ count. (count ≡ 0) ↔ (self.old.left ≡ [])) }
+
+        // It takes all that the room, the end, a cut or a failing offset lets it take.
+        ensures moved { IfOk result (λ count. self.new ≡ record self.old { left = drop count self.old.left; at = self.old.at + count }) }
+        ensures passes_no_cut { IfOk result (PassesNone self.old.cuts self.old.at) }
+        ensures passes_no_failing { IfOk result (PassesNone self.old.failing self.old.at) }
+        ensures full { IfOk result (IsFull (self.old.cuts ++ self.old.failing) self.old.at (min (length into.old) (length self.old.left))) }
+
+        // It fails exactly at an unspent failing offset, and spends one entry.
+        ensures fails { IsErr result ↔ Contains self.old.failing self.old.at }
+        ensures spent { OnErr result (self.new ≡ record self.old { failing = without_first self.old.at self.old.failing; faults = one_more self.old.faults }) }
+        ensures kept { OnErr result (self.new.left ≡ self.old.left) }
+        ensures cause { OnErr result (Rose self.old.faults self.new.faults) }
+        ensures later { self.old.faults ≤ self.new.faults }
+    {
+        if spend(&mut self.failing, self.at) {
+            self.faults = self.faults.saturating_add(1);
+            return Err(Failed);
+        }
+        let room = into.len().min(self.bytes.len() - self.at);
+        if room == 0 {
+            return Ok(0);
+        }
+        let room = room_before(&self.cuts, self.at, room);
+        let count = room_before(&self.failing, self.at, room);
+        into[..count].copy_from_slice(&self.bytes[self.at..self.at + count]);
+        self.at += count;
+        Ok(count)
+    }
+}

@@ -1,0 +1,77 @@
+//! A source over a reader of std.
+ghost use Rattle.std.specs.Prelude.{◌≡◌, ◌<◌, ◌≤◌, length, take, None, IfOk, OnOk, OnErr};
+ghost use Rattle.std.specs.Io.KnownBytes.{Keeps, Consumes, IsAtEnd};
+ghost use Rattle.ht_io.specs.Causes.{Rose, one_more};
+ghost use Rattle.ht_io.specs.Standard.{reader_of, source_faults};
+
+use crate::{Failed, Source};
+use std::io::{self, ErrorKind, Read};
+
+// How often an interrupted call is tried again within one call of a source or a sink.
+pub(crate) const RETRIES: u32 = 1_000;
+
+/// Reads from a reader of std. As a source it tells nothing of the octets. An interrupted call is
+/// tried again, at most 1,000 times within one read, and then fails.
+#[derive(Drop)]
+pub struct StdSource<R> {
+    inner: R,
+    faults: u64,
+}
+
+impl<R: Read> StdSource<R> {
+    /// A source over the reader. It takes no memory.
+    pub fn new(inner: R) -> StdSource<R>
+        ensures reader { reader_of result ≡ inner }
+        ensures faults { source_faults result ≡ 0 }
+    {
+        StdSource { inner, faults: 0 }
+    }
+}
+
+// Reads once, and again while the call is interrupted.
+fn read_patiently<R: Read>(inner: &mut R, into: &mut [u8]) -> io::Result<usize>
+    ensures within { IfOk result (λ count. count ≤ length into.new) }
+    ensures passed { IfOk result (λ count. Consumes (R.remaining inner.old) (R.remaining inner.new) (take count into.new)) }
+    ensures ended { IfOk result (λ count. count ≡ 0 → 0 < length into.old → IsAtEnd (R.remaining inner.new)) }
+    ensures kept { OnErr result (Keeps (R.remaining inner.old) (R.remaining inner.new)) }
+{
+    for _ in 0..RETRIES {
+        match inner.read(into) {
+            Err(fault) if fault.kind() == ErrorKind::Interrupted => {}
+            outcome => return outcome,
+        }
+    }
+    inner.read(into)
+}
+
+impl<R: Read> Source for StdSource<R> {
+    ghost left = { λ _. None };
+
+    ghost faults = { λ s. s.faults };
+
+    ghost place = { λ _. 0 };
+
+    fn read(&mut self, into: &mut [u8]) -> Result<usize, Failed>
+        requires room { 0 < length into.old }
+
+        // What the reader has left, where it is known, passes unchanged.
+        ensures passed { IfOk result (λ count. Consumes (R.remaining (reader_of self.old)) (R.remaining (reader_of self.new)) (take count into.new)) }
+        ensures whole { IfOk result (λ count. count ≡ 0 → IsAtEnd (R.remaining (reader_of self.new))) }
+        ensures unread { OnErr result (Keeps (R.remaining (reader_of self.old)) (R.remaining (reader_of self.new))) }
+
+        ensures steady { OnOk result (source_faults self.new ≡ source_faults self.old) }
+        ensures counted { OnErr result (source_faults self.new ≡ one_more (source_faults self.old)) }
+
+        ensures within { IfOk result (λ count. count ≤ length into.new) }
+        ensures cause { OnErr result (Rose (source_faults self.old) (source_faults self.new)) }
+        ensures later { source_faults self.old ≤ source_faults self.new }
+    {
+        match read_patiently(&mut self.inner, into) {
+            Ok(count) => Ok(count),
+            Err(_) => {
+                self.faults = self.faults.saturating_add(1);
+                Err(Failed)
+            }
+        }
+    }
+}

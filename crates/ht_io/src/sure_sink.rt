@@ -1,0 +1,87 @@
+//! A sink in memory that never fails.
+ghost use Rattle.std.specs.Prelude.{◌≡◌, ◌↔◌, ◌+◌, ◌-◌, ◌^◌, ◌<◌, [], ◌++◌, length, take, min, IsOk, IsNone, OnOk, vec_capacity, option_copied};
+ghost use Rattle.ht_io.specs.Causes.{last_count};
+ghost use Rattle.ht_io.specs.Octets.{Grows};
+ghost use Rattle.ht_io.specs.Writing.{told_of};
+
+use crate::space::append;
+use crate::{Failed, Sink};
+use std::marker::Model;
+
+/// Octets put into memory that is given. Octets beyond its capacity are only counted and dropped,
+/// and from then on the sink tells none. No put fails.
+#[derive(Drop)]
+pub struct SureSink {
+    space: Vec<u8>,
+    capacity: usize,
+    dropped: u64,
+}
+
+impl Model for SureSink {
+    ghost use Rattle.std.specs.Prelude.{◌≤◌, vec_len, vec_capacity};
+    ghost use Rattle.ht_io.specs.Writing.{Fitting};
+
+    ghost Value = { Fitting };
+
+    ghost view = { λ s. record { fitted = s.space.items; capacity = s.capacity; dropped = s.dropped } };
+
+    ghost invariant = { λ s. (s.capacity ≤ vec_capacity s.space) × (vec_len s.space ≤ s.capacity) };
+}
+
+impl SureSink {
+    /// A sink that holds no octet yet. It empties `space` and puts its octets there, and takes no
+    /// memory.
+    pub fn new(mut space: Vec<u8>) -> SureSink
+        ensures { result ≡ record { fitted = []; capacity = vec_capacity space; dropped = 0 } }
+    {
+        space.clear();
+        let capacity = space.capacity();
+        SureSink {
+            space,
+            capacity,
+            dropped: 0,
+        }
+    }
+
+    /// The octets that were put, or `None` where not all of them fitted.
+    pub fn held(&self) -> Option<&[u8]>
+        ensures octets { option_copied result ≡ told_of self.now }
+        ensures none { IsNone result ↔ (0 < self.now.dropped) }
+    {
+        if self.dropped > 0 {
+            return None;
+        }
+        Some(&self.space)
+    }
+
+    /// How many octets were dropped, up to the last value of the type.
+    pub fn dropped(&self) -> u64
+        ensures { result ≡ self.now.dropped }
+    {
+        self.dropped
+    }
+}
+
+impl Sink for SureSink {
+    ghost use Rattle.ht_io.specs.Writing.{told_of};
+
+    ghost held = { told_of };
+
+    ghost faults = { λ _. 0 };
+
+    ghost place = { λ _. 0 };
+
+    fn put(&mut self, piece: &[u8]) -> Result<(), Failed>
+        ensures sure { IsOk result }
+        ensures fitted { self.new.fitted ≡ take self.old.capacity (self.old.fitted ++ piece.now) }
+        ensures dropped { self.new.dropped ≡ min (self.old.dropped + (length self.old.fitted + length piece.now - self.old.capacity)) last_count }
+        ensures capacity { self.new.capacity ≡ self.old.capacity }
+
+        ensures grown { OnOk result (Grows (told_of self.old) (told_of self.new) piece.now) }
+    {
+        let room = piece.len().min(self.capacity - self.space.len());
+        append(&mut self.space, &piece[..room]);
+        self.dropped = self.dropped.saturating_add((piece.len() - room) as u64);
+        Ok(())
+    }
+}

@@ -1,0 +1,55 @@
+//! A source over octets in memory that never fails.
+ghost use Rattle.std.specs.Prelude.{◌≡◌, ◌↔◌, ◌<◌, ◌≤◌, [], ◌++◌, length, take, drop, min, Some, IsOk, IfOk};
+
+use crate::{Failed, Source};
+use std::marker::Model;
+
+/// Octets in memory, of which each read takes as many as it has room for. No read fails.
+#[derive(Drop)]
+pub struct SureSource {
+    bytes: Vec<u8>,
+    at: usize,
+}
+
+impl Model for SureSource {
+    ghost use Rattle.std.specs.Prelude.{◌≤◌, ℕ, List, drop, vec_len};
+
+    ghost Value = { List ℕ };
+
+    ghost view = { λ s. drop s.at s.bytes.items };
+
+    ghost invariant = { λ s. s.at ≤ vec_len s.bytes };
+}
+
+impl SureSource {
+    /// A source of these octets. It takes no memory.
+    pub fn new(bytes: Vec<u8>) -> SureSource
+        ensures { result ≡ bytes.items }
+    {
+        SureSource { bytes, at: 0 }
+    }
+}
+
+impl Source for SureSource {
+    ghost left = { λ s. Some s };
+
+    ghost faults = { λ _. 0 };
+
+    ghost place = { λ _. 0 };
+
+    fn read(&mut self, into: &mut [u8]) -> Result<usize, Failed>
+        requires room { 0 < length into.old }
+        ensures sure { IsOk result }
+        ensures count { IfOk result (λ count. count ≡ min (length into.old) (length self.old)) }
+        ensures rest { IfOk result (λ count. self.new ≡ drop count self.old) }
+
+        ensures within { IfOk result (λ count. count ≤ length into.new) }
+        ensures taken { IfOk result (λ count. self.old ≡ take count into.new ++ self.new) }
+        ensures ended { IfOk result (λ count. (count ≡ 0) ↔ (self.old ≡ [])) }
+    {
+        let count = into.len().min(self.bytes.len() - self.at);
+        into[..count].copy_from_slice(&self.bytes[self.at..self.at + count]);
+        self.at += count;
+        Ok(count)
+    }
+}

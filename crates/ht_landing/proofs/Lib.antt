@@ -1,0 +1,4 @@
+pub mod Carried
+pub mod Landed
+pub mod Parsed
+mod Values

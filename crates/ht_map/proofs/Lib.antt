@@ -1,0 +1,3 @@
+mod AxisFacts
+pub mod LabelFacts
+mod Values

@@ -1,0 +1,12 @@
+pub mod Combining
+pub mod Ends
+pub mod Enumerating
+pub mod Finding
+pub mod Listing
+pub mod Members
+pub mod Order
+pub mod RowLemmas
+pub mod SameLemmas
+pub mod Signs
+pub mod SumLemmas
+pub mod Values

@@ -1,0 +1,7 @@
+pub mod Rows
+pub mod Distance
+pub mod Vectors
+pub mod Trying
+pub mod Jobs
+pub mod Arrays
+pub mod Shown

@@ -1,0 +1,46 @@
+-- Vectors of points, one for each stream: their order, and those of a grid.
+use Rattle.std.specs.Prelude.{◌≡◌, ℕ, ◌-◌, ◌≤◌, pos, length, drop, replicate, List, [], ◌∷◌, Bool, true, false, ◌&&◌, ◌||◌, not, int_lt, map}
+use Rattle.std.specs.List.{flat_map}
+use Rattle.ht_pam.specs.Ladders.{levels, has}
+use Rattle.ht_pam.specs.declared.axes.Axes.{Axes}
+use Rattle.ht_pam.specs.declared.point.Point.{Point}
+
+-- the point of a stream that is not there
+abbrev pub no_point : Point
+no_point = record { i = pos 0; q = pos 0 }
+
+-- an array of four places, of which a vector takes the first ones
+pub record IsPadded (len : ℕ) (points : List Point) : Type 0 where
+  pub within : len ≤ 4
+  pub places : length points ≡ 4
+  pub unused : drop len points ≡ replicate (4 - len) no_point
+
+-- one point is before another: its I is less, or I is equal and its Q is less
+abbrev pub point_before : Point → Point → Bool
+point_before a b = int_lt a.i b.i || (not (int_lt b.i a.i) && int_lt a.q b.q)
+
+-- one vector is before another: its point is, at the lowest stream where they differ
+abbrev pub before : List Point → List Point → Bool
+before left [] = false
+before [] (b ∷ right) = true
+before (a ∷ left) (b ∷ right) = point_before a b || (not (point_before b a) && before left right)
+
+-- a vector has an allowed point on each stream of the grid
+abbrev pub is_in : List Axes → List Point → Bool
+is_in [] [] = true
+is_in [] (p ∷ x) = false
+is_in (a ∷ grid) [] = false
+is_in (a ∷ grid) (p ∷ x) = (has a.i p.i && has a.q p.q) && is_in grid x
+
+-- the points of one stream, in order
+abbrev pub points : Axes → List Point
+points a = flat_map (λ i. map (λ q. record { i = i; q = q }) (levels a.q)) (levels a.i)
+
+-- the vectors with a point of each list, in order
+abbrev pub choices : List (List Point) → List (List Point)
+choices [] = [] ∷ []
+choices (first ∷ rest) = flat_map (λ p. map (λ x. p ∷ x) (choices rest)) first
+
+-- the vectors of a grid, in order
+abbrev pub vectors : List Axes → List (List Point)
+vectors grid = choices (map points grid)

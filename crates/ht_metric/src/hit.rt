@@ -1,0 +1,57 @@
+//! What a detector answers.
+ghost use Rattle.std.specs.Prelude.{◌≡◌};
+ghost use Rattle.ht_metric.specs.Distance.{distance_of};
+ghost use Rattle.ht_metric.specs.Jobs.{IsNear};
+
+use crate::job::Job;
+use crate::vector::Vector;
+
+/// A job with its first nearest vector and that vector's distance.
+///
+/// No vector of the job's grid is nearer, and none that comes before it is as near.
+#[derive(Debug, Drop)]
+pub struct Hit {
+    pub job: Job,
+    pub vector: Vector,
+    pub distance: u128,
+    pub ghost near: { IsNear job vector },
+    pub ghost far: { distance ≡ distance_of job.system vector },
+}
+
+impl Hit {
+    /// The hit of a job whose first nearest vector is known.
+    pub fn of(job: Job, vector: Vector, distance: u128) -> Hit
+        requires near { IsNear job vector }
+        requires distance { distance ≡ distance_of job.system vector }
+        ensures job { result.job ≡ job }
+        ensures vector { result.vector ≡ vector }
+        ensures distance { result.distance ≡ distance }
+    {
+        Hit {
+            job,
+            vector,
+            distance,
+        }
+    }
+
+    /// What was asked.
+    pub fn job(&self) -> &Job
+        ensures { result.now ≡ self.now.job }
+    {
+        &self.job
+    }
+
+    /// The first nearest vector of the job's grid.
+    pub fn vector(&self) -> &Vector
+        ensures { result.now ≡ self.now.vector }
+    {
+        &self.vector
+    }
+
+    /// The distance of that vector.
+    pub fn distance(&self) -> u128
+        ensures { result ≡ self.now.distance }
+    {
+        self.distance
+    }
+}

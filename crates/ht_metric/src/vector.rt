@@ -1,0 +1,108 @@
+//! A point for each stream.
+ghost use Rattle.std.specs.Prelude.{◌≡◌, ◌+◌, ◌-◌, ◌<◌, ◌≤◌, ◌++◌, [], ◌∷◌, length, slice_index_or};
+ghost use Rattle.ht_metric.specs.Vectors.{before, no_point};
+ghost use Rattle.ht_metric.specs.Vectors.{point_before as point_is_before};
+
+use ht_pam::Point;
+use std::marker::Model;
+
+/// The points of up to four spatial streams, the first stream's first.
+#[derive(Clone, Copy, Debug, PartialEq, Eq)]
+pub struct Vector {
+    points: [Point; 4],
+    len: u8,
+}
+
+impl Model for Vector {
+    ghost use Rattle.std.specs.Prelude.{List};
+    ghost use Rattle.ht_pam.specs.declared.point.Point.{Point};
+
+    ghost Value = { List Point };
+
+    ghost use Rattle.std.specs.Prelude.{take};
+    ghost use Rattle.ht_metric.specs.Vectors.{IsPadded};
+    ghost use Rattle.ht_metric.specs.Shown.{vector_fields, vector_fields-shown};
+
+    ghost view = { λ v. take v.len v.points };
+
+    ghost invariant = { λ v. IsPadded v.len v.points };
+
+    ghost inverse = { vector_fields };
+
+    ghost inverse_ok = { vector_fields-shown };
+}
+
+impl Vector {
+    /// The vector of no streams.
+    pub fn new() -> Vector
+        ensures { result ≡ [] }
+    {
+        Vector {
+            points: [Point { i: 0, q: 0 }; 4],
+            len: 0,
+        }
+    }
+
+    /// Puts the point of one more stream behind the others.
+    pub fn push(&mut self, point: Point)
+        requires { length self.old < 4 }
+        ensures { self.new ≡ self.old ++ point ∷ [] }
+    {
+        self.points[usize::from(self.len)] = point;
+        self.len += 1;
+    }
+
+    /// The number of streams, 0 to 4.
+    pub fn len(&self) -> u8
+        ensures number { result ≡ length self.now }
+        ensures few { result ≤ 4 }
+    {
+        self.len
+    }
+
+    /// The point of a stream, the first one being stream 1.
+    pub fn point(&self, stream: u8) -> Point
+        requires first { 1 ≤ stream }
+        requires last { stream ≤ length self.now }
+        ensures { result ≡ slice_index_or self.now (stream - 1) no_point }
+    {
+        self.points[usize::from(stream) - 1]
+    }
+
+    /// Whether, at the lowest stream where they differ, this vector has the lesser I, or the same I and the lesser Q.
+    pub fn before(&self, other: &Vector) -> bool
+        requires { length self.now ≡ length other.now }
+        ensures { result ≡ before self.now other.now }
+    {
+        comes_before(self.points(), other.points())
+    }
+
+    // The points, as a slice.
+    pub(crate) fn points(&self) -> &[Point]
+        ensures { result.now ≡ self.now }
+    {
+        &self.points[..usize::from(self.len)]
+    }
+}
+
+// Whether one list of points is before another.
+fn comes_before(left: &[Point], right: &[Point]) -> bool
+    ensures { result ≡ before left.now right.now }
+{
+    match right.split_first() {
+        None => false,
+        Some((b, right)) => match left.split_first() {
+            None => true,
+            Some((a, left)) => {
+                point_before(*a, *b) || (!point_before(*b, *a) && comes_before(left, right))
+            }
+        },
+    }
+}
+
+// Whether one point is before another.
+fn point_before(a: Point, b: Point) -> bool
+    ensures { result ≡ point_is_before a b }
+{
+    a.i < b.i || (!(b.i < a.i) && a.q < b.q)
+}

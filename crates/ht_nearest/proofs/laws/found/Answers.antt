@@ -1,0 +1,5 @@
+use Rattle.ht_nearest.proofs.Bests as bests
+use Rattle.ht_nearest.proofs.laws.found.Goals as goal
+
+pub returns : goal.returns
+returns g c = λ is_member cost before candidates x order all e. bests.found is_member cost before order candidates x all e

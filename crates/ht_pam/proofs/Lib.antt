@@ -1,0 +1,5 @@
+pub mod LadderLemmas
+pub mod GridLemmas
+pub mod SameLemmas
+pub mod Tables
+pub mod Values

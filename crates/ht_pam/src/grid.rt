@@ -1,0 +1,130 @@
+//! The points of all streams.
+ghost use Rattle.std.specs.Prelude.{◌≡◌, ◌≤◌, ◌<◌, ◌-◌, ◌++◌, [], ◌∷◌, length, slice_index_or, IsTrue, ◌↔◌};
+ghost use Rattle.ht_pam.specs.Ladders.{IsLadder};
+ghost use Rattle.ht_pam.specs.Grids.{IsGrid, no_axes};
+
+use crate::axes::Axes;
+use crate::ladder::Ladder;
+use std::marker::Model;
+
+/// The points that each of one to four spatial streams may have.
+#[derive(Clone, Copy, Debug)]
+pub struct Grid {
+    streams: u8,
+    axes: [Axes; 4],
+}
+
+impl Model for Grid {
+    ghost use Rattle.std.specs.Prelude.{◌-◌, ◌++◌, List, length, take, replicate};
+    ghost use Rattle.ht_pam.specs.declared.axes.Axes.{Axes};
+
+    ghost Value = { List Axes };
+
+    ghost use Rattle.ht_pam.specs.Grids.{IsGrid, IsPadded, no_axes};
+    ghost use Rattle.ht_pam.specs.Shown.{grid_fields, grid_fields-shown};
+
+    ghost view = { λ g. take g.streams g.axes };
+
+    ghost invariant = { λ g. IsPadded g.streams g.axes × IsGrid (take g.streams g.axes) };
+
+    ghost inverse = { grid_fields };
+
+    ghost inverse_ok = { grid_fields-shown };
+}
+
+impl Grid {
+    /// The grid of one stream.
+    pub fn one(i: Ladder, q: Ladder) -> Grid
+        ensures { result ≡ record { i = i; q = q } ∷ [] }
+    {
+        let mut axes = [unused(); 4];
+        axes[0] = Axes { i, q };
+        Grid { streams: 1, axes }
+    }
+
+    /// The grid with one more stream behind the others.
+    pub fn and(self, i: Ladder, q: Ladder) -> Grid
+        requires { length self < 4 }
+        ensures { result ≡ self ++ record { i = i; q = q } ∷ [] }
+    {
+        let mut grid = self;
+        grid.axes[usize::from(grid.streams)] = Axes { i, q };
+        grid.streams += 1;
+        grid
+    }
+
+    /// The number of streams, 1 to 4.
+    pub fn streams(&self) -> u8
+        ensures number { result ≡ length self.now }
+        ensures grid { IsGrid self.now }
+    {
+        self.streams
+    }
+
+    /// Whether both grids have the same points on each stream.
+    pub fn same(&self, other: &Grid) -> bool
+        ensures { IsTrue result ↔ (self.now ≡ other.now) }
+    {
+        self.streams == other.streams && self.axes == other.axes
+    }
+
+    /// The ladder of I on a stream, the first one being stream 1.
+    pub fn i_ladder(&self, stream: u8) -> Ladder
+        requires first { 1 ≤ stream }
+        requires last { stream ≤ length self.now }
+        ensures value { result ≡ (slice_index_or self.now (stream - 1) no_axes).i }
+        ensures ladder { IsLadder result }
+    {
+        self.axes[usize::from(stream) - 1].i
+    }
+
+    /// The ladder of Q on a stream, the first one being stream 1.
+    pub fn q_ladder(&self, stream: u8) -> Ladder
+        requires first { 1 ≤ stream }
+        requires last { stream ≤ length self.now }
+        ensures value { result ≡ (slice_index_or self.now (stream - 1) no_axes).q }
+        ensures ladder { IsLadder result }
+    {
+        self.axes[usize::from(stream) - 1].q
+    }
+}
+
+// The ladders of a stream that is not there.
+fn unused() -> Axes
+    ensures { result ≡ no_axes }
+{
+    let zero = Ladder::of(1, 1);
+    Axes { i: zero, q: zero }
+}
+
+#[cfg(test)]
+mod tests {
+    use super::Grid;
+    use crate::ladder::Ladder;
+
+    #[test]
+    fn smoke(rt: HostRuntime) {
+        let zero = Ladder::of(1, 1);
+        let ends = Ladder::of(8, 129);
+        let grid = Grid::one(ends, zero).and(zero, ends);
+        assert_eq!(rt; grid.streams(), 2);
+        assert_eq!(rt; grid.i_ladder(1), ends);
+        assert_eq!(rt; grid.q_ladder(1), zero);
+        assert!(rt; grid.same(&Grid::one(ends, zero).and(zero, ends)));
+        assert!(rt; !grid.same(&Grid::one(ends, zero).and(ends, zero)));
+    }
+
+    #[test]
+    fn levels(rt: HostRuntime) {
+        for (ladder, level, has) in [
+            (Ladder::of(1, 1), 0, true),
+            (Ladder::of(2, 1), 1, false),
+            (Ladder::of(4, 15), -3, true),
+            (Ladder::of(4, 15), 2, false),
+            (Ladder::of(8, 129), 7, true),
+            (Ladder::of(8, 129), 5, false),
+        ] {
+            assert_eq!(rt; ladder.has(level), has, "level {level}");
+        }
+    }
+}

@@ -1,0 +1,9 @@
+pub mod Filled
+pub mod Inverse
+pub mod Laid
+pub mod Maps
+pub mod Places
+pub mod Sizes
+pub mod Unique
+pub mod Values
+pub mod Whole

@@ -1,0 +1,3 @@
+pub mod Encoders
+pub mod Runs
+pub mod Streams

@@ -1,0 +1,6 @@
+pub mod CarrierFacts
+pub mod Every
+pub mod Numbers
+pub mod RateFacts
+pub mod Rounding
+mod Values

@@ -1,0 +1,3 @@
+pub mod Carriers
+pub mod Rates
+pub mod Schemes

@@ -1,0 +1,52 @@
+//! What each subcarrier carries (clauses 20.3.11.10 and 20.3.11.11).
+ghost use Rattle.std.specs.Prelude.{◌≡◌, ◌<◌, ◌≤◌, ℕ, length, nat_lt, ◌==◌, position, count_by, IfSome};
+ghost use Rattle.ht_rate.specs.Carriers.{carrier_of, IsAmong, pilots_below};
+ghost use Rattle.ht_rate.specs.Rates.{carriers_of, bandwidth_of};
+ghost use Rattle.ht_rate.specs.Schemes.{pilot_places};
+
+use crate::kinds::{Bandwidth, Carrier};
+use crate::rates::Rate;
+
+// The indexes of the pilot subcarriers, lowest first.
+static PILOTS_20: [u8; 4] = [7, 21, 34, 48];
+
+static PILOTS_40: [u8; 6] = [5, 33, 47, 66, 80, 108];
+
+impl Rate {
+    /// What the subcarrier of this index carries, index 0 being the lowest of the `carriers()` subcarriers.
+    pub fn carrier(&self, index: u8) -> Carrier
+        requires { index < carriers_of self.now }
+        ensures value { result ≡ carrier_of self.now index }
+        ensures within { IsAmong self.now result }
+    {
+        let pilots = pilot_indexes(self.bandwidth());
+        match position_of(pilots, index) {
+            Some(k) => Carrier::Pilot(k as u8),
+            None => Carrier::Data(index - count_below(pilots, index)),
+        }
+    }
+}
+
+fn pilot_indexes(bandwidth: Bandwidth) -> &'static [u8]
+    ensures value { result.now ≡ pilot_places bandwidth }
+    ensures few { length result.now ≤ 6 }
+{
+    match bandwidth {
+        Bandwidth::Mhz20 => &PILOTS_20,
+        Bandwidth::Mhz40 => &PILOTS_40,
+    }
+}
+
+fn count_below(pilots: &[u8], index: u8) -> u8
+    requires { length pilots.now ≤ 6 }
+    ensures { result ≡ count_by (λ p. nat_lt p index) pilots.now }
+{
+    pilots.iter().filter(|p| **p < index).count() as u8
+}
+
+fn position_of(pilots: &[u8], index: u8) -> Option<usize>
+    ensures value { result ≡ position (λ p. p == index) pilots.now }
+    ensures bound { IfSome result (λ k. k < length pilots.now) }
+{
+    pilots.iter().position(|p| *p == index)
+}

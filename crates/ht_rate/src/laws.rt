@@ -1,0 +1,51 @@
+//! Laws of the rate table, each the contract of a function that does nothing.
+ghost use Rattle.std.specs.Prelude.{◌≡◌, ◌*◌, ◌/◌, ◌<◌};
+ghost use Rattle.ht_rate.specs.Carriers.{carrier_of, data_before, IsInOrder};
+ghost use Rattle.ht_rate.specs.Rates.{
+  bandwidth_of,
+  mcs_of,
+  carriers_of,
+  data_carriers_of,
+  coded_bits_of,
+  data_bits_of,
+  encoders_of,
+  pattern_of,
+  rate_of,
+};
+ghost use Rattle.ht_rate.specs.Schemes.{bandwidth_code, numerator_of, denominator_of};
+
+use crate::rates::Rate;
+
+/// Each rate is the one that its bandwidth and its MCS index name.
+pub fn named(rate: &Rate)
+    ensures { rate_of (bandwidth_code (bandwidth_of rate.now)) (mcs_of rate.now) ≡ Ok rate.now }
+{}
+
+/// Two rates of one bandwidth and one MCS index are the same.
+pub fn same(a: &Rate, b: &Rate)
+    requires bandwidth { bandwidth_of a.now ≡ bandwidth_of b.now }
+    requires mcs { mcs_of a.now ≡ mcs_of b.now }
+    ensures { a.now ≡ b.now }
+{}
+
+/// The data bits of a symbol are its coded bits times the coding rate, with no rest.
+pub fn whole(rate: &Rate)
+    ensures { data_bits_of rate.now * denominator_of (pattern_of rate.now) ≡ coded_bits_of rate.now * numerator_of (pattern_of rate.now) }
+{}
+
+/// The bits of a symbol are shared among the encoders with no rest.
+pub fn shared(rate: &Rate)
+    ensures coded { encoders_of rate.now * (coded_bits_of rate.now / encoders_of rate.now) ≡ coded_bits_of rate.now }
+    ensures data_bits { encoders_of rate.now * (data_bits_of rate.now / encoders_of rate.now) ≡ data_bits_of rate.now }
+{}
+
+/// Subcarriers are numbered in ascending order, data and pilots each by themselves.
+pub fn in_order(rate: &Rate, index: u8)
+    requires { index < carriers_of rate.now }
+    ensures { IsInOrder rate.now index (carrier_of rate.now index) }
+{}
+
+/// All subcarriers together have N_SD for data.
+pub fn all_data(rate: &Rate)
+    ensures { data_before rate.now (carriers_of rate.now) ≡ data_carriers_of rate.now }
+{}

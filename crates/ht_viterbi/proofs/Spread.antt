@@ -1,0 +1,74 @@
+-- The least distances from two states lie at most twelve apart: in six steps of the same bits both come to the same state.
+use Rattle.std.proofs.Common.{◌≡◌, ℕ, zero, suc, ◌+◌, ◌-◌, ◌*◌, ◌/◌, ◌<◌, ◌≤◌, List, [], ◌∷◌, length, Bool, true, false, refl, ap, sym, ◌∙◌, subst, arith}
+use Rattle.ht_viterbi.specs.Trellis.{Pair, moved, branch_cost, way, chosen, lesser, is_free, least_from, chosen_at}
+use Rattle.ht_viterbi.specs.Lanes.{IsClose}
+use Rattle.ht_viterbi.proofs.Nearest.{lesser_least, lesser_is, not_chosen}
+use Rattle.ht_viterbi.proofs.Steps.{branch-le, moved-lt}
+
+-- two states that come to one state in so many steps of the same bits
+Alike : ℕ → ℕ → ℕ → Type 0
+Alike zero s t = s ≡ t
+Alike (suc n) s t = (bit : Bool) → Alike n (moved s bit) (moved t bit)
+
+alike-1 : (s t : ℕ) → s / 2 ≡ t / 2 → Alike 1 s t
+unfolding Alike
+alike-1 s t e false = e
+alike-1 s t e true = omega arith
+
+alike-2 : (s t : ℕ) → s / 4 ≡ t / 4 → Alike 2 s t
+unfolding Alike
+alike-2 s t e false = alike-1 (s / 2) (t / 2) (omega arith)
+alike-2 s t e true = alike-1 (s / 2 + 32) (t / 2 + 32) (omega arith)
+
+alike-3 : (s t : ℕ) → s / 8 ≡ t / 8 → Alike 3 s t
+unfolding Alike
+alike-3 s t e false = alike-2 (s / 2) (t / 2) (omega arith)
+alike-3 s t e true = alike-2 (s / 2 + 32) (t / 2 + 32) (omega arith)
+
+alike-4 : (s t : ℕ) → s / 16 ≡ t / 16 → Alike 4 s t
+unfolding Alike
+alike-4 s t e false = alike-3 (s / 2) (t / 2) (omega arith)
+alike-4 s t e true = alike-3 (s / 2 + 32) (t / 2 + 32) (omega arith)
+
+alike-5 : (s t : ℕ) → s / 32 ≡ t / 32 → Alike 5 s t
+unfolding Alike
+alike-5 s t e false = alike-4 (s / 2) (t / 2) (omega arith)
+alike-5 s t e true = alike-4 (s / 2 + 32) (t / 2 + 32) (omega arith)
+
+alike-6 : (s t : ℕ) → s < 64 → t < 64 → Alike 6 s t
+unfolding Alike
+alike-6 s t ls lt false = alike-5 (s / 2) (t / 2) (omega arith)
+alike-6 s t ls lt true = alike-5 (s / 2 + 32) (t / 2 + 32) (omega arith)
+
+spread-alike : (n : ℕ) (pairs : List Pair) (s t : ℕ) → Alike n s t → least_from pairs s ≤ 2 * n + least_from pairs t
+unfolding Alike
+spread-alike zero pairs s t same = let e : least_from pairs s ≡ least_from pairs t = ap (least_from pairs) same in omega arith
+spread-alike (suc n) [] s t same = omega arith
+spread-alike (suc n) (pair ∷ pairs) s t same =
+    let free = is_free (length pairs) in
+    let bit = chosen_at pairs pair t in
+    let there : least_from (pair ∷ pairs) t ≡ way (least_from pairs) pair t bit = lesser_is free (way (least_from pairs) pair t) bit refl in
+    let here : least_from (pair ∷ pairs) s ≤ way (least_from pairs) pair s bit = lesser_least free bit (way (least_from pairs) pair s) (λ none. not_chosen free _ _ none) in
+    let rest : least_from pairs (moved s bit) ≤ 2 * n + least_from pairs (moved t bit) = spread-alike n pairs (moved s bit) (moved t bit) (same bit) in
+    omega (arith, there, here, rest, branch-le pair s bit)
+
+pub spread : (pairs : List Pair) (s t : ℕ) → s < 64 → t < 64 → least_from pairs s ≤ 12 + least_from pairs t
+spread pairs s t ls lt = spread-alike 6 pairs s t (alike-6 s t ls lt)
+
+pub ways-close : (pairs : List Pair) (pair : Pair) → IsClose (least_from pairs) pair
+ways-close pairs pair k lt =
+    let one = branch-le pair k true in
+    let none = branch-le pair k false in
+    let up = spread pairs (moved k false) (moved k true) (moved-lt k false lt) (moved-lt k true lt) in
+    let down = spread pairs (moved k true) (moved k false) (moved-lt k true lt) (moved-lt k false lt) in
+    (omega (arith, one, none, up, down), omega (arith, one, none, up, down))
+
+-- the least distance from state 0 grows by two at most, and falls by twelve at most
+pub first-grows : (pairs : List Pair) (pair : Pair) → (least_from (pair ∷ pairs) 0 ≤ least_from pairs 0 + 2) × (least_from pairs 0 ≤ least_from (pair ∷ pairs) 0 + 12)
+first-grows pairs pair =
+    let free = is_free (length pairs) in
+    let bit = chosen_at pairs pair 0 in
+    let is : least_from (pair ∷ pairs) 0 ≡ way (least_from pairs) pair 0 bit = lesser_is free (way (least_from pairs) pair 0) bit refl in
+    let stays : least_from (pair ∷ pairs) 0 ≤ way (least_from pairs) pair 0 false = lesser_least free false (way (least_from pairs) pair 0) (λ none. refl) in
+    let back = spread pairs 0 (moved 0 bit) (omega arith) (moved-lt 0 bit (omega arith)) in
+    (omega (arith, stays, branch-le pair 0 false), omega (arith, is, back))

@@ -1,0 +1,200 @@
+-- One step of the plain decoder, state by state.
+use Rattle.std.proofs.Common.{◌≡◌, ◌↔◌, ℕ, zero, suc, ◌+◌, ◌-◌, ◌*◌, ◌/◌, ◌%◌, ◌<◌, ◌≤◌, List, [], ◌∷◌, ◌++◌, Bool, true, false, Option, Some, None, length, take, drop, set, get_or, slice_index, replicate, nat_lt, not, refl, ap, sym, ◌∙◌, subst, arith, add-one, append_assoc, ◌==◌, nat_eq}
+use Rattle.std.specs.Int.{bit_at}
+use Rattle.std.proofs.Math.Seq.{drop-cons, take-append_seam}
+use Rattle.std.proofs.lemmas.Bool.{eqb-true, eq-eqb}
+use Rattle.std.proofs.lemmas.Bool.Decides.{nat_tests}
+use Rattle.std.proofs.lemmas.List.{length-drop, drop-set, get_or_past}
+use Rattle.ht_rate.specs.declared.kinds.Pattern.{Pattern}
+use Rattle.ht_rate.specs.declared.kinds.Pattern.TheVariants.{Half, TwoThirds, ThreeQuarters, FiveSixths}
+use Rattle.ht_conv.specs.declared.puncture.Kept.{Kept}
+use Rattle.ht_conv.specs.declared.puncture.Kept.TheVariants.{Both}
+use Rattle.ht_conv.specs.Puncturing.{period_of, kept_of, kept_count, sent_count}
+use Rattle.ht_viterbi.specs.Inputs.{place_cost}
+use Rattle.ht_viterbi.specs.Trellis.{Pair, pair_of, pair_at, phase_back, pairs_from, moved, output_a, output_b, branch_cost, way, chosen, lesser, is_free, least_from, chosen_at, first_from, AreChoices}
+use Rattle.ht_viterbi.proofs.Sending.{length-pairs, sent-grows}
+
+abbrev pub erased : Pair
+erased = (None, None)
+
+pub moved-lt : (k : ℕ) (bit : Bool) → k < 64 → moved k bit < 64
+moved-lt k false p = omega arith
+moved-lt k true p = omega arith
+
+-- two tables that agree give the same ways
+pub way-same : (f g : ℕ → ℕ) → ((k : ℕ) → k < 64 → f k ≡ g k) → (pair : Pair) (k : ℕ) (bit : Bool) → k < 64 → way f pair k bit ≡ way g pair k bit
+way-same f g same pair k bit p = ap (λ n. branch_cost pair k bit + n) (same (moved k bit) (moved-lt k bit p))
+
+place-le : (place : Option Bool) (bit : Bool) → place_cost place bit ≤ 1
+place-le None bit = omega arith
+place-le (Some false) false = omega arith
+place-le (Some false) true = omega arith
+place-le (Some true) false = omega arith
+place-le (Some true) true = omega arith
+
+pub branch-le : (pair : Pair) (state : ℕ) (bit : Bool) → branch_cost pair state bit ≤ 2
+unfolding branch_cost
+branch-le pair state bit = omega (arith, place-le pair.0 (output_a state bit), place-le pair.1 (output_b state bit))
+
+lesser-le : (free : Bool) (a b m : ℕ) → a ≤ m → b ≤ m → lesser free a b ≤ m
+lesser-le false a b m p q = p
+lesser-le true a b m p q = grind (arith, nat_tests)
+
+free-same : (n : ℕ) → nat_lt 6 (suc n) ≡ is_free n
+free-same n = grind (arith, nat_tests)
+
+-- the pairs of one more step before those at hand
+pub pairs-back : (pattern : Pattern) (received : List (Option Bool)) (steps at : ℕ) → 0 < at → at ≤ steps
+    → pairs_from pattern received (at - 1) (steps - (at - 1)) ≡ pair_at pattern received (at - 1) ∷ pairs_from pattern received at (steps - at)
+unfolding pairs_from
+pairs-back pattern received steps at p q =
+    let more : steps - (at - 1) ≡ suc (steps - at) = omega arith in
+    let next : suc (at - 1) ≡ at = omega arith in
+    ap (λ (n : ℕ). pairs_from pattern received (at - 1) n) more ∙ ap (λ (n : ℕ). pair_at pattern received (at - 1) ∷ pairs_from pattern received n (steps - at)) next
+
+-- the phases of the steps, from the last backwards
+pub phase-back : (pattern : Pattern) (at phase phase' : ℕ) → 0 < at → phase ≡ at % length (period_of pattern) → phase' ≡ phase_back phase (length (period_of pattern)) → phase' ≡ (at - 1) % length (period_of pattern)
+phase-back Half at phase phase' p is back = grind (arith, nat_tests)
+phase-back TwoThirds at phase phase' p is back = grind (arith, nat_tests)
+phase-back ThreeQuarters at phase phase' p is back = grind (arith, nat_tests)
+phase-back FiveSixths at phase phase' p is back = grind (arith, nat_tests)
+
+pub phase-step : (pattern : Pattern) (period : List Kept) (at phase phase' : ℕ) → period ≡ period_of pattern → 0 < at → phase ≡ at % length (period_of pattern)
+    → phase' ≡ phase_back phase (length period) → phase' ≡ (at - 1) % length (period_of pattern)
+phase-step pattern period at phase phase' is p here back = phase-back pattern at phase phase' p here (back ∙ ap (λ (z : List Kept). phase_back phase (length z)) is)
+
+-- what is kept of a step, read from the period
+pub kept-back : (pattern : Pattern) (period : List Kept) (at phase : ℕ) → period ≡ period_of pattern → phase ≡ (at - 1) % length (period_of pattern)
+    → get_or period phase Both ≡ kept_of pattern (at - 1)
+kept-back pattern period at phase is phase-is = ap (λ (z : List Kept). get_or z phase Both) is ∙ ap (λ (n : ℕ). get_or (period_of pattern) n Both) phase-is
+
+-- where the places of the step before begin
+pub start-back : (pattern : Pattern) (steps at start width : ℕ) (kept : Kept) → 0 < at → at ≤ steps → start ≡ sent_count pattern at
+    → kept ≡ kept_of pattern (at - 1) → width ≡ kept_count kept → (start - width ≡ sent_count pattern (at - 1)) × (start - width + kept_count kept ≤ sent_count pattern steps)
+start-back pattern steps at start width kept p q is kept-is width-is =
+    let next : suc (at - 1) ≡ at = omega arith in
+    let more : sent_count pattern (at - 1) + kept_count (kept_of pattern (at - 1)) ≡ sent_count pattern at = ap (sent_count pattern) next in
+    let same : kept_count kept ≡ kept_count (kept_of pattern (at - 1)) = ap kept_count kept-is in
+    let whole : at + (steps - at) ≡ steps = omega arith in
+    let rest : sent_count pattern at ≤ sent_count pattern steps = subst (λ (n : ℕ). sent_count pattern at ≤ sent_count pattern n) whole (sent-grows pattern (steps - at) at) in
+    (omega arith, omega arith)
+
+-- the pair that is read is that of the step
+pub pair-back : (pattern : Pattern) (received : List (Option Bool)) (steps at start : ℕ) (kept : Kept) (pair : Pair) → 0 < at → at ≤ steps
+    → kept ≡ kept_of pattern (at - 1) → start ≡ sent_count pattern (at - 1) → pair ≡ pair_of kept received start
+    → pairs_from pattern received (at - 1) (steps - (at - 1)) ≡ pair ∷ pairs_from pattern received at (steps - at)
+pair-back pattern received steps at start kept pair p q kept-is start-is pair-is =
+    let same : pair ≡ pair_at pattern received (at - 1) =
+    pair-is ∙ (ap (λ (k : Kept). pair_of k received start) kept-is ∙ ap (λ (n : ℕ). pair_of (kept_of pattern (at - 1)) received n) start-is) in
+    pairs-back pattern received steps at p q ∙ ap (λ (z : Pair). z ∷ pairs_from pattern received at (steps - at)) (sym same)
+
+pub pairs-none : (pattern : Pattern) (received : List (Option Bool)) (steps : ℕ) → pairs_from pattern received steps (steps - steps) ≡ []
+unfolding pairs_from
+pairs-none pattern received steps = let none : steps - steps ≡ 0 = omega arith in ap (λ (n : ℕ). pairs_from pattern received steps n) none
+
+pub free-back : (pattern : Pattern) (received : List (Option Bool)) (steps at : ℕ) → 0 < at → at ≤ steps
+    → nat_lt 6 (steps - (at - 1)) ≡ is_free (length (pairs_from pattern received at (steps - at)))
+free-back pattern received steps at p q =
+    let more : steps - (at - 1) ≡ suc (steps - at) = omega arith in
+    ap (λ (n : ℕ). nat_lt 6 n) more ∙ (free-same (steps - at) ∙ ap is_free (sym (length-pairs pattern received at (steps - at))))
+
+zeros : (n k : ℕ) → slice_index (replicate n 0) k ≡ 0
+zeros zero k = refl
+zeros (suc n) zero = refl
+zeros (suc n) (suc k) = zeros n k
+
+pub zero-at : {xs : List ℕ} → xs ≡ replicate 64 0 → (k : ℕ) → slice_index xs k ≡ 0
+zero-at e k = ap (λ (xs : List ℕ). slice_index xs k) e ∙ zeros 64 k
+
+-- no step yet
+pub costs-start : (all : List Pair) (costs : List ℕ) → all ≡ [] → costs ≡ replicate 64 0 → (k : ℕ) → k < 64 → slice_index costs k ≡ least_from all k
+costs-start all costs none zeroed k p = zero-at zeroed k ∙ sym (ap (λ (ps : List Pair). least_from ps k) none)
+
+pub choices-start : (all : List Pair) (words : List ℕ) → all ≡ [] → AreChoices all words
+choices-start all words none = subst (λ (ps : List Pair). AreChoices ps words) (sym none) tt
+
+-- the table after one more step
+pub costs-step : (all pairs : List Pair) (costs into : ℕ → ℕ) (free : Bool) (pair : Pair) → all ≡ pair ∷ pairs → free ≡ is_free (length pairs)
+    → ((k : ℕ) → k < 64 → costs k ≡ least_from pairs k)
+    → ((k : ℕ) → k < 64 → into k ≡ lesser free (way costs pair k false) (way costs pair k true))
+    → (k : ℕ) → k < 64 → into k ≡ least_from all k
+costs-step all pairs costs into free pair cons is was step k p =
+    step k p
+    ∙ ap (λ (f : Bool). lesser f (way costs pair k false) (way costs pair k true)) is
+    ∙ ap (λ (a : ℕ). lesser (is_free (length pairs)) a (way costs pair k true)) (way-same costs (least_from pairs) was pair k false p)
+    ∙ ap (λ (b : ℕ). lesser (is_free (length pairs)) (way (least_from pairs) pair k false) b) (way-same costs (least_from pairs) was pair k true p)
+    ∙ sym (ap (λ (xs : List Pair). least_from xs k) cons)
+
+-- the choices after one more step
+pub choices-step : (all pairs : List Pair) (words : List ℕ) (m at word : ℕ) (pair : Pair) → all ≡ pair ∷ pairs → at ≡ m + 1 → m < length words
+    → ((k : ℕ) → k < 64 → (bit_at word k ≡ 1) ↔ (chosen_at pairs pair k ≡ true))
+    → AreChoices pairs (drop at words) → AreChoices all (drop m (set words m word))
+choices-step all pairs words m at word pair cons next p step rest =
+    let list : drop m (set words m word) ≡ word ∷ drop at words = drop-set words m word p ∙ ap (λ n. word ∷ drop n words) (sym next) in
+    let here : AreChoices (pair ∷ pairs) (word ∷ drop at words) = (step, rest) in
+    subst (λ (r : List ℕ). AreChoices all r) (sym list) (subst (λ (q : List Pair). AreChoices q (word ∷ drop at words)) (sym cons) here)
+
+pub chosen-step : (pairs : List Pair) (word : ℕ) (costs : ℕ → ℕ) (free : Bool) (pair : Pair) → free ≡ is_free (length pairs)
+    → ((k : ℕ) → k < 64 → costs k ≡ least_from pairs k)
+    → ((k : ℕ) → k < 64 → (bit_at word k ≡ 1) ↔ (chosen free (way costs pair k false) (way costs pair k true) ≡ true))
+    → (k : ℕ) → k < 64 → (bit_at word k ≡ 1) ↔ (chosen_at pairs pair k ≡ true)
+chosen-step pairs word costs free pair is was step k q =
+    let same : chosen free (way costs pair k false) (way costs pair k true) ≡ chosen_at pairs pair k =
+    ap (λ (f : Bool). chosen f (way costs pair k false) (way costs pair k true)) is
+    ∙ ap (λ (a : ℕ). chosen (is_free (length pairs)) a (way costs pair k true)) (way-same costs (least_from pairs) was pair k false q)
+    ∙ ap (λ (b : ℕ). chosen (is_free (length pairs)) (way (least_from pairs) pair k false) b) (way-same costs (least_from pairs) was pair k true q) in
+    ((λ e. sym same ∙ (step k q).0 e), λ e. (step k q).1 (same ∙ e))
+
+-- no distance grows by more than two
+pub bound-step : (into costs : List ℕ) (free : Bool) (pair : Pair) (b : ℕ) → length into ≡ 64 → ((k : ℕ) → slice_index costs k ≤ b)
+    → ((k : ℕ) → k < 64 → slice_index into k ≡ lesser free (way (slice_index costs) pair k false) (way (slice_index costs) pair k true)) → (k : ℕ) → slice_index into k ≤ b + 2
+bound-step into costs free pair b long was step k = go (nat_lt k 64) refl
+  where
+    go : (t : Bool) → nat_lt k 64 ≡ t → slice_index into k ≤ b + 2
+    go true e =
+        let small : k < 64 = grind (arith, nat_tests) in
+        let zero_way : way (slice_index costs) pair k false ≤ b + 2 = omega (arith, branch-le pair k false, was (moved k false)) in
+        let one_way : way (slice_index costs) pair k true ≤ b + 2 = omega (arith, branch-le pair k true, was (moved k true)) in
+        rw (step k small) (lesser-le free _ _ (b + 2) zero_way one_way)
+    go false e = let large : 64 ≤ k = grind (arith, nat_tests) in let past : slice_index into k ≡ 0 = get_or_past into k 0 (omega arith) in omega (arith, past)
+
+same-bit : (a b : Bool) (n : ℕ) → a ≡ (n == 1) → (n ≡ 1) ↔ (b ≡ true) → a ≡ b
+same-bit true b n p q = sym (q.0 (eqb-true n 1 (sym p)))
+same-bit false true n p q = p ∙ eq-eqb n 1 (q.1 refl)
+same-bit false false n p q = refl
+
+-- the walk takes the bit that the word has
+pub word-taken : (pairs : List Pair) (words : List ℕ) (at state : ℕ) (bit : Bool) → at < length words → length pairs ≡ length words → state < 64
+    → AreChoices (drop at pairs) (drop at words)
+    → bit ≡ (bit_at (get_or words at 0) state == 1)
+    → (first_from (drop at pairs) state ≡ bit ∷ first_from (drop (at + 1) pairs) (moved state bit)) × AreChoices (drop (at + 1) pairs) (drop (at + 1) words)
+word-taken pairs words at state bit p len small are taken =
+    let ps : drop at pairs ≡ get_or pairs at erased ∷ drop (at + 1) pairs = rw add-one (drop-cons pairs at erased (omega arith)) in
+    let ws : drop at words ≡ get_or words at 0 ∷ drop (at + 1) words = rw add-one (drop-cons words at 0 p) in
+    let both : AreChoices (get_or pairs at erased ∷ drop (at + 1) pairs) (get_or words at 0 ∷ drop (at + 1) words) =
+    subst (λ (q : List Pair). AreChoices q (get_or words at 0 ∷ drop (at + 1) words)) ps (subst (λ (r : List ℕ). AreChoices (drop at pairs) r) ws are) in
+    let same : bit ≡ chosen_at (drop (at + 1) pairs) (get_or pairs at erased) state = same-bit bit _ (bit_at (get_or words at 0) state) taken (both.0 state small) in (
+      ap (λ (q : List Pair). first_from q state) ps ∙ ap (λ (b : Bool). b ∷ first_from (drop (at + 1) pairs) (moved state b)) (sym same),
+      both.1,
+    )
+
+-- what was written into a whole vector is what it has
+pub written : (xs rest : List ℕ) (len : ℕ) → length xs ≡ len → take len (xs ++ rest) ≡ xs
+written xs rest len same = ap (λ (n : ℕ). take n (xs ++ rest)) (sym same) ∙ take-append_seam xs rest
+
+-- the choices of the steps from one on
+pub choices-drop : (k : ℕ) (pairs : List Pair) (words : List ℕ) → AreChoices pairs words → AreChoices (drop k pairs) (drop k words)
+choices-drop zero pairs words are = are
+choices-drop (suc k) [] words are = tt
+choices-drop (suc k) (pair ∷ pairs) [] are = absurd are
+choices-drop (suc k) (pair ∷ pairs) (word ∷ words) are = choices-drop k pairs words are.1
+
+pub walked : (whole old new : List Bool) (bit : Bool) (state state' at : ℕ) (pairs : List Pair) → new ≡ old ++ bit ∷ [] → state' ≡ moved state bit
+    → first_from (drop at pairs) state ≡ bit ∷ first_from (drop (at + 1) pairs) (moved state bit)
+    → old ++ first_from (drop at pairs) state ≡ whole → new ++ first_from (drop (at + 1) pairs) state' ≡ whole
+walked whole old new bit state state' at pairs e s next was =
+    ap (λ (z : List Bool). z ++ first_from (drop (at + 1) pairs) state') e
+    ∙ append_assoc old (bit ∷ []) (first_from (drop (at + 1) pairs) state')
+    ∙ ap (λ (n : ℕ). old ++ (bit ∷ first_from (drop (at + 1) pairs) n)) s
+    ∙ ap (λ (z : List Bool). old ++ z) (sym next)
+    ∙ was

@@ -1,0 +1,63 @@
+use Rattle.std.proofs.Common.{◌≡◌, ◌∙◌, ◌-◌, ◌+◌, ◌*◌, ◌%◌, ◌<◌, ◌≤◌, ℕ, List, Bool, true, false, ap, sym, subst, length, slice_index, arith, rules}
+use Rattle.ht_conv.specs.declared.puncture.Kept.{Kept}
+use Rattle.ht_conv.specs.Puncturing.{kept_count, sent_count}
+use Rattle.ht_viterbi.specs.Trellis.{Pair, pairs_from, least_from}
+use Rattle.ht_viterbi.specs.Lanes.{HasLanes}
+use Rattle.ht_viterbi.proofs.Steps.{phase-step, kept-back, start-back, pair-back, pairs-none, free-back, choices-start, choices-step}
+use Rattle.ht_viterbi.proofs.Spread.{ways-close, first-grows}
+use Rattle.ht_viterbi.proofs.LaneSteps.{lanes-start, lanes-step, chosen-lanes}
+use Rattle.ht_viterbi.proofs.decoder.backwards.Goals as goal
+
+pub loop-at-init : goal.loop-at-init
+loop-at-init c =
+    let none = pairs-none c.args.pattern c.args.received.now (length c.args.choices.now) in
+    record {
+      within = omega arith;
+      count = search rules;
+      period = c.period_of_steps-period.ensures;
+      phase = ap (λ (z : List Kept). length c.args.choices.now % length z) c.period_of_steps-period.ensures;
+      start = c.requires.count;
+      costs = lanes-start _ none;
+      choices = choices-start _ _ none;
+      distance = sym (ap (λ (ps : List Pair). least_from ps 0) none);
+      bound = omega arith;
+    }
+
+pub pair_from-pair-requires : goal.pair_from-pair-requires
+pair_from-pair-requires c =
+    let was = c.loop-at.invariant in
+    let phase = phase-step c.args.pattern c.period_of_steps-period.result.now c.loop-at.at c.loop-at.phase c.phase_before-phase.result was.period c.loop-at-test.true was.phase c.phase_before-phase.ensures.value in
+    let kept = kept-back c.args.pattern c.period_of_steps-period.result.now c.loop-at.at c.phase_before-phase.result was.period phase in
+    let back = start-back c.args.pattern (length c.args.choices.now) c.loop-at.at c.loop-at.start c.places_of-start.result _ c.loop-at-test.true was.within was.start kept c.places_of-start.ensures in
+    omega (arith, back.1)
+
+pub loop-at-preserved : goal.loop-at-preserved
+loop-at-preserved c =
+    let steps = length c.args.choices.now in
+    let at = c.loop-at.at in
+    let was = c.loop-at.invariant in
+    let pair = c.pair_from-pair.result in
+    let phase = phase-step c.args.pattern c.period_of_steps-period.result.now at c.loop-at.phase c.phase_before-phase.result was.period c.loop-at-test.true was.phase c.phase_before-phase.ensures.value in
+    let kept = kept-back c.args.pattern c.period_of_steps-period.result.now at c.phase_before-phase.result was.period phase in
+    let back = start-back c.args.pattern steps at c.loop-at.start c.places_of-start.result _ c.loop-at-test.true was.within was.start kept c.places_of-start.ensures in
+    let cons = pair-back c.args.pattern c.args.received.now steps at (c.loop-at.start - c.places_of-start.result) _ pair c.loop-at-test.true was.within kept back.0 c.pair_from-pair.ensures in
+    let free = free-back c.args.pattern c.args.received.now steps at c.loop-at-test.true was.within in
+    let pairs = pairs_from c.args.pattern c.args.received.now at (steps - at) in
+    let zeros = c.lanes_of.ensures false c.branches_of-zeros.ensures in
+    let ones = c.lanes_of-in-loop-at.ensures true c.branches_of-ones.ensures in
+    let close = ways-close pairs pair in
+    let costs = lanes-step _ pairs c.step-word.result.0 _ pair cons free (c.step-word.ensures.costs (least_from pairs) pair was.costs zeros ones close) in
+    let grows = first-grows pairs pair in
+    let same = ap (λ (ps : List Pair). least_from ps 0) cons in
+    let distance = c.carried-distance.ensures _ (c.first_lane.ensures ∙ costs.lane 0 (omega arith)) (omega (arith, grows.0, same, was.distance)) (omega (arith, grows.1, same, was.distance)) in
+    record {
+      within = omega arith;
+      count = search rules;
+      period = was.period;
+      phase = phase;
+      start = back.0;
+      costs = costs;
+      choices = choices-step _ pairs c.loop-at.choices (at - 1) at c.step-word.result.1 pair cons (omega arith) (omega arith) (chosen-lanes pairs c.step-word.result.1 _ pair free (c.step-word.ensures.choices (least_from pairs) pair was.costs zeros ones close)) was.choices;
+      distance = distance;
+      bound = omega (arith, distance, grows.0, same, was.distance, was.bound);
+    }

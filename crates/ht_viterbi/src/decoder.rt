@@ -1,0 +1,118 @@
+//! The decoder: all 64 states at once.
+ghost use Rattle.std.specs.Prelude.{◌≡◌, ◌+◌, ◌-◌, ◌*◌, ◌%◌, ◌<◌, ◌≤◌, ◌^◌, ◌↔◌, ℕ, List, Bool, true, false, IfOk, length, drop, replicate, slice_index};
+ghost use Rattle.std.specs.Int.{bit_at};
+ghost use Rattle.ht_conv.specs.Puncturing.{sent_count};
+ghost use Rattle.ht_viterbi.specs.Inputs.{IsDecoded, distance, tail};
+ghost use Rattle.ht_viterbi.specs.Trellis.{Pair, branch_cost, way, chosen, lesser, least_from, AreChoices, pairs_from};
+ghost use Rattle.ht_viterbi.specs.Lanes.{HasLanes, HoldsBranches, IsClose};
+
+use ht_rate::Pattern;
+use std::alloc::{AllocError, Global};
+use std::simd::prelude::*;
+
+use crate::branches::{Branches, branches_of, row_of};
+use crate::codeword::{Bits, Codeword};
+use crate::lanes::{after_one, after_zero, differences, negative, sums, taken};
+use crate::pairs::{Pair, pair_from, period_of_steps, phase_before, places_of};
+use crate::walk::forwards;
+
+// One step of the trellis. The answer has the new costs, and the states at which a 1 is taken.
+#[inline(always)]
+fn step(costs: u8x64, zero: u8x64, one: u8x64, free: bool) -> (u8x64, u64)
+    ensures costs {
+        (table : ℕ → ℕ) (pair : Pair) → HasLanes costs (λ k. table k % 256)
+            → HasLanes zero (λ k. branch_cost pair k false) → HasLanes one (λ k. branch_cost pair k true) → IsClose table pair
+            → HasLanes result.0 (λ k. lesser free (way table pair k false) (way table pair k true) % 256)
+    }
+    ensures choices {
+        (table : ℕ → ℕ) (pair : Pair) → HasLanes costs (λ k. table k % 256)
+            → HasLanes zero (λ k. branch_cost pair k false) → HasLanes one (λ k. branch_cost pair k true) → IsClose table pair
+            → (k : ℕ) → k < 64 → (bit_at result.1 k ≡ 1) ↔ (chosen free (way table pair k false) (way table pair k true) ≡ true)
+    }
+{
+    let zero_ways = sums(after_zero(costs), zero);
+    if free {
+        let one_ways = sums(after_one(costs), one);
+        let ahead = differences(one_ways, zero_ways);
+        let choices = negative(ahead);
+        (taken(ahead, one_ways, zero_ways), choices)
+    } else {
+        (zero_ways, 0)
+    }
+}
+
+// The costs of a pair's branches, from the table of all pairs.
+#[inline(always)]
+fn lanes_of(branches: &Branches, pair: Pair) -> u8x64
+    ensures { (bit : Bool) → HoldsBranches branches.now bit → HasLanes result (λ k. branch_cost pair k bit) }
+{
+    u8x64::from_array(branches[row_of(pair)])
+}
+
+// A distance by its lowest octet, where it is known to lie at most 2 above the one before and not far below.
+#[inline(always)]
+fn carried(before: u32, octet: u8) -> u32
+    requires { before ≤ 2 ^ 30 }
+    ensures { (n : ℕ) → octet ≡ n % 256 → n ≤ before + 2 → before ≤ n + 12 → result ≡ n }
+{
+    let most = before + 2;
+    most.saturating_sub((most + 256 - u32::from(octet)) % 256)
+}
+
+// The cost of state 0.
+#[inline(always)]
+fn first_lane(costs: u8x64) -> u8
+    ensures { result ≡ slice_index costs 0 }
+{
+    costs[0]
+}
+
+// Fills in the choices of all steps, from the last to the first, and gives the least distance from state 0.
+fn backwards(pattern: Pattern, received: &[Option<bool>], choices: &mut [u64]) -> u32
+    requires count { length received.now ≡ sent_count pattern (length choices.old) }
+    requires few { length choices.old ≤ 2 ^ 20 }
+    ensures choices { AreChoices (pairs_from pattern received.now 0 (length choices.old)) choices.new }
+    ensures least { result ≡ least_from (pairs_from pattern received.now 0 (length choices.old)) 0 }
+{
+    let zeros = branches_of(false);
+    let ones = branches_of(true);
+    let steps = choices.len();
+    let mut costs = u8x64::splat(0);
+    let mut distance = 0u32;
+    let mut at = steps;
+    let mut start = received.len();
+    let period = period_of_steps(pattern);
+    let mut phase = steps % period.len();
+    while at > 0 {
+        at -= 1;
+        phase = phase_before(phase, period.len());
+        let kept = period[phase];
+        start -= places_of(kept);
+        let pair = pair_from(received, start, kept);
+        let (next, word) = step(costs, lanes_of(&zeros, pair), lanes_of(&ones, pair), steps - at > 6);
+        choices[at] = word;
+        distance = carried(distance, first_lane(next));
+        costs = next;
+    }
+    distance
+}
+
+/// Decodes a punctured codeword: the first terminated input whose coded bits are nearest to `received`.
+pub fn decode(alloc: Global, steps: u32, pattern: Pattern, received: &[Option<bool>]) -> Result<Codeword, AllocError>
+    requires least { tail ≤ steps }
+    requires most { steps ≤ 524302 }
+    requires received { length received.now ≡ sent_count pattern steps }
+    ensures input { IfOk result (λ c. IsDecoded steps pattern received.now c.input) }
+    ensures distance { IfOk result (λ c. c.distance ≡ distance pattern received.now c.input) }
+    ensures steps { IfOk result (λ c. length c.input ≡ steps) }
+    ensures ending { IfOk result (λ c. drop (steps - tail) c.input ≡ replicate tail false) }
+{
+    let mut choices = Vec::from_elem(alloc, 0u64, steps as usize)?;
+    let mut input = Vec::with_capacity(alloc, steps as usize)?;
+    let distance = backwards(pattern, received, choices.as_mut_slice());
+    forwards(&choices, &mut input);
+    Ok(Codeword {
+        input: Bits::from_vec(input),
+        distance,
+    })
+}

@@ -1,0 +1,27 @@
+//! What follows from the definitions alone. None of these functions does anything: its contract is a law.
+ghost use Rattle.std.specs.Prelude.{◌≡◌, ◌-◌, ◌≤◌, ℕ, List, Bool, false, Some, Option, length, drop, map, replicate, IsTrue};
+ghost use Rattle.ht_rate.specs.declared.kinds.Pattern.{Pattern};
+ghost use Rattle.ht_conv.specs.Code.{sent_bits};
+ghost use Rattle.ht_nearest.specs.Nearest.{IsOrder};
+ghost use Rattle.ht_viterbi.specs.Inputs.{tail, is_terminated, is_before, distance, IsDecoded};
+
+/// Terminated inputs have the length that is asked for, and end with six zeros.
+pub fn terminated()
+    ensures { (steps : ℕ) (u : List Bool) → tail ≤ steps → IsTrue (is_terminated steps u) → (length u ≡ steps) × (drop (steps - tail) u ≡ replicate tail false) }
+{}
+
+/// Terminated inputs stand in an order.
+pub fn order()
+    ensures { (steps : ℕ) → IsOrder (is_terminated steps) is_before }
+{}
+
+/// At most one input is the answer.
+pub fn unique()
+    ensures { (steps : ℕ) (p : Pattern) (received : List (Option Bool)) (u v : List Bool) → IsDecoded steps p received u → IsDecoded steps p received v → u ≡ v }
+{}
+
+/// What is received as it was sent is decoded to what was sent, at distance 0.
+pub fn sent_is_decoded()
+    ensures answer { (steps : ℕ) (p : Pattern) (u : List Bool) → IsTrue (is_terminated steps u) → IsDecoded steps p (map Some (sent_bits p u)) u }
+    ensures distance { (p : Pattern) (u : List Bool) → distance p (map Some (sent_bits p u)) u ≡ 0 }
+{}

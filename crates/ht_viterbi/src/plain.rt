@@ -1,0 +1,106 @@
+//! The plain decoder: 64 costs a step.
+ghost use Rattle.std.specs.Prelude.{◌≡◌, ◌+◌, ◌*◌, ◌<◌, ◌≤◌, ◌≢◌, ◌^◌, ◌↔◌, ℕ, List, [], length, true, false, IfOk, drop, vec_capacity, slice_index, replicate, ◌-◌};
+ghost use Rattle.std.specs.Int.{bit_at};
+ghost use Rattle.ht_conv.specs.Puncturing.{sent_count};
+ghost use Rattle.ht_viterbi.specs.Inputs.{IsDecoded, distance, tail};
+ghost use Rattle.ht_viterbi.specs.Trellis.{way, chosen, lesser, least_from, first_from, AreChoices, pairs_from, moved, Pair};
+
+use ht_conv::kept_at;
+use ht_rate::Pattern;
+use std::alloc::{AllocError, Global};
+
+use crate::codeword::{Bits, Codeword};
+use crate::pairs::{Pair, cost_of_branch, pair_from, places_of, state_after};
+use crate::walk::forwards;
+use crate::words::with_flag;
+
+// The distance by a first bit.
+fn way_of(costs: &[u32; 64], pair: Pair, state: usize, bit: bool) -> u32
+    requires state { state < 64 }
+    requires bound { (k : ℕ) → slice_index costs.now k ≤ 2 ^ 30 }
+    ensures value { result ≡ way (slice_index costs.now) pair state bit }
+    ensures bound { result ≤ 2 ^ 30 + 2 }
+{
+    cost_of_branch(pair, state, bit) + costs[state_after(state, bit)]
+}
+
+// Whether a 1 is taken, and the distance of the bit that is taken.
+fn pick(free: bool, zero: u32, one: u32) -> (bool, u32)
+    ensures taken { result.0 ≡ chosen free zero one }
+    ensures least { result.1 ≡ lesser free zero one }
+{
+    let taken = free && one < zero;
+    (taken, if taken { one } else { zero })
+}
+
+// One step of the trellis. The answer has the states at which a 1 is taken.
+fn step(costs: &[u32; 64], pair: Pair, free: bool, into: &mut [u32; 64]) -> u64
+    requires { (k : ℕ) → slice_index costs.now k ≤ 2 ^ 30 }
+    ensures costs { (k : ℕ) → k < 64 → slice_index into.new k ≡ lesser free (way (slice_index costs.now) pair k false) (way (slice_index costs.now) pair k true) }
+    ensures choices { (k : ℕ) → k < 64 → (bit_at result k ≡ 1) ↔ (chosen free (way (slice_index costs.now) pair k false) (way (slice_index costs.now) pair k true) ≡ true) }
+{
+    let mut choices = 0u64;
+    for state in 0..64usize {
+        let zero = way_of(costs, pair, state, false);
+        let one = way_of(costs, pair, state, true);
+        let (taken, least) = pick(free, zero, one);
+        choices = with_flag(choices, state, taken);
+        into[state] = least;
+    }
+    choices
+}
+
+// No state costs anything at the end.
+fn no_costs() -> [u32; 64]
+    ensures { result ≡ replicate 64 0 }
+{
+    [0; 64]
+}
+
+// Fills in the choices of all steps, from the last to the first, and gives the least distance from state 0.
+fn backwards(pattern: Pattern, received: &[Option<bool>], choices: &mut [u64]) -> u32
+    requires count { length received.now ≡ sent_count pattern (length choices.old) }
+    requires few { length choices.old ≤ 2 ^ 20 }
+    ensures choices { AreChoices (pairs_from pattern received.now 0 (length choices.old)) choices.new }
+    ensures least { result ≡ least_from (pairs_from pattern received.now 0 (length choices.old)) 0 }
+{
+    let steps = choices.len();
+    let mut costs = no_costs();
+    let mut at = steps;
+    let mut start = received.len();
+    while at > 0 {
+        at -= 1;
+        let kept = kept_at(pattern, at as u32);
+        start -= places_of(kept);
+        let mut into = no_costs();
+        choices[at] = step(&costs, pair_from(received, start, kept), steps - at > 6, &mut into);
+        costs = into;
+    }
+    costs[0]
+}
+
+/// Decodes a punctured codeword: the first terminated input whose coded bits are nearest to `received`.
+///
+/// `steps` is the length of the input with its tail of six zeros, and `received` has the coded bits that `pattern`
+/// keeps, None where one is erased. This is the plain form of [`decode`](crate::decode): 64 costs and 64
+/// comparisons a step. The only error is want of memory, and nothing has changed then.
+///
+/// IEEE Std 802.11-2012, clauses 18.3.5.6 and 20.3.11.6.
+pub fn plain_decode(alloc: Global, steps: u32, pattern: Pattern, received: &[Option<bool>]) -> Result<Codeword, AllocError>
+    requires least { tail ≤ steps }
+    requires most { steps ≤ 524302 }
+    requires received { length received.now ≡ sent_count pattern steps }
+    ensures input { IfOk result (λ c. IsDecoded steps pattern received.now c.input) }
+    ensures distance { IfOk result (λ c. c.distance ≡ distance pattern received.now c.input) }
+    ensures steps { IfOk result (λ c. length c.input ≡ steps) }
+    ensures ending { IfOk result (λ c. drop (steps - tail) c.input ≡ replicate tail false) }
+{
+    let mut choices = Vec::from_elem(alloc, 0u64, steps as usize)?;
+    let mut input = Vec::with_capacity(alloc, steps as usize)?;
+    let distance = backwards(pattern, received, choices.as_mut_slice());
+    forwards(&choices, &mut input);
+    Ok(Codeword {
+        input: Bits::from_vec(input),
+        distance,
+    })
+}
