@@ -1,5 +1,5 @@
 -- A system of one row.
-use Rattle.std.proofs.Common.{◌≡◌, ℕ, ℤ, ◌-◌, List, [], ◌∷◌, length, take, drop, ap, ◌∙◌, refl, w32, to_z, of_z, FitsSigned}
+use Rattle.std.proofs.Common.{◌≡◌, ℕ, ℤ, ◌-◌, List, [], ◌∷◌, length, take, drop, ap, ◌∙◌, w32, to_z, of_z, FitsSigned}
 use Rattle.std.proofs.lemmas.Int.{to_z-of_z}
 use Rattle.std.proofs.lemmas.List.{take_rest}
 use Rattle.ht_metric.specs.Rows.{Leg, Row, legs_of, rows_of}

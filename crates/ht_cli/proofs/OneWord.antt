@@ -1,9 +1,8 @@
 -- A list of one word.
-use Rattle.std.proofs.Common.{◌≡◌, ◌↔◌, ℕ, ◌+◌, ◌<◌, ◌≤◌, List, [], ◌∷◌, length, get_or, map, String, string_bytes, Bool, true, IsTrue, refl, sym, ◌∙◌, ap, arith, rules}
+use Rattle.std.proofs.Common.{◌≡◌, ◌↔◌, ℕ, ◌<◌, ◌≤◌, List, [], ◌∷◌, length, get_or, map, String, string_bytes, Bool, IsTrue, sym, ◌∙◌, ap, arith, rules}
 use Rattle.std.specs.Global.{Global}
 use Rattle.std.specs.Str.{bytes_eq}
 use Rattle.std.proofs.lemmas.Slice.Eq.{bytes_eq-Decides}
-use Rattle.ht_cli.specs.Words.{IsAccepted}
 
 -- the one word's test decides whether the list has this text alone
 pub one_word : (words : List (String Global)) (word : String Global) (text : List ℕ) (same : Bool) → 1 ≤ length words → length words < 2 → word ≡ get_or words 0 word

@@ -1,5 +1,5 @@
 -- One field more of a capture of one frame.
-use Rattle.std.proofs.Common.{◌≡◌, ◌≢◌, ℕ, ◌+◌, ◌<◌, List, [], ◌∷◌, ◌++◌, length, map, take, drop, get_or, Bor, ◌≤◌, Bool, true, false, nat_eq, if◌then◌else◌, Option, Some, None, IsSome, IfSome, refl, ap, subst, ◌∙◌, sym, append_assoc, append-nil, arith, rules}
+use Rattle.std.proofs.Common.{◌≡◌, ◌≢◌, ℕ, ◌+◌, ◌<◌, List, [], ◌∷◌, ◌++◌, length, map, take, drop, get_or, Bor, ◌≤◌, Bool, true, false, nat_eq, if◌then◌else◌, Option, Some, None, IsSome, IfSome, refl, ap, subst, ◌∙◌, sym, append-nil, arith}
 use Rattle.std.proofs.Math.Seq.{take-append_seam}
 use Rattle.std.proofs.lemmas.List.{at_drop_more, at_drop_all}
 use Rattle.std.proofs.lemmas.Bool.Decides.{nat_tests}
@@ -10,7 +10,7 @@ use Rattle.ht_io.specs.declared.faults.Kind.{Kind}
 use Rattle.ht_io.specs.declared.faults.Kind.TheVariants.{NotBuilt}
 use Rattle.ht_io.proofs.Pieces.{takes-none, takes-append}
 use Rattle.ht_fields.specs.Grammar.{Due, Verdict, Good, Bad, field}
-use Rattle.ht_fields.specs.Cases.{IsEnd, IsField, IsShort, Leads, joined}
+use Rattle.ht_fields.specs.Cases.{IsField, IsShort, Leads, joined}
 use Rattle.ht_fields.specs.Meanings.{Meaning, meaning, before, refused}
 use Rattle.ht_fields.specs.Reading.{TakesAll}
 use Rattle.ht_fields.proofs.Paths.{Leads-append, joined-append}
@@ -114,7 +114,7 @@ pub good-length : (start now later : Option (List ℕ)) (into : List ℕ) (n : �
 good-length start now later into n len is some taken r =
     let differs : nat_eq (big_number 2 into) 0 ≡ false = grind (arith, nat_tests) in
     let good : judge_length into ≡ Good (Triangles n) [] =
-        ap (λ (zero : Bool). if zero then Bad NotBuilt else Good (Triangles (big_number 2 into)) []) differs ∙ ap (λ (m : ℕ). let v : Verdict Stage Frame = Good (Triangles m) [] in v) (sym is) in
+    ap (λ (zero : Bool). if zero then Bad NotBuilt else Good (Triangles (big_number 2 into)) []) differs ∙ ap (λ (m : ℕ). let v : Verdict Stage Frame = Good (Triangles m) [] in v) (sym is) in
     reached-good start now later [] [] Length (Triangles n) into r (len, good) taken
 
 pub bad-length : (start now later : Option (List ℕ)) (into : List ℕ) → length into ≡ 2 → big_number 2 into ≡ 0 → Takes now later into
@@ -122,7 +122,7 @@ pub bad-length : (start now later : Option (List ℕ)) (into : List ℕ) → len
 bad-length start now later into len none taken r =
     let same : nat_eq (big_number 2 into) 0 ≡ true = grind (arith, nat_tests) in
     let bad : judge_length into ≡ Bad NotBuilt =
-        ap (λ (zero : Bool). if zero then Bad NotBuilt else Good (Triangles (big_number 2 into)) []) same in
+    ap (λ (zero : Bool). if zero then Bad NotBuilt else Good (Triangles (big_number 2 into)) []) same in
     stops-bad start now later [] Length into NotBuilt r (len, bad) taken
 
 -- an octet behind the end, and none

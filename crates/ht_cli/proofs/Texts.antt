@@ -1,5 +1,5 @@
 -- What was read, and the text that belongs to it.
-use Rattle.std.proofs.Common.{◌≡◌, ℕ, List, [], ◌∷◌, ◌++◌, Option, None, Some, IfSome, IsSome, refl, ap, ◌∙◌, sym, subst, append-nil, arith}
+use Rattle.std.proofs.Common.{◌≡◌, ℕ, List, [], ◌∷◌, ◌++◌, Option, None, Some, IfSome, IsSome, refl, ap, ◌∙◌, sym, subst, append-nil}
 use Rattle.ht_io.specs.Kinds.{name_of}
 use Rattle.ht_io.specs.declared.faults.Kind.TheVariants.{NotBuilt}
 use Rattle.ht_io.specs.declared.faults.FormatFault.{FormatFault}

@@ -11,7 +11,7 @@ pub record Frame : Type 0 where
   pub triangles : List ℕ
   pub samples : List ℕ
 
--- the OFDM symbols of a frame at 20 MHz, MCS 0: 26 data bits each, for SERVICE, the octets and the tail (clause 20.3.11.1)
+-- the OFDM symbols of a frame at 20 MHz, MCS 0: 26 data bits each, for SERVICE, the octets and the tail (clause 20.3.11)
 abbrev pub symbols_of : ℕ → ℕ
 symbols_of length_octets = (16 + 8 * length_octets + 6 + 25) / 26
 

@@ -1,5 +1,5 @@
 -- How far a capture of one frame was read.
-use Rattle.std.specs.Prelude.{◌≡◌, ℕ, List, [], ◌∷◌, ◌++◌, Option, None, Some, IsSome, IfSome}
+use Rattle.std.specs.Prelude.{◌≡◌, ℕ, List, [], ◌∷◌, Option, None, Some, IsSome, IfSome}
 use Rattle.ht_io.specs.declared.faults.InFault.{InFault}
 use Rattle.ht_io.specs.declared.faults.InFault.TheVariants.{Format, Read, NoMemory}
 use Rattle.ht_io.specs.declared.faults.FormatFault.{FormatFault}
@@ -8,7 +8,6 @@ use Rattle.ht_io.specs.Causes.{Rose}
 use Rattle.ht_io.specs.Octets.{Takes}
 use Rattle.ht_fields.specs.Cases.{Leads, joined, IsFile}
 use Rattle.ht_fields.specs.Meanings.{meaning}
-use Rattle.ht_fields.specs.Reading.{TakesAll}
 use Rattle.ht_cli.specs.OneFrame.{Frame, Stage, one_frame}
 
 -- the one answer to what isn't such a capture

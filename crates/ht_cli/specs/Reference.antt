@@ -1,5 +1,5 @@
 -- What `detect` writes for a list of octets.
-use Rattle.std.specs.Prelude.{◌≡◌, ℕ, ◌+◌, ◌*◌, ◌/◌, ◌%◌, ℤ, pos, List, [], ◌∷◌, ◌++◌, drop, Option, None, Some}
+use Rattle.std.specs.Prelude.{ℕ, ◌+◌, ◌*◌, ◌/◌, ◌%◌, ℤ, List, [], ◌∷◌, ◌++◌, drop, Option, None, Some}
 use Rattle.std.specs.List.{flat_map, range_with_len}
 use Rattle.std.specs.Int.{cast_signed, w32}
 use Rattle.byteorder.specs.Endian.{big_number}
@@ -7,7 +7,7 @@ use Rattle.ht_io.specs.declared.faults.FormatFault.{FormatFault}
 use Rattle.ht_io.specs.Kinds.{name_of}
 use Rattle.ht_io.specs.declared.faults.Kind.TheVariants.{NotBuilt}
 use Rattle.ht_fields.specs.Cases.{IsFile}
-use Rattle.ht_fields.specs.Meanings.{Meaning, meaning}
+use Rattle.ht_fields.specs.Meanings.{meaning}
 use Rattle.ht_pam.specs.declared.axes.Axes.{Axes}
 use Rattle.ht_pam.specs.declared.point.Point.{Point}
 use Rattle.ht_metric.specs.Rows.{Row}

@@ -1,7 +1,7 @@
 -- What was put where not all was put.
 use Rattle.std.specs.Prelude.{ℕ, List, Option}
 use Rattle.ht_io.specs.Causes.{Rose}
-use Rattle.ht_io.specs.Octets.{Grows, GrowsByPart}
+use Rattle.ht_io.specs.Octets.{GrowsByPart}
 use Rattle.ht_cli.specs.declared.lines.Unwritten.{Unwritten}
 use Rattle.ht_cli.specs.declared.lines.Unwritten.TheVariants.{Write, NoMemory}
 

@@ -1,4 +1,18 @@
 //! The commands of the program `radio`, over any source and any sink of octets.
+//!
+//! `run` is the whole program but for the world outside. It takes the words of a call, reads octets from a
+//! source, puts text into a sink and answers how the run ended. The one list of words that is accepted is the
+//! word `detect`: a capture of one frame at 20 MHz and MCS 0 (IEEE Std 802.11-2012, clause 20) is read to its
+//! end, and for each subcarrier of each OFDM symbol the constellation point nearest to the sample is written
+//! with its distance. So the capture `examples/z.htcp`, whose diagonals are 10 and whose samples are 0, gives
+//!
+//! ```text
+//! job 0 0 0 100 -1 0
+//! ```
+//!
+//! and 111 lines more like it, and then `end 1 frames`. What isn't such a capture is refused by the one line
+//! `refused NotBuilt at 0`. `specs/Reference.antt` says what must be written for a list of octets, and
+//! `specs/OneFrame.antt` which octets are such a capture.
 #![tactic(auto)]
 
 ghost use Rattle.std.specs.Prelude.{◌≡◌, ◌⊎◌};
@@ -17,13 +31,16 @@ mod status;
 mod tests;
 mod words;
 
-pub use status::Status;
-
 use ht_io::{Sink, Source};
 use lines::{Unwritten, put_usage};
+pub use status::Status;
 use std::alloc::Global;
 
-/// Runs the command that the words name.
+/// Runs the command that the words name, and answers how it ended.
+///
+/// The words come without the program's name. Nothing is put before the source was read to its end or found
+/// not to have such a capture. Where the words aren't accepted, nothing is read. The clauses on octets hold
+/// where the source and the sink tell theirs, as those in memory do; standard input and output tell nothing.
 pub fn run<S: Source, K: Sink>(
     alloc: Global,
     words: &[String],

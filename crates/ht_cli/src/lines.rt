@@ -110,7 +110,11 @@ pub fn put_lines<K: Sink>(alloc: Global, capture: &Capture, sink: &mut K) -> Res
 }
 
 /// Puts the refused line.
-pub fn put_refused<K: Sink>(alloc: Global, fault: FormatFault, sink: &mut K) -> Result<(), Unwritten>
+pub fn put_refused<K: Sink>(
+    alloc: Global,
+    fault: FormatFault,
+    sink: &mut K,
+) -> Result<(), Unwritten>
     ensures told { MatchResult result (λ _. Grows (K.held sink.old) (K.held sink.new) (refused_text (name_of fault.kind) fault.offset))
         (StopsWriting (K.held sink.old) (K.held sink.new) (K.faults sink.old) (K.faults sink.new) (refused_text (name_of fault.kind) fault.offset)) }
     ensures later { K.faults sink.old ≤ K.faults sink.new }

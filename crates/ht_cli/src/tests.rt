@@ -83,7 +83,13 @@ fn vectors(rt: HostRuntime) -> Result<(), Fail> {
         (zeros(alloc)?, None, None, Status::Done, lines.as_str()),
         (zeros(alloc)?, Some(700), None, Status::ReadFault, ""),
         (zeros(alloc)?, Some(1019), None, Status::ReadFault, ""),
-        (zeros(alloc)?, None, Some(10), Status::WriteFault, "job 0 0 0 "),
+        (
+            zeros(alloc)?,
+            None,
+            Some(10),
+            Status::WriteFault,
+            "job 0 0 0 ",
+        ),
         (wide, None, None, Status::Refused, refused),
         (longer, None, None, Status::Refused, refused),
         (shorter, None, None, Status::Refused, refused),
@@ -101,7 +107,13 @@ fn vectors(rt: HostRuntime) -> Result<(), Fail> {
 fn refusals(rt: HostRuntime) -> Result<(), Fail> {
     let alloc = rt.alloc();
     let usage = "usage: radio COMMAND then options as --NAME DIGITS\n";
-    let lists: [&[&str]; 5] = [&[], &["rx"], &["--help"], &["Detect"], &["detect", "detect"]];
+    let lists: [&[&str]; 5] = [
+        &[],
+        &["rx"],
+        &["--help"],
+        &["Detect"],
+        &["detect", "detect"],
+    ];
     for words in lists {
         let (answer, held) = ran(alloc, words, zeros(alloc)?, Some(0), None)?;
         assert_eq!(rt; answer, Status::Usage);

@@ -1,9 +1,9 @@
 -- A list is interleaved in one way alone, and comes from one list alone.
-use Rattle.std.proofs.Common.{◌≡◌, ℕ, ◌<◌, ◌≤◌, Bool, false, List, length, get_or, sym, ap, ◌∙◌}
+use Rattle.std.proofs.Common.{◌≡◌, ℕ, ◌<◌, ◌≤◌, Bool, false, List, get_or, sym, ap, ◌∙◌}
 use Rattle.std.proofs.lemmas.List.{ext_get_or}
 use Rattle.ht_rate.specs.declared.rates.Rate.{Rate}
 use Rattle.ht_rate.specs.Rates.{stream_bits_of}
-use Rattle.ht_interleave.specs.Interleaver.{place_of, origin_of, IsInterleaved}
+use Rattle.ht_interleave.specs.Interleaver.{origin_of, IsInterleaved}
 use Rattle.ht_interleave.proofs.Inverse.{origin_of-bound, place_of-origin_of}
 
 pub interleaved-gathered : (rate : Rate) (stream : ℕ) (bits places : List Bool) → 1 ≤ stream → stream ≤ 4 → IsInterleaved rate stream bits places →

@@ -1,9 +1,7 @@
 -- A fact of each rate that does not depend on its number of streams, by one test that computes.
-use Rattle.std.proofs.Common.{◌≡◌, ℕ, zero, suc, ◌+◌, ◌-◌, ◌<◌, ◌≤◌, Bool, true, ◌&&◌, nat_eq, nat_lt, nat_le, arith}
+use Rattle.std.proofs.Common.{◌≡◌, ℕ, zero, suc, ◌<◌, ◌≤◌, Bool, true, ◌&&◌, nat_eq, nat_lt, nat_le, arith}
 use Rattle.std.proofs.lemmas.Bool.Decides.{nat_tests}
-use Rattle.ht_rate.specs.declared.kinds.Bandwidth.{Bandwidth}
 use Rattle.ht_rate.specs.declared.parts.Streams.{Streams}
-use Rattle.ht_rate.specs.declared.parts.Scheme.{Scheme}
 use Rattle.ht_rate.specs.declared.rates.Rate.{Rate}
 use Rattle.ht_rate.specs.Rates.{stream_bits_of}
 use Rattle.ht_rate.proofs.Every.{both, each_bandwidth, at_bandwidth, each_scheme, at_scheme, each_below, at_below}

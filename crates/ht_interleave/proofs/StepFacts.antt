@@ -1,10 +1,10 @@
 -- The first two steps and back, by a test of every place.
-use Rattle.std.proofs.Common.{◌≡◌, ℕ, ◌+◌, ◌-◌, ◌*◌, ◌/◌, ◌%◌, ◌<◌, ◌≤◌, Bool, true, nat_eq, nat_lt, nat_le, refl}
+use Rattle.std.proofs.Common.{◌≡◌, ℕ, ◌-◌, ◌*◌, ◌/◌, ◌<◌, ◌≤◌, nat_eq, nat_lt, nat_le, refl}
 use Rattle.ht_rate.specs.declared.rates.Rate.{Rate}
 use Rattle.ht_rate.specs.Rates.{bandwidth_of, modulation_of, label_bits_of, data_carriers_of, stream_bits_of}
 use Rattle.ht_rate.proofs.Every.{each_bandwidth, each_scheme, each_below}
 use Rattle.ht_interleave.specs.Steps.{columns_of, rows_of, axis_bits_of, first, second, first_back, second_back}
-use Rattle.ht_interleave.proofs.Shapes.{each_shape, each_place, at_shape, at_place, equals, less, at_most}
+use Rattle.ht_interleave.proofs.Shapes.{each_shape, each_place, at_place, equals, less, at_most}
 
 -- each step stays among the places
 pub first-bound : (rate : Rate) (x : ℕ) → x < stream_bits_of rate → first rate x < stream_bits_of rate

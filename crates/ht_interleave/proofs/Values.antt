@@ -1,5 +1,5 @@
 -- Worked values of the definitions.
-use Rattle.std.proofs.Common.{◌≡◌, ℕ, List, [], ◌∷◌, map, refl}
+use Rattle.std.proofs.Common.{◌≡◌, [], ◌∷◌, map, refl}
 use Rattle.ht_rate.specs.Rates.{rate_at, bandwidth_of, modulation_of, label_bits_of, data_carriers_of, stream_bits_of}
 use Rattle.ht_interleave.specs.Steps.{columns_of, rows_of, rotation_of, axis_bits_of, turn_of, first, second, third, first_back, second_back, third_back}
 use Rattle.ht_interleave.specs.Interleaver.{place_of, origin_of}

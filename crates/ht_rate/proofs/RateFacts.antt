@@ -9,7 +9,7 @@ use Rattle.ht_rate.proofs.Every.{both, each_bandwidth, each_streams, each_scheme
 at_least : (a b : ℕ) → nat_le a b ≡ true → a ≤ b
 at_least a b e = grind (arith, nat_tests)
 
-are_equal : (a b : ℕ) → nat_eq a b ≡ true → a ≡ b
+pub are_equal : (a b : ℕ) → nat_eq a b ≡ true → a ≡ b
 are_equal a b e = grind (arith, nat_tests)
 
 within : ℕ → ℕ → ℕ → Bool

@@ -20,6 +20,7 @@ carrier_among None m = Data m
 unfoldable pub carrier_at : Bandwidth → ℕ → Carrier
 carrier_at b index = carrier_among (position (λ p. p == index) (pilot_places b)) (index - pilots_below b index)
 
+-- and at the bandwidth of a rate
 unfoldable pub carrier_of : Rate → ℕ → Carrier
 carrier_of r index = carrier_at (bandwidth_of r) index
 
@@ -28,6 +29,7 @@ abbrev pub IsAmong : Rate → Carrier → Type 0
 IsAmong r (Data m) = m < data_carriers_of r
 IsAmong r (Pilot k) = k < pilots_of r
 
+-- a data subcarrier counts as one, a pilot as none
 abbrev pub one_for : Carrier → ℕ
 one_for (Data m) = 1
 one_for (Pilot k) = 0

@@ -27,6 +27,7 @@ impl Rate {
     }
 }
 
+// The pilots of a bandwidth.
 fn pilot_indexes(bandwidth: Bandwidth) -> &'static [u8]
     ensures value { result.now ≡ pilot_places bandwidth }
     ensures few { length result.now ≤ 6 }
@@ -37,6 +38,7 @@ fn pilot_indexes(bandwidth: Bandwidth) -> &'static [u8]
     }
 }
 
+// How many pilots lie below an index.
 fn count_below(pilots: &[u8], index: u8) -> u8
     requires { length pilots.now ≤ 6 }
     ensures { result ≡ count_by (λ p. nat_lt p index) pilots.now }
@@ -44,6 +46,7 @@ fn count_below(pilots: &[u8], index: u8) -> u8
     pilots.iter().filter(|p| **p < index).count() as u8
 }
 
+// The place of an index among the pilots, if it is one.
 fn position_of(pilots: &[u8], index: u8) -> Option<usize>
     ensures value { result ≡ position (λ p. p == index) pilots.now }
     ensures bound { IfSome result (λ k. k < length pilots.now) }

@@ -1,5 +1,5 @@
 //! Laws of the rate table, each the contract of a function that does nothing.
-ghost use Rattle.std.specs.Prelude.{◌≡◌, ◌*◌, ◌/◌, ◌<◌};
+ghost use Rattle.std.specs.Prelude.{◌≡◌, ◌*◌, ◌/◌, ◌<◌, ◌≤◌};
 ghost use Rattle.ht_rate.specs.Carriers.{carrier_of, data_before, IsInOrder};
 ghost use Rattle.ht_rate.specs.Rates.{
   bandwidth_of,
@@ -11,6 +11,9 @@ ghost use Rattle.ht_rate.specs.Rates.{
   encoders_of,
   pattern_of,
   rate_of,
+  needed_bits_of,
+  symbols_of,
+  steps_of,
 };
 ghost use Rattle.ht_rate.specs.Schemes.{bandwidth_code, numerator_of, denominator_of};
 
@@ -37,6 +40,21 @@ pub fn whole(rate: &Rate)
 pub fn shared(rate: &Rate)
     ensures coded { encoders_of rate.now * (coded_bits_of rate.now / encoders_of rate.now) ≡ coded_bits_of rate.now }
     ensures data_bits { encoders_of rate.now * (data_bits_of rate.now / encoders_of rate.now) ≡ data_bits_of rate.now }
+{}
+
+/// The codewords of the encoders are together the bits that a PSDU needs, and each fits into its encoder's share of the
+/// symbols.
+pub fn codewords(rate: &Rate, length: u16)
+    requires { 1 ≤ length }
+    ensures whole { encoders_of rate.now * steps_of rate.now length ≡ needed_bits_of rate.now length }
+    ensures within { steps_of rate.now length ≤ symbols_of rate.now length * (data_bits_of rate.now / encoders_of rate.now) }
+{}
+
+/// A symbol's data bits of one encoder are whole periods of the puncturing pattern, and are coded into its share of the
+/// coded bits.
+pub fn periods(rate: &Rate)
+    ensures whole { numerator_of (pattern_of rate.now) * (data_bits_of rate.now / encoders_of rate.now / numerator_of (pattern_of rate.now)) ≡ data_bits_of rate.now / encoders_of rate.now }
+    ensures coded { data_bits_of rate.now / encoders_of rate.now * denominator_of (pattern_of rate.now) ≡ coded_bits_of rate.now / encoders_of rate.now * numerator_of (pattern_of rate.now) }
 {}
 
 /// Subcarriers are numbered in ascending order, data and pilots each by themselves.

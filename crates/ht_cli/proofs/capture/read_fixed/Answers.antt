@@ -1,4 +1,4 @@
-use Rattle.std.proofs.Common.{◌+◌, List, map, drop, Bor, arith}
+use Rattle.std.proofs.Common.{arith}
 use Rattle.ht_cli.proofs.Stages.{next-value, last-value, stops-later}
 use Rattle.ht_cli.proofs.capture.read_fixed.Goals as goal
 

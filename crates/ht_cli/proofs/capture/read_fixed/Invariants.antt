@@ -1,5 +1,5 @@
 use Rattle.std.proofs.Common.{◌≤◌, ℕ, List, [], map, drop, Option}
-use Rattle.ht_cli.specs.OneFrame.{fixed, one_frame}
+use Rattle.ht_cli.specs.OneFrame.{fixed}
 use Rattle.ht_cli.specs.Reading.{Reached}
 use Rattle.ht_cli.proofs.capture.read_fixed.Given as goal
 

@@ -1,4 +1,4 @@
-use Rattle.std.proofs.Common.{◌≡◌, ◌∙◌, ◌++◌, ◌<◌, List, [], ◌∷◌, ℕ, sym, ap, subst, arith, length, take, drop}
+use Rattle.std.proofs.Common.{◌≡◌, ◌<◌, List, [], ◌∷◌, ℕ, sym, ap, subst, arith, length, drop}
 use Rattle.ht_fields.specs.Grammar.{Verdict, Good, field}
 use Rattle.ht_cli.specs.OneFrame.{Frame, Stage, Samples, Over, frame_made, sample_octets}
 use Rattle.ht_cli.specs.Reading.{Reached}

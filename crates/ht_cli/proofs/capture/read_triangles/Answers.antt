@@ -1,4 +1,4 @@
-use Rattle.std.proofs.Common.{◌≡◌, List, [], ℕ, refl, ap, arith, length}
+use Rattle.std.proofs.Common.{◌≡◌, List, [], ℕ, ap, arith, length}
 use Rattle.ht_fields.specs.Grammar.{Verdict, Good, field}
 use Rattle.ht_cli.specs.OneFrame.{Frame, Stage, Triangles, Samples}
 use Rattle.ht_cli.proofs.Stages.{good-triangles}

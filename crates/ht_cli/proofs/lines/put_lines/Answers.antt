@@ -1,4 +1,4 @@
-use Rattle.std.proofs.Common.{◌≡◌, ◌∙◌, ◌+◌, ◌*◌, ◌≤◌, ap, sym, subst, arith}
+use Rattle.std.proofs.Common.{◌≡◌, ◌∙◌, ◌*◌, sym, subst, arith}
 use Rattle.std.proofs.lemmas.Result.{err_from_is_err_and}
 use Rattle.ht_io.specs.Octets.{Grows}
 use Rattle.ht_text.specs.Lines.{end_text}
@@ -25,7 +25,7 @@ pub returns-in_err-put-clause-told : goal.returns-in_err-put-clause-told
 returns-in_err-put-clause-told g c =
     let p = err_from_is_err_and c.from_residual-in_err-put.result c.from_residual-in_err-put.ensures.1 in
     rw (p.1, p.2) (stops-symbol (g.K.Sink.held c.args.sink.now) (g.K.Sink.held c.loop-symbol.sink) (g.K.Sink.held c.put.new.sink) _ _ _ (frame_of c.args.capture.now) c.loop-symbol.symbol (symbols_of c.args.capture.now.length) (end_text 1) c.as_bytes.result.now c.in_err-put.field-0.0
-        (omega arith) (c.as_bytes.ensures.value ∙ c.in_ok-text.ensures) c.loop-symbol.invariant.put c.loop-symbol.invariant.later c.in_err-put.ensures.told)
+    (omega arith) (c.as_bytes.ensures.value ∙ c.in_ok-text.ensures) c.loop-symbol.invariant.put c.loop-symbol.invariant.later c.in_err-put.ensures.told)
 
 pub loop-symbol-preserved : goal.loop-symbol-preserved
 loop-symbol-preserved g c = record {

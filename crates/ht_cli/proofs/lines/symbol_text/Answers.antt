@@ -1,4 +1,4 @@
-use Rattle.std.proofs.Common.{◌≡◌, ◌∙◌, ◌++◌, ◌+◌, ◌*◌, ap, sym, arith}
+use Rattle.std.proofs.Common.{◌≡◌, ◌∙◌, ◌++◌, ◌*◌, ap, sym, arith}
 use Rattle.ht_cli.specs.Captures.{frame_of}
 use Rattle.ht_cli.specs.Reference.{job_line_of, lines_from}
 use Rattle.ht_cli.proofs.LineLists.{lines-more, lines-none}

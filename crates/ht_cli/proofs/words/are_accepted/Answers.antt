@@ -1,4 +1,4 @@
-use Rattle.std.proofs.Common.{arith, codes, ap, ◌∙◌, sym}
+use Rattle.std.proofs.Common.{arith, codes, ap, ◌∙◌}
 use Rattle.std.specs.Str.{bytes_eq}
 use Rattle.ht_cli.proofs.OneWord.{one_word}
 use Rattle.ht_cli.proofs.words.are_accepted.Goals as goal

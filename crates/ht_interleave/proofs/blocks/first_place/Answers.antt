@@ -1,5 +1,4 @@
-use Rattle.std.proofs.Common.{◌≡◌, zero-add}
-use Rattle.ht_rate.proofs.RateFacts.{streams_of-range}
+use Rattle.std.proofs.Common.{zero-add}
 use Rattle.ht_interleave.specs.Steps.{third}
 use Rattle.ht_interleave.proofs.blocks.first_place.Goals as goal
 

@@ -1,9 +1,8 @@
-use Rattle.std.proofs.Common.{◌≡◌, ℕ, ◌+◌, ◌*◌, ◌/◌, ◌<◌, ◌≤◌, ◌==◌, if◌then◌else◌, List, length, set, get_or, false, ap, sym, subst, ◌∙◌, add_assoc, arith}
-use Rattle.ht_rate.specs.Rates.{stream_bits_of}
+use Rattle.std.proofs.Common.{◌≡◌, ◌/◌, ◌≤◌, ◌∙◌, add_assoc, arith}
 use Rattle.ht_rate.proofs.RateFacts.{streams_of-range}
-use Rattle.ht_interleave.specs.Steps.{columns_of, rows_of, axis_bits_of, third}
+use Rattle.ht_interleave.specs.Steps.{columns_of, rows_of, axis_bits_of}
 use Rattle.ht_interleave.proofs.Rotation.{third-bound}
-use Rattle.ht_interleave.proofs.Filling.{at_lane, Filled, filled-more, filled-all, filled-gathered, filled-columns, filled-whole}
+use Rattle.ht_interleave.proofs.Filling.{at_lane, filled-more, filled-all, filled-gathered, filled-columns, filled-whole}
 use Rattle.ht_interleave.proofs.blocks.interleave.Goals as goal
 
 pub bounds-from-columns : goal.bounds-from-columns

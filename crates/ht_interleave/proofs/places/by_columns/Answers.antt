@@ -1,4 +1,3 @@
-use Rattle.std.proofs.Common.{◌≡◌, ◌<◌}
 use Rattle.ht_interleave.specs.Steps.{first}
 use Rattle.ht_interleave.proofs.StepFacts.{first-bound}
 use Rattle.ht_interleave.proofs.places.by_columns.Goals as goal

@@ -1,4 +1,4 @@
-use Rattle.std.proofs.Common.{◌≡◌, ◌<◌, ◌≤◌, arith}
+use Rattle.std.proofs.Common.{arith}
 use Rattle.ht_interleave.specs.Steps.{first_back}
 use Rattle.ht_interleave.proofs.StepFacts.{first_back-bound, column-fits, row-fits}
 use Rattle.ht_interleave.proofs.places.by_rows.Goals as goal

@@ -1,6 +1,6 @@
-use Rattle.std.proofs.Common.{◌≡◌, ◌<◌, arith, ap, ◌∙◌}
+use Rattle.std.proofs.Common.{arith}
 use Rattle.ht_rate.proofs.RateFacts.{streams_of-range}
-use Rattle.ht_interleave.specs.Interleaver.{place_of, origin_of}
+use Rattle.ht_interleave.specs.Interleaver.{origin_of}
 use Rattle.ht_interleave.proofs.Inverse.{place_of-origin_of}
 use Rattle.ht_interleave.proofs.places.origin.Goals as goal
 

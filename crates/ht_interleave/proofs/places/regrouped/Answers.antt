@@ -1,4 +1,3 @@
-use Rattle.std.proofs.Common.{◌≡◌, ◌<◌}
 use Rattle.ht_interleave.specs.Steps.{second}
 use Rattle.ht_interleave.proofs.StepFacts.{second-bound}
 use Rattle.ht_interleave.proofs.places.regrouped.Goals as goal

@@ -1,4 +1,4 @@
-use Rattle.std.proofs.Common.{◌≡◌, ◌<◌, arith}
+use Rattle.std.proofs.Common.{arith}
 use Rattle.ht_interleave.specs.Steps.{second_back}
 use Rattle.ht_interleave.proofs.StepFacts.{second_back-bound, column-fits}
 use Rattle.ht_interleave.proofs.places.regrouped_back.Goals as goal

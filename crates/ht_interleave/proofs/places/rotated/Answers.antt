@@ -1,4 +1,3 @@
-use Rattle.std.proofs.Common.{◌≡◌}
 use Rattle.ht_interleave.specs.Steps.{third}
 use Rattle.ht_interleave.proofs.places.rotated.Goals as goal
 

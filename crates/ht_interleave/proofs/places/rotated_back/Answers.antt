@@ -1,4 +1,4 @@
-use Rattle.std.proofs.Common.{◌≡◌, ◌<◌, arith}
+use Rattle.std.proofs.Common.{arith}
 use Rattle.ht_rate.proofs.RateFacts.{stream_bits_of-range}
 use Rattle.ht_interleave.specs.Steps.{third_back}
 use Rattle.ht_interleave.proofs.places.rotated_back.Goals as goal

@@ -1,4 +1,4 @@
-use Rattle.std.proofs.Common.{◌≡◌, ◌≤◌, ◌∙◌, ap, arith}
+use Rattle.std.proofs.Common.{arith}
 use Rattle.ht_rate.proofs.RateFacts.{streams_of-range}
 use Rattle.ht_interleave.proofs.Rotation.{turn-is, turn_of-bound}
 use Rattle.ht_interleave.proofs.table.turn.Goals as goal

@@ -1,4 +1,4 @@
-use Rattle.std.proofs.Common.{◌≡◌, ◌∙◌, ap, ℕ, ℤ, ◌+◌, ◌*◌, ◌%◌, List, [], ◌∷◌, arith}
+use Rattle.std.proofs.Common.{◌∙◌, ap, ℕ, ℤ, ◌+◌, ◌*◌, ◌%◌, List, [], ◌∷◌, arith}
 use Rattle.std.proofs.lemmas.Int.{ints}
 use Rattle.std.specs.Int.{cast_signed, w32}
 use Rattle.byteorder.specs.Endian.{big_number}
