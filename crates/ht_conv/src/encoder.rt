@@ -8,7 +8,10 @@ use crate::register::Register;
 use ht_rate::Pattern;
 use std::alloc::{AllocError, Global};
 
-/// The coded bits of an input, at the places that a pattern keeps.
+/// Encodes input bits from a register of zeros, and punctures what comes out (clauses 18.3.5.6 and 20.3.11.6).
+///
+/// The result has, step after step, A and then B as far as the pattern keeps them: `sent` says how many bits that
+/// is. The only refusal is want of memory.
 pub fn encode(alloc: Global, input: &[bool], pattern: Pattern) -> Result<Vec<bool>, AllocError>
     ensures { IfOk result (λ coded. coded.items ≡ sent_bits pattern input.now) }
 {

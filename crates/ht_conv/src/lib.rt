@@ -20,4 +20,4 @@ mod register;
 mod tests;
 
 pub use encoder::encode;
-pub use puncture::{Kept, kept_at, sent};
+pub use puncture::{Kept, kept_at, period, sent};

@@ -1,4 +1,4 @@
-//! Puncturing: which coded bits of each step are sent.
+//! Puncturing: which coded bits of each step are sent (IEEE Std 802.11-2012, clauses 18.3.5.6 and 20.3.11.6).
 ghost use Rattle.std.specs.Prelude.{◌≡◌, ◌+◌, ◌<◌, ◌^◌, length, slice_index_or};
 ghost use Rattle.ht_conv.specs.Puncturing.{kept_of, period_of, sent_count};
 
@@ -23,8 +23,10 @@ static THREE_QUARTERS: [Kept; 3] = [Kept::Both, Kept::A, Kept::B];
 
 static FIVE_SIXTHS: [Kept; 5] = [Kept::Both, Kept::A, Kept::B, Kept::A, Kept::B];
 
-// What is kept of each step of one period.
-pub(crate) fn period(pattern: Pattern) -> &'static [Kept]
+/// Which coded bits are sent of each step of one period of a pattern: of 1, 2, 3 or 5 steps.
+///
+/// The pattern then begins anew, so that a loop over steps can go round this slice with no division.
+pub fn period(pattern: Pattern) -> &'static [Kept]
     ensures { result.now ≡ period_of pattern }
 {
     match pattern {
@@ -35,7 +37,7 @@ pub(crate) fn period(pattern: Pattern) -> &'static [Kept]
     }
 }
 
-/// Which coded bits of a step are sent. Steps count from 0 at the first input bit.
+/// Which coded bits of a step are sent (clauses 18.3.5.6 and 20.3.11.6). Steps count from 0 at the first input bit.
 pub fn kept_at(pattern: Pattern, step: u32) -> Kept
     ensures { result ≡ kept_of pattern step }
 {
@@ -43,7 +45,7 @@ pub fn kept_at(pattern: Pattern, step: u32) -> Kept
     period[step as usize % period.len()]
 }
 
-/// How many coded bits are sent of so many steps.
+/// How many coded bits are sent of the first `steps` steps (clauses 18.3.5.6 and 20.3.11.6).
 pub fn sent(pattern: Pattern, steps: u32) -> u64
     ensures { result ≡ sent_count pattern steps }
 {

@@ -1,10 +1,10 @@
 -- A symbol's places carry the coded bits that land there.
-use Rattle.std.proofs.Common.{◌≡◌, ℕ, ◌+◌, ◌-◌, ◌*◌, ◌/◌, ◌%◌, ◌<◌, ◌≤◌, List, Bool, false, slice_index_or, refl, sym, ap, ◌∙◌}
+use Rattle.std.proofs.Common.{◌≡◌, ℕ, ◌+◌, ◌*◌, ◌%◌, ◌<◌, List, Bool, false, slice_index_or, ap, ◌∙◌}
 use Rattle.std.proofs.lemmas.Nat.{div-add-mod', div-mul-add, mod-mul-add, mod_below}
 use Rattle.ht_rate.specs.declared.rates.Rate.{Rate}
-use Rattle.ht_rate.specs.Rates.{encoders_of, streams_of, stream_bits_of, label_bits_of}
+use Rattle.ht_rate.specs.Rates.{encoders_of, label_bits_of}
 use Rattle.ht_parse.specs.Encoders.{list_of}
-use Rattle.ht_parse.specs.Streams.{share_of, source_of, stream_place_of, IsLaid}
+use Rattle.ht_parse.specs.Streams.{share_of, stream_place_of, IsLaid}
 use Rattle.ht_interleave.specs.Interleaver.{place_of}
 use Rattle.ht_landing.specs.Landings.{landing_of}
 use Rattle.ht_landing.specs.Symbols.{AreInterleaved, placed_bit}

@@ -1,6 +1,5 @@
 -- Worked landings, by computation.
 use Rattle.std.proofs.Common.{◌≡◌, ℕ, ◌+◌, ◌*◌, refl}
-use Rattle.ht_rate.specs.declared.rates.Rate.{Rate}
 use Rattle.ht_rate.specs.Rates.{rate_at, bandwidth_of, streams_of, mcs_of, data_carriers_of, label_bits_of, stream_bits_of, coded_bits_of, encoders_of, modulation_of}
 use Rattle.ht_parse.specs.Streams.{run_of, share_of, source_of, stream_place_of}
 use Rattle.ht_interleave.specs.Interleaver.{place_of, origin_of}

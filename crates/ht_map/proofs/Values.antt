@@ -1,5 +1,5 @@
 -- The tables of the standard, by computation.
-use Rattle.std.proofs.Common.{◌≡◌, ℕ, ℤ, pos, negsuc, List, [], ◌∷◌, ◌++◌, map, refl, Some, None, true, false}
+use Rattle.std.proofs.Common.{◌≡◌, ℕ, ℤ, pos, negsuc, List, [], ◌∷◌, map, refl, Some, None, true, false}
 use Rattle.ht_rate.specs.declared.kinds.Modulation.{Modulation}
 use Rattle.ht_rate.specs.declared.kinds.Modulation.TheVariants.{Bpsk, Qpsk, Qam16, Qam64}
 use Rattle.ht_pam.specs.declared.point.Point.{Point}

@@ -6,7 +6,7 @@ use Rattle.ht_metric.specs.Rows.{Row, rows_of, legs_of, no_tap}
 use Rattle.ht_metric.specs.declared.sample.Sample.{Sample}
 use Rattle.ht_metric.specs.Distance.{distance_of}
 use Rattle.ht_metric.specs.Vectors.{before, is_in, vectors}
-use Rattle.ht_metric.specs.Jobs.{JobView, Found, near}
+use Rattle.ht_metric.specs.Jobs.{JobView, near}
 
 abbrev at : ℤ → ℤ → Point
 at i q = record { i = i; q = q }

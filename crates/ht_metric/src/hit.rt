@@ -19,7 +19,7 @@ pub struct Hit {
 }
 
 impl Hit {
-    /// The hit of a job whose first nearest vector is known.
+    /// The hit of a job whose first nearest vector is this one, at this distance.
     pub fn of(job: Job, vector: Vector, distance: u128) -> Hit
         requires near { IsNear job vector }
         requires distance { distance ≡ distance_of job.system vector }

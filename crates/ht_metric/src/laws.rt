@@ -10,17 +10,14 @@ ghost use Rattle.ht_metric.specs.Vectors.{is_in, vectors};
 /// A vector that is first nearest is the one that trying all vectors gives.
 pub fn near_is()
     ensures { (job : JobView) (vector : List Point) → IsNear job vector → near job ≡ found_at job vector }
-{
-}
+{}
 
 /// What trying all vectors gives is first nearest.
 pub fn is_near()
     ensures { (job : JobView) → IsGrid job.grid → IsNear job (near job).vector }
-{
-}
+{}
 
 /// The vectors that are tried are those of the grid.
 pub fn enumerates()
     ensures { (grid : List Axes) → Enumerates (is_in grid) (vectors grid) }
-{
-}
+{}

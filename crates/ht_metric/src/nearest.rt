@@ -87,7 +87,9 @@ mod tests {
     use std::process::Abort;
 
     const NO_TAP: Tap = Tap { re: 0, im: 0 };
+
     const NO_SAMPLE: Sample = Sample { re: 0, im: 0 };
+
     const PLACE: Place = Place {
         frame: 0,
         symbol: 1,
@@ -102,10 +104,16 @@ mod tests {
         Job::new(3, PLACE, grid, System::new(triangle, y))
     }
 
+    // Jobs and hits go from thread to thread.
+    fn crosses<T: Send + Sync>(_value: &T) {}
+
     // The job's first nearest vector is this one, at this distance.
     fn expect(rt: &impl Abort, job: &Job, points: &[Point], far: u128) {
         let hit = plain_nearest(job);
+        crosses(job);
+        crosses(&hit);
         assert!(rt; hit.job().same(job));
+        assert!(rt; hit.job().same(&job.copy()));
         assert_eq!(rt; hit.vector().points(), points);
         assert_eq!(rt; hit.distance(), far);
     }
@@ -128,7 +136,12 @@ mod tests {
         let mut above = [NO_TAP; 6];
         above[0] = Tap { re: 10, im: 0 };
         let triangle = Triangle::new(2, [10, 1, 0, 0], above);
-        let y = [Sample { re: -20, im: 0 }, Sample { re: 1, im: 0 }, NO_SAMPLE, NO_SAMPLE];
+        let y = [
+            Sample { re: -20, im: 0 },
+            Sample { re: 1, im: 0 },
+            NO_SAMPLE,
+            NO_SAMPLE,
+        ];
         let two = Ladder::of(2, 3);
         let grid = Grid::one(two, two).and(two, two);
         let job = Job::new(0, PLACE, grid, System::new(triangle, y));

@@ -37,6 +37,8 @@ impl Model for System {
 
 impl System {
     /// The system of a triangle and the samples of its rows, the first row's first.
+    ///
+    /// The samples behind the last row are zero.
     pub fn new(triangle: Triangle, y: [Sample; 4]) -> System
         requires unused { drop (length triangle) y ≡ replicate (4 - length triangle) no_sample }
         ensures { result ≡ rows_of triangle y }
@@ -53,7 +55,7 @@ impl System {
         self.triangle.streams()
     }
 
-    /// The diagonal of row `k`.
+    /// The diagonal d_k, for `k` from 1 to the number of streams.
     pub fn diagonal(&self, k: u8) -> u16
         requires first { 1 ≤ k }
         requires last { k ≤ length self.now }
@@ -62,7 +64,7 @@ impl System {
         self.triangle.diagonal(k)
     }
 
-    /// The entry of row `k` for stream `l`.
+    /// The entry r_kl, for `k` from 1 and `l` from `k + 1` to the number of streams.
     pub fn above(&self, k: u8, l: u8) -> Tap
         requires first { 1 ≤ k }
         requires right { k < l }
@@ -72,7 +74,7 @@ impl System {
         self.triangle.above(k, l)
     }
 
-    /// What was received on row `k`.
+    /// What was received on row `k`, from 1 to the number of streams.
     pub fn sample(&self, k: u8) -> Sample
         requires first { 1 ≤ k }
         requires last { k ≤ length self.now }

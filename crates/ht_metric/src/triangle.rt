@@ -40,7 +40,9 @@ impl Model for Triangle {
 }
 
 impl Triangle {
-    /// The triangle of `n` streams. `above` has r_12, r_13 and so on, row by row from its start.
+    /// The triangle of `n` streams, 1 to 4. `above` has r_12, r_13 and so on, row by row from its start.
+    ///
+    /// The places that `n` streams don't use are zero.
     pub fn new(n: u8, diagonal: [u16; 4], above: [Tap; 6]) -> Triangle
         requires some { 1 ≤ n }
         requires few { n ≤ 4 }
@@ -64,7 +66,7 @@ impl Triangle {
         self.streams
     }
 
-    /// The diagonal of row `k`.
+    /// The diagonal d_k, for `k` from 1 to the number of streams.
     pub fn diagonal(&self, k: u8) -> u16
         requires first { 1 ≤ k }
         requires last { k ≤ length self.now }
@@ -73,7 +75,7 @@ impl Triangle {
         self.diagonal[usize::from(k) - 1]
     }
 
-    /// The entry of row `k` for stream `l`.
+    /// The entry r_kl, for `k` from 1 and `l` from `k + 1` to the number of streams.
     pub fn above(&self, k: u8, l: u8) -> Tap
         requires first { 1 ≤ k }
         requires right { k < l }

@@ -43,7 +43,7 @@ impl Vector {
         }
     }
 
-    /// Puts the point of one more stream behind the others.
+    /// Puts the point of one more stream behind the others, of which there are fewer than four.
     pub fn push(&mut self, point: Point)
         requires { length self.old < 4 }
         ensures { self.new ≡ self.old ++ point ∷ [] }
@@ -69,7 +69,8 @@ impl Vector {
         self.points[usize::from(stream) - 1]
     }
 
-    /// Whether, at the lowest stream where they differ, this vector has the lesser I, or the same I and the lesser Q.
+    /// Whether this vector comes before the other one, which has as many points: at the lowest stream where
+    /// they differ it has the lesser I, or the same I and the lesser Q.
     pub fn before(&self, other: &Vector) -> bool
         requires { length self.now ≡ length other.now }
         ensures { result ≡ before self.now other.now }

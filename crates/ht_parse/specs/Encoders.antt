@@ -1,4 +1,4 @@
--- How the data bits are shared among the encoders (IEEE Std 802.11-2012, clause 20.3.11.4).
+-- How the data bits are shared among the encoders (IEEE Std 802.11-2012, clause 20.3.11.5).
 use Rattle.std.specs.Prelude.{◌≡◌, ℕ, zero, suc, ◌+◌, ◌-◌, ◌*◌, ◌<◌, List, Bool, false, length, slice_index_or}
 use Rattle.ht_rate.specs.declared.rates.Rate.{Rate}
 use Rattle.ht_rate.specs.Rates.{encoders_of}

@@ -1,4 +1,4 @@
-//! The encoder parser (IEEE Std 802.11-2012, clause 20.3.11.4): the data bits go to the encoders in turn.
+//! The encoder parser (IEEE Std 802.11-2012, clause 20.3.11.5): the data bits go to the encoders in turn.
 ghost use Rattle.std.specs.Prelude.{◌≡◌, ◌+◌, ◌-◌, ◌*◌, ◌/◌, ◌%◌, ◌<◌, ◌≤◌, ℕ, IfOk, length, slice_index_or, false, vec_len, vec_capacity};
 ghost use Rattle.ht_rate.specs.Rates.{encoders_of};
 ghost use Rattle.ht_parse.specs.Encoders.{AreShares, IsParsed};
@@ -7,7 +7,7 @@ use crate::bits::{Bits, Pair};
 use ht_rate::Rate;
 use std::alloc::{AllocError, Global};
 
-/// Shares the bits among the encoders, one bit to each in turn (clause 20.3.11.4).
+/// Shares the bits among the encoders, one bit to each in turn (clause 20.3.11.5).
 ///
 /// Place N_ES * i + j becomes bit i of encoder j. The number of bits is a multiple of N_ES. With one encoder the
 /// second list is empty. The only refusal is want of memory.
@@ -45,7 +45,7 @@ fn every_second(alloc: Global, bits: &[bool], start: usize) -> Result<Vec<bool>,
     Ok(taken)
 }
 
-/// Puts the bits of the encoders together again: the inverse of `split_encoders` (clause 20.3.11.4).
+/// Puts the bits of the encoders together again: the inverse of `split_encoders` (clause 20.3.11.5).
 ///
 /// Both lists are equally long, or `second` is empty where the rate has one encoder. The only refusal is want of
 /// memory.

@@ -1,4 +1,4 @@
-//! The parsers of the HT PHY (IEEE Std 802.11-2012, clauses 20.3.11.4 and 20.3.11.8.2): which encoder gets a data
+//! The parsers of the HT PHY (IEEE Std 802.11-2012, clauses 20.3.11.5 and 20.3.11.8.2): which encoder gets a data
 //! bit, and which spatial stream gets a coded bit.
 //!
 //! With N_ES encoders, scrambled bit N_ES * i + j is bit i of encoder j's input. Within a symbol the coded bits go

@@ -24,10 +24,10 @@ begins_again : bits_from 127 127 8 ≡ 0 ∷ 0 ∷ 0 ∷ 0 ∷ 1 ∷ 1 ∷ 1 ∷
 unfolding bits_from sequence delayed
 begins_again = refl
 
--- 01101100 00011001, from the state 1011101 of the worked example of annex L
-worked_example : bits_from 93 0 16 ≡ 0 ∷ 1 ∷ 1 ∷ 0 ∷ 1 ∷ 1 ∷ 0 ∷ 0 ∷ 0 ∷ 0 ∷ 0 ∷ 1 ∷ 1 ∷ 0 ∷ 0 ∷ 1 ∷ []
-unfolding bits_from sequence delayed
-worked_example = refl
+-- SERVICE and the octet a5 from the all-ones state: 00001110 11110010 01101100
+service_and_a5 : scrambled 127 (false ∷ false ∷ false ∷ false ∷ false ∷ false ∷ false ∷ false ∷ false ∷ false ∷ false ∷ false ∷ false ∷ false ∷ false ∷ false ∷ true ∷ false ∷ true ∷ false ∷ false ∷ true ∷ false ∷ true ∷ []) ≡ false ∷ false ∷ false ∷ false ∷ true ∷ true ∷ true ∷ false ∷ true ∷ true ∷ true ∷ true ∷ false ∷ false ∷ true ∷ false ∷ false ∷ true ∷ true ∷ false ∷ true ∷ true ∷ false ∷ false ∷ []
+unfolding sequence delayed
+service_and_a5 = refl
 
 first_of_127 : first_seven 127 ≡ false ∷ false ∷ false ∷ false ∷ true ∷ true ∷ true ∷ []
 unfolding sequence delayed

@@ -1,5 +1,5 @@
 -- Vectors of 64 octets, lane by lane.
-use Rattle.std.proofs.Common.{◌≡◌, ℕ, suc, ◌+◌, ◌-◌, ◌*◌, ◌/◌, ◌%◌, ◌^◌, ◌<◌, ◌≤◌, ◌↔◌, List, [], ◌∷◌, ◌++◌, map, length, get_or, slice_index, replicate, Bool, true, false, cond, leb, eqb, refl, ap, sym, ◌∙◌, subst, arith, T, w8, true≢false}
+use Rattle.std.proofs.Common.{◌≡◌, ℕ, ◌+◌, ◌-◌, ◌/◌, ◌%◌, ◌^◌, ◌<◌, ◌↔◌, List, ◌++◌, map, length, get_or, slice_index, replicate, Bool, true, false, cond, leb, eqb, refl, ap, sym, ◌∙◌, arith, T, w8, true≢false}
 use lib.Lanes.{zip2, sel_l, mask_l, top, pick_l, all_below}
 use Rattle.std.specs.Int.{bit_at}
 use Rattle.std.proofs.lemmas.Bool.{agree_below_at, eqb-true}
@@ -21,9 +21,9 @@ pub pick-lanes : (v ks : List ℕ) (from : ℕ → ℕ) → length v ≡ 64 → 
 pick-lanes v ks from lv lk within is = record {
   count = ap length (pick_l_left 0 v v 64 ks lv within) ∙ (length-map ks (λ k. get_or v k 0) ∙ lk);
   lane = λ k lt.
-    ap (λ (l : List ℕ). get_or l k 0) (pick_l_left 0 v v 64 ks lv within)
-    ∙ (get_or-map (λ k. get_or v k 0) ks k 0 0 (omega arith)
-    ∙ ap (λ (n : ℕ). get_or v n 0) (is k lt));
+      ap (λ (l : List ℕ). get_or l k 0) (pick_l_left 0 v v 64 ks lv within)
+      ∙ (get_or-map (λ k. get_or v k 0) ks k 0 0 (omega arith)
+      ∙ ap (λ (n : ℕ). get_or v n 0) (is k lt));
 }
 
 pub after_zero-at : (k : ℕ) → k < 64 → get_or AFTER_ZERO k 0 ≡ k / 2
@@ -65,7 +65,7 @@ select-lanes v a b lv la lb =
     record {
       count = ap length is ∙ (length-sel_l (at_least v) a b (omega arith) (omega arith) ∙ lm);
       lane = λ k lt.
-        ap (λ (l : List ℕ). get_or l k 0) is
-        ∙ (get_or-sel_l (at_least v) a b k 0 (omega arith) (omega arith) (omega arith)
-        ∙ ap (λ (t : Bool). cond t (get_or a k 0) (get_or b k 0)) (at_least-at v lv k lt));
+          ap (λ (l : List ℕ). get_or l k 0) is
+          ∙ (get_or-sel_l (at_least v) a b k 0 (omega arith) (omega arith) (omega arith)
+          ∙ ap (λ (t : Bool). cond t (get_or a k 0) (get_or b k 0)) (at_least-at v lv k lt));
     }

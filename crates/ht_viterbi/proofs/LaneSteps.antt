@@ -1,10 +1,10 @@
 -- One step of the trellis on lanes: costs modulo 256 tell which way is nearer, since the ways of a state lie close.
-use Rattle.std.proofs.Common.{◌≡◌, ◌⊎◌, inl, inr, ℕ, zero, suc, ◌+◌, ◌-◌, ◌*◌, ◌/◌, ◌%◌, ◌<◌, ◌≤◌, ◌↔◌, List, [], ◌∷◌, length, replicate, Bool, true, false, nat_le, nat_lt, slice_index, refl, ap, sym, ◌∙◌, subst, arith, true≢false}
+use Rattle.std.proofs.Common.{◌≡◌, inl, inr, ℕ, zero, suc, ◌+◌, ◌-◌, ◌/◌, ◌%◌, ◌<◌, ◌≤◌, ◌↔◌, List, [], ◌∷◌, length, replicate, Bool, true, false, nat_le, nat_lt, slice_index, refl, ap, sym, ◌∙◌, arith, true≢false}
 use Rattle.std.specs.Int.{bit_at}
 use Rattle.std.specs.Prelude.{if◌then◌else◌}
 use Rattle.std.proofs.lemmas.Bool.{cases_lt, le-leb, lt-leb, lt-ltb, le-ltb}
 use Rattle.std.proofs.lemmas.Nat.Bits.{bit_at-zero}
-use Rattle.ht_viterbi.specs.Trellis.{Pair, moved, branch_cost, way, chosen, lesser, is_free, least_from, chosen_at}
+use Rattle.ht_viterbi.specs.Trellis.{Pair, branch_cost, way, chosen, lesser, is_free, least_from, chosen_at}
 use Rattle.ht_viterbi.specs.Lanes.{HasLanes, IsClose}
 
 zero-number : (z n b c t : ℕ) → z ≡ (n + b) % 256 → n ≡ c → c ≡ t % 256 → (w : ℕ) → w ≡ b + t → z ≡ w % 256
@@ -17,9 +17,9 @@ pub zero-lanes : (costs added next ways : List ℕ) (table : ℕ → ℕ) (pair 
 zero-lanes costs added next ways table pair held branches after is = record {
   count = is.count;
   lane = λ k lt.
-    let b : slice_index added k ≡ branch_cost pair k false = branches.lane k lt in
-    let h : way table pair k false ≡ slice_index added k + table (k / 2) = ap (λ (n : ℕ). n + table (k / 2)) (sym b) in
-    zero-number _ (slice_index next k) (slice_index added k) (slice_index costs (k / 2)) (table (k / 2)) (is.lane k lt) (after.lane k lt) (held.lane (k / 2) (omega arith)) (way table pair k false) h;
+      let b : slice_index added k ≡ branch_cost pair k false = branches.lane k lt in
+      let h : way table pair k false ≡ slice_index added k + table (k / 2) = ap (λ (n : ℕ). n + table (k / 2)) (sym b) in
+      zero-number _ (slice_index next k) (slice_index added k) (slice_index costs (k / 2)) (table (k / 2)) (is.lane k lt) (after.lane k lt) (held.lane (k / 2) (omega arith)) (way table pair k false) h;
 }
 
 -- the ways by a 1
@@ -29,9 +29,9 @@ pub one-lanes : (costs one next ways : List ℕ) (table : ℕ → ℕ) (pair : P
 one-lanes costs one next ways table pair held branches after is = record {
   count = is.count;
   lane = λ k lt.
-    let b : slice_index one k ≡ branch_cost pair k true = branches.lane k lt in
-    let h : way table pair k true ≡ slice_index one k + table (k / 2 + 32) = ap (λ (n : ℕ). n + table (k / 2 + 32)) (sym b) in
-    zero-number _ (slice_index next k) (slice_index one k) (slice_index costs (k / 2 + 32)) (table (k / 2 + 32)) (is.lane k lt) (after.lane k lt) (held.lane (k / 2 + 32) (omega arith)) (way table pair k true) h;
+      let b : slice_index one k ≡ branch_cost pair k true = branches.lane k lt in
+      let h : way table pair k true ≡ slice_index one k + table (k / 2 + 32) = ap (λ (n : ℕ). n + table (k / 2 + 32)) (sym b) in
+      zero-number _ (slice_index next k) (slice_index one k) (slice_index costs (k / 2 + 32)) (table (k / 2 + 32)) (is.lane k lt) (after.lane k lt) (held.lane (k / 2 + 32) (omega arith)) (way table pair k true) h;
 }
 
 below : (d p q a b : ℕ) → d ≡ (p + (256 - q)) % 256 → p ≡ a % 256 → q ≡ b % 256 → b < a + 128 → a < b → 128 ≤ d
@@ -70,11 +70,11 @@ pub lesser-lanes : (zero_ways one_ways ahead lesser_ways : List ℕ) (table : �
 lesser-lanes zero_ways one_ways ahead lesser_ways table pair zeros ones is close taken = record {
   count = taken.count;
   lane = λ k lt.
-    taken.lane k lt
-    ∙ ap (λ (t : Bool). if t then slice_index one_ways k else slice_index zero_ways k) (sign-lanes zero_ways one_ways ahead table pair zeros ones is close k lt)
-    ∙ ap (λ (n : ℕ). if nat_lt (way table pair k true) (way table pair k false) then n else slice_index zero_ways k) (ones.lane k lt)
-    ∙ ap (λ (n : ℕ). if nat_lt (way table pair k true) (way table pair k false) then way table pair k true % 256 else n) (zeros.lane k lt)
-    ∙ modulo (nat_lt (way table pair k true) (way table pair k false)) (way table pair k true) (way table pair k false);
+      taken.lane k lt
+      ∙ ap (λ (t : Bool). if t then slice_index one_ways k else slice_index zero_ways k) (sign-lanes zero_ways one_ways ahead table pair zeros ones is close k lt)
+      ∙ ap (λ (n : ℕ). if nat_lt (way table pair k true) (way table pair k false) then n else slice_index zero_ways k) (ones.lane k lt)
+      ∙ ap (λ (n : ℕ). if nat_lt (way table pair k true) (way table pair k false) then way table pair k true % 256 else n) (zeros.lane k lt)
+      ∙ modulo (nat_lt (way table pair k true) (way table pair k false)) (way table pair k true) (way table pair k false);
 }
   where
     modulo : (t : Bool) (a b : ℕ) → (if t then a % 256 else b % 256) ≡ (if t then a else b) % 256
@@ -103,9 +103,9 @@ pub lanes-step : (all pairs : List Pair) (lanes : List ℕ) (free : Bool) (pair 
 lanes-step all pairs lanes free pair cons is has = record {
   count = has.count;
   lane = λ k lt.
-    has.lane k lt
-    ∙ (ap (λ (f : Bool). lesser f (way (least_from pairs) pair k false) (way (least_from pairs) pair k true) % 256) is
-    ∙ sym (ap (λ (ps : List Pair). least_from ps k % 256) cons));
+      has.lane k lt
+      ∙ (ap (λ (f : Bool). lesser f (way (least_from pairs) pair k false) (way (least_from pairs) pair k true) % 256) is
+      ∙ sym (ap (λ (ps : List Pair). least_from ps k % 256) cons));
 }
 
 pub chosen-lanes : (pairs : List Pair) (word : ℕ) (free : Bool) (pair : Pair) → free ≡ is_free (length pairs)

@@ -1,14 +1,14 @@
 -- The order of inputs, and what is decoded where nothing was lost.
-use Rattle.std.proofs.Common.{◌≡◌, ℕ, zero, suc, ◌+◌, ◌-◌, ◌<◌, ◌≤◌, List, [], ◌∷◌, length, drop, map, replicate, Bool, true, false, not, Option, Some, refl, ap, sym, ◌∙◌, arith, true≢false}
+use Rattle.std.proofs.Common.{◌≡◌, ℕ, zero, suc, ◌-◌, ◌<◌, ◌≤◌, List, [], ◌∷◌, length, drop, map, replicate, Bool, true, false, not, Some, refl, ap, sym, ◌∙◌, arith, true≢false}
 use Rattle.std.specs.Prelude.{IsTrue, IsFalse}
 use Rattle.std.specs.List.{list_all}
 use Rattle.std.proofs.lemmas.List.{length-drop}
-use Rattle.std.proofs.lemmas.Bool.{and_parts, not-true, eqb-true}
+use Rattle.std.proofs.lemmas.Bool.{and_parts, not-true}
 use Rattle.ht_rate.specs.declared.kinds.Pattern.{Pattern}
 use Rattle.ht_conv.specs.Puncturing.{sent_count}
 use Rattle.ht_conv.specs.Code.{sent_bits}
 use Rattle.ht_conv.proofs.MidStream.{length-sent_bits, sent_bits-from, sent_from-equal}
-use Rattle.ht_nearest.specs.Nearest.{IsOrder, IsFirstNearest}
+use Rattle.ht_nearest.specs.Nearest.{IsOrder}
 use Rattle.ht_viterbi.specs.Inputs.{is_terminated, is_before, place_cost, hamming, distance, IsDecoded}
 use Rattle.ht_viterbi.proofs.Nearest.{terminated-parts}
 
@@ -103,10 +103,10 @@ sent-decoded steps p u within = record {
   within = within;
   nearest = λ v member. omega (arith, hamming-same (sent_bits p u));
   first = λ v member before.
-    let long : length u ≡ length v = (terminated-parts steps u within).0 ∙ sym (terminated-parts steps v member).0 in
-    let lengths : length (sent_bits p u) ≡ length (sent_bits p v) = length-sent_bits p u ∙ (ap (sent_count p) long ∙ sym (length-sent_bits p v)) in
-    let apart : hamming (map Some (sent_bits p u)) (sent_bits p v) ≡ 0 → ⊥ = λ none.
-    let same : u ≡ v = sent-equal p u v long (hamming-zero (sent_bits p u) (sent_bits p v) lengths none) in
-    true≢false (sym before ∙ (ap (λ (z : List Bool). is_before z u) (sym same) ∙ before-apart u)) in
-    omega (arith, hamming-same (sent_bits p u), not-zero _ apart);
+      let long : length u ≡ length v = (terminated-parts steps u within).0 ∙ sym (terminated-parts steps v member).0 in
+      let lengths : length (sent_bits p u) ≡ length (sent_bits p v) = length-sent_bits p u ∙ (ap (sent_count p) long ∙ sym (length-sent_bits p v)) in
+      let apart : hamming (map Some (sent_bits p u)) (sent_bits p v) ≡ 0 → ⊥ = λ none.
+      let same : u ≡ v = sent-equal p u v long (hamming-zero (sent_bits p u) (sent_bits p v) lengths none) in
+      true≢false (sym before ∙ (ap (λ (z : List Bool). is_before z u) (sym same) ∙ before-apart u)) in
+      omega (arith, hamming-same (sent_bits p u), not-zero _ apart);
 }

@@ -1,5 +1,5 @@
 -- The coded bits of all states against the taps, by a test of every state.
-use Rattle.std.proofs.Common.{◌≡◌, ℕ, ◌/◌, ◌%◌, ◌<◌, ◌∷◌, Bool, true, false, not, ◌==◌, refl}
+use Rattle.std.proofs.Common.{◌≡◌, ℕ, ◌<◌, Bool, true, false, not, ◌==◌, refl}
 use mathlib.Core.Bool.{xor, beq}
 use Rattle.std.specs.Int.{bit_at}
 use Rattle.std.proofs.lemmas.Bool.{agree_below_at}

@@ -1,20 +1,18 @@
 -- The distance along the trellis is the Hamming distance from what an input sends.
-use Rattle.std.proofs.Common.{◌≡◌, ℕ, zero, suc, ◌+◌, ◌-◌, ◌/◌, ◌%◌, ◌<◌, ◌≤◌, List, [], ◌∷◌, ◌++◌, length, drop, take, get_or, Bool, true, false, Option, Some, None, slice_index_or, refl, ap, sym, ◌∙◌, subst, arith, add-one, ◌==◌}
-use Rattle.std.specs.Prelude.{IsTrue}
+use Rattle.std.proofs.Common.{◌≡◌, ℕ, zero, suc, ◌+◌, ◌/◌, ◌%◌, ◌<◌, ◌≤◌, List, [], ◌∷◌, ◌++◌, length, drop, take, get_or, Bool, true, false, Option, None, refl, ap, sym, ◌∙◌, arith}
 use Rattle.std.proofs.Math.Seq.{drop-cons}
 use Rattle.std.proofs.lemmas.List.{drop_all}
 use Rattle.ht_rate.specs.declared.kinds.Pattern.{Pattern}
 use Rattle.ht_conv.specs.declared.puncture.Kept.{Kept}
 use Rattle.ht_conv.specs.declared.puncture.Kept.TheVariants.{Both, A, B}
 use Rattle.ht_conv.specs.Puncturing.{kept_of, kept_bits, kept_count, sent_count}
-use Rattle.ht_conv.specs.Code.{taps_a, taps_b, sent_bits}
-use Rattle.ht_conv.specs.Continued.{tapped, step_bits, sent_from}
+use Rattle.ht_conv.specs.Code.{taps_a, taps_b}
+use Rattle.ht_conv.specs.Continued.{tapped, sent_from}
 use Rattle.ht_conv.specs.Register.{history_of}
 use Rattle.ht_conv.proofs.MidStream.{Agree, sent_bits-from, sent_from-agree}
-use Rattle.ht_nearest.specs.Nearest.{IsFirstNearest}
-use Rattle.ht_viterbi.specs.Inputs.{place_cost, hamming, distance, is_terminated, is_before, IsDecoded}
-use Rattle.ht_viterbi.specs.Trellis.{Pair, pair_of, pair_at, pairs_from, moved, output_a, output_b, branch_cost, least_from, first_from}
-use Rattle.ht_viterbi.proofs.Nearest.{distance_from, Ends, terminated-parts, terminated-from, first-length, first-ends, first-distance, least-nearest, first-first}
+use Rattle.ht_viterbi.specs.Inputs.{place_cost, hamming, distance, IsDecoded}
+use Rattle.ht_viterbi.specs.Trellis.{pair_of, pairs_from, moved, output_a, output_b, branch_cost, least_from, first_from}
+use Rattle.ht_viterbi.proofs.Nearest.{distance_from, terminated-parts, terminated-from, first-length, first-ends, first-distance, least-nearest, first-first}
 
 pub length-pairs : (pattern : Pattern) (received : List (Option Bool)) (step count : ℕ) → length (pairs_from pattern received step count) ≡ count
 unfolding pairs_from
@@ -136,15 +134,15 @@ first-decoded steps pattern received len =
     record {
       within = terminated-from steps input long (first-ends pairs 0);
       nearest = λ other member.
-        let parts = terminated-parts steps other member in
-        let there = distance-path pattern received steps other parts.0 len in
-        let least = least-nearest pairs 0 other (parts.0 ∙ sym count) parts.1 in
-        omega (arith, here, there, least);
+          let parts = terminated-parts steps other member in
+          let there = distance-path pattern received steps other parts.0 len in
+          let least = least-nearest pairs 0 other (parts.0 ∙ sym count) parts.1 in
+          omega (arith, here, there, least);
       first = λ other member before.
-        let parts = terminated-parts steps other member in
-        let there = distance-path pattern received steps other parts.0 len in
-        let least = first-first pairs 0 other (parts.0 ∙ sym count) parts.1 before in
-        omega (arith, here, there, least);
+          let parts = terminated-parts steps other member in
+          let there = distance-path pattern received steps other parts.0 len in
+          let least = first-first pairs 0 other (parts.0 ∙ sym count) parts.1 before in
+          omega (arith, here, there, least);
     }
 
 pub first-cost : (steps : ℕ) (pattern : Pattern) (received : List (Option Bool)) → length received ≡ sent_count pattern steps

@@ -1,6 +1,6 @@
 -- The least distances from two states lie at most twelve apart: in six steps of the same bits both come to the same state.
-use Rattle.std.proofs.Common.{◌≡◌, ℕ, zero, suc, ◌+◌, ◌-◌, ◌*◌, ◌/◌, ◌<◌, ◌≤◌, List, [], ◌∷◌, length, Bool, true, false, refl, ap, sym, ◌∙◌, subst, arith}
-use Rattle.ht_viterbi.specs.Trellis.{Pair, moved, branch_cost, way, chosen, lesser, is_free, least_from, chosen_at}
+use Rattle.std.proofs.Common.{◌≡◌, ℕ, zero, suc, ◌+◌, ◌*◌, ◌/◌, ◌<◌, ◌≤◌, List, [], ◌∷◌, length, Bool, true, false, refl, ap, arith}
+use Rattle.ht_viterbi.specs.Trellis.{Pair, moved, way, is_free, least_from, chosen_at}
 use Rattle.ht_viterbi.specs.Lanes.{IsClose}
 use Rattle.ht_viterbi.proofs.Nearest.{lesser_least, lesser_is, not_chosen}
 use Rattle.ht_viterbi.proofs.Steps.{branch-le, moved-lt}

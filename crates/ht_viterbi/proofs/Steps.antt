@@ -1,10 +1,10 @@
 -- One step of the plain decoder, state by state.
-use Rattle.std.proofs.Common.{◌≡◌, ◌↔◌, ℕ, zero, suc, ◌+◌, ◌-◌, ◌*◌, ◌/◌, ◌%◌, ◌<◌, ◌≤◌, List, [], ◌∷◌, ◌++◌, Bool, true, false, Option, Some, None, length, take, drop, set, get_or, slice_index, replicate, nat_lt, not, refl, ap, sym, ◌∙◌, subst, arith, add-one, append_assoc, ◌==◌, nat_eq}
+use Rattle.std.proofs.Common.{◌≡◌, ◌↔◌, ℕ, zero, suc, ◌+◌, ◌-◌, ◌%◌, ◌<◌, ◌≤◌, List, [], ◌∷◌, ◌++◌, Bool, true, false, Option, Some, None, length, take, drop, set, get_or, slice_index, replicate, nat_lt, refl, ap, sym, ◌∙◌, subst, arith, add-one, append_assoc, ◌==◌}
 use Rattle.std.specs.Int.{bit_at}
 use Rattle.std.proofs.Math.Seq.{drop-cons, take-append_seam}
 use Rattle.std.proofs.lemmas.Bool.{eqb-true, eq-eqb}
 use Rattle.std.proofs.lemmas.Bool.Decides.{nat_tests}
-use Rattle.std.proofs.lemmas.List.{length-drop, drop-set, get_or_past}
+use Rattle.std.proofs.lemmas.List.{drop-set, get_or_past}
 use Rattle.ht_rate.specs.declared.kinds.Pattern.{Pattern}
 use Rattle.ht_rate.specs.declared.kinds.Pattern.TheVariants.{Half, TwoThirds, ThreeQuarters, FiveSixths}
 use Rattle.ht_conv.specs.declared.puncture.Kept.{Kept}

@@ -1,5 +1,5 @@
 -- The costs of the 64 states as octets, in the lanes of a vector.
-use Rattle.std.specs.Prelude.{◌≡◌, ℕ, ◌+◌, ◌*◌, ◌%◌, ◌<◌, List, [], Bool, true, false, Option, Some, None, length, slice_index, slice_index_or}
+use Rattle.std.specs.Prelude.{◌≡◌, ℕ, ◌+◌, ◌*◌, ◌<◌, List, [], Bool, true, false, Option, Some, None, length, slice_index, slice_index_or}
 use Rattle.ht_viterbi.specs.Trellis.{Pair, branch_cost, way}
 
 -- a vector of 64 lanes, each as the function says

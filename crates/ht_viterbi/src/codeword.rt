@@ -1,8 +1,9 @@
 //! What the decoder answers.
-use std::marker::Model;
 ghost use Rattle.std.specs.Prelude.{◌≡◌};
 
-/// A list of bits.
+use std::marker::Model;
+
+/// A list of bits, in the order in which they enter the encoder.
 #[derive(Drop)]
 pub struct Bits {
     bits: Vec<bool>,

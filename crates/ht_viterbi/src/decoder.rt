@@ -1,4 +1,5 @@
-//! The decoder: all 64 states at once.
+//! The decoder: all 64 states at once, their costs modulo 256. The ways of a state lie so close that their
+//! difference modulo 256 tells which is the lesser.
 ghost use Rattle.std.specs.Prelude.{◌≡◌, ◌+◌, ◌-◌, ◌*◌, ◌%◌, ◌<◌, ◌≤◌, ◌^◌, ◌↔◌, ℕ, List, Bool, true, false, IfOk, length, drop, replicate, slice_index};
 ghost use Rattle.std.specs.Int.{bit_at};
 ghost use Rattle.ht_conv.specs.Puncturing.{sent_count};
@@ -6,29 +7,25 @@ ghost use Rattle.ht_viterbi.specs.Inputs.{IsDecoded, distance, tail};
 ghost use Rattle.ht_viterbi.specs.Trellis.{Pair, branch_cost, way, chosen, lesser, least_from, AreChoices, pairs_from};
 ghost use Rattle.ht_viterbi.specs.Lanes.{HasLanes, HoldsBranches, IsClose};
 
+use crate::branches::{Branches, branches_of, row_of};
+use crate::codeword::{Bits, Codeword};
+use crate::lanes::{after_one, after_zero, differences, negative, sums, taken};
+use crate::pairs::{Pair, pair_from, phase_before, places_of};
+use crate::walk::forwards;
+use ht_conv::period;
 use ht_rate::Pattern;
 use std::alloc::{AllocError, Global};
 use std::simd::prelude::*;
 
-use crate::branches::{Branches, branches_of, row_of};
-use crate::codeword::{Bits, Codeword};
-use crate::lanes::{after_one, after_zero, differences, negative, sums, taken};
-use crate::pairs::{Pair, pair_from, period_of_steps, phase_before, places_of};
-use crate::walk::forwards;
-
 // One step of the trellis. The answer has the new costs, and the states at which a 1 is taken.
 #[inline(always)]
 fn step(costs: u8x64, zero: u8x64, one: u8x64, free: bool) -> (u8x64, u64)
-    ensures costs {
-        (table : ℕ → ℕ) (pair : Pair) → HasLanes costs (λ k. table k % 256)
-            → HasLanes zero (λ k. branch_cost pair k false) → HasLanes one (λ k. branch_cost pair k true) → IsClose table pair
-            → HasLanes result.0 (λ k. lesser free (way table pair k false) (way table pair k true) % 256)
-    }
-    ensures choices {
-        (table : ℕ → ℕ) (pair : Pair) → HasLanes costs (λ k. table k % 256)
-            → HasLanes zero (λ k. branch_cost pair k false) → HasLanes one (λ k. branch_cost pair k true) → IsClose table pair
-            → (k : ℕ) → k < 64 → (bit_at result.1 k ≡ 1) ↔ (chosen free (way table pair k false) (way table pair k true) ≡ true)
-    }
+    ensures costs { (table : ℕ → ℕ) (pair : Pair) → HasLanes costs (λ k. table k % 256)
+        → HasLanes zero (λ k. branch_cost pair k false) → HasLanes one (λ k. branch_cost pair k true) → IsClose table pair
+        → HasLanes result.0 (λ k. lesser free (way table pair k false) (way table pair k true) % 256) }
+    ensures choices { (table : ℕ → ℕ) (pair : Pair) → HasLanes costs (λ k. table k % 256)
+        → HasLanes zero (λ k. branch_cost pair k false) → HasLanes one (λ k. branch_cost pair k true) → IsClose table pair
+        → (k : ℕ) → k < 64 → (bit_at result.1 k ≡ 1) ↔ (chosen free (way table pair k false) (way table pair k true) ≡ true) }
 {
     let zero_ways = sums(after_zero(costs), zero);
     if free {
@@ -81,7 +78,7 @@ fn backwards(pattern: Pattern, received: &[Option<bool>], choices: &mut [u64]) -
     let mut distance = 0u32;
     let mut at = steps;
     let mut start = received.len();
-    let period = period_of_steps(pattern);
+    let period = period(pattern);
     let mut phase = steps % period.len();
     while at > 0 {
         at -= 1;
@@ -89,7 +86,12 @@ fn backwards(pattern: Pattern, received: &[Option<bool>], choices: &mut [u64]) -
         let kept = period[phase];
         start -= places_of(kept);
         let pair = pair_from(received, start, kept);
-        let (next, word) = step(costs, lanes_of(&zeros, pair), lanes_of(&ones, pair), steps - at > 6);
+        let (next, word) = step(
+            costs,
+            lanes_of(&zeros, pair),
+            lanes_of(&ones, pair),
+            steps - at > 6,
+        );
         choices[at] = word;
         distance = carried(distance, first_lane(next));
         costs = next;
@@ -98,7 +100,19 @@ fn backwards(pattern: Pattern, received: &[Option<bool>], choices: &mut [u64]) -
 }
 
 /// Decodes a punctured codeword: the first terminated input whose coded bits are nearest to `received`.
-pub fn decode(alloc: Global, steps: u32, pattern: Pattern, received: &[Option<bool>]) -> Result<Codeword, AllocError>
+///
+/// `steps` is the length of the input with its tail of six zeros, from 6 to 524302. `received` has the coded bits
+/// that `pattern` keeps of so many steps, A before B, None where a place is erased; an erased place counts for
+/// nothing. The memory for all steps is taken first, eight octets a step and one for each bit of the answer; want
+/// of it is the only error, and then nothing has changed.
+///
+/// IEEE Std 802.11-2012, clauses 18.3.5.6 and 20.3.11.6.
+pub fn decode(
+    alloc: Global,
+    steps: u32,
+    pattern: Pattern,
+    received: &[Option<bool>],
+) -> Result<Codeword, AllocError>
     requires least { tail ≤ steps }
     requires most { steps ≤ 524302 }
     requires received { length received.now ≡ sent_count pattern steps }

@@ -1,36 +1,19 @@
 //! The two received bits of one step of the trellis, and what they cost.
 ghost use Rattle.std.specs.Prelude.{◌≡◌, ◌+◌, ◌<◌, ◌≤◌, length};
-ghost use Rattle.ht_conv.specs.Puncturing.{kept_count, period_of};
+ghost use Rattle.ht_conv.specs.Puncturing.{kept_count};
 ghost use Rattle.ht_viterbi.specs.Inputs.{place_cost};
 ghost use Rattle.ht_viterbi.specs.Trellis.{pair_of, output_a, output_b, branch_cost, moved, phase_back};
 
 use crate::words::is_set;
 use ht_conv::Kept;
-use ht_rate::Pattern;
 
 /// The received places of a step's bits A and B; None where one is erased or punctured.
 pub(crate) type Pair = (Option<bool>, Option<bool>);
 
 // The coded bits A and B that each state gives at an input bit of 0: bit n of the word is that of state n.
 const A_OF_ZERO: u64 = 0x6699_9966_6699_9966;
+
 const B_OF_ZERO: u64 = 0x55aa_aa55_aa55_55aa;
-
-static HALF: [Kept; 1] = [Kept::Both];
-static TWO_THIRDS: [Kept; 2] = [Kept::Both, Kept::A];
-static THREE_QUARTERS: [Kept; 3] = [Kept::Both, Kept::A, Kept::B];
-static FIVE_SIXTHS: [Kept; 5] = [Kept::Both, Kept::A, Kept::B, Kept::A, Kept::B];
-
-// What is kept of each step of one period, for a loop over steps that is to divide nothing.
-pub(crate) fn period_of_steps(pattern: Pattern) -> &'static [Kept]
-    ensures { result.now ≡ period_of pattern }
-{
-    match pattern {
-        Pattern::Half => &HALF,
-        Pattern::TwoThirds => &TWO_THIRDS,
-        Pattern::ThreeQuarters => &THREE_QUARTERS,
-        Pattern::FiveSixths => &FIVE_SIXTHS,
-    }
-}
 
 // The place in its period of the step before.
 pub(crate) fn phase_before(phase: usize, period: usize) -> usize

@@ -5,14 +5,13 @@ ghost use Rattle.ht_conv.specs.Puncturing.{sent_count};
 ghost use Rattle.ht_viterbi.specs.Inputs.{IsDecoded, distance, tail};
 ghost use Rattle.ht_viterbi.specs.Trellis.{way, chosen, lesser, least_from, first_from, AreChoices, pairs_from, moved, Pair};
 
-use ht_conv::kept_at;
-use ht_rate::Pattern;
-use std::alloc::{AllocError, Global};
-
 use crate::codeword::{Bits, Codeword};
 use crate::pairs::{Pair, cost_of_branch, pair_from, places_of, state_after};
 use crate::walk::forwards;
 use crate::words::with_flag;
+use ht_conv::kept_at;
+use ht_rate::Pattern;
+use std::alloc::{AllocError, Global};
 
 // The distance by a first bit.
 fn way_of(costs: &[u32; 64], pair: Pair, state: usize, bit: bool) -> u32
@@ -73,7 +72,12 @@ fn backwards(pattern: Pattern, received: &[Option<bool>], choices: &mut [u64]) -
         let kept = kept_at(pattern, at as u32);
         start -= places_of(kept);
         let mut into = no_costs();
-        choices[at] = step(&costs, pair_from(received, start, kept), steps - at > 6, &mut into);
+        choices[at] = step(
+            &costs,
+            pair_from(received, start, kept),
+            steps - at > 6,
+            &mut into,
+        );
         costs = into;
     }
     costs[0]
@@ -86,7 +90,12 @@ fn backwards(pattern: Pattern, received: &[Option<bool>], choices: &mut [u64]) -
 /// comparisons a step. The only error is want of memory, and nothing has changed then.
 ///
 /// IEEE Std 802.11-2012, clauses 18.3.5.6 and 20.3.11.6.
-pub fn plain_decode(alloc: Global, steps: u32, pattern: Pattern, received: &[Option<bool>]) -> Result<Codeword, AllocError>
+pub fn plain_decode(
+    alloc: Global,
+    steps: u32,
+    pattern: Pattern,
+    received: &[Option<bool>],
+) -> Result<Codeword, AllocError>
     requires least { tail ≤ steps }
     requires most { steps ≤ 524302 }
     requires received { length received.now ≡ sent_count pattern steps }

@@ -1,12 +1,11 @@
 //! Worked words, and all inputs of short words tried in turn. Each call has ample memory.
-ghost use Rattle.std.specs.Prelude.{◌≡◌, ◌<◌, IfOk, length, vec_len};
+ghost use Rattle.std.specs.Prelude.{◌<◌, length};
 
-use ht_conv::{Kept, kept_at, sent};
+use crate::{Codeword, decode, plain_decode};
+use ht_conv::{Kept, encode, kept_at, sent};
 use ht_rate::Pattern;
 use std::alloc::{AllocError, Global};
 use std::test::Fail;
-
-use crate::plain_decode;
 
 const PATTERNS: [Pattern; 4] = [
     Pattern::Half,
@@ -17,7 +16,26 @@ const PATTERNS: [Pattern; 4] = [
 
 // The delays that the generators tap: 133 and 171 in octal.
 const TAPS_A: [usize; 5] = [0, 2, 3, 5, 6];
+
 const TAPS_B: [usize; 5] = [0, 1, 2, 3, 6];
+
+// What a decoder answers. A word of another length than asked for is an error.
+fn answer(
+    alloc: Global,
+    is_plain: bool,
+    steps: u32,
+    pattern: Pattern,
+    received: &[Option<bool>],
+) -> Result<Codeword, AllocError> {
+    if steps < 6 || steps > 524_302 || received.len() as u64 != sent(pattern, steps) {
+        return Err(AllocError);
+    }
+    if is_plain {
+        plain_decode(alloc, steps, pattern, received)
+    } else {
+        decode(alloc, steps, pattern, received)
+    }
+}
 
 // Places as they are written: 0, 1, and x for an erased one; blanks are left out.
 fn places(alloc: Global, text: &str) -> Result<Vec<Option<bool>>, AllocError> {
@@ -49,10 +67,14 @@ fn vectors(rt: HostRuntime) -> Result<(), Fail> {
     ];
     for (steps, received, input, distance) in table {
         let received = places(rt.alloc(), received)?;
-        assert!(rt; received.len() as u64 == sent(Pattern::Half, steps));
-        let codeword = plain_decode(rt.alloc(), steps, Pattern::Half, &received)?;
-        assert_eq!(rt; codeword.input.as_slice(), bits(rt.alloc(), input)?.as_slice());
-        assert_eq!(rt; codeword.distance, distance);
+        for is_plain in [false, true] {
+            let codeword = answer(rt.alloc(), is_plain, steps, Pattern::Half, &received)?;
+            assert_eq!(rt;
+                codeword.input.as_slice(),
+                bits(rt.alloc(), input)?.as_slice()
+            );
+            assert_eq!(rt; codeword.distance, distance);
+        }
     }
     Ok(())
 }
@@ -75,7 +97,10 @@ fn distance_of(input: &[bool], pattern: Pattern, received: &[Option<bool>]) -> u
     let mut places = received.iter().copied();
     let mut distance = 0u32;
     for step in 0..input.len() {
-        let (a, b) = (coded_bit(input, step, TAPS_A), coded_bit(input, step, TAPS_B));
+        let (a, b) = (
+            coded_bit(input, step, TAPS_A),
+            coded_bit(input, step, TAPS_B),
+        );
         let kept = kept_at(pattern, (step % 30) as u32);
         for (bit, other) in [(a, Kept::B), (b, Kept::A)] {
             if kept != other && places.next().flatten() == Some(!bit) {
@@ -87,16 +112,26 @@ fn distance_of(input: &[bool], pattern: Pattern, received: &[Option<bool>]) -> u
 }
 
 // A word of places at random: the generator's top bits choose 0, 1 or, at one place of `rare`, an erasure.
-fn random_places(alloc: Global, count: usize, seed: u64, rare: u64) -> Result<Vec<Option<bool>>, AllocError>
+fn random_places(
+    alloc: Global,
+    count: usize,
+    seed: u64,
+    rare: u64,
+) -> Result<Vec<Option<bool>>, AllocError>
     requires { 0 < rare }
-    ensures { IfOk result (λ places. vec_len places ≡ count) }
 {
     let mut places = Vec::new(alloc);
     let mut state = seed;
     for place in 0..count {
-        state = (state ^ place as u64).wrapping_mul(6_364_136_223_846_793_005).wrapping_add(1_442_695_040_888_963_407);
+        state = (state ^ place as u64)
+            .wrapping_mul(6_364_136_223_846_793_005)
+            .wrapping_add(1_442_695_040_888_963_407);
         let draw = state >> 40;
-        places.push(if draw % rare == 0 { None } else { Some(draw >> 20 & 1 == 1) })?;
+        places.push(if draw % rare == 0 {
+            None
+        } else {
+            Some(draw >> 20 & 1 == 1)
+        })?;
     }
     Ok(places)
 }
@@ -119,10 +154,87 @@ fn ties(rt: HostRuntime) -> Result<(), Fail> {
                     best = (input, distance);
                 }
             }
-            let codeword = plain_decode(rt.alloc(), 14, pattern, &received)?;
-            assert_eq!(rt; codeword.input.as_slice(), best.0.as_slice(), "seed {seed}");
-            assert_eq!(rt; codeword.distance, best.1, "seed {seed}");
+            for is_plain in [false, true] {
+                let codeword = answer(rt.alloc(), is_plain, 14, pattern, &received)?;
+                assert_eq!(rt; codeword.input.as_slice(), best.0.as_slice(), "seed {seed}");
+                assert_eq!(rt; codeword.distance, best.1, "seed {seed}");
+            }
         }
+    }
+    Ok(())
+}
+
+// A random terminated input, and what it sends with so many of a hundred places wrong.
+fn sent_with_errors(
+    alloc: Global,
+    steps: u32,
+    pattern: Pattern,
+    percent: u64,
+) -> Result<(Vec<bool>, Vec<Option<bool>>), AllocError> {
+    let mut state = u64::from(steps);
+    let mut draw = || {
+        state = state
+            .wrapping_mul(6_364_136_223_846_793_005)
+            .wrapping_add(1_442_695_040_888_963_407);
+        state >> 33
+    };
+    let free = steps.saturating_sub(6);
+    let mut input = Vec::new(alloc);
+    for step in 0..steps {
+        input.push(draw() & 1 == 1 && step < free)?;
+    }
+    let mut received = Vec::new(alloc);
+    for bit in &encode(alloc, &input, pattern)? {
+        received.push(Some(*bit != (draw() % 100 < percent)))?;
+    }
+    Ok((input, received))
+}
+
+#[test]
+fn alike(rt: HostRuntime) -> Result<(), Fail> {
+    for steps in [6, 7, 13, 62, 63, 64, 65, 66, 822, 12_006] {
+        for pattern in PATTERNS {
+            for percent in [0, 2, 5, 50] {
+                let (input, received) = sent_with_errors(rt.alloc(), steps, pattern, percent)?;
+                let fast = answer(rt.alloc(), false, steps, pattern, &received)?;
+                let plain = answer(rt.alloc(), true, steps, pattern, &received)?;
+                assert_eq!(rt; fast.distance, plain.distance, "{steps} steps");
+                assert_eq!(rt;
+                    fast.input.as_slice(),
+                    plain.input.as_slice(),
+                    "{steps} steps"
+                );
+                if percent == 0 {
+                    assert_eq!(rt; fast.input.as_slice(), input.as_slice());
+                }
+            }
+        }
+    }
+    Ok(())
+}
+
+#[test]
+fn erased(rt: HostRuntime) -> Result<(), Fail> {
+    for steps in [6, 7, 822] {
+        for pattern in PATTERNS {
+            let received = Vec::from_elem(rt.alloc(), None, sent(pattern, steps) as usize)?;
+            for is_plain in [false, true] {
+                let codeword = answer(rt.alloc(), is_plain, steps, pattern, &received)?;
+                assert_eq!(rt; codeword.distance, 0);
+                assert!(rt; !codeword.input.as_slice().contains(&true));
+            }
+        }
+    }
+    Ok(())
+}
+
+#[test]
+fn longest(rt: HostRuntime) -> Result<(), Fail> {
+    for steps in [524_302] {
+        let (input, received) = sent_with_errors(rt.alloc(), steps, Pattern::Half, 1)?;
+        let codeword = answer(rt.alloc(), false, steps, Pattern::Half, &received)?;
+        let decoded = codeword.input;
+        assert_eq!(rt; decoded.into_vec().as_slice(), input.as_slice());
     }
     Ok(())
 }

@@ -1,4 +1,4 @@
-use Rattle.std.proofs.Common.{◌≡◌, ◌+◌, ◌*◌, ◌/◌, ◌%◌, ◌<◌, ◌≤◌, arith, ap, ◌∙◌, sym, refl}
+use Rattle.std.proofs.Common.{◌+◌, ◌*◌, ◌/◌, ◌%◌, ◌<◌, arith, ap, ◌∙◌, refl}
 use Rattle.ht_rate.specs.Rates.{stream_bits_of}
 use Rattle.ht_rate.proofs.RateFacts.{stream_bits_of-range}
 use Rattle.ht_landing.proofs.Parsed.{placed}

@@ -1,4 +1,4 @@
-use Rattle.std.proofs.Common.{◌≡◌, rules}
+use Rattle.std.proofs.Common.{rules}
 use Rattle.ht_map.specs.Gray.{label_of}
 use Rattle.ht_map.proofs.LabelFacts.{is_no_label}
 use Rattle.ht_map.proofs.mapping.label.Goals as goal

@@ -1,8 +1,6 @@
-use Rattle.std.proofs.Common.{◌≡◌, ◌∙◌, ◌-◌, ◌+◌, ◌*◌, ◌%◌, ◌<◌, ◌≤◌, ℕ, List, Bool, true, false, ap, sym, subst, length, slice_index, arith, rules}
+use Rattle.std.proofs.Common.{◌∙◌, ◌-◌, ◌%◌, List, true, false, ap, sym, length, arith, rules}
 use Rattle.ht_conv.specs.declared.puncture.Kept.{Kept}
-use Rattle.ht_conv.specs.Puncturing.{kept_count, sent_count}
 use Rattle.ht_viterbi.specs.Trellis.{Pair, pairs_from, least_from}
-use Rattle.ht_viterbi.specs.Lanes.{HasLanes}
 use Rattle.ht_viterbi.proofs.Steps.{phase-step, kept-back, start-back, pair-back, pairs-none, free-back, choices-start, choices-step}
 use Rattle.ht_viterbi.proofs.Spread.{ways-close, first-grows}
 use Rattle.ht_viterbi.proofs.LaneSteps.{lanes-start, lanes-step, chosen-lanes}
@@ -14,8 +12,8 @@ loop-at-init c =
     record {
       within = omega arith;
       count = search rules;
-      period = c.period_of_steps-period.ensures;
-      phase = ap (λ (z : List Kept). length c.args.choices.now % length z) c.period_of_steps-period.ensures;
+      period = c.period-period.ensures;
+      phase = ap (λ (z : List Kept). length c.args.choices.now % length z) c.period-period.ensures;
       start = c.requires.count;
       costs = lanes-start _ none;
       choices = choices-start _ _ none;
@@ -26,8 +24,8 @@ loop-at-init c =
 pub pair_from-pair-requires : goal.pair_from-pair-requires
 pair_from-pair-requires c =
     let was = c.loop-at.invariant in
-    let phase = phase-step c.args.pattern c.period_of_steps-period.result.now c.loop-at.at c.loop-at.phase c.phase_before-phase.result was.period c.loop-at-test.true was.phase c.phase_before-phase.ensures.value in
-    let kept = kept-back c.args.pattern c.period_of_steps-period.result.now c.loop-at.at c.phase_before-phase.result was.period phase in
+    let phase = phase-step c.args.pattern c.period-period.result.now c.loop-at.at c.loop-at.phase c.phase_before-phase.result was.period c.loop-at-test.true was.phase c.phase_before-phase.ensures.value in
+    let kept = kept-back c.args.pattern c.period-period.result.now c.loop-at.at c.phase_before-phase.result was.period phase in
     let back = start-back c.args.pattern (length c.args.choices.now) c.loop-at.at c.loop-at.start c.places_of-start.result _ c.loop-at-test.true was.within was.start kept c.places_of-start.ensures in
     omega (arith, back.1)
 
@@ -37,8 +35,8 @@ loop-at-preserved c =
     let at = c.loop-at.at in
     let was = c.loop-at.invariant in
     let pair = c.pair_from-pair.result in
-    let phase = phase-step c.args.pattern c.period_of_steps-period.result.now at c.loop-at.phase c.phase_before-phase.result was.period c.loop-at-test.true was.phase c.phase_before-phase.ensures.value in
-    let kept = kept-back c.args.pattern c.period_of_steps-period.result.now at c.phase_before-phase.result was.period phase in
+    let phase = phase-step c.args.pattern c.period-period.result.now at c.loop-at.phase c.phase_before-phase.result was.period c.loop-at-test.true was.phase c.phase_before-phase.ensures.value in
+    let kept = kept-back c.args.pattern c.period-period.result.now at c.phase_before-phase.result was.period phase in
     let back = start-back c.args.pattern steps at c.loop-at.start c.places_of-start.result _ c.loop-at-test.true was.within was.start kept c.places_of-start.ensures in
     let cons = pair-back c.args.pattern c.args.received.now steps at (c.loop-at.start - c.places_of-start.result) _ pair c.loop-at-test.true was.within kept back.0 c.pair_from-pair.ensures in
     let free = free-back c.args.pattern c.args.received.now steps at c.loop-at-test.true was.within in

@@ -1,7 +1,7 @@
-use Rattle.std.proofs.Common.{◌≡◌, ◌%◌, ◌↔◌, ℕ, Bool, false, true, sym, subst}
+use Rattle.std.proofs.Common.{◌≡◌, ◌%◌, ◌↔◌, Bool, false, true, sym, subst}
 use Rattle.std.specs.Int.{bit_at}
 use Rattle.ht_viterbi.specs.Trellis.{way, chosen, lesser}
-use Rattle.ht_viterbi.specs.Lanes.{HasLanes, IsClose}
+use Rattle.ht_viterbi.specs.Lanes.{HasLanes}
 use Rattle.ht_viterbi.proofs.LaneSteps.{zero-lanes, one-lanes, choices-lanes, lesser-lanes, no-choices}
 use Rattle.ht_viterbi.proofs.decoder.step.Goals as goal
 

@@ -1,6 +1,6 @@
-use Rattle.std.proofs.Common.{◌+◌, ◌-◌, ◌/◌, ◌%◌, ℕ, refl}
-use Rattle.ht_viterbi.specs.declared.lanes.TheConstants.{AFTER_ZERO, AFTER_ONE}
-use Rattle.ht_viterbi.proofs.LaneFacts.{zip2-lanes, pick-lanes, after_zero-at, after_one-at, mask-bits, select-lanes}
+use Rattle.std.proofs.Common.{◌/◌, refl}
+use Rattle.ht_viterbi.specs.declared.lanes.TheConstants.{AFTER_ZERO}
+use Rattle.ht_viterbi.proofs.LaneFacts.{pick-lanes, after_zero-at}
 use Rattle.ht_viterbi.proofs.lanes.after_zero.Goals as goal
 
 pub returns : goal.returns

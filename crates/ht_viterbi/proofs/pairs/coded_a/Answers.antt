@@ -1,4 +1,4 @@
-use Rattle.std.proofs.Common.{◌≡◌, ◌∙◌, Bool, ap, sym, not}
+use Rattle.std.proofs.Common.{◌∙◌, Bool, ap, sym, not}
 use mathlib.Core.Bool.{beq}
 use Rattle.ht_viterbi.proofs.Outputs.{output_a-word}
 use Rattle.ht_viterbi.proofs.pairs.coded_a.Goals as goal

@@ -1,5 +1,4 @@
-use Rattle.std.proofs.Common.{◌≡◌, ◌∙◌, ◌-◌, ◌+◌, ◌*◌, ◌<◌, ◌≤◌, ℕ, sym, length, slice_index, arith, rules}
-use Rattle.ht_conv.specs.Puncturing.{kept_count, sent_count}
+use Rattle.std.proofs.Common.{◌-◌, ◌*◌, length, slice_index, arith, rules}
 use Rattle.ht_viterbi.specs.Trellis.{pairs_from}
 use Rattle.ht_viterbi.proofs.Steps.{start-back, pair-back, pairs-none, free-back, costs-start, choices-start, costs-step, choices-step, chosen-step, bound-step, zero-at}
 use Rattle.ht_viterbi.proofs.plain.backwards.Goals as goal

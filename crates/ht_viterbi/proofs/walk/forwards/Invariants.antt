@@ -1,4 +1,4 @@
-use Rattle.std.proofs.Common.{◌≡◌, ◌≤◌, ◌<◌, ◌+◌, ◌-◌, ◌++◌, ℕ, List, length, drop, vec_len, vec_capacity}
+use Rattle.std.proofs.Common.{◌≡◌, ◌≤◌, ◌<◌, ◌++◌, List, length, drop, vec_len, vec_capacity}
 use Rattle.ht_viterbi.specs.Trellis.{Pair, first_from, AreChoices}
 use Rattle.ht_viterbi.proofs.walk.forwards.Given as goal
 

@@ -1,4 +1,4 @@
-use Rattle.std.proofs.Common.{◌≡◌, ◌/◌, ◌<◌, arith, rules}
+use Rattle.std.proofs.Common.{◌/◌, ◌<◌, arith, rules}
 use Rattle.ht_landing.specs.Landings.{landing_of}
 use Rattle.ht_landing.proofs.Landed.{carrier-below, landing_of-label}
 use Rattle.ht_landing.proofs.landings.Landing.of.Goals as goal

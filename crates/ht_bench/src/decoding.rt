@@ -1,0 +1,101 @@
+//! Decoding of a codeword that came with some places wrong.
+use crate::random::Random;
+use ht_conv::{encode, sent};
+use ht_rate::Pattern;
+use ht_viterbi::{Codeword, decode, plain_decode};
+use std::alloc::{AllocError, Global};
+
+/// Which decoder is run.
+#[derive(Clone, Copy)]
+enum Decoder {
+    Fast,
+    Plain,
+}
+
+/// A codeword's form, how many of a hundred places are wrong, and how often it is decoded.
+#[derive(Drop)]
+pub struct Line {
+    decoder: Decoder,
+    pattern: Pattern,
+    steps: u32,
+    percent: u64,
+    count: u32,
+}
+
+impl Line {
+    /// The line that the words choose.
+    pub fn from_words(words: &[String]) -> Option<Line> {
+        let [decoder, pattern, steps, percent, count] = words else {
+            return None;
+        };
+        let decoder = match decoder.as_str() {
+            "decode" => Decoder::Fast,
+            "plain_decode" => Decoder::Plain,
+            _ => return None,
+        };
+        let pattern = match pattern.as_str() {
+            "half" => Pattern::Half,
+            "two_thirds" => Pattern::TwoThirds,
+            "three_quarters" => Pattern::ThreeQuarters,
+            "five_sixths" => Pattern::FiveSixths,
+            _ => return None,
+        };
+        Some(Line {
+            decoder,
+            pattern,
+            steps: steps.as_str().parse().ok()?,
+            percent: percent.as_str().parse().ok()?,
+            count: count.as_str().parse().ok()?,
+        })
+    }
+
+    /// Decodes the codeword so often. The checksum is of the last answer, and of all distances.
+    pub fn run(&self, alloc: Global) -> Result<u64, AllocError> {
+        let received = self.received(alloc)?;
+        let mut checksum = 0u64;
+        for left in (0..self.count).rev() {
+            let codeword = self.decoded(alloc, &received)?;
+            checksum = checksum.wrapping_add(u64::from(codeword.distance));
+            if left == 0 {
+                checksum = folded(checksum, codeword.input.as_slice());
+            }
+        }
+        Ok(checksum)
+    }
+
+    // What is received: random input, encoded, and with wrong places.
+    fn received(&self, alloc: Global) -> Result<Vec<Option<bool>>, AllocError> {
+        let mut random = Random::new(1);
+        let mut input = Vec::new(alloc);
+        let free = self.steps.saturating_sub(6);
+        for step in 0..self.steps {
+            let bit = random.draw() & 1 == 1;
+            input.push(bit && step < free)?;
+        }
+        let mut received = Vec::new(alloc);
+        for bit in &encode(alloc, &input, self.pattern)? {
+            let wrong = random.draw() % 100 < self.percent;
+            received.push(Some(*bit != wrong))?;
+        }
+        Ok(received)
+    }
+
+    // One decoding. A length that no codeword has is not decoded.
+    fn decoded(&self, alloc: Global, received: &[Option<bool>]) -> Result<Codeword, AllocError> {
+        let (steps, pattern) = (self.steps, self.pattern);
+        if steps < 6 || steps > 524_302 || received.len() as u64 != sent(pattern, steps) {
+            return Err(AllocError);
+        }
+        match self.decoder {
+            Decoder::Fast => decode(alloc, steps, pattern, received),
+            Decoder::Plain => plain_decode(alloc, steps, pattern, received),
+        }
+    }
+}
+
+// A checksum that depends on each bit and its place.
+fn folded(start: u64, bits: &[bool]) -> u64 {
+    bits.iter().fold(start, |sum, bit| {
+        (sum ^ u64::from(*bit)).wrapping_mul(0x100_0000_01b3)
+    })
+}

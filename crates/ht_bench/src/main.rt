@@ -1,0 +1,37 @@
+//! Work for `bench/run`: words choose a line, and the program prints the checksum of its answers.
+//!
+//! ```text
+//! ht_bench decode PATTERN STEPS PERCENT COUNT          the decoder
+//! ht_bench plain_decode PATTERN STEPS PERCENT COUNT    the same, state by state
+//! ```
+//!
+//! PATTERN is half, two_thirds, three_quarters or five_sixths, and PERCENT says how many of a hundred places are wrong.
+//! The input of a line comes from a generator that always starts alike, so a line always prints the same.
+//!
+//! Each kind of line is a module with a type `Line`: `from_words` gives the line that words choose, and `run` its checksum.
+#![tactic(auto)]
+
+mod decoding;
+mod random;
+
+use std::alloc::{AllocError, Global};
+use std::{env, io};
+
+// The checksum of the line that the words choose, if they choose one.
+fn checksum(alloc: Global, words: &[String]) -> Result<Option<u64>, AllocError> {
+    if let Some(line) = decoding::Line::from_words(words) {
+        return Ok(Some(line.run(alloc)?));
+    }
+    Ok(None)
+}
+
+fn main(rt: HostRuntime) -> io::Result<()> {
+    let mut words = Vec::new(rt.alloc());
+    for word in env::args(&rt)?.skip(1) {
+        words.push(word)?;
+    }
+    match checksum(rt.alloc(), &words)? {
+        Some(sum) => println!(rt; "{sum}"),
+        None => println!(rt; "these words choose no line"),
+    }
+}
