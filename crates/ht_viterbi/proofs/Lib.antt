@@ -6,3 +6,4 @@ pub mod Orders
 pub mod LaneFacts
 pub mod LaneSteps
 pub mod Spread
+pub mod Values

@@ -1,0 +1,67 @@
+-- Values of the definitions, by computation.
+use Rattle.std.proofs.Common.{◌≡◌, List, ◌∷◌, map, Bool, true, false, Option, Some, None, replicate, refl}
+use mathlib.Core.Bool.{xor}
+use Rattle.ht_rate.specs.declared.kinds.Pattern.TheVariants.{Half, TwoThirds}
+use Rattle.ht_viterbi.specs.Inputs.{is_terminated, is_before, distance}
+
+abbrev zeros : List Bool
+zeros = replicate 7 false
+
+abbrev one_first : List Bool
+one_first = true ∷ replicate 6 false
+
+-- 11 01 11 00 00 00 00 and 11 01 11 10 00 00 00
+abbrev first_word : List (Option Bool)
+first_word = map Some (true ∷ true ∷ false ∷ true ∷ true ∷ true ∷ replicate 8 false)
+
+abbrev second_word : List (Option Bool)
+second_word = map Some (true ∷ true ∷ false ∷ true ∷ true ∷ true ∷ true ∷ replicate 7 false)
+
+tied-zeros : distance Half first_word zeros ≡ 5
+unfolding distance xor
+tied-zeros = refl
+
+tied-one : distance Half first_word one_first ≡ 5
+unfolding distance xor
+tied-one = refl
+
+near-zeros : distance Half second_word zeros ≡ 6
+unfolding distance xor
+near-zeros = refl
+
+near-one : distance Half second_word one_first ≡ 4
+unfolding distance xor
+near-one = refl
+
+all-erased : distance Half (replicate 14 None) one_first ≡ 0
+unfolding distance xor
+all-erased = refl
+
+all-ones : distance Half (replicate 12 (Some true)) (replicate 6 false) ≡ 12
+unfolding distance xor
+all-ones = refl
+
+-- at 2/3 the input 1000000 sends 11 0 11 1 00 1 11
+punctured : distance TwoThirds (map Some (replicate 11 false)) one_first ≡ 8
+unfolding distance xor
+punctured = refl
+
+ends-well : is_terminated 7 one_first ≡ true
+unfolding is_terminated
+ends-well = refl
+
+ends-badly : is_terminated 7 (false ∷ true ∷ replicate 5 false) ≡ false
+unfolding is_terminated
+ends-badly = refl
+
+too-short : is_terminated 7 (replicate 6 false) ≡ false
+unfolding is_terminated
+too-short = refl
+
+zero-first : is_before zeros one_first ≡ true
+unfolding is_before
+zero-first = refl
+
+none-before-itself : is_before one_first one_first ≡ false
+unfolding is_before
+none-before-itself = refl
