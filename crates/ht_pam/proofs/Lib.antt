@@ -3,3 +3,4 @@ pub mod GridLemmas
 pub mod SameLemmas
 pub mod Tables
 pub mod Values
+pub mod ZigzagLemmas

@@ -88,7 +88,7 @@ pub levels_some : (l : Rungs) → IsLadder l → 0 < length (levels l)
 levels_some l ladder = (all_good l ladder).some
 
 -- and not more than its size
-length-lowest : (l : Rungs) (j : ℕ) → length (lowest l j) ≤ j
+pub length-lowest : (l : Rungs) (j : ℕ) → length (lowest l j) ≤ j
 length-lowest l zero = omega arith
 length-lowest l (suc j) = one_longer (bit_at l.mask j == 1) (lowest l j) (level l.size j) j (length-lowest l j)
   where

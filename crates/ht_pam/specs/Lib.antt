@@ -1,3 +1,4 @@
 pub mod Ladders
 pub mod Grids
 pub mod Shown
+pub mod Zigzags

@@ -15,8 +15,12 @@ mod axes;
 mod grid;
 mod ladder;
 mod point;
+mod steps;
+mod zigzag;
 
 pub use axes::Axes;
 pub use grid::Grid;
 pub use ladder::Ladder;
 pub use point::Point;
+pub use steps::Steps;
+pub use zigzag::Zigzag;

@@ -1,0 +1,16 @@
+-- The order in which the levels of a coordinate are tried.
+use Rattle.std.specs.Prelude.{ℕ, ℤ, pos, ◌-ℤ◌, ◌*ℤ◌, unsigned_abs, List, [], ◌∷◌, nat_lt, if◌then◌else◌}
+
+-- how far a level, times a diagonal, is from the target
+abbrev pub gap : ℤ → ℕ → ℤ → ℕ
+gap target d level = unsigned_abs (target -ℤ (pos d *ℤ level))
+
+-- a level before the first one that is as far or farther
+abbrev pub put : (ℤ → ℕ) → ℤ → List ℤ → List ℤ
+put cost x [] = x ∷ []
+put cost x (y ∷ ys) = if nat_lt (cost y) (cost x) then y ∷ put cost x ys else x ∷ y ∷ ys
+
+-- the same levels, the nearest first, and those that are as near in the order in which they stood
+abbrev pub nearest_first : (ℤ → ℕ) → List ℤ → List ℤ
+nearest_first cost [] = []
+nearest_first cost (x ∷ xs) = put cost x (nearest_first cost xs)

@@ -1,0 +1,48 @@
+-- Worked values.
+use Rattle.std.proofs.Common.{◌≡◌, pos, negsuc, [], ◌∷◌, List, refl}
+use Rattle.ht_pam.specs.Ladders.{Rungs}
+use Rattle.ht_pam.specs.Zigzags.{gap, nearest_first}
+use Rattle.ht_pam.specs.declared.axes.Axes.{Axes}
+use Rattle.ht_metric.specs.declared.place.Place.{Place}
+use Rattle.ht_metric.specs.declared.tap.Tap.{Tap}
+use Rattle.ht_metric.specs.declared.sample.Sample.{Sample}
+use Rattle.ht_metric.specs.Rows.{Row, no_tap}
+use Rattle.ht_metric.specs.Jobs.{JobView}
+use Rattle.ht_sphere.specs.Coordinates.{from_last}
+use Rattle.ht_sphere.specs.Tree.{Found, rounding, inside_of}
+
+abbrev two : Rungs
+two = record { size = 2; mask = 3 }
+
+abbrev nil : Rungs
+nil = record { size = 1; mask = 1 }
+
+abbrev here : Place
+here = record { frame = 0; symbol = 0; carrier = 0 }
+
+abbrev job : List Axes → List Row → JobView
+job grid system = record { number = 0; place = here; grid = grid; system = system }
+
+-- QPSK on two streams: d = 0 and 0, r_12 = (10, 0), y_1 = (10, -10), y_2 = (0, 0)
+abbrev qpsk : Axes
+qpsk = record { i = two; q = two }
+
+abbrev flat : List Row
+flat = record { diagonal = 0; right = record { re = pos 10; im = pos 0 } ∷ []; sample = record { re = pos 10; im = negsuc 9 } }
+    ∷ record { diagonal = 0; right = []; sample = record { re = pos 0; im = pos 0 } } ∷ []
+
+rounded : rounding (from_last flat (qpsk ∷ qpsk ∷ [])) [] 0 ≡ (let f : Found = (negsuc 0 ∷ negsuc 0 ∷ negsuc 0 ∷ negsuc 0 ∷ [], 400) in f)
+rounded = refl
+
+inside_flat : inside_of (job (qpsk ∷ qpsk ∷ []) flat) ≡ 27
+inside_flat = refl
+
+-- BPSK on four streams, with a triangle of zeros
+abbrev bpsk : Axes
+bpsk = record { i = two; q = nil }
+
+abbrev far : Row
+far = record { diagonal = 0; right = []; sample = record { re = negsuc 2147483647; im = pos 2147483647 } }
+
+inside_zeros : inside_of (job (bpsk ∷ bpsk ∷ bpsk ∷ bpsk ∷ []) (far ∷ far ∷ far ∷ far ∷ [])) ≡ 46
+inside_zeros = refl

@@ -1,0 +1,79 @@
+-- A system of complex rows as one of real coordinates: I and Q of each stream.
+use Rattle.std.specs.Prelude.{ℕ, zero, suc, length, drop, slice_index_or, ℤ, pos, ◌+ℤ◌, ◌-ℤ◌, ◌*ℤ◌, List, [], ◌∷◌, ◌++◌}
+use Rattle.ht_pam.specs.Ladders.{Rungs, levels}
+use Rattle.ht_pam.specs.Zigzags.{gap, nearest_first}
+use Rattle.ht_pam.specs.declared.axes.Axes.{Axes}
+use Rattle.ht_pam.specs.declared.point.Point.{Point}
+use Rattle.ht_metric.specs.declared.tap.Tap.{Tap}
+use Rattle.ht_metric.specs.Rows.{Row, no_tap}
+use Rattle.ht_metric.specs.Distance.{square}
+
+-- one coordinate: its ladder, its diagonal, its part of a sample, and the weights of the coordinates behind it
+pub record Real : Type 0 where
+  pub ladder : Rungs
+  pub diagonal : ℕ
+  pub sample : ℤ
+  pub weights : List ℤ
+
+-- the sum of the levels behind, each times its weight
+abbrev pub weighed : List ℤ → List ℤ → ℤ
+weighed [] xs = pos 0
+weighed (w ∷ ws) [] = pos 0
+weighed (w ∷ ws) (x ∷ xs) = (w *ℤ x) +ℤ weighed ws xs
+
+-- what the coordinates behind leave of the sample
+abbrev pub target : Real → List ℤ → ℤ
+target c chosen = c.sample -ℤ weighed c.weights chosen
+
+-- the allowed levels, the nearest to a target first
+abbrev pub order_at : Real → ℤ → List ℤ
+order_at c t = nearest_first (gap t c.diagonal) (levels c.ladder)
+
+-- the square of what a level leaves of a target
+abbrev pub cost_at : Real → ℤ → ℤ → ℕ
+cost_at c t x = square (t -ℤ (pos c.diagonal *ℤ x))
+
+-- the same behind chosen levels
+abbrev pub order : Real → List ℤ → List ℤ
+order c chosen = order_at c (target c chosen)
+
+abbrev pub cost : Real → List ℤ → ℤ → ℕ
+cost c chosen x = cost_at c (target c chosen) x
+
+-- the entries of a row for so many streams behind its own
+abbrev pub entries : ℕ → List Tap → List Tap
+entries zero right = []
+entries (suc behind) right = slice_index_or right 0 no_tap ∷ entries behind (drop 1 right)
+
+-- the weights of I and Q of each stream behind, for a coordinate I and for a coordinate Q
+abbrev pub weights_of_i : List Tap → List ℤ
+weights_of_i [] = []
+weights_of_i (r ∷ rs) = r.re ∷ (pos 0 -ℤ r.im) ∷ weights_of_i rs
+
+abbrev pub weights_of_q : List Tap → List ℤ
+weights_of_q [] = []
+weights_of_q (r ∷ rs) = r.im ∷ r.re ∷ weights_of_q rs
+
+-- the coordinates of a row with so many streams behind: Q of its own stream has no weight in I's
+abbrev pub in_phase : ℕ → Row → Axes → Real
+in_phase behind row a = record { ladder = a.i; diagonal = row.diagonal; sample = row.sample.re; weights = pos 0 ∷ weights_of_i (entries behind row.right) }
+
+abbrev pub quadrature : ℕ → Row → Axes → Real
+quadrature behind row a = record { ladder = a.q; diagonal = row.diagonal; sample = row.sample.im; weights = weights_of_q (entries behind row.right) }
+
+-- all coordinates, from Q of the last stream to I of the first one
+abbrev pub from_last : List Row → List Axes → List Real
+from_last [] grid = []
+from_last (row ∷ rows) [] = []
+from_last (row ∷ rows) (a ∷ grid) = from_last rows grid ++ quadrature (length rows) row a ∷ in_phase (length rows) row a ∷ []
+
+-- the levels of a vector: I_1, Q_1, I_2 and so on
+abbrev pub levels_of : List Point → List ℤ
+levels_of [] = []
+levels_of (p ∷ x) = p.i ∷ p.q ∷ levels_of x
+
+-- and back
+abbrev pub points_of : List ℤ → List Point
+points_of [] = []
+points_of (i ∷ []) = []
+points_of (i ∷ q ∷ rest) = record { i = i; q = q } ∷ points_of rest

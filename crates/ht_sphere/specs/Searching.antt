@@ -1,0 +1,34 @@
+-- What the search finds.
+use Rattle.std.specs.Prelude.{◌≡◌, ◌⊎◌, ℕ, ◌+◌, ℤ, int_lt, List, [], ◌∷◌, ◌++◌, Bool, true, false, ◌&&◌, ◌||◌, not, nat_lt}
+use Rattle.ht_sphere.specs.Coordinates.{Real, order, cost}
+use Rattle.ht_sphere.specs.Tree.{Found}
+
+-- the vectors that end in the chosen levels, for these coordinates in front
+module _ (leaves_under : List ℤ → ℕ → List Found) (c : Real) (chosen : List ℤ) (partial : ℕ) where
+  abbrev pub leaves_by : List ℤ → List Found
+  leaves_by [] = []
+  leaves_by (x ∷ xs) = leaves_under (x ∷ chosen) (partial + cost c chosen x) ++ leaves_by xs
+
+abbrev pub leaves : List Real → List ℤ → ℕ → List Found
+leaves [] chosen partial = (chosen, partial) ∷ []
+leaves (c ∷ cs) chosen partial = leaves_by (leaves cs) c chosen partial (order c chosen)
+
+-- one list of levels is before another
+abbrev pub before : List ℤ → List ℤ → Bool
+before left [] = false
+before [] (b ∷ right) = true
+before (a ∷ left) (b ∷ right) = int_lt a b || (not (int_lt b a) && before left right)
+
+-- nearer, or as near and before
+abbrev pub better : Found → Found → Bool
+better a b = nat_lt a.1 b.1 || (not (nat_lt b.1 a.1) && before a.0 b.0)
+
+abbrev pub Among : List Found → Found → Type 0
+Among [] v = ⊥
+Among (x ∷ xs) v = (v ≡ x) ⊎ Among xs v
+
+-- one of the two is the best of all
+pub record IsBestOf (old : Found) (all : List Found) (new : Found) : Type 0 where
+  pub one : (new ≡ old) ⊎ Among all new
+  pub old_is_not : better old new ≡ false
+  pub none_is : (v : Found) → Among all v → better v new ≡ false
