@@ -1,6 +1,7 @@
 -- Worked values.
 use Rattle.std.proofs.Common.{◌≡◌, pos, negsuc, [], ◌∷◌, true, false, refl}
 use Rattle.ht_pam.specs.Ladders.{level, levels, has}
+use Rattle.ht_pam.specs.Zigzags.{gap, nearest_first}
 
 -- 64-QAM, 16-QAM, QPSK and the Q of BPSK
 eight : levels (record { size = 8; mask = 255 }) ≡ negsuc 6 ∷ negsuc 4 ∷ negsuc 2 ∷ negsuc 0 ∷ pos 1 ∷ pos 3 ∷ pos 5 ∷ pos 7 ∷ []
@@ -37,3 +38,14 @@ allowed = refl
 
 lowest_of_eight : level 8 0 ≡ negsuc 6
 lowest_of_eight = refl
+
+-- 64-QAM with d = 10: target 24 is nearest to 30, then 10; at target 0 the lower of two comes first
+near_three : nearest_first (gap (pos 24) 10) (levels (record { size = 8; mask = 255 })) ≡ pos 3 ∷ pos 1 ∷ pos 5 ∷ negsuc 0 ∷ pos 7 ∷ negsuc 2 ∷ negsuc 4 ∷ negsuc 6 ∷ []
+near_three = refl
+
+lower_first : nearest_first (gap (pos 0) 10) (levels (record { size = 4; mask = 15 })) ≡ negsuc 0 ∷ pos 1 ∷ negsuc 2 ∷ pos 3 ∷ []
+lower_first = refl
+
+-- with no diagonal all levels are as near
+no_diagonal : nearest_first (gap (pos 9) 0) (levels (record { size = 8; mask = 129 })) ≡ negsuc 6 ∷ pos 7 ∷ []
+no_diagonal = refl

@@ -1,13 +1,14 @@
 -- Levels, nearest first.
 use Rattle.std.proofs.Common.{◌≡◌, ℕ, zero, suc, ◌+◌, ◌<◌, ◌≤◌, ℤ, pos, List, [], ◌∷◌, ◌++◌, length, get_or, take, drop, Bool, true, false, unsigned_abs, arith, add-one, ap, sym, ◌∙◌, refl, subst, inl, inr}
-use Rattle.std.specs.Prelude.{⊤, nat_lt, ◌==◌, if◌then◌else◌}
+use Rattle.std.specs.Prelude.{nat_lt, ◌==◌, if◌then◌else◌}
 use Rattle.std.specs.Int.{bit_at}
-use Rattle.std.specs.List.{All, filter, remove}
-use Rattle.std.proofs.lemmas.Bool.{cond-true, cond-false, cases_lt, cases_Bool}
+use Rattle.std.specs.Ordering.{int_eq}
+use Rattle.std.specs.List.{All, remove}
+use Rattle.std.proofs.lemmas.Bool.{cond-true, cond-false, cases_lt}
 use Rattle.std.proofs.lemmas.Bool.Decides.{nat_tests}
 use Rattle.std.proofs.lemmas.List.Elements.{All-filter, All-from_recursion, All-append, All-take, All-drop}
 use Rattle.ht_pam.specs.Ladders.{Rungs, IsLadder, level, lowest, levels, has}
-use Rattle.ht_pam.specs.Zigzags.{gap, put, nearest_first}
+use Rattle.ht_pam.specs.Zigzags.{gap, put, nearest_first, From, Ascending, times}
 use Rattle.ht_pam.proofs.Tables.{every, levels-filter, length-lowest}
 
 -- every level of a ladder is from -7 to 7
@@ -26,7 +27,7 @@ pub lowest_taken : (size mask : ℕ) (now : Rungs) (j : ℕ) (items next : List 
 lowest_taken size mask now j items next y allowed view before is allows more same =
     subst (λ (r : Rungs). items ≡ lowest r j → next ≡ lowest r (j + 1)) view
     (λ e. more ∙ ap (λ (x : ℤ). items ++ x ∷ []) same ∙ ap (λ (xs : List ℤ). xs ++ level size j ∷ []) e
-        ∙ sym (cond-true (bit_at mask j == 1) (lowest (record { size = size; mask = mask }) j ++ level size j ∷ []) (lowest (record { size = size; mask = mask }) j) (sym is ∙ allows)) ∙ sym (lowest_step (record { size = size; mask = mask }) j))
+    ∙ sym (cond-true (bit_at mask j == 1) (lowest (record { size = size; mask = mask }) j ++ level size j ∷ []) (lowest (record { size = size; mask = mask }) j) (sym is ∙ allows)) ∙ sym (lowest_step (record { size = size; mask = mask }) j))
     before
 
 pub lowest_left : (size mask : ℕ) (now : Rungs) (j : ℕ) (items : List ℤ) (allowed : Bool) → record { size = size; mask = mask } ≡ now
@@ -52,16 +53,6 @@ pub lowest_room : (size mask : ℕ) (now : Rungs) (j : ℕ) (items : List ℤ) �
 lowest_room size mask now j items ladder below e =
     let few = size_few (record { size = size; mask = mask }) ladder in
     omega (arith, length-lowest now j, ap length e)
-
--- every level costs at least so much
-abbrev pub From : (ℤ → ℕ) → ℕ → List ℤ → Type 0
-From cost n [] = ⊤
-From cost n (x ∷ xs) = (n ≤ cost x) × From cost n xs
-
--- each level costs at most what the later ones do
-abbrev pub Ascending : (ℤ → ℕ) → List ℤ → Type 0
-Ascending cost [] = ⊤
-Ascending cost (x ∷ xs) = From cost (cost x) xs × Ascending cost xs
 
 module _ (cost : ℤ → ℕ) where
   pub put_behind : (x y : ℤ) (ys : List ℤ) → cost y < cost x → put cost x (y ∷ ys) ≡ y ∷ put cost x ys
@@ -174,8 +165,8 @@ pub next_is : (now items shown rest : List ℤ) (t u : ℤ) (d i : ℕ) (x y : �
 next_is now items shown rest t u d i x y view same list within before least value shows left =
     let first = taken (gap u d) shown i within before least in
     let moved : nearest_first (gap t d) items ≡ get_or items i (pos 0) ∷ nearest_first (gap t d) (remove items i) =
-        subst (λ (zs : List ℤ). nearest_first (gap t d) zs ≡ get_or zs i (pos 0) ∷ nearest_first (gap t d) (remove zs i)) list
-        (subst (λ (v : ℤ). nearest_first (gap v d) shown ≡ get_or shown i (pos 0) ∷ nearest_first (gap v d) (remove shown i)) same first) in
+    subst (λ (zs : List ℤ). nearest_first (gap t d) zs ≡ get_or zs i (pos 0) ∷ nearest_first (gap t d) (remove zs i)) list
+    (subst (λ (v : ℤ). nearest_first (gap v d) shown ≡ get_or shown i (pos 0) ∷ nearest_first (gap v d) (remove shown i)) same first) in
     let below : i < length items = subst (λ (zs : List ℤ). i < length zs) list within in
     let head : get_or items i (pos 0) ≡ y = get_or_same items i (pos 0) x below ∙ sym value ∙ sym shows in
     sym view ∙ moved ∙ ap (λ (z : ℤ). z ∷ nearest_first (gap t d) (remove items i)) head ∙ ap (λ (zs : List ℤ). y ∷ nearest_first (gap t d) zs) (sym left)
@@ -203,6 +194,23 @@ pub first_is : (now items shown : List ℤ) (t u : ℤ) (d i : ℕ) → nearest_
 first_is now items shown t u d i view same list within before least =
     let first = taken (gap u d) shown i within before least in
     let moved : nearest_first (gap t d) items ≡ get_or shown i (pos 0) ∷ nearest_first (gap t d) (remove shown i) =
-        subst (λ (zs : List ℤ). nearest_first (gap t d) zs ≡ get_or shown i (pos 0) ∷ nearest_first (gap t d) (remove shown i)) list
-        (subst (λ (v : ℤ). nearest_first (gap v d) shown ≡ get_or shown i (pos 0) ∷ nearest_first (gap v d) (remove shown i)) same first) in
+    subst (λ (zs : List ℤ). nearest_first (gap t d) zs ≡ get_or shown i (pos 0) ∷ nearest_first (gap t d) (remove shown i)) list
+    (subst (λ (v : ℤ). nearest_first (gap v d) shown ≡ get_or shown i (pos 0) ∷ nearest_first (gap v d) (remove shown i)) same first) in
     sym (ap (λ (zs : List ℤ). get_or zs 0 (pos 0)) (sym view ∙ moved))
+
+module _ (cost : ℤ → ℕ) (v : ℤ) where
+  exchanged : (m n t : ℕ) → n + (m + t) ≡ m + (n + t)
+  exchanged m n t = omega arith
+
+  times-put : (x : ℤ) (ys : List ℤ) → times v (put cost x ys) ≡ times v (x ∷ ys)
+  times-put x [] = refl
+  times-put x (y ∷ ys) = elim (cases_lt (cost y) (cost x)) [
+    | inl less ↦ ap (times v) (put_behind cost x y ys less) ∙ ap (λ (n : ℕ). (if int_eq y v then 1 else 0) + n) (times-put x ys)
+        ∙ exchanged (if int_eq x v then 1 else 0) (if int_eq y v then 1 else 0) (times v ys)
+    | inr more ↦ ap (times v) (put_before cost x y ys more)
+  ]
+
+  -- the same levels, each as often
+  pub same_times : (xs : List ℤ) → times v (nearest_first cost xs) ≡ times v xs
+  same_times [] = refl
+  same_times (x ∷ xs) = times-put x (nearest_first cost xs) ∙ ap (λ (n : ℕ). (if int_eq x v then 1 else 0) + n) (same_times xs)

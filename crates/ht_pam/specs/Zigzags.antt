@@ -1,5 +1,6 @@
 -- The order in which the levels of a coordinate are tried.
-use Rattle.std.specs.Prelude.{ℕ, ℤ, pos, ◌-ℤ◌, ◌*ℤ◌, unsigned_abs, List, [], ◌∷◌, nat_lt, if◌then◌else◌}
+use Rattle.std.specs.Prelude.{⊤, ℕ, ◌+◌, ◌≤◌, ℤ, pos, ◌-ℤ◌, ◌*ℤ◌, unsigned_abs, List, [], ◌∷◌, nat_lt, if◌then◌else◌}
+use Rattle.std.specs.Ordering.{int_eq}
 
 -- how far a level, times a diagonal, is from the target
 abbrev pub gap : ℤ → ℕ → ℤ → ℕ
@@ -14,3 +15,18 @@ put cost x (y ∷ ys) = if nat_lt (cost y) (cost x) then y ∷ put cost x ys els
 abbrev pub nearest_first : (ℤ → ℕ) → List ℤ → List ℤ
 nearest_first cost [] = []
 nearest_first cost (x ∷ xs) = put cost x (nearest_first cost xs)
+
+-- each level costs at least so much
+abbrev pub From : (ℤ → ℕ) → ℕ → List ℤ → Type 0
+From cost n [] = ⊤
+From cost n (x ∷ xs) = (n ≤ cost x) × From cost n xs
+
+-- each level costs at most what the later ones do
+abbrev pub Ascending : (ℤ → ℕ) → List ℤ → Type 0
+Ascending cost [] = ⊤
+Ascending cost (x ∷ xs) = From cost (cost x) xs × Ascending cost xs
+
+-- how often a level is there
+abbrev pub times : ℤ → List ℤ → ℕ
+times x [] = 0
+times x (y ∷ ys) = (if int_eq y x then 1 else 0) + times x ys

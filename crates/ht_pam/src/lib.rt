@@ -9,11 +9,15 @@
 //! allows all eight, and `of(8, 129)` the outermost ones, -7 and 7. The ladders of I and Q are the [`Axes`] of
 //! one spatial stream, and a [`Grid`] has those of one to four streams. A pilot has a grid of one point on
 //! each stream: `of(2, 1)` for I allows -1 alone.
+//!
+//! A detector tries the levels of a coordinate nearest first. A [`Zigzag`] gives them so, and counts its
+//! [`Steps`]: for target 0 and d = 10 in 16-QAM -1, 1, -3 and 3.
 #![tactic(auto)]
 
 mod axes;
 mod grid;
 mod ladder;
+pub mod laws;
 mod point;
 mod steps;
 mod zigzag;

@@ -117,3 +117,40 @@ fn stretched(d: u32, level: i8) -> i64
 {
     i64::from(d) * i64::from(level)
 }
+
+#[cfg(test)]
+mod tests {
+    use super::Zigzag;
+    use crate::ladder::Ladder;
+    use crate::steps::Steps;
+    use std::marker::Brand;
+    use std::process::Abort;
+    use std::sync::ledger::{Blank, Ledger};
+
+    // The levels come in this order, and then none.
+    fn expect<L: Ledger>(rt: &impl Abort, zigzag: Zigzag, levels: &[i8], blank: Blank)
+        requires name { blank.name ≡ L.name }
+        requires parts { blank.parts ≡ L.parts }
+        requires some { 0 < blank.parts }
+    {
+        let mut steps = Steps::<L>::new(blank);
+        let mut zigzag = zigzag;
+        for level in levels {
+            assert_eq!(rt; zigzag.next(&mut steps), Some(*level));
+        }
+        assert_eq!(rt; zigzag.next(&mut steps), None);
+    }
+
+    #[test]
+    fn ties(rt: HostRuntime) {
+        let all = Ladder::of(4, 15);
+        expect::<Brand>(&rt, Zigzag::new(all, 0, 10), &[-1, 1, -3, 3], Blank::new(1));
+        expect::<Brand>(
+            &rt,
+            Zigzag::new(all, 21, 10),
+            &[3, 1, -1, -3],
+            Blank::new(1),
+        );
+        expect::<Brand>(&rt, Zigzag::new(all, 7, 0), &[-3, -1, 1, 3], Blank::new(1));
+    }
+}

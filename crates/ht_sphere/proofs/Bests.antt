@@ -7,8 +7,8 @@ use Rattle.std.proofs.lemmas.List.{drop-set, drop-drop}
 use Rattle.std.proofs.Math.Nat.{mul-le-mul}
 use Rattle.ht_pam.specs.Ladders.{levels, IsLadder}
 use Rattle.ht_pam.proofs.Tables.{levels_some}
-use Rattle.ht_pam.specs.Zigzags.{gap, nearest_first}
-use Rattle.ht_pam.proofs.ZigzagLemmas.{From, Ascending, ascending, length-nearest_first}
+use Rattle.ht_pam.specs.Zigzags.{gap, From, Ascending}
+use Rattle.ht_pam.proofs.ZigzagLemmas.{ascending, length-nearest_first}
 use Rattle.ht_sphere.specs.Coordinates.{Real, cost, order, cost_at, order_at}
 use Rattle.ht_sphere.specs.Tree.{Found, one}
 use Rattle.ht_sphere.specs.Searching.{leaves, leaves_by, before, better, Among, IsBestOf}

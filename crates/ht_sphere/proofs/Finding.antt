@@ -5,12 +5,12 @@ use Rattle.std.specs.List.{All}
 use Rattle.std.proofs.lemmas.List.{drop_all}
 use Rattle.std.proofs.lemmas.List.Elements.{All-head, All-tail}
 use Rattle.std.proofs.lemmas.Bool.Decides.{nat_tests}
-use Rattle.ht_pam.specs.Grids.{AreLadders, IsGrid}
+use Rattle.ht_pam.specs.Grids.{AreLadders}
 use Rattle.ht_pam.specs.declared.axes.Axes.{Axes}
 use Rattle.ht_pam.specs.declared.point.Point.{Point}
 use Rattle.ht_metric.specs.Rows.{Row}
 use Rattle.ht_metric.specs.Distance.{distance_of}
-use Rattle.ht_metric.specs.Vectors.{before, is_in}
+use Rattle.ht_metric.specs.Vectors.{is_in}
 use Rattle.ht_metric.specs.Jobs.{JobView, IsJob, IsNear}
 use Rattle.ht_sphere.specs.Coordinates.{Real, from_last, levels_of, points_of, quadrature, in_phase}
 use Rattle.ht_sphere.specs.Tree.{Found, rounding}
@@ -72,11 +72,10 @@ pub answered : (job : JobView) (items : List Real) (levels : List ℤ) (d : ℕ)
 answered job items levels d vector is all best points =
     let v : Found = (levels, d) in
     let mine : IsBestOf (rounding (from_last job.system job.grid) [] 0) (leaves (from_last job.system job.grid) [] 0) v =
-        subst (λ (l : List Real). IsBestOf (rounding l [] 0) (leaves l [] 0) v) all best in
+    subst (λ (l : List Real). IsBestOf (rounding l [] 0) (leaves l [] 0) v) all best in
     let lead = found job v is.streams mine (good_rows job.system job.grid is.grid.ladders) in
     let x = lead.vector in
-    let same : vector ≡ x = points ∙ ap (λ (u : Found). points_of u.0) lead.is ∙ points_back x in
-    (
+    let same : vector ≡ x = points ∙ ap (λ (u : Found). points_of u.0) lead.is ∙ points_back x in (
       subst (λ (y : List Point). IsNear job y) (sym same) (is_near job v is.streams mine x lead.within lead.is),
       ap (λ (u : Found). u.1) lead.is ∙ ap (λ (y : List Point). distance_of job.system y) (sym same),
     )

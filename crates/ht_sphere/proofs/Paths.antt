@@ -1,11 +1,11 @@
 -- Ways down the tree.
-use Rattle.std.proofs.Common.{◌≡◌, ◌⊎◌, ℕ, ◌+◌, ◌<◌, ◌≤◌, ℤ, pos, List, [], ◌∷◌, ◌++◌, length, get_or, Bool, true, false, arith, inl, inr, refl, ap, sym, ◌∙◌, subst}
+use Rattle.std.proofs.Common.{◌≡◌, ℕ, ◌+◌, ◌<◌, ℤ, pos, List, [], ◌∷◌, ◌++◌, length, get_or, true, false, arith, inl, inr, refl, sym, subst}
 use Rattle.std.specs.List.{list_any}
 use Rattle.std.specs.Ordering.{int_eq}
 use Rattle.std.proofs.lemmas.Bool.{cases_lt, or_cases, or_left, or_right, both_ways}
 use Rattle.std.proofs.lemmas.Bool.Decides.{Decides-int_eq}
 use Rattle.ht_nearest.proofs.Bests as nearest
-use Rattle.ht_pam.specs.Ladders.{Rungs, IsLadder, levels, has}
+use Rattle.ht_pam.specs.Ladders.{IsLadder, levels, has}
 use Rattle.ht_pam.specs.Zigzags.{gap, put, nearest_first}
 use Rattle.ht_pam.proofs.ZigzagLemmas.{put_behind, put_before}
 use Rattle.ht_sphere.specs.Coordinates.{Real, target, cost, order}

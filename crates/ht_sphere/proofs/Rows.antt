@@ -1,6 +1,6 @@
 -- The coordinates of rows, and the vectors to which ways down lead.
 use Rattle.std.proofs.Math.IntN.{neg_ℤ, neg_ℤ-neg_ℤ, zero-*ℤ}
-use Rattle.std.proofs.Common.{◌≡◌, ℕ, zero, suc, negsuc, ◌*◌, ◌+◌, ℤ, pos, ◌+ℤ◌, ◌-ℤ◌, ◌*ℤ◌, List, [], ◌∷◌, ◌++◌, length, Bool, true, false, ◌&&◌, ◌||◌, not, arith, refl, ap, sym, ◌∙◌, subst}
+use Rattle.std.proofs.Common.{◌≡◌, ℕ, zero, suc, negsuc, ◌*◌, ◌+◌, ℤ, pos, ◌+ℤ◌, ◌-ℤ◌, ◌*ℤ◌, List, [], ◌∷◌, length, Bool, true, false, ◌&&◌, ◌||◌, not, arith, refl, ap, sym, ◌∙◌, subst}
 use Rattle.std.specs.Prelude.{int_lt}
 use Rattle.std.proofs.lemmas.Int.{ints}
 use Rattle.std.proofs.lemmas.Bool.{and_parts, and_from, both_ways}
@@ -140,9 +140,11 @@ way_to (row ∷ rows) (a ∷ grid) (p ∷ x) e h =
     let long : length x ≡ n = is_in-length grid x both.1 ∙ (omega arith) in
     let sum = both_costs row a p x n (distance_of rows x) long in
     let v : Found = (levels_of (p ∷ x), distance_of (row ∷ rows) (p ∷ x)) in
-    path_joined (from_last rows grid) two [] 0 (levels_of x, distance_of rows x) v rest
-    (p.q, has_tried (quadrature n row a) (levels_of x) p.q mine.1,
-      (p.i, has_tried (in_phase n row a) (p.q ∷ levels_of x) p.i mine.0, sym (ap (λ (m : ℕ). let f : Found = (p.i ∷ p.q ∷ levels_of x, m) in f) sum)))
+    path_joined (from_last rows grid) two [] 0 (levels_of x, distance_of rows x) v rest (
+      p.q,
+      has_tried (quadrature n row a) (levels_of x) p.q mine.1,
+      (p.i, has_tried (in_phase n row a) (p.q ∷ levels_of x) p.i mine.0, sym (ap (λ (m : ℕ). let f : Found = (p.i ∷ p.q ∷ levels_of x, m) in f) sum)),
+    )
 
 -- the order of levels is the order of vectors
 mixed : (p q r s t : Bool) → (p || (not q && (r || (not s && t)))) ≡ ((p || (not q && r)) || (not (q || (not p && s)) && t))

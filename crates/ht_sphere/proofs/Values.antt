@@ -1,12 +1,9 @@
 -- Worked values.
 use Rattle.std.proofs.Common.{◌≡◌, pos, negsuc, [], ◌∷◌, List, refl}
 use Rattle.ht_pam.specs.Ladders.{Rungs}
-use Rattle.ht_pam.specs.Zigzags.{gap, nearest_first}
 use Rattle.ht_pam.specs.declared.axes.Axes.{Axes}
 use Rattle.ht_metric.specs.declared.place.Place.{Place}
-use Rattle.ht_metric.specs.declared.tap.Tap.{Tap}
-use Rattle.ht_metric.specs.declared.sample.Sample.{Sample}
-use Rattle.ht_metric.specs.Rows.{Row, no_tap}
+use Rattle.ht_metric.specs.Rows.{Row}
 use Rattle.ht_metric.specs.Jobs.{JobView}
 use Rattle.ht_sphere.specs.Coordinates.{from_last}
 use Rattle.ht_sphere.specs.Tree.{Found, rounding, inside_of}

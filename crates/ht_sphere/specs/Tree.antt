@@ -1,5 +1,5 @@
 -- The tree of all suffixes of the coordinates.
-use Rattle.std.specs.Prelude.{ℕ, ◌+◌, ℤ, pos, List, [], ◌∷◌, ◌++◌, Bool, true, false, nat_lt, slice_index_or}
+use Rattle.std.specs.Prelude.{ℕ, ◌+◌, ℤ, pos, List, [], ◌∷◌, Bool, true, false, nat_lt, slice_index_or}
 use Rattle.ht_metric.specs.Jobs.{JobView}
 use Rattle.ht_sphere.specs.Coordinates.{Real, order, cost, from_last}
 

@@ -20,5 +20,9 @@ pub(crate) fn round(coordinates: &[Coordinate], levels: &mut [i8], partial: u128
     let target = first.target(&levels[at + 1..]);
     let level = first.walk(target).first();
     levels[at] = level;
-    round(rest, levels, partial + u128::from(first.cost(target, level)))
+    round(
+        rest,
+        levels,
+        partial + u128::from(first.cost(target, level)),
+    )
 }

@@ -2,7 +2,7 @@
 ghost use Rattle.std.specs.Prelude.{◌≡◌, ◌<◌, ◌≤◌, ◌+◌, ◌*◌, length, [], ◌∷◌, unsigned_abs};
 
 use crate::nearest;
-use ht_metric::{plain_nearest, Hit, Job, Place, Sample, System, Tap, Triangle};
+use ht_metric::{Hit, Job, Place, Sample, System, Tap, Triangle, plain_nearest};
 use ht_pam::{Grid, Ladder, Point, Steps};
 use std::marker::Brand;
 use std::process::Abort;
@@ -85,9 +85,19 @@ fn ties(rt: HostRuntime) {
     let low = Point { i: -1, q: -1 };
     let tap = Tap { re: 10, im: 0 };
     let y = [Sample { re: -20, im: 0 }, Sample { re: 1, im: 0 }];
-    expect(&rt, &pair([10, 1], tap, y, grid), &[low, Point { i: -1, q: 1 }], 5);
+    expect(
+        &rt,
+        &pair([10, 1], tap, y, grid),
+        &[low, Point { i: -1, q: 1 }],
+        5,
+    );
     let y = [Sample { re: 10, im: -10 }, NO_SAMPLE];
-    expect(&rt, &pair([0, 0], tap, y, grid), &[low, Point { i: 1, q: -1 }], 0);
+    expect(
+        &rt,
+        &pair([0, 0], tap, y, grid),
+        &[low, Point { i: 1, q: -1 }],
+        0,
+    );
 }
 
 #[test]
@@ -116,7 +126,10 @@ impl Numbers {
         requires { 0 < bound }
         ensures { result < bound }
     {
-        self.state = self.state.wrapping_mul(6364136223846793005).wrapping_add(1442695040888963407);
+        self.state = self
+            .state
+            .wrapping_mul(6364136223846793005)
+            .wrapping_add(1442695040888963407);
         (self.state >> 33) % bound
     }
 

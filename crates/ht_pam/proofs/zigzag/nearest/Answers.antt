@@ -1,4 +1,4 @@
-use Rattle.std.proofs.Common.{rules, ◌≡◌, ◌∙◌, ap, ℤ, w8, SFits, to_z-of_z, ℕ, ◌+◌, ◌<◌, ◌≤◌, pos, get_or, w64, to_z, of_z, arith}
+use Rattle.std.proofs.Common.{rules, ◌≡◌, ◌∙◌, ap, ℤ, w8, SFits, to_z-of_z, ℕ, ◌+◌, pos, get_or, w64, to_z, of_z}
 use Rattle.ht_pam.specs.Zigzags.{gap}
 use Rattle.ht_pam.proofs.ZigzagLemmas.{IsBestOf, best_taken, best_left}
 use Rattle.ht_pam.proofs.zigzag.nearest.Goals.{then-next-least, else-next-least}
@@ -8,7 +8,7 @@ pub loop-k-preserved : goal.loop-k-preserved
 loop-k-preserved c =
     let cost : ℕ → ℕ = λ k. gap (to_z w64 (of_z w64 c.args.target)) c.args.d (get_or c.args.levels.now k (pos 0)) in
     let was : IsBestOf cost c.loop-k.k c.loop-k.best c.loop-k.least =
-        record { within = c.loop-k.invariant.within; is = c.loop-k.invariant.is; before = c.loop-k.invariant.before; least = c.loop-k.invariant.least } in
+    record { within = c.loop-k.invariant.within; is = c.loop-k.invariant.is; before = c.loop-k.invariant.before; least = c.loop-k.invariant.least } in
     let x = get_or c.args.levels.now c.loop-k.k (pos 0) in
     let small : SFits w8 x = search rules in
     let shows : to_z w8 (of_z w8 x) ≡ x = to_z-of_z small in

@@ -1,4 +1,4 @@
-use Rattle.std.proofs.Common.{◌≡◌, ◌<◌, ◌≤◌, ℕ, pos, length, get_or}
+use Rattle.std.proofs.Common.{◌≡◌, ◌<◌, ◌≤◌, ℕ, pos, get_or}
 use Rattle.ht_pam.specs.Zigzags.{gap}
 use Rattle.ht_pam.proofs.zigzag.nearest.Given as goal
 

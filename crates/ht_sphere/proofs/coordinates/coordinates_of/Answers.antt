@@ -1,4 +1,4 @@
-use Rattle.std.proofs.Common.{◌≡◌, [], ◌∷◌, ◌*◌, ◌-◌, ◌+◌, ◌<◌, length, arith, ap, ◌∙◌, length-append}
+use Rattle.std.proofs.Common.{◌≡◌, [], ◌∷◌, ◌+◌, ◌<◌, length, arith, ap, ◌∙◌, length-append}
 use Rattle.ht_sphere.proofs.Making.{count_of, stream_more}
 use Rattle.ht_sphere.proofs.coordinates.coordinates_of.Goals as goal
 

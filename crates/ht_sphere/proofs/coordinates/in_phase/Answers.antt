@@ -14,8 +14,11 @@ pub push-requires-in-loop-l-2-clause-room : goal.push-requires-in-loop-l-2-claus
 push-requires-in-loop-l-2-clause-room c =
     let m = c.loop-l.l - (c.args.k + 1) in
     let few : m ≤ 2 = omega arith in
-    omega (arith, longer c.loop-l.coordinate c.push-in-loop-l.new.self (to_z w32 (of_z w32 c.from.result)) c.push-in-loop-l.ensures,
-    room_i c.loop-l.coordinate m (get_or c.args.system.now (c.args.k - 1) no_row) (get_or c.args.grid.now (c.args.k - 1) no_axes) c.loop-l.invariant few)
+    omega (
+      arith,
+      longer c.loop-l.coordinate c.push-in-loop-l.new.self (to_z w32 (of_z w32 c.from.result)) c.push-in-loop-l.ensures,
+      room_i c.loop-l.coordinate m (get_or c.args.system.now (c.args.k - 1) no_row) (get_or c.args.grid.now (c.args.k - 1) no_axes) c.loop-l.invariant few,
+    )
 
 pub loop-l-preserved : goal.loop-l-preserved
 loop-l-preserved c =

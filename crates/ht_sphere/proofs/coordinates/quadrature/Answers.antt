@@ -1,4 +1,4 @@
-use Rattle.std.proofs.Common.{rules, ℕ, ◌≡◌, ◌∙◌, ◌+◌, ◌-◌, ◌≤◌, suc, pos, ◌-ℤ◌, get_or, arith, ap, w16, w32, SFits, to_z, of_z, to_z-of_z, ℤ}
+use Rattle.std.proofs.Common.{rules, ℕ, ◌≡◌, ◌∙◌, ◌+◌, ◌-◌, ◌≤◌, suc, get_or, arith, ap, w16, w32, SFits, to_z, of_z, to_z-of_z}
 use Rattle.ht_pam.specs.Grids.{no_axes}
 use Rattle.ht_metric.specs.Rows.{no_row, no_tap}
 use Rattle.ht_sphere.proofs.Making.{room_q, longer, q_more}
@@ -14,8 +14,11 @@ pub push-requires-in-loop-l-clause-room : goal.push-requires-in-loop-l-clause-ro
 push-requires-in-loop-l-clause-room c =
     let m = c.loop-l.l - (c.args.k + 1) in
     let few : m ≤ 2 = omega arith in
-    omega (arith, longer c.loop-l.coordinate c.push.new.self (to_z w32 (of_z w32 c.from.result)) c.push.ensures,
-    room_q c.loop-l.coordinate m (get_or c.args.system.now (c.args.k - 1) no_row) (get_or c.args.grid.now (c.args.k - 1) no_axes) c.loop-l.invariant few)
+    omega (
+      arith,
+      longer c.loop-l.coordinate c.push.new.self (to_z w32 (of_z w32 c.from.result)) c.push.ensures,
+      room_q c.loop-l.coordinate m (get_or c.args.system.now (c.args.k - 1) no_row) (get_or c.args.grid.now (c.args.k - 1) no_axes) c.loop-l.invariant few,
+    )
 
 pub loop-l-preserved : goal.loop-l-preserved
 loop-l-preserved c =

@@ -1,4 +1,4 @@
-use Rattle.std.proofs.Common.{rules, ◌≡◌, ◌≤◌, ◌+◌, ◌*◌, ℕ, ℤ, List, [], length, drop, arith, ap, sym, ◌∙◌, subst}
+use Rattle.std.proofs.Common.{rules, ◌≡◌, ◌≤◌, ◌+◌, ◌*◌, ℤ, List, [], length, drop, arith, ap, sym, ◌∙◌, subst}
 use Rattle.ht_sphere.specs.Tree.{Found, rounding, inside}
 use Rattle.ht_sphere.specs.Searching.{leaves, IsBestOf}
 use Rattle.ht_sphere.proofs.Finding.{none_behind}

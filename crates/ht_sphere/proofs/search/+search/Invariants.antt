@@ -1,7 +1,6 @@
-use Rattle.std.proofs.Common.{length, ◌≡◌, ◌+◌, ◌*◌, ◌≤◌, ℤ, ℕ, List, drop, unsigned_abs, to_z, of_z, w64}
+use Rattle.std.proofs.Common.{length, ◌≡◌, ◌+◌, ◌*◌, ◌≤◌, ℕ, drop, unsigned_abs}
 use Rattle.std.specs.List.{All}
-use Rattle.ht_pam.proofs.ZigzagLemmas.{Ascending}
-use Rattle.ht_sphere.specs.Coordinates.{cost_at}
+use Rattle.ht_pam.specs.Zigzags.{Ascending}
 use Rattle.ht_sphere.specs.Tree.{Found, inside, inside_by}
 use Rattle.ht_sphere.specs.Searching.{leaves, leaves_by, IsBestOf}
 use Rattle.ht_sphere.specs.Coordinates.{cost}
@@ -20,10 +19,10 @@ invariant-loop-level g l = record {
   less : l.distance ≤ l.fn.distance;
   sorted : Ascending (cost l.first (drop (l.at + 1) l.fn.levels)) l.walk;
   best : (b : Found) → IsBestOf (l.best, l.distance) (leaves_by (leaves l.rest) l.first (drop (l.at + 1) l.fn.levels) l.fn.partial l.walk) b
-    → IsBestOf (l.fn.best, l.fn.distance) (leaves l.fn.coordinates (drop (length l.fn.coordinates) l.fn.levels) l.fn.partial) b;
+      → IsBestOf (l.fn.best, l.fn.distance) (leaves l.fn.coordinates (drop (length l.fn.coordinates) l.fn.levels) l.fn.partial) b;
   steps : (rho : ℕ) → l.fn.partial ≤ rho → l.fn.distance ≤ rho
-    → l.steps + 2 + 2 * inside_by (inside rho l.rest) l.first (drop (l.at + 1) l.fn.levels) l.fn.partial l.walk
-    ≤ l.fn.steps + 2 * inside rho l.fn.coordinates (drop (length l.fn.coordinates) l.fn.levels) l.fn.partial;
+      → l.steps + 2 + 2 * inside_by (inside rho l.rest) l.first (drop (l.at + 1) l.fn.levels) l.fn.partial l.walk
+      ≤ l.fn.steps + 2 * inside rho l.fn.coordinates (drop (length l.fn.coordinates) l.fn.levels) l.fn.partial;
 }
 
 abbrev pub decreases-loop-level : goal.decreases-loop-level

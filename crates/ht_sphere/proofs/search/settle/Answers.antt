@@ -1,4 +1,4 @@
-use Rattle.std.proofs.Common.{◌≡◌, ap, sym, ◌∙◌, ℕ, List, ℤ}
+use Rattle.std.proofs.Common.{ap, sym, ◌∙◌, List, ℤ}
 use Rattle.ht_sphere.proofs.Bests.{best-taken, best-left}
 use Rattle.ht_sphere.proofs.search.settle.Goals as goal
 

@@ -1,4 +1,4 @@
-use Rattle.std.proofs.Common.{rules, ◌≡◌, ◌+◌, ◌*◌, ◌∷◌, [], arith, ap, length, length-append, ◌∙◌, get_or, pos, w8, SFits, to_z, of_z, to_z-of_z}
+use Rattle.std.proofs.Common.{rules, ◌+◌, ◌*◌, ◌∷◌, [], arith, ap, length, length-append, get_or, pos, w8, SFits, to_z, of_z, to_z-of_z}
 use Rattle.ht_pam.specs.declared.point.Point.{Point}
 use Rattle.ht_metric.proofs.Order.{same_points}
 use Rattle.ht_sphere.specs.Coordinates.{points_of}

@@ -9,10 +9,10 @@ push-requires c = (omega arith, lowest_room c.self.inside.size c.self.inside.mas
 pub loop-k-preserved : goal.loop-k-preserved
 loop-k-preserved c = elim c.if-allows.branch [
   | then-allows w ↦
-    let small : SFits w8 w.level_at.result = search rules in
-    let shows : to_z w8 (of_z w8 w.level_at.result) ≡ w.level_at.result = to_z-of_z small in
-    rw w.levels-is (lowest_taken c.self.inside.size c.self.inside.mask c.args.self.now c.loop-k.k c.loop-k.levels.items w.push.new.self.items (to_z w8 (of_z w8 w.level_at.result)) c.allows.result
-    c.self.view_is c.loop-k.invariant c.allows.ensures w.if-allows.true w.push.ensures.items (shows ∙ w.level_at.ensures))
+      let small : SFits w8 w.level_at.result = search rules in
+      let shows : to_z w8 (of_z w8 w.level_at.result) ≡ w.level_at.result = to_z-of_z small in
+      rw w.levels-is (lowest_taken c.self.inside.size c.self.inside.mask c.args.self.now c.loop-k.k c.loop-k.levels.items w.push.new.self.items (to_z w8 (of_z w8 w.level_at.result)) c.allows.result
+      c.self.view_is c.loop-k.invariant c.allows.ensures w.if-allows.true w.push.ensures.items (shows ∙ w.level_at.ensures))
   | else-allows w ↦ rw w.levels-is (lowest_left c.self.inside.size c.self.inside.mask c.args.self.now c.loop-k.k c.loop-k.levels.items c.allows.result
       c.self.view_is c.loop-k.invariant c.allows.ensures w.if-allows.false)
 ]

@@ -1,5 +1,5 @@
 use Rattle.std.proofs.Common.{rules, ◌≡◌, ◌∙◌, pos, get_or, w8, w64, SFits, to_z, of_z, to_z-of_z}
-use Rattle.ht_pam.proofs.ZigzagLemmas.{some_left, first_is}
+use Rattle.ht_pam.proofs.ZigzagLemmas.{first_is}
 use Rattle.ht_pam.proofs.zigzag.Zigzag.first.Goals as goal
 
 pub returns-clause-value : goal.returns-clause-value

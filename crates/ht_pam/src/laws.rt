@@ -1,0 +1,13 @@
+//! What follows from the definitions, for every list of levels. None of these functions does anything.
+ghost use Rattle.std.specs.Prelude.{◌≡◌, ℕ, ℤ, List};
+ghost use Rattle.ht_pam.specs.Zigzags.{Ascending, nearest_first, times};
+
+/// Nearest first, no level is farther than a later one.
+pub fn ascends()
+    ensures { (cost : ℤ → ℕ) (xs : List ℤ) → Ascending cost (nearest_first cost xs) }
+{}
+
+/// Nearest first, there are the same levels, each as often.
+pub fn keeps()
+    ensures { (cost : ℤ → ℕ) (xs : List ℤ) (x : ℤ) → times x (nearest_first cost xs) ≡ times x xs }
+{}
