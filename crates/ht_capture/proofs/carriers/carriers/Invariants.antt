@@ -1,0 +1,20 @@
+use Rattle.std.proofs.Common.{◌≡◌, ◌<◌, ◌≤◌, ◌+◌, ◌*◌, [], length, take}
+use Rattle.ht_fields.specs.Readers.{Gives}
+use Rattle.ht_rate.specs.Rates.{carriers_of}
+use Rattle.ht_capture.specs.Fields.{carriers_due, head_given}
+use Rattle.ht_capture.specs.Reading.{AreSeen, SameFrame, here}
+use Rattle.ht_capture.proofs.carriers.carriers.Given as goal
+
+-- so many subcarriers were read
+abbrev pub invariant-loop-index : goal.invariant-loop-index
+invariant-loop-index g l = record {
+  told : Gives (here (carriers_due l.turn l.fn.head 0 []) l.at (g.S.Source.left l.fn.source))
+      (here (carriers_due l.turn l.head l.index (take l.gathered.count l.present)) l.gathered.at (g.S.Source.left l.source)) (head_given l.head l.index);
+  same : SameFrame l.head l.fn.head;
+  count : l.gathered.count ≤ l.index;
+  some : l.index ≡ carriers_of l.fn.head.rate → 0 < l.gathered.count;
+  place : l.gathered.at ≤ l.at + 33 * l.index;
+  seen : AreSeen l.fn.head.rate l.gathered.count l.present;
+  size : length l.present ≡ 114;
+  later : g.S.Source.faults l.fn.source ≤ g.S.Source.faults l.source;
+}

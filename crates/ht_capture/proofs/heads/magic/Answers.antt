@@ -1,0 +1,25 @@
+use Rattle.std.proofs.Common.{◌≡◌, ◌<◌, ◌≤◌, ◌+◌, ℕ, [], drop, slice_index, refl, arith}
+use Rattle.ht_fields.specs.Readers.{Gives}
+use Rattle.ht_fields.proofs.Joins.{gives_more}
+use Rattle.ht_capture.specs.Fields.{State, Magic, magic, magic_due}
+use Rattle.ht_capture.specs.Reading.{here}
+use Rattle.ht_capture.proofs.Halting.{gives_halts}
+use Rattle.ht_capture.proofs.Turns.{next_magic, gives_to}
+use Rattle.ht_capture.proofs.heads.magic.Goals as goal
+
+pub returns-in-Err-clause-told : goal.returns-in-Err-clause-told
+returns-in-Err-clause-told g c =
+    let k = c.loop-at.at in
+    let few : k < 4 = omega arith in
+    gives_halts _ _ _ _ _ _ _ (gives_to _ (magic_due (drop k magic)) (Magic (slice_index magic k) (drop (k + 1) magic)) _ _ _ _ (next_magic k few) refl c.loop-at.invariant.told)
+    c.loop-at.invariant.later (c.in-Err.ensures.told (drop (k + 1) magic))
+
+pub loop-at-preserved : goal.loop-at-preserved
+loop-at-preserved g c =
+    let k = c.loop-at.at in
+    let few : k < 4 = omega arith in
+    record {
+      told = gives_more _ _ _ [] [] (gives_to _ (magic_due (drop k magic)) (Magic (slice_index magic k) (drop (k + 1) magic)) _ _ _ _ (next_magic k few) refl c.loop-at.invariant.told)
+          (c.in-Ok.ensures.told (drop (k + 1) magic));
+      later = omega (arith, c.loop-at.invariant.later, c.in-Ok.ensures.later);
+    }

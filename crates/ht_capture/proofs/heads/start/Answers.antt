@@ -1,0 +1,15 @@
+use Rattle.std.proofs.Common.{◌≡◌, ◌<◌, ◌≤◌, ◌+◌, ℕ, [], arith}
+use Rattle.ht_fields.proofs.Joins.{gives_more}
+use Rattle.ht_capture.proofs.Halting.{gives_halts}
+use Rattle.ht_capture.proofs.heads.start.Goals as goal
+
+pub returns-in-Err-version-clause-told : goal.returns-in-Err-version-clause-told
+returns-in-Err-version-clause-told g c = gives_halts _ _ _ _ _ _ _ c.in-Ok.ensures.told c.in-Ok.ensures.later c.in-Err-version.ensures.told
+
+pub returns-in-Ok-frames-clause-told : goal.returns-in-Ok-frames-clause-told
+returns-in-Ok-frames-clause-told g c = gives_more _ _ _ [] [] (gives_more _ _ _ [] [] c.in-Ok.ensures.told c.in-Ok-version.ensures.told) c.in-Ok-frames.ensures.told
+
+pub returns-in-Err-frames-clause-told : goal.returns-in-Err-frames-clause-told
+returns-in-Err-frames-clause-told g c =
+    let later : g.S.Source.faults c.args.source.now ≤ g.S.Source.faults c.version.new.source = omega (arith, c.in-Ok.ensures.later, c.in-Ok-version.ensures.later) in
+    gives_halts _ _ _ _ _ _ _ (gives_more _ _ _ [] [] c.in-Ok.ensures.told c.in-Ok-version.ensures.told) later c.in-Err-frames.ensures.told

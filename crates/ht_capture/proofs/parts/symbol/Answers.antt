@@ -1,0 +1,29 @@
+use Rattle.std.proofs.Common.{◌≡◌, ◌+◌, ◌-◌, ◌*◌, ◌≤◌, ℕ, List, length, take, sym, ap, subst, ◌∙◌, arith}
+use Rattle.std.proofs.lemmas.List.{length-take}
+use Rattle.ht_capture.specs.Fields.{Symbol, symbol_due, next_spot}
+use Rattle.ht_capture.specs.Frames.{jobs_at}
+use Rattle.ht_capture.specs.Readers.{symbol_octets}
+use Rattle.ht_capture.proofs.Halting.{good_gives}
+use Rattle.ht_capture.proofs.Grids.{ones, written-all}
+use Rattle.ht_capture.proofs.Turns.{symbol_read}
+use Rattle.ht_capture.proofs.parts.symbol.Goals as goal
+
+pub returns-in-Ok-clause-told : goal.returns-in-Ok-clause-told
+returns-in-Ok-clause-told g c = λ present.
+    let spot = c.args.spot.now in
+    let into = c.fill.new.into in
+    let whole : c.width-octets.result ≡ symbol_octets spot = c.width-octets.ensures.value ∙ ap (λ n. spot.count * (8 * n)) c.streams.ensures.value in
+    let wide : length into ≡ c.width-octets.result = omega (arith, c.requires.space, c.width-octets.ensures.bound, length-take {A = ℕ} c.width-octets.result c.args.samples.now) in
+    let size : length into ≡ symbol_octets spot = wide ∙ whole in
+    let some : 1 ≤ length into = omega (arith, wide, c.width-octets.ensures.low, c.requires.some) in
+    symbol_read spot present c.args.at c.in-Ok.behind _ _ into _ size some (written-all into _ _ size) c.in-Ok.ensures.whole c.in-Ok.ensures.place
+
+pub returns-in-Err-clause-told : goal.returns-in-Err-clause-told
+returns-in-Err-clause-told g c = λ present.
+    let spot = c.args.spot.now in
+    let into = c.fill.new.into in
+    let whole : c.width-octets.result ≡ symbol_octets spot = c.width-octets.ensures.value ∙ ap (λ n. spot.count * (8 * n)) c.streams.ensures.value in
+    let wide : length into ≡ c.width-octets.result = omega (arith, c.requires.space, c.width-octets.ensures.bound, length-take {A = ℕ} c.width-octets.result c.args.samples.now) in
+    let size : length into ≡ symbol_octets spot = wide ∙ whole in
+    let some : 1 ≤ length into = omega (arith, wide, c.width-octets.ensures.low, c.requires.some) in
+    c.in-Err.ensures.stopped (Symbol spot present) (ones (length into) _ size some)

@@ -1,0 +1,79 @@
+//! The beginning of a capture and the head of a frame.
+ghost use Rattle.std.specs.Prelude.{◌≡◌, ◌<◌, ◌≤◌, ◌+◌, ◌^◌, ℕ, List, [], MatchResult, IfOk};
+ghost use Rattle.ht_fields.specs.Readers.{Gives};
+ghost use Rattle.ht_capture.specs.Fields.{Version, magic as magic_octets, magic_due, frame_due, carriers_due};
+ghost use Rattle.ht_capture.specs.Reading.{Halts, here};
+
+use crate::fields;
+use crate::items::FrameHead;
+use crate::places::Turn;
+use ht_io::{InFault, Source};
+
+// Reads the magic.
+fn magic<S: Source>(source: &mut S) -> Result<(), InFault>
+    ensures told { MatchResult result
+        (λ _. Gives (here (magic_due magic_octets) 0 (S.left source.old)) (here Version 4 (S.left source.new)) [])
+        (Halts (here (magic_due magic_octets) 0 (S.left source.old)) (S.left source.new) (S.faults source.old) (S.faults source.new)) }
+    ensures later { S.faults source.old ≤ S.faults source.new }
+{
+    let wanted = *b"HTCP";
+    for at in 0..4usize {
+        match fields::magic(source, at as u64, wanted[at]) {
+            Ok(()) => {}
+            Err(fault) => return Err(fault),
+        }
+    }
+    Ok(())
+}
+
+/// Reads the seven octets in front of the frames.
+pub fn start<S: Source>(source: &mut S) -> Result<Turn, InFault>
+    ensures told { MatchResult result
+        (λ turn. Gives (here (magic_due magic_octets) 0 (S.left source.old)) (here (frame_due turn) 7 (S.left source.new)) [])
+        (Halts (here (magic_due magic_octets) 0 (S.left source.old)) (S.left source.new) (S.faults source.old) (S.faults source.new)) }
+    ensures first { IfOk result (λ turn. (turn.frame ≡ 0) × (turn.number ≡ 0)) }
+    ensures later { S.faults source.old ≤ S.faults source.new }
+{
+    match magic(source) {
+        Ok(()) => {}
+        Err(fault) => return Err(fault),
+    }
+    let version = match fields::version(source, 4) {
+        Ok(version) => version,
+        Err(fault) => return Err(fault),
+    };
+    match fields::frames(source, 5, version) {
+        Ok(turn) => Ok(turn),
+        Err(fault) => Err(fault),
+    }
+}
+
+/// Reads bandwidth, MCS and length of the next frame.
+pub fn head<S: Source>(source: &mut S, at: u64, turn: &Turn) -> Result<FrameHead, InFault>
+    requires room { at + 4 < 2 ^ 64 }
+    requires due { 0 < turn.now.left }
+    ensures told { MatchResult result
+        (λ head. Gives (here (frame_due turn.now) at (S.left source.old)) (here (carriers_due turn.now head 0 []) (at + 4) (S.left source.new)) [])
+        (Halts (here (frame_due turn.now) at (S.left source.old)) (S.left source.new) (S.faults source.old) (S.faults source.new)) }
+    ensures some { IfOk result (λ head. (head.frame ≡ turn.now.frame) × (1 ≤ head.length)) }
+    ensures later { S.faults source.old ≤ S.faults source.new }
+{
+    let code = match fields::bandwidth(source, at) {
+        Ok(code) => code,
+        Err(fault) => return Err(fault),
+    };
+    let rate = match fields::mcs(source, at + 1, code) {
+        Ok(rate) => rate,
+        Err(fault) => return Err(fault),
+    };
+    let length = match fields::length(source, at + 2) {
+        Ok(length) => length,
+        Err(fault) => return Err(fault),
+    };
+    Ok(FrameHead {
+        frame: turn.frame,
+        rate,
+        length,
+        erased: 0,
+    })
+}

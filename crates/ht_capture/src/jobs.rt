@@ -1,0 +1,73 @@
+//! The jobs of a symbol.
+ghost use Rattle.std.specs.Prelude.{◌≡◌, ◌+◌, ◌*◌, ◌≤◌, ◌<◌, length};
+ghost use Rattle.ht_rate.specs.Rates.{carriers_of, pilots_of, streams_of};
+ghost use Rattle.ht_capture.specs.Frames.{carrier_octets, grid_at, job_at, one_point, pilot_grid};
+
+use crate::items::FrameHead;
+use crate::numbers;
+use crate::places::Present;
+use ht_map::grid;
+use ht_metric::{Job, Place, System};
+use ht_pam::{Grid, Ladder};
+use ht_pilot::pilot;
+use ht_rate::{Carrier, Rate};
+
+// The levels of I that a pilot's value allows: of -1 and 1 the one that it is.
+fn one_level(value: i8) -> Ladder
+    ensures { result ≡ (one_point value).i }
+{
+    Ladder::of(2, if value == 1 { 0b10 } else { 0b01 })
+}
+
+// The grid of a pilot: one point on each stream.
+#[tactic(auto, unfolding(crate::specs::Frames::pilot_grid))]
+fn pilot_points(rate: &Rate, symbol: u32, index: u8) -> Grid
+    requires { index < pilots_of rate.now }
+    ensures { result ≡ pilot_grid rate.now symbol index }
+{
+    let streams = rate.streams();
+    let zero = Ladder::of(1, 0b1);
+    let mut grid = Grid::one(one_level(pilot(rate, symbol, index, 1)), zero);
+    for stream in 1..streams {
+        grid = grid.and(one_level(pilot(rate, symbol, index, stream + 1)), zero);
+    }
+    grid
+}
+
+// The grid of a subcarrier in a symbol.
+#[tactic(auto, unfolding(crate::specs::Frames::grid_at))]
+fn grid_of(rate: &Rate, symbol: u32, carrier: u8) -> Grid
+    requires { carrier < carriers_of rate.now }
+    ensures value { result ≡ grid_at rate.now symbol carrier }
+    ensures streams { length result ≡ streams_of rate.now }
+{
+    match rate.carrier(carrier) {
+        Carrier::Data(_) => grid(rate),
+        Carrier::Pilot(index) => pilot_points(rate, symbol, index),
+    }
+}
+
+/// The job of a present subcarrier, whose samples stand in the octets of its symbol from a place on.
+#[tactic(auto, unfolding(crate::specs::Frames::job_at))]
+pub fn job(
+    head: &FrameHead,
+    symbol: u32,
+    number: u64,
+    present: &Present,
+    octets: &[u8],
+    at: usize,
+) -> Job
+    requires carrier { present.now.carrier < carriers_of head.now.rate }
+    requires triangle { length present.now.triangle ≡ streams_of head.now.rate }
+    requires whole { at + carrier_octets head.now.rate ≤ length octets.now }
+    ensures { result ≡ job_at head.now symbol number present.now octets.now at }
+{
+    let samples = numbers::samples(head.rate.streams(), octets, at);
+    let place = Place {
+        frame: head.frame,
+        symbol,
+        carrier: present.carrier,
+    };
+    let grid = grid_of(&head.rate, symbol, present.carrier);
+    Job::new(number, place, grid, System::new(present.triangle, samples))
+}

@@ -1,0 +1,116 @@
+//! The parts of a capture that a reader reads at once.
+ghost use Rattle.std.specs.Prelude.{◌≡◌, ◌<◌, ◌≤◌, ◌+◌, ◌*◌, ◌^◌, List, [], ◌∷◌, length, take, MatchResult, IfOk};
+ghost use Rattle.ht_fields.specs.Readers.{Finishes, Gives};
+ghost use Rattle.ht_rate.specs.Rates.{carriers_of};
+ghost use Rattle.ht_capture.specs.declared.items.Item.TheVariants.{Frame};
+ghost use Rattle.ht_capture.specs.declared.places.Present.{Present as Seen};
+ghost use Rattle.ht_capture.specs.Frames.{jobs_at};
+ghost use Rattle.ht_capture.specs.Fields.{Over, Symbol, frame_due, next_spot, symbol_due};
+ghost use Rattle.ht_capture.specs.Reading.{AreSeen, Halts, here};
+ghost use Rattle.ht_capture.specs.Readers.{symbol_octets};
+
+use crate::carriers::carriers;
+use crate::fields;
+use crate::heads::head;
+use crate::places::{Present, Spot, Turn};
+use ht_fields::{Field, read_field};
+use ht_io::{FormatFault, InFault, Kind, Source};
+
+/// Sees that the input ends.
+pub fn finish<S: Source>(source: &mut S, at: u64) -> Result<(), InFault>
+    ensures told { MatchResult result
+        (λ _. Finishes (here Over at (S.left source.old)) (S.left source.new))
+        (Halts (here Over at (S.left source.old)) (S.left source.new) (S.faults source.old) (S.faults source.new)) }
+    ensures later { S.faults source.old ≤ S.faults source.new }
+{
+    let mut octet = [0u8; 1];
+    match read_field(source, &mut octet) {
+        Field::Whole => Err(InFault::Format(FormatFault {
+            kind: Kind::Trailing,
+            offset: at,
+        })),
+        Field::Ended(_) => Ok(()),
+        Field::Broken => Err(InFault::Read),
+    }
+}
+
+/// Reads the head and the triangles of the next frame.
+pub fn frame<S: Source>(
+    source: &mut S,
+    at: u64,
+    turn: &Turn,
+    present: &mut [Present],
+) -> Result<(Spot, u64), InFault>
+    requires room { at + 3766 < 2 ^ 64 }
+    requires due { 0 < turn.now.left }
+    requires space { length present.old ≡ 114 }
+    ensures told { MatchResult result
+        (λ got. Gives (here (frame_due turn.now) at (S.left source.old))
+        (here (Symbol got.0 (take got.0.count present.new)) got.1 (S.left source.new)) (Frame got.0.head ∷ []))
+        (Halts (here (frame_due turn.now) at (S.left source.old)) (S.left source.new) (S.faults source.old) (S.faults source.new)) }
+    ensures turn { IfOk result (λ got. (got.0.turn ≡ turn.now) × (got.0.symbol ≡ 0)) }
+    ensures some { IfOk result (λ got. (1 ≤ got.0.head.length) × (1 ≤ got.0.count)) }
+    ensures few { IfOk result (λ got. got.0.count ≤ carriers_of got.0.head.rate) }
+    ensures places { IfOk result (λ got. got.0.count ≤ 114) }
+    ensures place { IfOk result (λ got. got.1 ≤ at + 3766) }
+    ensures seen { IfOk result (λ got. AreSeen got.0.head.rate got.0.count present.new) }
+    ensures later { S.faults source.old ≤ S.faults source.new }
+{
+    let mut head = match head(source, at, turn) {
+        Ok(head) => head,
+        Err(fault) => return Err(fault),
+    };
+    let gathered = match carriers(source, turn, &mut head, present, at + 4) {
+        Ok(gathered) => gathered,
+        Err(fault) => return Err(fault),
+    };
+    let spot = Spot {
+        turn: *turn,
+        head,
+        symbol: 0,
+        count: gathered.count,
+    };
+    Ok((spot, gathered.at))
+}
+
+/// The octets of so many subcarriers' samples in a symbol.
+pub fn width(count: usize, streams: u8) -> usize
+    requires many { count ≤ 114 }
+    requires some { 1 ≤ streams }
+    requires few { streams ≤ 4 }
+    ensures value { result ≡ count * (8 * streams) }
+    ensures bound { result ≤ 3648 }
+    ensures low { 8 * count ≤ result }
+{
+    match streams {
+        1 => 8 * count,
+        2 => 16 * count,
+        3 => 24 * count,
+        _ => 32 * count,
+    }
+}
+
+/// Reads the samples of a symbol to the front of the slice.
+pub fn symbol<S: Source>(
+    source: &mut S,
+    at: u64,
+    spot: &Spot,
+    samples: &mut [u8],
+) -> Result<u64, InFault>
+    requires room { at + 3648 < 2 ^ 64 }
+    requires space { length samples.old ≡ 3648 }
+    requires some { 1 ≤ spot.now.count }
+    requires few { spot.now.count ≤ 114 }
+    ensures told { (present : List Seen) → MatchResult result
+        (λ behind. Gives (here (Symbol spot.now present) at (S.left source.old))
+        (here (symbol_due (next_spot spot.now) present) behind (S.left source.new)) (jobs_at spot.now.head spot.now.symbol spot.now.turn.number present (take (symbol_octets spot.now) samples.new) 0))
+        (Halts (here (Symbol spot.now present) at (S.left source.old)) (S.left source.new) (S.faults source.old) (S.faults source.new)) }
+    ensures place { IfOk result (λ behind. behind ≤ at + 3648) }
+    ensures later { S.faults source.old ≤ S.faults source.new }
+{
+    let octets = width(spot.count, spot.head.rate.streams());
+    match fields::fill(source, at, &mut samples[..octets]) {
+        Ok(behind) => Ok(behind),
+        Err(fault) => Err(fault),
+    }
+}
