@@ -1,17 +1,17 @@
 -- Why a reader stops, and what a whole field gives.
-use Rattle.std.proofs.Common.{◌≡◌, ℕ, ◌+◌, ◌≤◌, List, [], ◌∷◌, length, Option, refl, sym, subst, inl, inr}
+use Rattle.std.proofs.Common.{◌≡◌, ℕ, ◌+◌, ◌≤◌, List, [], length, Option, sym, subst, inl, inr}
 use Rattle.ht_io.specs.Octets.{Takes}
 use Rattle.ht_io.specs.Causes.{Rose}
 use Rattle.ht_io.proofs.Counts.{rose-later}
 use Rattle.ht_io.specs.declared.faults.Kind.{Kind}
-use Rattle.ht_io.specs.declared.faults.Kind.TheVariants.{Truncated, Trailing}
+use Rattle.ht_io.specs.declared.faults.Kind.TheVariants.{Truncated}
 use Rattle.ht_io.specs.declared.faults.InFault.{InFault}
 use Rattle.ht_io.specs.declared.faults.InFault.TheVariants.{Format, Read, NoMemory}
 use Rattle.ht_fields.specs.Grammar.{Due, End, Wants, Good, Bad}
 use Rattle.ht_fields.specs.Cases.{IsField}
 use Rattle.ht_fields.specs.Reading.{ReadsField}
-use Rattle.ht_fields.specs.declared.read.Field.TheVariants.{Whole, Ended, Broken}
-use Rattle.ht_fields.specs.Readers.{Shown, Gives, Stops}
+use Rattle.ht_fields.specs.declared.read.Field.TheVariants.{Ended, Broken}
+use Rattle.ht_fields.specs.Readers.{Shown, Gives}
 use Rattle.ht_fields.proofs.Readers.{HasWidth, field_gives, field_refuses, field_runs_out, field_breaks}
 use Rattle.ht_fields.proofs.Joins.{gives_stops}
 use Rattle.ht_capture.specs.declared.items.Item.{Item}

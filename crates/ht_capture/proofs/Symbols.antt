@@ -1,13 +1,12 @@
 -- The jobs of a symbol, one after another.
-use Rattle.std.proofs.Common.{◌≡◌, ℕ, zero, suc, ◌+◌, ◌*◌, ◌-◌, ◌<◌, ◌≤◌, List, [], ◌∷◌, ◌++◌, length, take, drop, get_or, nat_lt, Bool, true, false, if◌then◌else◌, Option, refl, sym, ap, subst, ◌∙◌, arith, add-one}
+use Rattle.std.proofs.Common.{◌≡◌, ℕ, suc, ◌+◌, ◌*◌, ◌<◌, ◌≤◌, List, [], ◌∷◌, length, take, drop, get_or, nat_lt, Bool, true, false, if◌then◌else◌, Option, refl, sym, ap, subst, ◌∙◌, arith}
 use Rattle.std.proofs.lemmas.List.{get_or-take, drop_all, length-take-le, length-take}
 use Rattle.std.proofs.Math.Seq.{drop-cons}
 use Rattle.std.proofs.Math.Nat.{mul-le-mul_right}
-use Rattle.ht_io.specs.Octets.{Takes}
 use Rattle.ht_fields.specs.Meanings.{Meaning, before, meaning}
 use Rattle.ht_fields.specs.Readers.{Shown, Gives}
 use Rattle.ht_io.proofs.Pieces.{takes-none}
-use Rattle.ht_rate.specs.Rates.{symbols_of, streams_of}
+use Rattle.ht_rate.specs.Rates.{symbols_of}
 use Rattle.ht_metric.specs.Jobs.{JobView}
 use Rattle.ht_capture.specs.declared.items.FrameHead.{FrameHead}
 use Rattle.ht_capture.specs.declared.items.Item.{Item}
@@ -18,7 +17,7 @@ use Rattle.ht_capture.specs.declared.places.Spot.{Spot}
 use Rattle.ht_capture.specs.declared.stage.Stage.{Stage}
 use Rattle.ht_capture.specs.declared.stage.Stage.TheVariants.{NextFrame, NextSymbol, Giving}
 use Rattle.ht_capture.specs.Frames.{carrier_octets, job_at, jobs_at}
-use Rattle.ht_capture.specs.Fields.{State, Symbol, captures, frame_due, next_spot, next_turn, symbol_due}
+use Rattle.ht_capture.specs.Fields.{Symbol, captures, frame_due, next_spot, next_turn, symbol_due}
 use Rattle.ht_capture.specs.Reading.{here}
 use Rattle.ht_capture.specs.Readers.{jobs_left, shown_at, stage_after, stage_means, symbol_octets}
 

@@ -8,7 +8,7 @@ use Rattle.ht_fields.specs.Readers.{Shown, Gives, Finishes}
 use Rattle.ht_fields.proofs.Joins.{gives_none, gives_more}
 use Rattle.ht_fields.specs.Reading.{TakesAll}
 use Rattle.ht_fields.specs.Meanings.{before}
-use Rattle.ht_rate.specs.Rates.{carriers_of, symbols_of}
+use Rattle.ht_rate.specs.Rates.{carriers_of}
 use Rattle.ht_capture.specs.declared.items.FrameHead.{FrameHead}
 use Rattle.ht_capture.specs.declared.items.Item.{Item}
 use Rattle.ht_capture.specs.declared.items.Item.TheVariants.{Frame, Job, Done}
@@ -16,7 +16,7 @@ use Rattle.ht_capture.specs.declared.places.Present.{Present}
 use Rattle.ht_capture.specs.declared.places.Turn.{Turn}
 use Rattle.ht_capture.specs.declared.places.Spot.{Spot}
 use Rattle.ht_capture.specs.Frames.{erase, jobs_at}
-use Rattle.ht_capture.specs.Fields.{State, Magic, Bandwidth, Flag, Triangle, Symbol, Over, magic, magic_due, frame_due, carrier_due, carriers_due, first_spot, head_given, judge_symbol, next_spot, next_turn, symbol_due}
+use Rattle.ht_capture.specs.Fields.{State, Magic, Bandwidth, Flag, Triangle, Symbol, Over, magic, magic_due, frame_due, carrier_due, carriers_due, first_spot, head_given, judge_symbol, next_spot, symbol_due}
 use Rattle.ht_capture.specs.Readers.{Completes, GivesItem, symbol_octets}
 use Rattle.ht_capture.proofs.Halting.{good_gives}
 use Rattle.ht_capture.proofs.Grids.{ones}

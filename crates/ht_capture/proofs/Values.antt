@@ -1,7 +1,7 @@
 -- Captures and their faults, by computation.
 use Rattle.std.specs.Prelude.{◌≡◌, ℕ, zero, suc, List, [], ◌∷◌, ◌++◌, Some, None, length, replicate, refl}
 use Rattle.ht_io.specs.declared.faults.Kind.TheVariants.{BadMagic, BadVersion, BadErased, BadBandwidth, BadMcs, BadLength, Truncated, Trailing}
-use Rattle.ht_fields.specs.Meanings.{Meaning, meaning, meaning_of, refused}
+use Rattle.ht_fields.specs.Meanings.{meaning, meaning_of, refused}
 use Rattle.ht_capture.specs.Captures.{capture_of}
 use Rattle.ht_capture.specs.Frames.{jobs_at, erase}
 use Rattle.ht_capture.specs.Fields.{judge_magic, judge_version, judge_count, frame_due, judge_bandwidth, judge_mcs, judge_length, carriers_due, bad_flag, judge_flag, judge_triangle, head_given, symbol_due, judge_symbol, next_spot, next_turn}

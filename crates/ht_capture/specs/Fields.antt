@@ -1,5 +1,5 @@
 -- Captures as lists of fields, in both versions.
-use Rattle.std.specs.Prelude.{ℕ, ◌+◌, ◌-◌, ◌*◌, List, [], ◌∷◌, ◌++◌, length, slice_index, nat_eq, nat_lt, Bool, ◌&&◌, ◌||◌, not, if◌then◌else◌}
+use Rattle.std.specs.Prelude.{ℕ, ◌+◌, ◌-◌, ◌*◌, List, [], ◌∷◌, ◌++◌, length, slice_index, nat_eq, nat_lt, Bool, ◌&&◌, ◌||◌, if◌then◌else◌}
 use Rattle.byteorder.specs.Endian.{big_number}
 use Rattle.ht_io.specs.declared.faults.Kind.TheVariants.{BadMagic, BadVersion, BadBandwidth, BadMcs, BadLength, BadErased}
 use Rattle.ht_fields.specs.Grammar.{Grammar, Due, End, field, Verdict, Good, Bad}

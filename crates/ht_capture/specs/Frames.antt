@@ -14,7 +14,7 @@ use Rattle.ht_metric.specs.Jobs.{JobView}
 use Rattle.ht_metric.specs.Rows.{rows_of}
 use Rattle.ht_capture.specs.declared.items.FrameHead.{FrameHead}
 use Rattle.ht_capture.specs.declared.items.Item.{Item}
-use Rattle.ht_capture.specs.declared.items.Item.TheVariants.{Frame, Job}
+use Rattle.ht_capture.specs.declared.items.Item.TheVariants.{Job}
 use Rattle.ht_capture.specs.declared.places.Present.{Present}
 use Rattle.ht_capture.specs.Systems.{samples_at}
 

@@ -1,5 +1,5 @@
 -- Numbers in octets, big-endian, from a place on; signed ones are two's complement.
-use Rattle.std.specs.Prelude.{ℕ, ℤ, ◌+◌, List, drop}
+use Rattle.std.specs.Prelude.{ℕ, ◌+◌, List, drop}
 use Rattle.std.specs.Int.{cast_signed, w16, w32}
 use Rattle.byteorder.specs.Endian.{big_number}
 use Rattle.ht_metric.specs.declared.tap.Tap.{Tap}

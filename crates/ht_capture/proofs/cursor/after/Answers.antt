@@ -1,4 +1,4 @@
-use Rattle.std.proofs.Common.{◌≡◌, ◌≤◌, ◌+◌, ℕ, arith}
+use Rattle.std.proofs.Common.{arith}
 use Rattle.ht_capture.proofs.cursor.after.Goals as goal
 
 pub overflow_add-turn : goal.overflow_add-turn

@@ -1,4 +1,4 @@
-use Rattle.std.proofs.Common.{◌≡◌, ◌≤◌, ◌+◌, ℕ, arith}
+use Rattle.std.proofs.Common.{◌≤◌, ◌+◌, arith}
 use Rattle.ht_capture.proofs.Symbols.{over_shown}
 use Rattle.ht_capture.proofs.cursor.behind.Goals as goal
 

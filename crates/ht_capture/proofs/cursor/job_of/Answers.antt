@@ -1,6 +1,4 @@
-use Rattle.std.proofs.Common.{◌≡◌, ◌≤◌, ◌+◌, ◌*◌, ℕ, List, take, get_or, length, refl, sym, ap, ◌∙◌, arith}
-use Rattle.ht_metric.specs.Jobs.{JobView}
-use Rattle.ht_rate.specs.Rates.{streams_of}
+use Rattle.std.proofs.Common.{◌≡◌, ◌≤◌, ◌+◌, ◌*◌, ℕ, take, get_or, length, ap, ◌∙◌, arith}
 use Rattle.ht_capture.specs.declared.places.Present.{Present}
 use Rattle.ht_capture.specs.Frames.{carrier_octets, job_at}
 use Rattle.ht_capture.specs.Readers.{symbol_octets}

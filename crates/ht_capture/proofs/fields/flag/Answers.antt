@@ -1,4 +1,4 @@
-use Rattle.std.proofs.Common.{◌≡◌, ◌<◌, ◌≤◌, ◌+◌, true, false, ◌∙◌, ℕ, List, [], ◌∷◌, refl, sym, ap, subst, arith, length}
+use Rattle.std.proofs.Common.{◌≡◌, ◌≤◌, ◌+◌, true, false, ◌∙◌, [], ◌∷◌, refl, sym, ap, arith, length}
 use Rattle.ht_capture.proofs.Halting.{bad_halts, good_gives}
 use Rattle.ht_io.specs.declared.faults.Kind.TheVariants.{BadErased}
 use Rattle.ht_capture.specs.Fields.{Flag, Triangle, carriers_due, head_given, bad_flag}

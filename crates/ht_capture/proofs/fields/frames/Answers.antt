@@ -1,5 +1,5 @@
-use Rattle.std.proofs.Common.{◌≡◌, ◌<◌, ◌+◌, ◌∙◌, ℕ, List, [], ◌∷◌, refl, sym, ap, subst, arith, length}
-use Rattle.ht_capture.proofs.Halting.{bad_halts, good_gives}
+use Rattle.std.proofs.Common.{◌≡◌, ◌+◌, [], refl, sym, ap, arith, length}
+use Rattle.ht_capture.proofs.Halting.{good_gives}
 use Rattle.ht_capture.specs.Fields.{Count, frame_due}
 use Rattle.ht_capture.proofs.Judges.{good_count}
 use Rattle.ht_capture.proofs.fields.frames.Goals as goal

@@ -1,4 +1,4 @@
-use Rattle.std.proofs.Common.{◌≡◌, ◌<◌, ◌+◌, ◌∙◌, ℕ, List, [], ◌∷◌, refl, sym, ap, subst, arith, length}
+use Rattle.std.proofs.Common.{◌+◌, [], ◌∷◌, refl}
 use Rattle.ht_capture.proofs.Halting.{bad_halts, good_gives}
 use Rattle.ht_io.specs.declared.faults.Kind.TheVariants.{BadMagic}
 use Rattle.ht_capture.specs.Fields.{Magic, magic_due}

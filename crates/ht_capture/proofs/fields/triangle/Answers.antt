@@ -1,7 +1,6 @@
-use Rattle.std.proofs.Common.{◌≡◌, ◌<◌, ◌≤◌, ◌+◌, ◌++◌, ◌∙◌, ℕ, List, [], ◌∷◌, refl, sym, ap, subst, arith, length}
-use Rattle.ht_capture.proofs.Halting.{bad_halts, good_gives}
+use Rattle.std.proofs.Common.{◌≡◌, ◌≤◌, ◌+◌, ◌++◌, ◌∙◌, ℕ, [], ◌∷◌, sym, ap, arith, length}
+use Rattle.ht_capture.proofs.Halting.{good_gives}
 use Rattle.std.proofs.lemmas.List.{length-take}
-use Rattle.ht_metric.specs.Rows.{Leg}
 use Rattle.ht_rate.specs.Rates.{streams_of}
 use Rattle.ht_capture.specs.Systems.{triangle_of, triangle_octets}
 use Rattle.ht_capture.specs.Fields.{Triangle, carriers_due, head_given}

@@ -1,8 +1,6 @@
-use Rattle.std.proofs.Common.{◌≡◌, ◌≤◌, ◌+◌, ℕ, List, [], refl, arith}
-use Rattle.ht_fields.specs.Readers.{Gives}
+use Rattle.std.proofs.Common.{◌≡◌, ◌≤◌, ◌+◌, [], refl, arith}
 use Rattle.ht_fields.proofs.Joins.{gives_more}
-use Rattle.ht_capture.specs.Fields.{Bandwidth, Mcs, Length, frame_due, carriers_due, new_head}
-use Rattle.ht_capture.specs.Reading.{here}
+use Rattle.ht_capture.specs.Fields.{Bandwidth, Length, frame_due, carriers_due, new_head}
 use Rattle.ht_capture.proofs.Halting.{gives_halts}
 use Rattle.ht_capture.proofs.Turns.{frame_is, gives_from, gives_to, halts_from}
 use Rattle.ht_capture.proofs.heads.head.Goals as goal

@@ -1,8 +1,6 @@
-use Rattle.std.proofs.Common.{◌≡◌, ◌<◌, ◌≤◌, ◌+◌, ℕ, [], drop, slice_index, refl, arith}
-use Rattle.ht_fields.specs.Readers.{Gives}
+use Rattle.std.proofs.Common.{◌<◌, ◌+◌, [], drop, slice_index, refl, arith}
 use Rattle.ht_fields.proofs.Joins.{gives_more}
-use Rattle.ht_capture.specs.Fields.{State, Magic, magic, magic_due}
-use Rattle.ht_capture.specs.Reading.{here}
+use Rattle.ht_capture.specs.Fields.{Magic, magic, magic_due}
 use Rattle.ht_capture.proofs.Halting.{gives_halts}
 use Rattle.ht_capture.proofs.Turns.{next_magic, gives_to}
 use Rattle.ht_capture.proofs.heads.magic.Goals as goal

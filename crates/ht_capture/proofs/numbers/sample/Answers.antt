@@ -1,4 +1,4 @@
-use Rattle.std.proofs.Common.{◌∙◌, arith}
+use Rattle.std.proofs.Common.{arith}
 use Rattle.std.proofs.lemmas.Int.{ints}
 use Rattle.ht_capture.proofs.Slices.{sample_made}
 use Rattle.ht_capture.proofs.numbers.sample.Goals as goal

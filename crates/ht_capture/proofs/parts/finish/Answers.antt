@@ -1,4 +1,4 @@
-use Rattle.std.proofs.Common.{refl, sym, subst, inl, arith}
+use Rattle.std.proofs.Common.{refl, inl, arith}
 use Rattle.ht_fields.proofs.Readers.{end_refuses, end_finishes, end_breaks}
 use Rattle.ht_capture.specs.Fields.{Over, captures}
 use Rattle.ht_capture.proofs.parts.finish.Goals as goal

@@ -1,4 +1,4 @@
-use Rattle.std.proofs.Common.{◌≡◌, ◌+◌, ◌≤◌, ℕ, [], arith}
+use Rattle.std.proofs.Common.{[]}
 use Rattle.ht_fields.proofs.Joins.{gives_more}
 use Rattle.ht_capture.proofs.Halting.{gives_halts}
 use Rattle.ht_capture.proofs.parts.frame.Goals as goal

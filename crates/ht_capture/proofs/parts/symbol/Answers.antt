@@ -1,9 +1,7 @@
-use Rattle.std.proofs.Common.{◌≡◌, ◌+◌, ◌-◌, ◌*◌, ◌≤◌, ℕ, List, length, take, sym, ap, subst, ◌∙◌, arith}
+use Rattle.std.proofs.Common.{◌≡◌, ◌*◌, ◌≤◌, ℕ, length, ap, ◌∙◌, arith}
 use Rattle.std.proofs.lemmas.List.{length-take}
-use Rattle.ht_capture.specs.Fields.{Symbol, symbol_due, next_spot}
-use Rattle.ht_capture.specs.Frames.{jobs_at}
+use Rattle.ht_capture.specs.Fields.{Symbol}
 use Rattle.ht_capture.specs.Readers.{symbol_octets}
-use Rattle.ht_capture.proofs.Halting.{good_gives}
 use Rattle.ht_capture.proofs.Grids.{ones, written-all}
 use Rattle.ht_capture.proofs.Turns.{symbol_read}
 use Rattle.ht_capture.proofs.parts.symbol.Goals as goal

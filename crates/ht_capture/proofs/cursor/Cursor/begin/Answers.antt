@@ -1,5 +1,5 @@
 use Rattle.ht_capture.proofs.Halting.{gives_halts}
-use Rattle.ht_capture.proofs.Turns.{gives_item, halts_as, halts_real}
+use Rattle.ht_capture.proofs.Turns.{gives_item}
 use Rattle.ht_capture.proofs.cursor.Cursor.begin.Goals as goal
 
 pub returns-in-Ok-frame-clause-told : goal.returns-in-Ok-frame-clause-told

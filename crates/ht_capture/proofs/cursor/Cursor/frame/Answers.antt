@@ -1,5 +1,3 @@
-use Rattle.std.proofs.Common.{◌≡◌, ◌+◌, ℕ, ap, subst, arith}
-use Rattle.ht_capture.specs.declared.places.Turn.{Turn}
 use Rattle.ht_capture.specs.Fields.{Over, frame_due}
 use Rattle.ht_capture.proofs.Turns.{completes_over, halts_as, halts_from, over_is}
 use Rattle.ht_capture.proofs.cursor.Cursor.frame.Goals as goal

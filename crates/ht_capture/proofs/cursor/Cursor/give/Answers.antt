@@ -1,4 +1,3 @@
-use Rattle.std.proofs.Common.{[], ◌∷◌}
 use Rattle.ht_capture.proofs.Symbols.{gives_joined}
 use Rattle.ht_capture.proofs.cursor.Cursor.give.Goals as goal
 

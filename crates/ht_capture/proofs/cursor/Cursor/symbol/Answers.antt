@@ -1,4 +1,4 @@
-use Rattle.std.proofs.Common.{◌≡◌, ℕ, List, [], length, take, sym, ap, arith}
+use Rattle.std.proofs.Common.{◌≡◌, [], length, take, sym, ap, arith}
 use Rattle.ht_fields.proofs.Joins.{gives_more}
 use Rattle.ht_capture.specs.Readers.{symbol_octets}
 use Rattle.ht_capture.proofs.Grids.{written-all}
