@@ -1,135 +1,248 @@
-//! Detection of random jobs: the same search as `nearest` of `ht_sphere`, as fast as plain Rust was found to do it.
+//! Detection of random jobs: the same search as `nearest` of `ht_sphere`, from the same jobs to the same hits, as fast
+//! as plain Rust was found to do it.
 //!
 //! The real and the imaginary part of a row are two real rows, so n streams have 2n coordinates I_1, Q_1, I_2 and so
-//! on. The tree is walked from the last coordinate to the first, each one's levels nearest first.
+//! on. Successive rounding comes first. Where it can't tell that all other vectors are farther, the tree is walked from
+//! the last coordinate to the first, each one's levels nearest first.
 use crate::random::Random;
 
 const JOBS: u32 = 256;
 
 #[derive(Clone, Copy, Default)]
-struct Complex {
-    re: i32,
-    im: i32,
+pub struct Complex {
+    pub re: i32,
+    pub im: i32,
 }
 
-/// A job as real rows, the last coordinate first.
+/// The levels of one coordinate: level j is allowed where bit j of the mask is set.
 #[derive(Clone, Copy, Default)]
-struct Job {
-    count: usize,
-    /// The diagonal of each coordinate.
-    d: [i64; 8],
-    /// The sample of each coordinate.
-    y: [i64; 8],
-    /// The weights of the coordinates chosen before, in the order in which they were chosen.
-    w: [[i32; 8]; 8],
-    /// How many levels each coordinate has.
-    levels: [i64; 8],
+pub struct Ladder {
+    pub size: u8,
+    pub mask: u8,
 }
 
-/// The levels of a coordinate, nearest first, the lower one at a tie.
+#[derive(Clone, Copy, Default)]
+pub struct Axes {
+    pub i: Ladder,
+    pub q: Ladder,
+}
+
+#[derive(Clone, Copy, Default)]
+pub struct Point {
+    pub i: i8,
+    pub q: i8,
+}
+
+/// A job in the form in which `nearest` takes it: a complex triangle, row by row, samples and ladders.
+#[derive(Clone, Copy, Default)]
+#[allow(dead_code)]
+pub struct Job {
+    pub number: u64,
+    pub place: [u32; 3],
+    pub streams: u8,
+    pub axes: [Axes; 4],
+    pub d: [u16; 4],
+    pub above: [(i16, i16); 6],
+    pub y: [Complex; 4],
+}
+
+/// A job with the nearest vector.
+pub struct Hit {
+    pub job: Job,
+    pub points: [Point; 4],
+    pub distance: u128,
+}
+
+/// The levels of a coordinate that are still to be given, nearest first, the lower one at a tie: two ends that move
+/// apart.
 struct Walk {
-    d: i64,
     target: i64,
-    low: i64,
-    high: i64,
-    most: i64,
+    d: i64,
+    size: i32,
+    below: u32,
+    above: u32,
 }
 
 impl Walk {
     #[inline(always)]
-    fn new(target: i64, d: i64, levels: i64) -> Walk {
-        let most = levels - 1;
-        // The place of the nearest level on a scale where places are two apart.
-        let at = if d == 0 {
-            0
-        } else {
-            let at = (target + d * most).div_euclid(2 * d);
-            let below = (target - d * (2 * at - most)).abs();
-            let above = (target - d * (2 * at + 2 - most)).abs();
-            let nearest = if above < below { at + 1 } else { at };
-            nearest.clamp(0, most)
-        };
-        Walk { d, target, low: at, high: at + 1, most }
+    fn new(ladder: Ladder, target: i64, d: i64) -> Walk {
+        let size = i32::from(ladder.size);
+        let lower = (2u32 << nearest_place(size, target, d)) - 1;
+        let mask = u32::from(ladder.mask);
+        // With d = 0 all are as near.
+        Walk { target: if d == 0 { 0 } else { 2 * target }, d, size, below: mask & lower, above: mask & !lower }
     }
 
     #[inline(always)]
     fn next(&mut self) -> Option<i64> {
-        let below = if self.low >= 0 { (self.target - self.d * (2 * self.low - self.most)).unsigned_abs() } else { u64::MAX };
-        let above = if self.high <= self.most { (self.target - self.d * (2 * self.high - self.most)).unsigned_abs() } else { u64::MAX };
-        if below == u64::MAX && above == u64::MAX {
-            return None;
-        }
-        if self.d == 0 {
-            // All are as near: the lowest first.
-            let at = self.high - 1;
-            self.high += 1;
-            return (at <= self.most).then_some(2 * at - self.most);
-        }
-        let at = if below <= above {
-            self.low -= 1;
-            self.low + 1
+        let is_below = if self.below == 0 {
+            if self.above == 0 {
+                return None;
+            }
+            false
+        } else if self.above == 0 {
+            true
         } else {
-            self.high += 1;
-            self.high - 1
+            let sum = 2 * (self.below.ilog2() as i32 + self.above.trailing_zeros() as i32 + 1 - self.size);
+            self.target <= self.d * i64::from(sum)
         };
-        Some(2 * at - self.most)
+        let at = if is_below {
+            let at = self.below.ilog2();
+            self.below ^= 1 << at;
+            at
+        } else {
+            let at = self.above.trailing_zeros();
+            self.above &= self.above - 1;
+            at
+        };
+        Some(i64::from(2 * at as i32 - (self.size - 1)))
     }
+}
+
+/// The place of the nearest of all levels, the lower one at a tie, by their midpoints.
+#[inline(always)]
+fn nearest_place(size: i32, target: i64, d: i64) -> i32 {
+    let mut at = 0;
+    let mut half = size / 2;
+    if d > 0 {
+        while half > 0 {
+            if d * i64::from(2 * (at + half) - size) < target {
+                at += half;
+            }
+            half /= 2;
+        }
+    }
+    at
+}
+
+/// The first level of a walk.
+#[inline(always)]
+fn first(ladder: Ladder, target: i64, d: i64) -> i64 {
+    let size = i32::from(ladder.size);
+    let at = nearest_place(size, target, d);
+    if ladder.mask >> at & 1 == 1 {
+        return i64::from(2 * at - (size - 1));
+    }
+    Walk::new(ladder, target, d).next().unwrap_or(0)
+}
+
+/// What the points behind row k, from 0, leave of its sample.
+#[inline(always)]
+fn target(job: &Job, k: usize, points: &[Point; 4]) -> (i64, i64) {
+    let n = usize::from(job.streams);
+    let from = (2 * n - 1 - k) * k / 2;
+    let (mut re, mut im) = (i64::from(job.y[k].re), i64::from(job.y[k].im));
+    for l in k + 1..n {
+        let r = job.above[from + l - k - 1];
+        let (r_re, r_im) = (i32::from(r.0), i32::from(r.1));
+        let (i, q) = (i32::from(points[l].i), i32::from(points[l].q));
+        re -= i64::from(r_re * i - r_im * q);
+        im -= i64::from(r_im * i + r_re * q);
+    }
+    (re, im)
+}
+
+fn square(gap: i64) -> u128 {
+    let size = gap.unsigned_abs();
+    u128::from(size * size)
+}
+
+/// At most the square that any other level than this one leaves.
+#[inline(always)]
+fn others(d: i64, gap: i64) -> u128 {
+    square((2 * d - gap.abs()).max(0))
 }
 
 struct Search<'a> {
     job: &'a Job,
-    chosen: [i32; 8],
-    best: [i32; 8],
+    points: [Point; 4],
+    best: [Point; 4],
     distance: u128,
 }
 
 impl Search<'_> {
-    fn go(&mut self, depth: usize, partial: u128) {
+    /// Successive rounding, and whether no other vector can be as near.
+    #[inline(always)]
+    fn round(&mut self) -> bool {
         let job = self.job;
-        if depth == job.count {
+        let mut partial = 0u128;
+        let mut off = u128::MAX;
+        for k in (0..usize::from(job.streams)).rev() {
+            let d = i64::from(job.d[k]);
+            let (re, im) = target(job, k, &self.points);
+            let q = first(job.axes[k].q, im, d);
+            off = off.min(partial + others(d, im - d * q));
+            partial += square(im - d * q);
+            let i = first(job.axes[k].i, re, d);
+            off = off.min(partial + others(d, re - d * i));
+            partial += square(re - d * i);
+            self.points[k] = Point { i: i as i8, q: q as i8 };
+        }
+        self.best = self.points;
+        self.distance = partial;
+        partial < off
+    }
+
+    fn go(&mut self, left: usize, partial: u128) {
+        let job = self.job;
+        if left == 0 {
             if partial < self.distance || (partial == self.distance && self.is_before()) {
                 self.distance = partial;
-                self.best = self.chosen;
+                self.best = self.points;
             }
             return;
         }
-        let row = &job.w[depth];
-        let mut heard = 0i64;
-        for k in 0..depth {
-            heard += i64::from(row[k]) * i64::from(self.chosen[k]);
-        }
-        let (target, d) = (job.y[depth] - heard, job.d[depth]);
-        let mut walk = Walk::new(target, d, job.levels[depth]);
-        while let Some(level) = walk.next() {
-            let left = (target - d * level).unsigned_abs();
-            let next = partial + u128::from(left * left);
-            if next > self.distance {
+        let k = left - 1;
+        let d = i64::from(job.d[k]);
+        let (re, im) = target(job, k, &self.points);
+        let mut of_q = Walk::new(job.axes[k].q, im, d);
+        while let Some(q) = of_q.next() {
+            let first = partial + square(im - d * q);
+            if first > self.distance {
                 break;
             }
-            self.chosen[depth] = level as i32;
-            self.go(depth + 1, next);
+            let mut of_i = Walk::new(job.axes[k].i, re, d);
+            while let Some(i) = of_i.next() {
+                let both = first + square(re - d * i);
+                if both > self.distance {
+                    break;
+                }
+                self.points[k] = Point { i: i as i8, q: q as i8 };
+                self.go(k, both);
+            }
         }
     }
 
     /// Whether the chosen vector comes before the best one: by I_1, then Q_1 and so on.
     fn is_before(&self) -> bool {
-        for k in (0..self.job.count).rev() {
-            if self.chosen[k] != self.best[k] {
-                return self.chosen[k] < self.best[k];
+        for k in 0..usize::from(self.job.streams) {
+            let (a, b) = (self.points[k], self.best[k]);
+            if a.i != b.i {
+                return a.i < b.i;
+            }
+            if a.q != b.q {
+                return a.q < b.q;
             }
         }
         false
     }
 }
 
-fn nearest(job: &Job) -> Search<'_> {
-    let mut search = Search { job, chosen: [0; 8], best: [0; 8], distance: u128::MAX };
-    search.go(0, 0);
-    search
+#[inline(never)]
+pub fn nearest(job: &Job) -> Hit {
+    let mut search = Search { job, points: [Point::default(); 4], best: [Point::default(); 4], distance: 0 };
+    if !search.round() {
+        search.go(usize::from(job.streams), 0);
+    }
+    Hit { job: *job, points: search.best, distance: search.distance }
 }
 
 fn part(random: &mut Random, bound: u64) -> i32 {
     (random.draw() % (2 * bound + 1)) as i32 - bound as i32
+}
+
+fn ladder(levels: u64) -> Ladder {
+    Ladder { size: levels as u8, mask: ((1u32 << levels) - 1) as u8 }
 }
 
 fn level(levels: u64, number: u64) -> i32 {
@@ -141,7 +254,7 @@ fn times(r: Complex, x: Complex) -> Complex {
 }
 
 /// The job of the next numbers.
-fn made(random: &mut Random, streams: usize, i_levels: u64, q_levels: u64, noise: u64, is_small: bool) -> Job {
+pub fn made(random: &mut Random, streams: usize, i_levels: u64, q_levels: u64, noise: u64, is_small: bool) -> Job {
     let mut x = [Complex::default(); 4];
     for k in 0..4 {
         let re = level(i_levels, random.draw());
@@ -172,20 +285,16 @@ fn made(random: &mut Random, streams: usize, i_levels: u64, q_levels: u64, noise
         y[k].re += part(random, noise.min(1000));
         y[k].im += part(random, noise.min(1000));
     }
-    let mut job = Job { count: 2 * streams, ..Job::default() };
+    let axes = Axes { i: ladder(i_levels), q: ladder(q_levels) };
+    let mut job = Job { streams: streams as u8, ..Job::default() };
+    let mut at = 0;
     for k in 0..streams {
-        let depth = 2 * (streams - 1 - k);
-        for (at, sample, levels) in [(depth, y[k].im, q_levels), (depth + 1, y[k].re, i_levels)] {
-            job.d[at] = d[k].into();
-            job.y[at] = sample.into();
-            job.levels[at] = levels as i64;
-        }
+        job.axes[k] = axes;
+        job.d[k] = d[k] as u16;
+        job.y[k] = y[k];
         for l in k + 1..streams {
-            let before = 2 * (streams - 1 - l);
-            job.w[depth][before] = r[k][l].re;
-            job.w[depth][before + 1] = r[k][l].im;
-            job.w[depth + 1][before] = -r[k][l].im;
-            job.w[depth + 1][before + 1] = r[k][l].re;
+            job.above[at] = (r[k][l].re as i16, r[k][l].im as i16);
+            at += 1;
         }
     }
     job
@@ -225,8 +334,9 @@ pub fn run(words: &[String]) -> Option<u64> {
         for job in &jobs {
             let found = nearest(job);
             checksum = folded(checksum, found.distance as u64);
-            for k in (0..job.count).rev() {
-                checksum = folded(checksum, u64::from(found.best[k] as i8 as u8));
+            for point in &found.points[..usize::from(found.job.streams)] {
+                checksum = folded(checksum, u64::from(point.i as u8));
+                checksum = folded(checksum, u64::from(point.q as u8));
             }
         }
     }

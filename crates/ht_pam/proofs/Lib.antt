@@ -4,3 +4,5 @@ pub mod SameLemmas
 pub mod Tables
 pub mod Values
 pub mod ZigzagLemmas
+pub mod EndTables
+pub mod EndLemmas

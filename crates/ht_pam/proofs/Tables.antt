@@ -18,11 +18,11 @@ good size mask =
     let l : Rungs = record { size = size; mask = suc mask } in
     pointwise int_eq (levels l) (filter (has l) every) && nat_lt 0 (length (levels l))
 
-unfoldable all_below : (ℕ → Bool) → ℕ → Bool
+unfoldable pub all_below : (ℕ → Bool) → ℕ → Bool
 all_below p zero = true
 all_below p (suc n) = p n && all_below p n
 
-at_below : (p : ℕ → Bool) (n k : ℕ) → all_below p n ≡ true → k < n → p k ≡ true
+pub at_below : (p : ℕ → Bool) (n k : ℕ) → all_below p n ≡ true → k < n → p k ≡ true
 unfolding all_below
 at_below p zero k h below = absurd (omega arith)
 at_below p (suc n) k h below =

@@ -65,7 +65,7 @@ module _ (cost : ℤ → ℕ) where
       let h : nat_lt (cost y) (cost x) ≡ false = grind (arith, nat_tests) in
       cond-false (nat_lt (cost y) (cost x)) (y ∷ put cost x ys) (x ∷ y ∷ ys) h
 
-  from-weaker : (m n : ℕ) (xs : List ℤ) → m ≤ n → From cost n xs → From cost m xs
+  pub from-weaker : (m n : ℕ) (xs : List ℤ) → m ≤ n → From cost n xs → From cost m xs
   from-weaker m n [] le h = tt
   from-weaker m n (x ∷ xs) le h = (omega (arith, h.0), from-weaker m n xs le h.1)
 
@@ -76,7 +76,7 @@ module _ (cost : ℤ → ℕ) where
     | inr more ↦ subst (From cost n) (sym (put_before x y ys more)) (p, h)
   ]
 
-  from-nearest_first : (n : ℕ) (xs : List ℤ) → From cost n xs → From cost n (nearest_first cost xs)
+  pub from-nearest_first : (n : ℕ) (xs : List ℤ) → From cost n xs → From cost n (nearest_first cost xs)
   from-nearest_first n [] h = tt
   from-nearest_first n (x ∷ xs) h = from-put n x (nearest_first cost xs) h.0 (from-nearest_first n xs h.1)
 
@@ -92,7 +92,7 @@ module _ (cost : ℤ → ℕ) where
   ascending [] = tt
   ascending (x ∷ xs) = ascending-put x (nearest_first cost xs) (ascending xs)
 
-  put_first : (x : ℤ) (ys : List ℤ) → From cost (cost x) ys → put cost x ys ≡ x ∷ ys
+  pub put_first : (x : ℤ) (ys : List ℤ) → From cost (cost x) ys → put cost x ys ≡ x ∷ ys
   put_first x [] h = refl
   put_first x (y ∷ ys) h = put_before x y ys h.0
 

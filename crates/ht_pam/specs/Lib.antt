@@ -2,3 +2,4 @@ pub mod Ladders
 pub mod Grids
 pub mod Shown
 pub mod Zigzags
+pub mod Ends

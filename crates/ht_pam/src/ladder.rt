@@ -1,10 +1,9 @@
 //! The levels of one coordinate.
 ghost use Rattle.std.specs.Prelude.{◌≡◌, ◌⊎◌, ◌<◌, ◌≤◌, ◌^◌, ◌==◌, ◌&&◌};
-ghost use Rattle.ht_pam.specs.Ladders.{IsLadder, level as level_of, levels as levels_of, has};
+ghost use Rattle.ht_pam.specs.Ladders.{IsLadder, level as level_of, has};
 ghost use Rattle.std.specs.Int.{bit_at};
 ghost use Rattle.std.specs.Ordering.{int_eq};
 
-use arrayvec::ArrayVec;
 use std::marker::Model;
 
 /// The levels of one coordinate of a constellation, and which of them are allowed.
@@ -52,18 +51,13 @@ impl Ladder {
         false
     }
 
-    // The allowed levels, ascending.
-    pub(crate) fn levels(&self) -> ArrayVec<i8, 8>
-        ensures levels { result.items ≡ levels_of self.now }
+    // How many levels there are, and the mask of the allowed ones.
+    pub(crate) fn parts(&self) -> (u32, u32)
+        ensures size { result.0 ≡ self.now.size }
+        ensures mask { result.1 ≡ self.now.mask }
         ensures ladder { IsLadder self.now }
     {
-        let mut levels = ArrayVec::new();
-        for k in 0..self.size {
-            if allows(self.mask, k) {
-                levels.push(level_at(self.size, k));
-            }
-        }
-        levels
+        (u32::from(self.size), u32::from(self.mask))
     }
 }
 
@@ -74,14 +68,6 @@ fn is_at(size: u8, mask: u8, j: u8, level: i8) -> bool
     ensures { result ≡ (bit_at mask j == 1 && int_eq (level_of size j) level) }
 {
     (mask >> j) & 1 == 1 && level_at(size, j) == level
-}
-
-// Whether level j is allowed.
-fn allows(mask: u8, j: u8) -> bool
-    requires { j < 8 }
-    ensures { result ≡ (bit_at mask j == 1) }
-{
-    (mask >> j) & 1 == 1
 }
 
 // Level j of a ladder of so many levels.

@@ -1,13 +1,13 @@
 //! The levels of a coordinate, nearest first.
-ghost use Rattle.std.specs.Prelude.{◌≡◌, ◌+◌, ◌*ℤ◌, pos, ◌<◌, ◌≤◌, ◌^◌, ℕ, [], ◌∷◌, length, slice_index_or, unsigned_abs, IfSome};
+ghost use Rattle.std.specs.Prelude.{◌≡◌, ◌⊎◌, ◌+◌, ◌-◌, ◌+ℤ◌, ◌-ℤ◌, ◌*ℤ◌, ◌<ℤ◌, ◌≤ℤ◌, pos, ◌<◌, ◌≤◌, ◌^◌, ◌*◌, [], ◌∷◌, length, slice_index_or, unsigned_abs, IfSome, true, false, ◌==◌};
 ghost use Rattle.std.specs.Option.{MatchOption};
-ghost use Rattle.std.specs.List.{All};
-ghost use Rattle.ht_pam.specs.Ladders.{levels};
+ghost use Rattle.std.specs.Int.{bit_at};
+ghost use Rattle.ht_pam.specs.Ladders.{level, levels};
 ghost use Rattle.ht_pam.specs.Zigzags.{gap as gap_of, nearest_first};
+ghost use Rattle.ht_pam.specs.Ends.{levels_in, both, top, bottom, IsZigzag};
 
 use crate::ladder::Ladder;
 use crate::steps::Steps;
-use arrayvec::ArrayVec;
 use std::marker::Model;
 use std::sync::ledger::Ledger;
 
@@ -16,9 +16,11 @@ use std::sync::ledger::Ledger;
 /// A level is as near as `target - d * level` is small, and of two that are as near the lower one comes first.
 #[derive(Drop)]
 pub struct Zigzag {
-    levels: ArrayVec<i8, 8>,
     target: i64,
     d: u32,
+    size: u32,
+    below: u32,
+    above: u32,
 }
 
 impl Model for Zigzag {
@@ -27,12 +29,12 @@ impl Model for Zigzag {
     ghost Value = { List ℤ };
 
     ghost use Rattle.std.specs.Prelude.{unsigned_abs, ◌≤◌, ◌^◌};
-    ghost use Rattle.std.specs.List.{All};
     ghost use Rattle.ht_pam.specs.Zigzags.{gap, nearest_first};
+    ghost use Rattle.ht_pam.specs.Ends.{both, IsZigzag};
 
-    ghost view = { λ z. nearest_first (gap z.target z.d) z.levels.items };
+    ghost view = { λ z. nearest_first (gap z.target z.d) (both z.size z.below z.above) };
 
-    ghost invariant = { λ z. All (λ x. unsigned_abs x ≤ 7) z.levels.items × (unsigned_abs z.target ≤ 2 ^ 33) × (z.d ≤ 65535) };
+    ghost invariant = { λ z. IsZigzag z.target z.d z.size z.below z.above × (unsigned_abs z.target ≤ 2 ^ 33) × (z.d ≤ 65535) };
 }
 
 impl Zigzag {
@@ -44,10 +46,14 @@ impl Zigzag {
         requires diagonal { d ≤ 65535 }
         ensures { result ≡ nearest_first (gap_of target d) (levels ladder) }
     {
+        let (size, mask) = ladder.parts();
+        let below = start(size, mask, target, d);
         Zigzag {
-            levels: ladder.levels(),
             target,
             d,
+            size,
+            below,
+            above: mask - below,
         }
     }
 
@@ -58,11 +64,18 @@ impl Zigzag {
         ensures steps { steps.new ≡ steps.old + 1 }
     {
         steps.tick();
-        if self.levels.is_empty() {
+        if self.below == 0 && self.above == 0 {
             return None;
         }
-        let at = nearest(self.levels.as_slice(), self.target, self.d);
-        Some(self.levels.remove(at))
+        if is_lower(self.target, self.d, self.size, self.below, self.above) {
+            let at = highest(self.size, self.below);
+            self.below = without(self.below, at);
+            Some(level_at(self.size, at))
+        } else {
+            let at = lowest(self.size, self.above);
+            self.above = without(self.above, at);
+            Some(level_at(self.size, at))
+        }
     }
 
     /// The level that `next` will give. It takes no step.
@@ -71,51 +84,194 @@ impl Zigzag {
         ensures value { result ≡ slice_index_or self.now 0 (pos 0) }
         ensures level { unsigned_abs result ≤ 7 }
     {
-        let levels = self.levels.as_slice();
-        levels[nearest(levels, self.target, self.d)]
-    }
-}
-
-// The place of the first of the nearest levels.
-fn nearest(levels: &[i8], target: i64, d: u32) -> usize
-    requires some { 0 < length levels.now }
-    requires levels { All (λ x. unsigned_abs x ≤ 7) levels.now }
-    requires target { unsigned_abs target ≤ 2 ^ 33 }
-    requires diagonal { d ≤ 65535 }
-    ensures within { result < length levels.now }
-    ensures before { (k : ℕ) → k < result → gap_of target d (slice_index_or levels.now result (pos 0)) < gap_of target d (slice_index_or levels.now k (pos 0)) }
-    ensures least { (k : ℕ) → k < length levels.now → gap_of target d (slice_index_or levels.now result (pos 0)) ≤ gap_of target d (slice_index_or levels.now k (pos 0)) }
-{
-    let mut best = 0usize;
-    let mut least = gap(levels[0], target, d);
-    for k in 1..levels.len() {
-        let next = gap(levels[k], target, d);
-        if next < least {
-            best = k;
-            least = next;
+        if is_lower(self.target, self.d, self.size, self.below, self.above) {
+            level_at(self.size, highest(self.size, self.below))
+        } else {
+            level_at(self.size, lowest(self.size, self.above))
         }
     }
-    best
 }
 
-// How far a level is from the target.
-fn gap(level: i8, target: i64, d: u32) -> u64
-    requires level { unsigned_abs level ≤ 7 }
+impl Ladder {
+    /// The allowed level that a walk gives first: the nearest to the target, and the lower one of two that are as near.
+    ///
+    /// The target is within plus or minus 2^33, and `d`, a diagonal of a triangular channel, at most 65535.
+    pub fn nearest(self, target: i64, d: u32) -> i8
+        requires target { unsigned_abs target ≤ 2 ^ 33 }
+        requires diagonal { d ≤ 65535 }
+        ensures value { result ≡ slice_index_or (nearest_first (gap_of target d) (levels self)) 0 (pos 0) }
+        ensures level { unsigned_abs result ≤ 7 }
+    {
+        let (size, mask) = self.parts();
+        if d > 0 {
+            let at = nearest(size, target, d);
+            if allows(mask, at) {
+                return level_at(size, at);
+            }
+        }
+        Zigzag::new(self, target, d).first()
+    }
+}
+
+// Whether a mask allows a place.
+fn allows(mask: u32, at: u32) -> bool
+    requires { at < 8 }
+    ensures { result ≡ (bit_at mask at == 1) }
+{
+    (mask >> at) & 1 == 1
+}
+
+// The levels from which the walk goes down, by a mask: those up to the nearest one, or none where all are as near.
+fn start(size: u32, mask: u32, target: i64, d: u32) -> u32
+    requires size { (size ≡ 1) ⊎ (size ≡ 2) ⊎ (size ≡ 4) ⊎ (size ≡ 8) }
+    requires some { 0 < mask }
+    requires within { mask < 2 ^ size }
     requires target { unsigned_abs target ≤ 2 ^ 33 }
     requires diagonal { d ≤ 65535 }
-    ensures { result ≡ gap_of target d level }
+    ensures within { result ≤ mask }
+    ensures zigzag { IsZigzag target d size result (mask - result) }
+    ensures all { levels_in size mask ≡ both size result (mask - result) }
 {
-    (target - stretched(d, level)).unsigned_abs()
+    if d == 0 {
+        return 0;
+    }
+    mask & up_to(nearest(size, target, d))
 }
 
-// A diagonal times a level.
-fn stretched(d: u32, level: i8) -> i64
-    requires level { unsigned_abs level ≤ 7 }
+// Whether the nearest level is the highest one below.
+fn is_lower(target: i64, d: u32, size: u32, below: u32, above: u32) -> bool
+    requires zigzag { IsZigzag target d size below above }
+    requires target { unsigned_abs target ≤ 2 ^ 33 }
     requires diagonal { d ≤ 65535 }
-    ensures value { result ≡ pos d *ℤ level }
-    ensures bound { unsigned_abs result ≤ 458745 }
+    requires some { 0 < below + above }
+    ensures lower { result ≡ true → 0 < below }
+    ensures near { result ≡ true → 0 < above → gap_of target d (level size (top below)) ≤ gap_of target d (level size (bottom above)) }
+    ensures higher { result ≡ false → 0 < above }
+    ensures far { result ≡ false → 0 < below → gap_of target d (level size (bottom above)) < gap_of target d (level size (top below)) }
 {
-    i64::from(d) * i64::from(level)
+    if below == 0 {
+        return false;
+    }
+    if above == 0 {
+        return true;
+    }
+    let low = level_at(size, highest(size, below));
+    let high = level_at(size, lowest(size, above));
+    is_nearer(target, d, low, high)
+}
+
+// Whether the lower one of two levels is at least as near.
+fn is_nearer(target: i64, d: u32, low: i8, high: i8) -> bool
+    requires target { unsigned_abs target ≤ 2 ^ 33 }
+    requires some { 0 < d }
+    requires diagonal { d ≤ 65535 }
+    requires low { unsigned_abs low ≤ 7 }
+    requires high { unsigned_abs high ≤ 7 }
+    requires order { low <ℤ high }
+    ensures near { result ≡ true → gap_of target d low ≤ gap_of target d high }
+    ensures far { result ≡ false → gap_of target d high < gap_of target d low }
+{
+    target + target <= between(d, low, high)
+}
+
+// Twice the middle of two levels, times the diagonal.
+fn between(d: u32, low: i8, high: i8) -> i64
+    requires diagonal { d ≤ 65535 }
+    requires low { unsigned_abs low ≤ 7 }
+    requires high { unsigned_abs high ≤ 7 }
+    ensures { result ≡ pos d *ℤ (low +ℤ high) }
+{
+    i64::from(d) * (i64::from(low) + i64::from(high))
+}
+
+// The place of the nearest of all levels, the lower one at a tie, by their midpoints.
+fn nearest(size: u32, target: i64, d: u32) -> u32
+    requires size { (size ≡ 1) ⊎ (size ≡ 2) ⊎ (size ≡ 4) ⊎ (size ≡ 8) }
+    requires diagonal { d ≤ 65535 }
+    ensures within { result < size }
+    ensures below { 0 < result → (pos d *ℤ (level size result -ℤ pos 1)) <ℤ target }
+    ensures above { result + 1 < size → target ≤ℤ (pos d *ℤ (level size result +ℤ pos 1)) }
+{
+    let mut at = 0u32;
+    let mut width = size;
+    while width > 1 {
+        width /= 2;
+        if middle(size, at + width, d) < target {
+            at += width;
+        }
+    }
+    at
+}
+
+// The middle of a level and the one below it, times the diagonal.
+fn middle(size: u32, at: u32, d: u32) -> i64
+    requires size { size ≤ 8 }
+    requires within { at < size }
+    requires diagonal { d ≤ 65535 }
+    ensures { result ≡ pos d *ℤ (level size at -ℤ pos 1) }
+{
+    i64::from(d) * middle_level(size, at)
+}
+
+// The middle of a level and the one below it.
+fn middle_level(size: u32, at: u32) -> i64
+    requires size { size ≤ 8 }
+    requires within { at < size }
+    ensures value { result ≡ level size at -ℤ pos 1 }
+    ensures bound { unsigned_abs result ≤ 8 }
+{
+    2 * i64::from(at) - i64::from(size)
+}
+
+// The mask of the places up to this one.
+fn up_to(at: u32) -> u32
+    requires { at < 8 }
+    ensures { result ≡ 2 * 2 ^ at - 1 }
+{
+    (2 << at) - 1
+}
+
+// The highest place of a mask.
+fn highest(size: u32, mask: u32) -> u32
+    requires size { (size ≡ 1) ⊎ (size ≡ 2) ⊎ (size ≡ 4) ⊎ (size ≡ 8) }
+    requires some { 0 < mask }
+    requires within { mask < 2 ^ size }
+    ensures place { result ≡ top mask }
+    ensures within { result < size }
+    ensures there { 2 ^ result ≤ mask }
+{
+    31 - mask.leading_zeros()
+}
+
+// The lowest place of a mask.
+fn lowest(size: u32, mask: u32) -> u32
+    requires size { (size ≡ 1) ⊎ (size ≡ 2) ⊎ (size ≡ 4) ⊎ (size ≡ 8) }
+    requires some { 0 < mask }
+    requires within { mask < 2 ^ size }
+    ensures place { result ≡ bottom mask }
+    ensures within { result < size }
+    ensures there { 2 ^ result ≤ mask }
+{
+    mask.trailing_zeros()
+}
+
+// The mask with one place less.
+fn without(mask: u32, at: u32) -> u32
+    requires few { at < 8 }
+    requires there { 2 ^ at ≤ mask }
+    ensures { result ≡ mask - 2 ^ at }
+{
+    mask - (1 << at)
+}
+
+// Level j of a ladder of so many levels.
+fn level_at(size: u32, j: u32) -> i8
+    requires size { size ≤ 8 }
+    requires within { j < size }
+    ensures value { result ≡ level size j }
+    ensures bound { unsigned_abs result ≤ 7 }
+{
+    (2 * j as i32 - (size as i32 - 1)) as i8
 }
 
 #[cfg(test)]
@@ -152,5 +308,24 @@ mod tests {
             Blank::new(1),
         );
         expect::<Brand>(&rt, Zigzag::new(all, 7, 0), &[-3, -1, 1, 3], Blank::new(1));
+        expect::<Brand>(
+            &rt,
+            Zigzag::new(Ladder::of(8, 165), 24, 10),
+            &[3, 7, -3, -7],
+            Blank::new(1),
+        );
+    }
+
+    #[test]
+    fn nearest(rt: HostRuntime) {
+        for (ladder, target, d, level) in [
+            (Ladder::of(4, 15), 0, 10, -1),
+            (Ladder::of(4, 15), 21, 10, 3),
+            (Ladder::of(8, 129), 24, 10, 7),
+            (Ladder::of(8, 129), 24, 0, -7),
+            (Ladder::of(2, 1), 90, 10, -1),
+        ] {
+            assert_eq!(rt; ladder.nearest(target, d), level);
+        }
     }
 }

@@ -52,7 +52,7 @@ nat_lt-trans x y z p q = grind (arith, nat_tests)
 nat_lt-self : (x : ℕ) → nat_lt x x ≡ false
 nat_lt-self x = grind (arith, nat_tests)
 
-better-self : (a : Found) → better a a ≡ false
+pub better-self : (a : Found) → better a a ≡ false
 better-self a = fails _ _ _ (nat_lt-self a.1) (λ _. before-self a.0)
 
 better-not-trans : (a b c : Found) → better a b ≡ false → better b c ≡ false → better a c ≡ false
@@ -87,7 +87,7 @@ before-asym (a ∷ xs) (b ∷ ys) p = flip (int_lt a b) (int_lt b a) (before xs 
 better-asym : (a b : Found) → better a b ≡ true → better b a ≡ false
 better-asym a b p = flip (nat_lt a.1 b.1) (nat_lt b.1 a.1) (before a.0 b.0) (before b.0 a.0) (nat_lt-asym a.1 b.1) (before-asym a.0 b.0) p
 
-farther : (a b : Found) → b.1 < a.1 → better a b ≡ false
+pub farther : (a b : Found) → b.1 < a.1 → better a b ≡ false
 farther a b p =
     let q = nat_lt-is b.1 a.1 p in
     fails (nat_lt a.1 b.1) (nat_lt b.1 a.1) (before a.0 b.0) (nat_lt-asym b.1 a.1 q) (λ r. absurd (true≢false (sym q ∙ r)))
@@ -129,7 +129,7 @@ module _ (under : List ℤ → ℕ → List Found) (choice : Real) (chosen : Lis
     | inr r ↦ by-le rest xs v r
   ]
 
-leaves-le : (choices : List Real) (chosen : List ℤ) (partial : ℕ) (v : Found) → Among (leaves choices chosen partial) v → partial ≤ v.1
+pub leaves-le : (choices : List Real) (chosen : List ℤ) (partial : ℕ) (v : Found) → Among (leaves choices chosen partial) v → partial ≤ v.1
 leaves-le [] chosen partial v h = elim h [ inl e ↦ omega (arith, ap (λ (f : Found). f.1) e) | inr n ↦ absurd n ]
 leaves-le (choice ∷ choices) chosen partial v h = by-le (leaves choices) choice chosen partial (leaves-le choices) (order choice chosen) v h
 
@@ -198,3 +198,7 @@ sorted c t = ascending_squared t c (order_at c t) (ascending (gap t c.diagonal) 
 -- there is a level
 pub order_some : (c : Real) (t : ℤ) → IsLadder c.ladder → 0 < length (order_at c t)
 order_some c t ladder = omega (arith, length-nearest_first (gap t c.diagonal) (levels c.ladder), levels_some c.ladder ladder)
+
+pub still_at : (xs ys : List ℤ) (at place size : ℕ) (x y : ℤ) → at < length xs → at ≡ place → at + 1 ≡ size → drop place ys ≡ drop place (set xs at y) → drop size ys ≡ drop size xs
+still_at xs ys at place size x y small e f h =
+    ap (λ (m : ℕ). drop m ys) (sym f) ∙ still xs ys at y small (ap (λ (m : ℕ). drop m ys) e ∙ h ∙ ap (λ (m : ℕ). drop m (set xs at y)) (sym e)) ∙ ap (λ (m : ℕ). drop m xs) f

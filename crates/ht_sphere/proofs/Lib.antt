@@ -1,7 +1,10 @@
 pub mod Bests
-pub mod Weighing
 pub mod Paths
 pub mod Rows
 pub mod Finding
 pub mod Making
 pub mod Values
+pub mod Heard
+pub mod Down
+pub mod Others
+pub mod Steps

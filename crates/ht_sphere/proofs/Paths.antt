@@ -34,7 +34,7 @@ among_put f x (y ∷ ys) v h = elim (cases_lt (f y) (f x)) [
   | inr more ↦ subst (λ (l : List ℤ). nearest.Among l v) (sym (put_before f x y ys more)) h
 ]
 
-in_order : (f : ℤ → ℕ) (xs : List ℤ) (v : ℤ) → nearest.Among (nearest_first f xs) v → nearest.Among xs v
+pub in_order : (f : ℤ → ℕ) (xs : List ℤ) (v : ℤ) → nearest.Among (nearest_first f xs) v → nearest.Among xs v
 in_order f [] v h = h
 in_order f (x ∷ xs) v h = elim (in_put f x (nearest_first f xs) v h) [ inl e ↦ inl e | inr rest ↦ inr (in_order f xs v rest) ]
 
@@ -106,7 +106,7 @@ abbrev pub AreGood : List Real → Type 0
 AreGood [] = Unit {0}
 AreGood (c ∷ cs) = IsLadder c.ladder × AreGood cs
 
-first_among : (xs : List ℤ) → 0 < length xs → nearest.Among xs (get_or xs 0 (pos 0))
+pub first_among : (xs : List ℤ) → 0 < length xs → nearest.Among xs (get_or xs 0 (pos 0))
 first_among [] some = absurd (omega arith)
 first_among (x ∷ xs) some = inl refl
 

@@ -16,7 +16,7 @@ use Rattle.ht_sphere.specs.Tree.{Found}
 use Rattle.ht_sphere.specs.Searching.{before as levels_before}
 use Rattle.ht_sphere.proofs.Paths.{Path, path_apart, path_joined, tried_has, has_tried}
 
-none_times : (z : ℤ) → pos 0 *ℤ z ≡ pos 0
+pub none_times : (z : ℤ) → pos 0 *ℤ z ≡ pos 0
 none_times z = zero-*ℤ z
 
 plus_none : (z : ℤ) → pos 0 +ℤ z ≡ z
@@ -32,7 +32,7 @@ neg_times (pos (suc n)) (negsuc m) = sym (neg_ℤ-neg_ℤ (pos (suc n * suc m)))
 neg_times (negsuc n) (pos m) = sym (neg_ℤ-neg_ℤ (pos (suc n * m)))
 neg_times (negsuc n) (negsuc m) = refl
 
-less_times : (b z : ℤ) → (pos 0 -ℤ b) *ℤ z ≡ pos 0 -ℤ (b *ℤ z)
+pub less_times : (b z : ℤ) → (pos 0 -ℤ b) *ℤ z ≡ pos 0 -ℤ (b *ℤ z)
 less_times b z = ap (λ (m : ℤ). m *ℤ z) (minus_is b) ∙ neg_times b z ∙ sym (minus_is (b *ℤ z))
 
 no_entry : (a b rest : ℤ) → rest ≡ pos 0 → (pos 0 *ℤ a) +ℤ ((pos 0 *ℤ b) +ℤ rest) ≡ pos 0
@@ -47,7 +47,7 @@ i_step a m b c d e f = omega (arith, ints)
 swapped : (s t c d : ℤ) → c ≡ d → (s -ℤ c) -ℤ t ≡ (s -ℤ t) -ℤ d
 swapped s t c d e = omega (arith, ints)
 
-add_none : (a b c : ℤ) → a ≡ pos 0 → b ≡ c → a +ℤ b ≡ c
+pub add_none : (a b c : ℤ) → a ≡ pos 0 → b ≡ c → a +ℤ b ≡ c
 add_none a b c e f = omega (arith, ints)
 
 -- the weighed levels are the parts of the entries times the points

@@ -1,11 +1,12 @@
 -- A system of complex rows as one of real coordinates: I and Q of each stream.
-use Rattle.std.specs.Prelude.{ℕ, zero, suc, length, drop, slice_index_or, ℤ, pos, ◌+ℤ◌, ◌-ℤ◌, ◌*ℤ◌, List, [], ◌∷◌, ◌++◌}
+use Rattle.std.specs.Prelude.{ℕ, zero, suc, ◌-◌, length, drop, slice_index_or, ℤ, pos, ◌+ℤ◌, ◌-ℤ◌, ◌*ℤ◌, List, [], ◌∷◌, ◌++◌}
 use Rattle.ht_pam.specs.Ladders.{Rungs, levels}
+use Rattle.ht_pam.specs.Grids.{no_axes}
 use Rattle.ht_pam.specs.Zigzags.{gap, nearest_first}
 use Rattle.ht_pam.specs.declared.axes.Axes.{Axes}
 use Rattle.ht_pam.specs.declared.point.Point.{Point}
 use Rattle.ht_metric.specs.declared.tap.Tap.{Tap}
-use Rattle.ht_metric.specs.Rows.{Row, no_tap}
+use Rattle.ht_metric.specs.Rows.{Row, no_row, no_tap}
 use Rattle.ht_metric.specs.Distance.{square}
 
 -- one coordinate: its ladder, its diagonal, its part of a sample, and the weights of the coordinates behind it
@@ -66,6 +67,24 @@ abbrev pub from_last : List Row → List Axes → List Real
 from_last [] grid = []
 from_last (row ∷ rows) [] = []
 from_last (row ∷ rows) (a ∷ grid) = from_last rows grid ++ quadrature (length rows) row a ∷ in_phase (length rows) row a ∷ []
+
+-- those of the row at a place, and those of the first rows
+abbrev pub q_at : List Row → List Axes → ℕ → Real
+q_at rows grid j = quadrature (length rows - suc j) (slice_index_or rows j no_row) (slice_index_or grid j no_axes)
+
+abbrev pub i_at : List Row → List Axes → ℕ → Real
+i_at rows grid j = in_phase (length rows - suc j) (slice_index_or rows j no_row) (slice_index_or grid j no_axes)
+
+abbrev pub down : List Row → List Axes → ℕ → List Real
+down rows grid zero = []
+down rows grid (suc j) = q_at rows grid j ∷ i_at rows grid j ∷ down rows grid j
+
+-- from Q or I of the row at a place
+abbrev pub from_i : List Row → List Axes → ℕ → List Real
+from_i rows grid j = i_at rows grid j ∷ down rows grid j
+
+abbrev pub from_q : List Row → List Axes → ℕ → List Real
+from_q rows grid j = q_at rows grid j ∷ from_i rows grid j
 
 -- the levels of a vector: I_1, Q_1, I_2 and so on
 abbrev pub levels_of : List Point → List ℤ

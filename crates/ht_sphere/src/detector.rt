@@ -1,17 +1,15 @@
 //! The sphere detector.
-ghost use Rattle.std.specs.Prelude.{◌≡◌, ◌≤◌, ◌+◌, ◌*◌, [], length, unsigned_abs};
+ghost use Rattle.std.specs.Prelude.{◌≡◌, ◌≤◌, ◌+◌, ◌*◌, ◌^◌, [], length, unsigned_abs};
 ghost use Rattle.std.specs.List.{All};
 ghost use Rattle.ht_metric.specs.Jobs.{near};
-ghost use Rattle.ht_sphere.specs.Coordinates.{points_of};
+ghost use Rattle.ht_sphere.specs.Coordinates.{from_last, points_of};
 ghost use Rattle.ht_sphere.specs.Tree.{rounding, inside, inside_of};
 ghost use Rattle.ht_sphere.specs.Searching.{leaves, IsBestOf};
 
-use crate::coordinate::Coordinate;
-use crate::coordinates::coordinates_of;
 use crate::round::round;
 use crate::search::search;
 use crate::vectors::vector_of;
-use ht_metric::{Hit, Job, Vector};
+use ht_metric::{Hit, Job};
 use ht_pam::Steps;
 use std::sync::ledger::Ledger;
 
@@ -25,32 +23,47 @@ pub fn nearest<L: Ledger>(job: &Job, steps: &mut Steps<L>) -> Hit
     ensures near { near job.now ≡ record { vector = result.vector; distance = result.distance } }
     ensures steps { steps.new ≤ steps.old + 2 * inside_of job.now }
 {
-    let coordinates = coordinates_of(job.system(), job.grid());
-    let count = coordinates.len();
     let mut levels = [0i8; 8];
-    let mut best = [0i8; 8];
-    let (levels, best) = (&mut levels[..count], &mut best[..count]);
-    let found = find(coordinates.as_slice(), levels, best, steps);
-    Hit::of(job.copy(), found.0, found.1)
+    let levels = &mut levels[..2 * usize::from(job.system().streams())];
+    let distance = find(job, levels, steps);
+    Hit::of(job.copy(), vector_of(levels), distance)
 }
 
-// The best of all vectors, with its distance: successive rounding comes first, and the search betters it.
-fn find<L: Ledger>(
-    coordinates: &[Coordinate],
-    levels: &mut [i8],
-    best: &mut [i8],
-    steps: &mut Steps<L>,
-) -> (Vector, u128)
-    requires few { length coordinates.now ≤ 8 }
-    requires levels { length levels.old ≡ length coordinates.now }
-    requires best { length best.old ≡ length coordinates.now }
-    requires small { All (λ x. unsigned_abs x ≤ 7) levels.old }
-    ensures vector { result.0 ≡ points_of best.new }
-    ensures best { IsBestOf (rounding coordinates.now [] 0) (leaves coordinates.now [] 0) (best.new, result.1) }
-    ensures steps { steps.new + 1 ≤ steps.old + 2 * inside (rounding coordinates.now [] 0).1 coordinates.now [] 0 }
+// The levels of the best vector, and its distance. Successive rounding comes first, and ends the search where no other
+// vector can be as near.
+fn find<L: Ledger>(job: &Job, levels: &mut [i8], steps: &mut Steps<L>) -> u128
+    requires room { length levels.old ≡ 2 * length job.now.system }
+    requires levels { All (λ x. unsigned_abs x ≤ 7) levels.old }
+    ensures room { length levels.new ≡ length levels.old }
+    ensures best { IsBestOf (rounding (from_last job.now.system job.now.grid) [] 0) (leaves (from_last job.now.system job.now.grid) [] 0) (levels.new, result) }
+    ensures steps { steps.new + 1 ≤ steps.old + 2 * inside_of job.now }
 {
-    let mut distance = round(coordinates, levels, 0);
-    best.copy_from_slice(levels);
-    search(coordinates, levels, 0, best, &mut distance, steps);
-    (vector_of(best), distance)
+    let mut distance = 0u128;
+    let mut others = u128::MAX;
+    round(
+        job,
+        job.system().streams(),
+        levels,
+        &mut distance,
+        &mut others,
+    );
+    if distance < others {
+        return distance;
+    }
+    better(job, levels, distance, steps)
+}
+
+// The best of a vector and all others, and its distance.
+fn better<L: Ledger>(job: &Job, best: &mut [i8], distance: u128, steps: &mut Steps<L>) -> u128
+    requires room { length best.old ≡ 2 * length job.now.system }
+    ensures room { length best.new ≡ length best.old }
+    ensures best { IsBestOf (best.old, distance) (leaves (from_last job.now.system job.now.grid) [] 0) (best.new, result) }
+    ensures steps { steps.new + 1 ≤ steps.old + 2 * inside distance (from_last job.now.system job.now.grid) [] 0 }
+{
+    let streams = job.system().streams();
+    let mut levels = [0i8; 8];
+    let levels = &mut levels[..2 * usize::from(streams)];
+    let mut least = distance;
+    search(job, streams, levels, 0, best, &mut least, steps);
+    least
 }

@@ -7,16 +7,16 @@
 //! away; the costs so far are the partial distance, which never falls. Each coordinate's levels come nearest
 //! first, so a level that is too far ends its coordinate: all later ones are too far as well.
 //!
-//! Successive rounding gives the first vector. Only strictly farther branches are left out, and vectors that
+//! Successive rounding gives the first vector, and with it how far all others are at least. Where it is nearer than
+//! that, it is the answer at once. Else the tree is walked: only strictly farther branches are left out, and vectors that
 //! are as near are compared by their order, so ties end as in `plain_nearest`. In QPSK on two streams with
 //! d = 0 and 0, r_12 = 10, y = (10 - 10i, 0), rounding ends at (-1, -1), (-1, -1) at distance 400; the answer
 //! is (-1, -1), (1, -1) at 0, after at most 54 steps.
 #![tactic(auto)]
 
-mod coordinate;
-mod coordinates;
 mod detector;
 mod round;
+mod row;
 mod search;
 #[cfg(test)]
 mod tests;

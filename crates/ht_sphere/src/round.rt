@@ -1,28 +1,76 @@
 //! Successive rounding.
-ghost use Rattle.std.specs.Prelude.{◌≡◌, ◌+◌, ◌*◌, ◌^◌, ◌<◌, ◌≤◌, ℤ, List, length, drop, unsigned_abs};
+ghost use Rattle.std.specs.Prelude.{◌≡◌, ◌⊎◌, ◌+◌, ◌-◌, ◌*◌, ◌^◌, ◌<◌, ◌≤◌, ◌-ℤ◌, ◌*ℤ◌, pos, length, drop, unsigned_abs};
 ghost use Rattle.std.specs.List.{All};
-ghost use Rattle.ht_sphere.specs.Tree.{rounding};
+ghost use Rattle.ht_pam.specs.Zigzags.{gap};
+ghost use Rattle.ht_metric.specs.Distance.{square};
+ghost use Rattle.ht_sphere.specs.Coordinates.{down};
+ghost use Rattle.ht_sphere.specs.Tree.{Found, rounding};
+ghost use Rattle.ht_sphere.specs.Searching.{Among, leaves};
 
-use crate::coordinate::Coordinate;
+use crate::row::{cost, cost_of_others, nearest_i, nearest_q, row_of};
+use ht_metric::Job;
 
-// Gives each coordinate the level that is nearest behind those chosen before, and answers the distance.
-pub(crate) fn round(coordinates: &[Coordinate], levels: &mut [i8], partial: u128) -> u128
-    requires room { length coordinates.now ≤ length levels.old }
+// Gives each coordinate of the first k streams the level that is nearest behind those chosen before. What is added to
+// the distance is theirs, and the distance of each other vector is at least `others`.
+pub(crate) fn round(job: &Job, k: u8, levels: &mut [i8], distance: &mut u128, others: &mut u128)
+    requires last { k ≤ length job.now.system }
+    requires room { length levels.old ≡ 2 * length job.now.system }
     requires levels { All (λ x. unsigned_abs x ≤ 7) levels.old }
-    requires small { partial + 2 ^ 64 * length coordinates.now < 2 ^ 128 }
-    ensures found { rounding coordinates.now (drop (length coordinates.now) levels.old) partial ≡ (levels.new, result) }
+    requires small { distance.old + 2 ^ 65 * k < 2 ^ 128 }
+    ensures found { rounding (down job.now.system job.now.grid k) (drop (2 * k) levels.old) distance.old ≡ (levels.new, distance.new) }
+    ensures others { (v : Found) → Among (leaves (down job.now.system job.now.grid k) (drop (2 * k) levels.old) distance.old) v → (v ≡ (levels.new, distance.new)) ⊎ (others.new ≤ v.1) }
+    ensures less { others.new ≤ others.old }
     ensures levels { All (λ x. unsigned_abs x ≤ 7) levels.new }
 {
-    let Some((first, rest)) = coordinates.split_first() else {
-        return partial;
-    };
-    let at = rest.len();
-    let target = first.target(&levels[at + 1..]);
-    let level = first.walk(target).first();
-    levels[at] = level;
-    round(
-        rest,
-        levels,
-        partial + u128::from(first.cost(target, level)),
-    )
+    if k == 0 {
+        return;
+    }
+    let at = 2 * usize::from(k) - 2;
+    let row = row_of(job, k, levels);
+    let level = nearest_q(job, k, row.im);
+    let q = chosen(level, row.im, row.d, *distance, *others);
+    let level = nearest_i(job, k, row.re);
+    let i = chosen(level, row.re, row.d, q.partial, q.others);
+    levels[at + 1] = q.level;
+    levels[at] = i.level;
+    *distance = i.partial;
+    *others = i.others;
+    round(job, k - 1, levels, distance, others);
+}
+
+// The level of a coordinate, the partial distance with it, and what each other vector's distance is at least.
+#[derive(Clone, Copy)]
+struct Choice {
+    partial: u128,
+    others: u128,
+    level: i8,
+}
+
+// The choice of a level.
+fn chosen(level: i8, target: i64, d: u16, partial: u128, others: u128) -> Choice
+    requires target { unsigned_abs target ≤ 2 ^ 31 + 2 ^ 21 }
+    requires level { unsigned_abs level ≤ 7 }
+    requires small { partial + 2 ^ 64 < 2 ^ 128 }
+    ensures level { result.level ≡ level }
+    ensures partial { result.partial ≡ partial + square (target -ℤ (pos d *ℤ level)) }
+    ensures room { result.partial < partial + 2 ^ 64 }
+    ensures others { result.others ≤ partial + (2 * d - gap target d level) * (2 * d - gap target d level) }
+    ensures less { result.others ≤ others }
+{
+    Choice {
+        partial: partial + u128::from(cost(d, target, level)),
+        others: lesser(
+            others,
+            partial + u128::from(cost_of_others(d, target, level)),
+        ),
+        level,
+    }
+}
+
+// The lesser of two numbers.
+fn lesser(a: u128, b: u128) -> u128
+    ensures left { result ≤ a }
+    ensures right { result ≤ b }
+{
+    if a < b { a } else { b }
 }

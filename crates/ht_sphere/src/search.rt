@@ -1,10 +1,12 @@
 //! The search through the tree of suffixes.
-ghost use Rattle.std.specs.Prelude.{◌≡◌, [], ◌∷◌, ◌+◌, ◌*◌, ◌^◌, ◌<◌, ◌≤◌, ℤ, ℕ, List, length, drop, unsigned_abs};
+ghost use Rattle.std.specs.Prelude.{◌≡◌, [], ◌∷◌, ◌+◌, ◌-◌, ◌*◌, ◌^◌, ◌<◌, ◌≤◌, ℕ, length, drop, unsigned_abs};
 ghost use Rattle.std.specs.List.{All};
+ghost use Rattle.ht_sphere.specs.Coordinates.{i_at, down, from_q, from_i, target as target_of};
 ghost use Rattle.ht_sphere.specs.Tree.{inside};
 ghost use Rattle.ht_sphere.specs.Searching.{leaves, better, before, IsBestOf};
 
-use crate::coordinate::Coordinate;
+use crate::row::{cost, row_of, walk_of_i, walk_of_q};
+use ht_metric::Job;
 use ht_pam::Steps;
 use std::sync::ledger::Ledger;
 
@@ -40,38 +42,107 @@ fn settle(levels: &[i8], partial: u128, best: &mut [i8], distance: &mut u128)
     }
 }
 
-// The best of what was found and of all vectors that end in the chosen levels.
+// The best of what was found and of all vectors that end in the chosen levels, where k streams are open.
+#[cycle(walk)]
 pub(crate) fn search<L: Ledger>(
-    coordinates: &[Coordinate],
+    job: &Job,
+    k: u8,
     levels: &mut [i8],
     partial: u128,
     best: &mut [i8],
     distance: &mut u128,
     steps: &mut Steps<L>,
 )
-    requires room { length coordinates.now ≤ length levels.old }
+    requires last { k ≤ length job.now.system }
+    requires room { length levels.old ≡ 2 * length job.now.system }
     requires same { length best.old ≡ length levels.old }
     requires levels { All (λ x. unsigned_abs x ≤ 7) levels.old }
-    requires small { partial + 2 ^ 64 * length coordinates.now < 2 ^ 128 }
+    requires small { partial + 2 ^ 65 * k < 2 ^ 128 }
     ensures levels { All (λ x. unsigned_abs x ≤ 7) levels.new }
-    ensures chosen { drop (length coordinates.now) levels.new ≡ drop (length coordinates.now) levels.old }
-    ensures best { IsBestOf (best.old, distance.old) (leaves coordinates.now (drop (length coordinates.now) levels.old) partial) (best.new, distance.new) }
+    ensures chosen { drop (2 * k) levels.new ≡ drop (2 * k) levels.old }
+    ensures best { IsBestOf (best.old, distance.old) (leaves (down job.now.system job.now.grid k) (drop (2 * k) levels.old) partial) (best.new, distance.new) }
     ensures less { distance.new ≤ distance.old }
-    ensures steps { (rho : ℕ) → partial ≤ rho → distance.old ≤ rho → steps.new + 1 ≤ steps.old + 2 * inside rho coordinates.now (drop (length coordinates.now) levels.old) partial }
+    ensures steps { (rho : ℕ) → partial ≤ rho → distance.old ≤ rho → steps.new + 1 ≤ steps.old + 2 * inside rho (down job.now.system job.now.grid k) (drop (2 * k) levels.old) partial }
 {
-    let Some((first, rest)) = coordinates.split_first() else {
+    if k == 0 {
         settle(levels, partial, best, distance);
-        return;
-    };
-    let at = rest.len();
-    let target = first.target(&levels[at + 1..]);
-    let mut walk = first.walk(target);
+    } else {
+        quadrature(job, k, levels, partial, best, distance, steps);
+    }
+}
+
+// The same from Q of stream k on.
+#[cycle(walk)]
+fn quadrature<L: Ledger>(
+    job: &Job,
+    k: u8,
+    levels: &mut [i8],
+    partial: u128,
+    best: &mut [i8],
+    distance: &mut u128,
+    steps: &mut Steps<L>,
+)
+    requires first { 1 ≤ k }
+    requires last { k ≤ length job.now.system }
+    requires room { length levels.old ≡ 2 * length job.now.system }
+    requires same { length best.old ≡ length levels.old }
+    requires levels { All (λ x. unsigned_abs x ≤ 7) levels.old }
+    requires small { partial + 2 ^ 65 * k < 2 ^ 128 }
+    ensures levels { All (λ x. unsigned_abs x ≤ 7) levels.new }
+    ensures chosen { drop (2 * k) levels.new ≡ drop (2 * k) levels.old }
+    ensures best { IsBestOf (best.old, distance.old) (leaves (from_q job.now.system job.now.grid (k - 1)) (drop (2 * k) levels.old) partial) (best.new, distance.new) }
+    ensures less { distance.new ≤ distance.old }
+    ensures steps { (rho : ℕ) → partial ≤ rho → distance.old ≤ rho → steps.new + 1 ≤ steps.old + 2 * inside rho (from_q job.now.system job.now.grid (k - 1)) (drop (2 * k) levels.old) partial }
+{
+    let at = 2 * usize::from(k) - 1;
+    let row = row_of(job, k, levels);
+    let mut walk = walk_of_q(job, k, row.im);
     while let Some(level) = walk.next(steps) {
-        let next = partial + u128::from(first.cost(target, level));
+        let next = partial + u128::from(cost(row.d, row.im, level));
         if next > *distance {
             break;
         }
         levels[at] = level;
-        search(rest, levels, next, best, distance, steps);
+        in_phase(job, k, row.d, row.re, levels, next, best, distance, steps);
+    }
+}
+
+// The same from I of stream k on, of which Q is chosen.
+#[cycle(walk)]
+fn in_phase<L: Ledger>(
+    job: &Job,
+    k: u8,
+    d: u16,
+    target: i64,
+    levels: &mut [i8],
+    partial: u128,
+    best: &mut [i8],
+    distance: &mut u128,
+    steps: &mut Steps<L>,
+)
+    requires first { 1 ≤ k }
+    requires last { k ≤ length job.now.system }
+    requires room { length levels.old ≡ 2 * length job.now.system }
+    requires same { length best.old ≡ length levels.old }
+    requires levels { All (λ x. unsigned_abs x ≤ 7) levels.old }
+    requires small { partial + 2 ^ 65 * k < 2 ^ 128 + 2 ^ 64 }
+    requires d { d ≡ (i_at job.now.system job.now.grid (k - 1)).diagonal }
+    requires target { target ≡ target_of (i_at job.now.system job.now.grid (k - 1)) (drop (2 * k - 1) levels.old) }
+    requires bound { unsigned_abs target ≤ 2 ^ 31 + 2 ^ 21 }
+    ensures levels { All (λ x. unsigned_abs x ≤ 7) levels.new }
+    ensures chosen { drop (2 * k - 1) levels.new ≡ drop (2 * k - 1) levels.old }
+    ensures best { IsBestOf (best.old, distance.old) (leaves (from_i job.now.system job.now.grid (k - 1)) (drop (2 * k - 1) levels.old) partial) (best.new, distance.new) }
+    ensures less { distance.new ≤ distance.old }
+    ensures steps { (rho : ℕ) → partial ≤ rho → distance.old ≤ rho → steps.new + 1 ≤ steps.old + 2 * inside rho (from_i job.now.system job.now.grid (k - 1)) (drop (2 * k - 1) levels.old) partial }
+{
+    let at = 2 * usize::from(k) - 2;
+    let mut walk = walk_of_i(job, k, target);
+    while let Some(level) = walk.next(steps) {
+        let both = partial + u128::from(cost(d, target, level));
+        if both > *distance {
+            return;
+        }
+        levels[at] = level;
+        search(job, k - 1, levels, both, best, distance, steps);
     }
 }

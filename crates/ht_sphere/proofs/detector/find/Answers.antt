@@ -1,33 +1,51 @@
-use Rattle.std.proofs.Common.{rules, ◌≡◌, ◌≤◌, ◌+◌, ◌*◌, ℤ, List, [], length, drop, arith, ap, sym, ◌∙◌, subst}
+use Rattle.std.proofs.Common.{◌≡◌, [], ◌+◌, ◌*◌, ◌≤◌, ℤ, List, length, drop, arith, ap, sym, subst}
+use Rattle.ht_sphere.specs.Coordinates.{Real, from_last, down}
 use Rattle.ht_sphere.specs.Tree.{Found, rounding, inside}
 use Rattle.ht_sphere.specs.Searching.{leaves, IsBestOf}
-use Rattle.ht_sphere.proofs.Finding.{none_behind}
+use Rattle.ht_sphere.proofs.Down.{down_system, none_left, found_all}
+use Rattle.ht_sphere.proofs.Others.{OthersFrom, alone, inside_some}
 use Rattle.ht_sphere.proofs.detector.find.Goals as goal
+
+pub returns-then-distance-others-clause-best : goal.returns-then-distance-others-clause-best
+returns-then-distance-others-clause-best g c =
+    let rows = c.args.job.now.system in
+    let grid = c.args.job.now.grid in
+    let k = c.streams.result in
+    let w : Found = (c.round.new.levels, c.round.new.distance) in
+    let all = down_system c.args.job.now c.system.result.now k c.system.ensures.job c.system.ensures.system c.streams.ensures.number in
+    let none = none_left c.args.levels.now k (omega (arith, c.requires.room, c.streams.ensures.number, ap length c.system.ensures.system)) in
+    let found : rounding (from_last rows grid) [] 0 ≡ w = found_all (down rows grid k) (from_last rows grid) (drop (2 * k) c.args.levels.now) w all none c.round.ensures.found in
+    let others : OthersFrom (from_last rows grid) [] 0 w c.round.new.others =
+    subst (λ (cs : List Real). OthersFrom cs [] 0 w c.round.new.others) all
+    (subst (λ (s : List ℤ). OthersFrom (down rows grid k) s 0 w c.round.new.others) none c.round.ensures.others) in
+    subst (λ (f : Found). IsBestOf f (leaves (from_last rows grid) [] 0) w) (sym found)
+    (alone (from_last rows grid) [] 0 c.round.new.others w others c.if-distance-others.true)
+
+pub returns-then-distance-others-clause-steps : goal.returns-then-distance-others-clause-steps
+returns-then-distance-others-clause-steps g c =
+    let cs = from_last c.args.job.now.system c.args.job.now.grid in
+    let some = inside_some (rounding cs [] 0).1 cs in
+    omega (arith, some)
 
 pub returns-clause-best : goal.returns-clause-best
 returns-clause-best g c =
-    let cs = c.args.coordinates.now in
-    let first = c.round-distance.new.levels in
-    let d = c.round-distance.result in
-    let kept : length first ≡ length c.args.levels.now = search (rules, c.round-distance.auto.levels) in
-    let none : drop (length cs) c.args.levels.now ≡ [] = none_behind c.args.levels.now cs c.requires.levels in
-    let none_left : drop (length cs) first ≡ [] = none_behind first cs (kept ∙ c.requires.levels) in
-    let found : rounding cs [] 0 ≡ (first, d) = ap (λ (l : List ℤ). rounding cs l 0) (sym none) ∙ c.round-distance.ensures.found in
-    let start : (c.copy_from_slice.new.self, d) ≡ rounding cs [] 0 = ap (λ (l : List ℤ). let f : Found = (l, d) in f) c.copy_from_slice.ensures.after ∙ sym found in
-    subst (λ (f : Found). IsBestOf f (leaves cs [] 0) (c.search.new.best, c.search.new.distance)) start
-    (subst (λ (l : List ℤ). IsBestOf (c.copy_from_slice.new.self, d) (leaves cs l 0) (c.search.new.best, c.search.new.distance)) none_left c.search.ensures.best)
+    let rows = c.args.job.now.system in
+    let grid = c.args.job.now.grid in
+    let k = c.streams.result in
+    let w : Found = (c.round.new.levels, c.round.new.distance) in
+    let all = down_system c.args.job.now c.system.result.now k c.system.ensures.job c.system.ensures.system c.streams.ensures.number in
+    let none = none_left c.args.levels.now k (omega (arith, c.requires.room, c.streams.ensures.number, ap length c.system.ensures.system)) in
+    let found : rounding (from_last rows grid) [] 0 ≡ w = found_all (down rows grid k) (from_last rows grid) (drop (2 * k) c.args.levels.now) w all none c.round.ensures.found in
+    subst (λ (f : Found). IsBestOf f (leaves (from_last rows grid) [] 0) (c.better.new.best, c.better.result)) (sym found) c.better.ensures.best
 
 pub returns-clause-steps : goal.returns-clause-steps
 returns-clause-steps g c =
-    let cs = c.args.coordinates.now in
-    let first = c.round-distance.new.levels in
-    let d = c.round-distance.result in
-    let kept : length first ≡ length c.args.levels.now = search (rules, c.round-distance.auto.levels) in
-    let none : drop (length cs) c.args.levels.now ≡ [] = none_behind c.args.levels.now cs c.requires.levels in
-    let none_left : drop (length cs) first ≡ [] = none_behind first cs (kept ∙ c.requires.levels) in
-    let found : rounding cs [] 0 ≡ (first, d) = ap (λ (l : List ℤ). rounding cs l 0) (sym none) ∙ c.round-distance.ensures.found in
-    let far : (rounding cs [] 0).1 ≡ d = ap (λ (f : Found). f.1) found in
-    let rho = (rounding cs [] 0).1 in
-    let partial : 0 ≤ rho = omega arith in
-    let near : d ≤ rho = omega (arith, far) in
-    subst (λ (l : List ℤ). c.search.new.steps + 1 ≤ c.args.steps.now + 2 * inside rho cs l 0) none_left (c.search.ensures.steps rho partial near)
+    let rows = c.args.job.now.system in
+    let grid = c.args.job.now.grid in
+    let cs = from_last rows grid in
+    let k = c.streams.result in
+    let w : Found = (c.round.new.levels, c.round.new.distance) in
+    let all = down_system c.args.job.now c.system.result.now k c.system.ensures.job c.system.ensures.system c.streams.ensures.number in
+    let none = none_left c.args.levels.now k (omega (arith, c.requires.room, c.streams.ensures.number, ap length c.system.ensures.system)) in
+    let found : rounding (from_last rows grid) [] 0 ≡ w = found_all (down rows grid k) (from_last rows grid) (drop (2 * k) c.args.levels.now) w all none c.round.ensures.found in
+    subst (λ (f : Found). c.better.new.steps + 1 ≤ c.args.steps.now + 2 * inside f.1 cs [] 0) (sym found) c.better.ensures.steps

@@ -1,58 +1,113 @@
-use Rattle.std.proofs.Common.{rules, ◌≡◌, ◌∷◌, ◌+◌, ◌-◌, ◌<◌, ◌≤◌, ℤ, ℕ, List, length, drop, take, set, get_or, pos, w8, w64, SFits, to_z, of_z, to_z-of_z, unsigned_abs, ap, sym, ◌∙◌, subst, arith}
-use Rattle.std.proofs.lemmas.List.{take_rest, drop-set}
+use Rattle.std.proofs.Common.{rules, ◌≡◌, ◌∷◌, ◌+◌, ◌-◌, ◌*◌, ◌≤◌, ℤ, List, drop, set, get_or, pos, w8, w64, SFits, to_z, of_z, to_z-of_z, unsigned_abs, ap, sym, ◌∙◌, subst, arith}
 use Rattle.std.proofs.lemmas.List.Elements.{All-set}
 use Rattle.std.proofs.Math.ListN.{length-set}
-use Rattle.ht_sphere.specs.Coordinates.{Real, cost, order, cost_at, order_at, target}
-use Rattle.ht_sphere.specs.Tree.{rounding}
-use Rattle.ht_sphere.proofs.Bests.{order_some}
+use Rattle.ht_sphere.specs.Coordinates.{Real, cost, order, target, down, from_q, q_at, i_at}
+use Rattle.ht_sphere.specs.Tree.{Found, rounding}
+use Rattle.ht_sphere.proofs.Down.{down_more}
+use Rattle.ht_sphere.proofs.Others.{OthersFrom, others_two, round_two}
+use Rattle.ht_sphere.proofs.Steps.{two_set, cost_is, others_is, first_at, first_is}
 use Rattle.ht_sphere.proofs.round.+round.Goals as goal
-
-pub first-level-requires : goal.first-level-requires
-first-level-requires t c = omega (arith, ap length c.walk.ensures.order, order_some c.in-Some.first.now (to_z w64 (of_z w64 c.target-target.result)) c.walk.ensures.ladder)
 
 pub round-requires : goal.round-requires
 round-requires t c =
-    let at = length c.in-Some.rest.now in
-    let x = c.first-level.result in
-    let small : SFits w8 x = search rules in
-    let shows : to_z w8 (of_z w8 x) ≡ x = to_z-of_z small in
-    let less : unsigned_abs (to_z w8 (of_z w8 x)) ≤ 7 = subst (λ (z : ℤ). unsigned_abs z ≤ 7) (sym shows) c.first-level.ensures.level in
-    let count = c.in-Some.ensures.cases.1 in
-    let room = c.requires.room in
-    let few = c.requires.small in
-    let same = length-set c.args.levels.now at (to_z w8 (of_z w8 x)) in (
+    let y = c.chosen-i.result.level in
+    let x = c.chosen-q.result.level in
+    let ls = c.args.levels.now in
+    let y_fits : SFits w8 y = search rules in
+    let x_fits : SFits w8 x = search rules in
+    let a_fits : SFits w8 c.nearest_q-level.result = search rules in
+    let b_fits : SFits w8 c.nearest_i-level.result = search rules in
+    let y_small : unsigned_abs (to_z w8 (of_z w8 y)) ≤ 7 =
+    subst (λ (z : ℤ). unsigned_abs z ≤ 7) (sym (to_z-of_z y_fits ∙ c.chosen-i.ensures.level ∙ to_z-of_z b_fits)) c.nearest_i-level.ensures.level in
+    let x_small : unsigned_abs (to_z w8 (of_z w8 x)) ≤ 7 =
+    subst (λ (z : ℤ). unsigned_abs z ≤ 7) (sym (to_z-of_z x_fits ∙ c.chosen-q.ensures.level ∙ to_z-of_z a_fits)) c.nearest_q-level.ensures.level in
+    let at = 2 * c.from.result - 2 in
+    let one = set ls (at + 1) (to_z w8 (of_z w8 x)) in
+    let same = length-set ls (at + 1) (to_z w8 (of_z w8 x)) in
+    let same2 = length-set one at (to_z w8 (of_z w8 y)) in (
       omega arith,
       (
-        omega arith,
+        omega (arith, c.requires.last),
         (
-          All-set (λ z. unsigned_abs z ≤ 7) c.args.levels.now at (to_z w8 (of_z w8 x)) less c.requires.levels,
-          omega (arith, c.from.ensures),
+          same2 ∙ same ∙ c.requires.room,
+          (
+            All-set (λ z. unsigned_abs z ≤ 7) one at (to_z w8 (of_z w8 y)) y_small (All-set (λ z. unsigned_abs z ≤ 7) ls (at + 1) (to_z w8 (of_z w8 x)) x_small c.requires.levels),
+            omega (arith, c.requires.small, c.chosen-q.ensures.room, c.chosen-i.ensures.room),
+          ),
         ),
       ),
     )
 
 pub returns-clause-found : goal.returns-clause-found
 returns-clause-found t c =
-    let first = c.in-Some.first.now in
-    let rest = c.in-Some.rest.now in
-    let at = length c.in-Some.rest.now in
-    let s = drop (at + 1) c.args.levels.now in
-    let x = c.first-level.result in
-    let y = to_z w8 (of_z w8 x) in
-    let small : SFits w8 x = search rules in
-    let shows : y ≡ x = to_z-of_z small in
-    let wide : SFits w64 c.target-target.result = search rules in
-    let chosen : take (length c.args.levels.now - (at + 1)) (drop (at + 1) c.args.levels.now) ≡ s = take_rest c.args.levels.now (at + 1) in
-    let meets : to_z w64 (of_z w64 c.target-target.result) ≡ target first s = to_z-of_z wide ∙ c.target-target.ensures.value ∙ ap (λ (l : List ℤ). target first l) chosen in
-    let listed : c.walk.result ≡ order first s = c.walk.ensures.order ∙ ap (λ (z : ℤ). order_at first z) meets in
-    let x0 = get_or (order first s) 0 (pos 0) in
-    let level : y ≡ x0 = shows ∙ c.first-level.ensures.value ∙ ap (λ (l : List ℤ). get_or l 0 (pos 0)) listed in
-    let costs : c.from.result ≡ cost first s x0 = c.from.ensures ∙ c.cost.ensures ∙ ap (λ (z : ℤ). cost_at first z y) meets ∙ ap (λ (z : ℤ). cost first s z) level in
-    let there : at < length c.args.levels.now = omega (arith, c.requires.room, c.in-Some.ensures.cases.1) in
-    let list : drop at (set c.args.levels.now at y) ≡ x0 ∷ s = drop-set c.args.levels.now at y there ∙ ap (λ (z : ℤ). z ∷ s) level in
-    let below : drop (length c.args.coordinates.now) c.args.levels.now ≡ s = ap (λ (n : ℕ). drop n c.args.levels.now) (sym c.in-Some.ensures.cases.1) in
-    ap (λ (l : List Real). rounding l (drop (length c.args.coordinates.now) c.args.levels.now) c.args.partial) c.in-Some.ensures.cases.0
-    ∙ ap (λ (l : List ℤ). rounding (first ∷ rest) l c.args.partial) below
-    ∙ ap (λ (n : ℕ). rounding rest (x0 ∷ s) (c.args.partial + n)) (sym costs)
-    ∙ ap (λ (l : List ℤ). rounding rest l (c.args.partial + c.from.result)) (sym list)
-    ∙ c.round.ensures.found
+    let rows = c.args.job.now.system in
+    let grid = c.args.job.now.grid in
+    let k = c.args.k in
+    let j = k - 1 in
+    let ls = c.args.levels.now in
+    let s = drop (2 * k) ls in
+    let q = q_at rows grid j in
+    let i = i_at rows grid j in
+    let im_fits : SFits w64 c.row_of-row.result.im = search rules in
+    let re_fits : SFits w64 c.row_of-row.result.re = search rules in
+    let a_fits : SFits w8 c.nearest_q-level.result = search rules in
+    let b_fits : SFits w8 c.nearest_i-level.result = search rules in
+    let x_fits : SFits w8 c.chosen-q.result.level = search rules in
+    let y_fits : SFits w8 c.chosen-i.result.level = search rules in
+    let a = to_z-of_z a_fits in
+    let b = to_z-of_z b_fits in
+    let x = c.nearest_q-level.result in
+    let y = c.nearest_i-level.result in
+    let x_is : to_z w8 (of_z w8 c.chosen-q.result.level) ≡ x = to_z-of_z x_fits ∙ c.chosen-q.ensures.level ∙ a in
+    let y_is : to_z w8 (of_z w8 c.chosen-i.result.level) ≡ y = to_z-of_z y_fits ∙ c.chosen-i.ensures.level ∙ b in
+    let u : to_z w64 (of_z w64 c.row_of-row.result.im) ≡ target q s = to_z-of_z im_fits ∙ c.row_of-row.ensures.im in
+    let v : to_z w64 (of_z w64 c.row_of-row.result.re) ≡ target i (x ∷ s) = to_z-of_z re_fits ∙ c.row_of-row.ensures.re x in
+    let first_q : x ≡ get_or (order q s) 0 (pos 0) = c.nearest_q-level.ensures.value ∙ first_at q s _ u in
+    let first_i : y ≡ get_or (order i (x ∷ s)) 0 (pos 0) = c.nearest_i-level.ensures.value ∙ first_at i (x ∷ s) _ v in
+    let sum_q : c.chosen-q.result.partial ≡ c.args.distance.now + cost q s x = c.chosen-q.ensures.partial ∙ ap (λ n. c.args.distance.now + n) (cost_is q s _ _ x _ c.row_of-row.ensures.d u a) in
+    let sum_i : c.chosen-i.result.partial ≡ c.chosen-q.result.partial + cost i (x ∷ s) y = c.chosen-i.ensures.partial ∙ ap (λ n. c.chosen-q.result.partial + n) (cost_is i (x ∷ s) _ _ y _ c.row_of-row.ensures.d v b) in
+    let list = two_set ls k (2 * c.from.result - 2) _ _ x y (omega (arith, c.from.ensures)) (omega (arith, c.requires.room, c.requires.last)) x_is y_is in
+    ap (λ (cs : List Real). rounding cs s c.args.distance.now) (down_more rows grid k (omega arith))
+    ∙ round_two q i (down rows grid j) s c.args.distance.now c.chosen-q.result.partial c.chosen-i.result.partial x y _ first_q sum_q first_i sum_i
+    (ap (λ (l : List ℤ). rounding (down rows grid j) l c.chosen-i.result.partial) (sym list) ∙ c.round.ensures.found)
+
+pub returns-clause-others : goal.returns-clause-others
+returns-clause-others t c =
+    let rows = c.args.job.now.system in
+    let grid = c.args.job.now.grid in
+    let k = c.args.k in
+    let j = k - 1 in
+    let ls = c.args.levels.now in
+    let s = drop (2 * k) ls in
+    let q = q_at rows grid j in
+    let i = i_at rows grid j in
+    let im_fits : SFits w64 c.row_of-row.result.im = search rules in
+    let re_fits : SFits w64 c.row_of-row.result.re = search rules in
+    let a_fits : SFits w8 c.nearest_q-level.result = search rules in
+    let b_fits : SFits w8 c.nearest_i-level.result = search rules in
+    let x_fits : SFits w8 c.chosen-q.result.level = search rules in
+    let y_fits : SFits w8 c.chosen-i.result.level = search rules in
+    let a = to_z-of_z a_fits in
+    let b = to_z-of_z b_fits in
+    let x = c.nearest_q-level.result in
+    let y = c.nearest_i-level.result in
+    let off = c.round.new.others in
+    let w : Found = (c.round.new.levels, c.round.new.distance) in
+    let x_is : to_z w8 (of_z w8 c.chosen-q.result.level) ≡ x = to_z-of_z x_fits ∙ c.chosen-q.ensures.level ∙ a in
+    let y_is : to_z w8 (of_z w8 c.chosen-i.result.level) ≡ y = to_z-of_z y_fits ∙ c.chosen-i.ensures.level ∙ b in
+    let u : to_z w64 (of_z w64 c.row_of-row.result.im) ≡ target q s = to_z-of_z im_fits ∙ c.row_of-row.ensures.im in
+    let v : to_z w64 (of_z w64 c.row_of-row.result.re) ≡ target i (x ∷ s) = to_z-of_z re_fits ∙ c.row_of-row.ensures.re x in
+    let first_q : x ≡ get_or (order q s) 0 (pos 0) = c.nearest_q-level.ensures.value ∙ first_at q s _ u in
+    let first_i : y ≡ get_or (order i (x ∷ s)) 0 (pos 0) = c.nearest_i-level.ensures.value ∙ first_at i (x ∷ s) _ v in
+    let sum_q : c.chosen-q.result.partial ≡ c.args.distance.now + cost q s x = c.chosen-q.ensures.partial ∙ ap (λ n. c.args.distance.now + n) (cost_is q s _ _ x _ c.row_of-row.ensures.d u a) in
+    let sum_i : c.chosen-i.result.partial ≡ c.chosen-q.result.partial + cost i (x ∷ s) y = c.chosen-i.ensures.partial ∙ ap (λ n. c.chosen-q.result.partial + n) (cost_is i (x ∷ s) _ _ y _ c.row_of-row.ensures.d v b) in
+    let list = two_set ls k (2 * c.from.result - 2) _ _ x y (omega (arith, c.from.ensures)) (omega (arith, c.requires.room, c.requires.last)) x_is y_is in
+    let far_q = others_is q s _ _ x _ c.args.distance.now _ c.row_of-row.ensures.d u a c.chosen-q.ensures.others in
+    let far_i = others_is i (x ∷ s) _ _ y _ c.chosen-q.result.partial _ c.row_of-row.ensures.d v b c.chosen-i.ensures.others in
+    let rest : OthersFrom (down rows grid j) (y ∷ x ∷ s) c.chosen-i.result.partial w off =
+    subst (λ (l : List ℤ). OthersFrom (down rows grid j) l c.chosen-i.result.partial w off) list c.round.ensures.others in
+    let all : OthersFrom (from_q rows grid j) s c.args.distance.now w off =
+    others_two q i (down rows grid j) s c.args.distance.now c.chosen-q.result.partial c.chosen-i.result.partial off x y w
+    (first_is q s x c.nearest_q-level.ensures.ladder first_q) sum_q (first_is i (x ∷ s) y c.nearest_i-level.ensures.ladder first_i) sum_i
+    (omega (arith, far_q, c.round.ensures.less, c.chosen-i.ensures.less)) (omega (arith, far_i, c.round.ensures.less)) rest in
+    subst (λ (cs : List Real). OthersFrom cs s c.args.distance.now w off) (sym (down_more rows grid k (omega arith))) all

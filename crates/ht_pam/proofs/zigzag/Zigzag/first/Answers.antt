@@ -1,13 +1,22 @@
-use Rattle.std.proofs.Common.{rules, ◌≡◌, ◌∙◌, pos, get_or, w8, w64, SFits, to_z, of_z, to_z-of_z}
-use Rattle.ht_pam.proofs.ZigzagLemmas.{first_is}
+use Rattle.std.proofs.Common.{rules, ◌≡◌, ◌∙◌, ap, w8, w64, SFits, to_z, of_z, to_z-of_z}
+use Rattle.ht_pam.specs.Ladders.{level}
+use Rattle.ht_pam.proofs.EndLemmas.{passed_lower, passed_higher, shown_first}
 use Rattle.ht_pam.proofs.zigzag.Zigzag.first.Goals as goal
 
-pub returns-clause-value : goal.returns-clause-value
-returns-clause-value c =
-    let wide : SFits w64 c.self.inside.target = search rules in
-    let target : to_z w64 (of_z w64 c.self.inside.target) ≡ c.self.inside.target = to_z-of_z wide in
-    let x = get_or c.as_slice-levels.result.now c.nearest.result (pos 0) in
-    let small : SFits w8 x = search rules in
-    let shows : to_z w8 (of_z w8 x) ≡ x = to_z-of_z small in
-    shows ∙ first_is c.args.self.now c.self.inside.levels.items c.as_slice-levels.result.now c.self.inside.target (to_z w64 (of_z w64 c.self.inside.target)) c.self.inside.d c.nearest.result
-    c.self.view_is target c.as_slice-levels.ensures.value c.nearest.ensures.within c.nearest.ensures.before c.nearest.ensures.least
+pub returns-then-is_lower-clause-value : goal.returns-then-is_lower-clause-value
+returns-then-is_lower-clause-value c =
+    let z = c.self.inside in
+    let wide : SFits w64 z.target = search rules in
+    let shows : to_z w64 (of_z w64 z.target) ≡ z.target = to_z-of_z wide in
+    let small : SFits w8 c.level_at.result = search rules in
+    to_z-of_z small ∙ c.level_at.ensures.value ∙ ap (level z.size) c.highest.ensures.place
+    ∙ shown_first c.self.view_is (passed_lower z.target (to_z w64 (of_z w64 z.target)) z.d z.size z.below z.above shows c.self.invariant.0 (c.is_lower.ensures.lower c.if-is_lower.true) (c.is_lower.ensures.near c.if-is_lower.true)).1
+
+pub returns-else-is_lower-clause-value : goal.returns-else-is_lower-clause-value
+returns-else-is_lower-clause-value c =
+    let z = c.self.inside in
+    let wide : SFits w64 z.target = search rules in
+    let shows : to_z w64 (of_z w64 z.target) ≡ z.target = to_z-of_z wide in
+    let small : SFits w8 c.level_at-else-is_lower.result = search rules in
+    to_z-of_z small ∙ c.level_at-else-is_lower.ensures.value ∙ ap (level z.size) c.lowest.ensures.place
+    ∙ shown_first c.self.view_is (passed_higher z.target (to_z w64 (of_z w64 z.target)) z.d z.size z.below z.above shows c.self.invariant.0 (c.is_lower.ensures.higher c.if-is_lower.false) (c.is_lower.ensures.far c.if-is_lower.false)).1

@@ -1,0 +1,8 @@
+use Rattle.ht_pam.proofs.EndTables.{ends}
+use Rattle.ht_pam.proofs.zigzag.highest.Goals as goal
+
+pub returns-clause-within : goal.returns-clause-within
+returns-clause-within c = (ends c.args.size c.args.mask c.requires.size c.requires.some c.requires.within).top_within
+
+pub returns-clause-there : goal.returns-clause-there
+returns-clause-there c = (ends c.args.size c.args.mask c.requires.size c.requires.some c.requires.within).top_in

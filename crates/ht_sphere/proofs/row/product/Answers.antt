@@ -1,0 +1,21 @@
+use Rattle.std.proofs.Common.{arith, rules}
+use Rattle.ht_metric.proofs.Signs.{passed, subtracts, adds, subtracts_bound}
+use Rattle.ht_sphere.proofs.row.product.Goals as goal
+
+pub returns-clause-re : goal.returns-clause-re
+returns-clause-re c =
+    let r = c.args.tap in
+    subtracts c.multiplied.result c.multiplied-2.result _ _ (omega arith) (omega arith)
+    (passed _ r.re c.args.i (search rules) (search rules) c.multiplied.ensures.value)
+    (passed _ r.im c.args.q (search rules) (search rules) c.multiplied-2.ensures.value)
+
+pub returns-clause-im : goal.returns-clause-im
+returns-clause-im c =
+    let r = c.args.tap in
+    adds c.multiplied-3.result c.multiplied-4.result _ _ (omega arith) (omega arith)
+    (passed _ r.im c.args.i (search rules) (search rules) c.multiplied-3.ensures.value)
+    (passed _ r.re c.args.q (search rules) (search rules) c.multiplied-4.ensures.value)
+
+pub returns-clause-re_bound : goal.returns-clause-re_bound
+returns-clause-re_bound c =
+    subtracts_bound c.multiplied.result c.multiplied-2.result _ 229376 229376 c.multiplied.ensures.bound c.multiplied-2.ensures.bound (omega arith) (omega arith)

@@ -1,0 +1,193 @@
+//! One row of a system.
+ghost use Rattle.std.specs.Prelude.{◌≡◌, ◌<◌, ◌≤◌, ◌+◌, ◌-◌, ◌*◌, ◌^◌, ◌+ℤ◌, ◌-ℤ◌, ◌*ℤ◌, pos, ℤ, ◌∷◌, length, drop, slice_index_or, unsigned_abs};
+ghost use Rattle.std.specs.List.{All};
+ghost use Rattle.ht_pam.specs.Ladders.{IsLadder};
+ghost use Rattle.ht_pam.specs.Zigzags.{gap};
+ghost use Rattle.ht_metric.specs.Rows.{no_row};
+ghost use Rattle.ht_metric.specs.Distance.{square};
+ghost use Rattle.ht_sphere.specs.Coordinates.{weighed, weights_of_i, weights_of_q, entries, i_at, q_at, target, order_at};
+
+use ht_metric::{Job, System, Tap};
+use ht_pam::Zigzag;
+
+// What the levels of the streams behind a row leave of its sample, and its diagonal.
+#[derive(Clone, Copy)]
+pub(crate) struct Row {
+    pub(crate) re: i64,
+    pub(crate) im: i64,
+    pub(crate) d: u16,
+}
+
+// A complex number.
+#[derive(Clone, Copy)]
+struct Complex {
+    re: i64,
+    im: i64,
+}
+
+// The row of stream k, behind which the levels are chosen.
+pub(crate) fn row_of(job: &Job, k: u8, levels: &[i8]) -> Row
+    requires first { 1 ≤ k }
+    requires last { k ≤ length job.now.system }
+    requires room { length levels.now ≡ 2 * length job.now.system }
+    requires levels { All (λ x. unsigned_abs x ≤ 7) levels.now }
+    ensures d { result.d ≡ (q_at job.now.system job.now.grid (k - 1)).diagonal }
+    ensures re { (q : ℤ) → result.re ≡ target (i_at job.now.system job.now.grid (k - 1)) (q ∷ drop (2 * k) levels.now) }
+    ensures im { result.im ≡ target (q_at job.now.system job.now.grid (k - 1)) (drop (2 * k) levels.now) }
+    ensures re_bound { unsigned_abs result.re ≤ 2 ^ 31 + 2 ^ 21 }
+    ensures im_bound { unsigned_abs result.im ≤ 2 ^ 31 + 2 ^ 21 }
+{
+    let left = left_of(job.system(), k, levels);
+    Row {
+        re: left.re,
+        im: left.im,
+        d: job.system().diagonal(k),
+    }
+}
+
+// The level of Q of stream k that is nearest, and that of I.
+pub(crate) fn nearest_q(job: &Job, k: u8, t: i64) -> i8
+    requires first { 1 ≤ k }
+    requires last { k ≤ length job.now.system }
+    requires target { unsigned_abs t ≤ 2 ^ 31 + 2 ^ 21 }
+    ensures value { result ≡ slice_index_or (order_at (q_at job.now.system job.now.grid (k - 1)) t) 0 (pos 0) }
+    ensures level { unsigned_abs result ≤ 7 }
+    ensures ladder { IsLadder (q_at job.now.system job.now.grid (k - 1)).ladder }
+{
+    let d = u32::from(job.system().diagonal(k));
+    job.grid().q_ladder(k).nearest(t, d)
+}
+
+pub(crate) fn nearest_i(job: &Job, k: u8, t: i64) -> i8
+    requires first { 1 ≤ k }
+    requires last { k ≤ length job.now.system }
+    requires target { unsigned_abs t ≤ 2 ^ 31 + 2 ^ 21 }
+    ensures value { result ≡ slice_index_or (order_at (i_at job.now.system job.now.grid (k - 1)) t) 0 (pos 0) }
+    ensures level { unsigned_abs result ≤ 7 }
+    ensures ladder { IsLadder (i_at job.now.system job.now.grid (k - 1)).ladder }
+{
+    let d = u32::from(job.system().diagonal(k));
+    job.grid().i_ladder(k).nearest(t, d)
+}
+
+// The levels of Q of stream k, nearest first.
+pub(crate) fn walk_of_q(job: &Job, k: u8, t: i64) -> Zigzag
+    requires first { 1 ≤ k }
+    requires last { k ≤ length job.now.system }
+    requires target { unsigned_abs t ≤ 2 ^ 31 + 2 ^ 21 }
+    ensures order { result ≡ order_at (q_at job.now.system job.now.grid (k - 1)) t }
+    ensures ladder { IsLadder (q_at job.now.system job.now.grid (k - 1)).ladder }
+{
+    Zigzag::new(
+        job.grid().q_ladder(k),
+        t,
+        u32::from(job.system().diagonal(k)),
+    )
+}
+
+// The levels of I of stream k, nearest first.
+pub(crate) fn walk_of_i(job: &Job, k: u8, t: i64) -> Zigzag
+    requires first { 1 ≤ k }
+    requires last { k ≤ length job.now.system }
+    requires target { unsigned_abs t ≤ 2 ^ 31 + 2 ^ 21 }
+    ensures order { result ≡ order_at (i_at job.now.system job.now.grid (k - 1)) t }
+    ensures ladder { IsLadder (i_at job.now.system job.now.grid (k - 1)).ladder }
+{
+    Zigzag::new(
+        job.grid().i_ladder(k),
+        t,
+        u32::from(job.system().diagonal(k)),
+    )
+}
+
+// What the levels of the streams behind row k leave of its sample.
+fn left_of(system: &System, k: u8, levels: &[i8]) -> Complex
+    requires first { 1 ≤ k }
+    requires last { k ≤ length system.now }
+    requires room { length levels.now ≡ 2 * length system.now }
+    requires levels { All (λ x. unsigned_abs x ≤ 7) levels.now }
+    ensures re { result.re ≡ (slice_index_or system.now (k - 1) no_row).sample.re -ℤ weighed (weights_of_i (entries (length system.now - k) (slice_index_or system.now (k - 1) no_row).right)) (drop (2 * k) levels.now) }
+    ensures im { result.im ≡ (slice_index_or system.now (k - 1) no_row).sample.im -ℤ weighed (weights_of_q (entries (length system.now - k) (slice_index_or system.now (k - 1) no_row).right)) (drop (2 * k) levels.now) }
+    ensures re_bound { unsigned_abs result.re ≤ 2 ^ 31 + 2 ^ 21 }
+    ensures im_bound { unsigned_abs result.im ≤ 2 ^ 31 + 2 ^ 21 }
+{
+    let sample = system.sample(k);
+    let mut re = i64::from(sample.re);
+    let mut im = i64::from(sample.im);
+    for l in k..system.streams() {
+        let at = 2 * usize::from(l);
+        let part = product(system.above(k, l + 1), levels[at], levels[at + 1]);
+        re -= part.re;
+        im -= part.im;
+    }
+    Complex { re, im }
+}
+
+// An entry times the point of two levels.
+fn product(tap: Tap, i: i8, q: i8) -> Complex
+    requires i { unsigned_abs i ≤ 7 }
+    requires q { unsigned_abs q ≤ 7 }
+    ensures re { result.re ≡ (tap.re *ℤ i) -ℤ (tap.im *ℤ q) }
+    ensures im { result.im ≡ (tap.im *ℤ i) +ℤ (tap.re *ℤ q) }
+    ensures re_bound { unsigned_abs result.re ≤ 458752 }
+    ensures im_bound { unsigned_abs result.im ≤ 458752 }
+{
+    Complex {
+        re: multiplied(tap.re, i) - multiplied(tap.im, q),
+        im: multiplied(tap.im, i) + multiplied(tap.re, q),
+    }
+}
+
+// A part of an entry times a level.
+fn multiplied(part: i16, level: i8) -> i64
+    requires level { unsigned_abs level ≤ 7 }
+    ensures value { result ≡ part *ℤ level }
+    ensures bound { unsigned_abs result ≤ 229376 }
+{
+    i64::from(part) * i64::from(level)
+}
+
+// The square of what a level, times the diagonal, leaves of the target.
+pub(crate) fn cost(d: u16, target: i64, level: i8) -> u64
+    requires target { unsigned_abs target ≤ 2 ^ 31 + 2 ^ 21 }
+    requires level { unsigned_abs level ≤ 7 }
+    ensures { result ≡ square (target -ℤ (pos d *ℤ level)) }
+{
+    squared(distance(d, target, level))
+}
+
+// At most the cost of each level but this one: two levels are twice the diagonal apart.
+pub(crate) fn cost_of_others(d: u16, target: i64, level: i8) -> u64
+    requires target { unsigned_abs target ≤ 2 ^ 31 + 2 ^ 21 }
+    requires level { unsigned_abs level ≤ 7 }
+    ensures { result ≡ (2 * d - gap target d level) * (2 * d - gap target d level) }
+{
+    squared((2 * u64::from(d)).saturating_sub(distance(d, target, level)))
+}
+
+// How far a level, times the diagonal, is from the target.
+fn distance(d: u16, target: i64, level: i8) -> u64
+    requires target { unsigned_abs target ≤ 2 ^ 31 + 2 ^ 21 }
+    requires level { unsigned_abs level ≤ 7 }
+    ensures value { result ≡ gap target d level }
+    ensures bound { result ≤ 2 ^ 31 + 2 ^ 22 }
+{
+    (target - stretched(d, level)).unsigned_abs()
+}
+
+// A diagonal times a level.
+fn stretched(d: u16, level: i8) -> i64
+    requires { unsigned_abs level ≤ 7 }
+    ensures value { result ≡ pos d *ℤ level }
+    ensures bound { unsigned_abs result ≤ 458745 }
+{
+    i64::from(d) * i64::from(level)
+}
+
+// The square of a number.
+fn squared(size: u64) -> u64
+    requires { size ≤ 2 ^ 31 + 2 ^ 22 }
+    ensures { result ≡ size * size }
+{
+    size * size
+}
