@@ -1,11 +1,16 @@
 //! The lines of `ht_bench` in plain Rust, to compare with. It prints the same checksums.
+mod capturing;
 mod decoding;
 mod detecting;
+mod listing;
 mod random;
 
 fn main() {
     let words: Vec<String> = std::env::args().skip(1).collect();
-    match decoding::run(&words).or_else(|| detecting::run(&words)) {
+    if listing::run(&words) {
+        return;
+    }
+    match decoding::run(&words).or_else(|| detecting::run(&words)).or_else(|| capturing::run(&words)) {
         Some(checksum) => println!("{checksum}"),
         None => println!("these words choose no line"),
     }

@@ -4,6 +4,7 @@
 //! ht_bench decode PATTERN STEPS PERCENT COUNT          the decoder
 //! ht_bench plain_decode PATTERN STEPS PERCENT COUNT    the same, state by state
 //! ht_bench nearest STREAMS MODULATION NOISE DIAGONALS COUNT    the detector, on 256 jobs so often
+//! ht_bench reader STREAMS COUNT                        the reader, on one capture so often
 //! ```
 //!
 //! PATTERN is half, two_thirds, three_quarters or five_sixths, and PERCENT says how many of a hundred places are wrong.
@@ -13,6 +14,7 @@
 //! Each kind of line is a module with a type `Line`: `from_words` gives the line that words choose, and `run` its checksum.
 #![tactic(auto)]
 
+mod capturing;
 mod decoding;
 mod detecting;
 mod random;
@@ -26,6 +28,9 @@ fn checksum(alloc: Global, words: &[String]) -> Result<Option<u64>, AllocError> 
         return Ok(Some(line.run(alloc)?));
     }
     if let Some(line) = detecting::Line::from_words(words) {
+        return Ok(Some(line.run(alloc)?));
+    }
+    if let Some(line) = capturing::Line::from_words(words) {
         return Ok(Some(line.run(alloc)?));
     }
     Ok(None)

@@ -12,7 +12,7 @@ use Rattle.ht_fields.specs.Cases.{IsField}
 use Rattle.ht_fields.specs.Reading.{ReadsField}
 use Rattle.ht_fields.specs.declared.read.Field.TheVariants.{Ended, Broken}
 use Rattle.ht_fields.specs.Readers.{Shown, Gives}
-use Rattle.ht_fields.proofs.Readers.{HasWidth, field_gives, field_refuses, field_runs_out, field_breaks}
+use Rattle.ht_fields.proofs.Readers.{HasWidth, IsNamed, field_gives, field_refuses, field_runs_out, field_breaks}
 use Rattle.ht_fields.proofs.Joins.{gives_stops}
 use Rattle.ht_capture.specs.declared.items.Item.{Item}
 use Rattle.ht_capture.specs.Fields.{State, captures, due_at}
@@ -37,10 +37,10 @@ broken_halts s at left after before now into r a rose = (field_breaks captures s
 
 -- the field is bad
 pub bad_halts : (s : State) (at : ℕ) (kind : Kind) (left after : Option (List ℕ)) (before now : ℕ) (x : List ℕ) (fault : InFault)
-    → IsField (due_at s) x (Bad kind) → Takes left after x → fault ≡ Format (record { kind = kind; offset = at })
+    → IsField (due_at s) x (Bad kind) → IsNamed kind → Takes left after x → fault ≡ Format (record { kind = kind; offset = at })
     → Halts (here s at left) after before now fault
-bad_halts s at kind left after before now x fault bad taken is =
-    subst (λ (f : InFault). Halts (here s at left) after before now f) (sym is) (inl (field_refuses captures s at kind left after x taken bad), tt)
+bad_halts s at kind left after before now x fault bad named taken is =
+    subst (λ (f : InFault). Halts (here s at left) after before now f) (sym is) (inl (field_refuses captures s at kind left after x taken bad named), tt)
 
 -- the field is good
 pub good_gives : (s t : State) (at behind : ℕ) (items : List Item) (left after : Option (List ℕ)) (x : List ℕ)

@@ -6,7 +6,6 @@ use Rattle.std.proofs.Math.Nat.{mul-le-mul_right}
 use Rattle.ht_fields.specs.Meanings.{Meaning, before, meaning}
 use Rattle.ht_fields.specs.Readers.{Shown, Gives}
 use Rattle.ht_io.proofs.Pieces.{takes-none}
-use Rattle.ht_rate.specs.Rates.{symbols_of}
 use Rattle.ht_metric.specs.Jobs.{JobView}
 use Rattle.ht_capture.specs.declared.items.FrameHead.{FrameHead}
 use Rattle.ht_capture.specs.declared.items.Item.{Item}
@@ -80,7 +79,7 @@ pub after_means : (spot : Spot) (at : ℕ) (present : List Present) (samples res
     → meaning captures (symbol_due (next_spot spot) (take spot.count present)) at rest ≡ stage_means (stage_after spot) at present samples rest
 unfolding symbol_due next_spot
 after_means spot at present samples rest =
-    chosen (nat_lt (spot.symbol + 1) (symbols_of spot.head.rate spot.head.length)) (next_spot spot) (next_turn (next_spot spot).turn) at present samples rest
+    chosen (nat_lt (spot.symbol + 1) spot.symbols) (next_spot spot) (next_turn (next_spot spot).turn) at present samples rest
 
 -- behind the last job the reader is behind the symbol
 pub over_shown : (spot : Spot) (k at : ℕ) (present : List Present) (samples : List ℕ) (left : Option (List ℕ)) (stage : Stage) → spot.count ≤ k → stage ≡ stage_after spot
@@ -120,15 +119,13 @@ gives_read old spot behind present samples into left is g =
     }
 
 -- a job is given, and what is behind it is due
-pub gives_joined : (spot : Spot) (k at : ℕ) (p q r : List Present) (s t u : List ℕ) (left : Option (List ℕ)) (stage : Stage) (items : List Item) → q ≡ p → t ≡ s → r ≡ p → u ≡ s
+pub gives_joined : (spot : Spot) (k at : ℕ) (p q : List Present) (s t : List ℕ) (left : Option (List ℕ)) (new : Shown Item) (items : List Item) → q ≡ p → t ≡ s
     → Gives (shown_at (Giving spot k) at q t left) (shown_at (Giving spot (k + 1)) at q t left) items
-    → shown_at (Giving spot (k + 1)) at r u left ≡ shown_at stage at r u left
-    → Gives (shown_at (Giving spot k) at p s left) (shown_at stage at p s left) items
-gives_joined spot k at p q r s t u left stage items qp ts rp us g e =
+    → shown_at (Giving spot (k + 1)) at p s left ≡ new
+    → Gives (shown_at (Giving spot k) at p s left) new items
+gives_joined spot k at p q s t left new items qp ts g e =
     let a : Gives (shown_at (Giving spot k) at p t left) (shown_at (Giving spot (k + 1)) at p t left) items =
     subst (λ (x : List Present). Gives (shown_at (Giving spot k) at x t left) (shown_at (Giving spot (k + 1)) at x t left) items) qp g in
     let b : Gives (shown_at (Giving spot k) at p s left) (shown_at (Giving spot (k + 1)) at p s left) items =
     subst (λ (x : List ℕ). Gives (shown_at (Giving spot k) at p x left) (shown_at (Giving spot (k + 1)) at p x left) items) ts a in
-    let c : shown_at (Giving spot (k + 1)) at p u left ≡ shown_at stage at p u left = subst (λ (x : List Present). shown_at (Giving spot (k + 1)) at x u left ≡ shown_at stage at x u left) rp e in
-    let d : shown_at (Giving spot (k + 1)) at p s left ≡ shown_at stage at p s left = subst (λ (x : List ℕ). shown_at (Giving spot (k + 1)) at p x left ≡ shown_at stage at p x left) us c in
-    subst (λ (z : Shown Item). Gives (shown_at (Giving spot k) at p s left) z items) d b
+    subst (λ (z : Shown Item). Gives (shown_at (Giving spot k) at p s left) z items) e b

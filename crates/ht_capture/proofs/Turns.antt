@@ -1,4 +1,5 @@
 -- What is due at the joints of a capture.
+use Rattle.std.specs.Prelude.{Result, Ok, Err, MatchResult}
 use Rattle.std.proofs.Common.{◌≡◌, ℕ, zero, suc, ◌+◌, ◌<◌, ◌≤◌, List, [], ◌∷◌, ◌++◌, length, take, drop, slice_index, nat_eq, nat_lt, Bool, true, false, if◌then◌else◌, Option, Some, None, refl, sym, ap, subst, ◌∙◌, arith}
 use Rattle.std.proofs.lemmas.Bool.Decides.{nat_tests}
 use Rattle.ht_io.specs.declared.faults.InFault.{InFault}
@@ -8,7 +9,7 @@ use Rattle.ht_fields.specs.Readers.{Shown, Gives, Finishes}
 use Rattle.ht_fields.proofs.Joins.{gives_none, gives_more}
 use Rattle.ht_fields.specs.Reading.{TakesAll}
 use Rattle.ht_fields.specs.Meanings.{before}
-use Rattle.ht_rate.specs.Rates.{carriers_of}
+use Rattle.ht_rate.specs.Rates.{carriers_of, symbols_of}
 use Rattle.ht_capture.specs.declared.items.FrameHead.{FrameHead}
 use Rattle.ht_capture.specs.declared.items.Item.{Item}
 use Rattle.ht_capture.specs.declared.items.Item.TheVariants.{Frame, Job, Done}
@@ -18,7 +19,7 @@ use Rattle.ht_capture.specs.declared.places.Spot.{Spot}
 use Rattle.ht_capture.specs.Frames.{erase, jobs_at}
 use Rattle.ht_capture.specs.Fields.{State, Magic, Bandwidth, Flag, Triangle, Symbol, Over, magic, magic_due, frame_due, carrier_due, carriers_due, first_spot, head_given, judge_symbol, next_spot, symbol_due}
 use Rattle.ht_capture.specs.Readers.{Completes, GivesItem, symbol_octets}
-use Rattle.ht_capture.proofs.Halting.{good_gives}
+use Rattle.ht_capture.proofs.Halting.{gives_halts, good_gives}
 use Rattle.ht_capture.proofs.Grids.{ones}
 use Rattle.ht_io.specs.Octets.{Takes}
 use Rattle.ht_capture.specs.Reading.{Caused, Flagged, Halts, SameFrame, here}
@@ -143,7 +144,7 @@ symbol_read spot present at behind left after into samples size some front taken
     subst (λ (o : List ℕ). Gives (here (Symbol spot present) at left) (here (symbol_due (next_spot spot) present) behind after) (jobs_at spot.head spot.symbol spot.turn.number present o 0)) (sym front)
     (good_gives (Symbol spot present) (symbol_due (next_spot spot) present) at behind _ left after into (ones (length into) _ size some, symbol_good spot present into) taken place)
 
-takes_all : (left between after : Option (List ℕ)) (xs ys : List ℕ) → Takes left between xs → TakesAll between after ys → TakesAll left after (xs ++ ys)
+pub takes_all : (left between after : Option (List ℕ)) (xs ys : List ℕ) → Takes left between xs → TakesAll between after ys → TakesAll left after (xs ++ ys)
 takes_all None None None xs ys a b = tt
 takes_all None None (Some after) xs ys a b = absurd b
 takes_all None (Some between) after xs ys a b = absurd a
@@ -163,3 +164,16 @@ pub gives_item : (old mid new : Shown Item) (item : Item) → Gives old mid [] �
 gives_item old mid new (Frame head) a b = gives_more old mid new [] (Frame head ∷ []) a b
 gives_item old mid new (Job job) a b = gives_more old mid new [] (Job job ∷ []) a b
 gives_item old mid new Done a b = gives_completes old mid new.left a b
+
+-- octets that give no item, and then an answer
+pub gives_answer : (old mid new : Shown Item) (after : Option (List ℕ)) (before between now : ℕ) (answer : Result Item InFault) → Gives old mid [] → before ≤ between
+    → MatchResult answer (GivesItem mid new) (Halts mid after between now) → MatchResult answer (GivesItem old new) (Halts old after before now)
+gives_answer old mid new after before between now (Ok item) a le b = gives_item old mid new item a b
+gives_answer old mid new after before between now (Err fault) a le b = gives_halts old mid after before between now fault a le b
+
+-- the first symbol of a frame
+pub spot_made : (old : Shown Item) (turn : Turn) (head : FrameHead) (count symbols at : ℕ) (present : List Present) (left : Option (List ℕ)) (items : List Item) → symbols ≡ symbols_of head.rate head.length
+    → Gives old (here (Symbol (first_spot turn head count) present) at left) items
+    → Gives old (here (Symbol (record { turn = turn; head = head; symbol = 0; symbols = symbols; count = count }) present) at left) items
+spot_made old turn head count symbols at present left items is g =
+    subst (λ (n : ℕ). let spot : Spot = record { turn = turn; head = head; symbol = 0; symbols = n; count = count } in Gives old (here (Symbol spot present) at left) items) (sym is) g

@@ -67,7 +67,7 @@ abbrev pub carrier_due : Turn → FrameHead → ℕ → List Present → State
 carrier_due turn head carrier present = if nat_eq turn.version 2 then Flag turn head carrier present else Triangle turn head carrier present
 
 abbrev pub first_spot : Turn → FrameHead → ℕ → Spot
-first_spot turn head count = record { turn = turn; head = head; symbol = 0; count = count }
+first_spot turn head count = record { turn = turn; head = head; symbol = 0; symbols = symbols_of head.rate head.length; count = count }
 
 -- what is due from a subcarrier on, and behind the last one
 unfoldable pub carriers_due : Turn → FrameHead → ℕ → List Present → State
@@ -108,6 +108,7 @@ next_spot spot = record {
   turn = record { version = spot.turn.version; left = spot.turn.left; frame = spot.turn.frame; number = spot.turn.number + spot.count };
   head = spot.head;
   symbol = spot.symbol + 1;
+  symbols = spot.symbols;
   count = spot.count;
 }
 
@@ -118,7 +119,7 @@ next_turn turn = record { version = turn.version; left = turn.left - 1; frame = 
 -- where symbols are left, the samples of the next one; else the next frame
 unfoldable pub symbol_due : Spot → List Present → State
 symbol_due spot present =
-    if nat_lt spot.symbol (symbols_of spot.head.rate spot.head.length) then Symbol spot present else frame_due (next_turn spot.turn)
+    if nat_lt spot.symbol spot.symbols then Symbol spot present else frame_due (next_turn spot.turn)
 
 unfoldable pub judge_symbol : Spot → List Present → List ℕ → Verdict State Item
 judge_symbol spot present octets =

@@ -3,5 +3,9 @@ pub mod Systems
 pub mod Frames
 pub mod Fields
 pub mod Captures
+pub mod Erased
+pub mod Files
+pub mod Contents
+pub mod Taking
 pub mod Reading
 pub mod Readers

@@ -1,11 +1,11 @@
 -- What a reader of captures still gives.
-use Rattle.std.specs.Prelude.{◌≡◌, ℕ, ◌+◌, ◌*◌, ◌<◌, ◌≤◌, List, [], ◌∷◌, length, take, drop, nat_lt, if◌then◌else◌, Option, Some, None, Result, Ok, Err}
+use Rattle.std.specs.Prelude.{◌≡◌, ℕ, ◌+◌, ◌-◌, ◌*◌, ◌<◌, ◌≤◌, List, [], ◌∷◌, length, take, drop, nat_lt, if◌then◌else◌, Option, Some, None, Result, Ok, Err}
 use Rattle.ht_io.specs.declared.faults.InFault.{InFault}
 use Rattle.ht_io.specs.declared.faults.InFault.TheVariants.{Format, Read, NoMemory}
 use Rattle.ht_fields.specs.Meanings.{Meaning, before, ended, refused, meaning}
 use Rattle.ht_fields.specs.Readers.{Shown, Gives}
 use Rattle.ht_fields.specs.Reading.{TakesAll}
-use Rattle.ht_rate.specs.Rates.{carriers_of, symbols_of}
+use Rattle.ht_rate.specs.Rates.{carriers_of}
 use Rattle.ht_capture.specs.declared.items.Item.{Item}
 use Rattle.ht_capture.specs.declared.items.Item.TheVariants.{Frame, Job, Done}
 use Rattle.ht_capture.specs.declared.places.Present.{Present}
@@ -52,7 +52,7 @@ shown_by c left = shown_at c.stage c.at c.present.items c.samples.items left
 -- the stage behind a symbol
 abbrev pub stage_after : Spot → Stage
 stage_after spot =
-    if nat_lt (spot.symbol + 1) (symbols_of spot.head.rate spot.head.length) then NextSymbol (next_spot spot) else NextFrame (next_turn (next_spot spot).turn)
+    if nat_lt (spot.symbol + 1) spot.symbols then NextSymbol (next_spot spot) else NextFrame (next_turn (next_spot spot).turn)
 
 -- the octets taken were all that was left: the reader meant no item more, and no fault
 pub record Completes (old : Shown Item) (after : Option (List ℕ)) : Type 0 where
@@ -78,6 +78,70 @@ finished_stage (Giving spot k) = None
 abbrev pub finished : Cursor → Option (Result Item InFault)
 finished c = finished_stage c.stage
 
+-- how many heads and how many jobs a reader has given
+pub record Counts : Type 0 where
+  pub frames : ℕ
+  pub jobs : ℕ
+
+abbrev pub counted : ℕ → ℕ → Counts
+counted frames jobs = record { frames = frames; jobs = jobs }
+
+-- while it goes on
+abbrev pub counts_at : Stage → Counts
+counts_at Begin = counted 0 0
+counts_at (NextFrame turn) = counted turn.frame turn.number
+counts_at (NextSymbol spot) = counted (spot.turn.frame + 1) spot.turn.number
+counts_at (Giving spot k) = counted (spot.turn.frame + 1) (spot.turn.number + k)
+counts_at Ended = counted 0 0
+counts_at (Stopped fault) = counted 0 0
+
+abbrev pub counts : Cursor → Counts
+counts c = counts_at c.stage
+
+-- heads and jobs are numbered from 0 over the whole capture, which has at most 65535 frames
+abbrev pub Counted : Counts → Counts → Item → Type 0
+Counted old new (Frame head) = (head.frame ≡ old.frames) × (new ≡ counted (old.frames + 1) old.jobs) × (new.frames ≤ 65535)
+Counted old new (Job job) = (job.number ≡ old.jobs) × (new ≡ counted old.frames (old.jobs + 1))
+Counted old new Done = Unit {0}
+
+-- no symbol has to be read before the next item
+abbrev pub IsReady : Stage → Type 0
+IsReady Begin = Unit {0}
+IsReady (NextFrame turn) = Unit {0}
+IsReady (NextSymbol spot) = ⊥
+IsReady (Giving spot k) = Unit {0}
+IsReady Ended = Unit {0}
+IsReady (Stopped fault) = Unit {0}
+
+-- so many heads and jobs come at most from so many frames: each has a head and 1,129,296 jobs at most
+abbrev pub most_of : ℕ → ℕ
+most_of frames = 1129297 * frames
+
+-- so many heads and jobs come at most from a reader in a stage: those of its symbol, of the frame's later symbols, and of the later frames
+abbrev pub more_at : Stage → ℕ
+more_at Begin = most_of 65535
+more_at (NextFrame turn) = most_of turn.left
+more_at (NextSymbol spot) = (spot.symbols - spot.symbol) * spot.count + most_of (spot.turn.left - 1)
+more_at (Giving spot k) = (spot.count - k) + (spot.symbols - spot.symbol - 1) * spot.count + most_of (spot.turn.left - 1)
+more_at Ended = 0
+more_at (Stopped fault) = 0
+
+abbrev pub more : Cursor → ℕ
+more c = more_at c.stage
+
+-- the bound is less behind each head and job, and never rises
+abbrev pub Falls : ℕ → ℕ → Result Item InFault → Type 0
+Falls old new (Ok (Frame head)) = new < old
+Falls old new (Ok (Job job)) = new < old
+Falls old new (Ok Done) = new ≤ old
+Falls old new (Err fault) = new ≤ old
+
+-- behind a head or a job the reader goes on
+abbrev pub GoesOn : Cursor → Item → Type 0
+GoesOn c (Frame head) = finished c ≡ None
+GoesOn c (Job job) = finished c ≡ None
+GoesOn c Done = Unit {0}
+
 -- the offset and the numbers stay far below the ends of their types: a frame has at most 73,569,334 octets and 2,298,924 jobs
 pub record TurnFits (turn : Turn) (at : ℕ) : Type 0 where
   pub frames : turn.frame + turn.left ≤ 65535
@@ -88,12 +152,11 @@ pub record TurnFits (turn : Turn) (at : ℕ) : Type 0 where
 pub record SpotFits (spot : Spot) (more at : ℕ) (present : List Present) : Type 0 where
   pub frames : spot.turn.frame + spot.turn.left ≤ 65535
   pub left : 1 ≤ spot.turn.left
-  pub some : 1 ≤ spot.head.length
   pub count : 1 ≤ spot.count
   pub few : spot.count ≤ carriers_of spot.head.rate
   pub places : spot.count ≤ 114
-  pub symbol : spot.symbol < symbols_of spot.head.rate spot.head.length
-  pub symbols : symbols_of spot.head.rate spot.head.length ≤ 20166
+  pub symbol : spot.symbol < spot.symbols
+  pub symbols : spot.symbols ≤ 20166
   pub place : at ≤ 7 + 73569334 * spot.turn.frame + 3766 + 3648 * (spot.symbol + more)
   pub number : spot.turn.number ≤ 2298924 * spot.turn.frame + 114 * spot.symbol
   pub seen : AreSeen spot.head.rate spot.count present

@@ -1,11 +1,12 @@
 //! The subcarriers of a frame, with their triangles.
 ghost use Rattle.std.specs.Prelude.{◌≡◌, ◌<◌, ◌≤◌, ◌+◌, ◌*◌, ◌^◌, ℕ, List, [], ◌∷◌, length, take, MatchResult, IfOk};
 ghost use Rattle.ht_fields.specs.Readers.{Gives};
-ghost use Rattle.ht_rate.specs.Rates.{carriers_of};
+ghost use Rattle.ht_rate.specs.Rates.{carriers_of, streams_of};
 ghost use Rattle.ht_capture.specs.declared.items.Item.TheVariants.{Frame};
 ghost use Rattle.ht_capture.specs.Frames.{erase};
 ghost use Rattle.ht_capture.specs.Fields.{Flag, Triangle, Symbol, carrier_due, carriers_due, first_spot, head_given};
 ghost use Rattle.ht_capture.specs.Reading.{AreSeen, Halts, SameFrame, here};
+ghost use Rattle.ht_capture.specs.Taking.{Adds, AreRead, Keeps, triangles_of};
 
 use crate::fields;
 use crate::items::FrameHead;
@@ -51,6 +52,7 @@ fn plain<S: Source>(
     ensures count { IfOk result (λ g. g.count ≡ so_far.count + 1) }
     ensures place { IfOk result (λ g. g.at ≤ so_far.at + 32) }
     ensures seen { IfOk result (λ g. AreSeen head.now.rate g.count present.new) }
+    ensures added { IfOk result (λ g. Keeps (streams_of head.now.rate) [] carrier (take so_far.count present.old) (take g.count present.new) (S.left source.old) (S.left source.new)) }
     ensures later { S.faults source.old ≤ S.faults source.new }
 {
     let width = fields::triangle_width(head.rate.streams());
@@ -89,6 +91,7 @@ fn flagged<S: Source>(
     ensures some { IfOk result (λ g. carrier + 1 ≡ carriers_of head.old.rate → 0 < g.count) }
     ensures place { IfOk result (λ g. g.at ≤ so_far.at + 33) }
     ensures seen { IfOk result (λ g. AreSeen head.old.rate g.count present.new) }
+    ensures added { IfOk result (λ g. Adds 2 carrier head.old head.new (take so_far.count present.old) (take g.count present.new) (S.left source.old) (S.left source.new)) }
     ensures later { S.faults source.old ≤ S.faults source.new }
 {
     let behind = Gathered {
@@ -131,6 +134,7 @@ fn carrier<S: Source>(
     ensures some { IfOk result (λ g. carrier + 1 ≡ carriers_of head.old.rate → 0 < g.count) }
     ensures place { IfOk result (λ g. g.at ≤ so_far.at + 33) }
     ensures seen { IfOk result (λ g. AreSeen head.old.rate g.count present.new) }
+    ensures added { IfOk result (λ g. Adds turn.now.version carrier head.old head.new (take so_far.count present.old) (take g.count present.new) (S.left source.old) (S.left source.new)) }
     ensures later { S.faults source.old ≤ S.faults source.new }
 {
     if turn.version == 2 {
@@ -156,6 +160,7 @@ pub fn carriers<S: Source>(
 ) -> Result<Gathered, InFault>
     requires room { at + 3762 < 2 ^ 64 }
     requires space { length present.old ≡ 114 }
+    requires none { head.old.erased ≡ 0 }
     ensures told { MatchResult result
         (λ g. Gives (here (carriers_due turn.now head.old 0 []) at (S.left source.old))
         (here (Symbol (first_spot turn.now head.new g.count) (take g.count present.new)) g.at (S.left source.new)) (Frame head.new ∷ []))
@@ -166,6 +171,7 @@ pub fn carriers<S: Source>(
     ensures places { IfOk result (λ g. g.count ≤ 114) }
     ensures place { IfOk result (λ g. g.at ≤ at + 3762) }
     ensures seen { IfOk result (λ g. AreSeen head.old.rate g.count present.new) }
+    ensures read { IfOk result (λ g. AreRead turn.now.version (carriers_of head.new.rate) head.new.rate head.new.erased (triangles_of (take g.count present.new)) (S.left source.old) (S.left source.new)) }
     ensures later { S.faults source.old ≤ S.faults source.new }
 {
     let mut gathered = Gathered { count: 0, at };

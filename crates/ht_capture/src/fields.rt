@@ -2,12 +2,16 @@
 ghost use Rattle.std.specs.Prelude.{◌≡◌, ◌<◌, ◌≤◌, ◌+◌, ◌^◌, ℕ, List, [], ◌∷◌, ◌++◌, true, Ok, length, MatchResult, IfOk, IfErr, OnOk};
 ghost use Rattle.ht_io.specs.Octets.{Takes};
 ghost use Rattle.ht_fields.specs.Readers.{Gives};
-ghost use Rattle.ht_rate.specs.Rates.{carriers_of, streams_of};
+ghost use Rattle.byteorder.specs.Endian.{big_bytes};
+ghost use Rattle.ht_rate.specs.Schemes.{bandwidth_code};
+ghost use Rattle.ht_rate.specs.Rates.{bandwidth_of, carriers_of, mcs_of, streams_of};
 ghost use Rattle.ht_rate.specs.declared.rates.Rate.{Rate as Pace};
 ghost use Rattle.ht_capture.specs.declared.items.FrameHead.{FrameHead as Head};
 ghost use Rattle.ht_capture.specs.declared.places.Present.{Present as Seen};
 ghost use Rattle.ht_capture.specs.declared.places.Turn.{Turn as Place};
 ghost use Rattle.ht_capture.specs.Fields.{State, Magic, Version, Count, Bandwidth, Mcs, Length, Flag, Triangle as Legs, due_at, magic_due, frame_due, carriers_due, new_head, head_given, known_version, bad_flag};
+ghost use Rattle.ht_capture.specs.Files.{flag_octet, legs_octets};
+ghost use Rattle.ht_capture.specs.Contents.{AreBytes, AreLegs};
 ghost use Rattle.ht_capture.specs.Systems.{triangle_octets};
 ghost use Rattle.ht_capture.specs.Reading.{Asks, Halts, Flagged, here};
 
@@ -20,8 +24,8 @@ use ht_io::{FormatFault, InFault, Kind, Source};
 use ht_metric::Triangle;
 use ht_rate::Rate;
 
-// The field that began there is bad.
-fn bad(kind: Kind, offset: u64) -> InFault
+/// The field that began there is bad.
+pub fn bad(kind: Kind, offset: u64) -> InFault
     ensures { result ≡ InFault.Format (record { kind = kind; offset = offset }) }
 {
     InFault::Format(FormatFault { kind, offset })
@@ -33,6 +37,7 @@ pub fn fill<S: Source>(source: &mut S, at: u64, into: &mut [u8]) -> Result<u64, 
     requires room { at + length into.old < 2 ^ 64 }
     ensures whole { OnOk result (Takes (S.left source.old) (S.left source.new) into.new) }
     ensures place { IfOk result (λ behind. behind ≡ at + length into.new) }
+    ensures bytes { AreBytes into.new }
     ensures stopped { (s : State) → Asks (due_at s) (length into.new) → IfErr result (Halts (here s at (S.left source.old)) (S.left source.new) (S.faults source.old) (S.faults source.new)) }
     ensures later { S.faults source.old ≤ S.faults source.new }
 {
@@ -77,6 +82,7 @@ pub fn magic<S: Source>(source: &mut S, at: u64, wanted: u8) -> Result<(), InFau
     ensures told { (more : List ℕ) → MatchResult result
         (λ _. Gives (here (Magic wanted more) at (S.left source.old)) (here (magic_due more) (at + 1) (S.left source.new)) [])
         (Halts (here (Magic wanted more) at (S.left source.old)) (S.left source.new) (S.faults source.old) (S.faults source.new)) }
+    ensures octets { OnOk result (Takes (S.left source.old) (S.left source.new) (wanted ∷ [])) }
     ensures later { S.faults source.old ≤ S.faults source.new }
 {
     match octet(source, at) {
@@ -104,6 +110,8 @@ pub fn version<S: Source>(source: &mut S, at: u64) -> Result<u8, InFault>
     ensures told { MatchResult result
         (λ version. Gives (here Version at (S.left source.old)) (here (Count version) (at + 1) (S.left source.new)) [])
         (Halts (here Version at (S.left source.old)) (S.left source.new) (S.faults source.old) (S.faults source.new)) }
+    ensures octets { IfOk result (λ version. Takes (S.left source.old) (S.left source.new) (version ∷ [])) }
+    ensures known { IfOk result (λ version. known_version version ≡ true) }
     ensures later { S.faults source.old ≤ S.faults source.new }
 {
     match octet(source, at) {
@@ -125,6 +133,8 @@ pub fn frames<S: Source>(source: &mut S, at: u64, version: u8) -> Result<Turn, I
         (λ turn. Gives (here (Count version) at (S.left source.old)) (here (frame_due turn) (at + 2) (S.left source.new)) [])
         (Halts (here (Count version) at (S.left source.old)) (S.left source.new) (S.faults source.old) (S.faults source.new)) }
     ensures first { IfOk result (λ turn. (turn.frame ≡ 0) × (turn.number ≡ 0)) }
+    ensures octets { IfOk result (λ turn. Takes (S.left source.old) (S.left source.new) (big_bytes 2 turn.left)) }
+    ensures version { IfOk result (λ turn. turn.version ≡ version) }
     ensures later { S.faults source.old ≤ S.faults source.new }
 {
     match pair(source, at) {
@@ -145,6 +155,7 @@ pub fn bandwidth<S: Source>(source: &mut S, at: u64) -> Result<u8, InFault>
         (λ code. Gives (here (Bandwidth turn) at (S.left source.old)) (here (Mcs turn code) (at + 1) (S.left source.new)) [])
         (Halts (here (Bandwidth turn) at (S.left source.old)) (S.left source.new) (S.faults source.old) (S.faults source.new)) }
     ensures few { IfOk result (λ code. code ≤ 1) }
+    ensures octets { IfOk result (λ code. Takes (S.left source.old) (S.left source.new) (code ∷ [])) }
     ensures later { S.faults source.old ≤ S.faults source.new }
 {
     match octet(source, at) {
@@ -166,6 +177,8 @@ pub fn mcs<S: Source>(source: &mut S, at: u64, code: u8) -> Result<Rate, InFault
     ensures told { (turn : Place) → MatchResult result
         (λ rate. Gives (here (Mcs turn code) at (S.left source.old)) (here (Length turn rate) (at + 1) (S.left source.new)) [])
         (Halts (here (Mcs turn code) at (S.left source.old)) (S.left source.new) (S.faults source.old) (S.faults source.new)) }
+    ensures octets { IfOk result (λ rate. Takes (S.left source.old) (S.left source.new) (mcs_of rate ∷ [])) }
+    ensures code { IfOk result (λ rate. bandwidth_code (bandwidth_of rate) ≡ code) }
     ensures later { S.faults source.old ≤ S.faults source.new }
 {
     match octet(source, at) {
@@ -184,6 +197,8 @@ pub fn length<S: Source>(source: &mut S, at: u64) -> Result<u16, InFault>
         (λ len. Gives (here (Length turn rate) at (S.left source.old)) (here (carriers_due turn (new_head turn rate len) 0 []) (at + 2) (S.left source.new)) [])
         (Halts (here (Length turn rate) at (S.left source.old)) (S.left source.new) (S.faults source.old) (S.faults source.new)) }
     ensures some { IfOk result (λ len. 1 ≤ len) }
+    ensures small { IfOk result (λ len. len < 2 ^ 16) }
+    ensures octets { IfOk result (λ len. Takes (S.left source.old) (S.left source.new) (big_bytes 2 len)) }
     ensures later { S.faults source.old ≤ S.faults source.new }
 {
     match pair(source, at) {
@@ -223,6 +238,7 @@ pub fn flag<S: Source>(
         (Flagged turn head.now carrier present at (at + 1) (S.left source.old) (S.left source.new))
         (Halts (here (Flag turn head.now carrier present) at (S.left source.old)) (S.left source.new) (S.faults source.old) (S.faults source.new)) }
     ensures some { result ≡ Ok true → (carrier + 1 ≡ carriers_of head.now.rate) → 0 < count }
+    ensures octets { IfOk result (λ erased. Takes (S.left source.old) (S.left source.new) (flag_octet erased ∷ [])) }
     ensures later { S.faults source.old ≤ S.faults source.new }
 {
     match octet(source, at) {
@@ -263,6 +279,8 @@ pub fn triangle<S: Source>(source: &mut S, at: u64, rate: &Rate) -> Result<Trian
         (here (carriers_due turn head (carrier + 1) (present ++ record { carrier = carrier; triangle = legs } ∷ [])) (at + triangle_octets (streams_of rate.now)) (S.left source.new)) (head_given head (carrier + 1)))
         (Halts (here (Legs turn head carrier present) at (S.left source.old)) (S.left source.new) (S.faults source.old) (S.faults source.new)) }
     ensures streams { IfOk result (λ legs. length legs ≡ streams_of rate.now) }
+    ensures octets { IfOk result (λ legs. Takes (S.left source.old) (S.left source.new) (legs_octets legs)) }
+    ensures typed { IfOk result AreLegs }
     ensures later { S.faults source.old ≤ S.faults source.new }
 {
     let streams = rate.streams();

@@ -60,7 +60,8 @@ pub fn job(
     requires carrier { present.now.carrier < carriers_of head.now.rate }
     requires triangle { length present.now.triangle ≡ streams_of head.now.rate }
     requires whole { at + carrier_octets head.now.rate ≤ length octets.now }
-    ensures { result ≡ job_at head.now symbol number present.now octets.now at }
+    ensures value { result ≡ job_at head.now symbol number present.now octets.now at }
+    ensures number { result.number ≡ number }
 {
     let samples = numbers::samples(head.rate.streams(), octets, at);
     let place = Place {

@@ -1,8 +1,19 @@
 //! What holds of captures.
-ghost use Rattle.std.specs.Prelude.{◌≡◌, ℕ, List, [], ◌++◌};
+ghost use Rattle.std.specs.Prelude.{◌≡◌, ◌↔◌, ◌<◌, ◌≤◌, ℕ, List, [], ◌∷◌, ◌++◌, drop};
+ghost use Rattle.std.specs.Int.{bit_at};
 ghost use Rattle.ht_fields.specs.Cases.{IsFile};
+ghost use Rattle.ht_fields.specs.Meanings.{meaning};
+ghost use Rattle.ht_rate.specs.Rates.{carriers_of, streams_of};
+ghost use Rattle.ht_capture.specs.declared.items.FrameHead.{FrameHead};
 ghost use Rattle.ht_capture.specs.declared.items.Item.{Item};
-ghost use Rattle.ht_capture.specs.Fields.{captures};
+ghost use Rattle.ht_capture.specs.declared.items.Item.TheVariants.{Frame};
+ghost use Rattle.ht_capture.specs.declared.places.Turn.{Turn};
+ghost use Rattle.ht_capture.specs.Erased.{flag_at};
+ghost use Rattle.ht_capture.specs.Fields.{Bandwidth, captures};
+ghost use Rattle.ht_capture.specs.Systems.{triangle_octets};
+ghost use Rattle.ht_capture.specs.declared.frames.CaptureFrame.{CaptureFrame};
+ghost use Rattle.ht_capture.specs.Files.{AreFrames, file_of};
+ghost use Rattle.ht_capture.specs.Contents.{AreTyped, IsVersion, items_of};
 
 /// No capture is a prefix of another, and equal captures have equal items.
 pub fn no_prefix()
@@ -10,4 +21,38 @@ pub fn no_prefix()
         → IsFile captures octets items → IsFile captures (octets ++ more) others → more ≡ [] }
     ensures equal { (octets : List ℕ) (items others : List Item)
         → IsFile captures octets items → IsFile captures octets others → items ≡ others }
+{}
+
+/// Bit c of a head's `erased` is set exactly where subcarrier c of the frame is erased. The subcarriers stand behind the
+/// four octets of bandwidth, MCS and length.
+pub fn erased()
+    // In version 2 a subcarrier is erased where its flag is 1.
+    ensures flags { (turn : Turn) (at : ℕ) (octets : List ℕ) (head : FrameHead) (more : List Item)
+        → turn.version ≡ 2 → (meaning captures (Bandwidth turn) at octets).items ≡ Frame head ∷ more
+        → (c : ℕ) → c < carriers_of head.rate
+        → (bit_at head.erased c ≡ 1) ↔ (flag_at (triangle_octets (streams_of head.rate)) c (drop 4 octets) ≡ 1) }
+    ensures no_more { (turn : Turn) (at : ℕ) (octets : List ℕ) (head : FrameHead) (more : List Item)
+        → turn.version ≡ 2 → (meaning captures (Bandwidth turn) at octets).items ≡ Frame head ∷ more
+        → (c : ℕ) → carriers_of head.rate ≤ c → bit_at head.erased c ≡ 0 }
+
+    // In version 1 none is.
+    ensures none { (turn : Turn) (at : ℕ) (octets : List ℕ) (head : FrameHead) (more : List Item)
+        → (turn.version ≡ 2 → ⊥) → (meaning captures (Bandwidth turn) at octets).items ≡ Frame head ∷ more
+        → head.erased ≡ 0 }
+{}
+
+/// The file written of frames is a capture that holds their heads and their jobs.
+pub fn written()
+    ensures { (version : ℕ) (frames : List CaptureFrame)
+        → AreFrames frames → AreTyped frames → IsVersion version frames
+        → IsFile captures (file_of version frames) (items_of frames) }
+{}
+
+/// Equal files have equal frames, and are of one version: what is read of a file that was written are its frames.
+pub fn equal_files()
+    ensures { (version other : ℕ) (frames others : List CaptureFrame)
+        → AreFrames frames → AreTyped frames → IsVersion version frames
+        → AreFrames others → AreTyped others → IsVersion other others
+        → file_of version frames ≡ file_of other others
+        → (version ≡ other) × (frames ≡ others) }
 {}

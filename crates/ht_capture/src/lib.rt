@@ -12,11 +12,17 @@
 //! `48 54 43 50 01 00 01 00 00 00 01` begins a capture of one frame at 20 MHz, MCS 0, of one octet. 56 diagonals follow,
 //! and the samples of two symbols: 1,019 octets in all, of which the reader makes a head and 112 jobs. With a 2 in
 //! octet 7 it answers BadBandwidth at 7, and without its last octet Truncated at 1018.
+//!
+//! `read_captures` reads a capture of either version whole, and gives its frames as values. `write_captures` puts the
+//! file of frames in version 1, and `write_captures_2` in version 2; neither takes memory. What was written is a capture
+//! of these frames, and equal files have equal frames, so that what is read of it are the frames again.
 #![tactic(auto)]
 
 mod carriers;
+mod chunk;
 mod cursor;
 mod fields;
+mod frames;
 mod heads;
 mod items;
 mod jobs;
@@ -25,9 +31,16 @@ mod numbers;
 mod parts;
 mod places;
 mod reader;
+mod reading;
 mod stage;
 #[cfg(test)]
 mod tests;
+mod writing;
+#[cfg(test)]
+mod writing_tests;
 
+pub use frames::{CaptureFrame, Samples, Triangles};
 pub use items::{FrameHead, Item};
 pub use reader::Reader;
+pub use reading::read_captures;
+pub use writing::{write_captures, write_captures_2};

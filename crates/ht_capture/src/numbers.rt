@@ -33,9 +33,9 @@ fn tap(octets: &[u8], at: usize) -> Tap
     }
 }
 
-// The sample at a place.
+/// The sample at a place.
 #[tactic(auto, unfolding(crate::specs::Numbers::sample_at))]
-fn sample(octets: &[u8], at: usize) -> Sample
+pub fn sample(octets: &[u8], at: usize) -> Sample
     requires { at + 8 ≤ length octets.now }
     ensures { result ≡ sample_at octets.now at }
 {

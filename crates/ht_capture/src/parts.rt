@@ -14,7 +14,7 @@ use crate::fields;
 use crate::heads::head;
 use crate::places::{Present, Spot, Turn};
 use ht_fields::{Field, read_field};
-use ht_io::{FormatFault, InFault, Kind, Source};
+use ht_io::{InFault, Kind, Source};
 
 /// Sees that the input ends.
 pub fn finish<S: Source>(source: &mut S, at: u64) -> Result<(), InFault>
@@ -25,10 +25,7 @@ pub fn finish<S: Source>(source: &mut S, at: u64) -> Result<(), InFault>
 {
     let mut octet = [0u8; 1];
     match read_field(source, &mut octet) {
-        Field::Whole => Err(InFault::Format(FormatFault {
-            kind: Kind::Trailing,
-            offset: at,
-        })),
+        Field::Whole => Err(fields::bad(Kind::Trailing, at)),
         Field::Ended(_) => Ok(()),
         Field::Broken => Err(InFault::Read),
     }
@@ -49,7 +46,10 @@ pub fn frame<S: Source>(
         (here (Symbol got.0 (take got.0.count present.new)) got.1 (S.left source.new)) (Frame got.0.head ∷ []))
         (Halts (here (frame_due turn.now) at (S.left source.old)) (S.left source.new) (S.faults source.old) (S.faults source.new)) }
     ensures turn { IfOk result (λ got. (got.0.turn ≡ turn.now) × (got.0.symbol ≡ 0)) }
-    ensures some { IfOk result (λ got. (1 ≤ got.0.head.length) × (1 ≤ got.0.count)) }
+    ensures number { IfOk result (λ got. got.0.head.frame ≡ turn.now.frame) }
+    ensures some { IfOk result (λ got. 1 ≤ got.0.count) }
+    ensures symbols { IfOk result (λ got. (1 ≤ got.0.symbols) × (got.0.symbols ≤ 20166)) }
+    ensures jobs { IfOk result (λ got. got.0.symbols * got.0.count ≤ 1129296) }
     ensures few { IfOk result (λ got. got.0.count ≤ carriers_of got.0.head.rate) }
     ensures places { IfOk result (λ got. got.0.count ≤ 114) }
     ensures place { IfOk result (λ got. got.1 ≤ at + 3766) }
@@ -68,6 +68,7 @@ pub fn frame<S: Source>(
         turn: *turn,
         head,
         symbol: 0,
+        symbols: head.rate.symbols(head.length),
         count: gathered.count,
     };
     Ok((spot, gathered.at))

@@ -22,6 +22,8 @@ pub struct Spot {
     pub head: FrameHead,
     /// The number of the symbol in its frame, counted from 0.
     pub symbol: u32,
+    /// So many symbols has the frame.
+    pub symbols: u32,
     /// So many subcarriers are present.
     pub count: usize,
 }

@@ -1,34 +1,53 @@
 //! Readers over sources in memory.
+mod vectors;
+
 use super::*;
 use ht_io::{FormatFault, InFault, Kind, MemSource};
+use ht_metric::plain_nearest;
+use ht_rate::{Carrier, Rate};
 use std::alloc::{AllocError, Global};
 use std::test::Fail;
 
-/// A capture of version 1 of one or two frames at 20 MHz, MCS 0, of one octet, with the diagonal 10 on each subcarrier
-/// and every sample 0.
-fn zeros(alloc: Global, frames: u8) -> Result<Vec<u8>, AllocError> {
+/// Frames of version 1 at 20 MHz and of one octet each, with this MCS and this triangle on each subcarrier. The octets of
+/// the samples are multiples of `step`.
+fn frames(
+    alloc: Global,
+    mcs: u8,
+    triangle: &[u8],
+    count: u8,
+    step: u8,
+) -> Result<Vec<u8>, AllocError> {
     let mut octets = b"HTCP\x01\x00".to_vec(alloc)?;
-    octets.push(frames)?;
-    for _ in 0..frames {
-        octets.extend_from_slice(&[0, 0, 0, 1])?;
+    octets.push(count)?;
+    for _ in 0..count {
+        octets.extend_from_slice(&[0, mcs, 0, 1])?;
         for _ in 0..56u8 {
-            octets.extend_from_slice(&[0, 10])?;
+            octets.extend_from_slice(triangle)?;
         }
-        for _ in 0..896u16 {
-            octets.push(0)?;
+        for at in 0..896u16 {
+            octets.push(((at % 256) as u8).wrapping_mul(step))?;
         }
     }
     Ok(octets)
 }
 
-/// How many items come from the octets, in pieces that end at a cut, and the answer behind them, which comes three times.
-fn read(
-    alloc: Global,
-    octets: Vec<u8>,
-    cuts: Vec<u64>,
-    failing: Vec<u64>,
-) -> Result<(u16, Option<InFault>), AllocError> {
-    let mut source = MemSource::new(octets, cuts, failing);
+/// Frames with one stream and the diagonal 10: 1,012 octets each, behind the first 7.
+fn one_stream(alloc: Global, count: u8, step: u8) -> Result<Vec<u8>, AllocError> {
+    frames(alloc, 0, &[0, 10], count, step)
+}
+
+/// A frame with two streams and the diagonals 10: 1,355 octets with those before it.
+fn two_streams(alloc: Global) -> Result<Vec<u8>, AllocError> {
+    frames(alloc, 8, &[0, 10, 0, 0, 0, 0, 0, 10], 1, 0)
+}
+
+/// A source of the octets that never fails.
+fn whole(alloc: Global, octets: Vec<u8>) -> MemSource {
+    MemSource::new(octets, Vec::new(alloc), Vec::new(alloc))
+}
+
+/// How many items come from a source, and the answer behind them, which each further call gives again: a fault, or none.
+fn read(alloc: Global, mut source: MemSource) -> Result<(u16, Option<InFault>), AllocError> {
     let mut reader = Reader::new(alloc)?;
     let mut count = 0;
     let mut fault = None;
@@ -42,48 +61,262 @@ fn read(
     Ok((count, fault))
 }
 
-// One octet at fault, an octet more, and none.
+fn format(kind: Kind, offset: u64) -> Option<InFault> {
+    Some(InFault::Format(FormatFault { kind, offset }))
+}
+
+/// How many items stand before an offset in two frames with one stream.
+fn items_before(offset: u64) -> u16 {
+    match offset {
+        0..123 => 0,
+        123..571 => 1,
+        571..1019 => 57,
+        1019..1135 => 113,
+        1135..1583 => 114,
+        1583..2031 => 170,
+        _ => 226,
+    }
+}
+
+// One octet of one or two frames changed.
 #[test]
 fn refusals(rt: HostRuntime) -> Result<(), Fail> {
     let cases = [
-        (1, 88, Kind::BadMagic, 1, 0),
-        (4, 3, Kind::BadVersion, 4, 0),
-        (4, 2, Kind::BadErased, 14, 0),
-        (7, 2, Kind::BadBandwidth, 7, 0),
-        (8, 32, Kind::BadMcs, 8, 0),
-        (10, 0, Kind::BadLength, 9, 0),
-        (6, 0, Kind::Trailing, 7, 0),
-        (6, 2, Kind::Truncated, 1019, 113),
+        (1, 1, 88, Kind::BadMagic, 1, 0),
+        (1, 4, 3, Kind::BadVersion, 4, 0),
+        (1, 4, 2, Kind::BadErased, 14, 0),
+        (1, 7, 2, Kind::BadBandwidth, 7, 0),
+        (1, 8, 32, Kind::BadMcs, 8, 0),
+        (1, 10, 0, Kind::BadLength, 9, 0),
+        (1, 6, 0, Kind::Trailing, 7, 0),
+        (1, 6, 2, Kind::Truncated, 1019, 113),
+        (2, 6, 1, Kind::Trailing, 1019, 113),
+        (2, 1020, 32, Kind::BadMcs, 1020, 113),
     ];
-    for (place, octet, kind, offset, items) in cases {
-        let mut octets = zeros(rt.alloc(), 1)?;
+    for (count, place, octet, kind, offset, items) in cases {
+        let mut octets = one_stream(rt.alloc(), count, 0)?;
         if let Some(at) = octets.get_mut(place) {
             *at = octet;
         }
-        let fault = Some(InFault::Format(FormatFault { kind, offset }));
-        let none = Vec::new(rt.alloc());
-        let also_none = Vec::new(rt.alloc());
-        assert_eq!(rt; read(rt.alloc(), octets, none, also_none)?, (items, fault));
+        let source = whole(rt.alloc(), octets);
+        assert_eq!(rt; read(rt.alloc(), source)?, (items, format(kind, offset)));
     }
     Ok(())
 }
 
-// Two frames in pieces, and with a source that fails once: behind the items before it, at every further call.
+// Captures that are no frame long, or less.
 #[test]
-fn smoke(rt: HostRuntime) -> Result<(), Fail> {
+fn short(rt: HostRuntime) -> Result<(), Fail> {
     let cases = [
-        (8, 9, None, 226, None),
-        (1018, 1020, Some(570), 1, Some(InFault::Read)),
-        (1, 3, Some(2030), 170, Some(InFault::Read)),
+        (&b""[..], format(Kind::Truncated, 0)),
+        (&b"HT"[..], format(Kind::Truncated, 2)),
+        (&b"HX"[..], format(Kind::BadMagic, 1)),
+        (&b"HTCP\x02\x00\x00"[..], None),
+        (
+            &b"HTCP\x02\x00\x01\x00\x00\x00\x01\x02"[..],
+            format(Kind::BadErased, 11),
+        ),
     ];
-    for (first, second, failing, items, fault) in cases {
-        let octets = zeros(rt.alloc(), 2)?;
-        let cuts = [first, second].to_vec(rt.alloc())?;
-        let mut offsets = Vec::new(rt.alloc());
-        if let Some(offset) = failing {
-            offsets.push(offset)?;
+    for (octets, answer) in cases {
+        let source = whole(rt.alloc(), octets.to_vec(rt.alloc())?);
+        assert_eq!(rt; read(rt.alloc(), source)?, (0, answer));
+    }
+    let mut octets = b"HTCP\x02\x00\x01\x00\x00\x00\x01".to_vec(rt.alloc())?;
+    for _ in 0..56u8 {
+        octets.push(1)?;
+    }
+    let source = whole(rt.alloc(), octets);
+    assert_eq!(rt; read(rt.alloc(), source)?, (0, format(Kind::BadErased, 66)));
+    Ok(())
+}
+
+// Cut off anywhere.
+#[test]
+fn truncated(rt: HostRuntime) -> Result<(), Fail> {
+    let two = two_streams(rt.alloc())?;
+    for end in 0..two.len() {
+        let source = whole(rt.alloc(), two[..end].to_vec(rt.alloc())?);
+        let items = if end < 459 { 0 } else { 1 };
+        let answer = format(Kind::Truncated, end as u64);
+        assert_eq!(rt; read(rt.alloc(), source)?, (items, answer));
+    }
+    let one = one_stream(rt.alloc(), 2, 1)?;
+    for end in 0..one.len() {
+        let source = whole(rt.alloc(), one[..end].to_vec(rt.alloc())?);
+        let answer = format(Kind::Truncated, end as u64);
+        assert_eq!(rt;
+            read(rt.alloc(), source)?,
+            (items_before(end as u64), answer)
+        );
+    }
+    Ok(())
+}
+
+// A source that fails anywhere.
+#[test]
+fn failing(rt: HostRuntime) -> Result<(), Fail> {
+    let octets = one_stream(rt.alloc(), 2, 1)?;
+    for offset in 0..2032u64 {
+        let failing = [offset].to_vec(rt.alloc())?;
+        let source = MemSource::new(octets.clone()?, Vec::new(rt.alloc()), failing);
+        assert_eq!(rt;
+            read(rt.alloc(), source)?,
+            (items_before(offset), Some(InFault::Read))
+        );
+    }
+    Ok(())
+}
+
+/// Whether both sources give the same items, and Done behind them.
+fn agree(alloc: Global, mut one: MemSource, mut other: MemSource) -> Result<bool, AllocError> {
+    let mut first = Reader::new(alloc)?;
+    let mut second = Reader::new(alloc)?;
+    for _ in 0..300u16 {
+        let same = match (first.next(&mut one), second.next(&mut other)) {
+            (Ok(Item::Job(a)), Ok(Item::Job(b))) => a.same(&b),
+            (Ok(Item::Frame(a)), Ok(Item::Frame(b))) => a == b,
+            (Ok(Item::Done), Ok(Item::Done)) => return Ok(true),
+            _ => false,
+        };
+        if !same {
+            return Ok(false);
         }
-        assert_eq!(rt; read(rt.alloc(), octets, cuts, offsets)?, (items, fault));
+    }
+    Ok(false)
+}
+
+// Sources that cut the octets anywhere, and everywhere.
+#[test]
+fn pieces(rt: HostRuntime) -> Result<(), Fail> {
+    let octets = one_stream(rt.alloc(), 2, 7)?;
+    let mut all = Vec::new(rt.alloc());
+    for cut in 0..2032u64 {
+        let source = whole(rt.alloc(), octets.clone()?);
+        let cuts = [cut].to_vec(rt.alloc())?;
+        let pieces = MemSource::new(octets.clone()?, cuts, Vec::new(rt.alloc()));
+        assert!(rt; agree(rt.alloc(), source, pieces)?, "cut at {cut}");
+        all.push(cut)?;
+    }
+    let source = whole(rt.alloc(), octets.clone()?);
+    let pieces = MemSource::new(octets, all, Vec::new(rt.alloc()));
+    assert!(rt; agree(rt.alloc(), source, pieces)?);
+    Ok(())
+}
+
+/// Of the job with this number: the nearest point's I on the first and on the last stream, and its distance.
+fn nearest_of(
+    alloc: Global,
+    octets: Vec<u8>,
+    number: u64,
+) -> Result<Option<(i8, i8, u128)>, AllocError> {
+    let mut source = whole(alloc, octets);
+    let mut reader = Reader::new(alloc)?;
+    for _ in 0..300u16 {
+        match reader.next(&mut source) {
+            Ok(Item::Job(job)) => {
+                if job.number() == number {
+                    let hit = plain_nearest(&job);
+                    let last = hit.vector().len();
+                    if last > 0 {
+                        let points = (hit.vector().point(1).i, hit.vector().point(last).i);
+                        return Ok(Some((points.0, points.1, hit.distance())));
+                    }
+                }
+            }
+            Ok(Item::Frame(_)) => {}
+            _ => return Ok(None),
+        }
+    }
+    Ok(None)
+}
+
+// Where nothing is received, each point is as near as any other: the first one of a data subcarrier, the one of a pilot.
+#[test]
+fn jobs(rt: HostRuntime) -> Result<(), Fail> {
+    let cases = [
+        (1, 0, -1, -1),
+        (1, 7, 1, 1),
+        (1, 48, -1, -1),
+        (1, 63, -1, -1),
+        (1, 90, 1, 1),
+        (2, 0, -1, -1),
+        (2, 7, 1, 1),
+        (2, 34, 1, -1),
+        (2, 48, -1, 1),
+    ];
+    for (streams, number, first, last) in cases {
+        let octets = if streams == 1 {
+            one_stream(rt.alloc(), 1, 0)?
+        } else {
+            two_streams(rt.alloc())?
+        };
+        let answer = Some((first, last, 100 * streams));
+        assert_eq!(rt;
+            nearest_of(rt.alloc(), octets, number)?,
+            answer,
+            "job {number}"
+        );
+    }
+    Ok(())
+}
+
+fn is_pilot(rate: &Rate, carrier: u8) -> bool {
+    if carrier < rate.carriers() {
+        matches!(rate.carrier(carrier), Carrier::Pilot(_))
+    } else {
+        false
+    }
+}
+
+/// Of a capture of one frame: how many jobs it has, and the sums of their least distances, of data and of pilots.
+fn sums(alloc: Global, octets: Vec<u8>) -> Result<(u16, u128, u128), AllocError> {
+    let mut source = whole(alloc, octets);
+    let mut reader = Reader::new(alloc)?;
+    let mut head = None;
+    let (mut jobs, mut data, mut pilots) = (0u16, 0u128, 0u128);
+    for _ in 0..300u16 {
+        match reader.next(&mut source) {
+            Ok(Item::Frame(found)) => head = Some(found),
+            Ok(Item::Job(job)) => {
+                jobs = jobs.saturating_add(1);
+                let distance = plain_nearest(&job).distance();
+                match head {
+                    Some(head) if is_pilot(&head.rate, job.place().carrier) => {
+                        pilots = pilots.saturating_add(distance);
+                    }
+                    _ => data = data.saturating_add(distance),
+                }
+            }
+            _ => return Ok((jobs, data, pilots)),
+        }
+    }
+    Ok((jobs, data, pilots))
+}
+
+fn digit(letter: u8) -> u8 {
+    match letter {
+        b'0'..=b'9' => letter - b'0',
+        b'a'..=b'f' => letter - b'a' + 10,
+        _ => 0,
+    }
+}
+
+/// The octets of a hexadecimal text.
+fn octets_of(alloc: Global, text: &[u8]) -> Result<Vec<u8>, AllocError> {
+    let mut octets = Vec::new(alloc);
+    for at in 0..text.len() / 2 {
+        octets.push(16 * (digit(text[2 * at]) % 16) + digit(text[2 * at + 1]) % 16)?;
+    }
+    Ok(octets)
+}
+
+// Captures from outside, with the sums that a receiver has to find.
+#[test]
+fn captures(rt: HostRuntime) -> Result<(), Fail> {
+    for capture in &vectors::CAPTURES {
+        let (text, jobs, data, pilots) = *capture;
+        let octets = octets_of(rt.alloc(), text)?;
+        assert_eq!(rt; sums(rt.alloc(), octets)?, (jobs, data, pilots));
     }
     Ok(())
 }

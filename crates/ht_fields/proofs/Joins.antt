@@ -1,7 +1,8 @@
 -- How the conclusions of a reader are joined, and what they come to over a whole text.
-use Rattle.std.specs.Prelude.{◌≡◌, ◌⊎◌, ℕ, ◌+◌, List, [], ◌++◌, length, Option, None, Some}
+use Rattle.std.specs.Prelude.{◌≡◌, ◌⊎◌, ℕ, ◌+◌, ◌-◌, List, [], ◌++◌, length, take, Option, None, Some}
 use Rattle.std.proofs.Common.{refl, ap, ◌∙◌, sym, subst, inl, inr, append_assoc, arith, length-append}
 use Rattle.std.proofs.lemmas.List.{append-nil}
+use Rattle.std.proofs.Math.Seq.{take-append-add}
 use Rattle.ht_io.specs.Octets.{Takes}
 use Rattle.ht_io.specs.declared.faults.FormatFault.{FormatFault}
 use Rattle.ht_io.specs.declared.faults.InFault.{InFault}
@@ -10,7 +11,7 @@ use Rattle.ht_fields.specs.Grammar.{Grammar}
 use Rattle.ht_fields.specs.Cases.{IsFile, IsClean}
 use Rattle.ht_fields.specs.Meanings.{Meaning, before, refused, meaning}
 use Rattle.ht_fields.specs.Reading.{TakesAll}
-use Rattle.ht_fields.specs.Readers.{Shown, Gives, Refuses, RunsOut, Finishes, IsEarly, Breaks, Stops}
+use Rattle.ht_fields.specs.Readers.{Shown, Gives, EndsAt, Refuses, RunsOut, Finishes, IsEarly, Breaks, Stops}
 use Rattle.ht_fields.proofs.Pieces.{takes-append}
 use Rattle.ht_fields.proofs.Steps.{before-before}
 use Rattle.ht_fields.proofs.Answered.{alone, file_found, clean_found}
@@ -36,6 +37,28 @@ gives_more old mid new items more a b =
       means = λ rest. ap old.means (append_assoc a.taken b.taken rest) ∙ (a.means (b.taken ++ rest) ∙ (ap (before items) (b.means rest) ∙ before-before items more (new.means rest)));
     }
 
+-- Behind octets that give items the field at fault ends where it ended.
+pub ends_behind : {I : Type 0} (old mid : Shown I) (items : List I) (a : Gives old mid items) (taken : List ℕ) (fault : FormatFault)
+    → EndsAt mid taken fault → EndsAt old (a.taken ++ taken) fault
+ends_behind {I = I} old mid items a taken fault b =
+    let place = a.place in
+    let all : length (a.taken ++ taken) ≡ length a.taken + length taken = length-append a.taken taken in
+    record {
+      kind = b.kind;
+      behind = omega (arith, b.behind, place);
+      within = omega (arith, b.within, place, all);
+      early = λ n from few.
+          let m = n - length a.taken in
+          let so : length a.taken + m ≡ n = omega (arith, b.behind, place, from) in
+          let total : mid.at + m ≡ old.at + n = omega (arith, place, so) in
+          let is : old.means (take n (a.taken ++ taken)) ≡ before items (mid.means (take m taken)) =
+          ap old.means (ap (λ k. take k (a.taken ++ taken)) (sym so) ∙ take-append-add a.taken taken m) ∙ a.means (take m taken) in
+          subst (λ (z : Meaning I). IsEarly (old.at + n) z.fault) (sym is)
+          (subst (λ k. IsEarly k (mid.means (take m taken)).fault) total
+          (b.early m (omega (arith, from, total)) (omega (arith, few, all, so))));
+      trailing = λ e. omega (arith, b.trailing e, place, all);
+    }
+
 -- Octets that give no item, and then a fault.
 pub gives_refuses : {I : Type 0} (old mid : Shown I) (after : Option (List ℕ)) (fault : FormatFault)
     → Gives old mid [] → Refuses mid after fault → Refuses old after fault
@@ -44,9 +67,10 @@ gives_refuses old mid after fault a b =
       taken = a.taken ++ b.taken;
       octets = takes-append old.left mid.left after a.taken b.taken a.octets b.octets;
       means = λ rest. ap old.means (append_assoc a.taken b.taken rest) ∙ (a.means (b.taken ++ rest) ∙ ap (before []) (b.means rest));
+      ends = ends_behind old mid [] a b.taken fault b.ends;
     }
 
-takes_all : (left between after : Option (List ℕ)) (xs ys : List ℕ) → Takes left between xs → TakesAll between after ys → TakesAll left after (xs ++ ys)
+pub takes_all : (left between after : Option (List ℕ)) (xs ys : List ℕ) → Takes left between xs → TakesAll between after ys → TakesAll left after (xs ++ ys)
 takes_all None None None xs ys a b = tt
 takes_all None None (Some after) xs ys a b = absurd b
 takes_all None (Some between) after xs ys a b = absurd a
@@ -86,7 +110,7 @@ gives_stops old mid after Read a b = gives_breaks old mid after a b
 gives_stops old mid after NoMemory a b = tt
 
 -- where what is left is told, the octets taken were its front
-fronted : (b : List ℕ) (after : Option (List ℕ)) (taken : List ℕ) → Takes (Some b) after taken → (rest : List ℕ) × (after ≡ Some rest) × (b ≡ taken ++ rest)
+pub fronted : (b : List ℕ) (after : Option (List ℕ)) (taken : List ℕ) → Takes (Some b) after taken → (rest : List ℕ) × (after ≡ Some rest) × (b ≡ taken ++ rest)
 fronted b None taken t = absurd t
 fronted b (Some rest) taken t = (rest, refl, t)
 

@@ -42,11 +42,45 @@ field_gives f s t at behind items left after into r p is =
       means = λ rest. good_field f s t at into items rest p ∙ ap (λ n. before items (meaning f t n rest)) (sym is);
     }
 
+-- a kind of fault that a format names for its fields, as Truncated and Trailing are none
+abbrev pub IsNamed : Kind → Type 0
+IsNamed kind = (kind ≡ Truncated → ⊥) × (kind ≡ Trailing → ⊥)
+
+-- Of a front of a field the reader means its early end.
+early_front : {S I : Type 0} (f : Grammar S I) (s : S) (at n : ℕ) (left : Option (List ℕ)) (into : List ℕ)
+    → HasWidth (f.due s) (length into) → n < length into → IsEarly (at + n) (meaning f s at (take n into)).fault
+early_front {I = I} f s at n left into w few =
+    let len : length (take n into) ≡ n = length-take-le n into (omega (arith, few)) in
+    let is : meaning f s at (take n into) ≡ refused Truncated (at + n) =
+    early_end f s at (take n into) (short (f.due s) (length into) (take n into) w (omega (arith, len, few)))
+    ∙ ap (λ k. refused Truncated (at + k)) len in
+    subst (λ (m : Meaning I). IsEarly (at + n) m.fault) (sym is) refl
+
+width_of : {S I : Type 0} (d : Due S I) (x : List ℕ) (v : Verdict S I) → IsField d x v → HasWidth d (length x)
+width_of End x v p = p
+width_of (Wants beyond judge) x v p = p.0
+
+some_of : {S I : Type 0} (d : Due S I) (width : ℕ) → HasWidth d width → 0 < width
+some_of End width w = absurd w
+some_of (Wants beyond judge) width w = omega arith
+
 -- A field was read whole and is bad.
 pub field_refuses : {S I : Type 0} (f : Grammar S I) (s : S) (at : ℕ) (kind : Kind) (left after : Option (List ℕ)) (into : List ℕ)
-    → ReadsField left after Whole into → IsField (f.due s) into (Bad kind) → Refuses (shown f s at left) after (record { kind = kind; offset = at })
-field_refuses f s at kind left after into r p =
-    record { taken = into; octets = r; means = λ rest. bad_field f s at into rest kind p }
+    → ReadsField left after Whole into → IsField (f.due s) into (Bad kind) → IsNamed kind → Refuses (shown f s at left) after (record { kind = kind; offset = at })
+field_refuses f s at kind left after into r p named =
+    let wide = width_of (f.due s) into (Bad kind) p in
+    record {
+      taken = into;
+      octets = r;
+      means = λ rest. bad_field f s at into rest kind p;
+      ends = record {
+        kind = named.0;
+        behind = omega arith;
+        within = omega (arith, some_of (f.due s) (length into) wide);
+        early = λ n from few. early_front f s at n left into wide few;
+        trailing = λ e. absurd (named.1 e);
+      };
+    }
 
 -- The input ended within a field.
 pub field_runs_out : {S I : Type 0} (f : Grammar S I) (s : S) (at count : ℕ) (left after : Option (List ℕ)) (into : List ℕ)
@@ -76,12 +110,27 @@ field_breaks {I = I} f s at left after into r w =
       early = subst (λ (m : Meaning I). IsEarly (at + length taken) m.fault) (sym is) refl;
     }
 
+nothing : (n k : ℕ) → n < k → k ≡ 1 → n ≡ 0
+nothing n k few one = omega arith
+
 -- An octet was read where the end is due.
 pub end_refuses : {S I : Type 0} (f : Grammar S I) (s : S) (at : ℕ) (left after : Option (List ℕ)) (into : List ℕ)
     → ReadsField left after Whole into → length into ≡ 1 → IsEnd (f.due s) → Refuses (shown f s at left) after (record { kind = Trailing; offset = at })
 end_refuses f s at left after [] r one e = absurd (omega arith)
-end_refuses f s at left after (x ∷ xs) r one e =
-    record { taken = x ∷ xs; octets = r; means = λ rest. trailing_octet f s at x (xs ++ rest) e }
+end_refuses {I = I} f s at left after (x ∷ xs) r one e =
+    let none : IsEarly (at + 0) (meaning f s at []).fault = subst (λ (m : Meaning I). IsEarly (at + 0) m.fault) (sym (whole_file f s at e)) tt in
+    record {
+      taken = x ∷ xs;
+      octets = r;
+      means = λ rest. trailing_octet f s at x (xs ++ rest) e;
+      ends = record {
+        kind = λ never. cc;
+        behind = omega arith;
+        within = omega (arith, one);
+        early = λ n from few. subst (λ k. IsEarly (at + k) (meaning f s at (take k (x ∷ xs))).fault) (sym (nothing n _ few one)) none;
+        trailing = λ same. omega (arith, one);
+      };
+    }
 
 -- None was left where the end is due.
 pub end_finishes : {S I : Type 0} (f : Grammar S I) (s : S) (at count : ℕ) (left after : Option (List ℕ)) (into : List ℕ)

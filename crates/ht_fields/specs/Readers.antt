@@ -1,10 +1,10 @@
 -- What a call of a reader does with the octets that it takes from its source.
-use Rattle.std.specs.Prelude.{◌≡◌, ◌⊎◌, ℕ, ◌+◌, List, [], ◌++◌, length, Option, None, Some}
+use Rattle.std.specs.Prelude.{◌≡◌, ◌⊎◌, ℕ, ◌+◌, ◌<◌, ◌≤◌, List, [], ◌++◌, length, take, Option, None, Some}
 use Rattle.ht_io.specs.Octets.{Takes}
 use Rattle.ht_io.specs.declared.faults.FormatFault.{FormatFault}
 use Rattle.ht_io.specs.declared.faults.InFault.{InFault}
 use Rattle.ht_io.specs.declared.faults.InFault.TheVariants.{Format, Read, NoMemory}
-use Rattle.ht_io.specs.declared.faults.Kind.TheVariants.{Truncated}
+use Rattle.ht_io.specs.declared.faults.Kind.TheVariants.{Truncated, Trailing}
 use Rattle.ht_fields.specs.Grammar.{Grammar}
 use Rattle.ht_fields.specs.Meanings.{Meaning, before, ended, refused, meaning}
 use Rattle.ht_fields.specs.Reading.{TakesAll}
@@ -26,11 +26,26 @@ pub record Gives {I : Type 0} (old new : Shown I) (items : List I) : Type 0 wher
   pub place : new.at ≡ old.at + length taken
   pub means : (rest : List ℕ) → old.means (taken ++ rest) ≡ before items (new.means rest)
 
+-- no fault, or Truncated behind so many octets
+abbrev pub IsEarly : ℕ → Option FormatFault → Type 0
+IsEarly total None = Unit {0}
+IsEarly total (Some fault) = fault ≡ record { kind = Truncated; offset = total }
+
+-- the octets end with the field at fault: it begins among them, at the fault's offset, and while it isn't whole, the
+-- reader meant no fault but their early end; a trailing octet is the last of them
+pub record EndsAt {I : Type 0} (old : Shown I) (taken : List ℕ) (fault : FormatFault) : Type 0 where
+  pub kind : fault.kind ≡ Truncated → ⊥
+  pub behind : old.at ≤ fault.offset
+  pub within : fault.offset < old.at + length taken
+  pub early : (n : ℕ) → fault.offset ≤ old.at + n → n < length taken → IsEarly (old.at + n) (old.means (take n taken)).fault
+  pub trailing : fault.kind ≡ Trailing → old.at + length taken ≡ fault.offset + 1
+
 -- the octets taken end with the field at fault: whatever follows them, the reader meant this fault and no item
 pub record Refuses {I : Type 0} (old : Shown I) (after : Option (List ℕ)) (fault : FormatFault) : Type 0 where
   pub taken : List ℕ
   pub octets : Takes old.left after taken
   pub means : (rest : List ℕ) → old.means (taken ++ rest) ≡ refused fault.kind fault.offset
+  pub ends : EndsAt old taken fault
 
 -- all octets that were left were taken, and were too few: the reader meant Truncated behind them, and no item
 pub record RunsOut {I : Type 0} (old : Shown I) (after : Option (List ℕ)) (fault : FormatFault) : Type 0 where
@@ -39,11 +54,6 @@ pub record RunsOut {I : Type 0} (old : Shown I) (after : Option (List ℕ)) (fau
   pub kind : fault.kind ≡ Truncated
   pub place : fault.offset ≡ old.at + length taken
   pub means : old.means taken ≡ refused fault.kind fault.offset
-
--- no fault, or Truncated behind so many octets
-abbrev pub IsEarly : ℕ → Option FormatFault → Type 0
-IsEarly total None = Unit {0}
-IsEarly total (Some fault) = fault ≡ record { kind = Truncated; offset = total }
 
 -- the octets taken before the source failed are clean: of them alone the reader meant no item, and no fault but their early end
 pub record Breaks {I : Type 0} (old : Shown I) (after : Option (List ℕ)) : Type 0 where

@@ -12,8 +12,8 @@ use std::marker::Model;
 pub struct Job {
     number: u64,
     place: Place,
-    grid: Grid,
     system: System,
+    grid: Grid,
 }
 
 impl Model for Job {
@@ -37,8 +37,8 @@ impl Job {
         Job {
             number,
             place,
-            grid,
             system,
+            grid,
         }
     }
 
@@ -87,8 +87,8 @@ impl Job {
         Job {
             number: self.number,
             place: self.place,
-            grid: self.grid,
             system: self.system,
+            grid: self.grid,
         }
     }
 }

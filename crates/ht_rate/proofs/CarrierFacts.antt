@@ -1,5 +1,5 @@
 -- What the subcarriers of each bandwidth carry, by a test of every index.
-use Rattle.std.proofs.Common.{◌≡◌, ℕ, ◌+◌, ◌-◌, ◌==◌, ◌<◌, Bool, true, nat_eq, nat_lt, refl, ap, ◌∙◌, Option, Some, None, position, arith}
+use Rattle.std.proofs.Common.{◌≡◌, ℕ, ◌+◌, ◌-◌, ◌==◌, ◌<◌, Bool, true, nat_eq, nat_lt, refl, sym, ap, ◌∙◌, position, arith}
 use Rattle.std.proofs.lemmas.Bool.Decides.{nat_tests}
 use Rattle.ht_rate.specs.declared.kinds.Bandwidth.{Bandwidth}
 use Rattle.ht_rate.specs.declared.kinds.Bandwidth.TheVariants.{Mhz20, Mhz40}
@@ -13,15 +13,11 @@ use Rattle.ht_rate.specs.Rates.{bandwidth_of, data_carriers_of, pilots_of, carri
 use Rattle.ht_rate.specs.Carriers.{carrier_among, carrier_at, carrier_of, pilots_below, data_before, IsAmong, IsInOrder}
 use Rattle.ht_rate.proofs.Every.{each_below, at_below}
 
--- a pilot that was found, and a subcarrier that is none
-pub is_pilot : (b : Bandwidth) (index k : ℕ) → Some k ≡ position (λ p. p == index) (pilot_places b) → Pilot k ≡ carrier_at b index
-unfolding carrier_at
-is_pilot b index k e = ap (λ (o : Option ℕ). carrier_among o (index - pilots_below b index)) e
-
-pub is_data : (b : Bandwidth) (index below : ℕ) → None ≡ position (λ p. p == index) (pilot_places b) → below ≡ pilots_below b index → Data (index - below) ≡ carrier_at b index
-unfolding carrier_at
-is_data b index below e same =
-    ap (λ (n : ℕ). Data (index - n)) same ∙ ap (λ (o : Option ℕ). carrier_among o (index - pilots_below b index)) e
+-- what stands at an index at the bandwidth of a rate
+pub carrier_is : (r : Rate) (b : Bandwidth) (index : ℕ) (c : Carrier) → bandwidth_of r ≡ b
+    → c ≡ carrier_among (position (λ p. p == index) (pilot_places b)) (index - pilots_below b index) → c ≡ carrier_of r index
+unfolding carrier_of carrier_at
+carrier_is r b index c e is = is ∙ ap (λ (w : Bandwidth). carrier_at w index) (sym e)
 
 -- the number of each subcarrier is below the count of its kind
 is_among : Bandwidth → Carrier → Bool

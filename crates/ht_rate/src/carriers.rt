@@ -1,8 +1,7 @@
 //! What each subcarrier carries (clauses 20.3.11.10 and 20.3.11.11).
-ghost use Rattle.std.specs.Prelude.{◌≡◌, ◌<◌, ◌≤◌, ℕ, length, nat_lt, ◌==◌, position, count_by, IfSome};
-ghost use Rattle.ht_rate.specs.Carriers.{carrier_of, IsAmong, pilots_below};
+ghost use Rattle.std.specs.Prelude.{◌≡◌, ◌<◌, ◌≤◌, ◌-◌, length, nat_lt, ◌==◌, position, count_by, IfSome};
+ghost use Rattle.ht_rate.specs.Carriers.{carrier_among, carrier_of, IsAmong};
 ghost use Rattle.ht_rate.specs.Rates.{carriers_of, bandwidth_of};
-ghost use Rattle.ht_rate.specs.Schemes.{pilot_places};
 
 use crate::kinds::{Bandwidth, Carrier};
 use crate::rates::Rate;
@@ -19,22 +18,22 @@ impl Rate {
         ensures value { result ≡ carrier_of self.now index }
         ensures within { IsAmong self.now result }
     {
-        let pilots = pilot_indexes(self.bandwidth());
-        match position_of(pilots, index) {
-            Some(k) => Carrier::Pilot(k as u8),
-            None => Carrier::Data(index - count_below(pilots, index)),
+        match self.bandwidth() {
+            Bandwidth::Mhz20 => among(&PILOTS_20, index),
+            Bandwidth::Mhz40 => among(&PILOTS_40, index),
         }
     }
 }
 
-// The pilots of a bandwidth.
-fn pilot_indexes(bandwidth: Bandwidth) -> &'static [u8]
-    ensures value { result.now ≡ pilot_places bandwidth }
-    ensures few { length result.now ≤ 6 }
+// What the subcarrier of an index carries, where these are the pilots.
+fn among(pilots: &[u8], index: u8) -> Carrier
+    requires few { length pilots.now ≤ 6 }
+    requires below { count_by (λ p. nat_lt p index) pilots.now ≤ index }
+    ensures { result ≡ carrier_among (position (λ p. p == index) pilots.now) (index - count_by (λ p. nat_lt p index) pilots.now) }
 {
-    match bandwidth {
-        Bandwidth::Mhz20 => &PILOTS_20,
-        Bandwidth::Mhz40 => &PILOTS_40,
+    match position_of(pilots, index) {
+        Some(k) => Carrier::Pilot(k as u8),
+        None => Carrier::Data(index - count_below(pilots, index)),
     }
 }
 

@@ -5,6 +5,7 @@ use Rattle.ht_rate.specs.Rates.{carriers_of}
 use Rattle.ht_fields.proofs.Joins.{gives_more}
 use Rattle.ht_capture.specs.Reading.{AreSeen}
 use Rattle.ht_capture.proofs.Halting.{gives_halts}
+use Rattle.ht_capture.proofs.Gathering.{read_none, read_more, read_end}
 use Rattle.ht_capture.proofs.Turns.{carriers_first, carriers_so_far, carriers_over}
 use Rattle.ht_capture.proofs.carriers.carriers.Goals as goal
 
@@ -19,6 +20,7 @@ loop-index-init g c =
       place = omega arith;
       seen = λ d k lt. absurd (omega (arith, lt));
       size = c.requires.space;
+      read = read_none c.args.turn.now.version c.args.head.now.rate c.args.head.now.erased _ c.requires.none;
       later = omega arith;
     }
 
@@ -42,6 +44,7 @@ loop-index-preserved g c =
       place = omega (arith, c.loop-index.invariant.place, c.in-Ok.ensures.place);
       seen = subst (λ (r : Rate). AreSeen r c.in-Ok.more.count c.carrier.new.present) was.1 c.in-Ok.ensures.seen;
       size = search;
+      read = read_more c.args.turn.now.version c.loop-index.index c.loop-index.head c.carrier.new.head _ _ _ _ _ c.loop-index.invariant.read now.1 c.in-Ok.ensures.added;
       later = omega (arith, c.loop-index.invariant.later, c.in-Ok.ensures.later);
     }
 
@@ -52,3 +55,9 @@ returns-clause-told g c =
     let le : carriers_of c.loop-index.head.rate ≤ c.loop-index.index = omega (arith, rate, c.carriers-carriers.ensures.value) in
     let size : length (take c.loop-index.gathered.count c.loop-index.present) ≡ c.loop-index.gathered.count = length-take-le c.loop-index.gathered.count c.loop-index.present (omega (arith, c.loop-index.invariant.size, c.loop-index.invariant.count, high)) in
     carriers_over _ c.args.turn.now c.loop-index.head c.loop-index.index c.loop-index.gathered.count _ _ _ le size c.loop-index.invariant.told
+
+pub returns-clause-read : goal.returns-clause-read
+returns-clause-read g c =
+    let rate : carriers_of c.loop-index.head.rate ≡ carriers_of c.args.head.now.rate = ap (λ (r : Rate). carriers_of r) c.loop-index.invariant.same.1 in
+    let end : c.loop-index.index ≡ carriers_of c.loop-index.head.rate = omega (arith, rate, c.carriers-carriers.ensures.value, c.loop-index-test.false, c.loop-index.auto.index-end) in
+    read_end c.args.turn.now.version c.loop-index.index (carriers_of c.loop-index.head.rate) c.loop-index.head.rate c.loop-index.head.erased _ _ _ end c.loop-index.invariant.read

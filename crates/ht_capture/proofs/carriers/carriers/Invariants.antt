@@ -2,6 +2,7 @@ use Rattle.std.proofs.Common.{◌≡◌, ◌<◌, ◌≤◌, ◌+◌, ◌*◌, [
 use Rattle.ht_fields.specs.Readers.{Gives}
 use Rattle.ht_rate.specs.Rates.{carriers_of}
 use Rattle.ht_capture.specs.Fields.{carriers_due, head_given}
+use Rattle.ht_capture.specs.Taking.{AreRead, triangles_of}
 use Rattle.ht_capture.specs.Reading.{AreSeen, SameFrame, here}
 use Rattle.ht_capture.proofs.carriers.carriers.Given as goal
 
@@ -16,5 +17,6 @@ invariant-loop-index g l = record {
   place : l.gathered.at ≤ l.at + 33 * l.index;
   seen : AreSeen l.fn.head.rate l.gathered.count l.present;
   size : length l.present ≡ 114;
+  read : AreRead l.turn.version l.index l.head.rate l.head.erased (triangles_of (take l.gathered.count l.present)) (g.S.Source.left l.fn.source) (g.S.Source.left l.source);
   later : g.S.Source.faults l.fn.source ≤ g.S.Source.faults l.source;
 }

@@ -5,25 +5,24 @@ pub overflow_add-turn : goal.overflow_add-turn
 overflow_add-turn c =
     let f = c.requires.fits in omega (arith, f.number, f.frames, f.symbol, f.symbols, f.places)
 
-pub returns-then-spot-symbols-clause-fits : goal.returns-then-spot-symbols-clause-fits
-returns-then-spot-symbols-clause-fits c =
+pub returns-then-spot-clause-fits : goal.returns-then-spot-clause-fits
+returns-then-spot-clause-fits c =
     let f = c.requires.fits in
     record {
       frames = f.frames;
       left = f.left;
-      some = f.some;
       count = f.count;
       few = f.few;
       places = f.places;
-      symbol = omega (arith, c.if-spot-symbols.true, c.symbols-symbols.ensures.value);
+      symbol = omega (arith, c.if-spot.true);
       symbols = f.symbols;
       place = omega (arith, f.place);
       number = omega (arith, f.number, f.places);
       seen = f.seen;
     }
 
-pub returns-else-spot-symbols-clause-fits : goal.returns-else-spot-symbols-clause-fits
-returns-else-spot-symbols-clause-fits c =
+pub returns-else-spot-clause-fits : goal.returns-else-spot-clause-fits
+returns-else-spot-clause-fits c =
     let f = c.requires.fits in
     record {
       frames = omega (arith, f.frames, f.left);

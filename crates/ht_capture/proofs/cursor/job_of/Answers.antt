@@ -5,8 +5,8 @@ use Rattle.ht_capture.specs.Readers.{symbol_octets}
 use Rattle.ht_capture.proofs.Symbols.{gives_job}
 use Rattle.ht_capture.proofs.cursor.job_of.Goals as goal
 
-pub returns : goal.returns
-returns c =
+pub returns-clause-told : goal.returns-clause-told
+returns-clause-told c =
     let spot = c.args.spot.now in
     let k = c.args.k in
     let present = c.args.present.now in
@@ -16,8 +16,8 @@ returns c =
     let place : c.width-2.result ≡ k * carrier_octets spot.head.rate = c.width-2.ensures.value ∙ ap (λ n. k * (8 * n)) c.streams-streams.ensures.value in
     let le : spot.count ≤ length present = omega (arith, c.requires.fits.places, c.requires.space) in
     let is : c.job.result ≡ job_at spot.head spot.symbol (spot.turn.number + k) (get_or present k d) (take (symbol_octets spot) samples) (k * carrier_octets spot.head.rate) =
-    c.job.ensures
+    c.job.ensures.value
     ∙ (ap (λ (n : ℕ). job_at spot.head spot.symbol (spot.turn.number + k) d (take n samples) c.width-2.result) whole
     ∙ (ap (λ (n : ℕ). job_at spot.head spot.symbol (spot.turn.number + k) d (take (symbol_octets spot) samples) n) place
     ∙ ap (λ (p : Present). job_at spot.head spot.symbol (spot.turn.number + k) p (take (symbol_octets spot) samples) (k * carrier_octets spot.head.rate)) c.index-present-k.is)) in
-    record { told = λ left. gives_job spot k c.args.at present samples left c.job.result d c.requires.inside le is }
+    λ left. gives_job spot k c.args.at present samples left c.job.result d c.requires.inside le is

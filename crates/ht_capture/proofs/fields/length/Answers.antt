@@ -8,7 +8,7 @@ use Rattle.ht_capture.proofs.fields.length.Goals as goal
 pub returns-then-length-eq0-clause-told : goal.returns-then-length-eq0-clause-told
 returns-then-length-eq0-clause-told g c = λ turn rate.
     let len : length c.in-Ok.octets ≡ 2 = omega arith in
-    bad_halts (Length turn rate) c.args.at BadLength _ _ _ _ c.in-Ok.octets c.bad.result (len, bad_length turn rate c.in-Ok.octets (sym c.read_u16-length.ensures ∙ c.if-length-eq0.true)) c.in-Ok.ensures.whole c.bad.ensures
+    bad_halts (Length turn rate) c.args.at BadLength _ _ _ _ c.in-Ok.octets c.bad.result (len, bad_length turn rate c.in-Ok.octets (sym c.read_u16-length.ensures ∙ c.if-length-eq0.true)) (λ e. cc, λ e. cc) c.in-Ok.ensures.whole c.bad.ensures
 
 pub returns-else-length-eq0-clause-told : goal.returns-else-length-eq0-clause-told
 returns-else-length-eq0-clause-told g c = λ turn rate.

@@ -1,10 +1,14 @@
-use Rattle.std.proofs.Common.{◌≡◌, ◌≤◌, ◌+◌, ◌++◌, ◌∙◌, ℕ, [], ◌∷◌, sym, ap, arith, length}
+use Rattle.std.proofs.Common.{◌≡◌, ◌≤◌, ◌+◌, ◌++◌, ◌∙◌, ℕ, List, subst, [], ◌∷◌, sym, ap, arith, length}
 use Rattle.ht_capture.proofs.Halting.{good_gives}
 use Rattle.std.proofs.lemmas.List.{length-take}
 use Rattle.ht_rate.specs.Rates.{streams_of}
 use Rattle.ht_capture.specs.Systems.{triangle_of, triangle_octets}
 use Rattle.ht_capture.specs.Fields.{Triangle, carriers_due, head_given}
 use Rattle.ht_capture.proofs.Judges.{good_triangle}
+use Rattle.ht_io.specs.Octets.{Takes}
+use Rattle.ht_capture.specs.Files.{legs_octets}
+use Rattle.ht_capture.specs.Contents.{AreLegs}
+use Rattle.ht_capture.proofs.Encoded.{triangle_back}
 use Rattle.ht_capture.proofs.Grids.{asks_legs, written-all, length-triangle_of}
 use Rattle.ht_capture.proofs.fields.triangle.Goals as goal
 
@@ -32,3 +36,20 @@ returns-in-Err-clause-told g c = λ turn head carrier present same.
     let width : length into ≡ triangle_octets (streams_of rate) = wide ∙ (c.triangle_width-width.ensures.value ∙ ap (λ n. triangle_octets n) c.streams-streams.ensures.value) in
     let some : 2 ≤ length into = omega (arith, wide, c.triangle_width-width.ensures.low) in
     c.in-Err.ensures.stopped (Triangle turn head carrier present) (asks_legs (length into) head.rate rate width same some)
+
+pub returns-in-Ok-clause-octets : goal.returns-in-Ok-clause-octets
+returns-in-Ok-clause-octets g c =
+    let into = c.fill.new.into in
+    let n = c.streams-streams.result in
+    let wide : length into ≡ c.triangle_width-width.result = omega (arith, c.triangle_width-width.ensures.high, length-take {A = ℕ} c.triangle_width-width.result (0 ∷ 0 ∷ 0 ∷ 0 ∷ 0 ∷ 0 ∷ 0 ∷ 0 ∷ 0 ∷ 0 ∷ 0 ∷ 0 ∷ 0 ∷ 0 ∷ 0 ∷ 0 ∷ 0 ∷ 0 ∷ 0 ∷ 0 ∷ 0 ∷ 0 ∷ 0 ∷ 0 ∷ 0 ∷ 0 ∷ 0 ∷ 0 ∷ 0 ∷ 0 ∷ 0 ∷ 0 ∷ [])) in
+    let is : c.triangle.result ≡ triangle_of n into = c.triangle.ensures ∙ ap (λ z. triangle_of n z) (written-all into _ _ wide) in
+    let back = triangle_back n into (wide ∙ c.triangle_width-width.ensures.value) c.fill.ensures.bytes in
+    subst (λ (o : List ℕ). Takes (g.S.Source.left c.args.source.now) (g.S.Source.left c.fill.new.source) o) (sym back.1 ∙ ap legs_octets (sym is)) c.in-Ok.ensures.whole
+
+pub returns-in-Ok-clause-typed : goal.returns-in-Ok-clause-typed
+returns-in-Ok-clause-typed g c =
+    let into = c.fill.new.into in
+    let n = c.streams-streams.result in
+    let wide : length into ≡ c.triangle_width-width.result = omega (arith, c.triangle_width-width.ensures.high, length-take {A = ℕ} c.triangle_width-width.result (0 ∷ 0 ∷ 0 ∷ 0 ∷ 0 ∷ 0 ∷ 0 ∷ 0 ∷ 0 ∷ 0 ∷ 0 ∷ 0 ∷ 0 ∷ 0 ∷ 0 ∷ 0 ∷ 0 ∷ 0 ∷ 0 ∷ 0 ∷ 0 ∷ 0 ∷ 0 ∷ 0 ∷ 0 ∷ 0 ∷ 0 ∷ 0 ∷ 0 ∷ 0 ∷ 0 ∷ 0 ∷ [])) in
+    let is : c.triangle.result ≡ triangle_of n into = c.triangle.ensures ∙ ap (λ z. triangle_of n z) (written-all into _ _ wide) in
+    subst AreLegs (sym is) (triangle_back n into (wide ∙ c.triangle_width-width.ensures.value) c.fill.ensures.bytes).0

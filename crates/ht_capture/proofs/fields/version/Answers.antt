@@ -11,7 +11,7 @@ returns-then-is_known-clause-told g c =
 
 pub returns-else-is_known-clause-told : goal.returns-else-is_known-clause-told
 returns-else-is_known-clause-told g c =
-    bad_halts Version c.args.at BadVersion _ _ _ _ (c.in-Ok.version ∷ []) c.bad.result (refl, bad_version c.in-Ok.version (sym c.if-is_known.ensures)) c.in-Ok.ensures.whole c.bad.ensures
+    bad_halts Version c.args.at BadVersion _ _ _ _ (c.in-Ok.version ∷ []) c.bad.result (refl, bad_version c.in-Ok.version (sym c.if-is_known.ensures)) (λ e. cc, λ e. cc) c.in-Ok.ensures.whole c.bad.ensures
 
 pub returns-in-Err-clause-told : goal.returns-in-Err-clause-told
 returns-in-Err-clause-told g c = c.in-Err.ensures.stopped Version refl

@@ -1,7 +1,9 @@
 use Rattle.std.proofs.Common.{◌<◌, ◌+◌, [], drop, slice_index, refl, arith}
-use Rattle.ht_fields.proofs.Joins.{gives_more}
+use Rattle.ht_fields.proofs.Joins.{gives_none, gives_more}
 use Rattle.ht_capture.specs.Fields.{Magic, magic, magic_due}
 use Rattle.ht_capture.proofs.Halting.{gives_halts}
+use Rattle.ht_io.proofs.Pieces.{takes-none}
+use Rattle.ht_capture.proofs.Octets.{takes_magic, takes_end}
 use Rattle.ht_capture.proofs.Turns.{next_magic, gives_to}
 use Rattle.ht_capture.proofs.heads.magic.Goals as goal
 
@@ -12,6 +14,12 @@ returns-in-Err-clause-told g c =
     gives_halts _ _ _ _ _ _ _ (gives_to _ (magic_due (drop k magic)) (Magic (slice_index magic k) (drop (k + 1) magic)) _ _ _ _ (next_magic k few) refl c.loop-at.invariant.told)
     c.loop-at.invariant.later (c.in-Err.ensures.told (drop (k + 1) magic))
 
+pub loop-at-init : goal.loop-at-init
+loop-at-init g c = record { told = gives_none _; octets = takes-none _; later = omega arith }
+
+pub returns-clause-octets : goal.returns-clause-octets
+returns-clause-octets g c = takes_end c.loop-at.at (omega (arith, c.loop-at-test.false, c.loop-at.auto.at-end)) _ _ c.loop-at.invariant.octets
+
 pub loop-at-preserved : goal.loop-at-preserved
 loop-at-preserved g c =
     let k = c.loop-at.at in
@@ -19,5 +27,6 @@ loop-at-preserved g c =
     record {
       told = gives_more _ _ _ [] [] (gives_to _ (magic_due (drop k magic)) (Magic (slice_index magic k) (drop (k + 1) magic)) _ _ _ _ (next_magic k few) refl c.loop-at.invariant.told)
           (c.in-Ok.ensures.told (drop (k + 1) magic));
+      octets = takes_magic k few _ _ _ c.loop-at.invariant.octets c.in-Ok.ensures.octets;
       later = omega (arith, c.loop-at.invariant.later, c.in-Ok.ensures.later);
     }

@@ -1,5 +1,4 @@
-use Rattle.std.proofs.Common.{◌≡◌, [], length, take, sym, ap, arith}
-use Rattle.ht_fields.proofs.Joins.{gives_more}
+use Rattle.std.proofs.Common.{◌≡◌, length, take, sym, ap, arith}
 use Rattle.ht_capture.specs.Readers.{symbol_octets}
 use Rattle.ht_capture.proofs.Grids.{written-all}
 use Rattle.ht_capture.proofs.Symbols.{gives_read}
@@ -12,7 +11,7 @@ stop-requires-clause-real g c = halts_real _ _ _ _ c.in-Err.fault (c.in-Err.ensu
 pub returns-in-Ok-clause-told : goal.returns-in-Ok-clause-told
 returns-in-Ok-clause-told g c =
     let size : length c.symbol.new.samples ≡ c.args.self.now.samples.len = omega arith in
-    gives_more _ _ _ [] _ (gives_read _ c.args.spot c.in-Ok.behind c.args.self.now.present.items _ _ _ (ap (take (symbol_octets c.args.spot)) (sym (written-all c.symbol.new.samples _ _ size))) (c.in-Ok.ensures.told (take c.args.spot.count c.args.self.now.present.items))) (c.give.ensures.told _)
+    gives_read _ c.args.spot c.in-Ok.behind c.args.self.now.present.items _ _ _ (ap (take (symbol_octets c.args.spot)) (sym (written-all c.symbol.new.samples _ _ size))) (c.in-Ok.ensures.told (take c.args.spot.count c.args.self.now.present.items))
 
 pub returns-in-Err-clause-told : goal.returns-in-Err-clause-told
 returns-in-Err-clause-told g c =

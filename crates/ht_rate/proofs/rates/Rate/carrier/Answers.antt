@@ -1,22 +1,19 @@
-use Rattle.std.proofs.Common.{◌∙◌, ap, sym, subst, position, count_by, nat_lt, ◌==◌, ℕ, List}
-use Rattle.ht_rate.specs.Carriers.{carrier_of, IsAmong}
-use Rattle.ht_rate.proofs.CarrierFacts.{is_pilot, is_data, carrier_of-among}
+use Rattle.std.proofs.Common.{◌∙◌, sym, subst}
+use Rattle.ht_rate.specs.declared.kinds.Bandwidth.TheVariants.{Mhz20, Mhz40}
+use Rattle.ht_rate.specs.Carriers.{IsAmong}
+use Rattle.ht_rate.proofs.CarrierFacts.{carrier_is, carrier_of-among}
 use Rattle.ht_rate.proofs.rates.Rate.carrier.Goals as goal
 
-pub returns-in-Some-clause-value : goal.returns-in-Some-clause-value
-unfolding carrier_of
-returns-in-Some-clause-value c =
-    rw (← c.bandwidth.ensures) (is_pilot c.bandwidth.result c.args.index c.in-Some.k (c.in-Some.ensures.value ∙ ap (λ (ps : List ℕ). position (λ p. p == c.args.index) ps) c.pilot_indexes-pilots.ensures.value))
+pub returns-in-Mhz20-clause-value : goal.returns-in-Mhz20-clause-value
+returns-in-Mhz20-clause-value c = carrier_is c.args.self.now Mhz20 c.args.index c.among.result (sym c.bandwidth.ensures ∙ c.in-Mhz20.is) c.among.ensures
 
-pub returns-in-Some-clause-within : goal.returns-in-Some-clause-within
-returns-in-Some-clause-within c =
-    subst (λ x. IsAmong c.args.self.now x) (sym (returns-in-Some-clause-value c)) (carrier_of-among c.args.self.now c.args.index c.requires)
+pub returns-in-Mhz20-clause-within : goal.returns-in-Mhz20-clause-within
+returns-in-Mhz20-clause-within c =
+    subst (λ x. IsAmong c.args.self.now x) (sym (returns-in-Mhz20-clause-value c)) (carrier_of-among c.args.self.now c.args.index c.requires)
 
-pub returns-in-None-clause-value : goal.returns-in-None-clause-value
-unfolding carrier_of
-returns-in-None-clause-value c =
-    rw (← c.bandwidth.ensures) (is_data c.bandwidth.result c.args.index c.count_below.result (c.in-None.ensures.value ∙ ap (λ (ps : List ℕ). position (λ p. p == c.args.index) ps) c.pilot_indexes-pilots.ensures.value) (c.count_below.ensures ∙ ap (λ (ps : List ℕ). count_by (λ p. nat_lt p c.args.index) ps) c.pilot_indexes-pilots.ensures.value))
+pub returns-in-Mhz40-clause-value : goal.returns-in-Mhz40-clause-value
+returns-in-Mhz40-clause-value c = carrier_is c.args.self.now Mhz40 c.args.index c.among-in-Mhz40.result (sym c.bandwidth.ensures ∙ c.in-Mhz40.is) c.among-in-Mhz40.ensures
 
-pub returns-in-None-clause-within : goal.returns-in-None-clause-within
-returns-in-None-clause-within c =
-    subst (λ x. IsAmong c.args.self.now x) (sym (returns-in-None-clause-value c)) (carrier_of-among c.args.self.now c.args.index c.requires)
+pub returns-in-Mhz40-clause-within : goal.returns-in-Mhz40-clause-within
+returns-in-Mhz40-clause-within c =
+    subst (λ x. IsAmong c.args.self.now x) (sym (returns-in-Mhz40-clause-value c)) (carrier_of-among c.args.self.now c.args.index c.requires)
