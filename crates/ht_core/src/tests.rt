@@ -1,0 +1,136 @@
+//! A run of two jobs and two actors, and events that must not come.
+use crate::{Core, Event, Spot, StepFault, enabled, place_of, step};
+use ht_metric::{Hit, Job, Place, Sample, System, Tap, Triangle, plain_nearest};
+use ht_pam::{Grid, Ladder};
+use std::process::Abort;
+use std::test::Fail;
+
+const NO_SAMPLE: Sample = Sample { re: 0, im: 0 };
+
+// A BPSK job of one stream whose sample is this one.
+fn job(number: u64, re: i32) -> Job {
+    let triangle = Triangle::new(1, [10, 0, 0, 0], [Tap { re: 0, im: 0 }; 6]);
+    let y = [Sample { re, im: 0 }, NO_SAMPLE, NO_SAMPLE, NO_SAMPLE];
+    let grid = Grid::one(Ladder::of(2, 3), Ladder::of(1, 1));
+    Job::new(number, Place::default(), grid, System::new(triangle, y))
+}
+
+fn hit(number: u64, re: i32) -> Hit {
+    plain_nearest(&job(number, re))
+}
+
+// The event comes, and then the jobs 0 and 1 are at these places.
+fn comes(rt: &impl Abort, core: &mut Core, event: Event, places: [Option<Spot>; 2]) {
+    assert!(rt; enabled(core, &event));
+    assert!(rt; step(core, event).is_ok());
+    assert_eq!(rt; [place_of(core, 0), place_of(core, 1)], places);
+}
+
+fn refused(rt: &impl Abort, core: &mut Core, event: Event) {
+    assert!(rt; !enabled(core, &event));
+    assert_eq!(rt; step(core, event), Err(StepFault::NotEnabled));
+}
+
+#[test]
+fn two_jobs(rt: HostRuntime) -> Result<(), Fail> {
+    let mut core = Core::new(rt.alloc(), 2, 2)?;
+    let core = &mut core;
+    refused(&rt, core, Event::Emit);
+    refused(&rt, core, Event::Push(0));
+    refused(&rt, core, Event::Issue(job(1, 3)));
+    comes(
+        &rt,
+        core,
+        Event::Issue(job(0, 3)),
+        [Some(Spot::Hand(0)), None],
+    );
+    refused(&rt, core, Event::Issue(job(1, 3)));
+    refused(&rt, core, Event::Steal { thief: 1, from: 0 });
+    comes(&rt, core, Event::Push(0), [Some(Spot::Deque(0)), None]);
+    refused(&rt, core, Event::Steal { thief: 0, from: 0 });
+    refused(&rt, core, Event::Steal { thief: 2, from: 0 });
+    comes(
+        &rt,
+        core,
+        Event::Steal { thief: 1, from: 0 },
+        [Some(Spot::Hand(1)), None],
+    );
+    comes(
+        &rt,
+        core,
+        Event::Issue(job(1, -3)),
+        [Some(Spot::Hand(1)), Some(Spot::Hand(0))],
+    );
+    comes(
+        &rt,
+        core,
+        Event::Push(0),
+        [Some(Spot::Hand(1)), Some(Spot::Deque(0))],
+    );
+
+    // The window is full.
+    refused(&rt, core, Event::Issue(job(2, 3)));
+    comes(
+        &rt,
+        core,
+        Event::Pop(0),
+        [Some(Spot::Hand(1)), Some(Spot::Hand(0))],
+    );
+
+    // Another job of the same number is not the one in the hand.
+    refused(
+        &rt,
+        core,
+        Event::Finish {
+            actor: 0,
+            hit: hit(1, 3),
+        },
+    );
+    refused(&rt, core, Event::Accept(1));
+    comes(
+        &rt,
+        core,
+        Event::Finish {
+            actor: 0,
+            hit: hit(1, -3),
+        },
+        [Some(Spot::Hand(1)), Some(Spot::Results)],
+    );
+    comes(
+        &rt,
+        core,
+        Event::Accept(1),
+        [Some(Spot::Hand(1)), Some(Spot::Booked)],
+    );
+
+    // Job 1 waits for job 0.
+    refused(&rt, core, Event::Emit);
+    comes(
+        &rt,
+        core,
+        Event::Finish {
+            actor: 1,
+            hit: hit(0, 3),
+        },
+        [Some(Spot::Results), Some(Spot::Booked)],
+    );
+    comes(
+        &rt,
+        core,
+        Event::Accept(0),
+        [Some(Spot::Booked), Some(Spot::Booked)],
+    );
+    comes(
+        &rt,
+        core,
+        Event::Emit,
+        [Some(Spot::Emitted), Some(Spot::Booked)],
+    );
+    comes(
+        &rt,
+        core,
+        Event::Emit,
+        [Some(Spot::Emitted), Some(Spot::Emitted)],
+    );
+    Ok(())
+}

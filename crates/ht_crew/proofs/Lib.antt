@@ -1,0 +1,6 @@
+mod Giving
+mod Filling
+mod Delivering
+mod Running
+mod Whole
+mod Values

@@ -1,0 +1,43 @@
+use Rattle.std.proofs.Common.{◌≡◌, ◌∙◌, ◌++◌, ◌∷◌, [], List, length, slice_get, ap, sym, subst, arith}
+use Rattle.ht_metric.specs.declared.hit.Hit.{Hit}
+use Rattle.ht_crew.specs.Feeds.{Takes}
+use Rattle.ht_crew.specs.Lists.{Listed, IsListed, took, shown, TakesInTurn}
+use Rattle.ht_crew.specs.contracts.list_feed.ListFeed.{the_view}
+use Rattle.ht_crew.proofs.Giving.{first_between, still_listed, takes_first, takes_in_turn}
+use Rattle.ht_crew.proofs.list_feed.ListFeedFeed.take.Goals as goal
+
+pub unreachable-requires : goal.unreachable-requires
+unreachable-requires c =
+    let is = c.self.view_is ∙ c.in_ok-call.ensures.counted in
+    let old = c.args.self.now in
+    let listed = subst (λ (s : Listed). IsListed s) is c.self.invariant.0 in
+    let below = (first_between old.jobs (length old.taken) old.given c.args.hit.job c.requires.first).0 in
+    let taken : length c.self.inside.taken.items ≡ length old.taken = ap (λ (s : Listed). length s.taken) is in
+    let jobs : length c.self.inside.jobs.items ≡ length old.jobs = ap (λ (s : Listed). length s.jobs) is in
+    omega (arith, below, taken, jobs, listed.given, c.in-Err.ensures.full, c.self.invariant.1)
+
+pub invariant_of-self : goal.invariant_of-self
+invariant_of-self c =
+    let is = c.self.view_is ∙ c.in_ok-call.ensures.counted in
+    let now : Listed = record { jobs = c.self.inside.jobs.items; given = c.self.inside.given; taken = c.self.inside.taken.items; failing = c.self.inside.failing.items; calls = c.self.inside.calls; ended = c.self.inside.ended; faults = c.self.inside.faults; failed = c.self.inside.failed } in
+    let due = ap (λ (s : Listed). slice_get (shown s).due 0) is ∙ c.requires.first in
+    let listed = still_listed now c.args.hit c.self.invariant.0 due in
+    (subst (λ (taken : List Hit). IsListed (record now { taken = taken })) (sym c.in-Ok.ensures.items) listed, omega (arith, c.self.invariant.1, c.push.ensures.capacity))
+
+pub returns-clause-taken : goal.returns-clause-taken
+returns-clause-taken c =
+    let is = c.self.view_is ∙ c.in_ok-call.ensures.counted in
+    let old = c.args.self.now in
+    let hit = c.args.hit in
+    let at : List Hit → Listed = λ taken. record (the_view c.self.inside) { taken = taken } in
+    let new : at c.push.new.self.items ≡ took old hit = ap at c.in-Ok.ensures.items ∙ ap (λ (s : Listed). record s { taken = s.taken ++ hit ∷ [] }) is in
+    subst (λ (s : Listed). Takes (shown old) (shown s)) (sym new) (takes_first old hit)
+
+pub returns-clause-leads : goal.returns-clause-leads
+returns-clause-leads c =
+    let is = c.self.view_is ∙ c.in_ok-call.ensures.counted in
+    let old = c.args.self.now in
+    let hit = c.args.hit in
+    let at : List Hit → Listed = λ taken. record (the_view c.self.inside) { taken = taken } in
+    let new : at c.push.new.self.items ≡ took old hit = ap at c.in-Ok.ensures.items ∙ ap (λ (s : Listed). record s { taken = s.taken ++ hit ∷ [] }) is in
+    subst (λ (s : Listed). TakesInTurn old s) (sym new) (takes_in_turn old hit c.requires.first)

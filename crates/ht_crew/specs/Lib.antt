@@ -1,0 +1,4 @@
+pub mod Feeds
+pub mod Lists
+pub mod Turns
+pub mod Driving

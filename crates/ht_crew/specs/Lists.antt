@@ -1,0 +1,81 @@
+-- What is seen of a feed over a list of jobs.
+use Rattle.std.specs.Prelude.{◌≡◌, ℕ, ◌+◌, ◌-◌, ◌≤◌, List, [], ◌∷◌, ◌++◌, length, map, take, drop, slice_get, Option, Some, None, Bool, true, false}
+use Rattle.ht_io.specs.Causes.{one_more}
+use Rattle.ht_metric.specs.Jobs.{JobView, Found, near}
+use Rattle.ht_metric.specs.declared.hit.Hit.{Hit}
+use Rattle.ht_crew.specs.Feeds.{Shown}
+use Rattle.ht_crew.specs.declared.list_fault.ListFault.{ListFault}
+
+-- a job and what was found for it
+pub record Answer : Type 0 where
+  pub job : JobView
+  pub found : Found
+
+-- what a hit says
+abbrev pub answer_of : Hit → Answer
+answer_of hit = record { job = hit.job; found = record { vector = hit.vector; distance = hit.distance } }
+
+-- a job and its first nearest vector
+abbrev pub answer : JobView → Answer
+answer job = record { job = job; found = near job }
+
+-- job k has number k
+abbrev pub AreNumbered : List JobView → Type 0
+AreNumbered jobs = (k : ℕ) (job : JobView) → slice_get jobs k ≡ Some job → job.number ≡ k
+
+-- the jobs, how many of them were given, the hits taken, the numbers of the calls that fail, and what calls came and failed
+pub record Listed : Type 0 where
+  pub jobs : List JobView
+  pub given : ℕ
+  pub taken : List Hit
+  pub failing : List ℕ
+  pub calls : ℕ
+  pub ended : Bool
+  pub faults : ℕ
+  pub failed : Option ListFault
+
+-- a feed that no call has reached
+abbrev pub fresh : List JobView → List ℕ → Listed
+fresh jobs failing = record { jobs = jobs; given = 0; taken = []; failing = failing; calls = 0; ended = false; faults = 0; failed = None }
+
+-- the feed after one more call that was not refused
+abbrev pub called : Listed → Listed
+called feed = record feed { calls = one_more feed.calls }
+
+-- the feed after one more call that was refused
+abbrev pub refused : Listed → Listed
+refused feed = record feed { calls = one_more feed.calls; faults = one_more feed.faults; failed = Some (record { call = feed.calls }) }
+
+-- no more jobs were given than there are, and no more hits taken than jobs given
+pub record IsListed (feed : Listed) : Type 0 where
+  pub numbered : AreNumbered feed.jobs
+  pub given : feed.given ≤ length feed.jobs
+  pub taken : length feed.taken ≤ feed.given
+
+abbrev pub shown : Listed → Shown ListFault
+shown feed = record {
+  count = feed.given;
+  due = drop (length feed.taken) (take feed.given feed.jobs);
+  left = Some (drop feed.given feed.jobs);
+  more = length feed.jobs - feed.given;
+  ended = feed.ended;
+  faults = feed.faults;
+  failed = feed.failed;
+}
+
+-- the jobs are the same, and the hits taken grew by the first nearest vectors of the jobs next in turn
+pub record TakesInTurn (old new : Listed) : Type 0 where
+  pub jobs : new.jobs ≡ old.jobs
+  pub taken : map answer_of new.taken ≡ map answer_of old.taken ++ map answer (drop (length old.taken) (take (length new.taken) old.jobs))
+
+-- the feed after a call that gave a job
+abbrev pub gave : Listed → Listed
+gave feed = record feed { calls = one_more feed.calls; given = feed.given + 1 }
+
+-- the feed after a call that found no job left
+abbrev pub ended : Listed → Listed
+ended feed = record feed { calls = one_more feed.calls; ended = true }
+
+-- the feed after a call that took a hit
+abbrev pub took : Listed → Hit → Listed
+took feed hit = record feed { calls = one_more feed.calls; taken = feed.taken ++ hit ∷ [] }

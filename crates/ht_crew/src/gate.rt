@@ -1,0 +1,20 @@
+//! What a worker passes on its way into a job and out of it.
+
+/// Told of each job that is run, by whoever runs it. Threads may share it.
+pub trait Gate {
+    /// The job of this number is about to be run.
+    fn enter(&self, number: u64);
+
+    /// The job of this number was run.
+    fn leave(&self, number: u64);
+}
+
+/// A gate that does nothing.
+#[derive(Clone, Copy, Debug, Default, PartialEq, Eq)]
+pub struct OpenGate;
+
+impl Gate for OpenGate {
+    fn enter(&self, _number: u64) {}
+
+    fn leave(&self, _number: u64) {}
+}

@@ -1,0 +1,33 @@
+//! The drive that runs the jobs of a feed and hands it their hits in order.
+//!
+//! A [`Feed`] gives detection jobs (crate `ht_metric`) numbered from 0, and takes each job's hit back, its first
+//! nearest vector. [`drive_alone`] runs them in the caller's thread. It asks for jobs until as many are due as its
+//! window has slots, runs the first that waits by the sphere search (`ht_sphere`), books the hit in the window
+//! (`ht_window`), and gives the feed what can be given in order. A [`Gate`] is told of each job before and after it is
+//! run.
+//!
+//! Over a [`ListFeed`] of three jobs and a window of two, the calls of the feed are: `next`, `next`, `take` of 0,
+//! `next`, `take` of 1, `next`, which finds no job any more, and `take` of 2. If call 4 is to fail, the drive answers
+//! [`DriveFault::Feed`] with `ListFault { call: 4 }`: the hit of 0 was taken, and 1 and 2 are due. If none fails, it
+//! answers a [`Report`] of three jobs.
+#![tactic(auto)]
+
+mod alone;
+mod caller;
+mod drive_fault;
+mod feed;
+mod gate;
+pub mod laws;
+mod list_fault;
+mod list_feed;
+mod report;
+#[cfg(test)]
+mod tests;
+
+pub use alone::drive_alone;
+pub use drive_fault::DriveFault;
+pub use feed::Feed;
+pub use gate::{Gate, OpenGate};
+pub use list_fault::ListFault;
+pub use list_feed::ListFeed;
+pub use report::{Passes, Ran, Report};

@@ -1,0 +1,146 @@
+//! The drive over a list of jobs, when all goes well and when each call of the feed fails in turn.
+ghost use Rattle.std.specs.Prelude.{◌≡◌, IfOk, length};
+ghost use Rattle.ht_crew.specs.Lists.{AreNumbered};
+
+use crate::{DriveFault, Gate, ListFault, ListFeed, OpenGate, drive_alone};
+use ht_metric::{Hit, Job, Place, Sample, System, Tap, Triangle};
+use ht_pam::{Grid, Ladder, Point};
+use std::alloc::{AllocError, Global};
+use std::process::Abort;
+use std::sync::atomic::{AtomicU64, Ordering};
+use std::test::Fail;
+
+const NO_SAMPLE: Sample = Sample { re: 0, im: 0 };
+
+// The pilots of the first two symbols at 20 MHz: the subcarrier and the value in each.
+const PILOTS: [(u64, [i8; 2]); 4] = [(7, [1, -1]), (21, [1, -1]), (34, [1, 1]), (48, [-1, -1])];
+
+// What is sent on a pilot; none on a data subcarrier.
+fn pilot(number: u64) -> Option<i8> {
+    let values = PILOTS.iter().find(|pilot| pilot.0 == number % 56)?.1;
+    Some(if number < 56 { values[0] } else { values[1] })
+}
+
+// A job of the capture in BPSK on one stream whose diagonals are 10 and whose samples are 0.
+fn job(number: u64) -> Job
+    ensures { result.number ≡ number }
+{
+    let place = Place {
+        frame: 0,
+        symbol: u32::from(number >= 56),
+        carrier: (number % 56) as u8,
+    };
+    let levels = match pilot(number) {
+        None => Ladder::of(2, 3),
+        Some(1) => Ladder::of(2, 2),
+        Some(_) => Ladder::of(2, 1),
+    };
+    let triangle = Triangle::new(1, [10, 0, 0, 0], [Tap { re: 0, im: 0 }; 6]);
+    let system = System::new(triangle, [NO_SAMPLE; 4]);
+    Job::new(number, place, Grid::one(levels, Ladder::of(1, 1)), system)
+}
+
+// The jobs of two symbols.
+fn jobs(alloc: Global) -> Result<Vec<Job>, AllocError>
+    ensures { IfOk result (λ jobs. AreNumbered jobs.items) }
+{
+    let mut jobs = Vec::new(alloc);
+    for number in 0..112 {
+        jobs.push(job(number))?;
+    }
+    Ok(jobs)
+}
+
+// The hits are those of the first jobs: a pilot has its own value, and of the two points of a data subcarrier, which
+// are as near, the first one is found.
+fn expect_first(rt: &impl Abort, hits: &[Hit]) {
+    for (number, hit) in hits.iter().enumerate() {
+        let number = number as u64;
+        let i = pilot(number).unwrap_or(-1);
+        assert!(rt; hit.job().same(&job(number)));
+        assert_eq!(rt; hit.vector().len(), 1);
+        assert_eq!(rt; hit.vector().point(1), Point { i, q: 0 });
+        assert_eq!(rt; hit.distance(), 100);
+    }
+}
+
+// Counts who passes, and who enters or leaves out of order.
+#[derive(Drop)]
+struct Counts {
+    entered: AtomicU64,
+    left: AtomicU64,
+    strays: AtomicU64,
+}
+
+impl Counts {
+    fn new() -> Counts {
+        Counts {
+            entered: AtomicU64::new(0),
+            left: AtomicU64::new(0),
+            strays: AtomicU64::new(0),
+        }
+    }
+}
+
+impl Gate for Counts {
+    fn enter(&self, number: u64) {
+        let left = self.left.load(Ordering::SeqCst);
+        if self.entered.fetch_add(1, Ordering::SeqCst) != number || left != number {
+            self.strays.fetch_add(1, Ordering::SeqCst);
+        }
+    }
+
+    fn leave(&self, number: u64) {
+        if self.left.fetch_add(1, Ordering::SeqCst) != number {
+            self.strays.fetch_add(1, Ordering::SeqCst);
+        }
+    }
+}
+
+#[test]
+fn all_jobs(rt: HostRuntime) -> Result<(), Fail> {
+    for window in [1, 2, 256] {
+        let gate = Counts::new();
+        let mut feed = ListFeed::new(rt.alloc(), jobs(rt.alloc())?, Vec::new(rt.alloc()))?;
+        let Ok(report) = drive_alone(rt.alloc(), window, &gate, &mut feed) else {
+            assert!(rt; false, "window {window}");
+            return Ok(());
+        };
+        assert_eq!(rt; report.jobs, 112);
+        assert_eq!(rt; report.own, 112);
+        assert!(rt; report.ran.as_slice().is_empty());
+        assert_eq!(rt; report.passes, None);
+        assert_eq!(rt; feed.taken().len(), 112);
+        expect_first(&rt, feed.taken());
+        assert_eq!(rt; gate.entered.load(Ordering::SeqCst), 112);
+        assert_eq!(rt; gate.left.load(Ordering::SeqCst), 112);
+        assert_eq!(rt; gate.strays.load(Ordering::SeqCst), 0);
+    }
+    Ok(())
+}
+
+// A run has 113 calls of `next` and 112 of `take`. In a small window they alternate once it is full; in a large one
+// all jobs come first.
+#[test]
+fn each_call_fails(rt: HostRuntime) -> Result<(), Fail> {
+    for window in [1, 2, 256] {
+        for call in 0..225u64 {
+            let failing = vec![in rt.alloc(); call]?;
+            let mut feed = ListFeed::new(rt.alloc(), jobs(rt.alloc())?, failing)?;
+            let fault = drive_alone(rt.alloc(), window, &OpenGate, &mut feed).err();
+            let taken = if window < 113 {
+                (call + 1).saturating_sub(u64::from(window)) / 2
+            } else {
+                call.saturating_sub(113)
+            };
+            assert_eq!(rt;
+                fault,
+                Some(DriveFault::Feed(ListFault { call })),
+                "{window} {call}"
+            );
+            assert_eq!(rt; feed.taken().len() as u64, taken, "{window} {call}");
+            expect_first(&rt, feed.taken());
+        }
+    }
+    Ok(())
+}

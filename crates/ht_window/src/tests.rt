@@ -1,0 +1,65 @@
+//! A window of three slots, as hits come in the order 1, 0, 2 with strangers between.
+ghost use Rattle.std.specs.Prelude.{◌≡◌};
+
+use crate::{Accepted, Window};
+use ht_metric::{Hit, Job, Place, Sample, System, Tap, Triangle, plain_nearest};
+use ht_pam::{Grid, Ladder};
+use std::test::Fail;
+
+const NO_SAMPLE: Sample = Sample { re: 0, im: 0 };
+
+// A BPSK job of one stream whose sample is this one.
+fn job(number: u64, re: i32) -> Job
+    ensures { result.number ≡ number }
+{
+    let triangle = Triangle::new(1, [10, 0, 0, 0], [Tap { re: 0, im: 0 }; 6]);
+    let y = [Sample { re, im: 0 }, NO_SAMPLE, NO_SAMPLE, NO_SAMPLE];
+    let grid = Grid::one(Ladder::of(2, 3), Ladder::of(1, 1));
+    Job::new(number, Place::default(), grid, System::new(triangle, y))
+}
+
+fn hit(number: u64, re: i32) -> Hit {
+    plain_nearest(&job(number, re))
+}
+
+fn number_of(hit: Option<Hit>) -> Option<u64> {
+    hit.map(|hit| hit.job().number())
+}
+
+#[test]
+fn in_order(rt: HostRuntime) -> Result<(), Fail> {
+    let mut window = Window::new(rt.alloc(), 3, 5)?;
+    window.issue(job(5, 3));
+    window.issue(job(6, 3));
+    assert!(rt; window.has_room());
+    window.issue(job(7, 3));
+    assert!(rt; !window.has_room());
+
+    // The hits as they come: the number, the sample, what the window says, and the first job it still waits for.
+    let cases = [
+        (8, 3, Accepted::Stranger, Some(5)),
+        (6, 4, Accepted::Stranger, Some(5)),
+        (4, 3, Accepted::Stranger, Some(5)),
+        (6, 3, Accepted::Booked, Some(5)),
+        (6, 3, Accepted::Twice, Some(5)),
+        (5, 3, Accepted::Booked, Some(7)),
+        (7, 3, Accepted::Booked, None),
+    ];
+    for (number, re, accepted, left) in cases {
+        assert_eq!(rt;
+            window.accept(hit(number, re)),
+            accepted,
+            "{number} of {re}"
+        );
+        assert_eq!(rt;
+            window.first_unbooked().map(|job| job.number()),
+            left,
+            "after {number} of {re}"
+        );
+    }
+    for number in [Some(5), Some(6), Some(7), None] {
+        assert_eq!(rt; number_of(window.emit()), number);
+    }
+    assert!(rt; window.has_room());
+    Ok(())
+}
