@@ -1,6 +1,2 @@
-pub mod LineLists
-pub mod OneRow
+pub mod Detecting
 pub mod OneWord
-pub mod Putting
-pub mod Stages
-pub mod Texts

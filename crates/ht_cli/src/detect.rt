@@ -1,37 +1,39 @@
 //! The command `detect`.
-ghost use Rattle.std.specs.Prelude.{◌≡◌, ◌⊎◌};
-ghost use Rattle.ht_io.specs.Causes.{Rose};
-ghost use Rattle.ht_cli.specs.Answers.{PutsPart, PutsText, WasCapture, WasNoCapture};
+ghost use Rattle.std.specs.Prelude.{◌≤◌};
+ghost use Rattle.ht_cli.specs.Answers.{Answers};
 
-use crate::capture;
-use crate::lines::{Unwritten, put_lines, put_refused};
+use crate::lines::{Unwritten, put_end, put_refused};
 use crate::status::Status;
-use ht_io::{InFault, Sink, Source};
+use ht_crew::Gate;
+use ht_io::{Sink, Source};
+use ht_rx::{Ended, RxFault, list_alone};
 use std::alloc::Global;
 
-/// Reads a capture of one frame and puts the lines of its jobs, or the refused line.
-pub fn detect<S: Source, K: Sink>(alloc: Global, source: &mut S, sink: &mut K) -> Status
-    ensures not_usage { result ≡ Status.Usage → ⊥ }
-    ensures done { result ≡ Status.Done → WasCapture (S.left source.old) (S.left source.new) }
-    ensures refused { result ≡ Status.Refused → WasNoCapture (S.left source.old) }
-    ensures text { (result ≡ Status.Done) ⊎ (result ≡ Status.Refused) → PutsText (S.left source.old) (K.held sink.old) (K.held sink.new) }
-    ensures nothing { result ≡ Status.ReadFault → sink.new ≡ sink.old }
-    ensures part { (result ≡ Status.WriteFault) ⊎ (result ≡ Status.NoMemory) → PutsPart (S.left source.old) (K.held sink.old) (K.held sink.new) }
-    ensures read_fault { result ≡ Status.ReadFault → Rose (S.faults source.old) (S.faults source.new) }
-    ensures write_fault { result ≡ Status.WriteFault → Rose (K.faults sink.old) (K.faults sink.new) }
+/// Reads a capture, puts the line of each job of its whole symbols, and then the last line.
+pub fn detect<S: Source, K: Sink, G: Gate>(
+    alloc: Global,
+    window: u16,
+    source: &mut S,
+    sink: &mut K,
+    gate: &G,
+) -> Status
+    requires some { 1 ≤ window }
+    requires few { window ≤ 4096 }
+    ensures { Answers (S.left source.old) (S.left source.new) (K.held sink.old) (K.held sink.new) (S.faults source.old) (S.faults source.new) (K.faults sink.old) (K.faults sink.new) result }
 {
-    match capture::read(alloc, source) {
-        Ok(capture) => match put_lines(alloc, &capture, sink) {
+    match list_alone(alloc, window, source, sink, gate) {
+        Ok(Ended::Done { frames, .. }) => match put_end(alloc, frames, sink) {
             Ok(()) => Status::Done,
             Err(Unwritten::Write) => Status::WriteFault,
             Err(Unwritten::NoMemory) => Status::NoMemory,
         },
-        Err(InFault::Format(fault)) => match put_refused(alloc, fault, sink) {
+        Ok(Ended::Refused(fault)) => match put_refused(alloc, fault, sink) {
             Ok(()) => Status::Refused,
             Err(Unwritten::Write) => Status::WriteFault,
             Err(Unwritten::NoMemory) => Status::NoMemory,
         },
-        Err(InFault::Read) => Status::ReadFault,
-        Err(InFault::NoMemory) => Status::NoMemory,
+        Err(RxFault::Read) => Status::ReadFault,
+        Err(RxFault::Write) => Status::WriteFault,
+        Err(RxFault::NoMemory) => Status::NoMemory,
     }
 }

@@ -2,79 +2,127 @@
 //!
 //! `run` is the whole program but for the world outside. It takes the words of a call, reads octets from a
 //! source, puts text into a sink and answers how the run ended. The one list of words that is accepted is the
-//! word `detect`: a capture of one frame at 20 MHz and MCS 0 (IEEE Std 802.11-2012, clause 20) is read to its
-//! end, and for each subcarrier of each OFDM symbol the constellation point nearest to the sample is written
-//! with its distance. So the capture `examples/z.htcp`, whose diagonals are 10 and whose samples are 0, gives
+//! word `detect`: a capture of either version is read as it comes, and for each subcarrier that is present in each
+//! OFDM symbol (IEEE Std 802.11-2012, clause 20.3.11) the nearest vector of its grid is written with its distance. So
+//! the capture `examples/z.htcp`, whose diagonals are 10 and whose samples are 0, gives
 //!
 //! ```text
 //! job 0 0 0 100 -1 0
 //! ```
 //!
-//! and 111 lines more like it, and then `end 1 frames`. What isn't such a capture is refused by the one line
-//! `refused NotBuilt at 0`. `specs/Reference.antt` says what must be written for a list of octets, and
-//! `specs/OneFrame.antt` which octets are such a capture.
+//! and 111 lines more like it, and then `end 1 frames`. With 02 in its octet 7 it is refused by the one line
+//! `refused BadBandwidth at 7`. What must be written for a list of octets is `detect_text`, of crate `ht_rx`.
 #![tactic(auto)]
 
 ghost use Rattle.std.specs.Prelude.{◌≡◌, ◌⊎◌};
 ghost use Rattle.ht_io.specs.Causes.{Rose};
 ghost use Rattle.ht_io.specs.Octets.{Grows, GrowsByPart};
+ghost use Rattle.ht_rx.specs.Outcomes.{ListsPart};
 ghost use Rattle.ht_text.specs.Lines.{usage_text};
-ghost use Rattle.ht_cli.specs.Answers.{PutsPart, PutsText, WasCapture, WasNoCapture};
+ghost use Rattle.ht_cli.specs.Answers.{BreaksOff, Detects, DetectsPart, Refuses};
 ghost use Rattle.ht_cli.specs.Words.{IsAccepted};
 
-mod capture;
 mod detect;
-mod jobs;
 mod lines;
 mod status;
 #[cfg(test)]
 mod tests;
 mod words;
 
+use ht_crew::Gate;
 use ht_io::{Sink, Source};
 use lines::{Unwritten, put_usage};
 pub use status::Status;
 use std::alloc::Global;
 
+/// The most jobs that were read and not yet written.
+const WINDOW: u16 = 256;
+
 /// Runs the command that the words name, and answers how it ended.
 ///
-/// The words come without the program's name. Nothing is put before the source was read to its end or found
-/// not to have such a capture. Where the words aren't accepted, nothing is read. The clauses on octets hold
-/// where the source and the sink tell theirs, as those in memory do; standard input and output tell nothing.
-pub fn run<S: Source, K: Sink>(
+/// The words come without the program's name. The lines of a symbol are put once its jobs were run. The clauses on
+/// octets speak of some octets that the call took: of those that the source had left, where it tells them, as those in
+/// memory do; standard input and output tell nothing. The gate is told of each job before and after it is run.
+pub fn run<S: Source, K: Sink, G: Gate>(
     alloc: Global,
     words: &[String],
     source: &mut S,
     sink: &mut K,
+    gate: &G,
 ) -> Status
-    // Whether the words are accepted.
-    ensures accepted { (result ≡ Status.Done) ⊎ (result ≡ Status.Refused) ⊎ (result ≡ Status.ReadFault) → IsAccepted words.now }
+    // Done: what was left is a capture, and its text was put.
+    ensures done { result ≡ Status.Done → Detects (S.left source.old) (S.left source.new) (K.held sink.old) (K.held sink.new) }
+
+    // Refused: what was left is no capture, and its text was put, which names its first fault.
+    ensures refused { result ≡ Status.Refused → Refuses (S.left source.old) (S.left source.new) (K.held sink.old) (K.held sink.new) }
+
+    // ReadFault: the source failed, and the lines of the symbols read whole were put.
+    ensures read_fault { result ≡ Status.ReadFault → Rose (S.faults source.old) (S.faults source.new) }
+    ensures broken_off { result ≡ Status.ReadFault → BreaksOff (S.left source.old) (S.left source.new) (K.held sink.old) (K.held sink.new) }
+
+    // WriteFault: the sink failed, and a part of the text was put.
+    ensures write_fault { result ≡ Status.WriteFault → Rose (K.faults sink.old) (K.faults sink.new) }
+    ensures part { IsAccepted words.now → result ≡ Status.WriteFault → DetectsPart (S.left source.old) (S.left source.new) (K.held sink.old) (K.held sink.new) }
+    ensures part_of_usage { (IsAccepted words.now → ⊥) → result ≡ Status.WriteFault → GrowsByPart (K.held sink.old) (K.held sink.new) usage_text }
+
+    // Usage: the words aren't accepted, and the usage line was put.
+    ensures usage { result ≡ Status.Usage → Grows (K.held sink.old) (K.held sink.new) usage_text }
     ensures usage_words { result ≡ Status.Usage → IsAccepted words.now → ⊥ }
     ensures usage_reads_nothing { (IsAccepted words.now → ⊥) → source.new ≡ source.old }
 
-    // What the input was.
-    ensures done { result ≡ Status.Done → WasCapture (S.left source.old) (S.left source.new) }
-    ensures refused { result ≡ Status.Refused → WasNoCapture (S.left source.old) }
-
-    // What was put.
-    ensures text { (result ≡ Status.Done) ⊎ (result ≡ Status.Refused) → PutsText (S.left source.old) (K.held sink.old) (K.held sink.new) }
-    ensures usage { result ≡ Status.Usage → Grows (K.held sink.old) (K.held sink.new) usage_text }
-    ensures nothing { result ≡ Status.ReadFault → sink.new ≡ sink.old }
-    ensures part { IsAccepted words.now → (result ≡ Status.WriteFault) ⊎ (result ≡ Status.NoMemory) → PutsPart (S.left source.old) (K.held sink.old) (K.held sink.new) }
-    ensures part_of_usage { (IsAccepted words.now → ⊥) → result ≡ Status.WriteFault → GrowsByPart (K.held sink.old) (K.held sink.new) usage_text }
-    ensures nothing_of_usage { (IsAccepted words.now → ⊥) → result ≡ Status.NoMemory → sink.new ≡ sink.old }
-
-    // Which device failed.
-    ensures read_fault { result ≡ Status.ReadFault → Rose (S.faults source.old) (S.faults source.new) }
-    ensures write_fault { result ≡ Status.WriteFault → Rose (K.faults sink.old) (K.faults sink.new) }
+    // NoMemory: a part of the lines of the symbols read whole was put.
+    ensures memory { IsAccepted words.now → result ≡ Status.NoMemory → ListsPart (S.left source.old) (S.left source.new) (K.held sink.old) (K.held sink.new) }
+    ensures memory_of_usage { (IsAccepted words.now → ⊥) → result ≡ Status.NoMemory → sink.new ≡ sink.old }
 
     // What is left, where no device failed.
+    ensures accepted { (result ≡ Status.Done) ⊎ (result ≡ Status.Refused) ⊎ (result ≡ Status.ReadFault) → IsAccepted words.now }
+    ensures complete { IsAccepted words.now → (Rose (S.faults source.old) (S.faults source.new) → ⊥) → (Rose (K.faults sink.old) (K.faults sink.new) → ⊥)
+        → (result ≡ Status.Done) ⊎ (result ≡ Status.Refused) ⊎ (result ≡ Status.NoMemory) }
+    ensures complete_usage { (IsAccepted words.now → ⊥) → (Rose (K.faults sink.old) (K.faults sink.new) → ⊥) → (result ≡ Status.Usage) ⊎ (result ≡ Status.NoMemory) }
+{
+    run_alone(alloc, words, source, sink, gate)
+}
+
+/// Does as `run`, and runs every job in this thread.
+pub fn run_alone<S: Source, K: Sink, G: Gate>(
+    alloc: Global,
+    words: &[String],
+    source: &mut S,
+    sink: &mut K,
+    gate: &G,
+) -> Status
+    // Done: what was left is a capture, and its text was put.
+    ensures done { result ≡ Status.Done → Detects (S.left source.old) (S.left source.new) (K.held sink.old) (K.held sink.new) }
+
+    // Refused: what was left is no capture, and its text was put, which names its first fault.
+    ensures refused { result ≡ Status.Refused → Refuses (S.left source.old) (S.left source.new) (K.held sink.old) (K.held sink.new) }
+
+    // ReadFault: the source failed, and the lines of the symbols read whole were put.
+    ensures read_fault { result ≡ Status.ReadFault → Rose (S.faults source.old) (S.faults source.new) }
+    ensures broken_off { result ≡ Status.ReadFault → BreaksOff (S.left source.old) (S.left source.new) (K.held sink.old) (K.held sink.new) }
+
+    // WriteFault: the sink failed, and a part of the text was put.
+    ensures write_fault { result ≡ Status.WriteFault → Rose (K.faults sink.old) (K.faults sink.new) }
+    ensures part { IsAccepted words.now → result ≡ Status.WriteFault → DetectsPart (S.left source.old) (S.left source.new) (K.held sink.old) (K.held sink.new) }
+    ensures part_of_usage { (IsAccepted words.now → ⊥) → result ≡ Status.WriteFault → GrowsByPart (K.held sink.old) (K.held sink.new) usage_text }
+
+    // Usage: the words aren't accepted, and the usage line was put.
+    ensures usage { result ≡ Status.Usage → Grows (K.held sink.old) (K.held sink.new) usage_text }
+    ensures usage_words { result ≡ Status.Usage → IsAccepted words.now → ⊥ }
+    ensures usage_reads_nothing { (IsAccepted words.now → ⊥) → source.new ≡ source.old }
+
+    // NoMemory: a part of the lines of the symbols read whole was put.
+    ensures memory { IsAccepted words.now → result ≡ Status.NoMemory → ListsPart (S.left source.old) (S.left source.new) (K.held sink.old) (K.held sink.new) }
+    ensures memory_of_usage { (IsAccepted words.now → ⊥) → result ≡ Status.NoMemory → sink.new ≡ sink.old }
+
+    // What is left, where no device failed.
+    ensures accepted { (result ≡ Status.Done) ⊎ (result ≡ Status.Refused) ⊎ (result ≡ Status.ReadFault) → IsAccepted words.now }
     ensures complete { IsAccepted words.now → (Rose (S.faults source.old) (S.faults source.new) → ⊥) → (Rose (K.faults sink.old) (K.faults sink.new) → ⊥)
         → (result ≡ Status.Done) ⊎ (result ≡ Status.Refused) ⊎ (result ≡ Status.NoMemory) }
     ensures complete_usage { (IsAccepted words.now → ⊥) → (Rose (K.faults sink.old) (K.faults sink.new) → ⊥) → (result ≡ Status.Usage) ⊎ (result ≡ Status.NoMemory) }
 {
     if words::are_accepted(words) {
-        return detect::detect(alloc, source, sink);
+        return detect::detect(alloc, WINDOW, source, sink, gate);
     }
     match put_usage(alloc, sink) {
         Ok(()) => Status::Usage,

@@ -1,7 +1,7 @@
 -- The names of the kinds of fault.
 use Rattle.std.specs.Prelude.{ℕ, List, codes}
 use Rattle.ht_io.specs.declared.faults.Kind.{Kind}
-use Rattle.ht_io.specs.declared.faults.Kind.TheVariants.{BadMagic, BadVersion, BadBandwidth, BadMcs, BadLength, Truncated, Trailing, BadSeed, BadPoint, BadPilot, BadErased, BadModulation, BadStreams, BadMark, BadCount, NotBuilt}
+use Rattle.ht_io.specs.declared.faults.Kind.TheVariants.{BadMagic, BadVersion, BadBandwidth, BadMcs, BadLength, Truncated, Trailing, BadSeed, BadPoint, BadPilot, BadErased, BadModulation, BadStreams, BadMark, BadCount}
 
 -- the name of a kind, letter for letter
 abbrev pub name_of : Kind → List ℕ
@@ -20,7 +20,6 @@ name_of BadModulation = codes "BadModulation"
 name_of BadStreams = codes "BadStreams"
 name_of BadMark = codes "BadMark"
 name_of BadCount = codes "BadCount"
-name_of NotBuilt = codes "NotBuilt"
 
 -- the number of a kind
 abbrev pub number_of : Kind → ℕ
@@ -39,4 +38,3 @@ number_of BadModulation = 12
 number_of BadStreams = 13
 number_of BadMark = 14
 number_of BadCount = 15
-number_of NotBuilt = 99

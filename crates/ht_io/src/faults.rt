@@ -37,8 +37,6 @@ pub enum Kind {
     BadMark = 14,
     /// The number of captures of a bundle is outside 1 to 16.
     BadCount = 15,
-    /// The input has a form that is not built.
-    NotBuilt = 99,
 }
 
 impl Kind {
@@ -69,7 +67,6 @@ impl Kind {
             Kind::BadStreams => "BadStreams",
             Kind::BadMark => "BadMark",
             Kind::BadCount => "BadCount",
-            Kind::NotBuilt => "NotBuilt",
         }
     }
 }

@@ -163,7 +163,6 @@ fn vectors_kinds(rt: HostRuntime) {
     for (kind, number, name) in [
         (Kind::BadMagic, 1, "BadMagic"),
         (Kind::BadCount, 15, "BadCount"),
-        (Kind::NotBuilt, 99, "NotBuilt"),
     ] {
         assert_eq!(rt; kind.number(), number);
         assert_eq!(rt; kind.name(), name);

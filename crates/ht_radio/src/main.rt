@@ -6,6 +6,7 @@
 #![tactic(auto)]
 
 use ht_cli::{Status, run};
+use ht_crew::OpenGate;
 use ht_io::{StdSink, StdSource};
 use std::env;
 use std::io::{BufReader, ErrorKind, writer};
@@ -33,5 +34,5 @@ fn main(rt: HostRuntime) -> ExitCode {
     };
     let mut source = StdSource::new(reader);
     let mut sink = StdSink::new(writer(&rt));
-    ExitCode::from(run(rt.alloc(), &words, &mut source, &mut sink) as u8)
+    ExitCode::from(run(rt.alloc(), &words, &mut source, &mut sink, &OpenGate) as u8)
 }

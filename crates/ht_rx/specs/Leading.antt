@@ -1,0 +1,174 @@
+-- Whoever lists on from where a lister stands has listed from where it began.
+use Rattle.std.specs.Prelude.{◌≡◌, ℕ, ◌+◌, ◌≤◌, List, [], ◌∷◌, ◌++◌, Option, None, Some}
+use Rattle.std.proofs.Common.{refl, ap, ◌∙◌, sym, subst, arith, append_assoc, append-nil, length, length-append}
+use Rattle.ht_io.specs.Causes.{Rose}
+use Rattle.ht_io.specs.Octets.{GrowsByPart}
+use Rattle.ht_io.proofs.Counts.{rose-later, rose-earlier}
+use Rattle.ht_io.proofs.Pieces.{grows-none, grows-append, grows_by_part-append}
+use Rattle.ht_fields.specs.Readers.{Shown, Gives}
+use Rattle.ht_fields.proofs.Joins.{gives_none, gives_more}
+use Rattle.ht_metric.specs.Jobs.{JobView}
+use Rattle.ht_capture.specs.declared.items.Item.{Item}
+use Rattle.ht_capture.specs.declared.items.Item.TheVariants.{Frame, Job, Done}
+use Rattle.ht_rx.specs.declared.ending.Ending.{Ending}
+use Rattle.ht_rx.specs.declared.ending.Ending.TheVariants.{Whole, Refused, Broken}
+use Rattle.ht_rx.specs.declared.faults.FeedFault.{FeedFault}
+use Rattle.ht_rx.specs.Texts.{frames_of, job_line_of, job_lines, jobs_of}
+use Rattle.ht_rx.specs.Reading.{Place, Closes, Reads, ReadsBy}
+use Rattle.ht_rx.specs.Listing.{Seen, Lists, BreaksOff, Rests, LeadsBy}
+
+pub jobs_of-append : (xs ys : List Item) → jobs_of (xs ++ ys) ≡ jobs_of xs ++ jobs_of ys
+jobs_of-append [] ys = refl
+jobs_of-append (Frame head ∷ xs) ys = jobs_of-append xs ys
+jobs_of-append (Job job ∷ xs) ys = ap (λ (jobs : List JobView). job ∷ jobs) (jobs_of-append xs ys)
+jobs_of-append (Done ∷ xs) ys = jobs_of-append xs ys
+
+pub frames_of-append : (xs ys : List Item) → frames_of (xs ++ ys) ≡ frames_of xs + frames_of ys
+frames_of-append [] ys = omega arith
+frames_of-append (Frame head ∷ xs) ys = let e = frames_of-append xs ys in omega (arith, e)
+frames_of-append (Job job ∷ xs) ys = frames_of-append xs ys
+frames_of-append (Done ∷ xs) ys = frames_of-append xs ys
+
+pub job_lines-append : (xs ys : List JobView) → job_lines (xs ++ ys) ≡ job_lines xs ++ job_lines ys
+job_lines-append [] ys = refl
+job_lines-append (x ∷ xs) ys = ap (λ (lines : List ℕ). job_line_of x ++ lines) (job_lines-append xs ys) ∙ sym (append_assoc (job_line_of x) (job_lines xs) (job_lines ys))
+
+-- a reader stopped while its source failed no less often
+closes-within : (between : Shown Item) (left : Option (List ℕ)) (a b c d : ℕ) (ending : Ending) → a ≤ b → c ≤ d → Closes between left b c ending → Closes between left a d ending
+closes-within between left a b c d Whole p q closes = closes
+closes-within between left a b c d (Refused fault) p q closes = closes
+closes-within between left a b c d Broken p q closes = (closes.0, rose-later a b d p (rose-earlier b c d closes.1 q))
+
+reads_by-none : (ending : Option Ending) (place : Place) → ReadsBy ending ending place place []
+reads_by-none None place = gives_none place.reader
+reads_by-none (Some ending) place = (refl, refl, refl)
+
+pub reads_none : (place : Place) → Reads place place []
+reads_none place = reads_by-none place.ending place
+
+pub reads_on : (a b c : Option Ending) (old mid new : Place) (items more : List Item) → old.faults ≤ mid.faults → mid.faults ≤ new.faults
+    → ReadsBy a b old mid items → ReadsBy b c mid new more → ReadsBy a c old new (items ++ more)
+reads_on None None None old mid new items more p q first later = gives_more old.reader mid.reader new.reader items more first later
+reads_on None None (Some ending) old mid new items more p q first later =
+    record {
+      between = later.between;
+      gives = gives_more old.reader mid.reader later.between items more first later.gives;
+      closes = closes-within later.between new.reader.left old.faults mid.faults new.faults new.faults ending p (omega arith) later.closes;
+    }
+reads_on None (Some ending) None old mid new items more p q first later = absurd later
+reads_on None (Some ending) (Some other) old mid new items more p q first later =
+    let same : items ≡ items ++ more = sym (append-nil items) ∙ ap (λ (xs : List Item). items ++ xs) (sym later.1) in
+    let closes = closes-within first.between mid.reader.left old.faults old.faults mid.faults new.faults ending (omega arith) q first.closes in
+    let moved = subst (λ (left : Option (List ℕ)). Closes first.between left old.faults new.faults ending) later.2 closes in
+    record {
+      between = first.between;
+      gives = subst (λ (xs : List Item). Gives old.reader first.between xs) same first.gives;
+      closes = subst (λ (e : Ending). Closes first.between new.reader.left old.faults new.faults e) later.0 moved;
+    }
+reads_on (Some ending) None c old mid new items more p q first later = absurd first
+reads_on (Some ending) (Some other) None old mid new items more p q first later = absurd later
+reads_on (Some ending) (Some other) (Some last) old mid new items more p q first later =
+    (first.0 ∙ later.0, ap (λ (xs : List Item). xs ++ more) first.1 ∙ later.1, first.2 ∙ later.2)
+
+-- the jobs of items and more items, behind jobs that were due
+jobs-on : (due mid last taken more : List JobView) (items others : List Item) → due ++ jobs_of items ≡ taken ++ mid → mid ++ jobs_of others ≡ more ++ last
+    → due ++ jobs_of (items ++ others) ≡ (taken ++ more) ++ last
+jobs-on due mid last taken more items others first later =
+    ap (λ (xs : List JobView). due ++ xs) (jobs_of-append items others)
+    ∙ (sym (append_assoc due (jobs_of items) (jobs_of others))
+    ∙ (ap (λ (xs : List JobView). xs ++ jobs_of others) first
+    ∙ (append_assoc taken mid (jobs_of others)
+    ∙ (ap (λ (xs : List JobView). taken ++ xs) later
+    ∙ sym (append_assoc taken more last)))))
+
+-- the lines of jobs and more jobs, behind lines that waited
+lines-on : (text mid put : List ℕ) (taken more : List JobView) → text ++ job_lines taken ≡ put ++ mid
+    → text ++ job_lines (taken ++ more) ≡ put ++ (mid ++ job_lines more)
+lines-on text mid put taken more first =
+    ap (λ (xs : List ℕ). text ++ xs) (job_lines-append taken more)
+    ∙ (sym (append_assoc text (job_lines taken) (job_lines more))
+    ∙ (ap (λ (xs : List ℕ). xs ++ job_lines more) first
+    ∙ append_assoc put mid (job_lines more)))
+
+pub lists-none : (seen : Seen) → Lists seen seen
+lists-none seen =
+    record {
+      items = [];
+      taken = [];
+      put = [];
+      reads = reads_none seen.place;
+      jobs = append-nil seen.due;
+      lines = append-nil seen.text;
+      octets = grows-none seen.held;
+      frames = omega arith;
+      count = omega arith;
+      reads_later = omega arith;
+      puts_later = omega arith;
+    }
+
+pub lists-on : (old mid new : Seen) → Lists old mid → Lists mid new → Lists old new
+lists-on old mid new a b =
+    record {
+      items = a.items ++ b.items;
+      taken = a.taken ++ b.taken;
+      put = a.put ++ b.put;
+      reads = reads_on old.place.ending mid.place.ending new.place.ending old.place mid.place new.place a.items b.items a.reads_later b.reads_later a.reads b.reads;
+      jobs = jobs-on old.due mid.due new.due a.taken b.taken a.items b.items a.jobs b.jobs;
+      lines = lines-on old.text mid.text a.put a.taken b.taken a.lines ∙ (ap (λ (xs : List ℕ). a.put ++ xs) b.lines ∙ sym (append_assoc a.put b.put new.text));
+      octets = grows-append old.held mid.held new.held a.put b.put a.octets b.octets;
+      frames = let e = frames_of-append a.items b.items in let f = a.frames in let g = b.frames in omega (arith, e, f, g);
+      count =
+          let e = ap length (jobs_of-append a.items b.items) ∙ length-append (jobs_of a.items) (jobs_of b.items) in
+          let f = a.count in
+          let g = b.count in
+          omega (arith, e, f, g);
+      reads_later = let p = a.reads_later in let q = b.reads_later in omega (arith, p, q);
+      puts_later = let p = a.puts_later in let q = b.puts_later in omega (arith, p, q);
+    }
+
+pub lists-fails : (old mid new : Seen) (fault : FeedFault) → Lists old mid → BreaksOff mid new fault → BreaksOff old new fault
+lists-fails old mid new fault a b =
+    let lines = lines-on old.text mid.text a.put a.taken b.taken a.lines in
+    record {
+      items = a.items ++ b.items;
+      taken = a.taken ++ b.taken;
+      rest = b.rest;
+      reads = reads_on old.place.ending mid.place.ending new.place.ending old.place mid.place new.place a.items b.items a.reads_later b.reads_later a.reads b.reads;
+      jobs = jobs-on old.due mid.due b.rest a.taken b.taken a.items b.items a.jobs b.jobs;
+      octets = subst (GrowsByPart old.held new.held) (sym lines) (grows_by_part-append old.held mid.held new.held a.put (mid.text ++ job_lines b.taken) a.octets b.octets);
+      reads_later = let p = a.reads_later in let q = b.reads_later in omega (arith, p, q);
+      cause = λ is. rose-later old.faults mid.faults new.faults a.puts_later (b.cause is);
+    }
+
+pub fails-rests : (old mid new : Seen) (fault other : FeedFault) → fault ≡ other → BreaksOff old mid fault → Rests mid new → BreaksOff old new other
+fails-rests old mid new fault other is a b =
+    let put = subst (λ (held : Option (List ℕ)). GrowsByPart old.held held (old.text ++ job_lines a.taken)) b.held a.octets in
+    record {
+      items = a.items;
+      taken = a.taken;
+      rest = a.rest;
+      reads = subst (λ (place : Place). Reads old.place place a.items) b.place a.reads;
+      jobs = a.jobs;
+      octets = put;
+      reads_later = subst (λ (place : Place). old.place.faults ≤ place.faults) b.place a.reads_later;
+      cause = λ write. subst (Rose old.faults) b.faults (a.cause (is ∙ write));
+    }
+
+pub rests-none : (seen : Seen) → Rests seen seen
+rests-none seen = record { place = refl; held = refl; faults = refl }
+
+pub rests-on : (old mid new : Seen) → Rests old mid → Rests mid new → Rests old new
+rests-on old mid new a b = record { place = a.place ∙ b.place; held = a.held ∙ b.held; faults = a.faults ∙ b.faults }
+
+pub leads_by-none : (failed : Option FeedFault) (seen : Seen) → LeadsBy failed failed seen seen
+leads_by-none None seen = lists-none seen
+leads_by-none (Some fault) seen = (refl, rests-none seen)
+
+pub leads_by-on : (a b c : Option FeedFault) (old mid new : Seen) → LeadsBy a b old mid → LeadsBy b c mid new → LeadsBy a c old new
+leads_by-on None None None old mid new first later = lists-on old mid new first later
+leads_by-on None None (Some fault) old mid new first later = lists-fails old mid new fault first later
+leads_by-on None (Some fault) None old mid new first later = absurd later
+leads_by-on None (Some fault) (Some other) old mid new first later = fails-rests old mid new fault other later.0 first later.1
+leads_by-on (Some fault) None c old mid new first later = absurd first
+leads_by-on (Some fault) (Some other) None old mid new first later = absurd later
+leads_by-on (Some fault) (Some other) (Some last) old mid new first later = (first.0 ∙ later.0, rests-on old mid new first.1 later.1)

@@ -1,0 +1,54 @@
+-- What `detect` writes for a list of octets: a line for each job, and a last line.
+use Rattle.std.specs.Prelude.{ℕ, ◌+◌, ℤ, List, [], ◌∷◌, ◌++◌, Option, None, Some}
+use Rattle.std.specs.List.{flat_map}
+use Rattle.ht_io.specs.declared.faults.FormatFault.{FormatFault}
+use Rattle.ht_io.specs.Kinds.{name_of}
+use Rattle.ht_pam.specs.declared.point.Point.{Point}
+use Rattle.ht_metric.specs.Jobs.{JobView, near}
+use Rattle.ht_capture.specs.declared.items.Item.{Item}
+use Rattle.ht_capture.specs.declared.items.Item.TheVariants.{Frame, Job, Done}
+use Rattle.ht_capture.specs.Captures.{capture_of}
+use Rattle.ht_text.specs.Lines.{job_text, end_text, refused_text}
+
+-- I and Q of each point in turn
+abbrev pub levels_of : List Point → List ℤ
+levels_of points = flat_map (λ p. p.i ∷ p.q ∷ []) points
+
+-- the line of a job: its place, and its first nearest vector with the distance
+unfoldable pub job_line_of : JobView → List ℕ
+job_line_of job = job_text job.place.frame job.place.symbol job.place.carrier (near job).distance (levels_of (near job).vector)
+
+-- the lines of jobs, in order
+abbrev pub job_lines : List JobView → List ℕ
+job_lines [] = []
+job_lines (job ∷ jobs) = job_line_of job ++ job_lines jobs
+
+-- the jobs among the items of a capture
+abbrev pub jobs_of : List Item → List JobView
+jobs_of [] = []
+jobs_of (Frame head ∷ items) = jobs_of items
+jobs_of (Job job ∷ items) = job ∷ jobs_of items
+jobs_of (Done ∷ items) = jobs_of items
+
+-- how many frames are among the items
+abbrev pub frames_of : List Item → ℕ
+frames_of [] = 0
+frames_of (Frame head ∷ items) = 1 + frames_of items
+frames_of (Job job ∷ items) = frames_of items
+frames_of (Done ∷ items) = frames_of items
+
+-- the lines of the jobs of the symbols that are whole in a list of octets
+unfoldable pub lines_of : List ℕ → List ℕ
+lines_of octets = job_lines (jobs_of (capture_of octets).items)
+
+-- the last line: the number of frames, or the first fault
+abbrev pub last_of : Option FormatFault → ℕ → List ℕ
+last_of None frames = end_text frames
+last_of (Some fault) frames = refused_text (name_of fault.kind) fault.offset
+
+unfoldable pub last_line : List ℕ → List ℕ
+last_line octets = last_of (capture_of octets).fault (frames_of (capture_of octets).items)
+
+-- the reference text of a list of octets
+unfoldable pub detect_text : List ℕ → List ℕ
+detect_text octets = lines_of octets ++ last_line octets

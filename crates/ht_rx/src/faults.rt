@@ -1,0 +1,58 @@
+//! What listing a capture comes to.
+ghost use Rattle.std.specs.Prelude.{◌≡◌};
+
+use ht_io::FormatFault;
+use std::alloc::AllocError;
+use thiserror::Error;
+
+/// Why a listing can't go on.
+#[derive(Clone, Copy, Debug, PartialEq, Eq)]
+pub enum FeedFault {
+    /// The sink failed.
+    Write,
+    /// Memory ran out.
+    NoMemory,
+}
+
+impl From<AllocError> for FeedFault {
+    ghost use Rattle.ht_rx.specs.declared.faults.FeedFault.TheVariants.{NoMemory};
+
+    ghost from_gives = { λ _ e. e ≡ NoMemory };
+
+    fn from(_: AllocError) -> FeedFault {
+        FeedFault::NoMemory
+    }
+}
+
+/// How a listing ended that wrote all that it had to.
+#[derive(Clone, Copy, Debug, PartialEq, Eq)]
+pub enum Ended {
+    /// The input is a capture of so many frames and jobs.
+    Done { frames: u16, jobs: u64 },
+    /// The input isn't a capture; this is its first fault.
+    Refused(FormatFault),
+}
+
+/// Why a listing didn't write all that it had to.
+#[derive(Clone, Copy, Debug, PartialEq, Eq, Error)]
+pub enum RxFault {
+    /// The source failed.
+    #[error("the capture can't be read")]
+    Read,
+    /// The sink failed.
+    #[error("the text can't be written")]
+    Write,
+    /// Memory ran out.
+    #[error("memory ran out")]
+    NoMemory,
+}
+
+impl From<AllocError> for RxFault {
+    ghost use Rattle.ht_rx.specs.declared.faults.RxFault.TheVariants.{NoMemory};
+
+    ghost from_gives = { λ _ e. e ≡ NoMemory };
+
+    fn from(_: AllocError) -> RxFault {
+        RxFault::NoMemory
+    }
+}

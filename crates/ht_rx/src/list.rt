@@ -1,0 +1,79 @@
+//! Listing the jobs of a capture.
+ghost use Rattle.std.specs.Prelude.{◌≡◌, ◌≤◌, [], None, true, is_some, IfOk, MatchResult, OnOk};
+ghost use Rattle.ht_rx.specs.Listing.{BreaksOff, IsNew, Lists, seen_by};
+ghost use Rattle.ht_rx.specs.Outcomes.{ListsTo, StopsBy};
+
+use crate::desk::Desk;
+use crate::ending::Ending;
+use crate::faults::{Ended, FeedFault, RxFault};
+use crate::lister::Lister;
+use ht_crew::{DriveFault, Gate, drive_alone};
+use ht_io::{Sink, Source};
+use std::alloc::Global;
+
+// Drives a lister over a new desk, and answers how many jobs it gave.
+fn drive_lister<S: Source, K: Sink, G: Gate>(
+    alloc: Global,
+    window: u16,
+    desk: &mut Desk,
+    source: &mut S,
+    sink: &mut K,
+    gate: &G,
+) -> Result<u64, FeedFault>
+    requires some { 1 ≤ window }
+    requires few { window ≤ 4096 }
+    requires fresh { IsNew desk.old }
+    ensures told { MatchResult result
+        (λ jobs. Lists (seen_by desk.old (S.left source.old) (S.faults source.old) (K.held sink.old) (K.faults sink.old)) (seen_by desk.new (S.left source.new) (S.faults source.new) (K.held sink.new) (K.faults sink.new)))
+        (BreaksOff (seen_by desk.old (S.left source.old) (S.faults source.old) (K.held sink.old) (K.faults sink.old)) (seen_by desk.new (S.left source.new) (S.faults source.new) (K.held sink.new) (K.faults sink.new))) }
+    ensures ended { OnOk result (is_some desk.new.ending ≡ true) }
+    ensures taken { OnOk result (desk.new.due.items ≡ []) }
+    ensures jobs { IfOk result (λ jobs. jobs ≡ desk.new.count) }
+    ensures well { OnOk result (desk.new.failed ≡ None) }
+{
+    let mut lister = Lister::new(desk, source, sink);
+    match drive_alone(alloc, window, gate, &mut lister) {
+        Ok(report) => Ok(report.jobs),
+        Err(DriveFault::Feed(fault)) => Err(fault),
+        Err(DriveFault::NoMemory) => Err(FeedFault::NoMemory),
+    }
+}
+
+/// Reads a capture from the source, and puts a line into the sink for each job of each symbol that is whole before
+/// the capture's first fault: its place, the distance of its first nearest vector, and that vector.
+///
+/// Every job runs in this thread, between the two calls of the gate. At most `window` jobs, 1 to 4096, were read and
+/// not yet written at any moment. Nothing of the capture is kept but the triangles of a frame, the samples of a
+/// symbol and these jobs. Where source and sink both fail, the answer is `Write`.
+pub fn list_alone<S: Source, K: Sink, G: Gate>(
+    alloc: Global,
+    window: u16,
+    source: &mut S,
+    sink: &mut K,
+    gate: &G,
+) -> Result<Ended, RxFault>
+    requires some { 1 ≤ window }
+    requires few { window ≤ 4096 }
+    ensures told { MatchResult result
+        (ListsTo (S.left source.old) (S.left source.new) (K.held sink.old) (K.held sink.new))
+        (StopsBy (S.left source.old) (S.left source.new) (K.held sink.old) (K.held sink.new) (S.faults source.old) (S.faults source.new) (K.faults sink.old) (K.faults sink.new)) }
+    ensures later { OnOk result (K.faults sink.old ≤ K.faults sink.new) }
+{
+    let Ok(mut desk) = Desk::new(alloc) else {
+        return Err(RxFault::NoMemory);
+    };
+    let jobs = match drive_lister(alloc, window, &mut desk, source, sink, gate) {
+        Ok(jobs) => jobs,
+        Err(FeedFault::Write) => return Err(RxFault::Write),
+        Err(FeedFault::NoMemory) => return Err(RxFault::NoMemory),
+    };
+    match desk.ending() {
+        Some(Ending::Whole) => Ok(Ended::Done {
+            frames: desk.frames(),
+            jobs,
+        }),
+        Some(Ending::Refused(fault)) => Ok(Ended::Refused(fault)),
+        Some(Ending::Broken) => Err(RxFault::Read),
+        None => unreachable!(),
+    }
+}
