@@ -1,5 +1,5 @@
 -- What a listing and a last line come to.
-use Rattle.std.specs.Prelude.{◌≡◌, ℕ, ◌+◌, List, [], ◌++◌, length, take, Option, Some, None, IfSome}
+use Rattle.std.specs.Prelude.{◌≡◌, ℕ, ◌+◌, List, [], ◌++◌, length, take, Option, Some, None}
 use Rattle.std.proofs.Common.{refl, ap, ◌∙◌, sym, subst, append-nil, arith}
 use Rattle.ht_io.specs.Kinds.{name_of}
 use Rattle.ht_io.specs.Octets.{Grows, GrowsByPart}
@@ -16,7 +16,7 @@ use Rattle.ht_capture.specs.Fields.{captures}
 use Rattle.ht_text.specs.Lines.{end_text, refused_text}
 use Rattle.ht_rx.specs.Texts.{detect_text, frames_of, last_line, last_of, lines_of, job_lines, jobs_of}
 use Rattle.ht_rx.specs.Outcomes.{IsFront, ListsWhole, ListsRefused, ListsBroken, ListsPart}
-use Rattle.ht_rx.proofs.Outcomes.{takes_of, told_all}
+use Rattle.ht_rx.proofs.Outcomes.{of_told, takes_of, told_all}
 use Rattle.ht_cli.specs.Answers.{IsCapture, HasNoFault, Detects, Refuses, BreaksOff, DetectsPart}
 
 text_is : (octets : List ℕ) (fault : Option FormatFault) (frames : ℕ) → (capture_of octets).fault ≡ fault → frames_of (capture_of octets).items ≡ frames → lines_of octets ++ last_of fault frames ≡ detect_text octets
@@ -44,10 +44,6 @@ no_fault : (octets : List ℕ) → IsFront octets → HasNoFault octets
 no_fault octets front =
     let place : length octets ≡ 0 + length octets = omega arith in
     early_text captures octets (subst (λ n. IsEarly n (capture_of octets).fault) place front)
-
-of_told : (left : Option (List ℕ)) (P Q : List ℕ → Type 0) → ((octets : List ℕ) → P octets → Q octets) → IfSome left P → IfSome left Q
-of_told None P Q so p = tt
-of_told (Some octets) P Q so p = so octets p
 
 by_part : (held now : Option (List ℕ)) (piece : List ℕ) → Grows held now piece → GrowsByPart held now piece
 by_part held now piece grows = subst (GrowsByPart held now) (append-nil piece) (grows_by_part-append held now now piece [] grows (grows_by_part-none now []))

@@ -10,8 +10,9 @@
 //! job 0 0 0 100 -1 0
 //! ```
 //!
-//! and 111 lines more like it, and then `end 1 frames`. With 02 in its octet 7 it is refused by the one line
-//! `refused BadBandwidth at 7`. What must be written for a list of octets is `detect_text`, of crate `ht_rx`.
+//! and 111 lines more, in which a pilot has its own value, and then `end 1 frames`. With 02 in its octet 7 it is refused
+//! by the one line `refused BadBandwidth at 7`. What must be written for a list of octets is `detect_text`, of crate
+//! `ht_rx`.
 #![tactic(auto)]
 
 ghost use Rattle.std.specs.Prelude.{◌≡◌, ◌⊎◌};

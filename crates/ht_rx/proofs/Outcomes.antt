@@ -189,7 +189,8 @@ part_of held now octets items jobs rest front is put =
     ∙ job_lines-append jobs more) in
     subst (GrowsByPart held now) (sym all) (grows_by_part-front held now (job_lines jobs) (job_lines more) put)
 
-of_told : (left : Option (List ℕ)) (P Q : List ℕ → Type 0) → ((octets : List ℕ) → P octets → Q octets) → IfSome left P → IfSome left Q
+-- where what is left is told, what is said of it leads on
+pub of_told : (left : Option (List ℕ)) (P Q : List ℕ → Type 0) → ((octets : List ℕ) → P octets → Q octets) → IfSome left P → IfSome left Q
 of_told None P Q so p = tt
 of_told (Some octets) P Q so p = so octets p
 

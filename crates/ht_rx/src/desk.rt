@@ -74,14 +74,14 @@ impl Desk {
     }
 
     // What a call that failed answered.
-    pub fn failed(&self) -> Option<FeedFault>
+    pub(crate) fn failed(&self) -> Option<FeedFault>
         ensures { result ≡ self.now.failed }
     {
         self.listing.failed
     }
 
     // Counts a call that fails.
-    pub fn fail(&mut self, fault: FeedFault) -> FeedFault
+    pub(crate) fn fail(&mut self, fault: FeedFault) -> FeedFault
         ensures same { result ≡ fault }
         ensures noted { self.new ≡ record self.old { faults = one_more self.old.faults; failed = Some fault } }
         ensures later { self.old.faults ≤ self.new.faults }
@@ -91,7 +91,7 @@ impl Desk {
     }
 
     // Gives the next job, or none where the reading ends.
-    pub fn next<S: Source>(&mut self, source: &mut S) -> Option<Job>
+    pub(crate) fn next<S: Source>(&mut self, source: &mut S) -> Option<Job>
         requires going { self.old.ending ≡ None }
         requires well { self.old.failed ≡ None }
         requires room { length self.old.due.items < 4096 }
@@ -106,7 +106,7 @@ impl Desk {
     }
 
     // Takes the hit of the first job due.
-    pub fn take<K: Sink>(&mut self, hit: Hit, sink: &mut K) -> Result<(), FeedFault>
+    pub(crate) fn take<K: Sink>(&mut self, hit: Hit, sink: &mut K) -> Result<(), FeedFault>
         requires well { self.old.failed ≡ None }
         requires first { slice_get self.old.due.items 0 ≡ Some hit.job }
         ensures told { (left : Option (List ℕ)) (reads : ℕ) → MatchResult result

@@ -44,7 +44,11 @@ fn drive_lister<S: Source, K: Sink, G: Gate>(
 ///
 /// Every job runs in this thread, between the two calls of the gate. At most `window` jobs, 1 to 4096, were read and
 /// not yet written at any moment. Nothing of the capture is kept but the triangles of a frame, the samples of a
-/// symbol and these jobs. Where source and sink both fail, the answer is `Write`.
+/// symbol and these jobs.
+///
+/// It answers `Done` for a capture, and `Refused` with the first fault of an input that is none. It refuses with
+/// `Read` where the source failed, having put the lines of the symbols that were read whole; with `Write` where the
+/// sink failed, also if the source did; and with `NoMemory`. In the last two cases a part of the lines was put.
 pub fn list_alone<S: Source, K: Sink, G: Gate>(
     alloc: Global,
     window: u16,

@@ -22,7 +22,7 @@ pub struct Lister<'a, S, K> {
 }
 
 impl<'a, S: Source, K: Sink> Lister<'a, S, K> {
-    /// A lister over a desk, a source and a sink.
+    /// A lister over a source and a sink, which goes on from where its desk stands. It takes no memory.
     pub fn new(desk: &'a mut Desk, source: &'a mut S, sink: &'a mut K) -> Lister<'a, S, K>
         ensures names { names_of result ≡ names desk.entry.ghost_name source.entry.ghost_name sink.entry.ghost_name }
         ensures desk { result.desk.now ≡ desk.old }
