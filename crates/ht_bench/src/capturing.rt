@@ -12,7 +12,7 @@ use std::alloc::{AllocError, Global};
 /// The frames of the capture, at 20 and 40 MHz in turn.
 const FRAMES: u16 = 4;
 
-/// For how many spatial streams the capture is, and how often it is read.
+/// The number of spatial streams of the capture, and how often it is read.
 #[derive(Drop)]
 pub struct Line {
     streams: u8,
@@ -34,7 +34,7 @@ impl Line {
         })
     }
 
-    /// Reads the capture so often. The checksum is of all heads and jobs.
+    /// Reads the capture as often as the line says. The checksum is over all heads and jobs.
     pub fn run(&self, alloc: Global) -> Result<u64, AllocError> {
         let octets = capture(alloc, self.streams.clamp(1, 4))?;
         let mut checksum = 0;

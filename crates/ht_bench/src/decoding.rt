@@ -49,7 +49,7 @@ impl Line {
         })
     }
 
-    /// Decodes the codeword so often. The checksum is of the last answer, and of all distances.
+    /// Decodes the codeword as often as the line says. The checksum is over the last answer and all distances.
     pub fn run(&self, alloc: Global) -> Result<u64, AllocError> {
         let received = self.received(alloc)?;
         let mut checksum = 0u64;

@@ -75,7 +75,7 @@ impl Line {
         })
     }
 
-    /// Detects all jobs so often. The checksum is of all vectors and distances.
+    /// Detects all jobs as often as the line says. The checksum is over all vectors and distances.
     pub fn run(&self, alloc: Global) -> Result<u64, AllocError> {
         let mut random = Random::new(1);
         let mut jobs = Vec::new(alloc);
@@ -192,14 +192,14 @@ fn part(random: &mut Random, bound: u64) -> i32
     (random.draw() % (2 * bound + 1)) as i32 - bound as i32
 }
 
-// A level of so many.
+// One of this number of levels.
 fn level(levels: u8, number: u64) -> i8 {
     let count = levels.clamp(1, 8);
     let at = (number % u64::from(count)) as i8;
     2 * at - (count as i8 - 1)
 }
 
-// All of so many levels.
+// All of this number of levels.
 fn ladder(levels: u8) -> Ladder {
     match levels {
         1 => Ladder::of(1, 1),

@@ -3,8 +3,9 @@ use Rattle.std.proofs.Common.{◌≡◌, ◌⊎◌, ℕ, zero, suc, ◌+◌, ◌
 use Rattle.std.proofs.lemmas.Bool.Decides.{nat_tests}
 use Rattle.std.proofs.Math.Nat.{mul-le-mul_left, mul-le-mul_right}
 use Rattle.ht_rate.specs.declared.rates.Rate.{Rate}
-use Rattle.ht_rate.specs.Rates.{streams_of, data_carriers_of, pilots_of, carriers_of, label_bits_of, stream_bits_of, coded_bits_of, data_bits_of, modulation_of, pattern_of, needed_bits_of}
-use Rattle.ht_rate.proofs.Every.{each_bandwidth, each_streams, each_scheme, each_rate, at_rate}
+use Rattle.ht_rate.specs.Rates.{streams_of, data_carriers_of, pilots_of, carriers_of, label_bits_of, stream_bits_of}
+use Rattle.ht_rate.specs.Rates.{coded_bits_of, data_bits_of, modulation_of, pattern_of, needed_bits_of}
+use Rattle.ht_rate.proofs.AllRates.{each_bandwidth, each_streams, each_scheme, each_rate, at_rate}
 use Rattle.ht_rate.proofs.RateFacts.{encoders_of-range, carriers_of-range}
 
 either : (a b : Bool) → (a || b) ≡ true → (a ≡ true) ⊎ (b ≡ true)
@@ -16,7 +17,8 @@ less x y e = grind (arith, nat_tests)
 
 -- a rate has 56 subcarriers, or 54 data bits a symbol and more
 few_or_fast : (r : Rate) → (carriers_of r < 57) ⊎ (53 < data_bits_of r)
-unfolding carriers_of pilots_of data_bits_of pattern_of coded_bits_of streams_of stream_bits_of data_carriers_of label_bits_of modulation_of each_bandwidth each_streams each_scheme each_rate
+unfolding carriers_of pilots_of data_bits_of pattern_of coded_bits_of streams_of stream_bits_of data_carriers_of label_bits_of modulation_of
+    each_bandwidth each_streams each_scheme each_rate
 few_or_fast r =
     elim (either (nat_lt (carriers_of r) 57) (nat_lt 53 (data_bits_of r)) (at_rate (λ r. nat_lt (carriers_of r) 57 || nat_lt 53 (data_bits_of r)) refl r)) [
       | inl e ↦ inl (less (carriers_of r) 57 e)
@@ -41,7 +43,8 @@ product n most count wide a b =
     omega (arith, one, two)
 
 -- the jobs of a frame
-pub jobs_few : (r : Rate) (length n count : ℕ) → length ≤ 65535 → n ≤ 20166 → n * data_bits_of r < needed_bits_of r length + data_bits_of r → count ≤ carriers_of r
+pub jobs_few : (r : Rate) (length n count : ℕ) → length ≤ 65535 → n ≤ 20166
+    → n * data_bits_of r < needed_bits_of r length + data_bits_of r → count ≤ carriers_of r
     → n * count ≤ 1129296
 jobs_few r length n count le most lt few =
     elim (few_or_fast r) [

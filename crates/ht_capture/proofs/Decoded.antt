@@ -1,5 +1,6 @@
 -- What octets that were written read as.
-use Rattle.std.proofs.Common.{◌≡◌, ℕ, ℤ, pos, negsuc, ◌+◌, ◌*◌, ◌<◌, ◌≤◌, ◌^◌, List, [], ◌∷◌, ◌++◌, length, drop, flat_map, refl, sym, ap, ◌∙◌, append_assoc, arith, w16, w32, FitsSigned}
+use Rattle.std.proofs.Common.{◌≡◌, ℕ, ℤ, pos, negsuc, ◌+◌, ◌*◌, ◌<◌, ◌≤◌, ◌^◌, List, [], ◌∷◌, ◌++◌, length}
+use Rattle.std.proofs.Common.{drop, flat_map, refl, sym, ap, ◌∙◌, append_assoc, arith, w16, w32, FitsSigned}
 use Rattle.std.proofs.lemmas.Int.{to_z-of_z}
 use Rattle.std.proofs.lemmas.List.{append-nil, drop-drop}
 use Rattle.std.proofs.Math.Seq.{drop-append_seam}
@@ -33,7 +34,8 @@ wide_fits (negsuc n) f = omega (arith, f)
 tap_made : (tap : Tap) (re im : ℤ) → re ≡ tap.re → im ≡ tap.im → (let t : Tap = record { re = re; im = im } in t) ≡ tap
 tap_made tap re im p q = ap (λ (a : ℤ). let t : Tap = record { re = a; im = im } in t) p ∙ ap (λ (b : ℤ). let t : Tap = record { re = tap.re; im = b } in t) q
 
-pub tap_read : (octets rest : List ℕ) (at : ℕ) (tap : Tap) → drop at octets ≡ tap_octets tap ++ rest → FitsSigned w16 tap.re → FitsSigned w16 tap.im → tap_at octets at ≡ tap
+pub tap_read : (octets rest : List ℕ) (at : ℕ) (tap : Tap) → drop at octets ≡ tap_octets tap ++ rest
+    → FitsSigned w16 tap.re → FitsSigned w16 tap.im → tap_at octets at ≡ tap
 unfolding tap_at
 tap_read octets rest at tap is f g =
     let re : List ℕ = big_bytes 2 (cast_unsigned w16 tap.re) in
@@ -41,13 +43,17 @@ tap_read octets rest at tap is f g =
     let first : drop at octets ≡ re ++ (im ++ rest) = is in
     let second : drop (at + 2) octets ≡ im ++ rest = behind_more octets re (im ++ rest) at 2 first refl in
     tap_made tap _ _
-    (ap (λ o. cast_signed w16 (big_number 2 o)) first ∙ (ap (cast_signed w16) (big_number-reads_back 2 (cast_unsigned w16 tap.re) (im ++ rest) (unsigned_fits tap.re f)) ∙ to_z-of_z w16 tap.re f))
-    (ap (λ o. cast_signed w16 (big_number 2 o)) second ∙ (ap (cast_signed w16) (big_number-reads_back 2 (cast_unsigned w16 tap.im) rest (unsigned_fits tap.im g)) ∙ to_z-of_z w16 tap.im g))
+    (ap (λ o. cast_signed w16 (big_number 2 o)) first
+    ∙ (ap (cast_signed w16) (big_number-reads_back 2 (cast_unsigned w16 tap.re) (im ++ rest) (unsigned_fits tap.re f)) ∙ to_z-of_z w16 tap.re f))
+    (ap (λ o. cast_signed w16 (big_number 2 o)) second
+    ∙ (ap (cast_signed w16) (big_number-reads_back 2 (cast_unsigned w16 tap.im) rest (unsigned_fits tap.im g)) ∙ to_z-of_z w16 tap.im g))
 
 sample_made : (s : Sample) (re im : ℤ) → re ≡ s.re → im ≡ s.im → (let t : Sample = record { re = re; im = im } in t) ≡ s
-sample_made s re im p q = ap (λ (a : ℤ). let t : Sample = record { re = a; im = im } in t) p ∙ ap (λ (b : ℤ). let t : Sample = record { re = s.re; im = b } in t) q
+sample_made s re im p q =
+    ap (λ (a : ℤ). let t : Sample = record { re = a; im = im } in t) p ∙ ap (λ (b : ℤ). let t : Sample = record { re = s.re; im = b } in t) q
 
-pub sample_read : (octets rest : List ℕ) (at : ℕ) (s : Sample) → drop at octets ≡ sample_octets s ++ rest → FitsSigned w32 s.re → FitsSigned w32 s.im → sample_at octets at ≡ s
+pub sample_read : (octets rest : List ℕ) (at : ℕ) (s : Sample) → drop at octets ≡ sample_octets s ++ rest
+    → FitsSigned w32 s.re → FitsSigned w32 s.im → sample_at octets at ≡ s
 unfolding sample_at
 sample_read octets rest at s is f g =
     let re : List ℕ = big_bytes 4 (cast_unsigned w32 s.re) in
@@ -55,22 +61,28 @@ sample_read octets rest at s is f g =
     let first : drop at octets ≡ re ++ (im ++ rest) = is in
     let second : drop (at + 4) octets ≡ im ++ rest = behind_more octets re (im ++ rest) at 4 first refl in
     sample_made s _ _
-    (ap (λ o. cast_signed w32 (big_number 4 o)) first ∙ (ap (cast_signed w32) (big_number-reads_back 4 (cast_unsigned w32 s.re) (im ++ rest) (wide_fits s.re f)) ∙ to_z-of_z w32 s.re f))
-    (ap (λ o. cast_signed w32 (big_number 4 o)) second ∙ (ap (cast_signed w32) (big_number-reads_back 4 (cast_unsigned w32 s.im) rest (wide_fits s.im g)) ∙ to_z-of_z w32 s.im g))
+    (ap (λ o. cast_signed w32 (big_number 4 o)) first
+    ∙ (ap (cast_signed w32) (big_number-reads_back 4 (cast_unsigned w32 s.re) (im ++ rest) (wide_fits s.re f)) ∙ to_z-of_z w32 s.re f))
+    (ap (λ o. cast_signed w32 (big_number 4 o)) second
+    ∙ (ap (cast_signed w32) (big_number-reads_back 4 (cast_unsigned w32 s.im) rest (wide_fits s.im g)) ∙ to_z-of_z w32 s.im g))
 
 -- so many entries that were written
-taps_read : (right : List Tap) (octets rest : List ℕ) (at : ℕ) → drop at octets ≡ taps_octets (length right) right ++ rest → AreTaps right → taps_at (length right) octets at ≡ right
+taps_read : (right : List Tap) (octets rest : List ℕ) (at : ℕ)
+    → drop at octets ≡ taps_octets (length right) right ++ rest → AreTaps right → taps_at (length right) octets at ≡ right
 taps_read [] octets rest at is typed = refl
 taps_read (t ∷ ts) octets rest at is typed =
     let first : drop at octets ≡ tap_octets t ++ (taps_octets (length ts) ts ++ rest) = is ∙ append_assoc (tap_octets t) (taps_octets (length ts) ts) rest in
-    let next : drop (at + 4) octets ≡ taps_octets (length ts) ts ++ rest = behind_more octets (tap_octets t) (taps_octets (length ts) ts ++ rest) at 4 first refl in
+    let next : drop (at + 4) octets ≡ taps_octets (length ts) ts ++ rest =
+    behind_more octets (tap_octets t) (taps_octets (length ts) ts ++ rest) at 4 first refl in
     ap (λ (x : Tap). x ∷ taps_at (length ts) octets (at + 4)) (tap_read octets _ at t first typed.0 typed.1)
     ∙ ap (λ (xs : List Tap). t ∷ xs) (taps_read ts octets rest (at + 4) next typed.2)
 
 leg_made : (leg : Leg) (d : ℕ) (right : List Tap) → d ≡ leg.diagonal → right ≡ leg.right → (let l : Leg = record { diagonal = d; right = right } in l) ≡ leg
-leg_made leg d right p q = ap (λ (a : ℕ). let l : Leg = record { diagonal = a; right = right } in l) p ∙ ap (λ (b : List Tap). let l : Leg = record { diagonal = leg.diagonal; right = b } in l) q
+leg_made leg d right p q = ap (λ (a : ℕ). let l : Leg = record { diagonal = a; right = right } in l) p
+    ∙ ap (λ (b : List Tap). let l : Leg = record { diagonal = leg.diagonal; right = b } in l) q
 
-leg_read : (n : ℕ) (leg : Leg) (octets rest : List ℕ) (at : ℕ) → drop at octets ≡ leg_octets n leg ++ rest → leg.diagonal < 2 ^ 16 → length leg.right ≡ n → AreTaps leg.right
+leg_read : (n : ℕ) (leg : Leg) (octets rest : List ℕ) (at : ℕ) → drop at octets ≡ leg_octets n leg ++ rest
+    → leg.diagonal < 2 ^ 16 → length leg.right ≡ n → AreTaps leg.right
     → (let l : Leg = record { diagonal = unsigned_at octets at; right = taps_at n octets (at + 2) } in l) ≡ leg
 leg_read n leg octets rest at is small len typed =
     let d : List ℕ = big_bytes 2 leg.diagonal in
@@ -80,7 +92,8 @@ leg_read n leg octets rest at is small len typed =
     leg_made leg _ _ (ap (big_number 2) first ∙ big_number-reads_back 2 leg.diagonal (taps_octets n leg.right ++ rest) small)
     (ap (λ k. taps_at k octets (at + 2)) (sym len) ∙ taps_read leg.right octets rest (at + 2) next typed)
 
-legs_read : (legs : List Leg) (octets rest : List ℕ) (at : ℕ) → drop at octets ≡ legs_octets legs ++ rest → AreLegs legs → legs_at (length legs) octets at ≡ legs
+legs_read : (legs : List Leg) (octets rest : List ℕ) (at : ℕ)
+    → drop at octets ≡ legs_octets legs ++ rest → AreLegs legs → legs_at (length legs) octets at ≡ legs
 legs_read [] octets rest at is typed = refl
 legs_read (leg ∷ legs) octets rest at is typed =
     let n = length legs in
@@ -102,13 +115,16 @@ length-samples [] = refl
 length-samples (s ∷ ss) = omega (arith, length-samples ss)
 
 -- the rows of a system, of samples that were written
-pub rows_read : (legs : List Leg) (samples : List Sample) (octets rest : List ℕ) (at : ℕ) → length legs ≤ length samples → drop at octets ≡ flat_map sample_octets samples ++ rest → AreSamples samples
+pub rows_read : (legs : List Leg) (samples : List Sample) (octets rest : List ℕ) (at : ℕ)
+    → length legs ≤ length samples → drop at octets ≡ flat_map sample_octets samples ++ rest → AreSamples samples
     → rows_of legs (samples_at (length legs) octets at) ≡ rows_of legs samples
 rows_read [] samples octets rest at few is typed = refl
 rows_read (leg ∷ legs) [] octets rest at few is typed = absurd (omega (arith, few))
 rows_read (leg ∷ legs) (s ∷ ss) octets rest at few is typed =
-    let first : drop at octets ≡ sample_octets s ++ (flat_map sample_octets ss ++ rest) = is ∙ append_assoc (sample_octets s) (flat_map sample_octets ss) rest in
-    let next : drop (at + 8) octets ≡ flat_map sample_octets ss ++ rest = behind_more octets (sample_octets s) (flat_map sample_octets ss ++ rest) at 8 first refl in
+    let first : drop at octets ≡ sample_octets s ++ (flat_map sample_octets ss ++ rest) =
+    is ∙ append_assoc (sample_octets s) (flat_map sample_octets ss) rest in
+    let next : drop (at + 8) octets ≡ flat_map sample_octets ss ++ rest =
+    behind_more octets (sample_octets s) (flat_map sample_octets ss ++ rest) at 8 first refl in
     let row : Sample → List Row → List Row = λ y more. record { diagonal = leg.diagonal; right = leg.right; sample = y } ∷ more in
     ap (λ (y : Sample). row y (rows_of legs (samples_at (length legs) octets (at + 8)))) (sample_read octets _ at s first typed.0 typed.1)
     ∙ ap (λ (more : List Row). row s more) (rows_read legs ss octets rest (at + 8) (omega (arith, few)) next typed.2)

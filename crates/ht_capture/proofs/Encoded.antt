@@ -1,5 +1,6 @@
 -- Octets that were read are those of what was read.
-use Rattle.std.proofs.Common.{◌≡◌, ℕ, zero, suc, ◌+◌, ◌*◌, ◌-◌, ◌<◌, ◌≤◌, ◌^◌, ◌/◌, ◌%◌, List, [], ◌∷◌, ◌++◌, length, drop, get_or, flat_map, refl, sym, ap, subst, ◌∙◌, append_assoc, arith, w16, w32, FitsSigned, Bool, true, false, ◌&&◌, ◌||◌, nat_eq, nat_lt}
+use Rattle.std.proofs.Common.{◌≡◌, ℕ, zero, suc, ◌+◌, ◌*◌, ◌-◌, ◌<◌, ◌≤◌, ◌^◌, ◌/◌, ◌%◌, List, [], ◌∷◌, ◌++◌, length, drop, get_or, flat_map}
+use Rattle.std.proofs.Common.{refl, sym, ap, subst, ◌∙◌, append_assoc, arith, w16, w32, FitsSigned, Bool, true, false, ◌&&◌, ◌||◌, nat_eq, nat_lt}
 use Rattle.std.proofs.lemmas.Bool.Decides.{nat_tests}
 use Rattle.ht_rate.specs.Rates.{carriers_of}
 use Rattle.ht_capture.specs.declared.items.FrameHead.{FrameHead}
@@ -20,7 +21,8 @@ use Rattle.ht_capture.specs.Contents.{AreBytes, AreTaps, AreSamples, AreLegs}
 two_more : (octets : List ℕ) (at : ℕ) → at + 2 ≤ length octets → drop at octets ≡ get_or octets at 0 ∷ get_or octets (at + 1) 0 ∷ drop (at + 2) octets
 two_more octets at enough =
     let e : at + 1 + 1 ≡ at + 2 = omega arith in
-    drop_more octets at 0 (omega (arith, enough)) ∙ ap (λ (xs : List ℕ). get_or octets at 0 ∷ xs) (drop_more octets (at + 1) 0 (omega (arith, enough)) ∙ ap (λ n. get_or octets (at + 1) 0 ∷ drop n octets) e)
+    drop_more octets at 0 (omega (arith, enough))
+    ∙ ap (λ (xs : List ℕ). get_or octets at 0 ∷ xs) (drop_more octets (at + 1) 0 (omega (arith, enough)) ∙ ap (λ n. get_or octets (at + 1) 0 ∷ drop n octets) e)
 
 pair_number : (x y : ℕ) (rest : List ℕ) → big_number 2 (x ∷ y ∷ rest) ≡ x * 256 + y
 pair_number x y rest = omega arith
@@ -37,7 +39,8 @@ pair_back x y rest f g =
     ap (λ (z : ℕ). z ∷ n % 256 ∷ []) high ∙ ap (λ (z : ℕ). x ∷ z ∷ []) low
 
 -- the two octets at a place
-pub unsigned_back : (octets : List ℕ) (at : ℕ) → at + 2 ≤ length octets → AreBytes octets → (big_number 2 (drop at octets) < 2 ^ 16) × (big_bytes 2 (big_number 2 (drop at octets)) ++ drop (at + 2) octets ≡ drop at octets)
+pub unsigned_back : (octets : List ℕ) (at : ℕ) → at + 2 ≤ length octets → AreBytes octets
+    → (big_number 2 (drop at octets) < 2 ^ 16) × (big_bytes 2 (big_number 2 (drop at octets)) ++ drop (at + 2) octets ≡ drop at octets)
 unsigned_back octets at enough bytes =
     let x = get_or octets at 0 in
     let y = get_or octets (at + 1) 0 in
@@ -51,7 +54,8 @@ signed_fits : (n : ℕ) → n < 2 ^ 16 → FitsSigned w16 (cast_signed w16 n)
 signed_fits n small = omega (arith, ints, small)
 
 -- a signed number of two octets
-signed_back : (octets : List ℕ) (at : ℕ) → at + 2 ≤ length octets → AreBytes octets → FitsSigned w16 (cast_signed w16 (big_number 2 (drop at octets))) × (big_bytes 2 (cast_unsigned w16 (cast_signed w16 (big_number 2 (drop at octets)))) ++ drop (at + 2) octets ≡ drop at octets)
+signed_back : (octets : List ℕ) (at : ℕ) → at + 2 ≤ length octets → AreBytes octets → FitsSigned w16 (cast_signed w16 (big_number 2 (drop at octets)))
+    × (big_bytes 2 (cast_unsigned w16 (cast_signed w16 (big_number 2 (drop at octets)))) ++ drop (at + 2) octets ≡ drop at octets)
 signed_back octets at enough bytes =
     let u = unsigned_back octets at enough bytes in
     (signed_fits (big_number 2 (drop at octets)) u.0, ap (λ n. big_bytes 2 n ++ drop (at + 2) octets) (of_z-to_z w16 (big_number 2 (drop at octets)) u.0) ∙ u.1)
@@ -101,14 +105,18 @@ legs_back (suc n) octets at enough bytes =
     let ll : List ℕ = legs_octets (legs_at n octets (at + 2 + 4 * n)) in
     let tail : List ℕ = drop (at + 2 * (suc n * suc n)) octets in
     let below : ll ++ tail ≡ drop (at + 2 + 4 * n) octets = ap (λ k. ll ++ drop k octets) e ∙ rest.1 in
-    let row : (dd ++ tt) ++ (ll ++ tail) ≡ drop at octets = append_assoc dd tt (ll ++ tail) ∙ (ap (λ (z : List ℕ). dd ++ (tt ++ z)) below ∙ (ap (λ (z : List ℕ). dd ++ z) ts.2 ∙ d.1)) in (
+    let row : (dd ++ tt) ++ (ll ++ tail) ≡ drop at octets =
+    append_assoc dd tt (ll ++ tail) ∙ (ap (λ (z : List ℕ). dd ++ (tt ++ z)) below ∙ (ap (λ (z : List ℕ). dd ++ z) ts.2 ∙ d.1)) in (
       (d.0, ts.1 ∙ sym size, ts.0, rest.0),
-      append_assoc (leg_octets (length (legs_at n octets (at + 2 + 4 * n))) (record { diagonal = big_number 2 (drop at octets); right = taps_at n octets (at + 2) })) ll tail
-          ∙ (ap (λ k. leg_octets k (let l : Leg = record { diagonal = big_number 2 (drop at octets); right = taps_at n octets (at + 2) } in l) ++ (ll ++ tail)) size ∙ row),
+      append_assoc (leg_octets (length (legs_at n octets (at + 2 + 4 * n)))
+          (record { diagonal = big_number 2 (drop at octets); right = taps_at n octets (at + 2) })) ll tail
+          ∙ (ap (λ k. leg_octets k (let l : Leg = record { diagonal = big_number 2 (drop at octets); right = taps_at n octets (at + 2) } in l)
+          ++ (ll ++ tail)) size ∙ row),
     )
 
 -- the octets of a triangle
-pub triangle_back : (n : ℕ) (octets : List ℕ) → length octets ≡ triangle_octets n → AreBytes octets → AreLegs (triangle_of n octets) × (legs_octets (triangle_of n octets) ≡ octets)
+pub triangle_back : (n : ℕ) (octets : List ℕ) → length octets ≡ triangle_octets n
+    → AreBytes octets → AreLegs (triangle_of n octets) × (legs_octets (triangle_of n octets) ≡ octets)
 unfolding triangle_of
 triangle_back n octets size bytes =
     let all = legs_back n octets 0 (omega (arith, size)) bytes in
@@ -130,7 +138,8 @@ only_one head carrier count flag good some =
 quad_number : (a b c d : ℕ) (rest : List ℕ) → big_number 4 (a ∷ b ∷ c ∷ d ∷ rest) ≡ a * 16777216 + b * 65536 + c * 256 + d
 quad_number a b c d rest = omega arith
 
-quad_back : (a b c d : ℕ) (rest : List ℕ) → a < 256 → b < 256 → c < 256 → d < 256 → (big_number 4 (a ∷ b ∷ c ∷ d ∷ rest) < 2 ^ 32) × (big_bytes 4 (big_number 4 (a ∷ b ∷ c ∷ d ∷ rest)) ≡ a ∷ b ∷ c ∷ d ∷ [])
+quad_back : (a b c d : ℕ) (rest : List ℕ) → a < 256 → b < 256 → c < 256 → d < 256
+    → (big_number 4 (a ∷ b ∷ c ∷ d ∷ rest) < 2 ^ 32) × (big_bytes 4 (big_number 4 (a ∷ b ∷ c ∷ d ∷ rest)) ≡ a ∷ b ∷ c ∷ d ∷ [])
 quad_back a b c d rest fa fb fc fd =
     let n = big_number 4 (a ∷ b ∷ c ∷ d ∷ rest) in
     let is : n ≡ a * 16777216 + b * 65536 + c * 256 + d = quad_number a b c d rest in
@@ -139,32 +148,39 @@ quad_back a b c d rest fa fb fc fd =
     let ic : n / 256 % 256 ≡ c = omega (arith, is, fa, fb, fc, fd) in
     let id : n % 256 ≡ d = omega (arith, is, fa, fb, fc, fd) in (
       omega (arith, is, fa, fb, fc, fd),
-      ap (λ (z : ℕ). z ∷ n / 65536 % 256 ∷ n / 256 % 256 ∷ n % 256 ∷ []) ia ∙ (ap (λ (z : ℕ). a ∷ z ∷ n / 256 % 256 ∷ n % 256 ∷ []) ib ∙ (ap (λ (z : ℕ). a ∷ b ∷ z ∷ n % 256 ∷ []) ic ∙ ap (λ (z : ℕ). a ∷ b ∷ c ∷ z ∷ []) id)),
+      ap (λ (z : ℕ). z ∷ n / 65536 % 256 ∷ n / 256 % 256 ∷ n % 256 ∷ []) ia
+          ∙ (ap (λ (z : ℕ). a ∷ z ∷ n / 256 % 256 ∷ n % 256 ∷ []) ib ∙ (ap (λ (z : ℕ). a ∷ b ∷ z ∷ n % 256 ∷ []) ic ∙ ap (λ (z : ℕ). a ∷ b ∷ c ∷ z ∷ []) id)),
     )
 
-four_more : (octets : List ℕ) (at : ℕ) → at + 4 ≤ length octets → drop at octets ≡ get_or octets at 0 ∷ get_or octets (at + 1) 0 ∷ get_or octets (at + 2) 0 ∷ get_or octets (at + 2 + 1) 0 ∷ drop (at + 4) octets
+four_more : (octets : List ℕ) (at : ℕ) → at + 4 ≤ length octets
+    → drop at octets ≡ get_or octets at 0 ∷ get_or octets (at + 1) 0 ∷ get_or octets (at + 2) 0 ∷ get_or octets (at + 2 + 1) 0 ∷ drop (at + 4) octets
 four_more octets at enough =
     let e : at + 2 + 2 ≡ at + 4 = omega arith in
-    two_more octets at (omega (arith, enough)) ∙ ap (λ (xs : List ℕ). get_or octets at 0 ∷ get_or octets (at + 1) 0 ∷ xs) (two_more octets (at + 2) (omega (arith, enough))
+    two_more octets at (omega (arith, enough))
+    ∙ ap (λ (xs : List ℕ). get_or octets at 0 ∷ get_or octets (at + 1) 0 ∷ xs) (two_more octets (at + 2) (omega (arith, enough))
     ∙ ap (λ n. get_or octets (at + 2) 0 ∷ get_or octets (at + 2 + 1) 0 ∷ drop n octets) e)
 
 wide_fits : (n : ℕ) → n < 2 ^ 32 → FitsSigned w32 (cast_signed w32 n)
 wide_fits n small = omega (arith, ints, small)
 
 -- a signed number of four octets
-wide_back : (octets : List ℕ) (at : ℕ) → at + 4 ≤ length octets → AreBytes octets → FitsSigned w32 (cast_signed w32 (big_number 4 (drop at octets))) × (big_bytes 4 (cast_unsigned w32 (cast_signed w32 (big_number 4 (drop at octets)))) ++ drop (at + 4) octets ≡ drop at octets)
+wide_back : (octets : List ℕ) (at : ℕ) → at + 4 ≤ length octets → AreBytes octets → FitsSigned w32 (cast_signed w32 (big_number 4 (drop at octets)))
+    × (big_bytes 4 (cast_unsigned w32 (cast_signed w32 (big_number 4 (drop at octets)))) ++ drop (at + 4) octets ≡ drop at octets)
 wide_back octets at enough bytes =
     let more = four_more octets at enough in
-    let quad = quad_back (get_or octets at 0) (get_or octets (at + 1) 0) (get_or octets (at + 2) 0) (get_or octets (at + 2 + 1) 0) (drop (at + 4) octets) (bytes at) (bytes (at + 1)) (bytes (at + 2)) (bytes (at + 2 + 1)) in
+    let quad = quad_back (get_or octets at 0) (get_or octets (at + 1) 0) (get_or octets (at + 2) 0)
+    (get_or octets (at + 2 + 1) 0) (drop (at + 4) octets) (bytes at) (bytes (at + 1)) (bytes (at + 2)) (bytes (at + 2 + 1)) in
     let small : big_number 4 (drop at octets) < 2 ^ 32 = subst (λ (o : List ℕ). big_number 4 o < 2 ^ 32) (sym more) quad.0 in (
       wide_fits (big_number 4 (drop at octets)) small,
       ap (λ n. big_bytes 4 n ++ drop (at + 4) octets) (of_z-to_z w32 (big_number 4 (drop at octets)) small)
-          ∙ (ap (λ (o : List ℕ). big_bytes 4 (big_number 4 o) ++ drop (at + 4) octets) more ∙ (ap (λ (z : List ℕ). z ++ drop (at + 4) octets) quad.1 ∙ sym more)),
+          ∙ (ap (λ (o : List ℕ). big_bytes 4 (big_number 4 o) ++ drop (at + 4) octets) more
+          ∙ (ap (λ (z : List ℕ). z ++ drop (at + 4) octets) quad.1 ∙ sym more)),
     )
 
 -- a sample at a place
 pub sample_back : (octets : List ℕ) (at : ℕ) → at + 8 ≤ length octets → AreBytes octets
-    → FitsSigned w32 (sample_at octets at).re × FitsSigned w32 (sample_at octets at).im × (sample_octets (sample_at octets at) ++ drop (at + 8) octets ≡ drop at octets)
+    → FitsSigned w32 (sample_at octets at).re × FitsSigned w32 (sample_at octets at).im
+    × (sample_octets (sample_at octets at) ++ drop (at + 8) octets ≡ drop at octets)
 unfolding sample_at
 sample_back octets at enough bytes =
     let re = wide_back octets at (omega (arith, enough)) bytes in
@@ -178,7 +194,8 @@ samples_more : (xs : List Sample) (s : Sample) → AreSamples xs → FitsSigned 
 samples_more [] s typed f g = (f, g, tt)
 samples_more (x ∷ xs) s typed f g = (typed.0, typed.1, samples_more xs s typed.2 f g)
 
-pub sample_step : (old new later : List Sample) (octets : List ℕ) (k : ℕ) (s : Sample) → (more : List Sample) → old ≡ later ++ more → new ≡ old ++ s ∷ [] → s ≡ sample_at octets (8 * k) → AreSamples more → flat_map sample_octets more ++ drop (8 * k) octets ≡ octets
+pub sample_step : (old new later : List Sample) (octets : List ℕ) (k : ℕ) (s : Sample) → (more : List Sample) → old ≡ later ++ more
+    → new ≡ old ++ s ∷ [] → s ≡ sample_at octets (8 * k) → AreSamples more → flat_map sample_octets more ++ drop (8 * k) octets ≡ octets
     → 8 * (k + 1) ≤ length octets → AreBytes octets
     → (next : List Sample) × (new ≡ later ++ next) × AreSamples next × (flat_map sample_octets next ++ drop (8 * (k + 1)) octets ≡ octets)
 sample_step old new later octets k s more was is read typed front enough bytes =
@@ -190,5 +207,7 @@ sample_step old new later octets k s more was is read typed front enough bytes =
       samples_more more s typed (subst (λ (z : Sample). FitsSigned w32 z.re) (sym read) back.0) (subst (λ (z : Sample). FitsSigned w32 z.im) (sym read) back.1),
       ap (λ (z : List ℕ). z ++ drop (8 * (k + 1)) octets) (flat_map-append sample_octets more (s ∷ []))
           ∙ (append_assoc (flat_map sample_octets more) (sample_octets s) (drop (8 * (k + 1)) octets)
-          ∙ (ap (λ (z : List ℕ). flat_map sample_octets more ++ z) (ap (λ (z : Sample). sample_octets z ++ drop (8 * (k + 1)) octets) read ∙ (ap (λ n. sample_octets (sample_at octets (8 * k)) ++ drop n octets) (sym e) ∙ back.2)) ∙ front)),
+          ∙ (ap (λ (z : List ℕ). flat_map sample_octets more ++ z)
+          (ap (λ (z : Sample). sample_octets z ++ drop (8 * (k + 1)) octets) read
+          ∙ (ap (λ n. sample_octets (sample_at octets (8 * k)) ++ drop n octets) (sym e) ∙ back.2)) ∙ front)),
     )

@@ -1,6 +1,7 @@
 -- The bits of a frame's head are the flags of its subcarriers.
 use Rattle.std.specs.Prelude.{◌↔◌}
-use Rattle.std.proofs.Common.{◌≡◌, ◌⊎◌, ℕ, zero, suc, ◌+◌, ◌-◌, ◌*◌, ◌^◌, ◌<◌, ◌≤◌, List, [], ◌∷◌, ◌++◌, length, take, drop, nat_eq, nat_lt, Bool, true, false, if◌then◌else◌, refl, sym, ap, subst, ◌∙◌, ◌≢◌, max, inl, inr, arith}
+use Rattle.std.proofs.Common.{◌≡◌, ◌⊎◌, ℕ, zero, suc, ◌+◌, ◌-◌, ◌*◌, ◌^◌, ◌<◌, ◌≤◌, List, [], ◌∷◌, ◌++◌, length, take, drop, nat_eq}
+use Rattle.std.proofs.Common.{nat_lt, Bool, true, false, if◌then◌else◌, refl, sym, ap, subst, ◌∙◌, ◌≢◌, max, inl, inr, arith}
 use Rattle.std.proofs.lemmas.Bool.Decides.{nat_tests}
 use Rattle.std.proofs.lemmas.List.{length-take-le, take-append-drop}
 use Rattle.std.proofs.Math.Nat.{max-zero}
@@ -20,7 +21,8 @@ use Rattle.ht_capture.specs.declared.places.Present.{Present}
 use Rattle.ht_capture.specs.declared.places.Turn.{Turn}
 use Rattle.ht_capture.specs.Frames.{erase}
 use Rattle.ht_capture.specs.Systems.{triangle_octets, triangle_of}
-use Rattle.ht_capture.specs.Fields.{State, Bandwidth, Mcs, Length, Flag, Triangle, captures, octet, carriers_due, head_given, new_head, judge_bandwidth, judge_mcs, judge_length, judge_flag, judge_triangle, bad_flag}
+use Rattle.ht_capture.specs.Fields.{State, Bandwidth, Mcs, Length, Flag, Triangle, captures, octet, carriers_due, head_given}
+use Rattle.ht_capture.specs.Fields.{new_head, judge_bandwidth, judge_mcs, judge_length, judge_flag, judge_triangle, bad_flag}
 use Rattle.ht_capture.specs.Erased.{flag_at}
 use Rattle.ht_fields.proofs.Steps.{early_end, good_field}
 use Rattle.ht_fields.proofs.Readers.{field_is}
@@ -45,7 +47,8 @@ no_item : (head : FrameHead) (more : List Item) → [] ≡ Frame head ∷ more �
 no_item head more e = cc
 
 -- behind the last subcarrier the head is given
-last : (head h : FrameHead) (c : ℕ) (more : List Item) (octets : List ℕ) (rest : Meaning Item) → c ≡ carriers_of head.rate → ((k : ℕ) → c ≤ k → bit_at head.erased k ≡ 0)
+last : (head h : FrameHead) (c : ℕ) (more : List Item) (octets : List ℕ) (rest : Meaning Item)
+    → c ≡ carriers_of head.rate → ((k : ℕ) → c ≤ k → bit_at head.erased k ≡ 0)
     → (before (head_given head c) rest).items ≡ Frame h ∷ more → Marks head h c octets
 last head h c more octets rest all none e =
     let given : head_given head c ≡ Frame head ∷ [] = one_given head c (omega (arith, all)) in
@@ -130,11 +133,13 @@ wide (suc m) le = let square : (suc m) * (suc m) ≡ m * m + 2 * m + 1 = omega a
 -- behind a triangle stands what has to hold behind its octets
 triangle_step : {R : Type 0} (turn : Turn) (head h : FrameHead) (c at : ℕ) (present : List Present) (octets : List ℕ) (more : List Item)
     → ((place : ℕ) (seen : List Present)
-    → (before (head_given head (c + 1)) (meaning captures (carriers_due turn head (c + 1) seen) place (drop (triangle_octets (streams_of head.rate)) octets))).items ≡ Frame h ∷ more → R)
+    → (before (head_given head (c + 1))
+    (meaning captures (carriers_due turn head (c + 1) seen) place (drop (triangle_octets (streams_of head.rate)) octets))).items ≡ Frame h ∷ more → R)
     → (meaning captures (Triangle turn head c present) at octets).items ≡ Frame h ∷ more → R
 triangle_step {R = R} turn head h c at present octets more goes e = by_length (bit_cases (nat_lt (length octets) (triangle_octets (streams_of head.rate))))
   where
-    by_length : (nat_lt (length octets) (triangle_octets (streams_of head.rate)) ≡ true) ⊎ (nat_lt (length octets) (triangle_octets (streams_of head.rate)) ≡ false) → R
+    by_length : (nat_lt (length octets) (triangle_octets (streams_of head.rate)) ≡ true)
+        ⊎ (nat_lt (length octets) (triangle_octets (streams_of head.rate)) ≡ false) → R
     by_length (inl t) =
         let w = triangle_octets (streams_of head.rate) in
         let some : 2 ≤ w = wide (streams_of head.rate) (streams_of-range head.rate).0 in
@@ -154,7 +159,8 @@ triangle_step {R = R} turn head h c at present octets more goes e = by_length (b
         let positive : 0 < w = omega (arith, some) in
         let is = good_field captures (Triangle turn head c present) (carriers_due turn head (c + 1) seen) at x (head_given head (c + 1)) rest
         (field_is w (judge_triangle turn head c present) x (Good (carriers_due turn head (c + 1) seen) (head_given head (c + 1))) positive len good) in
-        let all : meaning captures (Triangle turn head c present) at octets ≡ before (head_given head (c + 1)) (meaning captures (carriers_due turn head (c + 1) seen) (at + length x) rest) =
+        let all : meaning captures (Triangle turn head c present) at octets
+        ≡ before (head_given head (c + 1)) (meaning captures (carriers_due turn head (c + 1) seen) (at + length x) rest) =
         ap (λ (o : List ℕ). meaning captures (Triangle turn head c present) at o) (sym (take-append-drop w octets)) ∙ is in
         goes (at + length x) seen (sym (ap (λ (m : Meaning Item). m.items) all) ∙ e)
 
@@ -163,10 +169,12 @@ judged_flag : (turn : Turn) (head : FrameHead) (c at y : ℕ) (present : List Pr
 unfolding meaning meaning_of
 judged_flag turn head c at y present ys = refl
 
-judged_items : (v w : Verdict State Item) (at : ℕ) (ys : List ℕ) (items : List Item) (m : Meaning Item) → m ≡ judged v at (λ next. meaning captures next (at + 1) ys) → v ≡ w → m.items ≡ items
+judged_items : (v w : Verdict State Item) (at : ℕ) (ys : List ℕ) (items : List Item) (m : Meaning Item)
+    → m ≡ judged v at (λ next. meaning captures next (at + 1) ys) → v ≡ w → m.items ≡ items
     → (judged w at (λ next. meaning captures next (at + 1) ys)).items ≡ items
 judged_items v w at ys items m is same e =
-    sym (ap (λ (z : Verdict State Item). (judged z at (λ next. meaning captures next (at + 1) ys)).items) same) ∙ (sym (ap (λ (z : Meaning Item). z.items) is) ∙ e)
+    sym (ap (λ (z : Verdict State Item). (judged z at (λ next. meaning captures next (at + 1) ys)).items) same)
+    ∙ (sym (ap (λ (z : Meaning Item). z.items) is) ∙ e)
 
 nothing_read : (turn : Turn) (head : FrameHead) (c at : ℕ) (present : List Present) → (meaning captures (Flag turn head c present) at []).items ≡ []
 unfolding meaning meaning_of
@@ -179,25 +187,31 @@ marked : (turn : Turn) (head h : FrameHead) (c at : ℕ) (present : List Present
 marked turn head h c at present [] more lt none goes e = absurd (no_item h more (sym (nothing_read turn head c at present) ∙ e))
 marked turn head h c at present (y ∷ ys) more lt none goes e = by_flag (bit_cases (nat_eq y 0)) (bit_cases (bad_flag head c (length present) y))
   where
-    by_flag : (nat_eq y 0 ≡ true) ⊎ (nat_eq y 0 ≡ false) → (bad_flag head c (length present) y ≡ true) ⊎ (bad_flag head c (length present) y ≡ false) → Marks head h c (y ∷ ys)
+    by_flag : (nat_eq y 0 ≡ true) ⊎ (nat_eq y 0 ≡ false)
+        → (bad_flag head c (length present) y ≡ true) ⊎ (bad_flag head c (length present) y ≡ false) → Marks head h c (y ∷ ys)
     by_flag (inl z) b =
         let w = triangle_octets (streams_of head.rate) in
         let zero_is : y ≡ 0 = grind (arith, nat_tests) in
         let beyond : w + 1 ≡ suc w = omega arith in
-        let is = judged_items _ (Good (Triangle turn head c present) []) at ys (Frame h ∷ more) _ (judged_flag turn head c at y present ys) (zero_flag turn head c present y zero_is) e in
-        let m = triangle_step turn head h c (at + 1) present ys more (λ place seen later. goes head place seen (drop w ys) refl (λ k le. none k (omega (arith, le))) later) is in
-        let step : drop (if nat_eq y 0 then w + 1 else 1) (y ∷ ys) ≡ drop w ys = ap (λ (t : Bool). drop (if t then w + 1 else 1) (y ∷ ys)) z ∙ ap (λ (n : ℕ). drop n (y ∷ ys)) beyond in
+        let is = judged_items _ (Good (Triangle turn head c present) []) at ys (Frame h ∷ more) _
+        (judged_flag turn head c at y present ys) (zero_flag turn head c present y zero_is) e in
+        let m = triangle_step turn head h c (at + 1) present ys more
+        (λ place seen later. goes head place seen (drop w ys) refl (λ k le. none k (omega (arith, le))) later) is in
+        let step : drop (if nat_eq y 0 then w + 1 else 1) (y ∷ ys) ≡ drop w ys =
+        ap (λ (t : Bool). drop (if t then w + 1 else 1) (y ∷ ys)) z ∙ ap (λ (n : ℕ). drop n (y ∷ ys)) beyond in
         let bit : (bit_at head.erased c ≡ 1) ↔ (y ≡ 1) = ((λ p. absurd (omega (arith, none c (omega arith), p))), (λ p. absurd (omega (arith, p, zero_is)))) in
         join head head h c (y ∷ ys) (drop w ys) refl (λ k less. refl) bit step m
     by_flag (inr z) (inl b) =
         let some : 1 ≤ y = grind (arith, nat_tests) in
-        absurd (no_item h more (judged_items _ (Bad BadErased) at ys (Frame h ∷ more) _ (judged_flag turn head c at y present ys) (flag_bad turn head c present y some b) e))
+        absurd (no_item h more (judged_items _ (Bad BadErased) at ys (Frame h ∷ more) _
+        (judged_flag turn head c at y present ys) (flag_bad turn head c present y some b) e))
     by_flag (inr z) (inr b) =
         let w = triangle_octets (streams_of head.rate) in
         let some : 1 ≤ y = grind (arith, nat_tests) in
         let one : y ≡ 1 = at_most_one head c (length present) y some b in
         let mid = erase head c in
-        let is = judged_items _ (Good (carriers_due turn mid (c + 1) present) (head_given mid (c + 1))) at ys (Frame h ∷ more) _ (judged_flag turn head c at y present ys) (flag_good turn head c present y some b) e in
+        let is = judged_items _ (Good (carriers_due turn mid (c + 1) present) (head_given mid (c + 1))) at ys
+        (Frame h ∷ more) _ (judged_flag turn head c at y present ys) (flag_good turn head c present y some b) e in
         let others : (k : ℕ) → k ≢ c → bit_at mid.erased k ≡ bit_at head.erased k = erased_there head c in
         let m = goes mid (at + 1) present ys (erased_rate head c) (λ k le. others k (λ same. omega (arith, le, same)) ∙ none k (omega (arith, le))) is in
         let step : drop (if nat_eq y 0 then w + 1 else 1) (y ∷ ys) ≡ ys = ap (λ (t : Bool). drop (if t then w + 1 else 1) (y ∷ ys)) z in
@@ -237,12 +251,14 @@ plain (suc n) turn head h c at present octets more one all e =
     triangle_step turn head h c at present octets more
     (λ place seen later.
     plain n turn head h (c + 1) place seen (drop (triangle_octets (streams_of head.rate)) octets) more one (omega (arith, all))
-    (more_of head h (c + 1) more (meaning captures (carriers_due turn head (c + 1) seen) place (drop (triangle_octets (streams_of head.rate)) octets)) (omega (arith, all)) later))
+    (more_of head h (c + 1) more (meaning captures (carriers_due turn head (c + 1) seen) place (drop (triangle_octets (streams_of head.rate)) octets))
+    (omega (arith, all)) later))
     (ap (λ (s : State). (meaning captures s at octets).items) (sym (triangle_is turn head c present (omega (arith, all)) one)) ∙ e)
 
 -- a good field of a head goes on to the next
 chosen : (b : Bool) (bad : Kind) (next : State) (at place : ℕ) (rest : List ℕ) (h : FrameHead) (more : List Item)
-    → (judged (if b then Bad bad else Good next []) at (λ (s : State). meaning captures s place rest)).items ≡ Frame h ∷ more → (meaning captures next place rest).items ≡ Frame h ∷ more
+    → (judged (if b then Bad bad else Good next []) at (λ (s : State). meaning captures s place rest)).items ≡ Frame h ∷ more
+    → (meaning captures next place rest).items ≡ Frame h ∷ more
 chosen true bad next at place rest h more e = absurd (no_item h more e)
 chosen false bad next at place rest h more e = e
 
@@ -253,14 +269,17 @@ pub record Begun (turn : Turn) (octets : List ℕ) (h : FrameHead) (more : List 
   pub place : ℕ
   pub given : (meaning captures (carriers_due turn (new_head turn rate len) 0 []) place (drop 4 octets)).items ≡ Frame h ∷ more
 
-begun : (turn : Turn) (at : ℕ) (octets : List ℕ) (h : FrameHead) (more : List Item) → (meaning captures (Bandwidth turn) at octets).items ≡ Frame h ∷ more → Begun turn octets h more
+begun : (turn : Turn) (at : ℕ) (octets : List ℕ) (h : FrameHead) (more : List Item)
+    → (meaning captures (Bandwidth turn) at octets).items ≡ Frame h ∷ more → Begun turn octets h more
 unfolding meaning meaning_of judge_bandwidth judge_mcs judge_length
 begun turn at [] h more e = absurd (no_item h more e)
 begun turn at (a ∷ []) h more e = absurd (no_item h more (chosen (nat_lt 1 a) BadBandwidth (Mcs turn a) at (at + 1) [] h more e))
 begun turn at (a ∷ b ∷ []) h more e =
-    absurd (no_item h more (chosen (nat_lt 31 b) BadMcs (Length turn (rate_at a b)) (at + 1) (at + 1 + 1) [] h more (chosen (nat_lt 1 a) BadBandwidth (Mcs turn a) at (at + 1) (b ∷ []) h more e)))
+    absurd (no_item h more (chosen (nat_lt 31 b) BadMcs (Length turn (rate_at a b)) (at + 1) (at + 1 + 1)
+    [] h more (chosen (nat_lt 1 a) BadBandwidth (Mcs turn a) at (at + 1) (b ∷ []) h more e)))
 begun turn at (a ∷ b ∷ l ∷ []) h more e =
-    absurd (no_item h more (chosen (nat_lt 31 b) BadMcs (Length turn (rate_at a b)) (at + 1) (at + 1 + 1) (l ∷ []) h more (chosen (nat_lt 1 a) BadBandwidth (Mcs turn a) at (at + 1) (b ∷ l ∷ []) h more e)))
+    absurd (no_item h more (chosen (nat_lt 31 b) BadMcs (Length turn (rate_at a b)) (at + 1) (at + 1 + 1)
+    (l ∷ []) h more (chosen (nat_lt 1 a) BadBandwidth (Mcs turn a) at (at + 1) (b ∷ l ∷ []) h more e)))
 begun turn at (a ∷ b ∷ l ∷ m ∷ rest) h more e =
     let rate = rate_at a b in
     let len = big_number 2 (l ∷ m ∷ []) in

@@ -1,5 +1,7 @@
 -- Subcarriers that are read one after another.
-use Rattle.std.proofs.Common.{◌≡◌, inl, inr, ℕ, zero, suc, ◌+◌, ◌*◌, ◌<◌, ◌^◌, List, [], ◌∷◌, ◌++◌, length, max, flat_map, nat_eq, Bool, true, false, if◌then◌else◌, Option, refl, sym, ap, subst, ◌∙◌, append_assoc, length-append, arith}
+use Rattle.std.proofs.Common.{◌≡◌, inl, inr, ℕ, zero, suc, ◌+◌, ◌*◌, ◌<◌, ◌^◌, List, [], ◌∷◌, ◌++◌, length, max, flat_map, nat_eq}
+use Rattle.std.proofs.Common.{Bool, true, false, if◌then◌else◌, refl, sym, ap, subst, ◌∙◌, append_assoc, length-append, arith}
+use Rattle.ht_io.specs.Devices.{Device}
 use Rattle.std.proofs.lemmas.Bool.Decides.{nat_tests}
 use Rattle.std.proofs.lemmas.List.{append-nil, map-append}
 use Rattle.std.proofs.lemmas.Grind.{flat_map-append}
@@ -8,8 +10,7 @@ use Rattle.std.proofs.lemmas.Nat.Bits.{and_pow, bit_at_above, bit_at_or, bit_at-
 use Rattle.std.proofs.Math.Nat.{two-pow-succ}
 use Rattle.std.specs.Int.{bit_at}
 use Rattle.std.specs.Int.Bits.{bit_or}
-use Rattle.ht_io.proofs.Pieces.{takes-none}
-use Rattle.ht_fields.proofs.Pieces.{takes-append}
+use Rattle.ht_io.proofs.Calls.{takes-none, takes-append}
 use Rattle.ht_rate.specs.declared.rates.Rate.{Rate}
 use Rattle.ht_rate.specs.Rates.{streams_of}
 use Rattle.ht_metric.specs.Rows.{Leg}
@@ -29,14 +30,16 @@ agree_first : (n k e other : ℕ) → Agree (suc n) k e other → is_erased othe
 agree_first n k e other same = let z : k + 0 ≡ k = omega arith in ap (is_erased other) (sym z) ∙ (same 0 (omega arith) ∙ ap (is_erased e) z)
 
 agree_next : (n k e other : ℕ) → Agree (suc n) k e other → Agree n (k + 1) e other
-agree_next n k e other same = λ i lt. let z : k + suc i ≡ k + 1 + i = omega arith in ap (is_erased other) (sym z) ∙ (same (suc i) (omega (arith, lt)) ∙ ap (is_erased e) z)
+agree_next n k e other same = λ i lt. let z : k + suc i ≡ k + 1 + i = omega arith in
+    ap (is_erased other) (sym z) ∙ (same (suc i) (omega (arith, lt)) ∙ ap (is_erased e) z)
 
 flagged_front : (b : Bool) (later : ℕ) (ts extra : List (List Leg)) → length ts ≡ (if b then later else 1 + later) → flagged b (ts ++ extra) ≡ flagged b ts
 flagged_front true later ts extra len = refl
 flagged_front false later [] extra len = absurd (omega (arith, len))
 flagged_front false later (t ∷ ts) extra len = refl
 
-behind_front : (b : Bool) (later : ℕ) (ts extra : List (List Leg)) → length ts ≡ (if b then later else 1 + later) → behind b (ts ++ extra) ≡ behind b ts ++ extra
+behind_front : (b : Bool) (later : ℕ) (ts extra : List (List Leg))
+    → length ts ≡ (if b then later else 1 + later) → behind b (ts ++ extra) ≡ behind b ts ++ extra
 behind_front true later ts extra len = refl
 behind_front false later [] extra len = absurd (omega (arith, len))
 behind_front false later (t ∷ ts) extra len = refl
@@ -44,7 +47,8 @@ behind_front false later (t ∷ ts) extra len = refl
 -- one subcarrier more, at the end
 flagged_more : (n k e other : ℕ) (ts extra : List (List Leg)) → Agree n k e other → length ts ≡ present_among n k e
     → flagged_octets (suc n) k other (ts ++ extra) ≡ flagged_octets n k e ts ++ flagged (is_erased other (k + n)) extra
-flagged_more zero k e other [] extra same len = let z : k ≡ k + 0 = omega arith in append-nil (flagged (is_erased other k) extra) ∙ ap (λ j. flagged (is_erased other j) extra) z
+flagged_more zero k e other [] extra same len = let z : k ≡ k + 0 = omega arith in
+    append-nil (flagged (is_erased other k) extra) ∙ ap (λ j. flagged (is_erased other j) extra) z
 flagged_more zero k e other (t ∷ ts) extra same len = absurd (omega (arith, len))
 flagged_more (suc n) k e other ts extra same len =
     let b = is_erased e k in
@@ -96,7 +100,8 @@ now_set : (e k : ℕ) → e < 2 ^ k → is_erased (bit_or e (2 ^ k)) (0 + k) ≡
 now_set e k low =
     let z : 0 + k ≡ k = omega arith in
     ap (λ (j : ℕ). nat_eq (bit_at (bit_or e (2 ^ k)) j) 1) z
-    ∙ (ap (λ (n : ℕ). nat_eq n 1) (bit_at_or e (2 ^ k) k) ∙ (ap (λ (n : ℕ). nat_eq (max n (bit_at (2 ^ k) k)) 1) (bit_at_above e k k low (omega arith)) ∙ ap (λ (n : ℕ). nat_eq (max 0 n) 1) (bit_at-pow_same k)))
+    ∙ (ap (λ (n : ℕ). nat_eq n 1) (bit_at_or e (2 ^ k) k)
+    ∙ (ap (λ (n : ℕ). nat_eq (max n (bit_at (2 ^ k) k)) 1) (bit_at_above e k k low (omega arith)) ∙ ap (λ (n : ℕ). nat_eq (max 0 n) 1) (bit_at-pow_same k)))
 
 max_none : (n : ℕ) → max n 0 ≡ n
 max_none n = omega arith
@@ -104,30 +109,26 @@ max_none n = omega arith
 others_stay : (e k : ℕ) → Agree k 0 e (bit_or e (2 ^ k))
 others_stay e k = λ i lt.
     let not : 0 + i ≡ k → ⊥ = λ is. absurd (omega (arith, is, lt)) in
-    ap (λ (n : ℕ). nat_eq n 1) (bit_at_or e (2 ^ k) (0 + i) ∙ (ap (λ n. max (bit_at e (0 + i)) n) (bit_at-pow_other k (0 + i) not) ∙ max_none (bit_at e (0 + i))))
-
-when_true : {A : Type 0} (b : Bool) (x y : A) → b ≡ true → (if b then x else y) ≡ x
-when_true b x y e = ap (λ c. if c then x else y) e
-
-when_false : {A : Type 0} (b : Bool) (x y : A) → b ≡ false → (if b then x else y) ≡ y
-when_false b x y e = ap (λ c. if c then x else y) e
+    ap (λ (n : ℕ). nat_eq n 1) (bit_at_or e (2 ^ k) (0 + i)
+    ∙ (ap (λ n. max (bit_at e (0 + i)) n) (bit_at-pow_other k (0 + i) not) ∙ max_none (bit_at e (0 + i))))
 
 no_carriers : (b : Bool) → (let none : List ℕ = [] in none) ≡ (if b then [] else [])
 no_carriers true = refl
 no_carriers false = refl
 
 -- no subcarrier yet
-pub read_none : (version : ℕ) (rate : Rate) (erased : ℕ) (left : Option (List ℕ)) → erased ≡ 0 → AreRead version 0 rate erased [] left left
+pub read_none : (version : ℕ) (rate : Rate) (erased : ℕ) (left : Device ℕ) → erased ≡ 0 → AreRead version 0 rate erased [] left left
 unfolding carriers_octets
 read_none version rate erased left none = record {
-  octets = takes_as left left [] _ (no_carriers (nat_eq version 2)) (takes-none left);
+  octets = takes_as left.known left.known [] _ (no_carriers (nat_eq version 2)) (takes-none left);
   marks = omega (arith, none);
   whole = λ not. none;
   present = refl;
   typed = tt;
 }
 
-typed_more : (streams : ℕ) (ts : List (List Leg)) (legs : List Leg) → AreTriangles streams ts → length legs ≡ streams → AreLegs legs → AreTriangles streams (ts ++ legs ∷ [])
+typed_more : (streams : ℕ) (ts : List (List Leg)) (legs : List Leg) → AreTriangles streams ts
+    → length legs ≡ streams → AreLegs legs → AreTriangles streams (ts ++ legs ∷ [])
 typed_more streams [] legs all len typed = (len, typed, tt)
 typed_more streams (t ∷ ts) legs all len typed = (all.0, all.1, typed_more streams ts legs all.2 len typed)
 
@@ -163,7 +164,8 @@ erased_octets version k e ts two low len =
     ∙ ap (λ (c : Bool). if c then flagged_octets (k + 1) 0 (bit_or e (2 ^ k)) ts else flat_map legs_octets ts) (sym is))))
 
 -- one subcarrier more
-pub read_more : (version k : ℕ) (old new : FrameHead) (present after : List Present) (left mid later : Option (List ℕ)) → AreRead version k old.rate old.erased (triangles_of present) left mid
+pub read_more : (version k : ℕ) (old new : FrameHead) (present after : List Present) (left mid later : Device ℕ)
+    → AreRead version k old.rate old.erased (triangles_of present) left mid
     → new.rate ≡ old.rate → Adds version k old new present after mid later → AreRead version (k + 1) new.rate new.erased (triangles_of after) left later
 unfolding erase
 read_more version k old new present after left mid later r same (inl (two, is, kept, taken)) =
@@ -173,9 +175,10 @@ read_more version k old new present after left mid later r same (inl (two, is, k
     let ts_is : triangles_of after ≡ ts = ap triangles_of kept in
     let z : k + 1 ≡ suc k = omega arith in
     let count : present_among (k + 1) 0 (bit_or e (2 ^ k)) ≡ present_among k 0 e =
-    ap (λ n. present_among n 0 (bit_or e (2 ^ k))) z ∙ (present_more k 0 e (bit_or e (2 ^ k)) (others_stay e k) ∙ (ap (λ (c : Bool). present_among k 0 e + one_if c) (now_set e k r.marks) ∙ omega arith)) in
+    ap (λ n. present_among n 0 (bit_or e (2 ^ k))) z
+    ∙ (present_more k 0 e (bit_or e (2 ^ k)) (others_stay e k) ∙ (ap (λ (c : Bool). present_among k 0 e + one_if c) (now_set e k r.marks) ∙ omega arith)) in
     let made : AreRead version (k + 1) old.rate (bit_or e (2 ^ k)) ts left later = record {
-      octets = takes_as left later _ _ (erased_octets version k e ts two r.marks r.present) (takes-append left mid later _ (1 ∷ []) r.octets taken);
+      octets = takes_as left.known later.known _ _ (erased_octets version k e ts two r.marks r.present) (takes-append left mid later _ (1 ∷ []) r.octets taken);
       marks = let sum = or_more e k r.marks in let more = twice k in let low = r.marks in omega arith;
       whole = λ not. absurd (not two);
       present = r.present ∙ sym count;
@@ -187,12 +190,14 @@ read_more version k old new present after left mid later r same (inl (two, is, k
 read_more version k old new present after left mid later r same (inr (is, (legs, len, kept, typed, taken))) =
     let e = old.erased in
     let ts = triangles_of present in
-    let ts_is : triangles_of after ≡ ts ++ legs ∷ [] = ap triangles_of kept ∙ map-append (λ (p : Present). p.triangle) present (record { carrier = k; triangle = legs } ∷ []) in
+    let ts_is : triangles_of after ≡ ts ++ legs ∷ [] =
+    ap triangles_of kept ∙ map-append (λ (p : Present). p.triangle) present (record { carrier = k; triangle = legs } ∷ []) in
     let z : k + 1 ≡ suc k = omega arith in
     let count : present_among (k + 1) 0 e ≡ present_among k 0 e + 1 =
     ap (λ n. present_among n 0 e) z ∙ (present_more k 0 e e (λ i lt. refl) ∙ ap (λ (c : Bool). present_among k 0 e + one_if c) (not_set e k r.marks)) in
     let made : AreRead version (k + 1) old.rate e (ts ++ legs ∷ []) left later = record {
-      octets = takes_as left later _ _ (kept_octets (nat_eq version 2) version k e ts legs refl r.marks r.present) (takes-append left mid later _ (kept_flag version ++ legs_octets legs) r.octets taken);
+      octets = takes_as left.known later.known _ _ (kept_octets (nat_eq version 2) version k e ts legs refl r.marks r.present)
+          (takes-append left mid later _ (kept_flag version ++ legs_octets legs) r.octets taken);
       marks = let more = twice k in let low = r.marks in omega arith;
       whole = r.whole;
       present = length-append ts (legs ∷ []) ∙ (ap (λ n. n + 1) r.present ∙ sym count);
@@ -202,5 +207,6 @@ read_more version k old new present after left mid later r same (inr (is, (legs,
     (subst (λ (m : ℕ). AreRead version (k + 1) old.rate m (triangles_of after) left later) (sym (ap (λ (h : FrameHead). h.erased) is))
     (subst (λ (x : List (List Leg)). AreRead version (k + 1) old.rate e x left later) (sym ts_is) made))
 
-pub read_end : (version k count : ℕ) (rate : Rate) (e : ℕ) (ts : List (List Leg)) (left later : Option (List ℕ)) → k ≡ count → AreRead version k rate e ts left later → AreRead version count rate e ts left later
+pub read_end : (version k count : ℕ) (rate : Rate) (e : ℕ) (ts : List (List Leg)) (left later : Device ℕ)
+    → k ≡ count → AreRead version k rate e ts left later → AreRead version count rate e ts left later
 read_end version k count rate e ts left later is r = subst (λ (n : ℕ). AreRead version n rate e ts left later) is r

@@ -1,12 +1,13 @@
 -- What is said of each field, over plain values.
-use Rattle.std.proofs.Common.{◌≡◌, ℕ, zero, suc, ◌+◌, ◌-◌, ◌<◌, ◌≤◌, List, [], ◌∷◌, ◌++◌, length, nat_eq, nat_lt, Bool, true, false, ◌&&◌, ◌||◌, if◌then◌else◌, Result, Ok, Err, refl, sym, ap, subst, ◌∙◌, arith}
+use Rattle.std.proofs.Common.{◌≡◌, ℕ, zero, suc, ◌+◌, ◌-◌, ◌<◌, ◌≤◌, List, [], ◌∷◌, ◌++◌, length, nat_eq, nat_lt, Bool}
+use Rattle.std.proofs.Common.{true, false, ◌&&◌, ◌||◌, if◌then◌else◌, Result, Ok, Err, refl, sym, ap, subst, ◌∙◌, arith}
 use Rattle.std.proofs.lemmas.Bool.Decides.{nat_tests}
 use Rattle.byteorder.specs.Endian.{big_number}
 use Rattle.ht_io.specs.declared.faults.Kind.TheVariants.{BadMagic, BadVersion, BadBandwidth, BadMcs, BadLength, BadErased}
 use Rattle.ht_fields.specs.Grammar.{Verdict, Good, Bad}
 use Rattle.ht_rate.specs.declared.rates.Rate.{Rate}
 use Rattle.ht_rate.specs.declared.rates.RateFault.{RateFault}
-use Rattle.ht_rate.specs.declared.rates.RateFault.TheVariants.{BadBandwidth as NoBandwidth, BadMcs as NoMcs}
+use Rattle.ht_rate.specs.declared.rates.RateFault.TheVariants.{BadBandwidth as BadBandwidthOfRate, BadMcs as BadMcsOfRate}
 use Rattle.ht_rate.specs.Rates.{rate_at, rate_of, streams_of, carriers_of}
 use Rattle.ht_metric.specs.Rows.{Leg}
 use Rattle.ht_capture.specs.Systems.{triangle_of}
@@ -15,13 +16,10 @@ use Rattle.ht_capture.specs.declared.items.Item.{Item}
 use Rattle.ht_capture.specs.declared.places.Present.{Present}
 use Rattle.ht_capture.specs.declared.places.Turn.{Turn}
 use Rattle.ht_capture.specs.Frames.{erase}
-use Rattle.ht_capture.specs.Fields.{State, Count, Mcs, Length, Triangle, magic_due, bad_flag, known_version, frame_due, carriers_due, head_given, new_head, judge_magic, judge_version, judge_bandwidth, judge_mcs, judge_length, judge_flag, judge_count, judge_triangle}
-
-when_true : (b : Bool) (x y : Verdict State Item) → b ≡ true → (if b then x else y) ≡ x
-when_true b x y e = ap (λ c. if c then x else y) e
-
-when_false : (b : Bool) (x y : Verdict State Item) → b ≡ false → (if b then x else y) ≡ y
-when_false b x y e = ap (λ c. if c then x else y) e
+use Rattle.ht_capture.specs.Fields.{State, Count, Mcs, Length, Triangle, magic_due, bad_flag, known_version}
+use Rattle.ht_capture.specs.Fields.{frame_due, carriers_due, head_given, new_head, judge_magic, judge_version}
+use Rattle.ht_capture.specs.Fields.{judge_bandwidth, judge_mcs, judge_length, judge_flag, judge_count, judge_triangle}
+use Rattle.ht_capture.proofs.Choices.{when_true, when_false}
 
 pub good_magic : (w : ℕ) (more : List ℕ) (y : ℕ) → y ≡ w → judge_magic w more (y ∷ []) ≡ Good (magic_due more) []
 unfolding judge_magic
@@ -61,21 +59,23 @@ abbrev IsBad : Result Rate RateFault → Type 0
 IsBad (Ok r) = ⊥
 IsBad (Err e) = Unit {0}
 
-if_ok : (turn : Turn) (a b : Bool) (r rate : Rate) → a ≡ false → (if a then Err NoBandwidth else (if b then Err NoMcs else Ok r)) ≡ Ok rate
+if_ok : (turn : Turn) (a b : Bool) (r rate : Rate) → a ≡ false → (if a then Err BadBandwidthOfRate else (if b then Err BadMcsOfRate else Ok r)) ≡ Ok rate
     → (if b then Bad BadMcs else Good (Length turn r) []) ≡ (let v : Verdict State Item = Good (Length turn rate) [] in v)
 if_ok turn a true r rate low is =
-    absurd (subst IsBad (ap (λ (c : Bool). let z : Result Rate RateFault = if c then Err NoBandwidth else Err NoMcs in z) (sym low) ∙ is) tt)
+    absurd (subst IsBad (ap (λ (c : Bool). let z : Result Rate RateFault = if c then Err BadBandwidthOfRate else Err BadMcsOfRate in z) (sym low) ∙ is) tt)
 if_ok turn a false r rate low is =
-    let same : r ≡ rate = ap (found rate) (ap (λ (c : Bool). let z : Result Rate RateFault = if c then Err NoBandwidth else Ok r in z) (sym low) ∙ is) in
+    let same : r ≡ rate = ap (found rate) (ap (λ (c : Bool). let z : Result Rate RateFault = if c then Err BadBandwidthOfRate else Ok r in z) (sym low) ∙ is) in
     ap (λ (x : Rate). let v : Verdict State Item = Good (Length turn x) [] in v) same
 
-if_err : (turn : Turn) (a b : Bool) (r : Rate) (e : RateFault) → a ≡ false → (if a then Err NoBandwidth else (if b then Err NoMcs else Ok r)) ≡ Err e
+if_err : (turn : Turn) (a b : Bool) (r : Rate) (e : RateFault) → a ≡ false
+    → (if a then Err BadBandwidthOfRate else (if b then Err BadMcsOfRate else Ok r)) ≡ Err e
     → (let v : Verdict State Item = if b then Bad BadMcs else Good (Length turn r) [] in v) ≡ Bad BadMcs
 if_err turn a true r e low is = refl
 if_err turn a false r e low is =
-    absurd (subst IsBad (sym (ap (λ (c : Bool). let z : Result Rate RateFault = if c then Err NoBandwidth else Ok r in z) (sym low) ∙ is)) tt)
+    absurd (subst IsBad (sym (ap (λ (c : Bool). let z : Result Rate RateFault = if c then Err BadBandwidthOfRate else Ok r in z) (sym low) ∙ is)) tt)
 
-pub good_mcs : (turn : Turn) (code index : ℕ) (rate : Rate) → code ≤ 1 → rate_of code index ≡ Ok rate → judge_mcs turn code (index ∷ []) ≡ Good (Length turn rate) []
+pub good_mcs : (turn : Turn) (code index : ℕ) (rate : Rate) → code ≤ 1
+    → rate_of code index ≡ Ok rate → judge_mcs turn code (index ∷ []) ≡ Good (Length turn rate) []
 unfolding judge_mcs rate_of
 good_mcs turn code index rate le is =
     let t : nat_lt 1 code ≡ false = grind (arith, nat_tests) in if_ok turn (nat_lt 1 code) (nat_lt 31 index) (rate_at code index) rate t is
@@ -87,10 +87,12 @@ bad_mcs turn code index e le is =
 
 pub good_triangle : (turn : Turn) (head : FrameHead) (carrier : ℕ) (present : List Present) (octets : List ℕ) (legs : List Leg) (rate : Rate)
     → head.rate ≡ rate → legs ≡ triangle_of (streams_of rate) octets
-    → judge_triangle turn head carrier present octets ≡ Good (carriers_due turn head (carrier + 1) (present ++ record { carrier = carrier; triangle = legs } ∷ [])) (head_given head (carrier + 1))
+    → judge_triangle turn head carrier present octets
+    ≡ Good (carriers_due turn head (carrier + 1) (present ++ record { carrier = carrier; triangle = legs } ∷ [])) (head_given head (carrier + 1))
 unfolding judge_triangle
 good_triangle turn head carrier present octets legs rate same is =
-    ap (λ (t : List Leg). let v : Verdict State Item = Good (carriers_due turn head (carrier + 1) (present ++ record { carrier = carrier; triangle = t } ∷ [])) (head_given head (carrier + 1)) in v)
+    ap (λ (t : List Leg). let v : Verdict State Item =
+    Good (carriers_due turn head (carrier + 1) (present ++ record { carrier = carrier; triangle = t } ∷ [])) (head_given head (carrier + 1)) in v)
     (ap (λ (r : Rate). triangle_of (streams_of r) octets) same ∙ sym is)
 
 pub good_length : (turn : Turn) (rate : Rate) (octets : List ℕ) (len : ℕ) → len ≡ big_number 2 octets → 1 ≤ len
@@ -123,7 +125,8 @@ some_left head carrier (suc count) flag e last = omega arith
 
 pub flag_good : (turn : Turn) (head : FrameHead) (carrier : ℕ) (present : List Present) (flag : ℕ)
     → 1 ≤ flag → bad_flag head carrier (length present) flag ≡ false
-    → judge_flag turn head carrier present (flag ∷ []) ≡ Good (carriers_due turn (erase head carrier) (carrier + 1) present) (head_given (erase head carrier) (carrier + 1))
+    → judge_flag turn head carrier present (flag ∷ [])
+    ≡ Good (carriers_due turn (erase head carrier) (carrier + 1) present) (head_given (erase head carrier) (carrier + 1))
 unfolding judge_flag
 flag_good turn head carrier present flag some t = let z : nat_eq flag 0 ≡ false = grind (arith, nat_tests) in when_false _ _ _ z ∙ when_false _ _ _ t
 

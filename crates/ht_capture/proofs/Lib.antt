@@ -16,5 +16,6 @@ pub mod Equal
 mod Worked
 mod Values
 pub mod Bounds
+mod Choices
 mod Erased
 pub mod Written

@@ -18,6 +18,8 @@ pub sample_made : (octets : List ℕ) (at n m : ℕ) (re im : ℤ) → FitsSigne
 unfolding sample_at
 sample_made octets at n m re im f g e h p q =
     let made : ℤ → ℤ → Sample = λ a b. record { re = a; im = b } in
-    let re_is : to_z w32 (of_z w32 re) ≡ cast_signed w32 (big_number 4 (drop at octets)) = to_z-of_z w32 re f ∙ (p ∙ to_the_end (λ z. cast_signed w32 (big_number 4 z)) octets at n e) in
-    let im_is : to_z w32 (of_z w32 im) ≡ cast_signed w32 (big_number 4 (drop (at + 4) octets)) = to_z-of_z w32 im g ∙ (q ∙ to_the_end (λ z. cast_signed w32 (big_number 4 z)) octets (at + 4) m h) in
+    let re_is : to_z w32 (of_z w32 re) ≡ cast_signed w32 (big_number 4 (drop at octets)) =
+    to_z-of_z w32 re f ∙ (p ∙ to_the_end (λ z. cast_signed w32 (big_number 4 z)) octets at n e) in
+    let im_is : to_z w32 (of_z w32 im) ≡ cast_signed w32 (big_number 4 (drop (at + 4) octets)) =
+    to_z-of_z w32 im g ∙ (q ∙ to_the_end (λ z. cast_signed w32 (big_number 4 z)) octets (at + 4) m h) in
     ap (λ a. made a (to_z w32 (of_z w32 im))) re_is ∙ ap (λ b. made (cast_signed w32 (big_number 4 (drop at octets))) b) im_is

@@ -1,13 +1,15 @@
 -- What is due at the joints of a capture.
 use Rattle.std.specs.Prelude.{Result, Ok, Err, MatchResult}
-use Rattle.std.proofs.Common.{◌≡◌, ℕ, zero, suc, ◌+◌, ◌<◌, ◌≤◌, List, [], ◌∷◌, ◌++◌, length, take, drop, slice_index, nat_eq, nat_lt, Bool, true, false, if◌then◌else◌, Option, Some, None, refl, sym, ap, subst, ◌∙◌, arith}
+use Rattle.std.proofs.Common.{◌≡◌, ℕ, zero, suc, ◌+◌, ◌<◌, ◌≤◌, List, [], ◌∷◌, ◌++◌, length, take, drop}
+use Rattle.std.proofs.Common.{slice_index, nat_eq, nat_lt, Bool, true, false, refl, sym, ap, subst, ◌∙◌, arith}
 use Rattle.std.proofs.lemmas.Bool.Decides.{nat_tests}
 use Rattle.ht_io.specs.declared.faults.InFault.{InFault}
 use Rattle.ht_fields.specs.Grammar.{Good}
 use Rattle.ht_io.specs.declared.faults.InFault.TheVariants.{NoMemory}
-use Rattle.ht_fields.specs.Readers.{Shown, Gives, Finishes}
+use Rattle.ht_fields.specs.Readers.{ReaderView, Gives, Finishes}
 use Rattle.ht_fields.proofs.Joins.{gives_none, gives_more}
-use Rattle.ht_fields.specs.Reading.{TakesAll}
+use Rattle.ht_io.proofs.Calls.{takes-all}
+use Rattle.ht_io.specs.Devices.{Device, Takes, IsLater}
 use Rattle.ht_fields.specs.Meanings.{before}
 use Rattle.ht_rate.specs.Rates.{carriers_of, symbols_of}
 use Rattle.ht_capture.specs.declared.items.FrameHead.{FrameHead}
@@ -15,14 +17,15 @@ use Rattle.ht_capture.specs.declared.items.Item.{Item}
 use Rattle.ht_capture.specs.declared.items.Item.TheVariants.{Frame, Job, Done}
 use Rattle.ht_capture.specs.declared.places.Present.{Present}
 use Rattle.ht_capture.specs.declared.places.Turn.{Turn}
-use Rattle.ht_capture.specs.declared.places.Spot.{Spot}
+use Rattle.ht_capture.specs.declared.places.SymbolTurn.{SymbolTurn}
 use Rattle.ht_capture.specs.Frames.{erase, jobs_at}
-use Rattle.ht_capture.specs.Fields.{State, Magic, Bandwidth, Flag, Triangle, Symbol, Over, magic, magic_due, frame_due, carrier_due, carriers_due, first_spot, head_given, judge_symbol, next_spot, symbol_due}
+use Rattle.ht_capture.specs.Fields.{State, Magic, Bandwidth, Flag, Triangle, Symbol, Over, magic, magic_due, frame_due}
+use Rattle.ht_capture.specs.Fields.{carrier_due, carriers_due, first_symbol, head_given, judge_symbol, next_symbol, symbol_due}
 use Rattle.ht_capture.specs.Readers.{Completes, GivesItem, symbol_octets}
 use Rattle.ht_capture.proofs.Halting.{gives_halts, good_gives}
 use Rattle.ht_capture.proofs.Grids.{ones}
-use Rattle.ht_io.specs.Octets.{Takes}
 use Rattle.ht_capture.specs.Reading.{Caused, Flagged, Halts, SameFrame, here}
+use Rattle.ht_capture.proofs.Choices.{when_true, when_false}
 
 pub next_magic : (k : ℕ) → k < 4 → magic_due (drop k magic) ≡ Magic (slice_index magic k) (drop (k + 1) magic)
 next_magic zero lt = refl
@@ -30,12 +33,6 @@ next_magic (suc zero) lt = refl
 next_magic (suc (suc zero)) lt = refl
 next_magic (suc (suc (suc zero))) lt = refl
 next_magic (suc (suc (suc (suc k)))) lt = absurd (omega arith)
-
-when_true : {A : Type 0} (b : Bool) (x y : A) → b ≡ true → (if b then x else y) ≡ x
-when_true b x y e = ap (λ c. if c then x else y) e
-
-when_false : {A : Type 0} (b : Bool) (x y : A) → b ≡ false → (if b then x else y) ≡ y
-when_false b x y e = ap (λ c. if c then x else y) e
 
 pub frame_is : (turn : Turn) → 0 < turn.left → frame_due turn ≡ Bandwidth turn
 unfolding frame_due
@@ -52,14 +49,16 @@ carrier_is turn head carrier present lt = let t : nat_lt carrier (carriers_of he
 
 pub flag_is : (turn : Turn) (head : FrameHead) (carrier : ℕ) (present : List Present) → carrier < carriers_of head.rate → turn.version ≡ 2
     → carriers_due turn head carrier present ≡ Flag turn head carrier present
-flag_is turn head carrier present lt two = let t : nat_eq turn.version 2 ≡ true = grind (arith, nat_tests) in carrier_is turn head carrier present lt ∙ when_true _ _ _ t
+flag_is turn head carrier present lt two = let t : nat_eq turn.version 2 ≡ true = grind (arith, nat_tests) in
+    carrier_is turn head carrier present lt ∙ when_true _ _ _ t
 
 pub triangle_is : (turn : Turn) (head : FrameHead) (carrier : ℕ) (present : List Present) → carrier < carriers_of head.rate → (turn.version ≡ 2 → ⊥)
     → carriers_due turn head carrier present ≡ Triangle turn head carrier present
-triangle_is turn head carrier present lt not = let t : nat_eq turn.version 2 ≡ false = grind (arith, nat_tests) in carrier_is turn head carrier present lt ∙ when_false _ _ _ t
+triangle_is turn head carrier present lt not = let t : nat_eq turn.version 2 ≡ false = grind (arith, nat_tests) in
+    carrier_is turn head carrier present lt ∙ when_false _ _ _ t
 
 pub symbol_is : (turn : Turn) (head : FrameHead) (carrier : ℕ) (present : List Present) → carriers_of head.rate ≤ carrier
-    → carriers_due turn head carrier present ≡ Symbol (first_spot turn head (length present)) present
+    → carriers_due turn head carrier present ≡ Symbol (first_symbol turn head (length present)) present
 unfolding carriers_due
 symbol_is turn head carrier present le = let t : nat_lt carrier (carriers_of head.rate) ≡ false = grind (arith, nat_tests) in when_false _ _ _ t
 
@@ -76,104 +75,112 @@ unfolding erase
 same_erased head other carrier e = (ap (λ (h : FrameHead). h.frame) e, ap (λ (h : FrameHead). h.rate) e, ap (λ (h : FrameHead). h.length) e)
 
 -- the same state by another name
-pub gives_from : (s t : State) (at : ℕ) (left : Option (List ℕ)) (new : Shown Item) (items : List Item) → s ≡ t → Gives (here t at left) new items → Gives (here s at left) new items
+pub gives_from : (s t : State) (at : ℕ) (left : Device ℕ) (new : ReaderView Item) (items : List Item)
+    → s ≡ t → Gives (here t at left) new items → Gives (here s at left) new items
 gives_from s t at left new items e g = subst (λ (x : State). Gives (here x at left) new items) (sym e) g
 
-pub gives_to : (old : Shown Item) (s t : State) (at place : ℕ) (left : Option (List ℕ)) (items : List Item) → s ≡ t → at ≡ place → Gives old (here s at left) items → Gives old (here t place left) items
-gives_to old s t at place left items e p g = subst (λ (x : State). Gives old (here x place left) items) e (subst (λ (n : ℕ). Gives old (here s n left) items) p g)
+pub gives_to : (old : ReaderView Item) (s t : State) (at place : ℕ) (left : Device ℕ) (items : List Item)
+    → s ≡ t → at ≡ place → Gives old (here s at left) items → Gives old (here t place left) items
+gives_to old s t at place left items e p g =
+    subst (λ (x : State). Gives old (here x place left) items) e (subst (λ (n : ℕ). Gives old (here s n left) items) p g)
 
-pub halts_from : (s t : State) (at : ℕ) (left after : Option (List ℕ)) (before now : ℕ) (fault : InFault) → s ≡ t → Halts (here t at left) after before now fault → Halts (here s at left) after before now fault
-halts_from s t at left after before now fault e h = subst (λ (x : State). Halts (here x at left) after before now fault) (sym e) h
+pub halts_from : (s t : State) (at : ℕ) (left after : Device ℕ) (fault : InFault)
+    → s ≡ t → Halts (here t at left) after fault → Halts (here s at left) after fault
+halts_from s t at left after fault e h = subst (λ (x : State). Halts (here x at left) after fault) (sym e) h
 
-pub gives_items : (old new : Shown Item) (items others : List Item) → items ≡ others → Gives old new items → Gives old new others
+pub gives_items : (old new : ReaderView Item) (items others : List Item) → items ≡ others → Gives old new items → Gives old new others
 gives_items old new items others e g = subst (λ (x : List Item). Gives old new x) e g
 
 -- what was read of a flag, by its value
-pub flagged_true : (turn : Turn) (head : FrameHead) (carrier : ℕ) (present : List Present) (at later : ℕ) (left after : Option (List ℕ)) (b : Bool) → b ≡ true
+pub flagged_true : (turn : Turn) (head : FrameHead) (carrier : ℕ) (present : List Present) (at later : ℕ) (left after : Device ℕ) (b : Bool) → b ≡ true
     → Flagged turn head carrier present at later left after b
-    → Gives (here (Flag turn head carrier present) at left) (here (carriers_due turn (erase head carrier) (carrier + 1) present) later after) (head_given (erase head carrier) (carrier + 1))
+    → Gives (here (Flag turn head carrier present) at left)
+    (here (carriers_due turn (erase head carrier) (carrier + 1) present) later after) (head_given (erase head carrier) (carrier + 1))
 flagged_true turn head carrier present at later left after b e g = subst (λ (x : Bool). Flagged turn head carrier present at later left after x) e g
 
-pub flagged_false : (turn : Turn) (head : FrameHead) (carrier : ℕ) (present : List Present) (at later : ℕ) (left after : Option (List ℕ)) (b : Bool) → b ≡ false
+pub flagged_false : (turn : Turn) (head : FrameHead) (carrier : ℕ) (present : List Present) (at later : ℕ) (left after : Device ℕ) (b : Bool) → b ≡ false
     → Flagged turn head carrier present at later left after b
     → Gives (here (Flag turn head carrier present) at left) (here (Triangle turn head carrier present) later after) []
 flagged_false turn head carrier present at later left after b e g = subst (λ (x : Bool). Flagged turn head carrier present at later left after x) e g
 
 -- behind all subcarriers
-pub carriers_over : (old : Shown Item) (turn : Turn) (head : FrameHead) (carrier count : ℕ) (present : List Present) (at : ℕ) (left : Option (List ℕ)) → carriers_of head.rate ≤ carrier → length present ≡ count
+pub carriers_over : (old : ReaderView Item) (turn : Turn) (head : FrameHead) (carrier count : ℕ) (present : List Present) (at : ℕ) (left : Device ℕ)
+    → carriers_of head.rate ≤ carrier → length present ≡ count
     → Gives old (here (carriers_due turn head carrier present) at left) (head_given head carrier)
-    → Gives old (here (Symbol (first_spot turn head count) present) at left) (Frame head ∷ [])
+    → Gives old (here (Symbol (first_symbol turn head count) present) at left) (Frame head ∷ [])
 carriers_over old turn head carrier count present at left le size g =
     gives_items old _ (head_given head carrier) (Frame head ∷ []) (one_given head carrier le)
-    (gives_to old (carriers_due turn head carrier present) (Symbol (first_spot turn head count) present) at at left (head_given head carrier)
-    (symbol_is turn head carrier present le ∙ ap (λ n. Symbol (first_spot turn head n) present) size) refl g)
+    (gives_to old (carriers_due turn head carrier present) (Symbol (first_symbol turn head count) present) at at left (head_given head carrier)
+    (symbol_is turn head carrier present le ∙ ap (λ n. Symbol (first_symbol turn head n) present) size) refl g)
 
 -- before the last of them no item was given
-pub carriers_so_far : (old : Shown Item) (turn : Turn) (head : FrameHead) (carrier : ℕ) (present : List Present) (at : ℕ) (left : Option (List ℕ)) → carrier < carriers_of head.rate
+pub carriers_so_far : (old : ReaderView Item) (turn : Turn) (head : FrameHead) (carrier : ℕ) (present : List Present) (at : ℕ) (left : Device ℕ)
+    → carrier < carriers_of head.rate
     → Gives old (here (carriers_due turn head carrier present) at left) (head_given head carrier)
     → Gives old (here (carriers_due turn head carrier present) at left) []
 carriers_so_far old turn head carrier present at left lt g = gives_items old _ _ [] (none_given head carrier lt) g
 
 -- at first
-pub carriers_first : (turn : Turn) (head : FrameHead) (at : ℕ) (left : Option (List ℕ)) → 0 < carriers_of head.rate
+pub carriers_first : (turn : Turn) (head : FrameHead) (at : ℕ) (left : Device ℕ) → 0 < carriers_of head.rate
     → Gives (here (carriers_due turn head 0 []) at left) (here (carriers_due turn head 0 []) at left) (head_given head 0)
-carriers_first turn head at left some = gives_items _ _ [] (head_given head 0) (sym (none_given head 0 some)) (gives_none (here (carriers_due turn head 0 []) at left))
+carriers_first turn head at left some =
+    gives_items _ _ [] (head_given head 0) (sym (none_given head 0 some)) (gives_none (here (carriers_due turn head 0 []) at left))
 
-pub symbol_good : (spot : Spot) (present : List Present) (octets : List ℕ)
-    → judge_symbol spot present octets ≡ Good (symbol_due (next_spot spot) present) (jobs_at spot.head spot.symbol spot.turn.number present octets 0)
+pub symbol_good : (due : SymbolTurn) (present : List Present) (octets : List ℕ)
+    → judge_symbol due present octets ≡ Good (symbol_due (next_symbol due) present) (jobs_at due.head due.symbol due.turn.number present octets 0)
 unfolding judge_symbol
-symbol_good spot present octets = refl
+symbol_good due present octets = refl
 
 -- the end of the file is due
-pub completes_over : (turn : Turn) (at : ℕ) (left after : Option (List ℕ)) → turn.left ≡ 0 → Finishes (here Over at left) after → Completes (here (frame_due turn) at left) after
+pub completes_over : (turn : Turn) (at : ℕ) (left after : Device ℕ) → turn.left ≡ 0
+    → Finishes (here Over at left) after → Completes (here (frame_due turn) at left) after
 completes_over turn at left after none f =
     subst (λ (s : State). Completes (here s at left) after) (sym (over_is turn none)) (record { taken = []; octets = f.octets; means = f.means })
 
 -- the same fault by another name
-pub halts_as : (old : Shown Item) (after : Option (List ℕ)) (before now : ℕ) (fault other : InFault) → other ≡ fault → Halts old after before now fault → Halts old after before now other
-halts_as old after before now fault other e h = subst (λ (f : InFault). Halts old after before now f) (sym e) h
+pub halts_as : (old : ReaderView Item) (after : Device ℕ) (fault other : InFault) → other ≡ fault → Halts old after fault → Halts old after other
+halts_as old after fault other e h = subst (λ (f : InFault). Halts old after f) (sym e) h
 
-pub halts_real : (old : Shown Item) (after : Option (List ℕ)) (before now : ℕ) (fault : InFault) → Halts old after before now fault → fault ≡ NoMemory → ⊥
-halts_real old after before now fault h e = subst (λ (f : InFault). Caused before now f) e h.1
+pub halts_real : (old : ReaderView Item) (after : Device ℕ) (fault : InFault) → Halts old after fault → fault ≡ NoMemory → ⊥
+halts_real old after fault h e = subst (λ (f : InFault). Caused old.source after f) e h.1
 
 -- the samples of a symbol were read to the front of a list
-pub symbol_read : (spot : Spot) (present : List Present) (at behind : ℕ) (left after : Option (List ℕ)) (into samples : List ℕ) → length into ≡ symbol_octets spot → 1 ≤ length into
-    → take (symbol_octets spot) samples ≡ into → Takes left after into → behind ≡ at + length into
-    → Gives (here (Symbol spot present) at left) (here (symbol_due (next_spot spot) present) behind after) (jobs_at spot.head spot.symbol spot.turn.number present (take (symbol_octets spot) samples) 0)
-symbol_read spot present at behind left after into samples size some front taken place =
-    subst (λ (o : List ℕ). Gives (here (Symbol spot present) at left) (here (symbol_due (next_spot spot) present) behind after) (jobs_at spot.head spot.symbol spot.turn.number present o 0)) (sym front)
-    (good_gives (Symbol spot present) (symbol_due (next_spot spot) present) at behind _ left after into (ones (length into) _ size some, symbol_good spot present into) taken place)
+pub symbol_read : (due : SymbolTurn) (present : List Present) (at behind : ℕ) (left after : Device ℕ) (into samples : List ℕ)
+    → length into ≡ symbol_octets due → 1 ≤ length into
+    → take (symbol_octets due) samples ≡ into → Takes left after into → behind ≡ at + length into
+    → Gives (here (Symbol due present) at left) (here (symbol_due (next_symbol due) present) behind after)
+    (jobs_at due.head due.symbol due.turn.number present (take (symbol_octets due) samples) 0)
+symbol_read due present at behind left after into samples size some front taken place =
+    subst (λ (o : List ℕ). Gives (here (Symbol due present) at left) (here (symbol_due (next_symbol due) present) behind after)
+    (jobs_at due.head due.symbol due.turn.number present o 0)) (sym front)
+    (good_gives (Symbol due present) (symbol_due (next_symbol due) present) at behind _ left after into
+    (ones (length into) _ size some, symbol_good due present into) taken place)
 
-pub takes_all : (left between after : Option (List ℕ)) (xs ys : List ℕ) → Takes left between xs → TakesAll between after ys → TakesAll left after (xs ++ ys)
-takes_all None None None xs ys a b = tt
-takes_all None None (Some after) xs ys a b = absurd b
-takes_all None (Some between) after xs ys a b = absurd a
-takes_all (Some left) None after xs ys a b = absurd a
-takes_all (Some left) (Some between) None xs ys a b = absurd b
-takes_all (Some left) (Some between) (Some after) xs ys a b = (a ∙ ap (λ z. xs ++ z) b.0, b.1)
-
-gives_completes : (old mid : Shown Item) (after : Option (List ℕ)) → Gives old mid [] → Completes mid after → Completes old after
+gives_completes : (old mid : ReaderView Item) (after : Device ℕ) → Gives old mid [] → Completes mid after → Completes old after
 gives_completes old mid after a b = record {
   taken = a.taken ++ b.taken;
-  octets = takes_all old.left mid.left after a.taken b.taken a.octets b.octets;
+  octets = takes-all old.source mid.source after a.taken b.taken a.octets b.octets;
   means = a.means b.taken ∙ ap (before []) b.means;
 }
 
 -- octets that give no item, and then one
-pub gives_item : (old mid new : Shown Item) (item : Item) → Gives old mid [] → GivesItem mid new item → GivesItem old new item
+pub gives_item : (old mid new : ReaderView Item) (item : Item) → Gives old mid [] → GivesItem mid new item → GivesItem old new item
 gives_item old mid new (Frame head) a b = gives_more old mid new [] (Frame head ∷ []) a b
 gives_item old mid new (Job job) a b = gives_more old mid new [] (Job job ∷ []) a b
-gives_item old mid new Done a b = gives_completes old mid new.left a b
+gives_item old mid new Done a b = gives_completes old mid new.source a b
 
 -- octets that give no item, and then an answer
-pub gives_answer : (old mid new : Shown Item) (after : Option (List ℕ)) (before between now : ℕ) (answer : Result Item InFault) → Gives old mid [] → before ≤ between
-    → MatchResult answer (GivesItem mid new) (Halts mid after between now) → MatchResult answer (GivesItem old new) (Halts old after before now)
-gives_answer old mid new after before between now (Ok item) a le b = gives_item old mid new item a b
-gives_answer old mid new after before between now (Err fault) a le b = gives_halts old mid after before between now fault a le b
+pub gives_answer : (old mid new : ReaderView Item) (after : Device ℕ) (answer : Result Item InFault)
+    → Gives old mid [] → IsLater old.source mid.source
+    → MatchResult answer (GivesItem mid new) (Halts mid after) → MatchResult answer (GivesItem old new) (Halts old after)
+gives_answer old mid new after (Ok item) a later b = gives_item old mid new item a b
+gives_answer old mid new after (Err fault) a later b = gives_halts old mid after fault a later b
 
 -- the first symbol of a frame
-pub spot_made : (old : Shown Item) (turn : Turn) (head : FrameHead) (count symbols at : ℕ) (present : List Present) (left : Option (List ℕ)) (items : List Item) → symbols ≡ symbols_of head.rate head.length
-    → Gives old (here (Symbol (first_spot turn head count) present) at left) items
+pub symbol_made : (old : ReaderView Item) (turn : Turn) (head : FrameHead) (count symbols at : ℕ)
+    (present : List Present) (left : Device ℕ) (items : List Item) → symbols ≡ symbols_of head.rate head.length
+    → Gives old (here (Symbol (first_symbol turn head count) present) at left) items
     → Gives old (here (Symbol (record { turn = turn; head = head; symbol = 0; symbols = symbols; count = count }) present) at left) items
-spot_made old turn head count symbols at present left items is g =
-    subst (λ (n : ℕ). let spot : Spot = record { turn = turn; head = head; symbol = 0; symbols = n; count = count } in Gives old (here (Symbol spot present) at left) items) (sym is) g
+symbol_made old turn head count symbols at present left items is g =
+    subst (λ (n : ℕ). let due : SymbolTurn = record { turn = turn; head = head; symbol = 0; symbols = n; count = count } in
+    Gives old (here (Symbol due present) at left) items) (sym is) g

@@ -1,14 +1,17 @@
 -- Octets that are put one after another.
-use Rattle.std.proofs.Common.{◌≡◌, ℕ, zero, suc, ◌+◌, ◌*◌, ◌-◌, ◌<◌, ◌≤◌, List, [], ◌∷◌, ◌++◌, length, drop, slice_index_or, flat_map, Bool, true, false, if◌then◌else◌, take, Option, Result, Ok, Err, OnErr, get_or, refl, sym, ap, subst, ◌∙◌, append_assoc, length-append, arith}
+use Rattle.std.proofs.Common.{◌≡◌, ℕ, zero, suc, ◌+◌, ◌*◌, ◌-◌, ◌<◌, ◌≤◌, List, [], ◌∷◌, ◌++◌, length, drop}
+use Rattle.std.proofs.Common.{slice_index_or, flat_map, Bool, true, false, if◌then◌else◌, take, Option, Result, Ok}
+use Rattle.std.proofs.Common.{Err, OnErr, get_or, refl, sym, ap, subst, ◌∙◌, append_assoc, length-append, arith}
 use Rattle.std.proofs.lemmas.List.{get_or-drop, drop-drop, length-drop, append-nil, drop_all, drop_more, take-append-drop}
 use Rattle.std.proofs.lemmas.Grind.{flat_map-append}
-use Rattle.ht_io.specs.Octets.{Grows, GrowsByPart}
-use Rattle.ht_io.proofs.Pieces.{grows-append, grows_by_part-front, grows_by_part-append}
+use Rattle.ht_io.specs.Pieces.{KnownGrown, KnownGrownByPart}
+use Rattle.ht_io.proofs.Pieces.{grown-append, grown_by_part-front, grown_by_part-append}
 use Rattle.ht_metric.specs.declared.sample.Sample.{Sample}
 use Rattle.std.proofs.Math.Seq.{drop-cons}
 use Rattle.ht_metric.specs.declared.tap.Tap.{Tap}
 use Rattle.ht_metric.specs.Rows.{Leg, no_tap, no_leg}
-use Rattle.ht_capture.specs.Files.{sample_octets, tap_octets, taps_octets, leg_octets, legs_octets, is_erased, flagged, behind, flagged_octets, present_among, front_octets, frame_octets}
+use Rattle.ht_capture.specs.Files.{sample_octets, tap_octets, taps_octets, leg_octets, legs_octets, is_erased}
+use Rattle.ht_capture.specs.Files.{flagged, behind, flagged_octets, present_among, front_octets, frame_octets}
 use Rattle.ht_capture.specs.declared.frames.CaptureFrame.{CaptureFrame}
 
 -- a piece more
@@ -22,7 +25,8 @@ taps_next n m k right tap is at =
     let place : k + 0 ≡ k = omega arith in
     let entry : slice_index_or (drop k right) 0 no_tap ≡ tap = get_or-drop k right 0 no_tap ∙ (ap (λ i. slice_index_or right i no_tap) place ∙ sym at) in
     let rest : drop 1 (drop k right) ≡ drop (k + 1) right = drop-drop 1 k right in
-    ap (λ i. taps_octets i (drop k right)) is ∙ (ap (λ t. tap_octets t ++ taps_octets m (drop 1 (drop k right))) entry ∙ ap (λ r. tap_octets tap ++ taps_octets m r) rest)
+    ap (λ i. taps_octets i (drop k right)) is
+    ∙ (ap (λ t. tap_octets t ++ taps_octets m (drop 1 (drop k right))) entry ∙ ap (λ r. tap_octets tap ++ taps_octets m r) rest)
 
 pub length-taps : (n : ℕ) (right : List Tap) → length (taps_octets n right) ≡ 4 * n
 length-taps zero right = refl
@@ -64,7 +68,8 @@ pub row_room : (chunk old : List ℕ) (legs : List Leg) (k : ℕ) → k < length
 row_room chunk old legs k lt few eq room =
     let all : length chunk + length (legs_octets (drop k legs)) ≡ length old + length (legs_octets legs) =
     sym (length-append chunk (legs_octets (drop k legs))) ∙ (ap length eq ∙ length-append old (legs_octets legs)) in
-    let next : length (legs_octets (drop k legs)) ≡ length (leg_octets (length legs - k - 1) (slice_index_or legs k no_leg)) + length (legs_octets (drop (k + 1) legs)) =
+    let next : length (legs_octets (drop k legs))
+    ≡ length (leg_octets (length legs - k - 1) (slice_index_or legs k no_leg)) + length (legs_octets (drop (k + 1) legs)) =
     ap length (legs_next legs k lt) ∙ length-append (leg_octets (length legs - k - 1) (slice_index_or legs k no_leg)) (legs_octets (drop (k + 1) legs)) in
     omega (arith, few_legs legs few, length-leg (length legs - k - 1) (slice_index_or legs k no_leg), room)
 
@@ -95,7 +100,8 @@ some_of false a b len e = omega (arith, len)
 -- a subcarrier that is present has a triangle
 pub left_some : (n m k erased : ℕ) (triangles : List (List Leg)) → n ≡ suc m → length triangles ≡ present_among n k erased
     → is_erased erased k ≡ false → 0 < length triangles
-left_some n m k erased triangles is len e = some_of (is_erased erased k) (length triangles) (present_among m (k + 1) erased) (len ∙ ap (λ i. present_among i k erased) is) e
+left_some n m k erased triangles is len e =
+    some_of (is_erased erased k) (length triangles) (present_among m (k + 1) erased) (len ∙ ap (λ i. present_among i k erased) is) e
 
 present_few : (is : Bool) (a b n : ℕ) → a ≡ (if is then b else 1 + b) → b ≤ n → a ≤ suc n
 present_few true a b n e le = omega (arith, e, le)
@@ -107,7 +113,8 @@ present_most zero k erased = omega arith
 present_most (suc n) k erased = present_few (is_erased erased k) _ (present_among n (k + 1) erased) n refl (present_most n (k + 1) erased)
 
 -- the rows that were put are all
-pub triangle_done : (chunk old : List ℕ) (legs : List Leg) (k : ℕ) → length legs ≤ k → chunk ++ legs_octets (drop k legs) ≡ old ++ legs_octets legs → chunk ≡ old ++ legs_octets legs
+pub triangle_done : (chunk old : List ℕ) (legs : List Leg) (k : ℕ) → length legs ≤ k
+    → chunk ++ legs_octets (drop k legs) ≡ old ++ legs_octets legs → chunk ≡ old ++ legs_octets legs
 triangle_done chunk old legs k over eq = sym (append-nil chunk) ∙ (ap (λ l. chunk ++ legs_octets l) (sym (drop_all k legs over)) ∙ eq)
 
 -- what holds whether or not it failed
@@ -116,22 +123,25 @@ on_err P (Ok x) p = tt
 on_err P (Err e) p = p
 
 -- some samples, and those behind them
-pub samples_split : (samples : List Sample) (k : ℕ) → flat_map sample_octets (take k samples) ++ flat_map sample_octets (drop k samples) ≡ flat_map sample_octets samples
+pub samples_split : (samples : List Sample) (k : ℕ)
+    → flat_map sample_octets (take k samples) ++ flat_map sample_octets (drop k samples) ≡ flat_map sample_octets samples
 samples_split samples k = sym (flat_map-append sample_octets (take k samples) (drop k samples)) ∙ ap (flat_map sample_octets) (take-append-drop k samples)
 
 -- a piece behind what was put
 pub piece_more : (front piece rest left whole : List ℕ) → piece ++ rest ≡ left → front ++ left ≡ whole → (front ++ piece) ++ rest ≡ whole
 piece_more front piece rest left whole e all = append_assoc front piece rest ∙ (ap (λ z. front ++ z) e ∙ all)
 
-pub grows_piece : (held mid new : Option (List ℕ)) (front piece put : List ℕ) → Grows held mid front → Grows mid new put → put ≡ piece → Grows held new (front ++ piece)
-grows_piece held mid new front piece put a b is = grows-append held mid new front piece a (subst (λ (p : List ℕ). Grows mid new p) is b)
+pub grows_piece : (held mid new : Option (List ℕ)) (front piece put : List ℕ) → KnownGrown held mid front
+    → KnownGrown mid new put → put ≡ piece → KnownGrown held new (front ++ piece)
+grows_piece held mid new front piece put a b is = grown-append held mid new front piece a (subst (λ (p : List ℕ). KnownGrown mid new p) is b)
 
 -- a part of a piece behind what was put
-pub part_more : (held mid new : Option (List ℕ)) (front piece put rest left whole : List ℕ) → Grows held mid front → GrowsByPart mid new put → put ≡ piece
-    → piece ++ rest ≡ left → front ++ left ≡ whole → GrowsByPart held new whole
+pub part_more : (held mid new : Option (List ℕ)) (front piece put rest left whole : List ℕ)
+    → KnownGrown held mid front → KnownGrownByPart mid new put → put ≡ piece
+    → piece ++ rest ≡ left → front ++ left ≡ whole → KnownGrownByPart held new whole
 part_more held mid new front piece put rest left whole a b is e all =
-    let part : GrowsByPart mid new (piece ++ rest) = grows_by_part-front mid new piece rest (subst (λ (p : List ℕ). GrowsByPart mid new p) is b) in
-    subst (λ (w : List ℕ). GrowsByPart held new w) (ap (λ z. front ++ z) e ∙ all) (grows_by_part-append held mid new front (piece ++ rest) a part)
+    let part : KnownGrownByPart mid new (piece ++ rest) = grown_by_part-front mid new piece rest (subst (λ (p : List ℕ). KnownGrownByPart mid new p) is b) in
+    subst (λ (w : List ℕ). KnownGrownByPart held new w) (ap (λ z. front ++ z) e ∙ all) (grown_by_part-append held mid new front (piece ++ rest) a part)
 
 -- what follows, where it failed
 pub on_err_then : {A E : Type 0} (P Q : Type 0) (r : Result A E) → (P → Q) → OnErr r P → OnErr r Q
@@ -140,18 +150,20 @@ on_err_then P Q (Err e) f p = f p
 
 -- a part of the piece at a place, behind the pieces before it
 pub part_at : {X : Type 0} (f : X → List ℕ) (xs : List X) (k : ℕ) (x : X) (start : List ℕ) (held mid new : Option (List ℕ)) → k < length xs → x ≡ get_or xs k x
-    → Grows held mid (start ++ flat_map f (take k xs)) → GrowsByPart mid new (f x) → GrowsByPart held new (start ++ flat_map f xs)
+    → KnownGrown held mid (start ++ flat_map f (take k xs)) → KnownGrownByPart mid new (f x) → KnownGrownByPart held new (start ++ flat_map f xs)
 part_at {X = X} f xs k x start held mid new lt at a b =
     let left : flat_map f (drop k xs) ≡ f x ++ flat_map f (drop (k + 1) xs) =
     ap (flat_map f) (drop_more xs k x lt) ∙ ap (λ (y : X). f y ++ flat_map f (drop (k + 1) xs)) (sym at) in
     let all : (start ++ flat_map f (take k xs)) ++ flat_map f (drop k xs) ≡ start ++ flat_map f xs =
-    append_assoc start (flat_map f (take k xs)) (flat_map f (drop k xs)) ∙ ap (λ z. start ++ z) (sym (flat_map-append f (take k xs) (drop k xs)) ∙ ap (flat_map f) (take-append-drop k xs)) in
+    append_assoc start (flat_map f (take k xs)) (flat_map f (drop k xs))
+    ∙ ap (λ z. start ++ z) (sym (flat_map-append f (take k xs) (drop k xs)) ∙ ap (flat_map f) (take-append-drop k xs)) in
     part_more held mid new (start ++ flat_map f (take k xs)) (f x) (f x) (flat_map f (drop (k + 1) xs)) (flat_map f (drop k xs)) _ a b refl (sym left) all
 
 -- a part of the samples of a frame, behind its front
 pub behind_front : (version : ℕ) (f : CaptureFrame) (held mid new : Option (List ℕ)) (put : List ℕ) (samples : List Sample)
-    → Grows held mid put → put ≡ front_octets version f → samples ≡ f.samples → GrowsByPart mid new (flat_map sample_octets samples) → GrowsByPart held new (frame_octets version f)
+    → KnownGrown held mid put → put ≡ front_octets version f → samples ≡ f.samples
+    → KnownGrownByPart mid new (flat_map sample_octets samples) → KnownGrownByPart held new (frame_octets version f)
 unfolding frame_octets
 behind_front version f held mid new put samples a is same b =
-    grows_by_part-append held mid new (front_octets version f) (flat_map sample_octets f.samples) (subst (λ (p : List ℕ). Grows held mid p) is a)
-    (subst (λ (s : List Sample). GrowsByPart mid new (flat_map sample_octets s)) same b)
+    grown_by_part-append held mid new (front_octets version f) (flat_map sample_octets f.samples) (subst (λ (p : List ℕ). KnownGrown held mid p) is a)
+    (subst (λ (s : List Sample). KnownGrownByPart mid new (flat_map sample_octets s)) same b)

@@ -1,5 +1,6 @@
 -- What a capture of frames holds, and which numbers a frame has.
-use Rattle.std.specs.Prelude.{◌≡◌, ℕ, zero, suc, ◌+◌, ◌*◌, ◌<◌, ◌^◌, ◌⊎◌, List, [], ◌∷◌, ◌++◌, length, take, drop, slice_index_or, get_or, Bool, true, false, FitsSigned}
+use Rattle.std.specs.Prelude.{ℕ, List, Bool, FitsSigned}
+use Rattle.std.specs.Prelude.{◌≡◌, zero, suc, ◌+◌, ◌*◌, ◌<◌, ◌^◌, ◌⊎◌, [], ◌∷◌, ◌++◌, length, take, drop, slice_index_or, get_or, true, false}
 use Rattle.std.specs.Int.{w16, w32}
 use Rattle.ht_rate.specs.Rates.{streams_of, carriers_of, symbols_of}
 use Rattle.ht_metric.specs.declared.tap.Tap.{Tap}
@@ -19,7 +20,7 @@ abbrev pub seen : Bool → ℕ → List (List Leg) → List Present
 seen true carrier triangles = []
 seen false carrier triangles = record { carrier = carrier; triangle = slice_index_or triangles 0 [] } ∷ []
 
--- those that are present among so many subcarriers from one on
+-- those that are present among a number of subcarriers from one on
 abbrev pub presents : ℕ → ℕ → ℕ → List (List Leg) → List Present
 presents zero carrier erased triangles = []
 presents (suc n) carrier erased triangles =
@@ -40,7 +41,7 @@ symbol_jobs head symbol number [] samples = []
 symbol_jobs head symbol number (p ∷ ps) samples =
     Job (job_of head symbol number p samples) ∷ symbol_jobs head symbol (number + 1) ps (drop (streams_of head.rate) samples)
 
--- the jobs of so many symbols from one on
+-- the jobs of a number of symbols from one on
 abbrev pub frame_jobs : ℕ → FrameHead → ℕ → ℕ → List Present → List Sample → List Item
 frame_jobs zero head symbol number present samples = []
 frame_jobs (suc n) head symbol number present samples =

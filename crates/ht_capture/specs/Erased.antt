@@ -2,7 +2,7 @@
 use Rattle.std.specs.Prelude.{ℕ, zero, suc, ◌+◌, List, drop, nat_eq, if◌then◌else◌}
 use Rattle.ht_capture.specs.Fields.{octet}
 
--- the octets behind so many subcarriers of version 2: each has a flag and, where the flag is 0, a triangle of so many octets
+-- the octets behind a number of subcarriers of version 2: each has a flag and, where the flag is 0, a triangle of this width
 abbrev pub behind : ℕ → ℕ → List ℕ → List ℕ
 behind width zero octets = octets
 behind width (suc count) octets = behind width count (drop (if nat_eq (octet octets) 0 then width + 1 else 1) octets)

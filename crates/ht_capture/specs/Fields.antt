@@ -10,7 +10,7 @@ use Rattle.ht_capture.specs.declared.items.Item.{Item}
 use Rattle.ht_capture.specs.declared.items.Item.TheVariants.{Frame}
 use Rattle.ht_capture.specs.declared.places.Present.{Present}
 use Rattle.ht_capture.specs.declared.places.Turn.{Turn}
-use Rattle.ht_capture.specs.declared.places.Spot.{Spot}
+use Rattle.ht_capture.specs.declared.places.SymbolTurn.{SymbolTurn}
 use Rattle.ht_capture.specs.Systems.{triangle_of, triangle_octets}
 use Rattle.ht_capture.specs.Frames.{carrier_octets, jobs_at, erase}
 
@@ -25,7 +25,7 @@ pub data State : Type 0 where
   Length : Turn → Rate → State
   Flag : Turn → FrameHead → ℕ → List Present → State
   Triangle : Turn → FrameHead → ℕ → List Present → State
-  Symbol : Spot → List Present → State
+  Symbol : SymbolTurn → List Present → State
   Over : State
 
 -- the one octet of a field
@@ -66,13 +66,13 @@ judge_mcs turn bandwidth octets = if nat_lt 31 (octet octets) then Bad BadMcs el
 abbrev pub carrier_due : Turn → FrameHead → ℕ → List Present → State
 carrier_due turn head carrier present = if nat_eq turn.version 2 then Flag turn head carrier present else Triangle turn head carrier present
 
-abbrev pub first_spot : Turn → FrameHead → ℕ → Spot
-first_spot turn head count = record { turn = turn; head = head; symbol = 0; symbols = symbols_of head.rate head.length; count = count }
+abbrev pub first_symbol : Turn → FrameHead → ℕ → SymbolTurn
+first_symbol turn head count = record { turn = turn; head = head; symbol = 0; symbols = symbols_of head.rate head.length; count = count }
 
 -- what is due from a subcarrier on, and behind the last one
 unfoldable pub carriers_due : Turn → FrameHead → ℕ → List Present → State
 carriers_due turn head carrier present =
-    if nat_lt carrier (carriers_of head.rate) then carrier_due turn head carrier present else Symbol (first_spot turn head (length present)) present
+    if nat_lt carrier (carriers_of head.rate) then carrier_due turn head carrier present else Symbol (first_symbol turn head (length present)) present
 
 -- behind the last subcarrier the head is whole
 unfoldable pub head_given : FrameHead → ℕ → List Item
@@ -85,7 +85,7 @@ unfoldable pub judge_length : Turn → Rate → List ℕ → Verdict State Item
 judge_length turn rate octets =
     if nat_eq (big_number 2 octets) 0 then Bad BadLength else Good (carriers_due turn (new_head turn rate (big_number 2 octets)) 0 []) []
 
--- a flag that isn't 0 is bad: it is above 1, or it is the last one and so many as none of the lower subcarriers are present
+-- a flag that isn't 0 is bad: it is above 1, or it is the last one and none of the lower subcarriers is present; `count` of them are
 unfoldable pub bad_flag : FrameHead → ℕ → ℕ → ℕ → Bool
 bad_flag head carrier count flag = nat_lt 1 flag || (nat_eq carrier (carriers_of head.rate - 1) && nat_eq count 0)
 
@@ -102,14 +102,14 @@ unfoldable pub judge_triangle : Turn → FrameHead → ℕ → List Present → 
 judge_triangle turn head carrier present octets =
     Good (carriers_due turn head (carrier + 1) (present ++ present_at head carrier octets ∷ [])) (head_given head (carrier + 1))
 
--- behind a symbol: so many jobs more
-unfoldable pub next_spot : Spot → Spot
-next_spot spot = record {
-  turn = record { version = spot.turn.version; left = spot.turn.left; frame = spot.turn.frame; number = spot.turn.number + spot.count };
-  head = spot.head;
-  symbol = spot.symbol + 1;
-  symbols = spot.symbols;
-  count = spot.count;
+-- behind a symbol: the next one, and the jobs of this one more
+unfoldable pub next_symbol : SymbolTurn → SymbolTurn
+next_symbol due = record {
+  turn = record { version = due.turn.version; left = due.turn.left; frame = due.turn.frame; number = due.turn.number + due.count };
+  head = due.head;
+  symbol = due.symbol + 1;
+  symbols = due.symbols;
+  count = due.count;
 }
 
 -- behind a frame
@@ -117,13 +117,13 @@ unfoldable pub next_turn : Turn → Turn
 next_turn turn = record { version = turn.version; left = turn.left - 1; frame = turn.frame + 1; number = turn.number }
 
 -- where symbols are left, the samples of the next one; else the next frame
-unfoldable pub symbol_due : Spot → List Present → State
-symbol_due spot present =
-    if nat_lt spot.symbol spot.symbols then Symbol spot present else frame_due (next_turn spot.turn)
+unfoldable pub symbol_due : SymbolTurn → List Present → State
+symbol_due due present =
+    if nat_lt due.symbol due.symbols then Symbol due present else frame_due (next_turn due.turn)
 
-unfoldable pub judge_symbol : Spot → List Present → List ℕ → Verdict State Item
-judge_symbol spot present octets =
-    Good (symbol_due (next_spot spot) present) (jobs_at spot.head spot.symbol spot.turn.number present octets 0)
+unfoldable pub judge_symbol : SymbolTurn → List Present → List ℕ → Verdict State Item
+judge_symbol due present octets =
+    Good (symbol_due (next_symbol due) present) (jobs_at due.head due.symbol due.turn.number present octets 0)
 
 -- The samples of a symbol are one field, since none of them can be at fault.
 abbrev pub due_at : State → Due State Item
@@ -135,7 +135,7 @@ due_at (Mcs turn bandwidth) = field 1 (judge_mcs turn bandwidth)
 due_at (Length turn rate) = field 2 (judge_length turn rate)
 due_at (Flag turn head carrier present) = field 1 (judge_flag turn head carrier present)
 due_at (Triangle turn head carrier present) = field (triangle_octets (streams_of head.rate)) (judge_triangle turn head carrier present)
-due_at (Symbol spot present) = field (spot.count * carrier_octets spot.head.rate) (judge_symbol spot present)
+due_at (Symbol due present) = field (due.count * carrier_octets due.head.rate) (judge_symbol due present)
 due_at Over = End
 
 -- the format

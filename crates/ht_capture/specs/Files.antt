@@ -1,5 +1,7 @@
 -- Captures as octets: what is written of frames. All numbers are big-endian, signed ones in two's complement.
-use Rattle.std.specs.Prelude.{◌≡◌, ℕ, zero, suc, ◌+◌, ◌*◌, ◌≤◌, ◌<◌, ◌^◌, List, [], ◌∷◌, ◌++◌, length, drop, flat_map, slice_index_or, All, nat_eq, Bool, true, false, ◌==◌, if◌then◌else◌}
+use Rattle.std.specs.Prelude.{ℕ, List, All, Bool}
+use Rattle.std.specs.Prelude.{◌≡◌, zero, suc, ◌+◌, ◌*◌, ◌≤◌, ◌<◌, ◌^◌, [], ◌∷◌, ◌++◌, length, drop, flat_map}
+use Rattle.std.specs.Prelude.{slice_index_or, nat_eq, true, false, ◌==◌, if◌then◌else◌}
 use Rattle.std.specs.Int.{bit_at, cast_unsigned, w16, w32}
 use Rattle.byteorder.specs.Endian.{big_bytes}
 use Rattle.ht_rate.specs.declared.rates.Rate.{Rate}
@@ -19,12 +21,12 @@ tap_octets tap = big_bytes 2 (cast_unsigned w16 tap.re) ++ big_bytes 2 (cast_uns
 abbrev pub sample_octets : Sample → List ℕ
 sample_octets s = big_bytes 4 (cast_unsigned w32 s.re) ++ big_bytes 4 (cast_unsigned w32 s.im)
 
--- the first so many entries
+-- the first entries, this number of them
 abbrev pub taps_octets : ℕ → List Tap → List ℕ
 taps_octets zero right = []
 taps_octets (suc n) right = tap_octets (slice_index_or right 0 no_tap) ++ taps_octets n (drop 1 right)
 
--- a row of a triangle: the diagonal, and then so many entries
+-- a row of a triangle: the diagonal, and then this number of entries
 abbrev pub leg_octets : ℕ → Leg → List ℕ
 leg_octets n leg = big_bytes 2 leg.diagonal ++ taps_octets n leg.right
 
@@ -37,7 +39,7 @@ legs_octets (leg ∷ legs) = leg_octets (length legs) leg ++ legs_octets legs
 abbrev pub is_erased : ℕ → ℕ → Bool
 is_erased erased carrier = bit_at erased carrier == 1
 
--- how many of so many subcarriers are present, from one on
+-- how many of a number of subcarriers are present, from one on
 abbrev pub present_among : ℕ → ℕ → ℕ → ℕ
 present_among zero carrier erased = 0
 present_among (suc n) carrier erased = if is_erased erased carrier then present_among n (carrier + 1) erased else 1 + present_among n (carrier + 1) erased
@@ -60,13 +62,13 @@ abbrev pub behind : Bool → List (List Leg) → List (List Leg)
 behind true triangles = triangles
 behind false triangles = drop 1 triangles
 
--- so many subcarriers of version 2, from one on
+-- a number of subcarriers of version 2, from one on
 abbrev pub flagged_octets : ℕ → ℕ → ℕ → List (List Leg) → List ℕ
 flagged_octets zero carrier erased triangles = []
 flagged_octets (suc n) carrier erased triangles =
     flagged (is_erased erased carrier) triangles ++ flagged_octets n (carrier + 1) erased (behind (is_erased erased carrier) triangles)
 
--- so many subcarriers from the first on, without flags in version 1
+-- a number of subcarriers from the first on, without flags in version 1
 unfoldable pub carriers_octets : ℕ → ℕ → ℕ → List (List Leg) → List ℕ
 carriers_octets version count erased triangles = if nat_eq version 2 then flagged_octets count 0 erased triangles else flat_map legs_octets triangles
 

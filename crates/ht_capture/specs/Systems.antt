@@ -5,18 +5,18 @@ use Rattle.ht_metric.specs.declared.sample.Sample.{Sample}
 use Rattle.ht_metric.specs.Rows.{Leg}
 use Rattle.ht_capture.specs.Numbers.{unsigned_at, tap_at, sample_at}
 
--- so many entries, one after another
+-- a number of entries, one after another
 abbrev pub taps_at : ℕ → List ℕ → ℕ → List Tap
 taps_at zero octets at = []
 taps_at (suc n) octets at = tap_at octets at ∷ taps_at n octets (at + 4)
 
--- the rows of so many streams: each its diagonal and then the entries to its right
+-- the rows of a number of streams: each its diagonal and then the entries to its right
 abbrev pub legs_at : ℕ → List ℕ → ℕ → List Leg
 legs_at zero octets at = []
 legs_at (suc n) octets at =
     record { diagonal = unsigned_at octets at; right = taps_at n octets (at + 2) } ∷ legs_at n octets (at + 2 + 4 * n)
 
--- the triangle of so many streams
+-- the triangle of a number of streams
 unfoldable pub triangle_of : ℕ → List ℕ → List Leg
 triangle_of streams octets = legs_at streams octets 0
 
@@ -24,7 +24,7 @@ triangle_of streams octets = legs_at streams octets 0
 abbrev pub triangle_octets : ℕ → ℕ
 triangle_octets streams = 2 * (streams * streams)
 
--- so many samples, one after another
+-- a number of samples, one after another
 abbrev pub samples_at : ℕ → List ℕ → ℕ → List Sample
 samples_at zero octets at = []
 samples_at (suc n) octets at = sample_at octets at ∷ samples_at n octets (at + 8)

@@ -6,7 +6,7 @@ use std::marker::Model;
 /// The most octets of a chunk. A head of a frame with its flags and triangles has up to 3,766, the samples of a symbol up to 3,648.
 const ROOM: usize = 4096;
 
-/// Up to 4,096 octets, one behind another.
+/// At most 4,096 octets, one behind another.
 #[derive(Debug, Drop)]
 pub struct Chunk {
     octets: [u8; ROOM],

@@ -1,6 +1,6 @@
 //! The beginning of a capture and the head of a frame.
 ghost use Rattle.std.specs.Prelude.{◌≡◌, ◌<◌, ◌≤◌, ◌+◌, ◌^◌, ℕ, List, [], true, MatchResult, IfOk, OnOk};
-ghost use Rattle.ht_io.specs.Octets.{Takes};
+ghost use Rattle.ht_io.specs.Devices.{Takes, IsLater};
 ghost use Rattle.ht_fields.specs.Readers.{Gives};
 ghost use Rattle.ht_capture.specs.Fields.{Version, magic as magic_octets, magic_due, frame_due, carriers_due, known_version};
 ghost use Rattle.ht_capture.specs.Files.{head_octets, start_octets};
@@ -14,10 +14,10 @@ use ht_io::{InFault, Source};
 // Reads the magic.
 fn magic<S: Source>(source: &mut S) -> Result<(), InFault>
     ensures told { MatchResult result
-        (λ _. Gives (here (magic_due magic_octets) 0 (S.left source.old)) (here Version 4 (S.left source.new)) [])
-        (Halts (here (magic_due magic_octets) 0 (S.left source.old)) (S.left source.new) (S.faults source.old) (S.faults source.new)) }
-    ensures octets { OnOk result (Takes (S.left source.old) (S.left source.new) magic_octets) }
-    ensures later { S.faults source.old ≤ S.faults source.new }
+        (λ _. Gives (here (magic_due magic_octets) 0 (S.shown source.old)) (here Version 4 (S.shown source.new)) [])
+        (Halts (here (magic_due magic_octets) 0 (S.shown source.old)) (S.shown source.new)) }
+    ensures octets { OnOk result (Takes (S.shown source.old) (S.shown source.new) magic_octets) }
+    ensures later { IsLater (S.shown source.old) (S.shown source.new) }
 {
     let wanted = *b"HTCP";
     for at in 0..4usize {
@@ -32,12 +32,12 @@ fn magic<S: Source>(source: &mut S) -> Result<(), InFault>
 /// Reads the seven octets in front of the frames.
 pub fn start<S: Source>(source: &mut S) -> Result<Turn, InFault>
     ensures told { MatchResult result
-        (λ turn. Gives (here (magic_due magic_octets) 0 (S.left source.old)) (here (frame_due turn) 7 (S.left source.new)) [])
-        (Halts (here (magic_due magic_octets) 0 (S.left source.old)) (S.left source.new) (S.faults source.old) (S.faults source.new)) }
+        (λ turn. Gives (here (magic_due magic_octets) 0 (S.shown source.old)) (here (frame_due turn) 7 (S.shown source.new)) [])
+        (Halts (here (magic_due magic_octets) 0 (S.shown source.old)) (S.shown source.new)) }
     ensures first { IfOk result (λ turn. (turn.frame ≡ 0) × (turn.number ≡ 0)) }
-    ensures octets { IfOk result (λ turn. Takes (S.left source.old) (S.left source.new) (start_octets turn.version turn.left)) }
+    ensures octets { IfOk result (λ turn. Takes (S.shown source.old) (S.shown source.new) (start_octets turn.version turn.left)) }
     ensures known { IfOk result (λ turn. known_version turn.version ≡ true) }
-    ensures later { S.faults source.old ≤ S.faults source.new }
+    ensures later { IsLater (S.shown source.old) (S.shown source.new) }
 {
     match magic(source) {
         Ok(()) => {}
@@ -56,15 +56,15 @@ pub fn start<S: Source>(source: &mut S) -> Result<Turn, InFault>
 /// Reads bandwidth, MCS and length of the next frame.
 pub fn head<S: Source>(source: &mut S, at: u64, turn: &Turn) -> Result<FrameHead, InFault>
     requires room { at + 4 < 2 ^ 64 }
-    requires due { 0 < turn.now.left }
+    requires left { 0 < turn.now.left }
     ensures told { MatchResult result
-        (λ head. Gives (here (frame_due turn.now) at (S.left source.old)) (here (carriers_due turn.now head 0 []) (at + 4) (S.left source.new)) [])
-        (Halts (here (frame_due turn.now) at (S.left source.old)) (S.left source.new) (S.faults source.old) (S.faults source.new)) }
+        (λ head. Gives (here (frame_due turn.now) at (S.shown source.old)) (here (carriers_due turn.now head 0 []) (at + 4) (S.shown source.new)) [])
+        (Halts (here (frame_due turn.now) at (S.shown source.old)) (S.shown source.new)) }
     ensures some { IfOk result (λ head. (head.frame ≡ turn.now.frame) × (1 ≤ head.length)) }
-    ensures octets { IfOk result (λ head. Takes (S.left source.old) (S.left source.new) (head_octets head.rate head.length)) }
+    ensures octets { IfOk result (λ head. Takes (S.shown source.old) (S.shown source.new) (head_octets head.rate head.length)) }
     ensures small { IfOk result (λ head. head.length < 2 ^ 16) }
     ensures none { IfOk result (λ head. head.erased ≡ 0) }
-    ensures later { S.faults source.old ≤ S.faults source.new }
+    ensures later { IsLater (S.shown source.old) (S.shown source.new) }
 {
     let code = match fields::bandwidth(source, at) {
         Ok(code) => code,

@@ -20,7 +20,7 @@ pub struct FrameHead {
 pub enum Item {
     /// A frame begins: its triangles were read whole.
     Frame(FrameHead),
-    /// A job of the frame that began last: the samples of its symbol were read whole.
+    /// A job of the frame that began last. The samples of its symbol were read whole.
     Job(Job),
     /// The capture is whole, and the input ended behind it.
     Done,

@@ -62,6 +62,7 @@ pub fn job(
     requires whole { at + carrier_octets head.now.rate ≤ length octets.now }
     ensures value { result ≡ job_at head.now symbol number present.now octets.now at }
     ensures number { result.number ≡ number }
+    ensures place { result.place ≡ record { frame = head.now.frame; symbol = symbol; carrier = present.now.carrier } }
 {
     let samples = numbers::samples(head.rate.streams(), octets, at);
     let place = Place {

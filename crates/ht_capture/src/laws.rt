@@ -48,7 +48,7 @@ pub fn written()
         → IsFile captures (file_of version frames) (items_of frames) }
 {}
 
-/// Equal files have equal frames, and are of one version: what is read of a file that was written are its frames.
+/// Equal files have equal frames and are of one version, so what is read from a file that was written is its frames.
 pub fn equal_files()
     ensures { (version other : ℕ) (frames others : List CaptureFrame)
         → AreFrames frames → AreTyped frames → IsVersion version frames

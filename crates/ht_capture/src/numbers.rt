@@ -7,10 +7,10 @@ ghost use Rattle.ht_capture.specs.Systems.{samples_at, triangle_octets, triangle
 use byteorder::{BigEndian, ByteOrder};
 use ht_metric::{Sample, Tap, Triangle};
 
-/// No entry of a triangle.
+/// The entry in the unused places of a triangle.
 const NO_TAP: Tap = Tap { re: 0, im: 0 };
 
-/// No sample of a row.
+/// The sample in the unused places of a system.
 const NO_SAMPLE: Sample = Sample { re: 0, im: 0 };
 
 // The diagonal at a place.

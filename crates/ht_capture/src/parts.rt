@@ -1,27 +1,28 @@
 //! The parts of a capture that a reader reads at once.
 ghost use Rattle.std.specs.Prelude.{◌≡◌, ◌<◌, ◌≤◌, ◌+◌, ◌*◌, ◌^◌, List, [], ◌∷◌, length, take, MatchResult, IfOk};
+ghost use Rattle.ht_io.specs.Devices.{IsLater};
 ghost use Rattle.ht_fields.specs.Readers.{Finishes, Gives};
-ghost use Rattle.ht_rate.specs.Rates.{carriers_of};
+ghost use Rattle.ht_rate.specs.Rates.{carriers_of, symbols_of};
 ghost use Rattle.ht_capture.specs.declared.items.Item.TheVariants.{Frame};
-ghost use Rattle.ht_capture.specs.declared.places.Present.{Present as Seen};
+ghost use Rattle.ht_capture.specs.declared.places.Present.{Present as PresentValue};
 ghost use Rattle.ht_capture.specs.Frames.{jobs_at};
-ghost use Rattle.ht_capture.specs.Fields.{Over, Symbol, frame_due, next_spot, symbol_due};
+ghost use Rattle.ht_capture.specs.Fields.{Over, Symbol, frame_due, next_symbol, symbol_due};
 ghost use Rattle.ht_capture.specs.Reading.{AreSeen, Halts, here};
 ghost use Rattle.ht_capture.specs.Readers.{symbol_octets};
 
 use crate::carriers::carriers;
 use crate::fields;
 use crate::heads::head;
-use crate::places::{Present, Spot, Turn};
+use crate::places::{Present, SymbolTurn, Turn};
 use ht_fields::{Field, read_field};
 use ht_io::{InFault, Kind, Source};
 
 /// Sees that the input ends.
 pub fn finish<S: Source>(source: &mut S, at: u64) -> Result<(), InFault>
     ensures told { MatchResult result
-        (λ _. Finishes (here Over at (S.left source.old)) (S.left source.new))
-        (Halts (here Over at (S.left source.old)) (S.left source.new) (S.faults source.old) (S.faults source.new)) }
-    ensures later { S.faults source.old ≤ S.faults source.new }
+        (λ _. Finishes (here Over at (S.shown source.old)) (S.shown source.new))
+        (Halts (here Over at (S.shown source.old)) (S.shown source.new)) }
+    ensures later { IsLater (S.shown source.old) (S.shown source.new) }
 {
     let mut octet = [0u8; 1];
     match read_field(source, &mut octet) {
@@ -37,24 +38,25 @@ pub fn frame<S: Source>(
     at: u64,
     turn: &Turn,
     present: &mut [Present],
-) -> Result<(Spot, u64), InFault>
+) -> Result<(SymbolTurn, u64), InFault>
     requires room { at + 3766 < 2 ^ 64 }
-    requires due { 0 < turn.now.left }
+    requires left { 0 < turn.now.left }
     requires space { length present.old ≡ 114 }
     ensures told { MatchResult result
-        (λ got. Gives (here (frame_due turn.now) at (S.left source.old))
-        (here (Symbol got.0 (take got.0.count present.new)) got.1 (S.left source.new)) (Frame got.0.head ∷ []))
-        (Halts (here (frame_due turn.now) at (S.left source.old)) (S.left source.new) (S.faults source.old) (S.faults source.new)) }
+        (λ got. Gives (here (frame_due turn.now) at (S.shown source.old))
+        (here (Symbol got.0 (take got.0.count present.new)) got.1 (S.shown source.new)) (Frame got.0.head ∷ []))
+        (Halts (here (frame_due turn.now) at (S.shown source.old)) (S.shown source.new)) }
     ensures turn { IfOk result (λ got. (got.0.turn ≡ turn.now) × (got.0.symbol ≡ 0)) }
     ensures number { IfOk result (λ got. got.0.head.frame ≡ turn.now.frame) }
     ensures some { IfOk result (λ got. 1 ≤ got.0.count) }
     ensures symbols { IfOk result (λ got. (1 ≤ got.0.symbols) × (got.0.symbols ≤ 20166)) }
+    ensures whole { IfOk result (λ got. got.0.symbols ≡ symbols_of got.0.head.rate got.0.head.length) }
     ensures jobs { IfOk result (λ got. got.0.symbols * got.0.count ≤ 1129296) }
     ensures few { IfOk result (λ got. got.0.count ≤ carriers_of got.0.head.rate) }
     ensures places { IfOk result (λ got. got.0.count ≤ 114) }
     ensures place { IfOk result (λ got. got.1 ≤ at + 3766) }
     ensures seen { IfOk result (λ got. AreSeen got.0.head.rate got.0.count present.new) }
-    ensures later { S.faults source.old ≤ S.faults source.new }
+    ensures later { IsLater (S.shown source.old) (S.shown source.new) }
 {
     let mut head = match head(source, at, turn) {
         Ok(head) => head,
@@ -64,17 +66,17 @@ pub fn frame<S: Source>(
         Ok(gathered) => gathered,
         Err(fault) => return Err(fault),
     };
-    let spot = Spot {
+    let due = SymbolTurn {
         turn: *turn,
         head,
         symbol: 0,
         symbols: head.rate.symbols(head.length),
         count: gathered.count,
     };
-    Ok((spot, gathered.at))
+    Ok((due, gathered.at))
 }
 
-/// The octets of so many subcarriers' samples in a symbol.
+/// The number of octets of the samples of `count` subcarriers in a symbol.
 pub fn width(count: usize, streams: u8) -> usize
     requires many { count ≤ 114 }
     requires some { 1 ≤ streams }
@@ -95,21 +97,22 @@ pub fn width(count: usize, streams: u8) -> usize
 pub fn symbol<S: Source>(
     source: &mut S,
     at: u64,
-    spot: &Spot,
+    due: &SymbolTurn,
     samples: &mut [u8],
 ) -> Result<u64, InFault>
     requires room { at + 3648 < 2 ^ 64 }
     requires space { length samples.old ≡ 3648 }
-    requires some { 1 ≤ spot.now.count }
-    requires few { spot.now.count ≤ 114 }
-    ensures told { (present : List Seen) → MatchResult result
-        (λ behind. Gives (here (Symbol spot.now present) at (S.left source.old))
-        (here (symbol_due (next_spot spot.now) present) behind (S.left source.new)) (jobs_at spot.now.head spot.now.symbol spot.now.turn.number present (take (symbol_octets spot.now) samples.new) 0))
-        (Halts (here (Symbol spot.now present) at (S.left source.old)) (S.left source.new) (S.faults source.old) (S.faults source.new)) }
+    requires some { 1 ≤ due.now.count }
+    requires few { due.now.count ≤ 114 }
+    ensures told { (present : List PresentValue) → MatchResult result
+        (λ behind. Gives (here (Symbol due.now present) at (S.shown source.old))
+        (here (symbol_due (next_symbol due.now) present) behind (S.shown source.new))
+        (jobs_at due.now.head due.now.symbol due.now.turn.number present (take (symbol_octets due.now) samples.new) 0))
+        (Halts (here (Symbol due.now present) at (S.shown source.old)) (S.shown source.new)) }
     ensures place { IfOk result (λ behind. behind ≤ at + 3648) }
-    ensures later { S.faults source.old ≤ S.faults source.new }
+    ensures later { IsLater (S.shown source.old) (S.shown source.new) }
 {
-    let octets = width(spot.count, spot.head.rate.streams());
+    let octets = width(due.count, due.head.rate.streams());
     match fields::fill(source, at, &mut samples[..octets]) {
         Ok(behind) => Ok(behind),
         Err(fault) => Err(fault),

@@ -2,12 +2,12 @@
 use crate::items::FrameHead;
 use ht_metric::Triangle;
 
-/// The frames that are due.
+/// How many frames are still due, and the numbers of the next frame and the next job.
 #[derive(Clone, Copy, Debug, PartialEq, Eq)]
 pub struct Turn {
     /// The version of the capture, 1 or 2.
     pub version: u8,
-    /// So many frames are due, the next one among them.
+    /// The number of frames that are due, the next one among them.
     pub left: u16,
     /// The number of the next frame.
     pub frame: u16,
@@ -17,20 +17,24 @@ pub struct Turn {
 
 /// The symbol that is due.
 #[derive(Clone, Copy, Debug, PartialEq, Eq)]
-pub struct Spot {
+pub struct SymbolTurn {
+    /// The frames that are due, the symbol's own among them, and the number of its first job.
     pub turn: Turn,
+    /// The head of its frame.
     pub head: FrameHead,
     /// The number of the symbol in its frame, counted from 0.
     pub symbol: u32,
-    /// So many symbols has the frame.
+    /// The number of symbols of the frame.
     pub symbols: u32,
-    /// So many subcarriers are present.
+    /// The number of subcarriers that are present.
     pub count: usize,
 }
 
 /// A subcarrier that is present, with its triangle.
 #[derive(Clone, Copy, Debug)]
 pub struct Present {
+    /// Its number among the subcarriers of its frame, counted from 0.
     pub carrier: u8,
+    /// The channel on it.
     pub triangle: Triangle,
 }

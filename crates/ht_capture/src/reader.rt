@@ -1,19 +1,24 @@
 //! The reader of captures.
-ghost use Rattle.std.specs.Prelude.{◌≡◌, ◌≤◌, ◌*◌, ℕ, List, Option, Some, None, Ok, Err, Result, MatchResult, IfOk, IfErr};
-ghost use Rattle.ht_io.specs.declared.faults.InFault.{InFault as Fault};
+ghost use Rattle.std.specs.Prelude.{◌≡◌, ◌<◌, ◌≤◌, ◌+◌, ◌-◌, ◌*◌, ℕ, [], ◌∷◌, None, Some, Ok, Err, Result, length, take, MatchResult, IfOk, IfErr};
+ghost use Rattle.ht_io.specs.Devices.{Device, IsLater};
+ghost use Rattle.ht_io.specs.declared.faults.InFault.{InFault as InFaultValue};
 ghost use Rattle.ht_io.specs.declared.faults.InFault.TheVariants.{NoMemory};
-ghost use Rattle.ht_capture.specs.declared.items.Item.{Item as Given};
-ghost use Rattle.ht_capture.specs.declared.items.Item.TheVariants.{Done};
-ghost use Rattle.ht_capture.specs.Fields.{captures};
+ghost use Rattle.ht_fields.specs.Readers.{Gives};
+ghost use Rattle.ht_capture.specs.declared.items.Item.{Item as ItemValue};
+ghost use Rattle.ht_capture.specs.declared.items.Item.TheVariants.{Job as JobItem, Done};
+ghost use Rattle.ht_capture.specs.Fields.{Symbol, captures, frame_due, magic, magic_due};
 ghost use Rattle.ht_capture.specs.Reading.{Halts, here};
-ghost use Rattle.ht_capture.specs.Readers.{Counted, Falls, GivesItem, GoesOn, counted, counts, finished, more, shown_by};
+ghost use Rattle.ht_capture.specs.Readers.{Counted, Falls, Follows, GivesItem, GoesOn, IsOfSymbol, IsPlaced, IsReady, StageFits, SymbolFits, TurnFits};
+ghost use Rattle.ht_capture.specs.Readers.{counted, counts, counts_at, finished, finished_stage, more, more_at, most_of};
+ghost use Rattle.ht_capture.specs.Readers.{shown_at, shown_by, stage_after, symbol_at, symbol_under_way};
 
-use crate::cursor::Cursor;
 use crate::items::Item;
-use crate::places::Present;
+use crate::parts::{self, width};
+use crate::places::{Present, SymbolTurn, Turn};
 use crate::stage::Stage;
+use crate::{heads, jobs};
 use ht_io::{InFault, Source};
-use ht_metric::{Tap, Triangle};
+use ht_metric::{Job, Tap, Triangle};
 use std::alloc::{AllocError, Global};
 use std::marker::Model;
 
@@ -28,26 +33,85 @@ const SYMBOL: usize = 3648;
 /// It keeps the triangles of one frame and the samples of one symbol, and takes the memory for them when it is made.
 #[derive(Debug, Drop)]
 pub struct Reader {
-    cursor: Cursor,
+    stage: Stage,
+    at: u64,
+    present: Vec<Present>,
+    samples: Vec<u8>,
 }
 
 impl Model for Reader {
-    ghost use Rattle.ht_capture.specs.declared.cursor.Cursor.{Cursor};
-    ghost use Rattle.ht_capture.specs.Readers.{IsSound};
+    ghost use Rattle.ht_capture.specs.Readers.{Progress, IsSound};
 
-    ghost Value = { Cursor };
+    ghost Value = { Progress };
 
-    ghost view = { λ r. r.cursor };
+    ghost view = { λ r. record { stage = r.stage; at = r.at; present = r.present.items; samples = r.samples.items } };
 
-    ghost invariant = { λ r. IsSound r.cursor };
+    ghost invariant = { λ r. IsSound (record { stage = r.stage; at = r.at; present = r.present.items; samples = r.samples.items }) };
 }
 
+// The stage behind a symbol: its next one, or the next frame.
+#[tactic(auto, unfolding(crate::specs::Fields::next_symbol, crate::specs::Fields::next_turn))]
+#[inline(never)]
+fn after(due: &SymbolTurn, at: u64, present: &[Present]) -> Stage
+    requires fits { SymbolFits due.now 1 at present.now }
+    ensures value { result ≡ stage_after due.now }
+    ensures fits { StageFits result at present.now }
+    ensures counts { counts_at result ≡ counted (due.now.turn.frame + 1) (due.now.turn.number + due.now.count) }
+    ensures fewer { more_at result ≤ (due.now.symbols - due.now.symbol - 1) * due.now.count + most_of (due.now.turn.left - 1) }
+    ensures going { finished_stage result ≡ None }
+    ensures follows { Follows due.now (symbol_at result) }
+{
+    let turn = Turn {
+        number: due.turn.number + due.count as u64,
+        ..due.turn
+    };
+    if due.symbol + 1 < due.symbols {
+        Stage::NextSymbol(SymbolTurn {
+            turn,
+            symbol: due.symbol + 1,
+            ..*due
+        })
+    } else {
+        Stage::NextFrame(Turn {
+            left: turn.left - 1,
+            frame: turn.frame + 1,
+            ..turn
+        })
+    }
+}
+
+// The job of a present subcarrier of a symbol that was read.
+fn job_of(due: &SymbolTurn, k: usize, at: u64, present: &[Present], samples: &[u8]) -> Job
+    requires fits { SymbolFits due.now 1 at present.now }
+    requires inside { k < due.now.count }
+    requires space { length present.now ≡ 114 }
+    requires size { length samples.now ≡ 3648 }
+    ensures told { (source : Device ℕ) → Gives (shown_at (Stage.Giving due.now k) at present.now samples.now source)
+        (shown_at (Stage.Giving due.now (k + 1)) at present.now samples.now source) (JobItem result ∷ []) }
+    ensures number { result.number ≡ due.now.turn.number + k }
+    ensures placed { IsOfSymbol due.now result }
+{
+    let streams = due.head.rate.streams();
+    let octets = &samples[..width(due.count, streams)];
+    let number = due.turn.number + k as u64;
+    jobs::job(
+        &due.head,
+        due.symbol,
+        number,
+        &present[k],
+        octets,
+        width(k, streams),
+    )
+}
+
+// What is called once a symbol or less is kept out of line, so that a job costs no more than itself.
 impl Reader {
-    /// A reader in front of a capture, whatever source it comes from.
+    /// A reader in front of a capture, whatever source that will come from. The only error is lack of memory.
     pub fn new(alloc: Global) -> Result<Reader, AllocError>
-        ensures first { IfOk result (λ reader. (left : Option (List ℕ)) → shown_by reader left ≡ here captures.start 0 left) }
+        ensures first { IfOk result (λ reader. (source : Device ℕ) → shown_by reader source ≡ here captures.start 0 source) }
         ensures counts { IfOk result (λ reader. counts reader ≡ counted 0 0) }
         ensures going { IfOk result (λ reader. finished reader ≡ None) }
+        ensures idle { IfOk result (λ reader. symbol_under_way reader ≡ None) }
         ensures bounded { IfOk result (λ reader. more reader ≤ 65535 * 1129297) }
     {
         let triangle = Triangle::new(1, [0; 4], [Tap { re: 0, im: 0 }; 6]);
@@ -58,12 +122,10 @@ impl Reader {
         let present = vec![in alloc; none; CARRIERS]?;
         let samples = vec![in alloc; 0u8; SYMBOL]?;
         Ok(Reader {
-            cursor: Cursor {
-                stage: Stage::Begin,
-                at: 0,
-                present,
-                samples,
-            },
+            stage: Stage::Begin,
+            at: 0,
+            present,
+            samples,
         })
     }
 
@@ -74,21 +136,25 @@ impl Reader {
     /// field at fault. `Read` comes where the source failed. Behind these and `Done` each further call answers the same,
     /// and takes nothing.
     ///
-    /// Where the source tells its octets, what is given is what they mean; where it tells none, it is what some octets
-    /// mean, so that number, place and grid of each job are those that come next.
+    /// Where the octets of the source are known, what is given is what they mean; where they are not, it is what some
+    /// octets mean, so that number, place and grid of each job are those that come next.
     pub fn next<S: Source>(&mut self, source: &mut S) -> Result<Item, InFault>
         // What the octets that this call took mean.
         ensures told { finished self.old ≡ None → MatchResult result
-            (GivesItem (shown_by self.old (S.left source.old)) (shown_by self.new (S.left source.new)))
-            (Halts (shown_by self.old (S.left source.old)) (S.left source.new) (S.faults source.old) (S.faults source.new)) }
+            (GivesItem (shown_by self.old (S.shown source.old)) (shown_by self.new (S.shown source.new)))
+            (Halts (shown_by self.old (S.shown source.old)) (S.shown source.new)) }
 
         // Heads and jobs are numbered from 0.
         ensures counted { IfOk result (Counted (counts self.old) (counts self.new)) }
 
+        // A job is one of the symbol that was due, on a subcarrier of its frame's rate.
+        ensures placed { IfOk result (IsPlaced (symbol_under_way self.old) (symbol_under_way self.new)) }
+
         // What stays.
         ensures going { IfOk result (GoesOn self.new) }
-        ensures later { S.faults source.old ≤ S.faults source.new }
-        ensures again { (answer : Result Given Fault) → finished self.old ≡ Some answer → (result ≡ answer) × (self.new ≡ self.old) × (source.new ≡ source.old) }
+        ensures later { IsLater (S.shown source.old) (S.shown source.new) }
+        ensures again { (answer : Result ItemValue InFaultValue) → finished self.old ≡ Some answer
+            → (result ≡ answer) × (self.new ≡ self.old) × (source.new ≡ source.old) }
         ensures stopped { IfErr result (λ fault. finished self.new ≡ Some (Err fault)) }
         ensures done { result ≡ Ok Done → finished self.new ≡ Some (Ok Done) }
 
@@ -98,10 +164,174 @@ impl Reader {
         // Memory never lacks.
         ensures memory { result ≡ Err NoMemory → ⊥ }
     {
-        match self.cursor.ready(source) {
-            Ok(()) => {}
-            Err(fault) => return Err(fault),
+        self.ready(source)?;
+        self.answer(source)
+    }
+
+    // Reads the symbol that is due, if one is.
+    fn ready<S: Source>(&mut self, source: &mut S) -> Result<(), InFault>
+        ensures told { MatchResult result
+            (λ _. Gives (shown_by self.old (S.shown source.old)) (shown_by self.new (S.shown source.new)) [])
+            (Halts (shown_by self.old (S.shown source.old)) (S.shown source.new)) }
+        ensures again { (answer : Result ItemValue InFaultValue) → finished self.old ≡ Some answer
+            → (result ≡ Ok tt) × (self.new ≡ self.old) × (source.new ≡ source.old) }
+        ensures going { IfOk result (λ _. finished self.new ≡ finished self.old) }
+        ensures stopped { IfErr result (λ fault. self.new.stage ≡ Stage.Stopped fault) }
+        ensures memory { IfErr result (λ fault. fault ≡ NoMemory → ⊥) }
+        ensures ready { IfOk result (λ _. IsReady self.new.stage) }
+        ensures counts { IfOk result (λ _. counts self.new ≡ counts self.old) }
+        ensures placed { IfOk result (λ _. symbol_under_way self.new ≡ symbol_under_way self.old) }
+        ensures never_more { more self.new ≤ more self.old }
+        ensures later { IsLater (S.shown source.old) (S.shown source.new) }
+    {
+        match self.stage {
+            Stage::NextSymbol(due) => self.symbol(source, due),
+            _ => Ok(()),
         }
-        self.cursor.answer(source)
+    }
+
+    // Gives what comes next, where no symbol has to be read before.
+    fn answer<S: Source>(&mut self, source: &mut S) -> Result<Item, InFault>
+        requires ready { IsReady self.old.stage }
+        ensures told { finished self.old ≡ None → MatchResult result
+            (GivesItem (shown_by self.old (S.shown source.old)) (shown_by self.new (S.shown source.new)))
+            (Halts (shown_by self.old (S.shown source.old)) (S.shown source.new)) }
+        ensures again { (answer : Result ItemValue InFaultValue) → finished self.old ≡ Some answer
+            → (result ≡ answer) × (self.new ≡ self.old) × (source.new ≡ source.old) }
+        ensures stopped { IfErr result (λ fault. finished self.new ≡ Some (Err fault)) }
+        ensures done { result ≡ Ok Done → finished self.new ≡ Some (Ok Done) }
+        ensures memory { IfErr result (λ fault. fault ≡ NoMemory → ⊥) }
+        ensures counted { IfOk result (Counted (counts self.old) (counts self.new)) }
+        ensures placed { IfOk result (IsPlaced (symbol_under_way self.old) (symbol_under_way self.new)) }
+        ensures on { IfOk result (GoesOn self.new) }
+        ensures fewer { Falls (more self.old) (more self.new) result }
+        ensures later { IsLater (S.shown source.old) (S.shown source.new) }
+    {
+        match self.stage {
+            Stage::Begin => self.begin(source),
+            Stage::NextFrame(turn) => self.frame(source, turn),
+            Stage::NextSymbol(_) => unreachable!(),
+            Stage::Giving(due, k) => {
+                let job = job_of(&due, k, self.at, &self.present, &self.samples);
+                self.pass(&due, k);
+                Ok(Item::Job(job))
+            }
+            Stage::Ended => Ok(Item::Done),
+            Stage::Stopped(fault) => Err(fault),
+        }
+    }
+
+    // Reads what stands in front of the frames, and then as `frame` does.
+    #[inline(never)]
+    fn begin<S: Source>(&mut self, source: &mut S) -> Result<Item, InFault>
+        ensures told { MatchResult result
+            (GivesItem (here (magic_due magic) 0 (S.shown source.old)) (shown_by self.new (S.shown source.new)))
+            (Halts (here (magic_due magic) 0 (S.shown source.old)) (S.shown source.new)) }
+        ensures stopped { IfErr result (λ fault. self.new.stage ≡ Stage.Stopped fault) }
+        ensures memory { IfErr result (λ fault. fault ≡ NoMemory → ⊥) }
+        ensures done { result ≡ Ok Done → self.new.stage ≡ Stage.Ended }
+        ensures counted { IfOk result (Counted (counted 0 0) (counts self.new)) }
+        ensures placed { IfOk result (IsPlaced None (symbol_under_way self.new)) }
+        ensures on { IfOk result (GoesOn self.new) }
+        ensures later { IsLater (S.shown source.old) (S.shown source.new) }
+        ensures fewer { Falls (most_of 65535) (more self.new) result }
+    {
+        match heads::start(source) {
+            Ok(turn) => {
+                self.at = 7;
+                self.stage = Stage::NextFrame(turn);
+                self.frame(source, turn)
+            }
+            Err(fault) => Err(self.stop(fault)),
+        }
+    }
+
+    // Reads the next frame's head and triangles and gives the head, or sees that the input ends.
+    #[inline(never)]
+    fn frame<S: Source>(&mut self, source: &mut S, turn: Turn) -> Result<Item, InFault>
+        requires stage { self.old.stage ≡ Stage.NextFrame turn }
+        requires fits { TurnFits turn self.old.at }
+        ensures told { MatchResult result
+            (GivesItem (here (frame_due turn) self.old.at (S.shown source.old)) (shown_by self.new (S.shown source.new)))
+            (Halts (here (frame_due turn) self.old.at (S.shown source.old)) (S.shown source.new)) }
+        ensures stopped { IfErr result (λ fault. self.new.stage ≡ Stage.Stopped fault) }
+        ensures memory { IfErr result (λ fault. fault ≡ NoMemory → ⊥) }
+        ensures done { result ≡ Ok Done → self.new.stage ≡ Stage.Ended }
+        ensures counted { IfOk result (Counted (counts_at (Stage.NextFrame turn)) (counts self.new)) }
+        ensures placed { IfOk result (IsPlaced None (symbol_under_way self.new)) }
+        ensures on { IfOk result (GoesOn self.new) }
+        ensures fewer { Falls (most_of turn.left) (more self.new) result }
+        ensures later { IsLater (S.shown source.old) (S.shown source.new) }
+    {
+        if turn.left == 0 {
+            match parts::finish(source, self.at) {
+                Ok(()) => {
+                    self.stage = Stage::Ended;
+                    Ok(Item::Done)
+                }
+                Err(fault) => Err(self.stop(fault)),
+            }
+        } else {
+            match parts::frame(source, self.at, &turn, &mut self.present) {
+                Ok((due, behind)) => {
+                    self.at = behind;
+                    self.stage = Stage::NextSymbol(due);
+                    Ok(Item::Frame(due.head))
+                }
+                Err(fault) => Err(self.stop(fault)),
+            }
+        }
+    }
+
+    // Reads a symbol: its jobs are due.
+    #[inline(never)]
+    fn symbol<S: Source>(&mut self, source: &mut S, due: SymbolTurn) -> Result<(), InFault>
+        requires fits { SymbolFits due 0 self.old.at self.old.present }
+        ensures told { MatchResult result
+            (λ _. Gives (here (Symbol due (take due.count self.old.present)) self.old.at (S.shown source.old)) (shown_by self.new (S.shown source.new)) [])
+            (Halts (here (Symbol due (take due.count self.old.present)) self.old.at (S.shown source.old)) (S.shown source.new)) }
+        ensures ready { IfOk result (λ _. self.new.stage ≡ Stage.Giving due 0) }
+        ensures stopped { IfErr result (λ fault. self.new.stage ≡ Stage.Stopped fault) }
+        ensures memory { IfErr result (λ fault. fault ≡ NoMemory → ⊥) }
+        ensures never_more { more self.new ≤ more_at (Stage.NextSymbol due) }
+        ensures later { IsLater (S.shown source.old) (S.shown source.new) }
+    {
+        match parts::symbol(source, self.at, &due, &mut self.samples) {
+            Ok(behind) => {
+                self.at = behind;
+                self.stage = Stage::Giving(due, 0);
+                Ok(())
+            }
+            Err(fault) => Err(self.stop(fault)),
+        }
+    }
+
+    // Leaves a job behind: the next one of its symbol is due, or what follows the symbol.
+    fn pass(&mut self, due: &SymbolTurn, k: usize)
+        requires fits { SymbolFits due.now 1 self.old.at self.old.present }
+        requires inside { k < due.now.count }
+        ensures told { (source : Device ℕ) → shown_at (Stage.Giving due.now (k + 1)) self.old.at self.old.present self.old.samples source
+            ≡ shown_by self.new source }
+        ensures counts { counts self.new ≡ counted (due.now.turn.frame + 1) (due.now.turn.number + (k + 1)) }
+        ensures fewer { more self.new < more_at (Stage.Giving due.now k) }
+        ensures going { finished self.new ≡ None }
+        ensures follows { Follows due.now (symbol_under_way self.new) }
+    {
+        if k + 1 < due.count {
+            self.stage = Stage::Giving(*due, k + 1);
+        } else {
+            self.stage = after(due, self.at, &self.present);
+        }
+    }
+
+    // Stops reading.
+    fn stop(&mut self, fault: InFault) -> InFault
+        requires real { fault ≡ NoMemory → ⊥ }
+        ensures same { result ≡ fault }
+        ensures stage { self.new.stage ≡ Stage.Stopped fault }
+        ensures none { more self.new ≡ 0 }
+    {
+        self.stage = Stage::Stopped(fault);
+        fault
     }
 }

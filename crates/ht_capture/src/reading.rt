@@ -1,10 +1,10 @@
 //! Captures that are read whole.
 ghost use Rattle.std.specs.Prelude.{◌≡◌, ◌≤◌, ◌<◌, ◌+◌, ◌*◌, ◌/◌, ◌^◌, ℕ, List, length, flat_map, MatchResult, IfOk, IfErr, OnOk, OnErr};
-ghost use Rattle.ht_io.specs.Octets.{Takes};
+ghost use Rattle.ht_io.specs.Devices.{Takes, IsLater};
 ghost use Rattle.ht_io.specs.declared.faults.InFault.TheVariants.{NoMemory};
 ghost use Rattle.ht_rate.specs.Rates.{carriers_of, streams_of, symbols_of};
-ghost use Rattle.ht_capture.specs.declared.places.Present.{Present as Seen};
-ghost use Rattle.ht_capture.specs.Fields.{Symbol, captures, frame_due, next_spot, next_turn, symbol_due};
+ghost use Rattle.ht_capture.specs.declared.places.Present.{Present as PresentValue};
+ghost use Rattle.ht_capture.specs.Fields.{Symbol, captures, frame_due, next_symbol, next_turn, symbol_due};
 ghost use Rattle.ht_capture.specs.Files.{FitsFrame, IsWhole, frame_octets, sample_octets};
 ghost use Rattle.ht_capture.specs.Contents.{AreBytes, AreSamples, IsTyped};
 ghost use Rattle.ht_capture.specs.Reading.{here};
@@ -14,7 +14,7 @@ use crate::carriers::carriers;
 use crate::frames::{CaptureFrame, Samples, Triangles};
 use crate::heads::{head, start};
 use crate::parts::{finish, width};
-use crate::places::{Present, Spot, Turn};
+use crate::places::{Present, SymbolTurn, Turn};
 use crate::{fields, numbers};
 use ht_io::{InFault, Source};
 use ht_metric::{Sample, Tap, Triangle};
@@ -45,23 +45,23 @@ fn add_samples(samples: &mut Vec<Sample>, octets: &[u8]) -> Result<(), InFault>
 fn symbol<S: Source>(
     source: &mut S,
     at: u64,
-    spot: &Spot,
+    due: &SymbolTurn,
     buffer: &mut [u8],
     samples: &mut Vec<Sample>,
 ) -> Result<u64, InFault>
     requires room { at + 3648 < 2 ^ 64 }
     requires space { length buffer.old ≡ 3648 }
-    requires some { 1 ≤ spot.now.count }
-    requires few { spot.now.count ≤ 114 }
-    ensures told { (present : List Seen) → MatchResult result
-        (λ behind. Given (here (Symbol spot.now present) at (S.left source.old)) (here (symbol_due (next_spot spot.now) present) behind (S.left source.new)))
-        (Ends (here (Symbol spot.now present) at (S.left source.old)) (S.left source.new) (S.faults source.old) (S.faults source.new)) }
-    ensures added { OnOk result ((octets : List ℕ) × Takes (S.left source.old) (S.left source.new) octets
-        × (length octets ≡ spot.now.count * (8 * streams_of spot.now.head.rate)) × AddsSamples samples.old.items samples.new.items octets) }
+    requires some { 1 ≤ due.now.count }
+    requires few { due.now.count ≤ 114 }
+    ensures told { (present : List PresentValue) → MatchResult result
+        (λ behind. Given (here (Symbol due.now present) at (S.shown source.old)) (here (symbol_due (next_symbol due.now) present) behind (S.shown source.new)))
+        (Ends (here (Symbol due.now present) at (S.shown source.old)) (S.shown source.new)) }
+    ensures added { OnOk result ((octets : List ℕ) × Takes (S.shown source.old) (S.shown source.new) octets
+        × (length octets ≡ due.now.count * (8 * streams_of due.now.head.rate)) × AddsSamples samples.old.items samples.new.items octets) }
     ensures place { IfOk result (λ behind. behind ≤ at + 3648) }
-    ensures later { S.faults source.old ≤ S.faults source.new }
+    ensures later { IsLater (S.shown source.old) (S.shown source.new) }
 {
-    let width = width(spot.count, spot.head.rate.streams());
+    let width = width(due.count, due.head.rate.streams());
     match fields::fill(source, at, &mut buffer[..width]) {
         Ok(behind) => match add_samples(samples, &buffer[..width]) {
             Ok(()) => Ok(behind),
@@ -87,19 +87,19 @@ fn triangles(alloc: Global, present: &[Present]) -> Result<Vec<Triangle>, InFaul
 }
 
 // The symbol behind one.
-#[tactic(auto, unfolding(crate::specs::Fields::next_spot))]
-fn next(spot: &Spot) -> Spot
-    requires symbol { spot.now.symbol < 2 ^ 31 }
-    requires number { spot.now.turn.number + spot.now.count < 2 ^ 64 }
-    ensures { result ≡ next_spot spot.now }
+#[tactic(auto, unfolding(crate::specs::Fields::next_symbol))]
+fn next(due: &SymbolTurn) -> SymbolTurn
+    requires symbol { due.now.symbol < 2 ^ 31 }
+    requires number { due.now.turn.number + due.now.count < 2 ^ 64 }
+    ensures { result ≡ next_symbol due.now }
 {
-    Spot {
+    SymbolTurn {
         turn: Turn {
-            number: spot.turn.number + spot.count as u64,
-            ..spot.turn
+            number: due.turn.number + due.count as u64,
+            ..due.turn
         },
-        symbol: spot.symbol + 1,
-        ..*spot
+        symbol: due.symbol + 1,
+        ..*due
     }
 }
 
@@ -108,35 +108,36 @@ fn samples<S: Source>(
     alloc: Global,
     source: &mut S,
     at: &mut u64,
-    spot: &mut Spot,
+    due: &mut SymbolTurn,
 ) -> Result<Vec<Sample>, InFault>
     requires room { at.old + 73565568 < 2 ^ 64 }
-    requires number { spot.old.turn.number + 2298924 < 2 ^ 64 }
-    requires first { spot.old.symbol ≡ 0 }
-    requires length { 1 ≤ spot.old.head.length }
-    requires symbols { spot.old.symbols ≡ symbols_of spot.old.head.rate spot.old.head.length }
-    requires some { 1 ≤ spot.old.count }
-    requires few { spot.old.count ≤ 114 }
-    ensures told { (present : List Seen) → MatchResult result
-        (λ _. Given (here (Symbol spot.old present) at.old (S.left source.old)) (here (frame_due (next_turn spot.new.turn)) at.new (S.left source.new)))
-        (Ends (here (Symbol spot.old present) at.old (S.left source.old)) (S.left source.new) (S.faults source.old) (S.faults source.new)) }
-    ensures octets { IfOk result (λ samples. Takes (S.left source.old) (S.left source.new) (flat_map sample_octets samples.items)) }
+    requires number { due.old.turn.number + 2298924 < 2 ^ 64 }
+    requires first { due.old.symbol ≡ 0 }
+    requires symbols { due.old.symbols ≡ symbols_of due.old.head.rate due.old.head.length }
+    requires low { 1 ≤ due.old.symbols }
+    requires high { due.old.symbols ≤ 20166 }
+    requires some { 1 ≤ due.old.count }
+    requires few { due.old.count ≤ 114 }
+    ensures told { (present : List PresentValue) → MatchResult result
+        (λ _. Given (here (Symbol due.old present) at.old (S.shown source.old)) (here (frame_due (next_turn due.new.turn)) at.new (S.shown source.new)))
+        (Ends (here (Symbol due.old present) at.old (S.shown source.old)) (S.shown source.new)) }
+    ensures octets { IfOk result (λ samples. Takes (S.shown source.old) (S.shown source.new) (flat_map sample_octets samples.items)) }
     ensures typed { IfOk result (λ samples. AreSamples samples.items) }
-    ensures count { IfOk result (λ samples. length samples.items ≡ symbols_of spot.old.head.rate spot.old.head.length * (spot.old.count * streams_of spot.old.head.rate)) }
-    ensures turn { IfOk result (λ _. SameTurn spot.new.turn spot.old.turn) }
-    ensures number { IfOk result (λ _. spot.new.turn.number ≤ spot.old.turn.number + 2298924) }
+    ensures count { IfOk result (λ samples. length samples.items
+        ≡ symbols_of due.old.head.rate due.old.head.length * (due.old.count * streams_of due.old.head.rate)) }
+    ensures turn { IfOk result (λ _. SameTurn due.new.turn due.old.turn) }
+    ensures number { IfOk result (λ _. due.new.turn.number ≤ due.old.turn.number + 2298924) }
     ensures place { IfOk result (λ _. at.new ≤ at.old + 73565568) }
-    ensures later { S.faults source.old ≤ S.faults source.new }
+    ensures later { IsLater (S.shown source.old) (S.shown source.new) }
 {
     let mut samples = Vec::new(alloc);
     let mut buffer = [0u8; SYMBOL];
-    let symbols = spot.head.rate.symbols(spot.head.length);
-    while spot.symbol < symbols {
-        match symbol(source, *at, spot, &mut buffer, &mut samples) {
+    while due.symbol < due.symbols {
+        match symbol(source, *at, due, &mut buffer, &mut samples) {
             Ok(behind) => *at = behind,
             Err(fault) => return Err(fault),
         }
-        *spot = next(spot);
+        *due = next(due);
     }
     Ok(samples)
 }
@@ -161,18 +162,18 @@ fn frame<S: Source>(
 ) -> Result<CaptureFrame, InFault>
     requires room { at.old + 73569334 < 2 ^ 64 }
     requires number { turn.old.number + 2298924 < 2 ^ 64 }
-    requires due { 0 < turn.old.left }
+    requires left { 0 < turn.old.left }
     requires frames { turn.old.frame + turn.old.left ≤ 65535 }
     ensures told { MatchResult result
-        (λ _. Given (here (frame_due turn.old) at.old (S.left source.old)) (here (frame_due turn.new) at.new (S.left source.new)))
-        (Ends (here (frame_due turn.old) at.old (S.left source.old)) (S.left source.new) (S.faults source.old) (S.faults source.new)) }
-    ensures octets { IfOk result (λ frame. Takes (S.left source.old) (S.left source.new) (frame_octets turn.old.version frame)) }
+        (λ _. Given (here (frame_due turn.old) at.old (S.shown source.old)) (here (frame_due turn.new) at.new (S.shown source.new)))
+        (Ends (here (frame_due turn.old) at.old (S.shown source.old)) (S.shown source.new)) }
+    ensures octets { IfOk result (λ frame. Takes (S.shown source.old) (S.shown source.new) (frame_octets turn.old.version frame)) }
     ensures fits { IfOk result FitsFrame }
     ensures typed { IfOk result IsTyped }
     ensures whole { (turn.old.version ≡ 2 → ⊥) → IfOk result IsWhole }
     ensures turn { IfOk result (λ _. IsBehind turn.new turn.old) }
     ensures place { IfOk result (λ _. at.new ≤ at.old + 73569334) }
-    ensures later { S.faults source.old ≤ S.faults source.new }
+    ensures later { IsLater (S.shown source.old) (S.shown source.new) }
 {
     let mut head = match head(source, *at, turn) {
         Ok(head) => head,
@@ -187,7 +188,7 @@ fn frame<S: Source>(
         Ok(triangles) => triangles,
         Err(fault) => return Err(fault),
     };
-    let mut spot = Spot {
+    let mut due = SymbolTurn {
         turn: *turn,
         head,
         symbol: 0,
@@ -195,14 +196,14 @@ fn frame<S: Source>(
         count: gathered.count,
     };
     *at = gathered.at;
-    let samples = match samples(alloc, source, at, &mut spot) {
+    let samples = match samples(alloc, source, at, &mut due) {
         Ok(samples) => samples,
         Err(fault) => return Err(fault),
     };
     *turn = Turn {
         left: turn.left - 1,
         frame: turn.frame + 1,
-        ..spot.turn
+        ..due.turn
     };
     Ok(CaptureFrame {
         rate: head.rate,
@@ -215,14 +216,15 @@ fn frame<S: Source>(
 
 /// Reads a capture of either version to its end, and gives its frames.
 ///
-/// `Format` comes at the first fault of the capture, and `Read` where the source failed before any fault.
+/// `Format` comes at the first fault of the capture, `Read` where the source failed before any fault, and `NoMemory`
+/// where memory ran out.
 pub fn read_captures<S: Source>(alloc: Global, source: &mut S) -> Result<Vec<CaptureFrame>, InFault>
     // What was left was the file of these frames, and is taken.
-    ensures file { IfOk result (λ frames. ReadsFile (S.left source.old) (S.left source.new) frames.items) }
+    ensures file { IfOk result (λ frames. ReadsFile (S.shown source.old) (S.shown source.new) frames.items) }
 
     // A refusal is the first fault of the capture, or its source failed within a capture or behind it.
-    ensures refused { IfErr result (Ends (here captures.start 0 (S.left source.old)) (S.left source.new) (S.faults source.old) (S.faults source.new)) }
-    ensures later { S.faults source.old ≤ S.faults source.new }
+    ensures refused { IfErr result (Ends (here captures.start 0 (S.shown source.old)) (S.shown source.new)) }
+    ensures later { IsLater (S.shown source.old) (S.shown source.new) }
 {
     let mut turn = match start(source) {
         Ok(turn) => turn,

@@ -1,11 +1,11 @@
 //! Captures as they are written.
 ghost use Rattle.std.specs.Prelude.{◌≡◌, ◌≤◌, ◌<◌, ◌+◌, ◌*◌, ◌-◌, ◌++◌, ◌∷◌, ◌==◌, [], false, All, length, flat_map, slice_index_or, OnOk, OnErr};
-ghost use Rattle.ht_io.specs.Causes.{Rose};
-ghost use Rattle.ht_io.specs.Octets.{Grows, GrowsByPart};
+ghost use Rattle.ht_io.specs.Devices.{Grows, GrowsByPart, Rose, IsLater};
 ghost use Rattle.ht_rate.specs.Rates.{carriers_of};
 ghost use Rattle.ht_rate.specs.Schemes.{bandwidth_code as code_of};
 ghost use Rattle.ht_metric.specs.Rows.{no_leg};
-ghost use Rattle.ht_capture.specs.Files.{AreFrames, FitsFrame, IsWhole, behind, file_of, flagged, flagged_octets, frame_octets, front_octets, is_erased as erased_at, leg_octets, legs_octets, present_of, sample_octets, start_octets, tap_octets};
+ghost use Rattle.ht_capture.specs.Files.{AreFrames, FitsFrame, IsWhole, behind, file_of, flagged, flagged_octets, frame_octets};
+ghost use Rattle.ht_capture.specs.Files.{front_octets, is_erased as erased_at, leg_octets, legs_octets, present_of, sample_octets, start_octets, tap_octets};
 
 use crate::chunk::Chunk;
 use crate::frames::CaptureFrame;
@@ -13,7 +13,7 @@ use ht_io::{Failed, Sink};
 use ht_metric::{Sample, Tap, Triangle};
 use ht_rate::Bandwidth;
 
-/// So many samples are put at once: the most of a symbol.
+/// The number of samples that are put at once: the most of a symbol.
 const SAMPLES: usize = 456;
 
 // Adds an entry of a triangle.
@@ -136,10 +136,10 @@ fn fill(chunk: &mut Chunk, samples: &[Sample])
 
 // Puts samples, as many at once as a symbol may have.
 fn put_samples<K: Sink>(samples: &[Sample], chunk: &mut Chunk, sink: &mut K) -> Result<(), Failed>
-    ensures grown { OnOk result (Grows (K.held sink.old) (K.held sink.new) (flat_map sample_octets samples.now)) }
-    ensures part { OnErr result (GrowsByPart (K.held sink.old) (K.held sink.new) (flat_map sample_octets samples.now)) }
-    ensures cause { OnErr result (Rose (K.faults sink.old) (K.faults sink.new)) }
-    ensures later { K.faults sink.old ≤ K.faults sink.new }
+    ensures grown { OnOk result (Grows (K.shown sink.old) (K.shown sink.new) (flat_map sample_octets samples.now)) }
+    ensures part { OnErr result (GrowsByPart (K.shown sink.old) (K.shown sink.new) (flat_map sample_octets samples.now)) }
+    ensures cause { OnErr result (Rose (K.shown sink.old) (K.shown sink.new)) }
+    ensures later { IsLater (K.shown sink.old) (K.shown sink.new) }
 {
     let mut rest = samples;
     while !rest.is_empty() {
@@ -160,10 +160,10 @@ fn put_frame<K: Sink>(
     sink: &mut K,
 ) -> Result<(), Failed>
     requires fits { FitsFrame frame.now }
-    ensures grown { OnOk result (Grows (K.held sink.old) (K.held sink.new) (frame_octets version frame.now)) }
-    ensures part { OnErr result (GrowsByPart (K.held sink.old) (K.held sink.new) (frame_octets version frame.now)) }
-    ensures cause { OnErr result (Rose (K.faults sink.old) (K.faults sink.new)) }
-    ensures later { K.faults sink.old ≤ K.faults sink.new }
+    ensures grown { OnOk result (Grows (K.shown sink.old) (K.shown sink.new) (frame_octets version frame.now)) }
+    ensures part { OnErr result (GrowsByPart (K.shown sink.old) (K.shown sink.new) (frame_octets version frame.now)) }
+    ensures cause { OnErr result (Rose (K.shown sink.old) (K.shown sink.new)) }
+    ensures later { IsLater (K.shown sink.old) (K.shown sink.new) }
 {
     front(chunk, version, frame);
     sink.put(chunk.as_slice())?;
@@ -185,10 +185,10 @@ fn start(chunk: &mut Chunk, version: u8, count: u16)
 #[tactic(auto, unfolding(crate::specs::Files::file_of))]
 fn put_file<K: Sink>(version: u8, frames: &[CaptureFrame], sink: &mut K) -> Result<(), Failed>
     requires frames { AreFrames frames.now }
-    ensures grown { OnOk result (Grows (K.held sink.old) (K.held sink.new) (file_of version frames.now)) }
-    ensures part { OnErr result (GrowsByPart (K.held sink.old) (K.held sink.new) (file_of version frames.now)) }
-    ensures cause { OnErr result (Rose (K.faults sink.old) (K.faults sink.new)) }
-    ensures later { K.faults sink.old ≤ K.faults sink.new }
+    ensures grown { OnOk result (Grows (K.shown sink.old) (K.shown sink.new) (file_of version frames.now)) }
+    ensures part { OnErr result (GrowsByPart (K.shown sink.old) (K.shown sink.new) (file_of version frames.now)) }
+    ensures cause { OnErr result (Rose (K.shown sink.old) (K.shown sink.new)) }
+    ensures later { IsLater (K.shown sink.old) (K.shown sink.new) }
 {
     let mut chunk = Chunk::new();
     start(&mut chunk, version, frames.len() as u16);
@@ -199,33 +199,36 @@ fn put_file<K: Sink>(version: u8, frames: &[CaptureFrame], sink: &mut K) -> Resu
     Ok(())
 }
 
-/// Puts the capture of these frames, in version 1, which has no erased subcarriers. It takes no memory.
+/// Puts the capture of at most 65535 frames, in version 1, which has no erased subcarriers. Each frame has the
+/// triangles and samples that its rate and its length ask for. It takes no memory.
 ///
-/// Where the sink fails, a part of the file from its front was put.
+/// Where the sink fails, a part of the file from its front has been put.
 pub fn write_captures<K: Sink>(frames: &[CaptureFrame], sink: &mut K) -> Result<(), Failed>
     // At most 65535 frames, each with what its rate, its length and its present subcarriers ask for, and none erased.
     requires frames { AreFrames frames.now }
     requires whole { All IsWhole frames.now }
 
-    ensures grown { OnOk result (Grows (K.held sink.old) (K.held sink.new) (file_of 1 frames.now)) }
-    ensures part { OnErr result (GrowsByPart (K.held sink.old) (K.held sink.new) (file_of 1 frames.now)) }
-    ensures cause { OnErr result (Rose (K.faults sink.old) (K.faults sink.new)) }
-    ensures later { K.faults sink.old ≤ K.faults sink.new }
+    ensures grown { OnOk result (Grows (K.shown sink.old) (K.shown sink.new) (file_of 1 frames.now)) }
+    ensures part { OnErr result (GrowsByPart (K.shown sink.old) (K.shown sink.new) (file_of 1 frames.now)) }
+    ensures cause { OnErr result (Rose (K.shown sink.old) (K.shown sink.new)) }
+    ensures later { IsLater (K.shown sink.old) (K.shown sink.new) }
 {
     put_file(1, frames, sink)
 }
 
-/// Puts the capture of these frames, in version 2, which has a flag for each subcarrier. It takes no memory.
+/// Puts the capture of at most 65535 frames, in version 2, which has a flag for each subcarrier. Each frame has a
+/// subcarrier that is present, and the triangles and samples that its rate, its length and its present subcarriers ask
+/// for. It takes no memory.
 ///
-/// Where the sink fails, a part of the file from its front was put.
+/// Where the sink fails, a part of the file from its front has been put.
 pub fn write_captures_2<K: Sink>(frames: &[CaptureFrame], sink: &mut K) -> Result<(), Failed>
     // At most 65535 frames, each with what its rate, its length and its present subcarriers ask for.
     requires frames { AreFrames frames.now }
 
-    ensures grown { OnOk result (Grows (K.held sink.old) (K.held sink.new) (file_of 2 frames.now)) }
-    ensures part { OnErr result (GrowsByPart (K.held sink.old) (K.held sink.new) (file_of 2 frames.now)) }
-    ensures cause { OnErr result (Rose (K.faults sink.old) (K.faults sink.new)) }
-    ensures later { K.faults sink.old ≤ K.faults sink.new }
+    ensures grown { OnOk result (Grows (K.shown sink.old) (K.shown sink.new) (file_of 2 frames.now)) }
+    ensures part { OnErr result (GrowsByPart (K.shown sink.old) (K.shown sink.new) (file_of 2 frames.now)) }
+    ensures cause { OnErr result (Rose (K.shown sink.old) (K.shown sink.new)) }
+    ensures later { IsLater (K.shown sink.old) (K.shown sink.new) }
 {
     put_file(2, frames, sink)
 }

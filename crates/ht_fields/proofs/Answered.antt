@@ -23,7 +23,8 @@ reached f octets items offset state rest r =
     ∙ ap (λ n. before items (meaning f state n rest)) place
 
 -- nothing comes behind the items
-pub alone : {I : Type 0} (items : List I) (fault : Option FormatFault) → before items (record { items = []; fault = fault }) ≡ record { items = items; fault = fault }
+pub alone : {I : Type 0} (items : List I) (fault : Option FormatFault)
+    → before items (record { items = []; fault = fault }) ≡ record { items = items; fault = fault }
 alone {I = I} items fault = ap (λ (z : List I). record { items = z; fault = fault }) (append-nil items)
 
 -- The meaning of a text is that of its case.
@@ -69,7 +70,8 @@ pub file_found : {S I : Type 0} (f : Grammar S I) (octets : List ℕ)
 file_found f octets e = let w = found f octets in file_at f octets (meaning f f.start 0 octets).items w.0 w.1 (sym e ∙ w.2)
 
 -- a field at fault begins within the text
-within : {S I : Type 0} (f : Grammar S I) (octets : List ℕ) (items : List I) (kind : Kind) (offset : ℕ) → HasFault f octets items kind offset → offset < length octets
+within : {S I : Type 0} (f : Grammar S I) (octets : List ℕ) (items : List I) (kind : Kind) (offset : ℕ)
+    → HasFault f octets items kind offset → offset < length octets
 within f octets items kind offset m =
     let r = m.3 in
     let all : length octets ≡ length (joined r.fields) + (length m.1 + length m.2) =
@@ -115,7 +117,8 @@ file_items f octets items others p q =
 -- A bad field stays at fault, whatever follows it.
 pub bad_stays : {S I : Type 0} (f : Grammar S I) (octets : List ℕ) (items : List I) (kind : Kind) (offset : ℕ)
     → HasFault f octets items kind offset
-    → (front : List ℕ) × (rest : List ℕ) × (octets ≡ front ++ rest) × (offset < length front) × ((other : List ℕ) → HasFault f (front ++ other) items kind offset)
+    → (front : List ℕ) × (rest : List ℕ) × (octets ≡ front ++ rest) × (offset < length front)
+    × ((other : List ℕ) → HasFault f (front ++ other) items kind offset)
 bad_stays f octets items kind offset m =
     let r = m.3 in
     let front = joined r.fields in (
@@ -133,13 +136,25 @@ trailing_stays f octets other items offset m =
     let r = m.3 in
     let front = joined r.fields in
     let cut : take (offset + 1) octets ≡ front ++ (m.1 ∷ []) =
-    ap (take (offset + 1)) r.split ∙ (ap (λ n. take (n + 1) (front ++ (m.1 ∷ m.2))) r.length_is ∙ take-append-add front (m.1 ∷ m.2) 1) in
-    (m.0, m.1, other, record { fields = r.fields; good = r.good; split = ap (λ z. z ++ other) cut ∙ append_assoc front (m.1 ∷ []) other; length_is = r.length_is }, m.4)
+    ap (take (offset + 1)) r.split ∙ (ap (λ n. take (n + 1) (front ++ (m.1 ∷ m.2))) r.length_is ∙ take-append-add front (m.1 ∷ m.2) 1) in (
+      m.0,
+      m.1,
+      other,
+      record {
+        fields = r.fields;
+        good = r.good;
+        split =
+            ap (λ z. z ++ other) cut ∙ append_assoc front (m.1 ∷ []) other;
+        length_is = r.length_is;
+      },
+      m.4,
+    )
 
 -- Good fields, and then less than a field: no fault but the early end.
 pub clean_meaning : {S I : Type 0} (f : Grammar S I) (s t : S) (at : ℕ) (fields : List (List ℕ)) (items : List I) (rest : List ℕ)
     → Leads f s fields items t → IsShort (f.due t) rest
-    → meaning f s at (joined fields ++ rest) ≡ record { items = items; fault = Some (record { kind = Truncated; offset = at + length (joined fields ++ rest) }) }
+    → meaning f s at (joined fields ++ rest)
+    ≡ record { items = items; fault = Some (record { kind = Truncated; offset = at + length (joined fields ++ rest) }) }
 clean_meaning f s t at fields items rest l short =
     let place : (at + length (joined fields)) + length rest ≡ at + length (joined fields ++ rest) = omega (arith, length-append (joined fields) rest) in
     good_fields f s t at fields items rest l

@@ -17,10 +17,19 @@ fewer (Wants beyond judge) x rest v p few = let width : length x ≡ beyond + 1 
 -- A cut file is clean.
 pub cut_clean : {S I : Type 0} (f : Grammar S I) (octets : List ℕ) → IsCut f octets → (items : List I) × IsClean f octets items
 cut_clean f octets c =
-    let p = Leads-part f f.start c.4 c.0 (c.1 ∷ c.2) c.3 c.6 in
-    (p.front, (length (joined c.0), p.state, c.5, record { fields = c.0; good = p.first; split = c.8; length_is = refl }, short_of (f.due p.state) c.1 c.5 (Good p.then_on.0 p.then_on.1) p.then_on.3 c.9))
+    let p = Leads-part f f.start c.4 c.0 (c.1 ∷ c.2) c.3 c.6 in (
+      p.front,
+      (
+        length (joined c.0),
+        p.state,
+        c.5,
+        record { fields = c.0; good = p.first; split = c.8; length_is = refl },
+        short_of (f.due p.state) c.1 c.5 (Good p.then_on.0 p.then_on.1) p.then_on.3 c.9,
+      ),
+    )
 
-cut_at : {S I : Type 0} (f : Grammar S I) (octets : List ℕ) (items : List I) (offset : ℕ) (state : S) (rest : List ℕ) (more : List (List ℕ)) (later : List I) (last : S)
+cut_at : {S I : Type 0} (f : Grammar S I) (octets : List ℕ) (items : List I) (offset : ℕ)
+    (state : S) (rest : List ℕ) (more : List (List ℕ)) (later : List I) (last : S)
     → Reaches f octets items offset state rest → IsShort (f.due state) rest → Leads f state more later last → IsEnd (f.due last) → IsCut f octets
 cut_at f octets items offset state rest [] later last r short l e =
     absurd (end_not_short (f.due state) rest (subst (λ s. IsEnd (f.due s)) (sym l.1) e) short)

@@ -3,42 +3,38 @@ use Rattle.std.specs.Prelude.{◌≡◌, ◌⊎◌, ℕ, ◌+◌, ◌-◌, List,
 use Rattle.std.proofs.Common.{refl, ap, ◌∙◌, sym, subst, inl, inr, append_assoc, arith, length-append}
 use Rattle.std.proofs.lemmas.List.{append-nil}
 use Rattle.std.proofs.Math.Seq.{take-append-add}
-use Rattle.ht_io.specs.Octets.{Takes}
+use Rattle.ht_io.specs.Devices.{Device, Takes}
 use Rattle.ht_io.specs.declared.faults.FormatFault.{FormatFault}
 use Rattle.ht_io.specs.declared.faults.InFault.{InFault}
 use Rattle.ht_io.specs.declared.faults.InFault.TheVariants.{Format, Read, NoMemory}
 use Rattle.ht_fields.specs.Grammar.{Grammar}
 use Rattle.ht_fields.specs.Cases.{IsFile, IsClean}
 use Rattle.ht_fields.specs.Meanings.{Meaning, before, refused, meaning}
-use Rattle.ht_fields.specs.Reading.{TakesAll}
-use Rattle.ht_fields.specs.Readers.{Shown, Gives, EndsAt, Refuses, RunsOut, Finishes, IsEarly, Breaks, Stops}
-use Rattle.ht_fields.proofs.Pieces.{takes-append}
+use Rattle.ht_fields.specs.Readers.{ReaderView, Gives, EndsAt, Refuses, RunsOut, Finishes, IsEarly, Breaks, Stops}
+use Rattle.ht_io.proofs.Calls.{takes-none, takes-append, takes-all, takes-known, takes_all-known}
 use Rattle.ht_fields.proofs.Steps.{before-before}
 use Rattle.ht_fields.proofs.Answered.{alone, file_found, clean_found}
 
-takes_none : (left : Option (List ℕ)) → Takes left left []
-takes_none None = tt
-takes_none (Some left) = refl
-
 -- Nothing was taken yet.
-pub gives_none : {I : Type 0} (old : Shown I) → Gives old old []
-gives_none old = record { taken = []; octets = takes_none old.left; place = omega arith; means = λ rest. refl }
+pub gives_none : {I : Type 0} (old : ReaderView I) → Gives old old []
+gives_none old = record { taken = []; octets = takes-none old.source; place = omega arith; means = λ rest. refl }
 
 farther : (old mid new : ℕ) (a b : List ℕ) → mid ≡ old + length a → new ≡ mid + length b → new ≡ old + length (a ++ b)
 farther old mid new a b p q = omega (arith, length-append a b)
 
 -- Items, and then more items.
-pub gives_more : {I : Type 0} (old mid new : Shown I) (items more : List I) → Gives old mid items → Gives mid new more → Gives old new (items ++ more)
+pub gives_more : {I : Type 0} (old mid new : ReaderView I) (items more : List I) → Gives old mid items → Gives mid new more → Gives old new (items ++ more)
 gives_more old mid new items more a b =
     record {
       taken = a.taken ++ b.taken;
-      octets = takes-append old.left mid.left new.left a.taken b.taken a.octets b.octets;
+      octets = takes-append old.source mid.source new.source a.taken b.taken a.octets b.octets;
       place = farther old.at mid.at new.at a.taken b.taken a.place b.place;
-      means = λ rest. ap old.means (append_assoc a.taken b.taken rest) ∙ (a.means (b.taken ++ rest) ∙ (ap (before items) (b.means rest) ∙ before-before items more (new.means rest)));
+      means = λ rest. ap old.means (append_assoc a.taken b.taken rest)
+          ∙ (a.means (b.taken ++ rest) ∙ (ap (before items) (b.means rest) ∙ before-before items more (new.means rest)));
     }
 
 -- Behind octets that give items the field at fault ends where it ended.
-pub ends_behind : {I : Type 0} (old mid : Shown I) (items : List I) (a : Gives old mid items) (taken : List ℕ) (fault : FormatFault)
+pub ends_behind : {I : Type 0} (old mid : ReaderView I) (items : List I) (a : Gives old mid items) (taken : List ℕ) (fault : FormatFault)
     → EndsAt mid taken fault → EndsAt old (a.taken ++ taken) fault
 ends_behind {I = I} old mid items a taken fault b =
     let place = a.place in
@@ -60,111 +56,98 @@ ends_behind {I = I} old mid items a taken fault b =
     }
 
 -- Octets that give no item, and then a fault.
-pub gives_refuses : {I : Type 0} (old mid : Shown I) (after : Option (List ℕ)) (fault : FormatFault)
+pub gives_refuses : {I : Type 0} (old mid : ReaderView I) (after : Device ℕ) (fault : FormatFault)
     → Gives old mid [] → Refuses mid after fault → Refuses old after fault
 gives_refuses old mid after fault a b =
     record {
       taken = a.taken ++ b.taken;
-      octets = takes-append old.left mid.left after a.taken b.taken a.octets b.octets;
+      octets = takes-append old.source mid.source after a.taken b.taken a.octets b.octets;
       means = λ rest. ap old.means (append_assoc a.taken b.taken rest) ∙ (a.means (b.taken ++ rest) ∙ ap (before []) (b.means rest));
       ends = ends_behind old mid [] a b.taken fault b.ends;
     }
 
-pub takes_all : (left between after : Option (List ℕ)) (xs ys : List ℕ) → Takes left between xs → TakesAll between after ys → TakesAll left after (xs ++ ys)
-takes_all None None None xs ys a b = tt
-takes_all None None (Some after) xs ys a b = absurd b
-takes_all None (Some between) after xs ys a b = absurd a
-takes_all (Some left) None after xs ys a b = absurd a
-takes_all (Some left) (Some between) None xs ys a b = absurd b
-takes_all (Some left) (Some between) (Some after) xs ys a b = (a ∙ ap (λ z. xs ++ z) b.0, b.1)
-
 -- Octets that give no item, and then an early end.
-pub gives_runs_out : {I : Type 0} (old mid : Shown I) (after : Option (List ℕ)) (fault : FormatFault)
+pub gives_runs_out : {I : Type 0} (old mid : ReaderView I) (after : Device ℕ) (fault : FormatFault)
     → Gives old mid [] → RunsOut mid after fault → RunsOut old after fault
 gives_runs_out old mid after fault a b =
     record {
       taken = a.taken ++ b.taken;
-      octets = takes_all old.left mid.left after a.taken b.taken a.octets b.octets;
+      octets = takes-all old.source mid.source after a.taken b.taken a.octets b.octets;
       kind = b.kind;
       place = farther old.at mid.at fault.offset a.taken b.taken a.place b.place;
       means = a.means b.taken ∙ ap (before []) b.means;
     }
 
 -- Octets that give no item, and then a failing source.
-pub gives_breaks : {I : Type 0} (old mid : Shown I) (after : Option (List ℕ)) → Gives old mid [] → Breaks mid after → Breaks old after
+pub gives_breaks : {I : Type 0} (old mid : ReaderView I) (after : Device ℕ) → Gives old mid [] → Breaks mid after → Breaks old after
 gives_breaks {I = I} old mid after a b =
     let is : old.means (a.taken ++ b.taken) ≡ mid.means b.taken = a.means b.taken in
     let total : mid.at + length b.taken ≡ old.at + length (a.taken ++ b.taken) = farther old.at mid.at (mid.at + length b.taken) a.taken b.taken a.place refl in
     record {
       taken = a.taken ++ b.taken;
-      octets = takes-append old.left mid.left after a.taken b.taken a.octets b.octets;
+      octets = takes-append old.source mid.source after a.taken b.taken a.octets b.octets;
       items = ap (λ (m : Meaning I). m.items) is ∙ b.items;
-      early = subst (λ (m : Meaning I). IsEarly (old.at + length (a.taken ++ b.taken)) m.fault) (sym is) (subst (λ n. IsEarly n (mid.means b.taken).fault) total b.early);
+      early = subst (λ (m : Meaning I). IsEarly (old.at + length (a.taken ++ b.taken)) m.fault)
+          (sym is) (subst (λ n. IsEarly n (mid.means b.taken).fault) total b.early);
     }
 
 -- Octets that give no item, and then a stop.
-pub gives_stops : {I : Type 0} (old mid : Shown I) (after : Option (List ℕ)) (answer : InFault) → Gives old mid [] → Stops mid after answer → Stops old after answer
+pub gives_stops : {I : Type 0} (old mid : ReaderView I) (after : Device ℕ) (answer : InFault)
+    → Gives old mid [] → Stops mid after answer → Stops old after answer
 gives_stops old mid after (Format fault) a (inl b) = inl (gives_refuses old mid after fault a b)
 gives_stops old mid after (Format fault) a (inr b) = inr (gives_runs_out old mid after fault a b)
 gives_stops old mid after Read a b = gives_breaks old mid after a b
 gives_stops old mid after NoMemory a b = tt
 
--- where what is left is told, the octets taken were its front
-pub fronted : (b : List ℕ) (after : Option (List ℕ)) (taken : List ℕ) → Takes (Some b) after taken → (rest : List ℕ) × (after ≡ Some rest) × (b ≡ taken ++ rest)
-fronted b None taken t = absurd t
-fronted b (Some rest) taken t = (rest, refl, t)
-
-all_taken : (b : List ℕ) (after : Option (List ℕ)) (taken : List ℕ) → TakesAll (Some b) after taken → (after ≡ Some []) × (b ≡ taken)
-all_taken b None taken t = absurd t
-all_taken b (Some rest) taken t = (ap (λ (z : List ℕ). Some z) t.1, t.0)
-
--- What a text that is told means, where items were given.
-pub told_gives : {I : Type 0} (old new : Shown I) (items : List I) (b : List ℕ)
-    → Gives old new items → old.left ≡ Some b → (rest : List ℕ) × (new.left ≡ Some rest) × (old.means b ≡ before items (new.means rest))
-told_gives old new items b g is =
-    let front = fronted b new.left g.taken (subst (λ (z : Option (List ℕ)). Takes z new.left g.taken) is g.octets) in
+-- What a text that is known means, where items were given.
+pub known_gives : {I : Type 0} (old new : ReaderView I) (items : List I) (b : List ℕ) → Gives old new items → old.source.known ≡ Some b
+    → (rest : List ℕ) × (new.source.known ≡ Some rest) × (old.means b ≡ before items (new.means rest))
+known_gives old new items b g is =
+    let front = takes-known old.source new.source b g.taken g.octets is in
     (front.0, front.1, ap old.means front.2 ∙ g.means front.0)
 
--- What a text that is told means, where the reader refused it at once.
-pub told_stops : {I : Type 0} (old : Shown I) (after : Option (List ℕ)) (fault : FormatFault) (b : List ℕ)
-    → Stops old after (Format fault) → old.left ≡ Some b → old.means b ≡ refused fault.kind fault.offset
-told_stops old after fault b (inl r) is =
-    let front = fronted b after r.taken (subst (λ (z : Option (List ℕ)). Takes z after r.taken) is r.octets) in
+-- What a text that is known means, where the reader refused it at once.
+pub known_stops : {I : Type 0} (old : ReaderView I) (after : Device ℕ) (fault : FormatFault) (b : List ℕ)
+    → Stops old after (Format fault) → old.source.known ≡ Some b → old.means b ≡ refused fault.kind fault.offset
+known_stops old after fault b (inl r) is =
+    let front = takes-known old.source after b r.taken r.octets is in
     ap old.means front.2 ∙ r.means front.0
-told_stops old after fault b (inr r) is =
-    ap old.means (all_taken b after r.taken (subst (λ (z : Option (List ℕ)). TakesAll z after r.taken) is r.octets)).1 ∙ r.means
+known_stops old after fault b (inr r) is =
+    ap old.means (takes_all-known old.source after b r.taken r.octets is).1 ∙ r.means
 
--- What a text that is told means, where items were given and then it was refused.
-pub told_refused : {I : Type 0} (old mid : Shown I) (after : Option (List ℕ)) (items : List I) (fault : FormatFault) (b : List ℕ)
-    → Gives old mid items → Stops mid after (Format fault) → old.left ≡ Some b → old.means b ≡ record { items = items; fault = Some fault }
-told_refused old mid after items fault b g s is =
-    let told = told_gives old mid items b g is in
-    told.2 ∙ (ap (before items) (told_stops mid after fault told.0 s told.1) ∙ alone items (Some fault))
+-- What a text that is known means, where items were given and then it was refused.
+pub known_refused : {I : Type 0} (old mid : ReaderView I) (after : Device ℕ) (items : List I) (fault : FormatFault) (b : List ℕ)
+    → Gives old mid items → Stops mid after (Format fault) → old.source.known ≡ Some b → old.means b ≡ record { items = items; fault = Some fault }
+known_refused old mid after items fault b g s is =
+    let known = known_gives old mid items b g is in
+    known.2 ∙ (ap (before items) (known_stops mid after fault known.0 s known.1) ∙ alone items (Some fault))
 
--- What a text that is told means, where items were given and then it was finished.
-pub told_finished : {I : Type 0} (old mid : Shown I) (after : Option (List ℕ)) (items : List I) (b : List ℕ)
-    → Gives old mid items → Finishes mid after → old.left ≡ Some b → (after ≡ Some []) × (old.means b ≡ record { items = items; fault = None })
-told_finished old mid after items b g s is =
-    let told = told_gives old mid items b g is in
-    let none = all_taken told.0 after [] (subst (λ (z : Option (List ℕ)). TakesAll z after []) told.1 s.octets) in
-    (none.0, told.2 ∙ (ap (before items) (ap mid.means none.1 ∙ s.means) ∙ alone items None))
+-- What a text that is known means, where items were given and then it was finished.
+pub known_finished : {I : Type 0} (old mid : ReaderView I) (after : Device ℕ) (items : List I) (b : List ℕ)
+    → Gives old mid items → Finishes mid after → old.source.known ≡ Some b
+    → (after.known ≡ Some []) × (old.means b ≡ record { items = items; fault = None })
+known_finished old mid after items b g s is =
+    let known = known_gives old mid items b g is in
+    let none = takes_all-known mid.source after known.0 [] s.octets known.1 in
+    (none.0, known.2 ∙ (ap (before items) (ap mid.means none.1 ∙ s.means) ∙ alone items None))
 
 -- What the octets taken mean alone, where items were given and then the source failed.
-pub record Broke {I : Type 0} (old : Shown I) (after : Option (List ℕ)) (items : List I) : Type 0 where
+pub record Broke {I : Type 0} (old : ReaderView I) (after : Device ℕ) (items : List I) : Type 0 where
   pub taken : List ℕ
-  pub octets : Takes old.left after taken
+  pub octets : Takes old.source after taken
   pub means : (old.means taken).items ≡ items
   pub early : IsEarly (old.at + length taken) (old.means taken).fault
 
-pub gives_broke : {I : Type 0} (old mid : Shown I) (after : Option (List ℕ)) (items : List I) → Gives old mid items → Breaks mid after → Broke old after items
+pub gives_broke : {I : Type 0} (old mid : ReaderView I) (after : Device ℕ) (items : List I) → Gives old mid items → Breaks mid after → Broke old after items
 gives_broke {I = I} old mid after items a b =
     let is : old.means (a.taken ++ b.taken) ≡ before items (mid.means b.taken) = a.means b.taken in
     let total : mid.at + length b.taken ≡ old.at + length (a.taken ++ b.taken) = farther old.at mid.at (mid.at + length b.taken) a.taken b.taken a.place refl in
     record {
       taken = a.taken ++ b.taken;
-      octets = takes-append old.left mid.left after a.taken b.taken a.octets b.octets;
+      octets = takes-append old.source mid.source after a.taken b.taken a.octets b.octets;
       means = ap (λ (m : Meaning I). m.items) is ∙ (ap (λ (z : List I). items ++ z) b.items ∙ append-nil items);
-      early = subst (λ (m : Meaning I). IsEarly (old.at + length (a.taken ++ b.taken)) m.fault) (sym is) (subst (λ n. IsEarly n (mid.means b.taken).fault) total b.early);
+      early = subst (λ (m : Meaning I). IsEarly (old.at + length (a.taken ++ b.taken)) m.fault)
+          (sym is) (subst (λ n. IsEarly n (mid.means b.taken).fault) total b.early);
     }
 
 early_at : {S I : Type 0} (f : Grammar S I) (octets : List ℕ) (fault : Option FormatFault)

@@ -7,7 +7,7 @@ use Rattle.ht_fields.specs.Grammar.{Grammar, Due, End, Wants, Verdict, Good, Bad
 use Rattle.ht_fields.specs.Cases.{IsEnd, IsField, IsShort, Leads, joined}
 
 -- equal joins of parts of equal length have equal parts
-same_front : (x y xs ys : List ℕ) → length x ≡ length y → x ++ xs ≡ y ++ ys → (x ≡ y) × (xs ≡ ys)
+pub same_front : (x y xs ys : List ℕ) → length x ≡ length y → x ++ xs ≡ y ++ ys → (x ≡ y) × (xs ≡ ys)
 same_front x y xs ys len e = (
   sym (take-append_seam x xs) ∙ (ap (λ n. take n (x ++ xs)) len ∙ (ap (take (length y)) e ∙ take-append_seam y ys)),
   sym (drop-append_seam x xs) ∙ (ap (λ n. drop n (x ++ xs)) len ∙ (ap (drop (length y)) e ∙ drop-append_seam y ys)),

@@ -1,16 +1,16 @@
 -- What a reader may conclude from a field that was read.
-use Rattle.std.specs.Prelude.{◌≡◌, ℕ, ◌+◌, ◌-◌, ◌<◌, List, [], ◌∷◌, ◌++◌, length, take, Option}
+use Rattle.std.specs.Prelude.{◌≡◌, ℕ, ◌+◌, ◌-◌, ◌<◌, List, [], ◌∷◌, ◌++◌, length, take}
 use Rattle.std.proofs.Common.{refl, ap, ◌∙◌, sym, subst, arith}
 use Rattle.std.proofs.lemmas.List.{length-take-le}
-use Rattle.ht_io.specs.Octets.{Takes}
+use Rattle.ht_io.specs.Devices.{Device, Takes, TakesAll}
 use Rattle.ht_io.specs.declared.faults.Kind.{Kind}
 use Rattle.ht_io.specs.declared.faults.Kind.TheVariants.{Truncated, Trailing}
 use Rattle.ht_fields.specs.declared.read.Field.TheVariants.{Whole, Ended, Broken}
 use Rattle.ht_fields.specs.Grammar.{Grammar, Due, End, Wants, Verdict, Good, Bad, field}
 use Rattle.ht_fields.specs.Cases.{IsEnd, IsField, IsShort}
 use Rattle.ht_fields.specs.Meanings.{Meaning, before, refused, meaning}
-use Rattle.ht_fields.specs.Reading.{TakesAll, ReadsField}
-use Rattle.ht_fields.specs.Readers.{shown, Gives, Refuses, RunsOut, Finishes, IsEarly, Breaks}
+use Rattle.ht_fields.specs.Reading.{ReadsField}
+use Rattle.ht_fields.specs.Readers.{reader_in, Gives, Refuses, RunsOut, Finishes, IsEarly, Breaks}
 use Rattle.ht_fields.proofs.Steps.{good_field, bad_field, early_end, whole_file, trailing_octet}
 
 -- a field of so many octets is due
@@ -31,10 +31,10 @@ pub field_is : {S I : Type 0} (width : ℕ) (judge : List ℕ → Verdict S I) (
 field_is width judge x verdict some len is = let width_of : length x ≡ (width - 1) + 1 = omega arith in (width_of, is)
 
 -- A field was read whole and is good.
-pub field_gives : {S I : Type 0} (f : Grammar S I) (s t : S) (at behind : ℕ) (items : List I) (left after : Option (List ℕ)) (into : List ℕ)
-    → ReadsField left after Whole into → IsField (f.due s) into (Good t items) → behind ≡ at + length into
-    → Gives (shown f s at left) (shown f t behind after) items
-field_gives f s t at behind items left after into r p is =
+pub field_gives : {S I : Type 0} (f : Grammar S I) (s t : S) (at behind : ℕ) (items : List I) (source after : Device ℕ) (into : List ℕ)
+    → ReadsField source after Whole into → IsField (f.due s) into (Good t items) → behind ≡ at + length into
+    → Gives (reader_in f s at source) (reader_in f t behind after) items
+field_gives f s t at behind items source after into r p is =
     record {
       taken = into;
       octets = r;
@@ -47,9 +47,9 @@ abbrev pub IsNamed : Kind → Type 0
 IsNamed kind = (kind ≡ Truncated → ⊥) × (kind ≡ Trailing → ⊥)
 
 -- Of a front of a field the reader means its early end.
-early_front : {S I : Type 0} (f : Grammar S I) (s : S) (at n : ℕ) (left : Option (List ℕ)) (into : List ℕ)
+early_front : {S I : Type 0} (f : Grammar S I) (s : S) (at n : ℕ) (source : Device ℕ) (into : List ℕ)
     → HasWidth (f.due s) (length into) → n < length into → IsEarly (at + n) (meaning f s at (take n into)).fault
-early_front {I = I} f s at n left into w few =
+early_front {I = I} f s at n source into w few =
     let len : length (take n into) ≡ n = length-take-le n into (omega (arith, few)) in
     let is : meaning f s at (take n into) ≡ refused Truncated (at + n) =
     early_end f s at (take n into) (short (f.due s) (length into) (take n into) w (omega (arith, len, few)))
@@ -65,9 +65,10 @@ some_of End width w = absurd w
 some_of (Wants beyond judge) width w = omega arith
 
 -- A field was read whole and is bad.
-pub field_refuses : {S I : Type 0} (f : Grammar S I) (s : S) (at : ℕ) (kind : Kind) (left after : Option (List ℕ)) (into : List ℕ)
-    → ReadsField left after Whole into → IsField (f.due s) into (Bad kind) → IsNamed kind → Refuses (shown f s at left) after (record { kind = kind; offset = at })
-field_refuses f s at kind left after into r p named =
+pub field_refuses : {S I : Type 0} (f : Grammar S I) (s : S) (at : ℕ) (kind : Kind) (source after : Device ℕ) (into : List ℕ)
+    → ReadsField source after Whole into → IsField (f.due s) into (Bad kind) → IsNamed kind
+    → Refuses (reader_in f s at source) after (record { kind = kind; offset = at })
+field_refuses f s at kind source after into r p named =
     let wide = width_of (f.due s) into (Bad kind) p in
     record {
       taken = into;
@@ -77,15 +78,16 @@ field_refuses f s at kind left after into r p named =
         kind = named.0;
         behind = omega arith;
         within = omega (arith, some_of (f.due s) (length into) wide);
-        early = λ n from few. early_front f s at n left into wide few;
+        early = λ n from few. early_front f s at n source into wide few;
         trailing = λ e. absurd (named.1 e);
       };
     }
 
 -- The input ended within a field.
-pub field_runs_out : {S I : Type 0} (f : Grammar S I) (s : S) (at count : ℕ) (left after : Option (List ℕ)) (into : List ℕ)
-    → ReadsField left after (Ended count) into → HasWidth (f.due s) (length into) → RunsOut (shown f s at left) after (record { kind = Truncated; offset = at + count })
-field_runs_out f s at count left after into r w =
+pub field_runs_out : {S I : Type 0} (f : Grammar S I) (s : S) (at count : ℕ) (source after : Device ℕ) (into : List ℕ)
+    → ReadsField source after (Ended count) into → HasWidth (f.due s) (length into)
+    → RunsOut (reader_in f s at source) after (record { kind = Truncated; offset = at + count })
+field_runs_out f s at count source after into r w =
     let len : length (take count into) ≡ count = length-take-le count into (omega (arith, r.0)) in
     record {
       taken = take count into;
@@ -97,9 +99,9 @@ field_runs_out f s at count left after into r w =
     }
 
 -- The source failed within a field.
-pub field_breaks : {S I : Type 0} (f : Grammar S I) (s : S) (at : ℕ) (left after : Option (List ℕ)) (into : List ℕ)
-    → ReadsField left after Broken into → HasWidth (f.due s) (length into) → Breaks (shown f s at left) after
-field_breaks {I = I} f s at left after into r w =
+pub field_breaks : {S I : Type 0} (f : Grammar S I) (s : S) (at : ℕ) (source after : Device ℕ) (into : List ℕ)
+    → ReadsField source after Broken into → HasWidth (f.due s) (length into) → Breaks (reader_in f s at source) after
+field_breaks {I = I} f s at source after into r w =
     let taken = take r.0 into in
     let len : length taken ≡ r.0 = length-take-le r.0 into (omega (arith, r.1)) in
     let is = early_end f s at taken (short (f.due s) (length into) taken w (omega (arith, len, r.1))) in
@@ -114,10 +116,10 @@ nothing : (n k : ℕ) → n < k → k ≡ 1 → n ≡ 0
 nothing n k few one = omega arith
 
 -- An octet was read where the end is due.
-pub end_refuses : {S I : Type 0} (f : Grammar S I) (s : S) (at : ℕ) (left after : Option (List ℕ)) (into : List ℕ)
-    → ReadsField left after Whole into → length into ≡ 1 → IsEnd (f.due s) → Refuses (shown f s at left) after (record { kind = Trailing; offset = at })
-end_refuses f s at left after [] r one e = absurd (omega arith)
-end_refuses {I = I} f s at left after (x ∷ xs) r one e =
+pub end_refuses : {S I : Type 0} (f : Grammar S I) (s : S) (at : ℕ) (source after : Device ℕ) (into : List ℕ)
+    → ReadsField source after Whole into → length into ≡ 1 → IsEnd (f.due s) → Refuses (reader_in f s at source) after (record { kind = Trailing; offset = at })
+end_refuses f s at source after [] r one e = absurd (omega arith)
+end_refuses {I = I} f s at source after (x ∷ xs) r one e =
     let none : IsEarly (at + 0) (meaning f s at []).fault = subst (λ (m : Meaning I). IsEarly (at + 0) m.fault) (sym (whole_file f s at e)) tt in
     record {
       taken = x ∷ xs;
@@ -132,22 +134,22 @@ end_refuses {I = I} f s at left after (x ∷ xs) r one e =
       };
     }
 
--- None was left where the end is due.
-pub end_finishes : {S I : Type 0} (f : Grammar S I) (s : S) (at count : ℕ) (left after : Option (List ℕ)) (into : List ℕ)
-    → ReadsField left after (Ended count) into → length into ≡ 1 → IsEnd (f.due s) → Finishes (shown f s at left) after
-end_finishes f s at count left after into r one e =
+-- None was source where the end is due.
+pub end_finishes : {S I : Type 0} (f : Grammar S I) (s : S) (at count : ℕ) (source after : Device ℕ) (into : List ℕ)
+    → ReadsField source after (Ended count) into → length into ≡ 1 → IsEnd (f.due s) → Finishes (reader_in f s at source) after
+end_finishes f s at count source after into r one e =
     let none : count ≡ 0 = omega (arith, r.0) in
-    record { octets = subst (λ n. TakesAll left after (take n into)) none r.1; means = whole_file f s at e }
+    record { octets = subst (λ n. TakesAll source after (take n into)) none r.1; means = whole_file f s at e }
 
 -- The source failed where the end is due.
-pub end_breaks : {S I : Type 0} (f : Grammar S I) (s : S) (at : ℕ) (left after : Option (List ℕ)) (into : List ℕ)
-    → ReadsField left after Broken into → length into ≡ 1 → IsEnd (f.due s) → Breaks (shown f s at left) after
-end_breaks {I = I} f s at left after into r one e =
+pub end_breaks : {S I : Type 0} (f : Grammar S I) (s : S) (at : ℕ) (source after : Device ℕ) (into : List ℕ)
+    → ReadsField source after Broken into → length into ≡ 1 → IsEnd (f.due s) → Breaks (reader_in f s at source) after
+end_breaks {I = I} f s at source after into r one e =
     let none : r.0 ≡ 0 = omega (arith, r.1) in
     let is = whole_file f s at e in
     record {
       taken = [];
-      octets = subst (λ n. Takes left after (take n into)) none r.2;
+      octets = subst (λ n. Takes source after (take n into)) none r.2;
       items = ap (λ (m : Meaning I). m.items) is;
       early = subst (λ (m : Meaning I). IsEarly (at + 0) m.fault) (sym is) tt;
     }

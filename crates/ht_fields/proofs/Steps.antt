@@ -43,7 +43,8 @@ unfolding meaning_of
 end_of f End began at p = refl
 end_of f (Wants beyond judge) began at p = absurd p
 
-trailing_of : {S I : Type 0} (f : Grammar S I) (d : Due S I) (began at x : ℕ) (rest : List ℕ) → IsEnd d → meaning_of f d began at (x ∷ rest) ≡ refused Trailing at
+trailing_of : {S I : Type 0} (f : Grammar S I) (d : Due S I) (began at x : ℕ) (rest : List ℕ)
+    → IsEnd d → meaning_of f d began at (x ∷ rest) ≡ refused Trailing at
 unfolding meaning_of
 trailing_of f End began at x rest p = refl
 trailing_of f (Wants beyond judge) began at x rest p = absurd p

@@ -33,7 +33,8 @@ judged_front beyond judge octets (Good next here) enough is =
           ap length split ∙ length-append (take (beyond + 1) octets) (drop (beyond + 1) octets) in omega arith;
     })
 judged_front beyond judge octets (Bad kind) enough is =
-    inl (at_bad (take (beyond + 1) octets) (drop (beyond + 1) octets) kind (length-take-le (beyond + 1) octets enough, is) (sym (take-append-drop (beyond + 1) octets)))
+    inl (at_bad (take (beyond + 1) octets) (drop (beyond + 1) octets) kind
+    (length-take-le (beyond + 1) octets enough, is) (sym (take-append-drop (beyond + 1) octets)))
 
 -- in front of the octets is a good field, or the reading stops
 front_of : {S I : Type 0} (d : Due S I) (octets : List ℕ) → Stop d octets ⊎ Front d octets
@@ -84,7 +85,8 @@ case_at f octets items offset state rest r (at_bad bad more kind b is) =
 pub some_case : {S I : Type 0} (f : Grammar S I) (octets : List ℕ) → (items : List I) × (case : Case) × Meets f octets items case
 some_case f octets =
     let p = path_of f (length octets + 1) f.start octets (omega arith) in
-    let r : Reaches f octets p.items (length (joined p.fields)) p.state p.rest = record { fields = p.fields; good = p.good; split = p.split; length_is = refl } in
+    let r : Reaches f octets p.items (length (joined p.fields)) p.state p.rest =
+    record { fields = p.fields; good = p.good; split = p.split; length_is = refl } in
     let found = case_at f octets p.items (length (joined p.fields)) p.state p.rest r p.stop in
     (p.items, found.0, found.1)
 

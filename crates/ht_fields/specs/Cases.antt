@@ -30,7 +30,7 @@ Leads f s (x ∷ xs) items t =
     (next : _) × (here : List _) × (later : List _)
     × IsField (f.due s) x (Good next here) × Leads f next xs later t × (items ≡ here ++ later)
 
--- the first so many octets are good fields that give these items, and then this state and the rest of the octets are left
+-- the octets up to the offset are good fields that give these items, and then this state and the rest of the octets are left
 pub record Reaches {S I : Type 0} (f : Grammar S I) (octets : List ℕ) (items : List I) (offset : ℕ) (state : S) (rest : List ℕ) : Type 0 where
   pub fields : List (List ℕ)
   pub good : Leads f f.start fields items state
@@ -46,12 +46,12 @@ abbrev pub IsClean : {S I : Type 0} → Grammar S I → List ℕ → List I → 
 IsClean f octets items =
     (offset : ℕ) × (state : _) × (rest : List ℕ) × Reaches f octets items offset state rest × IsShort (f.due state) rest
 
--- the first so many octets are a file with these items, and at least one octet follows
+-- the octets up to the offset are a file with these items, and at least one octet follows
 abbrev pub HasTrailing : {S I : Type 0} → Grammar S I → List ℕ → List I → ℕ → Type 0
 HasTrailing f octets items offset =
     (state : _) × (first : ℕ) × (rest : List ℕ) × Reaches f octets items offset state (first ∷ rest) × IsEnd (f.due state)
 
--- the first so many octets are good fields with these items, and the field that follows is whole and bad
+-- the octets up to the offset are good fields with these items, and the field that follows is whole and bad
 abbrev pub HasFault : {S I : Type 0} → Grammar S I → List ℕ → List I → Kind → ℕ → Type 0
 HasFault f octets items kind offset =
     (state : _) × (bad : List ℕ) × (rest : List ℕ)

@@ -7,12 +7,12 @@ pub data Verdict (S I : Type 0) : Type 0 where
   Good : S → List I → Verdict S I
   Bad : Kind → Verdict S I
 
--- what is due in a state: the end of the file, or a field of one octet and so many beyond it, which is judged by its octets
+-- what is due in a state: the end of the file, or a field, by the number of its octets beyond the first and the judge of its octets
 pub data Due (S I : Type 0) : Type 0 where
   End : Due S I
   Wants : ℕ → (List ℕ → Verdict S I) → Due S I
 
--- a field of so many octets, of one at least
+-- a field of this number of octets, which is at least one
 abbrev pub field : {S I : Type 0} → ℕ → (List ℕ → Verdict S I) → Due S I
 field width judge = Wants (width - 1) judge
 

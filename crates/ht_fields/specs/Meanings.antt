@@ -36,11 +36,11 @@ meaning_of f (Wants beyond judge) began at [] = refused Truncated at
 meaning_of f (Wants (suc beyond) judge) began at (x ∷ xs) = meaning_of f (Wants beyond (λ rest. judge (x ∷ rest))) began (at + 1) xs
 meaning_of f (Wants zero judge) began at (x ∷ xs) = judged (judge (x ∷ [])) began (λ next. meaning_of f (f.due next) (at + 1) (at + 1) xs)
 
--- what the octets mean that are left in a state, where so many octets came before them
+-- what the octets mean that are left in a state, at an offset in their text
 unfoldable pub meaning : {S I : Type 0} → Grammar S I → S → ℕ → List ℕ → Meaning I
 meaning f state at octets = meaning_of f (f.due state) at at octets
 
--- the fault of a case, in a text of so many octets
+-- the fault of a case, in a text of this length
 abbrev pub fault_of : ℕ → Case → Option FormatFault
 fault_of total File = None
 fault_of total Clean = Some (record { kind = Truncated; offset = total })

@@ -6,7 +6,7 @@ ghost use Rattle.ht_fields.specs.Grammar.{Grammar, Good, Bad};
 ghost use Rattle.ht_fields.specs.Cases.{Case, Meets, IsFile, IsClean, HasTrailing, HasFault, IsEnd, IsField, IsShort, IsCut, CanEnd, Leads, joined};
 ghost use Rattle.ht_fields.specs.Meanings.{meaning, before, ended, refused, fault_of};
 
-/// Each text meets exactly one of the four cases, with one list of items.
+/// Each list of octets meets exactly one of the four cases, with one list of items.
 pub fn one_case<S, I>()
     ensures some { (f : Grammar S I) (octets : List ℕ)
         → (items : List I) × (case : Case) × Meets f octets items case }
@@ -15,7 +15,7 @@ pub fn one_case<S, I>()
         → (items ≡ others) × (case ≡ other) }
 {}
 
-/// The meaning of a text is that of its case.
+/// The meaning of a list of octets is that of its case.
 pub fn meaning_of_case<S, I>()
     // The case gives the meaning.
     ensures met { (f : Grammar S I) (octets : List ℕ) (items : List I) (case : Case)
@@ -78,7 +78,7 @@ pub fn stops<S, I>()
         → IsField (f.due s) x (Bad kind) → meaning f s at (x ++ rest) ≡ refused kind at }
 {}
 
-/// Octets that are good fields and then less than a field have no fault but their early end.
+/// Octets that are good fields and then fewer than the next field has have no fault but their early end.
 pub fn clean<S, I>()
     ensures { (f : Grammar S I) (s t : S) (at : ℕ)
         (fields : List (List ℕ)) (items : List I) (rest : List ℕ)
@@ -89,8 +89,8 @@ pub fn clean<S, I>()
         } }
 {}
 
-/// A file that is cut within a field is clean. In a format where every good beginning can be ended, each clean
-/// text is a file that was cut so.
+/// A file that is cut within a field is clean. In a format where every good beginning can be ended, all clean octets
+/// are a file that was cut so.
 pub fn clean_is_cut<S, I>()
     ensures cut { (f : Grammar S I) (octets : List ℕ)
         → IsCut f octets → (items : List I) × IsClean f octets items }

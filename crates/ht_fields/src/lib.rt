@@ -1,15 +1,15 @@
 //! Files as lists of fields, where the next field depends on the fields before it.
 //!
 //! A format is a grammar: a state to begin in and, for each state, what is due: the end of the file, or a
-//! field of so many octets. Once a field is whole it is judged. It is good, and then it leads to the next state
+//! field of a given number of octets. Once a field is whole it is judged. It is good, and then it leads to the next state
 //! and gives the items that it completes, or it is bad, and then its kind of fault is named.
 //!
-//! Each text meets exactly one of four cases. It is a file; or it is clean, good fields and then fewer octets
-//! than the next field has (Truncated, at the length of the text); or an octet follows a file (Trailing, at that
-//! octet); or good fields are followed by a bad one (its kind, at its first octet). The meaning of a text is the
-//! items of its good fields, in order, and this fault. No file is a prefix of another.
+//! Each list of octets meets exactly one of four cases. It is a file; or it is clean, good fields and then fewer octets
+//! than the next field has (Truncated, at the length of the list); or an octet follows a file (Trailing, at that
+//! octet); or good fields are followed by a bad one (its kind, at its first octet). The meaning of the octets is the
+//! items of the good fields, in order, and this fault. No file is a prefix of another.
 //!
-//! Take the octet 77, a count of at most 3, and so many records of two octets, the first below 4. Then
+//! Take the octet 77, a count of at most 3, and then that many records of two octets, the first below 4. Then
 //! `77 2 1 9 3 8` is a file of two records. `77 2 1 9 3` gives the record `1 9` and is Truncated at 5,
 //! `77 1 1 9 5` gives it and is Trailing at 4, and `77 3 1 9 4 8 0` gives it and has a bad record at 4.
 //!

@@ -1,5 +1,6 @@
 -- Known octets of a reader and a writer of std, over several calls.
-use Rattle.std.proofs.Common.{◌≡◌, ◌+◌, ◌≤◌, ℕ, List, [], ◌++◌, length, take, drop, Option, Some, None, refl, ap, ◌∙◌, sym, ◌-◌, append_assoc, append-nil, length-drop, arith}
+use Rattle.std.proofs.Common.{◌≡◌, ◌+◌, ◌≤◌, ℕ, List, [], ◌++◌, length, take, drop, Option, Some, None}
+use Rattle.std.proofs.Common.{refl, ap, ◌∙◌, sym, ◌-◌, append_assoc, append-nil, length-drop, arith}
 use Rattle.std.proofs.Math.Seq.{take-add}
 use Rattle.std.proofs.lemmas.List.{take_all}
 use Rattle.std.specs.Io.KnownBytes.{Keeps, Appends, Consumes}
@@ -16,7 +17,8 @@ keeps-keeps (Some xs) (Some ys) None p q = absurd q
 keeps-keeps (Some xs) (Some ys) (Some zs) p q = q ∙ p
 
 -- kept, and then read
-pub keeps-consumes : (before between after : Option (List ℕ)) (octets : List ℕ) → Keeps before between → Consumes between after octets → Consumes before after octets
+pub keeps-consumes : (before between after : Option (List ℕ)) (octets : List ℕ)
+    → Keeps before between → Consumes between after octets → Consumes before after octets
 keeps-consumes None between after octets p q = tt
 keeps-consumes (Some xs) None after octets p q = absurd p
 keeps-consumes (Some xs) (Some ys) None octets p q = absurd q
@@ -28,7 +30,8 @@ appends-none None = tt
 appends-none (Some xs) = sym (append-nil xs)
 
 -- written, and then kept
-pub appends-keeps : (before between after : Option (List ℕ)) (octets : List ℕ) → Appends before between octets → Keeps between after → Appends before after octets
+pub appends-keeps : (before between after : Option (List ℕ)) (octets : List ℕ)
+    → Appends before between octets → Keeps between after → Appends before after octets
 appends-keeps None between after octets p q = tt
 appends-keeps (Some xs) None after octets p q = absurd p
 appends-keeps (Some xs) (Some ys) None octets p q = absurd q
@@ -47,6 +50,7 @@ pub appends-more : (before between after : Option (List ℕ)) (piece : List ℕ)
     → Appends before between (take done piece) → Appends between after (take count (take (length piece - done) (drop done piece)))
     → Appends before after (take (done + count) piece)
 appends-more before between after piece done count within p q =
-    let whole : take (length piece - done) (drop done piece) ≡ drop done piece = take_all (length piece - done) (drop done piece) (omega (arith, length-drop done piece)) in
+    let whole : take (length piece - done) (drop done piece) ≡ drop done piece =
+    take_all (length piece - done) (drop done piece) (omega (arith, length-drop done piece)) in
     let fronts : take (done + count) piece ≡ take done piece ++ take count (drop done piece) = take-add done count piece in
     rw fronts (appends-append before between after (take done piece) (take count (drop done piece)) p (rw whole at q))

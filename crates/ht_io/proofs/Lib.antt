@@ -1,3 +1,4 @@
+pub mod Calls
 pub mod Pieces
 pub mod Counts
 mod Fronts

@@ -10,5 +10,5 @@ abbrev pub one_more : ℕ → ℕ
 one_more count = min (count + 1) last_count
 
 -- the count is greater than before, or is at or beyond the last value of a counter of 64 bits
-abbrev pub Rose : ℕ → ℕ → Type 0
-Rose before now = one_more before ≤ now
+abbrev pub HasRisen : ℕ → ℕ → Type 0
+HasRisen before now = one_more before ≤ now

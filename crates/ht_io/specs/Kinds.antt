@@ -1,7 +1,8 @@
 -- The names of the kinds of fault.
 use Rattle.std.specs.Prelude.{ℕ, List, codes}
 use Rattle.ht_io.specs.declared.faults.Kind.{Kind}
-use Rattle.ht_io.specs.declared.faults.Kind.TheVariants.{BadMagic, BadVersion, BadBandwidth, BadMcs, BadLength, Truncated, Trailing, BadSeed, BadPoint, BadPilot, BadErased, BadModulation, BadStreams, BadMark, BadCount}
+use Rattle.ht_io.specs.declared.faults.Kind.TheVariants.{BadMagic, BadVersion, BadBandwidth, BadMcs, BadLength, Truncated, Trailing}
+use Rattle.ht_io.specs.declared.faults.Kind.TheVariants.{BadSeed, BadPoint, BadPilot, BadErased, BadModulation, BadStreams, BadMark, BadCount}
 
 -- the name of a kind, letter for letter
 abbrev pub name_of : Kind → List ℕ

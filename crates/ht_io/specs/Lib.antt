@@ -1,5 +1,6 @@
 pub mod Causes
-pub mod Octets
+pub mod Pieces
+pub mod Devices
 pub mod Kinds
 pub mod Reading
 pub mod Writing

@@ -1,6 +1,7 @@
 -- What is seen of a source in memory.
-use Rattle.std.specs.Prelude.{◌≡◌, ◌⊎◌, ◌+◌, ◌≤◌, ℕ, List, ◌++◌, All, Contains, nat_eq}
+use Rattle.std.specs.Prelude.{◌≡◌, ◌⊎◌, ◌+◌, ◌≤◌, ℕ, List, ◌++◌, Some, All, Contains, nat_eq}
 use Rattle.std.specs.List.{before_first, after_first}
+use Rattle.ht_io.specs.Devices.{Device}
 
 -- the octets left, the offset of the first of them, and where no read passes: at cuts, and at failing offsets, which fail once for each entry
 pub record Reading : Type 0 where
@@ -9,6 +10,10 @@ pub record Reading : Type 0 where
   pub cuts : List ℕ
   pub failing : List ℕ
   pub faults : ℕ
+
+-- the source as a device: its octets are known
+abbrev pub device_of_reading : Reading → Device ℕ
+device_of_reading source = record { known = Some source.left; faults = source.faults; borrow = 0 }
 
 -- the list without its first entry that is x: what stands before it, and what stands after it
 abbrev pub without_first : ℕ → List ℕ → List ℕ

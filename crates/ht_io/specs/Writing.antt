@@ -1,6 +1,7 @@
 -- What is seen of a sink in memory.
 use Rattle.std.specs.Prelude.{ℕ, zero, suc, ◌≤◌, Option, Some, None, List, [], ◌∷◌, min, nat_le, if◌then◌else◌}
 use Rattle.std.specs.List.Sorted.{IsNonDecreasing}
+use Rattle.ht_io.specs.Devices.{Device}
 
 -- the octets held, how many there is room for, and the offsets that no put passes, each of which fails once
 pub record Writing : Type 0 where
@@ -8,6 +9,10 @@ pub record Writing : Type 0 where
   pub capacity : ℕ
   pub failing : List ℕ
   pub faults : ℕ
+
+-- the sink as a device: its octets are known
+abbrev pub device_of_writing : Writing → Device ℕ
+device_of_writing sink = record { known = Some sink.held; faults = sink.faults; borrow = 0 }
 
 -- how many octets may be held: up to the first failing offset, and no more than the capacity
 abbrev pub nearest : List ℕ → ℕ → ℕ
@@ -19,7 +24,7 @@ abbrev pub unspent : List ℕ → ℕ → List ℕ
 unspent [] capacity = []
 unspent (first ∷ rest) capacity = if nat_le first capacity then rest else first ∷ rest
 
--- so many octets are held, in memory for so many, and no failing offset was passed
+-- the octets held are within the capacity, their memory is reserved, and no failing offset was passed
 pub record IsWithin (count capacity reserved : ℕ) (failing : List ℕ) : Type 0 where
   pub has_room : capacity ≤ reserved
   pub ascends : IsNonDecreasing failing
@@ -30,16 +35,20 @@ pub record Growing : Type 0 where
   pub held : List ℕ
   pub faults : ℕ
 
+-- the sink that grows as a device: its octets are known
+abbrev pub device_of_growing : Growing → Device ℕ
+device_of_growing sink = record { known = Some sink.held; faults = sink.faults; borrow = 0 }
+
 -- what is seen of a sink that never fails: the octets that fitted, how many there is room for, and how many were dropped
 pub record Fitting : Type 0 where
   pub fitted : List ℕ
   pub capacity : ℕ
   pub dropped : ℕ
 
--- the octets held are told while none was dropped
-abbrev pub told_while_none : List ℕ → ℕ → Option (List ℕ)
-told_while_none fitted zero = Some fitted
-told_while_none fitted (suc dropped) = None
+-- the octets held are known while none was dropped
+abbrev pub known_while_none : List ℕ → ℕ → Option (List ℕ)
+known_while_none fitted zero = Some fitted
+known_while_none fitted (suc dropped) = None
 
-abbrev pub told_of : Fitting → Option (List ℕ)
-told_of sink = told_while_none sink.fitted sink.dropped
+abbrev pub known_of : Fitting → Option (List ℕ)
+known_of sink = known_while_none sink.fitted sink.dropped

@@ -3,13 +3,15 @@ ghost use Rattle.std.specs.Prelude.{◌≡◌};
 ghost use Rattle.ht_io.specs.Kinds.{name_of, number_of};
 
 use std::alloc::AllocError;
+use thiserror::Error;
 
-/// What is wrong with a field of an input, in the order of their numbers.
-#[derive(Clone, Copy, Debug, PartialEq, Eq)]
+/// What can be wrong with an input, in the order of the kinds' numbers.
+#[derive(Clone, Copy, Debug, PartialEq, Eq, Error)]
+#[error("{}", self.name())]
 pub enum Kind {
     /// The input does not begin with the magic octets of its format.
     BadMagic = 1,
-    /// The version is none that the format has.
+    /// The format has no such version.
     BadVersion = 2,
     /// The bandwidth is neither 0 (20 MHz) nor 1 (40 MHz).
     BadBandwidth = 3,
@@ -27,7 +29,7 @@ pub enum Kind {
     BadPoint = 9,
     /// The point of a pilot subcarrier is not the pilot's value.
     BadPilot = 10,
-    /// A flag of an erased subcarrier is no flag, or no subcarrier of the frame is left.
+    /// The flag of a subcarrier is neither 0 nor 1, or all subcarriers of a frame are erased.
     BadErased = 11,
     /// The modulation is none of the four.
     BadModulation = 12,
@@ -71,20 +73,28 @@ impl Kind {
     }
 }
 
-/// The first fault of an input: its kind, and the offset in octets, from the beginning of the
-/// input, of the field at fault (for `Truncated` the length of the input).
-#[derive(Clone, Copy, Debug, PartialEq, Eq)]
+/// The first fault of an input, printed as `BadMcs at 8`.
+#[derive(Clone, Copy, Debug, PartialEq, Eq, Error)]
+#[error("{kind} at {offset}")]
 pub struct FormatFault {
+    /// What is wrong.
     pub kind: Kind,
+    /// The offset of the field at fault in octets, from the beginning of the input; for `Truncated`
+    /// the length of the input.
     pub offset: u64,
 }
 
-/// Why an input was not read whole: it is not of its format, its source failed, or there was no
-/// memory for it.
-#[derive(Clone, Copy, Debug, PartialEq, Eq)]
+/// Why an input was not read whole.
+#[derive(Clone, Copy, Debug, PartialEq, Eq, Error)]
 pub enum InFault {
+    /// It is not of its format; this is its first fault.
+    #[error(transparent)]
     Format(FormatFault),
+    /// Its source failed.
+    #[error("the input can't be read")]
     Read,
+    /// Memory ran out.
+    #[error("memory ran out")]
     NoMemory,
 }
 

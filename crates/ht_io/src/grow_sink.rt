@@ -1,13 +1,14 @@
 //! A sink in memory whose room grows.
 ghost use Rattle.std.specs.Prelude.{◌≡◌, ◌≤◌, [], ◌++◌, Some, OnOk, OnErr};
-ghost use Rattle.ht_io.specs.Causes.{Rose, one_more};
-ghost use Rattle.ht_io.specs.Octets.{GrowsByPart};
+ghost use Rattle.ht_io.specs.Causes.{HasRisen, one_more};
+ghost use Rattle.ht_io.specs.Pieces.{KnownGrownByPart};
+ghost use Rattle.ht_io.specs.Writing.{device_of_growing};
 
 use crate::{Failed, Sink};
 use std::alloc::Global;
 use std::marker::Model;
 
-/// Octets in memory that grows with them. A put fails only for want of memory, which its count of
+/// Octets in memory that grows with them. A put fails only for lack of memory, which its count of
 /// faults counts, and a refused piece leaves the octets as they were.
 #[derive(Drop)]
 pub struct GrowSink {
@@ -42,6 +43,7 @@ impl GrowSink {
     }
 
     /// Gives the octets up. It takes no memory.
+    #[must_use]
     pub fn into_held(self) -> Vec<u8>
         ensures { result.items ≡ self.held }
     {
@@ -50,19 +52,15 @@ impl GrowSink {
 }
 
 impl Sink for GrowSink {
-    ghost held = { λ s. Some s.held };
-
-    ghost faults = { λ s. s.faults };
-
-    ghost place = { λ _. 0 };
+    ghost shown = { device_of_growing };
 
     fn put(&mut self, piece: &[u8]) -> Result<(), Failed>
         ensures whole { OnOk result (self.new ≡ record self.old { held = self.old.held ++ piece.now }) }
         ensures refused { OnErr result (self.new ≡ record self.old { faults = one_more self.old.faults }) }
 
         ensures grown { OnOk result (self.new.held ≡ self.old.held ++ piece.now) }
-        ensures part { OnErr result (GrowsByPart (Some self.old.held) (Some self.new.held) piece.now) }
-        ensures cause { OnErr result (Rose self.old.faults self.new.faults) }
+        ensures part { OnErr result (KnownGrownByPart (Some self.old.held) (Some self.new.held) piece.now) }
+        ensures cause { OnErr result (HasRisen self.old.faults self.new.faults) }
         ensures later { self.old.faults ≤ self.new.faults }
     {
         if self.octets.extend_from_slice(piece).is_err() {

@@ -4,11 +4,11 @@
 //! A [`Source`] gives octets in pieces of any length and answers `Ok(0)` at its end. A [`Sink`] takes
 //! one piece after another. Either may fail, and then counts it: a caller that blames a device can be
 //! held against the device's own count of faults. Contracts also see the octets that a source has
-//! left and a sink holds, where the device tells them: the devices in memory always do, those over
-//! std's readers and writers never.
+//! left and a sink holds, where they are known: of the devices in memory always, of those over std's
+//! readers and writers never.
 //!
 //! [`MemSource`] and [`MemSink`] fail where a test wants it, [`SureSource`] and [`SureSink`] never,
-//! [`GrowSink`] only for want of memory; [`StdSource`] and [`StdSink`] are the edge to the machine.
+//! [`GrowSink`] only for lack of memory; [`StdSource`] and [`StdSink`] are the edge to the machine.
 //! What is read is judged by its reader, whose answer is an [`InFault`].
 //!
 //! So a source of the ten octets `0123456789` with a cut at 4 and failing offsets 6 and 6, read

@@ -1,9 +1,9 @@
-//! A sink in memory, for tests: it fails where it is told to.
+//! A sink in memory, for tests: it fails at the offsets that are named.
 ghost use Rattle.std.specs.Prelude.{◌≡◌, ◌↔◌, ◌+◌, ◌<◌, ◌≤◌, [], ◌++◌, length, take, drop, Some, IsErr, OnOk, OnErr, vec_capacity};
 ghost use Rattle.std.specs.List.Sorted.{IsNonDecreasing};
-ghost use Rattle.ht_io.specs.Causes.{Rose, one_more};
-ghost use Rattle.ht_io.specs.Octets.{GrowsByPart};
-ghost use Rattle.ht_io.specs.Writing.{nearest, unspent};
+ghost use Rattle.ht_io.specs.Causes.{HasRisen, one_more};
+ghost use Rattle.ht_io.specs.Pieces.{KnownGrownByPart};
+ghost use Rattle.ht_io.specs.Writing.{nearest, unspent, device_of_writing};
 
 use crate::space::append;
 use crate::{Failed, Sink};
@@ -78,11 +78,7 @@ fn spend_reached(failing: &mut Vec<u64>, capacity: usize)
 }
 
 impl Sink for MemSink {
-    ghost held = { λ s. Some s.held };
-
-    ghost faults = { λ s. s.faults };
-
-    ghost place = { λ _. 0 };
+    ghost shown = { device_of_writing };
 
     fn put(&mut self, piece: &[u8]) -> Result<(), Failed>
         // It fails exactly where it would pass the first unspent failing offset or the capacity.
@@ -91,11 +87,15 @@ impl Sink for MemSink {
 
         // Then it goes up to the nearer of the two, and spends the offset that it reached.
         ensures cut { OnErr result (self.new.held ≡ take (nearest self.old.failing self.old.capacity) (self.old.held ++ piece.now)) }
-        ensures spent { OnErr result (self.new ≡ record self.old { held = self.new.held; failing = unspent self.old.failing self.old.capacity; faults = one_more self.old.faults }) }
+        ensures spent { OnErr result (self.new ≡ record self.old {
+          held = self.new.held;
+          failing = unspent self.old.failing self.old.capacity;
+          faults = one_more self.old.faults;
+        }) }
 
         ensures grown { OnOk result (self.new.held ≡ self.old.held ++ piece.now) }
-        ensures part { OnErr result (GrowsByPart (Some self.old.held) (Some self.new.held) piece.now) }
-        ensures cause { OnErr result (Rose self.old.faults self.new.faults) }
+        ensures part { OnErr result (KnownGrownByPart (Some self.old.held) (Some self.new.held) piece.now) }
+        ensures cause { OnErr result (HasRisen self.old.faults self.new.faults) }
         ensures later { self.old.faults ≤ self.new.faults }
     {
         let room = limit(&self.failing, self.capacity) - self.space.len();

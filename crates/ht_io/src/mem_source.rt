@@ -1,7 +1,8 @@
-//! A source over octets in memory, for tests: it reads in pieces and fails where it is told to.
-ghost use Rattle.std.specs.Prelude.{◌≡◌, ◌⊎◌, ◌↔◌, ◌+◌, ◌<◌, ◌≤◌, [], ◌++◌, length, take, drop, min, All, Contains, Some, nat_eq, position, IsTrue, IsSome, IsErr, IfOk, OnErr, if◌then◌else◌};
-ghost use Rattle.ht_io.specs.Causes.{Rose, one_more};
-ghost use Rattle.ht_io.specs.Reading.{without_first, PassesNone, IsFull};
+//! A source over octets in memory, for tests: it reads in pieces and fails at the offsets that are named.
+ghost use Rattle.std.specs.Prelude.{All, Contains, Some, IsTrue, IsSome, IsErr, IfOk, OnErr};
+ghost use Rattle.std.specs.Prelude.{◌≡◌, ◌⊎◌, ◌↔◌, ◌+◌, ◌<◌, ◌≤◌, [], ◌++◌, length, take, drop, min, nat_eq, position, if◌then◌else◌};
+ghost use Rattle.ht_io.specs.Causes.{HasRisen, one_more};
+ghost use Rattle.ht_io.specs.Reading.{without_first, PassesNone, IsFull, device_of_reading};
 
 use crate::{Failed, Source};
 use std::marker::Model;
@@ -97,11 +98,7 @@ fn spend(failing: &mut Vec<u64>, at: usize) -> bool
 }
 
 impl Source for MemSource {
-    ghost left = { λ s. Some s.left };
-
-    ghost faults = { λ s. s.faults };
-
-    ghost place = { λ _. 0 };
+    ghost shown = { device_of_reading };
 
     fn read(&mut self, into: &mut [u8]) -> Result<usize, Failed>
         requires room { 0 < length into.old }
@@ -119,7 +116,7 @@ impl Source for MemSource {
         ensures fails { IsErr result ↔ Contains self.old.failing self.old.at }
         ensures spent { OnErr result (self.new ≡ record self.old { failing = without_first self.old.at self.old.failing; faults = one_more self.old.faults }) }
         ensures kept { OnErr result (self.new.left ≡ self.old.left) }
-        ensures cause { OnErr result (Rose self.old.faults self.new.faults) }
+        ensures cause { OnErr result (HasRisen self.old.faults self.new.faults) }
         ensures later { self.old.faults ≤ self.new.faults }
     {
         if spend(&mut self.failing, self.at) {

@@ -1,8 +1,8 @@
 //! A source over a reader of std.
-ghost use Rattle.std.specs.Prelude.{◌≡◌, ◌<◌, ◌≤◌, length, take, None, IfOk, OnOk, OnErr};
+ghost use Rattle.std.specs.Prelude.{◌≡◌, ◌<◌, ◌≤◌, length, take, None, IsSome, IfOk, OnOk, OnErr};
 ghost use Rattle.std.specs.Io.KnownBytes.{Keeps, Consumes, IsAtEnd};
-ghost use Rattle.ht_io.specs.Causes.{Rose, one_more};
-ghost use Rattle.ht_io.specs.Standard.{reader_of, source_faults};
+ghost use Rattle.ht_io.specs.Causes.{HasRisen, one_more};
+ghost use Rattle.ht_io.specs.Standard.{reader_of, source_faults, source_error};
 
 use crate::{Failed, Source};
 use std::io::{self, ErrorKind, Read};
@@ -10,12 +10,13 @@ use std::io::{self, ErrorKind, Read};
 // How often an interrupted call is tried again within one call of a source or a sink.
 pub(crate) const RETRIES: u32 = 1_000;
 
-/// Reads from a reader of std. As a source it tells nothing of the octets. An interrupted call is
-/// tried again, at most 1,000 times within one read, and then fails.
+/// Reads from a reader of std. As a source it shows no octets. An interrupted call is tried again,
+/// at most 1,000 times within one read, and then fails. The last error of the system is kept.
 #[derive(Drop)]
 pub struct StdSource<R> {
     inner: R,
     faults: u64,
+    last: Option<io::Error>,
 }
 
 impl<R: Read> StdSource<R> {
@@ -23,8 +24,21 @@ impl<R: Read> StdSource<R> {
     pub fn new(inner: R) -> StdSource<R>
         ensures reader { reader_of result ≡ inner }
         ensures faults { source_faults result ≡ 0 }
+        ensures error { source_error result ≡ None }
     {
-        StdSource { inner, faults: 0 }
+        StdSource {
+            inner,
+            faults: 0,
+            last: None,
+        }
+    }
+
+    /// The error of the system at the last read that failed, or `None` where none has failed.
+    #[must_use]
+    pub fn last_error(&self) -> Option<io::Error>
+        ensures { result ≡ source_error self.now }
+    {
+        self.last
     }
 }
 
@@ -45,11 +59,7 @@ fn read_patiently<R: Read>(inner: &mut R, into: &mut [u8]) -> io::Result<usize>
 }
 
 impl<R: Read> Source for StdSource<R> {
-    ghost left = { λ _. None };
-
-    ghost faults = { λ s. s.faults };
-
-    ghost place = { λ _. 0 };
+    ghost shown = { λ s. record { known = None; faults = source_faults s; borrow = 0 } };
 
     fn read(&mut self, into: &mut [u8]) -> Result<usize, Failed>
         requires room { 0 < length into.old }
@@ -61,14 +71,16 @@ impl<R: Read> Source for StdSource<R> {
 
         ensures steady { OnOk result (source_faults self.new ≡ source_faults self.old) }
         ensures counted { OnErr result (source_faults self.new ≡ one_more (source_faults self.old)) }
+        ensures because { OnErr result (IsSome (source_error self.new)) }
 
         ensures within { IfOk result (λ count. count ≤ length into.new) }
-        ensures cause { OnErr result (Rose (source_faults self.old) (source_faults self.new)) }
+        ensures cause { OnErr result (HasRisen (source_faults self.old) (source_faults self.new)) }
         ensures later { source_faults self.old ≤ source_faults self.new }
     {
         match read_patiently(&mut self.inner, into) {
             Ok(count) => Ok(count),
-            Err(_) => {
+            Err(error) => {
+                self.last = Some(error);
                 self.faults = self.faults.saturating_add(1);
                 Err(Failed)
             }

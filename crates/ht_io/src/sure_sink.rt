@@ -1,15 +1,15 @@
 //! A sink in memory that never fails.
 ghost use Rattle.std.specs.Prelude.{◌≡◌, ◌↔◌, ◌+◌, ◌-◌, ◌^◌, ◌<◌, [], ◌++◌, length, take, min, IsOk, IsNone, OnOk, vec_capacity, option_copied};
 ghost use Rattle.ht_io.specs.Causes.{last_count};
-ghost use Rattle.ht_io.specs.Octets.{Grows};
-ghost use Rattle.ht_io.specs.Writing.{told_of};
+ghost use Rattle.ht_io.specs.Pieces.{KnownGrown};
+ghost use Rattle.ht_io.specs.Writing.{known_of};
 
 use crate::space::append;
 use crate::{Failed, Sink};
 use std::marker::Model;
 
 /// Octets put into memory that is given. Octets beyond its capacity are only counted and dropped,
-/// and from then on the sink tells none. No put fails.
+/// and from then on no octets of the sink are known. No put fails.
 #[derive(Drop)]
 pub struct SureSink {
     space: Vec<u8>,
@@ -44,8 +44,9 @@ impl SureSink {
     }
 
     /// The octets that were put, or `None` where not all of them fitted.
+    #[must_use]
     pub fn held(&self) -> Option<&[u8]>
-        ensures octets { option_copied result ≡ told_of self.now }
+        ensures octets { option_copied result ≡ known_of self.now }
         ensures none { IsNone result ↔ (0 < self.now.dropped) }
     {
         if self.dropped > 0 {
@@ -54,7 +55,8 @@ impl SureSink {
         Some(&self.space)
     }
 
-    /// How many octets were dropped, up to the last value of the type.
+    /// How many octets were dropped, at most 2^64 - 1.
+    #[must_use]
     pub fn dropped(&self) -> u64
         ensures { result ≡ self.now.dropped }
     {
@@ -63,13 +65,7 @@ impl SureSink {
 }
 
 impl Sink for SureSink {
-    ghost use Rattle.ht_io.specs.Writing.{told_of};
-
-    ghost held = { told_of };
-
-    ghost faults = { λ _. 0 };
-
-    ghost place = { λ _. 0 };
+    ghost shown = { λ s. record { known = known_of s; faults = 0; borrow = 0 } };
 
     fn put(&mut self, piece: &[u8]) -> Result<(), Failed>
         ensures sure { IsOk result }
@@ -77,7 +73,7 @@ impl Sink for SureSink {
         ensures dropped { self.new.dropped ≡ min (self.old.dropped + (length self.old.fitted + length piece.now - self.old.capacity)) last_count }
         ensures capacity { self.new.capacity ≡ self.old.capacity }
 
-        ensures grown { OnOk result (Grows (told_of self.old) (told_of self.new) piece.now) }
+        ensures grown { OnOk result (KnownGrown (known_of self.old) (known_of self.new) piece.now) }
     {
         let room = piece.len().min(self.capacity - self.space.len());
         append(&mut self.space, &piece[..room]);

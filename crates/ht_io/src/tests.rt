@@ -2,8 +2,8 @@
 ghost use Rattle.std.specs.Prelude.{◌≡◌, IfOk};
 
 use crate::{
-    Failed, GrowSink, Kind, MemSink, MemSource, Sink, Source, StdSink, StdSource, SureSink,
-    SureSource,
+    Failed, FormatFault, GrowSink, InFault, Kind, MemSink, MemSource, Sink, Source, StdSink,
+    StdSource, SureSink, SureSource,
 };
 use std::io::{self, ErrorKind, Read, Write};
 use std::test::Fail;
@@ -63,6 +63,11 @@ impl Write for Broken {
     }
 }
 
+// What kind of error was kept, if one was.
+fn kind_of(last: Option<io::Error>) -> Option<ErrorKind> {
+    last.map(|error| error.kind())
+}
+
 // How often each of so many reads of eight octets takes: the count, or None at a failure.
 fn counts<S: Source>(source: &mut S) -> [Option<usize>; 6] {
     let mut into = [0u8; 8];
@@ -103,9 +108,19 @@ fn refusals_std(rt: HostRuntime) {
         assert_eq!(rt; source.read(&mut into).is_ok(), works, "read after {times}");
         assert_eq!(rt; sink.put(&into).is_ok(), works, "put after {times}");
     }
-    for takes in [false, true] {
-        assert_eq!(rt; StdSink::new(Broken { takes }).put(b"x"), Err(Failed));
+    for (takes, kind) in [(false, ErrorKind::WriteZero), (true, ErrorKind::BrokenPipe)] {
+        let mut sink = StdSink::new(Broken { takes });
+        assert_eq!(rt; kind_of(sink.last_error()), None);
+        assert_eq!(rt; sink.put(b"x"), Err(Failed));
+        assert_eq!(rt; kind_of(sink.last_error()), Some(kind));
     }
+    let mut source = StdSource::new(Interrupted {
+        times: 1_001,
+        left: 1_001,
+    });
+    assert_eq!(rt; kind_of(source.last_error()), None);
+    assert_eq!(rt; source.read(&mut [0; 4]), Err(Failed));
+    assert_eq!(rt; kind_of(source.last_error()), Some(ErrorKind::Interrupted));
 }
 
 #[test]
@@ -155,6 +170,35 @@ fn smoke_sinks(rt: HostRuntime) -> Result<(), Fail> {
     assert_eq!(rt; sure.put(b"efg"), Ok(()));
     assert_eq!(rt; sure.held(), None);
     assert_eq!(rt; sure.dropped(), 3);
+    Ok(())
+}
+
+#[test]
+fn vectors_texts(rt: HostRuntime) -> Result<(), Fail> {
+    let alloc = rt.alloc();
+    let fault = FormatFault {
+        kind: Kind::BadMcs,
+        offset: 8,
+    };
+    for (shown, text) in [
+        (format!(in alloc; "{}", Kind::BadMagic)?, "BadMagic"),
+        (format!(in alloc; "{fault}")?, "BadMcs at 8"),
+        (
+            format!(in alloc; "{}", InFault::Format(fault))?,
+            "BadMcs at 8",
+        ),
+        (
+            format!(in alloc; "{}", InFault::Read)?,
+            "the input can't be read",
+        ),
+        (
+            format!(in alloc; "{}", InFault::NoMemory)?,
+            "memory ran out",
+        ),
+        (format!(in alloc; "{Failed}")?, "the device failed"),
+    ] {
+        assert_eq!(rt; shown.as_str(), text);
+    }
     Ok(())
 }
 

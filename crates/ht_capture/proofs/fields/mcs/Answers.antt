@@ -12,7 +12,7 @@ returns-in-Ok-of-clause-told g c = λ turn.
 
 pub returns-in-Err-of-clause-told : goal.returns-in-Err-of-clause-told
 returns-in-Err-of-clause-told g c = λ turn.
-    bad_halts (Mcs turn c.args.code) c.args.at BadMcs _ _ _ _ (c.in-Ok.index ∷ []) c.bad.result
+    bad_halts (Mcs turn c.args.code) c.args.at BadMcs _ _ (c.in-Ok.index ∷ []) c.bad.result
     (refl, bad_mcs turn c.args.code c.in-Ok.index _ c.requires.few (sym c.in-Err-of.ensures.value)) (λ e. cc, λ e. cc) c.in-Ok.ensures.whole c.bad.ensures
 
 pub returns-in-Err-clause-told : goal.returns-in-Err-clause-told

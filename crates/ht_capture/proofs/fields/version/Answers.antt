@@ -7,11 +7,13 @@ use Rattle.ht_capture.proofs.fields.version.Goals as goal
 
 pub returns-then-is_known-clause-told : goal.returns-then-is_known-clause-told
 returns-then-is_known-clause-told g c =
-    good_gives Version (Count c.in-Ok.version) c.args.at (c.args.at + 1) [] _ _ (c.in-Ok.version ∷ []) (refl, good_version c.in-Ok.version (sym c.if-is_known.ensures)) c.in-Ok.ensures.whole refl
+    good_gives Version (Count c.in-Ok.version) c.args.at (c.args.at + 1) [] _ _ (c.in-Ok.version ∷ [])
+    (refl, good_version c.in-Ok.version (sym c.if-is_known.ensures)) c.in-Ok.ensures.whole refl
 
 pub returns-else-is_known-clause-told : goal.returns-else-is_known-clause-told
 returns-else-is_known-clause-told g c =
-    bad_halts Version c.args.at BadVersion _ _ _ _ (c.in-Ok.version ∷ []) c.bad.result (refl, bad_version c.in-Ok.version (sym c.if-is_known.ensures)) (λ e. cc, λ e. cc) c.in-Ok.ensures.whole c.bad.ensures
+    bad_halts Version c.args.at BadVersion _ _ (c.in-Ok.version ∷ []) c.bad.result
+    (refl, bad_version c.in-Ok.version (sym c.if-is_known.ensures)) (λ e. cc, λ e. cc) c.in-Ok.ensures.whole c.bad.ensures
 
 pub returns-in-Err-clause-told : goal.returns-in-Err-clause-told
 returns-in-Err-clause-told g c = c.in-Err.ensures.stopped Version refl

@@ -1,5 +1,5 @@
-use Rattle.std.proofs.Common.{◌≤◌, [], take, drop}
-use Rattle.ht_io.specs.Octets.{Takes}
+use Rattle.std.proofs.Common.{[], take, drop}
+use Rattle.ht_io.specs.Devices.{Takes, IsLater}
 use Rattle.ht_fields.specs.Readers.{Gives}
 use Rattle.ht_capture.specs.Fields.{magic, magic_due}
 use Rattle.ht_capture.specs.Reading.{here}
@@ -8,7 +8,7 @@ use Rattle.ht_capture.proofs.heads.magic.Given as goal
 -- so many octets of the magic were read
 abbrev pub invariant-loop-at : goal.invariant-loop-at
 invariant-loop-at g l = record {
-  told : Gives (here (magic_due magic) 0 (g.S.Source.left l.fn.source)) (here (magic_due (drop l.at magic)) l.at (g.S.Source.left l.source)) [];
-  octets : Takes (g.S.Source.left l.fn.source) (g.S.Source.left l.source) (take l.at magic);
-  later : g.S.Source.faults l.fn.source ≤ g.S.Source.faults l.source;
+  told : Gives (here (magic_due magic) 0 (g.S.Source.shown l.fn.source)) (here (magic_due (drop l.at magic)) l.at (g.S.Source.shown l.source)) [];
+  octets : Takes (g.S.Source.shown l.fn.source) (g.S.Source.shown l.source) (take l.at magic);
+  later : IsLater (g.S.Source.shown l.fn.source) (g.S.Source.shown l.source);
 }

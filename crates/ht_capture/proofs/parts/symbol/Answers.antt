@@ -8,20 +8,22 @@ use Rattle.ht_capture.proofs.parts.symbol.Goals as goal
 
 pub returns-in-Ok-clause-told : goal.returns-in-Ok-clause-told
 returns-in-Ok-clause-told g c = λ present.
-    let spot = c.args.spot.now in
+    let due = c.args.due.now in
     let into = c.fill.new.into in
-    let whole : c.width-octets.result ≡ symbol_octets spot = c.width-octets.ensures.value ∙ ap (λ n. spot.count * (8 * n)) c.streams.ensures.value in
-    let wide : length into ≡ c.width-octets.result = omega (arith, c.requires.space, c.width-octets.ensures.bound, length-take {A = ℕ} c.width-octets.result c.args.samples.now) in
-    let size : length into ≡ symbol_octets spot = wide ∙ whole in
+    let whole : c.width-octets.result ≡ symbol_octets due = c.width-octets.ensures.value ∙ ap (λ n. due.count * (8 * n)) c.streams.ensures.value in
+    let wide : length into ≡ c.width-octets.result =
+    omega (arith, c.requires.space, c.width-octets.ensures.bound, length-take {A = ℕ} c.width-octets.result c.args.samples.now) in
+    let size : length into ≡ symbol_octets due = wide ∙ whole in
     let some : 1 ≤ length into = omega (arith, wide, c.width-octets.ensures.low, c.requires.some) in
-    symbol_read spot present c.args.at c.in-Ok.behind _ _ into _ size some (written-all into _ _ size) c.in-Ok.ensures.whole c.in-Ok.ensures.place
+    symbol_read due present c.args.at c.in-Ok.behind _ _ into _ size some (written-all into _ _ size) c.in-Ok.ensures.whole c.in-Ok.ensures.place
 
 pub returns-in-Err-clause-told : goal.returns-in-Err-clause-told
 returns-in-Err-clause-told g c = λ present.
-    let spot = c.args.spot.now in
+    let due = c.args.due.now in
     let into = c.fill.new.into in
-    let whole : c.width-octets.result ≡ symbol_octets spot = c.width-octets.ensures.value ∙ ap (λ n. spot.count * (8 * n)) c.streams.ensures.value in
-    let wide : length into ≡ c.width-octets.result = omega (arith, c.requires.space, c.width-octets.ensures.bound, length-take {A = ℕ} c.width-octets.result c.args.samples.now) in
-    let size : length into ≡ symbol_octets spot = wide ∙ whole in
+    let whole : c.width-octets.result ≡ symbol_octets due = c.width-octets.ensures.value ∙ ap (λ n. due.count * (8 * n)) c.streams.ensures.value in
+    let wide : length into ≡ c.width-octets.result =
+    omega (arith, c.requires.space, c.width-octets.ensures.bound, length-take {A = ℕ} c.width-octets.result c.args.samples.now) in
+    let size : length into ≡ symbol_octets due = wide ∙ whole in
     let some : 1 ≤ length into = omega (arith, wide, c.width-octets.ensures.low, c.requires.some) in
-    c.in-Err.ensures.stopped (Symbol spot present) (ones (length into) _ size some)
+    c.in-Err.ensures.stopped (Symbol due present) (ones (length into) _ size some)

@@ -7,4 +7,5 @@ use Rattle.ht_capture.proofs.reading.add_samples.Given as goal
 -- so many samples were added
 abbrev pub invariant-loop-index : goal.invariant-loop-index
 invariant-loop-index l =
-    (more : List Sample) × (l.samples.items ≡ l.fn.samples.items ++ more) × AreSamples more × (flat_map sample_octets more ++ drop (8 * l.index) l.octets ≡ l.octets)
+    (more : List Sample) × (l.samples.items ≡ l.fn.samples.items ++ more) × AreSamples more
+    × (flat_map sample_octets more ++ drop (8 * l.index) l.octets ≡ l.octets)

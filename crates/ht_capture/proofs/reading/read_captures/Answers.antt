@@ -1,4 +1,5 @@
 use Rattle.std.proofs.Common.{◌≡◌, ◌+◌, ◌∙◌, List, length, ap, arith}
+use Rattle.ht_io.proofs.Calls.{later-later}
 use Rattle.std.proofs.lemmas.List.{length_push}
 use Rattle.ht_capture.specs.declared.frames.CaptureFrame.{CaptureFrame}
 use Rattle.ht_capture.proofs.Turns.{over_is}
@@ -28,14 +29,15 @@ frame-requires-clause-room g c = let was = c.loop-index.invariant in omega (arit
 pub frame-requires-clause-number : goal.frame-requires-clause-number
 frame-requires-clause-number g c = let was = c.loop-index.invariant in omega (arith, was.number, was.frame, was.few, c.loop-index-test.true)
 
-pub frame-requires-clause-due : goal.frame-requires-clause-due
-frame-requires-clause-due g c = let was = c.loop-index.invariant in omega (arith, was.left, was.frame, c.loop-index-test.true)
+pub frame-requires-clause-left : goal.frame-requires-clause-left
+frame-requires-clause-left g c = let was = c.loop-index.invariant in omega (arith, was.left, was.frame, c.loop-index-test.true)
 
 pub frame-requires-clause-frames : goal.frame-requires-clause-frames
 frame-requires-clause-frames g c = let was = c.loop-index.invariant in omega (arith, was.left, was.few)
 
 pub returns-in-Err-frame-clause-refused : goal.returns-in-Err-frame-clause-refused
-returns-in-Err-frame-clause-refused g c = given_ends _ _ _ _ _ _ _ c.loop-index.invariant.told c.loop-index.invariant.later c.in-Err-frame.ensures.told
+returns-in-Err-frame-clause-refused g c =
+    given_ends _ _ (g.S.Source.shown c.frame.new.source) _ c.loop-index.invariant.told c.loop-index.invariant.later c.in-Err-frame.ensures.told
 
 pub loop-index-preserved : goal.loop-index-preserved
 loop-index-preserved g c =
@@ -44,7 +46,8 @@ loop-index-preserved g c =
     let items = c.in-Ok-push.ensures.items in
     record {
       told = given_more _ _ _ was.told c.in-Ok-frame.ensures.told;
-      so_far = so_far_more c.loop-index.turn.version _ _ c.loop-index.frames.items c.push.new.self.items c.in-Ok-frame.frame _ _ _ was.so_far behind.version items c.in-Ok-frame.ensures.octets
+      so_far = so_far_more c.loop-index.turn.version _ _ c.loop-index.frames.items c.push.new.self.items
+          c.in-Ok-frame.frame _ _ _ was.so_far behind.version items c.in-Ok-frame.ensures.octets
           c.in-Ok-frame.ensures.fits c.in-Ok-frame.ensures.typed c.in-Ok-frame.ensures.whole;
       size = ap (λ (f : List CaptureFrame). length f) items ∙ (length_push c.loop-index.frames.items c.in-Ok-frame.frame ∙ ap (λ n. n + 1) was.size);
       frame = behind.frame ∙ ap (λ n. n + 1) was.frame;
@@ -52,17 +55,20 @@ loop-index-preserved g c =
       place = omega (arith, was.place, behind.frame, c.in-Ok-frame.ensures.place);
       number = omega (arith, was.number, behind.frame, behind.number);
       few = was.few;
-      later = omega (arith, was.later, c.in-Ok-frame.ensures.later);
+      later = later-later _ _ _ was.later c.in-Ok-frame.ensures.later;
     }
 
 pub returns-in-Ok-finish-clause-file : goal.returns-in-Ok-finish-clause-file
 returns-in-Ok-finish-clause-file g c =
     let was = c.loop-index.invariant in
-    let size : length c.loop-index.frames.items ≡ c.in-Ok.turn.left = omega (arith, was.size, was.left, was.frame, c.loop-index-test.false, c.loop-index.auto._index-end) in
-    so_far_file c.loop-index.turn.version c.in-Ok.turn.left c.loop-index.frames.items _ _ _ was.so_far size was.few c.in-Ok-finish.ensures.told.octets
+    let size : length c.loop-index.frames.items ≡ c.in-Ok.turn.left =
+    omega (arith, was.size, was.left, was.frame, c.loop-index-test.false, c.loop-index.auto._index-end) in
+    so_far_file c.loop-index.turn.version c.in-Ok.turn.left c.loop-index.frames.items (g.S.Source.shown c.args.source.now)
+    (g.S.Source.shown c.loop-index.source) (g.S.Source.shown c.finish.new.source) was.so_far size was.few c.in-Ok-finish.ensures.told.octets
 
 pub returns-in-Err-finish-clause-refused : goal.returns-in-Err-finish-clause-refused
 returns-in-Err-finish-clause-refused g c =
     let was = c.loop-index.invariant in
     let none : c.loop-index.turn.left ≡ 0 = omega (arith, was.left, was.frame, c.loop-index-test.false) in
-    given_ends _ _ _ _ _ _ _ (given_to _ _ _ _ _ (over_is c.loop-index.turn none) was.told) was.later (halts_ends _ _ _ _ _ c.in-Err-finish.ensures.told)
+    given_ends _ _ (g.S.Source.shown c.finish.new.source) _
+    (given_to _ _ _ _ _ (over_is c.loop-index.turn none) was.told) was.later (halts_ends _ _ _ c.in-Err-finish.ensures.told)

@@ -19,6 +19,7 @@ loop-entry-preserved c =
     let left : below - entry ≡ suc (below - (entry + 1)) = omega (arith, lt) in
     let next = taps_next (below - entry) (below - (entry + 1)) entry leg.right c.above.result left tap in
     record {
-      put = put_step c.loop-entry.chunk c.add_tap.new.chunk (tap_octets c.above.result) _ _ c.add_tap.ensures (ap (λ r. c.loop-entry.chunk ++ r) (sym next) ∙ c.loop-entry.invariant.put);
+      put = put_step c.loop-entry.chunk c.add_tap.new.chunk (tap_octets c.above.result) _ _ c.add_tap.ensures
+          (ap (λ r. c.loop-entry.chunk ++ r) (sym next) ∙ c.loop-entry.invariant.put);
       size = omega (arith, ap length c.add_tap.ensures, length-append c.loop-entry.chunk (tap_octets c.above.result), c.loop-entry.invariant.size);
     }

@@ -8,5 +8,6 @@ use Rattle.ht_capture.proofs.writing.front.Goals as goal
 pub add_triangles-requires-clause-few : goal.add_triangles-requires-clause-few
 add_triangles-requires-clause-few c =
     let f = c.args.frame.now in
-    let most : length f.triangles ≤ 114 = omega (arith, c.requires.fits.triangles, present_most (carriers_of f.rate) 0 f.erased, (carriers_of-range f.rate).1) in
+    let most : length f.triangles ≤ 114 =
+    omega (arith, c.requires.fits.triangles, present_most (carriers_of f.rate) 0 f.erased, (carriers_of-range f.rate).1) in
     omega (arith, most, ap (λ (ts : List (List Leg)). length ts) c.as_slice.ensures)

@@ -5,4 +5,5 @@ use Rattle.ht_capture.proofs.writing.put_file.Goals as goal
 pub returns-in_err-put_frame-clause-part : goal.returns-in_err-put_frame-clause-part
 unfolding file_of
 returns-in_err-put_frame-clause-part g c =
-    on_err _ _ (part_at (frame_octets c.args.version) c.args.frames.now c.loop-frame.frame-index c.frame-item.result _ _ _ _ c.loop-frame-test.true c.frame-item.is c.loop-frame.invariant.put c.in_err-put_frame.ensures.part)
+    on_err _ _ (part_at (frame_octets c.args.version) c.args.frames.now c.loop-frame.frame-index c.frame-item.result
+    _ _ _ _ c.loop-frame-test.true c.frame-item.is c.loop-frame.invariant.put c.in_err-put_frame.ensures.part)

@@ -3,4 +3,5 @@ use Rattle.ht_capture.proofs.Written.{on_err_then, behind_front}
 use Rattle.ht_capture.proofs.writing.put_frame.Goals as goal
 
 pub returns-clause-part : goal.returns-clause-part
-returns-clause-part g c = on_err_then _ _ _ (behind_front _ _ _ _ _ _ _ c.in_ok-put.ensures.grown (c.as_slice.ensures ∙ c.front.ensures) c.as_slice-2.ensures) c.put_samples.ensures.part
+returns-clause-part g c = on_err_then _ _ _
+    (behind_front _ _ _ _ _ _ _ c.in_ok-put.ensures.grown (c.as_slice.ensures ∙ c.front.ensures) c.as_slice-2.ensures) c.put_samples.ensures.part

@@ -1,13 +1,14 @@
-use Rattle.std.proofs.Common.{◌≡◌, ◌≤◌, ◌++◌, List, ℕ, length, flat_map}
-use Rattle.ht_io.specs.Octets.{Grows}
+use Rattle.std.proofs.Common.{◌≡◌, ◌++◌, List, ℕ, length, flat_map}
+use Rattle.ht_io.specs.Devices.{Grows, IsLater}
 use Rattle.ht_capture.specs.Files.{sample_octets}
 use Rattle.ht_capture.proofs.writing.put_samples.Given as goal
 
 -- the octets that were put, with those of the samples left, are those of all
 abbrev pub invariant-loop-rest : goal.invariant-loop-rest
 invariant-loop-rest g l = record {
-  put : (front : List ℕ) × (front ++ flat_map sample_octets l.rest ≡ flat_map sample_octets l.samples) × Grows (g.K.Sink.held l.fn.sink) (g.K.Sink.held l.sink) front;
-  later : g.K.Sink.faults l.fn.sink ≤ g.K.Sink.faults l.sink;
+  put : (front : List ℕ) × (front ++ flat_map sample_octets l.rest ≡ flat_map sample_octets l.samples)
+      × Grows (g.K.Sink.shown l.fn.sink) (g.K.Sink.shown l.sink) front;
+  later : IsLater (g.K.Sink.shown l.fn.sink) (g.K.Sink.shown l.sink);
 }
 
 abbrev pub decreases-loop-rest : goal.decreases-loop-rest

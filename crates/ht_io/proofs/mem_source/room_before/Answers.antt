@@ -9,6 +9,7 @@ loop-stop-preserved c =
     record {
       some = near.some;
       within = omega arith;
-      passes_none = passes_none-more c.args.stops.now c.args.at c.loop-stop.most c.nearer-most.result c.loop-stop.stop-index (omega arith) was.passes_none near.within near.passes;
+      passes_none = passes_none-more c.args.stops.now c.args.at c.loop-stop.most c.nearer-most.result c.loop-stop.stop-index
+          (omega arith) was.passes_none near.within near.passes;
       full = is_full-more c.args.stops.now c.args.at c.args.room c.loop-stop.most c.nearer-most.result c.loop-stop.stop-index (omega arith) was.full near.full;
     }

@@ -8,5 +8,6 @@ loop-done-preserved-in-Ok g c =
     record {
       retried = was.retried;
       within = omega (arith, c.in-Ok.ensures.bound);
-      written = appends-more (g.W.Write.contents c.args.inner.now) (g.W.Write.contents c.loop-done.inner) (g.W.Write.contents c.write.new.self) c.args.piece.now c.loop-done.done c.in-Ok.count was.within was.written c.in-Ok.ensures.bytes;
+      written = appends-more (g.W.Write.contents c.args.inner.now) (g.W.Write.contents c.loop-done.inner)
+          (g.W.Write.contents c.write.new.self) c.args.piece.now c.loop-done.done c.in-Ok.count was.within was.written c.in-Ok.ensures.bytes;
     }

@@ -21,7 +21,9 @@ invariant_of-self-2 c =
 pub returns-clause-cut : goal.returns-clause-cut
 returns-clause-cut c =
     let limit : c.limit.result ≡ nearest c.self.inside.failing.items c.self.inside.capacity = rw c.deref.ensures.value at c.limit.ensures in
-    rw (← c.self.view_is) (c.append-2.ensures.items ∙ sym (take-held c.self.inside.space.items c.args.piece.now (nearest c.self.inside.failing.items c.self.inside.capacity) (c.limit.result - c.len.result) (omega arith)))
+    rw (← c.self.view_is) (c.append-2.ensures.items
+    ∙ sym (take-held c.self.inside.space.items c.args.piece.now
+    (nearest c.self.inside.failing.items c.self.inside.capacity) (c.limit.result - c.len.result) (omega arith)))
 
 pub returns-clause-part : goal.returns-clause-part
 returns-clause-part c =

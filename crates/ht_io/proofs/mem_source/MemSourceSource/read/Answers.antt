@@ -18,4 +18,5 @@ returns-clause-taken c =
 
 pub returns-clause-full : goal.returns-clause-full
 returns-clause-full c =
-    rw (← c.self.view_is) (is_full-both c.self.inside.cuts.items c.self.inside.failing.items c.self.inside.at _ c.room_before-room.result c.room_before-count.result (rw length-drop (search rules)) (search rules))
+    rw (← c.self.view_is) (is_full-both c.self.inside.cuts.items c.self.inside.failing.items c.self.inside.at
+    _ c.room_before-room.result c.room_before-count.result (rw length-drop (search rules)) (search rules))

@@ -1,0 +1,20 @@
+use Rattle.std.proofs.Common.{[], ◌∷◌, sym, subst}
+use Rattle.ht_fields.specs.Readers.{Gives}
+use Rattle.ht_capture.specs.declared.items.Item.TheVariants.{Job}
+use Rattle.ht_capture.specs.declared.stage.Stage.{Stage}
+use Rattle.ht_capture.specs.Readers.{shown_at, shown_by}
+use Rattle.ht_capture.proofs.Symbols.{gives_joined}
+use Rattle.ht_capture.proofs.reader.Reader.answer.Goals as goal
+
+pub returns-in-Giving-clause-told : goal.returns-in-Giving-clause-told
+returns-in-Giving-clause-told g c = λ going.
+    let old = c.self.inside in
+    let due = c.in-Giving.due in
+    let k = c.in-Giving.k in
+    let source = g.S.Source.shown c.args.source.now in
+    rw (← c.self.view_is)
+    (subst
+    (λ (s : Stage). Gives (shown_at s old.at old.present.items old.samples.items source) (shown_by c.pass.new.self source) (Job c.job_of-job.result ∷ []))
+    (sym c.in-Giving.is)
+    (gives_joined due k old.at _ _ _ _ source _ _ c.deref.ensures.value c.deref-in-Giving.ensures.value (c.job_of-job.ensures.told source)
+    (rw (← c.self.view_is) at (c.pass.ensures.told source))))

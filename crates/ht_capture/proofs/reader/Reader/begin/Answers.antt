@@ -1,0 +1,5 @@
+use Rattle.ht_capture.proofs.Turns.{gives_answer}
+use Rattle.ht_capture.proofs.reader.Reader.begin.Goals as goal
+
+pub returns-in-Ok-clause-told : goal.returns-in-Ok-clause-told
+returns-in-Ok-clause-told g c = gives_answer _ _ _ _ c.frame.result c.in-Ok.ensures.told c.in-Ok.ensures.later c.frame.ensures.told
