@@ -1,9 +1,10 @@
 -- Octets, their bits, and the numbers that bits give.
-use Rattle.std.proofs.Common.{◌≡◌, ℕ, zero, suc, ◌+◌, ◌-◌, ◌*◌, ◌/◌, ◌%◌, ◌^◌, ◌<◌, ◌≤◌, List, [], ◌∷◌, ◌++◌, Bool, true, false, ◌&&◌, ◌==◌, length, get_or, take, drop, slice_range, append_assoc, refl, ap, sym, ◌∙◌, subst, arith, inl, inr, ◌⊎◌, lit<}
+use Rattle.std.proofs.Common.{◌≡◌, ℕ, zero, suc, ◌+◌, ◌-◌, ◌*◌, ◌/◌, ◌%◌, ◌^◌, ◌<◌, ◌≤◌, List, [], ◌∷◌, ◌++◌, Bool, true, false}
+use Rattle.std.proofs.Common.{◌==◌, length, get_or, take, drop, slice_range, append_assoc, refl, ap, sym, ◌∙◌, subst, arith, lit<}
 use Rattle.std.specs.Int.{bit_at, from_bool}
 use Rattle.std.proofs.Math.Nat.{pow-suc, pow-le-pow_right, mod-eq_of_lt}
 use Rattle.std.proofs.lemmas.List.{take_more, length-take-le, length-drop, drop-drop}
-use Rattle.std.proofs.lemmas.Bool.Decides.{nat_tests}
+use Rattle.std.proofs.lemmas.Bool.{agree_below, agree_below_at, eqb-true}
 use Rattle.std.proofs.lemmas.Nat.Bits.{bit_at_lowest, bit_at-suc}
 use Rattle.ht_bits.specs.Bits.{bit, octet_bits, bits_of, number_of, octets_of}
 
@@ -45,7 +46,8 @@ bit-number_of (first ∷ rest) (suc k) lt =
 
 -- ---- one octet
 -- eight bits, each of which is that of an octet, are the octet's
-pub octet_bits-from : (bits : List Bool) (octet : ℕ) → length bits ≡ 8 → ((k : ℕ) → k < 8 → get_or bits k false ≡ bit octet k) → bits ≡ octet_bits octet
+pub octet_bits-from : (bits : List Bool) (octet : ℕ) → length bits ≡ 8
+    → ((k : ℕ) → k < 8 → get_or bits k false ≡ bit octet k) → bits ≡ octet_bits octet
 unfolding octet_bits
 octet_bits-from (a ∷ b ∷ c ∷ d ∷ e ∷ f ∷ g ∷ h ∷ []) octet long at =
     let p0 : a ≡ bit octet 0 = at 0 (lit< tt) in
@@ -64,39 +66,17 @@ pub octet_bits-number_of : (bits : List Bool) → length bits ≡ 8 → octet_bi
 octet_bits-number_of bits long =
     sym (octet_bits-from bits (number_of bits) long (λ k lt. sym (bit-number_of bits k (omega arith))))
 
-all_below : (ℕ → Bool) → ℕ → Bool
-all_below p zero = true
-all_below p (suc n) = p n && all_below p n
-
-at_below : (p : ℕ → Bool) (n : ℕ) → all_below p n ≡ true → (k : ℕ) → k < n → p k ≡ true
-unfolding all_below
-at_below p zero all k lt = absurd (omega arith)
-at_below p (suc n) all k lt = elim (last k n (omega arith)) [
-  | inl e ↦ subst (λ (i : ℕ). p i ≡ true) (sym e) (both (p n) (all_below p n) all).0
-  | inr less ↦ at_below p n (both (p n) (all_below p n) all).1 k less
-]
-  where
-    both : (a b : Bool) → (a && b) ≡ true → (a ≡ true) × (b ≡ true)
-    both true b e = (refl, e)
-    both false b e = (e, grind arith)
-
-    last : (k n : ℕ) → k < n + 1 → (k ≡ n) ⊎ (k < n)
-    last k n lt = grind arith
-
 returns_to : ℕ → Bool
 returns_to octet = number_of (octet_bits octet) == octet
 
-every_octet : all_below returns_to 256 ≡ true
-unfolding all_below returns_to octet_bits
+every_octet : agree_below returns_to (λ _. true) 256 ≡ true
+unfolding returns_to octet_bits
 every_octet = refl
 
 -- an octet is what its bits give
 pub number_of-octet_bits : (octet : ℕ) → octet < 256 → number_of (octet_bits octet) ≡ octet
 unfolding returns_to
-number_of-octet_bits octet lt = equals _ _ (at_below returns_to 256 every_octet octet lt)
-  where
-    equals : (x y : ℕ) → (x == y) ≡ true → x ≡ y
-    equals x y e = grind (arith, nat_tests)
+number_of-octet_bits octet lt = eqb-true _ _ (agree_below_at returns_to (λ _. true) 256 octet every_octet lt)
 
 -- ---- lists of octets
 pub length-bits_of : (octets : List ℕ) → length (bits_of octets) ≡ 8 * length octets
@@ -156,7 +136,8 @@ bits_of-octets_of bits whole = absurd (omega arith)
 
 -- ---- the loops
 -- one more bit of an octet
-pub octet-step : (bits : List Bool) (place octet value : ℕ) → length bits ≤ 8 → place < length bits → octet ≡ number_of (take place bits) → value ≡ from_bool (get_or bits place false)
+pub octet-step : (bits : List Bool) (place octet value : ℕ) → length bits ≤ 8 → place < length bits
+    → octet ≡ number_of (take place bits) → value ≡ from_bool (get_or bits place false)
     → (octet + value * 2 ^ place % 256 < 256) × (octet + value * 2 ^ place % 256 ≡ number_of (take (place + 1) bits))
 octet-step bits place octet value long lt was is = (omega (arith, same, below, room), same)
   where
@@ -183,7 +164,8 @@ octets_of-first (a ∷ b ∷ c ∷ d ∷ e ∷ f ∷ g ∷ h ∷ rest) enough = 
 octets_of-first bits enough = absurd (omega arith)
 
 -- one more octet
-pub octets-step : (bits : List Bool) (m octet : ℕ) (old new all : List ℕ) → m < length bits / 8 → octet ≡ number_of (slice_range bits (8 * m) (8 * (m + 1))) → new ≡ old ++ octet ∷ []
+pub octets-step : (bits : List Bool) (m octet : ℕ) (old new all : List ℕ) → m < length bits / 8
+    → octet ≡ number_of (slice_range bits (8 * m) (8 * (m + 1))) → new ≡ old ++ octet ∷ []
     → old ++ octets_of (drop (8 * m) bits) ≡ all → new ++ octets_of (drop (8 * (m + 1)) bits) ≡ all
 octets-step bits m octet old new all within is pushed was =
     let long : 8 ≤ length (drop (8 * m) bits) = omega (arith, length-drop (8 * m) bits) in

@@ -20,11 +20,13 @@ octets_of_80 : octets_of (false ∷ false ∷ false ∷ false ∷ false ∷ fals
 octets_of_80 = refl
 
 -- two octets, the first one first
-bits_of_01_ff : bits_of (0x01 ∷ 0xff ∷ []) ≡ true ∷ false ∷ false ∷ false ∷ false ∷ false ∷ false ∷ false ∷ true ∷ true ∷ true ∷ true ∷ true ∷ true ∷ true ∷ true ∷ []
+bits_of_01_ff : bits_of (0x01 ∷ 0xff ∷ [])
+    ≡ true ∷ false ∷ false ∷ false ∷ false ∷ false ∷ false ∷ false ∷ true ∷ true ∷ true ∷ true ∷ true ∷ true ∷ true ∷ true ∷ []
 unfolding octet_bits
 bits_of_01_ff = refl
 
-octets_of_01_ff : octets_of (true ∷ false ∷ false ∷ false ∷ false ∷ false ∷ false ∷ false ∷ true ∷ true ∷ true ∷ true ∷ true ∷ true ∷ true ∷ true ∷ []) ≡ 0x01 ∷ 0xff ∷ []
+octets_of_01_ff : octets_of (true ∷ false ∷ false ∷ false ∷ false ∷ false ∷ false
+    ∷ false ∷ true ∷ true ∷ true ∷ true ∷ true ∷ true ∷ true ∷ true ∷ []) ≡ 0x01 ∷ 0xff ∷ []
 octets_of_01_ff = refl
 
 -- the bits of value 1, 4 and 32 of 25 hex

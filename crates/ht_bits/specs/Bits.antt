@@ -1,6 +1,5 @@
 -- Octets and their bits, the least significant bit of each octet first (IEEE Std 802.11-2012, clause 18.3.5).
-use Rattle.std.specs.Prelude.{ℕ, ◌+◌, ◌*◌, List, [], ◌∷◌, Bool, not, ◌==◌}
-use mathlib.Core.Bool.{beq}
+use Rattle.std.specs.Prelude.{ℕ, ◌+◌, ◌*◌, List, [], ◌∷◌, Bool, ◌==◌}
 use Rattle.std.specs.List.{flat_map}
 use Rattle.std.specs.Int.{bit_at, from_bool}
 
@@ -28,7 +27,3 @@ abbrev pub octets_of : List Bool → List ℕ
 octets_of (a ∷ b ∷ c ∷ d ∷ e ∷ f ∷ g ∷ h ∷ rest) =
     number_of (a ∷ b ∷ c ∷ d ∷ e ∷ f ∷ g ∷ h ∷ []) ∷ octets_of rest
 octets_of _ = []
-
--- the sum of two bits modulo 2
-abbrev pub xor : Bool → Bool → Bool
-xor a b = not (beq a b)

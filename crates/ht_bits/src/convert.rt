@@ -4,7 +4,7 @@ ghost use Rattle.ht_bits.specs.Bits.{octet_bits, bits_of, number_of, octets_of};
 
 use std::alloc::{AllocError, Global};
 
-/// How many bits an octet has.
+/// The number of bits of an octet.
 const OCTET: usize = 8;
 
 // The bits of one octet, the least significant first.
@@ -18,7 +18,7 @@ fn bits_of_octet(octet: u8) -> [bool; 8]
     bits
 }
 
-/// The number that up to eight bits give, the least significant first: bit `i` counts `2^i`.
+/// The number that at most eight bits give, the least significant first: bit `i` counts `2^i`.
 pub fn octet_of(bits: &[bool]) -> u8
     requires { length bits.now ≤ 8 }
     ensures { result ≡ number_of bits.now }
@@ -33,7 +33,7 @@ pub fn octet_of(bits: &[bool]) -> u8
 /// The bits of octets, eight for each, the least significant first: bit `8 * m + i` of the answer
 /// is the bit of value `2^i` of octet `m`.
 ///
-/// The only error is want of memory.
+/// The only error is lack of memory.
 pub fn octets_to_bits(alloc: Global, octets: &[u8]) -> Result<Vec<bool>, AllocError>
     ensures bits { IfOk result (λ v. v.items ≡ bits_of octets.now) }
 {
@@ -48,7 +48,7 @@ pub fn octets_to_bits(alloc: Global, octets: &[u8]) -> Result<Vec<bool>, AllocEr
 /// The octets that have these bits, eight for each, the least significant first. It undoes
 /// [`octets_to_bits`]. The number of bits must be a multiple of 8.
 ///
-/// The only error is want of memory.
+/// The only error is lack of memory.
 pub fn bits_to_octets(alloc: Global, bits: &[bool]) -> Result<Vec<u8>, AllocError>
     requires { length bits.now % 8 ≡ 0 }
     ensures octets { IfOk result (λ v. v.items ≡ octets_of bits.now) }

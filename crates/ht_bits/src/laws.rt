@@ -4,7 +4,8 @@ ghost use Rattle.ht_bits.specs.Bits.{bit, bits_of, octets_of};
 
 /// Bit `8 * m + i` is the bit of value `2^i` of octet `m`, and eight bits stand for each octet.
 pub fn bit_of_octet()
-    ensures place { (octets : List ℕ) (m i : ℕ) → m < length octets → i < 8 → slice_index_or (bits_of octets) (8 * m + i) false ≡ bit (slice_index octets m) i }
+    ensures place { (octets : List ℕ) (m i : ℕ) → m < length octets → i < 8
+        → slice_index_or (bits_of octets) (8 * m + i) false ≡ bit (slice_index octets m) i }
     ensures length { (octets : List ℕ) → length (bits_of octets) ≡ 8 * length octets }
 {}
 

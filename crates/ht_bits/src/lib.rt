@@ -11,11 +11,15 @@
 //!
 //! Bit `8 * m + i` of the list is the bit of value `2^i` of octet `m`. [`laws`] says that each
 //! call undoes the other. [`octet_of`] reads up to eight bits as one number, and takes no memory.
+//!
+//! [`Bits`] is a list of bits inside a larger value, which a contract sees as that list.
 #![tactic(auto)]
 
+mod bits;
 mod convert;
 pub mod laws;
 #[cfg(test)]
 mod tests;
 
+pub use bits::Bits;
 pub use convert::{bits_to_octets, octet_of, octets_to_bits};

@@ -1,4 +1,4 @@
--- How many bits are kept: one of each step, and one more of each step that begins a period.
+-- The number of bits that are kept: one of each step, and one more of each step that begins a period.
 use Rattle.std.proofs.Common.{◌≡◌, ℕ, zero, suc, ◌+◌, ◌-◌, ◌%◌, ◌<◌, min, length, slice_index_or, refl, ap, sym, ◌∙◌, arith}
 use Rattle.std.specs.Int.{div_ceil}
 use Rattle.ht_rate.specs.declared.kinds.Pattern.{Pattern}
@@ -30,7 +30,9 @@ kept-step TwoThirds step = kept-at TwoThirds (step % 2) (omega arith)
 kept-step ThreeQuarters step = kept-at ThreeQuarters (step % 3) (omega arith)
 kept-step FiveSixths step = kept-at FiveSixths (step % 5) (omega arith)
 
-ceil-step : (pattern : Pattern) (steps : ℕ) → suc steps + div_ceil (suc steps) (length (period_of pattern)) ≡ steps + div_ceil steps (length (period_of pattern)) + (2 - min 1 (steps % length (period_of pattern)))
+ceil-step : (pattern : Pattern) (steps : ℕ)
+    → suc steps + div_ceil (suc steps) (length (period_of pattern))
+    ≡ steps + div_ceil steps (length (period_of pattern)) + (2 - min 1 (steps % length (period_of pattern)))
 ceil-step Half steps = omega arith
 ceil-step TwoThirds steps = omega arith
 ceil-step ThreeQuarters steps = omega arith
@@ -47,4 +49,5 @@ sent_count-ceil pattern zero = omega (arith, ceil-none pattern)
 sent_count-ceil pattern (suc steps) =
     let here = kept-step pattern steps in
     let rest = sent_count-ceil pattern steps in
-    ceil-step pattern steps ∙ (ap (λ (n : ℕ). n + (2 - min 1 (steps % length (period_of pattern)))) rest ∙ ap (λ (n : ℕ). sent_count pattern steps + n) (sym here))
+    ceil-step pattern steps ∙ (ap (λ (n : ℕ). n + (2 - min 1 (steps % length (period_of pattern)))) rest
+    ∙ ap (λ (n : ℕ). sent_count pattern steps + n) (sym here))

@@ -1,4 +1,5 @@
 pub mod Counts
+pub mod Fitting
 pub mod MidStream
 pub mod Running
 pub mod Values

@@ -1,5 +1,6 @@
 -- What an input sends, step by step: from the whole list's formula to the bits of one step and then the rest.
-use Rattle.std.proofs.Common.{◌≡◌, ℕ, zero, suc, ◌+◌, ◌-◌, ◌<◌, ◌≤◌, List, [], ◌∷◌, ◌++◌, map, reverse, length, drop, get_or, Bool, true, false, nat_le, refl, ap, sym, ◌∙◌, inl, inr, arith, add-one, append_assoc}
+use Rattle.std.proofs.Common.{◌≡◌, ℕ, zero, suc, ◌+◌, ◌-◌, ◌<◌, ◌≤◌, List, [], ◌∷◌, ◌++◌, map, reverse, length, drop}
+use Rattle.std.proofs.Common.{get_or, Bool, true, false, nat_le, refl, ap, sym, ◌∙◌, inl, inr, arith, add-one, append_assoc}
 use mathlib.Core.Bool.{xor}
 use mathlib.Core.List.{reverse_aux}
 use Rattle.std.specs.List.{flat_map, range_with_len}
@@ -88,7 +89,8 @@ sent_from-agree p t h k (b ∷ u) same =
     ∙ ap (λ (bs : List Bool). step_bits p t (b ∷ k) ++ bs) (sent_from-agree p (suc t) (b ∷ h) (b ∷ k) u (agree-more b h k same))
 
 -- input that follows other input
-from-appended : (p : Pattern) (t end : ℕ) (h u v : List Bool) → t + length u ≡ end → sent_from p t h (u ++ v) ≡ sent_from p t h u ++ sent_from p end (reverse_aux u h) v
+from-appended : (p : Pattern) (t end : ℕ) (h u v : List Bool) → t + length u ≡ end
+    → sent_from p t h (u ++ v) ≡ sent_from p t h u ++ sent_from p end (reverse_aux u h) v
 from-appended p t end h [] v e = let same : t ≡ end = omega arith in ap (λ (n : ℕ). sent_from p n h v) same
 from-appended p t end h (b ∷ u) v e =
     ap (λ (bs : List Bool). step_bits p t (b ∷ h) ++ bs) (from-appended p (suc t) end (b ∷ h) u v (omega arith))
@@ -117,7 +119,8 @@ first-b : (a b : Bool) (h : List Bool) → tapped taps_b (a ∷ h) ≡ tapped ta
 first-b a b h e = xor-left a b (tapped (0 ∷ 1 ∷ 2 ∷ 5 ∷ []) h) e
 
 step-equal : (kept : Kept) (a b : Bool) (h r s : List Bool)
-    → kept_bits kept (tapped taps_a (a ∷ h)) (tapped taps_b (a ∷ h)) ++ r ≡ kept_bits kept (tapped taps_a (b ∷ h)) (tapped taps_b (b ∷ h)) ++ s → (a ≡ b) × (r ≡ s)
+    → kept_bits kept (tapped taps_a (a ∷ h)) (tapped taps_b (a ∷ h)) ++ r ≡ kept_bits kept (tapped taps_a (b ∷ h)) (tapped taps_b (b ∷ h)) ++ s
+    → (a ≡ b) × (r ≡ s)
 step-equal Both a b h r s e = (first-a a b h (cc), cc)
 step-equal A a b h r s e = (first-a a b h (cc), cc)
 step-equal B a b h r s e = (first-b a b h (cc), cc)
@@ -137,7 +140,8 @@ length-kept_bits Both a b = refl
 length-kept_bits A a b = refl
 length-kept_bits B a b = refl
 
-length-steps : (p : Pattern) (u : List Bool) (n t end : ℕ) → t + n ≡ end → sent_count p t + length (flat_map (sent_at p u) (range_with_len t n)) ≡ sent_count p end
+length-steps : (p : Pattern) (u : List Bool) (n t end : ℕ) → t + n ≡ end
+    → sent_count p t + length (flat_map (sent_at p u) (range_with_len t n)) ≡ sent_count p end
 length-steps p u zero t end e =
     let same : t ≡ end = omega arith in
     let counts : sent_count p t ≡ sent_count p end = ap (sent_count p) same in
@@ -145,7 +149,8 @@ length-steps p u zero t end e =
 length-steps p u (suc n) t end e =
     let here = length-kept_bits (kept_of p t) (coded_bit taps_a u t) (coded_bit taps_b u t) in
     let both = length-append (sent_at p u t) (flat_map (sent_at p u) (range_with_len (t + 1) n)) in
-    let rest : sent_count p (suc t) + length (flat_map (sent_at p u) (range_with_len (t + 1) n)) ≡ sent_count p end = rw add-one (length-steps p u n (suc t) end (omega arith)) in
+    let rest : sent_count p (suc t) + length (flat_map (sent_at p u) (range_with_len (t + 1) n)) ≡ sent_count p end =
+    rw add-one (length-steps p u n (suc t) end (omega arith)) in
     omega arith
 
 -- as many bits are sent as are kept of so many steps

@@ -1,5 +1,6 @@
 -- The loop of the encoder: what was sent, and what the rest of the input still sends.
-use Rattle.std.proofs.Common.{◌≡◌, ℕ, zero, suc, ◌+◌, ◌-◌, ◌%◌, ◌<◌, ◌≤◌, List, [], ◌∷◌, ◌++◌, length, take, drop, get_or, replicate, Bool, false, refl, ap, sym, ◌∙◌, arith, add-one, append_assoc}
+use Rattle.std.proofs.Common.{◌≡◌, ℕ, zero, suc, ◌+◌, ◌-◌, ◌%◌, ◌<◌, ◌≤◌, List, [], ◌∷◌, ◌++◌, length, take, drop}
+use Rattle.std.proofs.Common.{get_or, replicate, Bool, false, refl, ap, sym, ◌∙◌, arith, add-one, append_assoc}
 use Rattle.std.proofs.Math.Seq.{drop-cons}
 use Rattle.std.proofs.lemmas.List.{get_or-take}
 use Rattle.ht_rate.specs.declared.kinds.Pattern.{Pattern}
@@ -54,7 +55,8 @@ goes_on p u t before after kept a b old new whole lt is_kept is_a is_b is_after 
     ∙ (ap (λ (xs : List Bool). old ++ xs) (sym whole_step) ∙ was))))
 
 -- the place in the period
-pub kept-phase : (p : Pattern) (t phase : ℕ) (period : List Kept) → period ≡ period_of p → phase ≡ t % length (period_of p) → get_or period phase Both ≡ kept_of p t
+pub kept-phase : (p : Pattern) (t phase : ℕ) (period : List Kept) → period ≡ period_of p
+    → phase ≡ t % length (period_of p) → get_or period phase Both ≡ kept_of p t
 kept-phase p t phase period is_period is_phase = ap (λ (k : List Kept). get_or k phase Both) is_period ∙ ap (λ (n : ℕ). get_or (period_of p) n Both) is_phase
 
 pub phase-starts : (p : Pattern) → 0 ≡ 0 % length (period_of p)
@@ -69,7 +71,8 @@ next-phase TwoThirds t = omega arith
 next-phase ThreeQuarters t = omega arith
 next-phase FiveSixths t = omega arith
 
-pub phase-more : (p : Pattern) (t phase next : ℕ) (period : List Kept) → period ≡ period_of p → phase ≡ t % length (period_of p) → next ≡ (phase + 1) % length period → next ≡ (t + 1) % length (period_of p)
+pub phase-more : (p : Pattern) (t phase next : ℕ) (period : List Kept) → period ≡ period_of p
+    → phase ≡ t % length (period_of p) → next ≡ (phase + 1) % length period → next ≡ (t + 1) % length (period_of p)
 phase-more p t phase next period is_period is_phase is_next =
     is_next
     ∙ (ap (λ (k : List Kept). (phase + 1) % length k) is_period
@@ -82,14 +85,16 @@ sent_count-grows p n (suc k) =
     rw same (omega (arith, sent_count-grows p n k))
 
 -- there is room for each step
-pub room-for : (p : Pattern) (t n capacity len : ℕ) (kept : Kept) → t < n → kept ≡ kept_of p t → len ≡ sent_count p t → capacity ≡ sent_count p n → len + kept_count kept ≤ capacity
+pub room-for : (p : Pattern) (t n capacity len : ℕ) (kept : Kept) → t < n → kept ≡ kept_of p t
+    → len ≡ sent_count p t → capacity ≡ sent_count p n → len + kept_count kept ≤ capacity
 room-for p t n capacity len kept lt is_kept is_len is_capacity =
     let same : suc t + (n - suc t) ≡ n = omega arith in
     let more : sent_count p (suc t) ≤ sent_count p n = rw (← same) (sent_count-grows p (suc t) (n - suc t)) in
     let count : kept_count kept ≡ kept_count (kept_of p t) = ap kept_count is_kept in
     omega arith
 
-pub count-more : (p : Pattern) (t old new : ℕ) (kept : Kept) → kept ≡ kept_of p t → old ≡ sent_count p t → new ≡ old + kept_count kept → new ≡ sent_count p (t + 1)
+pub count-more : (p : Pattern) (t old new : ℕ) (kept : Kept) → kept ≡ kept_of p t
+    → old ≡ sent_count p t → new ≡ old + kept_count kept → new ≡ sent_count p (t + 1)
 count-more p t old new kept is_kept is_old is_new =
     let count : kept_count kept ≡ kept_count (kept_of p t) = ap kept_count is_kept in
     rw add-one (omega arith)

@@ -1,10 +1,11 @@
 -- The register against the taps, by a test of every state.
-use Rattle.std.proofs.Common.{◌≡◌, ℕ, ◌*◌, ◌/◌, ◌%◌, ◌<◌, List, [], ◌∷◌, take, Bool, true, false, ◌&&◌, ◌==◌, refl, ap, ◌∙◌}
+use Rattle.std.proofs.Common.{◌≡◌, ℕ, ◌*◌, ◌/◌, ◌%◌, ◌<◌, ◌∷◌, take, Bool, true, false, ◌==◌, refl}
 use mir.Val.{bool_byte}
 use lib.Count.{ones, ones_in}
 use Rattle.std.specs.Prelude.{bit_and, bit_or, count_ones}
-use mathlib.Core.Bool.{xor, beq}
-use Rattle.std.proofs.lemmas.Bool.{and_parts, agree_below_at}
+use mathlib.Core.Bool.{xor}
+use Rattle.std.proofs.lemmas.Bool.{agree_below_at}
+use Rattle.ht_bits.proofs.SameBits.{same_bits, same_bits-true}
 use Rattle.ht_conv.specs.Code.{taps_a, taps_b}
 use Rattle.ht_conv.specs.Continued.{tapped}
 use Rattle.ht_conv.specs.Register.{history_of}
@@ -25,27 +26,6 @@ pub window-b : (bit : Bool) (n : ℕ) → n < 64 → odd_ones (bit_and (window n
 unfolding ones ones_in xor
 window-b false n lt = agree_below_at (λ n. odd_ones (bit_and (window n 0) 121)) (λ n. tapped taps_b (false ∷ history_of n)) 64 n refl lt
 window-b true n lt = agree_below_at (λ n. odd_ones (bit_and (window n 1) 121)) (λ n. tapped taps_b (true ∷ history_of n)) 64 n refl lt
-
-same_bits : List Bool → List Bool → Bool
-same_bits [] [] = true
-same_bits [] (b ∷ ys) = false
-same_bits (a ∷ xs) [] = false
-same_bits (a ∷ xs) (b ∷ ys) = beq a b && same_bits xs ys
-
-beq-true : (a b : Bool) → beq a b ≡ true → a ≡ b
-beq-true false false e = refl
-beq-true true true e = refl
-beq-true false true e = cc
-beq-true true false e = cc
-
-same_bits-true : (xs ys : List Bool) → same_bits xs ys ≡ true → xs ≡ ys
-unfolding same_bits
-same_bits-true [] [] e = refl
-same_bits-true [] (b ∷ ys) e = cc
-same_bits-true (a ∷ xs) [] e = cc
-same_bits-true (a ∷ xs) (b ∷ ys) e =
-    let parts = and_parts (beq a b) (same_bits xs ys) e in
-    ap (λ (x : Bool). x ∷ xs) (beq-true a b parts.0) ∙ ap (λ (zs : List Bool). b ∷ zs) (same_bits-true xs ys parts.1)
 
 shifted : (bit : Bool) (n : ℕ) → n < 64 → same_bits (history_of (window n (bool_byte bit) / 2)) (bit ∷ take 5 (history_of n)) ≡ true
 unfolding same_bits

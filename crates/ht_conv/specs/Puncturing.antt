@@ -16,13 +16,13 @@ period_of FiveSixths = Both ∷ A ∷ B ∷ A ∷ B ∷ []
 abbrev pub kept_of : Pattern → ℕ → Kept
 kept_of pattern step = slice_index_or (period_of pattern) (step % length (period_of pattern)) Both
 
--- how many bits that is
+-- the number of these bits
 abbrev pub kept_count : Kept → ℕ
 kept_count Both = 2
 kept_count A = 1
 kept_count B = 1
 
--- how many bits are kept of the first steps
+-- the number of bits that are kept of the first steps
 abbrev pub sent_count : Pattern → ℕ → ℕ
 sent_count pattern zero = 0
 sent_count pattern (suc steps) = sent_count pattern steps + kept_count (kept_of pattern steps)

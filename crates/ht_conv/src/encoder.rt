@@ -10,8 +10,8 @@ use std::alloc::{AllocError, Global};
 
 /// Encodes input bits from a register of zeros, and punctures what comes out (clauses 18.3.5.6 and 20.3.11.6).
 ///
-/// The result has, step after step, A and then B as far as the pattern keeps them: `sent` says how many bits that
-/// is. The only refusal is want of memory.
+/// The result has, step after step, A and then B as far as the pattern keeps them: `sent` gives the number of
+/// these bits. The only refusal is lack of memory.
 pub fn encode(alloc: Global, input: &[bool], pattern: Pattern) -> Result<Vec<bool>, AllocError>
     ensures { IfOk result (λ coded. coded.items ≡ sent_bits pattern input.now) }
 {

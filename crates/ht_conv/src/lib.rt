@@ -8,8 +8,8 @@
 //!
 //! So the input 1000000 gives `11 01 11 11 00 10 11` at rate 1/2 and `1101 1100 11` at rate 3/4.
 //!
-//! `encode` gives the bits that are sent; `sent` and `kept_at` tell how many they are and which they are, without
-//! the input. `laws` says that nothing is lost: inputs of one length that send the same bits are equal.
+//! `encode` gives the bits that are sent; `sent` and `kept_at` give their number and their places, without the
+//! input. `laws` says that nothing is lost: inputs of one length that send the same bits are equal.
 #![tactic(auto)]
 
 pub mod encoder;

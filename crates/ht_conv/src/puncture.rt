@@ -23,7 +23,7 @@ static THREE_QUARTERS: [Kept; 3] = [Kept::Both, Kept::A, Kept::B];
 
 static FIVE_SIXTHS: [Kept; 5] = [Kept::Both, Kept::A, Kept::B, Kept::A, Kept::B];
 
-/// Which coded bits are sent of each step of one period of a pattern: of 1, 2, 3 or 5 steps.
+/// Which coded bits are sent of each step of one period of a pattern. A period has 1, 2, 3 or 5 steps.
 ///
 /// The pattern then begins anew, so that a loop over steps can go round this slice with no division.
 pub fn period(pattern: Pattern) -> &'static [Kept]
@@ -45,7 +45,7 @@ pub fn kept_at(pattern: Pattern, step: u32) -> Kept
     period[step as usize % period.len()]
 }
 
-/// How many coded bits are sent of the first `steps` steps (clauses 18.3.5.6 and 20.3.11.6).
+/// The number of coded bits that are sent of the first `steps` steps (clauses 18.3.5.6 and 20.3.11.6).
 pub fn sent(pattern: Pattern, steps: u32) -> u64
     ensures { result ≡ sent_count pattern steps }
 {

@@ -1,12 +1,14 @@
--- A block that is filled column by column: what stands where after so many bits.
-use Rattle.std.proofs.Common.{◌≡◌, ◌≢◌, ℕ, ◌+◌, ◌*◌, ◌/◌, ◌%◌, ◌<◌, ◌≤◌, ◌==◌, ◌⊎◌, inl, inr, Bool, true, false, ◌&&◌, nat_eq, nat_lt, if◌then◌else◌, List, length, set, get_or, refl, sym, ap, ◌∙◌, subst, arith, get_or-set_other, get_or-set_same}
+-- A block that is filled column by column: what stands where after a number of bits.
+use Rattle.std.proofs.Common.{◌≡◌, ◌≢◌, ℕ, ◌+◌, ◌*◌, ◌/◌, ◌%◌, ◌<◌, ◌≤◌, ◌==◌, ◌⊎◌, inl, inr, Bool, true, false, ◌&&◌, nat_eq, nat_lt}
+use Rattle.std.proofs.Common.{if◌then◌else◌, List, length, set, get_or, refl, sym, ap, ◌∙◌, subst, arith, get_or-set_other, get_or-set_same}
 use Rattle.std.proofs.Math.ListN.{length-set}
+use Rattle.std.proofs.lemmas.Bool.{agree_below, agree_below_at, and_parts, eqb-true, ltb-true}
 use Rattle.ht_rate.specs.declared.rates.Rate.{Rate}
-use Rattle.ht_rate.specs.Rates.{bandwidth_of, modulation_of, label_bits_of, data_carriers_of, stream_bits_of}
-use Rattle.ht_rate.proofs.Every.{both, each_bandwidth, each_scheme, each_below, at_below}
-use Rattle.ht_interleave.specs.Steps.{columns_of, rows_of, axis_bits_of, first, second, third, first_back, second_back, third_back}
+use Rattle.ht_rate.specs.Rates.{bandwidth_of, modulation_of, label_bits_of, data_carriers_of, stream_bits_of, axis_bits_of}
+use Rattle.ht_rate.proofs.AllRates.{each_bandwidth, each_scheme}
+use Rattle.ht_interleave.specs.Steps.{columns_of, rows_of, first, second, third, first_back, second_back, third_back}
 use Rattle.ht_interleave.specs.Interleaver.{place_of, origin_of, IsInterleaved}
-use Rattle.ht_interleave.proofs.Shapes.{each_shape, at_shape, equals, less}
+use Rattle.ht_interleave.proofs.Shapes.{each_shape, at_shape}
 use Rattle.ht_interleave.proofs.StepFacts.{first-bound, second-bound, first_back-bound, second_back-bound, back-there, there-back}
 use Rattle.ht_interleave.proofs.Rotation.{third-bound, third_back-bound, third_back-third, third-third_back, third-next}
 
@@ -14,7 +16,7 @@ use Rattle.ht_interleave.proofs.Rotation.{third-bound, third_back-bound, third_b
 abbrev pub groups_of : Rate → ℕ
 groups_of rate = rows_of rate / axis_bits_of rate
 
--- how many bits stand before a lane of a group of a column
+-- the number of bits before a lane of a group of a column
 abbrev pub mark : Rate → ℕ → ℕ → ℕ → ℕ
 mark rate column group lane = rows_of rate * column + axis_bits_of rate * group + lane
 
@@ -29,37 +31,40 @@ source_test rate column group lane =
     && nat_eq (source rate column group lane) (first_back rate (second_back rate (mark rate column group lane)))
 
 group_test : Rate → ℕ → ℕ → Bool
-group_test rate column group = each_below (source_test rate column group) (axis_bits_of rate)
+group_test rate column group = agree_below (source_test rate column group) (λ _. true) (axis_bits_of rate)
 
 column_test : Rate → ℕ → Bool
-column_test rate column = each_below (group_test rate column) (groups_of rate)
+column_test rate column = agree_below (group_test rate column) (λ _. true) (groups_of rate)
 
 rate_test : Rate → Bool
-rate_test rate = each_below (column_test rate) (columns_of rate)
+rate_test rate = agree_below (column_test rate) (λ _. true) (columns_of rate)
 
 tested : (rate : Rate) → rate_test rate ≡ true
-unfolding rate_test column_test group_test source_test each_shape each_bandwidth each_scheme each_below bandwidth_of modulation_of label_bits_of data_carriers_of stream_bits_of columns_of rows_of axis_bits_of first_back second_back
+unfolding rate_test column_test group_test source_test each_shape each_bandwidth each_scheme bandwidth_of modulation_of label_bits_of data_carriers_of
+    stream_bits_of columns_of rows_of axis_bits_of first_back second_back
 tested rate = at_shape rate_test (λ n. refl) rate
 
 module _ (rate : Rate) (column group lane : ℕ) (c : column < columns_of rate) (g : group < groups_of rate) (l : lane < axis_bits_of rate) where
   source_tested : source_test rate column group lane ≡ true
   unfolding rate_test column_test group_test
   source_tested =
-      at_below (source_test rate column group) (axis_bits_of rate)
-      (at_below (group_test rate column) (groups_of rate)
-      (at_below (column_test rate) (columns_of rate) (tested rate) column c) group g) lane l
+      agree_below_at (source_test rate column group) (λ _. true) (axis_bits_of rate) lane
+      (agree_below_at (group_test rate column) (λ _. true) (groups_of rate) group
+      (agree_below_at (column_test rate) (λ _. true) (columns_of rate) column (tested rate) c) g) l
 
   pub mark-bound : mark rate column group lane < stream_bits_of rate
   unfolding source_test
   mark-bound =
-      less (mark rate column group lane) (stream_bits_of rate)
-      (both (nat_lt (mark rate column group lane) (stream_bits_of rate)) (nat_eq (source rate column group lane) (first_back rate (second_back rate (mark rate column group lane)))) source_tested).0
+      ltb-true (mark rate column group lane) (stream_bits_of rate)
+      (and_parts (nat_lt (mark rate column group lane) (stream_bits_of rate))
+      (nat_eq (source rate column group lane) (first_back rate (second_back rate (mark rate column group lane)))) source_tested).0
 
   pub source-is : source rate column group lane ≡ first_back rate (second_back rate (mark rate column group lane))
   unfolding source_test
   source-is =
-      equals (source rate column group lane) (first_back rate (second_back rate (mark rate column group lane)))
-      (both (nat_lt (mark rate column group lane) (stream_bits_of rate)) (nat_eq (source rate column group lane) (first_back rate (second_back rate (mark rate column group lane)))) source_tested).1
+      eqb-true (source rate column group lane) (first_back rate (second_back rate (mark rate column group lane)))
+      (and_parts (nat_lt (mark rate column group lane) (stream_bits_of rate))
+      (nat_eq (source rate column group lane) (first_back rate (second_back rate (mark rate column group lane)))) source_tested).1
 
   pub source-bound : source rate column group lane < stream_bits_of rate
   source-bound =
@@ -90,18 +95,23 @@ sizes_test : Rate → Bool
 sizes_test rate = nat_eq (axis_bits_of rate * groups_of rate) (rows_of rate) && nat_eq (rows_of rate * columns_of rate) (stream_bits_of rate)
 
 sizes_tested : (rate : Rate) → sizes_test rate ≡ true
-unfolding sizes_test each_shape each_bandwidth each_scheme bandwidth_of modulation_of label_bits_of data_carriers_of stream_bits_of columns_of rows_of axis_bits_of
+unfolding sizes_test each_shape each_bandwidth each_scheme bandwidth_of modulation_of label_bits_of data_carriers_of stream_bits_of columns_of rows_of
+    axis_bits_of
 sizes_tested rate = at_shape sizes_test (λ n. refl) rate
 
 pub groups-whole : (rate : Rate) → axis_bits_of rate * groups_of rate ≡ rows_of rate
 unfolding sizes_test
-groups-whole rate = equals _ _ (both (nat_eq (axis_bits_of rate * groups_of rate) (rows_of rate)) (nat_eq (rows_of rate * columns_of rate) (stream_bits_of rate)) (sizes_tested rate)).0
+groups-whole rate = eqb-true _ _
+    (and_parts (nat_eq (axis_bits_of rate * groups_of rate) (rows_of rate))
+    (nat_eq (rows_of rate * columns_of rate) (stream_bits_of rate)) (sizes_tested rate)).0
 
 pub columns-whole : (rate : Rate) → rows_of rate * columns_of rate ≡ stream_bits_of rate
 unfolding sizes_test
-columns-whole rate = equals _ _ (both (nat_eq (axis_bits_of rate * groups_of rate) (rows_of rate)) (nat_eq (rows_of rate * columns_of rate) (stream_bits_of rate)) (sizes_tested rate)).1
+columns-whole rate = eqb-true _ _
+    (and_parts (nat_eq (axis_bits_of rate * groups_of rate) (rows_of rate))
+    (nat_eq (rows_of rate * columns_of rate) (stream_bits_of rate)) (sizes_tested rate)).1
 
--- after so many bits, these stand in their places, and this is the next place
+-- after this number of bits, these stand in their places, and this is the next place
 pub record Filled (rate : Rate) (stream : ℕ) (from into : List Bool) (place count : ℕ) : Type 0 where
   pub size : length into ≡ stream_bits_of rate
   pub here : place ≡ third rate stream count
@@ -111,7 +121,8 @@ last : (j count : ℕ) → j < count + 1 → (j ≡ count) ⊎ (j < count)
 last j count lt = grind arith
 
 -- two bits have two places
-pub third-apart : (rate : Rate) (stream j count : ℕ) → 1 ≤ stream → stream ≤ 4 → j < count → count < stream_bits_of rate → third rate stream j ≢ third rate stream count
+pub third-apart : (rate : Rate) (stream j count : ℕ) → 1 ≤ stream → stream ≤ 4
+    → j < count → count < stream_bits_of rate → third rate stream j ≢ third rate stream count
 third-apart rate stream j count low high lt within same =
     let e : j ≡ count =
     sym (third_back-third rate stream j low high (omega arith))
@@ -135,13 +146,15 @@ filled-more rate stream from into place count bit low high within is filled =
     fits : place < length into
     fits = rw (filled.size, filled.here) (third-bound rate stream count low high within)
 
-    there : (j : ℕ) → j ≡ count → get_or (set into place (get_or from bit false)) (third rate stream j) false ≡ get_or from (first_back rate (second_back rate j)) false
+    there : (j : ℕ) → j ≡ count → get_or (set into place (get_or from bit false)) (third rate stream j) false
+        ≡ get_or from (first_back rate (second_back rate j)) false
     there j e =
         ap (λ x. get_or (set into place (get_or from bit false)) x false) (ap (λ x. third rate stream x) e ∙ sym filled.here)
         ∙ (get_or-set_same into place (get_or from bit false) false fits
         ∙ ap (λ x. get_or from x false) (is ∙ ap (λ x. first_back rate (second_back rate x)) (sym e)))
 
-    other : (j : ℕ) → j < count → get_or (set into place (get_or from bit false)) (third rate stream j) false ≡ get_or from (first_back rate (second_back rate j)) false
+    other : (j : ℕ) → j < count → get_or (set into place (get_or from bit false)) (third rate stream j) false
+        ≡ get_or from (first_back rate (second_back rate j)) false
     other j less =
         get_or-set_other into place (third rate stream j) (get_or from bit false) false
         (λ same. third-apart rate stream j count low high less within (same ∙ filled.here))
@@ -187,14 +200,15 @@ pub filled-whole : (rate : Rate) (stream : ℕ) (from into : List Bool) (place c
 filled-whole rate stream from into place column end filled =
     subst (λ (n : ℕ). Filled rate stream from into place n) (block-end rate column end) filled
 
--- the way back: after so many places, these bits are taken from their places, and this is the next place
+-- the way back: after this number of places, these bits are taken from their places, and this is the next place
 pub record Emptied (rate : Rate) (stream : ℕ) (from into : List Bool) (place count : ℕ) : Type 0 where
   pub size : length into ≡ stream_bits_of rate
   pub here : place ≡ third rate stream count
   pub done : (j : ℕ) → j < count → get_or into (first_back rate (second_back rate j)) false ≡ get_or from (third rate stream j) false
 
 -- two places have two bits
-pub back-apart : (rate : Rate) (j count : ℕ) → j < count → count < stream_bits_of rate → first_back rate (second_back rate j) ≢ first_back rate (second_back rate count)
+pub back-apart : (rate : Rate) (j count : ℕ) → j < count → count < stream_bits_of rate
+    → first_back rate (second_back rate j) ≢ first_back rate (second_back rate count)
 back-apart rate j count lt within same =
     let e : j ≡ count =
     sym (there-back rate j (omega arith)) ∙ (ap (λ x. second rate (first rate x)) same ∙ there-back rate count within) in
@@ -217,13 +231,15 @@ emptied-more rate stream from into place count bit low high within is emptied =
     fits : bit < length into
     fits = rw (emptied.size, is) (first_back-bound rate (second_back rate count) (second_back-bound rate count within))
 
-    there : (j : ℕ) → j ≡ count → get_or (set into bit (get_or from place false)) (first_back rate (second_back rate j)) false ≡ get_or from (third rate stream j) false
+    there : (j : ℕ) → j ≡ count → get_or (set into bit (get_or from place false)) (first_back rate (second_back rate j)) false
+        ≡ get_or from (third rate stream j) false
     there j e =
         ap (λ x. get_or (set into bit (get_or from place false)) x false) (ap (λ x. first_back rate (second_back rate x)) e ∙ sym is)
         ∙ (get_or-set_same into bit (get_or from place false) false fits
         ∙ ap (λ x. get_or from x false) (emptied.here ∙ ap (λ x. third rate stream x) (sym e)))
 
-    other : (j : ℕ) → j < count → get_or (set into bit (get_or from place false)) (first_back rate (second_back rate j)) false ≡ get_or from (third rate stream j) false
+    other : (j : ℕ) → j < count → get_or (set into bit (get_or from place false)) (first_back rate (second_back rate j)) false
+        ≡ get_or from (third rate stream j) false
     other j less =
         get_or-set_other into bit (first_back rate (second_back rate j)) (get_or from place false) false
         (λ same. back-apart rate j count less within (same ∙ is))

@@ -1,54 +1,63 @@
 -- The rotation and back, by a test of every place.
 use Rattle.std.proofs.Common.{◌≡◌, ℕ, ◌+◌, ◌-◌, ◌*◌, ◌/◌, ◌%◌, ◌<◌, ◌≤◌, ◌==◌, nat_eq, nat_lt, nat_le, if◌then◌else◌, refl}
+use Rattle.std.proofs.lemmas.Bool.{eqb-true, ltb-true, leb-true}
 use Rattle.ht_rate.specs.declared.rates.Rate.{Rate}
 use Rattle.ht_rate.specs.Rates.{bandwidth_of, modulation_of, label_bits_of, data_carriers_of, stream_bits_of}
-use Rattle.ht_rate.proofs.Every.{each_bandwidth, each_scheme, each_below}
+use Rattle.ht_rate.proofs.AllRates.{each_bandwidth, each_scheme}
 use Rattle.ht_interleave.specs.Steps.{rotation_of, turn_of, third, third_back}
-use Rattle.ht_interleave.proofs.Shapes.{each_shape, each_place, each_stream, at_shape, at_place, at_stream, equals, less, at_most}
+use Rattle.ht_interleave.proofs.Shapes.{each_shape, each_place, each_stream, at_shape, at_place, at_stream}
 
 -- the rotation stays among the places
 pub third-bound : (rate : Rate) (stream x : ℕ) → 1 ≤ stream → stream ≤ 4 → x < stream_bits_of rate → third rate stream x < stream_bits_of rate
-unfolding each_place each_shape each_bandwidth each_scheme each_below bandwidth_of modulation_of label_bits_of data_carriers_of stream_bits_of each_stream turn_of rotation_of third
+unfolding each_place each_shape each_bandwidth each_scheme bandwidth_of modulation_of label_bits_of data_carriers_of stream_bits_of each_stream
+    turn_of rotation_of third
 third-bound rate stream x low high lt =
-    less (third rate stream x) (stream_bits_of rate)
+    ltb-true (third rate stream x) (stream_bits_of rate)
     (at_stream (λ rate stream x. nat_lt (third rate stream x) (stream_bits_of rate)) rate stream x low high
     (at_place (each_stream (λ rate stream x. nat_lt (third rate stream x) (stream_bits_of rate))) (λ n. refl) rate x lt))
 
 pub third_back-bound : (rate : Rate) (stream x : ℕ) → 1 ≤ stream → stream ≤ 4 → x < stream_bits_of rate → third_back rate stream x < stream_bits_of rate
-unfolding each_place each_shape each_bandwidth each_scheme each_below bandwidth_of modulation_of label_bits_of data_carriers_of stream_bits_of each_stream turn_of rotation_of third_back
+unfolding each_place each_shape each_bandwidth each_scheme bandwidth_of modulation_of label_bits_of data_carriers_of stream_bits_of each_stream
+    turn_of rotation_of third_back
 third_back-bound rate stream x low high lt =
-    less (third_back rate stream x) (stream_bits_of rate)
+    ltb-true (third_back rate stream x) (stream_bits_of rate)
     (at_stream (λ rate stream x. nat_lt (third_back rate stream x) (stream_bits_of rate)) rate stream x low high
     (at_place (each_stream (λ rate stream x. nat_lt (third_back rate stream x) (stream_bits_of rate))) (λ n. refl) rate x lt))
 
 -- it is undone, both ways
 pub third_back-third : (rate : Rate) (stream x : ℕ) → 1 ≤ stream → stream ≤ 4 → x < stream_bits_of rate → third_back rate stream (third rate stream x) ≡ x
-unfolding each_place each_shape each_bandwidth each_scheme each_below bandwidth_of modulation_of label_bits_of data_carriers_of stream_bits_of each_stream turn_of rotation_of third third_back
+unfolding each_place each_shape each_bandwidth each_scheme bandwidth_of modulation_of label_bits_of data_carriers_of stream_bits_of each_stream
+    turn_of rotation_of third third_back
 third_back-third rate stream x low high lt =
-    equals (third_back rate stream (third rate stream x)) (x)
+    eqb-true (third_back rate stream (third rate stream x)) (x)
     (at_stream (λ rate stream x. nat_eq (third_back rate stream (third rate stream x)) (x)) rate stream x low high
     (at_place (each_stream (λ rate stream x. nat_eq (third_back rate stream (third rate stream x)) (x))) (λ n. refl) rate x lt))
 
 pub third-third_back : (rate : Rate) (stream x : ℕ) → 1 ≤ stream → stream ≤ 4 → x < stream_bits_of rate → third rate stream (third_back rate stream x) ≡ x
-unfolding each_place each_shape each_bandwidth each_scheme each_below bandwidth_of modulation_of label_bits_of data_carriers_of stream_bits_of each_stream turn_of rotation_of third third_back
+unfolding each_place each_shape each_bandwidth each_scheme bandwidth_of modulation_of label_bits_of data_carriers_of stream_bits_of each_stream
+    turn_of rotation_of third third_back
 third-third_back rate stream x low high lt =
-    equals (third rate stream (third_back rate stream x)) (x)
+    eqb-true (third rate stream (third_back rate stream x)) (x)
     (at_stream (λ rate stream x. nat_eq (third rate stream (third_back rate stream x)) (x)) rate stream x low high
     (at_place (each_stream (λ rate stream x. nat_eq (third rate stream (third_back rate stream x)) (x))) (λ n. refl) rate x lt))
 
 -- the next place, round the end
-pub third-next : (rate : Rate) (stream x : ℕ) → 1 ≤ stream → stream ≤ 4 → x < stream_bits_of rate → third rate stream (x + 1) ≡ if third rate stream x + 1 == stream_bits_of rate then 0 else third rate stream x + 1
-unfolding each_place each_shape each_bandwidth each_scheme each_below bandwidth_of modulation_of label_bits_of data_carriers_of stream_bits_of each_stream turn_of rotation_of third
+pub third-next : (rate : Rate) (stream x : ℕ) → 1 ≤ stream → stream ≤ 4 → x < stream_bits_of rate
+    → third rate stream (x + 1) ≡ if third rate stream x + 1 == stream_bits_of rate then 0 else third rate stream x + 1
+unfolding each_place each_shape each_bandwidth each_scheme bandwidth_of modulation_of label_bits_of data_carriers_of stream_bits_of each_stream
+    turn_of rotation_of third
 third-next rate stream x low high lt =
-    equals (third rate stream (x + 1)) (if third rate stream x + 1 == stream_bits_of rate then 0 else third rate stream x + 1)
-    (at_stream (λ rate stream x. nat_eq (third rate stream (x + 1)) (if third rate stream x + 1 == stream_bits_of rate then 0 else third rate stream x + 1)) rate stream x low high
-    (at_place (each_stream (λ rate stream x. nat_eq (third rate stream (x + 1)) (if third rate stream x + 1 == stream_bits_of rate then 0 else third rate stream x + 1))) (λ n. refl) rate x lt))
+    eqb-true (third rate stream (x + 1)) (if third rate stream x + 1 == stream_bits_of rate then 0 else third rate stream x + 1)
+    (at_stream (λ rate stream x. nat_eq (third rate stream (x + 1))
+    (if third rate stream x + 1 == stream_bits_of rate then 0 else third rate stream x + 1)) rate stream x low high
+    (at_place (each_stream (λ rate stream x. nat_eq (third rate stream (x + 1))
+    (if third rate stream x + 1 == stream_bits_of rate then 0 else third rate stream x + 1))) (λ n. refl) rate x lt))
 
 -- it is by fewer places than there are
 pub turn_of-bound : (rate : Rate) (stream : ℕ) → 1 ≤ stream → stream ≤ 4 → turn_of rate stream ≤ stream_bits_of rate
 unfolding each_shape each_bandwidth each_scheme bandwidth_of modulation_of label_bits_of data_carriers_of stream_bits_of each_stream turn_of rotation_of
 turn_of-bound rate stream low high =
-    at_most (turn_of rate stream) (stream_bits_of rate)
+    leb-true (turn_of rate stream) (stream_bits_of rate)
     (at_stream (λ rate stream x. nat_le (turn_of rate stream) (stream_bits_of rate)) rate stream 0 low high
     (at_shape (λ rate. each_stream (λ rate stream x. nat_le (turn_of rate stream) (stream_bits_of rate)) rate 0) (λ n. refl) rate))
 

@@ -1,9 +1,9 @@
 -- The three steps of the HT interleaver, and back (IEEE Std 802.11-2012, clause 20.3.11.8).
-use Rattle.std.specs.Prelude.{ℕ, ◌+◌, ◌-◌, ◌*◌, ◌/◌, ◌%◌, max}
+use Rattle.std.specs.Prelude.{ℕ, ◌+◌, ◌-◌, ◌*◌, ◌/◌, ◌%◌}
 use Rattle.ht_rate.specs.declared.kinds.Bandwidth.{Bandwidth}
 use Rattle.ht_rate.specs.declared.kinds.Bandwidth.TheVariants.{Mhz20, Mhz40}
 use Rattle.ht_rate.specs.declared.rates.Rate.{Rate}
-use Rattle.ht_rate.specs.Rates.{bandwidth_of, label_bits_of, stream_bits_of}
+use Rattle.ht_rate.specs.Rates.{bandwidth_of, label_bits_of, stream_bits_of, axis_bits_of}
 
 -- table 20-17 has a column for each bandwidth
 abbrev pub at_bandwidth : Bandwidth → ℕ → ℕ → ℕ
@@ -22,11 +22,7 @@ rows_of rate = at_bandwidth (bandwidth_of rate) 4 6 * label_bits_of rate
 unfoldable pub rotation_of : Rate → ℕ
 rotation_of rate = at_bandwidth (bandwidth_of rate) 11 29
 
--- s, the bits on one axis of the constellation, at least 1
-unfoldable pub axis_bits_of : Rate → ℕ
-axis_bits_of rate = max 1 (label_bits_of rate / 2)
-
--- by how many places a stream is rotated: 0, 2, 1 and 3 times N_ROT * N_BPSCS for the streams 1 to 4
+-- the number of places that a stream is rotated by: 0, 2, 1 and 3 times N_ROT * N_BPSCS for the streams 1 to 4
 unfoldable pub turn_of : Rate → ℕ → ℕ
 turn_of rate stream = ((2 * (stream - 1)) % 3 + 3 * ((stream - 1) / 3)) * rotation_of rate * label_bits_of rate
 

@@ -7,14 +7,15 @@ ghost use Rattle.ht_interleave.specs.Steps.{third};
 use crate::table::{axis_bits, columns, rows, turn};
 use ht_rate::Rate;
 
-/// Puts the `rate.stream_bits()` bits of spatial stream `stream` and one symbol into their places: bit `k` of `from`
-/// stands at `place(rate, stream, k)` of `into`. Streams are numbered from 1.
+/// Puts the bits of spatial stream `stream` in one symbol into their places: bit `k` of `from` goes to `place(rate,
+/// stream, k)` of `into`. Both slices have `rate.stream_bits()` bits; streams are numbered from 1.
 pub fn interleave(rate: &Rate, stream: u8, from: &[bool], into: &mut [bool])
     requires stream { (1 ≤ stream) × (stream ≤ streams_of rate.now) }
     requires from_size { length from.now ≡ stream_bits_of rate.now }
     requires into_size { length into.old ≡ stream_bits_of rate.now }
     ensures interleaved { IsInterleaved rate.now stream from.now into.new }
-    ensures gathered { (r : ℕ) → r < stream_bits_of rate.now → slice_index_or into.new r false ≡ slice_index_or from.now (origin_of rate.now stream r) false }
+    ensures gathered { (r : ℕ) → r < stream_bits_of rate.now
+        → slice_index_or into.new r false ≡ slice_index_or from.now (origin_of rate.now stream r) false }
 {
     let columns = usize::from(columns(rate));
     let axis = usize::from(axis_bits(rate));
@@ -32,13 +33,14 @@ pub fn interleave(rate: &Rate, stream: u8, from: &[bool], into: &mut [bool])
     }
 }
 
-/// Takes the bits of spatial stream `stream` and one symbol back from their places: the inverse of [`interleave`].
+/// Takes the bits of spatial stream `stream` in one symbol back from their places: the inverse of [`interleave`].
 pub fn deinterleave(rate: &Rate, stream: u8, from: &[bool], into: &mut [bool])
     requires stream { (1 ≤ stream) × (stream ≤ streams_of rate.now) }
     requires from_size { length from.now ≡ stream_bits_of rate.now }
     requires into_size { length into.old ≡ stream_bits_of rate.now }
     ensures restored { IsInterleaved rate.now stream into.new from.now }
-    ensures scattered { (r : ℕ) → r < stream_bits_of rate.now → slice_index_or into.new (origin_of rate.now stream r) false ≡ slice_index_or from.now r false }
+    ensures scattered { (r : ℕ) → r < stream_bits_of rate.now
+        → slice_index_or into.new (origin_of rate.now stream r) false ≡ slice_index_or from.now r false }
 {
     let columns = usize::from(columns(rate));
     let axis = usize::from(axis_bits(rate));

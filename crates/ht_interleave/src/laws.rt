@@ -15,7 +15,7 @@ pub fn inverse(rate: &Rate, stream: u8, k: u16)
     ensures origin_bound { origin_of rate.now stream k < stream_bits_of rate.now }
 {}
 
-/// Bits are interleaved in one way alone.
+/// There is only one way to interleave a list of bits.
 pub fn same_places(rate: &Rate, stream: u8, bits: &[bool], a: &[bool], b: &[bool])
     requires stream { (1 ≤ stream) × (stream ≤ streams_of rate.now) }
     requires a { IsInterleaved rate.now stream bits.now a.now }
@@ -25,7 +25,7 @@ pub fn same_places(rate: &Rate, stream: u8, bits: &[bool], a: &[bool], b: &[bool
 
 /// Interleaved bits come from one list alone, so [`deinterleave`](crate::deinterleave) undoes
 /// [`interleave`](crate::interleave).
-pub fn same_bits(rate: &Rate, stream: u8, a: &[bool], b: &[bool], places: &[bool])
+pub fn same_source(rate: &Rate, stream: u8, a: &[bool], b: &[bool], places: &[bool])
     requires stream { (1 ≤ stream) × (stream ≤ streams_of rate.now) }
     requires a { IsInterleaved rate.now stream a.now places.now }
     requires b { IsInterleaved rate.now stream b.now places.now }

@@ -7,7 +7,8 @@ ghost use Rattle.ht_interleave.specs.Steps.{first, second, third, first_back, se
 use crate::table::{axis_bits, columns, rows, turn};
 use ht_rate::Rate;
 
-/// The place of bit `k` of spatial stream `stream`, both below `rate.stream_bits()`. Streams are numbered from 1.
+/// The place of bit `k` of spatial stream `stream`. Bits and places are numbered from 0 and below `rate.stream_bits()`,
+/// streams from 1 to `rate.streams()`.
 pub fn place(rate: &Rate, stream: u8, k: u16) -> u16
     requires stream { (1 ≤ stream) × (stream ≤ streams_of rate.now) }
     requires bit { k < stream_bits_of rate.now }
@@ -18,7 +19,7 @@ pub fn place(rate: &Rate, stream: u8, k: u16) -> u16
     rotated(rate, stream, regrouped(rate, by_columns(rate, k)))
 }
 
-/// The bit that stands at place `r` of spatial stream `stream`: the inverse of [`place`].
+/// The bit that goes to place `r` of spatial stream `stream`: the inverse of [`place`].
 pub fn origin(rate: &Rate, stream: u8, r: u16) -> u16
     requires stream { (1 ≤ stream) × (stream ≤ streams_of rate.now) }
     requires place { r < stream_bits_of rate.now }

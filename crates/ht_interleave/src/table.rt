@@ -1,14 +1,7 @@
 //! The sizes of the interleaver (table 20-17).
 ghost use Rattle.std.specs.Prelude.{◌≡◌, ◌≤◌};
-ghost use Rattle.ht_rate.specs.Rates.{stream_bits_of, streams_of};
-ghost use Rattle.ht_interleave.specs.Steps.{
-  at_bandwidth,
-  columns_of,
-  rows_of,
-  rotation_of,
-  axis_bits_of,
-  turn_of,
-};
+ghost use Rattle.ht_rate.specs.Rates.{stream_bits_of, streams_of, axis_bits_of};
+ghost use Rattle.ht_interleave.specs.Steps.{at_bandwidth, columns_of, rows_of, rotation_of, turn_of};
 
 use ht_rate::{Bandwidth, Rate};
 
@@ -41,17 +34,16 @@ pub fn rotation(rate: &Rate) -> u16
     of_bandwidth(rate.bandwidth(), 11, 29)
 }
 
-// The bits on one axis of the constellation, at least 1.
-#[tactic(auto, unfolding(crate::specs::Steps::axis_bits_of))]
+// The bits of one axis of the constellation.
 pub fn axis_bits(rate: &Rate) -> u16
     ensures value { result ≡ axis_bits_of rate.now }
     ensures low { 1 ≤ result }
     ensures high { result ≤ 3 }
 {
-    u16::from(rate.label_bits() / 2).max(1)
+    u16::from(rate.axis_bits())
 }
 
-// By how many places the stream is rotated.
+// The number of places that the stream is rotated by.
 #[tactic(auto, unfolding(crate::specs::Steps::turn_of))]
 pub fn turn(rate: &Rate, stream: u8) -> u16
     requires { (1 ≤ stream) × (stream ≤ streams_of rate.now) }

@@ -4,7 +4,8 @@ use Rattle.std.proofs.Math.Nat.{div-lt_iff_lt-mul}
 use Rattle.std.proofs.lemmas.Nat.{div-add-mod', div-mul-add, mod-mul-add, mul-add-lt, mod_below}
 use Rattle.ht_rate.specs.declared.rates.Rate.{Rate}
 use Rattle.ht_rate.specs.Rates.{encoders_of, streams_of, stream_bits_of, data_carriers_of, label_bits_of, coded_bits_of}
-use Rattle.ht_rate.proofs.RateFacts.{streams_of-range, data_carriers_of-range, label_bits_of-range, stream_bits_of-is, coded_bits_of-range, coded_bits_of-shared}
+use Rattle.ht_rate.proofs.RateFacts.{streams_of-range, data_carriers_of-range, label_bits_of-range}
+use Rattle.ht_rate.proofs.RateFacts.{stream_bits_of-is, coded_bits_of-range, coded_bits_of-shared}
 use Rattle.ht_parse.specs.Streams.{share_of, source_of, stream_place_of}
 use Rattle.ht_interleave.specs.Interleaver.{place_of, origin_of}
 use Rattle.ht_landing.specs.declared.landings.Landing.{Landing}
@@ -111,7 +112,8 @@ unfolding coded_bit_of
 coded_bit_of-lands r l h =
     let b = label_bits_of r in
     let p = l.carrier * b + l.bit in
-    let below : p < stream_bits_of r = subst (λ (n : ℕ). p < n) (sym (stream_bits_of-is r)) (omega (arith, mul-add-lt l.carrier b l.bit (data_carriers_of r) h.carrier h.bit)) in
+    let below : p < stream_bits_of r =
+    subst (λ (n : ℕ). p < n) (sym (stream_bits_of-is r)) (omega (arith, mul-add-lt l.carrier b l.bit (data_carriers_of r) h.carrier h.bit)) in
     let there = origin-there r l.stream p h.stream_low h.stream_high below in
     let k = origin_of r l.stream p in
     let from = source_of-place r l.stream k h.stream_low h.stream_high there.0 in (

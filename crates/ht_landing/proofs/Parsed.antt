@@ -1,18 +1,18 @@
 -- Where the stream parser sends a coded bit of a symbol, by numbers that are those of a rate.
 use Rattle.std.proofs.Common.{◌≡◌, ℕ, ◌+◌, ◌*◌, ◌/◌, ◌%◌, ◌<◌, ◌≤◌, ap, sym, ◌∙◌, subst}
 use Rattle.ht_rate.specs.declared.rates.Rate.{Rate}
-use Rattle.ht_rate.specs.Rates.{encoders_of, streams_of, stream_bits_of}
-use Rattle.ht_parse.specs.Streams.{run_of, share_of, stream_place_of}
+use Rattle.ht_rate.specs.Rates.{encoders_of, streams_of, stream_bits_of, axis_bits_of}
+use Rattle.ht_parse.specs.Streams.{share_of, stream_place_of}
 use Rattle.ht_parse.proofs.Maps.{stream_place_of-bit}
 
 -- the stream and the bit, and that the rate has them
-pub placed : (r : Rate) (j i e n s t k : ℕ) → e ≡ encoders_of r → n ≡ streams_of r → s ≡ run_of r
+pub placed : (r : Rate) (j i e n s t k : ℕ) → e ≡ encoders_of r → n ≡ streams_of r → s ≡ axis_bits_of r
     → t ≡ i / s % n + 1 → k ≡ e * s * (i / (n * s)) + j * s + i % s → j < encoders_of r → i < share_of r
     → ((t, k) ≡ stream_place_of r j i) × (1 ≤ t) × (t ≤ streams_of r) × (k < stream_bits_of r)
 unfolding stream_place_of
 placed r j i e n s t k de dn ds dt dk lj li =
     let at = stream_place_of-bit r j i lj li in
-    let first : t ≡ (stream_place_of r j i).0 = dt ∙ ap (λ (y : ℕ). i / y % n + 1) ds ∙ ap (λ (y : ℕ). i / run_of r % y + 1) dn in
+    let first : t ≡ (stream_place_of r j i).0 = dt ∙ ap (λ (y : ℕ). i / y % n + 1) ds ∙ ap (λ (y : ℕ). i / axis_bits_of r % y + 1) dn in
     let bit : k ≡ (stream_place_of r j i).1 =
     dk ∙ ap (λ (y : ℕ). y * s * (i / (n * s)) + j * s + i % s) de
     ∙ ap (λ (y : ℕ). encoders_of r * s * (i / (y * s)) + j * s + i % s) dn

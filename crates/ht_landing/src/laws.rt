@@ -28,7 +28,7 @@ pub fn each_coded_bit_lands_once()
     ensures symbol { (r : Rate) (j q n : ℕ) → (landing_of r j q).symbol < n ↔ (q < n * share_of r) }
 {}
 
-/// At each label bit of each symbol one coded bit of one encoder lands.
+/// At each label bit of each symbol exactly one coded bit of one encoder lands.
 pub fn each_label_bit_is_landed_on_once()
     ensures lands { (r : Rate) (l : Landing) → IsLabelBit r l
         → ((coded_bit_of r l).0 < encoders_of r)

@@ -1,6 +1,6 @@
 //! Where coded bits land in a frame of the HT PHY (IEEE Std 802.11-2012, clauses 20.3.11.8.2, 20.3.11.8.3 and 20.3.11.9).
 //!
-//! Between an encoder and a constellation a coded bit goes three ways. The stream parser gives every encoder's share
+//! Between an encoder and a constellation a coded bit takes three steps. The stream parser gives every encoder's share
 //! of N_CBPS / N_ES bits of a symbol to the spatial streams, s = max(1, N_BPSCS / 2) bits at a time. The interleaver
 //! moves the N_CBPSS bits of each stream. Then N_BPSCS bits from place `carrier * N_BPSCS` on are the label of a data
 //! subcarrier. So each coded bit lands at one bit of one label: a symbol, a stream, a data subcarrier and a label bit.

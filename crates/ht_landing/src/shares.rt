@@ -1,6 +1,6 @@
 //! The stream parser, bit by bit.
 ghost use Rattle.std.specs.Prelude.{◌≡◌, ◌<◌, ◌≤◌};
-ghost use Rattle.ht_parse.specs.Streams.{run_of, share_of, stream_place_of};
+ghost use Rattle.ht_parse.specs.Streams.{share_of, stream_place_of};
 ghost use Rattle.ht_rate.specs.Rates.{encoders_of, streams_of, stream_bits_of};
 
 use ht_rate::Rate;
@@ -15,17 +15,7 @@ pub(crate) fn share(rate: &Rate) -> u32
     u32::from(rate.coded_bits()) / u32::from(rate.encoders())
 }
 
-// s, the bits that name one axis of the constellation, and at least 1.
-#[tactic(auto, unfolding(ht_parse::specs::Streams::run_of))]
-fn run(rate: &Rate) -> u32
-    ensures value { result ≡ run_of rate.now }
-    ensures low { 1 ≤ result }
-    ensures high { result ≤ 3 }
-{
-    u32::from(rate.label_bits() / 2).max(1)
-}
-
-// The stream that takes bit i of an encoder's share, and which of its bits that is.
+// The stream that takes bit i of an encoder's share, and the number of the bit there.
 #[tactic(auto, using(crate::proofs::Parsed::parsing))]
 pub(crate) fn stream_place(rate: &Rate, encoder: u8, i: u32) -> (u8, u16)
     requires encoder { encoder < encoders_of rate.now }
@@ -36,7 +26,7 @@ pub(crate) fn stream_place(rate: &Rate, encoder: u8, i: u32) -> (u8, u16)
 {
     let encoders = u32::from(rate.encoders());
     let streams = u32::from(rate.streams());
-    let run = run(rate);
+    let run = u32::from(rate.axis_bits());
     let stream = i / run % streams + 1;
     let bit = encoders * run * (i / (streams * run)) + u32::from(encoder) * run + i % run;
     (stream as u8, bit as u16)

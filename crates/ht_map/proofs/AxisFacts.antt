@@ -1,10 +1,11 @@
 -- The levels of an axis and the bits that name them are one to one.
-use Rattle.std.proofs.Common.{◌≡◌, ℕ, ◌<◌, ℤ, [], ◌∷◌, Bool, true, false, not, nat_lt, nat_eq, ◌&&◌, ◌||◌, ◌⊎◌, inl, inr, Option, Some, refl, arith, cond, map, is_some}
+use Rattle.std.proofs.Common.{◌≡◌, ℕ, ◌<◌, ℤ, [], ◌∷◌, Bool, true, false, not, nat_lt, nat_eq, ◌&&◌}
+use Rattle.std.proofs.Common.{◌||◌, ◌⊎◌, inl, inr, Option, Some, refl, arith, cond, map, is_some}
+use Rattle.std.proofs.lemmas.Bool.{and_parts}
 use Rattle.std.proofs.lemmas.Bool.Decides.{Decides-int_eq, nat_tests}
 use Rattle.std.specs.List.{list_any}
 use Rattle.std.specs.Ordering.{int_eq}
 use Rattle.ht_map.specs.Gray.{Axis, level_at, bits_at}
-use Rattle.ht_rate.proofs.Every.{both}
 
 -- no level is named by these bits
 abbrev pub fresh : ℕ → Axis → Bool
@@ -26,7 +27,7 @@ fresh-differs : (axis : Axis) (n b : ℕ) (x : ℤ) → fresh n axis ≡ true �
 unfolding bits_at
 fresh-differs [] n b x f e = cc
 fresh-differs (s ∷ axis) n b x f e =
-    let parts = both (not (nat_eq s.0 n)) (fresh n axis) f in
+    let parts = and_parts (not (nat_eq s.0 n)) (fresh n axis) f in
     elim (step_by (int_eq s.1 x) s.0 b (bits_at axis x) e) [
       | inl here ↦ differ s.0 n b parts.0 here.1
       | inr later ↦ fresh-differs axis n b x parts.1 later.1
@@ -41,8 +42,8 @@ pub bits_at-level : (top : ℕ) (axis : Axis) (x : ℤ) (b : ℕ) → sound top 
 unfolding bits_at level_at
 bits_at-level top [] x b s e = cc
 bits_at-level top (s ∷ axis) x b ok e =
-    let parts = both (nat_lt s.0 top && fresh s.0 axis) (sound top axis) ok in
-    let front = both (nat_lt s.0 top) (fresh s.0 axis) parts.0 in
+    let parts = and_parts (nat_lt s.0 top && fresh s.0 axis) (sound top axis) ok in
+    let front = and_parts (nat_lt s.0 top) (fresh s.0 axis) parts.0 in
     elim (step_by (int_eq s.1 x) s.0 b (bits_at axis x) e) [
       | inl here ↦ (less s.0 b top front.0 here.1, first s.0 b s.1 x (level_at axis b) here.1 ((Decides-int_eq s.1 x).0 here.0))
       | inr later ↦

@@ -1,6 +1,7 @@
 -- Labels and points are one to one.
-use Rattle.std.proofs.Common.{◌≡◌, ℕ, ◌+◌, ◌*◌, ◌/◌, ◌%◌, ◌^◌, ◌<◌, ℤ, Bool, true, false, nat_eq, Option, None, Some, refl, arith, ap, ◌∙◌, sym, subst, is_some, ◌&&◌, true≢false, ◌↔◌, IfSome, IsNone}
-use Rattle.std.proofs.lemmas.Bool.Decides.{nat_tests}
+use Rattle.std.proofs.Common.{◌≡◌, ℕ, ◌+◌, ◌*◌, ◌/◌, ◌%◌, ◌^◌, ◌<◌, ℤ, Bool, true, false, nat_eq, Option, None, Some}
+use Rattle.std.proofs.Common.{refl, arith, ap, ◌∙◌, sym, subst, is_some, ◌&&◌, true≢false, ◌↔◌, IfSome, IsNone}
+use Rattle.std.proofs.lemmas.Bool.{agree_below, agree_below_at, eqb-true}
 use Rattle.ht_rate.specs.declared.kinds.Modulation.{Modulation}
 use Rattle.ht_rate.specs.declared.kinds.Modulation.TheVariants.{Bpsk, Qpsk, Qam16, Qam64}
 use Rattle.ht_rate.specs.Schemes.{bits_of}
@@ -9,7 +10,6 @@ use Rattle.ht_pam.specs.Ladders.{has}
 use Rattle.ht_map.specs.Gray.{Axis, i_axis, q_axis, q_levels, level_at, bits_at, joined, point_of, label_of}
 use Rattle.ht_map.specs.Constellation.{IsOff, axes_of}
 use Rattle.ht_map.proofs.AxisFacts.{sound, bits_at-level, is_some-bits_at}
-use Rattle.ht_rate.proofs.Every.{each_below, at_below}
 
 -- whether there is a number, and it is this one
 unfoldable pub is_this : ℕ → Option ℕ → Bool
@@ -19,16 +19,13 @@ is_this n (Some m) = nat_eq n m
 is_this-some : (n : ℕ) (o : Option ℕ) → is_this n o ≡ true → o ≡ Some n
 unfolding is_this
 is_this-some n None e = cc
-is_this-some n (Some m) e = ap Some (same n m e)
-  where
-    same : (n m : ℕ) → nat_eq n m ≡ true → m ≡ n
-    same n m e = grind (arith, nat_tests)
+is_this-some n (Some m) e = ap Some (sym (eqb-true n m e))
 
 unfoldable pub comes_back : Modulation → ℕ → Bool
 comes_back m label = is_this label (label_of m (point_of m label))
 
-come_back : (m : Modulation) → each_below (comes_back m) (2 ^ bits_of m) ≡ true
-unfolding each_below comes_back is_this label_of point_of level_at bits_at
+come_back : (m : Modulation) → agree_below (comes_back m) (λ _. true) (2 ^ bits_of m) ≡ true
+unfolding comes_back is_this label_of point_of level_at bits_at
 come_back Bpsk = refl
 come_back Qpsk = refl
 come_back Qam16 = refl
@@ -37,7 +34,7 @@ come_back Qam64 = refl
 -- the label of a label's point is the label
 pub label_of-point_of : (m : Modulation) (label : ℕ) → label < 2 ^ bits_of m → label_of m (point_of m label) ≡ Some label
 unfolding comes_back
-label_of-point_of m label lt = is_this-some label _ (at_below (comes_back m) (2 ^ bits_of m) (come_back m) label lt)
+label_of-point_of m label lt = is_this-some label _ (agree_below_at (comes_back m) (λ _. true) (2 ^ bits_of m) label (come_back m) lt)
 
 joined-some : (levels : ℕ) (a b : Option ℕ) (label : ℕ) → joined levels a b ≡ Some label
     → (i : ℕ) × ((q : ℕ) × ((a ≡ Some i) × (b ≡ Some q) × (i * levels + q ≡ label)))
@@ -70,10 +67,14 @@ halves p a b i_top levels label top some sa sb parts e =
 pub point_of-label_of : (m : Modulation) (p : Point) (label : ℕ) → label_of m p ≡ Some label
     → (label < 2 ^ bits_of m) × (point_of m label ≡ p)
 unfolding label_of point_of
-point_of-label_of Bpsk p label e = halves p (i_axis Bpsk) (q_axis Bpsk) 2 1 label 2 (omega arith) refl refl (λ i q h k s. (omega arith, omega arith, omega arith)) e
-point_of-label_of Qpsk p label e = halves p (i_axis Qpsk) (q_axis Qpsk) 2 2 label 4 (omega arith) refl refl (λ i q h k s. (omega arith, omega arith, omega arith)) e
-point_of-label_of Qam16 p label e = halves p (i_axis Qam16) (q_axis Qam16) 4 4 label 16 (omega arith) refl refl (λ i q h k s. (omega arith, omega arith, omega arith)) e
-point_of-label_of Qam64 p label e = halves p (i_axis Qam64) (q_axis Qam64) 8 8 label 64 (omega arith) refl refl (λ i q h k s. (omega arith, omega arith, omega arith)) e
+point_of-label_of Bpsk p label e =
+    halves p (i_axis Bpsk) (q_axis Bpsk) 2 1 label 2 (omega arith) refl refl (λ i q h k s. (omega arith, omega arith, omega arith)) e
+point_of-label_of Qpsk p label e =
+    halves p (i_axis Qpsk) (q_axis Qpsk) 2 2 label 4 (omega arith) refl refl (λ i q h k s. (omega arith, omega arith, omega arith)) e
+point_of-label_of Qam16 p label e =
+    halves p (i_axis Qam16) (q_axis Qam16) 4 4 label 16 (omega arith) refl refl (λ i q h k s. (omega arith, omega arith, omega arith)) e
+point_of-label_of Qam64 p label e =
+    halves p (i_axis Qam64) (q_axis Qam64) 8 8 label 64 (omega arith) refl refl (λ i q h k s. (omega arith, omega arith, omega arith)) e
 
 -- a point without a label is off the constellation
 pub none-off : (m : Modulation) (p : Point) → is_some (label_of m p) ≡ false → IsOff m p

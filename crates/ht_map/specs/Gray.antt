@@ -44,7 +44,7 @@ q_axis Qpsk = one_bit
 q_axis Qam16 = two_bits
 q_axis Qam64 = three_bits
 
--- how many levels Q has: the second half of a label names them, and in BPSK no bit does
+-- the number of levels of Q: the second half of a label names them, and in BPSK no bit does
 abbrev pub q_levels : Modulation → ℕ
 q_levels m = 2 ^ (bits_of m / 2)
 
@@ -65,7 +65,7 @@ point_of m label = record {
   q = level_at (q_axis m) (label % q_levels m);
 }
 
--- the label of the bits of I, and behind them those of Q, which name so many levels
+-- the label of the bits of I, and behind them those of Q, which name this number of levels
 abbrev pub joined : ℕ → Option ℕ → Option ℕ → Option ℕ
 joined levels None q = None
 joined levels (Some i) None = None

@@ -52,7 +52,7 @@ pub fn label(modulation: Modulation, point: Point) -> Option<u8>
     join(i, q, q_levels_of(modulation))
 }
 
-// How many levels Q has.
+// The number of levels of Q.
 fn q_levels_of(modulation: Modulation) -> u8
     ensures value { result ≡ q_levels modulation }
     ensures bound { result ≤ 8 }
@@ -80,7 +80,7 @@ fn bits(modulation: Modulation, point: Point) -> (Option<u8>, Option<u8>)
     }
 }
 
-// The label of the bits of I and those of Q, which has so many levels.
+// The label of the bits of I and those of Q, which has this number of levels.
 fn join(i: Option<u8>, q: Option<u8>, levels: u8) -> Option<u8>
     requires i { IfSome i (λ bits. bits < 8) }
     requires q { IfSome q (λ bits. bits < 8) }

@@ -2,9 +2,9 @@
 use Rattle.std.proofs.Common.{◌≡◌, ℕ, zero, suc, ◌+◌, ◌-◌, ◌*◌, ◌/◌, ◌%◌, ◌<◌, List, Bool, false, length, get_or, ap, sym, ◌∙◌, arith}
 use Rattle.std.proofs.lemmas.Nat.{div-mul-add, mod-mul-add}
 use Rattle.ht_rate.specs.declared.rates.Rate.{Rate}
-use Rattle.ht_rate.specs.Rates.{encoders_of, streams_of, stream_bits_of}
+use Rattle.ht_rate.specs.Rates.{encoders_of, streams_of, stream_bits_of, axis_bits_of}
 use Rattle.ht_parse.specs.Encoders.{list_of, AreShares}
-use Rattle.ht_parse.specs.Streams.{run_of, source_of, stream_place_of}
+use Rattle.ht_parse.specs.Streams.{source_of, stream_place_of}
 use Rattle.ht_parse.specs.Runs.{AreSizes, Follows, laid_bit, gathered_bit}
 use Rattle.ht_rate.proofs.RateFacts.{encoders_of-range}
 use Rattle.ht_parse.proofs.Filled.{follows-more}
@@ -12,33 +12,35 @@ use Rattle.ht_parse.proofs.Places.{run-place, place-below}
 use Rattle.ht_parse.proofs.Sizes.{sizes-stream}
 
 -- the bit that a place of a stream comes from
-pub source-at : (r : Rate) (e n s m t q j x k : ℕ) → AreSizes r e n s m → j < e → x < s → k ≡ e * s * q + j * s + x → source_of r (t + 1) k ≡ (j, (q * n + t) * s + x)
+pub source-at : (r : Rate) (e n s m t q j x k : ℕ) → AreSizes r e n s m → j < e
+    → x < s → k ≡ e * s * q + j * s + x → source_of r (t + 1) k ≡ (j, (q * n + t) * s + x)
 unfolding source_of
 source-at r e n s m t q j x k a lj lx is =
     let de = a.encoders_is in let dn = a.streams_is in let ds = a.run_is in
     let lj' : j < encoders_of r = omega arith in
-    let lx' : x < run_of r = omega arith in
-    let is' : k ≡ encoders_of r * run_of r * q + j * run_of r + x = cc in
-    let parts = run-place (encoders_of r) (run_of r) q j x k lj' lx' is' in
-    let encoder : k / run_of r % encoders_of r ≡ j = parts.0 in
-    let row : k / (encoders_of r * run_of r) ≡ q = parts.1 in
-    let rest : k % run_of r ≡ x = parts.2 in
+    let lx' : x < axis_bits_of r = omega arith in
+    let is' : k ≡ encoders_of r * axis_bits_of r * q + j * axis_bits_of r + x = cc in
+    let parts = run-place (encoders_of r) (axis_bits_of r) q j x k lj' lx' is' in
+    let encoder : k / axis_bits_of r % encoders_of r ≡ j = parts.0 in
+    let row : k / (encoders_of r * axis_bits_of r) ≡ q = parts.1 in
+    let rest : k % axis_bits_of r ≡ x = parts.2 in
     let back : t + 1 - 1 ≡ t = omega arith in
     let sum : t * s + n * s * q + x ≡ (q * n + t) * s + x = omega arith in
     cc
 
 -- the place of an encoder's bit
-pub place-at : (r : Rate) (e n s m t q j x i : ℕ) → AreSizes r e n s m → t < n → x < s → i ≡ n * s * q + t * s + x → stream_place_of r j i ≡ (t + 1, e * s * q + j * s + x)
+pub place-at : (r : Rate) (e n s m t q j x i : ℕ) → AreSizes r e n s m → t < n → x < s
+    → i ≡ n * s * q + t * s + x → stream_place_of r j i ≡ (t + 1, e * s * q + j * s + x)
 unfolding stream_place_of
 place-at r e n s m t q j x i a lt lx is =
     let de = a.encoders_is in let dn = a.streams_is in let ds = a.run_is in
     let lt' : t < streams_of r = omega arith in
-    let lx' : x < run_of r = omega arith in
-    let is' : i ≡ streams_of r * run_of r * q + t * run_of r + x = cc in
-    let parts = run-place (streams_of r) (run_of r) q t x i lt' lx' is' in
-    let stream : i / run_of r % streams_of r ≡ t = parts.0 in
-    let row : i / (streams_of r * run_of r) ≡ q = parts.1 in
-    let rest : i % run_of r ≡ x = parts.2 in
+    let lx' : x < axis_bits_of r = omega arith in
+    let is' : i ≡ streams_of r * axis_bits_of r * q + t * axis_bits_of r + x = cc in
+    let parts = run-place (streams_of r) (axis_bits_of r) q t x i lt' lx' is' in
+    let stream : i / axis_bits_of r % streams_of r ≡ t = parts.0 in
+    let row : i / (streams_of r * axis_bits_of r) ≡ q = parts.1 in
+    let rest : i % axis_bits_of r ≡ x = parts.2 in
     cc
 
 -- what stands in the symbol at a place of an encoder's run
@@ -51,7 +53,8 @@ laid-at r e n s m t q j x p first second a lq lj lx is =
     let scaled : t * (e * s * m) ≡ t * stream_bits_of r = ap (λ (y : ℕ). t * y) stream in
     let whole : p ≡ t * stream_bits_of r + (e * s * q + j * s + x) = omega arith in
     let is_stream : p / stream_bits_of r ≡ t = ap (λ (y : ℕ). y / stream_bits_of r) whole ∙ div-mul-add t (stream_bits_of r) (e * s * q + j * s + x) below in
-    let is_place : p % stream_bits_of r ≡ e * s * q + j * s + x = ap (λ (y : ℕ). y % stream_bits_of r) whole ∙ mod-mul-add t (stream_bits_of r) (e * s * q + j * s + x) below in
+    let is_place : p % stream_bits_of r ≡ e * s * q + j * s + x =
+    ap (λ (y : ℕ). y % stream_bits_of r) whole ∙ mod-mul-add t (stream_bits_of r) (e * s * q + j * s + x) below in
     let source : source_of r (p / stream_bits_of r + 1) (p % stream_bits_of r) ≡ (j, (q * n + t) * s + x) =
     ap (λ (y : ℕ). source_of r (y + 1) (p % stream_bits_of r)) is_stream ∙ source-at r e n s m t q j x (p % stream_bits_of r) a lj lx is_place in
     ap (λ (z : ℕ × ℕ). get_or (list_of first second z.0) z.1 false) source
@@ -72,7 +75,8 @@ gathered-at r e n s m t q j x i bits a lt lx is =
     ap (λ (z : ℕ × ℕ). get_or bits ((z.0 - 1) * stream_bits_of r + z.1) false) place ∙ ap (λ (y : ℕ). get_or bits y false) same
 
 -- each encoder's list has its share
-pub length-list_of : (r : Rate) (first second : List Bool) (share j : ℕ) → length first ≡ share → AreShares r first second → j < encoders_of r → length (list_of first second j) ≡ share
+pub length-list_of : (r : Rate) (first second : List Bool) (share j : ℕ) → length first ≡ share
+    → AreShares r first second → j < encoders_of r → length (list_of first second j) ≡ share
 length-list_of r first second share zero len shares lj = len
 length-list_of r first second share (suc j) len shares lj =
     let one : encoders_of r - 1 ≡ 1 = omega (arith, encoders_of-range r) in

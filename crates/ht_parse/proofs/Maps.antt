@@ -8,9 +8,11 @@ use Rattle.ht_parse.proofs.Whole.{streams-from}
 
 -- a place of a stream comes from a bit that an encoder has, and that bit goes to it
 pub source_of-place : (r : Rate) (stream k : ℕ) → 1 ≤ stream → stream ≤ streams_of r → k < stream_bits_of r
-    → ((source_of r stream k).0 < encoders_of r) × ((source_of r stream k).1 < share_of r) × (stream_place_of r (source_of r stream k).0 (source_of r stream k).1 ≡ (stream, k))
+    → ((source_of r stream k).0 < encoders_of r) × ((source_of r stream k).1 < share_of r)
+    × (stream_place_of r (source_of r stream k).0 (source_of r stream k).1 ≡ (stream, k))
 source_of-place r stream k low high lk =
-    streams-from (λ s. ((source_of r s k).0 < encoders_of r) × ((source_of r s k).1 < share_of r) × (stream_place_of r (source_of r s k).0 (source_of r s k).1 ≡ (s, k))) (streams_of r)
+    streams-from (λ s. ((source_of r s k).0 < encoders_of r) × ((source_of r s k).1 < share_of r)
+    × (stream_place_of r (source_of r s k).0 (source_of r s k).1 ≡ (s, k))) (streams_of r)
     (λ t lt. let found = from-place r t k lt lk in (found.encoder_below, found.bit_below, found.place)) stream low high
 
 -- an encoder's bit goes to a place that the streams have, and that place comes from it

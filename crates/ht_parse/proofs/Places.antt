@@ -52,7 +52,8 @@ place-within e n s m t q j lt lq lj =
     let scaled : ((t * m + q) * e + j + 1) * s ≤ e * (m * n) * s = mul-le-mul_right s below in
     omega arith
 
-pub places-small : (e n m t q j : ℕ) → t < n → q < m → j < e → e ≤ 2 → n ≤ 4 → m ≤ 216 → (t * m ≤ 864) × (t * m + q < 864) × ((t * m + q) * e ≤ 1728) × ((t * m + q) * e + j < 1728)
+pub places-small : (e n m t q j : ℕ) → t < n → q < m → j < e → e ≤ 2 → n ≤ 4 → m ≤ 216
+    → (t * m ≤ 864) × (t * m + q < 864) × ((t * m + q) * e ≤ 1728) × ((t * m + q) * e + j < 1728)
 places-small e n m t q j lt lq lj le ln lm =
     let all : m * n ≤ 864 = omega (arith, mul-le m n 216 4 lm ln) in
     let rounds : t * m + q < m * n = mul-add-lt t m q n lt lq in

@@ -13,7 +13,8 @@ use Rattle.ht_parse.proofs.Maps.{stream_place_of-bit}
 
 -- lists of shares that agree for each encoder are the same
 same-lists : (r : Rate) (first second first' second' : List Bool) → length first ≡ length first' → AreShares r first second → AreShares r first' second'
-    → ((j i : ℕ) → j < encoders_of r → i < length first → get_or (list_of first second j) i false ≡ get_or (list_of first' second' j) i false) → (first ≡ first') × (second ≡ second')
+    → ((j i : ℕ) → j < encoders_of r → i < length first → get_or (list_of first second j) i false ≡ get_or (list_of first' second' j) i false)
+    → (first ≡ first') × (second ≡ second')
 same-lists r first second first' second' len shares shares' same =
     let scaled : (encoders_of r - 1) * length first ≡ (encoders_of r - 1) * length first' = ap (λ (y : ℕ). (encoders_of r - 1) * y) len in (
       ext_get_or false first first' len (λ i lt. same 0 i (encoders_of-range r).0 lt),
@@ -33,12 +34,15 @@ parsed-bits r bits bits' first second a b = ext_get_or false bits bits' (a.whole
     let below : p % e < e = mod_below p e (encoders_of-range r).0 in
     let whole = a.whole in
     let row : p / e < length first = div_below p e (length first) (encoders_of-range r).0 (omega arith) in
-    ap (λ (y : ℕ). get_or bits y false) (sym place) ∙ (a.places (p % e) (p / e) below row ∙ (sym (b.places (p % e) (p / e) below row) ∙ ap (λ (y : ℕ). get_or bits' y false) place)))
+    ap (λ (y : ℕ). get_or bits y false) (sym place)
+    ∙ (a.places (p % e) (p / e) below row ∙ (sym (b.places (p % e) (p / e) below row) ∙ ap (λ (y : ℕ). get_or bits' y false) place)))
 
-pub parsed-lists : (r : Rate) (bits first second first' second' : List Bool) → IsParsed r bits first second → IsParsed r bits first' second' → (first ≡ first') × (second ≡ second')
+pub parsed-lists : (r : Rate) (bits first second first' second' : List Bool)
+    → IsParsed r bits first second → IsParsed r bits first' second' → (first ≡ first') × (second ≡ second')
 parsed-lists r bits first second first' second' a b =
     let len : length first ≡ length first' =
-    sym (mul-div_cancel_left (length first) (encoders_of-range r).0) ∙ (ap (λ (y : ℕ). y / encoders_of r) (sym a.whole ∙ b.whole) ∙ mul-div_cancel_left (length first') (encoders_of-range r).0) in
+    sym (mul-div_cancel_left (length first) (encoders_of-range r).0)
+    ∙ (ap (λ (y : ℕ). y / encoders_of r) (sym a.whole ∙ b.whole) ∙ mul-div_cancel_left (length first') (encoders_of-range r).0) in
     same-lists r first second first' second' len a.shares b.shares (λ j i lj li. sym (a.places j i lj li) ∙ b.places j i lj (omega arith))
 
 pub laid-bits : (r : Rate) (bits bits' first second : List Bool) → IsLaid r bits first second → IsLaid r bits' first second → bits ≡ bits'
@@ -53,15 +57,18 @@ laid-bits r bits bits' first second a b = ext_get_or false bits bits' (a.whole �
     let row : p / m < streams_of r = div_below p m (streams_of r) some below in
     let rest : p % m < m = mod_below p m some in
     ap (λ (y : ℕ). get_or bits y false) (sym place)
-    ∙ (a.places (p / m + 1) (p % m) (omega arith) (omega arith) rest ∙ (sym (b.places (p / m + 1) (p % m) (omega arith) (omega arith) rest) ∙ ap (λ (y : ℕ). get_or bits' y false) place)))
+    ∙ (a.places (p / m + 1) (p % m) (omega arith) (omega arith) rest
+    ∙ (sym (b.places (p / m + 1) (p % m) (omega arith) (omega arith) rest) ∙ ap (λ (y : ℕ). get_or bits' y false) place)))
 
 pub laid-bit : (r : Rate) (bits first second : List Bool) (j i : ℕ) → IsLaid r bits first second → j < encoders_of r → i < share_of r
     → get_or bits (((stream_place_of r j i).0 - 1) * stream_bits_of r + (stream_place_of r j i).1) false ≡ get_or (list_of first second j) i false
 laid-bit r bits first second j i a lj li =
     let place = stream_place_of-bit r j i lj li in
-    a.places (stream_place_of r j i).0 (stream_place_of r j i).1 place.0 place.1 place.2 ∙ ap (λ (z : ℕ × ℕ). get_or (list_of first second z.0) z.1 false) place.3
+    a.places (stream_place_of r j i).0 (stream_place_of r j i).1 place.0 place.1 place.2
+    ∙ ap (λ (z : ℕ × ℕ). get_or (list_of first second z.0) z.1 false) place.3
 
-pub laid-lists : (r : Rate) (bits first second first' second' : List Bool) → IsLaid r bits first second → IsLaid r bits first' second' → (first ≡ first') × (second ≡ second')
+pub laid-lists : (r : Rate) (bits first second first' second' : List Bool)
+    → IsLaid r bits first second → IsLaid r bits first' second' → (first ≡ first') × (second ≡ second')
 laid-lists r bits first second first' second' a b =
     same-lists r first second first' second' (a.share ∙ sym b.share) a.shares b.shares
     (λ j i lj li.

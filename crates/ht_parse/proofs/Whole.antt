@@ -21,7 +21,8 @@ unfolding laid_bit
 laid-place r first second t k lk =
     let row : (t * stream_bits_of r + k) / stream_bits_of r ≡ t = div-mul-add t (stream_bits_of r) k lk in
     let rest : (t * stream_bits_of r + k) % stream_bits_of r ≡ k = mod-mul-add t (stream_bits_of r) k lk in
-    ap (λ (y : ℕ). get_or (list_of first second (source_of r (y + 1) ((t * stream_bits_of r + k) % stream_bits_of r)).0) (source_of r (y + 1) ((t * stream_bits_of r + k) % stream_bits_of r)).1 false) row
+    ap (λ (y : ℕ). get_or (list_of first second (source_of r (y + 1) ((t * stream_bits_of r + k) % stream_bits_of r)).0)
+    (source_of r (y + 1) ((t * stream_bits_of r + k) % stream_bits_of r)).1 false) row
     ∙ ap (λ (y : ℕ). get_or (list_of first second (source_of r (t + 1) y).0) (source_of r (t + 1) y).1 false) rest
 
 -- what holds of stream t + 1 holds of each stream from 1 on
@@ -36,7 +37,8 @@ laid-whole r bits first second whole share shares follows = record {
   share = share;
   shares = shares;
   places = λ stream k low high lk.
-      streams-from (λ s. get_or bits ((s - 1) * stream_bits_of r + k) false ≡ get_or (list_of first second (source_of r s k).0) (source_of r s k).1 false) (streams_of r)
+      streams-from (λ s. get_or bits ((s - 1) * stream_bits_of r + k) false
+      ≡ get_or (list_of first second (source_of r s k).0) (source_of r s k).1 false) (streams_of r)
       (λ t lt.
       let back : t + 1 - 1 ≡ t = omega arith in
       ap (λ (y : ℕ). get_or bits (y * stream_bits_of r + k) false) back
@@ -46,12 +48,14 @@ laid-whole r bits first second whole share shares follows = record {
 
 -- each encoder's list follows its rule
 gathered-list : (r : Rate) (bits first second : List Bool) (j : ℕ) → j < encoders_of r
-    → Follows (gathered_bit r bits 0) first → (1 < encoders_of r → Follows (gathered_bit r bits 1) second) → Follows (gathered_bit r bits j) (list_of first second j)
+    → Follows (gathered_bit r bits 0) first → (1 < encoders_of r → Follows (gathered_bit r bits 1) second)
+    → Follows (gathered_bit r bits j) (list_of first second j)
 gathered-list r bits first second zero lj follows_first follows_second = follows_first
 gathered-list r bits first second (suc zero) lj follows_first follows_second = follows_second (omega arith)
 gathered-list r bits first second (suc (suc j)) lj follows_first follows_second = absurd (omega (arith, encoders_of-range r))
 
-gathered-place : (r : Rate) (bits : List Bool) (t k j i : ℕ) → stream_place_of r j i ≡ (t + 1, k) → gathered_bit r bits j i ≡ get_or bits (t * stream_bits_of r + k) false
+gathered-place : (r : Rate) (bits : List Bool) (t k j i : ℕ) → stream_place_of r j i ≡ (t + 1, k)
+    → gathered_bit r bits j i ≡ get_or bits (t * stream_bits_of r + k) false
 unfolding gathered_bit
 gathered-place r bits t k j i place =
     let back : t + 1 - 1 ≡ t = omega arith in
@@ -64,12 +68,15 @@ gathered-whole r bits first second whole share shares follows_first follows_seco
   share = share;
   shares = shares;
   places = λ stream k low high lk.
-      streams-from (λ s. get_or bits ((s - 1) * stream_bits_of r + k) false ≡ get_or (list_of first second (source_of r s k).0) (source_of r s k).1 false) (streams_of r)
+      streams-from (λ s. get_or bits ((s - 1) * stream_bits_of r + k) false
+      ≡ get_or (list_of first second (source_of r s k).0) (source_of r s k).1 false) (streams_of r)
       (λ t lt.
       let back : t + 1 - 1 ≡ t = omega arith in
       let found : IsStreamPlace r t k (source_of r (t + 1) k).0 (source_of r (t + 1) k).1 = from-place r t k lt lk in
-      let len : length (list_of first second (source_of r (t + 1) k).0) ≡ share_of r = length-list_of r first second (share_of r) (source_of r (t + 1) k).0 share shares found.encoder_below in
-      let bit = gathered-list r bits first second (source_of r (t + 1) k).0 found.encoder_below follows_first follows_second (source_of r (t + 1) k).1 (omega (arith, len, found.bit_below)) in
+      let len : length (list_of first second (source_of r (t + 1) k).0) ≡ share_of r =
+      length-list_of r first second (share_of r) (source_of r (t + 1) k).0 share shares found.encoder_below in
+      let bit = gathered-list r bits first second (source_of r (t + 1) k).0 found.encoder_below follows_first follows_second
+      (source_of r (t + 1) k).1 (omega (arith, len, found.bit_below)) in
       ap (λ (y : ℕ). get_or bits (y * stream_bits_of r + k) false) back
       ∙ sym (bit ∙ gathered-place r bits t k (source_of r (t + 1) k).0 (source_of r (t + 1) k).1 found.place))
       stream low high;
@@ -87,7 +94,8 @@ gathered-one r at e n s m bits first second list a same one is_first is_second w
     (subst (λ (xs : List Bool). Follows (gathered_bit at bits 0) xs) (sym is_first) follows) (λ two. absurd (omega arith)))
 
 -- with two encoders
-pub gathered-two : (r at : Rate) (e n s m : ℕ) (bits first second list other : List Bool) → AreSizes at e n s m → at ≡ r → ¬ (e ≡ 1) → first ≡ list → second ≡ other
+pub gathered-two : (r at : Rate) (e n s m : ℕ) (bits first second list other : List Bool)
+    → AreSizes at e n s m → at ≡ r → ¬ (e ≡ 1) → first ≡ list → second ≡ other
     → length bits ≡ coded_bits_of r → length list ≡ share_of at → length other ≡ share_of at
     → Follows (gathered_bit at bits 0) list → Follows (gathered_bit at bits 1) other → IsLaid r bits first second
 gathered-two r at e n s m bits first second list other a same two is_first is_second whole share share_too follows follows_too =

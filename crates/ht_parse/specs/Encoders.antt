@@ -16,4 +16,5 @@ AreShares r first second = length second ≡ (encoders_of r - 1) * length first
 pub record IsParsed (r : Rate) (bits first second : List Bool) : Type 0 where
   pub shares : AreShares r first second
   pub whole : length bits ≡ encoders_of r * length first
-  pub places : (j i : ℕ) → j < encoders_of r → i < length first → slice_index_or bits (encoders_of r * i + j) false ≡ slice_index_or (list_of first second j) i false
+  pub places : (j i : ℕ) → j < encoders_of r → i < length first
+      → slice_index_or bits (encoders_of r * i + j) false ≡ slice_index_or (list_of first second j) i false

@@ -3,14 +3,15 @@ ghost use Rattle.std.specs.Prelude.{◌≡◌, ◌+◌, ◌-◌, ◌*◌, ◌/�
 ghost use Rattle.ht_rate.specs.Rates.{encoders_of};
 ghost use Rattle.ht_parse.specs.Encoders.{AreShares, IsParsed};
 
-use crate::bits::{Bits, Pair};
+use crate::pair::Pair;
+use ht_bits::Bits;
 use ht_rate::Rate;
 use std::alloc::{AllocError, Global};
 
 /// Shares the bits among the encoders, one bit to each in turn (clause 20.3.11.5).
 ///
 /// Place N_ES * i + j becomes bit i of encoder j. The number of bits is a multiple of N_ES. With one encoder the
-/// second list is empty. The only refusal is want of memory.
+/// second list is empty. The only refusal is lack of memory.
 pub fn split_encoders(alloc: Global, rate: &Rate, bits: &[bool]) -> Result<Pair, AllocError>
     requires { length bits.now % encoders_of rate.now ≡ 0 }
     ensures { IfOk result (λ p. IsParsed rate.now bits.now p.first p.second) }
@@ -18,15 +19,15 @@ pub fn split_encoders(alloc: Global, rate: &Rate, bits: &[bool]) -> Result<Pair,
     if rate.encoders() == 1 {
         let first = bits.to_vec(alloc)?;
         return Ok(Pair {
-            first: Bits::new(first),
-            second: Bits::new(Vec::new(alloc)),
+            first: Bits::from(first),
+            second: Bits::from(Vec::new(alloc)),
         });
     }
     let first = every_second(alloc, bits, 0)?;
     let second = every_second(alloc, bits, 1)?;
     Ok(Pair {
-        first: Bits::new(first),
-        second: Bits::new(second),
+        first: Bits::from(first),
+        second: Bits::from(second),
     })
 }
 
@@ -47,7 +48,7 @@ fn every_second(alloc: Global, bits: &[bool], start: usize) -> Result<Vec<bool>,
 
 /// Puts the bits of the encoders together again: the inverse of `split_encoders` (clause 20.3.11.5).
 ///
-/// Both lists are equally long, or `second` is empty where the rate has one encoder. The only refusal is want of
+/// Both lists are equally long, or `second` is empty where the rate has one encoder. The only refusal is lack of
 /// memory.
 pub fn join_encoders(
     alloc: Global,

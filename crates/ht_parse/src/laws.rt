@@ -22,14 +22,14 @@ pub fn bits_to_places()
         × (source_of r (stream_place_of r j i).0 (stream_place_of r j i).1 ≡ (j, i)) }
 {}
 
-/// The encoders' lists determine the list that was shared among them, and it them. So splitting and joining undo
-/// each other.
+/// The encoders' lists determine the list that was shared among them, and that list determines them. So splitting and
+/// joining undo each other.
 pub fn parsed_both_ways()
     ensures bits { (r : Rate) (a b first second : List Bool) → IsParsed r a first second → IsParsed r b first second → a ≡ b }
     ensures lists { (r : Rate) (bits a b c d : List Bool) → IsParsed r bits a b → IsParsed r bits c d → (a ≡ c) × (b ≡ d) }
 {}
 
-/// The encoders' lists determine the symbol, and the symbol them. So laying and gathering undo each other.
+/// The encoders' lists determine the symbol, and the symbol determines them. So laying and gathering undo each other.
 pub fn laid_both_ways()
     ensures bits { (r : Rate) (a b first second : List Bool) → IsLaid r a first second → IsLaid r b first second → a ≡ b }
     ensures lists { (r : Rate) (bits a b c d : List Bool) → IsLaid r bits a b → IsLaid r bits c d → (a ≡ c) × (b ≡ d) }

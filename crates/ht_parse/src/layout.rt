@@ -2,7 +2,7 @@
 ghost use Rattle.std.specs.Prelude.{◌≡◌, ◌+◌, ◌*◌, ◌<◌, ◌≤◌};
 ghost use Rattle.ht_rate.specs.Rates.{coded_bits_of};
 ghost use Rattle.ht_parse.specs.Runs.{AreSizes};
-ghost use Rattle.ht_parse.specs.Streams.{run_of, share_of};
+ghost use Rattle.ht_parse.specs.Streams.{share_of};
 
 use ht_rate::Rate;
 
@@ -23,7 +23,7 @@ impl Layout {
         ensures { result.rate ≡ rate.now }
     {
         let encoders = usize::from(rate.encoders());
-        let run = run_of(rate);
+        let run = usize::from(rate.axis_bits());
         Layout {
             rate: *rate,
             encoders,
@@ -60,14 +60,4 @@ impl Layout {
     {
         ((stream * self.rounds + round) * self.encoders + encoder) * self.run
     }
-}
-
-// s: half of a label's bits, and at least one.
-#[tactic(auto, unfolding(crate::specs::Streams::run_of))]
-fn run_of(rate: &Rate) -> usize
-    ensures value { result ≡ run_of rate.now }
-    ensures low { 1 ≤ result }
-    ensures high { result ≤ 3 }
-{
-    usize::from(rate.label_bits() / 2).max(1)
 }

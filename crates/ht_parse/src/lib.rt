@@ -13,14 +13,14 @@
 //! A symbol is a list of N_CBPS bits, those of stream 1 first.
 #![tactic(auto)]
 
-pub mod bits;
 pub mod encoders;
 pub mod laws;
 mod layout;
+pub mod pair;
 pub mod streams;
 #[cfg(test)]
 mod tests;
 
-pub use bits::{Bits, Pair};
 pub use encoders::{join_encoders, split_encoders};
+pub use pair::Pair;
 pub use streams::{from_streams, to_streams};

@@ -6,15 +6,16 @@ ghost use Rattle.ht_parse.specs.Encoders.{AreShares, list_of};
 ghost use Rattle.ht_parse.specs.Runs.{Follows, laid_bit, gathered_bit};
 ghost use Rattle.ht_parse.specs.Streams.{share_of, IsLaid};
 
-use crate::bits::{Bits, Pair};
 use crate::layout::Layout;
+use crate::pair::Pair;
+use ht_bits::Bits;
 use ht_rate::Rate;
 use std::alloc::{AllocError, Global};
 
 /// Lays the coded bits of one symbol on the spatial streams (clause 20.3.11.8.2).
 ///
 /// Each encoder that the rate has gives N_CBPS / N_ES bits; `second` is empty where it has one encoder. The result
-/// has N_CBPS bits, stream after stream, stream 1 first. The only refusal is want of memory.
+/// has N_CBPS bits, stream after stream, stream 1 first. The only refusal is lack of memory.
 pub fn to_streams(
     alloc: Global,
     rate: &Rate,
@@ -86,7 +87,7 @@ fn push_run(bits: &mut Vec<bool>, from: &[bool], at: usize, run: usize)
 /// (clause 20.3.11.8.2).
 ///
 /// `bits` has N_CBPS bits, stream after stream, stream 1 first. With one encoder the second list is empty. The only
-/// refusal is want of memory.
+/// refusal is lack of memory.
 pub fn from_streams(alloc: Global, rate: &Rate, bits: &[bool]) -> Result<Pair, AllocError>
     requires { length bits.now ≡ coded_bits_of rate.now }
     ensures { IfOk result (λ p. IsLaid rate.now bits.now p.first p.second) }
@@ -95,14 +96,14 @@ pub fn from_streams(alloc: Global, rate: &Rate, bits: &[bool]) -> Result<Pair, A
     let first = gathered(alloc, &layout, bits, 0)?;
     if layout.encoders == 1 {
         return Ok(Pair {
-            first: Bits::new(first),
-            second: Bits::new(Vec::new(alloc)),
+            first: Bits::from(first),
+            second: Bits::from(Vec::new(alloc)),
         });
     }
     let second = gathered(alloc, &layout, bits, 1)?;
     Ok(Pair {
-        first: Bits::new(first),
-        second: Bits::new(second),
+        first: Bits::from(first),
+        second: Bits::from(second),
     })
 }
 

@@ -1,7 +1,6 @@
+pub mod AllRates
 pub mod CarrierFacts
-pub mod Every
 pub mod LengthFacts
 pub mod Numbers
 pub mod RateFacts
-pub mod Rounding
 mod Values

@@ -1,18 +1,20 @@
 -- A rate is named by its bandwidth's code and its MCS index, both ways.
 use Rattle.std.proofs.Common.{◌≡◌, ℕ, ◌+◌, ◌*◌, ◌-◌, ◌/◌, ◌%◌, ◌<◌, ◌≤◌, zero, suc, Bool, true, ◌&&◌, nat_eq, refl, sym, ap, ◌∙◌, Result, Ok, lit≤, arith}
+use Rattle.std.proofs.lemmas.Bool.{agree_below_at, and_parts, eqb-true}
 use Rattle.std.proofs.lemmas.Bool.Decides.{nat_tests}
 use Rattle.ht_rate.specs.declared.kinds.Bandwidth.{Bandwidth}
 use Rattle.ht_rate.specs.declared.kinds.Bandwidth.TheVariants.{Mhz20, Mhz40}
 use Rattle.ht_rate.specs.declared.parts.Streams.{Streams}
 use Rattle.ht_rate.specs.declared.parts.Streams.TheVariants.{One, Two, Three, Four}
 use Rattle.ht_rate.specs.declared.parts.Scheme.{Scheme}
-use Rattle.ht_rate.specs.declared.parts.Scheme.TheVariants.{BpskHalf, QpskHalf, QpskThreeQuarters, Qam16Half, Qam16ThreeQuarters, Qam64TwoThirds, Qam64ThreeQuarters, Qam64FiveSixths}
+use Rattle.ht_rate.specs.declared.parts.Scheme.TheVariants.{BpskHalf, QpskHalf, QpskThreeQuarters, Qam16Half, Qam16ThreeQuarters}
+use Rattle.ht_rate.specs.declared.parts.Scheme.TheVariants.{Qam64TwoThirds, Qam64ThreeQuarters, Qam64FiveSixths}
 use Rattle.ht_rate.specs.declared.rates.Rate.{Rate}
 use Rattle.ht_rate.specs.declared.rates.RateFault.{RateFault}
 use Rattle.ht_rate.specs.Rates.{rate_of, rate_at, bandwidth_of, streams_of, mcs_of}
 use Rattle.ht_rate.specs.Schemes.{bandwidth_at, bandwidth_code, streams_at, scheme_at, count_of, number_of}
 use Rattle.ht_rate.proofs.RateFacts.{mcs_of-range}
-use Rattle.ht_rate.proofs.Every.{both, each_below, at_below, each_bandwidth, each_streams, each_scheme, each_rate, at_rate}
+use Rattle.ht_rate.proofs.AllRates.{each_bandwidth, each_streams, each_scheme, each_rate, at_rate}
 
 -- three parts at a code and an index are the rate there
 pub made : (bw mcs : ℕ) (b : Bandwidth) (n : Streams) (s : Scheme) → b ≡ bandwidth_at bw → n ≡ streams_at (mcs / 8) → s ≡ scheme_at (mcs % 8) →
@@ -29,12 +31,9 @@ rate_of-ok bw mcs low high = grind (arith, nat_tests)
 test_mcs : ℕ → Bool
 test_mcs mcs = nat_eq (8 * (count_of (streams_at (mcs / 8)) - 1) + number_of (scheme_at (mcs % 8))) mcs
 
-equals : (x y : ℕ) → nat_eq x y ≡ true → x ≡ y
-equals x y e = grind (arith, nat_tests)
-
 pub rate_at-mcs : (bw mcs : ℕ) → mcs < 32 → mcs_of (rate_at bw mcs) ≡ mcs
-unfolding mcs_of streams_of rate_at test_mcs each_below
-rate_at-mcs bw mcs lt = equals _ mcs (at_below test_mcs 32 refl mcs lt)
+unfolding mcs_of streams_of rate_at test_mcs
+rate_at-mcs bw mcs lt = eqb-true _ mcs (agree_below_at test_mcs (λ _. true) 32 mcs refl lt)
 
 pub rate_at-bandwidth : (bw mcs : ℕ) → bw < 2 → bandwidth_code (bandwidth_of (rate_at bw mcs)) ≡ bw
 unfolding bandwidth_of rate_at
@@ -76,8 +75,8 @@ test_parts r = nat_eq (mcs_of r / 8) (count_of r.streams - 1) && nat_eq (mcs_of 
 parts : (r : Rate) → (mcs_of r / 8 ≡ count_of r.streams - 1) × (mcs_of r % 8 ≡ number_of r.scheme)
 unfolding mcs_of streams_of test_parts each_bandwidth each_streams each_scheme each_rate
 parts r =
-    let test = both (nat_eq (mcs_of r / 8) (count_of r.streams - 1)) (nat_eq (mcs_of r % 8) (number_of r.scheme)) (at_rate test_parts refl r) in
-    (equals _ _ test.0, equals _ _ test.1)
+    let test = and_parts (nat_eq (mcs_of r / 8) (count_of r.streams - 1)) (nat_eq (mcs_of r % 8) (number_of r.scheme)) (at_rate test_parts refl r) in
+    (eqb-true _ _ test.0, eqb-true _ _ test.1)
 
 pub rate_at-named : (r : Rate) → rate_at (bandwidth_code r.bandwidth) (mcs_of r) ≡ r
 rate_at-named r =
@@ -95,4 +94,5 @@ rate_of-named r =
 pub same_rate : (a b : Rate) → bandwidth_of a ≡ bandwidth_of b → mcs_of a ≡ mcs_of b → a ≡ b
 unfolding bandwidth_of
 same_rate a b width index =
-    sym (rate_at-named a) ∙ (ap (λ (w : Bandwidth). rate_at (bandwidth_code w) (mcs_of a)) width ∙ (ap (λ (m : ℕ). rate_at (bandwidth_code b.bandwidth) m) index ∙ rate_at-named b))
+    sym (rate_at-named a) ∙ (ap (λ (w : Bandwidth). rate_at (bandwidth_code w) (mcs_of a)) width
+    ∙ (ap (λ (m : ℕ). rate_at (bandwidth_code b.bandwidth) m) index ∙ rate_at-named b))

@@ -6,7 +6,8 @@ use Rattle.ht_rate.specs.declared.kinds.Pattern.{Pattern}
 use Rattle.ht_rate.specs.declared.kinds.Pattern.TheVariants.{Half, TwoThirds, ThreeQuarters, FiveSixths}
 use Rattle.ht_rate.specs.declared.kinds.Carrier.TheVariants.{Data, Pilot}
 use Rattle.ht_rate.specs.declared.rates.RateFault.TheVariants.{BadBandwidth, BadMcs}
-use Rattle.ht_rate.specs.Rates.{rate_at, rate_of, bandwidth_of, streams_of, mcs_of, modulation_of, pattern_of, data_carriers_of, label_bits_of, stream_bits_of, coded_bits_of, data_bits_of, encoders_of, needed_bits_of, symbols_of, pads_of, steps_of}
+use Rattle.ht_rate.specs.Rates.{rate_at, rate_of, bandwidth_of, streams_of, mcs_of, modulation_of, pattern_of, data_carriers_of, label_bits_of}
+use Rattle.ht_rate.specs.Rates.{stream_bits_of, coded_bits_of, data_bits_of, encoders_of, needed_bits_of, symbols_of, pads_of, steps_of}
 use Rattle.ht_rate.specs.Carriers.{carrier_of, carrier_at}
 
 -- a row of the standard's tables: MCS, modulation, R, N_SS, N_BPSCS, N_CBPSS, N_CBPS, N_DBPS, N_ES
@@ -133,17 +134,21 @@ four_40 = refl
 
 -- 100 octets at MCS 0 and 20 MHz: 822 bits, 32 symbols, 10 pads, 822 steps
 short : (needed_bits_of (rate_at 0 0) 100 ≡ 822) × (symbols_of (rate_at 0 0) 100 ≡ 32) × (pads_of (rate_at 0 0) 100 ≡ 10) × (steps_of (rate_at 0 0) 100 ≡ 822)
-unfolding rate_at symbols_of pads_of steps_of needed_bits_of data_bits_of pattern_of coded_bits_of streams_of stream_bits_of data_carriers_of label_bits_of modulation_of encoders_of bandwidth_of mcs_of
+unfolding rate_at symbols_of pads_of steps_of needed_bits_of data_bits_of pattern_of coded_bits_of streams_of stream_bits_of data_carriers_of
+    label_bits_of modulation_of encoders_of bandwidth_of mcs_of
 short = (refl, refl, refl, refl)
 
 -- 65535 octets at MCS 31 and 40 MHz: two encoders, 524308 bits, 243 symbols, 572 pads, 262154 steps each
-longest : (needed_bits_of (rate_at 1 31) 65535 ≡ 524308) × (symbols_of (rate_at 1 31) 65535 ≡ 243) × (pads_of (rate_at 1 31) 65535 ≡ 572) × (steps_of (rate_at 1 31) 65535 ≡ 262154)
-unfolding rate_at symbols_of pads_of steps_of needed_bits_of data_bits_of pattern_of coded_bits_of streams_of stream_bits_of data_carriers_of label_bits_of modulation_of encoders_of bandwidth_of mcs_of
+longest : (needed_bits_of (rate_at 1 31) 65535 ≡ 524308) × (symbols_of (rate_at 1 31) 65535 ≡ 243)
+    × (pads_of (rate_at 1 31) 65535 ≡ 572) × (steps_of (rate_at 1 31) 65535 ≡ 262154)
+unfolding rate_at symbols_of pads_of steps_of needed_bits_of data_bits_of pattern_of coded_bits_of streams_of stream_bits_of data_carriers_of
+    label_bits_of modulation_of encoders_of bandwidth_of mcs_of
 longest = (refl, refl, refl, refl)
 
 -- the most symbols: 65535 octets at MCS 0 and 20 MHz
 most : symbols_of (rate_at 0 0) 65535 ≡ 20166
-unfolding rate_at symbols_of needed_bits_of data_bits_of pattern_of coded_bits_of streams_of stream_bits_of data_carriers_of label_bits_of modulation_of encoders_of bandwidth_of mcs_of
+unfolding rate_at symbols_of needed_bits_of data_bits_of pattern_of coded_bits_of streams_of stream_bits_of data_carriers_of label_bits_of
+    modulation_of encoders_of bandwidth_of mcs_of
 most = refl
 
 -- the subcarriers round the pilots

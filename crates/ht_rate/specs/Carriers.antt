@@ -1,5 +1,5 @@
 -- What each subcarrier carries (IEEE Std 802.11-2012, clauses 20.3.11.10 and 20.3.11.11).
-use Rattle.std.specs.Prelude.{◌≡◌, ℕ, zero, suc, ◌+◌, ◌-◌, ◌==◌, ◌<◌, nat_lt, position, count_by, Option, None, Some}
+use Rattle.std.specs.Prelude.{◌≡◌, ℕ, zero, suc, ◌+◌, ◌-◌, ◌==◌, ◌<◌, nat_lt, nat_le, if◌then◌else◌, position, count_by, fold, slice_index, Option, None, Some}
 use Rattle.ht_rate.specs.declared.kinds.Bandwidth.{Bandwidth}
 use Rattle.ht_rate.specs.declared.kinds.Carrier.{Carrier}
 use Rattle.ht_rate.specs.declared.kinds.Carrier.TheVariants.{Data, Pilot}
@@ -24,6 +24,15 @@ carrier_at b index = carrier_among (position (λ p. p == index) (pilot_places b)
 unfoldable pub carrier_of : Rate → ℕ → Carrier
 carrier_of r index = carrier_at (bandwidth_of r) index
 
+-- the index of a data subcarrier: its number, and one more for each pilot on the way
+abbrev pub data_index : Bandwidth → ℕ → ℕ
+data_index b m = fold (λ index pilot. if nat_le pilot index then index + 1 else index) m (pilot_places b)
+
+-- the index of a subcarrier
+unfoldable pub index_of : Rate → Carrier → ℕ
+index_of r (Data m) = data_index (bandwidth_of r) m
+index_of r (Pilot k) = slice_index (pilot_places (bandwidth_of r)) k
+
 -- the number is one that the rate has
 abbrev pub IsAmong : Rate → Carrier → Type 0
 IsAmong r (Data m) = m < data_carriers_of r
@@ -34,7 +43,7 @@ abbrev pub one_for : Carrier → ℕ
 one_for (Data m) = 1
 one_for (Pilot k) = 0
 
--- how many of the subcarriers below an index carry data
+-- the number of data subcarriers below an index
 unfoldable pub data_before : Rate → ℕ → ℕ
 data_before r zero = 0
 data_before r (suc i) = data_before r i + one_for (carrier_of r i)

@@ -1,6 +1,6 @@
--- The rate-dependent parameters (IEEE Std 802.11-2012, clause 20.6, tables 20-30 to 20-37), and how many symbols a
--- PSDU takes (clause 20.3.11). A rate is a bandwidth, a number of spatial streams and a scheme of modulation and coding.
-use Rattle.std.specs.Prelude.{ℕ, ◌+◌, ◌-◌, ◌*◌, ◌/◌, ◌%◌, nat_lt, if◌then◌else◌, Result, Ok, Err}
+-- The rate-dependent parameters (IEEE Std 802.11-2012, clause 20.6, tables 20-30 to 20-37), and the number of symbols
+-- that a PSDU takes (clause 20.3.11). A rate is a bandwidth, a number of spatial streams and a scheme of modulation and coding.
+use Rattle.std.specs.Prelude.{ℕ, ◌+◌, ◌-◌, ◌*◌, ◌/◌, ◌%◌, max, nat_lt, if◌then◌else◌, Result, Ok, Err}
 use Rattle.std.specs.Int.{div_ceil}
 use Rattle.ht_rate.specs.declared.kinds.Bandwidth.{Bandwidth}
 use Rattle.ht_rate.specs.declared.kinds.Modulation.{Modulation}
@@ -8,7 +8,21 @@ use Rattle.ht_rate.specs.declared.kinds.Pattern.{Pattern}
 use Rattle.ht_rate.specs.declared.rates.Rate.{Rate}
 use Rattle.ht_rate.specs.declared.rates.RateFault.{RateFault}
 use Rattle.ht_rate.specs.declared.rates.RateFault.TheVariants.{BadBandwidth, BadMcs}
-use Rattle.ht_rate.specs.Schemes.{count_of, streams_at, number_of, scheme_at, scheme_modulation, scheme_pattern, bits_of, numerator_of, denominator_of, data_count, pilot_count, encoder_count, bandwidth_at}
+use Rattle.ht_rate.specs.Schemes.{
+  count_of,
+  streams_at,
+  number_of,
+  scheme_at,
+  scheme_modulation,
+  scheme_pattern,
+  bits_of,
+  numerator_of,
+  denominator_of,
+  data_count,
+  pilot_count,
+  encoder_count,
+  bandwidth_at,
+}
 
 -- the bandwidth
 unfoldable pub bandwidth_of : Rate → Bandwidth
@@ -46,6 +60,10 @@ carriers_of r = data_carriers_of r + pilots_of r
 unfoldable pub label_bits_of : Rate → ℕ
 label_bits_of r = bits_of (modulation_of r)
 
+-- s = max(1, N_BPSCS / 2), the bits of one axis of the constellation, at least 1
+unfoldable pub axis_bits_of : Rate → ℕ
+axis_bits_of r = max 1 (label_bits_of r / 2)
+
 -- N_CBPSS = N_SD * N_BPSCS, the coded bits of a symbol and stream
 unfoldable pub stream_bits_of : Rate → ℕ
 stream_bits_of r = data_carriers_of r * label_bits_of r
@@ -62,7 +80,7 @@ data_bits_of r = coded_bits_of r * numerator_of (pattern_of r) / denominator_of 
 unfoldable pub encoders_of : Rate → ℕ
 encoders_of r = encoder_count (bandwidth_of r) (mcs_of r)
 
--- the bits that a PSDU of so many octets needs: SERVICE, the octets and six tail bits for each encoder
+-- the bits that a PSDU of this length in octets needs: SERVICE, the octets and six tail bits for each encoder
 unfoldable pub needed_bits_of : Rate → ℕ → ℕ
 needed_bits_of r length = 16 + 8 * length + 6 * encoders_of r
 
@@ -73,6 +91,10 @@ symbols_of r length = div_ceil (needed_bits_of r length) (data_bits_of r)
 -- the pad bits behind them in the last symbol
 unfoldable pub pads_of : Rate → ℕ → ℕ
 pads_of r length = symbols_of r length * data_bits_of r - needed_bits_of r length
+
+-- the labels of a frame: one for each symbol, data subcarrier and stream
+unfoldable pub labels_of : Rate → ℕ → ℕ
+labels_of r length = symbols_of r length * (data_carriers_of r * streams_of r)
 
 -- the steps of a codeword: each encoder's share of SERVICE and octets, and its tail
 unfoldable pub steps_of : Rate → ℕ → ℕ

@@ -10,7 +10,16 @@ use Rattle.ht_rate.specs.declared.kinds.Pattern.TheVariants.{Half, TwoThirds, Th
 use Rattle.ht_rate.specs.declared.parts.Streams.{Streams}
 use Rattle.ht_rate.specs.declared.parts.Streams.TheVariants.{One, Two, Three, Four}
 use Rattle.ht_rate.specs.declared.parts.Scheme.{Scheme}
-use Rattle.ht_rate.specs.declared.parts.Scheme.TheVariants.{BpskHalf, QpskHalf, QpskThreeQuarters, Qam16Half, Qam16ThreeQuarters, Qam64TwoThirds, Qam64ThreeQuarters, Qam64FiveSixths}
+use Rattle.ht_rate.specs.declared.parts.Scheme.TheVariants.{
+  BpskHalf,
+  QpskHalf,
+  QpskThreeQuarters,
+  Qam16Half,
+  Qam16ThreeQuarters,
+  Qam64TwoThirds,
+  Qam64ThreeQuarters,
+  Qam64FiveSixths,
+}
 
 -- N_SS, the number of spatial streams
 abbrev pub count_of : Streams → ℕ
@@ -19,7 +28,7 @@ count_of Two = 2
 count_of Three = 3
 count_of Four = 4
 
--- the streams of an MCS index with so many whole eights
+-- the streams of an MCS index with this number of whole eights
 abbrev pub streams_at : ℕ → Streams
 streams_at eights = slice_index_or (One ∷ Two ∷ Three ∷ Four ∷ []) eights Four
 

@@ -37,7 +37,7 @@ fn among(pilots: &[u8], index: u8) -> Carrier
     }
 }
 
-// How many pilots lie below an index.
+// The number of pilots below an index.
 fn count_below(pilots: &[u8], index: u8) -> u8
     requires { length pilots.now ≤ 6 }
     ensures { result ≡ count_by (λ p. nat_lt p index) pilots.now }

@@ -1,6 +1,6 @@
 //! Laws of the rate table, each the contract of a function that does nothing.
 ghost use Rattle.std.specs.Prelude.{◌≡◌, ◌*◌, ◌/◌, ◌<◌, ◌≤◌};
-ghost use Rattle.ht_rate.specs.Carriers.{carrier_of, data_before, IsInOrder};
+ghost use Rattle.ht_rate.specs.Carriers.{carrier_of, data_before, index_of, IsAmong, IsInOrder};
 ghost use Rattle.ht_rate.specs.Rates.{
   bandwidth_of,
   mcs_of,
@@ -13,10 +13,12 @@ ghost use Rattle.ht_rate.specs.Rates.{
   rate_of,
   needed_bits_of,
   symbols_of,
+  labels_of,
   steps_of,
 };
 ghost use Rattle.ht_rate.specs.Schemes.{bandwidth_code, numerator_of, denominator_of};
 
+use crate::kinds::Carrier;
 use crate::rates::Rate;
 
 /// Each rate is the one that its bandwidth and its MCS index name.
@@ -31,12 +33,13 @@ pub fn same(a: &Rate, b: &Rate)
     ensures { a.now ≡ b.now }
 {}
 
-/// The data bits of a symbol are its coded bits times the coding rate, with no rest.
+/// The data bits of a symbol are its coded bits times the coding rate, with no remainder.
 pub fn whole(rate: &Rate)
-    ensures { data_bits_of rate.now * denominator_of (pattern_of rate.now) ≡ coded_bits_of rate.now * numerator_of (pattern_of rate.now) }
+    ensures { data_bits_of rate.now * denominator_of (pattern_of rate.now)
+        ≡ coded_bits_of rate.now * numerator_of (pattern_of rate.now) }
 {}
 
-/// The bits of a symbol are shared among the encoders with no rest.
+/// The bits of a symbol are shared among the encoders with no remainder.
 pub fn shared(rate: &Rate)
     ensures coded { encoders_of rate.now * (coded_bits_of rate.now / encoders_of rate.now) ≡ coded_bits_of rate.now }
     ensures data_bits { encoders_of rate.now * (data_bits_of rate.now / encoders_of rate.now) ≡ data_bits_of rate.now }
@@ -53,8 +56,16 @@ pub fn codewords(rate: &Rate, length: u16)
 /// A symbol's data bits of one encoder are whole periods of the puncturing pattern, and are coded into its share of the
 /// coded bits.
 pub fn periods(rate: &Rate)
-    ensures whole { numerator_of (pattern_of rate.now) * (data_bits_of rate.now / encoders_of rate.now / numerator_of (pattern_of rate.now)) ≡ data_bits_of rate.now / encoders_of rate.now }
-    ensures coded { data_bits_of rate.now / encoders_of rate.now * denominator_of (pattern_of rate.now) ≡ coded_bits_of rate.now / encoders_of rate.now * numerator_of (pattern_of rate.now) }
+    ensures whole { numerator_of (pattern_of rate.now) * (data_bits_of rate.now / encoders_of rate.now / numerator_of (pattern_of rate.now))
+        ≡ data_bits_of rate.now / encoders_of rate.now }
+    ensures coded { data_bits_of rate.now / encoders_of rate.now * denominator_of (pattern_of rate.now)
+        ≡ coded_bits_of rate.now / encoders_of rate.now * numerator_of (pattern_of rate.now) }
+{}
+
+/// A frame has at most 1,048,896 labels, one for each symbol, data subcarrier and stream. A PSDU of 65535 octets at
+/// MCS 24 and 40 MHz has that many.
+pub fn labels(rate: &Rate, length: u16)
+    ensures { labels_of rate.now length ≤ 1048896 }
 {}
 
 /// Subcarriers are numbered in ascending order, data and pilots each by themselves.
@@ -63,7 +74,20 @@ pub fn in_order(rate: &Rate, index: u8)
     ensures { IsInOrder rate.now index (carrier_of rate.now index) }
 {}
 
-/// All subcarriers together have N_SD for data.
+/// N_SD of all subcarriers are for data.
 pub fn all_data(rate: &Rate)
     ensures { data_before rate.now (carriers_of rate.now) ≡ data_carriers_of rate.now }
+{}
+
+/// The subcarrier at an index has this index.
+pub fn index_of_carrier(rate: &Rate, index: u8)
+    requires { index < carriers_of rate.now }
+    ensures { index_of rate.now (carrier_of rate.now index) ≡ index }
+{}
+
+/// A data or pilot subcarrier of a number that the rate has stands at its index, and at no other.
+pub fn carrier_at_index(rate: &Rate, carrier: Carrier)
+    requires { IsAmong rate.now carrier }
+    ensures within { index_of rate.now carrier < carriers_of rate.now }
+    ensures there { carrier_of rate.now (index_of rate.now carrier) ≡ carrier }
 {}

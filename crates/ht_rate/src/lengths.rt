@@ -1,4 +1,4 @@
-//! How many symbols a PSDU takes (clause 20.3.11).
+//! The number of symbols of a PSDU (clause 20.3.11).
 ghost use Rattle.std.specs.Prelude.{◌≡◌, ◌+◌, ◌*◌, ◌<◌, ◌≤◌};
 ghost use Rattle.ht_rate.specs.Rates.{data_bits_of, needed_bits_of, symbols_of, pads_of, steps_of};
 
@@ -7,7 +7,7 @@ use crate::rates::Rate;
 impl Rate {
     /// N_SYM, the number of symbols of a PSDU of `length` octets: the least number that holds 16 SERVICE bits, the
     /// octets and six tail bits for each encoder.
-    #[tactic(auto, using(crate::proofs::Rounding::rounded), unfolding(crate::specs::Rates::symbols_of))]
+    #[tactic(auto, using(std::proofs::lemmas::Grind::div_ceil_times), unfolding(crate::specs::Rates::symbols_of))]
     pub fn symbols(&self, length: u16) -> u32
         requires { 1 ≤ length }
         ensures value { result ≡ symbols_of self.now length }

@@ -4,7 +4,8 @@
 //!
 //! In goes the code of a bandwidth, 0 for 20 MHz or 1 for 40 MHz, and an MCS index. Out comes a [`Rate`], one of the
 //! 64, or the reason why there is none. It tells its constellation and coding rate, its numbers of streams, encoders,
-//! subcarriers and bits, how many symbols and pad bits a PSDU takes, and what each subcarrier carries.
+//! subcarriers and bits, the numbers of symbols and pad bits of a PSDU, and what each subcarrier carries. [`laws`] says
+//! what holds of all of them: which index a subcarrier has, and that no frame has more than 1,048,896 labels.
 //!
 //! MCS 31 at 40 MHz is 64-QAM at rate 5/6 on four streams with two encoders: 108 data subcarriers of 6 bits make 648
 //! coded bits a stream, 2592 a symbol, and 2160 data bits a symbol. A PSDU of 65535 octets needs 16 + 524280 + 12 =

@@ -19,6 +19,7 @@ ghost use Rattle.ht_rate.specs.Rates.{
   pilots_of,
   carriers_of,
   label_bits_of,
+  axis_bits_of,
   stream_bits_of,
   coded_bits_of,
   data_bits_of,
@@ -33,13 +34,16 @@ ghost use Rattle.ht_rate.specs.Schemes.{bandwidth_code};
 
 use crate::kinds::{Bandwidth, Modulation, Pattern};
 use crate::parts::{Scheme, Streams};
+use thiserror::Error;
 
 /// Why a bandwidth's code and an MCS index name no rate.
-#[derive(Clone, Copy, Debug, PartialEq, Eq)]
+#[derive(Clone, Copy, Debug, PartialEq, Eq, Error)]
 pub enum RateFault {
     /// The code of the bandwidth is neither 0 nor 1.
+    #[error("the code of the bandwidth is neither 0 nor 1")]
     BadBandwidth = 1,
     /// The MCS index is above 31.
+    #[error("the MCS index is above 31")]
     BadMcs = 2,
 }
 
@@ -54,7 +58,7 @@ pub struct Rate {
 impl Rate {
     /// The rate of a bandwidth's code, 0 for 20 MHz or 1 for 40 MHz, and an MCS index from 0 to 31.
     ///
-    /// A bad bandwidth is refused before a bad MCS index is.
+    /// Where both are bad, the answer is `BadBandwidth`.
     #[tactic(auto, unfolding(crate::specs::Rates::rate_of))]
     pub fn of(bw: u8, mcs: u8) -> Result<Rate, RateFault>
         ensures value { result ≡ rate_of bw mcs }
@@ -167,6 +171,16 @@ impl Rate {
         ensures high { result ≤ 6 }
     {
         self.modulation().label_bits()
+    }
+
+    /// s = max(1, N_BPSCS / 2), the bits of one axis of the constellation: 1, 2 or 3.
+    #[tactic(auto, unfolding(crate::specs::Rates::axis_bits_of))]
+    pub fn axis_bits(&self) -> u8
+        ensures value { result ≡ axis_bits_of self.now }
+        ensures low { 1 ≤ result }
+        ensures high { result ≤ 3 }
+    {
+        (self.label_bits() / 2).max(1)
     }
 
     /// N_CBPSS, the coded bits of a symbol and stream: 52 to 648.

@@ -1,10 +1,12 @@
 -- The register comes back after 127 bits, and not before.
 use Rattle.std.proofs.Common.{◌≡◌, ℕ, zero, suc, ◌+◌, ◌*◌, ◌/◌, ◌%◌, ◌<◌, Bool, true, not, ◌&&◌, ◌||◌, ◌==◌, List, [], ◌∷◌, inl, inr, refl, ap, sym, ◌∙◌, arith}
 use Rattle.std.proofs.lemmas.Bool.{agree_below, eqb-true, and_parts, false≢true, eq-eqb, or_cases}
+use mathlib.Core.Bool.{xor}
 use Rattle.ht_bits.specs.Bits.{number_of}
 use Rattle.ht_scramble.specs.Sequence.{IsSeed, delayed, sequence}
 use Rattle.ht_scramble.specs.Register.{register_at}
-use Rattle.ht_scramble.proofs.Shifts.{output, with_bit, each, latest_first, output-register_at, register_at-suc, register_at-is, register_at-lt, register_at-start, delayed-seven}
+use Rattle.ht_scramble.proofs.Shifts.{output, with_bit, each, latest_first, output-register_at, register_at-suc}
+use Rattle.ht_scramble.proofs.Shifts.{register_at-is, register_at-lt, register_at-start, delayed-seven}
 
 stepped : ℕ → ℕ → ℕ
 stepped zero n = n
@@ -23,7 +25,7 @@ returns_after : ℕ → Bool
 returns_after n = stepped 127 n == n
 
 period_test : agree_below returns_after (λ _. true) 128 ≡ true
-unfolding returns_after stepped with_bit output
+unfolding xor returns_after stepped with_bit output
 period_test = refl
 
 register_at-period : (seed t : ℕ) → register_at seed (t + 127) ≡ register_at seed t
@@ -65,7 +67,7 @@ apart : ℕ → Bool
 apart n = n == 0 || never (stepped 7 n) (stepped 8 n) 126
 
 apart_test : agree_below apart (λ _. true) 128 ≡ true
-unfolding apart never stepped with_bit output
+unfolding xor apart never stepped with_bit output
 apart_test = refl
 
 -- seven bits of a sequence, the latest one first
@@ -108,13 +110,15 @@ register_at-seven : (seed t : ℕ) → register_at seed (t + 7) ≡ number_of (s
 register_at-seven seed t =
     register_at-is seed (t + 7)
     ∙ ap number_of (latest_first-seven seed (t + 7))
-    ∙ ap number_of (seven-same (delayed seed) (sequence seed) (t + 7) t (λ k. let e : (t + 7) + k ≡ (t + k) + 7 = omega arith in ap (delayed seed) e ∙ delayed-seven seed (t + k)))
+    ∙ ap number_of (seven-same (delayed seed) (sequence seed) (t + 7) t
+    (λ k. let e : (t + 7) + k ≡ (t + k) + 7 = omega arith in ap (delayed seed) e ∙ delayed-seven seed (t + k)))
 
 -- where the sequence came again after d places, so would the register
 register_at-again : (seed d : ℕ) → ((t : ℕ) → sequence seed (t + d) ≡ sequence seed t) → register_at seed (d + 7) ≡ register_at seed 7
 register_at-again seed d same =
     register_at-seven seed d
-    ∙ ap number_of (seven-same (sequence seed) (sequence seed) d 0 (λ k. let e : d + k ≡ k + d = omega arith in let f : k ≡ 0 + k = omega arith in ap (sequence seed) e ∙ same k ∙ ap (sequence seed) f))
+    ∙ ap number_of (seven-same (sequence seed) (sequence seed) d 0
+    (λ k. let e : d + k ≡ k + d = omega arith in let f : k ≡ 0 + k = omega arith in ap (sequence seed) e ∙ same k ∙ ap (sequence seed) f))
     ∙ sym (register_at-seven seed 0)
 
 from_seed : (seed k : ℕ) → IsSeed seed → register_at seed k ≡ stepped k seed

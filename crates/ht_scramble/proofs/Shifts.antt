@@ -1,8 +1,10 @@
 -- What the register gives and how it is shifted, and the recurrence.
-use Rattle.std.proofs.Common.{◌≡◌, ℕ, zero, suc, ◌+◌, ◌-◌, ◌*◌, ◌/◌, ◌%◌, ◌<◌, [], ◌∷◌, List, Bool, true, false, ◌==◌, refl, ap, sym, ◌∙◌, subst, add_comm, arith, lit<, bit_and, bit_or, bit_xor}
+use Rattle.std.proofs.Common.{◌≡◌, ℕ, zero, suc, ◌+◌, ◌-◌, ◌*◌, ◌/◌, ◌%◌, ◌<◌, [], ◌∷◌, List, Bool, true, false}
+use Rattle.std.proofs.Common.{◌==◌, refl, ap, sym, ◌∙◌, subst, add_comm, arith, lit<, bit_and, bit_or, bit_xor}
 use Rattle.std.specs.Int.{from_bool}
 use Rattle.std.proofs.lemmas.Bool.{agree_below, agree_below_at, eqb-true}
-use Rattle.ht_bits.specs.Bits.{bit, xor, number_of}
+use mathlib.Core.Bool.{xor}
+use Rattle.ht_bits.specs.Bits.{bit, number_of}
 use Rattle.ht_bits.proofs.Octets.{bit-number_of, number_of-lt, from_bool-lt}
 use Rattle.ht_scramble.specs.Sequence.{delayed, sequence}
 use Rattle.ht_scramble.specs.Register.{register_at}
@@ -60,7 +62,7 @@ tapped : ℕ → Bool
 tapped n = bit_and (bit_xor (n / 64) (n / 8)) 1 == 1
 
 tapped_test : agree_below tapped output 128 ≡ true
-unfolding tapped output
+unfolding xor tapped output
 tapped_test = refl
 
 pub next_bit-is : (n seed t : ℕ) → n < 128 → n ≡ register_at seed t → (bit_and (bit_xor (n / 64) (n / 8)) 1 == 1) ≡ sequence seed t

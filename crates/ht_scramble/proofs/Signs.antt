@@ -2,12 +2,13 @@
 use Rattle.std.proofs.Common.{◌≡◌, ℕ, ◌%◌, ◌<◌, Bool, true, false, pos, unsigned_abs, map, slice_index_or, refl, ap, sym, ◌∙◌, arith, to_z, of_z, w8}
 use Rattle.std.specs.List.{range_with_len}
 use Rattle.std.proofs.lemmas.List.FromFn.{get_or-map-range_with_len}
+use mathlib.Core.Bool.{xor}
 use Rattle.ht_scramble.proofs.Period.{sequence-rest}
 use Rattle.ht_scramble.specs.Sequence.{delayed, sequence, sign, polarity_at}
 use Rattle.ht_scramble.specs.declared.polarity_signs.TheConstants.{SIGNS}
 
 table : map polarity_at (range_with_len 0 127) ≡ SIGNS
-unfolding polarity_at sequence delayed
+unfolding xor polarity_at sequence delayed
 table = refl
 
 narrow : (b : Bool) → to_z w8 (of_z w8 (sign b)) ≡ sign b

@@ -2,7 +2,7 @@
 ghost use Rattle.std.specs.Prelude.{◌≡◌, ◌%◌, unsigned_abs};
 ghost use Rattle.ht_scramble.specs.Sequence.{polarity_at};
 
-/// How many bits of the scrambling sequence come before it begins again.
+/// The number of bits after which the scrambling sequence begins again.
 const PERIOD: u32 = 127;
 
 /// 1 where the sequence of seed 127 has a 0, and -1 where it has a 1.

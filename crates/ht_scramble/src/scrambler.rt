@@ -1,6 +1,6 @@
 //! The shift register of the scrambler, forwards and backwards.
 ghost use Rattle.std.specs.Prelude.{◌≡◌, ◌+◌, ◌<◌, ◌↔◌, ℕ, replicate, false, IsNone, IfSome};
-ghost use Rattle.ht_scramble.specs.Sequence.{IsSeed, sequence, first_seven, scrambled};
+ghost use Rattle.ht_scramble.specs.Sequence.{IsSeed, sequence, first_seven, seed_of, scrambled};
 ghost use Rattle.ht_scramble.specs.Register.{register_at};
 
 use crate::Seed;
@@ -23,8 +23,8 @@ fn shifted(register: u8, latest: bool) -> u8
     ((register << 1) & 0x7f) | u8::from(latest)
 }
 
-/// Adds the sequence of this seed to the bits, modulo 2, from its start. To scramble twice
-/// restores the bits (IEEE Std 802.11-2012, clause 18.3.5.5).
+/// Adds the sequence of this seed to the bits, modulo 2, from its start. Scrambling twice restores the bits (IEEE Std
+/// 802.11-2012, clause 18.3.5.5).
 pub fn scramble(bits: &mut [bool], seed: Seed)
     ensures { bits.new ≡ scrambled seed bits.old }
 {
@@ -38,8 +38,10 @@ pub fn scramble(bits: &mut [bool], seed: Seed)
 
 /// The seed whose sequence begins with these seven bits. None exactly where all are 0, which is
 /// the beginning of no sequence; any other seven bits begin that of exactly one seed.
+#[must_use]
 pub fn recover(first: &[bool; 7]) -> Option<Seed>
     ensures none { IsNone result ↔ (first.now ≡ replicate 7 false) }
+    ensures value { IfSome result (λ seed. seed ≡ seed_of first.now) }
     ensures begins { IfSome result (λ seed. first_seven seed ≡ first.now) }
     ensures range { IfSome result (λ seed. IsSeed seed) }
     ensures only { (other : ℕ) → IsSeed other → first_seven other ≡ first.now → result ≡ Some other }

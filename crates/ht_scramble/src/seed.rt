@@ -26,6 +26,7 @@ impl Model for Seed {
 
 impl Seed {
     /// The seed of this value. None exactly where it is 0 or above 127.
+    #[must_use]
     pub fn new(value: u8) -> Option<Seed>
         ensures valid { IsSome result ↔ IsSeed value }
         ensures value { IfSome result (λ seed. seed ≡ value) }

@@ -26,7 +26,8 @@ loop-bit-preserved c =
           goes_on c.args.pattern c.args.input.now c.loop-bit.bit-index c.loop-bit.register c.enter-a.new.self
           (get_or c.period-period.result.now c.loop-bit.phase Both) c.enter-a.result.0 c.enter-a.result.1 c.loop-bit.coded.items c.push_kept.new.coded.items _
           c.loop-bit-test.true kept c.enter-a.ensures.a c.enter-a.ensures.b c.enter-a.ensures.next c.push_kept.ensures.items c.loop-bit.invariant.items;
-      phase = phase-more c.args.pattern c.loop-bit.bit-index c.loop-bit.phase _ c.period-period.result.now c.period-period.ensures c.loop-bit.invariant.phase c.phase_after-phase.ensures;
+      phase = phase-more c.args.pattern c.loop-bit.bit-index c.loop-bit.phase _ c.period-period.result.now
+          c.period-period.ensures c.loop-bit.invariant.phase c.phase_after-phase.ensures;
       count = count-more c.args.pattern c.loop-bit.bit-index _ _ _ kept c.loop-bit.invariant.count c.push_kept.ensures.len;
       room = c.push_kept.ensures.capacity ∙ c.loop-bit.invariant.room;
     }

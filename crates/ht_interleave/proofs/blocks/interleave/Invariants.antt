@@ -1,5 +1,6 @@
 use Rattle.std.proofs.Common.{◌+◌, ◌*◌}
-use Rattle.ht_interleave.specs.Steps.{rows_of, axis_bits_of}
+use Rattle.ht_rate.specs.Rates.{axis_bits_of}
+use Rattle.ht_interleave.specs.Steps.{rows_of}
 use Rattle.ht_interleave.proofs.Filling.{Filled}
 use Rattle.ht_interleave.proofs.blocks.interleave.Given as goal
 

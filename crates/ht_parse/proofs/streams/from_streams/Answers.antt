@@ -11,10 +11,13 @@ gathered-requires-2-clause-encoder c = omega (arith, (sizes-low _ _ _ _ _ c.of-l
 
 pub returns-then-layout-eq1 : goal.returns-then-layout-eq1
 returns-then-layout-eq1 c =
-    gathered-one c.args.rate.now c.of-layout.result.rate _ _ _ _ c.args.bits.now _ _ c.in_ok-first.first.items c.of-layout.result.sizes c.of-layout.ensures c.if-layout-eq1.true
-    c.new.ensures (c.new-then-layout-eq1-2.ensures ∙ c.new-then-layout-eq1.ensures.items) c.requires c.in_ok-first.ensures.len c.in_ok-first.ensures.gathered
+    gathered-one c.args.rate.now c.of-layout.result.rate _ _ _ _ c.args.bits.now _ _
+    c.in_ok-first.first.items c.of-layout.result.sizes c.of-layout.ensures c.if-layout-eq1.true
+    c.from.ensures (c.from-then-layout-eq1.ensures ∙ c.new.ensures.items) c.requires c.in_ok-first.ensures.len c.in_ok-first.ensures.gathered
 
 pub returns : goal.returns
 returns c =
-    gathered-two c.args.rate.now c.of-layout.result.rate _ _ _ _ c.args.bits.now _ _ c.in_ok-first.first.items c.in_ok-second.second.items c.of-layout.result.sizes c.of-layout.ensures c.if-layout-eq1.false
-    c.new-2.ensures c.new-3.ensures c.requires c.in_ok-first.ensures.len c.in_ok-second.ensures.len c.in_ok-first.ensures.gathered c.in_ok-second.ensures.gathered
+    gathered-two c.args.rate.now c.of-layout.result.rate _ _ _ _ c.args.bits.now _ _ c.in_ok-first.first.items
+    c.in_ok-second.second.items c.of-layout.result.sizes c.of-layout.ensures c.if-layout-eq1.false
+    c.from-2.ensures c.from-3.ensures c.requires c.in_ok-first.ensures.len
+    c.in_ok-second.ensures.len c.in_ok-first.ensures.gathered c.in_ok-second.ensures.gathered

@@ -14,5 +14,6 @@ pub returns-clause-len : goal.returns-clause-len
 returns-clause-len c =
     let whole = sizes-share _ _ _ _ _ c.args.layout.now.sizes in
     let done : c.loop-round.round ≡ c.args.layout.now.rounds = omega arith in
-    let turned : c.loop-round.round * c.args.layout.now.streams * c.args.layout.now.run ≡ c.args.layout.now.rounds * c.args.layout.now.streams * c.args.layout.now.run = ap (λ n. n * c.args.layout.now.streams * c.args.layout.now.run) done in
+    let turned : c.loop-round.round * c.args.layout.now.streams * c.args.layout.now.run
+    ≡ c.args.layout.now.rounds * c.args.layout.now.streams * c.args.layout.now.run = ap (λ n. n * c.args.layout.now.streams * c.args.layout.now.run) done in
     omega (arith, whole, turned, c.loop-round.invariant.count, c.loop-round.list.ok.0)

@@ -7,7 +7,8 @@ use Rattle.ht_parse.proofs.streams.push_gathered_round.Goals as goal
 pub push_run-requires-clause-room : goal.push_run-requires-clause-room
 push_run-requires-clause-room c =
     let whole = sizes-share _ _ _ _ _ c.args.layout.now.sizes in
-    let within = run-within c.args.layout.now.streams c.args.layout.now.run c.args.layout.now.rounds c.args.round c.loop-stream.stream c.loop-stream-test.true c.requires.round in
+    let within = run-within c.args.layout.now.streams c.args.layout.now.run c.args.layout.now.rounds
+    c.args.round c.loop-stream.stream c.loop-stream-test.true c.requires.round in
     omega (arith, whole, within, c.loop-stream.invariant.count, c.loop-stream.invariant.room)
 
 pub loop-stream-preserved : goal.loop-stream-preserved
@@ -15,7 +16,8 @@ loop-stream-preserved c = record {
   count = omega (arith, c.push_run.ensures.len, c.loop-stream.invariant.count);
   room = c.push_run.ensures.room ∙ c.loop-stream.invariant.room;
   gathered =
-      gathered-step c.args.layout.now.rate c.args.layout.now.encoders c.args.layout.now.streams c.args.layout.now.run c.args.layout.now.rounds c.loop-stream.stream c.args.round c.args.encoder
+      gathered-step c.args.layout.now.rate c.args.layout.now.encoders c.args.layout.now.streams
+      c.args.layout.now.run c.args.layout.now.rounds c.loop-stream.stream c.args.round c.args.encoder
       c.place.result _ c.args.bits.now c.loop-stream.list.items c.push_run.new.bits.items c.args.layout.now.sizes c.loop-stream-test.true
       c.place.ensures.value c.loop-stream.invariant.count (sym c.loop-stream.list.ok.0) (sym c.push_run.new.bits.ok.0 ∙ c.push_run.ensures.len)
       c.push_run.ensures.kept c.push_run.ensures.copied c.loop-stream.invariant.gathered;

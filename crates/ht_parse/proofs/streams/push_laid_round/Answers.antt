@@ -11,13 +11,15 @@ push_run-requires-clause-within c =
     let here = c.args.layout.now.sizes.encoders_is in
     let test = c.loop-encoder-test.true in
     let share : length (list_of c.args.first.now c.args.second.now c.loop-encoder.encoder) ≡ share_of c.args.layout.now.rate =
-    length-list_of c.args.layout.now.rate c.args.first.now c.args.second.now (share_of c.args.layout.now.rate) c.loop-encoder.encoder c.requires.share c.requires.shares (omega arith) in
+    length-list_of c.args.layout.now.rate c.args.first.now c.args.second.now
+    (share_of c.args.layout.now.rate) c.loop-encoder.encoder c.requires.share c.requires.shares (omega arith) in
     omega (arith, c.bit-at.ensures.within, share, ap length c.of_encoder.ensures)
 
 pub push_run-requires-clause-room : goal.push_run-requires-clause-room
 push_run-requires-clause-room c =
     let whole = sizes-symbol _ _ _ _ _ c.args.layout.now.sizes in
-    let within = place-within c.args.layout.now.encoders c.args.layout.now.streams c.args.layout.now.run c.args.layout.now.rounds c.args.stream c.args.round c.loop-encoder.encoder c.requires.stream c.requires.round c.loop-encoder-test.true in
+    let within = place-within c.args.layout.now.encoders c.args.layout.now.streams c.args.layout.now.run c.args.layout.now.rounds
+    c.args.stream c.args.round c.loop-encoder.encoder c.requires.stream c.requires.round c.loop-encoder-test.true in
     omega (arith, whole, within, c.loop-encoder.invariant.count, c.loop-encoder.invariant.room)
 
 pub loop-encoder-preserved : goal.loop-encoder-preserved
@@ -25,8 +27,11 @@ loop-encoder-preserved c = record {
   count = omega (arith, c.push_run.ensures.len, c.loop-encoder.invariant.count);
   room = c.push_run.ensures.room ∙ c.loop-encoder.invariant.room;
   laid =
-      laid-step c.args.layout.now.rate c.args.layout.now.encoders c.args.layout.now.streams c.args.layout.now.run c.args.layout.now.rounds c.args.stream c.args.round c.loop-encoder.encoder
-      c.bit-at.result _ c.args.first.now c.args.second.now c.of_encoder.result.now c.loop-encoder.bits.items c.push_run.new.bits.items c.args.layout.now.sizes c.requires.round c.loop-encoder-test.true
-      c.of_encoder.ensures c.bit-at.ensures.value c.loop-encoder.invariant.count (sym c.loop-encoder.bits.ok.0) (sym c.push_run.new.bits.ok.0 ∙ c.push_run.ensures.len)
+      laid-step c.args.layout.now.rate c.args.layout.now.encoders c.args.layout.now.streams
+      c.args.layout.now.run c.args.layout.now.rounds c.args.stream c.args.round c.loop-encoder.encoder
+      c.bit-at.result _ c.args.first.now c.args.second.now c.of_encoder.result.now c.loop-encoder.bits.items
+      c.push_run.new.bits.items c.args.layout.now.sizes c.requires.round c.loop-encoder-test.true
+      c.of_encoder.ensures c.bit-at.ensures.value c.loop-encoder.invariant.count
+      (sym c.loop-encoder.bits.ok.0) (sym c.push_run.new.bits.ok.0 ∙ c.push_run.ensures.len)
       c.push_run.ensures.kept c.push_run.ensures.copied c.loop-encoder.invariant.laid;
 }

@@ -1,4 +1,5 @@
 use Rattle.std.proofs.Common.{◌∙◌, ap, refl, arith}
+use mathlib.Core.Bool.{xor}
 use Rattle.ht_scramble.specs.Register.{register_at}
 use Rattle.ht_scramble.proofs.Shifts.{register_at-start}
 use Rattle.ht_scramble.proofs.Lists.{scrambled-from_places}
@@ -14,6 +15,7 @@ loop-bit-init c = record {
 }
 
 pub returns : goal.returns
+unfolding xor
 returns c =
     scrambled-from_places c.args.seed c.args.bits.now c.loop-bit.bits c.loop-bit.auto.bits
     (λ k lt. c.loop-bit.invariant.done k (omega arith))

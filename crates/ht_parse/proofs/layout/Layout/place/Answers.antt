@@ -7,10 +7,12 @@ abbrev rounds : goal.Start → ℕ
 rounds c = c.args.stream * c.args.self.now.rounds + c.args.round
 
 numbers : (c : goal.Start)
-    → (c.args.stream * c.args.self.now.rounds ≤ 864) × (rounds c < 864) × (rounds c * c.args.self.now.encoders ≤ 1728) × (rounds c * c.args.self.now.encoders + c.args.encoder < 1728)
+    → (c.args.stream * c.args.self.now.rounds ≤ 864) × (rounds c < 864)
+    × (rounds c * c.args.self.now.encoders ≤ 1728) × (rounds c * c.args.self.now.encoders + c.args.encoder < 1728)
 numbers c =
     let small = sizes-small _ _ _ _ _ c.args.self.now.sizes in
-    places-small c.args.self.now.encoders c.args.self.now.streams c.args.self.now.rounds c.args.stream c.args.round c.args.encoder c.requires.stream c.requires.round c.requires.encoder small.0 small.1 small.3
+    places-small c.args.self.now.encoders c.args.self.now.streams c.args.self.now.rounds c.args.stream
+    c.args.round c.args.encoder c.requires.stream c.requires.round c.requires.encoder small.0 small.1 small.3
 
 pub overflow_mul-result : goal.overflow_mul-result
 overflow_mul-result c = omega (arith, (numbers c).0)
@@ -33,5 +35,6 @@ overflow_mul-result-3 c =
 pub returns-clause-within : goal.returns-clause-within
 returns-clause-within c =
     let symbol = sizes-symbol _ _ _ _ _ c.args.self.now.sizes in
-    let within = place-within c.args.self.now.encoders c.args.self.now.streams c.args.self.now.run c.args.self.now.rounds c.args.stream c.args.round c.args.encoder c.requires.stream c.requires.round c.requires.encoder in
+    let within = place-within c.args.self.now.encoders c.args.self.now.streams c.args.self.now.run c.args.self.now.rounds
+    c.args.stream c.args.round c.args.encoder c.requires.stream c.requires.round c.requires.encoder in
     omega (arith, symbol, within)

@@ -12,7 +12,8 @@ returns-in-Mhz20-clause-within c =
     subst (λ x. IsAmong c.args.self.now x) (sym (returns-in-Mhz20-clause-value c)) (carrier_of-among c.args.self.now c.args.index c.requires)
 
 pub returns-in-Mhz40-clause-value : goal.returns-in-Mhz40-clause-value
-returns-in-Mhz40-clause-value c = carrier_is c.args.self.now Mhz40 c.args.index c.among-in-Mhz40.result (sym c.bandwidth.ensures ∙ c.in-Mhz40.is) c.among-in-Mhz40.ensures
+returns-in-Mhz40-clause-value c =
+    carrier_is c.args.self.now Mhz40 c.args.index c.among-in-Mhz40.result (sym c.bandwidth.ensures ∙ c.in-Mhz40.is) c.among-in-Mhz40.ensures
 
 pub returns-in-Mhz40-clause-within : goal.returns-in-Mhz40-clause-within
 returns-in-Mhz40-clause-within c =

@@ -1,10 +1,12 @@
-//! Lists of bits, and the lists of the encoders side by side.
+//! Lists of bits.
 ghost use Rattle.std.specs.Prelude.{◌≡◌};
 
 use std::marker::Model;
 
 /// A list of bits. A contract sees it as that list.
-#[derive(Drop)]
+///
+/// Made from a vector by `Bits::from`, which keeps its memory and takes none.
+#[derive(Debug, Drop)]
 pub struct Bits {
     bits: Vec<bool>,
 }
@@ -17,34 +19,26 @@ impl Model for Bits {
     ghost view = { λ b. b.bits.items };
 }
 
-impl Bits {
-    /// The bits of a vector, whose memory it keeps.
-    pub fn new(bits: Vec<bool>) -> Self
-        ensures { result ≡ bits.items }
-    {
+impl From<Vec<bool>> for Bits {
+    ghost from_gives = { λ bits b. b ≡ bits.items };
+
+    fn from(bits: Vec<bool>) -> Self {
         Bits { bits }
     }
+}
 
-    /// The bits in order.
+impl Bits {
+    /// The bits as a slice.
     pub fn as_slice(&self) -> &[bool]
         ensures { result.now ≡ self.now }
     {
         self.bits.as_slice()
     }
 
-    /// The vector back, with its memory.
+    /// Gives the vector back. Takes no memory.
     pub fn into_vec(self) -> Vec<bool>
         ensures { result.items ≡ self }
     {
         self.bits
     }
-}
-
-/// The lists of bits of the encoders. With one encoder `second` is empty.
-#[derive(Drop)]
-pub struct Pair {
-    /// Encoder 0.
-    pub first: Bits,
-    /// Encoder 1, where there is one.
-    pub second: Bits,
 }
