@@ -1,5 +1,6 @@
 -- The vectors that begin with given points, and the best of them.
-use Rattle.std.proofs.Common.{◌≡◌, ◌-◌, ℕ, ◌+◌, ◌<◌, ◌≤◌, List, [], ◌∷◌, ◌++◌, map, length, drop, get_or, Option, arith, ap, ◌∙◌, sym, refl, length-append, append_assoc, add-one}
+use Rattle.std.proofs.Common.{◌≡◌, ◌-◌, ℕ, ◌+◌, ◌<◌, ◌≤◌, List, [], ◌∷◌, ◌++◌, map, length, drop, get_or}
+use Rattle.std.proofs.Common.{Option, arith, ap, ◌∙◌, sym, refl, length-append, append_assoc, add-one}
 use Rattle.std.specs.List.{fold, flat_map}
 use Rattle.std.proofs.lemmas.List.{map-append, map-id, drop_all}
 use Rattle.std.proofs.lemmas.List.Sums.{fold-append}
@@ -25,7 +26,8 @@ map_same : {X Y : Type 0} (f g : X → Y) → ((x : X) → f x ≡ g x) → (xs 
 map_same f g e [] = refl
 map_same f g e (x ∷ xs) = ap (λ y. y ∷ map f xs) (e x) ∙ ap (λ ys. g x ∷ ys) (map_same f g e xs)
 
-ends_by-is : (front : List Point) (rest : List (List Point)) (ps : List Point) → map (λ x. front ++ x) (flat_map (λ p. map (λ x. p ∷ x) rest) ps) ≡ ends_by front rest ps
+ends_by-is : (front : List Point) (rest : List (List Point)) (ps : List Point)
+    → map (λ x. front ++ x) (flat_map (λ p. map (λ x. p ∷ x) rest) ps) ≡ ends_by front rest ps
 ends_by-is front rest [] = refl
 ends_by-is front rest (p ∷ ps) =
     map-append (λ x. front ++ x) (map (λ x. p ∷ x) rest) (flat_map (λ p. map (λ x. p ∷ x) rest) ps)
@@ -40,7 +42,8 @@ pub ends_next : (grid : List Axes) (front : List Point) → length front < lengt
     → ends_of grid front ≡ ends_by front (behind grid front) (points (get_or grid (length front) no_axes))
 unfolding behind
 ends_next grid front below =
-    let e : drop (length front) grid ≡ get_or grid (length front) no_axes ∷ drop (length front + 1) grid = rw add-one (drop-cons grid (length front) no_axes below) in
+    let e : drop (length front) grid ≡ get_or grid (length front) no_axes ∷ drop (length front + 1) grid =
+    rw add-one (drop-cons grid (length front) no_axes below) in
     ap (λ (g : List Axes). map (λ x. front ++ x) (choices (map points g))) e
     ∙ ends_by-is front (choices (map points (drop (length front + 1) grid))) (points (get_or grid (length front) no_axes))
 
@@ -53,13 +56,15 @@ ends_more grid front p =
 
 module _ (cost : List Point → ℕ) where
   -- nothing is left to try
-  pub tried_all : (start now : Option (List Point)) (front : List Point) (rest : List (List Point)) (ps : List Point) (k : ℕ) (all : List (List Point)) → length ps ≤ k
+  pub tried_all : (start now : Option (List Point)) (front : List Point)
+      (rest : List (List Point)) (ps : List Point) (k : ℕ) (all : List (List Point)) → length ps ≤ k
       → fold (keep cost before) now (ends_by front rest (drop k ps)) ≡ fold (keep cost before) start all → now ≡ fold (keep cost before) start all
   tried_all start now front rest ps k all end e =
       sym (ap (λ (qs : List Point). fold (keep cost before) now (ends_by front rest qs)) (drop_all k ps end)) ∙ e
 
   -- one more point was tried
-  pub tried_one : (start now next : Option (List Point)) (grid : List Axes) (front following : List Point) (ps : List Point) (k : ℕ) (d : Point) (all : List (List Point)) → k < length ps
+  pub tried_one : (start now next : Option (List Point)) (grid : List Axes) (front following : List Point)
+      (ps : List Point) (k : ℕ) (d : Point) (all : List (List Point)) → k < length ps
       → following ≡ front ++ get_or ps k d ∷ []
       → next ≡ fold (keep cost before) now (ends_of grid following)
       → fold (keep cost before) now (ends_by front (behind grid front) (drop k ps)) ≡ fold (keep cost before) start all
@@ -69,7 +74,8 @@ module _ (cost : List Point → ℕ) where
       let rest = behind grid front in
       let p = get_or ps k d in
       let here : drop k ps ≡ p ∷ drop (k + 1) ps = rw add-one (drop-cons ps k d below) in
-      let ends : next ≡ fold K now (map (λ x. front ++ p ∷ x) rest) = step ∙ ap (λ (x : List Point). fold K now (ends_of grid x)) is ∙ ap (λ xs. fold K now xs) (ends_more grid front p) in
+      let ends : next ≡ fold K now (map (λ x. front ++ p ∷ x) rest) =
+      step ∙ ap (λ (x : List Point). fold K now (ends_of grid x)) is ∙ ap (λ xs. fold K now xs) (ends_more grid front p) in
       ap (λ (o : Option (List Point)). fold K o (ends_by front rest (drop (k + 1) ps))) ends
       ∙ sym (fold-append K now (map (λ x. front ++ p ∷ x) rest) (ends_by front rest (drop (k + 1) ps)))
       ∙ sym (ap (λ (qs : List Point). fold K now (ends_by front rest qs)) here) ∙ e

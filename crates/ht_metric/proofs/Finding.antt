@@ -1,10 +1,10 @@
 -- The best of all vectors of a grid is the first nearest one.
-use Rattle.std.proofs.Common.{refl, ◌≡◌, ℕ, ◌<◌, ℤ, List, [], ◌∷◌, map, length, Option, Some, None, Bool, arith, ap, ◌∙◌, sym, length-append}
-use Rattle.std.specs.Prelude.{if◌then◌else◌, unwrap_or}
+use Rattle.std.proofs.Common.{refl, ◌≡◌, ℕ, ◌<◌, ℤ, List, [], ◌∷◌, map, length, Option, Some, None, arith, ap, ◌∙◌, sym, length-append}
+use Rattle.std.specs.Prelude.{unwrap_or}
 use Rattle.std.specs.List.{All, fold, flat_map}
 use Rattle.std.proofs.lemmas.List.{length-map}
 use Rattle.std.proofs.lemmas.List.Elements.{All-head, All-tail}
-use Rattle.ht_nearest.specs.Nearest.{is_better, keep, first_nearest}
+use Rattle.ht_nearest.specs.Nearest.{keep, first_nearest}
 use Rattle.ht_nearest.proofs.Bests as bests
 use Rattle.ht_pam.specs.Ladders.{levels}
 use Rattle.ht_pam.specs.Grids.{AreLadders, IsGrid}
@@ -21,7 +21,8 @@ use Rattle.ht_metric.proofs.Enumerating.{vectors_enumerate}
 use Rattle.ht_metric.proofs.Ends.{ends_all}
 
 -- what the code tried are the vectors of the grid
-pub tried : (job : JobView) (grid : List Axes) (rows : List Row) (front : List Point) (o : Option (List Point)) → grid ≡ job.grid → rows ≡ job.system → front ≡ []
+pub tried : (job : JobView) (grid : List Axes) (rows : List Row) (front : List Point) (o : Option (List Point))
+    → grid ≡ job.grid → rows ≡ job.system → front ≡ []
     → o ≡ fold (keep (distance_of rows) before) None (ends_of grid front) → first_nearest (distance_of job.system) before (vectors job.grid) ≡ o
 tried job grid rows front o g r f e =
     sym (e ∙ ap (λ (rs : List Row). fold (keep (distance_of rs) before) None (ends_of grid front)) r
@@ -30,17 +31,8 @@ tried job grid rows front o g r f e =
     ∙ ap (λ (xs : List (List Point)). fold (keep (distance_of job.system) before) None xs) (ends_all job.grid))
 
 pub tried_near : (job : JobView) (x : List Point) → first_nearest (distance_of job.system) before (vectors job.grid) ≡ Some x → IsNear job x
-tried_near job x e = bests.found (is_in job.grid) (distance_of job.system) before (vector_order (is_in job.grid)) (vectors job.grid) x (vectors_enumerate job.grid) e
-
--- a list that isn't empty has a best
-module _ {X : Type 0} (cost : X → ℕ) (order : X → X → Bool) where
-  never_none : (best : X) (xs : List X) → fold (keep cost order) (Some best) xs ≡ None → ⊥
-  never_none best [] e = cc
-  never_none best (x ∷ xs) e = never_none (if is_better cost order x best then x else best) xs e
-
-  pub best_of_some : (xs : List X) → 0 < length xs → first_nearest cost order xs ≡ None → ⊥
-  best_of_some [] some e = absurd (omega arith)
-  best_of_some (x ∷ xs) some e = never_none x xs e
+tried_near job x e =
+    bests.found (is_in job.grid) (distance_of job.system) before (vector_order (is_in job.grid)) (vectors job.grid) x (vectors_enumerate job.grid) e
 
 flat_some : {X Y : Type 0} (f : X → List Y) (xs : List X) → 0 < length xs → ((x : X) → 0 < length (f x)) → 0 < length (flat_map f xs)
 flat_some f [] some each = absurd (omega arith)
@@ -73,8 +65,9 @@ near_is job x is =
     ap (λ (o : Option (List Point)). found_at job (unwrap_or o []))
     (bests.finds (is_in job.grid) (distance_of job.system) before (vector_order (is_in job.grid)) (vectors job.grid) x (vectors_enumerate job.grid) is)
 
-answered : (job : JobView) (o : Option (List Point)) → IsGrid job.grid → first_nearest (distance_of job.system) before (vectors job.grid) ≡ o → IsNear job (unwrap_or o [])
-answered job None grid e = absurd (best_of_some (distance_of job.system) before (vectors job.grid) (vectors_some job.grid grid.ladders) e)
+answered : (job : JobView) (o : Option (List Point)) → IsGrid job.grid
+    → first_nearest (distance_of job.system) before (vectors job.grid) ≡ o → IsNear job (unwrap_or o [])
+answered job None grid e = absurd (bests.best_of_some (distance_of job.system) before (vectors job.grid) (vectors_some job.grid grid.ladders) e)
 answered job (Some x) grid e = tried_near job x e
 
 -- and the answer is first nearest

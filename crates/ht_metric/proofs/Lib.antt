@@ -3,7 +3,7 @@ pub mod Ends
 pub mod Enumerating
 pub mod Finding
 pub mod Listing
-pub mod Members
+pub mod Noiseless
 pub mod Order
 pub mod RowLemmas
 pub mod SameLemmas

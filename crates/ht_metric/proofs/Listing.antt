@@ -1,12 +1,14 @@
 -- The levels of a ladder and the points of two, as the code lists them.
-use Rattle.std.proofs.Common.{◌≡◌, ℕ, zero, suc, ◌+◌, ◌*◌, ◌<◌, ◌≤◌, ℤ, List, [], ◌∷◌, ◌++◌, map, length, take, drop, get_or, Bool, true, false, cond, pos, w8, to_z, of_z, unsigned_abs, arith, ap, ◌∙◌, sym, refl, length-append, append_assoc}
+use Rattle.std.proofs.Common.{◌≡◌, ℕ, zero, suc, ◌+◌, ◌*◌, ◌<◌, ◌≤◌, ℤ, List, [], ◌∷◌, ◌++◌, map, length, take, drop, get_or, Bool, true}
+use Rattle.std.proofs.Common.{false, cond, pos, w8, to_z, of_z, unsigned_abs, arith, ap, ◌∙◌, sym, refl, length-append, append_assoc}
 use Rattle.std.specs.List.{All, filter, flat_map}
 use Rattle.std.proofs.Math.Nat.{mul-le-mul_right}
 use Rattle.std.proofs.lemmas.List.{take-append-drop, append-nil, map-append, take_more, take_all, length-take, length-map}
 use Rattle.std.proofs.lemmas.Int.{to_z-of_z, fits_signed_from_abs}
 use Rattle.std.proofs.lemmas.Bool.{cond-true, cond-false}
 use Rattle.std.proofs.lemmas.List.Filters.{length-filter_more}
-use Rattle.std.proofs.lemmas.List.Elements.{filter-append, filter_more, All-filter, All-append, All-nil, All-head, All-tail, All-from_recursion, All-get_or, All-same, All-map, All-weaker}
+use Rattle.std.proofs.lemmas.List.Elements.{filter-append, filter_more, All-filter, All-append, All-nil, All-head}
+use Rattle.std.proofs.lemmas.List.Elements.{All-tail, All-from_recursion, All-get_or, All-same, All-map, All-weaker}
 use Rattle.ht_pam.specs.Ladders.{Rungs, IsLadder, levels, has}
 use Rattle.ht_pam.specs.declared.axes.Axes.{Axes}
 use Rattle.ht_pam.specs.declared.point.Point.{Point}
@@ -17,7 +19,8 @@ use Rattle.ht_metric.specs.Vectors.{points}
 -- a part of what passes is not more than all
 filter_part : (p : ℤ → Bool) (xs : List ℤ) (k : ℕ) → length (filter p (take k xs)) ≤ length (filter p xs)
 filter_part p xs k =
-    let e : filter p xs ≡ filter p (take k xs) ++ filter p (drop k xs) = ap (λ ys. filter p ys) (sym (take-append-drop k xs)) ∙ filter-append p (take k xs) (drop k xs) in
+    let e : filter p xs ≡ filter p (take k xs) ++ filter p (drop k xs) =
+    ap (λ ys. filter p ys) (sym (take-append-drop k xs)) ∙ filter-append p (take k xs) (drop k xs) in
     omega (arith, ap length e, length-append (filter p (take k xs)) (filter p (drop k xs)))
 
 -- there is room for one more that passes
@@ -31,7 +34,8 @@ filter_room l k d ladder below passes =
 
 -- every level is from -7 to 7
 every_small : All (λ x. unsigned_abs x ≤ 7) every
-every_small = All-from_recursion (λ x. unsigned_abs x ≤ 7) every (omega arith, (omega arith, (omega arith, (omega arith, (omega arith, (omega arith, (omega arith, (omega arith, (omega arith, tt)))))))))
+every_small = All-from_recursion (λ x. unsigned_abs x ≤ 7) every
+    (omega arith, (omega arith, (omega arith, (omega arith, (omega arith, (omega arith, (omega arith, (omega arith, (omega arith, tt)))))))))
 
 pub levels_small : (l : Rungs) → IsLadder l → All (λ x. unsigned_abs x ≤ 7) (levels l)
 levels_small l ladder = rw (levels-filter l ladder) (All-filter (has l) (λ x. unsigned_abs x ≤ 7) every every_small)
@@ -91,7 +95,8 @@ small_passed x small = to_z-of_z w8 x (fits_signed_from_abs w8 x (omega arith))
 
 level_passed : (l : Rungs) (xs : List ℤ) (k : ℕ) → IsLadder l → xs ≡ levels l → k < length xs → to_z w8 (of_z w8 (get_or xs k (pos 0))) ≡ get_or xs k (pos 0)
 level_passed l xs k ladder is below =
-    small_passed (get_or xs k (pos 0)) (All-get_or (λ x. unsigned_abs x ≤ 7) xs k (pos 0) below (All-same (λ x. unsigned_abs x ≤ 7) xs (levels l) is (levels_small l ladder)))
+    small_passed (get_or xs k (pos 0))
+    (All-get_or (λ x. unsigned_abs x ≤ 7) xs k (pos 0) below (All-same (λ x. unsigned_abs x ≤ 7) xs (levels l) is (levels_small l ladder)))
 
 length-rows : (qs xs : List ℤ) → length (flat_map (row qs) xs) ≡ length xs * length qs
 length-rows qs [] = omega arith
@@ -101,14 +106,16 @@ length-rows qs (x ∷ xs) = omega (arith, length-append (row qs x) (flat_map (ro
 pub points_room : (is qs : List ℤ) (i q : ℕ) (x : ℤ) (items : List Point) → length is ≤ 8 → length qs ≤ 8 → i < length is → q < length qs
     → items ≡ flat_map (row qs) (take i is) ++ map (at x) (take q qs) → length items < 64
 points_room is qs i q x items few small below within e =
-    let before : length (flat_map (row qs) (take i is)) ≡ i * length qs = length-rows qs (take i is) ∙ ap (λ (n : ℕ). n * length qs) (let t = length-take i is in omega arith) in
+    let before : length (flat_map (row qs) (take i is)) ≡ i * length qs =
+    length-rows qs (take i is) ∙ ap (λ (n : ℕ). n * length qs) (let t = length-take i is in omega arith) in
     let here : length (map (at x) (take q qs)) ≡ q = length-map (take q qs) (at x) ∙ (let t = length-take q qs in omega arith) in
     let all : length items ≡ i * length qs + q = ap length e ∙ length-append (flat_map (row qs) (take i is)) (map (at x) (take q qs)) ∙ (omega arith) in
     let le : i * length qs ≤ 7 * length qs = mul-le-mul_right (length qs) (omega arith) in
     omega arith
 
 -- one more point of an I
-pub points_more : (l m : Rungs) (is qs : List ℤ) (i q : ℕ) (front items next : List Point) → IsLadder l → IsLadder m → is ≡ levels l → qs ≡ levels m → i < length is → q < length qs
+pub points_more : (l m : Rungs) (is qs : List ℤ) (i q : ℕ) (front items next : List Point)
+    → IsLadder l → IsLadder m → is ≡ levels l → qs ≡ levels m → i < length is → q < length qs
     → items ≡ front ++ map (at (get_or is i (pos 0))) (take q qs)
     → next ≡ items ++ at (to_z w8 (of_z w8 (get_or is i (pos 0)))) (to_z w8 (of_z w8 (get_or qs q (pos 0)))) ∷ []
     → next ≡ front ++ map (at (get_or is i (pos 0))) (take (q + 1) qs)
@@ -122,13 +129,15 @@ points_more l m is qs i q front items next ladder other is_levels qs_levels belo
     ∙ ap (λ ps. ps ++ at x y ∷ []) e ∙ append_assoc front (map (at x) (take q qs)) (at x y ∷ []) ∙ ap (λ ps. front ++ ps) (sym step)
 
 -- all points
-pub points_all : (a : Axes) (is qs : List ℤ) (i : ℕ) (items : List Point) → is ≡ levels a.i → qs ≡ levels a.q → length is ≤ i → items ≡ flat_map (row qs) (take i is) → items ≡ points a
+pub points_all : (a : Axes) (is qs : List ℤ) (i : ℕ) (items : List Point) → is ≡ levels a.i
+    → qs ≡ levels a.q → length is ≤ i → items ≡ flat_map (row qs) (take i is) → items ≡ points a
 points_all a is qs i items e f all is_all =
     is_all ∙ ap (λ xs. flat_map (row qs) xs) (take_all i is all) ∙ ap (λ xs. flat_map (row qs) xs) e ∙ ap (λ ys. flat_map (row ys) (levels a.i)) f
 
 -- and they are in range
 row_small : (x : ℤ) (qs : List ℤ) → unsigned_abs x ≤ 7 → All (λ y. unsigned_abs y ≤ 7) qs → All IsInRange (row qs x)
-row_small x qs small all = All-map IsInRange (at x) qs (All-weaker (λ y. unsigned_abs y ≤ 7) (λ y. IsInRange (at x y)) (λ y s. record { i = small; q = s }) qs all)
+row_small x qs small all =
+    All-map IsInRange (at x) qs (All-weaker (λ y. unsigned_abs y ≤ 7) (λ y. IsInRange (at x y)) (λ y s. record { i = small; q = s }) qs all)
 
 rows_small : (xs qs : List ℤ) → All (λ y. unsigned_abs y ≤ 7) xs → All (λ y. unsigned_abs y ≤ 7) qs → All IsInRange (flat_map (row qs) xs)
 rows_small [] qs p q = All-nil IsInRange

@@ -10,7 +10,8 @@ entries_less zero j = let e : 0 - j ≡ 0 = omega arith in rw e (omega arith)
 entries_less (suc m) zero = let e : suc m - 0 ≡ suc m = omega arith in rw e (omega arith)
 entries_less (suc m) (suc j) = let e : suc m - suc j ≡ m - j = omega arith in rw e (omega (arith, entries_less m j))
 
-at_same : (d e : ℕ) (xs ys : List Tap) → d ≡ e → xs ≡ ys → (let a : Leg = record { diagonal = d; right = xs } in let b : Leg = record { diagonal = e; right = ys } in a ≡ b)
+at_same : (d e : ℕ) (xs ys : List Tap) → d ≡ e → xs ≡ ys
+    → (let a : Leg = record { diagonal = d; right = xs } in let b : Leg = record { diagonal = e; right = ys } in a ≡ b)
 at_same d e xs ys p q =
     let at : ℕ → List Tap → Leg = λ n zs. record { diagonal = n; right = zs } in
     ap (λ n. at n xs) p ∙ ap (λ zs. at e zs) q
@@ -32,17 +33,21 @@ legs_of-at (suc n) (suc k) from ds ts below e =
     let width : suc n - (suc k + 1) ≡ n - (k + 1) = omega arith in
     let one : 1 + k ≡ suc k = omega arith in
     legs_of-at n k (from - n) (drop 1 ds) (drop n ts) (omega arith) rest
-    ∙ at_same _ _ _ _ (get_or-drop 1 ds k 0 ∙ ap (λ (m : ℕ). get_or ds m 0) one) (ap (λ (w : ℕ). take w (drop (from - n) (drop n ts))) (sym width) ∙ ap (λ (xs : List Tap). take (suc n - (suc k + 1)) xs) (drop-drop (from - n) n ts ∙ ap (λ (m : ℕ). drop m ts) behind))
+    ∙ at_same _ _ _ _ (get_or-drop 1 ds k 0 ∙ ap (λ (m : ℕ). get_or ds m 0) one)
+    (ap (λ (w : ℕ). take w (drop (from - n) (drop n ts))) (sym width)
+    ∙ ap (λ (xs : List Tap). take (suc n - (suc k + 1)) xs) (drop-drop (from - n) n ts ∙ ap (λ (m : ℕ). drop m ts) behind))
 
 -- row k of a system
 pub rows_of-at : (rows : List Leg) (k : ℕ) (ys : List Sample) → k < length rows
-    → get_or (rows_of rows ys) k no_row ≡ record { diagonal = (get_or rows k no_leg).diagonal; right = (get_or rows k no_leg).right; sample = get_or ys k no_sample }
+    → get_or (rows_of rows ys) k no_row
+    ≡ record { diagonal = (get_or rows k no_leg).diagonal; right = (get_or rows k no_leg).right; sample = get_or ys k no_sample }
 rows_of-at [] k ys below = absurd (omega arith)
 rows_of-at (leg ∷ rows) zero ys below = refl
 rows_of-at (leg ∷ rows) (suc k) ys below =
     let one : 1 + k ≡ suc k = omega arith in
     rows_of-at rows k (drop 1 ys) (omega arith)
-    ∙ ap (λ (y : Sample). let row : Row = record { diagonal = (get_or rows k no_leg).diagonal; right = (get_or rows k no_leg).right; sample = y } in row) (get_or-drop 1 ys k no_sample ∙ ap (λ (m : ℕ). get_or ys m no_sample) one)
+    ∙ ap (λ (y : Sample). let row : Row = record { diagonal = (get_or rows k no_leg).diagonal; right = (get_or rows k no_leg).right; sample = y } in
+    row) (get_or-drop 1 ys k no_sample ∙ ap (λ (m : ℕ). get_or ys m no_sample) one)
 
 -- the entry of a row k for a stream behind it, where row k begins at `from`
 pub entry-at : (n k i from : ℕ) (ds : List ℕ) (ts : List Tap) → k < n → i < n - (k + 1) → from + entries_of (n - k) ≡ entries_of n

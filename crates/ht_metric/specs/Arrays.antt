@@ -26,7 +26,8 @@ abbrev pub entries : List Leg → List Tap
 entries rows = flat_map (λ leg. leg.right) rows
 
 -- an array is the list at its front, filled
-pub filled-take : {A : Type 0} (width n : ℕ) (x : A) (xs : List A) → length (take n xs) ≡ n → drop n xs ≡ replicate (width - n) x → filled width x (take n xs) ≡ xs
+pub filled-take : {A : Type 0} (width n : ℕ) (x : A) (xs : List A) → length (take n xs) ≡ n → drop n xs ≡ replicate (width - n) x
+    → filled width x (take n xs) ≡ xs
 filled-take width n x xs count e =
     ap (λ (m : ℕ). take n xs ++ replicate (width - m) x) count ∙ ap (λ ys. take n xs ++ ys) (sym e) ∙ take-append-drop n xs
 

@@ -1,14 +1,10 @@
 -- How far a vector is from what was received, in whole numbers without limits.
 use Rattle.std.specs.Prelude.{ℕ, ◌+◌, ◌*◌, ◌≤◌, ℤ, pos, ◌+ℤ◌, ◌-ℤ◌, ◌*ℤ◌, unsigned_abs, List, [], ◌∷◌}
 use Rattle.ht_pam.specs.declared.point.Point.{Point}
+use Rattle.ht_metric.specs.declared.complex.Complex.{Complex}
 use Rattle.ht_metric.specs.declared.tap.Tap.{Tap}
 use Rattle.ht_metric.specs.declared.sample.Sample.{Sample}
 use Rattle.ht_metric.specs.Rows.{Row}
-
--- a complex number with whole parts
-pub record Complex : Type 0 where
-  pub re : ℤ
-  pub im : ℤ
 
 abbrev pub plus : Complex → Complex → Complex
 plus a b = record { re = a.re +ℤ b.re; im = a.im +ℤ b.im }

@@ -1,5 +1,6 @@
 -- A triangular system as a list of rows, the first stream's row first.
-use Rattle.std.specs.Prelude.{◌≡◌, ℕ, zero, suc, ◌+◌, ◌-◌, ◌≤◌, pos, List, [], ◌∷◌, length, take, drop, replicate, slice_index, slice_index_or}
+use Rattle.std.specs.Prelude.{◌≡◌, ℕ, zero, suc, ◌+◌, ◌-◌, ◌≤◌, pos}
+use Rattle.std.specs.Prelude.{List, [], ◌∷◌, length, take, drop, replicate, slice_index, slice_index_or}
 use Rattle.ht_metric.specs.declared.tap.Tap.{Tap}
 use Rattle.ht_metric.specs.declared.sample.Sample.{Sample}
 
@@ -26,12 +27,12 @@ no_leg = record { diagonal = 0; right = [] }
 abbrev pub no_row : Row
 no_row = record { diagonal = 0; right = []; sample = no_sample }
 
--- how many entries stand above the diagonal of so many streams
+-- the number of entries that stand above the diagonal of this number of streams
 abbrev pub entries_of : ℕ → ℕ
 entries_of zero = 0
 entries_of (suc streams) = streams + entries_of streams
 
--- the rows of a triangle of so many streams, whose entries lie one row after the other
+-- the rows of a triangle of this number of streams, whose entries lie one row after the other
 abbrev pub legs_of : ℕ → List ℕ → List Tap → List Leg
 legs_of zero diagonals entries = []
 legs_of (suc streams) diagonals entries =

@@ -5,7 +5,8 @@ use Rattle.std.proofs.lemmas.List.{length-take}
 use Rattle.ht_pam.specs.declared.point.Point.{Point}
 use Rattle.ht_metric.specs.Vectors.{IsPadded, no_point}
 use Rattle.ht_metric.specs.Rows.{Leg, Row, IsTriangle, IsSampled, no_tap, no_sample, entries_of, legs_of, rows_of}
-use Rattle.ht_metric.specs.Arrays.{filled, legs, samples, diagonals, entries, filled-take, length-legs_of, legs-rows_of, samples-rows_of, diagonals-legs_of, entries-legs_of, entries_few}
+use Rattle.ht_metric.specs.Arrays.{filled, legs, samples, diagonals, entries, filled-take, length-legs_of, legs-rows_of, samples-rows_of}
+use Rattle.ht_metric.specs.Arrays.{diagonals-legs_of, entries-legs_of, entries_few}
 use Rattle.ht_metric.specs.declared.vector.Vector.TheInside.{Inside as VectorFields}
 use Rattle.ht_metric.specs.declared.triangle.Triangle.TheInside.{Inside as TriangleFields}
 use Rattle.ht_metric.specs.declared.system.System.TheInside.{Inside as SystemFields}

@@ -1,5 +1,5 @@
 -- The plain detector's best vector so far.
-use Rattle.std.specs.Prelude.{◌≡◌, List, ◌++◌, length, map, drop, Option, Some, None}
+use Rattle.std.specs.Prelude.{◌≡◌, ◌^◌, ◌<◌, List, ◌++◌, length, map, drop, Option, Some, None}
 use Rattle.ht_pam.specs.declared.axes.Axes.{Axes}
 use Rattle.ht_pam.specs.declared.point.Point.{Point}
 use Rattle.ht_metric.specs.declared.best.Best.{Best}
@@ -11,6 +11,7 @@ use Rattle.ht_metric.specs.Vectors.{points, choices}
 pub record IsMeasured (system : List Row) (best : Best) : Type 0 where
   pub streams : length best.vector ≡ length system
   pub distance : best.distance ≡ distance_of system best.vector
+  pub below : best.distance < 2 ^ 66
 
 abbrev pub vector_of : Option Best → Option (List Point)
 vector_of None = None

@@ -1,5 +1,6 @@
 -- Vectors of points, one for each stream: their order, and those of a grid.
-use Rattle.std.specs.Prelude.{◌≡◌, ℕ, ◌-◌, ◌≤◌, pos, length, drop, replicate, List, [], ◌∷◌, Bool, true, false, ◌&&◌, ◌||◌, not, int_lt, map}
+use Rattle.std.specs.Prelude.{◌≡◌, ℕ, ◌-◌, ◌≤◌, ℤ, pos, int_lt, Bool, true, false, ◌&&◌, ◌||◌, not}
+use Rattle.std.specs.Prelude.{List, [], ◌∷◌, length, drop, replicate, map}
 use Rattle.std.specs.List.{flat_map}
 use Rattle.ht_pam.specs.Ladders.{levels, has}
 use Rattle.ht_pam.specs.declared.axes.Axes.{Axes}
@@ -15,15 +16,20 @@ pub record IsPadded (len : ℕ) (points : List Point) : Type 0 where
   pub places : length points ≡ 4
   pub unused : drop len points ≡ replicate (4 - len) no_point
 
--- one point is before another: its I is less, or I is equal and its Q is less
-abbrev pub point_before : Point → Point → Bool
-point_before a b = int_lt a.i b.i || (not (int_lt b.i a.i) && int_lt a.q b.q)
+-- the levels of a vector: I_1, Q_1, I_2 and so on
+abbrev pub levels_of : List Point → List ℤ
+levels_of [] = []
+levels_of (p ∷ x) = p.i ∷ p.q ∷ levels_of x
 
--- one vector is before another: its point is, at the lowest stream where they differ
+-- one list of levels is before another: at the first place where they differ its level is less
+abbrev pub levels_before : List ℤ → List ℤ → Bool
+levels_before left [] = false
+levels_before [] (b ∷ right) = true
+levels_before (a ∷ left) (b ∷ right) = int_lt a b || (not (int_lt b a) && levels_before left right)
+
+-- one vector is before another: its levels are
 abbrev pub before : List Point → List Point → Bool
-before left [] = false
-before [] (b ∷ right) = true
-before (a ∷ left) (b ∷ right) = point_before a b || (not (point_before b a) && before left right)
+before left right = levels_before (levels_of left) (levels_of right)
 
 -- a vector has an allowed point on each stream of the grid
 abbrev pub is_in : List Axes → List Point → Bool

@@ -1,5 +1,5 @@
 //! What a detector answers.
-ghost use Rattle.std.specs.Prelude.{◌≡◌};
+ghost use Rattle.std.specs.Prelude.{◌≡◌, ◌^◌, ◌<◌};
 ghost use Rattle.ht_metric.specs.Distance.{distance_of};
 ghost use Rattle.ht_metric.specs.Jobs.{IsNear};
 
@@ -8,7 +8,7 @@ use crate::vector::Vector;
 
 /// A job with its first nearest vector and that vector's distance.
 ///
-/// No vector of the job's grid is nearer, and none that comes before it is as near.
+/// No vector of the job's grid is nearer, and none that comes before it is as near. The distance is below 2^66.
 #[derive(Debug, Drop)]
 pub struct Hit {
     pub job: Job,
@@ -16,6 +16,7 @@ pub struct Hit {
     pub distance: u128,
     pub ghost near: { IsNear job vector },
     pub ghost far: { distance ≡ distance_of job.system vector },
+    pub ghost below: { distance < 2 ^ 66 },
 }
 
 impl Hit {
@@ -23,6 +24,7 @@ impl Hit {
     pub fn of(job: Job, vector: Vector, distance: u128) -> Hit
         requires near { IsNear job vector }
         requires distance { distance ≡ distance_of job.system vector }
+        requires bound { distance < 2 ^ 66 }
         ensures job { result.job ≡ job }
         ensures vector { result.vector ≡ vector }
         ensures distance { result.distance ≡ distance }
@@ -34,7 +36,7 @@ impl Hit {
         }
     }
 
-    /// What was asked.
+    /// The job that was run.
     pub fn job(&self) -> &Job
         ensures { result.now ≡ self.now.job }
     {
@@ -48,9 +50,10 @@ impl Hit {
         &self.vector
     }
 
-    /// The distance of that vector.
+    /// The distance of that vector, below 2^66.
     pub fn distance(&self) -> u128
-        ensures { result ≡ self.now.distance }
+        ensures value { result ≡ self.now.distance }
+        ensures bound { result < 2 ^ 66 }
     {
         self.distance
     }

@@ -1,4 +1,4 @@
-//! What a detector is asked.
+//! What a detector is given.
 ghost use Rattle.std.specs.Prelude.{◌≡◌, ◌↔◌, length, IsTrue};
 ghost use Rattle.ht_metric.specs.Jobs.{IsJob};
 
@@ -8,7 +8,7 @@ use ht_pam::Grid;
 use std::marker::Model;
 
 /// One vector to be detected: the system of a subcarrier in one symbol, and the grid of the vectors that may have been sent.
-#[derive(Debug, Drop)]
+#[derive(Debug, PartialEq, Eq, Drop)]
 pub struct Job {
     number: u64,
     place: Place,
@@ -29,7 +29,7 @@ impl Model for Job {
 }
 
 impl Job {
-    /// The job of this number and place. The grid and the system have as many streams.
+    /// The job of this number and place. The grid and the system have the same number of streams.
     pub fn new(number: u64, place: Place, grid: Grid, system: System) -> Job
         requires { length grid ≡ length system }
         ensures { result ≡ record { number = number; place = place; grid = grid; system = system } }
@@ -72,7 +72,7 @@ impl Job {
         &self.system
     }
 
-    /// Whether both jobs have the same number, place, grid and system.
+    /// Whether both jobs have the same number, place, grid and system, as `==` says too.
     pub fn same(&self, other: &Job) -> bool
         ensures { IsTrue result ↔ (self.now ≡ other.now) }
     {
@@ -80,7 +80,7 @@ impl Job {
         same && self.grid.same(&other.grid) && self.system.same(&other.system)
     }
 
-    /// Another job that is the same.
+    /// A copy of the job.
     pub fn copy(&self) -> Job
         ensures { result ≡ self.now }
     {

@@ -1,4 +1,4 @@
-//! What a multiple-antenna detector is asked and what it answers (IEEE Std 802.11-2012, clause 20).
+//! What a multiple-antenna detector is given and what it answers (IEEE Std 802.11-2012, clause 20).
 //!
 //! On each subcarrier of each OFDM symbol the receiver has samples y of one to four streams that the
 //! channel has mixed. With the channel in triangular form a vector x of constellation points is at the
@@ -10,10 +10,15 @@
 //!
 //! [`plain_nearest`] finds it by trying every vector. In BPSK on one stream with d = 10, y = (3, -4) gives
 //! (1, 0) at distance 65, and y = (0, 0) gives (-1, 0) at 100, where (1, 0) is as near and comes later.
-//! All is in whole numbers, and no sum overflows, whatever the samples and the channel are.
+//! All is in whole numbers, and no sum overflows, whatever the samples and the channel are: every distance is
+//! below 2^66.
+//!
+//! The module [`laws`] has what follows from the definitions: what is received without noise is detected as it
+//! was sent, at distance 0, where no diagonal is 0.
 #![tactic(auto)]
 
 mod best;
+mod complex;
 mod grid_points;
 mod hit;
 mod job;
@@ -28,6 +33,7 @@ mod tap;
 mod triangle;
 mod vector;
 
+pub use complex::Complex;
 pub use hit::Hit;
 pub use job::Job;
 pub use metric::distance;

@@ -1,7 +1,7 @@
 //! The plain detector: it tries every vector of the grid.
 ghost use Rattle.std.specs.Prelude.{◌≡◌, ◌≤◌, length, Some, IfSome, nat_lt, not, ◌||◌, ◌&&◌};
 ghost use Rattle.std.specs.List.{All, fold};
-ghost use Rattle.ht_nearest.specs.Nearest.{keep as kept};
+ghost use Rattle.ht_nearest.specs.Nearest.{keep};
 ghost use Rattle.ht_metric.specs.Distance.{distance_of, IsInRange};
 ghost use Rattle.ht_metric.specs.Vectors.{before};
 ghost use Rattle.ht_metric.specs.Jobs.{near};
@@ -35,7 +35,7 @@ fn try_ends(system: &System, grid: &Grid, front: Vector, best: Option<Best>) -> 
     requires front { length front ≤ length grid.now }
     requires levels { All IsInRange front }
     requires best { IfSome best (IsMeasured system.now) }
-    ensures found { vector_of result ≡ fold (kept (distance_of system.now) before) (vector_of best) (ends_of grid.now front) }
+    ensures found { vector_of result ≡ fold (keep (distance_of system.now) before) (vector_of best) (ends_of grid.now front) }
     ensures best { IfSome result (IsMeasured system.now) }
 {
     let at = front.len();
@@ -56,7 +56,7 @@ fn better(system: &System, best: Option<Best>, vector: Vector) -> Best
     requires streams { length vector ≡ length system.now }
     requires levels { All IsInRange vector }
     requires best { IfSome best (IsMeasured system.now) }
-    ensures found { Some result.vector ≡ kept (distance_of system.now) before (vector_of best) vector }
+    ensures found { Some result.vector ≡ keep (distance_of system.now) before (vector_of best) vector }
     ensures best { IsMeasured system.now result }
 {
     let distance = distance(system, &vector);
@@ -71,7 +71,7 @@ fn is_better(distance: u128, vector: &Vector, old: &Best) -> bool
     requires { length vector.now ≡ length old.now.vector }
     ensures { result ≡ (nat_lt distance old.now.distance || (not (nat_lt old.now.distance distance) && before vector.now old.now.vector)) }
 {
-    distance < old.distance || (!(old.distance < distance) && vector.before(&old.vector))
+    distance < old.distance || (distance == old.distance && vector.before(&old.vector))
 }
 
 #[cfg(test)]

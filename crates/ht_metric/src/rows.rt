@@ -1,48 +1,30 @@
 //! The squared lengths of rows, computed without overflow.
-ghost use Rattle.std.specs.Prelude.{◌≡◌, ◌+◌, ◌*◌, ◌^◌, ◌<◌, ◌≤◌, ◌-ℤ◌, ◌+ℤ◌, ◌*ℤ◌, All, length, unsigned_abs, pos};
-ghost use Rattle.ht_metric.specs.Distance.{times, combined, square, squared_length, residual, distance_of, IsInRange};
+ghost use Rattle.std.specs.Prelude.{◌≡◌, ◌+◌, ◌*◌, ◌^◌, ◌<◌, ◌≤◌, ◌-ℤ◌, ◌*ℤ◌, All, length, unsigned_abs, pos};
+ghost use Rattle.ht_metric.specs.Distance.{combined, square, squared_length, residual, distance_of, IsInRange};
 ghost use Rattle.ht_metric.specs.Rows.{rows_of, legs_of};
 
+use crate::complex::Complex;
 use crate::sample::Sample;
 use crate::tap::Tap;
 use ht_pam::Point;
 
-// A part of an entry times a level.
-fn multiplied(part: i16, level: i8) -> i64
-    requires { unsigned_abs level ≤ 7 }
-    ensures value { result ≡ part *ℤ level }
-    ensures bound { unsigned_abs result ≤ 229376 }
-{
-    i64::from(part) * i64::from(level)
-}
-
-// An entry times a point.
-fn product(tap: Tap, x: Point) -> (i64, i64)
-    requires { IsInRange x }
-    ensures re { result.0 ≡ (times tap x).re }
-    ensures im { result.1 ≡ (times tap x).im }
-    ensures re_bound { unsigned_abs result.0 ≤ 458752 }
-    ensures im_bound { unsigned_abs result.1 ≤ 458752 }
-{
-    let re = multiplied(tap.re, x.i) - multiplied(tap.im, x.q);
-    let im = multiplied(tap.re, x.q) + multiplied(tap.im, x.i);
-    (re, im)
-}
-
 // The sum of entries times points.
-fn combine(taps: &[Tap], xs: &[Point]) -> (i64, i64)
+fn combine(taps: &[Tap], xs: &[Point]) -> Complex
     requires few { length taps.now ≤ 3 }
     requires enough { length taps.now ≤ length xs.now }
     requires levels { All IsInRange xs.now }
-    ensures re { result.0 ≡ (combined taps.now xs.now).re }
-    ensures im { result.1 ≡ (combined taps.now xs.now).im }
-    ensures re_bound { unsigned_abs result.0 ≤ 1376256 }
-    ensures im_bound { unsigned_abs result.1 ≤ 1376256 }
+    ensures re { result.re ≡ (combined taps.now xs.now).re }
+    ensures im { result.im ≡ (combined taps.now xs.now).im }
+    ensures re_bound { unsigned_abs result.re ≤ 1376256 }
+    ensures im_bound { unsigned_abs result.im ≤ 1376256 }
 {
-    let mut total = (0i64, 0i64);
+    let mut total = Complex { re: 0, im: 0 };
     for k in 0..taps.len() {
-        let (re, im) = product(taps[k], xs[k]);
-        total = (total.0 + re, total.1 + im);
+        let part = taps[k].times(xs[k]);
+        total = Complex {
+            re: total.re + part.re,
+            im: total.im + part.im,
+        };
     }
     total
 }
@@ -83,11 +65,12 @@ fn row_length(diagonal: u16, right: &[Tap], sample: Sample, x: Point, rest: &[Po
     requires enough { length right.now ≤ length rest.now }
     requires level { IsInRange x }
     requires levels { All IsInRange rest.now }
-    ensures { result ≡ squared_length (residual (record { diagonal = diagonal; right = right.now; sample = sample }) x rest.now) }
+    ensures value { result ≡ squared_length (residual (record { diagonal = diagonal; right = right.now; sample = sample }) x rest.now) }
+    ensures bound { result ≤ 2 * ((2 ^ 31 + 2 ^ 21) * (2 ^ 31 + 2 ^ 21)) }
 {
     let sum = combine(right, rest);
-    let re = remaining(sample.re, stretched(diagonal, x.i), sum.0);
-    let im = remaining(sample.im, stretched(diagonal, x.q), sum.1);
+    let re = remaining(sample.re, stretched(diagonal, x.i), sum.re);
+    let im = remaining(sample.im, stretched(diagonal, x.q), sum.im);
     squared(re) + squared(im)
 }
 
@@ -102,7 +85,8 @@ pub(crate) fn sum_rows(
     requires few { count ≤ 4 }
     requires streams { length vector.now ≡ count }
     requires levels { All IsInRange vector.now }
-    ensures { result ≡ distance_of (rows_of (legs_of count diagonal.now above.now) y.now) vector.now }
+    ensures value { result ≡ distance_of (rows_of (legs_of count diagonal.now above.now) y.now) vector.now }
+    ensures bound { result < 2 ^ 66 }
 {
     let mut total = 0u128;
     let mut from = 0usize;

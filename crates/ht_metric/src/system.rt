@@ -1,5 +1,5 @@
 //! A triangle with what was received.
-ghost use Rattle.std.specs.Prelude.{◌≡◌, ◌+◌, ◌-◌, ◌<◌, ◌≤◌, length, drop, replicate, slice_index_or, IsTrue, ◌↔◌};
+ghost use Rattle.std.specs.Prelude.{◌≡◌, ◌+◌, ◌-◌, ◌^◌, ◌<◌, ◌≤◌, length, drop, replicate, slice_index_or, IsTrue, ◌↔◌};
 ghost use Rattle.std.specs.List.{All};
 ghost use Rattle.ht_metric.specs.Distance.{distance_of, IsInRange};
 ghost use Rattle.ht_metric.specs.Rows.{rows_of, no_row, no_tap, no_sample};
@@ -11,7 +11,7 @@ use ht_pam::Point;
 use std::marker::Model;
 
 /// The triangular channel of a subcarrier and the sample that was received on each row.
-#[derive(Clone, Copy, Debug)]
+#[derive(Clone, Copy, Debug, PartialEq, Eq)]
 pub struct System {
     triangle: Triangle,
     y: [Sample; 4],
@@ -83,7 +83,7 @@ impl System {
         self.y[usize::from(k) - 1]
     }
 
-    // Whether both systems have the same rows.
+    // Whether both systems have the same rows, as `==` says too.
     pub(crate) fn same(&self, other: &System) -> bool
         ensures { IsTrue result ↔ (self.now ≡ other.now) }
     {
@@ -94,7 +94,8 @@ impl System {
     pub(crate) fn distance(&self, vector: &[Point]) -> u128
         requires streams { length vector.now ≡ length self.now }
         requires levels { All IsInRange vector.now }
-        ensures { result ≡ distance_of self.now vector.now }
+        ensures value { result ≡ distance_of self.now vector.now }
+        ensures bound { result < 2 ^ 66 }
     {
         self.triangle.distance(&self.y, vector)
     }

@@ -1,5 +1,5 @@
 //! The channel of a subcarrier in triangular form.
-ghost use Rattle.std.specs.Prelude.{◌≡◌, ◌+◌, ◌-◌, ◌<◌, ◌≤◌, length, drop, replicate, slice_index_or, IsTrue, ◌↔◌};
+ghost use Rattle.std.specs.Prelude.{◌≡◌, ◌+◌, ◌-◌, ◌^◌, ◌<◌, ◌≤◌, length, drop, replicate, slice_index_or, IsTrue, ◌↔◌};
 ghost use Rattle.std.specs.List.{All};
 ghost use Rattle.ht_metric.specs.Distance.{distance_of, IsInRange};
 ghost use Rattle.ht_metric.specs.Rows.{rows_of, legs_of, entries_of, no_leg, no_tap};
@@ -14,7 +14,7 @@ use std::marker::Model;
 ///
 /// Row k has the diagonal d_k, from 0 to 65535, and the entries r_kl for the streams l behind k.
 /// Streams are counted from 1.
-#[derive(Clone, Copy, Debug)]
+#[derive(Clone, Copy, Debug, PartialEq, Eq)]
 pub struct Triangle {
     streams: u8,
     diagonal: [u16; 4],
@@ -85,7 +85,7 @@ impl Triangle {
         self.above[row_start(self.streams, k) + usize::from(l - k) - 1]
     }
 
-    // Whether both triangles have the same rows.
+    // Whether both triangles have the same rows, as `==` says too.
     pub(crate) fn same(&self, other: &Triangle) -> bool
         ensures { IsTrue result ↔ (self.now ≡ other.now) }
     {
@@ -97,14 +97,15 @@ impl Triangle {
     pub(crate) fn distance(&self, y: &[Sample; 4], vector: &[Point]) -> u128
         requires streams { length vector.now ≡ length self.now }
         requires levels { All IsInRange vector.now }
-        ensures { result ≡ distance_of (rows_of self.now y.now) vector.now }
+        ensures value { result ≡ distance_of (rows_of self.now y.now) vector.now }
+        ensures bound { result < 2 ^ 66 }
     {
         let count = usize::from(self.streams);
         sum_rows(count, &self.diagonal, &self.above, y, vector)
     }
 }
 
-// Where the entries of row k begin in a triangle of so many streams.
+// Where the entries of row k begin in a triangle of `streams` streams.
 fn row_start(streams: u8, k: u8) -> usize
     requires first { 1 ≤ k }
     requires last { k ≤ streams }

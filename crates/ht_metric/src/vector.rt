@@ -1,7 +1,6 @@
 //! A point for each stream.
 ghost use Rattle.std.specs.Prelude.{◌≡◌, ◌+◌, ◌-◌, ◌<◌, ◌≤◌, ◌++◌, [], ◌∷◌, length, slice_index_or};
 ghost use Rattle.ht_metric.specs.Vectors.{before, no_point};
-ghost use Rattle.ht_metric.specs.Vectors.{point_before as point_is_before};
 
 use ht_pam::Point;
 use std::marker::Model;
@@ -43,7 +42,7 @@ impl Vector {
         }
     }
 
-    /// Puts the point of one more stream behind the others, of which there are fewer than four.
+    /// Adds the point of one more stream behind the others, of which there are at most three.
     pub fn push(&mut self, point: Point)
         requires { length self.old < 4 }
         ensures { self.new ≡ self.old ++ point ∷ [] }
@@ -69,13 +68,13 @@ impl Vector {
         self.points[usize::from(stream) - 1]
     }
 
-    /// Whether this vector comes before the other one, which has as many points: at the lowest stream where
+    /// Whether this vector comes before the other one, which has the same number of points: at the lowest stream where
     /// they differ it has the lesser I, or the same I and the lesser Q.
     pub fn before(&self, other: &Vector) -> bool
         requires { length self.now ≡ length other.now }
         ensures { result ≡ before self.now other.now }
     {
-        comes_before(self.points(), other.points())
+        self.points() < other.points()
     }
 
     // The points, as a slice.
@@ -84,26 +83,4 @@ impl Vector {
     {
         &self.points[..usize::from(self.len)]
     }
-}
-
-// Whether one list of points is before another.
-fn comes_before(left: &[Point], right: &[Point]) -> bool
-    ensures { result ≡ before left.now right.now }
-{
-    match right.split_first() {
-        None => false,
-        Some((b, right)) => match left.split_first() {
-            None => true,
-            Some((a, left)) => {
-                point_before(*a, *b) || (!point_before(*b, *a) && comes_before(left, right))
-            }
-        },
-    }
-}
-
-// Whether one point is before another.
-fn point_before(a: Point, b: Point) -> bool
-    ensures { result ≡ point_is_before a b }
-{
-    a.i < b.i || (!(b.i < a.i) && a.q < b.q)
 }

@@ -1,5 +1,5 @@
 -- The best of a list of candidates.
-use Rattle.std.proofs.Common.{◌≡◌, ℕ, zero, suc, ◌<◌, ◌≤◌, List, [], ◌∷◌, Bool, false, Some, arith, ◌⊎◌, inl, inr, refl, ap, ◌∙◌, subst}
+use Rattle.std.proofs.Common.{◌≡◌, ℕ, zero, suc, ◌<◌, ◌≤◌, List, [], ◌∷◌, length, Bool, false, None, Some, arith, ◌⊎◌, inl, inr, refl, ap, ◌∙◌, subst}
 use Rattle.std.specs.Prelude.{if◌then◌else◌}
 use Rattle.std.specs.List.{fold, Contains}
 use Rattle.std.proofs.lemmas.Bool.{cases_lt, cases_order, cases_Bool, false_from_ne_true, both_ways, cond-true, cond-false}
@@ -58,7 +58,8 @@ module _ {X : Type 0} (is_member : X → Bool) (cost : X → ℕ) (before : X �
     })
   ]
 
-  best_widen : (Seen More : X → Type 0) (best : X) → ((y : X) → Seen y → More y) → ((y : X) → More y → Seen y) → IsBest cost before Seen best → IsBest cost before More best
+  best_widen : (Seen More : X → Type 0) (best : X) → ((y : X) → Seen y → More y)
+      → ((y : X) → More y → Seen y) → IsBest cost before Seen best → IsBest cost before More best
   best_widen Seen More best out back was = record { seen = out best was.seen; none = λ y h. was.none y (back y h) }
 
   -- the fold keeps the best
@@ -86,7 +87,11 @@ module _ {X : Type 0} (is_member : X → Bool) (cost : X → ℕ) (before : X �
   best_first [] last e = cc
   best_first (x ∷ xs) last e =
       best_widen (λ y. (x ≡ y) ⊎ Among xs y) (Among (x ∷ xs)) last (λ y h. h) (λ y h. h)
-      (best_fold (λ y. x ≡ y) x xs (record { seen = refl; none = λ y is. subst (λ (z : X). is_better cost before z x ≡ false) is (better_apart is_member cost before order x) }) last e)
+      (best_fold (λ y. x ≡ y) x xs (record {
+        seen = refl;
+        none =
+            λ y is. subst (λ (z : X). is_better cost before z x ≡ false) is (better_apart is_member cost before order x);
+      }) last e)
 
   -- a best of all members is first nearest
   pub found : (xs : List X) (x : X) → Enumerates is_member xs → first_nearest cost before xs ≡ Some x → IsFirstNearest is_member cost before x
@@ -121,3 +126,13 @@ module _ {X : Type 0} (is_member : X → Bool) (cost : X → ℕ) (before : X �
       let some = some_best y ys in
       let same : some.0 ≡ x = unique some.0 x (found (y ∷ ys) some.0 all some.1) near in
       some.1 ∙ ap (λ (z : X). Some z) same
+
+-- a list that isn't empty has a best
+module _ {X : Type 0} (cost : X → ℕ) (order : X → X → Bool) where
+  never_none : (best : X) (xs : List X) → fold (keep cost order) (Some best) xs ≡ None → ⊥
+  never_none best [] e = cc
+  never_none best (x ∷ xs) e = never_none (if is_better cost order x best then x else best) xs e
+
+  pub best_of_some : (xs : List X) → 0 < length xs → first_nearest cost order xs ≡ None → ⊥
+  best_of_some [] some e = absurd (omega arith)
+  best_of_some (x ∷ xs) some e = never_none x xs e

@@ -30,7 +30,8 @@ pub better_tied : {X : Type 0} (cost : X → ℕ) (before : X → X → Bool) (x
 better_tied cost before x y e h = tied (cost x) (cost y) (before x y) e h
 
 -- nothing is better than itself
-pub better_apart : {X : Type 0} (is_member : X → Bool) (cost : X → ℕ) (before : X → X → Bool) → IsOrder is_member before → (x : X) → is_better cost before x x ≡ false
+pub better_apart : {X : Type 0} (is_member : X → Bool) (cost : X → ℕ) (before : X → X → Bool)
+    → IsOrder is_member before → (x : X) → is_better cost before x x ≡ false
 better_apart is_member cost before order x =
     false_from_ne_true _ (λ h. elim (better_cases cost before x x h) [
       | inl lt ↦ omega arith

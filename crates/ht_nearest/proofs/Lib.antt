@@ -1,3 +1,4 @@
 pub mod Better
 pub mod Bests
 pub mod Values
+pub mod Members

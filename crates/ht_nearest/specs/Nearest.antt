@@ -1,6 +1,7 @@
 -- The first of the nearest, for any kind of value: a test says what is a member, a cost how far
 -- a value is away, and a second test which of two values comes before the other.
-use Rattle.std.specs.Prelude.{◌≡◌, ℕ, ◌<◌, ◌≤◌, List, Bool, ◌&&◌, ◌||◌, not, IsTrue, IsFalse, nat_lt, if◌then◌else◌, Option, Some, None}
+use Rattle.std.specs.Prelude.{◌≡◌, ℕ, ◌<◌, ◌≤◌, List, Bool, ◌&&◌, ◌||◌, not, IsTrue, IsFalse, nat_lt, if◌then◌else◌}
+use Rattle.std.specs.Prelude.{Option, Some, None}
 use Rattle.std.specs.List.{fold, Contains}
 
 -- a member that no member is nearer than, and that no member before it is as near as

@@ -1,5 +1,6 @@
 -- A walk whose two ends move apart.
-use Rattle.std.proofs.Common.{refl, ◌≡◌, ◌⊎◌, ℕ, zero, suc, ◌+◌, ◌-◌, ◌/◌, ◌^◌, ◌<◌, ◌≤◌, ℤ, pos, ◌+ℤ◌, ◌-ℤ◌, ◌*ℤ◌, List, [], ◌∷◌, ◌++◌, length, get_or, append_assoc, true, unsigned_abs, sym, arith, inl, inr, ap, ◌∙◌, subst}
+use Rattle.std.proofs.Common.{refl, ◌≡◌, ◌⊎◌, ℕ, zero, suc, ◌+◌, ◌-◌, ◌/◌, ◌^◌, ◌<◌, ◌≤◌, ℤ, pos, ◌+ℤ◌, ◌-ℤ◌, ◌*ℤ◌, List, []}
+use Rattle.std.proofs.Common.{◌∷◌, ◌++◌, length, get_or, append_assoc, true, unsigned_abs, sym, arith, inl, inr, ap, ◌∙◌, subst}
 use Rattle.std.specs.Prelude.{◌==◌}
 use Rattle.std.specs.Int.{bit_at}
 use Rattle.std.specs.Int.Signed.{lt_z, ◌<ℤ◌, ◌≤ℤ◌}
@@ -68,7 +69,8 @@ module _ (t : ℤ) (d : ℕ) (c : ℤ) where
       let s = times_sum d (c -ℤ pos 1) (c -ℤ pos 1) in
       far t d x y some (omega (arith, ints)) (omega (arith, ints))
 
-  falls_all : (x : ℤ) (ys : List ℤ) → 0 < d → (pos d *ℤ (c -ℤ pos 1)) <ℤ t → over (x +ℤ pos 1) ys ≡ true → under (c +ℤ pos 1) ys ≡ true → Under (gap t d) (gap t d x) ys
+  falls_all : (x : ℤ) (ys : List ℤ) → 0 < d → (pos d *ℤ (c -ℤ pos 1)) <ℤ t
+      → over (x +ℤ pos 1) ys ≡ true → under (c +ℤ pos 1) ys ≡ true → Under (gap t d) (gap t d x) ys
   falls_all x [] some middle p q = tt
   falls_all x (y ∷ ys) some middle p q =
       let a = and_parts (lt_z (x +ℤ pos 1) y) (over (x +ℤ pos 1) ys) p in
@@ -162,9 +164,11 @@ starts t d size mask at low is some within diagonal below under_it over_it same 
 
 -- a level that costs less than those before it, and at most what those behind it do, is the first
 module _ (cost : ℤ → ℕ) where
-  pulled : (bs : List ℤ) (x : ℤ) (ups : List ℤ) → From cost (suc (cost x)) bs → From cost (cost x) ups → nearest_first cost (bs ++ x ∷ ups) ≡ x ∷ nearest_first cost (bs ++ ups)
+  pulled : (bs : List ℤ) (x : ℤ) (ups : List ℤ) → From cost (suc (cost x)) bs
+      → From cost (cost x) ups → nearest_first cost (bs ++ x ∷ ups) ≡ x ∷ nearest_first cost (bs ++ ups)
   pulled [] x ups p q = put_first cost x (nearest_first cost ups) (from-nearest_first cost (cost x) ups q)
-  pulled (b ∷ bs) x ups p q = ap (λ (ys : List ℤ). put cost b ys) (pulled bs x ups p.1 q) ∙ put_behind cost b x (nearest_first cost (bs ++ ups)) (omega (arith, p.0))
+  pulled (b ∷ bs) x ups p q =
+      ap (λ (ys : List ℤ). put cost b ys) (pulled bs x ups p.1 q) ∙ put_behind cost b x (nearest_first cost (bs ++ ups)) (omega (arith, p.0))
 
   under_last : (n : ℕ) (bs : List ℤ) (x : ℤ) → Under cost n (bs ++ x ∷ []) → (cost x < n) × Under cost n bs
   under_last n [] x h = (h.0, tt)
@@ -183,7 +187,8 @@ module _ (cost : ℤ → ℕ) where
   from-both n (b ∷ bs) ups p q = (p.0, from-both n bs ups p.1 q)
 
 abbrev Gives : ℤ → ℕ → ℕ → ℕ → ℕ → ℤ → ℕ → ℕ → Type 0
-Gives t d size below above x low high = IsZigzag t d size low high × (nearest_first (gap t d) (both size below above) ≡ x ∷ nearest_first (gap t d) (both size low high))
+Gives t d size below above x low high =
+    IsZigzag t d size low high × (nearest_first (gap t d) (both size below above) ≡ x ∷ nearest_first (gap t d) (both size low high))
 
 module _ (t : ℤ) (d size below above : ℕ) (z : IsZigzag t d size below above) where
   abbrev cost : ℤ → ℕ
@@ -194,7 +199,8 @@ module _ (t : ℤ) (d size below above : ℕ) (z : IsZigzag t d size below above
     | inl some ↦
         let e = ends size above z.sizes some z.above_within in
         let r : Ascending (gap t d) (level size (bottom above) ∷ levels_in size (above - 2 ^ bottom above)) = subst (Ascending (gap t d)) e.first z.rises in
-        subst (From (gap t d) n) (sym e.first) (h some, from-weaker (gap t d) n (gap t d (level size (bottom above))) (levels_in size (above - 2 ^ bottom above)) (h some) r.0)
+        subst (From (gap t d) n) (sym e.first)
+        (h some, from-weaker (gap t d) n (gap t d (level size (bottom above))) (levels_in size (above - 2 ^ bottom above)) (h some) r.0)
     | inr none ↦ let e : above ≡ 0 = omega arith in subst (λ (m : ℕ). From (gap t d) n (levels_in size m)) (sym e) (rw (nothing size z.sizes) tt)
   ]
 
@@ -284,12 +290,14 @@ pub less_place : (mask at place left : ℕ) → left ≡ mask - 2 ^ at → at �
 less_place mask at place left e f = e ∙ ap (λ (n : ℕ). mask - 2 ^ n) f
 
 -- the same where a call was passed the target
-pub passed_lower : (t u : ℤ) (d size below above : ℕ) → u ≡ t → IsZigzag t d size below above → 0 < below → (0 < above → gap u d (level size (top below)) ≤ gap u d (level size (bottom above)))
+pub passed_lower : (t u : ℤ) (d size below above : ℕ) → u ≡ t → IsZigzag t d size below above
+    → 0 < below → (0 < above → gap u d (level size (top below)) ≤ gap u d (level size (bottom above)))
     → Gives t d size below above (level size (top below)) (below - 2 ^ top below) above
 passed_lower t u d size below above e z some h =
     gives_lower t d size below above z some (subst (λ (v : ℤ). 0 < above → gap v d (level size (top below)) ≤ gap v d (level size (bottom above))) e h)
 
-pub passed_higher : (t u : ℤ) (d size below above : ℕ) → u ≡ t → IsZigzag t d size below above → 0 < above → (0 < below → gap u d (level size (bottom above)) < gap u d (level size (top below)))
+pub passed_higher : (t u : ℤ) (d size below above : ℕ) → u ≡ t → IsZigzag t d size below above
+    → 0 < above → (0 < below → gap u d (level size (bottom above)) < gap u d (level size (top below)))
     → Gives t d size below above (level size (bottom above)) below (above - 2 ^ bottom above)
 passed_higher t u d size below above e z some h =
     gives_higher t d size below above z some (subst (λ (v : ℤ). 0 < below → gap v d (level size (bottom above)) < gap v d (level size (top below))) e h)
@@ -328,4 +336,5 @@ nearest_of l t u d size mask at ladder e f same diagonal below under_it over_it 
     let within : mask < 2 ^ size = subst (λ (n : ℕ). mask < 2 ^ n) (sym e) (subst (λ (m : ℕ). m < 2 ^ l.size) (sym f) ladder.within) in
     subst (λ (v : ℤ). level size at ≡ get_or (nearest_first (gap v d) (levels_in size mask)) 0 (pos 0)) same
     (nearest_at u d size mask at is (subst (λ (m : ℕ). 0 < m) (sym f) ladder.some) within diagonal below under_it over_it set)
-    ∙ ap (λ (n : ℕ). get_or (nearest_first (gap t d) (levels_in n mask)) 0 (pos 0)) e ∙ ap (λ (m : ℕ). get_or (nearest_first (gap t d) (levels_in l.size m)) 0 (pos 0)) f
+    ∙ ap (λ (n : ℕ). get_or (nearest_first (gap t d) (levels_in n mask)) 0 (pos 0)) e
+    ∙ ap (λ (m : ℕ). get_or (nearest_first (gap t d) (levels_in l.size m)) 0 (pos 0)) f

@@ -1,5 +1,6 @@
 -- What masks allow, mask by mask.
-use Rattle.std.proofs.Common.{◌∙◌, ◌≡◌, ◌⊎◌, ℕ, zero, suc, ◌+◌, ◌-◌, ◌*◌, ◌^◌, ◌<◌, ◌≤◌, ℤ, pos, ◌+ℤ◌, List, [], ◌∷◌, ◌++◌, length, Bool, true, ◌&&◌, refl, sym, arith, inl, inr, subst}
+use Rattle.std.proofs.Common.{◌∙◌, ◌≡◌, ◌⊎◌, ℕ, zero, suc, ◌+◌, ◌-◌, ◌*◌, ◌^◌, ◌<◌, ◌≤◌, ℤ, pos, ◌+ℤ◌, List}
+use Rattle.std.proofs.Common.{[], ◌∷◌, ◌++◌, length, Bool, true, ◌&&◌, refl, sym, arith, inl, inr, subst}
 use Rattle.std.specs.Prelude.{nat_lt, ◌==◌, if◌then◌else◌}
 use Rattle.std.specs.Int.{bit_at}
 use Rattle.std.specs.Int.Bits.{bit_and}
@@ -98,12 +99,16 @@ IsSize size = (size ≡ 1) ⊎ (size ≡ 2) ⊎ (size ≡ 4) ⊎ (size ≡ 8)
 of_size : (P : ℕ → ℕ → Bool) → all_below (P 1) 1 ≡ true → all_below (P 2) 3 ≡ true → all_below (P 4) 15 ≡ true → all_below (P 8) 255 ≡ true
     → (size mask : ℕ) → IsSize size → 0 < mask → mask < 2 ^ size → P size (mask - 1) ≡ true
 of_size P p1 p2 p4 p8 size mask is some within = elim is [
-  | inl e ↦ let w : mask < 2 ^ 1 = subst (λ (n : ℕ). mask < 2 ^ n) e within in subst (λ (n : ℕ). P n (mask - 1) ≡ true) (sym e) (at_below (P 1) 1 (mask - 1) p1 (omega arith))
+  | inl e ↦ let w : mask < 2 ^ 1 = subst (λ (n : ℕ). mask < 2 ^ n) e within in
+      subst (λ (n : ℕ). P n (mask - 1) ≡ true) (sym e) (at_below (P 1) 1 (mask - 1) p1 (omega arith))
   | inr rest ↦ elim rest [
-    | inl e ↦ let w : mask < 2 ^ 2 = subst (λ (n : ℕ). mask < 2 ^ n) e within in subst (λ (n : ℕ). P n (mask - 1) ≡ true) (sym e) (at_below (P 2) 3 (mask - 1) p2 (omega arith))
+    | inl e ↦ let w : mask < 2 ^ 2 = subst (λ (n : ℕ). mask < 2 ^ n) e within in
+        subst (λ (n : ℕ). P n (mask - 1) ≡ true) (sym e) (at_below (P 2) 3 (mask - 1) p2 (omega arith))
     | inr more ↦ elim more [
-      | inl e ↦ let w : mask < 2 ^ 4 = subst (λ (n : ℕ). mask < 2 ^ n) e within in subst (λ (n : ℕ). P n (mask - 1) ≡ true) (sym e) (at_below (P 4) 15 (mask - 1) p4 (omega arith))
-      | inr e ↦ let w : mask < 2 ^ 8 = subst (λ (n : ℕ). mask < 2 ^ n) e within in subst (λ (n : ℕ). P n (mask - 1) ≡ true) (sym e) (at_below (P 8) 255 (mask - 1) p8 (omega arith))
+      | inl e ↦ let w : mask < 2 ^ 4 = subst (λ (n : ℕ). mask < 2 ^ n) e within in
+          subst (λ (n : ℕ). P n (mask - 1) ≡ true) (sym e) (at_below (P 4) 15 (mask - 1) p4 (omega arith))
+      | inr e ↦ let w : mask < 2 ^ 8 = subst (λ (n : ℕ). mask < 2 ^ n) e within in
+          subst (λ (n : ℕ). P n (mask - 1) ≡ true) (sym e) (at_below (P 8) 255 (mask - 1) p8 (omega arith))
     ]
   ]
 ]

@@ -20,6 +20,12 @@ grown n axes a below padded grid good =
     let four : length axes ≡ 4 = padded.places in
     let count : length (take n axes) ≡ n = omega (arith, length-take n axes) in
     let more : length (take n axes ++ a ∷ []) ≡ n + 1 = length-append (take n axes) (a ∷ []) ∙ ap (λ (m : ℕ). m + 1) count in (
-      record { within = omega arith; places = length-set axes n a ∙ four; unused = drop-set-lt (n + 1) axes n a (omega arith) ∙ unused_less 4 n axes no_axes padded.unused },
-      rw (take_more_set axes n a (omega arith)) (record { some = omega (arith, more); few = omega (arith, more); ladders = All-push AreLadders (take n axes) a grid.ladders good }),
+      record {
+        within = omega arith;
+        places = length-set axes n a ∙ four;
+        unused =
+            drop-set-lt (n + 1) axes n a (omega arith) ∙ unused_less 4 n axes no_axes padded.unused;
+      },
+      rw (take_more_set axes n a (omega arith))
+          (record { some = omega (arith, more); few = omega (arith, more); ladders = All-push AreLadders (take n axes) a grid.ladders good }),
     )

@@ -1,5 +1,6 @@
 -- One level after another.
-use Rattle.std.proofs.Common.{◌≡◌, ℕ, zero, suc, ◌+◌, ◌<◌, ℤ, List, [], ◌∷◌, ◌++◌, Bool, true, false, ◌&&◌, ◌||◌, arith, add-one, add-zero, ◌-◌, subst, ◌∙◌, ap, sym}
+use Rattle.std.proofs.Common.{◌≡◌, ℕ, zero, suc, ◌+◌, ◌<◌, ℤ, List, [], ◌∷◌, ◌++◌, Bool, true}
+use Rattle.std.proofs.Common.{false, ◌&&◌, ◌||◌, arith, add-one, add-zero, ◌-◌, subst, ◌∙◌, ap, sym}
 use Rattle.std.specs.Prelude.{◌==◌, if◌then◌else◌}
 use Rattle.std.specs.Int.{bit_at}
 use Rattle.std.specs.Ordering.{int_eq}
@@ -49,7 +50,8 @@ none_more size mask now y j found view is missed before =
     (λ h. lowest_more (record { size = size; mask = mask }) y j ∙ or_from _ _ h (sym is ∙ missed)) before
 
 -- none of all levels is
-pub has_none : (size mask : ℕ) (now : Rungs) (x y : ℤ) (j : ℕ) → record { size = size; mask = mask } ≡ now → y ≡ x → j ≡ size → among y (lowest now j) ≡ false → has now x ≡ false
+pub has_none : (size mask : ℕ) (now : Rungs) (x y : ℤ) (j : ℕ) → record { size = size; mask = mask } ≡ now
+    → y ≡ x → j ≡ size → among y (lowest now j) ≡ false → has now x ≡ false
 has_none size mask now x y j view same e h =
     let all : j ≡ now.size = e ∙ ap (λ (r : Rungs). r.size) view in
     subst (λ (z : ℤ). has now z ≡ false) same (subst (λ (n : ℕ). among y (lowest now n) ≡ false) all h)

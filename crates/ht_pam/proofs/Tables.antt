@@ -1,11 +1,13 @@
 -- All ladders, one by one.
-use Rattle.std.proofs.Common.{◌≡◌, ℕ, zero, suc, ◌^◌, ◌<◌, ◌≤◌, ℤ, pos, negsuc, List, [], ◌∷◌, length, Bool, true, false, ◌&&◌, refl, sym, arith, ◌++◌, ◌-◌, length-append, inl, inr, ap, ◌∙◌, subst}
+use Rattle.std.proofs.Common.{◌≡◌, ℕ, zero, suc, ◌^◌, ◌<◌, ◌≤◌, ℤ, pos, negsuc, unsigned_abs, Bool, true, false, ◌&&◌}
+use Rattle.std.proofs.Common.{List, [], ◌∷◌, ◌++◌, ◌-◌, length, length-append, refl, sym, ap, ◌∙◌, subst, arith, inl, inr}
 use Rattle.std.specs.Prelude.{nat_lt, ◌==◌, if◌then◌else◌}
 use Rattle.std.specs.Int.{bit_at}
-use Rattle.std.specs.List.{filter}
+use Rattle.std.specs.List.{All, filter}
 use Rattle.std.specs.Cmp.Rules.{signed_items}
 use Rattle.std.specs.Ordering.{int_eq}
 use Rattle.std.proofs.lemmas.Bool.{and_parts, cases_lt, ltb-true}
+use Rattle.std.proofs.lemmas.List.Elements.{All-filter, All-from_recursion}
 use lib.Pointwise.{pointwise}
 use Rattle.ht_pam.specs.Ladders.{Rungs, IsLadder, level, lowest, levels, has}
 
@@ -109,3 +111,12 @@ levels_few l ladder =
         ]
       ]
     ]
+
+-- every level of a ladder is from -7 to 7
+every_small : All (λ x. unsigned_abs x ≤ 7) every
+every_small =
+    All-from_recursion (λ x. unsigned_abs x ≤ 7) every
+    (omega arith, (omega arith, (omega arith, (omega arith, (omega arith, (omega arith, (omega arith, (omega arith, (omega arith, tt)))))))))
+
+pub levels_small : (l : Rungs) → IsLadder l → All (λ x. unsigned_abs x ≤ 7) (levels l)
+levels_small l ladder = rw (levels-filter l ladder) (All-filter (has l) (λ x. unsigned_abs x ≤ 7) every every_small)

@@ -40,7 +40,8 @@ lowest_of_eight : level 8 0 ≡ negsuc 6
 lowest_of_eight = refl
 
 -- 64-QAM with d = 10: target 24 is nearest to 30, then 10; at target 0 the lower of two comes first
-near_three : nearest_first (gap (pos 24) 10) (levels (record { size = 8; mask = 255 })) ≡ pos 3 ∷ pos 1 ∷ pos 5 ∷ negsuc 0 ∷ pos 7 ∷ negsuc 2 ∷ negsuc 4 ∷ negsuc 6 ∷ []
+near_three : nearest_first (gap (pos 24) 10) (levels (record { size = 8; mask = 255 }))
+    ≡ pos 3 ∷ pos 1 ∷ pos 5 ∷ negsuc 0 ∷ pos 7 ∷ negsuc 2 ∷ negsuc 4 ∷ negsuc 6 ∷ []
 near_three = refl
 
 lower_first : nearest_first (gap (pos 0) 10) (levels (record { size = 4; mask = 15 })) ≡ negsuc 0 ∷ pos 1 ∷ negsuc 2 ∷ pos 3 ∷ []

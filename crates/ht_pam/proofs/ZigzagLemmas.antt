@@ -1,22 +1,16 @@
 -- Levels, nearest first.
-use Rattle.std.proofs.Common.{◌≡◌, ℕ, zero, suc, ◌+◌, ◌<◌, ◌≤◌, ℤ, pos, List, [], ◌∷◌, ◌++◌, length, get_or, take, drop, Bool, true, false, unsigned_abs, arith, add-one, ap, sym, ◌∙◌, refl, subst, inl, inr}
+use Rattle.std.proofs.Common.{◌≡◌, ℕ, zero, suc, ◌+◌, ◌<◌, ◌≤◌, ℤ, pos, List, [], ◌∷◌, ◌++◌, length, get_or, take, drop}
+use Rattle.std.proofs.Common.{Bool, true, false, unsigned_abs, arith, add-one, ap, sym, ◌∙◌, refl, subst, inl, inr}
 use Rattle.std.specs.Prelude.{nat_lt, ◌==◌, if◌then◌else◌}
 use Rattle.std.specs.Int.{bit_at}
 use Rattle.std.specs.Ordering.{int_eq}
 use Rattle.std.specs.List.{All, remove}
 use Rattle.std.proofs.lemmas.Bool.{cond-true, cond-false, cases_lt}
 use Rattle.std.proofs.lemmas.Bool.Decides.{nat_tests}
-use Rattle.std.proofs.lemmas.List.Elements.{All-filter, All-from_recursion, All-append, All-take, All-drop}
-use Rattle.ht_pam.specs.Ladders.{Rungs, IsLadder, level, lowest, levels, has}
+use Rattle.std.proofs.lemmas.List.Elements.{All-append, All-take, All-drop}
+use Rattle.ht_pam.specs.Ladders.{Rungs, IsLadder, level, lowest}
 use Rattle.ht_pam.specs.Zigzags.{gap, put, nearest_first, From, Ascending, times}
-use Rattle.ht_pam.proofs.Tables.{every, levels-filter, length-lowest}
-
--- every level of a ladder is from -7 to 7
-every_small : All (λ x. unsigned_abs x ≤ 7) every
-every_small = All-from_recursion (λ x. unsigned_abs x ≤ 7) every (omega arith, (omega arith, (omega arith, (omega arith, (omega arith, (omega arith, (omega arith, (omega arith, (omega arith, tt)))))))))
-
-pub levels_small : (l : Rungs) → IsLadder l → All (λ x. unsigned_abs x ≤ 7) (levels l)
-levels_small l ladder = rw (levels-filter l ladder) (All-filter (has l) (λ x. unsigned_abs x ≤ 7) every every_small)
+use Rattle.ht_pam.proofs.Tables.{length-lowest}
 
 -- one more level of a ladder
 lowest_step : (l : Rungs) (j : ℕ) → lowest l (j + 1) ≡ (if bit_at l.mask j == 1 then lowest l j ++ level l.size j ∷ [] else lowest l j)
@@ -27,14 +21,16 @@ pub lowest_taken : (size mask : ℕ) (now : Rungs) (j : ℕ) (items next : List 
 lowest_taken size mask now j items next y allowed view before is allows more same =
     subst (λ (r : Rungs). items ≡ lowest r j → next ≡ lowest r (j + 1)) view
     (λ e. more ∙ ap (λ (x : ℤ). items ++ x ∷ []) same ∙ ap (λ (xs : List ℤ). xs ++ level size j ∷ []) e
-    ∙ sym (cond-true (bit_at mask j == 1) (lowest (record { size = size; mask = mask }) j ++ level size j ∷ []) (lowest (record { size = size; mask = mask }) j) (sym is ∙ allows)) ∙ sym (lowest_step (record { size = size; mask = mask }) j))
+    ∙ sym (cond-true (bit_at mask j == 1) (lowest (record { size = size; mask = mask }) j ++ level size j ∷ [])
+    (lowest (record { size = size; mask = mask }) j) (sym is ∙ allows)) ∙ sym (lowest_step (record { size = size; mask = mask }) j))
     before
 
 pub lowest_left : (size mask : ℕ) (now : Rungs) (j : ℕ) (items : List ℤ) (allowed : Bool) → record { size = size; mask = mask } ≡ now
     → items ≡ lowest now j → allowed ≡ (bit_at mask j == 1) → allowed ≡ false → items ≡ lowest now (j + 1)
 lowest_left size mask now j items allowed view before is denies =
     subst (λ (r : Rungs). items ≡ lowest r j → items ≡ lowest r (j + 1)) view
-    (λ e. e ∙ sym (cond-false (bit_at mask j == 1) (lowest (record { size = size; mask = mask }) j ++ level size j ∷ []) (lowest (record { size = size; mask = mask }) j) (sym is ∙ denies)) ∙ sym (lowest_step (record { size = size; mask = mask }) j))
+    (λ e. e ∙ sym (cond-false (bit_at mask j == 1) (lowest (record { size = size; mask = mask }) j ++ level size j ∷ [])
+    (lowest (record { size = size; mask = mask }) j) (sym is ∙ denies)) ∙ sym (lowest_step (record { size = size; mask = mask }) j))
     before
 
 size_few : (l : Rungs) → IsLadder l → l.size ≤ 8
@@ -49,7 +45,8 @@ size_few l ladder = elim ladder.size [
   ]
 ]
 
-pub lowest_room : (size mask : ℕ) (now : Rungs) (j : ℕ) (items : List ℤ) → IsLadder (record { size = size; mask = mask }) → j < size → items ≡ lowest now j → length items < 8
+pub lowest_room : (size mask : ℕ) (now : Rungs) (j : ℕ) (items : List ℤ)
+    → IsLadder (record { size = size; mask = mask }) → j < size → items ≡ lowest now j → length items < 8
 lowest_room size mask now j items ladder below e =
     let few = size_few (record { size = size; mask = mask }) ladder in
     omega (arith, length-lowest now j, ap length e)
@@ -120,7 +117,8 @@ none_first cost (x ∷ xs) e = absurd (omega arith)
 
 -- all but one stay small
 pub remove_small : (xs : List ℤ) (i : ℕ) → All (λ x. unsigned_abs x ≤ 7) xs → All (λ x. unsigned_abs x ≤ 7) (remove xs i)
-remove_small xs i h = All-append (λ x. unsigned_abs x ≤ 7) (take i xs) (drop (suc i) xs) (All-take (λ x. unsigned_abs x ≤ 7) i xs h) (All-drop (λ x. unsigned_abs x ≤ 7) (suc i) xs h)
+remove_small xs i h = All-append (λ x. unsigned_abs x ≤ 7) (take i xs) (drop (suc i) xs)
+    (All-take (λ x. unsigned_abs x ≤ 7) i xs h) (All-drop (λ x. unsigned_abs x ≤ 7) (suc i) xs h)
 
 -- the best of the first places
 pub record IsBestOf (cost : ℕ → ℕ) (k best far : ℕ) : Type 0 where

@@ -8,7 +8,7 @@ use crate::ladder::Ladder;
 use std::marker::Model;
 
 /// The points that each of one to four spatial streams may have.
-#[derive(Clone, Copy, Debug)]
+#[derive(Clone, Copy, Debug, PartialEq, Eq)]
 pub struct Grid {
     streams: u8,
     axes: [Axes; 4],
@@ -42,7 +42,7 @@ impl Grid {
         Grid { streams: 1, axes }
     }
 
-    /// The grid with one more stream behind the others.
+    /// The grid with one more stream behind the others, of which there are at most three.
     pub fn and(self, i: Ladder, q: Ladder) -> Grid
         requires { length self < 4 }
         ensures { result ≡ self ++ record { i = i; q = q } ∷ [] }
@@ -61,11 +61,11 @@ impl Grid {
         self.streams
     }
 
-    /// Whether both grids have the same points on each stream.
+    /// Whether both grids have the same points on each stream. This is `==`, with what it says as a clause.
     pub fn same(&self, other: &Grid) -> bool
         ensures { IsTrue result ↔ (self.now ≡ other.now) }
     {
-        self.streams == other.streams && self.axes == other.axes
+        self == other
     }
 
     /// The ladder of I on a stream, the first one being stream 1.
@@ -110,6 +110,7 @@ mod tests {
         assert_eq!(rt; grid.streams(), 2);
         assert_eq!(rt; grid.i_ladder(1), ends);
         assert_eq!(rt; grid.q_ladder(1), zero);
+        assert_eq!(rt; grid, Grid::one(ends, zero).and(zero, ends));
         assert!(rt; grid.same(&Grid::one(ends, zero).and(zero, ends)));
         assert!(rt; !grid.same(&Grid::one(ends, zero).and(ends, zero)));
     }

@@ -1,5 +1,5 @@
 //! The levels of one coordinate.
-ghost use Rattle.std.specs.Prelude.{◌≡◌, ◌⊎◌, ◌<◌, ◌≤◌, ◌^◌, ◌==◌, ◌&&◌};
+ghost use Rattle.std.specs.Prelude.{◌≡◌, ◌⊎◌, ◌<◌, ◌≤◌, ◌^◌, ◌==◌, ◌&&◌, unsigned_abs};
 ghost use Rattle.ht_pam.specs.Ladders.{IsLadder, level as level_of, has};
 ghost use Rattle.std.specs.Int.{bit_at};
 ghost use Rattle.std.specs.Ordering.{int_eq};
@@ -28,7 +28,8 @@ impl Model for Ladder {
 }
 
 impl Ladder {
-    /// The ladder of `size` levels that allows level `2 * j - (size - 1)` where bit j of `mask` is set.
+    /// The ladder of `size` levels, 1, 2, 4 or 8, that allows level `2 * j - (size - 1)` where bit j of `mask` is set.
+    /// At least one of the lowest `size` bits is set, and no other bit.
     pub fn of(size: u8, mask: u8) -> Ladder
         requires size { (size ≡ 1) ⊎ (size ≡ 2) ⊎ (size ≡ 4) ⊎ (size ≡ 8) }
         requires some { 0 < mask }
@@ -38,13 +39,14 @@ impl Ladder {
         Ladder { size, mask }
     }
 
-    /// Whether the level is an allowed one.
+    /// Whether the ladder allows the level.
     pub fn has(&self, level: i8) -> bool
         ensures has { result ≡ has self.now level }
         ensures ladder { IsLadder self.now }
     {
-        for j in 0..self.size {
-            if is_at(self.size, self.mask, j, level) {
+        let (size, mask) = self.parts();
+        for j in 0..size {
+            if is_at(size, mask, j, level) {
                 return true;
             }
         }
@@ -62,7 +64,7 @@ impl Ladder {
 }
 
 // Whether level j is allowed and is the one that is asked for.
-fn is_at(size: u8, mask: u8, j: u8, level: i8) -> bool
+fn is_at(size: u32, mask: u32, j: u32, level: i8) -> bool
     requires size { size ≤ 8 }
     requires within { j < size }
     ensures { result ≡ (bit_at mask j == 1 && int_eq (level_of size j) level) }
@@ -70,11 +72,12 @@ fn is_at(size: u8, mask: u8, j: u8, level: i8) -> bool
     (mask >> j) & 1 == 1 && level_at(size, j) == level
 }
 
-// Level j of a ladder of so many levels.
-fn level_at(size: u8, j: u8) -> i8
+// Level j of a ladder of `size` levels.
+pub(crate) fn level_at(size: u32, j: u32) -> i8
     requires size { size ≤ 8 }
     requires within { j < size }
-    ensures { result ≡ level_of size j }
+    ensures value { result ≡ level_of size j }
+    ensures bound { unsigned_abs result ≤ 7 }
 {
-    2 * j as i8 - (size as i8 - 1)
+    (2 * j as i32 - (size as i32 - 1)) as i8
 }

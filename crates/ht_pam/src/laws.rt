@@ -2,12 +2,12 @@
 ghost use Rattle.std.specs.Prelude.{◌≡◌, ℕ, ℤ, List};
 ghost use Rattle.ht_pam.specs.Zigzags.{Ascending, nearest_first, times};
 
-/// Nearest first, no level is farther than a later one.
+/// Where levels are sorted nearest first, none is farther than a later one.
 pub fn ascends()
     ensures { (cost : ℤ → ℕ) (xs : List ℤ) → Ascending cost (nearest_first cost xs) }
 {}
 
-/// Nearest first, there are the same levels, each as often.
+/// Sorting the levels nearest first keeps each of them, as often as it was there.
 pub fn keeps()
     ensures { (cost : ℤ → ℕ) (xs : List ℤ) (x : ℤ) → times x (nearest_first cost xs) ≡ times x xs }
 {}

@@ -10,8 +10,8 @@
 //! one spatial stream, and a [`Grid`] has those of one to four streams. A pilot has a grid of one point on
 //! each stream: `of(2, 1)` for I allows -1 alone.
 //!
-//! A detector tries the levels of a coordinate nearest first. A [`Zigzag`] gives them so, and counts its
-//! [`Steps`]: for target 0 and d = 10 in 16-QAM -1, 1, -3 and 3.
+//! A detector tries the levels of a coordinate nearest first. A [`Zigzag`] gives them in that order, and counts its
+//! [`Steps`]: for target 0 and d = 10 in 16-QAM these are -1, 1, -3 and 3.
 #![tactic(auto)]
 
 mod axes;

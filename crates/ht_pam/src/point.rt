@@ -3,7 +3,8 @@
 /// A point of a constellation on the whole-number grid: I is the real part and Q the imaginary one.
 ///
 /// The points of 64-QAM have both parts among -7, -5, -3, -1, 1, 3, 5 and 7. In BPSK Q is 0.
-#[derive(Clone, Copy, Debug, Default, PartialEq, Eq, Drop)]
+/// Points are ordered by I, and those of the same I by Q.
+#[derive(Clone, Copy, Debug, Default, PartialEq, Eq, PartialOrd, Ord, Drop)]
 pub struct Point {
     pub i: i8,
     pub q: i8,

@@ -22,7 +22,7 @@ impl<L: Ledger> Model for Steps<L> {
 }
 
 impl<L: Ledger> Steps<L> {
-    /// A counter at 0. Its blank has the ledger's name and parts, of which there is at least one.
+    /// A counter at 0. The blank has the ledger's name and its number of parts, which is at least 1.
     pub fn new(blank: Blank) -> Steps<L>
         requires name { blank.name ≡ L.name }
         requires parts { blank.parts ≡ L.parts }

@@ -1,19 +1,21 @@
 //! The levels of a coordinate, nearest first.
-ghost use Rattle.std.specs.Prelude.{◌≡◌, ◌⊎◌, ◌+◌, ◌-◌, ◌+ℤ◌, ◌-ℤ◌, ◌*ℤ◌, ◌<ℤ◌, ◌≤ℤ◌, pos, ◌<◌, ◌≤◌, ◌^◌, ◌*◌, [], ◌∷◌, length, slice_index_or, unsigned_abs, IfSome, true, false, ◌==◌};
+ghost use Rattle.std.specs.Prelude.{◌≡◌, ◌⊎◌, ◌+◌, ◌-◌, ◌*◌, ◌^◌, ◌<◌, ◌≤◌, ◌==◌, true, false, [], ◌∷◌, length, slice_index_or, IfSome};
+ghost use Rattle.std.specs.Prelude.{◌+ℤ◌, ◌-ℤ◌, ◌*ℤ◌, ◌<ℤ◌, ◌≤ℤ◌, pos, unsigned_abs};
 ghost use Rattle.std.specs.Option.{MatchOption};
 ghost use Rattle.std.specs.Int.{bit_at};
 ghost use Rattle.ht_pam.specs.Ladders.{level, levels};
 ghost use Rattle.ht_pam.specs.Zigzags.{gap as gap_of, nearest_first};
 ghost use Rattle.ht_pam.specs.Ends.{levels_in, both, top, bottom, IsZigzag};
 
-use crate::ladder::Ladder;
+use crate::ladder::{Ladder, level_at};
 use crate::steps::Steps;
 use std::marker::Model;
 use std::sync::ledger::Ledger;
 
 /// The allowed levels of a ladder that are still to be given, the nearest to a target first.
 ///
-/// A level is as near as `target - d * level` is small, and of two that are as near the lower one comes first.
+/// A level is the nearer the smaller the size of `target - d * level` is; of two that are equally near the lower one
+/// comes first.
 #[derive(Drop)]
 pub struct Zigzag {
     target: i64,
@@ -57,7 +59,7 @@ impl Zigzag {
         }
     }
 
-    /// The nearest level that was not given yet, and None where all were. It takes one step.
+    /// The nearest level that was not given yet, or `None` where all were. Each call is one step.
     pub fn next<L: Ledger>(&mut self, steps: &mut Steps<L>) -> Option<i8>
         ensures next { MatchOption result ((self.old ≡ []) × (self.new ≡ [])) (λ x. self.old ≡ x ∷ self.new) }
         ensures level { IfSome result (λ x. unsigned_abs x ≤ 7) }
@@ -78,7 +80,7 @@ impl Zigzag {
         }
     }
 
-    /// The level that `next` will give. It takes no step.
+    /// The level that `next` will give, where one is left. It takes no step.
     pub fn first(&self) -> i8
         requires { 0 < length self.now }
         ensures value { result ≡ slice_index_or self.now 0 (pos 0) }
@@ -93,7 +95,8 @@ impl Zigzag {
 }
 
 impl Ladder {
-    /// The allowed level that a walk gives first: the nearest to the target, and the lower one of two that are as near.
+    /// The allowed level that a walk gives first: the nearest to the target, and the lower one of two that are equally
+    /// near. It takes no step.
     ///
     /// The target is within plus or minus 2^33, and `d`, a diagonal of a triangular channel, at most 65535.
     pub fn nearest(self, target: i64, d: u32) -> i8
@@ -262,16 +265,6 @@ fn without(mask: u32, at: u32) -> u32
     ensures { result ≡ mask - 2 ^ at }
 {
     mask - (1 << at)
-}
-
-// Level j of a ladder of so many levels.
-fn level_at(size: u32, j: u32) -> i8
-    requires size { size ≤ 8 }
-    requires within { j < size }
-    ensures value { result ≡ level size j }
-    ensures bound { unsigned_abs result ≤ 7 }
-{
-    (2 * j as i32 - (size as i32 - 1)) as i8
 }
 
 #[cfg(test)]

@@ -1,6 +1,11 @@
 -- The best of what was found.
-use Rattle.std.proofs.Common.{◌*◌, length, drop, set, ◌≡◌, ◌⊎◌, ℕ, ◌+◌, ◌<◌, ◌≤◌, ℤ, List, [], ◌∷◌, ◌++◌, Bool, true, false, ◌&&◌, ◌||◌, not, nat_lt, refl, ap, sym, ◌∙◌, subst, arith, inl, inr, true≢false}
+use Rattle.std.proofs.Common.{◌*◌, length, drop, set, ◌≡◌, ◌⊎◌, ℕ, ◌+◌, ◌<◌, ◌≤◌, ℤ, List, [], ◌∷◌, ◌++◌, Bool, true}
+use Rattle.std.proofs.Common.{false, ◌&&◌, ◌||◌, not, nat_lt, refl, ap, sym, ◌∙◌, subst, arith, inl, inr, true≢false}
 use Rattle.std.specs.Prelude.{int_lt}
+use Rattle.std.specs.Prelude.{Some}
+use Rattle.std.specs.Ordering.{int_cmp, is_lt, is_some_and}
+use Rattle.std.specs.Cmp.Lexicographic.{slice_partial_cmp}
+use Rattle.std.proofs.lemmas.Cmp.{same_from_slice_cmp_tested}
 use Rattle.std.proofs.lemmas.Bool.Decides.{nat_tests}
 use Rattle.std.proofs.lemmas.Int.{ints}
 use Rattle.std.proofs.lemmas.List.{drop-set, drop-drop}
@@ -9,9 +14,10 @@ use Rattle.ht_pam.specs.Ladders.{levels, IsLadder}
 use Rattle.ht_pam.proofs.Tables.{levels_some}
 use Rattle.ht_pam.specs.Zigzags.{gap, From, Ascending}
 use Rattle.ht_pam.proofs.ZigzagLemmas.{ascending, length-nearest_first}
+use Rattle.ht_metric.specs.Vectors.{levels_before}
 use Rattle.ht_sphere.specs.Coordinates.{Real, cost, order, cost_at, order_at}
 use Rattle.ht_sphere.specs.Tree.{Found, one}
-use Rattle.ht_sphere.specs.Searching.{leaves, leaves_by, before, better, Among, IsBestOf}
+use Rattle.ht_sphere.specs.Searching.{leaves, leaves_by, better, Among, IsBestOf}
 
 -- a lexicographic test that fails
 parts : (p q r : Bool) → (p || (not q && r)) ≡ false → (p ≡ false) × (q ≡ false → r ≡ false)
@@ -30,20 +36,20 @@ int_lt-trans x y z p q = grind (arith, ints)
 int_lt-self : (x : ℤ) → int_lt x x ≡ false
 int_lt-self x = grind (arith, ints)
 
-before-self : (a : List ℤ) → before a a ≡ false
+before-self : (a : List ℤ) → levels_before a a ≡ false
 before-self [] = refl
 before-self (x ∷ xs) = fails _ _ _ (int_lt-self x) (λ _. before-self xs)
 
 -- what isn't before what isn't before isn't before
-before-not-trans : (a b c : List ℤ) → before a b ≡ false → before b c ≡ false → before a c ≡ false
+before-not-trans : (a b c : List ℤ) → levels_before a b ≡ false → levels_before b c ≡ false → levels_before a c ≡ false
 before-not-trans [] b [] p q = refl
 before-not-trans (x ∷ xs) b [] p q = refl
 before-not-trans a [] (z ∷ zs) p q = absurd (true≢false q)
 before-not-trans [] (y ∷ ys) (z ∷ zs) p q = absurd (true≢false p)
 before-not-trans (x ∷ xs) (y ∷ ys) (z ∷ zs) p q =
-    let p' = parts (int_lt x y) (int_lt y x) (before xs ys) p in
-    let q' = parts (int_lt y z) (int_lt z y) (before ys zs) q in
-    fails (int_lt x z) (int_lt z x) (before xs zs) (int_lt-trans x y z p'.0 q'.0)
+    let p' = parts (int_lt x y) (int_lt y x) (levels_before xs ys) p in
+    let q' = parts (int_lt y z) (int_lt z y) (levels_before ys zs) q in
+    fails (int_lt x z) (int_lt z x) (levels_before xs zs) (int_lt-trans x y z p'.0 q'.0)
     (λ r. before-not-trans xs ys zs (p'.1 (int_lt-trans y z x q'.0 r)) (q'.1 (int_lt-trans z x y r p'.0)))
 
 nat_lt-trans : (x y z : ℕ) → nat_lt x y ≡ false → nat_lt y z ≡ false → nat_lt x z ≡ false
@@ -57,9 +63,9 @@ better-self a = fails _ _ _ (nat_lt-self a.1) (λ _. before-self a.0)
 
 better-not-trans : (a b c : Found) → better a b ≡ false → better b c ≡ false → better a c ≡ false
 better-not-trans a b c p q =
-    let p' = parts (nat_lt a.1 b.1) (nat_lt b.1 a.1) (before a.0 b.0) p in
-    let q' = parts (nat_lt b.1 c.1) (nat_lt c.1 b.1) (before b.0 c.0) q in
-    fails (nat_lt a.1 c.1) (nat_lt c.1 a.1) (before a.0 c.0) (nat_lt-trans a.1 b.1 c.1 p'.0 q'.0)
+    let p' = parts (nat_lt a.1 b.1) (nat_lt b.1 a.1) (levels_before a.0 b.0) p in
+    let q' = parts (nat_lt b.1 c.1) (nat_lt c.1 b.1) (levels_before b.0 c.0) q in
+    fails (nat_lt a.1 c.1) (nat_lt c.1 a.1) (levels_before a.0 c.0) (nat_lt-trans a.1 b.1 c.1 p'.0 q'.0)
     (λ r. before-not-trans a.0 b.0 c.0 (p'.1 (nat_lt-trans b.1 c.1 a.1 q'.0 r)) (q'.1 (nat_lt-trans c.1 a.1 b.1 r p'.0)))
 
 -- a lexicographic test that holds fails the other way
@@ -78,19 +84,19 @@ nat_lt-asym x y p = grind (arith, nat_tests)
 nat_lt-is : (x y : ℕ) → x < y → nat_lt x y ≡ true
 nat_lt-is x y p = grind (arith, nat_tests)
 
-before-asym : (a b : List ℤ) → before a b ≡ true → before b a ≡ false
+before-asym : (a b : List ℤ) → levels_before a b ≡ true → levels_before b a ≡ false
 before-asym a [] p = absurd (true≢false (sym p))
 before-asym [] (b ∷ bs) p = refl
-before-asym (a ∷ xs) (b ∷ ys) p = flip (int_lt a b) (int_lt b a) (before xs ys) (before ys xs) (int_lt-asym a b) (before-asym xs ys) p
+before-asym (a ∷ xs) (b ∷ ys) p = flip (int_lt a b) (int_lt b a) (levels_before xs ys) (levels_before ys xs) (int_lt-asym a b) (before-asym xs ys) p
 
 -- what is better is not beaten
 better-asym : (a b : Found) → better a b ≡ true → better b a ≡ false
-better-asym a b p = flip (nat_lt a.1 b.1) (nat_lt b.1 a.1) (before a.0 b.0) (before b.0 a.0) (nat_lt-asym a.1 b.1) (before-asym a.0 b.0) p
+better-asym a b p = flip (nat_lt a.1 b.1) (nat_lt b.1 a.1) (levels_before a.0 b.0) (levels_before b.0 a.0) (nat_lt-asym a.1 b.1) (before-asym a.0 b.0) p
 
 pub farther : (a b : Found) → b.1 < a.1 → better a b ≡ false
 farther a b p =
     let q = nat_lt-is b.1 a.1 p in
-    fails (nat_lt a.1 b.1) (nat_lt b.1 a.1) (before a.0 b.0) (nat_lt-asym b.1 a.1 q) (λ r. absurd (true≢false (sym q ∙ r)))
+    fails (nat_lt a.1 b.1) (nat_lt b.1 a.1) (levels_before a.0 b.0) (nat_lt-asym b.1 a.1 q) (λ r. absurd (true≢false (sym q ∙ r)))
 
 pub among-append : (xs ys : List Found) (v : Found) → Among (xs ++ ys) v → Among xs v ⊎ Among ys v
 among-append [] ys v h = inr h
@@ -122,7 +128,8 @@ best-append a b c xs ys p q = record {
 
 -- each vector of a tree is at least as far as the tree's root
 module _ (under : List ℤ → ℕ → List Found) (choice : Real) (chosen : List ℤ) (partial : ℕ) where
-  by-le : ((s : List ℤ) (p : ℕ) (v : Found) → Among (under s p) v → p ≤ v.1) → (xs : List ℤ) (v : Found) → Among (leaves_by under choice chosen partial xs) v → partial ≤ v.1
+  by-le : ((s : List ℤ) (p : ℕ) (v : Found) → Among (under s p) v → p ≤ v.1)
+      → (xs : List ℤ) (v : Found) → Among (leaves_by under choice chosen partial xs) v → partial ≤ v.1
   by-le rest [] v h = absurd h
   by-le rest (x ∷ xs) v h = elim (among-append (under (x ∷ chosen) (partial + cost choice chosen x)) (leaves_by under choice chosen partial xs) v h) [
     | inl l ↦ omega (arith, rest (x ∷ chosen) (partial + cost choice chosen x) v l)
@@ -156,7 +163,8 @@ best-left a v p = record {
 }
 
 -- levels that are all too far hold nothing better
-by-far : (a : Found) (choice : Real) (choices : List Real) (chosen : List ℤ) (partial k : ℕ) (xs : List ℤ) → a.1 < partial + k → From (cost choice chosen) k xs → IsBestOf a (leaves_by (leaves choices) choice chosen partial xs) a
+by-far : (a : Found) (choice : Real) (choices : List Real) (chosen : List ℤ) (partial k : ℕ) (xs : List ℤ)
+    → a.1 < partial + k → From (cost choice chosen) k xs → IsBestOf a (leaves_by (leaves choices) choice chosen partial xs) a
 by-far a choice choices chosen partial k [] far h = best-none a
 by-far a choice choices chosen partial k (x ∷ xs) far h =
     best-append a a a (leaves choices (x ∷ chosen) (partial + cost choice chosen x)) (leaves_by (leaves choices) choice chosen partial xs)
@@ -174,7 +182,8 @@ still xs ys n x small e =
     let one : drop n ys ≡ x ∷ drop (n + 1) xs = e ∙ drop-set xs n x small in
     sym (drop-drop 1 n ys) ∙ ap (drop 1) one
 
-pub steps-on : (before next after below rest all : ℕ) → after + 1 ≤ next + 2 * below → next ≡ before + 1 → before + 2 + 2 * (below + rest) ≤ all → after + 2 + 2 * rest ≤ all
+pub steps-on : (before next after below rest all : ℕ) → after + 1 ≤ next + 2 * below
+    → next ≡ before + 1 → before + 2 + 2 * (below + rest) ≤ all → after + 2 + 2 * rest ≤ all
 steps-on before next after below rest all p q r = omega arith
 
 pub steps-start : (steps partial rho rest : ℕ) → partial ≤ rho → steps + 2 + 2 * rest ≤ steps + 2 * (one (nat_lt rho partial) + rest)
@@ -199,6 +208,20 @@ sorted c t = ascending_squared t c (order_at c t) (ascending (gap t c.diagonal) 
 pub order_some : (c : Real) (t : ℤ) → IsLadder c.ladder → 0 < length (order_at c t)
 order_some c t ladder = omega (arith, length-nearest_first (gap t c.diagonal) (levels c.ladder), levels_some c.ladder ladder)
 
-pub still_at : (xs ys : List ℤ) (at place size : ℕ) (x y : ℤ) → at < length xs → at ≡ place → at + 1 ≡ size → drop place ys ≡ drop place (set xs at y) → drop size ys ≡ drop size xs
+pub still_at : (xs ys : List ℤ) (at place size : ℕ) (x y : ℤ) → at < length xs → at ≡ place
+    → at + 1 ≡ size → drop place ys ≡ drop place (set xs at y) → drop size ys ≡ drop size xs
 still_at xs ys at place size x y small e f h =
-    ap (λ (m : ℕ). drop m ys) (sym f) ∙ still xs ys at y small (ap (λ (m : ℕ). drop m ys) e ∙ h ∙ ap (λ (m : ℕ). drop m (set xs at y)) (sym e)) ∙ ap (λ (m : ℕ). drop m xs) f
+    ap (λ (m : ℕ). drop m ys) (sym f)
+    ∙ still xs ys at y small (ap (λ (m : ℕ). drop m ys) e ∙ h ∙ ap (λ (m : ℕ). drop m (set xs at y)) (sym e)) ∙ ap (λ (m : ℕ). drop m xs) f
+
+-- `<` of two lists of levels
+pub less_is_before : (xs ys : List ℤ) (r : Bool) → r ≡ is_some_and is_lt (slice_partial_cmp (λ x y. Some (int_cmp x y)) xs ys) → r ≡ levels_before xs ys
+less_is_before =
+    same_from_slice_cmp_tested int_cmp is_lt levels_before refl (λ _ _. refl) (λ _ _. refl) (λ x y xs ys o h. grind (arith, ints))
+
+-- of two that are as near the first one is better
+pub tied : (near far : ℕ) (xs ys : List ℤ) (r : Bool) → near ≡ far → r ≡ levels_before xs ys → r ≡ better (xs, near) (ys, far)
+tied near far xs ys r p q = rw q (by_order near far (levels_before xs ys) p)
+  where
+    by_order : (near far : ℕ) (b : Bool) → near ≡ far → b ≡ (nat_lt near far || (not (nat_lt far near) && b))
+    by_order near far b p = grind (arith, nat_tests)

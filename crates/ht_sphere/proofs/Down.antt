@@ -1,5 +1,6 @@
 -- The coordinates of the first streams.
-use Rattle.std.proofs.Common.{◌≡◌, ℕ, zero, suc, ◌-◌, ◌*◌, ◌<◌, ◌≤◌, ℤ, List, [], ◌∷◌, ◌++◌, length, drop, get_or, append_assoc, append-nil, arith, ap, sym, ◌∙◌}
+use Rattle.std.proofs.Common.{◌≡◌, ℕ, zero, suc, ◌-◌, ◌*◌, ◌<◌, ◌≤◌, ℤ, List, [], ◌∷◌, ◌++◌}
+use Rattle.std.proofs.Common.{length, drop, get_or, append_assoc, append-nil, arith, ap, sym, ◌∙◌}
 use Rattle.std.proofs.lemmas.List.{length-drop, drop_all}
 use Rattle.std.proofs.Math.Seq.{drop-cons}
 use Rattle.ht_pam.specs.declared.axes.Axes.{Axes}
@@ -12,7 +13,8 @@ use Rattle.ht_sphere.specs.Coordinates.{Real, in_phase, quadrature, from_last, d
 pub down_more : (rows : List Row) (grid : List Axes) (k : ℕ) → 0 < k → down rows grid k ≡ from_q rows grid (k - 1)
 down_more rows grid k some = let back : k ≡ suc (k - 1) = omega arith in ap (down rows grid) back
 
-joined : (rows : List Row) (grid : List Axes) (k : ℕ) → length grid ≡ length rows → k ≤ length rows → from_last (drop k rows) (drop k grid) ++ down rows grid k ≡ from_last rows grid
+joined : (rows : List Row) (grid : List Axes) (k : ℕ) → length grid ≡ length rows → k ≤ length rows
+    → from_last (drop k rows) (drop k grid) ++ down rows grid k ≡ from_last rows grid
 joined rows grid zero same within = append-nil (from_last rows grid)
 joined rows grid (suc j) same within =
     let row = get_or rows j no_row in
@@ -31,9 +33,11 @@ joined rows grid (suc j) same within =
 pub down_all : (rows : List Row) (grid : List Axes) → length grid ≡ length rows → down rows grid (length rows) ≡ from_last rows grid
 down_all rows grid same =
     let none : drop (length rows) rows ≡ [] = drop_all (length rows) rows (omega arith) in
-    sym (ap (λ (xs : List Row). from_last xs (drop (length rows) grid) ++ down rows grid (length rows)) none) ∙ joined rows grid (length rows) same (omega arith)
+    sym (ap (λ (xs : List Row). from_last xs (drop (length rows) grid) ++ down rows grid (length rows)) none)
+    ∙ joined rows grid (length rows) same (omega arith)
 
-pub down_system : (job : JobView) (rows : List Row) (k : ℕ) → IsJob job → rows ≡ job.system → k ≡ length rows → down job.system job.grid k ≡ from_last job.system job.grid
+pub down_system : (job : JobView) (rows : List Row) (k : ℕ) → IsJob job → rows ≡ job.system
+    → k ≡ length rows → down job.system job.grid k ≡ from_last job.system job.grid
 down_system job rows k is same e =
     let all : k ≡ length job.system = e ∙ ap length same in
     ap (down job.system job.grid) all ∙ down_all job.system job.grid is.streams

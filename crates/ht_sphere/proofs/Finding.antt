@@ -1,5 +1,6 @@
 -- The best of all ways down is the first nearest vector.
-use Rattle.std.proofs.Common.{◌≡◌, ℕ, ◌<◌, ◌≤◌, ℤ, List, [], ◌∷◌, ◌++◌, length, drop, Bool, true, false, ◌&&◌, ◌||◌, not, arith, inl, inr, refl, ap, sym, ◌∙◌, subst}
+use Rattle.std.proofs.Common.{◌≡◌, ℕ, ◌<◌, ◌≤◌, ℤ, List, [], ◌∷◌, ◌++◌, length, drop, Bool, true}
+use Rattle.std.proofs.Common.{false, ◌&&◌, ◌||◌, not, arith, inl, inr, refl, ap, sym, ◌∙◌, subst}
 use Rattle.std.specs.Prelude.{nat_lt}
 use Rattle.std.specs.List.{All}
 use Rattle.std.proofs.lemmas.List.{drop_all}
@@ -10,13 +11,13 @@ use Rattle.ht_pam.specs.declared.axes.Axes.{Axes}
 use Rattle.ht_pam.specs.declared.point.Point.{Point}
 use Rattle.ht_metric.specs.Rows.{Row}
 use Rattle.ht_metric.specs.Distance.{distance_of}
-use Rattle.ht_metric.specs.Vectors.{is_in}
+use Rattle.ht_metric.specs.Vectors.{is_in, levels_of, before}
 use Rattle.ht_metric.specs.Jobs.{JobView, IsJob, IsNear}
-use Rattle.ht_sphere.specs.Coordinates.{Real, from_last, levels_of, points_of, quadrature, in_phase}
+use Rattle.ht_sphere.specs.Coordinates.{Real, from_last, points_of, quadrature, in_phase}
 use Rattle.ht_sphere.specs.Tree.{Found, rounding}
-use Rattle.ht_sphere.specs.Searching.{leaves, better, IsBestOf, Among, before as levels_before}
+use Rattle.ht_sphere.specs.Searching.{leaves, better, IsBestOf, Among}
 use Rattle.ht_sphere.proofs.Paths.{AreGood, rounding_path, leaf_path, path_leaf}
-use Rattle.ht_sphere.proofs.Rows.{LeadsTo, leads, way_to, same_order}
+use Rattle.ht_sphere.proofs.Rows.{LeadsTo, leads, way_to}
 
 good_both : (cs ds : List Real) → AreGood cs → AreGood ds → AreGood (cs ++ ds)
 good_both [] ds g h = h
@@ -27,7 +28,8 @@ good_rows [] grid h = tt
 good_rows (row ∷ rows) [] h = tt
 good_rows (row ∷ rows) (a ∷ grid) h =
     let first = All-head AreLadders a grid h in
-    good_both (from_last rows grid) (quadrature (length rows) row a ∷ in_phase (length rows) row a ∷ []) (good_rows rows grid (All-tail AreLadders a grid h)) (first.q, (first.i, tt))
+    good_both (from_last rows grid) (quadrature (length rows) row a ∷ in_phase (length rows) row a ∷ [])
+    (good_rows rows grid (All-tail AreLadders a grid h)) (first.q, (first.i, tt))
 
 pub points_back : (x : List Point) → points_of (levels_of x) ≡ x
 points_back [] = refl
@@ -63,7 +65,7 @@ module _ (job : JobView) (v : Found) (same : length job.grid ≡ length job.syst
   is_near x within e = record {
     within = within;
     nearest = λ y h. not_nearer (distance_of job.system y) (distance_of job.system x) _ (not_better x y e h);
-    first = λ y h b. not_tied (distance_of job.system y) (distance_of job.system x) (levels_before (levels_of y) (levels_of x)) (same_order y x ∙ b) (not_better x y e h);
+    first = λ y h b. not_tied (distance_of job.system y) (distance_of job.system x) (before y x) b (not_better x y e h);
   }
 
 -- the answer to a job

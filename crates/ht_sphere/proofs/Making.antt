@@ -1,5 +1,6 @@
 -- Coordinates, weight by weight, and points, level by level.
-use Rattle.std.proofs.Common.{◌≡◌, ℕ, zero, suc, ◌+◌, ◌*◌, ◌-◌, ◌<◌, ◌≤◌, ℤ, pos, ◌-ℤ◌, List, [], ◌∷◌, ◌++◌, length, drop, get_or, length-append, append_assoc, add-one, arith, refl, ap, sym, ◌∙◌}
+use Rattle.std.proofs.Common.{◌≡◌, ℕ, zero, suc, ◌+◌, ◌*◌, ◌-◌, ◌<◌, ◌≤◌, ℤ, pos, ◌-ℤ◌, List, [], ◌∷◌, ◌++◌, length}
+use Rattle.std.proofs.Common.{drop, get_or, length-append, append_assoc, add-one, arith, refl, ap, sym, ◌∙◌}
 use Rattle.std.proofs.lemmas.List.{length-drop}
 use Rattle.std.proofs.Math.Seq.{drop-cons}
 use Rattle.ht_pam.specs.declared.axes.Axes.{Axes}
@@ -29,12 +30,14 @@ room_i c m row a e few = omega (arith, ap (λ (r : Real). length r.weights) e, l
 pub longer : (c d : Real) (w : ℤ) → d ≡ pushed c w → length d.weights ≡ length c.weights + 1
 longer c d w e = ap (λ (r : Real). length r.weights) e ∙ length-append c.weights (w ∷ [])
 
-more_q : (m : ℕ) (right : List Tap) → (weights_of_q (entries m right) ++ (get_or right m no_tap).im ∷ []) ++ (get_or right m no_tap).re ∷ [] ≡ weights_of_q (entries (suc m) right)
+more_q : (m : ℕ) (right : List Tap)
+    → (weights_of_q (entries m right) ++ (get_or right m no_tap).im ∷ []) ++ (get_or right m no_tap).re ∷ [] ≡ weights_of_q (entries (suc m) right)
 more_q zero right = refl
 more_q (suc m) [] = ap (λ (w : List ℤ). pos 0 ∷ pos 0 ∷ w) (more_q m [])
 more_q (suc m) (r ∷ rs) = ap (λ (w : List ℤ). r.im ∷ r.re ∷ w) (more_q m rs)
 
-more_i : (m : ℕ) (right : List Tap) → (weights_of_i (entries m right) ++ (get_or right m no_tap).re ∷ []) ++ (pos 0 -ℤ (get_or right m no_tap).im) ∷ [] ≡ weights_of_i (entries (suc m) right)
+more_i : (m : ℕ) (right : List Tap)
+    → (weights_of_i (entries m right) ++ (get_or right m no_tap).re ∷ []) ++ (pos 0 -ℤ (get_or right m no_tap).im) ∷ [] ≡ weights_of_i (entries (suc m) right)
 more_i zero right = refl
 more_i (suc m) [] = ap (λ (w : List ℤ). pos 0 ∷ (pos 0 -ℤ pos 0) ∷ w) (more_i m [])
 more_i (suc m) (r ∷ rs) = ap (λ (w : List ℤ). r.re ∷ (pos 0 -ℤ r.im) ∷ w) (more_i m rs)
@@ -44,20 +47,24 @@ two_pushed c d e q u v x y p r s f g =
     r ∙ ap (λ (z : Real). pushed z v) (p ∙ ap (λ (z : Real). pushed z u) s ∙ ap (λ (w : ℤ). pushed q w) f) ∙ ap (λ (w : ℤ). pushed (pushed q x) w) g
 
 -- one more entry
-pub q_more : (c d e : Real) (m n : ℕ) (row : Row) (a : Axes) (u v : ℤ) (t : Tap) → d ≡ pushed c u → e ≡ pushed d v → c ≡ quadrature m row a → u ≡ t.im → v ≡ t.re
+pub q_more : (c d e : Real) (m n : ℕ) (row : Row) (a : Axes) (u v : ℤ) (t : Tap)
+    → d ≡ pushed c u → e ≡ pushed d v → c ≡ quadrature m row a → u ≡ t.im → v ≡ t.re
     → t ≡ get_or row.right m no_tap → n ≡ suc m → e ≡ quadrature n row a
 q_more c d e m n row a u v t p r s f g is next =
     let w = get_or row.right m no_tap in
     two_pushed c d e (quadrature m row a) u v w.im w.re p r s (f ∙ ap (λ (z : Tap). z.im) is) (g ∙ ap (λ (z : Tap). z.re) is)
-    ∙ ap (λ (ws : List ℤ). let back : Real = record { ladder = a.q; diagonal = row.diagonal; sample = row.sample.im; weights = ws } in back) (more_q m row.right)
+    ∙ ap (λ (ws : List ℤ). let back : Real = record { ladder = a.q; diagonal = row.diagonal; sample = row.sample.im; weights = ws } in back)
+    (more_q m row.right)
     ∙ ap (λ (k : ℕ). quadrature k row a) (sym next)
 
-pub i_more : (c d e : Real) (m n : ℕ) (row : Row) (a : Axes) (u v : ℤ) (t : Tap) → d ≡ pushed c u → e ≡ pushed d v → c ≡ in_phase m row a → u ≡ t.re → v ≡ pos 0 -ℤ t.im
+pub i_more : (c d e : Real) (m n : ℕ) (row : Row) (a : Axes) (u v : ℤ) (t : Tap)
+    → d ≡ pushed c u → e ≡ pushed d v → c ≡ in_phase m row a → u ≡ t.re → v ≡ pos 0 -ℤ t.im
     → t ≡ get_or row.right m no_tap → n ≡ suc m → e ≡ in_phase n row a
 i_more c d e m n row a u v t p r s f g is next =
     let w = get_or row.right m no_tap in
     two_pushed c d e (in_phase m row a) u v w.re (pos 0 -ℤ w.im) p r s (f ∙ ap (λ (z : Tap). z.re) is) (g ∙ ap (λ (z : Tap). pos 0 -ℤ z.im) is)
-    ∙ ap (λ (ws : List ℤ). let back : Real = record { ladder = a.i; diagonal = row.diagonal; sample = row.sample.re; weights = pos 0 ∷ ws } in back) (more_i m row.right)
+    ∙ ap (λ (ws : List ℤ). let back : Real = record { ladder = a.i; diagonal = row.diagonal; sample = row.sample.re; weights = pos 0 ∷ ws } in back)
+    (more_i m row.right)
     ∙ ap (λ (k : ℕ). in_phase k row a) (sym next)
 
 length-from_last : (rows : List Row) (grid : List Axes) → length grid ≡ length rows → length (from_last rows grid) ≡ 2 * length rows
@@ -68,7 +75,8 @@ length-from_last (row ∷ rows) (a ∷ grid) e =
     omega (arith, length-append (from_last rows grid) (quadrature (length rows) row a ∷ in_phase (length rows) row a ∷ []))
 
 -- as many coordinates as I and Q of the streams behind
-pub count_of : (rows : List Row) (grid : List Axes) (k : ℕ) (items : List Real) → length grid ≡ length rows → items ≡ from_last (drop k rows) (drop k grid) → length items ≡ 2 * (length rows - k)
+pub count_of : (rows : List Row) (grid : List Axes) (k : ℕ) (items : List Real) → length grid ≡ length rows
+    → items ≡ from_last (drop k rows) (drop k grid) → length items ≡ 2 * (length rows - k)
 count_of rows grid k items same e =
     let m = length-drop k rows in
     let n = length-drop k grid in
@@ -77,7 +85,8 @@ count_of rows grid k items same e =
 -- one more stream
 pub stream_more : (rows : List Row) (grid : List Axes) (k : ℕ) (items one two : List Real) (q i : Real) → 1 ≤ k → k ≤ length rows → length grid ≡ length rows
     → items ≡ from_last (drop k rows) (drop k grid)
-    → q ≡ quadrature (length rows - k) (get_or rows (k - 1) no_row) (get_or grid (k - 1) no_axes) → i ≡ in_phase (length rows - k) (get_or rows (k - 1) no_row) (get_or grid (k - 1) no_axes)
+    → q ≡ quadrature (length rows - k) (get_or rows (k - 1) no_row) (get_or grid (k - 1) no_axes)
+    → i ≡ in_phase (length rows - k) (get_or rows (k - 1) no_row) (get_or grid (k - 1) no_axes)
     → one ≡ items ++ q ∷ [] → two ≡ one ++ i ∷ [] → two ≡ from_last (drop (k - 1) rows) (drop (k - 1) grid)
 stream_more rows grid k items one two q i some within same e f g p r =
     let j = k - 1 in
@@ -101,7 +110,8 @@ points_next : (xs : List ℤ) (m : ℕ) → m + 1 < length xs
 points_next xs m below =
     let one : drop m xs ≡ get_or xs m (pos 0) ∷ drop (m + 1) xs = rw add-one (drop-cons xs m (pos 0) (omega arith)) in
     let e : suc (m + 1) ≡ m + 2 = omega arith in
-    let two : drop (m + 1) xs ≡ get_or xs (m + 1) (pos 0) ∷ drop (m + 2) xs = drop-cons xs (m + 1) (pos 0) below ∙ ap (λ (n : ℕ). get_or xs (m + 1) (pos 0) ∷ drop n xs) e in
+    let two : drop (m + 1) xs ≡ get_or xs (m + 1) (pos 0) ∷ drop (m + 2) xs =
+    drop-cons xs (m + 1) (pos 0) below ∙ ap (λ (n : ℕ). get_or xs (m + 1) (pos 0) ∷ drop n xs) e in
     ap points_of (one ∙ ap (λ (ys : List ℤ). get_or xs m (pos 0) ∷ ys) two)
 
 pub point_more : (xs : List ℤ) (k : ℕ) (vector next all : List Point) (p : Point) → 2 * k + 1 < length xs → next ≡ vector ++ p ∷ []

@@ -1,5 +1,6 @@
 -- What the vectors cost that successive rounding leaves out.
-use Rattle.std.proofs.Common.{◌≡◌, ◌⊎◌, ℕ, zero, suc, ◌+◌, ◌-◌, ◌*◌, ◌<◌, ◌≤◌, ℤ, pos, ◌+ℤ◌, ◌-ℤ◌, ◌*ℤ◌, List, [], ◌∷◌, ◌++◌, get_or, Bool, true, false, unsigned_abs, arith, inl, inr, refl, ap, sym, ◌∙◌, subst}
+use Rattle.std.proofs.Common.{◌≡◌, ◌⊎◌, ℕ, zero, suc, ◌+◌, ◌-◌, ◌*◌, ◌<◌, ◌≤◌, ℤ, pos, ◌+ℤ◌, ◌-ℤ◌, ◌*ℤ◌, List, [], ◌∷◌}
+use Rattle.std.proofs.Common.{◌++◌, get_or, Bool, true, false, unsigned_abs, arith, inl, inr, refl, ap, sym, ◌∙◌, subst}
 use Rattle.std.specs.Prelude.{◌==◌, if◌then◌else◌, nat_lt}
 use Rattle.std.specs.Int.{bit_at}
 use Rattle.std.specs.Int.Signed.{◌<ℤ◌, ◌≤ℤ◌}
@@ -7,7 +8,7 @@ use Rattle.std.proofs.Math.Nat.{mul-le-mul}
 use Rattle.std.proofs.lemmas.Bool.{cases_lt}
 use Rattle.std.proofs.lemmas.Bool.Decides.{nat_tests}
 use Rattle.std.proofs.lemmas.Int.{ints}
-use Rattle.ht_nearest.proofs.Bests as nearest
+use Rattle.ht_nearest.proofs.Bests as bests
 use Rattle.ht_pam.specs.Ladders.{Rungs, level, lowest, levels}
 use Rattle.ht_pam.specs.Zigzags.{gap}
 use Rattle.ht_pam.proofs.EndLemmas.{times_less}
@@ -18,15 +19,15 @@ use Rattle.ht_sphere.proofs.Bests.{among-append, leaves-le, better-self, farther
 use Rattle.ht_sphere.proofs.Paths.{in_order}
 
 -- an allowed level is the level at a place
-in_both : (xs : List ℤ) (y x : ℤ) → nearest.Among (xs ++ y ∷ []) x → nearest.Among xs x ⊎ (x ≡ y)
+in_both : (xs : List ℤ) (y x : ℤ) → bests.Among (xs ++ y ∷ []) x → bests.Among xs x ⊎ (x ≡ y)
 in_both [] y x g = elim g [ inl e ↦ inr (sym e) | inr none ↦ absurd none ]
 in_both (z ∷ zs) y x g = elim g [ inl e ↦ inl (inl e) | inr rest ↦ elim (in_both zs y x rest) [ inl there ↦ inl (inr there) | inr e ↦ inr e ] ]
 
-in_one_more : (b : Bool) (xs : List ℤ) (y x : ℤ) → nearest.Among (if b then xs ++ y ∷ [] else xs) x → nearest.Among xs x ⊎ (x ≡ y)
+in_one_more : (b : Bool) (xs : List ℤ) (y x : ℤ) → bests.Among (if b then xs ++ y ∷ [] else xs) x → bests.Among xs x ⊎ (x ≡ y)
 in_one_more true xs y x g = in_both xs y x g
 in_one_more false xs y x g = inl g
 
-in_lowest : (l : Rungs) (j : ℕ) (x : ℤ) → nearest.Among (lowest l j) x → (i : ℕ) × (x ≡ level l.size i)
+in_lowest : (l : Rungs) (j : ℕ) (x : ℤ) → bests.Among (lowest l j) x → (i : ℕ) × (x ≡ level l.size i)
 in_lowest l zero x h = absurd h
 in_lowest l (suc j) x h = elim (in_one_more (bit_at l.mask j == 1) (lowest l j) (level l.size j) x h) [
   | inl there ↦ in_lowest l j x there
@@ -56,7 +57,7 @@ far_up t d x y h =
 far_down : (t : ℤ) (d : ℕ) (x y : ℤ) → (y +ℤ pos 1) <ℤ x → 2 * d - gap t d x ≤ gap t d y
 far_down t d x y h = let e = far_up t d y x h in omega arith
 
-pub least_of_others : (c : Real) (s : List ℤ) (x y : ℤ) → nearest.Among (order c s) x → nearest.Among (order c s) y
+pub least_of_others : (c : Real) (s : List ℤ) (x y : ℤ) → bests.Among (order c s) x → bests.Among (order c s) y
     → (x ≡ y) ⊎ ((2 * c.diagonal - gap (target c s) c.diagonal x) * (2 * c.diagonal - gap (target c s) c.diagonal x) ≤ cost c s y)
 least_of_others c s x y h g =
     let t = target c s in
@@ -73,7 +74,8 @@ least_of_others c s x y h g =
     ]
 
 -- a leaf is under one of the levels
-under_one : (cs : List Real) (c : Real) (s : List ℤ) (p : ℕ) (v : Found) (xs : List ℤ) → Among (leaves_by (leaves cs) c s p xs) v → (x : ℤ) × nearest.Among xs x × Among (leaves cs (x ∷ s) (p + cost c s x)) v
+under_one : (cs : List Real) (c : Real) (s : List ℤ) (p : ℕ) (v : Found) (xs : List ℤ)
+    → Among (leaves_by (leaves cs) c s p xs) v → (x : ℤ) × bests.Among xs x × Among (leaves cs (x ∷ s) (p + cost c s x)) v
 under_one cs c s p v [] h = absurd h
 under_one cs c s p v (x ∷ xs) h = elim (among-append (leaves cs (x ∷ s) (p + cost c s x)) (leaves_by (leaves cs) c s p xs) v h) [
   | inl here ↦ (x, inl refl, here)
@@ -84,7 +86,7 @@ under_one cs c s p v (x ∷ xs) h = elim (among-append (leaves cs (x ∷ s) (p +
 abbrev pub OthersFrom : List Real → List ℤ → ℕ → Found → ℕ → Type 0
 OthersFrom cs s p w off = (v : Found) → Among (leaves cs s p) v → (v ≡ w) ⊎ (off ≤ v.1)
 
-pub others_more : (c : Real) (cs : List Real) (s : List ℤ) (p off : ℕ) (x : ℤ) (w : Found) → nearest.Among (order c s) x
+pub others_more : (c : Real) (cs : List Real) (s : List ℤ) (p off : ℕ) (x : ℤ) (w : Found) → bests.Among (order c s) x
     → off ≤ p + (2 * c.diagonal - gap (target c s) c.diagonal x) * (2 * c.diagonal - gap (target c s) c.diagonal x)
     → OthersFrom cs (x ∷ s) (p + cost c s x) w off → OthersFrom (c ∷ cs) s p w off
 others_more c cs s p off x w among least rest v h =
@@ -118,8 +120,8 @@ round_two q i rest s p m n x y w e f g h r =
     ∙ ap (λ (z : ℤ). rounding rest (z ∷ x ∷ s) (m + cost i (x ∷ s) z)) (sym g)
     ∙ ap (λ (k : ℕ). rounding rest (y ∷ x ∷ s) k) (sym h) ∙ r
 
-pub others_two : (q i : Real) (rest : List Real) (s : List ℤ) (p m n off : ℕ) (x y : ℤ) (w : Found) → nearest.Among (order q s) x → m ≡ p + cost q s x
-    → nearest.Among (order i (x ∷ s)) y → n ≡ m + cost i (x ∷ s) y
+pub others_two : (q i : Real) (rest : List Real) (s : List ℤ) (p m n off : ℕ) (x y : ℤ) (w : Found) → bests.Among (order q s) x → m ≡ p + cost q s x
+    → bests.Among (order i (x ∷ s)) y → n ≡ m + cost i (x ∷ s) y
     → off ≤ p + (2 * q.diagonal - gap (target q s) q.diagonal x) * (2 * q.diagonal - gap (target q s) q.diagonal x)
     → off ≤ m + (2 * i.diagonal - gap (target i (x ∷ s)) i.diagonal y) * (2 * i.diagonal - gap (target i (x ∷ s)) i.diagonal y)
     → OthersFrom rest (y ∷ x ∷ s) n w off → OthersFrom (q ∷ i ∷ rest) s p w off

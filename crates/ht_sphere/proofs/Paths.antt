@@ -4,7 +4,7 @@ use Rattle.std.specs.List.{list_any}
 use Rattle.std.specs.Ordering.{int_eq}
 use Rattle.std.proofs.lemmas.Bool.{cases_lt, or_cases, or_left, or_right, both_ways}
 use Rattle.std.proofs.lemmas.Bool.Decides.{Decides-int_eq}
-use Rattle.ht_nearest.proofs.Bests as nearest
+use Rattle.ht_nearest.proofs.Bests as bests
 use Rattle.ht_pam.specs.Ladders.{IsLadder, levels, has}
 use Rattle.ht_pam.specs.Zigzags.{gap, put, nearest_first}
 use Rattle.ht_pam.proofs.ZigzagLemmas.{put_behind, put_before}
@@ -14,42 +14,42 @@ use Rattle.ht_sphere.specs.Searching.{leaves, leaves_by, Among}
 use Rattle.ht_sphere.proofs.Bests.{order_some, among-append, among-left, among-right}
 
 -- what is put among levels, and what stood there
-in_put : (f : ℤ → ℕ) (x : ℤ) (ys : List ℤ) (v : ℤ) → nearest.Among (put f x ys) v → nearest.Among (x ∷ ys) v
+in_put : (f : ℤ → ℕ) (x : ℤ) (ys : List ℤ) (v : ℤ) → bests.Among (put f x ys) v → bests.Among (x ∷ ys) v
 in_put f x [] v h = h
 in_put f x (y ∷ ys) v h = elim (cases_lt (f y) (f x)) [
-  | inl less ↦ elim (subst (λ (l : List ℤ). nearest.Among l v) (put_behind f x y ys less) h) [
+  | inl less ↦ elim (subst (λ (l : List ℤ). bests.Among l v) (put_behind f x y ys less) h) [
     | inl e ↦ inr (inl e)
     | inr rest ↦ elim (in_put f x ys v rest) [ inl e ↦ inl e | inr there ↦ inr (inr there) ]
   ]
-  | inr more ↦ subst (λ (l : List ℤ). nearest.Among l v) (put_before f x y ys more) h
+  | inr more ↦ subst (λ (l : List ℤ). bests.Among l v) (put_before f x y ys more) h
 ]
 
-among_put : (f : ℤ → ℕ) (x : ℤ) (ys : List ℤ) (v : ℤ) → nearest.Among (x ∷ ys) v → nearest.Among (put f x ys) v
+among_put : (f : ℤ → ℕ) (x : ℤ) (ys : List ℤ) (v : ℤ) → bests.Among (x ∷ ys) v → bests.Among (put f x ys) v
 among_put f x [] v h = h
 among_put f x (y ∷ ys) v h = elim (cases_lt (f y) (f x)) [
-  | inl less ↦ subst (λ (l : List ℤ). nearest.Among l v) (sym (put_behind f x y ys less)) (elim h [
+  | inl less ↦ subst (λ (l : List ℤ). bests.Among l v) (sym (put_behind f x y ys less)) (elim h [
     | inl e ↦ inr (among_put f x ys v (inl e))
     | inr rest ↦ elim rest [ inl e ↦ inl e | inr there ↦ inr (among_put f x ys v (inr there)) ]
   ])
-  | inr more ↦ subst (λ (l : List ℤ). nearest.Among l v) (sym (put_before f x y ys more)) h
+  | inr more ↦ subst (λ (l : List ℤ). bests.Among l v) (sym (put_before f x y ys more)) h
 ]
 
-pub in_order : (f : ℤ → ℕ) (xs : List ℤ) (v : ℤ) → nearest.Among (nearest_first f xs) v → nearest.Among xs v
+pub in_order : (f : ℤ → ℕ) (xs : List ℤ) (v : ℤ) → bests.Among (nearest_first f xs) v → bests.Among xs v
 in_order f [] v h = h
 in_order f (x ∷ xs) v h = elim (in_put f x (nearest_first f xs) v h) [ inl e ↦ inl e | inr rest ↦ inr (in_order f xs v rest) ]
 
-among_order : (f : ℤ → ℕ) (xs : List ℤ) (v : ℤ) → nearest.Among xs v → nearest.Among (nearest_first f xs) v
+among_order : (f : ℤ → ℕ) (xs : List ℤ) (v : ℤ) → bests.Among xs v → bests.Among (nearest_first f xs) v
 among_order f [] v h = h
 among_order f (x ∷ xs) v h = among_put f x (nearest_first f xs) v (elim h [ inl e ↦ inl e | inr rest ↦ inr (among_order f xs v rest) ])
 
-among_list : (x : ℤ) (ys : List ℤ) → list_any (λ y. int_eq y x) ys ≡ true → nearest.Among ys x
+among_list : (x : ℤ) (ys : List ℤ) → list_any (λ y. int_eq y x) ys ≡ true → bests.Among ys x
 among_list x [] h = absurd (both_ways false refl h)
 among_list x (y ∷ ys) h = elim (or_cases (int_eq y x) (list_any (λ y. int_eq y x) ys) h) [
   | inl here ↦ inl ((Decides-int_eq y x).0 here)
   | inr rest ↦ inr (among_list x ys rest)
 ]
 
-in_list : (x : ℤ) (ys : List ℤ) → nearest.Among ys x → list_any (λ y. int_eq y x) ys ≡ true
+in_list : (x : ℤ) (ys : List ℤ) → bests.Among ys x → list_any (λ y. int_eq y x) ys ≡ true
 in_list x [] h = absurd h
 in_list x (y ∷ ys) h = elim h [
   | inl e ↦ or_left (int_eq y x) (list_any (λ y. int_eq y x) ys) ((Decides-int_eq y x).1 e)
@@ -57,19 +57,19 @@ in_list x (y ∷ ys) h = elim h [
 ]
 
 -- the levels that are tried are the allowed ones
-pub tried_has : (c : Real) (s : List ℤ) (x : ℤ) → nearest.Among (order c s) x → has c.ladder x ≡ true
+pub tried_has : (c : Real) (s : List ℤ) (x : ℤ) → bests.Among (order c s) x → has c.ladder x ≡ true
 tried_has c s x h = in_list x (levels c.ladder) (in_order (gap (target c s) c.diagonal) (levels c.ladder) x h)
 
-pub has_tried : (c : Real) (s : List ℤ) (x : ℤ) → has c.ladder x ≡ true → nearest.Among (order c s) x
+pub has_tried : (c : Real) (s : List ℤ) (x : ℤ) → has c.ladder x ≡ true → bests.Among (order c s) x
 has_tried c s x h = among_order (gap (target c s) c.diagonal) (levels c.ladder) x (among_list x (levels c.ladder) h)
 
 -- a way from a node down to a leaf
 abbrev pub Path : List Real → List ℤ → ℕ → Found → Type 0
 Path [] s p v = v ≡ (s, p)
-Path (c ∷ cs) s p v = (x : ℤ) × nearest.Among (order c s) x × Path cs (x ∷ s) (p + cost c s x) v
+Path (c ∷ cs) s p v = (x : ℤ) × bests.Among (order c s) x × Path cs (x ∷ s) (p + cost c s x) v
 
 by_path : (cs : List Real) (c : Real) (s : List ℤ) (p : ℕ) (v : Found) → ((t : List ℤ) (q : ℕ) → Among (leaves cs t q) v → Path cs t q v)
-    → (xs : List ℤ) → Among (leaves_by (leaves cs) c s p xs) v → (x : ℤ) × nearest.Among xs x × Path cs (x ∷ s) (p + cost c s x) v
+    → (xs : List ℤ) → Among (leaves_by (leaves cs) c s p xs) v → (x : ℤ) × bests.Among xs x × Path cs (x ∷ s) (p + cost c s x) v
 by_path cs c s p v under [] h = absurd h
 by_path cs c s p v under (x ∷ xs) h = elim (among-append (leaves cs (x ∷ s) (p + cost c s x)) (leaves_by (leaves cs) c s p xs) v h) [
   | inl here ↦ (x, inl refl, under (x ∷ s) (p + cost c s x) here)
@@ -81,10 +81,11 @@ leaf_path [] s p v h = elim h [ inl e ↦ e | inr none ↦ absurd none ]
 leaf_path (c ∷ cs) s p v h = by_path cs c s p v (λ t q. leaf_path cs t q v) (order c s) h
 
 path_by : (cs : List Real) (c : Real) (s : List ℤ) (p : ℕ) (v : Found) (x : ℤ) → Among (leaves cs (x ∷ s) (p + cost c s x)) v
-    → (xs : List ℤ) → nearest.Among xs x → Among (leaves_by (leaves cs) c s p xs) v
+    → (xs : List ℤ) → bests.Among xs x → Among (leaves_by (leaves cs) c s p xs) v
 path_by cs c s p v x under [] h = absurd h
 path_by cs c s p v x under (y ∷ ys) h = elim h [
-  | inl e ↦ among-left (leaves cs (y ∷ s) (p + cost c s y)) (leaves_by (leaves cs) c s p ys) v (subst (λ (z : ℤ). Among (leaves cs (z ∷ s) (p + cost c s z)) v) (sym e) under)
+  | inl e ↦ among-left (leaves cs (y ∷ s) (p + cost c s y)) (leaves_by (leaves cs) c s p ys) v
+      (subst (λ (z : ℤ). Among (leaves cs (z ∷ s) (p + cost c s z)) v) (sym e) under)
   | inr rest ↦ among-right (leaves cs (y ∷ s) (p + cost c s y)) (leaves_by (leaves cs) c s p ys) v (path_by cs c s p v x under ys rest)
 ]
 
@@ -106,7 +107,7 @@ abbrev pub AreGood : List Real → Type 0
 AreGood [] = Unit {0}
 AreGood (c ∷ cs) = IsLadder c.ladder × AreGood cs
 
-pub first_among : (xs : List ℤ) → 0 < length xs → nearest.Among xs (get_or xs 0 (pos 0))
+pub first_among : (xs : List ℤ) → 0 < length xs → bests.Among xs (get_or xs 0 (pos 0))
 first_among [] some = absurd (omega arith)
 first_among (x ∷ xs) some = inl refl
 

@@ -1,7 +1,7 @@
 -- The coordinates of rows, and the vectors to which ways down lead.
 use Rattle.std.proofs.Math.IntN.{neg_ℤ, neg_ℤ-neg_ℤ, zero-*ℤ}
-use Rattle.std.proofs.Common.{◌≡◌, ℕ, zero, suc, negsuc, ◌*◌, ◌+◌, ℤ, pos, ◌+ℤ◌, ◌-ℤ◌, ◌*ℤ◌, List, [], ◌∷◌, length, Bool, true, false, ◌&&◌, ◌||◌, not, arith, refl, ap, sym, ◌∙◌, subst}
-use Rattle.std.specs.Prelude.{int_lt}
+use Rattle.std.proofs.Common.{◌≡◌, ℕ, zero, suc, negsuc, ◌*◌, ◌+◌, ℤ, pos, ◌+ℤ◌, ◌-ℤ◌, ◌*ℤ◌, List}
+use Rattle.std.proofs.Common.{[], ◌∷◌, length, true, false, ◌&&◌, arith, refl, ap, sym, ◌∙◌, subst}
 use Rattle.std.proofs.lemmas.Int.{ints}
 use Rattle.std.proofs.lemmas.Bool.{and_parts, and_from, both_ways}
 use Rattle.ht_pam.specs.Ladders.{has}
@@ -10,10 +10,9 @@ use Rattle.ht_pam.specs.declared.point.Point.{Point}
 use Rattle.ht_metric.specs.declared.tap.Tap.{Tap}
 use Rattle.ht_metric.specs.Rows.{Row}
 use Rattle.ht_metric.specs.Distance.{combined, residual, square, distance_of}
-use Rattle.ht_metric.specs.Vectors.{is_in, before}
-use Rattle.ht_sphere.specs.Coordinates.{Real, cost, weighed, weights_of_i, weights_of_q, entries, in_phase, quadrature, from_last, levels_of}
+use Rattle.ht_metric.specs.Vectors.{is_in, levels_of}
+use Rattle.ht_sphere.specs.Coordinates.{Real, cost, weighed, weights_of_i, weights_of_q, entries, in_phase, quadrature, from_last}
 use Rattle.ht_sphere.specs.Tree.{Found}
-use Rattle.ht_sphere.specs.Searching.{before as levels_before}
 use Rattle.ht_sphere.proofs.Paths.{Path, path_apart, path_joined, tried_has, has_tried}
 
 pub none_times : (z : ℤ) → pos 0 *ℤ z ≡ pos 0
@@ -80,7 +79,8 @@ sum_costs : (d m n r i : ℕ) → m ≡ i → n ≡ r → (d + m) + n ≡ (r + i
 sum_costs d m n r i e f = omega arith
 
 both_costs : (row : Row) (a : Axes) (p : Point) (x : List Point) (n d : ℕ) → length x ≡ n
-    → (d + cost (quadrature n row a) (levels_of x) p.q) + cost (in_phase n row a) (p.q ∷ levels_of x) p.i ≡ (square (residual row p x).re + square (residual row p x).im) + d
+    → (d + cost (quadrature n row a) (levels_of x) p.q) + cost (in_phase n row a) (p.q ∷ levels_of x) p.i
+    ≡ (square (residual row p x).re + square (residual row p x).im) + d
 both_costs row a p x n d e =
     sum_costs d _ _ _ _ (ap (λ (m : ℕ). cost (quadrature m row a) (levels_of x) p.q) (sym e) ∙ q_cost row a p x)
     (ap (λ (m : ℕ). cost (in_phase m row a) (p.q ∷ levels_of x) p.i) (sym e) ∙ i_cost row a p x)
@@ -113,7 +113,8 @@ leads (row ∷ rows) (a ∷ grid) v e h =
     record {
       vector = p ∷ x;
       within = and_from (has a.i i && has a.q q) (is_in grid x)
-          (and_from (has a.i i) (has a.q q) (tried_has (in_phase n row a) (q ∷ levels_of x) i down.2.1) (tried_has (quadrature n row a) (levels_of x) q down.1)) rest.within;
+          (and_from (has a.i i) (has a.q q) (tried_has (in_phase n row a) (q ∷ levels_of x) i down.2.1)
+          (tried_has (quadrature n row a) (levels_of x) q down.1)) rest.within;
       streams = ap suc rest.streams;
       is = down.2.2 ∙ ap (λ (m : ℕ). let f : Found = (i ∷ q ∷ levels_of x, m) in f) sum;
     }
@@ -125,7 +126,8 @@ is_in-length (a ∷ grid) [] h = absurd (both_ways false refl h)
 is_in-length (a ∷ grid) (p ∷ x) h = ap suc (is_in-length grid x (and_parts (has a.i p.i && has a.q p.q) (is_in grid x) h).1)
 
 -- and each vector of the grid has its way down
-pub way_to : (rows : List Row) (grid : List Axes) (x : List Point) → length grid ≡ length rows → is_in grid x ≡ true → Path (from_last rows grid) [] 0 (levels_of x, distance_of rows x)
+pub way_to : (rows : List Row) (grid : List Axes) (x : List Point) → length grid ≡ length rows
+    → is_in grid x ≡ true → Path (from_last rows grid) [] 0 (levels_of x, distance_of rows x)
 way_to [] [] [] e h = refl
 way_to [] [] (p ∷ x) e h = absurd (both_ways false refl h)
 way_to [] (a ∷ grid) x e h = absurd (omega arith)
@@ -145,17 +147,3 @@ way_to (row ∷ rows) (a ∷ grid) (p ∷ x) e h =
       has_tried (quadrature n row a) (levels_of x) p.q mine.1,
       (p.i, has_tried (in_phase n row a) (p.q ∷ levels_of x) p.i mine.0, sym (ap (λ (m : ℕ). let f : Found = (p.i ∷ p.q ∷ levels_of x, m) in f) sum)),
     )
-
--- the order of levels is the order of vectors
-mixed : (p q r s t : Bool) → (p || (not q && (r || (not s && t)))) ≡ ((p || (not q && r)) || (not (q || (not p && s)) && t))
-mixed true q r s t = refl
-mixed false true r s t = refl
-mixed false false r s t = refl
-
-pub same_order : (x y : List Point) → levels_before (levels_of x) (levels_of y) ≡ before x y
-same_order [] [] = refl
-same_order (a ∷ x) [] = refl
-same_order [] (b ∷ y) = refl
-same_order (a ∷ x) (b ∷ y) =
-    ap (λ (t : Bool). int_lt a.i b.i || (not (int_lt b.i a.i) && (int_lt a.q b.q || (not (int_lt b.q a.q) && t)))) (same_order x y)
-    ∙ mixed (int_lt a.i b.i) (int_lt b.i a.i) (int_lt a.q b.q) (int_lt b.q a.q) (before x y)

@@ -1,5 +1,5 @@
 -- A system of complex rows as one of real coordinates: I and Q of each stream.
-use Rattle.std.specs.Prelude.{ℕ, zero, suc, ◌-◌, length, drop, slice_index_or, ℤ, pos, ◌+ℤ◌, ◌-ℤ◌, ◌*ℤ◌, List, [], ◌∷◌, ◌++◌}
+use Rattle.std.specs.Prelude.{ℕ, zero, suc, ◌-◌, ℤ, pos, ◌+ℤ◌, ◌-ℤ◌, ◌*ℤ◌, List, [], ◌∷◌, ◌++◌, length, drop, slice_index_or}
 use Rattle.ht_pam.specs.Ladders.{Rungs, levels}
 use Rattle.ht_pam.specs.Grids.{no_axes}
 use Rattle.ht_pam.specs.Zigzags.{gap, nearest_first}
@@ -41,7 +41,7 @@ order c chosen = order_at c (target c chosen)
 abbrev pub cost : Real → List ℤ → ℤ → ℕ
 cost c chosen x = cost_at c (target c chosen) x
 
--- the entries of a row for so many streams behind its own
+-- the entries of a row for this number of streams behind its own
 abbrev pub entries : ℕ → List Tap → List Tap
 entries zero right = []
 entries (suc behind) right = slice_index_or right 0 no_tap ∷ entries behind (drop 1 right)
@@ -55,12 +55,23 @@ abbrev pub weights_of_q : List Tap → List ℤ
 weights_of_q [] = []
 weights_of_q (r ∷ rs) = r.im ∷ r.re ∷ weights_of_q rs
 
--- the coordinates of a row with so many streams behind: Q of its own stream has no weight in I's
+-- what the streams behind row k, counted from 1, leave of its sample
+abbrev pub left_i : List Row → ℕ → List ℤ → ℤ
+left_i rows k behind =
+    let row = slice_index_or rows (k - 1) no_row in row.sample.re -ℤ weighed (weights_of_i (entries (length rows - k) row.right)) behind
+
+abbrev pub left_q : List Row → ℕ → List ℤ → ℤ
+left_q rows k behind =
+    let row = slice_index_or rows (k - 1) no_row in row.sample.im -ℤ weighed (weights_of_q (entries (length rows - k) row.right)) behind
+
+-- the coordinates of a row with this number of streams behind it: Q of its own stream has no weight in I's
 abbrev pub in_phase : ℕ → Row → Axes → Real
-in_phase behind row a = record { ladder = a.i; diagonal = row.diagonal; sample = row.sample.re; weights = pos 0 ∷ weights_of_i (entries behind row.right) }
+in_phase behind row a =
+    record { ladder = a.i; diagonal = row.diagonal; sample = row.sample.re; weights = pos 0 ∷ weights_of_i (entries behind row.right) }
 
 abbrev pub quadrature : ℕ → Row → Axes → Real
-quadrature behind row a = record { ladder = a.q; diagonal = row.diagonal; sample = row.sample.im; weights = weights_of_q (entries behind row.right) }
+quadrature behind row a =
+    record { ladder = a.q; diagonal = row.diagonal; sample = row.sample.im; weights = weights_of_q (entries behind row.right) }
 
 -- all coordinates, from Q of the last stream to I of the first one
 abbrev pub from_last : List Row → List Axes → List Real
@@ -86,12 +97,7 @@ from_i rows grid j = i_at rows grid j ∷ down rows grid j
 abbrev pub from_q : List Row → List Axes → ℕ → List Real
 from_q rows grid j = q_at rows grid j ∷ from_i rows grid j
 
--- the levels of a vector: I_1, Q_1, I_2 and so on
-abbrev pub levels_of : List Point → List ℤ
-levels_of [] = []
-levels_of (p ∷ x) = p.i ∷ p.q ∷ levels_of x
-
--- and back
+-- the vector of levels I_1, Q_1, I_2 and so on
 abbrev pub points_of : List ℤ → List Point
 points_of [] = []
 points_of (i ∷ []) = []

@@ -1,5 +1,6 @@
 -- What the search finds.
-use Rattle.std.specs.Prelude.{◌≡◌, ◌⊎◌, ℕ, ◌+◌, ℤ, int_lt, List, [], ◌∷◌, ◌++◌, Bool, true, false, ◌&&◌, ◌||◌, not, nat_lt}
+use Rattle.std.specs.Prelude.{◌≡◌, ◌⊎◌, ℕ, ◌+◌, ℤ, List, [], ◌∷◌, ◌++◌, Bool, false, ◌&&◌, ◌||◌, not, nat_lt}
+use Rattle.ht_metric.specs.Vectors.{levels_before}
 use Rattle.ht_sphere.specs.Coordinates.{Real, order, cost}
 use Rattle.ht_sphere.specs.Tree.{Found}
 
@@ -13,15 +14,9 @@ abbrev pub leaves : List Real → List ℤ → ℕ → List Found
 leaves [] chosen partial = (chosen, partial) ∷ []
 leaves (c ∷ cs) chosen partial = leaves_by (leaves cs) c chosen partial (order c chosen)
 
--- one list of levels is before another
-abbrev pub before : List ℤ → List ℤ → Bool
-before left [] = false
-before [] (b ∷ right) = true
-before (a ∷ left) (b ∷ right) = int_lt a b || (not (int_lt b a) && before left right)
-
 -- nearer, or as near and before
 abbrev pub better : Found → Found → Bool
-better a b = nat_lt a.1 b.1 || (not (nat_lt b.1 a.1) && before a.0 b.0)
+better a b = nat_lt a.1 b.1 || (not (nat_lt b.1 a.1) && levels_before a.0 b.0)
 
 abbrev pub Among : List Found → Found → Type 0
 Among [] v = ⊥

@@ -1,5 +1,5 @@
 //! The sphere detector.
-ghost use Rattle.std.specs.Prelude.{◌≡◌, ◌≤◌, ◌+◌, ◌*◌, ◌^◌, [], length, unsigned_abs};
+ghost use Rattle.std.specs.Prelude.{◌≡◌, ◌<◌, ◌≤◌, ◌+◌, ◌*◌, ◌^◌, [], length, unsigned_abs};
 ghost use Rattle.std.specs.List.{All};
 ghost use Rattle.ht_metric.specs.Jobs.{near};
 ghost use Rattle.ht_sphere.specs.Coordinates.{from_last, points_of};
@@ -13,11 +13,13 @@ use ht_metric::{Hit, Job};
 use ht_pam::Steps;
 use std::sync::ledger::Ledger;
 
-/// The job with its first nearest vector, in at most twice as many steps as there are suffixes inside the sphere.
+/// Finds the first nearest vector of a job and its distance. The steps, counted in `steps`, are at most twice as many
+/// as there are suffixes inside the sphere.
 ///
-/// A suffix has levels for the last coordinates of I_1, Q_1, I_2 and so on. It is inside where its partial distance is
-/// at most the distance of successive rounding, which gives each coordinate, from the last one on, the level that is
-/// nearest to what the later ones leave of the sample. No memory is taken.
+/// A suffix is a list of allowed levels for the last of the coordinates I_1, Q_1, I_2 and so on. It is inside where its
+/// partial distance is at most the distance of successive rounding, which gives each coordinate, from the last one on,
+/// the level that is nearest to what the later ones leave of the sample. A step is one level that is asked for with the
+/// counter, or the end of a coordinate's levels. No memory is taken.
 pub fn nearest<L: Ledger>(job: &Job, steps: &mut Steps<L>) -> Hit
     ensures job { result.job ≡ job.now }
     ensures near { near job.now ≡ record { vector = result.vector; distance = result.distance } }
@@ -36,6 +38,7 @@ fn find<L: Ledger>(job: &Job, levels: &mut [i8], steps: &mut Steps<L>) -> u128
     requires levels { All (λ x. unsigned_abs x ≤ 7) levels.old }
     ensures room { length levels.new ≡ length levels.old }
     ensures best { IsBestOf (rounding (from_last job.now.system job.now.grid) [] 0) (leaves (from_last job.now.system job.now.grid) [] 0) (levels.new, result) }
+    ensures bound { result < 2 ^ 66 }
     ensures steps { steps.new + 1 ≤ steps.old + 2 * inside_of job.now }
 {
     let mut distance = 0u128;
@@ -57,6 +60,7 @@ fn find<L: Ledger>(job: &Job, levels: &mut [i8], steps: &mut Steps<L>) -> u128
 fn better<L: Ledger>(job: &Job, best: &mut [i8], distance: u128, steps: &mut Steps<L>) -> u128
     requires room { length best.old ≡ 2 * length job.now.system }
     ensures room { length best.new ≡ length best.old }
+    ensures less { result ≤ distance }
     ensures best { IsBestOf (best.old, distance) (leaves (from_last job.now.system job.now.grid) [] 0) (best.new, result) }
     ensures steps { steps.new + 1 ≤ steps.old + 2 * inside distance (from_last job.now.system job.now.grid) [] 0 }
 {

@@ -15,8 +15,8 @@
 #![tactic(auto)]
 
 mod detector;
+mod remainder;
 mod round;
-mod row;
 mod search;
 #[cfg(test)]
 mod tests;

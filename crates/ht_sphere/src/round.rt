@@ -7,7 +7,7 @@ ghost use Rattle.ht_sphere.specs.Coordinates.{down};
 ghost use Rattle.ht_sphere.specs.Tree.{Found, rounding};
 ghost use Rattle.ht_sphere.specs.Searching.{Among, leaves};
 
-use crate::row::{cost, cost_of_others, nearest_i, nearest_q, row_of};
+use crate::remainder::{cost, cost_of_others, nearest_i, nearest_q, remainder_of};
 use ht_metric::Job;
 
 // Gives each coordinate of the first k streams the level that is nearest behind those chosen before. What is added to
@@ -18,7 +18,9 @@ pub(crate) fn round(job: &Job, k: u8, levels: &mut [i8], distance: &mut u128, ot
     requires levels { All (λ x. unsigned_abs x ≤ 7) levels.old }
     requires small { distance.old + 2 ^ 65 * k < 2 ^ 128 }
     ensures found { rounding (down job.now.system job.now.grid k) (drop (2 * k) levels.old) distance.old ≡ (levels.new, distance.new) }
-    ensures others { (v : Found) → Among (leaves (down job.now.system job.now.grid k) (drop (2 * k) levels.old) distance.old) v → (v ≡ (levels.new, distance.new)) ⊎ (others.new ≤ v.1) }
+    ensures room { distance.new ≤ distance.old + (2 ^ 63 + 2 ^ 56) * k }
+    ensures others { (v : Found) → Among (leaves (down job.now.system job.now.grid k) (drop (2 * k) levels.old) distance.old) v
+        → (v ≡ (levels.new, distance.new)) ⊎ (others.new ≤ v.1) }
     ensures less { others.new ≤ others.old }
     ensures levels { All (λ x. unsigned_abs x ≤ 7) levels.new }
 {
@@ -26,11 +28,11 @@ pub(crate) fn round(job: &Job, k: u8, levels: &mut [i8], distance: &mut u128, ot
         return;
     }
     let at = 2 * usize::from(k) - 2;
-    let row = row_of(job, k, levels);
-    let level = nearest_q(job, k, row.im);
-    let q = chosen(level, row.im, row.d, *distance, *others);
-    let level = nearest_i(job, k, row.re);
-    let i = chosen(level, row.re, row.d, q.partial, q.others);
+    let left = remainder_of(job, k, levels);
+    let level = nearest_q(job, k, left.im);
+    let q = chosen(level, left.im, left.d, *distance, *others);
+    let level = nearest_i(job, k, left.re);
+    let i = chosen(level, left.re, left.d, q.partial, q.others);
     levels[at + 1] = q.level;
     levels[at] = i.level;
     *distance = i.partial;
@@ -53,7 +55,7 @@ fn chosen(level: i8, target: i64, d: u16, partial: u128, others: u128) -> Choice
     requires small { partial + 2 ^ 64 < 2 ^ 128 }
     ensures level { result.level ≡ level }
     ensures partial { result.partial ≡ partial + square (target -ℤ (pos d *ℤ level)) }
-    ensures room { result.partial < partial + 2 ^ 64 }
+    ensures room { result.partial ≤ partial + (2 ^ 62 + 2 ^ 55) }
     ensures others { result.others ≤ partial + (2 * d - gap target d level) * (2 * d - gap target d level) }
     ensures less { result.others ≤ others }
 {

@@ -3,31 +3,18 @@ ghost use Rattle.std.specs.Prelude.{◌≡◌, [], ◌∷◌, ◌+◌, ◌-◌, 
 ghost use Rattle.std.specs.List.{All};
 ghost use Rattle.ht_sphere.specs.Coordinates.{i_at, down, from_q, from_i, target as target_of};
 ghost use Rattle.ht_sphere.specs.Tree.{inside};
-ghost use Rattle.ht_sphere.specs.Searching.{leaves, better, before, IsBestOf};
+ghost use Rattle.ht_sphere.specs.Searching.{leaves, better, IsBestOf};
 
-use crate::row::{cost, row_of, walk_of_i, walk_of_q};
+use crate::remainder::{cost, remainder_of, walk_of_i, walk_of_q};
 use ht_metric::Job;
 use ht_pam::Steps;
 use std::sync::ledger::Ledger;
-
-// Whether one list of levels comes before another.
-fn comes_before(left: &[i8], right: &[i8]) -> bool
-    ensures { result ≡ before left.now right.now }
-{
-    match right.split_first() {
-        None => false,
-        Some((b, right)) => match left.split_first() {
-            None => true,
-            Some((a, left)) => *a < *b || (!(*b < *a) && comes_before(left, right)),
-        },
-    }
-}
 
 // Whether one vector is nearer than another, or as near and before it.
 fn is_better(left: &[i8], near: u128, right: &[i8], far: u128) -> bool
     ensures { result ≡ better (left.now, near) (right.now, far) }
 {
-    near < far || (!(far < near) && comes_before(left, right))
+    near < far || (near == far && left < right)
 }
 
 // Takes a vector where it is better.
@@ -60,9 +47,11 @@ pub(crate) fn search<L: Ledger>(
     requires small { partial + 2 ^ 65 * k < 2 ^ 128 }
     ensures levels { All (λ x. unsigned_abs x ≤ 7) levels.new }
     ensures chosen { drop (2 * k) levels.new ≡ drop (2 * k) levels.old }
-    ensures best { IsBestOf (best.old, distance.old) (leaves (down job.now.system job.now.grid k) (drop (2 * k) levels.old) partial) (best.new, distance.new) }
+    ensures best { IsBestOf (best.old, distance.old)
+        (leaves (down job.now.system job.now.grid k) (drop (2 * k) levels.old) partial) (best.new, distance.new) }
     ensures less { distance.new ≤ distance.old }
-    ensures steps { (rho : ℕ) → partial ≤ rho → distance.old ≤ rho → steps.new + 1 ≤ steps.old + 2 * inside rho (down job.now.system job.now.grid k) (drop (2 * k) levels.old) partial }
+    ensures steps { (rho : ℕ) → partial ≤ rho → distance.old ≤ rho
+        → steps.new + 1 ≤ steps.old + 2 * inside rho (down job.now.system job.now.grid k) (drop (2 * k) levels.old) partial }
 {
     if k == 0 {
         settle(levels, partial, best, distance);
@@ -90,20 +79,22 @@ fn quadrature<L: Ledger>(
     requires small { partial + 2 ^ 65 * k < 2 ^ 128 }
     ensures levels { All (λ x. unsigned_abs x ≤ 7) levels.new }
     ensures chosen { drop (2 * k) levels.new ≡ drop (2 * k) levels.old }
-    ensures best { IsBestOf (best.old, distance.old) (leaves (from_q job.now.system job.now.grid (k - 1)) (drop (2 * k) levels.old) partial) (best.new, distance.new) }
+    ensures best { IsBestOf (best.old, distance.old)
+        (leaves (from_q job.now.system job.now.grid (k - 1)) (drop (2 * k) levels.old) partial) (best.new, distance.new) }
     ensures less { distance.new ≤ distance.old }
-    ensures steps { (rho : ℕ) → partial ≤ rho → distance.old ≤ rho → steps.new + 1 ≤ steps.old + 2 * inside rho (from_q job.now.system job.now.grid (k - 1)) (drop (2 * k) levels.old) partial }
+    ensures steps { (rho : ℕ) → partial ≤ rho → distance.old ≤ rho
+        → steps.new + 1 ≤ steps.old + 2 * inside rho (from_q job.now.system job.now.grid (k - 1)) (drop (2 * k) levels.old) partial }
 {
     let at = 2 * usize::from(k) - 1;
-    let row = row_of(job, k, levels);
-    let mut walk = walk_of_q(job, k, row.im);
+    let left = remainder_of(job, k, levels);
+    let mut walk = walk_of_q(job, k, left.im);
     while let Some(level) = walk.next(steps) {
-        let next = partial + u128::from(cost(row.d, row.im, level));
+        let next = partial + u128::from(cost(left.d, left.im, level));
         if next > *distance {
             break;
         }
         levels[at] = level;
-        in_phase(job, k, row.d, row.re, levels, next, best, distance, steps);
+        in_phase(job, k, left.d, left.re, levels, next, best, distance, steps);
     }
 }
 
@@ -131,9 +122,11 @@ fn in_phase<L: Ledger>(
     requires bound { unsigned_abs target ≤ 2 ^ 31 + 2 ^ 21 }
     ensures levels { All (λ x. unsigned_abs x ≤ 7) levels.new }
     ensures chosen { drop (2 * k - 1) levels.new ≡ drop (2 * k - 1) levels.old }
-    ensures best { IsBestOf (best.old, distance.old) (leaves (from_i job.now.system job.now.grid (k - 1)) (drop (2 * k - 1) levels.old) partial) (best.new, distance.new) }
+    ensures best { IsBestOf (best.old, distance.old)
+        (leaves (from_i job.now.system job.now.grid (k - 1)) (drop (2 * k - 1) levels.old) partial) (best.new, distance.new) }
     ensures less { distance.new ≤ distance.old }
-    ensures steps { (rho : ℕ) → partial ≤ rho → distance.old ≤ rho → steps.new + 1 ≤ steps.old + 2 * inside rho (from_i job.now.system job.now.grid (k - 1)) (drop (2 * k - 1) levels.old) partial }
+    ensures steps { (rho : ℕ) → partial ≤ rho → distance.old ≤ rho
+        → steps.new + 1 ≤ steps.old + 2 * inside rho (from_i job.now.system job.now.grid (k - 1)) (drop (2 * k - 1) levels.old) partial }
 {
     let at = 2 * usize::from(k) - 2;
     let mut walk = walk_of_i(job, k, target);

@@ -1,5 +1,6 @@
 //! The detector on jobs with known answers, and against the one that tries all vectors.
 ghost use Rattle.std.specs.Prelude.{◌≡◌, ◌<◌, ◌≤◌, ◌+◌, ◌*◌, length, [], ◌∷◌, unsigned_abs};
+ghost use Rattle.ht_metric.specs.Distance.{IsInRange};
 
 use crate::nearest;
 use ht_metric::{Hit, Job, Place, Sample, System, Tap, Triangle, plain_nearest};
@@ -181,4 +182,189 @@ fn as_the_plain_one(rt: HostRuntime) {
         assert_eq!(rt; *plain.vector(), *hit.vector());
         assert_eq!(rt; plain.distance(), hit.distance());
     }
+}
+
+// A job of four streams in 64-QAM, the points that were sent, and the power of the noise.
+#[derive(Drop)]
+struct Noisy {
+    job: Job,
+    sent: [Point; 4],
+    power: u64,
+}
+
+// A diagonal times a level.
+fn stretched(d: u16, level: i8) -> i64
+    requires { unsigned_abs level ≤ 7 }
+    ensures { unsigned_abs result ≤ 458745 }
+{
+    i64::from(d) * i64::from(level)
+}
+
+// The sum of two products.
+fn joined(first: i64, second: i64) -> i64
+    requires first { unsigned_abs first ≤ 458752 }
+    requires second { unsigned_abs second ≤ 458752 }
+    ensures { unsigned_abs result ≤ 917504 }
+{
+    first + second
+}
+
+// The sum of what a row's own point and those of three streams behind it give, and of noise.
+fn summed(own: i64, first: i64, second: i64, third: i64, noise: i32) -> i32
+    requires own { unsigned_abs own ≤ 458745 }
+    requires first { unsigned_abs first ≤ 458752 }
+    requires second { unsigned_abs second ≤ 458752 }
+    requires third { unsigned_abs third ≤ 458752 }
+    requires noise { unsigned_abs noise ≤ 1000 }
+{
+    (joined(own, first) + joined(second, third) + i64::from(noise)) as i32
+}
+
+// What is received on a row: its own point times the diagonal, three points behind it times their entries, and noise.
+fn received(
+    d: u16,
+    right: [Tap; 3],
+    own: Point,
+    behind: (Point, Point, Point),
+    noise: Sample,
+) -> Sample
+    requires own { IsInRange own }
+    requires first { IsInRange behind.0 }
+    requires second { IsInRange behind.1 }
+    requires third { IsInRange behind.2 }
+    requires re { unsigned_abs noise.re ≤ 1000 }
+    requires im { unsigned_abs noise.im ≤ 1000 }
+{
+    let first = right[0].times(behind.0);
+    let second = right[1].times(behind.1);
+    let third = right[2].times(behind.2);
+    Sample {
+        re: summed(stretched(d, own.i), first.re, second.re, third.re, noise.re),
+        im: summed(stretched(d, own.q), first.im, second.im, third.im, noise.im),
+    }
+}
+
+// The square of noise on one row.
+fn power(noise: Sample) -> u64 {
+    let re = u64::from(noise.re.unsigned_abs());
+    let im = u64::from(noise.im.unsigned_abs());
+    re.wrapping_mul(re).wrapping_add(im.wrapping_mul(im))
+}
+
+impl Numbers {
+    fn level(&mut self) -> i8
+        ensures { unsigned_abs result ≤ 7 }
+    {
+        2 * self.next(8) as i8 - 7
+    }
+
+    fn point(&mut self) -> Point
+        ensures { IsInRange result }
+    {
+        let i = self.level();
+        let q = self.level();
+        Point { i, q }
+    }
+
+    fn tap(&mut self) -> Tap {
+        Tap {
+            re: self.next(801) as i16 - 400,
+            im: self.next(801) as i16 - 400,
+        }
+    }
+
+    fn diagonal(&mut self) -> u16 {
+        1000 + self.next(1000) as u16
+    }
+
+    // A part of noise, at most so large.
+    fn noise_part(&mut self, most: u16) -> i32
+        requires { most ≤ 1000 }
+        ensures { unsigned_abs result ≤ 1000 }
+    {
+        self.next(2 * u64::from(most) + 1) as i32 - i32::from(most)
+    }
+
+    fn noise(&mut self, most: u16) -> Sample
+        requires { most ≤ 1000 }
+        ensures re { unsigned_abs result.re ≤ 1000 }
+        ensures im { unsigned_abs result.im ≤ 1000 }
+    {
+        let re = self.noise_part(most);
+        let im = self.noise_part(most);
+        Sample { re, im }
+    }
+
+    fn noisy(&mut self, most: u16) -> Noisy
+        requires { most ≤ 1000 }
+    {
+        let all = Ladder::of(8, 255);
+        let grid = Grid::one(all, all)
+            .and(all, all)
+            .and(all, all)
+            .and(all, all);
+        let d = [
+            self.diagonal(),
+            self.diagonal(),
+            self.diagonal(),
+            self.diagonal(),
+        ];
+        let above = [
+            self.tap(),
+            self.tap(),
+            self.tap(),
+            self.tap(),
+            self.tap(),
+            self.tap(),
+        ];
+        let (a, b, c, e) = (self.point(), self.point(), self.point(), self.point());
+        let noise = (
+            self.noise(most),
+            self.noise(most),
+            self.noise(most),
+            self.noise(most),
+        );
+        let y = [
+            received(d[0], [above[0], above[1], above[2]], a, (b, c, e), noise.0),
+            received(d[1], [above[3], above[4], NO_TAP], b, (c, e, e), noise.1),
+            received(d[2], [above[5], NO_TAP, NO_TAP], c, (e, e, e), noise.2),
+            received(d[3], [NO_TAP; 3], e, (e, e, e), noise.3),
+        ];
+        let system = System::new(Triangle::new(4, d, above), y);
+        let first = power(noise.0).wrapping_add(power(noise.1));
+        let second = power(noise.2).wrapping_add(power(noise.3));
+        Noisy {
+            job: Job::new(0, PLACE, grid, system),
+            sent: [a, b, c, e],
+            power: first.wrapping_add(second),
+        }
+    }
+}
+
+// Trying all vectors of such a grid would take minutes. Two vectors are at least 2000 apart here, so noise whose
+// length is below 1000 changes nothing.
+#[test]
+fn in_seconds(rt: HostRuntime) {
+    let mut numbers = Numbers { state: 3 };
+    for _ in 0..300 {
+        let noisy = numbers.noisy(350);
+        expect(&rt, &noisy.job, &noisy.sent, u128::from(noisy.power));
+    }
+    for _ in 0..300 {
+        let noisy = numbers.noisy(1000);
+        assert!(rt; hit_of(&noisy.job).distance() <= u128::from(noisy.power));
+    }
+    let far = Sample {
+        re: -2147483648,
+        im: 2147483647,
+    };
+    let all = Ladder::of(8, 255);
+    let grid = Grid::one(all, all)
+        .and(all, all)
+        .and(all, all)
+        .and(all, all);
+    let triangle = Triangle::new(4, [65535; 4], [NO_TAP; 6]);
+    let job = Job::new(0, PLACE, grid, System::new(triangle, [far; 4]));
+    let corner = Point { i: -7, q: 7 };
+    expect(&rt, &job, &[corner; 4], 36877727455641076052);
 }

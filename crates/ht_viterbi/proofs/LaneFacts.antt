@@ -1,10 +1,12 @@
 -- Vectors of 64 octets, lane by lane.
-use Rattle.std.proofs.Common.{◌≡◌, ℕ, ◌+◌, ◌-◌, ◌/◌, ◌%◌, ◌^◌, ◌<◌, ◌↔◌, List, ◌++◌, map, length, get_or, slice_index, replicate, Bool, true, false, cond, leb, eqb, refl, ap, sym, ◌∙◌, arith, T, w8, true≢false}
+use Rattle.std.proofs.Common.{◌≡◌, ℕ, ◌+◌, ◌-◌, ◌/◌, ◌%◌, ◌^◌, ◌<◌, ◌↔◌, List, ◌++◌, map, length, get_or, slice_index}
+use Rattle.std.proofs.Common.{replicate, Bool, true, false, cond, leb, eqb, refl, ap, sym, ◌∙◌, arith, T, w8, true≢false}
 use lib.Lanes.{zip2, sel_l, mask_l, top, pick_l, all_below}
 use Rattle.std.specs.Int.{bit_at}
 use Rattle.std.proofs.lemmas.Bool.{agree_below_at, eqb-true}
 use Rattle.std.proofs.lemmas.List.{get_or-map, length-map}
-use Rattle.std.proofs.lemmas.Simd.{pick_l_left, get_or-zip2, length-zip2, length-sel_l, get_or-sel_l, length-replicate, get_or-replicate, tops_compared, mask_l-mod, bit_mask_l}
+use Rattle.std.proofs.lemmas.Simd.{pick_l_left, get_or-zip2, length-zip2, length-sel_l, get_or-sel_l}
+use Rattle.std.proofs.lemmas.Simd.{length-replicate, get_or-replicate, tops_compared, mask_l-mod, bit_mask_l}
 use Rattle.ht_viterbi.specs.Lanes.{HasLanes}
 use Rattle.ht_viterbi.specs.declared.lanes.TheConstants.{AFTER_ZERO, AFTER_ONE}
 
@@ -36,7 +38,8 @@ abbrev pub at_least : List ℕ → List Bool
 at_least v = zip2 leb (replicate 64 128) v
 
 at_least-length : (v : List ℕ) → length v ≡ 64 → length (at_least v) ≡ 64
-at_least-length v long = let many : length (replicate {A = ℕ} 64 128) ≡ 64 = length-replicate {A = ℕ} 64 128 in length-zip2 leb (replicate 64 128) v (many ∙ sym long) ∙ many
+at_least-length v long = let many : length (replicate {A = ℕ} 64 128) ≡ 64 = length-replicate {A = ℕ} 64 128 in
+    length-zip2 leb (replicate 64 128) v (many ∙ sym long) ∙ many
 
 at_least-at : (v : List ℕ) → length v ≡ 64 → (k : ℕ) → k < 64 → get_or (at_least v) k false ≡ leb 128 (get_or v k 0)
 at_least-at v long k lt =
@@ -52,13 +55,15 @@ bit-cond false n e = ((λ one. absurd (omega arith)), λ t. absurd (true≢false
 pub mask-bits : (v : List ℕ) → length v ≡ 64 → (k : ℕ) → k < 64
     → (bit_at (mask_l (map (top 7) (zip2 (λ a b. cond (leb a b) (2 ^ 8 - 1) 0) (replicate 64 128) v)) % 2 ^ 64) k ≡ 1) ↔ (leb 128 (get_or v k 0) ≡ true)
 mask-bits v long k lt =
-    let word = ap (λ (ms : List Bool). mask_l ms % 2 ^ 64) (tops_compared w8 leb (replicate 64 128) v) ∙ mask_l-mod (at_least v) 64 (omega (arith, at_least-length v long)) in
+    let word = ap (λ (ms : List Bool). mask_l ms % 2 ^ 64) (tops_compared w8 leb (replicate 64 128) v)
+    ∙ mask_l-mod (at_least v) 64 (omega (arith, at_least-length v long)) in
     bit-cond (leb 128 (get_or v k 0)) _
     (ap (λ (n : ℕ). bit_at n k) word ∙ (bit_mask_l (at_least v) k ∙ ap (λ (b : Bool). cond b 1 0) (at_least-at v long k lt)))
 
 -- the selection by that mask
 pub select-lanes : (v a b : List ℕ) → length v ≡ 64 → length a ≡ 64 → length b ≡ 64
-    → HasLanes (sel_l (map (top 7) (zip2 (λ a b. cond (leb a b) (2 ^ 8 - 1) 0) (replicate 64 128) v)) a b) (λ k. cond (leb 128 (slice_index v k)) (slice_index a k) (slice_index b k))
+    → HasLanes (sel_l (map (top 7) (zip2 (λ a b. cond (leb a b) (2 ^ 8 - 1) 0) (replicate 64 128) v)) a b)
+    (λ k. cond (leb 128 (slice_index v k)) (slice_index a k) (slice_index b k))
 select-lanes v a b lv la lb =
     let is = ap (λ (ms : List Bool). sel_l ms a b) (tops_compared w8 leb (replicate 64 128) v) in
     let lm = at_least-length v lv in

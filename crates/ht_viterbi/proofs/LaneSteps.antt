@@ -1,5 +1,6 @@
 -- One step of the trellis on lanes: costs modulo 256 tell which way is nearer, since the ways of a state lie close.
-use Rattle.std.proofs.Common.{◌≡◌, inl, inr, ℕ, zero, suc, ◌+◌, ◌-◌, ◌/◌, ◌%◌, ◌<◌, ◌≤◌, ◌↔◌, List, [], ◌∷◌, length, replicate, Bool, true, false, nat_le, nat_lt, slice_index, refl, ap, sym, ◌∙◌, arith, true≢false}
+use Rattle.std.proofs.Common.{◌≡◌, inl, inr, ℕ, zero, suc, ◌+◌, ◌-◌, ◌/◌, ◌%◌, ◌<◌, ◌≤◌, ◌↔◌, List, [], ◌∷◌, length, replicate}
+use Rattle.std.proofs.Common.{Bool, true, false, nat_le, nat_lt, slice_index, refl, ap, sym, ◌∙◌, arith, true≢false}
 use Rattle.std.specs.Int.{bit_at}
 use Rattle.std.specs.Prelude.{if◌then◌else◌}
 use Rattle.std.proofs.lemmas.Bool.{cases_lt, le-leb, lt-leb, lt-ltb, le-ltb}
@@ -11,7 +12,8 @@ zero-number : (z n b c t : ℕ) → z ≡ (n + b) % 256 → n ≡ c → c ≡ t 
 zero-number z n b c t e f g w h = omega arith
 
 -- the ways by a 0
-pub zero-lanes : (costs added next ways : List ℕ) (table : ℕ → ℕ) (pair : Pair) → HasLanes costs (λ k. table k % 256) → HasLanes added (λ k. branch_cost pair k false)
+pub zero-lanes : (costs added next ways : List ℕ) (table : ℕ → ℕ) (pair : Pair)
+    → HasLanes costs (λ k. table k % 256) → HasLanes added (λ k. branch_cost pair k false)
     → HasLanes next (λ k. slice_index costs (k / 2)) → HasLanes ways (λ k. (slice_index next k + slice_index added k) % 256)
     → HasLanes ways (λ k. way table pair k false % 256)
 zero-lanes costs added next ways table pair held branches after is = record {
@@ -19,7 +21,8 @@ zero-lanes costs added next ways table pair held branches after is = record {
   lane = λ k lt.
       let b : slice_index added k ≡ branch_cost pair k false = branches.lane k lt in
       let h : way table pair k false ≡ slice_index added k + table (k / 2) = ap (λ (n : ℕ). n + table (k / 2)) (sym b) in
-      zero-number _ (slice_index next k) (slice_index added k) (slice_index costs (k / 2)) (table (k / 2)) (is.lane k lt) (after.lane k lt) (held.lane (k / 2) (omega arith)) (way table pair k false) h;
+      zero-number _ (slice_index next k) (slice_index added k) (slice_index costs (k / 2)) (table (k / 2))
+      (is.lane k lt) (after.lane k lt) (held.lane (k / 2) (omega arith)) (way table pair k false) h;
 }
 
 -- the ways by a 1
@@ -31,7 +34,8 @@ one-lanes costs one next ways table pair held branches after is = record {
   lane = λ k lt.
       let b : slice_index one k ≡ branch_cost pair k true = branches.lane k lt in
       let h : way table pair k true ≡ slice_index one k + table (k / 2 + 32) = ap (λ (n : ℕ). n + table (k / 2 + 32)) (sym b) in
-      zero-number _ (slice_index next k) (slice_index one k) (slice_index costs (k / 2 + 32)) (table (k / 2 + 32)) (is.lane k lt) (after.lane k lt) (held.lane (k / 2 + 32) (omega arith)) (way table pair k true) h;
+      zero-number _ (slice_index next k) (slice_index one k) (slice_index costs (k / 2 + 32)) (table (k / 2 + 32))
+      (is.lane k lt) (after.lane k lt) (held.lane (k / 2 + 32) (omega arith)) (way table pair k true) h;
 }
 
 below : (d p q a b : ℕ) → d ≡ (p + (256 - q)) % 256 → p ≡ a % 256 → q ≡ b % 256 → b < a + 128 → a < b → 128 ≤ d
@@ -47,14 +51,17 @@ sign d p q a b e f g close = elim (cases_lt a b) [
   | inr more ↦ lt-leb 128 d (above d p q a b e f g close.1 more) ∙ sym (le-ltb a b more)
 ]
 
-sign-lanes : (zero_ways one_ways ahead : List ℕ) (table : ℕ → ℕ) (pair : Pair) → HasLanes zero_ways (λ k. way table pair k false % 256) → HasLanes one_ways (λ k. way table pair k true % 256)
+sign-lanes : (zero_ways one_ways ahead : List ℕ) (table : ℕ → ℕ) (pair : Pair)
+    → HasLanes zero_ways (λ k. way table pair k false % 256) → HasLanes one_ways (λ k. way table pair k true % 256)
     → HasLanes ahead (λ k. (slice_index one_ways k + (256 - slice_index zero_ways k)) % 256) → IsClose table pair
     → (k : ℕ) → k < 64 → nat_le 128 (slice_index ahead k) ≡ chosen true (way table pair k false) (way table pair k true)
 sign-lanes zero_ways one_ways ahead table pair zeros ones is close k lt =
-    sign (slice_index ahead k) (slice_index one_ways k) (slice_index zero_ways k) (way table pair k true) (way table pair k false) (is.lane k lt) (ones.lane k lt) (zeros.lane k lt) (close k lt)
+    sign (slice_index ahead k) (slice_index one_ways k) (slice_index zero_ways k) (way table pair k true)
+    (way table pair k false) (is.lane k lt) (ones.lane k lt) (zeros.lane k lt) (close k lt)
 
 -- the choices where a 1 may be taken
-pub choices-lanes : (zero_ways one_ways ahead : List ℕ) (word : ℕ) (table : ℕ → ℕ) (pair : Pair) → HasLanes zero_ways (λ k. way table pair k false % 256) → HasLanes one_ways (λ k. way table pair k true % 256)
+pub choices-lanes : (zero_ways one_ways ahead : List ℕ) (word : ℕ) (table : ℕ → ℕ) (pair : Pair)
+    → HasLanes zero_ways (λ k. way table pair k false % 256) → HasLanes one_ways (λ k. way table pair k true % 256)
     → HasLanes ahead (λ k. (slice_index one_ways k + (256 - slice_index zero_ways k)) % 256) → IsClose table pair
     → ((k : ℕ) → k < 64 → (bit_at word k ≡ 1) ↔ (nat_le 128 (slice_index ahead k) ≡ true))
     → (k : ℕ) → k < 64 → (bit_at word k ≡ 1) ↔ (chosen true (way table pair k false) (way table pair k true) ≡ true)
@@ -63,7 +70,8 @@ choices-lanes zero_ways one_ways ahead word table pair zeros ones is close bits 
     ((λ e. sym same ∙ (bits k lt).0 e), λ e. (bits k lt).1 (same ∙ e))
 
 -- and the lesser ways
-pub lesser-lanes : (zero_ways one_ways ahead lesser_ways : List ℕ) (table : ℕ → ℕ) (pair : Pair) → HasLanes zero_ways (λ k. way table pair k false % 256) → HasLanes one_ways (λ k. way table pair k true % 256)
+pub lesser-lanes : (zero_ways one_ways ahead lesser_ways : List ℕ) (table : ℕ → ℕ) (pair : Pair)
+    → HasLanes zero_ways (λ k. way table pair k false % 256) → HasLanes one_ways (λ k. way table pair k true % 256)
     → HasLanes ahead (λ k. (slice_index one_ways k + (256 - slice_index zero_ways k)) % 256) → IsClose table pair
     → HasLanes lesser_ways (λ k. if nat_le 128 (slice_index ahead k) then slice_index one_ways k else slice_index zero_ways k)
     → HasLanes lesser_ways (λ k. lesser true (way table pair k false) (way table pair k true) % 256)
@@ -71,7 +79,8 @@ lesser-lanes zero_ways one_ways ahead lesser_ways table pair zeros ones is close
   count = taken.count;
   lane = λ k lt.
       taken.lane k lt
-      ∙ ap (λ (t : Bool). if t then slice_index one_ways k else slice_index zero_ways k) (sign-lanes zero_ways one_ways ahead table pair zeros ones is close k lt)
+      ∙ ap (λ (t : Bool). if t then slice_index one_ways k else slice_index zero_ways k)
+      (sign-lanes zero_ways one_ways ahead table pair zeros ones is close k lt)
       ∙ ap (λ (n : ℕ). if nat_lt (way table pair k true) (way table pair k false) then n else slice_index zero_ways k) (ones.lane k lt)
       ∙ ap (λ (n : ℕ). if nat_lt (way table pair k true) (way table pair k false) then way table pair k true % 256 else n) (zeros.lane k lt)
       ∙ modulo (nat_lt (way table pair k true) (way table pair k false)) (way table pair k true) (way table pair k false);

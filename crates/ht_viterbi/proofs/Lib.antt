@@ -7,3 +7,4 @@ pub mod LaneFacts
 pub mod LaneSteps
 pub mod Spread
 pub mod Values
+pub mod Enumerating

@@ -1,5 +1,6 @@
 -- The trellis gives the first nearest of the terminated inputs.
-use Rattle.std.proofs.Common.{◌≡◌, ◌⊎◌, ℕ, ◌+◌, ◌-◌, ◌<◌, ◌≤◌, suc, List, [], ◌∷◌, length, drop, Bool, true, false, refl, ap, sym, ◌∙◌, subst, arith, inl, inr, not, true≢false, ◌==◌}
+use Rattle.std.proofs.Common.{◌≡◌, ◌⊎◌, ℕ, ◌+◌, ◌-◌, ◌<◌, ◌≤◌, suc, List, [], ◌∷◌, length, drop, Bool, true}
+use Rattle.std.proofs.Common.{false, refl, ap, sym, ◌∙◌, subst, arith, inl, inr, not, true≢false, ◌==◌}
 use Rattle.std.specs.Prelude.{IsTrue}
 use Rattle.std.specs.List.{list_all}
 use Rattle.std.proofs.lemmas.Bool.{and_parts, and_from, not-true, not_from_false, eqb-true, eq-eqb, cases_lt}
@@ -41,7 +42,8 @@ test-ends [] ends = refl
 test-ends (bit ∷ bits) ends = elim (cases_lt (length bits) 6) [
   | inl few ↦
       ap (λ (z : List Bool). list_all not z) (drop-all bit bits few)
-      ∙ and_from (not bit) (list_all not bits) (not_from_false bit (ends.0 few)) (sym (ap (λ (z : List Bool). list_all not z) (drop-few bits (omega arith))) ∙ test-ends bits ends.1)
+      ∙ and_from (not bit) (list_all not bits) (not_from_false bit (ends.0 few))
+      (sym (ap (λ (z : List Bool). list_all not z) (drop-few bits (omega arith))) ∙ test-ends bits ends.1)
   | inr many ↦ ap (λ (z : List Bool). list_all not z) (drop-more bit bits many) ∙ test-ends bits ends.1
 ]
 
@@ -109,15 +111,18 @@ first-ends (pair ∷ pairs) state =
       first-ends pairs (moved state bit),
     )
 
-pub least-nearest : (pairs : List Pair) (state : ℕ) (other : List Bool) → length other ≡ length pairs → Ends other → least_from pairs state ≤ distance_from pairs state other
+pub least-nearest : (pairs : List Pair) (state : ℕ) (other : List Bool) → length other ≡ length pairs
+    → Ends other → least_from pairs state ≤ distance_from pairs state other
 least-nearest [] state other len ends = omega arith
 least-nearest (pair ∷ pairs) state [] len ends = absurd (omega arith)
 least-nearest (pair ∷ pairs) state (bit ∷ bits) len ends =
     let rest = least-nearest pairs (moved state bit) bits (omega arith) ends.1 in
-    let here = lesser_least (is_free (length pairs)) bit (way (least_from pairs) pair state) (λ none. ends.0 (omega (arith, not_free_few (length pairs) none))) in
+    let here = lesser_least (is_free (length pairs)) bit (way (least_from pairs) pair state)
+    (λ none. ends.0 (omega (arith, not_free_few (length pairs) none))) in
     omega (arith, rest, here)
 
-pub first-first : (pairs : List Pair) (state : ℕ) (other : List Bool) → length other ≡ length pairs → Ends other → IsTrue (is_before other (first_from pairs state))
+pub first-first : (pairs : List Pair) (state : ℕ) (other : List Bool)
+    → length other ≡ length pairs → Ends other → IsTrue (is_before other (first_from pairs state))
     → least_from pairs state < distance_from pairs state other
 unfolding is_before
 first-first [] state [] len ends before = absurd (true≢false (sym before))
@@ -131,11 +136,13 @@ first-first (pair ∷ pairs) state (bit ∷ bits) len ends before =
       | inl at ↦
           let one = chosen_one free (ways false) (ways true) at.1 in
           let same : lesser free (ways false) (ways true) ≡ ways true = lesser_is free ways true at.1 in
-          let rest : least_from pairs (moved state false) ≤ distance_from pairs (moved state false) bits = least-nearest pairs (moved state false) bits (omega arith) ends.1 in
+          let rest : least_from pairs (moved state false) ≤ distance_from pairs (moved state false) bits =
+          least-nearest pairs (moved state false) bits (omega arith) ends.1 in
           rw at.0 (omega (arith, one.1, same, rest))
       | inr at ↦
           let rest : least_from pairs (moved state bit) < distance_from pairs (moved state bit) bits =
-          first-first pairs (moved state bit) bits (omega arith) ends.1 (subst (λ (b : Bool). IsTrue (is_before bits (first_from pairs (moved state b)))) (sym at.0) at.1) in
+          first-first pairs (moved state bit) bits (omega arith) ends.1
+          (subst (λ (b : Bool). IsTrue (is_before bits (first_from pairs (moved state b)))) (sym at.0) at.1) in
           let here : lesser free (ways false) (ways true) ≡ ways bit = lesser_is free ways bit (sym at.0) in
           omega (arith, rest, here)
     ]

@@ -1,5 +1,6 @@
 -- The distance along the trellis is the Hamming distance from what an input sends.
-use Rattle.std.proofs.Common.{◌≡◌, ℕ, zero, suc, ◌+◌, ◌/◌, ◌%◌, ◌<◌, ◌≤◌, List, [], ◌∷◌, ◌++◌, length, drop, take, get_or, Bool, true, false, Option, None, refl, ap, sym, ◌∙◌, arith}
+use Rattle.std.proofs.Common.{◌≡◌, ℕ, zero, suc, ◌+◌, ◌/◌, ◌%◌, ◌<◌, ◌≤◌, List, [], ◌∷◌, ◌++◌, length, drop}
+use Rattle.std.proofs.Common.{take, get_or, Bool, true, false, Option, None, refl, ap, sym, ◌∙◌, arith}
 use Rattle.std.proofs.Math.Seq.{drop-cons}
 use Rattle.std.proofs.lemmas.List.{drop_all}
 use Rattle.ht_rate.specs.declared.kinds.Pattern.{Pattern}
@@ -58,11 +59,14 @@ one-step : (kept : Kept) (received : List (Option Bool)) (start : ℕ) (a b : Bo
     ≡ place_cost (pair_of kept received start).0 a + place_cost (pair_of kept received start).1 b + hamming (drop (start + kept_count kept) received) rest
 one-step Both received start a b rest fits =
     let first : drop start received ≡ get_or received start None ∷ drop (suc start) received = drop-cons received start None (omega arith) in
-    let second : drop (suc start) received ≡ get_or received (suc start) None ∷ drop (suc (suc start)) received = drop-cons received (suc start) None (omega arith) in
+    let second : drop (suc start) received ≡ get_or received (suc start) None ∷ drop (suc (suc start)) received =
+    drop-cons received (suc start) None (omega arith) in
     let last : suc (suc start) ≡ start + 2 = omega arith in
     let one : suc start ≡ start + 1 = omega arith in
-    let tail : hamming (drop (suc (suc start)) received) rest ≡ hamming (drop (start + 2) received) rest = ap (λ (n : ℕ). hamming (drop n received) rest) last in
-    let next : place_cost (get_or received (suc start) None) b ≡ place_cost (get_or received (start + 1) None) b = ap (λ (n : ℕ). place_cost (get_or received n None) b) one in
+    let tail : hamming (drop (suc (suc start)) received) rest ≡ hamming (drop (start + 2) received) rest =
+    ap (λ (n : ℕ). hamming (drop n received) rest) last in
+    let next : place_cost (get_or received (suc start) None) b ≡ place_cost (get_or received (start + 1) None) b =
+    ap (λ (n : ℕ). place_cost (get_or received n None) b) one in
     ap (λ (z : List (Option Bool)). hamming z (a ∷ b ∷ rest)) first
     ∙ (ap (λ (z : List (Option Bool)). place_cost (get_or received start None) a + hamming z (b ∷ rest)) second
     ∙ omega (arith, tail, next))
@@ -82,7 +86,8 @@ sent-grows pattern zero step = let same : step + 0 ≡ step = omega arith in rw 
 sent-grows pattern (suc count) step = let same : step + suc count ≡ suc (step + count) = omega arith in rw same (omega (arith, sent-grows pattern count step))
 
 -- from a step and a state on
-pub along : (pattern : Pattern) (received : List (Option Bool)) (bits : List Bool) (step state : ℕ) → state < 64 → length received ≡ sent_count pattern (step + length bits)
+pub along : (pattern : Pattern) (received : List (Option Bool)) (bits : List Bool) (step state : ℕ)
+    → state < 64 → length received ≡ sent_count pattern (step + length bits)
     → hamming (drop (sent_count pattern step) received) (sent_from pattern step (history_of state) bits)
     ≡ distance_from (pairs_from pattern received step (length bits)) state bits
 unfolding pairs_from branch_cost output_a output_b
@@ -101,7 +106,8 @@ along pattern received (bit ∷ bits) step state lt len =
     sent_from-agree pattern (suc step) (bit ∷ history) (history_of (moved state bit)) bits
     (agree-next (history_of (moved state bit)) bit _ _ _ _ _ _ (half-bits state lt bit)) in
     one-step kept received start (tapped taps_a (bit ∷ history)) (tapped taps_b (bit ∷ history)) rest fits
-    ∙ ap (λ (n : ℕ). place_cost (pair_of kept received start).0 (tapped taps_a (bit ∷ history)) + place_cost (pair_of kept received start).1 (tapped taps_b (bit ∷ history)) + n)
+    ∙ ap (λ (n : ℕ). place_cost (pair_of kept received start).0 (tapped taps_a (bit ∷ history))
+    + place_cost (pair_of kept received start).1 (tapped taps_b (bit ∷ history)) + n)
     (ap (λ (z : List Bool). hamming (drop (sent_count pattern (suc step)) received) z) next
     ∙ along pattern received bits (suc step) (moved state bit) (moved-lt state bit lt) len')
 
@@ -114,7 +120,8 @@ agree-start (suc (suc (suc (suc zero)))) lt = refl
 agree-start (suc (suc (suc (suc (suc zero))))) lt = refl
 agree-start (suc (suc (suc (suc (suc (suc n)))))) lt = absurd (omega arith)
 
-pub distance-path : (pattern : Pattern) (received : List (Option Bool)) (steps : ℕ) (bits : List Bool) → length bits ≡ steps → length received ≡ sent_count pattern steps
+pub distance-path : (pattern : Pattern) (received : List (Option Bool)) (steps : ℕ) (bits : List Bool)
+    → length bits ≡ steps → length received ≡ sent_count pattern steps
     → distance pattern received bits ≡ distance_from (pairs_from pattern received 0 steps) 0 bits
 unfolding distance
 distance-path pattern received steps bits same len =

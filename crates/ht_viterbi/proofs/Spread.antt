@@ -48,7 +48,8 @@ spread-alike (suc n) (pair ∷ pairs) s t same =
     let free = is_free (length pairs) in
     let bit = chosen_at pairs pair t in
     let there : least_from (pair ∷ pairs) t ≡ way (least_from pairs) pair t bit = lesser_is free (way (least_from pairs) pair t) bit refl in
-    let here : least_from (pair ∷ pairs) s ≤ way (least_from pairs) pair s bit = lesser_least free bit (way (least_from pairs) pair s) (λ none. not_chosen free _ _ none) in
+    let here : least_from (pair ∷ pairs) s ≤ way (least_from pairs) pair s bit =
+    lesser_least free bit (way (least_from pairs) pair s) (λ none. not_chosen free _ _ none) in
     let rest : least_from pairs (moved s bit) ≤ 2 * n + least_from pairs (moved t bit) = spread-alike n pairs (moved s bit) (moved t bit) (same bit) in
     omega (arith, there, here, rest, branch-le pair s bit)
 
@@ -64,7 +65,8 @@ ways-close pairs pair k lt =
     (omega (arith, one, none, up, down), omega (arith, one, none, up, down))
 
 -- the least distance from state 0 grows by two at most, and falls by twelve at most
-pub first-grows : (pairs : List Pair) (pair : Pair) → (least_from (pair ∷ pairs) 0 ≤ least_from pairs 0 + 2) × (least_from pairs 0 ≤ least_from (pair ∷ pairs) 0 + 12)
+pub first-grows : (pairs : List Pair) (pair : Pair)
+    → (least_from (pair ∷ pairs) 0 ≤ least_from pairs 0 + 2) × (least_from pairs 0 ≤ least_from (pair ∷ pairs) 0 + 12)
 first-grows pairs pair =
     let free = is_free (length pairs) in
     let bit = chosen_at pairs pair 0 in

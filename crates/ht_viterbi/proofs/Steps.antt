@@ -1,5 +1,6 @@
 -- One step of the plain decoder, state by state.
-use Rattle.std.proofs.Common.{◌≡◌, ◌↔◌, ℕ, zero, suc, ◌+◌, ◌-◌, ◌%◌, ◌<◌, ◌≤◌, List, [], ◌∷◌, ◌++◌, Bool, true, false, Option, Some, None, length, take, drop, set, get_or, slice_index, replicate, nat_lt, refl, ap, sym, ◌∙◌, subst, arith, add-one, append_assoc, ◌==◌}
+use Rattle.std.proofs.Common.{◌≡◌, ◌↔◌, ℕ, zero, suc, ◌+◌, ◌-◌, ◌%◌, ◌<◌, ◌≤◌, List, [], ◌∷◌, ◌++◌, Bool, true, false, Option, Some, None, length}
+use Rattle.std.proofs.Common.{take, drop, set, get_or, slice_index, replicate, nat_lt, refl, ap, sym, ◌∙◌, subst, arith, add-one, append_assoc, ◌==◌}
 use Rattle.std.specs.Int.{bit_at}
 use Rattle.std.proofs.Math.Seq.{drop-cons, take-append_seam}
 use Rattle.std.proofs.lemmas.Bool.{eqb-true, eq-eqb}
@@ -11,7 +12,8 @@ use Rattle.ht_conv.specs.declared.puncture.Kept.{Kept}
 use Rattle.ht_conv.specs.declared.puncture.Kept.TheVariants.{Both}
 use Rattle.ht_conv.specs.Puncturing.{period_of, kept_of, kept_count, sent_count}
 use Rattle.ht_viterbi.specs.Inputs.{place_cost}
-use Rattle.ht_viterbi.specs.Trellis.{Pair, pair_of, pair_at, phase_back, pairs_from, moved, output_a, output_b, branch_cost, way, chosen, lesser, is_free, least_from, chosen_at, first_from, AreChoices}
+use Rattle.ht_viterbi.specs.Trellis.{Pair, pair_of, pair_at, phase_back, pairs_from, moved, output_a, output_b, branch_cost}
+use Rattle.ht_viterbi.specs.Trellis.{way, chosen, lesser, is_free, least_from, chosen_at, first_from, AreChoices}
 use Rattle.ht_viterbi.proofs.Sending.{length-pairs, sent-grows}
 
 abbrev pub erased : Pair
@@ -50,10 +52,12 @@ unfolding pairs_from
 pairs-back pattern received steps at p q =
     let more : steps - (at - 1) ≡ suc (steps - at) = omega arith in
     let next : suc (at - 1) ≡ at = omega arith in
-    ap (λ (n : ℕ). pairs_from pattern received (at - 1) n) more ∙ ap (λ (n : ℕ). pair_at pattern received (at - 1) ∷ pairs_from pattern received n (steps - at)) next
+    ap (λ (n : ℕ). pairs_from pattern received (at - 1) n) more
+    ∙ ap (λ (n : ℕ). pair_at pattern received (at - 1) ∷ pairs_from pattern received n (steps - at)) next
 
 -- the phases of the steps, from the last backwards
-pub phase-back : (pattern : Pattern) (at phase phase' : ℕ) → 0 < at → phase ≡ at % length (period_of pattern) → phase' ≡ phase_back phase (length (period_of pattern)) → phase' ≡ (at - 1) % length (period_of pattern)
+pub phase-back : (pattern : Pattern) (at phase phase' : ℕ) → 0 < at → phase ≡ at % length (period_of pattern)
+    → phase' ≡ phase_back phase (length (period_of pattern)) → phase' ≡ (at - 1) % length (period_of pattern)
 phase-back Half at phase phase' p is back = grind (arith, nat_tests)
 phase-back TwoThirds at phase phase' p is back = grind (arith, nat_tests)
 phase-back ThreeQuarters at phase phase' p is back = grind (arith, nat_tests)
@@ -61,7 +65,8 @@ phase-back FiveSixths at phase phase' p is back = grind (arith, nat_tests)
 
 pub phase-step : (pattern : Pattern) (period : List Kept) (at phase phase' : ℕ) → period ≡ period_of pattern → 0 < at → phase ≡ at % length (period_of pattern)
     → phase' ≡ phase_back phase (length period) → phase' ≡ (at - 1) % length (period_of pattern)
-phase-step pattern period at phase phase' is p here back = phase-back pattern at phase phase' p here (back ∙ ap (λ (z : List Kept). phase_back phase (length z)) is)
+phase-step pattern period at phase phase' is p here back =
+    phase-back pattern at phase phase' p here (back ∙ ap (λ (z : List Kept). phase_back phase (length z)) is)
 
 -- what is kept of a step, read from the period
 pub kept-back : (pattern : Pattern) (period : List Kept) (at phase : ℕ) → period ≡ period_of pattern → phase ≡ (at - 1) % length (period_of pattern)
@@ -70,13 +75,15 @@ kept-back pattern period at phase is phase-is = ap (λ (z : List Kept). get_or z
 
 -- where the places of the step before begin
 pub start-back : (pattern : Pattern) (steps at start width : ℕ) (kept : Kept) → 0 < at → at ≤ steps → start ≡ sent_count pattern at
-    → kept ≡ kept_of pattern (at - 1) → width ≡ kept_count kept → (start - width ≡ sent_count pattern (at - 1)) × (start - width + kept_count kept ≤ sent_count pattern steps)
+    → kept ≡ kept_of pattern (at - 1) → width ≡ kept_count kept
+    → (start - width ≡ sent_count pattern (at - 1)) × (start - width + kept_count kept ≤ sent_count pattern steps)
 start-back pattern steps at start width kept p q is kept-is width-is =
     let next : suc (at - 1) ≡ at = omega arith in
     let more : sent_count pattern (at - 1) + kept_count (kept_of pattern (at - 1)) ≡ sent_count pattern at = ap (sent_count pattern) next in
     let same : kept_count kept ≡ kept_count (kept_of pattern (at - 1)) = ap kept_count kept-is in
     let whole : at + (steps - at) ≡ steps = omega arith in
-    let rest : sent_count pattern at ≤ sent_count pattern steps = subst (λ (n : ℕ). sent_count pattern at ≤ sent_count pattern n) whole (sent-grows pattern (steps - at) at) in
+    let rest : sent_count pattern at ≤ sent_count pattern steps =
+    subst (λ (n : ℕ). sent_count pattern at ≤ sent_count pattern n) whole (sent-grows pattern (steps - at) at) in
     (omega arith, omega arith)
 
 -- the pair that is read is that of the step
@@ -147,7 +154,8 @@ chosen-step pairs word costs free pair is was step k q =
 
 -- no distance grows by more than two
 pub bound-step : (into costs : List ℕ) (free : Bool) (pair : Pair) (b : ℕ) → length into ≡ 64 → ((k : ℕ) → slice_index costs k ≤ b)
-    → ((k : ℕ) → k < 64 → slice_index into k ≡ lesser free (way (slice_index costs) pair k false) (way (slice_index costs) pair k true)) → (k : ℕ) → slice_index into k ≤ b + 2
+    → ((k : ℕ) → k < 64 → slice_index into k ≡ lesser free (way (slice_index costs) pair k false) (way (slice_index costs) pair k true))
+    → (k : ℕ) → slice_index into k ≤ b + 2
 bound-step into costs free pair b long was step k = go (nat_lt k 64) refl
   where
     go : (t : Bool) → nat_lt k 64 ≡ t → slice_index into k ≤ b + 2
@@ -173,7 +181,8 @@ word-taken pairs words at state bit p len small are taken =
     let ws : drop at words ≡ get_or words at 0 ∷ drop (at + 1) words = rw add-one (drop-cons words at 0 p) in
     let both : AreChoices (get_or pairs at erased ∷ drop (at + 1) pairs) (get_or words at 0 ∷ drop (at + 1) words) =
     subst (λ (q : List Pair). AreChoices q (get_or words at 0 ∷ drop (at + 1) words)) ps (subst (λ (r : List ℕ). AreChoices (drop at pairs) r) ws are) in
-    let same : bit ≡ chosen_at (drop (at + 1) pairs) (get_or pairs at erased) state = same-bit bit _ (bit_at (get_or words at 0) state) taken (both.0 state small) in (
+    let same : bit ≡ chosen_at (drop (at + 1) pairs) (get_or pairs at erased) state =
+    same-bit bit _ (bit_at (get_or words at 0) state) taken (both.0 state small) in (
       ap (λ (q : List Pair). first_from q state) ps ∙ ap (λ (b : Bool). b ∷ first_from (drop (at + 1) pairs) (moved state b)) (sym same),
       both.1,
     )

@@ -1,7 +1,8 @@
 -- Values of the definitions, by computation.
-use Rattle.std.proofs.Common.{◌≡◌, List, ◌∷◌, map, Bool, true, false, Option, Some, None, replicate, refl}
+use Rattle.std.proofs.Common.{◌≡◌, List, [], ◌∷◌, map, Bool, true, false, Option, Some, None, replicate, refl}
 use mathlib.Core.Bool.{xor}
 use Rattle.ht_rate.specs.declared.kinds.Pattern.TheVariants.{Half, TwoThirds}
+use Rattle.ht_viterbi.specs.Decoded.{terminated_inputs, decoded}
 use Rattle.ht_viterbi.specs.Inputs.{is_terminated, is_before, distance}
 
 abbrev zeros : List Bool
@@ -65,3 +66,15 @@ zero-first = refl
 none-before-itself : is_before one_first one_first ≡ false
 unfolding is_before
 none-before-itself = refl
+
+-- two inputs of seven steps, of which the first is decoded at a tie
+both-inputs : terminated_inputs 7 ≡ zeros ∷ one_first ∷ []
+both-inputs = refl
+
+first-decoded : decoded 7 Half first_word ≡ zeros
+unfolding decoded distance is_before xor
+first-decoded = refl
+
+second-decoded : decoded 7 Half second_word ≡ one_first
+unfolding decoded distance is_before xor
+second-decoded = refl

@@ -9,7 +9,7 @@ use Rattle.ht_nearest.specs.Nearest.{IsFirstNearest}
 abbrev pub tail : ℕ
 tail = 6
 
--- an input of so many bits, whose last six are 0
+-- an input of this number of bits, whose last six are 0
 unfoldable pub is_terminated : ℕ → List Bool → Bool
 is_terminated steps input = (length input == steps) && list_all not (drop (steps - tail) input)
 

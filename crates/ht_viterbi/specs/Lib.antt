@@ -1,3 +1,4 @@
 pub mod Inputs
+pub mod Decoded
 pub mod Trellis
 pub mod Lanes

@@ -1,5 +1,6 @@
 -- The trellis of the code's 64 states, from its end backwards. No public clause speaks of it.
-use Rattle.std.specs.Prelude.{◌≡◌, ℕ, zero, suc, ◌+◌, ◌-◌, ◌/◌, ◌==◌, ◌<◌, List, [], ◌∷◌, length, Bool, true, false, if◌then◌else◌, nat_lt, ◌&&◌, not, ◌↔◌, Option, None, slice_index_or}
+use Rattle.std.specs.Prelude.{◌≡◌, ℕ, zero, suc, ◌+◌, ◌-◌, ◌/◌, ◌<◌, nat_lt, ◌==◌, Bool, true, false, if◌then◌else◌, ◌&&◌, not, ◌↔◌}
+use Rattle.std.specs.Prelude.{List, [], ◌∷◌, length, slice_index_or, Option, None}
 use Rattle.std.specs.Int.{bit_at}
 use Rattle.ht_rate.specs.declared.kinds.Pattern.{Pattern}
 use Rattle.ht_conv.specs.declared.puncture.Kept.{Kept}

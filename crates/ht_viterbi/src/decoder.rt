@@ -1,6 +1,7 @@
-//! The decoder: all 64 states at once, their costs modulo 256. The ways of a state lie so close that their
-//! difference modulo 256 tells which is the lesser.
-ghost use Rattle.std.specs.Prelude.{◌≡◌, ◌+◌, ◌-◌, ◌*◌, ◌%◌, ◌<◌, ◌≤◌, ◌^◌, ◌↔◌, ℕ, List, Bool, true, false, IfOk, length, drop, replicate, slice_index};
+//! The decoder: all 64 states at once, their costs modulo 256. The ways of a state cost so nearly the same that their
+//! difference modulo 256 says which is the lesser.
+ghost use Rattle.std.specs.Prelude.{◌≡◌, ◌+◌, ◌-◌, ◌*◌, ◌%◌, ◌<◌, ◌≤◌, ◌^◌, ◌↔◌, ℕ, Bool, true, false, IfOk};
+ghost use Rattle.std.specs.Prelude.{List, length, drop, replicate, slice_index};
 ghost use Rattle.std.specs.Int.{bit_at};
 ghost use Rattle.ht_conv.specs.Puncturing.{sent_count};
 ghost use Rattle.ht_viterbi.specs.Inputs.{IsDecoded, distance, tail};
@@ -8,16 +9,17 @@ ghost use Rattle.ht_viterbi.specs.Trellis.{Pair, branch_cost, way, chosen, lesse
 ghost use Rattle.ht_viterbi.specs.Lanes.{HasLanes, HoldsBranches, IsClose};
 
 use crate::branches::{Branches, branches_of, row_of};
-use crate::codeword::{Bits, Codeword};
+use crate::codeword::Codeword;
 use crate::lanes::{after_one, after_zero, differences, negative, sums, taken};
 use crate::pairs::{Pair, pair_from, phase_before, places_of};
 use crate::walk::forwards;
+use ht_bits::Bits;
 use ht_conv::period;
 use ht_rate::Pattern;
 use std::alloc::{AllocError, Global};
 use std::simd::prelude::*;
 
-// One step of the trellis. The answer has the new costs, and the states at which a 1 is taken.
+// One step of the trellis. The answer has the new costs, modulo 256, and the states at which a 1 is taken.
 #[inline(always)]
 fn step(costs: u8x64, zero: u8x64, one: u8x64, free: bool) -> (u8x64, u64)
     ensures costs { (table : ℕ → ℕ) (pair : Pair) → HasLanes costs (λ k. table k % 256)
@@ -56,7 +58,7 @@ fn carried(before: u32, octet: u8) -> u32
     most.saturating_sub((most + 256 - u32::from(octet)) % 256)
 }
 
-// The cost of state 0.
+// The cost of state 0, modulo 256.
 #[inline(always)]
 fn first_lane(costs: u8x64) -> u8
     ensures { result ≡ slice_index costs 0 }
@@ -102,8 +104,8 @@ fn backwards(pattern: Pattern, received: &[Option<bool>], choices: &mut [u64]) -
 /// Decodes a punctured codeword: the first terminated input whose coded bits are nearest to `received`.
 ///
 /// `steps` is the length of the input with its tail of six zeros, from 6 to 524302. `received` has the coded bits
-/// that `pattern` keeps of so many steps, A before B, None where a place is erased; an erased place counts for
-/// nothing. The memory for all steps is taken first, eight octets a step and one for each bit of the answer; want
+/// that `pattern` keeps of these steps, A before B, None where a place is erased; an erased place counts for
+/// nothing. The memory for all steps is taken first, eight octets a step and one for each bit of the answer; lack
 /// of it is the only error, and then nothing has changed.
 ///
 /// IEEE Std 802.11-2012, clauses 18.3.5.6 and 20.3.11.6.
@@ -126,7 +128,7 @@ pub fn decode(
     let distance = backwards(pattern, received, choices.as_mut_slice());
     forwards(&choices, &mut input);
     Ok(Codeword {
-        input: Bits::from_vec(input),
+        input: Bits::from(input),
         distance,
     })
 }

@@ -1,4 +1,4 @@
-//! One step of the trellis on all 64 states at once: lane `n` of a vector is that of state `n`.
+//! One step of the trellis on all 64 states at once: lane `n` of a vector is that of state `n`, modulo 256.
 ghost use Rattle.std.specs.Prelude.{◌≡◌, ◌+◌, ◌-◌, ◌/◌, ◌%◌, ◌<◌, ◌≤◌, ◌↔◌, if◌then◌else◌, nat_le, ℕ, true, slice_index};
 ghost use Rattle.std.specs.Int.{bit_at};
 ghost use Rattle.ht_viterbi.specs.Trellis.{way, chosen, lesser, Pair, branch_cost};
@@ -36,7 +36,7 @@ pub(crate) fn after_one(costs: u8x64) -> u8x64
     costs.swizzle(AFTER_ONE)
 }
 
-// Lane by lane, modulo 256.
+// The sums lane by lane, modulo 256.
 #[inline(always)]
 pub(crate) fn sums(a: u8x64, b: u8x64) -> u8x64
     ensures { HasLanes result (λ k. (slice_index a k + slice_index b k) % 256) }
@@ -44,7 +44,7 @@ pub(crate) fn sums(a: u8x64, b: u8x64) -> u8x64
     a + b
 }
 
-// Lane by lane, modulo 256.
+// The differences lane by lane, modulo 256.
 #[inline(always)]
 pub(crate) fn differences(a: u8x64, b: u8x64) -> u8x64
     ensures { HasLanes result (λ k. (slice_index a k + (256 - slice_index b k)) % 256) }

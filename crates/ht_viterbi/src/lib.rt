@@ -1,21 +1,22 @@
 //! The Viterbi decoder of the convolutional code (IEEE Std 802.11-2012, clauses 18.3.5.6 and 20.3.11.6).
 //!
 //! In go the coded bits that one encoder sent, as hard decisions with erasures: `Some(bit)` for a place that was
-//! received, None for one that was lost. Out comes the encoder's input that explains them best: of all inputs that
+//! received, `None` for one that was lost. Out comes the encoder's input that explains them best: of all inputs that
 //! end with the tail of six zeros the one whose coded bits differ at the fewest places that aren't erased, and among
 //! those that are equally near the first one, which has 0 at the first place where two of them differ.
 //!
 //! With 7 steps at rate 1/2 the word `11 01 11 00 00 00 00` is decoded to 0000000 at distance 5: the input 1000000
 //! sends `11 01 11 11 00 10 11` and lies at distance 5 too, but comes later.
 //!
-//! [`decode`] keeps the costs of all 64 states in the lanes of one vector, from the last step to the first, so that
-//! one way forwards gives the first of the nearest inputs. [`plain_decode`] answers the same state by state. The
-//! definitions are in `specs/Inputs.antt`: a minimum over all inputs, with no trellis in it. The laws that follow
-//! from them are in [`laws`].
+//! [`decode`] keeps the costs of all 64 states, modulo 256, in the lanes of one vector, from the last step to the first,
+//! so that one way forwards gives the first of the nearest inputs. [`plain_decode`] answers the same state by state. The
+//! definitions are in `specs/Inputs.antt`: a minimum over all inputs, with no trellis in it. `specs/Decoded.antt` has
+//! the same as a function of what is received, over the list of all inputs. The laws that follow from them are in
+//! [`laws`].
 #![tactic(auto)]
 
 mod branches;
-pub mod codeword;
+mod codeword;
 mod decoder;
 mod lanes;
 pub mod laws;
@@ -26,6 +27,6 @@ mod tests;
 mod walk;
 mod words;
 
-pub use codeword::{Bits, Codeword};
+pub use codeword::Codeword;
 pub use decoder::decode;
 pub use plain::plain_decode;

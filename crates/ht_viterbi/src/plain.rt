@@ -1,14 +1,16 @@
 //! The plain decoder: 64 costs a step.
-ghost use Rattle.std.specs.Prelude.{◌≡◌, ◌+◌, ◌*◌, ◌<◌, ◌≤◌, ◌≢◌, ◌^◌, ◌↔◌, ℕ, List, [], length, true, false, IfOk, drop, vec_capacity, slice_index, replicate, ◌-◌};
+ghost use Rattle.std.specs.Prelude.{◌≡◌, ◌≢◌, ◌+◌, ◌-◌, ◌*◌, ◌^◌, ◌<◌, ◌≤◌, ◌↔◌, ℕ, true, false, IfOk};
+ghost use Rattle.std.specs.Prelude.{List, [], length, drop, replicate, slice_index, vec_capacity};
 ghost use Rattle.std.specs.Int.{bit_at};
 ghost use Rattle.ht_conv.specs.Puncturing.{sent_count};
 ghost use Rattle.ht_viterbi.specs.Inputs.{IsDecoded, distance, tail};
 ghost use Rattle.ht_viterbi.specs.Trellis.{way, chosen, lesser, least_from, first_from, AreChoices, pairs_from, moved, Pair};
 
-use crate::codeword::{Bits, Codeword};
+use crate::codeword::Codeword;
 use crate::pairs::{Pair, cost_of_branch, pair_from, places_of, state_after};
 use crate::walk::forwards;
 use crate::words::with_flag;
+use ht_bits::Bits;
 use ht_conv::kept_at;
 use ht_rate::Pattern;
 use std::alloc::{AllocError, Global};
@@ -35,8 +37,10 @@ fn pick(free: bool, zero: u32, one: u32) -> (bool, u32)
 // One step of the trellis. The answer has the states at which a 1 is taken.
 fn step(costs: &[u32; 64], pair: Pair, free: bool, into: &mut [u32; 64]) -> u64
     requires { (k : ℕ) → slice_index costs.now k ≤ 2 ^ 30 }
-    ensures costs { (k : ℕ) → k < 64 → slice_index into.new k ≡ lesser free (way (slice_index costs.now) pair k false) (way (slice_index costs.now) pair k true) }
-    ensures choices { (k : ℕ) → k < 64 → (bit_at result k ≡ 1) ↔ (chosen free (way (slice_index costs.now) pair k false) (way (slice_index costs.now) pair k true) ≡ true) }
+    ensures costs { (k : ℕ) → k < 64
+        → slice_index into.new k ≡ lesser free (way (slice_index costs.now) pair k false) (way (slice_index costs.now) pair k true) }
+    ensures choices { (k : ℕ) → k < 64 → (bit_at result k ≡ 1)
+        ↔ (chosen free (way (slice_index costs.now) pair k false) (way (slice_index costs.now) pair k true) ≡ true) }
 {
     let mut choices = 0u64;
     for state in 0..64usize {
@@ -85,9 +89,10 @@ fn backwards(pattern: Pattern, received: &[Option<bool>], choices: &mut [u64]) -
 
 /// Decodes a punctured codeword: the first terminated input whose coded bits are nearest to `received`.
 ///
-/// `steps` is the length of the input with its tail of six zeros, and `received` has the coded bits that `pattern`
-/// keeps, None where one is erased. This is the plain form of [`decode`](crate::decode): 64 costs and 64
-/// comparisons a step. The only error is want of memory, and nothing has changed then.
+/// `steps` is the length of the input with its tail of six zeros, from 6 to 524302, and `received` has the coded bits
+/// that `pattern` keeps of these steps, `None` where one is erased. This is the plain form of
+/// [`decode`](crate::decode): 64 costs and 64 comparisons a step. The only error is lack of memory, and nothing has
+/// changed then.
 ///
 /// IEEE Std 802.11-2012, clauses 18.3.5.6 and 20.3.11.6.
 pub fn plain_decode(
@@ -109,7 +114,7 @@ pub fn plain_decode(
     let distance = backwards(pattern, received, choices.as_mut_slice());
     forwards(&choices, &mut input);
     Ok(Codeword {
-        input: Bits::from_vec(input),
+        input: Bits::from(input),
         distance,
     })
 }

@@ -164,7 +164,7 @@ fn ties(rt: HostRuntime) -> Result<(), Fail> {
     Ok(())
 }
 
-// A random terminated input, and what it sends with so many of a hundred places wrong.
+// A random terminated input, and what it sends with `percent` of a hundred places wrong.
 fn sent_with_errors(
     alloc: Global,
     steps: u32,

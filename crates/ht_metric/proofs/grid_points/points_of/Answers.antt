@@ -16,8 +16,11 @@ push-requires c =
     let is = c.as_slice-i-items.result.now in
     let qs = c.as_slice-q-items.result.now in
     let few : length is ≤ 8 = omega (arith, ap length (c.as_slice-i-items.ensures.value ∙ c.levels_of-is.ensures), levels_few c.args.i_ladder i) in
-    let small : length qs ≤ 8 = omega (arith, ap length (c.as_slice-q-items.ensures.value ∙ c.levels_of-qs.ensures), levels_few c.args.q_ladder q) in
-    (omega arith, points_room is qs c.loop-i.i-index c.loop-q.q-index (get_or is c.loop-i.i-index (pos 0)) c.loop-q.points.items few small c.loop-i-test.true c.loop-q-test.true c.loop-q.invariant.items)
+    let small : length qs ≤ 8 = omega (arith, ap length (c.as_slice-q-items.ensures.value ∙ c.levels_of-qs.ensures), levels_few c.args.q_ladder q) in (
+      omega arith,
+      points_room is qs c.loop-i.i-index c.loop-q.q-index
+          (get_or is c.loop-i.i-index (pos 0)) c.loop-q.points.items few small c.loop-i-test.true c.loop-q-test.true c.loop-q.invariant.items,
+    )
 
 pub loop-q-preserved : goal.loop-q-preserved
 loop-q-preserved c =
@@ -26,14 +29,17 @@ loop-q-preserved c =
     let is = c.as_slice-i-items.result.now in
     let qs = c.as_slice-q-items.result.now in
     record {
-      items = points_more c.args.i_ladder c.args.q_ladder is qs c.loop-i.i-index c.loop-q.q-index (flat_map (row qs) (take c.loop-i.i-index is)) c.loop-q.points.items c.push.new.self.items i q
-          (c.as_slice-i-items.ensures.value ∙ c.levels_of-is.ensures) (c.as_slice-q-items.ensures.value ∙ c.levels_of-qs.ensures) c.loop-i-test.true c.loop-q-test.true c.loop-q.invariant.items c.push.ensures.items;
+      items = points_more c.args.i_ladder c.args.q_ladder is qs c.loop-i.i-index c.loop-q.q-index
+          (flat_map (row qs) (take c.loop-i.i-index is)) c.loop-q.points.items c.push.new.self.items i q
+          (c.as_slice-i-items.ensures.value ∙ c.levels_of-is.ensures) (c.as_slice-q-items.ensures.value ∙ c.levels_of-qs.ensures)
+          c.loop-i-test.true c.loop-q-test.true c.loop-q.invariant.items c.push.ensures.items;
       below = c.loop-i-test.true;
     }
 
 pub returns-clause-points : goal.returns-clause-points
 returns-clause-points c =
-    points_all (record { i = c.args.i_ladder; q = c.args.q_ladder }) c.as_slice-i-items.result.now c.levels_of-qs.result.items c.loop-i.i-index c.loop-i.points.items
+    points_all (record { i = c.args.i_ladder; q = c.args.q_ladder }) c.as_slice-i-items.result.now
+    c.levels_of-qs.result.items c.loop-i.i-index c.loop-i.points.items
     (c.as_slice-i-items.ensures.value ∙ c.levels_of-is.ensures) c.levels_of-qs.ensures (omega arith) c.loop-i.invariant
 
 pub returns-clause-range : goal.returns-clause-range

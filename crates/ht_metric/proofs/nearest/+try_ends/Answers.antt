@@ -44,7 +44,8 @@ try_ends-best-requires t c =
         (
           omega arith,
           (
-            All-same IsInRange c.push.new.self (front ++ get_or ps k no_point ∷ []) c.push.ensures (All-push IsInRange front (get_or ps k no_point) c.requires.levels small),
+            All-same IsInRange c.push.new.self (front ++ get_or ps k no_point ∷ []) c.push.ensures
+                (All-push IsInRange front (get_or ps k no_point) c.requires.levels small),
             c.loop-point.invariant.best,
           ),
         ),
@@ -53,7 +54,9 @@ try_ends-best-requires t c =
 
 pub loop-point-preserved : goal.loop-point-preserved
 loop-point-preserved t c = record {
-  found = tried_one (distance_of c.args.system.now) (vector_of c.args.best) (vector_of c.loop-point.best) (vector_of c.try_ends-best.result) c.args.grid.now c.args.front c.push.new.self
-      c.as_slice-point-items.result.now c.loop-point.point-index no_point (ends_of c.args.grid.now c.args.front) c.loop-point-test.true c.push.ensures c.try_ends-best.ensures.found c.loop-point.invariant.found;
+  found = tried_one (distance_of c.args.system.now) (vector_of c.args.best) (vector_of c.loop-point.best)
+      (vector_of c.try_ends-best.result) c.args.grid.now c.args.front c.push.new.self
+      c.as_slice-point-items.result.now c.loop-point.point-index no_point
+      (ends_of c.args.grid.now c.args.front) c.loop-point-test.true c.push.ensures c.try_ends-best.ensures.found c.loop-point.invariant.found;
   best = c.try_ends-best.ensures.best;
 }

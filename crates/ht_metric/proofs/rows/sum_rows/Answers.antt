@@ -17,7 +17,8 @@ loop-k-preserved c =
     let below : k < c.args.count = omega arith in
     let point : Point = record { i = pos 0; q = pos 0 } in
     record {
-      sum = row_added c.args.count k c.loop-k.from c.loop-k.total c.from-total.result _ c.args.diagonal.now c.args.above.now c.args.y.now c.args.vector.now point below c.requires.streams (c.from-total.ensures ∙ c.row_length.ensures) c.loop-k.invariant.sum;
+      sum = row_added c.args.count k c.loop-k.from c.loop-k.total c.from-total.result _ c.args.diagonal.now c.args.above.now c.args.y.now
+          c.args.vector.now point below c.requires.streams (c.from-total.ensures ∙ c.row_length.ensures.value) c.loop-k.invariant.sum;
       bound = omega arith;
       entries = entries-suc c.args.count k c.loop-k.from below c.loop-k.invariant.entries;
     }

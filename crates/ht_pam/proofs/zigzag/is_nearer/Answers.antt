@@ -10,7 +10,8 @@ returns-clause-near c = λ h.
     let low : to_z w8 (of_z w8 c.args.low) ≡ c.args.low = to_z-of_z low_fits in
     let high_fits : SFits w8 c.args.high = search rules in
     let high : to_z w8 (of_z w8 c.args.high) ≡ c.args.high = to_z-of_z high_fits in
-    let sum : c.between.result ≡ pos c.args.d *ℤ (c.args.low +ℤ c.args.high) = c.between.ensures ∙ ap (λ (x : ℤ). pos c.args.d *ℤ (x +ℤ to_z w8 (of_z w8 c.args.high))) low ∙ ap (λ (x : ℤ). pos c.args.d *ℤ (c.args.low +ℤ x)) high in
+    let sum : c.between.result ≡ pos c.args.d *ℤ (c.args.low +ℤ c.args.high) = c.between.ensures
+    ∙ ap (λ (x : ℤ). pos c.args.d *ℤ (x +ℤ to_z w8 (of_z w8 c.args.high))) low ∙ ap (λ (x : ℤ). pos c.args.d *ℤ (c.args.low +ℤ x)) high in
     let wide : SFits w64 c.between.result = search rules in
     let le : (c.args.target +ℤ c.args.target) ≤ℤ c.between.result = grind (arith, ints) in
     near c.args.target c.args.d c.args.low c.args.high c.requires.order (omega (arith, ints))
@@ -21,7 +22,8 @@ returns-clause-far c = λ h.
     let low : to_z w8 (of_z w8 c.args.low) ≡ c.args.low = to_z-of_z low_fits in
     let high_fits : SFits w8 c.args.high = search rules in
     let high : to_z w8 (of_z w8 c.args.high) ≡ c.args.high = to_z-of_z high_fits in
-    let sum : c.between.result ≡ pos c.args.d *ℤ (c.args.low +ℤ c.args.high) = c.between.ensures ∙ ap (λ (x : ℤ). pos c.args.d *ℤ (x +ℤ to_z w8 (of_z w8 c.args.high))) low ∙ ap (λ (x : ℤ). pos c.args.d *ℤ (c.args.low +ℤ x)) high in
+    let sum : c.between.result ≡ pos c.args.d *ℤ (c.args.low +ℤ c.args.high) = c.between.ensures
+    ∙ ap (λ (x : ℤ). pos c.args.d *ℤ (x +ℤ to_z w8 (of_z w8 c.args.high))) low ∙ ap (λ (x : ℤ). pos c.args.d *ℤ (c.args.low +ℤ x)) high in
     let wide : SFits w64 c.between.result = search rules in
     let less : c.between.result <ℤ (c.args.target +ℤ c.args.target) = grind (arith, ints) in
     far c.args.target c.args.d c.args.low c.args.high c.requires.some c.requires.order (omega (arith, ints))

@@ -13,5 +13,6 @@ loop-width-preserved-then-middle-target c =
       width = half.0;
       within = omega (arith, half.1, c.loop-width.invariant.within);
       below = λ some. search (rules, c.middle.ensures, c.if-middle-target.true);
-      above = λ more. subst (λ (n : ℕ). to_z w64 (of_z w64 c.args.target) ≤ℤ (pos c.args.d *ℤ (level c.args.size n -ℤ pos 1))) (halved at w half.1) (c.loop-width.invariant.above (omega (arith, half.1)));
+      above = λ more. subst (λ (n : ℕ). to_z w64 (of_z w64 c.args.target) ≤ℤ (pos c.args.d *ℤ (level c.args.size n -ℤ pos 1)))
+          (halved at w half.1) (c.loop-width.invariant.above (omega (arith, half.1)));
     }

@@ -18,7 +18,8 @@ returns-clause-best g c =
     let all = down_system c.args.job.now c.system.result.now k c.system.ensures.job c.system.ensures.system c.streams-streams.ensures.number in
     let none = no_levels c.from.result k k (sym c.from.ensures) (omega arith) in
     subst (λ (cs : List Real). IsBestOf (c.args.best.now, c.args.distance) (leaves cs [] 0) (c.search.new.best, c.search.new.distance)) all
-    (subst (λ (s : List ℤ). IsBestOf (c.args.best.now, c.args.distance) (leaves (down c.args.job.now.system c.args.job.now.grid k) s 0) (c.search.new.best, c.search.new.distance)) none c.search.ensures.best)
+    (subst (λ (s : List ℤ). IsBestOf (c.args.best.now, c.args.distance) (leaves (down c.args.job.now.system c.args.job.now.grid k) s 0)
+    (c.search.new.best, c.search.new.distance)) none c.search.ensures.best)
 
 pub returns-clause-steps : goal.returns-clause-steps
 returns-clause-steps g c =

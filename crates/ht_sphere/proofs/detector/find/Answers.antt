@@ -14,7 +14,8 @@ returns-then-distance-others-clause-best g c =
     let w : Found = (c.round.new.levels, c.round.new.distance) in
     let all = down_system c.args.job.now c.system.result.now k c.system.ensures.job c.system.ensures.system c.streams.ensures.number in
     let none = none_left c.args.levels.now k (omega (arith, c.requires.room, c.streams.ensures.number, ap length c.system.ensures.system)) in
-    let found : rounding (from_last rows grid) [] 0 ≡ w = found_all (down rows grid k) (from_last rows grid) (drop (2 * k) c.args.levels.now) w all none c.round.ensures.found in
+    let found : rounding (from_last rows grid) [] 0 ≡ w =
+    found_all (down rows grid k) (from_last rows grid) (drop (2 * k) c.args.levels.now) w all none c.round.ensures.found in
     let others : OthersFrom (from_last rows grid) [] 0 w c.round.new.others =
     subst (λ (cs : List Real). OthersFrom cs [] 0 w c.round.new.others) all
     (subst (λ (s : List ℤ). OthersFrom (down rows grid k) s 0 w c.round.new.others) none c.round.ensures.others) in
@@ -35,7 +36,8 @@ returns-clause-best g c =
     let w : Found = (c.round.new.levels, c.round.new.distance) in
     let all = down_system c.args.job.now c.system.result.now k c.system.ensures.job c.system.ensures.system c.streams.ensures.number in
     let none = none_left c.args.levels.now k (omega (arith, c.requires.room, c.streams.ensures.number, ap length c.system.ensures.system)) in
-    let found : rounding (from_last rows grid) [] 0 ≡ w = found_all (down rows grid k) (from_last rows grid) (drop (2 * k) c.args.levels.now) w all none c.round.ensures.found in
+    let found : rounding (from_last rows grid) [] 0 ≡ w =
+    found_all (down rows grid k) (from_last rows grid) (drop (2 * k) c.args.levels.now) w all none c.round.ensures.found in
     subst (λ (f : Found). IsBestOf f (leaves (from_last rows grid) [] 0) (c.better.new.best, c.better.result)) (sym found) c.better.ensures.best
 
 pub returns-clause-steps : goal.returns-clause-steps
@@ -47,5 +49,6 @@ returns-clause-steps g c =
     let w : Found = (c.round.new.levels, c.round.new.distance) in
     let all = down_system c.args.job.now c.system.result.now k c.system.ensures.job c.system.ensures.system c.streams.ensures.number in
     let none = none_left c.args.levels.now k (omega (arith, c.requires.room, c.streams.ensures.number, ap length c.system.ensures.system)) in
-    let found : rounding (from_last rows grid) [] 0 ≡ w = found_all (down rows grid k) (from_last rows grid) (drop (2 * k) c.args.levels.now) w all none c.round.ensures.found in
+    let found : rounding (from_last rows grid) [] 0 ≡ w =
+    found_all (down rows grid k) (from_last rows grid) (drop (2 * k) c.args.levels.now) w all none c.round.ensures.found in
     subst (λ (f : Found). c.better.new.steps + 1 ≤ c.args.steps.now + 2 * inside f.1 cs [] 0) (sym found) c.better.ensures.steps

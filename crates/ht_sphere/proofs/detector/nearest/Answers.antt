@@ -9,18 +9,22 @@ use Rattle.ht_sphere.proofs.detector.nearest.Goals as goal
 pub of-requires-clause-near : goal.of-requires-clause-near
 of-requires-clause-near g c =
     let job = c.args.job.now in
-    let a = answered job (from_last job.system job.grid) c.find-distance.new.levels c.find-distance.result c.vector_of.result c.system.ensures.job refl c.find-distance.ensures.best c.vector_of.ensures in
+    let a = answered job (from_last job.system job.grid) c.find-distance.new.levels c.find-distance.result
+    c.vector_of.result c.system.ensures.job refl c.find-distance.ensures.best c.vector_of.ensures in
     subst (λ (j : JobView). IsNear j c.vector_of.result) (sym c.copy.ensures) a.0
 
 pub of-requires-clause-distance : goal.of-requires-clause-distance
 of-requires-clause-distance g c =
     let job = c.args.job.now in
-    let a = answered job (from_last job.system job.grid) c.find-distance.new.levels c.find-distance.result c.vector_of.result c.system.ensures.job refl c.find-distance.ensures.best c.vector_of.ensures in
+    let a = answered job (from_last job.system job.grid) c.find-distance.new.levels c.find-distance.result
+    c.vector_of.result c.system.ensures.job refl c.find-distance.ensures.best c.vector_of.ensures in
     a.1 ∙ ap (λ (j : JobView). distance_of j.system c.vector_of.result) (sym c.copy.ensures)
 
 pub returns-clause-near : goal.returns-clause-near
 returns-clause-near g c =
     let job = c.args.job.now in
     let x = c.vector_of.result in
-    let a = answered job (from_last job.system job.grid) c.find-distance.new.levels c.find-distance.result x c.system.ensures.job refl c.find-distance.ensures.best c.vector_of.ensures in
-    near_is job x a.0 ∙ found_same job x c.of.result.vector c.of.result.distance c.find-distance.result job.system c.of.ensures.vector c.of.ensures.distance a.1 refl
+    let a = answered job (from_last job.system job.grid) c.find-distance.new.levels c.find-distance.result
+    x c.system.ensures.job refl c.find-distance.ensures.best c.vector_of.ensures in
+    near_is job x a.0 ∙ found_same job x c.of.result.vector c.of.result.distance
+    c.find-distance.result job.system c.of.ensures.vector c.of.ensures.distance a.1 refl

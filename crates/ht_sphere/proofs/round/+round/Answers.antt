@@ -1,4 +1,5 @@
-use Rattle.std.proofs.Common.{rules, ◌≡◌, ◌∷◌, ◌+◌, ◌-◌, ◌*◌, ◌≤◌, ℤ, List, drop, set, get_or, pos, w8, w64, SFits, to_z, of_z, to_z-of_z, unsigned_abs, ap, sym, ◌∙◌, subst, arith}
+use Rattle.std.proofs.Common.{rules, ◌≡◌, ◌∷◌, ◌+◌, ◌-◌, ◌*◌, ◌≤◌, ℤ, List, drop, set, get_or, pos, w8}
+use Rattle.std.proofs.Common.{w64, SFits, to_z, of_z, to_z-of_z, unsigned_abs, ap, sym, ◌∙◌, subst, arith}
 use Rattle.std.proofs.lemmas.List.Elements.{All-set}
 use Rattle.std.proofs.Math.ListN.{length-set}
 use Rattle.ht_sphere.specs.Coordinates.{Real, cost, order, target, down, from_q, q_at, i_at}
@@ -31,7 +32,8 @@ round-requires t c =
         (
           same2 ∙ same ∙ c.requires.room,
           (
-            All-set (λ z. unsigned_abs z ≤ 7) one at (to_z w8 (of_z w8 y)) y_small (All-set (λ z. unsigned_abs z ≤ 7) ls (at + 1) (to_z w8 (of_z w8 x)) x_small c.requires.levels),
+            All-set (λ z. unsigned_abs z ≤ 7) one at (to_z w8 (of_z w8 y)) y_small
+                (All-set (λ z. unsigned_abs z ≤ 7) ls (at + 1) (to_z w8 (of_z w8 x)) x_small c.requires.levels),
             omega (arith, c.requires.small, c.chosen-q.ensures.room, c.chosen-i.ensures.room),
           ),
         ),
@@ -48,8 +50,8 @@ returns-clause-found t c =
     let s = drop (2 * k) ls in
     let q = q_at rows grid j in
     let i = i_at rows grid j in
-    let im_fits : SFits w64 c.row_of-row.result.im = search rules in
-    let re_fits : SFits w64 c.row_of-row.result.re = search rules in
+    let im_fits : SFits w64 c.remainder_of-left.result.im = search rules in
+    let re_fits : SFits w64 c.remainder_of-left.result.re = search rules in
     let a_fits : SFits w8 c.nearest_q-level.result = search rules in
     let b_fits : SFits w8 c.nearest_i-level.result = search rules in
     let x_fits : SFits w8 c.chosen-q.result.level = search rules in
@@ -60,12 +62,14 @@ returns-clause-found t c =
     let y = c.nearest_i-level.result in
     let x_is : to_z w8 (of_z w8 c.chosen-q.result.level) ≡ x = to_z-of_z x_fits ∙ c.chosen-q.ensures.level ∙ a in
     let y_is : to_z w8 (of_z w8 c.chosen-i.result.level) ≡ y = to_z-of_z y_fits ∙ c.chosen-i.ensures.level ∙ b in
-    let u : to_z w64 (of_z w64 c.row_of-row.result.im) ≡ target q s = to_z-of_z im_fits ∙ c.row_of-row.ensures.im in
-    let v : to_z w64 (of_z w64 c.row_of-row.result.re) ≡ target i (x ∷ s) = to_z-of_z re_fits ∙ c.row_of-row.ensures.re x in
+    let u : to_z w64 (of_z w64 c.remainder_of-left.result.im) ≡ target q s = to_z-of_z im_fits ∙ c.remainder_of-left.ensures.im in
+    let v : to_z w64 (of_z w64 c.remainder_of-left.result.re) ≡ target i (x ∷ s) = to_z-of_z re_fits ∙ c.remainder_of-left.ensures.re x in
     let first_q : x ≡ get_or (order q s) 0 (pos 0) = c.nearest_q-level.ensures.value ∙ first_at q s _ u in
     let first_i : y ≡ get_or (order i (x ∷ s)) 0 (pos 0) = c.nearest_i-level.ensures.value ∙ first_at i (x ∷ s) _ v in
-    let sum_q : c.chosen-q.result.partial ≡ c.args.distance.now + cost q s x = c.chosen-q.ensures.partial ∙ ap (λ n. c.args.distance.now + n) (cost_is q s _ _ x _ c.row_of-row.ensures.d u a) in
-    let sum_i : c.chosen-i.result.partial ≡ c.chosen-q.result.partial + cost i (x ∷ s) y = c.chosen-i.ensures.partial ∙ ap (λ n. c.chosen-q.result.partial + n) (cost_is i (x ∷ s) _ _ y _ c.row_of-row.ensures.d v b) in
+    let sum_q : c.chosen-q.result.partial ≡ c.args.distance.now + cost q s x =
+    c.chosen-q.ensures.partial ∙ ap (λ n. c.args.distance.now + n) (cost_is q s _ _ x _ c.remainder_of-left.ensures.d u a) in
+    let sum_i : c.chosen-i.result.partial ≡ c.chosen-q.result.partial + cost i (x ∷ s) y =
+    c.chosen-i.ensures.partial ∙ ap (λ n. c.chosen-q.result.partial + n) (cost_is i (x ∷ s) _ _ y _ c.remainder_of-left.ensures.d v b) in
     let list = two_set ls k (2 * c.from.result - 2) _ _ x y (omega (arith, c.from.ensures)) (omega (arith, c.requires.room, c.requires.last)) x_is y_is in
     ap (λ (cs : List Real). rounding cs s c.args.distance.now) (down_more rows grid k (omega arith))
     ∙ round_two q i (down rows grid j) s c.args.distance.now c.chosen-q.result.partial c.chosen-i.result.partial x y _ first_q sum_q first_i sum_i
@@ -81,8 +85,8 @@ returns-clause-others t c =
     let s = drop (2 * k) ls in
     let q = q_at rows grid j in
     let i = i_at rows grid j in
-    let im_fits : SFits w64 c.row_of-row.result.im = search rules in
-    let re_fits : SFits w64 c.row_of-row.result.re = search rules in
+    let im_fits : SFits w64 c.remainder_of-left.result.im = search rules in
+    let re_fits : SFits w64 c.remainder_of-left.result.re = search rules in
     let a_fits : SFits w8 c.nearest_q-level.result = search rules in
     let b_fits : SFits w8 c.nearest_i-level.result = search rules in
     let x_fits : SFits w8 c.chosen-q.result.level = search rules in
@@ -95,15 +99,17 @@ returns-clause-others t c =
     let w : Found = (c.round.new.levels, c.round.new.distance) in
     let x_is : to_z w8 (of_z w8 c.chosen-q.result.level) ≡ x = to_z-of_z x_fits ∙ c.chosen-q.ensures.level ∙ a in
     let y_is : to_z w8 (of_z w8 c.chosen-i.result.level) ≡ y = to_z-of_z y_fits ∙ c.chosen-i.ensures.level ∙ b in
-    let u : to_z w64 (of_z w64 c.row_of-row.result.im) ≡ target q s = to_z-of_z im_fits ∙ c.row_of-row.ensures.im in
-    let v : to_z w64 (of_z w64 c.row_of-row.result.re) ≡ target i (x ∷ s) = to_z-of_z re_fits ∙ c.row_of-row.ensures.re x in
+    let u : to_z w64 (of_z w64 c.remainder_of-left.result.im) ≡ target q s = to_z-of_z im_fits ∙ c.remainder_of-left.ensures.im in
+    let v : to_z w64 (of_z w64 c.remainder_of-left.result.re) ≡ target i (x ∷ s) = to_z-of_z re_fits ∙ c.remainder_of-left.ensures.re x in
     let first_q : x ≡ get_or (order q s) 0 (pos 0) = c.nearest_q-level.ensures.value ∙ first_at q s _ u in
     let first_i : y ≡ get_or (order i (x ∷ s)) 0 (pos 0) = c.nearest_i-level.ensures.value ∙ first_at i (x ∷ s) _ v in
-    let sum_q : c.chosen-q.result.partial ≡ c.args.distance.now + cost q s x = c.chosen-q.ensures.partial ∙ ap (λ n. c.args.distance.now + n) (cost_is q s _ _ x _ c.row_of-row.ensures.d u a) in
-    let sum_i : c.chosen-i.result.partial ≡ c.chosen-q.result.partial + cost i (x ∷ s) y = c.chosen-i.ensures.partial ∙ ap (λ n. c.chosen-q.result.partial + n) (cost_is i (x ∷ s) _ _ y _ c.row_of-row.ensures.d v b) in
+    let sum_q : c.chosen-q.result.partial ≡ c.args.distance.now + cost q s x =
+    c.chosen-q.ensures.partial ∙ ap (λ n. c.args.distance.now + n) (cost_is q s _ _ x _ c.remainder_of-left.ensures.d u a) in
+    let sum_i : c.chosen-i.result.partial ≡ c.chosen-q.result.partial + cost i (x ∷ s) y =
+    c.chosen-i.ensures.partial ∙ ap (λ n. c.chosen-q.result.partial + n) (cost_is i (x ∷ s) _ _ y _ c.remainder_of-left.ensures.d v b) in
     let list = two_set ls k (2 * c.from.result - 2) _ _ x y (omega (arith, c.from.ensures)) (omega (arith, c.requires.room, c.requires.last)) x_is y_is in
-    let far_q = others_is q s _ _ x _ c.args.distance.now _ c.row_of-row.ensures.d u a c.chosen-q.ensures.others in
-    let far_i = others_is i (x ∷ s) _ _ y _ c.chosen-q.result.partial _ c.row_of-row.ensures.d v b c.chosen-i.ensures.others in
+    let far_q = others_is q s _ _ x _ c.args.distance.now _ c.remainder_of-left.ensures.d u a c.chosen-q.ensures.others in
+    let far_i = others_is i (x ∷ s) _ _ y _ c.chosen-q.result.partial _ c.remainder_of-left.ensures.d v b c.chosen-i.ensures.others in
     let rest : OthersFrom (down rows grid j) (y ∷ x ∷ s) c.chosen-i.result.partial w off =
     subst (λ (l : List ℤ). OthersFrom (down rows grid j) l c.chosen-i.result.partial w off) list c.round.ensures.others in
     let all : OthersFrom (from_q rows grid j) s c.args.distance.now w off =

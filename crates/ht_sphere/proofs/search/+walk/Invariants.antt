@@ -24,11 +24,17 @@ invariant-quadrature-loop-level g l = record {
   chosen : drop (2 * l.fn.k) l.levels ≡ drop (2 * l.fn.k) l.fn.levels;
   less : l.distance ≤ l.fn.distance;
   sorted : Ascending (cost (q_at l.fn.job.system l.fn.job.grid (l.fn.k - 1)) (drop (2 * l.fn.k) l.fn.levels)) l.walk;
-  best : (b : Found) → IsBestOf (l.best, l.distance) (leaves_by (leaves (from_i l.fn.job.system l.fn.job.grid (l.fn.k - 1))) (q_at l.fn.job.system l.fn.job.grid (l.fn.k - 1)) (drop (2 * l.fn.k) l.fn.levels) l.fn.partial l.walk) b
-      → IsBestOf (l.fn.best, l.fn.distance) (leaves (q_at l.fn.job.system l.fn.job.grid (l.fn.k - 1) ∷ from_i l.fn.job.system l.fn.job.grid (l.fn.k - 1)) (drop (2 * l.fn.k) l.fn.levels) l.fn.partial) b;
+  best : (b : Found) → IsBestOf (l.best, l.distance)
+      (leaves_by (leaves (from_i l.fn.job.system l.fn.job.grid (l.fn.k - 1)))
+      (q_at l.fn.job.system l.fn.job.grid (l.fn.k - 1)) (drop (2 * l.fn.k) l.fn.levels) l.fn.partial l.walk) b
+      → IsBestOf (l.fn.best, l.fn.distance)
+      (leaves (q_at l.fn.job.system l.fn.job.grid (l.fn.k - 1) ∷ from_i l.fn.job.system l.fn.job.grid (l.fn.k - 1))
+      (drop (2 * l.fn.k) l.fn.levels) l.fn.partial) b;
   steps : (rho : ℕ) → l.fn.partial ≤ rho → l.fn.distance ≤ rho
-      → l.steps + 2 + 2 * inside_by (inside rho (from_i l.fn.job.system l.fn.job.grid (l.fn.k - 1))) (q_at l.fn.job.system l.fn.job.grid (l.fn.k - 1)) (drop (2 * l.fn.k) l.fn.levels) l.fn.partial l.walk
-      ≤ l.fn.steps + 2 * inside rho (q_at l.fn.job.system l.fn.job.grid (l.fn.k - 1) ∷ from_i l.fn.job.system l.fn.job.grid (l.fn.k - 1)) (drop (2 * l.fn.k) l.fn.levels) l.fn.partial;
+      → l.steps + 2 + 2 * inside_by (inside rho (from_i l.fn.job.system l.fn.job.grid (l.fn.k - 1)))
+      (q_at l.fn.job.system l.fn.job.grid (l.fn.k - 1)) (drop (2 * l.fn.k) l.fn.levels) l.fn.partial l.walk
+      ≤ l.fn.steps + 2 * inside rho (q_at l.fn.job.system l.fn.job.grid (l.fn.k - 1) ∷ from_i l.fn.job.system l.fn.job.grid (l.fn.k - 1))
+      (drop (2 * l.fn.k) l.fn.levels) l.fn.partial;
 }
 
 abbrev pub decreases-quadrature-loop-level : goal.decreases-quadrature-loop-level
@@ -42,11 +48,17 @@ invariant-in_phase-loop-level g l = record {
   chosen : drop (2 * l.fn.k - 1) l.levels ≡ drop (2 * l.fn.k - 1) l.fn.levels;
   less : l.distance ≤ l.fn.distance;
   sorted : Ascending (cost (i_at l.fn.job.system l.fn.job.grid (l.fn.k - 1)) (drop (2 * l.fn.k - 1) l.fn.levels)) l.walk;
-  best : (b : Found) → IsBestOf (l.best, l.distance) (leaves_by (leaves (down l.fn.job.system l.fn.job.grid (l.fn.k - 1))) (i_at l.fn.job.system l.fn.job.grid (l.fn.k - 1)) (drop (2 * l.fn.k - 1) l.fn.levels) l.fn.partial l.walk) b
-      → IsBestOf (l.fn.best, l.fn.distance) (leaves (i_at l.fn.job.system l.fn.job.grid (l.fn.k - 1) ∷ down l.fn.job.system l.fn.job.grid (l.fn.k - 1)) (drop (2 * l.fn.k - 1) l.fn.levels) l.fn.partial) b;
+  best : (b : Found) → IsBestOf (l.best, l.distance)
+      (leaves_by (leaves (down l.fn.job.system l.fn.job.grid (l.fn.k - 1)))
+      (i_at l.fn.job.system l.fn.job.grid (l.fn.k - 1)) (drop (2 * l.fn.k - 1) l.fn.levels) l.fn.partial l.walk) b
+      → IsBestOf (l.fn.best, l.fn.distance)
+      (leaves (i_at l.fn.job.system l.fn.job.grid (l.fn.k - 1) ∷ down l.fn.job.system l.fn.job.grid (l.fn.k - 1))
+      (drop (2 * l.fn.k - 1) l.fn.levels) l.fn.partial) b;
   steps : (rho : ℕ) → l.fn.partial ≤ rho → l.fn.distance ≤ rho
-      → l.steps + 2 + 2 * inside_by (inside rho (down l.fn.job.system l.fn.job.grid (l.fn.k - 1))) (i_at l.fn.job.system l.fn.job.grid (l.fn.k - 1)) (drop (2 * l.fn.k - 1) l.fn.levels) l.fn.partial l.walk
-      ≤ l.fn.steps + 2 * inside rho (i_at l.fn.job.system l.fn.job.grid (l.fn.k - 1) ∷ down l.fn.job.system l.fn.job.grid (l.fn.k - 1)) (drop (2 * l.fn.k - 1) l.fn.levels) l.fn.partial;
+      → l.steps + 2 + 2 * inside_by (inside rho (down l.fn.job.system l.fn.job.grid (l.fn.k - 1)))
+      (i_at l.fn.job.system l.fn.job.grid (l.fn.k - 1)) (drop (2 * l.fn.k - 1) l.fn.levels) l.fn.partial l.walk
+      ≤ l.fn.steps + 2 * inside rho (i_at l.fn.job.system l.fn.job.grid (l.fn.k - 1) ∷ down l.fn.job.system l.fn.job.grid (l.fn.k - 1))
+      (drop (2 * l.fn.k - 1) l.fn.levels) l.fn.partial;
 }
 
 abbrev pub decreases-in_phase-loop-level : goal.decreases-in_phase-loop-level

@@ -17,5 +17,6 @@ loop-k-preserved c =
     let r : Point = record { i = i; q = q } in
     record {
       count = omega (arith, ap length c.push.ensures, length-append c.loop-k.vector (p ∷ []), c.loop-k.invariant.count);
-      points = point_more xs k c.loop-k.vector c.push.new.self (points_of xs) p (omega arith) c.push.ensures (same_points p r (to_z-of_z i_fits) (to_z-of_z q_fits)) c.loop-k.invariant.points;
+      points = point_more xs k c.loop-k.vector c.push.new.self (points_of xs) p (omega arith) c.push.ensures
+          (same_points p r (to_z-of_z i_fits) (to_z-of_z q_fits)) c.loop-k.invariant.points;
     }

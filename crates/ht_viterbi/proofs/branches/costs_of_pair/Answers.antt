@@ -12,7 +12,11 @@ more f costs at cost within is was =
 pub loop-state-preserved : goal.loop-state-preserved
 loop-state-preserved c =
     let was = c.loop-state.invariant in
-    record { count = search rules; lane = more _ c.loop-state.costs c.loop-state.state c.cost_of_branch.result (omega (arith, was.count)) c.cost_of_branch.ensures.value was.lane }
+    record {
+      count = search rules;
+      lane =
+          more _ c.loop-state.costs c.loop-state.state c.cost_of_branch.result (omega (arith, was.count)) c.cost_of_branch.ensures.value was.lane;
+    }
 
 pub returns : goal.returns
 returns c = let was = c.loop-state.invariant in record { count = was.count; lane = λ k lt. was.lane k (omega arith) }

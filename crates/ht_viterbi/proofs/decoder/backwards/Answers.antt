@@ -24,9 +24,11 @@ loop-at-init c =
 pub pair_from-pair-requires : goal.pair_from-pair-requires
 pair_from-pair-requires c =
     let was = c.loop-at.invariant in
-    let phase = phase-step c.args.pattern c.period-period.result.now c.loop-at.at c.loop-at.phase c.phase_before-phase.result was.period c.loop-at-test.true was.phase c.phase_before-phase.ensures.value in
+    let phase = phase-step c.args.pattern c.period-period.result.now c.loop-at.at c.loop-at.phase
+    c.phase_before-phase.result was.period c.loop-at-test.true was.phase c.phase_before-phase.ensures.value in
     let kept = kept-back c.args.pattern c.period-period.result.now c.loop-at.at c.phase_before-phase.result was.period phase in
-    let back = start-back c.args.pattern (length c.args.choices.now) c.loop-at.at c.loop-at.start c.places_of-start.result _ c.loop-at-test.true was.within was.start kept c.places_of-start.ensures in
+    let back = start-back c.args.pattern (length c.args.choices.now) c.loop-at.at c.loop-at.start
+    c.places_of-start.result _ c.loop-at-test.true was.within was.start kept c.places_of-start.ensures in
     omega (arith, back.1)
 
 pub loop-at-preserved : goal.loop-at-preserved
@@ -35,10 +37,13 @@ loop-at-preserved c =
     let at = c.loop-at.at in
     let was = c.loop-at.invariant in
     let pair = c.pair_from-pair.result in
-    let phase = phase-step c.args.pattern c.period-period.result.now at c.loop-at.phase c.phase_before-phase.result was.period c.loop-at-test.true was.phase c.phase_before-phase.ensures.value in
+    let phase = phase-step c.args.pattern c.period-period.result.now at c.loop-at.phase
+    c.phase_before-phase.result was.period c.loop-at-test.true was.phase c.phase_before-phase.ensures.value in
     let kept = kept-back c.args.pattern c.period-period.result.now at c.phase_before-phase.result was.period phase in
-    let back = start-back c.args.pattern steps at c.loop-at.start c.places_of-start.result _ c.loop-at-test.true was.within was.start kept c.places_of-start.ensures in
-    let cons = pair-back c.args.pattern c.args.received.now steps at (c.loop-at.start - c.places_of-start.result) _ pair c.loop-at-test.true was.within kept back.0 c.pair_from-pair.ensures in
+    let back = start-back c.args.pattern steps at c.loop-at.start c.places_of-start.result
+    _ c.loop-at-test.true was.within was.start kept c.places_of-start.ensures in
+    let cons = pair-back c.args.pattern c.args.received.now steps at
+    (c.loop-at.start - c.places_of-start.result) _ pair c.loop-at-test.true was.within kept back.0 c.pair_from-pair.ensures in
     let free = free-back c.args.pattern c.args.received.now steps at c.loop-at-test.true was.within in
     let pairs = pairs_from c.args.pattern c.args.received.now at (steps - at) in
     let zeros = c.lanes_of.ensures false c.branches_of-zeros.ensures in
@@ -47,7 +52,8 @@ loop-at-preserved c =
     let costs = lanes-step _ pairs c.step-word.result.0 _ pair cons free (c.step-word.ensures.costs (least_from pairs) pair was.costs zeros ones close) in
     let grows = first-grows pairs pair in
     let same = ap (λ (ps : List Pair). least_from ps 0) cons in
-    let distance = c.carried-distance.ensures _ (c.first_lane.ensures ∙ costs.lane 0 (omega arith)) (omega (arith, grows.0, same, was.distance)) (omega (arith, grows.1, same, was.distance)) in
+    let distance = c.carried-distance.ensures _ (c.first_lane.ensures ∙ costs.lane 0 (omega arith))
+    (omega (arith, grows.0, same, was.distance)) (omega (arith, grows.1, same, was.distance)) in
     record {
       within = omega arith;
       count = search rules;
@@ -55,7 +61,8 @@ loop-at-preserved c =
       phase = phase;
       start = back.0;
       costs = costs;
-      choices = choices-step _ pairs c.loop-at.choices (at - 1) at c.step-word.result.1 pair cons (omega arith) (omega arith) (chosen-lanes pairs c.step-word.result.1 _ pair free (c.step-word.ensures.choices (least_from pairs) pair was.costs zeros ones close)) was.choices;
+      choices = choices-step _ pairs c.loop-at.choices (at - 1) at c.step-word.result.1 pair cons (omega arith) (omega arith)
+          (chosen-lanes pairs c.step-word.result.1 _ pair free (c.step-word.ensures.choices (least_from pairs) pair was.costs zeros ones close)) was.choices;
       distance = distance;
       bound = omega (arith, distance, grows.0, same, was.distance, was.bound);
     }

@@ -10,8 +10,10 @@ loop-word-preserved c =
     record {
       state = c.state_after-state.ensures.bound;
       input = λ pairs len are.
-          let next = word-taken pairs c.args.choices.now at c.loop-word.state c.is_set-bit.result (omega arith) len was.state (choices-drop at pairs c.args.choices.now are) c.is_set-bit.ensures in
-          walked (first_from pairs 0) c.loop-word.input.items c.push_reserved.new.self.items c.is_set-bit.result c.loop-word.state c.state_after-state.result at pairs c.push_reserved.ensures.items c.state_after-state.ensures.value next.0 (was.input pairs len are);
+          let next = word-taken pairs c.args.choices.now at c.loop-word.state c.is_set-bit.result
+          (omega arith) len was.state (choices-drop at pairs c.args.choices.now are) c.is_set-bit.ensures in
+          walked (first_from pairs 0) c.loop-word.input.items c.push_reserved.new.self.items c.is_set-bit.result c.loop-word.state
+          c.state_after-state.result at pairs c.push_reserved.ensures.items c.state_after-state.ensures.value next.0 (was.input pairs len are);
       count = omega arith;
       room = omega arith;
     }

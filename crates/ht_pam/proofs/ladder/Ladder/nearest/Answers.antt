@@ -11,10 +11,17 @@ returns-then-allows-clause-value c =
     let small : SFits w8 c.level_at.result = search rules in
     let wide : SFits w64 c.args.target = search rules in
     to_z-of_z small ∙ c.level_at.ensures.value
-    ∙ nearest_of c.args.self c.args.target (to_z w64 (of_z w64 c.args.target)) c.args.d c.parts-size.result.0 c.parts-size.result.1 c.nearest-at.result c.parts-size.ensures.ladder
-    c.parts-size.ensures.size c.parts-size.ensures.mask (to_z-of_z wide) (omega (arith, c.if-d-gt0.true)) c.nearest-at.ensures.within c.nearest-at.ensures.below c.nearest-at.ensures.above
+    ∙ nearest_of c.args.self c.args.target
+    (to_z w64 (of_z w64 c.args.target)) c.args.d c.parts-size.result.0 c.parts-size.result.1 c.nearest-at.result c.parts-size.ensures.ladder
+    c.parts-size.ensures.size c.parts-size.ensures.mask (to_z-of_z wide)
+    (omega (arith, c.if-d-gt0.true)) c.nearest-at.ensures.within c.nearest-at.ensures.below c.nearest-at.ensures.above
     (sym c.allows.ensures ∙ c.if-allows.true)
 
 pub first-requires : goal.first-requires
 first-requires c =
-    omega (arith, ap length c.new.ensures, length-nearest_first (gap (to_z w64 (of_z w64 c.args.target)) c.args.d) (levels c.args.self), levels_some c.args.self c.parts-size.ensures.ladder)
+    omega (
+      arith,
+      ap length c.new.ensures,
+      length-nearest_first (gap (to_z w64 (of_z w64 c.args.target)) c.args.d) (levels c.args.self),
+      levels_some c.args.self c.parts-size.ensures.ladder,
+    )

@@ -1,32 +1,24 @@
-//! One row of a system.
-ghost use Rattle.std.specs.Prelude.{◌≡◌, ◌<◌, ◌≤◌, ◌+◌, ◌-◌, ◌*◌, ◌^◌, ◌+ℤ◌, ◌-ℤ◌, ◌*ℤ◌, pos, ℤ, ◌∷◌, length, drop, slice_index_or, unsigned_abs};
+//! What is left of a row of a system.
+ghost use Rattle.std.specs.Prelude.{◌≡◌, ◌≤◌, ◌+◌, ◌-◌, ◌*◌, ◌^◌, ◌-ℤ◌, ◌*ℤ◌, pos, ℤ, ◌∷◌, length, drop, slice_index_or, unsigned_abs};
 ghost use Rattle.std.specs.List.{All};
 ghost use Rattle.ht_pam.specs.Ladders.{IsLadder};
 ghost use Rattle.ht_pam.specs.Zigzags.{gap};
-ghost use Rattle.ht_metric.specs.Rows.{no_row};
 ghost use Rattle.ht_metric.specs.Distance.{square};
-ghost use Rattle.ht_sphere.specs.Coordinates.{weighed, weights_of_i, weights_of_q, entries, i_at, q_at, target, order_at};
+ghost use Rattle.ht_sphere.specs.Coordinates.{i_at, q_at, left_i, left_q, target, order_at};
 
-use ht_metric::{Job, System, Tap};
-use ht_pam::Zigzag;
+use ht_metric::{Complex, Job, System};
+use ht_pam::{Point, Zigzag};
 
 // What the levels of the streams behind a row leave of its sample, and its diagonal.
 #[derive(Clone, Copy)]
-pub(crate) struct Row {
+pub(crate) struct Remainder {
     pub(crate) re: i64,
     pub(crate) im: i64,
     pub(crate) d: u16,
 }
 
-// A complex number.
-#[derive(Clone, Copy)]
-struct Complex {
-    re: i64,
-    im: i64,
-}
-
-// The row of stream k, behind which the levels are chosen.
-pub(crate) fn row_of(job: &Job, k: u8, levels: &[i8]) -> Row
+// What is left of row k, where the levels of the streams behind it are chosen.
+pub(crate) fn remainder_of(job: &Job, k: u8, levels: &[i8]) -> Remainder
     requires first { 1 ≤ k }
     requires last { k ≤ length job.now.system }
     requires room { length levels.now ≡ 2 * length job.now.system }
@@ -38,7 +30,7 @@ pub(crate) fn row_of(job: &Job, k: u8, levels: &[i8]) -> Row
     ensures im_bound { unsigned_abs result.im ≤ 2 ^ 31 + 2 ^ 21 }
 {
     let left = left_of(job.system(), k, levels);
-    Row {
+    Remainder {
         re: left.re,
         im: left.im,
         d: job.system().diagonal(k),
@@ -106,8 +98,8 @@ fn left_of(system: &System, k: u8, levels: &[i8]) -> Complex
     requires last { k ≤ length system.now }
     requires room { length levels.now ≡ 2 * length system.now }
     requires levels { All (λ x. unsigned_abs x ≤ 7) levels.now }
-    ensures re { result.re ≡ (slice_index_or system.now (k - 1) no_row).sample.re -ℤ weighed (weights_of_i (entries (length system.now - k) (slice_index_or system.now (k - 1) no_row).right)) (drop (2 * k) levels.now) }
-    ensures im { result.im ≡ (slice_index_or system.now (k - 1) no_row).sample.im -ℤ weighed (weights_of_q (entries (length system.now - k) (slice_index_or system.now (k - 1) no_row).right)) (drop (2 * k) levels.now) }
+    ensures re { result.re ≡ left_i system.now k (drop (2 * k) levels.now) }
+    ensures im { result.im ≡ left_q system.now k (drop (2 * k) levels.now) }
     ensures re_bound { unsigned_abs result.re ≤ 2 ^ 31 + 2 ^ 21 }
     ensures im_bound { unsigned_abs result.im ≤ 2 ^ 31 + 2 ^ 21 }
 {
@@ -116,42 +108,23 @@ fn left_of(system: &System, k: u8, levels: &[i8]) -> Complex
     let mut im = i64::from(sample.im);
     for l in k..system.streams() {
         let at = 2 * usize::from(l);
-        let part = product(system.above(k, l + 1), levels[at], levels[at + 1]);
+        let point = Point {
+            i: levels[at],
+            q: levels[at + 1],
+        };
+        let part = system.above(k, l + 1).times(point);
         re -= part.re;
         im -= part.im;
     }
     Complex { re, im }
 }
 
-// An entry times the point of two levels.
-fn product(tap: Tap, i: i8, q: i8) -> Complex
-    requires i { unsigned_abs i ≤ 7 }
-    requires q { unsigned_abs q ≤ 7 }
-    ensures re { result.re ≡ (tap.re *ℤ i) -ℤ (tap.im *ℤ q) }
-    ensures im { result.im ≡ (tap.im *ℤ i) +ℤ (tap.re *ℤ q) }
-    ensures re_bound { unsigned_abs result.re ≤ 458752 }
-    ensures im_bound { unsigned_abs result.im ≤ 458752 }
-{
-    Complex {
-        re: multiplied(tap.re, i) - multiplied(tap.im, q),
-        im: multiplied(tap.im, i) + multiplied(tap.re, q),
-    }
-}
-
-// A part of an entry times a level.
-fn multiplied(part: i16, level: i8) -> i64
-    requires level { unsigned_abs level ≤ 7 }
-    ensures value { result ≡ part *ℤ level }
-    ensures bound { unsigned_abs result ≤ 229376 }
-{
-    i64::from(part) * i64::from(level)
-}
-
 // The square of what a level, times the diagonal, leaves of the target.
 pub(crate) fn cost(d: u16, target: i64, level: i8) -> u64
     requires target { unsigned_abs target ≤ 2 ^ 31 + 2 ^ 21 }
     requires level { unsigned_abs level ≤ 7 }
-    ensures { result ≡ square (target -ℤ (pos d *ℤ level)) }
+    ensures value { result ≡ square (target -ℤ (pos d *ℤ level)) }
+    ensures bound { result ≤ 2 ^ 62 + 2 ^ 55 }
 {
     squared(distance(d, target, level))
 }
@@ -187,7 +160,8 @@ fn stretched(d: u16, level: i8) -> i64
 // The square of a number.
 fn squared(size: u64) -> u64
     requires { size ≤ 2 ^ 31 + 2 ^ 22 }
-    ensures { result ≡ size * size }
+    ensures value { result ≡ size * size }
+    ensures bound { result ≤ 2 ^ 62 + 2 ^ 55 }
 {
     size * size
 }

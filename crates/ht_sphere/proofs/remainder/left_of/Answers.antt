@@ -5,7 +5,7 @@ use Rattle.ht_metric.specs.declared.tap.Tap.{Tap}
 use Rattle.ht_metric.specs.Rows.{no_row, no_tap}
 use Rattle.ht_sphere.specs.Coordinates.{weighed, weights_of_i, weights_of_q}
 use Rattle.ht_sphere.proofs.Heard.{heard_i, heard_q, from_own, less_by, less_bound, product_i, product_q, entry_of}
-use Rattle.ht_sphere.proofs.row.left_of.Goals as goal
+use Rattle.ht_sphere.proofs.remainder.left_of.Goals as goal
 
 pub loop-l-init : goal.loop-l-init
 loop-l-init c =
@@ -25,10 +25,10 @@ loop-l-init c =
     }
 
 pub overflow_sub-re : goal.overflow_sub-re
-overflow_sub-re c = omega (arith, ints, c.streams-l-end.ensures.few, c.loop-l-test.true, c.loop-l.invariant.re_bound, c.product-part.ensures.re_bound)
+overflow_sub-re c = omega (arith, ints, c.streams-l-end.ensures.few, c.loop-l-test.true, c.loop-l.invariant.re_bound, c.times-part.ensures.re_bound)
 
 pub overflow_sub-im : goal.overflow_sub-im
-overflow_sub-im c = omega (arith, ints, c.streams-l-end.ensures.few, c.loop-l-test.true, c.loop-l.invariant.im_bound, c.product-part.ensures.im_bound)
+overflow_sub-im c = omega (arith, ints, c.streams-l-end.ensures.few, c.loop-l-test.true, c.loop-l.invariant.im_bound, c.times-part.ensures.im_bound)
 
 pub loop-l-preserved : goal.loop-l-preserved
 loop-l-preserved c =
@@ -46,13 +46,17 @@ loop-l-preserved c =
     let q_fits : SFits w8 (get_or xs (2 * c.from-at.result + 1) (pos 0)) = search rules in
     let i = to_z-of_z i_fits ∙ ap (λ m. get_or xs m (pos 0)) i_at in
     let q = to_z-of_z q_fits ∙ ap (λ m. get_or xs (m + 1) (pos 0)) i_at in
-    let re = c.product-part.ensures.re ∙ product_i c.above.result (get_or row.right (l - k) no_tap) _ _ _ _ tap i q in
-    let im = c.product-part.ensures.im ∙ product_q c.above.result (get_or row.right (l - k) no_tap) _ _ _ _ tap i q in
+    let re = c.times-part.ensures.re ∙ product_i c.above.result (get_or row.right (l - k) no_tap) _ _ _ _ tap i q in
+    let im = c.times-part.ensures.im ∙ product_q c.above.result (get_or row.right (l - k) no_tap) _ _ _ _ tap i q in
     record {
-      re = heard_i row.right xs n k l after last c.requires.room (to_z w64 c.loop-l.re-bits) _ c.product-part.result.re _ re
-          (less_by (to_z w64 c.loop-l.re-bits) c.product-part.result.re (l - k) few c.loop-l.invariant.re_bound c.product-part.ensures.re_bound) c.loop-l.invariant.re;
-      im = heard_q row.right xs n k l after last c.requires.room (to_z w64 c.loop-l.im-bits) _ c.product-part.result.im _ im
-          (less_by (to_z w64 c.loop-l.im-bits) c.product-part.result.im (l - k) few c.loop-l.invariant.im_bound c.product-part.ensures.im_bound) c.loop-l.invariant.im;
-      re_bound = less_bound (to_z w64 c.loop-l.re-bits) c.product-part.result.re (l - k) _ few (omega arith) c.loop-l.invariant.re_bound c.product-part.ensures.re_bound;
-      im_bound = less_bound (to_z w64 c.loop-l.im-bits) c.product-part.result.im (l - k) _ few (omega arith) c.loop-l.invariant.im_bound c.product-part.ensures.im_bound;
+      re = heard_i row.right xs n k l after last c.requires.room (to_z w64 c.loop-l.re-bits) _ c.times-part.result.re _ re
+          (less_by (to_z w64 c.loop-l.re-bits) c.times-part.result.re (l - k) few c.loop-l.invariant.re_bound c.times-part.ensures.re_bound)
+          c.loop-l.invariant.re;
+      im = heard_q row.right xs n k l after last c.requires.room (to_z w64 c.loop-l.im-bits) _ c.times-part.result.im _ im
+          (less_by (to_z w64 c.loop-l.im-bits) c.times-part.result.im (l - k) few c.loop-l.invariant.im_bound c.times-part.ensures.im_bound)
+          c.loop-l.invariant.im;
+      re_bound = less_bound (to_z w64 c.loop-l.re-bits) c.times-part.result.re (l - k) _ few
+          (omega arith) c.loop-l.invariant.re_bound c.times-part.ensures.re_bound;
+      im_bound = less_bound (to_z w64 c.loop-l.im-bits) c.times-part.result.im (l - k) _ few
+          (omega arith) c.loop-l.invariant.im_bound c.times-part.ensures.im_bound;
     }

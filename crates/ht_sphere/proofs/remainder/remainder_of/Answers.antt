@@ -2,12 +2,13 @@ use Rattle.std.proofs.Common.{rules, ◌∙◌, ◌-◌, ◌*◌, ◌-ℤ◌, �
 use Rattle.ht_metric.specs.Rows.{Row, no_row}
 use Rattle.ht_sphere.specs.Coordinates.{weighed, weights_of_i, entries}
 use Rattle.ht_sphere.proofs.Heard.{own_q}
-use Rattle.ht_sphere.proofs.row.row_of.Goals as goal
+use Rattle.ht_sphere.proofs.remainder.remainder_of.Goals as goal
 
 pub returns-clause-re : goal.returns-clause-re
 returns-clause-re c = λ q.
     let fits : SFits w64 c.left_of-left.result.re = search rules in
     let k = c.args.k in
-    let left : List Row → ℤ = λ rows. (get_or rows (k - 1) no_row).sample.re -ℤ weighed (weights_of_i (entries (length rows - k) (get_or rows (k - 1) no_row).right)) (drop (2 * k) c.args.levels.now) in
+    let left : List Row → ℤ = λ rows. (get_or rows (k - 1) no_row).sample.re
+    -ℤ weighed (weights_of_i (entries (length rows - k) (get_or rows (k - 1) no_row).right)) (drop (2 * k) c.args.levels.now) in
     to_z-of_z fits ∙ c.left_of-left.ensures.re ∙ ap left c.system.ensures.system
     ∙ own_q c.args.job.now.system c.args.job.now.grid k q (drop (2 * k) c.args.levels.now) c.requires.first

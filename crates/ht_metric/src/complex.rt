@@ -1,0 +1,8 @@
+//! A complex number.
+
+/// A complex number with whole parts, such as an entry times a point.
+#[derive(Clone, Copy, Debug, Default, PartialEq, Eq)]
+pub struct Complex {
+    pub re: i64,
+    pub im: i64,
+}

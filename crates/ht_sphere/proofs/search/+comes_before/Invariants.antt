@@ -1,5 +1,0 @@
-use Rattle.std.proofs.Common.{length}
-use Rattle.ht_sphere.proofs.search.+comes_before.Given as goal
-
-abbrev pub decreases-comes_before : goal.decreases-comes_before
-decreases-comes_before l = length l.left.now
