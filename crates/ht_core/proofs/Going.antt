@@ -5,11 +5,14 @@ use Rattle.std.specs.List.{sum_by, flat_map}
 use Rattle.std.specs.Option.{option_to_list}
 use Rattle.std.proofs.lemmas.List.{length-replicate, length-take}
 use Rattle.ht_metric.specs.Jobs.{JobView}
+use Rattle.ht_metric.specs.declared.hit.Hit.{Hit}
 use Rattle.ht_core.specs.declared.event.Event.{Event}
 use Rattle.ht_core.specs.declared.event.Event.TheVariants.{Push, Pop, Accept, Emit}
 use Rattle.ht_core.specs.Machine.{CoreView, IsEnabled, IsLegal, after, run, empty, hand, deque, hit_of}
-use Rattle.ht_core.specs.Facts.{Every, IsIssued, IsCore, CanGoOn, is_issue}
-use Rattle.ht_core.proofs.Lists.{none-some}
+use Rattle.std.specs.List.{All}
+use Rattle.std.proofs.lemmas.List.Elements.{All-nil, All-replicate}
+use Rattle.std.proofs.lemmas.Option.{none-some}
+use Rattle.ht_core.specs.Facts.{IsIssued, IsCore, CanGoOn, is_issue}
 use Rattle.ht_core.proofs.Numbers.{one_of, IsFrom, present, beyond, found_hand, found_deque, found_hit}
 use Rattle.ht_core.proofs.Kept.{in_hands, in_deques, in_hits, weighed, kept}
 
@@ -59,7 +62,8 @@ can_go_on c w lt =
     let n = length c.emitted in
     let all : sum_by (one_of n) c.issued ≡ 1 = present n 0 n c.issued (from_zero c w) (omega arith) (omega (arith, lt)) in
     let out : in_hits (one_of n) c.emitted ≡ 0 =
-    ap (λ (js : List JobView). sum_by (one_of n) js) w.emitted ∙ beyond n 0 (take n c.issued) (taken_from c.issued n (from_zero c w)) (omega (arith, length-take n c.issued)) in
+    ap (λ (js : List JobView). sum_by (one_of n) js) w.emitted
+    ∙ beyond n 0 (take n c.issued) (taken_from c.issued n (from_zero c w)) (omega (arith, length-take n c.issued)) in
     with_place c w n refl _ refl _ refl _ refl _ refl (omega (arith, weighed c w.once (one_of n), all, out))
 
 pub run_kept : (es : List Event) (c : CoreView) → IsCore c → IsLegal c es → IsCore (run c es)
@@ -77,10 +81,6 @@ no_deques : (n : ℕ) → flat_map (λ (jobs : List JobView). jobs) (replicate n
 no_deques zero = refl
 no_deques (suc n) = no_deques n
 
-every_replicate : {X : Type 0} (P : X → Type 0) (n : ℕ) (x : X) → P x → Every P (replicate n x)
-every_replicate P zero x is = tt
-every_replicate P (suc n) x is = (is, every_replicate P n x is)
-
 pub empty_core : (workers window : ℕ) → 1 ≤ workers → workers ≤ 64 → 1 ≤ window → window ≤ 4096 → IsCore (empty workers window)
 empty_core workers window some few wide narrow = record {
   some = some;
@@ -93,10 +93,10 @@ empty_core workers window some few wide narrow = record {
   once = λ h.
       ap (λ (js : List JobView). sum_by h (js ++ flat_map (λ (jobs : List JobView). jobs) (replicate workers []) ++ [] ++ [] ++ [])) (no_hands workers)
       ∙ ap (λ (js : List JobView). sum_by h (js ++ [] ++ [] ++ [])) (no_deques workers);
-  in_hand = every_replicate (λ o. IfSome o (IsIssued [])) workers None tt;
-  in_deque = every_replicate (Every (IsIssued [])) workers [] tt;
-  in_results = tt;
-  in_booked = tt;
+  in_hand = All-replicate (λ o. IfSome o (IsIssued [])) workers None tt;
+  in_deque = All-replicate (All (IsIssued [])) workers [] (All-nil (IsIssued []));
+  in_results = All-nil (λ (hit : Hit). IsIssued [] hit.job);
+  in_booked = All-nil (λ (hit : Hit). IsIssued [] hit.job);
   window = omega arith;
   emitted = refl;
 }

@@ -10,8 +10,11 @@ use Rattle.ht_metric.specs.declared.hit.Hit.{Hit}
 use Rattle.ht_core.specs.declared.event.Event.{Event}
 use Rattle.ht_core.specs.declared.event.Event.TheVariants.{Issue, Push, Pop, Steal, Finish, Accept, Emit}
 use Rattle.ht_core.specs.Machine.{CoreView, IsEnabled, after, hand, deque, hit_of, taken}
-use Rattle.ht_core.specs.Facts.{Every, IsIssued, IsCore, SameCounts, jobs_of, places}
-use Rattle.ht_core.proofs.Lists.{some_is, every_put, every_append, every_rest, every_at, every_front, every_option, every_weaker, option_weaker, every_without, every_hit_of, issued_more, issued_last, get_more, take_next, jobs_append, jobs_length, found_number}
+use Rattle.std.specs.List.{All}
+use Rattle.std.proofs.lemmas.List.Elements.{All-nil, All-cons, All-append, All-set, All-drop, All-weaker}
+use Rattle.ht_core.specs.Facts.{IsIssued, IsCore, SameCounts, jobs_of, places}
+use Rattle.ht_core.proofs.Lists.{some_is, all_at, all_front, all_option, option_weaker, all_without, all_hit_of}
+use Rattle.ht_core.proofs.Lists.{issued_more, issued_last, get_more, take_next, jobs_append, jobs_length, found_number}
 use Rattle.ht_core.proofs.Sums.{weigh_put, weigh_front, weigh_without, weigh_jobs, weigh_places}
 
 abbrev pub in_hands : (JobView → ℕ) → List (Option JobView) → ℕ
@@ -53,11 +56,15 @@ kept_issue c job w on =
           let was : sum_by h (option_to_list (get_or c.hands 0 None)) ≡ 0 = ap (λ (o : Option JobView). sum_by h (option_to_list o)) on.0 in
           let one = sum_by-cons h job [] in
           omega (arith, weigh_places h (after c (Issue job)), weighed c w.once h, put, was, one, sum_by_push h c.issued job);
-      in_hand = every_put (λ o. IfSome o (IsIssued (c.issued ++ job ∷ []))) c.hands 0 (Some job)
-          (every_weaker (λ o. IfSome o (IsIssued c.issued)) (λ o. IfSome o (IsIssued (c.issued ++ job ∷ []))) (λ o. option_weaker (IsIssued c.issued) (IsIssued (c.issued ++ job ∷ [])) more o) c.hands w.in_hand) here;
-      in_deque = every_weaker (Every (IsIssued c.issued)) (Every (IsIssued (c.issued ++ job ∷ []))) (λ jobs. every_weaker (IsIssued c.issued) (IsIssued (c.issued ++ job ∷ [])) more jobs) c.deques w.in_deque;
-      in_results = every_weaker (λ (hit : Hit). IsIssued c.issued hit.job) (λ (hit : Hit). IsIssued (c.issued ++ job ∷ []) hit.job) (λ hit is. more hit.job is) c.results w.in_results;
-      in_booked = every_weaker (λ (hit : Hit). IsIssued c.issued hit.job) (λ (hit : Hit). IsIssued (c.issued ++ job ∷ []) hit.job) (λ hit is. more hit.job is) c.booked w.in_booked;
+      in_hand = All-set (λ o. IfSome o (IsIssued (c.issued ++ job ∷ []))) c.hands 0 (Some job) here
+          (All-weaker (λ o. IfSome o (IsIssued c.issued)) (λ o. IfSome o (IsIssued (c.issued ++ job ∷ [])))
+          (λ o. option_weaker (IsIssued c.issued) (IsIssued (c.issued ++ job ∷ [])) more o) c.hands w.in_hand);
+      in_deque = All-weaker (All (IsIssued c.issued)) (All (IsIssued (c.issued ++ job ∷ [])))
+          (λ jobs. All-weaker (IsIssued c.issued) (IsIssued (c.issued ++ job ∷ [])) more jobs) c.deques w.in_deque;
+      in_results = All-weaker (λ (hit : Hit). IsIssued c.issued hit.job)
+          (λ (hit : Hit). IsIssued (c.issued ++ job ∷ []) hit.job) (λ hit is. more hit.job is) c.results w.in_results;
+      in_booked = All-weaker (λ (hit : Hit). IsIssued c.issued hit.job)
+          (λ (hit : Hit). IsIssued (c.issued ++ job ∷ []) hit.job) (λ hit is. more hit.job is) c.booked w.in_booked;
       window = omega (arith, room, length-append c.issued (job ∷ []));
       emitted = w.emitted ∙ sym (take-append-le (length c.emitted) c.issued (job ∷ []) before);
     }
@@ -80,10 +87,12 @@ kept_push c a w on =
           let put = weigh_put h option_to_list c.hands a None None (omega (arith, hands, lt)) in
           let laid = weigh_put h (λ (jobs : List JobView). jobs) c.deques a new [] (omega (arith, deques, lt)) in
           omega (arith, weigh_places h (after c (Push a)), weighed c w.once h, put, laid, sum_by-append h (deque c a) (option_to_list (hand c a)));
-      in_hand = every_put (λ o. IfSome o (IsIssued c.issued)) c.hands a None w.in_hand tt;
-      in_deque = every_put (Every (IsIssued c.issued)) c.deques a new w.in_deque
-          (every_append (IsIssued c.issued) (deque c a) (option_to_list (hand c a)) (every_at (Every (IsIssued c.issued)) c.deques a [] w.in_deque tt)
-          (every_option (IsIssued c.issued) (hand c a) (every_at (λ o. IfSome o (IsIssued c.issued)) c.hands a None w.in_hand tt)));
+      in_hand = All-set (λ o. IfSome o (IsIssued c.issued)) c.hands a None tt w.in_hand;
+      in_deque = All-set (All (IsIssued c.issued)) c.deques a new
+          (All-append (IsIssued c.issued) (deque c a) (option_to_list (hand c a))
+          (all_at (All (IsIssued c.issued)) c.deques a [] w.in_deque (All-nil (IsIssued c.issued)))
+          (all_option (IsIssued c.issued) (hand c a) (all_at (λ o. IfSome o (IsIssued c.issued)) c.hands a None w.in_hand tt)))
+          w.in_deque;
       in_results = w.in_results;
       in_booked = w.in_booked;
       window = w.window;
@@ -96,7 +105,7 @@ kept_taken c a owner w here there none =
     let deques = w.deques in
     let front = slice_get (deque c owner) 0 in
     let rest = drop 1 (deque c owner) in
-    let all : Every (IsIssued c.issued) (deque c owner) = every_at (Every (IsIssued c.issued)) c.deques owner [] w.in_deque tt in
+    let all : All (IsIssued c.issued) (deque c owner) = all_at (All (IsIssued c.issued)) c.deques owner [] w.in_deque (All-nil (IsIssued c.issued)) in
     record {
       some = w.some;
       few = w.few;
@@ -110,8 +119,8 @@ kept_taken c a owner w here there none =
           let laid = weigh_put h (λ (jobs : List JobView). jobs) c.deques owner rest [] (omega (arith, deques, there)) in
           let was : sum_by h (option_to_list (get_or c.hands a None)) ≡ 0 = ap (λ (o : Option JobView). sum_by h (option_to_list o)) none in
           omega (arith, weigh_places h (taken c a owner), weighed c w.once h, put, laid, was, weigh_front h (deque c owner));
-      in_hand = every_put (λ o. IfSome o (IsIssued c.issued)) c.hands a front w.in_hand (every_front (IsIssued c.issued) (deque c owner) all);
-      in_deque = every_put (Every (IsIssued c.issued)) c.deques owner rest w.in_deque (every_rest (IsIssued c.issued) (deque c owner) all);
+      in_hand = All-set (λ o. IfSome o (IsIssued c.issued)) c.hands a front (all_front (IsIssued c.issued) (deque c owner) all) w.in_hand;
+      in_deque = All-set (All (IsIssued c.issued)) c.deques owner rest (All-drop (IsIssued c.issued) 1 (deque c owner) all) w.in_deque;
       in_results = w.in_results;
       in_booked = w.in_booked;
       window = w.window;
@@ -122,7 +131,7 @@ kept_finish : (c : CoreView) (a : ℕ) (hit : Hit) → IsCore c → IsEnabled c 
 kept_finish c a hit w on =
     let lt = on.0 in
     let hands = w.hands in
-    let is : IfSome (hand c a) (IsIssued c.issued) = every_at (λ o. IfSome o (IsIssued c.issued)) c.hands a None w.in_hand tt in
+    let is : IfSome (hand c a) (IsIssued c.issued) = all_at (λ o. IfSome o (IsIssued c.issued)) c.hands a None w.in_hand tt in
     let issued : IsIssued c.issued hit.job = subst (λ (o : Option JobView). IfSome o (IsIssued c.issued)) on.1 is in
     record {
       some = w.some;
@@ -134,11 +143,13 @@ kept_finish c a hit w on =
       numbered = w.numbered;
       once = λ h.
           let put = weigh_put h option_to_list c.hands a None None (omega (arith, hands, lt)) in
-          let was : sum_by h (option_to_list (get_or c.hands a None)) ≡ sum_by h (hit.job ∷ []) = ap (λ (o : Option JobView). sum_by h (option_to_list o)) on.1 in
+          let was : sum_by h (option_to_list (get_or c.hands a None)) ≡ sum_by h (hit.job ∷ []) =
+          ap (λ (o : Option JobView). sum_by h (option_to_list o)) on.1 in
           omega (arith, weigh_places h (after c (Finish a hit)), weighed c w.once h, put, was, weigh_jobs h c.results (hit ∷ []));
-      in_hand = every_put (λ o. IfSome o (IsIssued c.issued)) c.hands a None w.in_hand tt;
+      in_hand = All-set (λ o. IfSome o (IsIssued c.issued)) c.hands a None tt w.in_hand;
       in_deque = w.in_deque;
-      in_results = every_append (λ (x : Hit). IsIssued c.issued x.job) c.results (hit ∷ []) w.in_results (issued, tt);
+      in_results = All-append (λ (x : Hit). IsIssued c.issued x.job) c.results (hit ∷ []) w.in_results
+          (All-cons (λ (x : Hit). IsIssued c.issued x.job) hit [] issued (All-nil (λ (x : Hit). IsIssued c.issued x.job)));
       in_booked = w.in_booked;
       window = w.window;
       emitted = w.emitted;
@@ -158,9 +169,9 @@ kept_accept c n w =
       once = λ h. omega (arith, weigh_places h (after c (Accept n)), weighed c w.once h, weigh_without h n c.results, weigh_jobs h c.booked found);
       in_hand = w.in_hand;
       in_deque = w.in_deque;
-      in_results = every_without (λ (x : Hit). IsIssued c.issued x.job) n c.results w.in_results;
-      in_booked = every_append (λ (x : Hit). IsIssued c.issued x.job) c.booked found w.in_booked
-          (every_option (λ (x : Hit). IsIssued c.issued x.job) (hit_of n c.results) (every_hit_of (λ (x : Hit). IsIssued c.issued x.job) n c.results w.in_results));
+      in_results = all_without (λ (x : Hit). IsIssued c.issued x.job) n c.results w.in_results;
+      in_booked = All-append (λ (x : Hit). IsIssued c.issued x.job) c.booked found w.in_booked
+          (all_option (λ (x : Hit). IsIssued c.issued x.job) (hit_of n c.results) (all_hit_of (λ (x : Hit). IsIssued c.issued x.job) n c.results w.in_results));
       window = w.window;
       emitted = w.emitted;
     }
@@ -171,11 +182,12 @@ kept_emit c w on =
     let some = some_is (hit_of n c.booked) on in
     let hit = some.0 in
     let found = option_to_list (hit_of n c.booked) in
-    let is : IfSome (hit_of n c.booked) (λ x. IsIssued c.issued x.job) = every_hit_of (λ (x : Hit). IsIssued c.issued x.job) n c.booked w.in_booked in
+    let is : IfSome (hit_of n c.booked) (λ x. IsIssued c.issued x.job) = all_hit_of (λ (x : Hit). IsIssued c.issued x.job) n c.booked w.in_booked in
     let issued : IsIssued c.issued hit.job = subst (λ (o : Option Hit). IfSome o (λ x. IsIssued c.issued x.job)) some.1 is in
     let there : slice_get c.issued n ≡ Some hit.job = subst (λ (k : ℕ). slice_get c.issued k ≡ Some hit.job) (found_number n c.booked hit some.1) issued in
     let one : found ≡ hit ∷ [] = ap (λ (o : Option Hit). option_to_list o) some.1 in
-    let long : length (c.emitted ++ found) ≡ suc n = ap (λ (hits : List Hit). length (c.emitted ++ hits)) one ∙ (let e = length-append c.emitted (hit ∷ []) in omega (arith, e)) in
+    let long : length (c.emitted ++ found) ≡ suc n =
+    ap (λ (hits : List Hit). length (c.emitted ++ hits)) one ∙ (let e = length-append c.emitted (hit ∷ []) in omega (arith, e)) in
     record {
       some = w.some;
       few = w.few;
@@ -188,7 +200,7 @@ kept_emit c w on =
       in_hand = w.in_hand;
       in_deque = w.in_deque;
       in_results = w.in_results;
-      in_booked = every_without (λ (x : Hit). IsIssued c.issued x.job) n c.booked w.in_booked;
+      in_booked = all_without (λ (x : Hit). IsIssued c.issued x.job) n c.booked w.in_booked;
       window = let window = w.window in omega (arith, window, long);
       emitted = jobs_append c.emitted found
           ∙ ap (λ (hits : List Hit). jobs_of c.emitted ++ jobs_of hits) one

@@ -1,78 +1,60 @@
 -- A fact of each element, as lists change.
-use Rattle.std.proofs.Common.{◌≡◌, ◌↔◌, ℕ, zero, suc, ◌+◌, ◌<◌, ◌≤◌, List, [], ◌∷◌, ◌++◌, length, drop, take, get_or, Bool, true, false, cond, not, refl, sym, ap, ◌∙◌, subst, arith}
+use Rattle.std.proofs.Common.{◌≡◌, ◌↔◌, ℕ, zero, suc, ◌+◌, ◌<◌, ◌≤◌, List, [], ◌∷◌, ◌++◌, length, take}
+use Rattle.std.proofs.Common.{get_or, Bool, true, false, cond, not, refl, sym, ap, ◌∙◌, subst, arith}
 use Rattle.std.proofs.lemmas.Bool.{false≢true}
-use Rattle.std.specs.Prelude.{slice_get, slice_set, Option, Some, None, is_some, IfSome, IfNone}
+use Rattle.std.specs.Prelude.{slice_get, Option, Some, None, is_some, IfSome, IfNone}
 use Rattle.std.specs.Option.{option_to_list}
-use Rattle.std.specs.List.{position_or_len, remove}
+use Rattle.std.specs.List.{All, position_or_len, remove}
 use Rattle.std.proofs.lemmas.List.Folds.{find_at}
-use Rattle.std.proofs.lemmas.Option.{slice_get_past, slice_get-get_or, slice_get_within}
+use Rattle.std.proofs.lemmas.List.Elements.{All-nil, All-cons, All-head, All-tail}
+use Rattle.std.proofs.lemmas.Option.{none-some, same_Some, slice_get_past, slice_get-get_or, slice_get_within}
 use Rattle.ht_metric.specs.Jobs.{JobView}
 use Rattle.ht_metric.specs.declared.hit.Hit.{Hit}
 use Rattle.ht_core.specs.Machine.{has_number, hit_of, without}
-use Rattle.ht_core.specs.Facts.{Every, jobs_of}
-
-pub none-some : {X : Type 0} (x : X) → None ≡ Some x → ⊥
-none-some {X = X} x e = false≢true (ap (λ (o : Option X). is_some o) e)
-
-pub some-same : {X : Type 0} (x y : X) → Some x ≡ Some y → x ≡ y
-some-same x y e = cc
+use Rattle.ht_core.specs.Facts.{jobs_of}
 
 pub some_is : {X : Type 0} (o : Option X) → is_some o ≡ true → (x : X) × (o ≡ Some x)
 some_is None e = absurd (false≢true e)
 some_is (Some x) e = (x, refl)
 
 module _ {X : Type 0} (P : X → Type 0) where
-  pub every_put : (xs : List X) (a : ℕ) (x : X) → Every P xs → P x → Every P (slice_set xs a x)
-  every_put [] a x all is = all
-  every_put (y ∷ ys) zero x all is = (is, all.1)
-  every_put (y ∷ ys) (suc a) x all is = (all.0, every_put ys a x all.1 is)
+  -- an element, or what stands for one that is not there
+  pub all_at : (xs : List X) (a : ℕ) (d : X) → All P xs → P d → P (get_or xs a d)
+  all_at [] a d all is = is
+  all_at (x ∷ xs) zero d all is = All-head P x xs all
+  all_at (x ∷ xs) (suc a) d all is = all_at xs a d (All-tail P x xs all) is
 
-  pub every_append : (xs ys : List X) → Every P xs → Every P ys → Every P (xs ++ ys)
-  every_append [] ys all more = more
-  every_append (x ∷ xs) ys all more = (all.0, every_append xs ys all.1 more)
+  pub all_front : (xs : List X) → All P xs → IfSome (slice_get xs 0) P
+  all_front [] all = tt
+  all_front (x ∷ xs) all = All-head P x xs all
 
-  pub every_rest : (xs : List X) → Every P xs → Every P (drop 1 xs)
-  every_rest [] all = all
-  every_rest (x ∷ xs) all = all.1
-
-  pub every_at : (xs : List X) (a : ℕ) (d : X) → Every P xs → P d → P (get_or xs a d)
-  every_at [] a d all is = is
-  every_at (x ∷ xs) zero d all is = all.0
-  every_at (x ∷ xs) (suc a) d all is = every_at xs a d all.1 is
-
-  pub every_front : (xs : List X) → Every P xs → IfSome (slice_get xs 0) P
-  every_front [] all = tt
-  every_front (x ∷ xs) all = all.0
-
-  pub every_option : (o : Option X) → IfSome o P → Every P (option_to_list o)
-  every_option None is = tt
-  every_option (Some x) is = (is, tt)
+  pub all_option : (o : Option X) → IfSome o P → All P (option_to_list o)
+  all_option None is = All-nil P
+  all_option (Some x) is = All-cons P x [] is (All-nil P)
 
 module _ {X : Type 0} (P Q : X → Type 0) (more : (x : X) → P x → Q x) where
-  pub every_weaker : (xs : List X) → Every P xs → Every Q xs
-  every_weaker [] all = tt
-  every_weaker (x ∷ xs) all = (more x all.0, every_weaker xs all.1)
-
   pub option_weaker : (o : Option X) → IfSome o P → IfSome o Q
   option_weaker None is = tt
   option_weaker (Some x) is = more x is
 
 -- the hits without one, and that one
-without_from : (b : Bool) (P : Hit → Type 0) (n : ℕ) (hit : Hit) (hits : List Hit) → Every P (hit ∷ hits) → Every P (without n hits) → Every P (cond b hits (hit ∷ without n hits))
-without_from true P n hit hits all rest = all.1
-without_from false P n hit hits all rest = (all.0, rest)
+without_from : (b : Bool) (P : Hit → Type 0) (n : ℕ) (hit : Hit) (hits : List Hit)
+    → All P (hit ∷ hits) → All P (without n hits) → All P (cond b hits (hit ∷ without n hits))
+without_from true P n hit hits all rest = All-tail P hit hits all
+without_from false P n hit hits all rest = All-cons P hit (without n hits) (All-head P hit hits all) rest
 
-pub every_without : (P : Hit → Type 0) (n : ℕ) (hits : List Hit) → Every P hits → Every P (without n hits)
-every_without P n [] all = all
-every_without P n (hit ∷ hits) all = without_from (has_number n hit) P n hit hits all (every_without P n hits all.1)
+pub all_without : (P : Hit → Type 0) (n : ℕ) (hits : List Hit) → All P hits → All P (without n hits)
+all_without P n [] all = all
+all_without P n (hit ∷ hits) all = without_from (has_number n hit) P n hit hits all (all_without P n hits (All-tail P hit hits all))
 
-hit_of_from : (b : Bool) (P : Hit → Type 0) (n : ℕ) (hit : Hit) (hits : List Hit) → Every P (hit ∷ hits) → IfSome (hit_of n hits) P → IfSome (cond b (Some hit) (hit_of n hits)) P
-hit_of_from true P n hit hits all rest = all.0
+hit_of_from : (b : Bool) (P : Hit → Type 0) (n : ℕ) (hit : Hit) (hits : List Hit)
+    → All P (hit ∷ hits) → IfSome (hit_of n hits) P → IfSome (cond b (Some hit) (hit_of n hits)) P
+hit_of_from true P n hit hits all rest = All-head P hit hits all
 hit_of_from false P n hit hits all rest = rest
 
-pub every_hit_of : (P : Hit → Type 0) (n : ℕ) (hits : List Hit) → Every P hits → IfSome (hit_of n hits) P
-every_hit_of P n [] all = tt
-every_hit_of P n (hit ∷ hits) all = hit_of_from (has_number n hit) P n hit hits all (every_hit_of P n hits all.1)
+pub all_hit_of : (P : Hit → Type 0) (n : ℕ) (hits : List Hit) → All P hits → IfSome (hit_of n hits) P
+all_hit_of P n [] all = tt
+all_hit_of P n (hit ∷ hits) all = hit_of_from (has_number n hit) P n hit hits all (all_hit_of P n hits (All-tail P hit hits all))
 
 -- an issued job stays issued
 pub issued_more : (xs : List JobView) (new : JobView) (n : ℕ) (job : JobView) → slice_get xs n ≡ Some job → slice_get (xs ++ new ∷ []) n ≡ Some job
@@ -88,7 +70,7 @@ issued_last (x ∷ xs) new (suc n) e = issued_last xs new n (omega (arith, e))
 -- the jobs of a list with one more: one of the list, or the new one at its end
 pub get_more : (xs : List JobView) (new : JobView) (P : ℕ → JobView → Type 0) (k : ℕ) (job : JobView)
     → ((i : ℕ) (j : JobView) → slice_get xs i ≡ Some j → P i j) → P (length xs) new → slice_get (xs ++ new ∷ []) k ≡ Some job → P k job
-get_more [] new P zero job all last e = subst (λ (j : JobView). P 0 j) (some-same new job e) last
+get_more [] new P zero job all last e = subst (λ (j : JobView). P 0 j) (same_Some new job e) last
 get_more [] new P (suc k) job all last e = absurd (none-some job e)
 get_more (x ∷ xs) new P zero job all last e = all 0 job e
 get_more (x ∷ xs) new P (suc k) job all last e = get_more xs new (λ i j. P (suc i) j) k job (λ i j p. all (suc i) j p) last e
@@ -96,7 +78,7 @@ get_more (x ∷ xs) new P (suc k) job all last e = get_more xs new (λ i j. P (s
 -- one more of the first ones
 pub take_next : (xs : List JobView) (n : ℕ) (job : JobView) → slice_get xs n ≡ Some job → take (suc n) xs ≡ take n xs ++ job ∷ []
 take_next [] n job e = absurd (none-some job e)
-take_next (x ∷ xs) zero job e = ap (λ (j : JobView). j ∷ []) (some-same x job e)
+take_next (x ∷ xs) zero job e = ap (λ (j : JobView). j ∷ []) (same_Some x job e)
 take_next (x ∷ xs) (suc n) job e = ap (λ (js : List JobView). x ∷ js) (take_next xs n job e)
 
 pub jobs_append : (xs ys : List Hit) → jobs_of (xs ++ ys) ≡ jobs_of xs ++ jobs_of ys
@@ -112,7 +94,7 @@ found_from : (b : Bool) (n : ℕ) (x : Hit) (hits : List Hit) (hit : Hit) → ha
     → cond b (Some x) (hit_of n hits) ≡ Some hit → hit.job.number ≡ n
 found_from true n x hits hit is rest e =
     let same : x.job.number ≡ n = grind (arith, is) in
-    sym (ap (λ (y : Hit). y.job.number) (some-same x hit e)) ∙ same
+    sym (ap (λ (y : Hit). y.job.number) (same_Some x hit e)) ∙ same
 found_from false n x hits hit is rest e = rest e
 
 pub found_number : (n : ℕ) (hits : List Hit) (hit : Hit) → hit_of n hits ≡ Some hit → hit.job.number ≡ n
@@ -127,7 +109,8 @@ index_from false n x hits p rest lt =
     let e : 1 + p ≡ suc p = omega arith in
     ap (λ (ys : List Hit). x ∷ ys) (rest (omega (arith, lt))) ∙ ap (λ (k : ℕ). remove (x ∷ hits) k) (sym e)
 
-pub without_index : (n : ℕ) (hits : List Hit) → position_or_len (has_number n) hits < length hits → without n hits ≡ remove hits (position_or_len (has_number n) hits)
+pub without_index : (n : ℕ) (hits : List Hit) → position_or_len (has_number n) hits < length hits
+    → without n hits ≡ remove hits (position_or_len (has_number n) hits)
 without_index n [] lt = absurd (omega (arith, lt))
 without_index n (x ∷ hits) lt = index_from (has_number n x) n x hits (position_or_len (has_number n) hits) (without_index n hits) lt
 
@@ -140,7 +123,8 @@ pub without_past : (n : ℕ) (hits : List Hit) → length hits ≤ position_or_l
 without_past n [] ge = refl
 without_past n (x ∷ hits) ge = past_from (has_number n x) n x hits (position_or_len (has_number n) hits) (without_past n hits) ge
 
-pub hit_index : (n : ℕ) (hits : List Hit) (d : Hit) → position_or_len (has_number n) hits < length hits → hit_of n hits ≡ Some (get_or hits (position_or_len (has_number n) hits) d)
+pub hit_index : (n : ℕ) (hits : List Hit) (d : Hit) → position_or_len (has_number n) hits < length hits
+    → hit_of n hits ≡ Some (get_or hits (position_or_len (has_number n) hits) d)
 hit_index n hits d lt = find_at (has_number n) hits ∙ slice_get-get_or hits (position_or_len (has_number n) hits) d lt
 
 pub hit_past : (n : ℕ) (hits : List Hit) → length hits ≤ position_or_len (has_number n) hits → hit_of n hits ≡ None
@@ -152,8 +136,11 @@ any_of (x ∷ hits) {k} lt = x
 
 is_hit_from : (n : ℕ) (hits : List Hit) (o : Option Hit) → hit_of n hits ≡ o → (position_or_len (has_number n) hits < length hits) ↔ (is_some o ≡ true)
 is_hit_from n hits None e =
-    let at : slice_get hits (position_or_len (has_number n) hits) ≡ None = sym (find_at (has_number n) hits) ∙ e in
-    (λ lt. absurd (none-some (get_or hits (position_or_len (has_number n) hits) (any_of hits lt)) (sym at ∙ slice_get-get_or hits (position_or_len (has_number n) hits) (any_of hits lt) lt)), λ t. absurd (false≢true t))
+    let at : slice_get hits (position_or_len (has_number n) hits) ≡ None = sym (find_at (has_number n) hits) ∙ e in (
+      λ lt. absurd (none-some (get_or hits (position_or_len (has_number n) hits) (any_of hits lt))
+          (sym at ∙ slice_get-get_or hits (position_or_len (has_number n) hits) (any_of hits lt) lt)),
+      λ t. absurd (false≢true t),
+    )
 is_hit_from n hits (Some hit) e =
     let at : slice_get hits (position_or_len (has_number n) hits) ≡ Some hit = sym (find_at (has_number n) hits) ∙ e in
     (λ lt. refl, λ t. slice_get_within hits (position_or_len (has_number n) hits) hit at)

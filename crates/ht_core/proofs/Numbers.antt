@@ -30,13 +30,23 @@ pub absent : (n off : ℕ) (xs : List JobView) → IsFrom off xs → n < off →
 absent n off [] from lt = refl
 absent n off (x ∷ xs) from lt =
     let is = from 0 x refl in
-    omega (arith, sum_by-cons (one_of n) x xs, one_not n x (let other : x.number ≢ n = omega (arith, is, lt) in other), absent n (suc off) xs (from_next off x xs from) (omega (arith, lt)))
+    omega (
+      arith,
+      sum_by-cons (one_of n) x xs,
+      one_not n x (let other : x.number ≢ n = omega (arith, is, lt) in other),
+      absent n (suc off) xs (from_next off x xs from) (omega (arith, lt)),
+    )
 
 pub beyond : (n off : ℕ) (xs : List JobView) → IsFrom off xs → off + length xs ≤ n → sum_by (one_of n) xs ≡ 0
 beyond n off [] from ge = refl
 beyond n off (x ∷ xs) from ge =
     let is = from 0 x refl in
-    omega (arith, sum_by-cons (one_of n) x xs, one_not n x (let other : x.number ≢ n = omega (arith, is, ge) in other), beyond n (suc off) xs (from_next off x xs from) (omega (arith, ge)))
+    omega (
+      arith,
+      sum_by-cons (one_of n) x xs,
+      one_not n x (let other : x.number ≢ n = omega (arith, is, ge) in other),
+      beyond n (suc off) xs (from_next off x xs from) (omega (arith, ge)),
+    )
 
 pub present : (n off d : ℕ) (xs : List JobView) → IsFrom off xs → n ≡ off + d → d < length xs → sum_by (one_of n) xs ≡ 1
 present n off d [] from is lt = absurd (omega (arith, lt))
@@ -45,7 +55,12 @@ present n off zero (x ∷ xs) from is lt =
     omega (arith, sum_by-cons (one_of n) x xs, one_is n x (omega (arith, first, is)), absent n (suc off) xs (from_next off x xs from) (omega (arith, is)))
 present n off (suc d) (x ∷ xs) from is lt =
     let first = from 0 x refl in
-    omega (arith, sum_by-cons (one_of n) x xs, one_not n x (let other : x.number ≢ n = omega (arith, first, is) in other), present n (suc off) d xs (from_next off x xs from) (omega (arith, is)) (omega (arith, lt)))
+    omega (
+      arith,
+      sum_by-cons (one_of n) x xs,
+      one_not n x (let other : x.number ≢ n = omega (arith, first, is) in other),
+      present n (suc off) d xs (from_next off x xs from) (omega (arith, is)) (omega (arith, lt)),
+    )
 
 -- where one of a number is, something is
 pub found_hand : (n : ℕ) (hands : List (Option JobView)) → 0 < sum_by (one_of n) (flat_map option_to_list hands)

@@ -1,7 +1,7 @@
 -- Each job stands in one place.
 use Rattle.std.proofs.Common.{◌≡◌, ◌≢◌, ◌↔◌, ℕ, zero, suc, ◌+◌, ◌-◌, ◌<◌, ◌≤◌, List, [], ◌∷◌, length, get_or, false, refl, ap, ◌∙◌, sym, arith}
 use Rattle.std.proofs.lemmas.Bool.{false≢true}
-use Rattle.ht_core.proofs.Lists.{none-some, some-same}
+use Rattle.std.proofs.lemmas.Option.{none-some, same_Some}
 use Rattle.ht_core.proofs.Sums.{weigh_places}
 use Rattle.std.specs.Prelude.{Option, None, Some, IfSome, IfNone, is_some}
 use Rattle.std.specs.List.{sum_by, flat_map}
@@ -34,7 +34,8 @@ module _ {X : Type 0} (h : JobView → ℕ) (f : X → List JobView) (d : X) (no
 
 -- all places together
 abbrev all_of : CoreView → ℕ → ℕ
-all_of c n = in_hands (one_of n) c.hands + (in_deques (one_of n) c.deques + (in_hits (one_of n) c.results + (in_hits (one_of n) c.booked + in_hits (one_of n) c.emitted)))
+all_of c n = in_hands (one_of n) c.hands
+    + (in_deques (one_of n) c.deques + (in_hits (one_of n) c.results + (in_hits (one_of n) c.booked + in_hits (one_of n) c.emitted)))
 
 hand_le : (c : CoreView) (n a : ℕ) → numbered n (jobs_at c (Hand a)) ≤ in_hands (one_of n) c.hands
 hand_le c n a = group_le (one_of n) option_to_list None refl c.hands a
@@ -50,13 +51,15 @@ alone c n Booked = omega arith
 alone c n Emitted = omega arith
 
 two : (c : CoreView) (n : ℕ) (spot other : Spot) → other ≢ spot → numbered n (jobs_at c spot) + numbered n (jobs_at c other) ≤ all_of c n
-two c n (Hand a) (Hand b) apart = let e : a ≢ b = λ e. apart (ap (λ (i : ℕ). Hand i) (sym e)) in omega (arith, groups_le (one_of n) option_to_list None refl c.hands a b e)
+two c n (Hand a) (Hand b) apart = let e : a ≢ b = λ e. apart (ap (λ (i : ℕ). Hand i) (sym e)) in
+    omega (arith, groups_le (one_of n) option_to_list None refl c.hands a b e)
 two c n (Hand a) (Deque b) apart = omega (arith, hand_le c n a, deque_le c n b)
 two c n (Hand a) Results apart = omega (arith, hand_le c n a)
 two c n (Hand a) Booked apart = omega (arith, hand_le c n a)
 two c n (Hand a) Emitted apart = omega (arith, hand_le c n a)
 two c n (Deque a) (Hand b) apart = omega (arith, deque_le c n a, hand_le c n b)
-two c n (Deque a) (Deque b) apart = let e : a ≢ b = λ e. apart (ap (λ (i : ℕ). Deque i) (sym e)) in omega (arith, groups_le (one_of n) (λ (jobs : List JobView). jobs) [] refl c.deques a b e)
+two c n (Deque a) (Deque b) apart = let e : a ≢ b = λ e. apart (ap (λ (i : ℕ). Deque i) (sym e)) in
+    omega (arith, groups_le (one_of n) (λ (jobs : List JobView). jobs) [] refl c.deques a b e)
 two c n (Deque a) Results apart = omega (arith, deque_le c n a)
 two c n (Deque a) Booked apart = omega (arith, deque_le c n a)
 two c n (Deque a) Emitted apart = omega (arith, deque_le c n a)
@@ -79,14 +82,17 @@ two c n Emitted Emitted apart = absurd (apart refl)
 -- all places together have an issued number once, and no other number
 at_most_one_from : (c : CoreView) → IsCore c → (n left : ℕ) → length c.issued - n ≡ left → all_of c n ≤ 1
 at_most_one_from c w n zero e = let none = beyond n 0 c.issued (from_zero c w) (omega (arith, e)) in omega (arith, weighed c w.once (one_of n), none)
-at_most_one_from c w n (suc left) e = let one = present n 0 n c.issued (from_zero c w) (omega arith) (omega (arith, e)) in omega (arith, weighed c w.once (one_of n), one)
+at_most_one_from c w n (suc left) e = let one = present n 0 n c.issued (from_zero c w) (omega arith) (omega (arith, e)) in
+    omega (arith, weighed c w.once (one_of n), one)
 
 nowhere_from : (c : CoreView) → IsCore c → (n : ℕ) → all_of c n ≡ 0 → (left : ℕ) → length c.issued - n ≡ left → length c.issued ≤ n
 nowhere_from c w n none zero e = omega (arith, e)
-nowhere_from c w n none (suc left) e = let one = present n 0 n c.issued (from_zero c w) (omega arith) (omega (arith, e)) in absurd (omega (arith, weighed c w.once (one_of n), one, none))
+nowhere_from c w n none (suc left) e = let one = present n 0 n c.issued (from_zero c w) (omega arith) (omega (arith, e)) in
+    absurd (omega (arith, weighed c w.once (one_of n), one, none))
 
 somewhere_from : (c : CoreView) → IsCore c → (n : ℕ) → 0 < all_of c n → (left : ℕ) → length c.issued - n ≡ left → n < length c.issued
-somewhere_from c w n some zero e = let none = beyond n 0 c.issued (from_zero c w) (omega (arith, e)) in absurd (omega (arith, weighed c w.once (one_of n), none, some))
+somewhere_from c w n some zero e = let none = beyond n 0 c.issued (from_zero c w) (omega (arith, e)) in
+    absurd (omega (arith, weighed c w.once (one_of n), none, some))
 somewhere_from c w n some (suc left) e = omega (arith, e)
 
 at_most_one : (c : CoreView) → IsCore c → (n : ℕ) → all_of c n ≤ 1
@@ -103,8 +109,12 @@ pub one_place : (c : CoreView) → IsCore c → (n : ℕ) (spot : Spot) → 0 < 
     → (n < length c.issued) × (numbered n (jobs_at c spot) ≡ 1) × ((other : Spot) → other ≢ spot → numbered n (jobs_at c other) ≡ 0)
 one_place c w n spot some =
     let one = at_most_one c w n in
-    let here = alone c n spot in
-    (somewhere c w n (omega (arith, some, here)), omega (arith, some, here, one), λ other apart. let both = two c n spot other apart in omega (arith, some, both, one))
+    let here = alone c n spot in (
+      somewhere c w n (omega (arith, some, here)),
+      omega (arith, some, here, one),
+      λ other apart. let both = two c n spot other apart in
+          omega (arith, some, both, one),
+    )
 
 -- a place that was found is the place
 pub is_place : (c : CoreView) → IsCore c → (n : ℕ) (found : Option Spot)
@@ -119,5 +129,5 @@ is_place c w n (Some spot) some none =
     let p = one_place c w n spot some in
     let lt = p.0 in (
       (λ e. absurd (false≢true (sym e)), λ ge. absurd (omega (arith, lt, ge))),
-      (p.1, λ it other e apart. p.2 other (λ same. apart (same ∙ some-same spot it e))),
+      (p.1, λ it other e apart. p.2 other (λ same. apart (same ∙ same_Some spot it e))),
     )

@@ -27,11 +27,13 @@ weigh_front h (x ∷ xs) = omega (arith, sum_by-cons h x xs)
 -- hits are one of them and the others
 without_from : (b : Bool) (h : JobView → ℕ) (n : ℕ) (hit : Hit) (hits : List Hit)
     → sum_by h (jobs_of (without n hits)) + sum_by h (jobs_of (option_to_list (hit_of n hits))) ≡ sum_by h (jobs_of hits)
-    → sum_by h (jobs_of (cond b hits (hit ∷ without n hits))) + sum_by h (jobs_of (option_to_list (cond b (Some hit) (hit_of n hits)))) ≡ sum_by h (jobs_of (hit ∷ hits))
+    → sum_by h (jobs_of (cond b hits (hit ∷ without n hits))) + sum_by h (jobs_of (option_to_list (cond b (Some hit) (hit_of n hits))))
+    ≡ sum_by h (jobs_of (hit ∷ hits))
 without_from true h n hit hits rest = omega (arith, sum_by-cons h hit.job (jobs_of hits))
 without_from false h n hit hits rest = omega (arith, rest, sum_by-cons h hit.job (jobs_of hits), sum_by-cons h hit.job (jobs_of (without n hits)))
 
-pub weigh_without : (h : JobView → ℕ) (n : ℕ) (hits : List Hit) → sum_by h (jobs_of (without n hits)) + sum_by h (jobs_of (option_to_list (hit_of n hits))) ≡ sum_by h (jobs_of hits)
+pub weigh_without : (h : JobView → ℕ) (n : ℕ) (hits : List Hit)
+    → sum_by h (jobs_of (without n hits)) + sum_by h (jobs_of (option_to_list (hit_of n hits))) ≡ sum_by h (jobs_of hits)
 weigh_without h n [] = refl
 weigh_without h n (hit ∷ hits) = without_from (has_number n hit) h n hit hits (weigh_without h n hits)
 
@@ -40,12 +42,14 @@ weigh_jobs h xs ys = ap (λ (js : List JobView). sum_by h js) (jobs_append xs ys
 
 -- what all places weigh is what each weighs
 pub weigh_places : (h : JobView → ℕ) (c : CoreView) → sum_by h (places c)
-    ≡ sum_by h (flat_map option_to_list c.hands) + (sum_by h (flat_map (λ jobs. jobs) c.deques) + (sum_by h (jobs_of c.results) + (sum_by h (jobs_of c.booked) + sum_by h (jobs_of c.emitted))))
+    ≡ sum_by h (flat_map option_to_list c.hands)
+    + (sum_by h (flat_map (λ jobs. jobs) c.deques) + (sum_by h (jobs_of c.results) + (sum_by h (jobs_of c.booked) + sum_by h (jobs_of c.emitted))))
 weigh_places h c =
     let hands = flat_map option_to_list c.hands in
     let deques = flat_map (λ (jobs : List JobView). jobs) c.deques in
     let results = jobs_of c.results in
     let booked = jobs_of c.booked in
     let emitted = jobs_of c.emitted in
-    let all : sum_by h (places c) ≡ sum_by h (hands ++ deques ++ results ++ booked) + sum_by h emitted = sum_by-append h (hands ++ deques ++ results ++ booked) emitted in
+    let all : sum_by h (places c) ≡ sum_by h (hands ++ deques ++ results ++ booked) + sum_by h emitted =
+    sum_by-append h (hands ++ deques ++ results ++ booked) emitted in
     omega (arith, all, sum_by-append h (hands ++ deques ++ results) booked, sum_by-append h (hands ++ deques) results, sum_by-append h hands deques)

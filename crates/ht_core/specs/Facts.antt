@@ -1,6 +1,6 @@
 -- What holds of the machine after every legal list of events.
-use Rattle.std.specs.Prelude.{◌≡◌, ◌+◌, ◌<◌, ◌≤◌, ◌==◌, ℕ, List, [], ◌∷◌, ◌++◌, length, map, take, slice_get, IfSome, Some, Bool, true, false, ⊤}
-use Rattle.std.specs.List.{sum_by, count_by, flat_map}
+use Rattle.std.specs.Prelude.{◌≡◌, ◌+◌, ◌<◌, ◌≤◌, ◌==◌, ℕ, List, ◌++◌, length, map, take, slice_get, IfSome, Some, Bool, true, false}
+use Rattle.std.specs.List.{All, sum_by, count_by, flat_map}
 use Rattle.std.specs.Option.{option_to_list}
 use Rattle.ht_metric.specs.Jobs.{JobView, Found}
 use Rattle.ht_metric.specs.declared.hit.Hit.{Hit}
@@ -29,11 +29,6 @@ SameCounts xs ys = (h : JobView → ℕ) → sum_by h xs ≡ sum_by h ys
 abbrev pub IsIssued : List JobView → JobView → Type 0
 IsIssued issued job = slice_get issued job.number ≡ Some job
 
--- P holds of each
-abbrev pub Every : {X : Type 0} → (X → Type 0) → List X → Type 0
-Every P [] = ⊤
-Every P (x ∷ xs) = P x × Every P xs
-
 pub record IsCore (c : CoreView) : Type 0 where
   -- an actor has a hand and a deque
   pub some : 1 ≤ c.workers
@@ -46,10 +41,10 @@ pub record IsCore (c : CoreView) : Type 0 where
   pub numbered : (k : ℕ) (job : JobView) → slice_get c.issued k ≡ Some job → job.number ≡ k
   -- each issued job stands in one place, once, and no other job stands in any
   pub once : SameCounts (places c) c.issued
-  pub in_hand : Every (λ h. IfSome h (IsIssued c.issued)) c.hands
-  pub in_deque : Every (Every (IsIssued c.issued)) c.deques
-  pub in_results : Every (λ (hit : Hit). IsIssued c.issued hit.job) c.results
-  pub in_booked : Every (λ (hit : Hit). IsIssued c.issued hit.job) c.booked
+  pub in_hand : All (λ h. IfSome h (IsIssued c.issued)) c.hands
+  pub in_deque : All (All (IsIssued c.issued)) c.deques
+  pub in_results : All (λ (hit : Hit). IsIssued c.issued hit.job) c.results
+  pub in_booked : All (λ (hit : Hit). IsIssued c.issued hit.job) c.booked
   -- no more than the window are issued and not emitted
   pub window : length c.issued ≤ length c.emitted + c.window
   -- the emitted hits are those of the first issued jobs, in order

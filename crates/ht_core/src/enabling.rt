@@ -20,6 +20,7 @@ use ht_metric::{Hit, Job};
 /// - `Emit`: the lowest number that is not emitted is booked.
 ///
 /// An event of an actor that the pool does not have is not enabled.
+#[must_use]
 pub fn enabled(core: &Core, event: &Event) -> bool
     ensures enabled { IsTrue result ↔ IsEnabled core.now event.now }
     ensures core { IsCore core.now }
@@ -54,7 +55,8 @@ impl Core {
     }
 
     fn can_take(&self, actor: u8, owner: u8) -> bool
-        ensures enabled { IsTrue result ↔ ((actor < self.now.workers) × (owner < self.now.workers) × (hand self.now actor ≡ None) × (0 < length (deque self.now owner))) }
+        ensures enabled { IsTrue result ↔ ((actor < self.now.workers) × (owner < self.now.workers)
+            × (hand self.now actor ≡ None) × (0 < length (deque self.now owner))) }
         ensures core { IsCore self.now }
     {
         let there = actor < self.workers && owner < self.workers;

@@ -1,6 +1,8 @@
 //! What may happen in a pool, and where a job may be.
+ghost use Rattle.std.specs.Prelude.{◌≡◌};
 
 use ht_metric::{Hit, Job};
+use thiserror::Error;
 
 /// One step of a pool. Actors are numbered from 0, and actor 0 is the caller.
 #[derive(Debug, Drop)]
@@ -47,10 +49,12 @@ pub enum Spot {
 }
 
 /// Why a step was not made.
-#[derive(Clone, Copy, Debug, PartialEq, Eq)]
+#[derive(Clone, Copy, Debug, PartialEq, Eq, Error)]
 pub enum StepFault {
     /// The event is not enabled.
-    NotEnabled,
-    /// Memory is lacking.
-    NoMemory,
+    #[error("the event is not enabled")]
+    NotEnabled = 1,
+    /// Out of memory.
+    #[error("out of memory")]
+    NoMemory = 2,
 }

@@ -2,7 +2,7 @@
 ghost use Rattle.std.specs.Prelude.{◌≡◌, ◌≢◌, ◌↔◌, ◌<◌, ◌≤◌, length, Some, IfSome, IfNone, IsNone, IsTrue};
 ghost use Rattle.std.specs.List.{flat_map};
 ghost use Rattle.std.specs.Option.{option_to_list};
-ghost use Rattle.ht_core.specs.declared.event.Spot.{Spot as OneSpot};
+ghost use Rattle.ht_core.specs.declared.event.Spot.{Spot as SpotValue};
 ghost use Rattle.ht_core.specs.Machine.{hand, deque};
 ghost use Rattle.ht_core.specs.Facts.{IsCore, jobs_at, numbered, places};
 
@@ -12,10 +12,11 @@ use crate::machine::Core;
 use ht_metric::Job;
 
 /// The place of the issued job of this number, which is its only one. `None` where no job of this number is issued.
+#[must_use]
 pub fn place_of(core: &Core, number: u64) -> Option<Spot>
     ensures issued { IsNone result ↔ (length core.now.issued ≤ number) }
     ensures place { IfSome result (λ spot. numbered number (jobs_at core.now spot) ≡ 1) }
-    ensures only { (spot other : OneSpot) → result ≡ Some spot → other ≢ spot → numbered number (jobs_at core.now other) ≡ 0 }
+    ensures only { (spot other : SpotValue) → result ≡ Some spot → other ≢ spot → numbered number (jobs_at core.now other) ≡ 0 }
 {
     core.find(number)
 }

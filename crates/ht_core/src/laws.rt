@@ -1,18 +1,18 @@
 //! What holds after every legal list of events. None of these functions does anything.
 ghost use Rattle.std.specs.Prelude.{◌≡◌, ◌≢◌, ◌<◌, ◌≤◌, ℕ, List, length, map, take};
-ghost use Rattle.ht_core.specs.declared.event.Event.{Event as Step};
-ghost use Rattle.ht_core.specs.declared.event.Spot.{Spot as Place};
+ghost use Rattle.ht_core.specs.declared.event.Event.{Event as EventValue};
+ghost use Rattle.ht_core.specs.declared.event.Spot.{Spot as SpotValue};
 ghost use Rattle.ht_metric.specs.Jobs.{near};
 ghost use Rattle.ht_core.specs.Machine.{CoreView, run, empty, IsLegal};
 ghost use Rattle.ht_core.specs.Facts.{IsCore, CanGoOn, answer_of, jobs_at, numbered};
 
-/// From the empty core, after each list of events of which each is enabled in its turn.
+/// What holds after every list of events, begun with the empty core, of which each is enabled in its turn.
 pub fn after_legal_events()
-    ensures core { (workers window : ℕ) (events : List Step)
+    ensures core { (workers window : ℕ) (events : List EventValue)
         → 1 ≤ workers → workers ≤ 64 → 1 ≤ window → window ≤ 4096
         → IsLegal (empty workers window) events
         → IsCore (run (empty workers window) events) }
-    ensures going { (workers window : ℕ) (events : List Step)
+    ensures going { (workers window : ℕ) (events : List EventValue)
         → 1 ≤ workers → workers ≤ 64 → 1 ≤ window → window ≤ 4096
         → IsLegal (empty workers window) events
         → CanGoOn (run (empty workers window) events) }
@@ -25,8 +25,8 @@ pub fn emitted_are_near()
 
 /// A place that has a job of some number has it once, the number is issued, and no other place has it.
 pub fn one_place()
-    ensures { (c : CoreView) (number : ℕ) (spot : Place)
+    ensures { (c : CoreView) (number : ℕ) (spot : SpotValue)
         → IsCore c → 0 < numbered number (jobs_at c spot)
         → (number < length c.issued) × (numbered number (jobs_at c spot) ≡ 1)
-        × ((other : Place) → other ≢ spot → numbered number (jobs_at c other) ≡ 0) }
+        × ((other : SpotValue) → other ≢ spot → numbered number (jobs_at c other) ≡ 0) }
 {}

@@ -1,8 +1,8 @@
 //! The pool of workers as a machine with no threads: what may happen, and what holds whatever happens.
 //!
-//! A [`Core`] has the issued jobs, what each actor has in hand, each actor's deque, the finished hits, the booked
-//! hits and the emitted ones. Actor 0 is the caller. An [`Event`] is one step: [`enabled`] says whether it may come,
-//! [`step`] makes it, and [`place_of`] says where a job is.
+//! A [`Core`] has the issued jobs, what each actor has in hand, each actor's deque, the results (hits that are finished
+//! and not booked), the booked hits and the emitted ones. Actor 0 is the caller. An [`Event`] is one step: [`enabled`]
+//! says whether it may come, [`step`] makes it, and [`place_of`] says where a job is.
 //!
 //! After every legal list of events each issued job is in one place, once; at most as many jobs as the window are
 //! issued and not emitted; the emitted hits are those of the first issued jobs, in order; and while a job is under

@@ -78,7 +78,7 @@ impl Core {
     }
 }
 
-// So many empty hands.
+// An empty hand for each actor.
 fn hands(alloc: Global, workers: u8) -> Result<Vec<Option<Job>>, AllocError>
     ensures { IfOk result (λ hands. hands.items ≡ replicate workers None) }
 {
@@ -89,7 +89,7 @@ fn hands(alloc: Global, workers: u8) -> Result<Vec<Option<Job>>, AllocError>
     Ok(hands)
 }
 
-// So many empty deques.
+// An empty deque for each actor.
 fn deques(alloc: Global, workers: u8) -> Result<Vec<Deque>, AllocError>
     ensures { IfOk result (λ deques. deques.items ≡ replicate workers []) }
 {

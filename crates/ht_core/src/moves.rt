@@ -10,7 +10,7 @@ use crate::machine::Core;
 use ht_metric::{Hit, Job};
 use std::alloc::AllocError;
 
-/// Makes one step, if the event is enabled. The core is unchanged where it isn't, and where memory is lacking.
+/// Makes one step, if the event is enabled. The core is unchanged where it isn't, and where memory runs out.
 ///
 /// - `Issue`: the job is in the caller's hand.
 /// - `Push`: the job is at the back of the actor's deque.

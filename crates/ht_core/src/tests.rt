@@ -134,3 +134,32 @@ fn two_jobs(rt: HostRuntime) -> Result<(), Fail> {
     );
     Ok(())
 }
+
+#[test]
+fn window_of_two(rt: HostRuntime) -> Result<(), Fail> {
+    let mut core = Core::new(rt.alloc(), 2, 2)?;
+    for number in 0..2 {
+        for event in [Event::Issue(job(number, 3)), Event::Push(0)] {
+            assert!(rt; enabled(&core, &event));
+            step(&mut core, event)?;
+        }
+    }
+    refused(&rt, &mut core, Event::Issue(job(2, 3)));
+
+    let rest = [
+        Event::Steal { thief: 1, from: 0 },
+        Event::Finish {
+            actor: 1,
+            hit: hit(0, 3),
+        },
+        Event::Accept(0),
+        Event::Emit,
+    ];
+    for event in rest {
+        assert!(rt; enabled(&core, &event));
+        step(&mut core, event)?;
+    }
+    assert_eq!(rt; place_of(&core, 0), Some(Spot::Emitted));
+    assert_eq!(rt; place_of(&core, 1), Some(Spot::Deque(0)));
+    Ok(())
+}

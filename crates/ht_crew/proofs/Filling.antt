@@ -1,12 +1,13 @@
 -- A window that is filled from a feed.
-use Rattle.std.proofs.Common.{◌≡◌, ℕ, ◌+◌, ◌-◌, ◌^◌, ◌<◌, ◌≤◌, List, [], ◌∷◌, ◌++◌, length, take, drop, Bool, true, false, Option, Some, None, ap, ◌∙◌, sym, refl, arith, rules, subst}
+use Rattle.std.proofs.Common.{◌≡◌, ℕ, ◌+◌, ◌-◌, ◌^◌, ◌<◌, ◌≤◌, List, [], ◌∷◌, ◌++◌, length, take, drop, Bool}
+use Rattle.std.proofs.Common.{true, false, Option, Some, None, ap, ◌∙◌, sym, refl, arith, rules, subst}
 use Rattle.std.proofs.lemmas.List.{length-append, length-drop, length-take-le, map-append, drop-drop, drop-append-le}
 use Rattle.std.proofs.Math.Seq.{take-add}
 use Rattle.ht_metric.specs.Jobs.{JobView}
 use Rattle.ht_metric.specs.declared.hit.Hit.{Hit}
 use Rattle.ht_window.specs.Windows.{WindowView, unbooked, front_hit}
 use Rattle.ht_window.specs.declared.slot.Slot.{Slot}
-use Rattle.ht_crew.specs.Feeds.{Shown, Gives, ComesFirst}
+use Rattle.ht_crew.specs.Feeds.{FeedView, Gives, ComesFirst}
 use Rattle.ht_crew.specs.Driving.{Holds, GoesOn, IsAlong, to_run, one_without, waiting}
 
 -- the window after a job was issued
@@ -30,7 +31,7 @@ front_stays (slot ∷ slots) job e = e
 
 module _ {Fault : Type 0} where
   -- what was filled so far
-  pub record Filling (w0 : WindowView) (f0 : Shown Fault) (w : WindowView) (f : Shown Fault) : Type 0 where
+  pub record Filling (w0 : WindowView) (f0 : FeedView Fault) (w : WindowView) (f : FeedView Fault) : Type 0 where
     pub holds : Holds w f
     pub capacity : w.capacity ≡ w0.capacity
     pub ran : waiting w.slots + f0.count ≡ waiting w0.slots + f.count
@@ -40,7 +41,7 @@ module _ {Fault : Type 0} where
     pub failed : f.failed ≡ f0.failed
     pub along : (all : List JobView) → IsAlong all f0 → IsAlong all f
 
-  pub holds_more : (w : WindowView) (f f' : Shown Fault) (job : JobView) → Holds w f → length w.slots < w.capacity → Gives f f' job → Holds (issued w job) f'
+  pub holds_more : (w : WindowView) (f f' : FeedView Fault) (job : JobView) → Holds w f → length w.slots < w.capacity → Gives f f' job → Holds (issued w job) f'
   holds_more w f f' job holds room gives =
       let one_more : length (w.slots ++ unbooked job ∷ []) ≡ length w.slots + 1 = length-append w.slots (unbooked job ∷ []) in
       record {
@@ -50,15 +51,17 @@ module _ {Fault : Type 0} where
       }
 
   -- a job of the list more was given
-  pub along_more : (all : List JobView) (f f' : Shown Fault) (job : JobView) → IsAlong all f → f.ended ≡ false → Gives f f' job → IsAlong all f'
-  along_more all f f' job along running gives = rest f'.left refl (subst (λ (left : Option (List JobView)). ComesFirst left f'.left job) (along.left running) gives.left)
+  pub along_more : (all : List JobView) (f f' : FeedView Fault) (job : JobView) → IsAlong all f → f.ended ≡ false → Gives f f' job → IsAlong all f'
+  along_more all f f' job along running gives =
+      rest f'.left refl (subst (λ (left : Option (List JobView)). ComesFirst left f'.left job) (along.left running) gives.left)
     where
       rest : (left : Option (List JobView)) → f'.left ≡ left → ComesFirst (Some (drop f.count all)) left job → IsAlong all f'
       rest None is e = absurd e
       rest (Some after) is e =
           let n : ℕ = f.count in
           let due : ℕ = length f.due in
-          let later : after ≡ drop f'.count all = ap (λ (xs : List JobView). drop 1 xs) (sym e) ∙ (drop-drop 1 n all ∙ ap (λ (k : ℕ). drop k all) (sym gives.count)) in
+          let later : after ≡ drop f'.count all =
+          ap (λ (xs : List JobView). drop 1 xs) (sym e) ∙ (drop-drop 1 n all ∙ ap (λ (k : ℕ). drop k all) (sym gives.count)) in
           let some : length (drop n all) ≡ length (job ∷ after) = ap (λ (xs : List JobView). length xs) e in
           let more : take f'.count all ≡ take n all ++ job ∷ [] =
           ap (λ (k : ℕ). take k all) gives.count ∙ (take-add n 1 all ∙ ap (λ (xs : List JobView). take n all ++ take 1 xs) e) in
@@ -73,7 +76,9 @@ module _ {Fault : Type 0} where
                 ∙ (ap (λ (xs : List JobView). drop (n - due) xs) (sym more) ∙ ap (λ (k : ℕ). drop k (take f'.count all)) (sym from))));
           }
 
-  pub filling_more : (w0 : WindowView) (f0 : Shown Fault) (w : WindowView) (f f' : Shown Fault) (job : JobView) → Filling w0 f0 w f → length w.slots < w.capacity → f.ended ≡ false → Gives f f' job → f.faults ≤ f'.faults → f'.count + f'.more < 2 ^ 64 - 1 → Filling w0 f0 (issued w job) f'
+  pub filling_more : (w0 : WindowView) (f0 : FeedView Fault) (w : WindowView) (f f' : FeedView Fault) (job : JobView) → Filling w0 f0 w f
+      → length w.slots < w.capacity → f.ended ≡ false → Gives f f' job → f.faults ≤ f'.faults
+      → f'.count + f'.more < 2 ^ 64 - 1 → Filling w0 f0 (issued w job) f'
   filling_more w0 f0 w f f' job filling room running gives later bound = record {
     holds = holds_more w f f' job filling.holds room gives;
     capacity = filling.capacity;
@@ -86,13 +91,14 @@ module _ {Fault : Type 0} where
   }
 
   -- a job that was given and waits is one that may still have come
-  pub fewer_more : (w : WindowView) (f f' : Shown Fault) (job : JobView) (running : Bool) → running ≡ true → Gives f f' job → to_run running f' (issued w job) ≤ to_run running f w
+  pub fewer_more : (w : WindowView) (f f' : FeedView Fault) (job : JobView) (running : Bool)
+      → running ≡ true → Gives f f' job → to_run running f' (issued w job) ≤ to_run running f w
   fewer_more w f f' job running on gives =
       let less : to_run true f' (issued w job) ≤ to_run true f w = omega (arith, waiting_more w.slots job, gives.more) in
       subst (λ (r : Bool). to_run r f' (issued w job) ≤ to_run r f w) (sym on) less
 
   -- a feed that gave a job goes on
-  pub goes_on_more : (f f' : Shown Fault) (job : JobView) (running : Bool) → running ≡ true → Gives f f' job → GoesOn running f'
+  pub goes_on_more : (f f' : FeedView Fault) (job : JobView) (running : Bool) → running ≡ true → Gives f f' job → GoesOn running f'
   goes_on_more f f' job running on gives =
       let still : GoesOn true f' = record { ended = gives.running; left = λ off. search rules } in
       subst (λ (r : Bool). GoesOn r f') (sym on) still

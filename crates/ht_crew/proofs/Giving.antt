@@ -1,6 +1,7 @@
 -- Lists of jobs that are given one after the other.
 use Rattle.std.proofs.Common.{◌≡◌, ℕ, ◌+◌, ◌<◌, ◌≤◌, List, [], ◌∷◌, ◌++◌, length, map, take, drop, slice_get, get_or, Some, false, ap, ◌∙◌, sym, refl, arith}
-use Rattle.std.proofs.lemmas.List.{take_more, drop_more, drop-append-le, drop-take, drop-drop, get_or-drop, length-take, length-take-le, length-drop, length-append, map-append}
+use Rattle.std.proofs.lemmas.List.{take_more, drop_more, drop-append-le, drop-take, drop-drop, get_or-drop}
+use Rattle.std.proofs.lemmas.List.{length-take, length-take-le, length-drop, length-append, map-append}
 use Rattle.std.proofs.lemmas.List.{get_or-take}
 use Rattle.std.proofs.lemmas.Option.{slice_get_within, slice_get-get_or, get_or_from_slice_get}
 use Rattle.ht_metric.specs.Jobs.{JobView, Found, found_at}
@@ -22,14 +23,16 @@ drop_next {A} xs n x e =
     drop_more xs n x below ∙ ap (λ (y : A). y ∷ drop (n + 1) xs) (get_or_from_slice_get xs n x x e)
 
 -- what is due after one more was given
-pub due_more : {A : Type 0} (xs : List A) (taken given : ℕ) (x : A) → taken ≤ given → slice_get xs given ≡ Some x → drop taken (take (given + 1) xs) ≡ drop taken (take given xs) ++ x ∷ []
+pub due_more : {A : Type 0} (xs : List A) (taken given : ℕ) (x : A) → taken ≤ given
+    → slice_get xs given ≡ Some x → drop taken (take (given + 1) xs) ≡ drop taken (take given xs) ++ x ∷ []
 due_more {A} xs taken given x within e =
     let below = slice_get_within xs given x e in
     ap (λ (ys : List A). drop taken ys) (take_next xs given x e)
     ∙ drop-append-le taken (take given xs) (x ∷ []) (omega (arith, below, length-take-le given xs (omega (arith, below))))
 
 -- the next job of a feed over a list
-pub gives_next : (a : Listed) (job : JobView) → IsListed (called a) → a.ended ≡ false → slice_get a.jobs a.given ≡ Some job → Gives (shown a) (shown (gave a)) job
+pub gives_next : (a : Listed) (job : JobView) → IsListed (called a) → a.ended ≡ false
+    → slice_get a.jobs a.given ≡ Some job → Gives (shown a) (shown (gave a)) job
 gives_next a job listed running e =
     let below = slice_get_within a.jobs a.given job e in
     record {
@@ -92,5 +95,6 @@ takes_in_turn a hit first =
       jobs = refl;
       taken = map-append answer_of a.taken (hit ∷ [])
           ∙ (ap (λ (x : Answer). map answer_of a.taken ++ x ∷ []) (hit_answers hit)
-          ∙ ap (λ (jobs : List JobView). map answer_of a.taken ++ map answer jobs) (sym (ap (λ (m : ℕ). drop n (take m a.jobs)) (length_more a.taken hit) ∙ next)));
+          ∙ ap (λ (jobs : List JobView). map answer_of a.taken ++ map answer jobs)
+          (sym (ap (λ (m : ℕ). drop n (take m a.jobs)) (length_more a.taken hit) ∙ next)));
     }

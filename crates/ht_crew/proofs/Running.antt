@@ -1,5 +1,6 @@
 -- A job that was run waits no more.
-use Rattle.std.proofs.Common.{◌≡◌, ℕ, zero, suc, ◌+◌, ◌-◌, ◌<◌, List, [], ◌∷◌, slice_get, slice_set, Option, Some, None, Bool, if◌then◌else◌, ap, ◌∙◌, sym, arith, rules, subst}
+use Rattle.std.proofs.Common.{◌≡◌, ℕ, zero, suc, ◌+◌, ◌-◌, ◌<◌, List, [], ◌∷◌, slice_get, slice_set}
+use Rattle.std.proofs.Common.{Option, Some, None, Bool, if◌then◌else◌, ap, ◌∙◌, sym, arith, rules, subst}
 use Rattle.std.proofs.lemmas.Option.{same_Some}
 use Rattle.ht_metric.specs.Jobs.{JobView}
 use Rattle.ht_metric.specs.declared.hit.Hit.{Hit}
@@ -8,12 +9,13 @@ use Rattle.ht_window.specs.Accepting.{IsUnbooked, Books}
 use Rattle.ht_window.specs.declared.slot.Slot.{Slot}
 use Rattle.ht_window.specs.declared.window.Accepted.{Accepted}
 use Rattle.ht_window.specs.declared.window.Accepted.TheVariants.{Booked}
-use Rattle.ht_crew.specs.Feeds.{Shown, GivesAsBefore, IsLeft}
+use Rattle.ht_crew.specs.Feeds.{FeedView, GivesAsBefore, IsLeft}
 use Rattle.ht_crew.specs.Driving.{GoesOn, to_run, one_without, waiting}
 use Rattle.ht_crew.proofs.Filling.{one_more}
 
 -- one slot less waits
-pub waiting_set : (slots : List Slot) (k : ℕ) (job : JobView) (hit : Hit) → slice_get slots k ≡ Some (unbooked job) → waiting slots ≡ waiting (slice_set slots k (booked hit)) + 1
+pub waiting_set : (slots : List Slot) (k : ℕ) (job : JobView) (hit : Hit)
+    → slice_get slots k ≡ Some (unbooked job) → waiting slots ≡ waiting (slice_set slots k (booked hit)) + 1
 waiting_set [] k job hit e = search rules
 waiting_set (slot ∷ slots) zero job hit e =
     let none : slot.hit ≡ None = ap (λ (s : Slot). s.hit) (same_Some slot (unbooked job) e) in
@@ -22,7 +24,8 @@ waiting_set (slot ∷ slots) (suc k) job hit e =
     one_more slot.hit (waiting slots) (waiting (slice_set slots k (booked hit))) (waiting_set slots k job hit e)
 
 -- the hit of a job that waits is booked
-pub waiting_booked : (w w' : WindowView) (job : JobView) (hit : Hit) → IsWindow w → IsUnbooked w job → hit.job ≡ job → Books w hit w' → waiting w.slots ≡ waiting w'.slots + 1
+pub waiting_booked : (w w' : WindowView) (job : JobView) (hit : Hit) → IsWindow w
+    → IsUnbooked w job → hit.job ≡ job → Books w hit w' → waiting w.slots ≡ waiting w'.slots + 1
 waiting_booked w w' job hit window there is books =
     let k : ℕ = there.0 in
     let number = window.numbered k (unbooked job) there.1 in
@@ -32,20 +35,23 @@ waiting_booked w w' job hit window there is books =
     waiting_set w.slots k job hit there.1 ∙ ap (λ (s : List Slot). waiting s + 1) (sym slots)
 
 -- a hit of a job that waits is taken
-pub accepted : (w w' : WindowView) (job : JobView) (hit : Hit) (answer : Accepted) → IsWindow w → IsUnbooked w job → hit.job ≡ job → (IsUnbooked w hit.job → answer ≡ Booked) → (answer ≡ Booked → Books w hit w') → waiting w.slots ≡ waiting w'.slots + 1
+pub accepted : (w w' : WindowView) (job : JobView) (hit : Hit) (answer : Accepted) → IsWindow w → IsUnbooked w job → hit.job ≡ job
+    → (IsUnbooked w hit.job → answer ≡ Booked) → (answer ≡ Booked → Books w hit w') → waiting w.slots ≡ waiting w'.slots + 1
 accepted w w' job hit answer window there is booked books =
     waiting_booked w w' job hit window there is (books (booked (subst (λ (j : JobView). IsUnbooked w j) (sym is) there)))
 
 module _ {Fault : Type 0} where
   -- a feed that gives as before goes on as before
-  pub goes_on_still : (f f' : Shown Fault) (running : Bool) → GoesOn running f → GivesAsBefore f f' → GoesOn running f'
+  pub goes_on_still : (f f' : FeedView Fault) (running : Bool) → GoesOn running f → GivesAsBefore f f' → GoesOn running f'
   goes_on_still f f' running on same = record {
     ended = same.ended ∙ on.ended;
     left = λ off. subst (λ (left : Option (List JobView)). IsLeft left []) (sym same.left) (on.left off);
   }
 
   -- one job less is to be run
-  pub fewer_run : (w1 w2 w3 : WindowView) (f1 f2 : Shown Fault) (running : Bool) → GivesAsBefore f1 f2 → waiting w1.slots ≡ waiting w2.slots + 1 → waiting w3.slots ≡ waiting w2.slots → to_run running f2 w3 < to_run running f1 w1
+  pub fewer_run : (w1 w2 w3 : WindowView) (f1 f2 : FeedView Fault) (running : Bool) → GivesAsBefore f1 f2
+      → waiting w1.slots ≡ waiting w2.slots + 1 → waiting w3.slots ≡ waiting w2.slots → to_run running f2 w3 < to_run running f1 w1
   fewer_run w1 w2 w3 f1 f2 running same less still =
-      let more : to_run running f2 w3 ≡ (if running then f1.more else 0) + waiting w3.slots = ap (λ (m : ℕ). (if running then m else 0) + waiting w3.slots) same.more in
+      let more : to_run running f2 w3 ≡ (if running then f1.more else 0) + waiting w3.slots =
+      ap (λ (m : ℕ). (if running then m else 0) + waiting w3.slots) same.more in
       omega (arith, more, less, still)

@@ -10,7 +10,8 @@ pub takes_first : (old new : Listed) → old.taken ≡ [] → TakesInTurn old ne
 takes_first old new none leads =
     leads.taken ∙ ap (λ (taken : List Hit). map answer_of taken ++ map answer (drop (length taken) (take (length new.taken) old.jobs))) none
 
-pub takes_all : (old new : Listed) → old.taken ≡ [] → TakesInTurn old new → (shown new).due ≡ [] → IsLeft (shown new).left [] → map answer_of new.taken ≡ map answer old.jobs
+pub takes_all : (old new : Listed) → old.taken ≡ [] → TakesInTurn old new → (shown new).due ≡ []
+    → IsLeft (shown new).left [] → map answer_of new.taken ≡ map answer old.jobs
 takes_all old new none leads due left =
     let n : ℕ = length new.taken in
     let same : length new.jobs ≡ length old.jobs = ap (λ (jobs : List JobView). length jobs) leads.jobs in

@@ -1,15 +1,15 @@
 -- What is seen of a feed of jobs, and what each answer of it means.
 use Rattle.std.specs.Prelude.{◌≡◌, ◌↔◌, ℕ, ◌+◌, ◌<◌, List, [], ◌∷◌, ◌++◌, drop, Option, Some, None, IsSome, Bool, true, false}
-use Rattle.ht_io.specs.Causes.{Rose}
+use Rattle.ht_io.specs.Causes.{HasRisen}
 use Rattle.ht_metric.specs.Jobs.{JobView}
 
 -- all that is seen of a feed at one moment, for its type of fault
-pub record Shown (Fault : Type 0) : Type 0 where
+pub record FeedView (Fault : Type 0) : Type 0 where
   -- how many jobs it has given
   pub count : ℕ
   -- the jobs given and not taken, in the order in which they were given
   pub due : List JobView
-  -- the jobs still to come, where they are told
+  -- the jobs still to come, where they are known
   pub left : Option (List JobView)
   -- a number of jobs beyond which none comes
   pub more : ℕ
@@ -20,12 +20,12 @@ pub record Shown (Fault : Type 0) : Type 0 where
   -- what the last call that failed answered
   pub failed : Option Fault
 
--- where the jobs still to come are told, they are these
+-- where the jobs still to come are known, they are these
 abbrev pub IsLeft : Option (List JobView) → List JobView → Type 0
 IsLeft None jobs = Unit {0}
 IsLeft (Some left) jobs = left ≡ jobs
 
--- the jobs still to come are told exactly where they were told before, and the job was the first of them
+-- the jobs still to come are known exactly where they were known before, and the job was the first of them
 abbrev pub ComesFirst : Option (List JobView) → Option (List JobView) → JobView → Type 0
 ComesFirst None None job = Unit {0}
 ComesFirst None (Some after) job = ⊥
@@ -34,13 +34,13 @@ ComesFirst (Some before) (Some after) job = before ≡ job ∷ after
 
 module _ {Fault : Type 0} where
   -- a feed that has given nothing yet
-  pub record IsFresh (feed : Shown Fault) : Type 0 where
+  pub record IsFresh (feed : FeedView Fault) : Type 0 where
     pub none_given : feed.count ≡ 0
     pub none_due : feed.due ≡ []
     pub running : feed.ended ≡ false
 
   -- the feed gave this job
-  pub record Gives (old new : Shown Fault) (job : JobView) : Type 0 where
+  pub record Gives (old new : FeedView Fault) (job : JobView) : Type 0 where
     pub running : new.ended ≡ false
     pub number : job.number ≡ old.count
     pub count : new.count ≡ old.count + 1
@@ -50,29 +50,29 @@ module _ {Fault : Type 0} where
     pub failed : new.failed ≡ old.failed
 
   -- the feed said that no job comes any more
-  pub record Ends (old new : Shown Fault) : Type 0 where
+  pub record Ends (old new : FeedView Fault) : Type 0 where
     pub ended : new.ended ≡ true
     pub count : new.count ≡ old.count
     pub due : new.due ≡ old.due
-    pub told : IsSome new.left ↔ IsSome old.left
+    pub known : IsSome new.left ↔ IsSome old.left
     pub left : IsLeft new.left []
     pub failed : new.failed ≡ old.failed
 
   -- the feed took the hit of the first job due
-  pub record Takes (old new : Shown Fault) : Type 0 where
+  pub record Takes (old new : FeedView Fault) : Type 0 where
     pub due : new.due ≡ drop 1 old.due
     pub failed : new.failed ≡ old.failed
 
   -- the feed answered this fault
-  pub record Fails (old new : Shown Fault) (fault : Fault) : Type 0 where
-    pub rose : Rose old.faults new.faults
+  pub record Fails (old new : FeedView Fault) (fault : Fault) : Type 0 where
+    pub rose : HasRisen old.faults new.faults
     pub failed : new.failed ≡ Some fault
     pub count : new.count ≡ old.count
     pub due : new.due ≡ old.due
-    pub told : IsSome new.left ↔ IsSome old.left
+    pub known : IsSome new.left ↔ IsSome old.left
 
   -- the feed gives what it would have given
-  pub record GivesAsBefore (old new : Shown Fault) : Type 0 where
+  pub record GivesAsBefore (old new : FeedView Fault) : Type 0 where
     pub count : new.count ≡ old.count
     pub left : new.left ≡ old.left
     pub more : new.more ≡ old.more

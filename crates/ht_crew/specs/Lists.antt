@@ -3,7 +3,7 @@ use Rattle.std.specs.Prelude.{◌≡◌, ℕ, ◌+◌, ◌-◌, ◌≤◌, List,
 use Rattle.ht_io.specs.Causes.{one_more}
 use Rattle.ht_metric.specs.Jobs.{JobView, Found, near}
 use Rattle.ht_metric.specs.declared.hit.Hit.{Hit}
-use Rattle.ht_crew.specs.Feeds.{Shown}
+use Rattle.ht_crew.specs.Feeds.{FeedView}
 use Rattle.ht_crew.specs.declared.list_fault.ListFault.{ListFault}
 
 -- a job and what was found for it
@@ -23,7 +23,8 @@ answer job = record { job = job; found = near job }
 abbrev pub AreNumbered : List JobView → Type 0
 AreNumbered jobs = (k : ℕ) (job : JobView) → slice_get jobs k ≡ Some job → job.number ≡ k
 
--- the jobs, how many of them were given, the hits taken, the numbers of the calls that fail, and what calls came and failed
+-- the jobs, how many of them were given, the hits taken, the numbers of the calls that are to fail, how many calls came,
+-- whether it has ended, how many calls failed, and what the last of them answered
 pub record Listed : Type 0 where
   pub jobs : List JobView
   pub given : ℕ
@@ -34,9 +35,21 @@ pub record Listed : Type 0 where
   pub faults : ℕ
   pub failed : Option ListFault
 
+abbrev pub listed : List JobView → ℕ → List Hit → List ℕ → ℕ → Bool → ℕ → Option ListFault → Listed
+listed jobs given taken failing calls ended faults failed = record {
+  jobs = jobs;
+  given = given;
+  taken = taken;
+  failing = failing;
+  calls = calls;
+  ended = ended;
+  faults = faults;
+  failed = failed;
+}
+
 -- a feed that no call has reached
 abbrev pub fresh : List JobView → List ℕ → Listed
-fresh jobs failing = record { jobs = jobs; given = 0; taken = []; failing = failing; calls = 0; ended = false; faults = 0; failed = None }
+fresh jobs failing = listed jobs 0 [] failing 0 false 0 None
 
 -- the feed after one more call that was not refused
 abbrev pub called : Listed → Listed
@@ -52,7 +65,7 @@ pub record IsListed (feed : Listed) : Type 0 where
   pub given : feed.given ≤ length feed.jobs
   pub taken : length feed.taken ≤ feed.given
 
-abbrev pub shown : Listed → Shown ListFault
+abbrev pub shown : Listed → FeedView ListFault
 shown feed = record {
   count = feed.given;
   due = drop (length feed.taken) (take feed.given feed.jobs);

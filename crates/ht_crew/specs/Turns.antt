@@ -19,7 +19,10 @@ parts {A} a b c xs ab bc =
     let front : drop a (take b xs) ≡ take m (drop a xs) = ap (λ (n : ℕ). drop a (take n xs)) (sym to_b) ∙ drop-take a m xs in
     let back : drop b (take c xs) ≡ take k (drop b xs) = ap (λ (n : ℕ). drop b (take n xs)) (sym to_c) ∙ drop-take b k xs in
     let rest : take k (drop m (drop a xs)) ≡ take k (drop b xs) = ap (λ (ys : List A). take k ys) (drop-drop m a xs ∙ ap (λ (n : ℕ). drop n xs) to_b) in
-    whole ∙ (take-add m k (drop a xs) ∙ (ap (λ (ys : List A). take m (drop a xs) ++ ys) (rest ∙ sym back) ∙ ap (λ (ys : List A). ys ++ drop b (take c xs)) (sym front)))
+    whole
+    ∙ (take-add m k (drop a xs)
+    ∙ (ap (λ (ys : List A). take m (drop a xs) ++ ys) (rest ∙ sym back)
+    ∙ ap (λ (ys : List A). ys ++ drop b (take c xs)) (sym front)))
 
 -- no entry stands between a place and itself
 pub no_part : {A : Type 0} (n : ℕ) (xs : List A) → drop n (take n xs) ≡ []
@@ -46,11 +49,14 @@ goes_on a b c ab bc =
     let same : drop mid (take end b.jobs) ≡ drop mid (take end a.jobs) = ap (λ (jobs : List JobView). drop mid (take end jobs)) ab.jobs in
     let joined : drop start (take mid a.jobs) ++ drop mid (take end b.jobs) ≡ drop start (take end a.jobs) =
     ap (λ (jobs : List JobView). drop start (take mid a.jobs) ++ jobs) same
-    ∙ sym (parts start mid end a.jobs (grew a.taken b.taken (drop start (take mid a.jobs)) ab.taken) (grew b.taken c.taken (drop mid (take end b.jobs)) bc.taken)) in
+    ∙ sym (parts start mid end a.jobs
+    (grew a.taken b.taken (drop start (take mid a.jobs)) ab.taken)
+    (grew b.taken c.taken (drop mid (take end b.jobs)) bc.taken)) in
     record {
       jobs = bc.jobs ∙ ab.jobs;
       taken = bc.taken
           ∙ (ap (λ (answers : List Answer). answers ++ map answer (drop mid (take end b.jobs))) ab.taken
           ∙ (append_assoc (map answer_of a.taken) (map answer (drop start (take mid a.jobs))) (map answer (drop mid (take end b.jobs)))
-          ∙ ap (λ (answers : List Answer). map answer_of a.taken ++ answers) (sym (map-append answer (drop start (take mid a.jobs)) (drop mid (take end b.jobs))) ∙ ap (λ (jobs : List JobView). map answer jobs) joined)));
+          ∙ ap (λ (answers : List Answer). map answer_of a.taken ++ answers)
+          (sym (map-append answer (drop start (take mid a.jobs)) (drop mid (take end b.jobs))) ∙ ap (λ (jobs : List JobView). map answer jobs) joined)));
     }

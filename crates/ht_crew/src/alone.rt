@@ -15,9 +15,9 @@ use std::alloc::Global;
 ///
 /// The feed has given nothing yet. The drive asks it for jobs until `window` of them are due, 1 to 4096, or it has
 /// ended, and only then runs one. So whichever call of the feed fails, no more jobs than that are due. The gate is
-/// told of each job before and after it is run.
+/// called before and after each job.
 ///
-/// It refuses with the feed's fault, or for want of memory, and then before the first call of the feed.
+/// It refuses with the feed's fault, or with `NoMemory`, and then before the first call of the feed.
 pub fn drive_alone<F: Feed, G: Gate>(
     alloc: Global,
     window: u16,
@@ -55,7 +55,7 @@ pub fn drive_alone<F: Feed, G: Gate>(
         Ok(jobs) => Ok(Report {
             jobs,
             own: jobs,
-            ran: Ran::from_vec(Vec::new(alloc)),
+            ran: Ran::from(Vec::new(alloc)),
             passes: None,
         }),
         Err(fault) => Err(DriveFault::Feed(fault)),

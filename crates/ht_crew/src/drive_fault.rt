@@ -1,10 +1,17 @@
 //! Why a drive ended early.
+ghost use Rattle.std.specs.Prelude.{◌≡◌};
+
+use std::fmt::Display;
+use thiserror::Error;
 
 /// What a drive refuses with.
-#[derive(Debug, Drop, PartialEq, Eq)]
+#[derive(Debug, Drop, PartialEq, Eq, Error)]
+#[error_bound(E: Display)]
 pub enum DriveFault<E> {
     /// A call of the feed failed and answered this.
+    #[error("{0}")]
     Feed(E),
-    /// There was no memory for the drive, and no call of the feed was made.
+    /// Out of memory for the drive; no call of the feed was made.
+    #[error("out of memory")]
     NoMemory,
 }

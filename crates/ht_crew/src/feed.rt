@@ -1,25 +1,25 @@
 //! Where jobs come from and hits go.
 ghost use Rattle.std.specs.Prelude.{◌≡◌, ◌+◌, ◌-◌, ◌^◌, ◌<◌, ◌≤◌, length, false, Some, slice_get, IfOk, IfErr, IfSome, IfNone, OnOk};
-ghost use Rattle.ht_crew.specs.Feeds.{Shown, Gives, Ends, Takes, Fails, GivesAsBefore};
+ghost use Rattle.ht_crew.specs.Feeds.{FeedView, Gives, Ends, Takes, Fails, GivesAsBefore};
 
 use ht_metric::{Hit, Job};
 
 /// A source of jobs that takes back their hits, in the order of the jobs.
 ///
 /// Jobs are numbered from 0. A job that was given is due until its hit is taken. What each call did shows in
-/// one record, [`shown`](Feed): how many jobs were given, which are due, which are still to come where the feed
-/// tells it, a number of jobs beyond which none comes, whether it has ended, how often it failed and what it
+/// one record, [`shown`](Feed): how many jobs were given, which are due, which are still to come where this
+/// is known, a number of jobs beyond which none comes, whether it has ended, how often it failed and what it
 /// answered last when it failed.
 ///
-/// Beyond this a feed says by a relation of its own, `leads`, what it does with the hits and with what stands
-/// behind it: every call leads from the state before it to the state after it. So whoever hands a feed to a drive
-/// learns that the state at the call leads to the one that comes back.
+/// Beyond this a feed says by a relation of its own, `leads`, what it does with the hits and with the devices behind
+/// it: every call leads from the state before it to the state after it. So whoever hands a feed to a drive knows
+/// afterwards that the state at the call leads to the one that comes back.
 pub trait Feed {
     /// What a call that fails answers.
     type Fault;
 
     /// What is seen of the feed.
-    ghost shown: { Self → Shown Self.Fault };
+    ghost shown: { Self → FeedView Self.Fault };
 
     /// The calls of the feed may lead from the one state to the other.
     ghost leads: { Self → Self → Type 0 };

@@ -1,6 +1,6 @@
 //! What a worker passes on its way into a job and out of it.
 
-/// Told of each job that is run, by whoever runs it. Threads may share it.
+/// What is called before and after each job, by whoever runs it. Threads may share one gate.
 pub trait Gate {
     /// The job of this number is about to be run.
     fn enter(&self, number: u64);

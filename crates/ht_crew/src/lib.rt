@@ -3,8 +3,7 @@
 //! A [`Feed`] gives detection jobs (crate `ht_metric`) numbered from 0, and takes each job's hit back, its first
 //! nearest vector. [`drive_alone`] runs them in the caller's thread. It asks for jobs until as many are due as its
 //! window has slots, runs the first that waits by the sphere search (`ht_sphere`), books the hit in the window
-//! (`ht_window`), and gives the feed what can be given in order. A [`Gate`] is told of each job before and after it is
-//! run.
+//! (`ht_window`), and gives the feed what can be given in order. A [`Gate`] is called before and after each job.
 //!
 //! Over a [`ListFeed`] of three jobs and a window of two, the calls of the feed are: `next`, `next`, `take` of 0,
 //! `next`, `take` of 1, `next`, which finds no job any more, and `take` of 2. If call 4 is to fail, the drive answers

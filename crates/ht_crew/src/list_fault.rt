@@ -1,7 +1,11 @@
 //! How a feed over a list fails.
+ghost use Rattle.std.specs.Prelude.{◌≡◌};
+
+use thiserror::Error;
 
 /// A call that was to fail. Its number counts the calls of the feed from 0.
-#[derive(Clone, Copy, Debug, PartialEq, Eq)]
+#[derive(Clone, Copy, Debug, PartialEq, Eq, Error)]
+#[error("call {call} was to fail")]
 pub struct ListFault {
     pub call: u64,
 }

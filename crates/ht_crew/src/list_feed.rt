@@ -1,6 +1,7 @@
-//! A feed over a list of jobs, for tests: it fails where it is told to, and keeps the hits.
-ghost use Rattle.std.specs.Prelude.{◌≡◌, ◌↔◌, ◌+◌, ◌-◌, ◌^◌, ◌<◌, ◌≤◌, [], ◌++◌, ◌∷◌, length, drop, take, true, false, Some, Contains, slice_get, IsErr, IfOk, IfErr, IfSome, IfNone, OnOk, OnErr, OnSome};
-ghost use Rattle.ht_crew.specs.Feeds.{Shown, Gives, Ends, Takes, Fails, GivesAsBefore};
+//! A feed over a list of jobs, for tests: it fails at the calls that are named, and keeps the hits.
+ghost use Rattle.std.specs.Prelude.{◌≡◌, ◌↔◌, ◌+◌, ◌-◌, ◌^◌, ◌<◌, ◌≤◌, [], ◌++◌, ◌∷◌, length, drop, take, true, false, Some, Contains, slice_get};
+ghost use Rattle.std.specs.Prelude.{IsErr, IfOk, IfErr, IfSome, IfNone, OnOk, OnErr, OnSome};
+ghost use Rattle.ht_crew.specs.Feeds.{FeedView, Gives, Ends, Takes, Fails, GivesAsBefore};
 ghost use Rattle.ht_crew.specs.Lists.{AreNumbered, Listed, IsListed, fresh, called, refused, gave, ended, took, shown, TakesInTurn};
 ghost use Rattle.ht_crew.specs.Turns.{stays, goes_on};
 
@@ -10,8 +11,8 @@ use ht_metric::{Hit, Job};
 use std::alloc::{AllocError, Global};
 use std::marker::Model;
 
-/// Jobs in memory. The calls of `next` and `take` are counted together from 0; those whose number is to fail
-/// change neither list and answer their number.
+/// Jobs in memory. The calls of `next` and `take` are counted together from 0; those that are named to fail change
+/// neither list and answer their number.
 #[derive(Drop)]
 pub struct ListFeed {
     jobs: Vec<Job>,
@@ -26,13 +27,14 @@ pub struct ListFeed {
 
 impl Model for ListFeed {
     ghost use Rattle.std.specs.Prelude.{◌≤◌, vec_len, vec_capacity};
-    ghost use Rattle.ht_crew.specs.Lists.{Listed, IsListed};
+    ghost use Rattle.ht_crew.specs.Lists.{Listed, IsListed, listed};
 
     ghost Value = { Listed };
 
-    ghost view = { λ s. record { jobs = s.jobs.items; given = s.given; taken = s.taken.items; failing = s.failing.items; calls = s.calls; ended = s.ended; faults = s.faults; failed = s.failed } };
+    ghost view = { λ s. listed s.jobs.items s.given s.taken.items s.failing.items s.calls s.ended s.faults s.failed };
 
-    ghost invariant = { λ s. IsListed (record { jobs = s.jobs.items; given = s.given; taken = s.taken.items; failing = s.failing.items; calls = s.calls; ended = s.ended; faults = s.faults; failed = s.failed }) × (vec_len s.jobs ≤ vec_capacity s.taken) };
+    ghost invariant = { λ s. IsListed (listed s.jobs.items s.given s.taken.items s.failing.items s.calls s.ended s.faults s.failed)
+        × (vec_len s.jobs ≤ vec_capacity s.taken) };
 }
 
 impl ListFeed {

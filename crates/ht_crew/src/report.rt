@@ -4,7 +4,7 @@ ghost use Rattle.std.specs.Prelude.{◌≡◌};
 use std::marker::Model;
 
 /// A number of jobs for each worker.
-#[derive(Drop)]
+#[derive(Debug, Drop)]
 pub struct Ran {
     numbers: Vec<u64>,
 }
@@ -17,14 +17,16 @@ impl Model for Ran {
     ghost view = { λ r. r.numbers.items };
 }
 
-impl Ran {
+impl From<Vec<u64>> for Ran {
+    ghost from_gives = { λ numbers ran. ran ≡ numbers.items };
+
     /// The numbers of a vector. Takes no memory.
-    pub fn from_vec(numbers: Vec<u64>) -> Self
-        ensures { result ≡ numbers.items }
-    {
+    fn from(numbers: Vec<u64>) -> Self {
         Ran { numbers }
     }
+}
 
+impl Ran {
     /// The numbers as a slice.
     pub fn as_slice(&self) -> &[u64]
         ensures { result.now ≡ self.now }
@@ -40,14 +42,14 @@ impl Ran {
     }
 }
 
-/// The lists of what went through the workers' queues.
+/// What went through the workers' queues. It has no fields, since no drive with queues stands yet.
 #[derive(Clone, Copy, Debug, PartialEq, Eq)]
 pub struct Passes;
 
 /// What a drive did.
-#[derive(Drop)]
+#[derive(Debug, Drop)]
 pub struct Report {
-    /// How many jobs the feed gave.
+    /// The number of jobs that the feed gave.
     pub jobs: u64,
     /// How many jobs the caller ran without a queue.
     pub own: u64,

@@ -1,5 +1,6 @@
 -- What a window shows of each event.
-use Rattle.std.proofs.Common.{◌≡◌, ℕ, zero, suc, ◌+◌, ◌-◌, ◌^◌, ◌<◌, ◌≤◌, List, [], ◌∷◌, ◌++◌, length, drop, take, map, Bool, true, false, refl, sym, ap, ◌∙◌, subst, arith}
+use Rattle.std.proofs.Common.{◌≡◌, ℕ, zero, suc, ◌+◌, ◌-◌, ◌^◌, ◌<◌, ◌≤◌, List, [], ◌∷◌, ◌++◌, length}
+use Rattle.std.proofs.Common.{drop, take, map, Bool, true, false, refl, sym, ap, ◌∙◌, subst, arith}
 use Rattle.std.proofs.lemmas.List.{length-append, length-drop, length-take}
 use Rattle.std.proofs.lemmas.Option.{slice_get_within}
 use Rattle.std.proofs.lemmas.Bool.{false≢true}
@@ -13,7 +14,8 @@ use Rattle.ht_core.specs.declared.event.Spot.{Spot}
 use Rattle.ht_core.specs.declared.event.Spot.TheVariants.{Hand, Deque, Results, Booked, Emitted}
 use Rattle.ht_core.specs.Machine.{CoreView, IsEnabled, hit_of, without}
 use Rattle.ht_core.specs.Facts.{IsCore, IsIssued, jobs_of, numbered, jobs_at}
-use Rattle.ht_core.proofs.Lists.{some-same, some_is, found_number, every_hit_of}
+use Rattle.std.proofs.lemmas.Option.{same_Some}
+use Rattle.ht_core.proofs.Lists.{some_is, found_number, all_hit_of}
 use Rattle.ht_core.proofs.Numbers.{one_of, IsFrom, present, hit_counts}
 use Rattle.ht_core.proofs.Kept.{emitted_few}
 use Rattle.ht_core.proofs.Going.{from_zero, taken_from}
@@ -34,11 +36,11 @@ left_from c w k j e = w.numbered (length c.emitted + k) j (sym (get_drop (length
 -- a booked hit is of an issued job
 booked_is : (c : CoreView) → IsCore c → (n : ℕ) (hit : Hit) → hit_of n c.booked ≡ Some hit → IsIssued c.issued hit.job
 booked_is c w n hit e =
-    subst (λ (o : Option Hit). IfSome o (λ x. IsIssued c.issued x.job)) e (every_hit_of (λ (x : Hit). IsIssued c.issued x.job) n c.booked w.in_booked)
+    subst (λ (o : Option Hit). IfSome o (λ x. IsIssued c.issued x.job)) e (all_hit_of (λ (x : Hit). IsIssued c.issued x.job) n c.booked w.in_booked)
 
 result_is : (c : CoreView) → IsCore c → (n : ℕ) (hit : Hit) → hit_of n c.results ≡ Some hit → IsIssued c.issued hit.job
 result_is c w n hit e =
-    subst (λ (o : Option Hit). IfSome o (λ x. IsIssued c.issued x.job)) e (every_hit_of (λ (x : Hit). IsIssued c.issued x.job) n c.results w.in_results)
+    subst (λ (o : Option Hit). IfSome o (λ x. IsIssued c.issued x.job)) e (all_hit_of (λ (x : Hit). IsIssued c.issued x.job) n c.results w.in_results)
 
 own_hit : (c : CoreView) → IsCore c → (k : ℕ) (j : JobView) (hit : Hit) → slice_get (left c) k ≡ Some j → hit_of j.number c.booked ≡ Some hit → hit.job ≡ j
 own_hit c w k j hit at e =
@@ -46,7 +48,7 @@ own_hit c w k j hit at e =
     let number : j.number ≡ length c.emitted + k = w.numbered (length c.emitted + k) j there in
     let issued : slice_get c.issued hit.job.number ≡ Some hit.job = booked_is c w j.number hit e in
     let same : hit.job.number ≡ length c.emitted + k = found_number j.number c.booked hit e ∙ number in
-    some-same hit.job j (sym issued ∙ ap (λ (i : ℕ). slice_get c.issued i) same ∙ there)
+    same_Some hit.job j (sym issued ∙ ap (λ (i : ℕ). slice_get c.issued i) same ∙ there)
 
 pub window_is : (c : CoreView) → IsCore c → length c.issued < 2 ^ 64 → IsWindow (window_of c)
 window_is c w few =
@@ -94,12 +96,15 @@ issue_shown c job w on =
     ∙ ap (λ (o : Option Hit). map (slot_of c.booked) (left c) ++ with_hit o ∷ []) none
 
 -- a result's job is neither emitted nor booked
-result_behind_from : (c : CoreView) → IsCore c → (n : ℕ) → numbered n (jobs_of c.emitted) ≡ 0 → n < length c.issued → (d : ℕ) → length c.emitted - n ≡ d → length c.emitted ≤ n
+result_behind_from : (c : CoreView) → IsCore c → (n : ℕ) → numbered n (jobs_of c.emitted) ≡ 0
+    → n < length c.issued → (d : ℕ) → length c.emitted - n ≡ d → length c.emitted ≤ n
 result_behind_from c w n none lt zero e = omega (arith, e)
 result_behind_from c w n none lt (suc d) e =
     let few = emitted_few c w in
-    let one = present n 0 n (take (length c.emitted) c.issued) (taken_from c.issued (length c.emitted) (from_zero c w)) (omega arith) (omega (arith, e, few, length-take (length c.emitted) c.issued)) in
-    let same : numbered n (jobs_of c.emitted) ≡ sum_by (one_of n) (take (length c.emitted) c.issued) = ap (λ (js : List JobView). sum_by (one_of n) js) w.emitted in
+    let one = present n 0 n (take (length c.emitted) c.issued) (taken_from c.issued (length c.emitted) (from_zero c w))
+    (omega arith) (omega (arith, e, few, length-take (length c.emitted) c.issued)) in
+    let same : numbered n (jobs_of c.emitted) ≡ sum_by (one_of n) (take (length c.emitted) c.issued) =
+    ap (λ (js : List JobView). sum_by (one_of n) js) w.emitted in
     absurd (omega (arith, one, none, same))
 
 no_hit_from : (n : ℕ) (hits : List Hit) (o : Option Hit) → hit_of n hits ≡ o → numbered n (jobs_of hits) ≡ 0 → hit_of n hits ≡ None
@@ -147,12 +152,14 @@ accept_unbooked c n hit w e =
     )
 
 pub accept_shown : (c : CoreView) (n : ℕ) (hit : Hit) → IsCore c → hit_of n c.results ≡ Some hit
-    → map (slot_of (c.booked ++ option_to_list (hit_of n c.results))) (left c) ≡ slice_set (map (slot_of c.booked) (left c)) (hit.job.number - length c.emitted) (booked hit)
+    → map (slot_of (c.booked ++ option_to_list (hit_of n c.results))) (left c)
+    ≡ slice_set (map (slot_of c.booked) (left c)) (hit.job.number - length c.emitted) (booked hit)
 accept_shown c n hit w e =
     let p = waits c n hit w e in
     let number = p.number in
     let behind = p.behind in
-    let there : slice_get (left c) (hit.job.number - length c.emitted) ≡ Some hit.job = ap (λ (i : ℕ). slice_get (left c) (i - length c.emitted)) number ∙ p.there in
+    let there : slice_get (left c) (hit.job.number - length c.emitted) ≡ Some hit.job =
+    ap (λ (i : ℕ). slice_get (left c) (i - length c.emitted)) number ∙ p.there in
     ap (λ (o : Option Hit). map (slot_of (c.booked ++ option_to_list o)) (left c)) e
     ∙ slots_booked (length c.emitted) (hit.job.number - length c.emitted) (left c) c.booked hit (left_from c w) (omega (arith, number, behind)) there
     (ap (λ (i : ℕ). hit_of i c.booked) number ∙ p.none)
@@ -181,7 +188,8 @@ pub emit_long : (c : CoreView) → IsEnabled c Emit → length (c.emitted ++ opt
 emit_long c on =
     let p = some_is (hit_of (length c.emitted) c.booked) on in
     let long = length-append c.emitted (p.0 ∷ []) in
-    ap (λ (o : Option Hit). length (c.emitted ++ option_to_list o)) p.1 ∙ (let e : length (c.emitted ++ p.0 ∷ []) ≡ suc (length c.emitted) = omega (arith, long) in e)
+    ap (λ (o : Option Hit). length (c.emitted ++ option_to_list o)) p.1
+    ∙ (let e : length (c.emitted ++ p.0 ∷ []) ≡ suc (length c.emitted) = omega (arith, long) in e)
 
 pub emit_shown : (c : CoreView) → IsCore c → IsEnabled c Emit
     → map (slot_of (without (length c.emitted) c.booked)) (drop (suc (length c.emitted)) c.issued) ≡ drop 1 (window_of c).slots

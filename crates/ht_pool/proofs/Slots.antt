@@ -5,7 +5,7 @@ use Rattle.std.specs.Prelude.{slice_get, slice_set, Option, Some, None}
 use Rattle.ht_metric.specs.Jobs.{JobView}
 use Rattle.ht_metric.specs.declared.hit.Hit.{Hit}
 use Rattle.ht_core.specs.Machine.{has_number, hit_of, without}
-use Rattle.ht_core.proofs.Lists.{none-some, some-same}
+use Rattle.std.proofs.lemmas.Option.{none-some, same_Some}
 use Rattle.ht_core.proofs.Numbers.{IsFrom}
 use Rattle.ht_window.specs.declared.slot.Slot.{Slot}
 use Rattle.ht_window.specs.Windows.{booked}
@@ -44,7 +44,8 @@ less_from : (b d : Bool) (m n : ℕ) (x : Hit) (hits : List Hit) → has_number 
     → hit_of m (cond b hits (x ∷ without n hits)) ≡ cond d (Some x) (hit_of m hits)
 less_from true true m n x hits is has other rest = absurd (other (let e : m ≡ n = grind (arith, is, has) in e))
 less_from true false m n x hits is has other rest = refl
-less_from false d m n x hits is has other rest = ap (λ (o : Option Hit). cond (has_number m x) (Some x) o) rest ∙ ap (λ (b : Bool). cond b (Some x) (hit_of m hits)) has
+less_from false d m n x hits is has other rest =
+    ap (λ (o : Option Hit). cond (has_number m x) (Some x) o) rest ∙ ap (λ (b : Bool). cond b (Some x) (hit_of m hits)) has
 
 pub hit_of_less : (m n : ℕ) (hits : List Hit) → m ≢ n → hit_of m (without n hits) ≡ hit_of m hits
 hit_of_less m n [] other = refl
@@ -73,12 +74,13 @@ slots_less off n (j ∷ jobs) hits from lt =
     ∙ ap (λ (ss : List Slot). slot_of hits j ∷ ss) (slots_less (suc off) n jobs hits next (omega (arith, lt)))
 
 -- a hit that is booked stands in the slot of its job
-pub slots_booked : (off d : ℕ) (jobs : List JobView) (hits : List Hit) (hit : Hit) → IsFrom off jobs → hit.job.number ≡ off + d → slice_get jobs d ≡ Some hit.job
+pub slots_booked : (off d : ℕ) (jobs : List JobView) (hits : List Hit) (hit : Hit)
+    → IsFrom off jobs → hit.job.number ≡ off + d → slice_get jobs d ≡ Some hit.job
     → hit_of hit.job.number hits ≡ None
     → map (slot_of (hits ++ hit ∷ [])) jobs ≡ slice_set (map (slot_of hits) jobs) d (booked hit)
 slots_booked off d [] hits hit from is here none = refl
 slots_booked off zero (j ∷ jobs) hits hit from is here none =
-    let same : j ≡ hit.job = some-same j hit.job here in
+    let same : j ≡ hit.job = same_Some j hit.job here in
     let slot : JobView → Option Hit → Slot = λ i o. record { job = i; hit = o } in
     let now : slot_of (hits ++ hit ∷ []) j ≡ booked hit =
     ap (λ (i : JobView). slot_of (hits ++ hit ∷ []) i) same ∙ ap (λ (o : Option Hit). slot hit.job o) (hit_of_new hit.job.number hits hit refl none) in
@@ -96,12 +98,13 @@ slots_booked off (suc d) (j ∷ jobs) hits hit from is here none =
 pub slot_at : (hits : List Hit) (jobs : List JobView) (k : ℕ) (s : Slot) → slice_get (map (slot_of hits) jobs) k ≡ Some s
     → (j : JobView) × (slice_get jobs k ≡ Some j) × (s ≡ slot_of hits j)
 slot_at hits [] k s e = absurd (none-some s e)
-slot_at hits (j ∷ jobs) zero s e = (j, refl, sym (some-same (slot_of hits j) s e))
+slot_at hits (j ∷ jobs) zero s e = (j, refl, sym (same_Some (slot_of hits j) s e))
 slot_at hits (j ∷ jobs) (suc k) s e = slot_at hits jobs k s e
 
-pub slot_there : (hits : List Hit) (jobs : List JobView) (k : ℕ) (j : JobView) → slice_get jobs k ≡ Some j → slice_get (map (slot_of hits) jobs) k ≡ Some (slot_of hits j)
+pub slot_there : (hits : List Hit) (jobs : List JobView) (k : ℕ) (j : JobView)
+    → slice_get jobs k ≡ Some j → slice_get (map (slot_of hits) jobs) k ≡ Some (slot_of hits j)
 slot_there hits [] k j e = absurd (none-some j e)
-slot_there hits (i ∷ jobs) zero j e = ap (λ (x : JobView). Some (slot_of hits x)) (some-same i j e)
+slot_there hits (i ∷ jobs) zero j e = ap (λ (x : JobView). Some (slot_of hits x)) (same_Some i j e)
 slot_there hits (i ∷ jobs) (suc k) j e = slot_there hits jobs k j e
 
 pub get_drop : (n k : ℕ) (jobs : List JobView) → slice_get (drop n jobs) k ≡ slice_get jobs (n + k)

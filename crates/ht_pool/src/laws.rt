@@ -1,4 +1,4 @@
-//! What a window shows of each event. None of these functions does anything.
+//! What each event of the pool does to its window. None of these functions does anything.
 ghost use Rattle.std.specs.Prelude.{◌≡◌, ◌↔◌, ◌+◌, ◌^◌, ◌<◌, ℕ, [], ◌∷◌, ◌++◌, length, drop, Some, IsSome};
 ghost use Rattle.ht_metric.specs.Jobs.{JobView};
 ghost use Rattle.ht_metric.specs.declared.hit.Hit.{Hit};
@@ -29,7 +29,8 @@ pub fn issue()
 /// `Accept` is `accept` of the result of its number: a slot holds its job and waits for its hit, which it then has.
 pub fn accept()
     ensures unbooked { (c : CoreView) (number : ℕ) (hit : Hit) → IsCore c → hit_of number c.results ≡ Some hit → IsUnbooked (window_of c) hit.job }
-    ensures books { (c : CoreView) (number : ℕ) (hit : Hit) → IsCore c → hit_of number c.results ≡ Some hit → Books (window_of c) hit (window_of (after c (Accept number))) }
+    ensures books { (c : CoreView) (number : ℕ) (hit : Hit) → IsCore c → hit_of number c.results ≡ Some hit
+        → Books (window_of c) hit (window_of (after c (Accept number))) }
 {}
 
 /// `Emit` is `emit`: it may come where the first slot has a hit, which is the one emitted, and the slot is then out.

@@ -2,16 +2,14 @@
 use Rattle.std.specs.Prelude.{◌≡◌, ◌⊎◌, ℕ, ◌+◌, ◌<◌, ◌≤◌, List, ◌∷◌, ◌++◌, length, take, drop, Some}
 use Rattle.std.proofs.Common.{ap, ◌∙◌, sym, subst, inl, inr, append_assoc, arith, length-append, length-take}
 use Rattle.std.proofs.lemmas.List.{take-append-drop}
+use Rattle.std.proofs.lemmas.Option.{same_Some}
 use Rattle.ht_io.specs.declared.faults.Kind.TheVariants.{Truncated}
 use Rattle.ht_io.specs.declared.faults.FormatFault.{FormatFault}
 use Rattle.ht_fields.specs.Grammar.{Grammar}
 use Rattle.ht_fields.specs.Cases.{joined, HasTrailing, Case, File, Clean, Longer, Faulty, Meets}
 use Rattle.ht_fields.specs.Meanings.{Meaning, meaning, fault_of}
-use Rattle.ht_fields.specs.Readers.{IsEarly, EndsAt, Shown}
+use Rattle.ht_fields.specs.Readers.{IsEarly, EndsAt, ReaderView}
 use Rattle.ht_fields.proofs.Answered.{met, found, bad_stays, trailing_stays}
-
-same_fault : (a b : FormatFault) → Some a ≡ Some b → a ≡ b
-same_fault a b e = cc
 
 -- a fault that stands in a front stands in the whole text
 fault_in : {S I : Type 0} (f : Grammar S I) (octets other : List ℕ) (fault : FormatFault) (items : List I) (case : Case)
@@ -27,7 +25,8 @@ longer_within f octets items offset m =
     omega (arith, all, parts, r.length_is)
 
 early_front : {S I : Type 0} (f : Grammar S I) (octets : List ℕ) (fault : FormatFault) (n : ℕ) (items : List I) (case : Case)
-    → (meaning f f.start 0 octets).fault ≡ Some fault → n ≤ fault.offset → n < length octets → Meets f (take n octets) items case → IsEarly n (fault_of (length (take n octets)) case)
+    → (meaning f f.start 0 octets).fault ≡ Some fault → n ≤ fault.offset → n < length octets
+    → Meets f (take n octets) items case → IsEarly n (fault_of (length (take n octets)) case)
 early_front f octets fault n items File is le few m = tt
 early_front f octets fault n items Clean is le few m =
     let long : length (take n octets) ≡ n = omega (arith, few, length-take n octets) in
@@ -39,7 +38,7 @@ early_front f octets fault n items (Longer offset) is le few m =
     sym (append_assoc (take (offset + 1) front) (drop (offset + 1) front) (drop n octets))
     ∙ (ap (λ xs. xs ++ drop n octets) (take-append-drop (offset + 1) front) ∙ take-append-drop n octets) in
     let stays = trailing_stays f front back items offset m in
-    let both = same_fault _ _ (fault_in f octets (take (offset + 1) front ++ back) fault items (Longer offset) is same stays) in
+    let both = same_Some _ _ (fault_in f octets (take (offset + 1) front ++ back) fault items (Longer offset) is same stays) in
     let place : offset ≡ fault.offset = ap (λ (z : FormatFault). z.offset) both in
     absurd (omega (arith, place, le, longer_within f front items offset m, length-take n octets))
 early_front f octets fault n items (Faulty kind offset) is le few m =
@@ -48,7 +47,7 @@ early_front f octets fault n items (Faulty kind offset) is le few m =
     let back = stays.1 ++ drop n octets in
     let same : stays.0 ++ back ≡ octets =
     sym (append_assoc stays.0 stays.1 (drop n octets)) ∙ (ap (λ xs. xs ++ drop n octets) (sym stays.2) ∙ take-append-drop n octets) in
-    let both = same_fault _ _ (fault_in f octets (stays.0 ++ back) fault items (Faulty kind offset) is same (stays.4 back)) in
+    let both = same_Some _ _ (fault_in f octets (stays.0 ++ back) fault items (Faulty kind offset) is same (stays.4 back)) in
     let place : offset ≡ fault.offset = ap (λ (z : FormatFault). z.offset) both in
     let parts = ap length stays.2 ∙ length-append stays.0 stays.1 in
     absurd (omega (arith, place, le, stays.3, parts, length-take n octets))
@@ -64,7 +63,7 @@ below : (n m : ℕ) → (n ≤ m) ⊎ (m < n)
 below n m = grind arith
 
 -- every shorter front, where the field at fault ends the text
-pub before_end : {S I : Type 0} (f : Grammar S I) (old : Shown I) (octets : List ℕ) (fault : FormatFault) (n : ℕ)
+pub before_end : {S I : Type 0} (f : Grammar S I) (old : ReaderView I) (octets : List ℕ) (fault : FormatFault) (n : ℕ)
     → old.at ≡ 0 → ((xs : List ℕ) → old.means xs ≡ meaning f f.start 0 xs) → (meaning f f.start 0 octets).fault ≡ Some fault → EndsAt old octets fault
     → n < length octets → IsEarly n (meaning f f.start 0 (take n octets)).fault
 before_end {I = I} f old octets fault n at means is ends few = elim (below n fault.offset) [
@@ -72,5 +71,6 @@ before_end {I = I} f old octets fault n at means is ends few = elim (below n fau
   | inr lt ↦
       let early = ends.early n (omega (arith, at, lt)) few in
       let place : old.at + n ≡ n = omega (arith, at) in
-      subst (λ k. IsEarly k (meaning f f.start 0 (take n octets)).fault) place (subst (λ (m : Meaning I). IsEarly (old.at + n) m.fault) (means (take n octets)) early)
+      subst (λ k. IsEarly k (meaning f f.start 0 (take n octets)).fault) place
+      (subst (λ (m : Meaning I). IsEarly (old.at + n) m.fault) (means (take n octets)) early)
 ]

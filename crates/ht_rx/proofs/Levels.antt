@@ -23,7 +23,9 @@ levels-more levels points k p room within is so_far =
     ∙ (ap (λ xs. xs ++ p.q ∷ []) (take_more_set levels (2 * k) p.i (omega arith))
     ∙ (append_assoc (take (2 * k) levels) (p.i ∷ []) (p.q ∷ [])
     ∙ (ap (λ xs. xs ++ p.i ∷ p.q ∷ []) so_far
-    ∙ sym (ap levels_of (take_more points k p within) ∙ (flat_map-append (λ (x : Point). x.i ∷ x.q ∷ []) (take k points) (get_or points k p ∷ []) ∙ ap (λ (x : Point). levels_of (take k points) ++ x.i ∷ x.q ∷ []) (sym is)))))))
+    ∙ sym (ap levels_of (take_more points k p within)
+    ∙ (flat_map-append (λ (x : Point). x.i ∷ x.q ∷ []) (take k points) (get_or points k p ∷ [])
+    ∙ ap (λ (x : Point). levels_of (take k points) ++ x.i ∷ x.q ∷ []) (sym is)))))))
 
 -- the line of a job, from a hit of it
 pub line_is : (job seen : JobView) (place : Place) (vector x : List Point) (levels : List ℤ) (d e : ℕ)

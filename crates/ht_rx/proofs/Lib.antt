@@ -1,7 +1,9 @@
 pub mod Levels
 pub mod Taking
+pub mod Waiting
 pub mod Finding
 pub mod Giving
+pub mod Sound
 pub mod Leads
 pub mod Fronts
 pub mod Outcomes

@@ -1,16 +1,18 @@
 //! What listing a capture comes to.
 ghost use Rattle.std.specs.Prelude.{◌≡◌};
 
-use ht_io::FormatFault;
+use ht_io::{Failed, FormatFault};
 use std::alloc::AllocError;
 use thiserror::Error;
 
 /// Why a listing can't go on.
-#[derive(Clone, Copy, Debug, PartialEq, Eq)]
+#[derive(Clone, Copy, Debug, PartialEq, Eq, Error)]
 pub enum FeedFault {
     /// The sink failed.
+    #[error("the text can't be written")]
     Write,
-    /// Memory ran out.
+    /// Out of memory.
+    #[error("out of memory")]
     NoMemory,
 }
 
@@ -24,10 +26,20 @@ impl From<AllocError> for FeedFault {
     }
 }
 
+impl From<Failed> for FeedFault {
+    ghost use Rattle.ht_rx.specs.declared.faults.FeedFault.TheVariants.{Write};
+
+    ghost from_gives = { λ _ e. e ≡ Write };
+
+    fn from(_: Failed) -> FeedFault {
+        FeedFault::Write
+    }
+}
+
 /// How a listing ended that wrote all that it had to.
 #[derive(Clone, Copy, Debug, PartialEq, Eq)]
 pub enum Ended {
-    /// The input is a capture of so many frames and jobs.
+    /// The input is a capture with this number of frames and of jobs.
     Done { frames: u16, jobs: u64 },
     /// The input isn't a capture; this is its first fault.
     Refused(FormatFault),
@@ -42,8 +54,8 @@ pub enum RxFault {
     /// The sink failed.
     #[error("the text can't be written")]
     Write,
-    /// Memory ran out.
-    #[error("memory ran out")]
+    /// Out of memory.
+    #[error("out of memory")]
     NoMemory,
 }
 
@@ -54,5 +66,18 @@ impl From<AllocError> for RxFault {
 
     fn from(_: AllocError) -> RxFault {
         RxFault::NoMemory
+    }
+}
+
+impl From<FeedFault> for RxFault {
+    ghost use Rattle.ht_rx.specs.Stops.{fault_of};
+
+    ghost from_gives = { λ fault e. e ≡ fault_of fault };
+
+    fn from(fault: FeedFault) -> RxFault {
+        match fault {
+            FeedFault::Write => RxFault::Write,
+            FeedFault::NoMemory => RxFault::NoMemory,
+        }
     }
 }

@@ -3,8 +3,9 @@
 //! [`list_alone`] reads a capture from any source and puts a line into any sink for each job of each symbol that is
 //! whole: its place, the distance of its first nearest vector, and that vector (IEEE Std 802.11-2012, clause 20.3.11,
 //! for symbols and subcarriers). A [`Lister`] is the feed between the two. A drive of crate `ht_crew` asks it for jobs,
-//! which it takes from a capture's reader, and hands it their hits in order, whose lines it puts, those of a symbol
-//! together. Its memory is a [`Desk`].
+//! which it takes from a capture's reader, and hands it their hits in order. It puts the lines of the hits, those of a
+//! symbol together. Its memory is a [`Desk`]. The lines that wait are of one symbol at most (`Waits` in
+//! `specs/Desks.antt`).
 //!
 //! What must be put for a list of octets is a definition over the octets alone: `lines_of`, and with the last line
 //! `detect_text`, in `specs/Texts.antt`. `specs/Outcomes.antt` says what each answer means.
@@ -21,15 +22,16 @@
 #![tactic(auto)]
 
 mod desk;
-mod ending;
 mod faults;
 mod lines;
 mod list;
 mod lister;
-mod listing;
+mod reading;
+mod stop;
+mod writing;
 
 pub use desk::Desk;
-pub use ending::Ending;
 pub use faults::{Ended, FeedFault, RxFault};
 pub use list::list_alone;
 pub use lister::Lister;
+pub use stop::Stop;

@@ -1,5 +1,5 @@
 //! The line of a job that was detected.
-ghost use Rattle.std.specs.Prelude.{◌≡◌, ◌++◌, ◌≤◌, OnOk, take, string_bytes};
+ghost use Rattle.std.specs.Prelude.{◌≡◌, ◌++◌, ◌≤◌, OnErr, OnOk, take, string_bytes};
 ghost use Rattle.ht_rx.specs.Texts.{job_line_of, levels_of};
 
 use ht_metric::{Hit, Vector};
@@ -21,10 +21,11 @@ fn levels(vector: &Vector) -> ([i8; 8], usize)
     (levels, usize::from(2 * streams))
 }
 
-/// Appends the line of the job of a hit. Only memory can fail, and what the text then holds is left open.
+/// Appends the line of the job of a hit. Only memory can fail; the text is then as it was.
 #[tactic(auto, unfolding(crate::specs::Texts::job_line_of))]
 pub fn push_line(text: &mut String, hit: &Hit) -> Result<(), AllocError>
-    ensures { OnOk result (string_bytes text.new ≡ string_bytes text.old ++ job_line_of hit.now.job) }
+    ensures ok { OnOk result (string_bytes text.new ≡ string_bytes text.old ++ job_line_of hit.now.job) }
+    ensures err { OnErr result (string_bytes text.new ≡ string_bytes text.old) }
 {
     let place = hit.job().place();
     let (levels, count) = levels(hit.vector());

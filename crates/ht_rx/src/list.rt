@@ -1,12 +1,14 @@
 //! Listing the jobs of a capture.
-ghost use Rattle.std.specs.Prelude.{◌≡◌, ◌≤◌, [], None, true, is_some, IfOk, MatchResult, OnOk};
-ghost use Rattle.ht_rx.specs.Listing.{BreaksOff, IsNew, Lists, seen_by};
+ghost use Rattle.std.specs.Prelude.{◌≡◌, ◌≢◌, ◌≤◌, [], Err, None, true, is_some, IfOk, MatchResult, OnOk};
+ghost use Rattle.ht_io.specs.Devices.{IsLater};
+ghost use Rattle.ht_rx.specs.Desks.{IsNew};
+ghost use Rattle.ht_rx.specs.Listing.{BreaksOff, Lists, seen_by};
 ghost use Rattle.ht_rx.specs.Outcomes.{ListsTo, StopsBy};
 
 use crate::desk::Desk;
-use crate::ending::Ending;
 use crate::faults::{Ended, FeedFault, RxFault};
 use crate::lister::Lister;
+use crate::stop::Stop;
 use ht_crew::{DriveFault, Gate, drive_alone};
 use ht_io::{Sink, Source};
 use std::alloc::Global;
@@ -23,11 +25,11 @@ fn drive_lister<S: Source, K: Sink, G: Gate>(
     requires some { 1 ≤ window }
     requires few { window ≤ 4096 }
     requires fresh { IsNew desk.old }
-    ensures told { MatchResult result
-        (λ jobs. Lists (seen_by desk.old (S.left source.old) (S.faults source.old) (K.held sink.old) (K.faults sink.old)) (seen_by desk.new (S.left source.new) (S.faults source.new) (K.held sink.new) (K.faults sink.new)))
-        (BreaksOff (seen_by desk.old (S.left source.old) (S.faults source.old) (K.held sink.old) (K.faults sink.old)) (seen_by desk.new (S.left source.new) (S.faults source.new) (K.held sink.new) (K.faults sink.new))) }
-    ensures ended { OnOk result (is_some desk.new.ending ≡ true) }
-    ensures taken { OnOk result (desk.new.due.items ≡ []) }
+    ensures lists { MatchResult result
+        (λ jobs. Lists (seen_by desk.old (S.shown source.old) (K.shown sink.old)) (seen_by desk.new (S.shown source.new) (K.shown sink.new)))
+        (BreaksOff (seen_by desk.old (S.shown source.old) (K.shown sink.old)) (seen_by desk.new (S.shown source.new) (K.shown sink.new))) }
+    ensures ended { OnOk result (is_some desk.new.stop ≡ true) }
+    ensures taken { OnOk result (desk.new.due ≡ []) }
     ensures jobs { IfOk result (λ jobs. jobs ≡ desk.new.count) }
     ensures well { OnOk result (desk.new.failed ≡ None) }
 {
@@ -44,7 +46,7 @@ fn drive_lister<S: Source, K: Sink, G: Gate>(
 ///
 /// Every job runs in this thread, between the two calls of the gate. At most `window` jobs, 1 to 4096, were read and
 /// not yet written at any moment. Nothing of the capture is kept but the triangles of a frame, the samples of a
-/// symbol and these jobs.
+/// symbol, these jobs and the lines of one symbol.
 ///
 /// It answers `Done` for a capture, and `Refused` with the first fault of an input that is none. It refuses with
 /// `Read` where the source failed, having put the lines of the symbols that were read whole; with `Write` where the
@@ -58,26 +60,26 @@ pub fn list_alone<S: Source, K: Sink, G: Gate>(
 ) -> Result<Ended, RxFault>
     requires some { 1 ≤ window }
     requires few { window ≤ 4096 }
-    ensures told { MatchResult result
-        (ListsTo (S.left source.old) (S.left source.new) (K.held sink.old) (K.held sink.new))
-        (StopsBy (S.left source.old) (S.left source.new) (K.held sink.old) (K.held sink.new) (S.faults source.old) (S.faults source.new) (K.faults sink.old) (K.faults sink.new)) }
-    ensures later { OnOk result (K.faults sink.old ≤ K.faults sink.new) }
+    ensures lists { MatchResult result
+        (ListsTo (S.shown source.old) (S.shown source.new) (K.shown sink.old) (K.shown sink.new))
+        (StopsBy (S.shown source.old) (S.shown source.new) (K.shown sink.old) (K.shown sink.new)) }
+
+    // Where the sink failed the answer is `Write`, whatever else failed.
+    ensures writes { result ≢ Err RxFault.Write → (K.shown sink.new).faults ≡ (K.shown sink.old).faults }
+
+    // However it ends, the devices are the same, and take back no fault.
+    ensures reads_later { IsLater (S.shown source.old) (S.shown source.new) }
+    ensures puts_later { IsLater (K.shown sink.old) (K.shown sink.new) }
 {
-    let Ok(mut desk) = Desk::new(alloc) else {
-        return Err(RxFault::NoMemory);
-    };
-    let jobs = match drive_lister(alloc, window, &mut desk, source, sink, gate) {
-        Ok(jobs) => jobs,
-        Err(FeedFault::Write) => return Err(RxFault::Write),
-        Err(FeedFault::NoMemory) => return Err(RxFault::NoMemory),
-    };
-    match desk.ending() {
-        Some(Ending::Whole) => Ok(Ended::Done {
+    let mut desk = Desk::new(alloc)?;
+    let jobs = drive_lister(alloc, window, &mut desk, source, sink, gate)?;
+    match desk.stop() {
+        Some(Stop::Whole) => Ok(Ended::Done {
             frames: desk.frames(),
             jobs,
         }),
-        Some(Ending::Refused(fault)) => Ok(Ended::Refused(fault)),
-        Some(Ending::Broken) => Err(RxFault::Read),
+        Some(Stop::Refused(fault)) => Ok(Ended::Refused(fault)),
+        Some(Stop::Broken) => Err(RxFault::Read),
         None => unreachable!(),
     }
 }

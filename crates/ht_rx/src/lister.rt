@@ -1,6 +1,6 @@
 //! A feed over a capture that writes a line for each job.
-ghost use Rattle.std.specs.Prelude.{◌≡◌};
-ghost use Rattle.ht_rx.specs.Listing.{seen_by, shown_of};
+ghost use Rattle.std.specs.Prelude.{◌≡◌, OnOk};
+ghost use Rattle.ht_rx.specs.Desks.{feed_of};
 ghost use Rattle.ht_rx.specs.Listers.{LeadsOn, leads_on-more, leads_on-none, names, names_of};
 
 use crate::desk::Desk;
@@ -36,9 +36,9 @@ impl<'a, S: Source, K: Sink> Lister<'a, S, K> {
 impl<'a, S: Source, K: Sink> Feed for Lister<'a, S, K> {
     type Fault = FeedFault;
 
-    ghost shown = { λ l. shown_of l.desk.now };
+    ghost shown = { λ l. feed_of l.desk.now };
 
-    ghost leads = { λ a b. LeadsOn (names_of a) (names_of b) (seen_by a.desk.now (S.left a.source.now) (S.faults a.source.now) (K.held a.sink.now) (K.faults a.sink.now)) (seen_by b.desk.now (S.left b.source.now) (S.faults b.source.now) (K.held b.sink.now) (K.faults b.sink.now)) };
+    ghost leads = { LeadsOn S.shown K.shown };
 
     fn next(&mut self) -> Result<Option<Job>, FeedFault> {
         if let Some(fault) = self.desk.failed() {
@@ -54,7 +54,7 @@ impl<'a, S: Source, K: Sink> Feed for Lister<'a, S, K> {
         self.desk.take(hit, self.sink)
     }
 
-    ghost stays = { λ a. leads_on-none (names_of a) (seen_by a.desk.now (S.left a.source.now) (S.faults a.source.now) (K.held a.sink.now) (K.faults a.sink.now)) };
+    ghost stays = { leads_on-none S.shown K.shown };
 
-    ghost goes_on = { λ a b c. leads_on-more (names_of a) (names_of b) (names_of c) (seen_by a.desk.now (S.left a.source.now) (S.faults a.source.now) (K.held a.sink.now) (K.faults a.sink.now)) (seen_by b.desk.now (S.left b.source.now) (S.faults b.source.now) (K.held b.sink.now) (K.faults b.sink.now)) (seen_by c.desk.now (S.left c.source.now) (S.faults c.source.now) (K.held c.sink.now) (K.faults c.sink.now)) };
+    ghost goes_on = { leads_on-more S.shown K.shown };
 }

@@ -7,9 +7,9 @@ use std::alloc::{AllocError, Global};
 
 /// The line `demo frames F symbols S jobs J matched M data D pilot P code C`.
 ///
-/// `symbols` and `jobs` count the OFDM symbols and the detection jobs of all frames, `matched` the
-/// frames whose octets are those that were sent. The sums are those of the frames' lines, over all
-/// frames. Only memory can fail.
+/// `symbols` and `jobs` count the OFDM symbols and the detection jobs of all frames, `matched` the frames whose octets
+/// are those that were sent. The sums are those of the frames' lines, over all frames. The only error is lack of
+/// memory.
 #[tactic(auto, unfolding(crate::specs::Lines::demo_text))]
 pub fn demo_line(
     alloc: Global,

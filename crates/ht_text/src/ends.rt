@@ -4,7 +4,7 @@ ghost use Rattle.ht_text.specs.Lines.{end_text, refused_text, usage_text};
 
 use std::alloc::{AllocError, Global};
 
-/// The line `end N frames`: the input was a whole capture of so many frames. Only memory can fail.
+/// The line `end N frames`: the input was a whole capture with this number of frames. The only error is lack of memory.
 #[tactic(auto, unfolding(crate::specs::Lines::end_text))]
 pub fn end_line(alloc: Global, frames: u16) -> Result<Vec<u8>, AllocError>
     ensures { IfOk result (λ v. v.items ≡ end_text frames) }
@@ -13,8 +13,8 @@ pub fn end_line(alloc: Global, frames: u16) -> Result<Vec<u8>, AllocError>
     Ok(text.into_bytes())
 }
 
-/// The line `refused NAME at OFFSET`: the kind of the input's first fault, and the number of octets
-/// that stand before it. Only memory can fail.
+/// The line `refused NAME at OFFSET`: the kind of the input's first fault, and its offset in octets. The only error is
+/// lack of memory.
 #[tactic(auto, unfolding(crate::specs::Lines::refused_text))]
 pub fn refused_line(alloc: Global, name: &str, offset: u64) -> Result<Vec<u8>, AllocError>
     ensures { IfOk result (λ v. v.items ≡ refused_text name.now offset) }
@@ -23,7 +23,7 @@ pub fn refused_line(alloc: Global, name: &str, offset: u64) -> Result<Vec<u8>, A
     Ok(text.into_bytes())
 }
 
-/// The line that says how the program is called. Only memory can fail.
+/// The line that says how the program is called. The only error is lack of memory.
 #[tactic(auto, unfolding(crate::specs::Lines::usage_text))]
 pub fn usage_line(alloc: Global) -> Result<Vec<u8>, AllocError>
     ensures { IfOk result (λ v. v.items ≡ usage_text) }

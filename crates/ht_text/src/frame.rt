@@ -10,10 +10,10 @@ static HEX_DIGITS: [u8; 16] = *b"0123456789abcdef";
 
 /// The line `frame N data D pilot P code C octets HEX`, or `frame N data D pilot P code C seed zero`.
 ///
-/// `frame` is the frame's number in the capture from 0. `data_sum` and `pilot_sum` are the sums of
-/// the distances of its jobs on data and on pilot subcarriers, and `code` is the sum of the Hamming
-/// distances of its codewords from the detected bits. `octets` is the PSDU, two lower-case digits
-/// per octet, or `None` where the descrambler found no seed. Only memory can fail.
+/// `frame` is the frame's number in the capture from 0. `data_sum` and `pilot_sum` are the sums of the distances of its
+/// jobs on data and on pilot subcarriers, and `code` is the sum of the Hamming distances of its codewords from the
+/// detected bits. `octets` is the PSDU, two lower-case digits per octet, or `None` where the descrambler found no seed.
+/// The only error is lack of memory.
 #[tactic(auto, unfolding(crate::specs::Lines::frame_text))]
 pub fn frame_line(
     alloc: Global,

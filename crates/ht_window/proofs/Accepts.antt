@@ -6,14 +6,16 @@ use Rattle.ht_metric.specs.Jobs.{JobView}
 use Rattle.ht_metric.specs.declared.hit.Hit.{Hit}
 use Rattle.ht_window.specs.declared.slot.Slot.{Slot}
 use Rattle.ht_window.specs.Windows.{WindowView, IsWindow, unbooked, booked, jobs, first_unbooked, job_without}
-use Rattle.ht_window.proofs.Slots.{none-some, some-same, accepted, jobs_put}
+use Rattle.std.proofs.lemmas.Option.{none-some, same_Some}
+use Rattle.ht_window.proofs.Slots.{accepted, jobs_put}
 use Rattle.circular_buffer.specs.Buffer.{Buffer, buffer}
 use Rattle.ht_window.specs.declared.window.Accepted.{Accepted}
 use Rattle.ht_window.specs.declared.window.Accepted.TheVariants.{Booked, Twice, Stranger}
 use Rattle.ht_window.specs.Accepting.{IsUnbooked, IsBooked, IsStrange}
 
 -- a slot of this job is at the job's number
-pub at_number : (w : WindowView) (k at : ℕ) (s : Slot) (job : JobView) → IsWindow w → at ≡ job.number - w.front → slice_get w.slots k ≡ Some s → s.job ≡ job → k ≡ at
+pub at_number : (w : WindowView) (k at : ℕ) (s : Slot) (job : JobView) → IsWindow w
+    → at ≡ job.number - w.front → slice_get w.slots k ≡ Some s → s.job ≡ job → k ≡ at
 at_number w k at s job ok is e same =
     let n = ok.numbered k s e in
     let m : s.job.number ≡ job.number = ap (λ (j : JobView). j.number) same in
@@ -21,8 +23,11 @@ at_number w k at s job ok is e same =
 
 pub unbooked_where : (w : WindowView) (at : ℕ) (job : JobView) (A : Type 0) → IsWindow w → at ≡ job.number - w.front
     → (A ↔ (slice_get w.slots at ≡ Some (unbooked job))) → A ↔ IsUnbooked w job
-unbooked_where w at job A ok is cases =
-    (λ a. (at, cases.0 a), λ p. cases.1 (subst (λ (k : ℕ). slice_get w.slots k ≡ Some (unbooked job)) (at_number w p.0 at (unbooked job) job ok is p.1 refl) p.1))
+unbooked_where w at job A ok is cases = (
+  λ a. (at, cases.0 a),
+  λ p. cases.1
+      (subst (λ (k : ℕ). slice_get w.slots k ≡ Some (unbooked job)) (at_number w p.0 at (unbooked job) job ok is p.1 refl) p.1),
+)
 
 pub booked_where : (w : WindowView) (at : ℕ) (job : JobView) (A : Type 0) → IsWindow w → at ≡ job.number - w.front
     → (A ↔ ((other : Hit) × (slice_get w.slots at ≡ Some (record { job = job; hit = Some other })))) → A ↔ IsBooked w job
@@ -34,11 +39,14 @@ booked_where w at job A ok is cases = (
 
 pub strange_where : (w : WindowView) (at : ℕ) (job : JobView) (A : Type 0) → IsWindow w → at ≡ job.number - w.front
     → (A ↔ ((s : Slot) → slice_get w.slots at ≡ Some s → s.job ≢ job)) → A ↔ IsStrange w job
-strange_where w at job A ok is cases =
-    (λ a k s e same. cases.0 a s (subst (λ (i : ℕ). slice_get w.slots i ≡ Some s) (at_number w k at s job ok is e same) e) same, λ all. cases.1 (λ s e same. all at s e same))
+strange_where w at job A ok is cases = (
+  λ a k s e same. cases.0 a s (subst (λ (i : ℕ). slice_get w.slots i ≡ Some s) (at_number w k at s job ok is e same) e) same,
+  λ all. cases.1 (λ s e same. all at s e same),
+)
 
 -- a slot with a hit
-has_hit_of : (slots : List Slot) (at : ℕ) (s : Slot) (hit : Option Hit) (job : JobView) → slice_get slots at ≡ Some s → s.job ≡ job → s.hit ≡ hit → is_some hit ≡ true
+has_hit_of : (slots : List Slot) (at : ℕ) (s : Slot) (hit : Option Hit) (job : JobView)
+    → slice_get slots at ≡ Some s → s.job ≡ job → s.hit ≡ hit → is_some hit ≡ true
     → (other : Hit) × (slice_get slots at ≡ Some (record { job = job; hit = Some other }))
 has_hit_of slots at s None job e same is some = absurd (false≢true some)
 has_hit_of slots at s (Some other) job e same is some =
@@ -56,7 +64,7 @@ first_unbooked_from : (s : Slot) (rest : List Slot) (job : JobView) (hit : Optio
     → (k : ℕ) × (slice_get (s ∷ rest) k ≡ Some (unbooked job))
 first_unbooked_from s rest job None is later e =
     let with_hit : Option Hit → Slot = λ h. record { job = s.job; hit = h } in
-    (0, ap (λ (h : Option Hit). Some (with_hit h)) is ∙ ap (λ (j : JobView). Some (unbooked j)) (some-same s.job job e))
+    (0, ap (λ (h : Option Hit). Some (with_hit h)) is ∙ ap (λ (j : JobView). Some (unbooked j)) (same_Some s.job job e))
 first_unbooked_from s rest job (Some hit) is later e = let p = later e in (suc p.0, p.1)
 
 pub first_unbooked_where : (slots : List Slot) (job : JobView) → first_unbooked slots ≡ Some job → (k : ℕ) × (slice_get slots k ≡ Some (unbooked job))
@@ -69,19 +77,25 @@ is_it Twice = false
 is_it Stranger = false
 
 -- what the three answers leave is a window, and has the same jobs
-pub kept : (front at : ℕ) (old new : Buffer Slot) (hit : Hit) (answer : Accepted) → IsWindow (record { capacity = old.capacity; front = front; slots = old.items })
+pub kept : (front at : ℕ) (old new : Buffer Slot) (hit : Hit) (answer : Accepted)
+    → IsWindow (record { capacity = old.capacity; front = front; slots = old.items })
     → (answer ≡ Booked → slice_get old.items at ≡ Some (unbooked hit.job))
     → (answer ≡ Booked → new ≡ buffer (slice_set old.items at (booked hit)) old.capacity) → (answer ≢ Booked → new ≡ old)
     → IsWindow (record { capacity = new.capacity; front = front; slots = new.items }) × (jobs new.items ≡ jobs old.items)
 kept front at old new hit Booked w is books refused =
     let e = books refl in
     let here = is refl in (
-      subst (λ (b : Buffer Slot). IsWindow (record { capacity = b.capacity; front = front; slots = b.items })) (sym e) (accepted old.capacity front at old.items hit w here),
+      subst (λ (b : Buffer Slot). IsWindow (record { capacity = b.capacity; front = front; slots = b.items }))
+          (sym e) (accepted old.capacity front at old.items hit w here),
       ap (λ (b : Buffer Slot). jobs b.items) e ∙ jobs_put old.items at (unbooked hit.job) (booked hit) here refl,
     )
 kept front at old new hit Twice w is books refused =
-    let e = refused (λ q. false≢true (ap is_it q)) in
-    (subst (λ (b : Buffer Slot). IsWindow (record { capacity = b.capacity; front = front; slots = b.items })) (sym e) w, ap (λ (b : Buffer Slot). jobs b.items) e)
+    let e = refused (λ q. false≢true (ap is_it q)) in (
+      subst (λ (b : Buffer Slot). IsWindow (record { capacity = b.capacity; front = front; slots = b.items })) (sym e) w,
+      ap (λ (b : Buffer Slot). jobs b.items) e,
+    )
 kept front at old new hit Stranger w is books refused =
-    let e = refused (λ q. false≢true (ap is_it q)) in
-    (subst (λ (b : Buffer Slot). IsWindow (record { capacity = b.capacity; front = front; slots = b.items })) (sym e) w, ap (λ (b : Buffer Slot). jobs b.items) e)
+    let e = refused (λ q. false≢true (ap is_it q)) in (
+      subst (λ (b : Buffer Slot). IsWindow (record { capacity = b.capacity; front = front; slots = b.items })) (sym e) w,
+      ap (λ (b : Buffer Slot). jobs b.items) e,
+    )

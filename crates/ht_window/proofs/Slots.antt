@@ -1,19 +1,13 @@
 -- A list of slots as a window changes it.
 use Rattle.std.proofs.Common.{◌≡◌, ℕ, zero, suc, ◌+◌, ◌-◌, ◌^◌, ◌<◌, ◌≤◌, List, [], ◌∷◌, ◌++◌, length, drop, refl, sym, ap, ◌∙◌, subst, arith}
-use Rattle.std.proofs.lemmas.Bool.{false≢true}
 use Rattle.std.proofs.lemmas.List.{length-append}
-use Rattle.std.specs.Prelude.{slice_get, slice_set, Option, Some, None, is_some}
+use Rattle.std.proofs.lemmas.Option.{none-some, same_Some}
+use Rattle.std.specs.Prelude.{slice_get, slice_set, Some}
 use Rattle.circular_buffer.specs.Buffer.{keep_last}
 use Rattle.ht_metric.specs.Jobs.{JobView}
 use Rattle.ht_metric.specs.declared.hit.Hit.{Hit}
 use Rattle.ht_window.specs.declared.slot.Slot.{Slot}
 use Rattle.ht_window.specs.Windows.{IsWindow, unbooked, booked, jobs}
-
-pub some-same : {X : Type 0} (x y : X) → Some x ≡ Some y → x ≡ y
-some-same x y e = cc
-
-pub none-some : {X : Type 0} (x : X) → None ≡ Some x → ⊥
-none-some {X = X} x e = false≢true (ap (λ (o : Option X). is_some o) e)
 
 pub slice_get-tail : (xs : List Slot) (k : ℕ) → slice_get (drop 1 xs) k ≡ slice_get xs (suc k)
 slice_get-tail [] k = refl
@@ -22,7 +16,7 @@ slice_get-tail (x ∷ xs) k = refl
 -- the element of a list with one more: one of the list, or the new one at its end
 pub slice_get-more : (xs : List Slot) (new : Slot) (k : ℕ) (s : Slot) → (P : ℕ → Slot → Type 0)
     → ((i : ℕ) (t : Slot) → slice_get xs i ≡ Some t → P i t) → P (length xs) new → slice_get (xs ++ new ∷ []) k ≡ Some s → P k s
-slice_get-more [] new zero s P all last e = subst (λ (t : Slot). P 0 t) (some-same new s e) last
+slice_get-more [] new zero s P all last e = subst (λ (t : Slot). P 0 t) (same_Some new s e) last
 slice_get-more [] new (suc k) s P all last e = absurd (none-some s e)
 slice_get-more (x ∷ xs) new zero s P all last e = all 0 s e
 slice_get-more (x ∷ xs) new (suc k) s P all last e = slice_get-more xs new k s (λ i t. P (suc i) t) (λ i t p. all (suc i) t p) last e
@@ -31,7 +25,7 @@ slice_get-more (x ∷ xs) new (suc k) s P all last e = slice_get-more xs new k s
 pub slice_get-put : (xs : List Slot) (at : ℕ) (new : Slot) (k : ℕ) (s : Slot) → (P : ℕ → Slot → Type 0)
     → ((i : ℕ) (t : Slot) → slice_get xs i ≡ Some t → P i t) → P at new → slice_get (slice_set xs at new) k ≡ Some s → P k s
 slice_get-put [] at new k s P all put e = absurd (none-some s e)
-slice_get-put (x ∷ xs) zero new zero s P all put e = subst (λ (t : Slot). P 0 t) (some-same new s e) put
+slice_get-put (x ∷ xs) zero new zero s P all put e = subst (λ (t : Slot). P 0 t) (same_Some new s e) put
 slice_get-put (x ∷ xs) zero new (suc k) s P all put e = all (suc k) s e
 slice_get-put (x ∷ xs) (suc at) new zero s P all put e = all 0 s e
 slice_get-put (x ∷ xs) (suc at) new (suc k) s P all put e = slice_get-put xs at new k s (λ i t. P (suc i) t) (λ i t p. all (suc i) t p) put e
@@ -39,13 +33,13 @@ slice_get-put (x ∷ xs) (suc at) new (suc k) s P all put e = slice_get-put xs a
 -- what is put back is no change
 pub put_same : (xs : List Slot) (at : ℕ) (s : Slot) → slice_get xs at ≡ Some s → slice_set xs at s ≡ xs
 put_same [] at s e = refl
-put_same (x ∷ xs) zero s e = ap (λ (t : Slot). t ∷ xs) (sym (some-same x s e))
+put_same (x ∷ xs) zero s e = ap (λ (t : Slot). t ∷ xs) (sym (same_Some x s e))
 put_same (x ∷ xs) (suc at) s e = ap (λ (ys : List Slot). x ∷ ys) (put_same xs at s e)
 
 -- a slot with the same job changes no job
 pub jobs_put : (xs : List Slot) (at : ℕ) (old new : Slot) → slice_get xs at ≡ Some old → old.job ≡ new.job → jobs (slice_set xs at new) ≡ jobs xs
 jobs_put [] at old new e same = refl
-jobs_put (x ∷ xs) zero old new e same = ap (λ (j : JobView). j ∷ jobs xs) (sym same ∙ ap (λ (t : Slot). t.job) (sym (some-same x old e)))
+jobs_put (x ∷ xs) zero old new e same = ap (λ (j : JobView). j ∷ jobs xs) (sym same ∙ ap (λ (t : Slot). t.job) (sym (same_Some x old e)))
 jobs_put (x ∷ xs) (suc at) old new e same = ap (λ (js : List JobView). x.job ∷ js) (jobs_put xs at old new e same)
 
 pub length_put : (xs : List Slot) (at : ℕ) (new : Slot) → length (slice_set xs at new) ≡ length xs
@@ -63,7 +57,8 @@ issued capacity front slots job w room next last = record {
   room = omega (arith, room, length-append slots (unbooked job ∷ []));
   last = omega (arith, next, last, length-append slots (unbooked job ∷ []));
   numbered = λ k s e. slice_get-more slots (unbooked job) k s (λ i t. t.job.number ≡ front + i) w.numbered next e;
-  own = λ k s hit e h. slice_get-more slots (unbooked job) k s (λ i t. (other : Hit) → t.hit ≡ Some other → other.job ≡ t.job) (λ i t p other q. w.own i t other p q) (λ other q. absurd (none-some other q)) e hit h;
+  own = λ k s hit e h. slice_get-more slots (unbooked job) k s (λ i t. (other : Hit) → t.hit ≡ Some other → other.job ≡ t.job)
+      (λ i t p other q. w.own i t other p q) (λ other q. absurd (none-some other q)) e hit h;
 }
 
 -- the first slot is out
@@ -89,7 +84,8 @@ accepted capacity front at slots hit w is = record {
   room = let room = w.room in omega (arith, room, length_put slots at (booked hit));
   last = let last = w.last in omega (arith, last, length_put slots at (booked hit));
   numbered = λ k s e. slice_get-put slots at (booked hit) k s (λ i t. t.job.number ≡ front + i) w.numbered (w.numbered at (unbooked hit.job) is) e;
-  own = λ k s other e h. slice_get-put slots at (booked hit) k s (λ i t. (h : Hit) → t.hit ≡ Some h → h.job ≡ t.job) (λ i t p h q. w.own i t h p q) (λ h q. ap (λ (x : Hit). x.job) (sym (some-same hit h q))) e other h;
+  own = λ k s other e h. slice_get-put slots at (booked hit) k s (λ i t. (h : Hit) → t.hit ≡ Some h → h.job ≡ t.job)
+      (λ i t p h q. w.own i t h p q) (λ h q. ap (λ (x : Hit). x.job) (sym (same_Some hit h q))) e other h;
 }
 
 pub keep_all : (n : ℕ) (xs : List Slot) → length xs ≤ n → keep_last n xs ≡ xs

@@ -31,5 +31,6 @@ no_slot = refl
 in_order : (a c : JobView) (hit : Hit) → jobs (unbooked a ∷ booked hit ∷ unbooked c ∷ []) ≡ a ∷ hit.job ∷ c ∷ []
 in_order a c hit = refl
 
-booked_in_place : (a b : JobView) (hit : Hit) → slice_set (unbooked a ∷ unbooked hit.job ∷ unbooked b ∷ []) 1 (booked hit) ≡ unbooked a ∷ booked hit ∷ unbooked b ∷ []
+booked_in_place : (a b : JobView) (hit : Hit)
+    → slice_set (unbooked a ∷ unbooked hit.job ∷ unbooked b ∷ []) 1 (booked hit) ≡ unbooked a ∷ booked hit ∷ unbooked b ∷ []
 booked_in_place a b hit = refl

@@ -1,4 +1,4 @@
-//! A window of three slots, as hits come in the order 1, 0, 2 with strangers between.
+//! Windows of two and three slots, as hits come in other orders than their jobs, with strangers between.
 ghost use Rattle.std.specs.Prelude.{◌≡◌};
 
 use crate::{Accepted, Window};
@@ -61,5 +61,27 @@ fn in_order(rt: HostRuntime) -> Result<(), Fail> {
         assert_eq!(rt; number_of(window.emit()), number);
     }
     assert!(rt; window.has_room());
+    Ok(())
+}
+
+#[test]
+fn two_slots(rt: HostRuntime) -> Result<(), Fail> {
+    let mut window = Window::new(rt.alloc(), 2, 0)?;
+    assert!(rt; window.emit().is_none());
+    window.issue(job(0, 3));
+    window.issue(job(1, 3));
+    assert!(rt; !window.has_room());
+
+    assert_eq!(rt; window.accept(hit(1, 3)), Accepted::Booked);
+    assert!(rt; window.emit().is_none());
+    assert_eq!(rt; window.accept(hit(1, 3)), Accepted::Twice);
+    assert_eq!(rt; window.accept(hit(0, 4)), Accepted::Stranger);
+    let first = window.first_unbooked().map(|job| job.number());
+    assert_eq!(rt; first, Some(0));
+
+    assert_eq!(rt; window.accept(hit(0, 3)), Accepted::Booked);
+    for number in [Some(0), Some(1), None] {
+        assert_eq!(rt; number_of(window.emit()), number);
+    }
     Ok(())
 }

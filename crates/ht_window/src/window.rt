@@ -1,8 +1,9 @@
 //! The window.
-ghost use Rattle.std.specs.Prelude.{◌≡◌, ◌≢◌, ◌↔◌, ◌+◌, ◌-◌, ◌^◌, ◌<◌, ◌≤◌, [], ◌∷◌, ◌++◌, length, drop, slice_get, slice_set, Some, None, IfOk, IfSome, IfNone, nat_lt};
+ghost use Rattle.std.specs.Prelude.{◌≡◌, ◌≢◌, ◌↔◌, ◌+◌, ◌-◌, ◌^◌, ◌<◌, ◌≤◌, [], ◌∷◌, ◌++◌, length, drop, slice_get, slice_set};
+ghost use Rattle.std.specs.Prelude.{Some, None, IfOk, IfSome, IfNone, nat_lt};
 ghost use Rattle.circular_buffer.specs.Buffer.{buffer};
-ghost use Rattle.ht_metric.specs.declared.hit.Hit.{Hit as OneHit};
-ghost use Rattle.ht_window.specs.declared.slot.Slot.{Slot as OneSlot};
+ghost use Rattle.ht_metric.specs.declared.hit.Hit.{Hit as HitValue};
+ghost use Rattle.ht_window.specs.declared.slot.Slot.{Slot as SlotValue};
 ghost use Rattle.ht_window.specs.Windows.{unbooked, booked, jobs, front_hit, first_unbooked, IsWindow};
 ghost use Rattle.ht_window.specs.Accepting.{IsUnbooked, IsBooked, IsStrange, Books};
 
@@ -57,6 +58,7 @@ impl Window {
     }
 
     /// Whether there are fewer slots than the capacity, so that another job can be issued.
+    #[must_use]
     pub fn has_room(&self) -> bool
         ensures room { result ≡ nat_lt (length self.now.slots) self.now.capacity }
         ensures window { IsWindow self.now }
@@ -64,8 +66,8 @@ impl Window {
         !self.slots.is_full()
     }
 
-    /// Issues a job: it takes the last slot, without a hit. There is room, and the job's number is the next one,
-    /// below 2^64 - 1.
+    /// Issues a job: it gets a new last slot, without a hit. There is room, and the job's number is the next one, below
+    /// 2^64 - 1.
     pub fn issue(&mut self, job: Job)
         requires room { length self.old.slots < self.old.capacity }
         requires next { job.number ≡ self.old.front + length self.old.slots }
@@ -79,9 +81,9 @@ impl Window {
         self.slots.push_back(Slot { job, hit: None });
     }
 
-    /// Puts a hit into the slot of its job, if one holds that very job and has no hit yet. Else nothing changes:
-    /// `Twice` where the slot of its job has a hit, `Stranger` where no slot holds its job, as where a slot holds
-    /// another job of the same number.
+    /// Puts a hit into the slot of its job, if a slot holds that very job and has no hit yet. Else nothing changes and
+    /// the hit is dropped: `Twice` where the slot of its job has a hit, `Stranger` where no slot holds its job, as
+    /// where a slot holds another job of the same number.
     pub fn accept(&mut self, hit: Hit) -> Accepted
         // When each answer comes.
         ensures booked { result ≡ Accepted.Booked ↔ IsUnbooked self.old hit.job }
@@ -103,6 +105,7 @@ impl Window {
 
     /// Takes out the first slot and gives its hit, so that the front's number rises by one. `None` where there is
     /// no slot or the first one has no hit; nothing changes then.
+    #[must_use]
     pub fn emit(&mut self) -> Option<Hit>
         ensures hit { result ≡ front_hit self.old.slots }
         ensures emitted { IfSome result (λ _. self.new ≡ record {
@@ -122,6 +125,7 @@ impl Window {
     }
 
     /// A copy of the first job without a hit. `None` where each slot has its hit, or where there is no slot.
+    #[must_use]
     pub fn first_unbooked(&self) -> Option<Job>
         ensures first { result ≡ first_unbooked self.now.slots }
         ensures unbooked { IfSome result (IsUnbooked self.now) }
@@ -139,8 +143,8 @@ impl Window {
 /// Puts a hit into slot `at`, if it is there, holds the hit's job and has no hit yet.
 fn book(slots: &mut HeapCircularBuffer<Slot>, at: u64, hit: Hit) -> Accepted
     ensures booked { result ≡ Accepted.Booked ↔ (slice_get slots.old.items at ≡ Some (unbooked hit.job)) }
-    ensures twice { result ≡ Accepted.Twice ↔ ((other : OneHit) × (slice_get slots.old.items at ≡ Some (record { job = hit.job; hit = Some other }))) }
-    ensures stranger { result ≡ Accepted.Stranger ↔ ((s : OneSlot) → slice_get slots.old.items at ≡ Some s → s.job ≢ hit.job) }
+    ensures twice { result ≡ Accepted.Twice ↔ ((other : HitValue) × (slice_get slots.old.items at ≡ Some (record { job = hit.job; hit = Some other }))) }
+    ensures stranger { result ≡ Accepted.Stranger ↔ ((s : SlotValue) → slice_get slots.old.items at ≡ Some s → s.job ≢ hit.job) }
     ensures books { result ≡ Accepted.Booked → slots.new ≡ buffer (slice_set slots.old.items at (booked hit)) slots.old.capacity }
     ensures refused { result ≢ Accepted.Booked → slots.new ≡ slots.old }
 {

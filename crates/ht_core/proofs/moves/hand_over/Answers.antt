@@ -33,6 +33,8 @@ returns-clause-put c =
     let at : c.in-Some.at ≡ position_or_len (has_number c.args.number) hits = search rules in
     let lt : position_or_len (has_number c.args.number) hits < length hits = search rules in
     let found : hit_of c.args.number hits ≡ Some c.remove.result =
-    hit_index c.args.number hits c.remove.result lt ∙ ap (λ (i : ℕ). Some (get_or hits i c.remove.result)) (sym at) ∙ ap (λ (x : Hit). Some x) (sym c.remove.ensures.value) in
+    hit_index c.args.number hits c.remove.result lt ∙ ap (λ (i : ℕ). Some (get_or hits i c.remove.result)) (sym at)
+    ∙ ap (λ (x : Hit). Some x) (sym c.remove.ensures.value) in
     let pushed : c.push.new.self.items ≡ c.reserve.new.self.items ++ c.remove.result ∷ [] = search rules in
-    pushed ∙ ap (λ (xs : List Hit). xs ++ c.remove.result ∷ []) c.reserve.ensures.items ∙ ap (λ (o : Option Hit). c.args.into.now.items ++ option_to_list o) (sym found)
+    pushed ∙ ap (λ (xs : List Hit). xs ++ c.remove.result ∷ []) c.reserve.ensures.items
+    ∙ ap (λ (o : Option Hit). c.args.into.now.items ++ option_to_list o) (sym found)

@@ -5,8 +5,10 @@ use Rattle.ht_crew.proofs.alone.run_all.Goals as goal
 pub loop-running-smaller : goal.loop-running-smaller
 loop-running-smaller g c =
     let seen = g.F.Feed.shown in
-    let less = accepted c.fill.new.window c.accept.new.self c.in-Some.job c.run.result c.accept.result c.in-Some.ensures.window c.in-Some.ensures.unbooked c.run.ensures c.accept.ensures.booked.1 c.accept.ensures.books in
-    let fewer = fewer_run c.fill.new.window c.accept.new.self c.deliver.new.window (seen c.fill.new.feed) (seen c.deliver.new.feed) c.in_ok-running.running c.deliver.ensures.as_before less c.deliver.ensures.ran in
+    let less = accepted c.fill.new.window c.accept.new.self c.in-Some.job c.run.result c.accept.result
+    c.in-Some.ensures.window c.in-Some.ensures.unbooked c.run.ensures c.accept.ensures.booked.1 c.accept.ensures.books in
+    let fewer = fewer_run c.fill.new.window c.accept.new.self c.deliver.new.window (seen c.fill.new.feed)
+    (seen c.deliver.new.feed) c.in_ok-running.running c.deliver.ensures.as_before less c.deliver.ensures.ran in
     omega (arith, fewer, c.in_ok-running.ensures.fewer)
 
 pub loop-running-preserved : goal.loop-running-preserved
@@ -14,7 +16,8 @@ loop-running-preserved g c =
     let seen = g.F.Feed.shown in
     let go = g.met.F.Feed.goes_on in
     let before = c.loop-running.invariant in
-    let less = accepted c.fill.new.window c.accept.new.self c.in-Some.job c.run.result c.accept.result c.in-Some.ensures.window c.in-Some.ensures.unbooked c.run.ensures c.accept.ensures.booked.1 c.accept.ensures.books in
+    let less = accepted c.fill.new.window c.accept.new.self c.in-Some.job c.run.result c.accept.result
+    c.in-Some.ensures.window c.in-Some.ensures.unbooked c.run.ensures c.accept.ensures.booked.1 c.accept.ensures.books in
     let same = c.deliver.ensures.as_before in
     let filled = go c.args.feed.now c.loop-running.feed c.fill.new.feed before.leads c.fill.ensures.leads in
     record {
@@ -33,4 +36,5 @@ loop-running-preserved g c =
 pub returns-in_err-deliver-clause-leads : goal.returns-in_err-deliver-clause-leads
 returns-in_err-deliver-clause-leads g c =
     let go = g.met.F.Feed.goes_on in
-    go c.args.feed.now c.fill.new.feed c.deliver.new.feed (go c.args.feed.now c.loop-running.feed c.fill.new.feed c.loop-running.invariant.leads c.fill.ensures.leads) c.deliver.ensures.leads
+    go c.args.feed.now c.fill.new.feed c.deliver.new.feed
+    (go c.args.feed.now c.loop-running.feed c.fill.new.feed c.loop-running.invariant.leads c.fill.ensures.leads) c.deliver.ensures.leads

@@ -12,7 +12,8 @@ loop-hit-preserved g c =
     let out : c.emit.new.self ≡ emitted before.window = search rules in
     let next : jobs before.window.slots ≡ c.in-Some.hit.job ∷ jobs c.emit.new.self.slots = search rules in
     let takes : Takes (seen before.feed) (seen c.take.new.self) = search rules in
-    let more = delivering_more c.args.window.now (seen c.args.feed.now) before.window (seen before.feed) (seen c.take.new.self) c.in-Some.hit (jobs c.emit.new.self.slots) before.invariant.so_far first next takes c.take.ensures.as_before c.take.ensures.later in
+    let more = delivering_more c.args.window.now (seen c.args.feed.now) before.window (seen before.feed) (seen c.take.new.self) c.in-Some.hit
+    (jobs c.emit.new.self.slots) before.invariant.so_far first next takes c.take.ensures.as_before c.take.ensures.later in
     record {
       so_far = subst (λ (w : WindowView). Delivering c.args.window.now (seen c.args.feed.now) w (seen c.take.new.self)) (sym out) more;
       leads = g.met.F.Feed.goes_on c.args.feed.now before.feed c.take.new.self before.invariant.leads c.take.ensures.leads;

@@ -19,7 +19,8 @@ returns-clause-hit c = front_is
 
 pub returns-clause-emitted : goal.returns-clause-emitted
 returns-clause-emitted c = λ core w on.
-    let at : ℕ → ℕ → WindowView = λ n k. record { capacity = core.window; front = n; slots = map (slot_of (without (length core.emitted) core.booked)) (drop k core.issued) } in
+    let at : ℕ → ℕ → WindowView =
+    λ n k. record { capacity = core.window; front = n; slots = map (slot_of (without (length core.emitted) core.booked)) (drop k core.issued) } in
     let with_slots : List Slot → WindowView = λ slots. record { capacity = core.window; front = length core.emitted + 1; slots = slots } in
     let long = emit_long core on in
     let next : length (core.emitted ++ option_to_list (hit_of (length core.emitted) core.booked)) ≡ length core.emitted + 1 = omega (arith, long) in

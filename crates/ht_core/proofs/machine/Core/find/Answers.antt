@@ -32,4 +32,12 @@ returns-clause-none c =
     let no_result : is_some (hit_of n core.results) ≢ true = search rules in
     let no_booked : is_some (hit_of n core.booked) ≢ true = search rules in
     let no_emitted : is_some (hit_of n core.emitted) ≢ true = search rules in
-    omega (arith, weigh_places (one_of n) core, hands, deques, none_counts n core.results no_result, none_counts n core.booked no_booked, none_counts n core.emitted no_emitted)
+    omega (
+      arith,
+      weigh_places (one_of n) core,
+      hands,
+      deques,
+      none_counts n core.results no_result,
+      none_counts n core.booked no_booked,
+      none_counts n core.emitted no_emitted,
+    )

@@ -6,4 +6,5 @@ use Rattle.ht_core.proofs.machine.Core.hand_with.Given as goal
 
 -- no hand so far has a job of the number
 abbrev pub invariant-loop-actor : goal.invariant-loop-actor
-invariant-loop-actor l = numbered l.number (flat_map option_to_list (drop l.actor l.self-inside.hands.items)) ≡ numbered l.number (flat_map option_to_list l.self-inside.hands.items)
+invariant-loop-actor l = numbered l.number (flat_map option_to_list (drop l.actor l.self-inside.hands.items))
+    ≡ numbered l.number (flat_map option_to_list l.self-inside.hands.items)

@@ -19,10 +19,22 @@ unreachable-requires c =
 pub invariant_of-self : goal.invariant_of-self
 invariant_of-self c =
     let is = c.self.view_is ∙ c.in_ok-call.ensures.counted in
-    let now : Listed = record { jobs = c.self.inside.jobs.items; given = c.self.inside.given; taken = c.self.inside.taken.items; failing = c.self.inside.failing.items; calls = c.self.inside.calls; ended = c.self.inside.ended; faults = c.self.inside.faults; failed = c.self.inside.failed } in
+    let now : Listed = record {
+      jobs = c.self.inside.jobs.items;
+      given = c.self.inside.given;
+      taken = c.self.inside.taken.items;
+      failing =
+          c.self.inside.failing.items;
+      calls = c.self.inside.calls;
+      ended = c.self.inside.ended;
+      faults = c.self.inside.faults;
+      failed = c.self.inside.failed;
+    } in
     let due = ap (λ (s : Listed). slice_get (shown s).due 0) is ∙ c.requires.first in
-    let listed = still_listed now c.args.hit c.self.invariant.0 due in
-    (subst (λ (taken : List Hit). IsListed (record now { taken = taken })) (sym c.in-Ok.ensures.items) listed, omega (arith, c.self.invariant.1, c.push.ensures.capacity))
+    let listed = still_listed now c.args.hit c.self.invariant.0 due in (
+      subst (λ (taken : List Hit). IsListed (record now { taken = taken })) (sym c.in-Ok.ensures.items) listed,
+      omega (arith, c.self.invariant.1, c.push.ensures.capacity),
+    )
 
 pub returns-clause-taken : goal.returns-clause-taken
 returns-clause-taken c =

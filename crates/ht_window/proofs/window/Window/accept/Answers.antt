@@ -28,7 +28,8 @@ invariant_of-self c =
 
 pub returns-clause-jobs : goal.returns-clause-jobs
 returns-clause-jobs c =
-    rw (← c.self.view_is) ((kept c.self.inside.front (c.number-number.result - c.self.inside.front) c.self.inside.slots c.book.new.slots c.args.hit c.book.result c.self.invariant
+    rw (← c.self.view_is) ((kept c.self.inside.front
+    (c.number-number.result - c.self.inside.front) c.self.inside.slots c.book.new.slots c.args.hit c.book.result c.self.invariant
     c.book.ensures.booked.0 c.book.ensures.books c.book.ensures.refused).1)
 
 pub returns-clause-window : goal.returns-clause-window

@@ -3,7 +3,7 @@ use Rattle.ht_capture.specs.declared.items.Item.{Item}
 use Rattle.ht_capture.specs.declared.items.Item.TheVariants.{Frame, Job}
 use Rattle.ht_capture.specs.Readers.{Counted, Falls, GivesItem, GoesOn, counted, counts, more, shown_by}
 use Rattle.ht_rx.proofs.Finding.{finds_more}
-use Rattle.ht_rx.proofs.listing.next_job.Goals as goal
+use Rattle.ht_rx.proofs.reading.next_job.Goals as goal
 
 pub loop-head-preserved : goal.loop-head-preserved
 loop-head-preserved g c =
@@ -17,13 +17,14 @@ loop-head-preserved g c =
     let frames : head.frame ≡ c.loop-head.frames = heads.0 ∙ ap (λ k. k.frames) i.counts in
     let fewer = i.fewer in
     let falls : Falls (more old) (more new) (Ok (Frame head)) = subst (λ (item : Item). Falls (more old) (more new) (Ok item)) is e.fewer in
-    let gives = subst (λ (item : Item). GivesItem (shown_by old (g.S.Source.left c.loop-head.source)) (shown_by new (g.S.Source.left c.next.new.source)) item) is (e.told i.going) in
+    let gives = subst (λ (item : Item). GivesItem (shown_by old (g.S.Source.shown c.loop-head.source))
+    (shown_by new (g.S.Source.shown c.next.new.source)) item) is (e.told i.going) in
     let count : head.frame + 1 ≡ c.loop-head.frames + 1 = ap (λ n. n + 1) frames in
     record {
       going = subst (λ (item : Item). GoesOn new item) is e.going;
       counts = heads.1 ∙ (ap (λ n. counted (n + 1) (counts old).jobs) (sym heads.0) ∙ ap (λ k. counted (head.frame + 1) k.jobs) i.counts);
       fewer = omega (arith, fewer, falls);
-      finds = finds_more _ _ _ _ _ _ _ _ _ (Frame head ∷ []) [] i.finds gives refl count e.later;
+      finds = finds_more _ _ _ _ _ _ (Frame head ∷ []) [] i.finds gives refl count e.later;
     }
 
 pub returns-in-Ok-Job-clause-job : goal.returns-in-Ok-Job-clause-job
@@ -32,5 +33,6 @@ returns-in-Ok-Job-clause-job g c =
     let new = c.next.new.self in
     let i = c.loop-head.invariant in
     let e = c.in-Ok-Job.ensures in
-    let gives = subst (λ (item : Item). GivesItem (shown_by old (g.S.Source.left c.loop-head.source)) (shown_by new (g.S.Source.left c.next.new.source)) item) c.in-Ok-Job.field-0-is (e.told i.going) in
-    finds_more _ _ _ _ _ _ _ _ _ (Job c.in-Ok-Job.job ∷ []) (c.in-Ok-Job.job ∷ []) i.finds gives refl (omega arith) e.later
+    let gives = subst (λ (item : Item). GivesItem (shown_by old (g.S.Source.shown c.loop-head.source))
+    (shown_by new (g.S.Source.shown c.next.new.source)) item) c.in-Ok-Job.field-0-is (e.told i.going) in
+    finds_more _ _ _ _ _ _ (Job c.in-Ok-Job.job ∷ []) (c.in-Ok-Job.job ∷ []) i.finds gives refl (omega arith) e.later

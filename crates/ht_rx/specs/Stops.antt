@@ -1,0 +1,20 @@
+-- One fault as another.
+use Rattle.ht_io.specs.declared.faults.InFault.{InFault}
+use Rattle.ht_io.specs.declared.faults.InFault.TheVariants.{Format, Read, NoMemory}
+use Rattle.ht_rx.specs.declared.stop.Stop.{Stop}
+use Rattle.ht_rx.specs.declared.stop.Stop.TheVariants.{Refused, Broken}
+use Rattle.ht_rx.specs.declared.faults.FeedFault.{FeedFault}
+use Rattle.ht_rx.specs.declared.faults.FeedFault.TheVariants.{Write as FeedWrite, NoMemory as FeedNoMemory}
+use Rattle.ht_rx.specs.declared.faults.RxFault.{RxFault}
+use Rattle.ht_rx.specs.declared.faults.RxFault.TheVariants.{Write as RxWrite, NoMemory as RxNoMemory}
+
+-- how the reading stops where a reader halts; a reader never halts for lack of memory
+abbrev pub stop_of : InFault → Stop
+stop_of (Format fault) = Refused fault
+stop_of Read = Broken
+stop_of NoMemory = Broken
+
+-- why a listing ends where its feed can't go on
+abbrev pub fault_of : FeedFault → RxFault
+fault_of FeedWrite = RxWrite
+fault_of FeedNoMemory = RxNoMemory

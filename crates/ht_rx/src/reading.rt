@@ -1,0 +1,45 @@
+//! Reading on to the next job.
+ghost use Rattle.std.specs.Prelude.{◌≡◌, ◌+◌, ◌<◌, ◌≤◌, [], ◌∷◌, None, Some, IfErr, IfOk};
+ghost use Rattle.ht_capture.specs.Readers.{counted, counts, finished, more};
+ghost use Rattle.ht_rx.specs.Reading.{Finds, standing};
+
+use crate::stop::Stop;
+use ht_capture::{Item, Reader};
+use ht_io::Source;
+use ht_metric::Job;
+
+/// Reads on to the next job, behind the heads of frames that begin, or to where the reading stops.
+pub(crate) fn next_job<S: Source>(
+    reader: &mut Reader,
+    frames: &mut u16,
+    source: &mut S,
+) -> Result<Job, Stop>
+    requires going { finished reader.old ≡ None }
+    requires frames { (counts reader.old).frames ≡ frames.old }
+
+    // What the octets that this call took mean.
+    ensures job { IfOk result (λ job. Finds
+        (standing reader.old None (S.shown source.old)) (standing reader.new None (S.shown source.new))
+        frames.old frames.new (job ∷ [])) }
+    ensures stopped { IfErr result (λ stop. Finds
+        (standing reader.old None (S.shown source.old)) (standing reader.new (Some stop) (S.shown source.new))
+        frames.old frames.new []) }
+
+    // Behind a job the reader goes on, and the job has the next number.
+    ensures going { IfOk result (λ job. finished reader.new ≡ None) }
+    ensures number { IfOk result (λ job. job.number ≡ (counts reader.old).jobs) }
+    ensures counts { IfOk result (λ job. counts reader.new ≡ counted frames.new ((counts reader.old).jobs + 1)) }
+
+    // How much still comes, at most.
+    ensures fewer { IfOk result (λ job. more reader.new < more reader.old) }
+    ensures no_more { more reader.new ≤ more reader.old }
+{
+    loop {
+        match reader.next(source) {
+            Ok(Item::Frame(head)) => *frames = head.frame + 1,
+            Ok(Item::Job(job)) => return Ok(job),
+            Ok(Item::Done) => return Err(Stop::Whole),
+            Err(fault) => return Err(Stop::from(fault)),
+        }
+    }
+}

@@ -1,0 +1,65 @@
+//! Lines that wait for the end of their symbol.
+ghost use Rattle.std.specs.Prelude.{◌≡◌, ◌++◌, ℕ, List, [], Some, false, slice_get, string_bytes, IfErr, MatchResult, OnErr, OnOk};
+ghost use Rattle.ht_io.specs.Devices.{Grows, GrowsByPart, Rose, IsLater};
+ghost use Rattle.ht_metric.specs.declared.job.Job.{Job as JobValue};
+ghost use Rattle.ht_rx.specs.Texts.{job_line_of};
+ghost use Rattle.ht_rx.specs.Desks.{WaitsOn};
+
+use crate::faults::FeedFault;
+use crate::lines::push_line;
+use circular_buffer::HeapCircularBuffer;
+use ht_io::Sink;
+use ht_metric::{Hit, Job, Place};
+
+// Puts the lines that wait.
+fn put<K: Sink>(text: &mut String, sink: &mut K) -> Result<(), FeedFault>
+    ensures put { OnOk result (Grows (K.shown sink.old) (K.shown sink.new) (string_bytes text.old)) }
+    ensures none { OnOk result (string_bytes text.new ≡ []) }
+    ensures steady { OnOk result ((K.shown sink.new).faults ≡ (K.shown sink.old).faults) }
+    ensures fault { IfErr result (λ fault. fault ≡ FeedFault.Write) }
+    ensures part { OnErr result (GrowsByPart (K.shown sink.old) (K.shown sink.new) (string_bytes text.old)) }
+    ensures cause { OnErr result (Rose (K.shown sink.old) (K.shown sink.new)) }
+    ensures later { IsLater (K.shown sink.old) (K.shown sink.new) }
+{
+    sink.put(text.as_bytes())?;
+    text.clear();
+    Ok(())
+}
+
+// Whether no job of the symbol at this place is due behind the first job.
+fn ends_symbol(due: &HeapCircularBuffer<Job>, place: Place) -> bool
+    ensures goes_on { result ≡ false → (next : JobValue) × (slice_get due.now.items 1 ≡ Some next)
+        × (next.place.frame ≡ place.frame) × (next.place.symbol ≡ place.symbol) }
+{
+    match due.get(1) {
+        Some(job) => {
+            let next = job.place();
+            next.frame != place.frame || next.symbol != place.symbol
+        }
+        None => true,
+    }
+}
+
+/// Appends the line of the hit of the first job due to the lines that wait, and puts them where the symbol ends.
+pub(crate) fn write<K: Sink>(
+    text: &mut String,
+    hit: &Hit,
+    due: &HeapCircularBuffer<Job>,
+    sink: &mut K,
+) -> Result<(), FeedFault>
+    ensures lines { MatchResult result
+        (λ _. (put : List ℕ) × Grows (K.shown sink.old) (K.shown sink.new) put
+        × (string_bytes text.old ++ job_line_of hit.now.job ≡ put ++ string_bytes text.new))
+        (λ _. GrowsByPart (K.shown sink.old) (K.shown sink.new) (string_bytes text.old ++ job_line_of hit.now.job)) }
+    ensures waits { OnOk result (WaitsOn (string_bytes text.old) (string_bytes text.new) hit.now.job due.now.items) }
+    ensures cause { IfErr result (λ fault. fault ≡ FeedFault.Write → Rose (K.shown sink.old) (K.shown sink.new)) }
+    ensures steady { OnOk result ((K.shown sink.new).faults ≡ (K.shown sink.old).faults) }
+    ensures unfailed { IfErr result (λ fault. fault ≡ FeedFault.NoMemory → (K.shown sink.new).faults ≡ (K.shown sink.old).faults) }
+    ensures later { IsLater (K.shown sink.old) (K.shown sink.new) }
+{
+    push_line(text, hit)?;
+    if ends_symbol(due, hit.job().place()) {
+        put(text, sink)?;
+    }
+    Ok(())
+}
