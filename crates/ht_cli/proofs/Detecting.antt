@@ -1,10 +1,12 @@
 -- What a listing and a last line come to.
-use Rattle.std.specs.Prelude.{◌≡◌, ℕ, ◌+◌, List, [], ◌++◌, length, take, Option, Some, None}
+use Rattle.std.specs.Prelude.{◌≡◌, ℕ, ◌+◌, List, [], ◌++◌, length, take, Option, Some, None, Err, IfSome}
 use Rattle.std.proofs.Common.{refl, ap, ◌∙◌, sym, subst, append-nil, arith}
 use Rattle.ht_io.specs.Kinds.{name_of}
-use Rattle.ht_io.specs.Octets.{Grows, GrowsByPart}
-use Rattle.ht_io.proofs.Pieces.{grows-append, grows_by_part-none, grows_by_part-front, grows_by_part-append}
+use Rattle.std.proofs.lemmas.Option.{IfSome_then}
+use Rattle.ht_io.specs.Pieces.{KnownTaken, KnownAllTaken}
+use Rattle.ht_io.specs.Devices.{Device, Takes, TakesAll, Grows, GrowsByPart, Rose, IsLater}
 use Rattle.ht_io.specs.declared.faults.FormatFault.{FormatFault}
+use Rattle.ht_io.proofs.Calls.{grows-append, grows_by_part-none, grows_by_part-front, grows_by_part-append, failed-later}
 use Rattle.ht_fields.specs.Cases.{File}
 use Rattle.ht_fields.specs.Meanings.{Meaning}
 use Rattle.ht_fields.specs.Readers.{IsEarly}
@@ -15,14 +17,29 @@ use Rattle.ht_capture.specs.Captures.{capture_of}
 use Rattle.ht_capture.specs.Fields.{captures}
 use Rattle.ht_text.specs.Lines.{end_text, refused_text}
 use Rattle.ht_rx.specs.Texts.{detect_text, frames_of, last_line, last_of, lines_of, job_lines, jobs_of}
-use Rattle.ht_rx.specs.Outcomes.{IsFront, ListsWhole, ListsRefused, ListsBroken, ListsPart}
-use Rattle.ht_rx.proofs.Outcomes.{of_told, takes_of, told_all}
-use Rattle.ht_cli.specs.Answers.{IsCapture, HasNoFault, Detects, Refuses, BreaksOff, DetectsPart}
+use Rattle.ht_rx.specs.Outcomes.{IsFront, ListsWhole, ListsRefused, ListsBroken, ListsPart, StopsBy}
+use Rattle.ht_rx.proofs.Outcomes.{known_all}
+use Rattle.ht_rx.specs.declared.faults.RxFault.{RxFault}
+use Rattle.ht_rx.specs.declared.faults.RxFault.TheVariants.{Read, Write as ListWrite, NoMemory as ListMemory}
+use Rattle.ht_cli.specs.declared.lines.Unwritten.{Unwritten}
+use Rattle.ht_cli.specs.declared.lines.Unwritten.TheVariants.{Write, NoMemory as LineMemory}
+use Rattle.ht_cli.specs.declared.status.Status.{Status}
+use Rattle.ht_cli.specs.declared.status.Status.TheVariants.{Done, Refused, ReadFault, WriteFault, NoMemory}
+use Rattle.ht_cli.specs.declared.words.Asked.TheVariants.{Detect}
+use Rattle.ht_cli.specs.Commands.{Answers, PutsPart}
+use Rattle.ht_cli.specs.Filters.{IsWhole, IsFaultless}
+use Rattle.ht_cli.specs.Putting.{Puts}
+use Rattle.ht_cli.specs.Statuses.{status_of_line, status_of_listing}
+use Rattle.ht_cli.specs.Tasks.{command_of}
 
-text_is : (octets : List ℕ) (fault : Option FormatFault) (frames : ℕ) → (capture_of octets).fault ≡ fault → frames_of (capture_of octets).items ≡ frames → lines_of octets ++ last_of fault frames ≡ detect_text octets
+-- the lines and the last line are the reference text
+text_is : (octets : List ℕ) (fault : Option FormatFault) (frames : ℕ)
+    → (capture_of octets).fault ≡ fault → frames_of (capture_of octets).items ≡ frames
+    → lines_of octets ++ last_of fault frames ≡ detect_text octets
 unfolding detect_text last_line
 text_is octets fault frames is count =
-    sym (ap (λ (f : Option FormatFault). lines_of octets ++ last_of f (frames_of (capture_of octets).items)) is ∙ ap (λ n. lines_of octets ++ last_of fault n) count)
+    sym (ap (λ (f : Option FormatFault). lines_of octets ++ last_of f (frames_of (capture_of octets).items)) is
+    ∙ ap (λ n. lines_of octets ++ last_of fault n) count)
 
 text_front : (octets : List ℕ) → lines_of octets ++ last_line octets ≡ detect_text octets
 unfolding detect_text
@@ -32,96 +49,154 @@ same_text : (a b : List ℕ) → capture_of a ≡ capture_of b → detect_text a
 unfolding detect_text last_line lines_of
 same_text a b is = ap (λ (m : Meaning Item). job_lines (jobs_of m.items) ++ last_of m.fault (frames_of m.items)) is
 
-none_is_not : (fault : FormatFault) → None ≡ Some fault → ⊥
-none_is_not fault e = cc
-
--- what has a fault is no capture
-no_capture : (octets : List ℕ) (fault : FormatFault) → (capture_of octets).fault ≡ Some fault → IsCapture octets → ⊥
-no_capture octets fault is file =
-    none_is_not fault (sym (ap (λ (m : Meaning Item). m.fault) (met captures octets (capture_of octets).items File file)) ∙ is)
-
-no_fault : (octets : List ℕ) → IsFront octets → HasNoFault octets
-no_fault octets front =
-    let place : length octets ≡ 0 + length octets = omega arith in
-    early_text captures octets (subst (λ n. IsEarly n (capture_of octets).fault) place front)
-
-by_part : (held now : Option (List ℕ)) (piece : List ℕ) → Grows held now piece → GrowsByPart held now piece
-by_part held now piece grows = subst (GrowsByPart held now) (append-nil piece) (grows_by_part-append held now now piece [] grows (grows_by_part-none now []))
-
-pub detects : (left after held between now : Option (List ℕ)) (frames jobs : ℕ) → ListsWhole left after held between frames jobs → Grows between now (end_text frames) → Detects left after held now
-detects left after held between now frames jobs l last =
-    record {
-      taken = l.taken;
-      octets = l.octets;
-      capture = file_found captures l.taken l.whole;
-      text = subst (Grows held now) (text_is l.taken None frames l.whole (sym l.frames_are)) (grows-append held between now (lines_of l.taken) (end_text frames) l.put last);
-    }
-
-pub refuses : (left after held between now : Option (List ℕ)) (fault : FormatFault) → ListsRefused left after held between fault
-    → Grows between now (refused_text (name_of fault.kind) fault.offset) → Refuses left after held now
-refuses left after held between now fault l last =
-    record {
-      taken = l.taken;
-      fault = fault;
-      octets = l.octets;
-      refused = l.refused;
-      ends = λ n few. no_fault (take n l.taken) (l.ends n few);
-      text = subst (Grows held now) (text_is l.taken (Some fault) (frames_of (capture_of l.taken).items) l.refused refl)
-          (grows-append held between now (lines_of l.taken) (refused_text (name_of fault.kind) fault.offset) l.put last);
-      no_capture = of_told left (λ all. capture_of all ≡ capture_of l.taken) (λ all. IsCapture all → ⊥)
-          (λ all is. no_capture all fault (ap (λ (m : Meaning Item). m.fault) is ∙ l.refused)) l.comes;
-      same_fault = of_told left (λ all. capture_of all ≡ capture_of l.taken) (λ all. (capture_of all).fault ≡ Some fault)
-          (λ all is. ap (λ (m : Meaning Item). m.fault) is ∙ l.refused) l.comes;
-      same_text = of_told left (λ all. capture_of all ≡ capture_of l.taken) (λ all. detect_text all ≡ detect_text l.taken) (λ all is. same_text all l.taken is) l.comes;
-    }
-
-pub breaks_off : (left after held now : Option (List ℕ)) → ListsBroken left after held now → BreaksOff left after held now
-breaks_off left after held now l = record { taken = l.taken; octets = l.octets; front = no_fault l.taken l.front; lines = l.put }
-
-pub part_of_whole : (left after held between now : Option (List ℕ)) (frames jobs : ℕ) → ListsWhole left after held between frames jobs → GrowsByPart between now (end_text frames) → DetectsPart left after held now
-part_of_whole left after held between now frames jobs l last =
-    let text = subst (GrowsByPart held now) (text_is l.taken None frames l.whole (sym l.frames_are)) (grows_by_part-append held between now (lines_of l.taken) (end_text frames) l.put last) in
-    record { taken = l.taken; octets = takes_of left after l.taken l.octets; text = text; of_all = told_all left after l.taken (λ all. GrowsByPart held now (detect_text all)) l.octets text }
-
-pub part_of_refused : (left after held between now : Option (List ℕ)) (fault : FormatFault) → ListsRefused left after held between fault
-    → GrowsByPart between now (refused_text (name_of fault.kind) fault.offset) → DetectsPart left after held now
-part_of_refused left after held between now fault l last =
-    let text = subst (GrowsByPart held now) (text_is l.taken (Some fault) (frames_of (capture_of l.taken).items) l.refused refl)
-    (grows_by_part-append held between now (lines_of l.taken) (refused_text (name_of fault.kind) fault.offset) l.put last) in
-    record {
-      taken = l.taken;
-      octets = l.octets;
-      text = text;
-      of_all = of_told left (λ all. capture_of all ≡ capture_of l.taken) (λ all. GrowsByPart held now (detect_text all)) (λ all is. subst (GrowsByPart held now) (sym (same_text all l.taken is)) text) l.comes;
-    }
-
-pub part_of_lines : (left after held now : Option (List ℕ)) → ListsPart left after held now → DetectsPart left after held now
-part_of_lines left after held now l =
-    let front : (octets : List ℕ) → GrowsByPart held now (lines_of octets) → GrowsByPart held now (detect_text octets) =
-    λ octets put. subst (GrowsByPart held now) (text_front octets) (grows_by_part-front held now (lines_of octets) (last_line octets) put) in
-    record {
-      taken = l.taken;
-      octets = l.octets;
-      text = front l.taken l.put;
-      of_all = of_told left (λ all. GrowsByPart held now (lines_of all)) (λ all. GrowsByPart held now (detect_text all)) front l.of_all;
-    }
-
--- all lines are a part of them
-pub lines_of_whole : (left after held now : Option (List ℕ)) (frames jobs : ℕ) → ListsWhole left after held now frames jobs → ListsPart left after held now
-lines_of_whole left after held now frames jobs l =
-    let put = by_part held now (lines_of l.taken) l.put in
-    record { taken = l.taken; octets = takes_of left after l.taken l.octets; put = put; of_all = told_all left after l.taken (λ all. GrowsByPart held now (lines_of all)) l.octets put }
-
 same_lines : (a b : List ℕ) → capture_of a ≡ capture_of b → lines_of a ≡ lines_of b
 unfolding lines_of
 same_lines a b is = ap (λ (m : Meaning Item). job_lines (jobs_of m.items)) is
 
-pub lines_of_refused : (left after held now : Option (List ℕ)) (fault : FormatFault) → ListsRefused left after held now fault → ListsPart left after held now
-lines_of_refused left after held now fault l =
-    let put = by_part held now (lines_of l.taken) l.put in
-    record {
-      taken = l.taken;
-      octets = l.octets;
-      put = put;
-      of_all = of_told left (λ all. capture_of all ≡ capture_of l.taken) (λ all. GrowsByPart held now (lines_of all)) (λ all is. subst (GrowsByPart held now) (sym (same_lines all l.taken is)) put) l.comes;
-    }
+none_is_not : (fault : FormatFault) → None ≡ Some fault → ⊥
+none_is_not fault e = cc
+
+-- what has a fault is no capture
+no_capture : (octets : List ℕ) (fault : FormatFault) → (capture_of octets).fault ≡ Some fault → IsWhole captures octets → ⊥
+no_capture octets fault is file =
+    none_is_not fault (sym (ap (λ (m : Meaning Item). m.fault) (met captures octets (capture_of octets).items File file)) ∙ is)
+
+no_fault : (octets : List ℕ) → IsFront octets → IsFaultless captures octets
+no_fault octets front =
+    let place : length octets ≡ 0 + length octets = omega arith in
+    early_text captures octets (subst (λ n. IsEarly n (capture_of octets).fault) place front)
+
+-- all of it is a part of it
+by_part : (sink sink' : Device ℕ) (piece : List ℕ) → Grows sink sink' piece → GrowsByPart sink sink' piece
+by_part sink sink' piece grows =
+    subst (GrowsByPart sink sink') (append-nil piece) (grows_by_part-append sink sink' sink' piece [] grows (grows_by_part-none sink' []))
+
+-- all that was left was taken from its front
+all_is_front : (left after : Option (List ℕ)) (taken : List ℕ) → KnownAllTaken left after taken → KnownTaken left after taken
+all_is_front None None taken takes = tt
+all_is_front None (Some after) taken takes = absurd takes
+all_is_front (Some left) None taken takes = absurd takes
+all_is_front (Some left) (Some after) taken takes = takes.0 ∙ (sym (append-nil taken) ∙ ap (λ (xs : List ℕ). taken ++ xs) (sym takes.1))
+
+takes_of : (source source' : Device ℕ) (taken : List ℕ) → TakesAll source source' taken → Takes source source' taken
+takes_of source source' taken takes = all_is_front source.known source'.known taken takes
+
+-- the source before and after, and the sink before
+module _ (source source' sink : Device ℕ) where
+  -- what a status says of the run, with the sink after it
+  abbrev pub Comes : Device ℕ → Status → Type 0
+  Comes sink' status = Answers (command_of Detect) source source' sink sink' status
+
+  -- a part of a text that is the same for all octets that were left
+  part : (text_of : List ℕ → List ℕ) (sink' : Device ℕ) (taken : List ℕ) → Takes source source' taken → GrowsByPart sink sink' (text_of taken)
+      → IfSome source.known (λ all. text_of all ≡ text_of taken) → PutsPart text_of source source' sink sink'
+  part text_of sink' taken octets text same =
+      record {
+        taken = taken;
+        octets = octets;
+        text = text;
+        of_all = IfSome_then source.known same (λ all is. subst (λ (xs : List ℕ). GrowsByPart sink sink' xs) (sym is) text);
+      }
+
+  -- all octets that were left are a capture: their lines, and then the last line, or a part of it, or none of it
+  whole_text : (taken : List ℕ) (frames : ℕ) → (capture_of taken).fault ≡ None → frames ≡ frames_of (capture_of taken).items
+      → lines_of taken ++ end_text frames ≡ detect_text taken
+  whole_text taken frames whole are = text_is taken None frames whole (sym are)
+
+  whole_same : (text_of : List ℕ → List ℕ) (taken : List ℕ) → TakesAll source source' taken
+      → IfSome source.known (λ all. text_of all ≡ text_of taken)
+  whole_same text_of taken octets = known_all source.known source'.known taken (λ all. text_of all ≡ text_of taken) octets refl
+
+  pub whole_done : (mid sink' : Device ℕ) (frames jobs : ℕ) → ListsWhole source source' sink mid frames jobs
+      → Grows mid sink' (end_text frames) → Comes sink' Done
+  whole_done mid sink' frames jobs l last =
+      record {
+        taken = l.taken;
+        octets = l.octets;
+        input = file_found captures l.taken l.whole;
+        text = subst (Grows sink sink') (whole_text l.taken frames l.whole l.frames_are)
+            (grows-append sink mid sink' (lines_of l.taken) (end_text frames) l.put last);
+      }
+
+  whole_part : (mid sink' : Device ℕ) (frames jobs : ℕ) → ListsWhole source source' sink mid frames jobs
+      → GrowsByPart mid sink' (end_text frames) → Rose sink sink' → Comes sink' WriteFault
+  whole_part mid sink' frames jobs l last rose =
+      let text = subst (GrowsByPart sink sink') (whole_text l.taken frames l.whole l.frames_are)
+      (grows_by_part-append sink mid sink' (lines_of l.taken) (end_text frames) l.put last) in
+      (part detect_text sink' l.taken (takes_of source source' l.taken l.octets) text (whole_same detect_text l.taken l.octets), rose)
+
+  whole_lines : (sink' : Device ℕ) (frames jobs : ℕ) → ListsWhole source source' sink sink' frames jobs → Comes sink' NoMemory
+  whole_lines sink' frames jobs l =
+      let text = by_part sink sink' (lines_of l.taken) l.put in
+      part lines_of sink' l.taken (takes_of source source' l.taken l.octets) text (whole_same lines_of l.taken l.octets)
+
+  -- the octets taken end with the field at fault: their lines, and then the last line, or a part of it, or none of it
+  refused_text_is : (taken : List ℕ) (fault : FormatFault) → (capture_of taken).fault ≡ Some fault
+      → lines_of taken ++ refused_text (name_of fault.kind) fault.offset ≡ detect_text taken
+  refused_text_is taken fault refused = text_is taken (Some fault) (frames_of (capture_of taken).items) refused refl
+
+  refused_same : (mid : Device ℕ) (fault : FormatFault) (l : ListsRefused source source' sink mid fault) (P : List ℕ → Type 0)
+      → ((all : List ℕ) → capture_of all ≡ capture_of l.taken → P all) → IfSome source.known P
+  refused_same mid fault l P so = IfSome_then source.known l.comes so
+
+  pub refused_done : (mid sink' : Device ℕ) (fault : FormatFault) → ListsRefused source source' sink mid fault
+      → Grows mid sink' (refused_text (name_of fault.kind) fault.offset) → Comes sink' Refused
+  refused_done mid sink' fault l last =
+      let fault_of : (all : List ℕ) → capture_of all ≡ capture_of l.taken → (capture_of all).fault ≡ Some fault =
+      λ all is. ap (λ (m : Meaning Item). m.fault) is ∙ l.refused in
+      record {
+        taken = l.taken;
+        fault = fault;
+        octets = l.octets;
+        refused = l.refused;
+        ends = λ n few. no_fault (take n l.taken) (l.ends n few);
+        text = subst (Grows sink sink') (refused_text_is l.taken fault l.refused)
+            (grows-append sink mid sink' (lines_of l.taken) (refused_text (name_of fault.kind) fault.offset) l.put last);
+        no_input = refused_same mid fault l (λ all. IsWhole captures all → ⊥) (λ all is. no_capture all fault (fault_of all is));
+        same_fault = refused_same mid fault l (λ all. (capture_of all).fault ≡ Some fault) fault_of;
+        same_text = refused_same mid fault l (λ all. detect_text all ≡ detect_text l.taken) (λ all is. same_text all l.taken is);
+      }
+
+  refused_part : (mid sink' : Device ℕ) (fault : FormatFault) → ListsRefused source source' sink mid fault
+      → GrowsByPart mid sink' (refused_text (name_of fault.kind) fault.offset) → Rose sink sink' → Comes sink' WriteFault
+  refused_part mid sink' fault l last rose =
+      let text = subst (GrowsByPart sink sink') (refused_text_is l.taken fault l.refused)
+      (grows_by_part-append sink mid sink' (lines_of l.taken) (refused_text (name_of fault.kind) fault.offset) l.put last) in
+      let same = refused_same mid fault l (λ all. detect_text all ≡ detect_text l.taken) (λ all is. same_text all l.taken is) in
+      (part detect_text sink' l.taken l.octets text same, rose)
+
+  refused_lines : (sink' : Device ℕ) (fault : FormatFault) → ListsRefused source source' sink sink' fault → Comes sink' NoMemory
+  refused_lines sink' fault l =
+      let same = refused_same sink' fault l (λ all. lines_of all ≡ lines_of l.taken) (λ all is. same_lines all l.taken is) in
+      part lines_of sink' l.taken l.octets (by_part sink sink' (lines_of l.taken) l.put) same
+
+  -- the listing stopped before its end
+  broken : (sink' : Device ℕ) → ListsBroken source source' sink sink' → Rose source source' → Comes sink' ReadFault
+  broken sink' l rose = record { taken = l.taken; octets = l.octets; front = no_fault l.taken l.front; text = l.put; cause = rose }
+
+  lines_part : (sink' : Device ℕ) → ListsPart source source' sink sink' → Rose sink sink' → Comes sink' WriteFault
+  lines_part sink' l rose =
+      let front : (octets : List ℕ) → GrowsByPart sink sink' (lines_of octets) → GrowsByPart sink sink' (detect_text octets) =
+      λ octets put. subst (GrowsByPart sink sink') (text_front octets) (grows_by_part-front sink sink' (lines_of octets) (last_line octets) put) in
+      (record { taken = l.taken; octets = l.octets; text = front l.taken l.put; of_all = IfSome_then source.known l.of_all front }, rose)
+
+  lines_lack : (sink' : Device ℕ) → ListsPart source source' sink sink' → Comes sink' NoMemory
+  lines_lack sink' l = record { taken = l.taken; octets = l.octets; text = l.put; of_all = l.of_all }
+
+  -- what stopped the last line, or the listing, says how the run ends
+  pub whole_stops : (mid sink' : Device ℕ) (frames jobs : ℕ) (fault : Unwritten) → ListsWhole source source' sink mid frames jobs → IsLater sink mid
+      → Puts mid sink' (end_text frames) (Err fault) → Comes sink' (status_of_line fault)
+  whole_stops mid sink' frames jobs Write l later put = whole_part mid sink' frames jobs l put.0 (failed-later sink mid sink' later put.1)
+  whole_stops mid sink' frames jobs LineMemory l later put =
+      whole_lines sink' frames jobs (subst (λ (k : Device ℕ). ListsWhole source source' sink k frames jobs) (sym put) l)
+
+  pub refused_stops : (mid sink' : Device ℕ) (of : FormatFault) (fault : Unwritten) → ListsRefused source source' sink mid of → IsLater sink mid
+      → Puts mid sink' (refused_text (name_of of.kind) of.offset) (Err fault) → Comes sink' (status_of_line fault)
+  refused_stops mid sink' of Write l later put = refused_part mid sink' of l put.0 (failed-later sink mid sink' later put.1)
+  refused_stops mid sink' of LineMemory l later put =
+      refused_lines sink' of (subst (λ (k : Device ℕ). ListsRefused source source' sink k of) (sym put) l)
+
+  pub listing_stops : (sink' : Device ℕ) (fault : RxFault) → StopsBy source source' sink sink' fault → Comes sink' (status_of_listing fault)
+  listing_stops sink' Read stops = broken sink' stops.0 stops.1
+  listing_stops sink' ListWrite stops = lines_part sink' stops.0 stops.1
+  listing_stops sink' ListMemory stops = lines_lack sink' stops

@@ -1,2 +1,2 @@
 pub mod Detecting
-pub mod OneWord
+pub mod Spelled

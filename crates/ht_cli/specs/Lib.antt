@@ -1,3 +1,7 @@
-pub mod Answers
+pub mod Commands
+pub mod Detecting
+pub mod Filters
+pub mod Putting
+pub mod Statuses
+pub mod Tasks
 pub mod Words
-pub mod Written

@@ -1,15 +1,14 @@
 //! The lines that a run puts itself: the last one, or how the program is called.
-ghost use Rattle.std.specs.Prelude.{◌≡◌, ◌≤◌, Err, MatchResult};
-ghost use Rattle.ht_io.specs.Octets.{Grows};
+ghost use Rattle.std.specs.Prelude.{◌≡◌, Err, OnOk};
 ghost use Rattle.ht_io.specs.Kinds.{name_of};
 ghost use Rattle.ht_text.specs.Lines.{end_text, refused_text, usage_text};
-ghost use Rattle.ht_cli.specs.Written.{StopsWriting};
+ghost use Rattle.ht_cli.specs.Putting.{Puts};
 
 use ht_io::{Failed, FormatFault, Sink};
 use ht_text::{end_line, refused_line, usage_line};
-use std::alloc::Global;
+use std::alloc::{AllocError, Global};
 
-/// Why not all was put.
+/// Why a line wasn't put whole.
 #[derive(Clone, Copy, Debug, PartialEq, Eq)]
 pub enum Unwritten {
     /// The sink failed.
@@ -18,30 +17,34 @@ pub enum Unwritten {
     NoMemory,
 }
 
-// Puts a piece.
-fn put<K: Sink>(sink: &mut K, piece: &[u8]) -> Result<(), Unwritten>
-    ensures told { MatchResult result (λ _. Grows (K.held sink.old) (K.held sink.new) piece.now)
-        (StopsWriting (K.held sink.old) (K.held sink.new) (K.faults sink.old) (K.faults sink.new) piece.now) }
-    ensures memory { result ≡ Err Unwritten.NoMemory → ⊥ }
-    ensures later { K.faults sink.old ≤ K.faults sink.new }
-{
-    match sink.put(piece) {
-        Ok(()) => Ok(()),
-        Err(Failed) => Err(Unwritten::Write),
+impl From<Failed> for Unwritten {
+    ghost use Rattle.ht_cli.specs.declared.lines.Unwritten.TheVariants.{Write};
+
+    ghost from_gives = { λ _ fault. fault ≡ Write };
+
+    fn from(_: Failed) -> Unwritten {
+        Unwritten::Write
+    }
+}
+
+impl From<AllocError> for Unwritten {
+    ghost use Rattle.ht_cli.specs.declared.lines.Unwritten.TheVariants.{NoMemory};
+
+    ghost from_gives = { λ _ fault. fault ≡ NoMemory };
+
+    fn from(_: AllocError) -> Unwritten {
+        Unwritten::NoMemory
     }
 }
 
 /// Puts the end line.
 pub fn put_end<K: Sink>(alloc: Global, frames: u16, sink: &mut K) -> Result<(), Unwritten>
-    ensures told { MatchResult result (λ _. Grows (K.held sink.old) (K.held sink.new) (end_text frames))
-        (StopsWriting (K.held sink.old) (K.held sink.new) (K.faults sink.old) (K.faults sink.new) (end_text frames)) }
-    ensures nothing { result ≡ Err Unwritten.NoMemory → sink.new ≡ sink.old }
-    ensures later { K.faults sink.old ≤ K.faults sink.new }
+    ensures puts { Puts (K.shown sink.old) (K.shown sink.new) (end_text frames) result }
+    ensures steady { OnOk result ((K.shown sink.new).faults ≡ (K.shown sink.old).faults) }
 {
-    match end_line(alloc, frames) {
-        Ok(line) => put(sink, &line),
-        Err(_) => Err(Unwritten::NoMemory),
-    }
+    let line = end_line(alloc, frames)?;
+    sink.put(&line)?;
+    Ok(())
 }
 
 /// Puts the refused line.
@@ -50,26 +53,21 @@ pub fn put_refused<K: Sink>(
     fault: FormatFault,
     sink: &mut K,
 ) -> Result<(), Unwritten>
-    ensures told { MatchResult result (λ _. Grows (K.held sink.old) (K.held sink.new) (refused_text (name_of fault.kind) fault.offset))
-        (StopsWriting (K.held sink.old) (K.held sink.new) (K.faults sink.old) (K.faults sink.new) (refused_text (name_of fault.kind) fault.offset)) }
-    ensures nothing { result ≡ Err Unwritten.NoMemory → sink.new ≡ sink.old }
-    ensures later { K.faults sink.old ≤ K.faults sink.new }
+    ensures puts { Puts (K.shown sink.old) (K.shown sink.new) (refused_text (name_of fault.kind) fault.offset) result }
+    ensures steady { OnOk result ((K.shown sink.new).faults ≡ (K.shown sink.old).faults) }
 {
-    match refused_line(alloc, fault.kind.name(), fault.offset) {
-        Ok(line) => put(sink, &line),
-        Err(_) => Err(Unwritten::NoMemory),
-    }
+    let line = refused_line(alloc, fault.kind.name(), fault.offset)?;
+    sink.put(&line)?;
+    Ok(())
 }
 
-/// Puts the usage line.
+/// Puts the usage line. Without memory for it the sink is as before.
 pub fn put_usage<K: Sink>(alloc: Global, sink: &mut K) -> Result<(), Unwritten>
-    ensures told { MatchResult result (λ _. Grows (K.held sink.old) (K.held sink.new) usage_text)
-        (StopsWriting (K.held sink.old) (K.held sink.new) (K.faults sink.old) (K.faults sink.new) usage_text) }
+    ensures puts { Puts (K.shown sink.old) (K.shown sink.new) usage_text result }
+    ensures steady { OnOk result ((K.shown sink.new).faults ≡ (K.shown sink.old).faults) }
     ensures nothing { result ≡ Err Unwritten.NoMemory → sink.new ≡ sink.old }
-    ensures later { K.faults sink.old ≤ K.faults sink.new }
 {
-    match usage_line(alloc) {
-        Ok(line) => put(sink, &line),
-        Err(_) => Err(Unwritten::NoMemory),
-    }
+    let line = usage_line(alloc)?;
+    sink.put(&line)?;
+    Ok(())
 }

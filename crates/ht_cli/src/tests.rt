@@ -3,9 +3,10 @@ use super::*;
 use ht_crew::OpenGate;
 use ht_io::{MemSink, MemSource};
 use std::alloc::AllocError;
+use std::process::ExitCode;
 use std::test::Fail;
 
-/// A capture of so many frames at 20 MHz, MCS 0, of length 1: the diagonal 10 on each subcarrier, every sample 0.
+/// A capture of the given number of frames at 20 MHz, MCS 0, of length 1: the diagonal 10 on each subcarrier, every sample 0.
 fn zeros(alloc: Global, frames: u8) -> Result<Vec<u8>, AllocError> {
     let mut octets = b"HTCP\x01\x00".to_vec(alloc)?;
     octets.push(frames)?;
@@ -269,6 +270,24 @@ fn refusals(rt: HostRuntime) -> Result<(), Fail> {
         let (answer, held) = ran(alloc, words, zeros(alloc, 1)?, false, Some(0), None)?;
         assert_eq!(rt; answer, Status::Usage);
         assert_eq!(rt; held.as_slice(), usage.as_bytes());
+    }
+    Ok(())
+}
+
+// The exit status of each status, and how it reads.
+#[test]
+fn statuses(rt: HostRuntime) -> Result<(), Fail> {
+    let cases = [
+        (Status::Done, 0u8, "done"),
+        (Status::Refused, 1, "the input is refused"),
+        (Status::Usage, 2, "the words aren't accepted"),
+        (Status::ReadFault, 3, "reading failed"),
+        (Status::WriteFault, 4, "writing failed"),
+        (Status::NoMemory, 5, "out of memory"),
+    ];
+    for (status, number, text) in cases {
+        assert_eq!(rt; ExitCode::from(status), ExitCode::from(number));
+        assert_eq!(rt; status.to_string(rt.alloc())?.as_str(), text);
     }
     Ok(())
 }

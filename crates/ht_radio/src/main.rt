@@ -1,8 +1,9 @@
 //! The program `radio`: the commands of `ht_cli` over standard input and standard output.
 //!
-//! It hands on the words behind the program's name and ends with the status that `run` answers. Where
-//! the system's call for the words finds no memory it ends with status 5, and where it is refused for
-//! another cause, as a word that isn't UTF-8, with status 6; in both cases it reads and writes nothing.
+//! It hands on the words behind the program's name and ends with the status that `run` answers. Where the system's call
+//! for the words finds no memory it ends with status 5, and where it is refused for another cause, as a word that isn't
+//! UTF-8, with status 6; in both cases it reads and writes nothing. Where reading or writing failed, the system's last
+//! error is said on standard error, and nothing else ever is.
 #![tactic(auto)]
 
 use ht_cli::{Status, run};
@@ -19,20 +20,27 @@ fn main(rt: HostRuntime) -> ExitCode {
     let mut words = Vec::new(rt.alloc());
     let args = match env::args(&rt) {
         Ok(args) => args,
-        Err(error) if error.kind() == ErrorKind::OutOfMemory => {
-            return ExitCode::from(Status::NoMemory as u8);
-        }
+        Err(error) if error.kind() == ErrorKind::OutOfMemory => return Status::NoMemory.into(),
         Err(_) => return ExitCode::from(NO_WORDS),
     };
     for word in args.skip(1) {
         if words.push(word).is_err() {
-            return ExitCode::from(Status::NoMemory as u8);
+            return Status::NoMemory.into();
         }
     }
     let Ok(reader) = BufReader::new(rt.alloc(), rt.reader()) else {
-        return ExitCode::from(Status::NoMemory as u8);
+        return Status::NoMemory.into();
     };
     let mut source = StdSource::new(reader);
     let mut sink = StdSink::new(writer(&rt));
-    ExitCode::from(run(rt.alloc(), &words, &mut source, &mut sink, &OpenGate) as u8)
+    let status = run(rt.alloc(), &words, &mut source, &mut sink, &OpenGate);
+    let (failed, error) = match status {
+        Status::ReadFault => ("reading standard input", source.last_error()),
+        Status::WriteFault => ("writing standard output", sink.last_error()),
+        _ => ("", None),
+    };
+    if let Some(error) = error {
+        let _ = eprintln!(rt; "radio: {failed}: {error}");
+    }
+    status.into()
 }

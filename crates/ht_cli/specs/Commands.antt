@@ -1,0 +1,88 @@
+-- What a command reads and writes, and what each answer of its run says.
+use Rattle.std.specs.Prelude.{◌≡◌, ℕ, ◌<◌, List, length, take, Option, Some, IfSome}
+use Rattle.ht_io.specs.Devices.{Device, Takes, TakesAll, Grows, GrowsByPart, Rose}
+use Rattle.ht_io.specs.declared.faults.FormatFault.{FormatFault}
+use Rattle.ht_cli.specs.declared.status.Status.{Status}
+use Rattle.ht_cli.specs.declared.status.Status.TheVariants.{Done, Refused, Usage, ReadFault, WriteFault, NoMemory}
+
+-- what a command reads, and what it writes of it
+pub record Filter : Type 1 where
+  -- the octets are its whole input
+  pub IsInput : List ℕ → Type 0
+  -- the octets have no fault so far
+  pub HasNoFault : List ℕ → Type 0
+  -- the first fault of the octets
+  pub fault : List ℕ → Option FormatFault
+  -- the reference text: all that is written of the octets
+  pub text : List ℕ → List ℕ
+  -- the text of octets whose end isn't known
+  pub front : List ℕ → List ℕ
+  -- the text of which a part stands where memory ran out
+  pub most : List ℕ → List ℕ
+
+-- a command reads its input, or it reads nothing and writes one text
+pub data Command : Type 1 where
+  Reads : Filter → Command
+  Makes : List ℕ → Command
+
+-- a part of this text of the octets that were taken was put
+pub record PutsPart (text_of : List ℕ → List ℕ) (source source' sink sink' : Device ℕ) : Type 0 where
+  pub taken : List ℕ
+  pub octets : Takes source source' taken
+  pub text : GrowsByPart sink sink' (text_of taken)
+  pub of_all : IfSome source.known (λ all. GrowsByPart sink sink' (text_of all))
+
+-- a run of a command that reads: the source and the sink before it and after it
+module _ (f : Filter) (source source' sink sink' : Device ℕ) where
+  -- what was left of the source is its whole input, all of it was taken, and its text was put
+  pub record Finishes : Type 0 where
+    pub taken : List ℕ
+    pub octets : TakesAll source source' taken
+    pub input : f.IsInput taken
+    pub text : Grows sink sink' (f.text taken)
+
+  -- What was left is no such input, and its text was put, which names its first fault. The octets taken end with the
+  -- field at fault: they have this fault, and no shorter front of them has one; so of an input that ends early all were
+  -- taken, and an octet behind a whole input is the last one taken.
+  pub record Refuses : Type 0 where
+    pub taken : List ℕ
+    pub fault : FormatFault
+    pub octets : Takes source source' taken
+    pub refused : f.fault taken ≡ Some fault
+    pub ends : (n : ℕ) → n < length taken → f.HasNoFault (take n taken)
+    pub text : Grows sink sink' (f.text taken)
+    pub no_input : IfSome source.known (λ all. f.IsInput all → ⊥)
+    pub same_fault : IfSome source.known (λ all. f.fault all ≡ Some fault)
+    pub same_text : IfSome source.known (λ all. f.text all ≡ f.text taken)
+
+  -- the source failed; the octets taken before have no fault, and the text of such a front was put
+  pub record BreaksOff : Type 0 where
+    pub taken : List ℕ
+    pub octets : Takes source source' taken
+    pub front : f.HasNoFault taken
+    pub text : Grows sink sink' (f.front taken)
+    pub cause : Rose source source'
+
+-- what each status says of a run: first the source before and after it, then the sink
+abbrev pub Answers : Command → Device ℕ → Device ℕ → Device ℕ → Device ℕ → Status → Type 0
+Answers (Reads f) source source' sink sink' Done = Finishes f source source' sink sink'
+Answers (Reads f) source source' sink sink' Refused = Refuses f source source' sink sink'
+Answers (Reads f) source source' sink sink' Usage = ⊥
+Answers (Reads f) source source' sink sink' ReadFault = BreaksOff f source source' sink sink'
+Answers (Reads f) source source' sink sink' WriteFault = PutsPart f.text source source' sink sink' × Rose sink sink'
+Answers (Reads f) source source' sink sink' NoMemory = PutsPart f.most source source' sink sink'
+Answers (Makes text) source source' sink sink' Done = Grows sink sink' text
+Answers (Makes text) source source' sink sink' Refused = ⊥
+Answers (Makes text) source source' sink sink' Usage = ⊥
+Answers (Makes text) source source' sink sink' ReadFault = ⊥
+Answers (Makes text) source source' sink sink' WriteFault = GrowsByPart sink sink' text × Rose sink sink'
+Answers (Makes text) source source' sink sink' NoMemory = GrowsByPart sink sink' text
+
+-- what each status says where the words ask for no command, and this text tells how the program is called
+abbrev pub Rejects : List ℕ → Device ℕ → Device ℕ → Status → Type 0
+Rejects usage sink sink' Done = ⊥
+Rejects usage sink sink' Refused = ⊥
+Rejects usage sink sink' Usage = Grows sink sink' usage
+Rejects usage sink sink' ReadFault = ⊥
+Rejects usage sink sink' WriteFault = GrowsByPart sink sink' usage × Rose sink sink'
+Rejects usage sink sink' NoMemory = sink' ≡ sink

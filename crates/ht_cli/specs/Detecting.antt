@@ -1,0 +1,64 @@
+-- What a run of `detect` comes to, in the words of captures.
+use Rattle.std.specs.Prelude.{◌≡◌, ◌⊎◌, ℕ, ◌<◌, List, length, take, Some, IfSome}
+use Rattle.ht_io.specs.Devices.{Device, Takes, TakesAll, Grows, GrowsByPart}
+use Rattle.ht_io.specs.declared.faults.FormatFault.{FormatFault}
+use Rattle.ht_fields.specs.Cases.{IsFile, IsClean}
+use Rattle.ht_capture.specs.Captures.{capture_of}
+use Rattle.ht_capture.specs.Fields.{captures}
+use Rattle.ht_rx.specs.Texts.{detect_text, lines_of}
+
+-- the octets are a capture
+abbrev pub IsCapture : List ℕ → Type 0
+IsCapture octets = IsFile captures octets (capture_of octets).items
+
+-- the octets are good fields of a capture, and then fewer than the next field has
+abbrev pub IsCleanFront : List ℕ → Type 0
+IsCleanFront octets = IsClean captures octets (capture_of octets).items
+
+-- the octets are a capture or clean
+abbrev pub HasNoFault : List ℕ → Type 0
+HasNoFault octets = IsCapture octets ⊎ IsCleanFront octets
+
+-- the source and the sink before a run and after it
+module _ (source source' sink sink' : Device ℕ) where
+  -- what was left of the source is a capture, all of it was taken, and its reference text was put
+  pub record DetectsWhole : Type 0 where
+    pub taken : List ℕ
+    pub octets : TakesAll source source' taken
+    pub capture : IsCapture taken
+    pub text : Grows sink sink' (detect_text taken)
+
+  -- What was left is no capture, and its reference text was put, which names its first fault. The octets taken end with
+  -- the field at fault: they have this fault, and no shorter front of them has one; so of an input that ends early all
+  -- were taken, and an octet behind a capture is the last one taken.
+  pub record DetectsRefused : Type 0 where
+    pub taken : List ℕ
+    pub fault : FormatFault
+    pub octets : Takes source source' taken
+    pub refused : (capture_of taken).fault ≡ Some fault
+    pub ends : (n : ℕ) → n < length taken → HasNoFault (take n taken)
+    pub text : Grows sink sink' (detect_text taken)
+    pub no_capture : IfSome source.known (λ all. IsCapture all → ⊥)
+    pub same_fault : IfSome source.known (λ all. (capture_of all).fault ≡ Some fault)
+    pub same_text : IfSome source.known (λ all. detect_text all ≡ detect_text taken)
+
+  -- the octets taken are a capture or clean, and the lines of the jobs of their whole symbols were put
+  pub record DetectsFront : Type 0 where
+    pub taken : List ℕ
+    pub octets : Takes source source' taken
+    pub front : HasNoFault taken
+    pub lines : Grows sink sink' (lines_of taken)
+
+  -- a part of the reference text was put
+  pub record DetectsPart : Type 0 where
+    pub taken : List ℕ
+    pub octets : Takes source source' taken
+    pub text : GrowsByPart sink sink' (detect_text taken)
+    pub of_all : IfSome source.known (λ all. GrowsByPart sink sink' (detect_text all))
+
+  -- a part of the lines of the jobs of the whole symbols was put
+  pub record DetectsLines : Type 0 where
+    pub taken : List ℕ
+    pub octets : Takes source source' taken
+    pub lines : GrowsByPart sink sink' (lines_of taken)
+    pub of_all : IfSome source.known (λ all. GrowsByPart sink sink' (lines_of all))

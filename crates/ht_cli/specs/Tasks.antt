@@ -1,0 +1,30 @@
+-- The command that the words ask for, and what its run promises.
+use Rattle.std.specs.Prelude.{ℕ, Option, Some, None}
+use Rattle.ht_io.specs.Devices.{Device}
+use Rattle.ht_capture.specs.Fields.{captures}
+use Rattle.ht_text.specs.Lines.{usage_text}
+use Rattle.ht_rx.specs.Texts.{detect_text, lines_of}
+use Rattle.ht_cli.specs.declared.status.Status.{Status}
+use Rattle.ht_cli.specs.declared.words.Asked.{Asked}
+use Rattle.ht_cli.specs.declared.words.Asked.TheVariants.{Detect}
+use Rattle.ht_cli.specs.Commands.{Command, Reads, Makes, Answers, Rejects}
+use Rattle.ht_cli.specs.Filters.{streaming}
+
+-- what each command reads and writes
+abbrev pub command_of : Asked → Command
+command_of Detect = streaming captures detect_text lines_of
+
+-- what each status says of a run: first the source before and after it, then the sink
+abbrev pub Answered : Option Asked → Device ℕ → Device ℕ → Device ℕ → Device ℕ → Status → Type 0
+Answered (Some asked) source source' sink sink' status = Answers (command_of asked) source source' sink sink' status
+Answered None source source' sink sink' status = Rejects usage_text sink sink' status
+
+-- the command reads nothing
+abbrev pub IsMaker : Command → Type 0
+IsMaker (Reads filter) = ⊥
+IsMaker (Makes text) = Unit {0}
+
+-- the words ask for no command that reads
+abbrev pub ReadsNothing : Option Asked → Type 0
+ReadsNothing (Some asked) = IsMaker (command_of asked)
+ReadsNothing None = Unit {0}
