@@ -5,7 +5,8 @@ use ht_metric::{Sample, Triangle};
 use ht_rate::Rate;
 use std::marker::Model;
 
-/// The triangles of a frame: one for each subcarrier that is present, the lowest subcarrier's first.
+/// The triangles of a frame: one for each subcarrier that is present, the lowest subcarrier's first. Made from a vector
+/// by `Triangles::from`, which keeps its memory and takes none.
 #[derive(Debug, Drop)]
 pub struct Triangles {
     triangles: Vec<Triangle>,
@@ -20,14 +21,15 @@ impl Model for Triangles {
     ghost view = { λ t. t.triangles.items };
 }
 
-impl Triangles {
-    /// The triangles of a vector, whose memory it keeps.
-    pub fn new(triangles: Vec<Triangle>) -> Self
-        ensures { result ≡ triangles.items }
-    {
+impl From<Vec<Triangle>> for Triangles {
+    ghost from_gives = { λ triangles list. list ≡ triangles.items };
+
+    fn from(triangles: Vec<Triangle>) -> Self {
         Triangles { triangles }
     }
+}
 
+impl Triangles {
     /// The triangles in order.
     pub fn as_slice(&self) -> &[Triangle]
         ensures { result.now ≡ self.now }
@@ -44,7 +46,7 @@ impl Triangles {
 }
 
 /// The samples of a frame: for each symbol and each subcarrier that is present one for each row of the triangle, as
-/// they stand in a file.
+/// they stand in a file. Made from a vector by `Samples::from`, which keeps its memory and takes none.
 #[derive(Debug, Drop)]
 pub struct Samples {
     samples: Vec<Sample>,
@@ -59,14 +61,15 @@ impl Model for Samples {
     ghost view = { λ s. s.samples.items };
 }
 
-impl Samples {
-    /// The samples of a vector, whose memory it keeps.
-    pub fn new(samples: Vec<Sample>) -> Self
-        ensures { result ≡ samples.items }
-    {
+impl From<Vec<Sample>> for Samples {
+    ghost from_gives = { λ samples list. list ≡ samples.items };
+
+    fn from(samples: Vec<Sample>) -> Self {
         Samples { samples }
     }
+}
 
+impl Samples {
     /// The samples in order.
     pub fn as_slice(&self) -> &[Sample]
         ensures { result.now ≡ self.now }

@@ -209,8 +209,8 @@ fn frame<S: Source>(
         rate: head.rate,
         length: head.length,
         erased: head.erased,
-        triangles: Triangles::new(triangles),
-        samples: Samples::new(samples),
+        triangles: Triangles::from(triangles),
+        samples: Samples::from(samples),
     })
 }
 

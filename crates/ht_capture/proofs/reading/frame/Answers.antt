@@ -33,21 +33,21 @@ returns-clause-told g c =
 pub returns-clause-octets : goal.returns-clause-octets
 returns-clause-octets g c =
     let same = c.in-Ok-carriers.ensures.same in
-    let listed : triangles_of (take c.in-Ok-carriers.gathered.count c.carriers.new.present) ≡ c.new.result =
-    sym (c.new.ensures ∙ c.in-Ok-triangles.ensures.listed) in
+    let listed : triangles_of (take c.in-Ok-carriers.gathered.count c.carriers.new.present) ≡ c.from.result =
+    sym (c.from.ensures ∙ c.in-Ok-triangles.ensures.listed) in
     frame_taken c.args.turn.now.version _ c.in-Ok.head.rate c.in-Ok.head.length (g.S.Source.shown c.args.source.now)
     (g.S.Source.shown c.head.new.source) (g.S.Source.shown c.carriers.new.source) (g.S.Source.shown c.samples.new.source) c.in-Ok.ensures.octets same.1 same.2
     (read_as _ _ _ _ _ _ _ _ listed c.in-Ok-carriers.ensures.read)
-    (takes_as _ _ _ _ (ap (λ (s : List Sample). flat_map sample_octets s) (sym c.new-2.ensures)) c.in-Ok-samples.ensures.octets)
+    (takes_as _ _ _ _ (ap (λ (s : List Sample). flat_map sample_octets s) (sym c.from-2.ensures)) c.in-Ok-samples.ensures.octets)
 
 pub returns-clause-fits : goal.returns-clause-fits
 returns-clause-fits g c =
     let same = c.in-Ok-carriers.ensures.same in
     let count = c.in-Ok-carriers.gathered.count in
-    let listed : triangles_of (take count c.carriers.new.present) ≡ c.new.result = sym (c.new.ensures ∙ c.in-Ok-triangles.ensures.listed) in
+    let listed : triangles_of (take count c.carriers.new.present) ≡ c.from.result = sym (c.from.ensures ∙ c.in-Ok-triangles.ensures.listed) in
     let room : count ≤ length c.carriers.new.present =
     omega (arith, c.in-Ok-carriers.ensures.places, c.carriers.auto.present, c.no_subcarriers-present.ensures) in
-    let size : length c.new.result ≡ count = ap (λ (ts : List (List Leg)). length ts) (sym listed) ∙ length-triangles c.carriers.new.present count room in
+    let size : length c.from.result ≡ count = ap (λ (ts : List (List Leg)). length ts) (sym listed) ∙ length-triangles c.carriers.new.present count room in
     frame_fits _ c.args.turn.now.version count _ _ (omega (arith, same.2, c.in-Ok.ensures.some.1))
     (read_as _ _ _ _ _ _ _ _ listed c.in-Ok-carriers.ensures.read) size (omega (arith, c.in-Ok-carriers.ensures.some))
-    (ap (λ (s : List Sample). length s) c.new-2.ensures ∙ c.in-Ok-samples.ensures.count)
+    (ap (λ (s : List Sample). length s) c.from-2.ensures ∙ c.in-Ok-samples.ensures.count)
