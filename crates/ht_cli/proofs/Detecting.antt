@@ -21,8 +21,8 @@ use Rattle.ht_rx.specs.Outcomes.{IsFront, ListsWhole, ListsRefused, ListsBroken,
 use Rattle.ht_rx.proofs.Outcomes.{known_all}
 use Rattle.ht_rx.specs.declared.faults.RxFault.{RxFault}
 use Rattle.ht_rx.specs.declared.faults.RxFault.TheVariants.{Read, Write as ListWrite, NoMemory as ListMemory}
-use Rattle.ht_cli.specs.declared.lines.Unwritten.{Unwritten}
-use Rattle.ht_cli.specs.declared.lines.Unwritten.TheVariants.{Write, NoMemory as LineMemory}
+use Rattle.ht_rx.specs.declared.faults.FeedFault.{FeedFault}
+use Rattle.ht_rx.specs.declared.faults.FeedFault.TheVariants.{Write, NoMemory as LineMemory}
 use Rattle.ht_cli.specs.declared.status.Status.{Status}
 use Rattle.ht_cli.specs.declared.status.Status.TheVariants.{Done, Refused, ReadFault, WriteFault, NoMemory}
 use Rattle.ht_cli.specs.declared.words.Asked.TheVariants.{Detect}
@@ -184,13 +184,13 @@ module _ (source source' sink : Device ℕ) where
   lines_lack sink' l = record { taken = l.taken; octets = l.octets; text = l.put; of_all = l.of_all }
 
   -- what stopped the last line, or the listing, says how the run ends
-  pub whole_stops : (mid sink' : Device ℕ) (frames jobs : ℕ) (fault : Unwritten) → ListsWhole source source' sink mid frames jobs → IsLater sink mid
+  pub whole_stops : (mid sink' : Device ℕ) (frames jobs : ℕ) (fault : FeedFault) → ListsWhole source source' sink mid frames jobs → IsLater sink mid
       → Puts mid sink' (end_text frames) (Err fault) → Comes sink' (status_of_line fault)
   whole_stops mid sink' frames jobs Write l later put = whole_part mid sink' frames jobs l put.0 (failed-later sink mid sink' later put.1)
   whole_stops mid sink' frames jobs LineMemory l later put =
       whole_lines sink' frames jobs (subst (λ (k : Device ℕ). ListsWhole source source' sink k frames jobs) (sym put) l)
 
-  pub refused_stops : (mid sink' : Device ℕ) (of : FormatFault) (fault : Unwritten) → ListsRefused source source' sink mid of → IsLater sink mid
+  pub refused_stops : (mid sink' : Device ℕ) (of : FormatFault) (fault : FeedFault) → ListsRefused source source' sink mid of → IsLater sink mid
       → Puts mid sink' (refused_text (name_of of.kind) of.offset) (Err fault) → Comes sink' (status_of_line fault)
   refused_stops mid sink' of Write l later put = refused_part mid sink' of l put.0 (failed-later sink mid sink' later put.1)
   refused_stops mid sink' of LineMemory l later put =

@@ -2,8 +2,8 @@
 use Rattle.std.specs.Prelude.{ℕ}
 use Rattle.ht_rx.specs.declared.faults.RxFault.{RxFault}
 use Rattle.ht_rx.specs.declared.faults.RxFault.TheVariants.{Read, Write as WriteRx, NoMemory as NoMemoryRx}
-use Rattle.ht_cli.specs.declared.lines.Unwritten.{Unwritten}
-use Rattle.ht_cli.specs.declared.lines.Unwritten.TheVariants.{Write as WriteLine, NoMemory as NoMemoryLine}
+use Rattle.ht_rx.specs.declared.faults.FeedFault.{FeedFault}
+use Rattle.ht_rx.specs.declared.faults.FeedFault.TheVariants.{Write as WriteLine, NoMemory as NoMemoryLine}
 use Rattle.ht_cli.specs.declared.status.Status.{Status}
 use Rattle.ht_cli.specs.declared.status.Status.TheVariants.{Done, Refused, Usage, ReadFault, WriteFault, NoMemory}
 
@@ -20,6 +20,6 @@ status_of_listing Read = ReadFault
 status_of_listing WriteRx = WriteFault
 status_of_listing NoMemoryRx = NoMemory
 
-abbrev pub status_of_line : Unwritten → Status
+abbrev pub status_of_line : FeedFault → Status
 status_of_line WriteLine = WriteFault
 status_of_line NoMemoryLine = NoMemory

@@ -4,41 +4,13 @@ ghost use Rattle.ht_io.specs.Kinds.{name_of};
 ghost use Rattle.ht_text.specs.Lines.{end_text, refused_text, usage_text};
 ghost use Rattle.ht_cli.specs.Putting.{Puts};
 
-use ht_io::{Failed, FormatFault, Sink};
+use ht_io::{FormatFault, Sink};
+use ht_rx::FeedFault;
 use ht_text::{end_line, refused_line, usage_line};
-use std::alloc::{AllocError, Global};
-
-/// Why a line wasn't put whole.
-#[derive(Clone, Copy, Debug, PartialEq, Eq)]
-pub enum Unwritten {
-    /// The sink failed.
-    Write,
-    /// Memory ran out.
-    NoMemory,
-}
-
-impl From<Failed> for Unwritten {
-    ghost use Rattle.ht_cli.specs.declared.lines.Unwritten.TheVariants.{Write};
-
-    ghost from_gives = { λ _ fault. fault ≡ Write };
-
-    fn from(_: Failed) -> Unwritten {
-        Unwritten::Write
-    }
-}
-
-impl From<AllocError> for Unwritten {
-    ghost use Rattle.ht_cli.specs.declared.lines.Unwritten.TheVariants.{NoMemory};
-
-    ghost from_gives = { λ _ fault. fault ≡ NoMemory };
-
-    fn from(_: AllocError) -> Unwritten {
-        Unwritten::NoMemory
-    }
-}
+use std::alloc::Global;
 
 /// Puts the end line.
-pub fn put_end<K: Sink>(alloc: Global, frames: u16, sink: &mut K) -> Result<(), Unwritten>
+pub fn put_end<K: Sink>(alloc: Global, frames: u16, sink: &mut K) -> Result<(), FeedFault>
     ensures puts { Puts (K.shown sink.old) (K.shown sink.new) (end_text frames) result }
     ensures steady { OnOk result ((K.shown sink.new).faults ≡ (K.shown sink.old).faults) }
 {
@@ -52,7 +24,7 @@ pub fn put_refused<K: Sink>(
     alloc: Global,
     fault: FormatFault,
     sink: &mut K,
-) -> Result<(), Unwritten>
+) -> Result<(), FeedFault>
     ensures puts { Puts (K.shown sink.old) (K.shown sink.new) (refused_text (name_of fault.kind) fault.offset) result }
     ensures steady { OnOk result ((K.shown sink.new).faults ≡ (K.shown sink.old).faults) }
 {
@@ -62,10 +34,10 @@ pub fn put_refused<K: Sink>(
 }
 
 /// Puts the usage line. Without memory for it the sink is as before.
-pub fn put_usage<K: Sink>(alloc: Global, sink: &mut K) -> Result<(), Unwritten>
+pub fn put_usage<K: Sink>(alloc: Global, sink: &mut K) -> Result<(), FeedFault>
     ensures puts { Puts (K.shown sink.old) (K.shown sink.new) usage_text result }
     ensures steady { OnOk result ((K.shown sink.new).faults ≡ (K.shown sink.old).faults) }
-    ensures nothing { result ≡ Err Unwritten.NoMemory → sink.new ≡ sink.old }
+    ensures nothing { result ≡ Err FeedFault.NoMemory → sink.new ≡ sink.old }
 {
     let line = usage_line(alloc)?;
     sink.put(&line)?;
