@@ -1,0 +1,6 @@
+pub mod Sums
+pub mod Counting
+pub mod Steps
+pub mod Crews
+pub mod Joining
+pub mod Copies

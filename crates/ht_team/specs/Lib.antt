@@ -1,0 +1,6 @@
+pub mod Hands
+pub mod Seats
+pub mod Members
+pub mod Helms
+pub mod Gathering
+pub mod Pools

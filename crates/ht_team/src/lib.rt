@@ -1,0 +1,32 @@
+//! A pool of workers that steal, for any kind of work.
+//!
+//! A [`Work`](work::Work) says what a task is, what an answer is, and which task an answer is of. [`Pool::open`](pool::Pool::open) takes
+//! all the memory that a pool needs. Its parts are what the threads share, the post of the caller, and the workers. At a
+//! [`Helm`](helm::Helm) the caller gives tasks to the pool, takes tasks back that no worker took and runs them, and
+//! receives answers. [`beside`](crew::beside) runs the workers, each in a thread of its own, while the caller works at
+//! its helm in the thread that called. [`close`](close::close) then joins what all have done.
+//!
+//! Tasks go through a deque (crate `crossbeam_deque`) that only the caller pushes on, and answers through a queue with a
+//! bound (`crossbeam_queue`). Each worker has a pass on both, which remembers in proofs what was pushed and taken with
+//! it. So [`close`](close::close) can say what the threads did, in whatever order they ran: each task that was given was
+//! run once, by the caller or by a worker, no task is left, and every answer was received.
+//!
+//! With three workers beside the caller and the tasks 0 to 9 to square, the numbers of tasks run may come out as
+//! 4, 2, 3 and 1, the caller's first: they add up to 10, and so do those of any other run.
+#![tactic(auto)]
+
+pub mod close;
+pub mod closed;
+pub mod crew;
+pub mod hand;
+pub mod helm;
+pub mod member;
+pub mod pool;
+pub mod post;
+pub mod rule;
+pub mod seat;
+mod serve;
+pub mod shared;
+#[cfg(test)]
+mod tests;
+pub mod work;
