@@ -1,0 +1,5 @@
+pub mod Choices
+pub mod Endings
+pub mod Routes
+pub mod Frames
+pub mod Putting

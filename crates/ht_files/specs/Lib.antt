@@ -1,0 +1,5 @@
+pub mod Reading
+pub mod Ending
+pub mod Heads
+pub mod Frames
+pub mod Files

@@ -1,0 +1,5 @@
+mod Drawing
+mod Mixing
+mod Shapes
+mod Signs
+mod Worked

@@ -1,0 +1,10 @@
+use Rattle.std.proofs.Common.{◌≡◌, drop}
+use Rattle.ht_sim.specs.Channel.{frame_drawn}
+use Rattle.ht_sim.specs.Draws.{each, joined}
+use Rattle.ht_sim.specs.Words.{first}
+use Rattle.ht_sim.proofs.channel.pass.Given as goal
+
+-- the captures so far and those of the frames that are left are all captures
+abbrev pub invariant-loop-frame : goal.invariant-loop-frame
+invariant-loop-frame l =
+    joined l.captured.items (each (frame_drawn l.noise) (drop l.frame-index l.frames) l.words) ≡ each (frame_drawn l.noise) l.frames (first l.seed)

@@ -1,0 +1,4 @@
+pub mod Words
+pub mod Draws
+pub mod Channel
+pub mod Samples

@@ -1,0 +1,7 @@
+pub mod Carried
+pub mod Coded
+pub mod Labels
+pub mod Parsed
+pub mod Places
+pub mod Values
+pub mod Wired

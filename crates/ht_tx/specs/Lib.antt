@@ -1,0 +1,5 @@
+pub mod Coded
+pub mod Frames
+pub mod Sources
+pub mod Symbols
+pub mod Transmitted
