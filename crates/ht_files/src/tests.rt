@@ -65,7 +65,9 @@ fn refusals(rt: HostRuntime) -> Result<(), Fail> {
     ];
     for (place, octet, kind, offset) in cases {
         let mut octets = ONE;
-        octets[place] = octet;
+        if let Some(changed) = octets.get_mut(place) {
+            *changed = octet;
+        }
         assert_eq!(rt;
             again(alloc, &octets, Vec::new(alloc))?,
             format(kind, offset)
