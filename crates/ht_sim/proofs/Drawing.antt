@@ -1,5 +1,5 @@
 -- Values that are drawn one after another.
-use Rattle.std.proofs.Common.{◌≡◌, ℕ, zero, suc, ◌-◌, List, [], ◌∷◌, ◌++◌, length, All, refl, sym, ap, ◌∙◌}
+use Rattle.std.proofs.Common.{◌≡◌, ℕ, zero, suc, List, [], ◌∷◌, ◌++◌, length, All, refl, sym, ap, ◌∙◌}
 use Rattle.std.proofs.lemmas.List.{append_assoc, append-nil}
 use Rattle.std.proofs.lemmas.List.Elements.{All-nil, All-cons}
 use Rattle.ht_sim.specs.Draws.{Drawn, drawn, several, each, joined}
@@ -29,8 +29,8 @@ All-several P draw zero z h = All-nil P
 All-several P draw (suc n) z h = All-cons P (draw z).value (several draw n (draw z).state).value (h z) (All-several P draw n (draw z).state h)
 
 -- a value was drawn for the first member that was left
-pub each-step : {A B : Type 0} (draw : A → ℕ → Drawn B) (x : A) (xs : List A)
-    (left : List A) (us vs : List B) (v : B) (z w : ℕ) (whole : Drawn (List B)) → left ≡ x ∷ xs
+pub each-step : {A B : Type 0} (draw : A → ℕ → Drawn B) (x : A) (xs : List A) (left : List A) (us vs : List B) (v : B) (z w : ℕ)
+    (whole : Drawn (List B)) → left ≡ x ∷ xs
     → joined us (each draw left z) ≡ whole → vs ≡ us ++ v ∷ [] → v ≡ (draw x z).value → w ≡ (draw x z).state → joined vs (each draw xs w) ≡ whole
 each-step draw x xs left us vs v z w whole e h p q r =
     ap (λ ts. joined ts (each draw xs w)) (p ∙ ap (λ t. us ++ t ∷ []) q)

@@ -1,6 +1,6 @@
 -- What triangles make of vectors, row by row.
-use Rattle.std.proofs.Common.{◌≡◌, ℕ, zero, suc, ◌+◌, ◌-◌, ◌*◌, ◌<◌, ◌≤◌, List, [], ◌∷◌, ◌++◌, get_or, length, take, drop, ℤ, pos}
-use Rattle.std.proofs.Common.{negsuc, ◌+ℤ◌, ◌-ℤ◌, ◌*ℤ◌, neg_ℤ, w8, to_z, of_z, FitsSigned, refl, sym, ap, ◌∙◌, add-one, arith}
+use Rattle.std.proofs.Common.{◌≡◌, ℕ, zero, suc, ◌+◌, ◌-◌, ◌*◌, ◌<◌, List, [], ◌∷◌, ◌++◌, get_or, length, take, drop}
+use Rattle.std.proofs.Common.{ℤ, pos, negsuc, ◌+ℤ◌, ◌*ℤ◌, neg_ℤ, w8, to_z, of_z, FitsSigned, refl, sym, ap, ◌∙◌, add-one, arith}
 use Rattle.std.proofs.Math.Nat.{suc-mul}
 use Rattle.std.proofs.Math.Seq.{drop-cons, drop-length, drop-nil}
 use Rattle.std.proofs.lemmas.List.{drop-drop, take_rest}
@@ -8,7 +8,7 @@ use Rattle.std.proofs.lemmas.Int.{to_z-of_z}
 use Rattle.ht_pam.specs.declared.point.Point.{Point}
 use Rattle.ht_metric.specs.declared.complex.Complex.{Complex}
 use Rattle.ht_metric.specs.declared.tap.Tap.{Tap}
-use Rattle.ht_metric.specs.Distance.{combined, plus, scaled, times}
+use Rattle.ht_metric.specs.Distance.{combined, plus, times}
 use Rattle.ht_metric.specs.Rows.{Leg, no_leg, no_tap}
 use Rattle.ht_sim.specs.Channel.{mixed, row_mixed, symbol_mixed, symbols_mixed}
 
@@ -90,6 +90,6 @@ one_less later points n k width below e h =
 
 -- the first symbol and those behind it
 pub symbols-more : (n m streams : ℕ) (ts : List (List Leg)) (points : List Point) → n ≡ suc m
-    → symbols_mixed n streams ts points
-    ≡ symbol_mixed streams ts (take (length ts * streams) points) ++ symbols_mixed m streams ts (drop (length ts * streams) points)
+    → symbols_mixed n streams ts points ≡ symbol_mixed streams ts (take (length ts * streams) points)
+    ++ symbols_mixed m streams ts (drop (length ts * streams) points)
 symbols-more n m streams ts points e = ap (λ k. symbols_mixed k streams ts points) e

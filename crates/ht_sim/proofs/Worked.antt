@@ -1,5 +1,5 @@
 -- The first words of the seed 42, by computation.
-use Rattle.std.specs.Prelude.{◌≡◌, ℕ, List, [], ◌∷◌, refl}
+use Rattle.std.specs.Prelude.{◌≡◌, ℕ, [], ◌∷◌, refl}
 use Rattle.ht_sim.specs.Words.{first, next, word}
 use Rattle.ht_sim.specs.Draws.{Drawn, drawn, several}
 

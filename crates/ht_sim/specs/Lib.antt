@@ -1,4 +1,3 @@
 pub mod Words
 pub mod Draws
 pub mod Channel
-pub mod Samples

@@ -1,7 +1,4 @@
-use Rattle.std.proofs.Common.{◌≡◌, ◌+◌, ◌-◌, ◌*◌, ◌<◌, ◌++◌, List, [], get_or, length, take, drop, ap, ◌∙◌, sym, arith}
-use Rattle.std.proofs.Math.Nat.{suc-mul}
-use Rattle.ht_metric.specs.Rows.{Leg}
-use Rattle.ht_metric.specs.declared.complex.Complex.{Complex}
+use Rattle.std.proofs.Common.{◌≡◌, ◌+◌, ◌<◌, ◌++◌, get_or, length, take, drop, ap, ◌∙◌, sym, arith}
 use Rattle.ht_sim.specs.Channel.{mixed, sample_drawn, symbol_mixed}
 use Rattle.ht_sim.specs.Draws.{each, joined}
 use Rattle.ht_sim.proofs.Drawing.{each-part}

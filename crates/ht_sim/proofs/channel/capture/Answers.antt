@@ -1,6 +1,6 @@
 use Rattle.std.proofs.Common.{◌≡◌, ◌*◌, List, length, ap, ◌∙◌, sym}
 use Rattle.ht_metric.specs.Rows.{Leg}
-use Rattle.ht_rate.specs.Rates.{carriers_of, streams_of, symbols_of}
+use Rattle.ht_rate.specs.Rates.{carriers_of, streams_of}
 use Rattle.ht_sim.proofs.channel.capture.Goals as goal
 
 pub samples-requires-clause-points : goal.samples-requires-clause-points

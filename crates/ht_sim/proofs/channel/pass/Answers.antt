@@ -1,7 +1,3 @@
-use Rattle.std.proofs.Common.{◌≡◌, ◌*◌, List, length, ap, ◌∙◌, sym}
-use Rattle.ht_pam.specs.declared.point.Point.{Point}
-use Rattle.ht_rate.specs.declared.rates.Rate.{Rate}
-use Rattle.ht_tx.specs.Symbols.{SymbolsView, IsSymbols}
 use Rattle.ht_sim.proofs.Shapes.{points_are}
 use Rattle.ht_sim.proofs.channel.pass.Goals as goal
 

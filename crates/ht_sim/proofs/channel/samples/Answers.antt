@@ -1,4 +1,4 @@
-use Rattle.std.proofs.Common.{◌≡◌, ◌+◌, ◌-◌, ◌*◌, ◌<◌, ◌++◌, suc, List, length, take, drop, ap, ◌∙◌, sym, arith}
+use Rattle.std.proofs.Common.{◌+◌, ◌-◌, ◌*◌, ◌<◌, ◌++◌, length, take, ap, ◌∙◌, sym, arith}
 use Rattle.ht_sim.specs.Channel.{sample_drawn, symbol_mixed, symbols_mixed}
 use Rattle.ht_sim.specs.Draws.{each, joined}
 use Rattle.ht_sim.proofs.Drawing.{each-part}

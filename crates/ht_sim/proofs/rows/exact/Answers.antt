@@ -1,6 +1,4 @@
-use Rattle.std.proofs.Common.{◌≡◌, ◌+◌, ◌-◌, ◌∙◌, ◌*ℤ◌, ◌+ℤ◌, ℤ, List, get_or, length, take, drop, ap, pos, arith, rules}
-use Rattle.std.proofs.lemmas.List.{take_rest}
-use Rattle.ht_metric.specs.Distance.{combined}
+use Rattle.std.proofs.Common.{◌∙◌, get_or, drop, ap, pos, arith, rules}
 use Rattle.ht_metric.specs.Rows.{no_leg}
 use Rattle.ht_pam.specs.declared.point.Point.{Point}
 use Rattle.ht_sim.specs.Channel.{row_mixed}

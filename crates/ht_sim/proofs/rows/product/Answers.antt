@@ -20,5 +20,5 @@ returns-clause-im c =
 
 pub returns-clause-re_bound : goal.returns-clause-re_bound
 returns-clause-re_bound c =
-    subtracts_bound c.multiplied.result c.multiplied-2.result _ 4194304 4194304 c.multiplied.ensures.bound c.multiplied-2.ensures.bound
-    (omega arith) (omega arith)
+    subtracts_bound c.multiplied.result c.multiplied-2.result _ 4194304 4194304
+    c.multiplied.ensures.bound c.multiplied-2.ensures.bound (omega arith) (omega arith)

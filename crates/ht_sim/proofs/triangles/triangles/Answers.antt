@@ -1,15 +1,15 @@
-use Rattle.std.proofs.Common.{◌≡◌, ◌-◌, ◌+◌, ◌∙◌, List, length, All, ap, subst, sym, arith}
+use Rattle.std.proofs.Common.{◌≡◌, ◌∙◌, List, length, All, ap, subst, sym, arith}
 use Rattle.ht_metric.specs.Rows.{Leg}
 use Rattle.ht_sim.specs.Channel.{triangle_drawn}
-use Rattle.ht_sim.specs.Draws.{Drawn, several}
+use Rattle.ht_sim.specs.Draws.{Drawn}
 use Rattle.ht_sim.proofs.Drawing.{several-step, several-end, length-several, All-several}
 use Rattle.ht_sim.proofs.Shapes.{length-triangle_drawn}
 use Rattle.ht_sim.proofs.triangles.triangles.Goals as goal
 
 pub loop-carrier-preserved : goal.loop-carrier-preserved
 loop-carrier-preserved c =
-    several-step (triangle_drawn c.streams-streams.result) c.loop-carrier.triangles.items
-    c.push.new.self.items c.triangle.result _ _ c.loop-carrier.words c.triangle.new.words _
+    several-step (triangle_drawn c.streams-streams.result) c.loop-carrier.triangles.items c.push.new.self.items c.triangle.result _ _
+    c.loop-carrier.words c.triangle.new.words _
     (omega arith) c.loop-carrier.invariant c.in_ok-push.ensures.items c.triangle.ensures.value c.triangle.ensures.behind
 
 pub returns-clause-count : goal.returns-clause-count
