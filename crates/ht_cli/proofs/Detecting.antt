@@ -3,7 +3,6 @@ use Rattle.std.specs.Prelude.{◌≡◌, ℕ, ◌+◌, List, [], ◌++◌, lengt
 use Rattle.std.proofs.Common.{refl, ap, ◌∙◌, sym, subst, append-nil, arith}
 use Rattle.ht_io.specs.Kinds.{name_of}
 use Rattle.std.proofs.lemmas.Option.{IfSome_then}
-use Rattle.ht_io.specs.Pieces.{KnownTaken, KnownAllTaken}
 use Rattle.ht_io.specs.Devices.{Device, Takes, TakesAll, Grows, GrowsByPart, Rose, IsLater}
 use Rattle.ht_io.specs.declared.faults.FormatFault.{FormatFault}
 use Rattle.ht_io.proofs.Calls.{grows-append, grows_by_part-none, grows_by_part-front, grows_by_part-append, failed-later}
@@ -18,7 +17,7 @@ use Rattle.ht_capture.specs.Fields.{captures}
 use Rattle.ht_text.specs.Lines.{end_text, refused_text}
 use Rattle.ht_rx.specs.Texts.{detect_text, frames_of, last_line, last_of, lines_of, job_lines, jobs_of}
 use Rattle.ht_rx.specs.Outcomes.{IsFront, ListsWhole, ListsRefused, ListsBroken, ListsPart, StopsBy}
-use Rattle.ht_rx.proofs.Outcomes.{known_all}
+use Rattle.ht_rx.proofs.Outcomes.{known_all, takes_of}
 use Rattle.ht_rx.specs.declared.faults.RxFault.{RxFault}
 use Rattle.ht_rx.specs.declared.faults.RxFault.TheVariants.{Read, Write as ListWrite, NoMemory as ListMemory}
 use Rattle.ht_rx.specs.declared.faults.FeedFault.{FeedFault}
@@ -70,16 +69,6 @@ no_fault octets front =
 by_part : (sink sink' : Device ℕ) (piece : List ℕ) → Grows sink sink' piece → GrowsByPart sink sink' piece
 by_part sink sink' piece grows =
     subst (GrowsByPart sink sink') (append-nil piece) (grows_by_part-append sink sink' sink' piece [] grows (grows_by_part-none sink' []))
-
--- all that was left was taken from its front
-all_is_front : (left after : Option (List ℕ)) (taken : List ℕ) → KnownAllTaken left after taken → KnownTaken left after taken
-all_is_front None None taken takes = tt
-all_is_front None (Some after) taken takes = absurd takes
-all_is_front (Some left) None taken takes = absurd takes
-all_is_front (Some left) (Some after) taken takes = takes.0 ∙ (sym (append-nil taken) ∙ ap (λ (xs : List ℕ). taken ++ xs) (sym takes.1))
-
-takes_of : (source source' : Device ℕ) (taken : List ℕ) → TakesAll source source' taken → Takes source source' taken
-takes_of source source' taken takes = all_is_front source.known source'.known taken takes
 
 -- the source before and after, and the sink before
 module _ (source source' sink : Device ℕ) where

@@ -1,6 +1,7 @@
 -- What a listing comes to, from what its lister did.
 use Rattle.std.specs.Prelude.{◌≡◌, ◌⊎◌, ℕ, ◌+◌, ◌<◌, List, [], ◌++◌, length, take, Option, Some, None, IfSome}
 use Rattle.std.proofs.Common.{refl, ap, ◌∙◌, sym, subst, inl, inr, append_assoc, append-nil, arith, length-append, length-take}
+use Rattle.std.proofs.lemmas.Option.{IfSome_then}
 use Rattle.ht_io.specs.Devices.{Device, Takes, TakesAll, Grows, GrowsByPart}
 use Rattle.ht_io.specs.Pieces.{KnownTaken, KnownAllTaken}
 use Rattle.ht_io.proofs.Calls.{takes-append, takes-all, grows_by_part-front}
@@ -56,13 +57,14 @@ known_all None after taken P takes is = tt
 known_all (Some octets) None taken P takes is = absurd takes
 known_all (Some octets) (Some rest) taken P takes is = subst P (sym takes.0) is
 
+-- all that was left was taken from its front
 known_taken : (left after : Option (List ℕ)) (taken : List ℕ) → KnownAllTaken left after taken → KnownTaken left after taken
 known_taken None None taken takes = tt
 known_taken None (Some after) taken takes = absurd takes
 known_taken (Some octets) None taken takes = absurd takes
 known_taken (Some octets) (Some rest) taken takes = takes.0 ∙ (sym (append-nil taken) ∙ ap (λ xs. taken ++ xs) (sym takes.1))
 
-takes_of : (source source' : Device ℕ) (taken : List ℕ) → TakesAll source source' taken → Takes source source' taken
+pub takes_of : (source source' : Device ℕ) (taken : List ℕ) → TakesAll source source' taken → Takes source source' taken
 takes_of source source' taken takes = known_taken source.known source'.known taken takes
 
 front_is : (octets : List ℕ) (n : ℕ) → n < length octets → IsEarly n (capture_of (take n octets)).fault → IsFront (take n octets)
@@ -218,11 +220,6 @@ part_of sink sink' octets items jobs rest front is put =
     ∙ job_lines-append jobs more) in
     subst (λ (xs : List ℕ). GrowsByPart sink sink' xs) (sym all) (grows_by_part-front sink sink' (job_lines jobs) (job_lines more) put)
 
--- where what is left is known, what is said of it leads on
-of_known : (left : Option (List ℕ)) (P Q : List ℕ → Type 0) → ((octets : List ℕ) → P octets → Q octets) → IfSome left P → IfSome left Q
-of_known None P Q so p = tt
-of_known (Some octets) P Q so p = so octets p
-
 pub part : (source sink sink' : Device ℕ) (old new : Standing) (items : List Item) (jobs rest : List JobView)
     → old.reader ≡ start source → old.stop ≡ None → Reads old new items → jobs_of items ≡ jobs ++ rest → GrowsByPart sink sink' (job_lines jobs)
     → ListsPart source new.reader.source sink sink'
@@ -232,6 +229,5 @@ part source sink sink' old new items jobs rest reader going reads is put =
       taken = s.taken;
       octets = s.octets;
       put = part_of sink sink' s.taken items jobs rest s.front is put;
-      of_all = of_known source.known (StartsWith items) (λ octets. GrowsByPart sink sink' (lines_of octets))
-          (λ octets front. part_of sink sink' octets items jobs rest front is put) s.of_all;
+      of_all = IfSome_then source.known s.of_all (λ octets front. part_of sink sink' octets items jobs rest front is put);
     }
