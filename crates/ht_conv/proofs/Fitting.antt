@@ -18,17 +18,17 @@ periods_keep TwoThirds steps k within = omega (arith, (div_ceil_times steps 2 (o
 periods_keep ThreeQuarters steps k within = omega (arith, (div_ceil_times steps 3 (omega arith)).1, sent_count-ceil ThreeQuarters steps)
 periods_keep FiveSixths steps k within = omega (arith, (div_ceil_times steps 5 (omega arith)).1, sent_count-ceil FiveSixths steps)
 
-some_numerator : (p : Pattern) → 0 < numerator_of p
+pub some_numerator : (p : Pattern) → 0 < numerator_of p
 some_numerator Half = omega arith
 some_numerator TwoThirds = omega arith
 some_numerator ThreeQuarters = omega arith
 some_numerator FiveSixths = omega arith
 
-products : (n w d share part : ℕ) → 0 < n → n * w ≡ part → part * d ≡ share * n → w * d ≡ share
+pub products : (n w d share part : ℕ) → 0 < n → n * w ≡ part → part * d ≡ share * n → w * d ≡ share
 products n w d share part some a b =
     eq_of_mul-eq-mul_left n some (w * d) share (sym (mul_assoc n w d) ∙ (ap (λ k. k * d) a ∙ (b ∙ mul_comm share n)))
 
-moved : (d symbols w share : ℕ) → w * d ≡ share → d * (symbols * w) ≡ symbols * share
+pub moved : (d symbols w share : ℕ) → w * d ≡ share → d * (symbols * w) ≡ symbols * share
 moved d symbols w share e = mul_comm d (symbols * w) ∙ (mul_assoc symbols w d ∙ ap (λ k. symbols * k) e)
 
 pub sent_fits : (r : Rate) (octets : ℕ) → sent_count (pattern_of r) (steps_of r octets) ≤ symbols_of r octets * (coded_bits_of r / encoders_of r)

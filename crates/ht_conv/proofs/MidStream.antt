@@ -11,7 +11,7 @@ use Rattle.ht_rate.specs.declared.kinds.Pattern.{Pattern}
 use Rattle.ht_conv.specs.declared.puncture.Kept.{Kept}
 use Rattle.ht_conv.specs.declared.puncture.Kept.TheVariants.{Both, A, B}
 use Rattle.ht_conv.specs.Puncturing.{kept_of, kept_bits, kept_count, sent_count}
-use Rattle.ht_conv.specs.Code.{taps_a, taps_b, parity, delayed, coded_bit, sent_at, sent_bits}
+use Rattle.ht_conv.specs.Code.{taps_a, taps_b, parity, delayed_bit, coded_bit, sent_at, sent_bits}
 use Rattle.ht_conv.specs.Continued.{tapped, step_bits, sent_from}
 
 -- the input before a step, the latest bit first
@@ -19,13 +19,13 @@ past : List Bool → ℕ → List Bool
 past u zero = []
 past u (suc t) = get_or u t false ∷ past u t
 
-delayed-within : (u : List Bool) (t d : ℕ) → d ≤ t → delayed u t d ≡ get_or u (t - d) false
+delayed-within : (u : List Bool) (t d : ℕ) → d ≤ t → delayed_bit u t d ≡ get_or u (t - d) false
 delayed-within u t d h = cond-true (nat_le d t) _ _ (le-leb d t h)
 
-delayed-before : (u : List Bool) (t d : ℕ) → t < d → delayed u t d ≡ false
+delayed-before : (u : List Bool) (t d : ℕ) → t < d → delayed_bit u t d ≡ false
 delayed-before u t d h = cond-false (nat_le d t) _ _ (lt-leb d t h)
 
-delayed-suc : (u : List Bool) (t d : ℕ) → delayed u (suc t) (suc d) ≡ delayed u t d
+delayed-suc : (u : List Bool) (t d : ℕ) → delayed_bit u (suc t) (suc d) ≡ delayed_bit u t d
 delayed-suc u t d = elim (cases_lt t d) [
   | inl before ↦ delayed-before u (suc t) (suc d) (omega arith) ∙ sym (delayed-before u t d before)
   | inr within ↦
@@ -33,7 +33,7 @@ delayed-suc u t d = elim (cases_lt t d) [
       delayed-within u (suc t) (suc d) (omega arith) ∙ (ap (λ (n : ℕ). get_or u n false) same ∙ sym (delayed-within u t d within))
 ]
 
-delayed-past : (u : List Bool) (t d : ℕ) → delayed u t d ≡ get_or (past u (suc t)) d false
+delayed-past : (u : List Bool) (t d : ℕ) → delayed_bit u t d ≡ get_or (past u (suc t)) d false
 unfolding past
 delayed-past u t zero = let same : t - 0 ≡ t = omega arith in delayed-within u t 0 (omega arith) ∙ ap (λ (n : ℕ). get_or u n false) same
 delayed-past u zero (suc d) = delayed-before u 0 (suc d) (omega arith)
@@ -44,7 +44,7 @@ map-same f g same [] = refl
 map-same f g same (d ∷ taps) = ap (λ (b : Bool). b ∷ map f taps) (same d) ∙ ap (λ (bs : List Bool). g d ∷ bs) (map-same f g same taps)
 
 coded-past : (taps : List ℕ) (u : List Bool) (t : ℕ) → coded_bit taps u t ≡ tapped taps (past u (suc t))
-coded-past taps u t = ap parity (map-same (delayed u t) (λ d. get_or (past u (suc t)) d false) (delayed-past u t) taps)
+coded-past taps u t = ap parity (map-same (delayed_bit u t) (λ d. get_or (past u (suc t)) d false) (delayed-past u t) taps)
 
 sent_at-past : (p : Pattern) (u : List Bool) (t : ℕ) → sent_at p u t ≡ step_bits p t (past u (suc t))
 sent_at-past p u t =

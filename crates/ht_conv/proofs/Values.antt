@@ -4,7 +4,7 @@ use mathlib.Core.Bool.{xor}
 use Rattle.ht_rate.specs.declared.kinds.Pattern.TheVariants.{Half, TwoThirds, ThreeQuarters, FiveSixths}
 use Rattle.ht_conv.specs.declared.puncture.Kept.TheVariants.{Both, A, B}
 use Rattle.ht_conv.specs.Puncturing.{kept_of, sent_count}
-use Rattle.ht_conv.specs.Code.{taps_a, taps_b, delayed, coded_bit, sent_bits}
+use Rattle.ht_conv.specs.Code.{taps_a, taps_b, delayed_bit, coded_bit, sent_bits}
 use Rattle.ht_conv.specs.Continued.{sent_from}
 use Rattle.ht_conv.specs.Register.{history_of}
 use Rattle.ht_conv.proofs.Counts.{sent_count-ceil}
@@ -32,10 +32,10 @@ count_three_quarters = refl
 count_longest : sent_count FiveSixths 262154 ≡ 314585
 count_longest = sym (sent_count-ceil FiveSixths 262154)
 
-before_the_start : delayed impulse 2 3 ≡ false
+before_the_start : delayed_bit impulse 2 3 ≡ false
 before_the_start = refl
 
-two_steps_ago : delayed impulse 2 2 ≡ true
+two_steps_ago : delayed_bit impulse 2 2 ≡ true
 two_steps_ago = refl
 
 a_of_step_two : coded_bit taps_a impulse 2 ≡ true

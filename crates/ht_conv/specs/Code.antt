@@ -19,12 +19,12 @@ parity [] = false
 parity (bit ∷ bits) = xor bit (parity bits)
 
 -- the input bit that came `delay` steps before a step, and 0 before the start
-abbrev pub delayed : List Bool → ℕ → ℕ → Bool
-delayed input step delay = if nat_le delay step then slice_index_or input (step - delay) false else false
+abbrev pub delayed_bit : List Bool → ℕ → ℕ → Bool
+delayed_bit input step delay = if nat_le delay step then slice_index_or input (step - delay) false else false
 
 -- a generator's bit at a step: the sum of the bits that it taps
 abbrev pub coded_bit : List ℕ → List Bool → ℕ → Bool
-coded_bit taps input step = parity (map (delayed input step) taps)
+coded_bit taps input step = parity (map (delayed_bit input step) taps)
 
 -- what is kept of a step's two coded bits, A before B
 abbrev pub sent_at : Pattern → List Bool → ℕ → List Bool

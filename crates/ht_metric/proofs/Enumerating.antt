@@ -12,7 +12,7 @@ use Rattle.ht_pam.specs.declared.point.Point.{Point}
 use Rattle.ht_metric.specs.Vectors.{is_in, points, vectors}
 use Rattle.ht_nearest.proofs.Members.{among_map, mapped, among_flat, flattened}
 
-among_list : (x : ℤ) (ys : List ℤ) → list_any (λ y. int_eq y x) ys ≡ true → Among ys x
+pub among_list : (x : ℤ) (ys : List ℤ) → list_any (λ y. int_eq y x) ys ≡ true → Among ys x
 among_list x [] h = absurd (both_ways false refl h)
 among_list x (y ∷ ys) h = elim (or_cases (int_eq y x) (list_any (λ y. int_eq y x) ys) h) [
   | inl here ↦ inl ((Decides-int_eq y x).0 here)

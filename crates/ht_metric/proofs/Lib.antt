@@ -1,3 +1,4 @@
+pub mod Allowed
 pub mod Combining
 pub mod Ends
 pub mod Enumerating

@@ -7,12 +7,12 @@ use Rattle.std.proofs.lemmas.List.{take-append-drop, append-nil, map-append, tak
 use Rattle.std.proofs.lemmas.Int.{to_z-of_z, fits_signed_from_abs}
 use Rattle.std.proofs.lemmas.Bool.{cond-true, cond-false}
 use Rattle.std.proofs.lemmas.List.Filters.{length-filter_more}
-use Rattle.std.proofs.lemmas.List.Elements.{filter-append, filter_more, All-filter, All-append, All-nil, All-head}
-use Rattle.std.proofs.lemmas.List.Elements.{All-tail, All-from_recursion, All-get_or, All-same, All-map, All-weaker}
+use Rattle.std.proofs.lemmas.List.Elements.{filter-append, filter_more, All-append, All-nil, All-head}
+use Rattle.std.proofs.lemmas.List.Elements.{All-tail, All-get_or, All-same, All-map, All-weaker}
 use Rattle.ht_pam.specs.Ladders.{Rungs, IsLadder, levels, has}
 use Rattle.ht_pam.specs.declared.axes.Axes.{Axes}
 use Rattle.ht_pam.specs.declared.point.Point.{Point}
-use Rattle.ht_pam.proofs.Tables.{every, levels-filter, levels_few}
+use Rattle.ht_pam.proofs.Tables.{every, levels-filter, levels_few, levels_small}
 use Rattle.ht_metric.specs.Distance.{IsInRange}
 use Rattle.ht_metric.specs.Vectors.{points}
 
@@ -31,14 +31,6 @@ filter_room l k d ladder below passes =
     let part = filter_part (has l) every (k + 1) in
     let all : length (filter (has l) every) ≤ 8 = omega (arith, levels_few l ladder, ap length (levels-filter l ladder)) in
     omega arith
-
--- every level is from -7 to 7
-every_small : All (λ x. unsigned_abs x ≤ 7) every
-every_small = All-from_recursion (λ x. unsigned_abs x ≤ 7) every
-    (omega arith, (omega arith, (omega arith, (omega arith, (omega arith, (omega arith, (omega arith, (omega arith, (omega arith, tt)))))))))
-
-pub levels_small : (l : Rungs) → IsLadder l → All (λ x. unsigned_abs x ≤ 7) (levels l)
-levels_small l ladder = rw (levels-filter l ladder) (All-filter (has l) (λ x. unsigned_abs x ≤ 7) every every_small)
 
 -- a level is passed as it is
 level_fits : (k : ℕ) → k < 9 → to_z w8 (of_z w8 (get_or every k (pos 0))) ≡ get_or every k (pos 0)

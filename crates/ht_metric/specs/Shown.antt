@@ -3,7 +3,7 @@ use Rattle.std.specs.Prelude.{◌≡◌, ℕ, List, length, take}
 use Rattle.std.proofs.Common.{arith, ap, ◌∙◌}
 use Rattle.std.proofs.lemmas.List.{length-take}
 use Rattle.ht_pam.specs.declared.point.Point.{Point}
-use Rattle.ht_metric.specs.Vectors.{IsPadded, no_point}
+use Rattle.ht_metric.specs.Vectors.{IsPaddedVector, no_point}
 use Rattle.ht_metric.specs.Rows.{Leg, Row, IsTriangle, IsSampled, no_tap, no_sample, entries_of, legs_of, rows_of}
 use Rattle.ht_metric.specs.Arrays.{filled, legs, samples, diagonals, entries, filled-take, length-legs_of, legs-rows_of, samples-rows_of}
 use Rattle.ht_metric.specs.Arrays.{diagonals-legs_of, entries-legs_of, entries_few}
@@ -16,7 +16,7 @@ use Rattle.ht_metric.specs.declared.sample.Sample.{Sample}
 abbrev pub vector_fields : List Point → VectorFields
 vector_fields x = record { points = filled 4 no_point x; len = length x }
 
-pub vector_fields-shown : (v : VectorFields) → IsPadded v.len v.points → vector_fields (take v.len v.points) ≡ v
+pub vector_fields-shown : (v : VectorFields) → IsPaddedVector v.len v.points → vector_fields (take v.len v.points) ≡ v
 vector_fields-shown v p =
     let n = v.len in
     let xs = v.points in

@@ -11,7 +11,7 @@ abbrev pub no_point : Point
 no_point = record { i = pos 0; q = pos 0 }
 
 -- an array of four places, of which a vector takes the first ones
-pub record IsPadded (len : ℕ) (points : List Point) : Type 0 where
+pub record IsPaddedVector (len : ℕ) (points : List Point) : Type 0 where
   pub within : len ≤ 4
   pub places : length points ≡ 4
   pub unused : drop len points ≡ replicate (4 - len) no_point

@@ -4,6 +4,7 @@ ghost use Rattle.ht_metric.specs.Distance.{distance_of};
 ghost use Rattle.ht_metric.specs.Jobs.{IsNear};
 
 use crate::job::Job;
+use crate::metric;
 use crate::vector::Vector;
 
 /// A job with its first nearest vector and that vector's distance.
@@ -24,11 +25,11 @@ impl Hit {
     pub fn of(job: Job, vector: Vector, distance: u128) -> Hit
         requires near { IsNear job vector }
         requires distance { distance ≡ distance_of job.system vector }
-        requires bound { distance < 2 ^ 66 }
         ensures job { result.job ≡ job }
         ensures vector { result.vector ≡ vector }
         ensures distance { result.distance ≡ distance }
     {
+        prove_eq!(distance, metric::distance(job.system(), &vector));
         Hit {
             job,
             vector,

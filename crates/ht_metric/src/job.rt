@@ -1,10 +1,11 @@
 //! What a detector is given.
-ghost use Rattle.std.specs.Prelude.{◌≡◌, ◌↔◌, length, IsTrue};
+ghost use Rattle.std.specs.Prelude.{◌≡◌, ◌↔◌, ⊤, length, IsTrue};
 ghost use Rattle.ht_metric.specs.Jobs.{IsJob};
 
 use crate::place::Place;
 use crate::system::System;
 use ht_pam::Grid;
+use std::alloc::AllocError;
 use std::marker::Model;
 
 /// One vector to be detected: the system of a subcarrier in one symbol, and the grid of the vectors that may have been sent.
@@ -90,5 +91,15 @@ impl Job {
             system: self.system,
             grid: self.grid,
         }
+    }
+}
+
+impl Clone for Job {
+    ghost is_clone = { λ job copy. copy ≡ job };
+
+    ghost is_infallible = { λ _. ⊤ };
+
+    fn clone(&self) -> Result<Job, AllocError> {
+        Ok(self.copy())
     }
 }

@@ -19,12 +19,12 @@ impl Model for Vector {
     ghost Value = { List Point };
 
     ghost use Rattle.std.specs.Prelude.{take};
-    ghost use Rattle.ht_metric.specs.Vectors.{IsPadded};
+    ghost use Rattle.ht_metric.specs.Vectors.{IsPaddedVector};
     ghost use Rattle.ht_metric.specs.Shown.{vector_fields, vector_fields-shown};
 
     ghost view = { λ v. take v.len v.points };
 
-    ghost invariant = { λ v. IsPadded v.len v.points };
+    ghost invariant = { λ v. IsPaddedVector v.len v.points };
 
     ghost inverse = { vector_fields };
 

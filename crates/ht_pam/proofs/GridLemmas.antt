@@ -3,7 +3,7 @@ use Rattle.std.proofs.Common.{◌≡◌, ℕ, ◌+◌, ◌-◌, ◌<◌, List, [
 use Rattle.std.proofs.lemmas.List.{length-take, drop-drop, drop-replicate, drop-set-lt, take_more_set}
 use Rattle.std.proofs.lemmas.List.Elements.{All-push}
 use Rattle.std.proofs.Math.ListN.{length-set}
-use Rattle.ht_pam.specs.Grids.{AreLadders, IsGrid, IsPadded, no_axes}
+use Rattle.ht_pam.specs.Grids.{AreLadders, IsGrid, IsPaddedGrid, no_axes}
 use Rattle.ht_pam.specs.declared.axes.Axes.{Axes}
 
 -- one place fewer is unused
@@ -14,8 +14,8 @@ unused_less width n xs x e =
     later ∙ ap (λ ys. drop 1 ys) e ∙ drop-replicate 1 (width - n) x ∙ ap (λ (m : ℕ). replicate m x) less
 
 -- the streams with one more
-pub grown : (n : ℕ) (axes : List Axes) (a : Axes) → n < 4 → IsPadded n axes → IsGrid (take n axes) → AreLadders a
-    → IsPadded (n + 1) (set axes n a) × IsGrid (take (n + 1) (set axes n a))
+pub grown : (n : ℕ) (axes : List Axes) (a : Axes) → n < 4 → IsPaddedGrid n axes → IsGrid (take n axes) → AreLadders a
+    → IsPaddedGrid (n + 1) (set axes n a) × IsGrid (take (n + 1) (set axes n a))
 grown n axes a below padded grid good =
     let four : length axes ≡ 4 = padded.places in
     let count : length (take n axes) ≡ n = omega (arith, length-take n axes) in

@@ -9,7 +9,7 @@ use Rattle.std.proofs.lemmas.Bool.{cond-true, cond-false, cases_lt}
 use Rattle.std.proofs.lemmas.Bool.Decides.{nat_tests}
 use Rattle.std.proofs.lemmas.List.Elements.{All-append, All-take, All-drop}
 use Rattle.ht_pam.specs.Ladders.{Rungs, IsLadder, level, lowest}
-use Rattle.ht_pam.specs.Zigzags.{gap, put, nearest_first, From, Ascending, times}
+use Rattle.ht_pam.specs.Zigzags.{gap, put, nearest_first, From, Ascending, occurrences}
 use Rattle.ht_pam.proofs.Tables.{length-lowest}
 
 -- one more level of a ladder
@@ -200,15 +200,15 @@ module _ (cost : ℤ → ℕ) (v : ℤ) where
   exchanged : (m n t : ℕ) → n + (m + t) ≡ m + (n + t)
   exchanged m n t = omega arith
 
-  times-put : (x : ℤ) (ys : List ℤ) → times v (put cost x ys) ≡ times v (x ∷ ys)
+  times-put : (x : ℤ) (ys : List ℤ) → occurrences v (put cost x ys) ≡ occurrences v (x ∷ ys)
   times-put x [] = refl
   times-put x (y ∷ ys) = elim (cases_lt (cost y) (cost x)) [
-    | inl less ↦ ap (times v) (put_behind cost x y ys less) ∙ ap (λ (n : ℕ). (if int_eq y v then 1 else 0) + n) (times-put x ys)
-        ∙ exchanged (if int_eq x v then 1 else 0) (if int_eq y v then 1 else 0) (times v ys)
-    | inr more ↦ ap (times v) (put_before cost x y ys more)
+    | inl less ↦ ap (occurrences v) (put_behind cost x y ys less) ∙ ap (λ (n : ℕ). (if int_eq y v then 1 else 0) + n) (times-put x ys)
+        ∙ exchanged (if int_eq x v then 1 else 0) (if int_eq y v then 1 else 0) (occurrences v ys)
+    | inr more ↦ ap (occurrences v) (put_before cost x y ys more)
   ]
 
   -- the same levels, each as often
-  pub same_times : (xs : List ℤ) → times v (nearest_first cost xs) ≡ times v xs
+  pub same_times : (xs : List ℤ) → occurrences v (nearest_first cost xs) ≡ occurrences v xs
   same_times [] = refl
   same_times (x ∷ xs) = times-put x (nearest_first cost xs) ∙ ap (λ (n : ℕ). (if int_eq x v then 1 else 0) + n) (same_times xs)

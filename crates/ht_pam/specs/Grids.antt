@@ -20,7 +20,7 @@ abbrev pub no_axes : Axes
 no_axes = record { i = record { size = 1; mask = 1 }; q = record { size = 1; mask = 1 } }
 
 -- an array of four places, of which the streams take the first ones
-pub record IsPadded (streams : ℕ) (axes : List Axes) : Type 0 where
+pub record IsPaddedGrid (streams : ℕ) (axes : List Axes) : Type 0 where
   pub within : streams ≤ 4
   pub places : length axes ≡ 4
   pub unused : drop streams axes ≡ replicate (4 - streams) no_axes

@@ -2,7 +2,7 @@
 use Rattle.std.specs.Prelude.{◌≡◌, ℕ, ◌-◌, List, ◌++◌, length, take, drop, replicate}
 use Rattle.std.proofs.Common.{arith, ap, ◌∙◌}
 use Rattle.std.proofs.lemmas.List.{take-append-drop, length-take}
-use Rattle.ht_pam.specs.Grids.{IsGrid, IsPadded, no_axes}
+use Rattle.ht_pam.specs.Grids.{IsGrid, IsPaddedGrid, no_axes}
 use Rattle.ht_pam.specs.declared.axes.Axes.{Axes}
 use Rattle.ht_pam.specs.declared.grid.Grid.TheInside.{Inside as GridFields}
 
@@ -13,7 +13,7 @@ grid_fields g = record { streams = length g; axes = g ++ replicate (4 - length g
 padded : {A : Type 0} (n : ℕ) (xs : List A) (x : A) → drop n xs ≡ replicate (4 - n) x → take n xs ++ replicate (4 - n) x ≡ xs
 padded n xs x e = rw (← e) (take-append-drop n xs)
 
-pub grid_fields-shown : (g : GridFields) → IsPadded g.streams g.axes × IsGrid (take g.streams g.axes) → grid_fields (take g.streams g.axes) ≡ g
+pub grid_fields-shown : (g : GridFields) → IsPaddedGrid g.streams g.axes × IsGrid (take g.streams g.axes) → grid_fields (take g.streams g.axes) ≡ g
 grid_fields-shown g p =
     let n = g.streams in
     let xs = g.axes in

@@ -27,6 +27,6 @@ Ascending cost [] = ⊤
 Ascending cost (x ∷ xs) = From cost (cost x) xs × Ascending cost xs
 
 -- how often a level is there
-abbrev pub times : ℤ → List ℤ → ℕ
-times x [] = 0
-times x (y ∷ ys) = (if int_eq y x then 1 else 0) + times x ys
+abbrev pub occurrences : ℤ → List ℤ → ℕ
+occurrences x [] = 0
+occurrences x (y ∷ ys) = (if int_eq y x then 1 else 0) + occurrences x ys

@@ -20,12 +20,12 @@ impl Model for Grid {
 
     ghost Value = { List Axes };
 
-    ghost use Rattle.ht_pam.specs.Grids.{IsGrid, IsPadded, no_axes};
+    ghost use Rattle.ht_pam.specs.Grids.{IsGrid, IsPaddedGrid, no_axes};
     ghost use Rattle.ht_pam.specs.Shown.{grid_fields, grid_fields-shown};
 
     ghost view = { λ g. take g.streams g.axes };
 
-    ghost invariant = { λ g. IsPadded g.streams g.axes × IsGrid (take g.streams g.axes) };
+    ghost invariant = { λ g. IsPaddedGrid g.streams g.axes × IsGrid (take g.streams g.axes) };
 
     ghost inverse = { grid_fields };
 

@@ -5,7 +5,7 @@ use Rattle.ht_rate.specs.declared.rates.Rate.{Rate}
 use Rattle.ht_rate.specs.Rates.{encoders_of, streams_of, stream_bits_of, axis_bits_of}
 use Rattle.ht_parse.specs.Encoders.{list_of, AreShares}
 use Rattle.ht_parse.specs.Streams.{source_of, stream_place_of}
-use Rattle.ht_parse.specs.Runs.{AreSizes, Follows, laid_bit, gathered_bit}
+use Rattle.ht_parse.specs.Runs.{AreSizes, FollowsRule, laid_bit, gathered_bit}
 use Rattle.ht_rate.proofs.RateFacts.{encoders_of-range}
 use Rattle.ht_parse.proofs.Filled.{follows-more}
 use Rattle.ht_parse.proofs.Places.{run-place, place-below}
@@ -87,7 +87,7 @@ length-list_of r first second share (suc j) len shares lj =
 pub laid-step : (r : Rate) (e n s m t q j at len : ℕ) (first second from old new : List Bool) → AreSizes r e n s m → q < m → j < e
     → from ≡ list_of first second j → at ≡ (q * n + t) * s → len ≡ ((t * m + q) * e + j) * s → length old ≡ len → length new ≡ len + s
     → ((p : ℕ) → p < len → get_or new p false ≡ get_or old p false) → ((x : ℕ) → x < s → get_or new (len + x) false ≡ get_or from (at + x) false)
-    → Follows (laid_bit r first second) old → Follows (laid_bit r first second) new
+    → FollowsRule (laid_bit r first second) old → FollowsRule (laid_bit r first second) new
 laid-step r e n s m t q j at len first second from old new a lq lj is_from is_at is_len len_old len_new kept copied =
     follows-more (laid_bit r first second) old new len s len_old len_new kept
     (λ x lx.
@@ -100,7 +100,7 @@ laid-step r e n s m t q j at len first second from old new a lq lj is_from is_at
 pub gathered-step : (r : Rate) (e n s m t q j at len : ℕ) (bits old new : List Bool) → AreSizes r e n s m → t < n
     → at ≡ ((t * m + q) * e + j) * s → len ≡ (q * n + t) * s → length old ≡ len → length new ≡ len + s
     → ((p : ℕ) → p < len → get_or new p false ≡ get_or old p false) → ((x : ℕ) → x < s → get_or new (len + x) false ≡ get_or bits (at + x) false)
-    → Follows (gathered_bit r bits j) old → Follows (gathered_bit r bits j) new
+    → FollowsRule (gathered_bit r bits j) old → FollowsRule (gathered_bit r bits j) new
 gathered-step r e n s m t q j at len bits old new a lt is_at is_len len_old len_new kept copied =
     follows-more (gathered_bit r bits j) old new len s len_old len_new kept
     (λ x lx.

@@ -6,7 +6,7 @@ use Rattle.ht_rate.specs.Rates.{encoders_of, streams_of, stream_bits_of, coded_b
 use Rattle.ht_rate.proofs.RateFacts.{encoders_of-range}
 use Rattle.ht_parse.specs.Encoders.{list_of, AreShares}
 use Rattle.ht_parse.specs.Streams.{share_of, source_of, stream_place_of, IsLaid}
-use Rattle.ht_parse.specs.Runs.{AreSizes, Follows, laid_bit, gathered_bit}
+use Rattle.ht_parse.specs.Runs.{AreSizes, FollowsRule, laid_bit, gathered_bit}
 use Rattle.ht_parse.proofs.Laid.{length-list_of}
 use Rattle.ht_parse.proofs.Sizes.{coded_bits_of-streams}
 use Rattle.ht_parse.proofs.Inverse.{IsStreamPlace, from-place}
@@ -31,7 +31,7 @@ streams-from P n each zero low high = absurd (omega arith)
 streams-from P n each (suc t) low high = let same : t + 1 ≡ suc t = omega arith in subst P same (each t (omega arith))
 
 pub laid-whole : (r : Rate) (bits first second : List Bool) → length bits ≡ coded_bits_of r → length first ≡ share_of r → AreShares r first second
-    → Follows (laid_bit r first second) bits → IsLaid r bits first second
+    → FollowsRule (laid_bit r first second) bits → IsLaid r bits first second
 laid-whole r bits first second whole share shares follows = record {
   whole = whole;
   share = share;
@@ -48,8 +48,8 @@ laid-whole r bits first second whole share shares follows = record {
 
 -- each encoder's list follows its rule
 gathered-list : (r : Rate) (bits first second : List Bool) (j : ℕ) → j < encoders_of r
-    → Follows (gathered_bit r bits 0) first → (1 < encoders_of r → Follows (gathered_bit r bits 1) second)
-    → Follows (gathered_bit r bits j) (list_of first second j)
+    → FollowsRule (gathered_bit r bits 0) first → (1 < encoders_of r → FollowsRule (gathered_bit r bits 1) second)
+    → FollowsRule (gathered_bit r bits j) (list_of first second j)
 gathered-list r bits first second zero lj follows_first follows_second = follows_first
 gathered-list r bits first second (suc zero) lj follows_first follows_second = follows_second (omega arith)
 gathered-list r bits first second (suc (suc j)) lj follows_first follows_second = absurd (omega (arith, encoders_of-range r))
@@ -62,7 +62,7 @@ gathered-place r bits t k j i place =
     ap (λ (z : ℕ × ℕ). get_or bits ((z.0 - 1) * stream_bits_of r + z.1) false) place ∙ ap (λ (y : ℕ). get_or bits (y * stream_bits_of r + k) false) back
 
 pub gathered-whole : (r : Rate) (bits first second : List Bool) → length bits ≡ coded_bits_of r → length first ≡ share_of r → AreShares r first second
-    → Follows (gathered_bit r bits 0) first → (1 < encoders_of r → Follows (gathered_bit r bits 1) second) → IsLaid r bits first second
+    → FollowsRule (gathered_bit r bits 0) first → (1 < encoders_of r → FollowsRule (gathered_bit r bits 1) second) → IsLaid r bits first second
 gathered-whole r bits first second whole share shares follows_first follows_second = record {
   whole = whole;
   share = share;
@@ -84,20 +84,20 @@ gathered-whole r bits first second whole share shares follows_first follows_seco
 
 -- with one encoder
 pub gathered-one : (r at : Rate) (e n s m : ℕ) (bits first second list : List Bool) → AreSizes at e n s m → at ≡ r → e ≡ 1 → first ≡ list → second ≡ []
-    → length bits ≡ coded_bits_of r → length list ≡ share_of at → Follows (gathered_bit at bits 0) list → IsLaid r bits first second
+    → length bits ≡ coded_bits_of r → length list ≡ share_of at → FollowsRule (gathered_bit at bits 0) list → IsLaid r bits first second
 gathered-one r at e n s m bits first second list a same one is_first is_second whole share follows =
     let is_encoders = a.encoders_is in
     let none : encoders_of at - 1 ≡ 0 = omega arith in
     let shares : length second ≡ (encoders_of at - 1) * length first = omega (arith, ap length is_second, ap (λ (y : ℕ). y * length first) none) in
     subst (λ (q : Rate). IsLaid q bits first second) same
     (gathered-whole at bits first second (whole ∙ ap coded_bits_of (sym same)) (ap length is_first ∙ share) shares
-    (subst (λ (xs : List Bool). Follows (gathered_bit at bits 0) xs) (sym is_first) follows) (λ two. absurd (omega arith)))
+    (subst (λ (xs : List Bool). FollowsRule (gathered_bit at bits 0) xs) (sym is_first) follows) (λ two. absurd (omega arith)))
 
 -- with two encoders
 pub gathered-two : (r at : Rate) (e n s m : ℕ) (bits first second list other : List Bool)
     → AreSizes at e n s m → at ≡ r → ¬ (e ≡ 1) → first ≡ list → second ≡ other
     → length bits ≡ coded_bits_of r → length list ≡ share_of at → length other ≡ share_of at
-    → Follows (gathered_bit at bits 0) list → Follows (gathered_bit at bits 1) other → IsLaid r bits first second
+    → FollowsRule (gathered_bit at bits 0) list → FollowsRule (gathered_bit at bits 1) other → IsLaid r bits first second
 gathered-two r at e n s m bits first second list other a same two is_first is_second whole share share_too follows follows_too =
     let is_encoders = a.encoders_is in
     let one : encoders_of at - 1 ≡ 1 = omega (arith, encoders_of-range at) in
@@ -105,5 +105,5 @@ gathered-two r at e n s m bits first second list other a same two is_first is_se
     omega (arith, ap length is_second, ap length is_first, share, share_too, ap (λ (y : ℕ). y * length first) one) in
     subst (λ (q : Rate). IsLaid q bits first second) same
     (gathered-whole at bits first second (whole ∙ ap coded_bits_of (sym same)) (ap length is_first ∙ share) shares
-    (subst (λ (xs : List Bool). Follows (gathered_bit at bits 0) xs) (sym is_first) follows)
-    (λ _. subst (λ (xs : List Bool). Follows (gathered_bit at bits 1) xs) (sym is_second) follows_too))
+    (subst (λ (xs : List Bool). FollowsRule (gathered_bit at bits 0) xs) (sym is_first) follows)
+    (λ _. subst (λ (xs : List Bool). FollowsRule (gathered_bit at bits 1) xs) (sym is_second) follows_too))

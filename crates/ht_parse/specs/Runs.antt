@@ -17,8 +17,8 @@ pub record AreSizes (r : Rate) (encoders streams run rounds : ℕ) : Type 0 wher
   pub rounds_is : rounds ≡ rounds_of r
 
 -- a list that has at each of its places what a rule says
-abbrev pub Follows : (ℕ → Bool) → List Bool → Type 0
-Follows rule bits = (p : ℕ) → p < length bits → slice_index_or bits p false ≡ rule p
+abbrev pub FollowsRule : (ℕ → Bool) → List Bool → Type 0
+FollowsRule rule bits = (p : ℕ) → p < length bits → slice_index_or bits p false ≡ rule p
 
 -- the bit that the encoders' lists give to a place of the symbol
 unfoldable pub laid_bit : Rate → List Bool → List Bool → ℕ → Bool

@@ -3,7 +3,7 @@
 ghost use Rattle.std.specs.Prelude.{◌≡◌, ◌+◌, ◌-◌, ◌*◌, ◌/◌, ◌%◌, ◌<◌, ◌≤◌, ◌++◌, ℕ, IfOk, length, slice_index_or, false, vec_len, vec_capacity};
 ghost use Rattle.ht_rate.specs.Rates.{coded_bits_of, encoders_of, stream_bits_of};
 ghost use Rattle.ht_parse.specs.Encoders.{AreShares, list_of};
-ghost use Rattle.ht_parse.specs.Runs.{Follows, laid_bit, gathered_bit};
+ghost use Rattle.ht_parse.specs.Runs.{FollowsRule, laid_bit, gathered_bit};
 ghost use Rattle.ht_parse.specs.Streams.{share_of, IsLaid};
 
 use crate::layout::Layout;
@@ -51,10 +51,10 @@ fn push_laid_round(
     requires round { round < layout.now.rounds }
     requires len { vec_len bits.old ≡ (stream * layout.now.rounds + round) * layout.now.encoders * layout.now.run }
     requires room { vec_capacity bits.old ≡ coded_bits_of layout.now.rate }
-    requires laid { Follows (laid_bit layout.now.rate first.now second.now) bits.old.items }
+    requires laid { FollowsRule (laid_bit layout.now.rate first.now second.now) bits.old.items }
     ensures len { vec_len bits.new ≡ (stream * layout.now.rounds + (round + 1)) * layout.now.encoders * layout.now.run }
     ensures room { vec_capacity bits.new ≡ coded_bits_of layout.now.rate }
-    ensures laid { Follows (laid_bit layout.now.rate first.now second.now) bits.new.items }
+    ensures laid { FollowsRule (laid_bit layout.now.rate first.now second.now) bits.new.items }
 {
     let at = layout.bit(stream, round);
     for encoder in 0..layout.encoders {
@@ -117,7 +117,7 @@ fn gathered(
     requires encoder { encoder < layout.now.encoders }
     requires whole { length bits.now ≡ coded_bits_of layout.now.rate }
     ensures len { IfOk result (λ list. length list.items ≡ share_of layout.now.rate) }
-    ensures gathered { IfOk result (λ list. Follows (gathered_bit layout.now.rate bits.now encoder) list.items) }
+    ensures gathered { IfOk result (λ list. FollowsRule (gathered_bit layout.now.rate bits.now encoder) list.items) }
 {
     let mut list = Vec::with_capacity(alloc, layout.share())?;
     for round in 0..layout.rounds {
@@ -139,10 +139,10 @@ fn push_gathered_round(
     requires round { round < layout.now.rounds }
     requires len { vec_len list.old ≡ round * layout.now.streams * layout.now.run }
     requires room { vec_capacity list.old ≡ share_of layout.now.rate }
-    requires gathered { Follows (gathered_bit layout.now.rate bits.now encoder) list.old.items }
+    requires gathered { FollowsRule (gathered_bit layout.now.rate bits.now encoder) list.old.items }
     ensures len { vec_len list.new ≡ (round + 1) * layout.now.streams * layout.now.run }
     ensures room { vec_capacity list.new ≡ share_of layout.now.rate }
-    ensures gathered { Follows (gathered_bit layout.now.rate bits.now encoder) list.new.items }
+    ensures gathered { FollowsRule (gathered_bit layout.now.rate bits.now encoder) list.new.items }
 {
     for stream in 0..layout.streams {
         push_run(list, bits, layout.place(stream, round, encoder), layout.run);

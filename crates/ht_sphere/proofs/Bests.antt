@@ -16,7 +16,7 @@ use Rattle.ht_pam.specs.Zigzags.{gap, From, Ascending}
 use Rattle.ht_pam.proofs.ZigzagLemmas.{ascending, length-nearest_first}
 use Rattle.ht_metric.specs.Vectors.{levels_before}
 use Rattle.ht_sphere.specs.Coordinates.{Real, cost, order, cost_at, order_at}
-use Rattle.ht_sphere.specs.Tree.{Found, one}
+use Rattle.ht_sphere.specs.Tree.{Reached, one}
 use Rattle.ht_sphere.specs.Searching.{leaves, leaves_by, better, Among, IsBestOf}
 
 -- a lexicographic test that fails
@@ -58,10 +58,10 @@ nat_lt-trans x y z p q = grind (arith, nat_tests)
 nat_lt-self : (x : ℕ) → nat_lt x x ≡ false
 nat_lt-self x = grind (arith, nat_tests)
 
-pub better-self : (a : Found) → better a a ≡ false
+pub better-self : (a : Reached) → better a a ≡ false
 better-self a = fails _ _ _ (nat_lt-self a.1) (λ _. before-self a.0)
 
-better-not-trans : (a b c : Found) → better a b ≡ false → better b c ≡ false → better a c ≡ false
+better-not-trans : (a b c : Reached) → better a b ≡ false → better b c ≡ false → better a c ≡ false
 better-not-trans a b c p q =
     let p' = parts (nat_lt a.1 b.1) (nat_lt b.1 a.1) (levels_before a.0 b.0) p in
     let q' = parts (nat_lt b.1 c.1) (nat_lt c.1 b.1) (levels_before b.0 c.0) q in
@@ -90,30 +90,30 @@ before-asym [] (b ∷ bs) p = refl
 before-asym (a ∷ xs) (b ∷ ys) p = flip (int_lt a b) (int_lt b a) (levels_before xs ys) (levels_before ys xs) (int_lt-asym a b) (before-asym xs ys) p
 
 -- what is better is not beaten
-better-asym : (a b : Found) → better a b ≡ true → better b a ≡ false
+better-asym : (a b : Reached) → better a b ≡ true → better b a ≡ false
 better-asym a b p = flip (nat_lt a.1 b.1) (nat_lt b.1 a.1) (levels_before a.0 b.0) (levels_before b.0 a.0) (nat_lt-asym a.1 b.1) (before-asym a.0 b.0) p
 
-pub farther : (a b : Found) → b.1 < a.1 → better a b ≡ false
+pub farther : (a b : Reached) → b.1 < a.1 → better a b ≡ false
 farther a b p =
     let q = nat_lt-is b.1 a.1 p in
     fails (nat_lt a.1 b.1) (nat_lt b.1 a.1) (levels_before a.0 b.0) (nat_lt-asym b.1 a.1 q) (λ r. absurd (true≢false (sym q ∙ r)))
 
-pub among-append : (xs ys : List Found) (v : Found) → Among (xs ++ ys) v → Among xs v ⊎ Among ys v
+pub among-append : (xs ys : List Reached) (v : Reached) → Among (xs ++ ys) v → Among xs v ⊎ Among ys v
 among-append [] ys v h = inr h
 among-append (x ∷ xs) ys v h = elim h [ inl e ↦ inl (inl e) | inr r ↦ elim (among-append xs ys v r) [ inl l ↦ inl (inr l) | inr m ↦ inr m ] ]
 
-pub among-left : (xs ys : List Found) (v : Found) → Among xs v → Among (xs ++ ys) v
+pub among-left : (xs ys : List Reached) (v : Reached) → Among xs v → Among (xs ++ ys) v
 among-left [] ys v h = absurd h
 among-left (x ∷ xs) ys v h = elim h [ inl e ↦ inl e | inr r ↦ inr (among-left xs ys v r) ]
 
-pub among-right : (xs ys : List Found) (v : Found) → Among ys v → Among (xs ++ ys) v
+pub among-right : (xs ys : List Reached) (v : Reached) → Among ys v → Among (xs ++ ys) v
 among-right [] ys v h = h
 among-right (x ∷ xs) ys v h = inr (among-right xs ys v h)
 
-pub best-none : (a : Found) → IsBestOf a [] a
+pub best-none : (a : Reached) → IsBestOf a [] a
 best-none a = record { one = inl refl; old_is_not = better-self a; none_is = λ v h. absurd h }
 
-pub best-append : (a b c : Found) (xs ys : List Found) → IsBestOf a xs b → IsBestOf b ys c → IsBestOf a (xs ++ ys) c
+pub best-append : (a b c : Reached) (xs ys : List Reached) → IsBestOf a xs b → IsBestOf b ys c → IsBestOf a (xs ++ ys) c
 best-append a b c xs ys p q = record {
   one = elim q.one [
     | inl e ↦ elim p.one [ inl f ↦ inl (e ∙ f) | inr m ↦ inr (among-left xs ys c (subst (Among xs) (sym e) m)) ]
@@ -127,35 +127,35 @@ best-append a b c xs ys p q = record {
 }
 
 -- each vector of a tree is at least as far as the tree's root
-module _ (under : List ℤ → ℕ → List Found) (choice : Real) (chosen : List ℤ) (partial : ℕ) where
-  by-le : ((s : List ℤ) (p : ℕ) (v : Found) → Among (under s p) v → p ≤ v.1)
-      → (xs : List ℤ) (v : Found) → Among (leaves_by under choice chosen partial xs) v → partial ≤ v.1
+module _ (under : List ℤ → ℕ → List Reached) (choice : Real) (chosen : List ℤ) (partial : ℕ) where
+  by-le : ((s : List ℤ) (p : ℕ) (v : Reached) → Among (under s p) v → p ≤ v.1)
+      → (xs : List ℤ) (v : Reached) → Among (leaves_by under choice chosen partial xs) v → partial ≤ v.1
   by-le rest [] v h = absurd h
   by-le rest (x ∷ xs) v h = elim (among-append (under (x ∷ chosen) (partial + cost choice chosen x)) (leaves_by under choice chosen partial xs) v h) [
     | inl l ↦ omega (arith, rest (x ∷ chosen) (partial + cost choice chosen x) v l)
     | inr r ↦ by-le rest xs v r
   ]
 
-pub leaves-le : (choices : List Real) (chosen : List ℤ) (partial : ℕ) (v : Found) → Among (leaves choices chosen partial) v → partial ≤ v.1
-leaves-le [] chosen partial v h = elim h [ inl e ↦ omega (arith, ap (λ (f : Found). f.1) e) | inr n ↦ absurd n ]
+pub leaves-le : (choices : List Real) (chosen : List ℤ) (partial : ℕ) (v : Reached) → Among (leaves choices chosen partial) v → partial ≤ v.1
+leaves-le [] chosen partial v h = elim h [ inl e ↦ omega (arith, ap (λ (f : Reached). f.1) e) | inr n ↦ absurd n ]
 leaves-le (choice ∷ choices) chosen partial v h = by-le (leaves choices) choice chosen partial (leaves-le choices) (order choice chosen) v h
 
 -- a tree whose root is farther than the best has nothing better
-pub best-pruned : (a : Found) (choices : List Real) (chosen : List ℤ) (partial : ℕ) → a.1 < partial → IsBestOf a (leaves choices chosen partial) a
+pub best-pruned : (a : Reached) (choices : List Real) (chosen : List ℤ) (partial : ℕ) → a.1 < partial → IsBestOf a (leaves choices chosen partial) a
 best-pruned a choices chosen partial p = record {
   one = inl refl;
   old_is_not = better-self a;
   none_is = λ v h. farther v a (omega (arith, leaves-le choices chosen partial v h));
 }
 
-pub best-taken : (a v w : Found) → better v a ≡ true → w ≡ v → IsBestOf a (v ∷ []) w
+pub best-taken : (a v w : Reached) → better v a ≡ true → w ≡ v → IsBestOf a (v ∷ []) w
 best-taken a v w p e = subst (IsBestOf a (v ∷ [])) (sym e) record {
   one = inr (inl refl);
   old_is_not = better-asym v a p;
   none_is = λ u h. elim h [ inl f ↦ subst (λ x. better x v ≡ false) (sym f) (better-self v) | inr n ↦ absurd n ];
 }
 
-pub best-left : (a v : Found) → better v a ≡ false → IsBestOf a (v ∷ []) a
+pub best-left : (a v : Reached) → better v a ≡ false → IsBestOf a (v ∷ []) a
 best-left a v p = record {
   one = inl refl;
   old_is_not = better-self a;
@@ -163,7 +163,7 @@ best-left a v p = record {
 }
 
 -- levels that are all too far hold nothing better
-by-far : (a : Found) (choice : Real) (choices : List Real) (chosen : List ℤ) (partial k : ℕ) (xs : List ℤ)
+by-far : (a : Reached) (choice : Real) (choices : List Real) (chosen : List ℤ) (partial k : ℕ) (xs : List ℤ)
     → a.1 < partial + k → From (cost choice chosen) k xs → IsBestOf a (leaves_by (leaves choices) choice chosen partial xs) a
 by-far a choice choices chosen partial k [] far h = best-none a
 by-far a choice choices chosen partial k (x ∷ xs) far h =
@@ -171,7 +171,7 @@ by-far a choice choices chosen partial k (x ∷ xs) far h =
     (best-pruned a choices (x ∷ chosen) (partial + cost choice chosen x) (omega (arith, h.0))) (by-far a choice choices chosen partial k xs far h.1)
 
 -- the walk stops at the first level that is too far
-pub best-cut : (a : Found) (choice : Real) (choices : List Real) (chosen : List ℤ) (partial : ℕ) (x : ℤ) (xs : List ℤ) → a.1 < partial + cost choice chosen x
+pub best-cut : (a : Reached) (choice : Real) (choices : List Real) (chosen : List ℤ) (partial : ℕ) (x : ℤ) (xs : List ℤ) → a.1 < partial + cost choice chosen x
     → Ascending (cost choice chosen) (x ∷ xs) → IsBestOf a (leaves_by (leaves choices) choice chosen partial (x ∷ xs)) a
 best-cut a choice choices chosen partial x xs far sorted =
     by-far a choice choices chosen partial (cost choice chosen x) (x ∷ xs) far (omega arith, sorted.0)

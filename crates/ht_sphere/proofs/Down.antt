@@ -7,7 +7,7 @@ use Rattle.ht_pam.specs.declared.axes.Axes.{Axes}
 use Rattle.ht_pam.specs.Grids.{no_axes}
 use Rattle.ht_metric.specs.Rows.{Row, no_row}
 use Rattle.ht_metric.specs.Jobs.{JobView, IsJob}
-use Rattle.ht_sphere.specs.Tree.{Found, rounding}
+use Rattle.ht_sphere.specs.Tree.{Reached, rounding}
 use Rattle.ht_sphere.specs.Coordinates.{Real, in_phase, quadrature, from_last, down, from_q, q_at, i_at}
 
 pub down_more : (rows : List Row) (grid : List Axes) (k : ℕ) → 0 < k → down rows grid k ≡ from_q rows grid (k - 1)
@@ -46,5 +46,5 @@ down_system job rows k is same e =
 pub none_left : {A : Type 0} (xs : List A) (k : ℕ) → length xs ≤ 2 * k → drop (2 * k) xs ≡ []
 none_left xs k few = drop_all (2 * k) xs few
 
-pub found_all : (cs ds : List Real) (s : List ℤ) (w : Found) → cs ≡ ds → s ≡ [] → rounding cs s 0 ≡ w → rounding ds [] 0 ≡ w
+pub found_all : (cs ds : List Real) (s : List ℤ) (w : Reached) → cs ≡ ds → s ≡ [] → rounding cs s 0 ≡ w → rounding ds [] 0 ≡ w
 found_all cs ds s w e f h = sym (ap (λ (c : List Real). rounding c s 0) e ∙ ap (λ (t : List ℤ). rounding ds t 0) f) ∙ h

@@ -13,8 +13,8 @@ use Rattle.ht_metric.specs.Rows.{Row}
 use Rattle.ht_metric.specs.Distance.{distance_of}
 use Rattle.ht_metric.specs.Vectors.{is_in, levels_of, before}
 use Rattle.ht_metric.specs.Jobs.{JobView, IsJob, IsNear}
-use Rattle.ht_sphere.specs.Coordinates.{Real, from_last, points_of, quadrature, in_phase}
-use Rattle.ht_sphere.specs.Tree.{Found, rounding}
+use Rattle.ht_sphere.specs.Coordinates.{Real, from_last, points_from, quadrature, in_phase}
+use Rattle.ht_sphere.specs.Tree.{Reached, rounding}
 use Rattle.ht_sphere.specs.Searching.{leaves, better, IsBestOf, Among}
 use Rattle.ht_sphere.proofs.Paths.{AreGood, rounding_path, leaf_path, path_leaf}
 use Rattle.ht_sphere.proofs.Rows.{LeadsTo, leads, way_to}
@@ -31,7 +31,7 @@ good_rows (row ∷ rows) (a ∷ grid) h =
     good_both (from_last rows grid) (quadrature (length rows) row a ∷ in_phase (length rows) row a ∷ [])
     (good_rows rows grid (All-tail AreLadders a grid h)) (first.q, (first.i, tt))
 
-pub points_back : (x : List Point) → points_of (levels_of x) ≡ x
+pub points_back : (x : List Point) → points_from (levels_of x) ≡ x
 points_back [] = refl
 points_back (p ∷ x) = ap (λ (rest : List Point). p ∷ rest) (points_back x)
 
@@ -42,7 +42,7 @@ not_tied : (m n : ℕ) (b : Bool) → b ≡ true → (nat_lt m n || (not (nat_lt
 not_tied m n true e h = grind (arith, nat_tests)
 not_tied m n false e h = absurd (cc)
 
-module _ (job : JobView) (v : Found) (same : length job.grid ≡ length job.system)
+module _ (job : JobView) (v : Reached) (same : length job.grid ≡ length job.system)
     (best : IsBestOf (rounding (from_last job.system job.grid) [] 0) (leaves (from_last job.system job.grid) [] 0) v) where
   abbrev all : List Real
   all = from_last job.system job.grid
@@ -58,7 +58,7 @@ module _ (job : JobView) (v : Found) (same : length job.grid ≡ length job.syst
   not_better : (x y : List Point) → v ≡ (levels_of x, distance_of job.system x) → is_in job.grid y ≡ true
       → better (levels_of y, distance_of job.system y) (levels_of x, distance_of job.system x) ≡ false
   not_better x y e h =
-      subst (λ (u : Found). better (levels_of y, distance_of job.system y) u ≡ false) e
+      subst (λ (u : Reached). better (levels_of y, distance_of job.system y) u ≡ false) e
       (best.none_is (levels_of y, distance_of job.system y) (path_leaf all [] 0 (levels_of y, distance_of job.system y) (way_to job.system job.grid y same h)))
 
   pub is_near : (x : List Point) → is_in job.grid x ≡ true → v ≡ (levels_of x, distance_of job.system x) → IsNear job x
@@ -70,16 +70,16 @@ module _ (job : JobView) (v : Found) (same : length job.grid ≡ length job.syst
 
 -- the answer to a job
 pub answered : (job : JobView) (items : List Real) (levels : List ℤ) (d : ℕ) (vector : List Point) → IsJob job → items ≡ from_last job.system job.grid
-    → IsBestOf (rounding items [] 0) (leaves items [] 0) (levels, d) → vector ≡ points_of levels → IsNear job vector × (d ≡ distance_of job.system vector)
+    → IsBestOf (rounding items [] 0) (leaves items [] 0) (levels, d) → vector ≡ points_from levels → IsNear job vector × (d ≡ distance_of job.system vector)
 answered job items levels d vector is all best points =
-    let v : Found = (levels, d) in
+    let v : Reached = (levels, d) in
     let mine : IsBestOf (rounding (from_last job.system job.grid) [] 0) (leaves (from_last job.system job.grid) [] 0) v =
     subst (λ (l : List Real). IsBestOf (rounding l [] 0) (leaves l [] 0) v) all best in
     let lead = found job v is.streams mine (good_rows job.system job.grid is.grid.ladders) in
     let x = lead.vector in
-    let same : vector ≡ x = points ∙ ap (λ (u : Found). points_of u.0) lead.is ∙ points_back x in (
+    let same : vector ≡ x = points ∙ ap (λ (u : Reached). points_from u.0) lead.is ∙ points_back x in (
       subst (λ (y : List Point). IsNear job y) (sym same) (is_near job v is.streams mine x lead.within lead.is),
-      ap (λ (u : Found). u.1) lead.is ∙ ap (λ (y : List Point). distance_of job.system y) (sym same),
+      ap (λ (u : Reached). u.1) lead.is ∙ ap (λ (y : List Point). distance_of job.system y) (sym same),
     )
 
 -- no coordinate is behind the last one

@@ -7,20 +7,20 @@ use Rattle.std.proofs.lemmas.List.{get_or-drop, drop-drop}
 use Rattle.ht_metric.specs.declared.tap.Tap.{Tap}
 use Rattle.ht_pam.specs.declared.axes.Axes.{Axes}
 use Rattle.ht_metric.specs.Rows.{Row, no_row, no_tap}
-use Rattle.ht_sphere.specs.Coordinates.{weighed, weights_of_i, weights_of_q, entries, target, i_at}
+use Rattle.ht_sphere.specs.Coordinates.{weighed, weights_of_i, weights_of_q, entries_behind, target, i_at}
 use Rattle.ht_sphere.proofs.Rows.{less_times, none_times}
 
 -- the entries and the levels of the streams behind so many
 entries_next : (right : List Tap) (n k l : ℕ) → k ≤ l → l < n
-    → entries (n - l) (drop (l - k) right) ≡ get_or right (l - k) no_tap ∷ entries (n - (l + 1)) (drop (l + 1 - k) right)
+    → entries_behind (n - l) (drop (l - k) right) ≡ get_or right (l - k) no_tap ∷ entries_behind (n - (l + 1)) (drop (l + 1 - k) right)
 entries_next right n k l after below =
     let more : n - l ≡ suc (n - (l + 1)) = omega arith in
     let next : l - k + 1 ≡ l + 1 - k = omega arith in
     let here : l - k + 0 ≡ l - k = omega arith in
-    ap (λ (m : ℕ). entries m (drop (l - k) right)) more
-    ∙ ap (λ (r : Tap). r ∷ entries (n - (l + 1)) (drop 1 (drop (l - k) right)))
+    ap (λ (m : ℕ). entries_behind m (drop (l - k) right)) more
+    ∙ ap (λ (r : Tap). r ∷ entries_behind (n - (l + 1)) (drop 1 (drop (l - k) right)))
     (get_or-drop (l - k) right 0 no_tap ∙ ap (λ (m : ℕ). get_or right m no_tap) here)
-    ∙ ap (λ (rs : List Tap). get_or right (l - k) no_tap ∷ entries (n - (l + 1)) rs) (drop-drop 1 (l - k) right ∙ ap (λ (m : ℕ). drop m right) next)
+    ∙ ap (λ (rs : List Tap). get_or right (l - k) no_tap ∷ entries_behind (n - (l + 1)) rs) (drop-drop 1 (l - k) right ∙ ap (λ (m : ℕ). drop m right) next)
 
 levels_next : (levels : List ℤ) (l : ℕ) → 2 * l + 1 < length levels
     → drop (2 * l) levels ≡ get_or levels (2 * l) (pos 0) ∷ get_or levels (2 * l + 1) (pos 0) ∷ drop (2 * (l + 1)) levels
@@ -32,10 +32,10 @@ levels_next levels l below =
     (drop-cons levels (2 * l + 1) (pos 0) below ∙ ap (λ (m : ℕ). get_or levels (2 * l + 1) (pos 0) ∷ drop m levels) two)
 
 abbrev i_rest : List Tap → List ℤ → ℕ → ℕ → ℕ → ℤ
-i_rest right levels n k l = weighed (weights_of_i (entries (n - l) (drop (l - k) right))) (drop (2 * l) levels)
+i_rest right levels n k l = weighed (weights_of_i (entries_behind (n - l) (drop (l - k) right))) (drop (2 * l) levels)
 
 abbrev q_rest : List Tap → List ℤ → ℕ → ℕ → ℕ → ℤ
-q_rest right levels n k l = weighed (weights_of_q (entries (n - l) (drop (l - k) right))) (drop (2 * l) levels)
+q_rest right levels n k l = weighed (weights_of_q (entries_behind (n - l) (drop (l - k) right))) (drop (2 * l) levels)
 
 module _ (right : List Tap) (levels : List ℤ) (n k l : ℕ) (after : k ≤ l) (below : l < n) (long : length levels ≡ 2 * n) where
   abbrev r : Tap
@@ -50,12 +50,12 @@ module _ (right : List Tap) (levels : List ℤ) (n k l : ℕ) (after : k ≤ l) 
   i_next : i_rest right levels n k l ≡ (r.re *ℤ i) +ℤ (((pos 0 -ℤ r.im) *ℤ q) +ℤ i_rest right levels n k (l + 1))
   i_next =
       ap (λ (rs : List Tap). weighed (weights_of_i rs) (drop (2 * l) levels)) (entries_next right n k l after below)
-      ∙ ap (weighed (weights_of_i (r ∷ entries (n - (l + 1)) (drop (l + 1 - k) right)))) (levels_next levels l (omega arith))
+      ∙ ap (weighed (weights_of_i (r ∷ entries_behind (n - (l + 1)) (drop (l + 1 - k) right)))) (levels_next levels l (omega arith))
 
   q_next : q_rest right levels n k l ≡ (r.im *ℤ i) +ℤ ((r.re *ℤ q) +ℤ q_rest right levels n k (l + 1))
   q_next =
       ap (λ (rs : List Tap). weighed (weights_of_q rs) (drop (2 * l) levels)) (entries_next right n k l after below)
-      ∙ ap (weighed (weights_of_q (r ∷ entries (n - (l + 1)) (drop (l + 1 - k) right)))) (levels_next levels l (omega arith))
+      ∙ ap (weighed (weights_of_q (r ∷ entries_behind (n - (l + 1)) (drop (l + 1 - k) right)))) (levels_next levels l (omega arith))
 
   pub heard_i : (was now part whole : ℤ) → part ≡ (r.re *ℤ i) -ℤ (r.im *ℤ q) → now ≡ was -ℤ part
       → was -ℤ i_rest right levels n k l ≡ whole → now -ℤ i_rest right levels n k (l + 1) ≡ whole
@@ -70,10 +70,10 @@ pub heard_none : (z : ℤ) → z -ℤ pos 0 ≡ z
 heard_none z = omega (arith, ints)
 
 pub from_own : (right : List Tap) (n : ℕ) (f : List Tap → ℤ) (a b : ℤ) (k : ℕ) → a ≡ b
-    → a -ℤ f (entries (n - k) (drop (k - k) right)) ≡ b -ℤ f (entries (n - k) right)
+    → a -ℤ f (entries_behind (n - k) (drop (k - k) right)) ≡ b -ℤ f (entries_behind (n - k) right)
 from_own right n f a b k e =
     let z : k - k ≡ 0 = omega arith in
-    ap (λ (x : ℤ). x -ℤ f (entries (n - k) (drop (k - k) right))) e ∙ ap (λ (j : ℕ). b -ℤ f (entries (n - k) (drop j right))) z
+    ap (λ (x : ℤ). x -ℤ f (entries_behind (n - k) (drop (k - k) right))) e ∙ ap (λ (j : ℕ). b -ℤ f (entries_behind (n - k) (drop j right))) z
 
 -- one stream less, in 64 bits
 pub less_by : (a b : ℤ) (k : ℕ) → k ≤ 3 → unsigned_abs a ≤ 2 ^ 31 + 458752 * k
@@ -104,10 +104,10 @@ no_weight : (s w z : ℤ) → w ≡ pos 0 → s -ℤ z ≡ s -ℤ (w +ℤ z)
 no_weight s w z e = omega (arith, ints)
 
 pub own_q : (rows : List Row) (grid : List Axes) (k : ℕ) (q : ℤ) (xs : List ℤ) → 1 ≤ k
-    → (get_or rows (k - 1) no_row).sample.re -ℤ weighed (weights_of_i (entries (length rows - k) (get_or rows (k - 1) no_row).right)) xs
+    → (get_or rows (k - 1) no_row).sample.re -ℤ weighed (weights_of_i (entries_behind (length rows - k) (get_or rows (k - 1) no_row).right)) xs
     ≡ target (i_at rows grid (k - 1)) (q ∷ xs)
 own_q rows grid k q xs some =
     let back : k ≡ suc (k - 1) = omega arith in
     let row = get_or rows (k - 1) no_row in
-    ap (λ (m : ℕ). row.sample.re -ℤ weighed (weights_of_i (entries (length rows - m) row.right)) xs) back
-    ∙ no_weight row.sample.re (pos 0 *ℤ q) (weighed (weights_of_i (entries (length rows - suc (k - 1)) row.right)) xs) (none_times q)
+    ap (λ (m : ℕ). row.sample.re -ℤ weighed (weights_of_i (entries_behind (length rows - m) row.right)) xs) back
+    ∙ no_weight row.sample.re (pos 0 *ℤ q) (weighed (weights_of_i (entries_behind (length rows - suc (k - 1)) row.right)) xs) (none_times q)

@@ -8,16 +8,16 @@ use Rattle.ht_pam.specs.declared.point.Point.{Point}
 use Rattle.ht_pam.specs.Grids.{no_axes}
 use Rattle.ht_metric.specs.declared.tap.Tap.{Tap}
 use Rattle.ht_metric.specs.Rows.{Row, no_tap, no_row}
-use Rattle.ht_sphere.specs.Coordinates.{Real, entries, weights_of_i, weights_of_q, in_phase, quadrature, from_last, points_of}
+use Rattle.ht_sphere.specs.Coordinates.{Real, entries_behind, weights_of_i, weights_of_q, in_phase, quadrature, from_last, points_from}
 
 abbrev pushed : Real → ℤ → Real
 pushed c w = record { ladder = c.ladder; diagonal = c.diagonal; sample = c.sample; weights = c.weights ++ w ∷ [] }
 
-length-q : (m : ℕ) (right : List Tap) → length (weights_of_q (entries m right)) ≡ 2 * m
+length-q : (m : ℕ) (right : List Tap) → length (weights_of_q (entries_behind m right)) ≡ 2 * m
 length-q zero right = refl
 length-q (suc m) right = let e = length-q m (drop 1 right) in omega arith
 
-length-i : (m : ℕ) (right : List Tap) → length (weights_of_i (entries m right)) ≡ 2 * m
+length-i : (m : ℕ) (right : List Tap) → length (weights_of_i (entries_behind m right)) ≡ 2 * m
 length-i zero right = refl
 length-i (suc m) right = let e = length-i m (drop 1 right) in omega arith
 
@@ -31,13 +31,15 @@ pub longer : (c d : Real) (w : ℤ) → d ≡ pushed c w → length d.weights �
 longer c d w e = ap (λ (r : Real). length r.weights) e ∙ length-append c.weights (w ∷ [])
 
 more_q : (m : ℕ) (right : List Tap)
-    → (weights_of_q (entries m right) ++ (get_or right m no_tap).im ∷ []) ++ (get_or right m no_tap).re ∷ [] ≡ weights_of_q (entries (suc m) right)
+    → (weights_of_q (entries_behind m right) ++ (get_or right m no_tap).im ∷ []) ++ (get_or right m no_tap).re ∷ []
+    ≡ weights_of_q (entries_behind (suc m) right)
 more_q zero right = refl
 more_q (suc m) [] = ap (λ (w : List ℤ). pos 0 ∷ pos 0 ∷ w) (more_q m [])
 more_q (suc m) (r ∷ rs) = ap (λ (w : List ℤ). r.im ∷ r.re ∷ w) (more_q m rs)
 
 more_i : (m : ℕ) (right : List Tap)
-    → (weights_of_i (entries m right) ++ (get_or right m no_tap).re ∷ []) ++ (pos 0 -ℤ (get_or right m no_tap).im) ∷ [] ≡ weights_of_i (entries (suc m) right)
+    → (weights_of_i (entries_behind m right) ++ (get_or right m no_tap).re ∷ []) ++ (pos 0 -ℤ (get_or right m no_tap).im) ∷ []
+    ≡ weights_of_i (entries_behind (suc m) right)
 more_i zero right = refl
 more_i (suc m) [] = ap (λ (w : List ℤ). pos 0 ∷ (pos 0 -ℤ pos 0) ∷ w) (more_i m [])
 more_i (suc m) (r ∷ rs) = ap (λ (w : List ℤ). r.re ∷ (pos 0 -ℤ r.im) ∷ w) (more_i m rs)
@@ -106,23 +108,23 @@ stream_more rows grid k items one two q i some within same e f g p r =
 
 -- one more point
 points_next : (xs : List ℤ) (m : ℕ) → m + 1 < length xs
-    → points_of (drop m xs) ≡ (let p : Point = record { i = get_or xs m (pos 0); q = get_or xs (m + 1) (pos 0) } in p ∷ points_of (drop (m + 2) xs))
+    → points_from (drop m xs) ≡ (let p : Point = record { i = get_or xs m (pos 0); q = get_or xs (m + 1) (pos 0) } in p ∷ points_from (drop (m + 2) xs))
 points_next xs m below =
     let one : drop m xs ≡ get_or xs m (pos 0) ∷ drop (m + 1) xs = rw add-one (drop-cons xs m (pos 0) (omega arith)) in
     let e : suc (m + 1) ≡ m + 2 = omega arith in
     let two : drop (m + 1) xs ≡ get_or xs (m + 1) (pos 0) ∷ drop (m + 2) xs =
     drop-cons xs (m + 1) (pos 0) below ∙ ap (λ (n : ℕ). get_or xs (m + 1) (pos 0) ∷ drop n xs) e in
-    ap points_of (one ∙ ap (λ (ys : List ℤ). get_or xs m (pos 0) ∷ ys) two)
+    ap points_from (one ∙ ap (λ (ys : List ℤ). get_or xs m (pos 0) ∷ ys) two)
 
 pub point_more : (xs : List ℤ) (k : ℕ) (vector next all : List Point) (p : Point) → 2 * k + 1 < length xs → next ≡ vector ++ p ∷ []
     → (let r : Point = record { i = get_or xs (2 * k) (pos 0); q = get_or xs (2 * k + 1) (pos 0) } in p ≡ r)
-    → vector ++ points_of (drop (2 * k) xs) ≡ all → next ++ points_of (drop (2 * (k + 1)) xs) ≡ all
+    → vector ++ points_from (drop (2 * k) xs) ≡ all → next ++ points_from (drop (2 * (k + 1)) xs) ≡ all
 point_more xs k vector next all p below more is e =
     let step : 2 * (k + 1) ≡ 2 * k + 2 = omega arith in
     let r : Point = record { i = get_or xs (2 * k) (pos 0); q = get_or xs (2 * k + 1) (pos 0) } in
-    ap (λ (n : ℕ). next ++ points_of (drop n xs)) step
-    ∙ ap (λ (v : List Point). v ++ points_of (drop (2 * k + 2) xs)) more
-    ∙ append_assoc vector (p ∷ []) (points_of (drop (2 * k + 2) xs))
-    ∙ ap (λ (z : Point). vector ++ z ∷ points_of (drop (2 * k + 2) xs)) is
+    ap (λ (n : ℕ). next ++ points_from (drop n xs)) step
+    ∙ ap (λ (v : List Point). v ++ points_from (drop (2 * k + 2) xs)) more
+    ∙ append_assoc vector (p ∷ []) (points_from (drop (2 * k + 2) xs))
+    ∙ ap (λ (z : Point). vector ++ z ∷ points_from (drop (2 * k + 2) xs)) is
     ∙ ap (λ (ys : List Point). vector ++ ys) (sym (points_next xs (2 * k) below))
     ∙ e

@@ -13,7 +13,7 @@ use Rattle.ht_pam.specs.Ladders.{Rungs, level, lowest, levels}
 use Rattle.ht_pam.specs.Zigzags.{gap}
 use Rattle.ht_pam.proofs.EndLemmas.{times_less}
 use Rattle.ht_sphere.specs.Coordinates.{Real, target, cost, order}
-use Rattle.ht_sphere.specs.Tree.{Found, rounding, inside}
+use Rattle.ht_sphere.specs.Tree.{Reached, rounding, inside}
 use Rattle.ht_sphere.specs.Searching.{leaves, leaves_by, better, Among, IsBestOf}
 use Rattle.ht_sphere.proofs.Bests.{among-append, leaves-le, better-self, farther}
 use Rattle.ht_sphere.proofs.Paths.{in_order}
@@ -74,7 +74,7 @@ least_of_others c s x y h g =
     ]
 
 -- a leaf is under one of the levels
-under_one : (cs : List Real) (c : Real) (s : List ℤ) (p : ℕ) (v : Found) (xs : List ℤ)
+under_one : (cs : List Real) (c : Real) (s : List ℤ) (p : ℕ) (v : Reached) (xs : List ℤ)
     → Among (leaves_by (leaves cs) c s p xs) v → (x : ℤ) × bests.Among xs x × Among (leaves cs (x ∷ s) (p + cost c s x)) v
 under_one cs c s p v [] h = absurd h
 under_one cs c s p v (x ∷ xs) h = elim (among-append (leaves cs (x ∷ s) (p + cost c s x)) (leaves_by (leaves cs) c s p xs) v h) [
@@ -83,10 +83,10 @@ under_one cs c s p v (x ∷ xs) h = elim (among-append (leaves cs (x ∷ s) (p +
 ]
 
 -- each leaf is the one that was found, or at least so far
-abbrev pub OthersFrom : List Real → List ℤ → ℕ → Found → ℕ → Type 0
-OthersFrom cs s p w off = (v : Found) → Among (leaves cs s p) v → (v ≡ w) ⊎ (off ≤ v.1)
+abbrev pub OthersFrom : List Real → List ℤ → ℕ → Reached → ℕ → Type 0
+OthersFrom cs s p w off = (v : Reached) → Among (leaves cs s p) v → (v ≡ w) ⊎ (off ≤ v.1)
 
-pub others_more : (c : Real) (cs : List Real) (s : List ℤ) (p off : ℕ) (x : ℤ) (w : Found) → bests.Among (order c s) x
+pub others_more : (c : Real) (cs : List Real) (s : List ℤ) (p off : ℕ) (x : ℤ) (w : Reached) → bests.Among (order c s) x
     → off ≤ p + (2 * c.diagonal - gap (target c s) c.diagonal x) * (2 * c.diagonal - gap (target c s) c.diagonal x)
     → OthersFrom cs (x ∷ s) (p + cost c s x) w off → OthersFrom (c ∷ cs) s p w off
 others_more c cs s p off x w among least rest v h =
@@ -101,18 +101,18 @@ pub others_none : (s : List ℤ) (p off : ℕ) → OthersFrom [] s p (s, p) off
 others_none s p off v h = elim h [ inl e ↦ inl e | inr none ↦ absurd none ]
 
 -- where all others are farther, it is the best
-pub alone : (cs : List Real) (s : List ℤ) (p off : ℕ) (w : Found) → OthersFrom cs s p w off → w.1 < off → IsBestOf w (leaves cs s p) w
+pub alone : (cs : List Real) (s : List ℤ) (p off : ℕ) (w : Reached) → OthersFrom cs s p w off → w.1 < off → IsBestOf w (leaves cs s p) w
 alone cs s p off w others less = record {
   one = inl refl;
   old_is_not = better-self w;
   none_is = λ v h. elim (others v h) [
-    | inl e ↦ subst (λ (u : Found). better u w ≡ false) (sym e) (better-self w)
+    | inl e ↦ subst (λ (u : Reached). better u w ≡ false) (sym e) (better-self w)
     | inr far ↦ farther v w (omega arith)
   ];
 }
 
 -- two coordinates of successive rounding
-pub round_two : (q i : Real) (rest : List Real) (s : List ℤ) (p m n : ℕ) (x y : ℤ) (w : Found) → x ≡ get_or (order q s) 0 (pos 0) → m ≡ p + cost q s x
+pub round_two : (q i : Real) (rest : List Real) (s : List ℤ) (p m n : ℕ) (x y : ℤ) (w : Reached) → x ≡ get_or (order q s) 0 (pos 0) → m ≡ p + cost q s x
     → y ≡ get_or (order i (x ∷ s)) 0 (pos 0) → n ≡ m + cost i (x ∷ s) y → rounding rest (y ∷ x ∷ s) n ≡ w → rounding (q ∷ i ∷ rest) s p ≡ w
 round_two q i rest s p m n x y w e f g h r =
     ap (λ (z : ℤ). rounding (i ∷ rest) (z ∷ s) (p + cost q s z)) (sym e)
@@ -120,7 +120,7 @@ round_two q i rest s p m n x y w e f g h r =
     ∙ ap (λ (z : ℤ). rounding rest (z ∷ x ∷ s) (m + cost i (x ∷ s) z)) (sym g)
     ∙ ap (λ (k : ℕ). rounding rest (y ∷ x ∷ s) k) (sym h) ∙ r
 
-pub others_two : (q i : Real) (rest : List Real) (s : List ℤ) (p m n off : ℕ) (x y : ℤ) (w : Found) → bests.Among (order q s) x → m ≡ p + cost q s x
+pub others_two : (q i : Real) (rest : List Real) (s : List ℤ) (p m n off : ℕ) (x y : ℤ) (w : Reached) → bests.Among (order q s) x → m ≡ p + cost q s x
     → bests.Among (order i (x ∷ s)) y → n ≡ m + cost i (x ∷ s) y
     → off ≤ p + (2 * q.diagonal - gap (target q s) q.diagonal x) * (2 * q.diagonal - gap (target q s) q.diagonal x)
     → off ≤ m + (2 * i.diagonal - gap (target i (x ∷ s)) i.diagonal y) * (2 * i.diagonal - gap (target i (x ∷ s)) i.diagonal y)

@@ -9,7 +9,7 @@ use Rattle.ht_pam.specs.Ladders.{IsLadder, levels, has}
 use Rattle.ht_pam.specs.Zigzags.{gap, put, nearest_first}
 use Rattle.ht_pam.proofs.ZigzagLemmas.{put_behind, put_before}
 use Rattle.ht_sphere.specs.Coordinates.{Real, target, cost, order}
-use Rattle.ht_sphere.specs.Tree.{Found, rounding}
+use Rattle.ht_sphere.specs.Tree.{Reached, rounding}
 use Rattle.ht_sphere.specs.Searching.{leaves, leaves_by, Among}
 use Rattle.ht_sphere.proofs.Bests.{order_some, among-append, among-left, among-right}
 
@@ -64,11 +64,11 @@ pub has_tried : (c : Real) (s : List ℤ) (x : ℤ) → has c.ladder x ≡ true 
 has_tried c s x h = among_order (gap (target c s) c.diagonal) (levels c.ladder) x (among_list x (levels c.ladder) h)
 
 -- a way from a node down to a leaf
-abbrev pub Path : List Real → List ℤ → ℕ → Found → Type 0
+abbrev pub Path : List Real → List ℤ → ℕ → Reached → Type 0
 Path [] s p v = v ≡ (s, p)
 Path (c ∷ cs) s p v = (x : ℤ) × bests.Among (order c s) x × Path cs (x ∷ s) (p + cost c s x) v
 
-by_path : (cs : List Real) (c : Real) (s : List ℤ) (p : ℕ) (v : Found) → ((t : List ℤ) (q : ℕ) → Among (leaves cs t q) v → Path cs t q v)
+by_path : (cs : List Real) (c : Real) (s : List ℤ) (p : ℕ) (v : Reached) → ((t : List ℤ) (q : ℕ) → Among (leaves cs t q) v → Path cs t q v)
     → (xs : List ℤ) → Among (leaves_by (leaves cs) c s p xs) v → (x : ℤ) × bests.Among xs x × Path cs (x ∷ s) (p + cost c s x) v
 by_path cs c s p v under [] h = absurd h
 by_path cs c s p v under (x ∷ xs) h = elim (among-append (leaves cs (x ∷ s) (p + cost c s x)) (leaves_by (leaves cs) c s p xs) v h) [
@@ -76,11 +76,11 @@ by_path cs c s p v under (x ∷ xs) h = elim (among-append (leaves cs (x ∷ s) 
   | inr rest ↦ let r = by_path cs c s p v under xs rest in (r.0, inr r.1, r.2)
 ]
 
-pub leaf_path : (cs : List Real) (s : List ℤ) (p : ℕ) (v : Found) → Among (leaves cs s p) v → Path cs s p v
+pub leaf_path : (cs : List Real) (s : List ℤ) (p : ℕ) (v : Reached) → Among (leaves cs s p) v → Path cs s p v
 leaf_path [] s p v h = elim h [ inl e ↦ e | inr none ↦ absurd none ]
 leaf_path (c ∷ cs) s p v h = by_path cs c s p v (λ t q. leaf_path cs t q v) (order c s) h
 
-path_by : (cs : List Real) (c : Real) (s : List ℤ) (p : ℕ) (v : Found) (x : ℤ) → Among (leaves cs (x ∷ s) (p + cost c s x)) v
+path_by : (cs : List Real) (c : Real) (s : List ℤ) (p : ℕ) (v : Reached) (x : ℤ) → Among (leaves cs (x ∷ s) (p + cost c s x)) v
     → (xs : List ℤ) → bests.Among xs x → Among (leaves_by (leaves cs) c s p xs) v
 path_by cs c s p v x under [] h = absurd h
 path_by cs c s p v x under (y ∷ ys) h = elim h [
@@ -89,17 +89,17 @@ path_by cs c s p v x under (y ∷ ys) h = elim h [
   | inr rest ↦ among-right (leaves cs (y ∷ s) (p + cost c s y)) (leaves_by (leaves cs) c s p ys) v (path_by cs c s p v x under ys rest)
 ]
 
-pub path_leaf : (cs : List Real) (s : List ℤ) (p : ℕ) (v : Found) → Path cs s p v → Among (leaves cs s p) v
+pub path_leaf : (cs : List Real) (s : List ℤ) (p : ℕ) (v : Reached) → Path cs s p v → Among (leaves cs s p) v
 path_leaf [] s p v h = inl h
 path_leaf (c ∷ cs) s p v h = path_by cs c s p v h.0 (path_leaf cs (h.0 ∷ s) (p + cost c s h.0) v h.2) (order c s) h.1
 
 -- a way through some coordinates and then others
-pub path_apart : (cs ds : List Real) (s : List ℤ) (p : ℕ) (v : Found) → Path (cs ++ ds) s p v → (w : Found) × Path cs s p w × Path ds w.0 w.1 v
+pub path_apart : (cs ds : List Real) (s : List ℤ) (p : ℕ) (v : Reached) → Path (cs ++ ds) s p v → (w : Reached) × Path cs s p w × Path ds w.0 w.1 v
 path_apart [] ds s p v h = ((s, p), refl, h)
 path_apart (c ∷ cs) ds s p v h = let r = path_apart cs ds (h.0 ∷ s) (p + cost c s h.0) v h.2 in (r.0, (h.0, h.1, r.1), r.2)
 
-pub path_joined : (cs ds : List Real) (s : List ℤ) (p : ℕ) (w v : Found) → Path cs s p w → Path ds w.0 w.1 v → Path (cs ++ ds) s p v
-path_joined [] ds s p w v h g = subst (λ (u : Found). Path ds u.0 u.1 v) h g
+pub path_joined : (cs ds : List Real) (s : List ℤ) (p : ℕ) (w v : Reached) → Path cs s p w → Path ds w.0 w.1 v → Path (cs ++ ds) s p v
+path_joined [] ds s p w v h g = subst (λ (u : Reached). Path ds u.0 u.1 v) h g
 path_joined (c ∷ cs) ds s p w v h g = (h.0, h.1, path_joined cs ds (h.0 ∷ s) (p + cost c s h.0) w v h.2 g)
 
 -- each coordinate has a ladder

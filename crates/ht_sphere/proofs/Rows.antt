@@ -11,8 +11,8 @@ use Rattle.ht_metric.specs.declared.tap.Tap.{Tap}
 use Rattle.ht_metric.specs.Rows.{Row}
 use Rattle.ht_metric.specs.Distance.{combined, residual, square, distance_of}
 use Rattle.ht_metric.specs.Vectors.{is_in, levels_of}
-use Rattle.ht_sphere.specs.Coordinates.{Real, cost, weighed, weights_of_i, weights_of_q, entries, in_phase, quadrature, from_last}
-use Rattle.ht_sphere.specs.Tree.{Found}
+use Rattle.ht_sphere.specs.Coordinates.{Real, cost, weighed, weights_of_i, weights_of_q, entries_behind, in_phase, quadrature, from_last}
+use Rattle.ht_sphere.specs.Tree.{Reached}
 use Rattle.ht_sphere.proofs.Paths.{Path, path_apart, path_joined, tried_has, has_tried}
 
 pub none_times : (z : ℤ) → pos 0 *ℤ z ≡ pos 0
@@ -50,7 +50,7 @@ pub add_none : (a b c : ℤ) → a ≡ pos 0 → b ≡ c → a +ℤ b ≡ c
 add_none a b c e f = omega (arith, ints)
 
 -- the weighed levels are the parts of the entries times the points
-q_sum : (right : List Tap) (x : List Point) → weighed (weights_of_q (entries (length x) right)) (levels_of x) ≡ (combined right x).im
+q_sum : (right : List Tap) (x : List Point) → weighed (weights_of_q (entries_behind (length x) right)) (levels_of x) ≡ (combined right x).im
 q_sum [] [] = refl
 q_sum (r ∷ rs) [] = refl
 q_sum [] (p ∷ x) = no_entry p.i p.q _ (q_sum [] x)
@@ -62,7 +62,7 @@ no_entry_i a b m rest e f = let p = none_times a in omega (arith, ints)
 minus_none : (b : ℤ) → (pos 0 -ℤ pos 0) *ℤ b ≡ pos 0
 minus_none b = none_times b
 
-i_sum : (right : List Tap) (x : List Point) → weighed (weights_of_i (entries (length x) right)) (levels_of x) ≡ (combined right x).re
+i_sum : (right : List Tap) (x : List Point) → weighed (weights_of_i (entries_behind (length x) right)) (levels_of x) ≡ (combined right x).re
 i_sum [] [] = refl
 i_sum (r ∷ rs) [] = refl
 i_sum [] (p ∷ x) = no_entry_i p.i p.q ((pos 0 -ℤ pos 0) *ℤ p.q) _ (minus_none p.q) (i_sum [] x)
@@ -89,13 +89,13 @@ abbrev at : ℤ → ℤ → Point
 at i q = record { i = i; q = q }
 
 -- a way down leads to a vector of the grid, and its distance
-pub record LeadsTo (rows : List Row) (grid : List Axes) (v : Found) : Type 0 where
+pub record LeadsTo (rows : List Row) (grid : List Axes) (v : Reached) : Type 0 where
   pub vector : List Point
   pub within : is_in grid vector ≡ true
   pub streams : length vector ≡ length rows
   pub is : v ≡ (levels_of vector, distance_of rows vector)
 
-pub leads : (rows : List Row) (grid : List Axes) (v : Found) → length grid ≡ length rows → Path (from_last rows grid) [] 0 v → LeadsTo rows grid v
+pub leads : (rows : List Row) (grid : List Axes) (v : Reached) → length grid ≡ length rows → Path (from_last rows grid) [] 0 v → LeadsTo rows grid v
 leads [] [] v e h = record { vector = []; within = refl; streams = refl; is = h }
 leads [] (a ∷ grid) v e h = absurd (omega arith)
 leads (row ∷ rows) [] v e h = absurd (omega arith)
@@ -105,7 +105,7 @@ leads (row ∷ rows) (a ∷ grid) v e h =
     let parts = path_apart (from_last rows grid) two [] 0 v h in
     let rest = leads rows grid parts.0 (omega arith) parts.1 in
     let x = rest.vector in
-    let down : Path two (levels_of x) (distance_of rows x) v = subst (λ (u : Found). Path two u.0 u.1 v) rest.is parts.2 in
+    let down : Path two (levels_of x) (distance_of rows x) v = subst (λ (u : Reached). Path two u.0 u.1 v) rest.is parts.2 in
     let q = down.0 in
     let i = down.2.0 in
     let p = at i q in
@@ -116,7 +116,7 @@ leads (row ∷ rows) (a ∷ grid) v e h =
           (and_from (has a.i i) (has a.q q) (tried_has (in_phase n row a) (q ∷ levels_of x) i down.2.1)
           (tried_has (quadrature n row a) (levels_of x) q down.1)) rest.within;
       streams = ap suc rest.streams;
-      is = down.2.2 ∙ ap (λ (m : ℕ). let f : Found = (i ∷ q ∷ levels_of x, m) in f) sum;
+      is = down.2.2 ∙ ap (λ (m : ℕ). let f : Reached = (i ∷ q ∷ levels_of x, m) in f) sum;
     }
 
 is_in-length : (grid : List Axes) (x : List Point) → is_in grid x ≡ true → length x ≡ length grid
@@ -141,9 +141,9 @@ way_to (row ∷ rows) (a ∷ grid) (p ∷ x) e h =
     let rest = way_to rows grid x (omega arith) both.1 in
     let long : length x ≡ n = is_in-length grid x both.1 ∙ (omega arith) in
     let sum = both_costs row a p x n (distance_of rows x) long in
-    let v : Found = (levels_of (p ∷ x), distance_of (row ∷ rows) (p ∷ x)) in
+    let v : Reached = (levels_of (p ∷ x), distance_of (row ∷ rows) (p ∷ x)) in
     path_joined (from_last rows grid) two [] 0 (levels_of x, distance_of rows x) v rest (
       p.q,
       has_tried (quadrature n row a) (levels_of x) p.q mine.1,
-      (p.i, has_tried (in_phase n row a) (p.q ∷ levels_of x) p.i mine.0, sym (ap (λ (m : ℕ). let f : Found = (p.i ∷ p.q ∷ levels_of x, m) in f) sum)),
+      (p.i, has_tried (in_phase n row a) (p.q ∷ levels_of x) p.i mine.0, sym (ap (λ (m : ℕ). let f : Reached = (p.i ∷ p.q ∷ levels_of x, m) in f) sum)),
     )

@@ -7,7 +7,7 @@ use Rattle.ht_metric.specs.declared.place.Place.{Place}
 use Rattle.ht_metric.specs.Rows.{Row}
 use Rattle.ht_metric.specs.Jobs.{JobView, near}
 use Rattle.ht_sphere.specs.Coordinates.{from_last}
-use Rattle.ht_sphere.specs.Tree.{Found, rounding, inside_of}
+use Rattle.ht_sphere.specs.Tree.{Reached, rounding, inside_of}
 
 abbrev two : Rungs
 two = record { size = 2; mask = 3 }
@@ -29,7 +29,7 @@ abbrev flat : List Row
 flat = record { diagonal = 0; right = record { re = pos 10; im = pos 0 } ∷ []; sample = record { re = pos 10; im = negsuc 9 } }
     ∷ record { diagonal = 0; right = []; sample = record { re = pos 0; im = pos 0 } } ∷ []
 
-rounded : rounding (from_last flat (qpsk ∷ qpsk ∷ [])) [] 0 ≡ (let f : Found = (negsuc 0 ∷ negsuc 0 ∷ negsuc 0 ∷ negsuc 0 ∷ [], 400) in f)
+rounded : rounding (from_last flat (qpsk ∷ qpsk ∷ [])) [] 0 ≡ (let f : Reached = (negsuc 0 ∷ negsuc 0 ∷ negsuc 0 ∷ negsuc 0 ∷ [], 400) in f)
 rounded = refl
 
 inside_flat : inside_of (job (qpsk ∷ qpsk ∷ []) flat) ≡ 27
@@ -41,7 +41,7 @@ abbrev slanted : List Row
 slanted = record { diagonal = 10; right = record { re = pos 10; im = pos 0 } ∷ []; sample = record { re = negsuc 19; im = pos 0 } }
     ∷ record { diagonal = 1; right = []; sample = record { re = pos 1; im = pos 0 } } ∷ []
 
-rounded_too_far : rounding (from_last slanted (qpsk ∷ qpsk ∷ [])) [] 0 ≡ (let f : Found = (negsuc 0 ∷ pos 1 ∷ pos 1 ∷ negsuc 0 ∷ [], 401) in f)
+rounded_too_far : rounding (from_last slanted (qpsk ∷ qpsk ∷ [])) [] 0 ≡ (let f : Reached = (negsuc 0 ∷ pos 1 ∷ pos 1 ∷ negsuc 0 ∷ [], 401) in f)
 rounded_too_far = refl
 
 nearest_of_all : let low : Point = record { i = negsuc 0; q = negsuc 0 } in let high : Point = record { i = negsuc 0; q = pos 1 } in

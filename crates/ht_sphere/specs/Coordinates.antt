@@ -42,9 +42,9 @@ abbrev pub cost : Real → List ℤ → ℤ → ℕ
 cost c chosen x = cost_at c (target c chosen) x
 
 -- the entries of a row for this number of streams behind its own
-abbrev pub entries : ℕ → List Tap → List Tap
-entries zero right = []
-entries (suc behind) right = slice_index_or right 0 no_tap ∷ entries behind (drop 1 right)
+abbrev pub entries_behind : ℕ → List Tap → List Tap
+entries_behind zero right = []
+entries_behind (suc behind) right = slice_index_or right 0 no_tap ∷ entries_behind behind (drop 1 right)
 
 -- the weights of I and Q of each stream behind, for a coordinate I and for a coordinate Q
 abbrev pub weights_of_i : List Tap → List ℤ
@@ -58,20 +58,20 @@ weights_of_q (r ∷ rs) = r.im ∷ r.re ∷ weights_of_q rs
 -- what the streams behind row k, counted from 1, leave of its sample
 abbrev pub left_i : List Row → ℕ → List ℤ → ℤ
 left_i rows k behind =
-    let row = slice_index_or rows (k - 1) no_row in row.sample.re -ℤ weighed (weights_of_i (entries (length rows - k) row.right)) behind
+    let row = slice_index_or rows (k - 1) no_row in row.sample.re -ℤ weighed (weights_of_i (entries_behind (length rows - k) row.right)) behind
 
 abbrev pub left_q : List Row → ℕ → List ℤ → ℤ
 left_q rows k behind =
-    let row = slice_index_or rows (k - 1) no_row in row.sample.im -ℤ weighed (weights_of_q (entries (length rows - k) row.right)) behind
+    let row = slice_index_or rows (k - 1) no_row in row.sample.im -ℤ weighed (weights_of_q (entries_behind (length rows - k) row.right)) behind
 
 -- the coordinates of a row with this number of streams behind it: Q of its own stream has no weight in I's
 abbrev pub in_phase : ℕ → Row → Axes → Real
 in_phase behind row a =
-    record { ladder = a.i; diagonal = row.diagonal; sample = row.sample.re; weights = pos 0 ∷ weights_of_i (entries behind row.right) }
+    record { ladder = a.i; diagonal = row.diagonal; sample = row.sample.re; weights = pos 0 ∷ weights_of_i (entries_behind behind row.right) }
 
 abbrev pub quadrature : ℕ → Row → Axes → Real
 quadrature behind row a =
-    record { ladder = a.q; diagonal = row.diagonal; sample = row.sample.im; weights = weights_of_q (entries behind row.right) }
+    record { ladder = a.q; diagonal = row.diagonal; sample = row.sample.im; weights = weights_of_q (entries_behind behind row.right) }
 
 -- all coordinates, from Q of the last stream to I of the first one
 abbrev pub from_last : List Row → List Axes → List Real
@@ -98,7 +98,7 @@ abbrev pub from_q : List Row → List Axes → ℕ → List Real
 from_q rows grid j = q_at rows grid j ∷ from_i rows grid j
 
 -- the vector of levels I_1, Q_1, I_2 and so on
-abbrev pub points_of : List ℤ → List Point
-points_of [] = []
-points_of (i ∷ []) = []
-points_of (i ∷ q ∷ rest) = record { i = i; q = q } ∷ points_of rest
+abbrev pub points_from : List ℤ → List Point
+points_from [] = []
+points_from (i ∷ []) = []
+points_from (i ∷ q ∷ rest) = record { i = i; q = q } ∷ points_from rest

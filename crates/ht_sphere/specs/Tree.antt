@@ -19,11 +19,11 @@ inside rho [] chosen partial = one (nat_lt rho partial)
 inside rho (c ∷ cs) chosen partial = one (nat_lt rho partial) + inside_by (inside rho cs) c chosen partial (order c chosen)
 
 -- levels with their distance
-abbrev pub Found : Type 0
-Found = List ℤ × ℕ
+abbrev pub Reached : Type 0
+Reached = List ℤ × ℕ
 
 -- successive rounding: each coordinate has the level that is nearest behind those chosen before
-abbrev pub rounding : List Real → List ℤ → ℕ → Found
+abbrev pub rounding : List Real → List ℤ → ℕ → Reached
 rounding [] chosen partial = (chosen, partial)
 rounding (c ∷ cs) chosen partial =
     rounding cs (slice_index_or (order c chosen) 0 (pos 0) ∷ chosen) (partial + cost c chosen (slice_index_or (order c chosen) 0 (pos 0)))

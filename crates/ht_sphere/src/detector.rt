@@ -2,7 +2,7 @@
 ghost use Rattle.std.specs.Prelude.{◌≡◌, ◌<◌, ◌≤◌, ◌+◌, ◌*◌, ◌^◌, [], length, unsigned_abs};
 ghost use Rattle.std.specs.List.{All};
 ghost use Rattle.ht_metric.specs.Jobs.{near};
-ghost use Rattle.ht_sphere.specs.Coordinates.{from_last, points_of};
+ghost use Rattle.ht_sphere.specs.Coordinates.{from_last, points_from};
 ghost use Rattle.ht_sphere.specs.Tree.{rounding, inside, inside_of};
 ghost use Rattle.ht_sphere.specs.Searching.{leaves, IsBestOf};
 
@@ -28,7 +28,11 @@ pub fn nearest<L: Ledger>(job: &Job, steps: &mut Steps<L>) -> Hit
     let mut levels = [0i8; 8];
     let levels = &mut levels[..2 * usize::from(job.system().streams())];
     let distance = find(job, levels, steps);
-    Hit::of(job.copy(), vector_of(levels), distance)
+    Hit {
+        job: job.copy(),
+        vector: vector_of(levels),
+        distance,
+    }
 }
 
 // The levels of the best vector, and its distance. Successive rounding comes first, and ends the search where no other

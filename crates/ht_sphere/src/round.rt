@@ -4,7 +4,7 @@ ghost use Rattle.std.specs.List.{All};
 ghost use Rattle.ht_pam.specs.Zigzags.{gap};
 ghost use Rattle.ht_metric.specs.Distance.{square};
 ghost use Rattle.ht_sphere.specs.Coordinates.{down};
-ghost use Rattle.ht_sphere.specs.Tree.{Found, rounding};
+ghost use Rattle.ht_sphere.specs.Tree.{Reached, rounding};
 ghost use Rattle.ht_sphere.specs.Searching.{Among, leaves};
 
 use crate::remainder::{cost, cost_of_others, nearest_i, nearest_q, remainder_of};
@@ -19,7 +19,7 @@ pub(crate) fn round(job: &Job, k: u8, levels: &mut [i8], distance: &mut u128, ot
     requires small { distance.old + 2 ^ 65 * k < 2 ^ 128 }
     ensures found { rounding (down job.now.system job.now.grid k) (drop (2 * k) levels.old) distance.old ≡ (levels.new, distance.new) }
     ensures room { distance.new ≤ distance.old + (2 ^ 63 + 2 ^ 56) * k }
-    ensures others { (v : Found) → Among (leaves (down job.now.system job.now.grid k) (drop (2 * k) levels.old) distance.old) v
+    ensures others { (v : Reached) → Among (leaves (down job.now.system job.now.grid k) (drop (2 * k) levels.old) distance.old) v
         → (v ≡ (levels.new, distance.new)) ⊎ (others.new ≤ v.1) }
     ensures less { others.new ≤ others.old }
     ensures levels { All (λ x. unsigned_abs x ≤ 7) levels.new }

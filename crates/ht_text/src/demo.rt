@@ -2,7 +2,7 @@
 ghost use Rattle.std.specs.Prelude.{◌≡◌, IfOk};
 ghost use Rattle.ht_text.specs.Lines.{demo_text};
 
-use crate::sums::push_sums;
+use crate::sums::{LONGEST, push_sums};
 use std::alloc::{AllocError, Global};
 
 /// The line `demo frames F symbols S jobs J matched M data D pilot P code C`.
@@ -27,7 +27,8 @@ pub fn demo_line(
     let mut text = format!(in alloc;
         "demo frames {frames} symbols {symbols} jobs {jobs} matched {matched}"
     )?;
-    push_sums(&mut text, data_sum, pilot_sum, code)?;
+    text.reserve(LONGEST)?;
+    push_sums(&mut text, data_sum, pilot_sum, code);
     text.push_str("\n")?;
     Ok(text.into_bytes())
 }

@@ -1,12 +1,17 @@
 //! The line of a received frame.
-ghost use Rattle.std.specs.Prelude.{◌≡◌, ◌<◌, ◌++◌, IfOk, OnOk, string_bytes};
+ghost use Rattle.std.specs.Prelude.{◌≡◌, ◌+◌, ◌*◌, ◌<◌, ◌≤◌, ◌++◌, [], ◌∷◌, IfOk, OnErr, OnOk};
+ghost use Rattle.std.specs.Prelude.{codes, decimal, length, string_bytes, string_len, string_capacity};
 ghost use Rattle.std.specs.Option.{option_copied};
-ghost use Rattle.ht_text.specs.Lines.{frame_text, hex, hex_digit, outcome_text};
+ghost use Rattle.ht_text.specs.Lines.{frame_text, hex, hex_digit, sums_text};
 
-use crate::sums::push_sums;
+use crate::room::{push, push_number};
+use crate::sums::{LONGEST as SUMS, push_sums};
 use std::alloc::{AllocError, Global};
 
 static HEX_DIGITS: [u8; 16] = *b"0123456789abcdef";
+
+/// Room for what stands before the sums and behind them, but for the digits of the octets.
+const REST: usize = 22;
 
 /// The line `frame N data D pilot P code C octets HEX`, or `frame N data D pilot P code C seed zero`.
 ///
@@ -14,7 +19,6 @@ static HEX_DIGITS: [u8; 16] = *b"0123456789abcdef";
 /// jobs on data and on pilot subcarriers, and `code` is the sum of the Hamming distances of its codewords from the
 /// detected bits. `octets` is the PSDU, two lower-case digits per octet, or `None` where the descrambler found no seed.
 /// The only error is lack of memory.
-#[tactic(auto, unfolding(crate::specs::Lines::frame_text))]
 pub fn frame_line(
     alloc: Global,
     frame: u16,
@@ -26,36 +30,90 @@ pub fn frame_line(
     ensures { IfOk result (λ v.
         v.items ≡ frame_text frame data_sum pilot_sum code (option_copied octets.entry)) }
 {
-    let mut text = format!(in alloc; "frame {frame}")?;
-    push_sums(&mut text, data_sum, pilot_sum, u64::from(code))?;
-    push_outcome(&mut text, octets)?;
-    text.push_str("\n")?;
+    let mut text = String::new(alloc);
+    push_frame_line(&mut text, frame, data_sum, pilot_sum, code, octets)?;
     Ok(text.into_bytes())
 }
 
-// Appends the octets, or that there was no seed.
-#[tactic(auto, unfolding(crate::specs::Lines::outcome_text))]
-fn push_outcome(text: &mut String, octets: Option<&[u8]>) -> Result<(), AllocError>
-    ensures { OnOk result (string_bytes text.new
-        ≡ string_bytes text.old ++ outcome_text (option_copied octets.entry)) }
+/// Appends to `text` the line that `frame_line` makes, so that one text serves for the lines of many frames.
+///
+/// Only memory can fail; `text` is then as it was.
+#[tactic(auto, unfolding(crate::specs::Lines::frame_text, crate::specs::Lines::outcome_text))]
+pub fn push_frame_line(
+    text: &mut String,
+    frame: u16,
+    data_sum: u128,
+    pilot_sum: u128,
+    code: u32,
+    octets: Option<&[u8]>,
+) -> Result<(), AllocError>
+    ensures ok { OnOk result (string_bytes text.new
+        ≡ string_bytes text.old ++ frame_text frame data_sum pilot_sum code (option_copied octets.entry)) }
+    ensures err { OnErr result (string_bytes text.new ≡ string_bytes text.old) }
 {
     let Some(octets) = octets else {
-        return text.push_str(" seed zero");
+        text.reserve(SUMS + REST)?;
+        push_head(text, frame, data_sum, pilot_sum, code);
+        push(text, " seed zero\n");
+        return Ok(());
     };
-    text.push_str(" octets ")?;
-    push_hex(text, octets)
+    text.reserve(room_for(octets)?)?;
+    push_head(text, frame, data_sum, pilot_sum, code);
+    push(text, " octets ");
+    push_hex(text, octets);
+    push(text, "\n");
+    Ok(())
 }
 
-// Appends two lower-case digits for each octet.
-fn push_hex(text: &mut String, octets: &[u8]) -> Result<(), AllocError>
-    ensures { OnOk result (string_bytes text.new ≡ string_bytes text.old ++ hex octets.now) }
+// Room for the line of a frame of these octets. Octets whose line is longer than a number can count have no room in any
+// memory.
+fn room_for(octets: &[u8]) -> Result<usize, AllocError>
+    ensures { IfOk result (λ room. room ≡ SUMS + REST + 2 * length octets.now) }
 {
-    text.reserve(2 * octets.len())?;
-    for octet in octets {
-        text.push(digit(*octet / 16))?;
-        text.push(digit(*octet % 16))?;
+    let Some(digits) = octets.len().checked_mul(2) else {
+        return Err(AllocError);
+    };
+    match digits.checked_add(SUMS + REST) {
+        Some(room) => Ok(room),
+        None => Err(AllocError),
     }
-    Ok(())
+}
+
+// Appends the frame's number and the sums, for which the text has room.
+fn push_head(text: &mut String, frame: u16, data_sum: u128, pilot_sum: u128, code: u32)
+    requires room { string_len text.old + (11 + SUMS) ≤ string_capacity text.old }
+    ensures bytes { string_bytes text.new ≡ string_bytes text.old ++ codes "frame " ++ decimal frame ++ sums_text data_sum pilot_sum code }
+    ensures room { string_len text.new + string_capacity text.old ≤ string_len text.old + (11 + SUMS) + string_capacity text.new }
+{
+    push(text, "frame ");
+    push_number(text, frame);
+    push_sums(text, data_sum, pilot_sum, u64::from(code));
+}
+
+// Appends two lower-case digits for each octet, for which the text has room.
+fn push_hex(text: &mut String, octets: &[u8])
+    requires room { string_len text.old + 2 * length octets.now ≤ string_capacity text.old }
+    ensures bytes { string_bytes text.new ≡ string_bytes text.old ++ hex octets.now }
+    ensures room { string_len text.new + string_capacity text.old ≤ string_len text.old + 2 * length octets.now + string_capacity text.new }
+{
+    for octet in octets {
+        push_digit(text, *octet / 16);
+        push_digit(text, *octet % 16);
+    }
+}
+
+// Appends the lower-case digit of half an octet, for which the text has room.
+fn push_digit(text: &mut String, half: u8)
+    requires half { half < 16 }
+    requires room { string_len text.old + 1 ≤ string_capacity text.old }
+    ensures bytes { string_bytes text.new ≡ string_bytes text.old ++ hex_digit half ∷ [] }
+    ensures len { string_len text.new ≡ string_len text.old + 1 }
+    ensures capacity { string_capacity text.old ≤ string_capacity text.new }
+{
+    match text.push(digit(half)) {
+        Ok(()) => {}
+        Err(_) => unreachable!(),
+    }
 }
 
 // The lower-case digit of half an octet.

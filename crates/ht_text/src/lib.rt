@@ -20,11 +20,12 @@ mod demo;
 mod ends;
 mod frame;
 mod job;
+mod room;
 mod sums;
 #[cfg(test)]
 mod tests;
 
 pub use demo::demo_line;
 pub use ends::{end_line, refused_line, usage_line};
-pub use frame::frame_line;
+pub use frame::{frame_line, push_frame_line};
 pub use job::{job_line, push_job_line};

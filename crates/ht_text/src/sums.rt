@@ -1,19 +1,23 @@
 //! The sums that the lines of frames and of demonstrations share.
-ghost use Rattle.std.specs.Prelude.{◌≡◌, ◌++◌, OnOk, string_bytes};
+ghost use Rattle.std.specs.Prelude.{◌≡◌, ◌+◌, ◌≤◌, ◌++◌, string_bytes, string_len, string_capacity};
 ghost use Rattle.ht_text.specs.Lines.{sums_text};
 
-use std::alloc::AllocError;
+use crate::room::{push, push_number};
 
-/// Appends ` data D pilot P code C`.
+/// Room for the sums where all numbers are the largest.
+pub(crate) const LONGEST: usize = 117;
+
+/// Appends ` data D pilot P code C` to a text that has room for it.
 #[tactic(auto, unfolding(crate::specs::Lines::sums_text))]
-pub(crate) fn push_sums(
-    text: &mut String,
-    data_sum: u128,
-    pilot_sum: u128,
-    code: u64,
-) -> Result<(), AllocError>
-    ensures { OnOk result
-        (string_bytes text.new ≡ string_bytes text.old ++ sums_text data_sum pilot_sum code) }
+pub(crate) fn push_sums(text: &mut String, data_sum: u128, pilot_sum: u128, code: u64)
+    requires room { string_len text.old + LONGEST ≤ string_capacity text.old }
+    ensures bytes { string_bytes text.new ≡ string_bytes text.old ++ sums_text data_sum pilot_sum code }
+    ensures room { string_len text.new + string_capacity text.old ≤ string_len text.old + LONGEST + string_capacity text.new }
 {
-    write!(text, " data {data_sum} pilot {pilot_sum} code {code}")
+    push(text, " data ");
+    push_number(text, data_sum);
+    push(text, " pilot ");
+    push_number(text, pilot_sum);
+    push(text, " code ");
+    push_number(text, code);
 }

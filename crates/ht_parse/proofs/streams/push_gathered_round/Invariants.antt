@@ -1,5 +1,5 @@
 use Rattle.std.proofs.Common.{◌≡◌, ◌+◌, ◌*◌, vec_len, vec_capacity}
-use Rattle.ht_parse.specs.Runs.{Follows, gathered_bit}
+use Rattle.ht_parse.specs.Runs.{FollowsRule, gathered_bit}
 use Rattle.ht_parse.specs.Streams.{share_of}
 use Rattle.ht_parse.proofs.streams.push_gathered_round.Given as goal
 
@@ -7,5 +7,5 @@ abbrev pub invariant-loop-stream : goal.invariant-loop-stream
 invariant-loop-stream l = record {
   count : vec_len l.list ≡ (l.round * l.layout.streams + l.stream) * l.layout.run;
   room : vec_capacity l.list ≡ share_of l.layout.rate;
-  gathered : Follows (gathered_bit l.layout.rate l.bits l.encoder) l.list.items;
+  gathered : FollowsRule (gathered_bit l.layout.rate l.bits l.encoder) l.list.items;
 }

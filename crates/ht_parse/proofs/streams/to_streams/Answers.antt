@@ -1,7 +1,7 @@
 use Rattle.std.proofs.Common.{◌≡◌, ◌*◌, length, arith, ap, subst, ◌∙◌}
 use Rattle.ht_rate.specs.declared.rates.Rate.{Rate}
 use Rattle.ht_rate.specs.Rates.{coded_bits_of}
-use Rattle.ht_parse.specs.Runs.{Follows, laid_bit}
+use Rattle.ht_parse.specs.Runs.{FollowsRule, laid_bit}
 use Rattle.ht_parse.proofs.Sizes.{sizes-symbol}
 use Rattle.ht_parse.proofs.Whole.{laid-whole}
 use Rattle.ht_parse.proofs.streams.to_streams.Goals as goal
@@ -17,4 +17,5 @@ returns c =
     omega (arith, symbol, turned, c.loop-stream.invariant.count, c.loop-stream.bits.ok.0) in
     laid-whole c.args.rate.now c.loop-stream.bits.items c.args.first.now c.args.second.now
     (whole ∙ ap coded_bits_of c.of-layout.ensures) c.requires.share c.requires.shares
-    (subst (λ (r : Rate). Follows (laid_bit r c.args.first.now c.args.second.now) c.loop-stream.bits.items) c.of-layout.ensures c.loop-stream.invariant.laid)
+    (subst (λ (r : Rate). FollowsRule (laid_bit r c.args.first.now c.args.second.now) c.loop-stream.bits.items)
+    c.of-layout.ensures c.loop-stream.invariant.laid)

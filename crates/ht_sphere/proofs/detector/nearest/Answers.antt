@@ -6,15 +6,15 @@ use Rattle.ht_sphere.specs.Coordinates.{from_last}
 use Rattle.ht_sphere.proofs.Finding.{answered}
 use Rattle.ht_sphere.proofs.detector.nearest.Goals as goal
 
-pub of-requires-clause-near : goal.of-requires-clause-near
-of-requires-clause-near g c =
+pub invariant_of-result-clause-near : goal.invariant_of-result-clause-near
+invariant_of-result-clause-near g c =
     let job = c.args.job.now in
     let a = answered job (from_last job.system job.grid) c.find-distance.new.levels c.find-distance.result
     c.vector_of.result c.system.ensures.job refl c.find-distance.ensures.best c.vector_of.ensures in
     subst (λ (j : JobView). IsNear j c.vector_of.result) (sym c.copy.ensures) a.0
 
-pub of-requires-clause-distance : goal.of-requires-clause-distance
-of-requires-clause-distance g c =
+pub invariant_of-result-clause-far : goal.invariant_of-result-clause-far
+invariant_of-result-clause-far g c =
     let job = c.args.job.now in
     let a = answered job (from_last job.system job.grid) c.find-distance.new.levels c.find-distance.result
     c.vector_of.result c.system.ensures.job refl c.find-distance.ensures.best c.vector_of.ensures in
@@ -26,5 +26,5 @@ returns-clause-near g c =
     let x = c.vector_of.result in
     let a = answered job (from_last job.system job.grid) c.find-distance.new.levels c.find-distance.result
     x c.system.ensures.job refl c.find-distance.ensures.best c.vector_of.ensures in
-    near_is job x a.0 ∙ found_same job x c.of.result.vector c.of.result.distance
-    c.find-distance.result job.system c.of.ensures.vector c.of.ensures.distance a.1 refl
+    near_is job x a.0 ∙ found_same job x x c.find-distance.result
+    c.find-distance.result job.system refl refl a.1 refl

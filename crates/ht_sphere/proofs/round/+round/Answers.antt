@@ -3,7 +3,7 @@ use Rattle.std.proofs.Common.{w64, SFits, to_z, of_z, to_z-of_z, unsigned_abs, a
 use Rattle.std.proofs.lemmas.List.Elements.{All-set}
 use Rattle.std.proofs.Math.ListN.{length-set}
 use Rattle.ht_sphere.specs.Coordinates.{Real, cost, order, target, down, from_q, q_at, i_at}
-use Rattle.ht_sphere.specs.Tree.{Found, rounding}
+use Rattle.ht_sphere.specs.Tree.{Reached, rounding}
 use Rattle.ht_sphere.proofs.Down.{down_more}
 use Rattle.ht_sphere.proofs.Others.{OthersFrom, others_two, round_two}
 use Rattle.ht_sphere.proofs.Steps.{two_set, cost_is, others_is, first_at, first_is}
@@ -96,7 +96,7 @@ returns-clause-others t c =
     let x = c.nearest_q-level.result in
     let y = c.nearest_i-level.result in
     let off = c.round.new.others in
-    let w : Found = (c.round.new.levels, c.round.new.distance) in
+    let w : Reached = (c.round.new.levels, c.round.new.distance) in
     let x_is : to_z w8 (of_z w8 c.chosen-q.result.level) ≡ x = to_z-of_z x_fits ∙ c.chosen-q.ensures.level ∙ a in
     let y_is : to_z w8 (of_z w8 c.chosen-i.result.level) ≡ y = to_z-of_z y_fits ∙ c.chosen-i.ensures.level ∙ b in
     let u : to_z w64 (of_z w64 c.remainder_of-left.result.im) ≡ target q s = to_z-of_z im_fits ∙ c.remainder_of-left.ensures.im in

@@ -4,7 +4,7 @@ use Rattle.std.proofs.lemmas.List.Elements.{All-set}
 use Rattle.std.proofs.Math.ListN.{length-set}
 use Rattle.ht_pam.specs.Zigzags.{Ascending}
 use Rattle.ht_sphere.specs.Coordinates.{Real, cost, order, order_at, target, q_at, i_at, from_i, down}
-use Rattle.ht_sphere.specs.Tree.{Found, inside, inside_by}
+use Rattle.ht_sphere.specs.Tree.{Reached, inside, inside_by}
 use Rattle.ht_sphere.specs.Searching.{leaves, leaves_by, IsBestOf}
 use Rattle.ht_sphere.proofs.Bests.{best-none, best-append, best-cut, still_at, steps-on, steps-start, sorted}
 use Rattle.ht_sphere.proofs.Down.{down_more}
@@ -41,7 +41,7 @@ quadrature-loop-level-init g t c =
       less = omega arith;
       levels = c.requires.levels;
       sorted = subst (Ascending (cost choice s)) (sym listed) (sorted choice (target choice s));
-      best = λ b h. subst (λ (l : List Found). IsBestOf (c.args.best.now, c.args.distance.now) l b)
+      best = λ b h. subst (λ (l : List Reached). IsBestOf (c.args.best.now, c.args.distance.now) l b)
           (ap (leaves_by (leaves choices) choice s c.args.partial) listed) h;
       steps = λ rho p q.
           let rest : inside_by (inside rho choices) choice s c.args.partial c.walk_of_q-walk.result
@@ -228,7 +228,7 @@ in_phase-loop-level-init g t c =
       less = omega arith;
       levels = c.requires.levels;
       sorted = subst (Ascending (cost choice s)) (sym listed) (sorted choice (target choice s));
-      best = λ b h. subst (λ (l : List Found). IsBestOf (c.args.best.now, c.args.distance.now) l b)
+      best = λ b h. subst (λ (l : List Reached). IsBestOf (c.args.best.now, c.args.distance.now) l b)
           (ap (leaves_by (leaves choices) choice s c.args.partial) listed) h;
       steps = λ rho p q.
           let rest : inside_by (inside rho choices) choice s c.args.partial c.walk_of_i-walk.result

@@ -2,7 +2,7 @@ use Rattle.std.proofs.Common.{length, ◌≡◌, ◌+◌, ◌-◌, ◌*◌, ◌�
 use Rattle.std.specs.List.{All}
 use Rattle.ht_pam.specs.Zigzags.{Ascending}
 use Rattle.ht_sphere.specs.Coordinates.{cost, q_at, i_at, from_i, down}
-use Rattle.ht_sphere.specs.Tree.{Found, inside, inside_by}
+use Rattle.ht_sphere.specs.Tree.{Reached, inside, inside_by}
 use Rattle.ht_sphere.specs.Searching.{leaves, leaves_by, IsBestOf}
 use Rattle.ht_sphere.proofs.search.+walk.Given as goal
 
@@ -24,7 +24,7 @@ invariant-quadrature-loop-level g l = record {
   chosen : drop (2 * l.fn.k) l.levels ≡ drop (2 * l.fn.k) l.fn.levels;
   less : l.distance ≤ l.fn.distance;
   sorted : Ascending (cost (q_at l.fn.job.system l.fn.job.grid (l.fn.k - 1)) (drop (2 * l.fn.k) l.fn.levels)) l.walk;
-  best : (b : Found) → IsBestOf (l.best, l.distance)
+  best : (b : Reached) → IsBestOf (l.best, l.distance)
       (leaves_by (leaves (from_i l.fn.job.system l.fn.job.grid (l.fn.k - 1)))
       (q_at l.fn.job.system l.fn.job.grid (l.fn.k - 1)) (drop (2 * l.fn.k) l.fn.levels) l.fn.partial l.walk) b
       → IsBestOf (l.fn.best, l.fn.distance)
@@ -48,7 +48,7 @@ invariant-in_phase-loop-level g l = record {
   chosen : drop (2 * l.fn.k - 1) l.levels ≡ drop (2 * l.fn.k - 1) l.fn.levels;
   less : l.distance ≤ l.fn.distance;
   sorted : Ascending (cost (i_at l.fn.job.system l.fn.job.grid (l.fn.k - 1)) (drop (2 * l.fn.k - 1) l.fn.levels)) l.walk;
-  best : (b : Found) → IsBestOf (l.best, l.distance)
+  best : (b : Reached) → IsBestOf (l.best, l.distance)
       (leaves_by (leaves (down l.fn.job.system l.fn.job.grid (l.fn.k - 1)))
       (i_at l.fn.job.system l.fn.job.grid (l.fn.k - 1)) (drop (2 * l.fn.k - 1) l.fn.levels) l.fn.partial l.walk) b
       → IsBestOf (l.fn.best, l.fn.distance)

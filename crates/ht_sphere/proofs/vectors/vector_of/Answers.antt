@@ -1,7 +1,7 @@
 use Rattle.std.proofs.Common.{rules, ◌+◌, ◌*◌, ◌∷◌, [], arith, ap, length, length-append, get_or, pos, w8, SFits, to_z, of_z, to_z-of_z}
 use Rattle.ht_pam.specs.declared.point.Point.{Point}
 use Rattle.ht_metric.proofs.Order.{same_points}
-use Rattle.ht_sphere.specs.Coordinates.{points_of}
+use Rattle.ht_sphere.specs.Coordinates.{points_from}
 use Rattle.ht_sphere.proofs.Making.{point_more}
 use Rattle.ht_sphere.proofs.vectors.vector_of.Goals as goal
 
@@ -17,6 +17,6 @@ loop-k-preserved c =
     let r : Point = record { i = i; q = q } in
     record {
       count = omega (arith, ap length c.push.ensures, length-append c.loop-k.vector (p ∷ []), c.loop-k.invariant.count);
-      points = point_more xs k c.loop-k.vector c.push.new.self (points_of xs) p (omega arith) c.push.ensures
+      points = point_more xs k c.loop-k.vector c.push.new.self (points_from xs) p (omega arith) c.push.ensures
           (same_points p r (to_z-of_z i_fits) (to_z-of_z q_fits)) c.loop-k.invariant.points;
     }
