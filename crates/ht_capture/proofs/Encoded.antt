@@ -3,6 +3,7 @@ use Rattle.std.proofs.Common.{◌≡◌, ℕ, zero, suc, ◌+◌, ◌*◌, ◌-�
 use Rattle.std.proofs.Common.{refl, sym, ap, subst, ◌∙◌, append_assoc, arith, w16, w32, FitsSigned, Bool, true, false, ◌&&◌, ◌||◌, nat_eq, nat_lt}
 use Rattle.std.proofs.lemmas.Bool.Decides.{nat_tests}
 use Rattle.ht_rate.specs.Rates.{carriers_of}
+use Rattle.ht_capture.proofs.Grids.{length-legs_at}
 use Rattle.ht_capture.specs.declared.items.FrameHead.{FrameHead}
 use Rattle.ht_capture.specs.Fields.{bad_flag}
 use Rattle.std.proofs.lemmas.Int.{of_z-to_z, ints}
@@ -15,7 +16,8 @@ use Rattle.ht_metric.specs.Rows.{Leg}
 use Rattle.ht_capture.specs.Numbers.{tap_at, sample_at}
 use Rattle.ht_capture.specs.Systems.{taps_at, legs_at, triangle_of, triangle_octets}
 use Rattle.ht_capture.specs.Files.{tap_octets, sample_octets, taps_octets, leg_octets, legs_octets}
-use Rattle.ht_capture.specs.Contents.{AreBytes, AreTaps, AreSamples, AreLegs}
+use Rattle.ht_capture.specs.Contents.{AreTaps, AreSamples, AreLegs}
+use Rattle.ht_fields.specs.Tests.{AreBytes}
 
 -- two octets, and then the rest
 two_more : (octets : List ℕ) (at : ℕ) → at + 2 ≤ length octets → drop at octets ≡ get_or octets at 0 ∷ get_or octets (at + 1) 0 ∷ drop (at + 2) octets
@@ -85,10 +87,6 @@ taps_back (suc n) octets at enough bytes =
       append_assoc first (taps_octets n (taps_at n octets (at + 4))) (drop (at + 4 * suc n) octets)
           ∙ (ap (λ (z : List ℕ). first ++ z) (ap (λ k. taps_octets n (taps_at n octets (at + 4)) ++ drop k octets) e ∙ ts.2) ∙ t.2),
     )
-
-length-legs_at : (n : ℕ) (octets : List ℕ) (at : ℕ) → length (legs_at n octets at) ≡ n
-length-legs_at zero octets at = refl
-length-legs_at (suc n) octets at = ap suc (length-legs_at n octets _)
 
 legs_back : (n : ℕ) (octets : List ℕ) (at : ℕ) → at + 2 * (n * n) ≤ length octets → AreBytes octets
     → AreLegs (legs_at n octets at) × (legs_octets (legs_at n octets at) ++ drop (at + 2 * (n * n)) octets ≡ drop at octets)

@@ -19,12 +19,15 @@ use Rattle.ht_metric.specs.declared.sample.Sample.{Sample}
 use Rattle.ht_metric.specs.Rows.{Leg}
 use Rattle.ht_capture.specs.declared.frames.CaptureFrame.{CaptureFrame}
 use Rattle.ht_capture.specs.Systems.{triangle_of}
-use Rattle.ht_capture.specs.Files.{AreFrames, FitsFrame, behind, carriers_octets, file_of, flagged, flagged_octets, frame_octets}
-use Rattle.ht_capture.specs.Files.{front_octets, head_octets, is_erased, legs_octets, present_among, sample_octets, start_octets}
+use Rattle.ht_capture.specs.Files.{AreCaptureFrames, FitsFrame, triangles_behind, carriers_octets}
+use Rattle.ht_capture.specs.Files.{capture_file_of, flagged, flagged_octets, capture_frame_octets}
+use Rattle.ht_capture.specs.Files.{front_octets, is_erased, legs_octets, present_among, sample_octets}
 use Rattle.ht_capture.specs.Contents.{AreLegs, AreSamples, AreTriangles, AreTyped, IsTyped, IsVersion}
 use Rattle.ht_capture.proofs.Decoded.{sample_read, triangle_read}
 use Rattle.ht_capture.proofs.Written.{length-legs}
+use Rattle.ht_capture.proofs.Routes.{behind_length, behind_typed}
 use Rattle.ht_capture.proofs.Filed.{CanBe, can_be, others}
+use Rattle.ht_heads.specs.Heads.{head_octets, start_octets}
 
 -- triangles of as many streams
 legs_same : (t u : List Leg) (xs ys : List ℕ) → length t ≡ length u → length t ≤ 4
@@ -65,7 +68,7 @@ head_of_list xs ys e = ap (λ l. get_or l 0 0) e
 -- one subcarrier of version 2
 flag_same : (b c : Bool) (streams m n : ℕ) (ts us : List (List Leg)) (xs ys : List ℕ) → streams ≤ 4
     → length ts ≡ (if b then m else 1 + m) → length us ≡ (if c then n else 1 + n) → AreTriangles streams ts → AreTriangles streams us
-    → flagged b ts ++ xs ≡ flagged c us ++ ys → (b ≡ c) × (behind b ts ≡ behind c us → ts ≡ us) × (xs ≡ ys)
+    → flagged b ts ++ xs ≡ flagged c us ++ ys → (b ≡ c) × (triangles_behind b ts ≡ triangles_behind c us → ts ≡ us) × (xs ≡ ys)
 flag_same true true streams m n ts us xs ys few len size t u e = (refl, (λ same. same), ap (drop 1) e)
 flag_same true false streams m n ts us xs ys few len size t u e = let one : 1 ≡ 0 = head_of_list _ _ e in absurd (omega (arith, one))
 flag_same false true streams m n ts us xs ys few len size t u e = let one : 0 ≡ 1 = head_of_list _ _ e in absurd (omega (arith, one))
@@ -74,16 +77,6 @@ flag_same false false streams m n (x ∷ ts) [] xs ys few len size t u e = absur
 flag_same false false streams m n (x ∷ ts) (y ∷ us) xs ys few len size t u e =
     let first = legs_same x y xs ys (t.0 ∙ sym u.0) (omega (arith, t.0, few)) t.1 u.1 (ap (drop 1) e) in
     (refl, (λ same. ap (λ (s : List Leg). s ∷ ts) first.0 ∙ ap (λ (l : List (List Leg)). y ∷ l) same), first.1)
-
-behind_typed : (b : Bool) (n : ℕ) (ts : List (List Leg)) → AreTriangles n ts → AreTriangles n (behind b ts)
-behind_typed true n ts typed = typed
-behind_typed false n [] typed = tt
-behind_typed false n (t ∷ ts) typed = typed.2
-
-behind_length : (b : Bool) (later : ℕ) (ts : List (List Leg)) → length ts ≡ (if b then later else 1 + later) → length (behind b ts) ≡ later
-behind_length true later ts len = len
-behind_length false later [] len = absurd (omega (arith, len))
-behind_length false later (t ∷ ts) len = omega (arith, len)
 
 record SameCarriers (n k e f : ℕ) (ts us : List (List Leg)) (a b : List ℕ) : Type 0 where
   marks : (i : ℕ) → i < n → is_erased e (k + i) ≡ is_erased f (k + i)
@@ -105,11 +98,11 @@ flagged_same zero k e f streams [] (y ∷ us) a b few len size t u same = absurd
 flagged_same (suc n) k e f streams ts us a b few len size t u same =
     let p = is_erased e k in
     let q = is_erased f k in
-    let xs : List ℕ = flagged_octets n (k + 1) e (behind p ts) in
-    let ys : List ℕ = flagged_octets n (k + 1) f (behind q us) in
+    let xs : List ℕ = flagged_octets n (k + 1) e (triangles_behind p ts) in
+    let ys : List ℕ = flagged_octets n (k + 1) f (triangles_behind q us) in
     let first = flag_same p q streams _ _ ts us (xs ++ a) (ys ++ b) few len size t u
     (sym (append_assoc (flagged p ts) xs a) ∙ (same ∙ append_assoc (flagged q us) ys b)) in
-    let rest = flagged_same n (k + 1) e f streams (behind p ts) (behind q us) a b few (behind_length p _ ts len)
+    let rest = flagged_same n (k + 1) e f streams (triangles_behind p ts) (triangles_behind q us) a b few (behind_length p _ ts len)
     (behind_length q _ us size) (behind_typed p streams ts t) (behind_typed q streams us u) first.2 in
     record { marks = marks_more n k e f first.0 rest.marks; triangles = first.1 rest.triangles; rest = rest.rest }
 
@@ -171,8 +164,8 @@ both_can version f g (inr x) c = inr x
 
 -- a frame
 frame_same : (version : ℕ) (f g : CaptureFrame) (a b : List ℕ) → CanBe version f → CanBe version g → FitsFrame f → FitsFrame g → IsTyped f → IsTyped g
-    → frame_octets version f ++ a ≡ frame_octets version g ++ b → (f ≡ g) × (a ≡ b)
-unfolding frame_octets front_octets made
+    → capture_frame_octets version f ++ a ≡ capture_frame_octets version g ++ b → (f ≡ g) × (a ≡ b)
+unfolding capture_frame_octets front_octets made
 frame_same version f g a b vf vg ff fg tf tg e =
     let hf = head_octets f.rate f.length in
     let hg = head_octets g.rate g.length in
@@ -209,28 +202,28 @@ frame_same version f g a b vf vg ff fg tf tg e =
 
 frames_same : (version : ℕ) (fs gs : List CaptureFrame) → length fs ≡ length gs → IsVersion version fs
     → IsVersion version gs → All FitsFrame fs → All FitsFrame gs → AreTyped fs → AreTyped gs
-    → flat_map (frame_octets version) fs ≡ flat_map (frame_octets version) gs → fs ≡ gs
+    → flat_map (capture_frame_octets version) fs ≡ flat_map (capture_frame_octets version) gs → fs ≡ gs
 frames_same version [] [] len vf vg ff fg tf tg e = refl
 frames_same version [] (g ∷ gs) len vf vg ff fg tf tg e = absurd (omega (arith, len))
 frames_same version (f ∷ fs) [] len vf vg ff fg tf tg e = absurd (omega (arith, len))
 frames_same version (f ∷ fs) (g ∷ gs) len vf vg ff fg tf tg e =
-    let first = frame_same version f g (flat_map (frame_octets version) fs) (flat_map (frame_octets version) gs)
+    let first = frame_same version f g (flat_map (capture_frame_octets version) fs) (flat_map (capture_frame_octets version) gs)
     (can_be version f fs vf) (can_be version g gs vg) (All-head FitsFrame f fs ff) (All-head FitsFrame g gs fg) tf.0 tg.0 e in
     let rest = frames_same version fs gs (omega (arith, len)) (others version f fs vf)
     (others version g gs vg) (All-tail FitsFrame f fs ff) (All-tail FitsFrame g gs fg) tf.1 tg.1 first.1 in
     ap (λ (x : CaptureFrame). x ∷ fs) first.0 ∙ ap (λ (xs : List CaptureFrame). g ∷ xs) rest
 
 -- whole files
-pub file_same : (version other : ℕ) (fs gs : List CaptureFrame) → AreFrames fs
-    → AreTyped fs → IsVersion version fs → AreFrames gs → AreTyped gs → IsVersion other gs
-    → file_of version fs ≡ file_of other gs → (version ≡ other) × (fs ≡ gs)
-unfolding file_of start_octets
+pub file_same : (version other : ℕ) (fs gs : List CaptureFrame) → AreCaptureFrames fs
+    → AreTyped fs → IsVersion version fs → AreCaptureFrames gs → AreTyped gs → IsVersion other gs
+    → capture_file_of version fs ≡ capture_file_of other gs → (version ≡ other) × (fs ≡ gs)
+unfolding capture_file_of start_octets
 file_same version other fs gs ff tf vf fg tg vg e =
     let same : version ≡ other = ap (λ l. get_or l 4 0) e in
     let small : length fs < 256 ^ 2 = omega (arith, ff.few) in
     let low : length gs < 256 ^ 2 = omega (arith, fg.few) in
-    let count : length fs ≡ length gs = sym (big_number-reads_back 2 (length fs) (flat_map (frame_octets version) fs) small)
-    ∙ (ap (λ l. big_number 2 (drop 5 l)) e ∙ big_number-reads_back 2 (length gs) (flat_map (frame_octets other) gs) low) in
-    let rest : flat_map (frame_octets version) fs ≡ flat_map (frame_octets other) gs = ap (drop 7) e in
+    let count : length fs ≡ length gs = sym (big_number-reads_back 2 (length fs) (flat_map (capture_frame_octets version) fs) small)
+    ∙ (ap (λ l. big_number 2 (drop 5 l)) e ∙ big_number-reads_back 2 (length gs) (flat_map (capture_frame_octets other) gs) low) in
+    let rest : flat_map (capture_frame_octets version) fs ≡ flat_map (capture_frame_octets other) gs = ap (drop 7) e in
     let back : IsVersion version gs = subst (λ (v : ℕ). IsVersion v gs) (sym same) vg in
-    (same, frames_same version fs gs count vf back ff.fit fg.fit tf tg (rest ∙ ap (λ v. flat_map (frame_octets v) gs) (sym same)))
+    (same, frames_same version fs gs count vf back ff.fit fg.fit tf tg (rest ∙ ap (λ v. flat_map (capture_frame_octets v) gs) (sym same)))

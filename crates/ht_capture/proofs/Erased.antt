@@ -21,7 +21,7 @@ use Rattle.ht_capture.specs.declared.places.Present.{Present}
 use Rattle.ht_capture.specs.declared.places.Turn.{Turn}
 use Rattle.ht_capture.specs.Frames.{erase}
 use Rattle.ht_capture.specs.Systems.{triangle_octets, triangle_of}
-use Rattle.ht_capture.specs.Fields.{State, Bandwidth, Mcs, Length, Flag, Triangle, captures, octet, carriers_due, head_given}
+use Rattle.ht_capture.specs.Fields.{CaptureState, Bandwidth, Mcs, Length, Flag, Triangle, captures, carriers_due, head_given}
 use Rattle.ht_capture.specs.Fields.{new_head, judge_bandwidth, judge_mcs, judge_length, judge_flag, judge_triangle, bad_flag}
 use Rattle.ht_capture.specs.Erased.{flag_at}
 use Rattle.ht_fields.proofs.Steps.{early_end, good_field}
@@ -29,6 +29,7 @@ use Rattle.ht_fields.proofs.Readers.{field_is}
 use Rattle.ht_rate.proofs.RateFacts.{streams_of-range, carriers_of-range}
 use Rattle.ht_capture.proofs.Judges.{zero_flag, flag_good, flag_bad, good_triangle}
 use Rattle.ht_capture.proofs.Turns.{flag_is, triangle_is, none_given, one_given}
+use Rattle.ht_fields.specs.Tests.{octet_of}
 
 items_of : Meaning Item → List Item
 items_of m = m.items
@@ -68,8 +69,8 @@ more_of head h c more rest lt e = ap (λ (z : List Item). z ++ rest.items) (sym 
 
 -- a subcarrier and those behind it
 join : (head mid h : FrameHead) (c : ℕ) (octets rest : List ℕ) → mid.rate ≡ head.rate → ((k : ℕ) → k < c → bit_at mid.erased k ≡ bit_at head.erased k)
-    → (bit_at mid.erased c ≡ 1) ↔ (octet octets ≡ 1)
-    → drop (if nat_eq (octet octets) 0 then triangle_octets (streams_of head.rate) + 1 else 1) octets ≡ rest
+    → (bit_at mid.erased c ≡ 1) ↔ (octet_of octets ≡ 1)
+    → drop (if nat_eq (octet_of octets) 0 then triangle_octets (streams_of head.rate) + 1 else 1) octets ≡ rest
     → Marks mid h (c + 1) rest → Marks head h c octets
 join head mid h c octets rest r low bit is m =
     let rate : h.rate ≡ head.rate = m.rate ∙ r in
@@ -87,7 +88,7 @@ join head mid h c octets rest r low bit is m =
     elim_at zero lt =
         let at : bit_at h.erased c ≡ bit_at mid.erased c = m.below c (omega arith) in
         let place : c + 0 ≡ c = omega arith in
-        subst (λ (k : ℕ). (bit_at h.erased k ≡ 1) ↔ (octet octets ≡ 1)) (sym place)
+        subst (λ (k : ℕ). (bit_at h.erased k ≡ 1) ↔ (octet_of octets ≡ 1)) (sym place)
         ((λ e. bit.0 (sym at ∙ e)), (λ e. at ∙ bit.1 e))
     elim_at (suc i) lt =
         let place : (c + 1) + i ≡ c + suc i = omega arith in
@@ -169,11 +170,11 @@ judged_flag : (turn : Turn) (head : FrameHead) (c at y : ℕ) (present : List Pr
 unfolding meaning meaning_of
 judged_flag turn head c at y present ys = refl
 
-judged_items : (v w : Verdict State Item) (at : ℕ) (ys : List ℕ) (items : List Item) (m : Meaning Item)
+judged_items : (v w : Verdict CaptureState Item) (at : ℕ) (ys : List ℕ) (items : List Item) (m : Meaning Item)
     → m ≡ judged v at (λ next. meaning captures next (at + 1) ys) → v ≡ w → m.items ≡ items
     → (judged w at (λ next. meaning captures next (at + 1) ys)).items ≡ items
 judged_items v w at ys items m is same e =
-    sym (ap (λ (z : Verdict State Item). (judged z at (λ next. meaning captures next (at + 1) ys)).items) same)
+    sym (ap (λ (z : Verdict CaptureState Item). (judged z at (λ next. meaning captures next (at + 1) ys)).items) same)
     ∙ (sym (ap (λ (z : Meaning Item). z.items) is) ∙ e)
 
 nothing_read : (turn : Turn) (head : FrameHead) (c at : ℕ) (present : List Present) → (meaning captures (Flag turn head c present) at []).items ≡ []
@@ -227,7 +228,7 @@ marks zero turn head h c at present octets more two all none e =
     marked turn head h c at present octets more lt none
     (λ mid place seen rest same free is. last mid h (c + 1) more rest (meaning captures (carriers_due turn mid (c + 1) seen) place rest)
     (omega (arith, all, ap (λ (z : Rate). carriers_of z) same)) free is)
-    (ap (λ (s : State). (meaning captures s at octets).items) (sym (flag_is turn head c present lt two)) ∙ e)
+    (ap (λ (s : CaptureState). (meaning captures s at octets).items) (sym (flag_is turn head c present lt two)) ∙ e)
 marks (suc n) turn head h c at present octets more two all none e =
     let lt : c < carriers_of head.rate = omega (arith, all) in
     marked turn head h c at present octets more lt none
@@ -235,7 +236,7 @@ marks (suc n) turn head h c at present octets more two all none e =
     let count : carriers_of mid.rate ≡ carriers_of head.rate = ap (λ (z : Rate). carriers_of z) same in
     marks n turn mid h (c + 1) place seen rest more two (omega (arith, all, count)) free
     (more_of mid h (c + 1) more (meaning captures (carriers_due turn mid (c + 1) seen) place rest) (omega (arith, all, count)) is))
-    (ap (λ (s : State). (meaning captures s at octets).items) (sym (flag_is turn head c present lt two)) ∙ e)
+    (ap (λ (s : CaptureState). (meaning captures s at octets).items) (sym (flag_is turn head c present lt two)) ∙ e)
 
 -- in version 1 the head stays as it was
 plain : (n : ℕ) (turn : Turn) (head h : FrameHead) (c at : ℕ) (present : List Present) (octets : List ℕ) (more : List Item)
@@ -246,18 +247,18 @@ plain zero turn head h c at present octets more one all e =
     (λ place seen later.
     let rest = meaning captures (carriers_due turn head (c + 1) seen) place (drop (triangle_octets (streams_of head.rate)) octets) in
     same_head head h rest.items more (ap (λ (z : List Item). z ++ rest.items) (sym (one_given head (c + 1) (omega (arith, all)))) ∙ later))
-    (ap (λ (s : State). (meaning captures s at octets).items) (sym (triangle_is turn head c present (omega (arith, all)) one)) ∙ e)
+    (ap (λ (s : CaptureState). (meaning captures s at octets).items) (sym (triangle_is turn head c present (omega (arith, all)) one)) ∙ e)
 plain (suc n) turn head h c at present octets more one all e =
     triangle_step turn head h c at present octets more
     (λ place seen later.
     plain n turn head h (c + 1) place seen (drop (triangle_octets (streams_of head.rate)) octets) more one (omega (arith, all))
     (more_of head h (c + 1) more (meaning captures (carriers_due turn head (c + 1) seen) place (drop (triangle_octets (streams_of head.rate)) octets))
     (omega (arith, all)) later))
-    (ap (λ (s : State). (meaning captures s at octets).items) (sym (triangle_is turn head c present (omega (arith, all)) one)) ∙ e)
+    (ap (λ (s : CaptureState). (meaning captures s at octets).items) (sym (triangle_is turn head c present (omega (arith, all)) one)) ∙ e)
 
 -- a good field of a head goes on to the next
-chosen : (b : Bool) (bad : Kind) (next : State) (at place : ℕ) (rest : List ℕ) (h : FrameHead) (more : List Item)
-    → (judged (if b then Bad bad else Good next []) at (λ (s : State). meaning captures s place rest)).items ≡ Frame h ∷ more
+chosen : (b : Bool) (bad : Kind) (next : CaptureState) (at place : ℕ) (rest : List ℕ) (h : FrameHead) (more : List Item)
+    → (judged (if b then Bad bad else Good next []) at (λ (s : CaptureState). meaning captures s place rest)).items ≡ Frame h ∷ more
     → (meaning captures next place rest).items ≡ Frame h ∷ more
 chosen true bad next at place rest h more e = absurd (no_item h more e)
 chosen false bad next at place rest h more e = e

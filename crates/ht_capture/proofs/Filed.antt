@@ -5,7 +5,7 @@ use Rattle.std.proofs.lemmas.Bool.Decides.{nat_tests}
 use Rattle.std.proofs.Math.Nat.{mod-one}
 use Rattle.std.proofs.lemmas.List.{append-nil, length-drop, length-take-le}
 use Rattle.std.proofs.lemmas.List.Elements.{All-head, All-tail}
-use Rattle.ht_fields.specs.Cases.{IsFile, joined}
+use Rattle.ht_fields.specs.Cases.{IsFile, octets_of_fields}
 use Rattle.ht_rate.specs.declared.rates.Rate.{Rate}
 use Rattle.ht_rate.specs.Rates.{streams_of, carriers_of, symbols_of, needed_bits_of, data_bits_of}
 use Rattle.ht_rate.proofs.LengthFacts.{symbols_of-holds}
@@ -22,9 +22,9 @@ use Rattle.ht_capture.specs.declared.places.Turn.{Turn}
 use Rattle.ht_capture.specs.declared.places.SymbolTurn.{SymbolTurn}
 use Rattle.ht_capture.specs.Frames.{carrier_octets, grid_at, job_at, jobs_at}
 use Rattle.ht_capture.specs.Systems.{samples_at}
-use Rattle.ht_capture.specs.Fields.{Symbol, Over, captures, carriers_due, first_symbol, frame_due, known_version, new_head, next_symbol, next_turn, symbol_due}
-use Rattle.ht_capture.specs.Files.{AreFrames, FitsFrame, IsWhole, behind, carriers_octets, file_of, flagged_octets}
-use Rattle.ht_capture.specs.Files.{frame_octets, front_octets, is_erased, legs_octets, present_among, present_of, sample_octets}
+use Rattle.ht_capture.specs.Fields.{Symbol, Over, captures, carriers_due, first_symbol, turn_due, known_version, new_head, next_symbol, next_turn, symbol_due}
+use Rattle.ht_capture.specs.Files.{AreCaptureFrames, FitsFrame, HasAllCarriers, triangles_behind, carriers_octets, capture_file_of, flagged_octets}
+use Rattle.ht_capture.specs.Files.{capture_frame_octets, front_octets, is_erased, legs_octets, present_among, present_of, sample_octets}
 use Rattle.ht_capture.specs.Contents.{AreSamples, AreTriangles, AreTyped, IsTyped, IsVersion, frame_jobs, head_of}
 use Rattle.ht_capture.specs.Contents.{items_from, items_of, job_of, presents, presents_of, seen, symbol_jobs}
 use Rattle.ht_capture.proofs.Grids.{ones}
@@ -33,7 +33,7 @@ use Rattle.ht_capture.proofs.Decoded.{behind_more, length-samples, rows_read}
 use Rattle.ht_capture.proofs.Written.{samples_split}
 use Rattle.ht_capture.proofs.Routes.{Route, behind_length, behind_typed, first_turn, none_erased, given_with, route_as, route_field, route_flagged}
 use Rattle.ht_capture.proofs.Routes.{route_from, route_gives, route_head, route_none, route_plain, route_start, route_then, with_erased}
-use Rattle.ht_capture.proofs.Choices.{when_true, when_false}
+use Rattle.ht_fields.proofs.Choices.{when_true, when_false}
 
 -- a system for each of these subcarriers
 abbrev AreHeld : ℕ → List Present → Type 0
@@ -55,7 +55,7 @@ held_presents zero streams k e ts len typed = tt
 held_presents (suc n) streams k e ts len typed =
     let b = is_erased e k in
     held_append streams (seen b k ts) _ (held_seen b streams k (present_among n (k + 1) e) ts len typed)
-    (held_presents n streams (k + 1) e (behind b ts) (behind_length b (present_among n (k + 1) e) ts len) (behind_typed b streams ts typed))
+    (held_presents n streams (k + 1) e (triangles_behind b ts) (behind_length b (present_among n (k + 1) e) ts len) (behind_typed b streams ts typed))
 
 length-step : (b : Bool) (k later : ℕ) (ts : List (List Leg)) (rest : List Present)
     → length rest ≡ later → length (seen b k ts ++ rest) ≡ (if b then later else 1 + later)
@@ -64,7 +64,8 @@ length-step false k later ts rest is = omega (arith, is)
 
 pub length-presents : (n k e : ℕ) (ts : List (List Leg)) → length (presents n k e ts) ≡ present_among n k e
 length-presents zero k e ts = refl
-length-presents (suc n) k e ts = length-step (is_erased e k) k (present_among n (k + 1) e) ts _ (length-presents n (k + 1) e (behind (is_erased e k) ts))
+length-presents (suc n) k e ts = length-step (is_erased e k) k (present_among n (k + 1) e) ts _
+    (length-presents n (k + 1) e (triangles_behind (is_erased e k) ts))
 
 samples_behind : (n : ℕ) (samples : List Sample) → AreSamples samples → AreSamples (drop n samples)
 samples_behind zero samples typed = typed
@@ -154,7 +155,7 @@ symbol_more turn head symbol number count present lt =
     let t : nat_lt (symbol + 1) (symbols_of head.rate head.length) ≡ true = grind (arith, nat_tests) in when_true _ _ _ t
 
 symbol_last : (turn : Turn) (head : FrameHead) (symbol number count : ℕ) (present : List Present) → symbols_of head.rate head.length ≤ symbol + 1
-    → symbol_due (next_symbol (due_of turn head symbol number count)) present ≡ frame_due (turn_behind turn (number + count))
+    → symbol_due (next_symbol (due_of turn head symbol number count)) present ≡ turn_due (turn_behind turn (number + count))
 unfolding symbol_due next_symbol next_turn
 symbol_last turn head symbol number count present le =
     let t : nat_lt (symbol + 1) (symbols_of head.rate head.length) ≡ false = grind (arith, nat_tests) in when_false _ _ _ t
@@ -163,11 +164,11 @@ symbol_last turn head symbol number count present le =
 route_behind : (n last : ℕ) (turn : Turn) (head : FrameHead) (symbol number : ℕ) (present : List Present) (samples : List Sample)
     → symbol + (1 + n) ≡ symbols_of head.rate head.length → last ≡ number + (1 + n) * length present
     → AreHeld (streams_of head.rate) present → 1 ≤ length present → length samples ≡ n * (length present * streams_of head.rate) → AreSamples samples
-    → Route (symbol_due (next_symbol (due_of turn head symbol number (length present))) present) (frame_due (turn_behind turn last))
+    → Route (symbol_due (next_symbol (due_of turn head symbol number (length present))) present) (turn_due (turn_behind turn last))
     (flat_map sample_octets samples) (frame_jobs n head (symbol + 1) (number + length present) present samples)
 route_behind zero last turn head symbol number present [] sum end held some len typed =
     let all : number + length present ≡ last = omega (arith, end) in
-    route_none _ _ (symbol_last turn head symbol number (length present) present (omega (arith, sum)) ∙ ap (λ n. frame_due (turn_behind turn n)) all)
+    route_none _ _ (symbol_last turn head symbol number (length present) present (omega (arith, sum)) ∙ ap (λ n. turn_due (turn_behind turn n)) all)
 route_behind zero last turn head symbol number present (s ∷ ss) sum end held some len typed =
     let none : 0 * (length present * streams_of head.rate) ≡ 0 = omega arith in absurd (omega (arith, len, none))
 route_behind (suc n) last turn head symbol number present samples sum end held some len typed =
@@ -189,7 +190,7 @@ route_behind (suc n) last turn head symbol number present samples sum end held s
 pub route_symbols : (n last : ℕ) (turn : Turn) (head : FrameHead) (number : ℕ) (present : List Present) (samples : List Sample)
     → n ≡ symbols_of head.rate head.length → 1 ≤ n → last ≡ number + n * length present
     → AreHeld (streams_of head.rate) present → 1 ≤ length present → length samples ≡ n * (length present * streams_of head.rate) → AreSamples samples
-    → Route (Symbol (due_of turn head 0 number (length present)) present) (frame_due (turn_behind turn last))
+    → Route (Symbol (due_of turn head 0 number (length present)) present) (turn_due (turn_behind turn last))
     (flat_map sample_octets samples) (frame_jobs n head 0 number present samples)
 route_symbols zero last turn head number present samples is one end held some len typed = absurd (omega (arith, one))
 route_symbols (suc n) last turn head number present samples is one end held some len typed =
@@ -218,7 +219,7 @@ pub some_symbols : (rate : Rate) (len : ℕ) → 1 ≤ symbols_of rate len
 some_symbols rate len = none_fails (symbols_of rate len) (needed_bits_of rate len) (data_bits_of rate) (bits_needed rate len) (symbols_of-holds rate len).0
 
 abbrev pub CanBe : ℕ → CaptureFrame → Type 0
-CanBe version f = ((version ≡ 1) × IsWhole f) ⊎ (version ≡ 2)
+CanBe version f = ((version ≡ 1) × HasAllCarriers f) ⊎ (version ≡ 2)
 
 given_some : (n : ℕ) (head : FrameHead) → 1 ≤ n → given_with n head ≡ Frame head ∷ []
 given_some zero head some = absurd (omega (arith, some))
@@ -267,9 +268,9 @@ route_carriers turn f (inr two) fits typed =
 -- a frame
 route_frame : (turn : Turn) (f : CaptureFrame) (last : ℕ) → 0 < turn.left → CanBe turn.version f
     → FitsFrame f → IsTyped f → last ≡ turn.number + symbols_of f.rate f.length * length (presents_of f)
-    → Route (frame_due turn) (frame_due (turn_behind turn last)) (frame_octets turn.version f)
+    → Route (turn_due turn) (turn_due (turn_behind turn last)) (capture_frame_octets turn.version f)
     (Frame (head_of turn.frame f) ∷ frame_jobs (symbols_of f.rate f.length) (head_of turn.frame f) 0 turn.number (presents_of f) f.samples)
-unfolding frame_octets front_octets
+unfolding capture_frame_octets front_octets
 route_frame turn f last some_left can fits typed end =
     let head = route_head turn f.rate f.length some_left fits.some typed.length_is in
     let carriers = route_carriers turn f can fits typed in
@@ -291,7 +292,7 @@ others version f fs (inr two) = inr two
 
 -- so many frames
 pub route_frames : (fs : List CaptureFrame) (turn : Turn) → turn.left ≡ length fs → All FitsFrame fs → AreTyped fs → IsVersion turn.version fs
-    → Route (frame_due turn) Over (flat_map (frame_octets turn.version) fs) (items_from turn.frame turn.number fs)
+    → Route (turn_due turn) Over (flat_map (capture_frame_octets turn.version) fs) (items_from turn.frame turn.number fs)
 unfolding items_from
 route_frames [] turn left fits typed is = route_none _ _ (over_is turn left)
 route_frames (f ∷ fs) turn left fits typed is =
@@ -305,15 +306,15 @@ known version fs (inl one) = ap known_version one.0
 known version fs (inr two) = ap known_version two
 
 -- the whole file
-pub file_written : (version : ℕ) (fs : List CaptureFrame) → AreFrames fs → AreTyped fs
-    → IsVersion version fs → IsFile captures (file_of version fs) (items_of fs)
-unfolding file_of
+pub file_written : (version : ℕ) (fs : List CaptureFrame) → AreCaptureFrames fs → AreTyped fs
+    → IsVersion version fs → IsFile captures (capture_file_of version fs) (items_of fs)
+unfolding capture_file_of
 file_written version fs fit typed is =
     let few : length fs < 2 ^ 16 = omega (arith, fit.few) in
     let route = route_then _ _ _ _ _ _ _ (route_start version (length fs) (known version fs is) few)
     (route_frames fs (first_turn version (length fs)) refl fit.fit typed is) in (
-      length (joined route.fields),
+      length (octets_of_fields route.fields),
       Over,
-      record { fields = route.fields; good = route.good; split = route.split ∙ sym (append-nil (joined route.fields)); length_is = refl },
+      record { fields = route.fields; good = route.good; split = route.split ∙ sym (append-nil (octets_of_fields route.fields)); length_is = refl },
       tt,
     )

@@ -1,14 +1,10 @@
 -- Subcarriers that are read one after another.
-use Rattle.std.proofs.Common.{◌≡◌, inl, inr, ℕ, zero, suc, ◌+◌, ◌*◌, ◌<◌, ◌^◌, List, [], ◌∷◌, ◌++◌, length, max, flat_map, nat_eq}
+use Rattle.std.proofs.Common.{◌≡◌, inl, inr, ℕ, zero, suc, ◌+◌, ◌<◌, ◌^◌, List, [], ◌∷◌, ◌++◌, length, flat_map, nat_eq}
 use Rattle.std.proofs.Common.{Bool, true, false, if◌then◌else◌, refl, sym, ap, subst, ◌∙◌, append_assoc, length-append, arith}
 use Rattle.ht_io.specs.Devices.{Device}
 use Rattle.std.proofs.lemmas.Bool.Decides.{nat_tests}
 use Rattle.std.proofs.lemmas.List.{append-nil, map-append}
 use Rattle.std.proofs.lemmas.Grind.{flat_map-append}
-use Rattle.std.proofs.lemmas.Nat.{or_disjoint}
-use Rattle.std.proofs.lemmas.Nat.Bits.{and_pow, bit_at_above, bit_at_or, bit_at-pow_same, bit_at-pow_other}
-use Rattle.std.proofs.Math.Nat.{two-pow-succ}
-use Rattle.std.specs.Int.{bit_at}
 use Rattle.std.specs.Int.Bits.{bit_or}
 use Rattle.ht_io.proofs.Calls.{takes-none, takes-append}
 use Rattle.ht_rate.specs.declared.rates.Rate.{Rate}
@@ -17,9 +13,10 @@ use Rattle.ht_metric.specs.Rows.{Leg}
 use Rattle.ht_capture.specs.declared.items.FrameHead.{FrameHead}
 use Rattle.ht_capture.specs.declared.places.Present.{Present}
 use Rattle.ht_capture.specs.Frames.{erase}
-use Rattle.ht_capture.specs.Files.{behind, carriers_octets, flagged, flagged_octets, is_erased, legs_octets, present_among}
+use Rattle.ht_capture.specs.Files.{triangles_behind, carriers_octets, flagged, flagged_octets, is_erased, legs_octets, present_among}
 use Rattle.ht_capture.specs.Contents.{AreLegs, AreTriangles}
 use Rattle.ht_capture.specs.Taking.{Adds, AreRead, kept_flag, triangles_of}
+use Rattle.ht_capture.proofs.Marks.{clear_above, or_above, set_before, set_now, twice}
 use Rattle.ht_capture.proofs.Octets.{takes_as}
 use Rattle.ht_capture.proofs.Routes.{behind_length}
 
@@ -39,7 +36,7 @@ flagged_front false later [] extra len = absurd (omega (arith, len))
 flagged_front false later (t ∷ ts) extra len = refl
 
 behind_front : (b : Bool) (later : ℕ) (ts extra : List (List Leg))
-    → length ts ≡ (if b then later else 1 + later) → behind b (ts ++ extra) ≡ behind b ts ++ extra
+    → length ts ≡ (if b then later else 1 + later) → triangles_behind b (ts ++ extra) ≡ triangles_behind b ts ++ extra
 behind_front true later ts extra len = refl
 behind_front false later [] extra len = absurd (omega (arith, len))
 behind_front false later (t ∷ ts) extra len = refl
@@ -55,14 +52,14 @@ flagged_more (suc n) k e other ts extra same len =
     let later = present_among n (k + 1) e in
     let first = agree_first n k e other same in
     let place : k + 1 + n ≡ k + suc n = omega arith in
-    let rest = flagged_more n (k + 1) e other (behind b ts) extra (agree_next n k e other same) (behind_length b later ts len) in
+    let rest = flagged_more n (k + 1) e other (triangles_behind b ts) extra (agree_next n k e other same) (behind_length b later ts len) in
     let end : List ℕ = flagged (is_erased other (k + 1 + n)) extra in
-    ap (λ (c : Bool). flagged c (ts ++ extra) ++ flagged_octets (suc n) (k + 1) other (behind c (ts ++ extra))) first
-    ∙ (ap (λ (z : List ℕ). z ++ flagged_octets (suc n) (k + 1) other (behind b (ts ++ extra))) (flagged_front b later ts extra len)
+    ap (λ (c : Bool). flagged c (ts ++ extra) ++ flagged_octets (suc n) (k + 1) other (triangles_behind c (ts ++ extra))) first
+    ∙ (ap (λ (z : List ℕ). z ++ flagged_octets (suc n) (k + 1) other (triangles_behind b (ts ++ extra))) (flagged_front b later ts extra len)
     ∙ (ap (λ (z : List (List Leg)). flagged b ts ++ flagged_octets (suc n) (k + 1) other z) (behind_front b later ts extra len)
     ∙ (ap (λ (z : List ℕ). flagged b ts ++ z) rest
-    ∙ (sym (append_assoc (flagged b ts) (flagged_octets n (k + 1) e (behind b ts)) end)
-    ∙ ap (λ j. (flagged b ts ++ flagged_octets n (k + 1) e (behind b ts)) ++ flagged (is_erased other j) extra) place))))
+    ∙ (sym (append_assoc (flagged b ts) (flagged_octets n (k + 1) e (triangles_behind b ts)) end)
+    ∙ ap (λ j. (flagged b ts ++ flagged_octets n (k + 1) e (triangles_behind b ts)) ++ flagged (is_erased other j) extra) place))))
 
 count_more : (b : Bool) (x y z : ℕ) → x ≡ y + z → (if b then x else 1 + x) ≡ (if b then y else 1 + y) + z
 count_more true x y z e = e
@@ -85,32 +82,14 @@ present_more (suc n) k e other same =
     ap (λ (c : Bool). if c then present_among (suc n) (k + 1) other else 1 + present_among (suc n) (k + 1) other) first
     ∙ (count_more (is_erased e k) _ _ _ rest ∙ ap (λ j. present_among (suc n) k e + one_if (is_erased other j)) place)
 
-or_more : (e k : ℕ) → e < 2 ^ k → bit_or e (2 ^ k) ≡ e + 2 ^ k
-or_more e k low =
-    let zeros : 0 * 2 ^ k ≡ 0 = omega arith in
-    or_disjoint e (2 ^ k) (and_pow e k ∙ (ap (λ b. b * 2 ^ k) (bit_at_above e k k low (omega arith)) ∙ zeros))
-
-twice : (k : ℕ) → 2 ^ (k + 1) ≡ 2 ^ k + 2 ^ k
-twice k = let z : k + 1 ≡ suc k = omega arith in ap (λ n. 2 ^ n) z ∙ two-pow-succ k
-
 not_set : (e k : ℕ) → e < 2 ^ k → is_erased e (0 + k) ≡ false
-not_set e k low = let z : 0 + k ≡ k = omega arith in ap (λ (n : ℕ). nat_eq n 1) (bit_at_above e k (0 + k) low (omega arith))
+not_set e k low = let z : 0 + k ≡ k = omega arith in ap (λ i. is_erased e i) z ∙ clear_above e k low
 
 now_set : (e k : ℕ) → e < 2 ^ k → is_erased (bit_or e (2 ^ k)) (0 + k) ≡ true
-now_set e k low =
-    let z : 0 + k ≡ k = omega arith in
-    ap (λ (j : ℕ). nat_eq (bit_at (bit_or e (2 ^ k)) j) 1) z
-    ∙ (ap (λ (n : ℕ). nat_eq n 1) (bit_at_or e (2 ^ k) k)
-    ∙ (ap (λ (n : ℕ). nat_eq (max n (bit_at (2 ^ k) k)) 1) (bit_at_above e k k low (omega arith)) ∙ ap (λ (n : ℕ). nat_eq (max 0 n) 1) (bit_at-pow_same k)))
-
-max_none : (n : ℕ) → max n 0 ≡ n
-max_none n = omega arith
+now_set e k low = let z : 0 + k ≡ k = omega arith in ap (λ i. is_erased (bit_or e (2 ^ k)) i) z ∙ set_now e k low
 
 others_stay : (e k : ℕ) → Agree k 0 e (bit_or e (2 ^ k))
-others_stay e k = λ i lt.
-    let not : 0 + i ≡ k → ⊥ = λ is. absurd (omega (arith, is, lt)) in
-    ap (λ (n : ℕ). nat_eq n 1) (bit_at_or e (2 ^ k) (0 + i)
-    ∙ (ap (λ n. max (bit_at e (0 + i)) n) (bit_at-pow_other k (0 + i) not) ∙ max_none (bit_at e (0 + i))))
+others_stay e k = λ i lt. set_before e k (0 + i) (omega (arith, lt))
 
 no_carriers : (b : Bool) → (let none : List ℕ = [] in none) ≡ (if b then [] else [])
 no_carriers true = refl
@@ -179,7 +158,7 @@ read_more version k old new present after left mid later r same (inl (two, is, k
     ∙ (present_more k 0 e (bit_or e (2 ^ k)) (others_stay e k) ∙ (ap (λ (c : Bool). present_among k 0 e + one_if c) (now_set e k r.marks) ∙ omega arith)) in
     let made : AreRead version (k + 1) old.rate (bit_or e (2 ^ k)) ts left later = record {
       octets = takes_as left.known later.known _ _ (erased_octets version k e ts two r.marks r.present) (takes-append left mid later _ (1 ∷ []) r.octets taken);
-      marks = let sum = or_more e k r.marks in let more = twice k in let low = r.marks in omega arith;
+      marks = let sum = or_above e k r.marks in let more = twice k in let low = r.marks in omega arith;
       whole = λ not. absurd (not two);
       present = r.present ∙ sym count;
       typed = r.typed;

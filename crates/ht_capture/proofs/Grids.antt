@@ -35,7 +35,7 @@ pub length-pilot_grid : (rate : Rate) (symbol pilot : ℕ) (grid : List Axes) �
 unfolding pilot_grid
 length-pilot_grid rate symbol pilot grid is = ap (λ (g : List Axes). length g) is ∙ length-map-range_with_len _ 1 (streams_of rate)
 
-length-legs_at : (n : ℕ) (octets : List ℕ) (at : ℕ) → length (legs_at n octets at) ≡ n
+pub length-legs_at : (n : ℕ) (octets : List ℕ) (at : ℕ) → length (legs_at n octets at) ≡ n
 length-legs_at zero octets at = refl
 length-legs_at (suc n) octets at = ap suc (length-legs_at n octets _)
 

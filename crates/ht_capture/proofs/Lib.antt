@@ -16,6 +16,7 @@ pub mod Equal
 mod Worked
 mod Values
 pub mod Bounds
-mod Choices
 mod Erased
 pub mod Written
+pub mod Fronts
+pub mod Marks

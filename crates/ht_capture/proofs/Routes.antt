@@ -11,14 +11,16 @@ use Rattle.std.specs.Int.Bits.{bit_or, bit_and}
 use Rattle.byteorder.specs.Endian.{big_bytes}
 use Rattle.byteorder.specs.Numbers.{big_number-reads_back}
 use Rattle.ht_fields.specs.Grammar.{Good}
-use Rattle.ht_fields.specs.Cases.{IsField, Leads, joined}
-use Rattle.ht_fields.proofs.Paths.{joined-append, Leads-append}
+use Rattle.ht_fields.specs.Cases.{IsField}
+use Rattle.ht_fields.proofs.Routes.{Route as RouteIn, route_none as none_in, route_then as then_in, route_field as field_in}
+use Rattle.ht_fields.proofs.Routes.{route_from as from_in, route_to as to_in, route_as as as_in}
 use Rattle.ht_rate.specs.declared.rates.Rate.{Rate}
 use Rattle.ht_rate.specs.Schemes.{bandwidth_code}
 use Rattle.ht_rate.specs.Rates.{bandwidth_of, mcs_of, streams_of, carriers_of}
 use Rattle.ht_rate.proofs.Numbers.{rate_of-named, bandwidth_code-bound}
 use Rattle.ht_rate.proofs.RateFacts.{streams_of-range}
 use Rattle.ht_metric.specs.Rows.{Leg}
+use Rattle.ht_heads.specs.Heads.{start_octets}
 use Rattle.ht_capture.specs.declared.items.FrameHead.{FrameHead}
 use Rattle.ht_capture.specs.declared.items.Item.{Item}
 use Rattle.ht_capture.specs.declared.items.Item.TheVariants.{Frame}
@@ -26,9 +28,9 @@ use Rattle.ht_capture.specs.declared.places.Present.{Present}
 use Rattle.ht_capture.specs.declared.places.Turn.{Turn}
 use Rattle.ht_capture.specs.Frames.{erase}
 use Rattle.ht_capture.specs.Systems.{triangle_of, triangle_octets}
-use Rattle.ht_capture.specs.Fields.{State, Magic, Version, Count, Bandwidth, Mcs, Length, Flag, Triangle, Symbol, bad_flag, captures}
-use Rattle.ht_capture.specs.Fields.{carriers_due, due_at, first_symbol, frame_due, head_given, known_version, magic, magic_due, new_head}
-use Rattle.ht_capture.specs.Files.{is_erased, flagged, behind, flagged_octets, legs_octets, present_among, start_octets}
+use Rattle.ht_capture.specs.Fields.{CaptureState, Magic, Version, Count, Bandwidth, Mcs, Length, Flag, Triangle, Symbol, bad_flag, captures}
+use Rattle.ht_capture.specs.Fields.{carriers_due, capture_due, first_symbol, turn_due, head_given, known_version, capture_magic, capture_magic_due, new_head}
+use Rattle.ht_capture.specs.Files.{is_erased, flagged, triangles_behind, flagged_octets, legs_octets, present_among, capture_start}
 use Rattle.ht_capture.specs.Contents.{AreLegs, AreTriangles, presents, seen}
 use Rattle.ht_capture.proofs.Judges.{good_magic, good_version, good_count, good_bandwidth, good_mcs, good_length, good_triangle, zero_flag, flag_good}
 use Rattle.ht_capture.proofs.Turns.{frame_is, flag_is, triangle_is, symbol_is, none_given, one_given}
@@ -36,53 +38,43 @@ use Rattle.ht_capture.proofs.Grids.{asks_legs}
 use Rattle.ht_capture.proofs.Decoded.{triangle_read}
 use Rattle.ht_capture.proofs.Written.{length-legs}
 
--- the octets are good fields that lead from one state to another, and give these items
-pub record Route (s t : State) (octets : List ℕ) (items : List Item) : Type 0 where
-  pub fields : List (List ℕ)
-  pub good : Leads captures s fields items t
-  pub split : octets ≡ joined fields
+-- the octets are good fields that lead from one state of a capture to another, and give these items
+abbrev pub Route : CaptureState → CaptureState → List ℕ → List Item → Type 0
+Route s t octets items = RouteIn captures s t octets items
 
-pub route_none : (s t : State) → s ≡ t → Route s t [] []
-route_none s t e = record { fields = []; good = (refl, e); split = refl }
+pub route_none : (s t : CaptureState) → s ≡ t → Route s t [] []
+route_none s t e = none_in captures s t e
 
-pub route_then : (s t u : State) (a b : List ℕ) (x y : List Item) → Route s t a x → Route t u b y → Route s u (a ++ b) (x ++ y)
-route_then s t u a b x y p q = record {
-  fields = p.fields ++ q.fields;
-  good = Leads-append captures s t u p.fields q.fields x y p.good q.good;
-  split = ap (λ z. z ++ b) p.split ∙ (ap (λ z. joined p.fields ++ z) q.split ∙ sym (joined-append p.fields q.fields));
-}
+pub route_then : (s t u : CaptureState) (a b : List ℕ) (x y : List Item) → Route s t a x → Route t u b y → Route s u (a ++ b) (x ++ y)
+route_then s t u a b x y p q = then_in captures s t u a b x y p q
 
-pub route_field : (s t : State) (x : List ℕ) (items : List Item) → IsField (due_at s) x (Good t items) → Route s t x items
-route_field s t x items good = record {
-  fields = x ∷ [];
-  good = (t, items, [], good, (refl, refl), sym (append-nil items));
-  split = sym (append-nil x);
-}
+pub route_field : (s t : CaptureState) (x : List ℕ) (items : List Item) → IsField (capture_due s) x (Good t items) → Route s t x items
+route_field s t x items good = field_in captures s t x items good
 
-pub route_from : (s t u : State) (a : List ℕ) (x : List Item) → s ≡ t → Route t u a x → Route s u a x
-route_from s t u a x e r = subst (λ (z : State). Route z u a x) (sym e) r
+pub route_from : (s t u : CaptureState) (a : List ℕ) (x : List Item) → s ≡ t → Route t u a x → Route s u a x
+route_from s t u a x e r = from_in captures s t u a x e r
 
-pub route_to : (s t u : State) (a : List ℕ) (x : List Item) → t ≡ u → Route s t a x → Route s u a x
-route_to s t u a x e r = subst (λ (z : State). Route s z a x) e r
+pub route_to : (s t u : CaptureState) (a : List ℕ) (x : List Item) → t ≡ u → Route s t a x → Route s u a x
+route_to s t u a x e r = to_in captures s t u a x e r
 
-pub route_gives : (s t : State) (a : List ℕ) (x y : List Item) → x ≡ y → Route s t a x → Route s t a y
+pub route_as : (s t : CaptureState) (a b : List ℕ) (x : List Item) → a ≡ b → Route s t a x → Route s t b x
+route_as s t a b x e r = as_in captures s t a b x e r
+
+pub route_gives : (s t : CaptureState) (a : List ℕ) (x y : List Item) → x ≡ y → Route s t a x → Route s t a y
 route_gives s t a x y e r = subst (λ (z : List Item). Route s t a z) e r
-
-pub route_as : (s t : State) (a b : List ℕ) (x : List Item) → a ≡ b → Route s t a x → Route s t b x
-route_as s t a b x e r = subst (λ (z : List ℕ). Route s t z x) e r
 
 abbrev pub first_turn : ℕ → ℕ → Turn
 first_turn version count = record { version = version; left = count; frame = 0; number = 0 }
 
 -- the seven octets in front of the frames
 pub route_start : (version count : ℕ) → known_version version ≡ true → count < 2 ^ 16
-    → Route (magic_due magic) (frame_due (first_turn version count)) (start_octets version count) []
+    → Route (capture_magic_due capture_magic) (turn_due (first_turn version count)) (capture_start version count) []
 unfolding start_octets
 route_start version count known small =
-    let octet : (x : ℕ) (more : List ℕ) → Route (Magic x more) (magic_due more) (x ∷ []) [] =
-    λ x more. route_field (Magic x more) (magic_due more) (x ∷ []) [] (refl, good_magic x more x refl) in
-    let number : Route (Count version) (frame_due (first_turn version count)) (big_bytes 2 count) [] =
-    route_field (Count version) (frame_due (first_turn version count)) (big_bytes 2 count) []
+    let octet : (x : ℕ) (more : List ℕ) → Route (Magic x more) (capture_magic_due more) (x ∷ []) [] =
+    λ x more. route_field (Magic x more) (capture_magic_due more) (x ∷ []) [] (refl, good_magic x more x refl) in
+    let number : Route (Count version) (turn_due (first_turn version count)) (big_bytes 2 count) [] =
+    route_field (Count version) (turn_due (first_turn version count)) (big_bytes 2 count) []
     (refl, good_count version count (big_bytes 2 count) (sym (big_number-reads_back 2 count [] small))) in
     route_then (Magic 72 (84 ∷ 67 ∷ 80 ∷ [])) (Magic 84 (67 ∷ 80 ∷ [])) _ (72 ∷ []) _ [] [] (octet 72 (84 ∷ 67 ∷ 80 ∷ []))
     (route_then (Magic 84 (67 ∷ 80 ∷ [])) (Magic 67 (80 ∷ [])) _ (84 ∷ []) _ [] [] (octet 84 (67 ∷ 80 ∷ []))
@@ -93,11 +85,11 @@ route_start version count known small =
 
 -- bandwidth, MCS and length
 pub route_head : (turn : Turn) (rate : Rate) (len : ℕ) → 0 < turn.left → 1 ≤ len → len < 2 ^ 16
-    → Route (frame_due turn) (carriers_due turn (new_head turn rate len) 0 []) (bandwidth_code (bandwidth_of rate) ∷ mcs_of rate ∷ big_bytes 2 len) []
+    → Route (turn_due turn) (carriers_due turn (new_head turn rate len) 0 []) (bandwidth_code (bandwidth_of rate) ∷ mcs_of rate ∷ big_bytes 2 len) []
 route_head turn rate len some_left some small =
     let code = bandwidth_code (bandwidth_of rate) in
     let low : code ≤ 1 = bandwidth_code-bound (bandwidth_of rate) in
-    route_from (frame_due turn) (Bandwidth turn) _ _ [] (frame_is turn some_left)
+    route_from (turn_due turn) (Bandwidth turn) _ _ [] (frame_is turn some_left)
     (route_then (Bandwidth turn) (Mcs turn code) _ (code ∷ []) _ [] []
     (route_field (Bandwidth turn) (Mcs turn code) (code ∷ []) [] (refl, good_bandwidth turn code low))
     (route_then (Mcs turn code) (Length turn rate) _ (mcs_of rate ∷ []) _ [] []
@@ -216,12 +208,12 @@ flag_step false turn head e k later done (t ∷ ts) is lt some len typed =
     (route_then (Flag turn (head_at head e k) k done) (Triangle turn (head_at head e k) k done) _ (0 ∷ []) (legs_octets t) [] _
     (route_field (Flag turn (head_at head e k) k done) (Triangle turn (head_at head e k) k done) (0 ∷ []) [] (refl, good)) legs)
 
-pub behind_typed : (b : Bool) (n : ℕ) (ts : List (List Leg)) → AreTriangles n ts → AreTriangles n (behind b ts)
+pub behind_typed : (b : Bool) (n : ℕ) (ts : List (List Leg)) → AreTriangles n ts → AreTriangles n (triangles_behind b ts)
 behind_typed true n ts typed = typed
 behind_typed false n [] typed = tt
 behind_typed false n (t ∷ ts) typed = typed.2
 
-pub behind_length : (b : Bool) (later : ℕ) (ts : List (List Leg)) → length ts ≡ (if b then later else 1 + later) → length (behind b ts) ≡ later
+pub behind_length : (b : Bool) (later : ℕ) (ts : List (List Leg)) → length ts ≡ (if b then later else 1 + later) → length (triangles_behind b ts) ≡ later
 behind_length true later ts len = len
 behind_length false later [] len = absurd (omega (arith, len))
 behind_length false later (t ∷ ts) len = omega (arith, len)
@@ -259,17 +251,18 @@ route_flagged (suc m) k turn head e done ts two sum small len typed some =
     let last : k + 1 ≡ carriers_of head.rate → 1 ≤ length done + (if b then 0 else 1) = λ e2. let z : m ≡ 0 = omega (arith, e2, next) in
     let nothing : later ≡ 0 = ap (λ i. present_among i (k + 1) e) z in omega (arith, some, total, nothing) in
     let step = flag_step b turn head e k later done ts refl lt last len typed in
-    let rest = route_flagged m (k + 1) turn head e (done ++ seen b k ts) (behind b ts) two next small
+    let rest = route_flagged m (k + 1) turn head e (done ++ seen b k ts) (triangles_behind b ts) two next small
     (behind_length b later ts len) (behind_typed b (streams_of head.rate) ts typed) left in
     let same : m ≡ 0 → head_at head e (k + 1) ≡ with_erased head e = λ z. let place : carriers_of head.rate ≡ k + 1 = omega (arith, z, next) in
     ap (with_erased head) (mod-eq_of_lt (subst (λ n. e < 2 ^ n) place small)) in
     let given = given_next (head_at head e (k + 1)) (with_erased head e) k m next same in
-    let regrouped : (done ++ seen b k ts) ++ presents m (k + 1) e (behind b ts) ≡ done ++ (seen b k ts ++ presents m (k + 1) e (behind b ts)) =
-    append_assoc done (seen b k ts) (presents m (k + 1) e (behind b ts)) in
+    let regrouped : (done ++ seen b k ts) ++ presents m (k + 1) e (triangles_behind b ts)
+    ≡ done ++ (seen b k ts ++ presents m (k + 1) e (triangles_behind b ts)) =
+    append_assoc done (seen b k ts) (presents m (k + 1) e (triangles_behind b ts)) in
     route_from _ (Flag turn (head_at head e k) k done) _ _ _ (flag_is turn (head_at head e k) k done lt two)
     (route_gives _ _ _ _ _ given
     (route_to _ _ _ _ _ (ap (λ (d : List Present). Symbol (first_symbol turn (with_erased head e) (length d)) d) regrouped)
-    (route_then (Flag turn (head_at head e k) k done) _ _ (flagged b ts) (flagged_octets m (k + 1) e (behind b ts)) _ _ step rest)))
+    (route_then (Flag turn (head_at head e k) k done) _ _ (flagged b ts) (flagged_octets m (k + 1) e (triangles_behind b ts)) _ _ step rest)))
 
 pub none_erased : (k : ℕ) → is_erased 0 k ≡ false
 none_erased k = ap (λ n. nat_eq n 1) (bit_at-zero k)
@@ -296,7 +289,7 @@ route_plain (suc m) k turn head done (t ∷ ts) one sum len typed =
     let rest = route_plain m (k + 1) turn head (done ++ here ∷ []) ts one next (omega (arith, len)) typed.2 in
     let all : (done ++ here ∷ []) ++ presents m (k + 1) 0 ts ≡ done ++ presents (suc m) k 0 (t ∷ ts) =
     append_assoc done (here ∷ []) (presents m (k + 1) 0 ts)
-    ∙ ap (λ (b : Bool). done ++ (seen b k (t ∷ ts) ++ presents m (k + 1) 0 (behind b (t ∷ ts)))) (sym (none_erased k)) in
+    ∙ ap (λ (b : Bool). done ++ (seen b k (t ∷ ts) ++ presents m (k + 1) 0 (triangles_behind b (t ∷ ts)))) (sym (none_erased k)) in
     route_from _ (Triangle turn head k done) _ _ _ (triangle_is turn head k done lt one)
     (route_gives _ _ _ _ _ (given_next head head k m next (λ z. refl))
     (route_to _ _ _ _ _ (ap (λ (d : List Present). Symbol (first_symbol turn head (length d)) d) all)

@@ -18,7 +18,7 @@ use Rattle.ht_capture.specs.declared.places.SymbolTurn.{SymbolTurn}
 use Rattle.ht_capture.specs.declared.stage.Stage.{Stage}
 use Rattle.ht_capture.specs.declared.stage.Stage.TheVariants.{NextFrame, NextSymbol, Giving}
 use Rattle.ht_capture.specs.Frames.{carrier_octets, job_at, jobs_at}
-use Rattle.ht_capture.specs.Fields.{Symbol, captures, frame_due, next_symbol, next_turn, symbol_due}
+use Rattle.ht_capture.specs.Fields.{Symbol, captures, turn_due, next_symbol, next_turn, symbol_due}
 use Rattle.ht_capture.specs.Reading.{here}
 use Rattle.ht_capture.specs.Readers.{jobs_left, shown_at, stage_after, stage_means, symbol_octets}
 
@@ -77,7 +77,7 @@ gives_job due k at present samples left job d lt le is =
     }
 
 chosen : (b : Bool) (due : SymbolTurn) (turn : Turn) (at : ℕ) (present : List Present) (samples rest : List ℕ)
-    → meaning captures (if b then Symbol due (take due.count present) else frame_due turn) at rest
+    → meaning captures (if b then Symbol due (take due.count present) else turn_due turn) at rest
     ≡ stage_means (if b then NextSymbol due else NextFrame turn) at present samples rest
 chosen true due turn at present samples rest = refl
 chosen false due turn at present samples rest = refl

@@ -1,7 +1,7 @@
 -- What is due at the joints of a capture.
 use Rattle.std.specs.Prelude.{Result, Ok, Err, MatchResult}
-use Rattle.std.proofs.Common.{◌≡◌, ℕ, zero, suc, ◌+◌, ◌<◌, ◌≤◌, List, [], ◌∷◌, ◌++◌, length, take, drop}
-use Rattle.std.proofs.Common.{slice_index, nat_eq, nat_lt, Bool, true, false, refl, sym, ap, subst, ◌∙◌, arith}
+use Rattle.std.proofs.Common.{◌≡◌, ℕ, ◌+◌, ◌<◌, ◌≤◌, List, [], ◌∷◌, ◌++◌, length, take}
+use Rattle.std.proofs.Common.{nat_eq, nat_lt, Bool, true, false, refl, sym, ap, subst, ◌∙◌, arith}
 use Rattle.std.proofs.lemmas.Bool.Decides.{nat_tests}
 use Rattle.ht_io.specs.declared.faults.InFault.{InFault}
 use Rattle.ht_fields.specs.Grammar.{Good}
@@ -19,27 +19,22 @@ use Rattle.ht_capture.specs.declared.places.Present.{Present}
 use Rattle.ht_capture.specs.declared.places.Turn.{Turn}
 use Rattle.ht_capture.specs.declared.places.SymbolTurn.{SymbolTurn}
 use Rattle.ht_capture.specs.Frames.{erase, jobs_at}
-use Rattle.ht_capture.specs.Fields.{State, Magic, Bandwidth, Flag, Triangle, Symbol, Over, magic, magic_due, frame_due}
+use Rattle.ht_capture.specs.Fields.{CaptureState, Bandwidth, Flag, Triangle, Symbol, Over, turn_due}
 use Rattle.ht_capture.specs.Fields.{carrier_due, carriers_due, first_symbol, head_given, judge_symbol, next_symbol, symbol_due}
 use Rattle.ht_capture.specs.Readers.{Completes, GivesItem, symbol_octets}
-use Rattle.ht_capture.proofs.Halting.{gives_halts, good_gives}
+use Rattle.ht_capture.proofs.Halting.{good_gives}
 use Rattle.ht_capture.proofs.Grids.{ones}
-use Rattle.ht_capture.specs.Reading.{Caused, Flagged, Halts, SameFrame, here}
-use Rattle.ht_capture.proofs.Choices.{when_true, when_false}
+use Rattle.ht_capture.specs.Reading.{Flagged, SameFrame, here}
+use Rattle.ht_fields.proofs.Halting.{gives_halts}
+use Rattle.ht_fields.specs.WholeFiles.{Caused, Halts}
+use Rattle.ht_fields.proofs.Choices.{when_true, when_false}
 
-pub next_magic : (k : ℕ) → k < 4 → magic_due (drop k magic) ≡ Magic (slice_index magic k) (drop (k + 1) magic)
-next_magic zero lt = refl
-next_magic (suc zero) lt = refl
-next_magic (suc (suc zero)) lt = refl
-next_magic (suc (suc (suc zero))) lt = refl
-next_magic (suc (suc (suc (suc k)))) lt = absurd (omega arith)
-
-pub frame_is : (turn : Turn) → 0 < turn.left → frame_due turn ≡ Bandwidth turn
-unfolding frame_due
+pub frame_is : (turn : Turn) → 0 < turn.left → turn_due turn ≡ Bandwidth turn
+unfolding turn_due
 frame_is turn some = let t : nat_eq turn.left 0 ≡ false = grind (arith, nat_tests) in when_false _ _ _ t
 
-pub over_is : (turn : Turn) → turn.left ≡ 0 → frame_due turn ≡ Over
-unfolding frame_due
+pub over_is : (turn : Turn) → turn.left ≡ 0 → turn_due turn ≡ Over
+unfolding turn_due
 over_is turn none = let t : nat_eq turn.left 0 ≡ true = grind (arith, nat_tests) in when_true _ _ _ t
 
 pub carrier_is : (turn : Turn) (head : FrameHead) (carrier : ℕ) (present : List Present) → carrier < carriers_of head.rate
@@ -75,18 +70,18 @@ unfolding erase
 same_erased head other carrier e = (ap (λ (h : FrameHead). h.frame) e, ap (λ (h : FrameHead). h.rate) e, ap (λ (h : FrameHead). h.length) e)
 
 -- the same state by another name
-pub gives_from : (s t : State) (at : ℕ) (left : Device ℕ) (new : ReaderView Item) (items : List Item)
+pub gives_from : (s t : CaptureState) (at : ℕ) (left : Device ℕ) (new : ReaderView Item) (items : List Item)
     → s ≡ t → Gives (here t at left) new items → Gives (here s at left) new items
-gives_from s t at left new items e g = subst (λ (x : State). Gives (here x at left) new items) (sym e) g
+gives_from s t at left new items e g = subst (λ (x : CaptureState). Gives (here x at left) new items) (sym e) g
 
-pub gives_to : (old : ReaderView Item) (s t : State) (at place : ℕ) (left : Device ℕ) (items : List Item)
+pub gives_to : (old : ReaderView Item) (s t : CaptureState) (at place : ℕ) (left : Device ℕ) (items : List Item)
     → s ≡ t → at ≡ place → Gives old (here s at left) items → Gives old (here t place left) items
 gives_to old s t at place left items e p g =
-    subst (λ (x : State). Gives old (here x place left) items) e (subst (λ (n : ℕ). Gives old (here s n left) items) p g)
+    subst (λ (x : CaptureState). Gives old (here x place left) items) e (subst (λ (n : ℕ). Gives old (here s n left) items) p g)
 
-pub halts_from : (s t : State) (at : ℕ) (left after : Device ℕ) (fault : InFault)
+pub halts_from : (s t : CaptureState) (at : ℕ) (left after : Device ℕ) (fault : InFault)
     → s ≡ t → Halts (here t at left) after fault → Halts (here s at left) after fault
-halts_from s t at left after fault e h = subst (λ (x : State). Halts (here x at left) after fault) (sym e) h
+halts_from s t at left after fault e h = subst (λ (x : CaptureState). Halts (here x at left) after fault) (sym e) h
 
 pub gives_items : (old new : ReaderView Item) (items others : List Item) → items ≡ others → Gives old new items → Gives old new others
 gives_items old new items others e g = subst (λ (x : List Item). Gives old new x) e g
@@ -133,13 +128,9 @@ symbol_good due present octets = refl
 
 -- the end of the file is due
 pub completes_over : (turn : Turn) (at : ℕ) (left after : Device ℕ) → turn.left ≡ 0
-    → Finishes (here Over at left) after → Completes (here (frame_due turn) at left) after
+    → Finishes (here Over at left) after → Completes (here (turn_due turn) at left) after
 completes_over turn at left after none f =
-    subst (λ (s : State). Completes (here s at left) after) (sym (over_is turn none)) (record { taken = []; octets = f.octets; means = f.means })
-
--- the same fault by another name
-pub halts_as : (old : ReaderView Item) (after : Device ℕ) (fault other : InFault) → other ≡ fault → Halts old after fault → Halts old after other
-halts_as old after fault other e h = subst (λ (f : InFault). Halts old after f) (sym e) h
+    subst (λ (s : CaptureState). Completes (here s at left) after) (sym (over_is turn none)) (record { taken = []; octets = f.octets; means = f.means })
 
 pub halts_real : (old : ReaderView Item) (after : Device ℕ) (fault : InFault) → Halts old after fault → fault ≡ NoMemory → ⊥
 halts_real old after fault h e = subst (λ (f : InFault). Caused old.source after f) e h.1

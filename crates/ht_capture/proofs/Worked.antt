@@ -1,7 +1,8 @@
 -- Octets of frames, by computation.
 use Rattle.std.specs.Prelude.{◌≡◌, pos, negsuc, List, [], ◌∷◌, refl}
 use Rattle.ht_metric.specs.Rows.{Leg}
-use Rattle.ht_capture.specs.Files.{file_of, flagged_octets, legs_octets, present_among, sample_octets, start_octets, tap_octets}
+use Rattle.ht_heads.specs.Heads.{start_octets}
+use Rattle.ht_capture.specs.Files.{capture_file_of, flagged_octets, legs_octets, present_among, sample_octets, tap_octets}
 
 -- the entry -1 + 2j
 entry : tap_octets (record { re = negsuc 0; im = pos 2 }) ≡ 255 ∷ 255 ∷ 0 ∷ 2 ∷ []
@@ -27,10 +28,10 @@ flags : flagged_octets 3 0 2 ((record { diagonal = 7; right = [] } ∷ []) ∷ (
 flags = refl
 
 -- files of no frame
-empty_1 : file_of 1 [] ≡ 72 ∷ 84 ∷ 67 ∷ 80 ∷ 1 ∷ 0 ∷ 0 ∷ []
-unfolding file_of start_octets
+empty_1 : capture_file_of 1 [] ≡ 72 ∷ 84 ∷ 67 ∷ 80 ∷ 1 ∷ 0 ∷ 0 ∷ []
+unfolding capture_file_of start_octets
 empty_1 = refl
 
-empty_2 : file_of 2 [] ≡ 72 ∷ 84 ∷ 67 ∷ 80 ∷ 2 ∷ 0 ∷ 0 ∷ []
-unfolding file_of start_octets
+empty_2 : capture_file_of 2 [] ≡ 72 ∷ 84 ∷ 67 ∷ 80 ∷ 2 ∷ 0 ∷ 0 ∷ []
+unfolding capture_file_of start_octets
 empty_2 = refl

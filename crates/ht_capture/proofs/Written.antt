@@ -1,8 +1,8 @@
 -- Octets that are put one after another.
 use Rattle.std.proofs.Common.{◌≡◌, ℕ, zero, suc, ◌+◌, ◌*◌, ◌-◌, ◌<◌, ◌≤◌, List, [], ◌∷◌, ◌++◌, length, drop}
-use Rattle.std.proofs.Common.{slice_index_or, flat_map, Bool, true, false, if◌then◌else◌, take, Option, Result, Ok}
-use Rattle.std.proofs.Common.{Err, OnErr, get_or, refl, sym, ap, subst, ◌∙◌, append_assoc, length-append, arith}
-use Rattle.std.proofs.lemmas.List.{get_or-drop, drop-drop, length-drop, append-nil, drop_all, drop_more, take-append-drop}
+use Rattle.std.proofs.Common.{slice_index_or, flat_map, Bool, true, false, if◌then◌else◌, take, Option}
+use Rattle.std.proofs.Common.{refl, sym, ap, subst, ◌∙◌, append_assoc, length-append, arith}
+use Rattle.std.proofs.lemmas.List.{get_or-drop, drop-drop, length-drop, append-nil, drop_all, take-append-drop}
 use Rattle.std.proofs.lemmas.Grind.{flat_map-append}
 use Rattle.ht_io.specs.Pieces.{KnownGrown, KnownGrownByPart}
 use Rattle.ht_io.proofs.Pieces.{grown-append, grown_by_part-front, grown_by_part-append}
@@ -11,7 +11,7 @@ use Rattle.std.proofs.Math.Seq.{drop-cons}
 use Rattle.ht_metric.specs.declared.tap.Tap.{Tap}
 use Rattle.ht_metric.specs.Rows.{Leg, no_tap, no_leg}
 use Rattle.ht_capture.specs.Files.{sample_octets, tap_octets, taps_octets, leg_octets, legs_octets, is_erased}
-use Rattle.ht_capture.specs.Files.{flagged, behind, flagged_octets, present_among, front_octets, frame_octets}
+use Rattle.ht_capture.specs.Files.{flagged, triangles_behind, flagged_octets, present_among, front_octets, capture_frame_octets}
 use Rattle.ht_capture.specs.declared.frames.CaptureFrame.{CaptureFrame}
 
 -- a piece more
@@ -78,19 +78,20 @@ triangle_size chunk old legs few eq = omega (arith, ap length eq, length-append 
 
 -- a subcarrier, and those behind it
 pub flagged_next : (n m k erased : ℕ) (triangles : List (List Leg)) → n ≡ suc m
-    → flagged_octets n k erased triangles ≡ flagged (is_erased erased k) triangles ++ flagged_octets m (k + 1) erased (behind (is_erased erased k) triangles)
+    → flagged_octets n k erased triangles
+    ≡ flagged (is_erased erased k) triangles ++ flagged_octets m (k + 1) erased (triangles_behind (is_erased erased k) triangles)
 flagged_next n m k erased triangles is = ap (λ i. flagged_octets i k erased triangles) is
 
 -- the triangles of the subcarriers behind one
 left_of : (is : Bool) (n k erased : ℕ) (triangles : List (List Leg))
     → length triangles ≡ (if is then present_among n (k + 1) erased else 1 + present_among n (k + 1) erased)
-    → length (behind is triangles) ≡ present_among n (k + 1) erased
+    → length (triangles_behind is triangles) ≡ present_among n (k + 1) erased
 left_of true n k erased triangles len = len
 left_of false n k erased [] len = absurd (omega (arith, len))
 left_of false n k erased (t ∷ ts) len = omega (arith, len)
 
 pub left_next : (n m k erased : ℕ) (triangles : List (List Leg)) → n ≡ suc m → length triangles ≡ present_among n k erased
-    → length (behind (is_erased erased k) triangles) ≡ present_among m (k + 1) erased
+    → length (triangles_behind (is_erased erased k) triangles) ≡ present_among m (k + 1) erased
 left_next n m k erased triangles is len = left_of (is_erased erased k) m k erased triangles (len ∙ ap (λ i. present_among i k erased) is)
 
 some_of : (is : Bool) (a b : ℕ) → a ≡ (if is then b else 1 + b) → is ≡ false → 0 < a
@@ -117,11 +118,6 @@ pub triangle_done : (chunk old : List ℕ) (legs : List Leg) (k : ℕ) → lengt
     → chunk ++ legs_octets (drop k legs) ≡ old ++ legs_octets legs → chunk ≡ old ++ legs_octets legs
 triangle_done chunk old legs k over eq = sym (append-nil chunk) ∙ (ap (λ l. chunk ++ legs_octets l) (sym (drop_all k legs over)) ∙ eq)
 
--- what holds whether or not it failed
-pub on_err : {A E : Type 0} (P : Type 0) (r : Result A E) → P → OnErr r P
-on_err P (Ok x) p = tt
-on_err P (Err e) p = p
-
 -- some samples, and those behind them
 pub samples_split : (samples : List Sample) (k : ℕ)
     → flat_map sample_octets (take k samples) ++ flat_map sample_octets (drop k samples) ≡ flat_map sample_octets samples
@@ -143,27 +139,11 @@ part_more held mid new front piece put rest left whole a b is e all =
     let part : KnownGrownByPart mid new (piece ++ rest) = grown_by_part-front mid new piece rest (subst (λ (p : List ℕ). KnownGrownByPart mid new p) is b) in
     subst (λ (w : List ℕ). KnownGrownByPart held new w) (ap (λ z. front ++ z) e ∙ all) (grown_by_part-append held mid new front (piece ++ rest) a part)
 
--- what follows, where it failed
-pub on_err_then : {A E : Type 0} (P Q : Type 0) (r : Result A E) → (P → Q) → OnErr r P → OnErr r Q
-on_err_then P Q (Ok x) f p = tt
-on_err_then P Q (Err e) f p = f p
-
--- a part of the piece at a place, behind the pieces before it
-pub part_at : {X : Type 0} (f : X → List ℕ) (xs : List X) (k : ℕ) (x : X) (start : List ℕ) (held mid new : Option (List ℕ)) → k < length xs → x ≡ get_or xs k x
-    → KnownGrown held mid (start ++ flat_map f (take k xs)) → KnownGrownByPart mid new (f x) → KnownGrownByPart held new (start ++ flat_map f xs)
-part_at {X = X} f xs k x start held mid new lt at a b =
-    let left : flat_map f (drop k xs) ≡ f x ++ flat_map f (drop (k + 1) xs) =
-    ap (flat_map f) (drop_more xs k x lt) ∙ ap (λ (y : X). f y ++ flat_map f (drop (k + 1) xs)) (sym at) in
-    let all : (start ++ flat_map f (take k xs)) ++ flat_map f (drop k xs) ≡ start ++ flat_map f xs =
-    append_assoc start (flat_map f (take k xs)) (flat_map f (drop k xs))
-    ∙ ap (λ z. start ++ z) (sym (flat_map-append f (take k xs) (drop k xs)) ∙ ap (flat_map f) (take-append-drop k xs)) in
-    part_more held mid new (start ++ flat_map f (take k xs)) (f x) (f x) (flat_map f (drop (k + 1) xs)) (flat_map f (drop k xs)) _ a b refl (sym left) all
-
 -- a part of the samples of a frame, behind its front
 pub behind_front : (version : ℕ) (f : CaptureFrame) (held mid new : Option (List ℕ)) (put : List ℕ) (samples : List Sample)
     → KnownGrown held mid put → put ≡ front_octets version f → samples ≡ f.samples
-    → KnownGrownByPart mid new (flat_map sample_octets samples) → KnownGrownByPart held new (frame_octets version f)
-unfolding frame_octets
+    → KnownGrownByPart mid new (flat_map sample_octets samples) → KnownGrownByPart held new (capture_frame_octets version f)
+unfolding capture_frame_octets
 behind_front version f held mid new put samples a is same b =
     grown_by_part-append held mid new (front_octets version f) (flat_map sample_octets f.samples) (subst (λ (p : List ℕ). KnownGrown held mid p) is a)
     (subst (λ (s : List Sample). KnownGrownByPart mid new (flat_map sample_octets s)) same b)

@@ -1,6 +1,6 @@
 -- What a capture of frames holds, and which numbers a frame has.
 use Rattle.std.specs.Prelude.{ℕ, List, Bool, FitsSigned}
-use Rattle.std.specs.Prelude.{◌≡◌, zero, suc, ◌+◌, ◌*◌, ◌<◌, ◌^◌, ◌⊎◌, [], ◌∷◌, ◌++◌, length, take, drop, slice_index_or, get_or, true, false}
+use Rattle.std.specs.Prelude.{◌≡◌, zero, suc, ◌+◌, ◌*◌, ◌<◌, ◌^◌, ◌⊎◌, [], ◌∷◌, ◌++◌, length, take, drop, slice_index_or, true, false}
 use Rattle.std.specs.Int.{w16, w32}
 use Rattle.ht_rate.specs.Rates.{streams_of, carriers_of, symbols_of}
 use Rattle.ht_metric.specs.declared.tap.Tap.{Tap}
@@ -13,7 +13,7 @@ use Rattle.ht_capture.specs.declared.items.Item.{Item}
 use Rattle.ht_capture.specs.declared.items.Item.TheVariants.{Frame, Job}
 use Rattle.ht_capture.specs.declared.places.Present.{Present}
 use Rattle.ht_capture.specs.Frames.{grid_at}
-use Rattle.ht_capture.specs.Files.{IsWhole, behind, is_erased}
+use Rattle.ht_capture.specs.Files.{HasAllCarriers, triangles_behind, is_erased}
 
 -- a subcarrier that is present has the first of these triangles
 abbrev pub seen : Bool → ℕ → List (List Leg) → List Present
@@ -24,7 +24,7 @@ seen false carrier triangles = record { carrier = carrier; triangle = slice_inde
 abbrev pub presents : ℕ → ℕ → ℕ → List (List Leg) → List Present
 presents zero carrier erased triangles = []
 presents (suc n) carrier erased triangles =
-    seen (is_erased erased carrier) carrier triangles ++ presents n (carrier + 1) erased (behind (is_erased erased carrier) triangles)
+    seen (is_erased erased carrier) carrier triangles ++ presents n (carrier + 1) erased (triangles_behind (is_erased erased carrier) triangles)
 
 -- the job of a subcarrier of a symbol, whose samples come first: a system has one for each row
 abbrev pub job_of : FrameHead → ℕ → ℕ → Present → List Sample → JobView
@@ -64,10 +64,6 @@ items_from frame number (f ∷ fs) =
 abbrev pub items_of : List CaptureFrame → List Item
 items_of frames = items_from 0 0 frames
 
--- the octets of a list are octets
-abbrev pub AreBytes : List ℕ → Type 0
-AreBytes octets = (i : ℕ) → get_or octets i 0 < 256
-
 -- the numbers of the machine: two signed parts of 16 or 32 bits
 abbrev pub AreTaps : List Tap → Type 0
 AreTaps [] = Unit {0}
@@ -98,7 +94,7 @@ AreTyped (f ∷ fs) = IsTyped f × AreTyped fs
 
 abbrev pub AreWhole : List CaptureFrame → Type 0
 AreWhole [] = Unit {0}
-AreWhole (f ∷ fs) = IsWhole f × AreWhole fs
+AreWhole (f ∷ fs) = HasAllCarriers f × AreWhole fs
 
 -- the frames can be written in the version: 1, which has no erased subcarriers, or 2
 abbrev pub IsVersion : ℕ → List CaptureFrame → Type 0

@@ -4,14 +4,13 @@ use Rattle.std.specs.Prelude.{◌≡◌, zero, suc, ◌+◌, ◌*◌, ◌≤◌,
 use Rattle.std.specs.Prelude.{slice_index_or, nat_eq, true, false, ◌==◌, if◌then◌else◌}
 use Rattle.std.specs.Int.{bit_at, cast_unsigned, w16, w32}
 use Rattle.byteorder.specs.Endian.{big_bytes}
-use Rattle.ht_rate.specs.declared.rates.Rate.{Rate}
-use Rattle.ht_rate.specs.Schemes.{bandwidth_code}
-use Rattle.ht_rate.specs.Rates.{bandwidth_of, mcs_of, streams_of, carriers_of, symbols_of}
+use Rattle.ht_rate.specs.Rates.{streams_of, carriers_of, symbols_of}
 use Rattle.ht_metric.specs.declared.tap.Tap.{Tap}
 use Rattle.ht_metric.specs.declared.sample.Sample.{Sample}
 use Rattle.ht_metric.specs.Rows.{Leg, no_tap}
 use Rattle.ht_capture.specs.declared.frames.CaptureFrame.{CaptureFrame}
-use Rattle.ht_capture.specs.Fields.{magic}
+use Rattle.ht_heads.specs.Heads.{head_octets, start_octets}
+use Rattle.ht_capture.specs.Fields.{capture_magic}
 
 -- an entry of a triangle: the real part and the imaginary part, of two octets each
 abbrev pub tap_octets : Tap → List ℕ
@@ -58,38 +57,34 @@ flagged true triangles = 1 ∷ []
 flagged false triangles = 0 ∷ legs_octets (slice_index_or triangles 0 [])
 
 -- the triangles of the subcarriers behind it
-abbrev pub behind : Bool → List (List Leg) → List (List Leg)
-behind true triangles = triangles
-behind false triangles = drop 1 triangles
+abbrev pub triangles_behind : Bool → List (List Leg) → List (List Leg)
+triangles_behind true triangles = triangles
+triangles_behind false triangles = drop 1 triangles
 
 -- a number of subcarriers of version 2, from one on
 abbrev pub flagged_octets : ℕ → ℕ → ℕ → List (List Leg) → List ℕ
 flagged_octets zero carrier erased triangles = []
 flagged_octets (suc n) carrier erased triangles =
-    flagged (is_erased erased carrier) triangles ++ flagged_octets n (carrier + 1) erased (behind (is_erased erased carrier) triangles)
+    flagged (is_erased erased carrier) triangles ++ flagged_octets n (carrier + 1) erased (triangles_behind (is_erased erased carrier) triangles)
 
 -- a number of subcarriers from the first on, without flags in version 1
 unfoldable pub carriers_octets : ℕ → ℕ → ℕ → List (List Leg) → List ℕ
 carriers_octets version count erased triangles = if nat_eq version 2 then flagged_octets count 0 erased triangles else flat_map legs_octets triangles
 
--- the head of a frame: bandwidth, MCS and length
-abbrev pub head_octets : Rate → ℕ → List ℕ
-head_octets rate len = bandwidth_code (bandwidth_of rate) ∷ mcs_of rate ∷ big_bytes 2 len
-
 -- what stands in front of the samples of a frame
 unfoldable pub front_octets : ℕ → CaptureFrame → List ℕ
 front_octets version f = head_octets f.rate f.length ++ carriers_octets version (carriers_of f.rate) f.erased f.triangles
 
-unfoldable pub frame_octets : ℕ → CaptureFrame → List ℕ
-frame_octets version f = front_octets version f ++ flat_map sample_octets f.samples
+unfoldable pub capture_frame_octets : ℕ → CaptureFrame → List ℕ
+capture_frame_octets version f = front_octets version f ++ flat_map sample_octets f.samples
 
 -- the magic, the version and the number of frames
-unfoldable pub start_octets : ℕ → ℕ → List ℕ
-start_octets version count = magic ++ (version ∷ big_bytes 2 count)
+abbrev pub capture_start : ℕ → ℕ → List ℕ
+capture_start version count = start_octets capture_magic version count
 
 -- the file of frames in a version
-unfoldable pub file_of : ℕ → List CaptureFrame → List ℕ
-file_of version frames = start_octets version (length frames) ++ flat_map (frame_octets version) frames
+unfoldable pub capture_file_of : ℕ → List CaptureFrame → List ℕ
+capture_file_of version frames = capture_start version (length frames) ++ flat_map (capture_frame_octets version) frames
 
 -- A frame has a length, a subcarrier that is present, no mark beyond its subcarriers, and as many triangles and
 -- samples as its present subcarriers, its symbols and its streams ask for.
@@ -102,10 +97,10 @@ pub record FitsFrame (f : CaptureFrame) : Type 0 where
   pub samples : length f.samples ≡ symbols_of f.rate f.length * (present_of f * streams_of f.rate)
 
 -- frames of which a capture can be written: at most 65535
-pub record AreFrames (frames : List CaptureFrame) : Type 0 where
+pub record AreCaptureFrames (frames : List CaptureFrame) : Type 0 where
   pub few : length frames ≤ 65535
   pub fit : All FitsFrame frames
 
 -- no subcarrier is erased
-abbrev pub IsWhole : CaptureFrame → Type 0
-IsWhole f = f.erased ≡ 0
+abbrev pub HasAllCarriers : CaptureFrame → Type 0
+HasAllCarriers f = f.erased ≡ 0

@@ -15,7 +15,7 @@ use Rattle.ht_capture.specs.declared.places.SymbolTurn.{SymbolTurn}
 use Rattle.ht_capture.specs.declared.stage.Stage.{Stage}
 use Rattle.ht_capture.specs.declared.stage.Stage.TheVariants.{Begin, NextFrame, NextSymbol, Giving, Ended, Stopped}
 use Rattle.ht_capture.specs.Frames.{carrier_octets, jobs_at}
-use Rattle.ht_capture.specs.Fields.{Symbol, captures, magic, magic_due, frame_due, next_symbol, next_turn, symbol_due}
+use Rattle.ht_capture.specs.Fields.{Symbol, captures, capture_magic, capture_magic_due, turn_due, next_symbol, next_turn, symbol_due}
 use Rattle.ht_capture.specs.Reading.{AreSeen}
 
 -- the octets of a symbol
@@ -34,8 +34,8 @@ stopped_means NoMemory rest = ended
 
 -- what a reader means in a stage, if exactly these octets are left
 abbrev pub stage_means : Stage → ℕ → List Present → List ℕ → List ℕ → Meaning Item
-stage_means Begin at present samples = meaning captures (magic_due magic) at
-stage_means (NextFrame turn) at present samples = meaning captures (frame_due turn) at
+stage_means Begin at present samples = meaning captures (capture_magic_due capture_magic) at
+stage_means (NextFrame turn) at present samples = meaning captures (turn_due turn) at
 stage_means (NextSymbol due) at present samples = meaning captures (Symbol due (take due.count present)) at
 stage_means (Giving due k) at present samples = λ rest.
     before (jobs_left due k (take due.count present) (take (symbol_octets due) samples))
@@ -170,14 +170,14 @@ pub record IsOfSymbol (due : SymbolTurn) (job : JobView) : Type 0 where
   pub carrier : job.place.carrier < carriers_of due.head.rate
 
 -- behind a job of a symbol a symbol of the same frame is due, the same or a later one, or the frame is over
-abbrev pub Follows : SymbolTurn → Option SymbolTurn → Type 0
-Follows due None = Unit {0}
-Follows due (Some next) = (next.head ≡ due.head) × (due.symbol ≤ next.symbol)
+abbrev pub StaysInFrame : SymbolTurn → Option SymbolTurn → Type 0
+StaysInFrame due None = Unit {0}
+StaysInFrame due (Some next) = (next.head ≡ due.head) × (due.symbol ≤ next.symbol)
 
 -- behind a head its frame's first symbol is due, and a job is one of the symbol that was due
 abbrev pub IsPlaced : Option SymbolTurn → Option SymbolTurn → Item → Type 0
 IsPlaced old new (Frame head) = (due : SymbolTurn) × (new ≡ Some due) × (due.head ≡ head) × (due.symbol ≡ 0)
-IsPlaced old new (Job job) = (due : SymbolTurn) × (old ≡ Some due) × IsOfSymbol due job × Follows due new
+IsPlaced old new (Job job) = (due : SymbolTurn) × (old ≡ Some due) × IsOfSymbol due job × StaysInFrame due new
 IsPlaced old new Done = Unit {0}
 
 -- the offset and the numbers stay far below the ends of their types: a frame has at most 73,569,334 octets and 2,298,924 jobs

@@ -1,10 +1,7 @@
 -- What reading fields of a capture does to its source.
 use Rattle.std.specs.Prelude.{◌≡◌, ℕ, ◌+◌, ◌<◌, List, [], length, get_or, Bool, true, false}
-use Rattle.ht_io.specs.Devices.{Device, Rose}
-use Rattle.ht_io.specs.declared.faults.InFault.{InFault}
-use Rattle.ht_io.specs.declared.faults.InFault.TheVariants.{Format, Read, NoMemory}
-use Rattle.ht_fields.specs.Grammar.{Due, End, Wants}
-use Rattle.ht_fields.specs.Readers.{ReaderView, reader_in, Gives, Stops}
+use Rattle.ht_io.specs.Devices.{Device}
+use Rattle.ht_fields.specs.Readers.{ReaderView, reader_in, Gives}
 use Rattle.ht_rate.specs.declared.rates.Rate.{Rate}
 use Rattle.ht_rate.specs.Rates.{carriers_of, streams_of}
 use Rattle.ht_capture.specs.declared.items.FrameHead.{FrameHead}
@@ -12,25 +9,10 @@ use Rattle.ht_capture.specs.declared.items.Item.{Item}
 use Rattle.ht_capture.specs.declared.places.Present.{Present}
 use Rattle.ht_capture.specs.declared.places.Turn.{Turn}
 use Rattle.ht_capture.specs.Frames.{erase}
-use Rattle.ht_capture.specs.Fields.{State, Flag, Triangle, captures, carriers_due, head_given}
-
--- a field of this width is due
-abbrev pub Asks : Due State Item → ℕ → Type 0
-Asks End width = ⊥
-Asks (Wants beyond judge) width = width ≡ beyond + 1
-
--- a source that fails has counted it; memory never lacks
-abbrev pub Caused : Device ℕ → Device ℕ → InFault → Type 0
-Caused before after (Format fault) = Unit {0}
-Caused before after Read = Rose before after
-Caused before after NoMemory = ⊥
-
--- a reader stopped with this fault, and its source tells why
-abbrev pub Halts : ReaderView Item → Device ℕ → InFault → Type 0
-Halts old after fault = Stops old after fault × Caused old.source after fault
+use Rattle.ht_capture.specs.Fields.{CaptureState, Flag, Triangle, captures, carriers_due, head_given}
 
 -- a reader in a state, at an offset, over this source
-abbrev pub here : State → ℕ → Device ℕ → ReaderView Item
+abbrev pub here : CaptureState → ℕ → Device ℕ → ReaderView Item
 here state at source = reader_in captures state at source
 
 -- a flag was read: the subcarrier is erased, or its triangle is due

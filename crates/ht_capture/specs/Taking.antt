@@ -1,21 +1,17 @@
 -- What reading the frames of a capture whole does to its source.
-use Rattle.std.specs.Prelude.{◌≡◌, ◌⊎◌, ℕ, ◌+◌, ◌-◌, ◌≤◌, ◌<◌, ◌^◌, List, [], ◌∷◌, ◌++◌, length, map, flat_map, nat_eq, if◌then◌else◌, Some}
-use Rattle.ht_io.specs.Devices.{Device, Takes, TakesAll, Rose}
-use Rattle.ht_io.specs.declared.faults.FormatFault.{FormatFault}
-use Rattle.ht_io.specs.declared.faults.InFault.{InFault}
-use Rattle.ht_io.specs.declared.faults.InFault.TheVariants.{Format, Read, NoMemory}
-use Rattle.ht_fields.specs.Readers.{ReaderView, Gives, IsEarly}
+use Rattle.std.specs.Prelude.{◌≡◌, ◌⊎◌, ℕ, ◌+◌, ◌-◌, ◌≤◌, ◌<◌, ◌^◌, List, [], ◌∷◌, ◌++◌, length, map, flat_map, nat_eq, if◌then◌else◌}
+use Rattle.ht_io.specs.Devices.{Device, Takes}
+use Rattle.ht_fields.specs.WholeFiles.{ReadsWhole}
 use Rattle.ht_rate.specs.declared.rates.Rate.{Rate}
 use Rattle.ht_rate.specs.Rates.{streams_of}
 use Rattle.ht_metric.specs.declared.sample.Sample.{Sample}
 use Rattle.ht_metric.specs.Rows.{Leg}
 use Rattle.ht_capture.specs.declared.frames.CaptureFrame.{CaptureFrame}
 use Rattle.ht_capture.specs.declared.items.FrameHead.{FrameHead}
-use Rattle.ht_capture.specs.declared.items.Item.{Item}
 use Rattle.ht_capture.specs.declared.places.Present.{Present}
 use Rattle.ht_capture.specs.declared.places.Turn.{Turn}
 use Rattle.ht_capture.specs.Frames.{erase}
-use Rattle.ht_capture.specs.Files.{AreFrames, carriers_octets, file_of, legs_octets, present_among, sample_octets}
+use Rattle.ht_capture.specs.Files.{AreCaptureFrames, carriers_octets, capture_file_of, legs_octets, present_among, sample_octets}
 use Rattle.ht_capture.specs.Contents.{AreLegs, AreSamples, AreTriangles, AreTyped, IsVersion}
 
 -- the flag of a subcarrier that is present, in version 2
@@ -46,30 +42,14 @@ pub record AreRead (version count : ℕ) (rate : Rate) (erased : ℕ) (triangles
   pub present : length triangles ≡ present_among count 0 erased
   pub typed : AreTriangles (streams_of rate) triangles
 
--- the octets that were taken are good fields
-abbrev pub Given : ReaderView Item → ReaderView Item → Type 0
-Given old new = (items : List Item) × Gives old new items
-
--- the octets that were taken have this first fault, whatever follows them, or they were all that was left
-abbrev pub HasFirst : ReaderView Item → Device ℕ → FormatFault → Type 0
-HasFirst old after fault =
-    (taken : List ℕ) × ((Takes old.source after taken × ((rest : List ℕ) → (old.means (taken ++ rest)).fault ≡ Some fault))
-    ⊎ (TakesAll old.source after taken × ((old.means taken).fault ≡ Some fault)))
-
--- the octets that were taken have no fault but their early end
-abbrev pub IsCut : ReaderView Item → Device ℕ → Type 0
-IsCut old after = (taken : List ℕ) × Takes old.source after taken × IsEarly (old.at + length taken) (old.means taken).fault
-
--- why the reading ended: at the first fault, or where the source failed, or for lack of memory
-abbrev pub Ends : ReaderView Item → Device ℕ → InFault → Type 0
-Ends old after (Format fault) = HasFirst old after fault
-Ends old after Read = Rose old.source after × IsCut old after
-Ends old after NoMemory = Unit {0}
+-- frames as they are read of a file in a version
+abbrev pub AreWritten : ℕ → List CaptureFrame → Type 0
+AreWritten version frames = IsVersion version frames × AreCaptureFrames frames × AreTyped frames
 
 -- the octets that were left are the file of these frames in a version, and were all taken
-abbrev pub ReadsFile : Device ℕ → Device ℕ → List CaptureFrame → Type 0
-ReadsFile before after frames =
-    (version : ℕ) × IsVersion version frames × AreFrames frames × AreTyped frames × TakesAll before after (file_of version frames)
+abbrev pub ReadsCaptures : Device ℕ → Device ℕ → List CaptureFrame → Type 0
+ReadsCaptures before after frames =
+    (version : ℕ) × ReadsWhole (AreWritten version) (capture_file_of version) before after frames
 
 -- samples were read behind others, from these octets
 abbrev pub AddsSamples : List Sample → List Sample → List ℕ → Type 0

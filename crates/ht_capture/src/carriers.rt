@@ -6,8 +6,9 @@ ghost use Rattle.ht_rate.specs.Rates.{carriers_of, streams_of};
 ghost use Rattle.ht_capture.specs.declared.items.Item.TheVariants.{Frame};
 ghost use Rattle.ht_capture.specs.Frames.{erase};
 ghost use Rattle.ht_capture.specs.Fields.{Flag, Triangle, Symbol, carrier_due, carriers_due, first_symbol, head_given};
-ghost use Rattle.ht_capture.specs.Reading.{AreSeen, Halts, SameFrame, here};
+ghost use Rattle.ht_capture.specs.Reading.{AreSeen, SameFrame, here};
 ghost use Rattle.ht_capture.specs.Taking.{Adds, AreRead, Keeps, triangles_of};
+ghost use Rattle.ht_fields.specs.WholeFiles.{Halts};
 
 use crate::fields;
 use crate::items::FrameHead;

@@ -1,102 +1,27 @@
-//! The fields of a capture, each read whole and judged.
-ghost use Rattle.std.specs.Prelude.{◌≡◌, ◌<◌, ◌≤◌, ◌+◌, ◌^◌, ℕ, List, [], ◌∷◌, ◌++◌, true, Ok, length, MatchResult, IfOk, IfErr, OnOk};
+//! The fields that only captures have, each read whole and judged.
+ghost use Rattle.std.specs.Prelude.{◌≡◌, ◌<◌, ◌≤◌, ◌+◌, ◌^◌, ℕ, List, [], ◌∷◌, ◌++◌, true, Ok, length, MatchResult, IfOk};
+ghost use Rattle.byteorder.specs.Endian.{big_bytes};
 ghost use Rattle.ht_io.specs.Devices.{Takes, IsLater};
 ghost use Rattle.ht_fields.specs.Readers.{Gives};
-ghost use Rattle.byteorder.specs.Endian.{big_bytes};
-ghost use Rattle.ht_rate.specs.Schemes.{bandwidth_code};
-ghost use Rattle.ht_rate.specs.Rates.{bandwidth_of, carriers_of, mcs_of, streams_of};
-ghost use Rattle.ht_rate.specs.declared.rates.Rate.{Rate as RateValue};
+ghost use Rattle.ht_fields.specs.WholeFiles.{Halts};
+ghost use Rattle.ht_rate.specs.Rates.{carriers_of, streams_of};
 ghost use Rattle.ht_capture.specs.declared.items.FrameHead.{FrameHead as FrameHeadValue};
 ghost use Rattle.ht_capture.specs.declared.places.Present.{Present as PresentValue};
 ghost use Rattle.ht_capture.specs.declared.places.Turn.{Turn as TurnValue};
-ghost use Rattle.ht_capture.specs.Fields.{State, Magic, Version, Count, Bandwidth, Mcs, Length, Flag, Triangle as TriangleState};
-ghost use Rattle.ht_capture.specs.Fields.{due_at, magic_due, frame_due, carriers_due, new_head, head_given, known_version, bad_flag};
+ghost use Rattle.ht_capture.specs.Fields.{Version, Count, Flag, Triangle as TriangleState};
+ghost use Rattle.ht_capture.specs.Fields.{turn_due, carriers_due, head_given, known_version, bad_flag};
 ghost use Rattle.ht_capture.specs.Files.{flag_octet, legs_octets};
-ghost use Rattle.ht_capture.specs.Contents.{AreBytes, AreLegs};
+ghost use Rattle.ht_capture.specs.Contents.{AreLegs};
 ghost use Rattle.ht_capture.specs.Systems.{triangle_octets};
-ghost use Rattle.ht_capture.specs.Reading.{Asks, Halts, Flagged, here};
+ghost use Rattle.ht_capture.specs.Reading.{Flagged, here};
 
 use crate::items::FrameHead;
 use crate::numbers;
 use crate::places::Turn;
-use byteorder::{BigEndian, ByteOrder};
-use ht_fields::{Field, read_field};
-use ht_io::{FormatFault, InFault, Kind, Source};
+use ht_fields::{bad, fill, number, octet};
+use ht_io::{InFault, Kind, Source};
 use ht_metric::Triangle;
 use ht_rate::Rate;
-
-/// The field that began there is bad.
-pub fn bad(kind: Kind, offset: u64) -> InFault
-    ensures { result ≡ InFault.Format (record { kind = kind; offset = offset }) }
-{
-    InFault::Format(FormatFault { kind, offset })
-}
-
-/// Fills the slice with the octets of the field that is due, the first of them at offset `at`.
-pub fn fill<S: Source>(source: &mut S, at: u64, into: &mut [u8]) -> Result<u64, InFault>
-    requires some { 0 < length into.old }
-    requires room { at + length into.old < 2 ^ 64 }
-    ensures whole { OnOk result (Takes (S.shown source.old) (S.shown source.new) into.new) }
-    ensures place { IfOk result (λ behind. behind ≡ at + length into.new) }
-    ensures bytes { AreBytes into.new }
-    ensures stopped { (s : State) → Asks (due_at s) (length into.new) → IfErr result (Halts (here s at (S.shown source.old)) (S.shown source.new)) }
-    ensures later { IsLater (S.shown source.old) (S.shown source.new) }
-{
-    match read_field(source, into) {
-        Field::Whole => Ok(at + into.len() as u64),
-        Field::Ended(count) => Err(bad(Kind::Truncated, at + count as u64)),
-        Field::Broken => Err(InFault::Read),
-    }
-}
-
-// Reads a field of one octet.
-fn octet<S: Source>(source: &mut S, at: u64) -> Result<u8, InFault>
-    requires room { at + 1 < 2 ^ 64 }
-    ensures whole { IfOk result (λ x. Takes (S.shown source.old) (S.shown source.new) (x ∷ [])) }
-    ensures stopped { (s : State) → Asks (due_at s) 1 → IfErr result (Halts (here s at (S.shown source.old)) (S.shown source.new)) }
-    ensures later { IsLater (S.shown source.old) (S.shown source.new) }
-{
-    let mut octets = [0u8; 1];
-    match fill(source, at, &mut octets) {
-        Ok(_) => Ok(octets[0]),
-        Err(fault) => Err(fault),
-    }
-}
-
-// Reads a field of two octets.
-fn pair<S: Source>(source: &mut S, at: u64) -> Result<[u8; 2], InFault>
-    requires room { at + 2 < 2 ^ 64 }
-    ensures whole { IfOk result (λ octets. Takes (S.shown source.old) (S.shown source.new) octets) }
-    ensures stopped { (s : State) → Asks (due_at s) 2 → IfErr result (Halts (here s at (S.shown source.old)) (S.shown source.new)) }
-    ensures later { IsLater (S.shown source.old) (S.shown source.new) }
-{
-    let mut octets = [0u8; 2];
-    match fill(source, at, &mut octets) {
-        Ok(_) => Ok(octets),
-        Err(fault) => Err(fault),
-    }
-}
-
-/// Reads an octet of the magic, which has one value.
-pub fn magic<S: Source>(source: &mut S, at: u64, wanted: u8) -> Result<(), InFault>
-    requires room { at + 1 < 2 ^ 64 }
-    ensures told { (more : List ℕ) → MatchResult result
-        (λ _. Gives (here (Magic wanted more) at (S.shown source.old)) (here (magic_due more) (at + 1) (S.shown source.new)) [])
-        (Halts (here (Magic wanted more) at (S.shown source.old)) (S.shown source.new)) }
-    ensures octets { OnOk result (Takes (S.shown source.old) (S.shown source.new) (wanted ∷ [])) }
-    ensures later { IsLater (S.shown source.old) (S.shown source.new) }
-{
-    match octet(source, at) {
-        Ok(octet) => {
-            if octet == wanted {
-                Ok(())
-            } else {
-                Err(bad(Kind::BadMagic, at))
-            }
-        }
-        Err(fault) => Err(fault),
-    }
-}
 
 // Whether the format has the version.
 fn is_known(version: u8) -> bool
@@ -131,87 +56,20 @@ pub fn version<S: Source>(source: &mut S, at: u64) -> Result<u8, InFault>
 pub fn frames<S: Source>(source: &mut S, at: u64, version: u8) -> Result<Turn, InFault>
     requires room { at + 2 < 2 ^ 64 }
     ensures told { MatchResult result
-        (λ turn. Gives (here (Count version) at (S.shown source.old)) (here (frame_due turn) (at + 2) (S.shown source.new)) [])
+        (λ turn. Gives (here (Count version) at (S.shown source.old)) (here (turn_due turn) (at + 2) (S.shown source.new)) [])
         (Halts (here (Count version) at (S.shown source.old)) (S.shown source.new)) }
     ensures first { IfOk result (λ turn. (turn.frame ≡ 0) × (turn.number ≡ 0)) }
     ensures octets { IfOk result (λ turn. Takes (S.shown source.old) (S.shown source.new) (big_bytes 2 turn.left)) }
     ensures version { IfOk result (λ turn. turn.version ≡ version) }
     ensures later { IsLater (S.shown source.old) (S.shown source.new) }
 {
-    match pair(source, at) {
-        Ok(octets) => Ok(Turn {
+    match number(source, at) {
+        Ok(left) => Ok(Turn {
             version,
-            left: BigEndian::read_u16(&octets),
+            left,
             frame: 0,
             number: 0,
         }),
-        Err(fault) => Err(fault),
-    }
-}
-
-/// Reads the code of a frame's bandwidth, 0 or 1.
-pub fn bandwidth<S: Source>(source: &mut S, at: u64) -> Result<u8, InFault>
-    requires room { at + 1 < 2 ^ 64 }
-    ensures told { (turn : TurnValue) → MatchResult result
-        (λ code. Gives (here (Bandwidth turn) at (S.shown source.old)) (here (Mcs turn code) (at + 1) (S.shown source.new)) [])
-        (Halts (here (Bandwidth turn) at (S.shown source.old)) (S.shown source.new)) }
-    ensures few { IfOk result (λ code. code ≤ 1) }
-    ensures octets { IfOk result (λ code. Takes (S.shown source.old) (S.shown source.new) (code ∷ [])) }
-    ensures later { IsLater (S.shown source.old) (S.shown source.new) }
-{
-    match octet(source, at) {
-        Ok(code) => {
-            if code > 1 {
-                Err(bad(Kind::BadBandwidth, at))
-            } else {
-                Ok(code)
-            }
-        }
-        Err(fault) => Err(fault),
-    }
-}
-
-/// Reads a frame's MCS index, 0 to 31.
-pub fn mcs<S: Source>(source: &mut S, at: u64, code: u8) -> Result<Rate, InFault>
-    requires room { at + 1 < 2 ^ 64 }
-    requires few { code ≤ 1 }
-    ensures told { (turn : TurnValue) → MatchResult result
-        (λ rate. Gives (here (Mcs turn code) at (S.shown source.old)) (here (Length turn rate) (at + 1) (S.shown source.new)) [])
-        (Halts (here (Mcs turn code) at (S.shown source.old)) (S.shown source.new)) }
-    ensures octets { IfOk result (λ rate. Takes (S.shown source.old) (S.shown source.new) (mcs_of rate ∷ [])) }
-    ensures code { IfOk result (λ rate. bandwidth_code (bandwidth_of rate) ≡ code) }
-    ensures later { IsLater (S.shown source.old) (S.shown source.new) }
-{
-    match octet(source, at) {
-        Ok(index) => match Rate::of(code, index) {
-            Ok(rate) => Ok(rate),
-            Err(_) => Err(bad(Kind::BadMcs, at)),
-        },
-        Err(fault) => Err(fault),
-    }
-}
-
-/// Reads the length of a frame's PSDU, which is at least 1.
-pub fn length<S: Source>(source: &mut S, at: u64) -> Result<u16, InFault>
-    requires room { at + 2 < 2 ^ 64 }
-    ensures told { (turn : TurnValue) (rate : RateValue) → MatchResult result
-        (λ len. Gives (here (Length turn rate) at (S.shown source.old))
-        (here (carriers_due turn (new_head turn rate len) 0 []) (at + 2) (S.shown source.new)) [])
-        (Halts (here (Length turn rate) at (S.shown source.old)) (S.shown source.new)) }
-    ensures some { IfOk result (λ len. 1 ≤ len) }
-    ensures small { IfOk result (λ len. len < 2 ^ 16) }
-    ensures octets { IfOk result (λ len. Takes (S.shown source.old) (S.shown source.new) (big_bytes 2 len)) }
-    ensures later { IsLater (S.shown source.old) (S.shown source.new) }
-{
-    match pair(source, at) {
-        Ok(octets) => {
-            let length = BigEndian::read_u16(&octets);
-            if length == 0 {
-                Err(bad(Kind::BadLength, at))
-            } else {
-                Ok(length)
-            }
-        }
         Err(fault) => Err(fault),
     }
 }

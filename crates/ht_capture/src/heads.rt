@@ -1,10 +1,12 @@
 //! The beginning of a capture and the head of a frame.
-ghost use Rattle.std.specs.Prelude.{◌≡◌, ◌<◌, ◌≤◌, ◌+◌, ◌^◌, ℕ, List, [], true, MatchResult, IfOk, OnOk};
+ghost use Rattle.std.specs.Prelude.{◌≡◌, ◌<◌, ◌≤◌, ◌+◌, ◌^◌, ℕ, [], true, MatchResult, IfOk, OnOk};
 ghost use Rattle.ht_io.specs.Devices.{Takes, IsLater};
 ghost use Rattle.ht_fields.specs.Readers.{Gives};
-ghost use Rattle.ht_capture.specs.Fields.{Version, magic as magic_octets, magic_due, frame_due, carriers_due, known_version};
-ghost use Rattle.ht_capture.specs.Files.{head_octets, start_octets};
-ghost use Rattle.ht_capture.specs.Reading.{Halts, here};
+ghost use Rattle.ht_capture.specs.Fields.{Version, capture_magic, capture_magic_due, turn_due, carriers_due, known_version};
+ghost use Rattle.ht_capture.specs.Files.{capture_start};
+ghost use Rattle.ht_capture.specs.Reading.{here};
+ghost use Rattle.ht_heads.specs.Heads.{head_octets};
+ghost use Rattle.ht_fields.specs.WholeFiles.{Halts};
 
 use crate::fields;
 use crate::items::FrameHead;
@@ -14,28 +16,24 @@ use ht_io::{InFault, Source};
 // Reads the magic.
 fn magic<S: Source>(source: &mut S) -> Result<(), InFault>
     ensures told { MatchResult result
-        (λ _. Gives (here (magic_due magic_octets) 0 (S.shown source.old)) (here Version 4 (S.shown source.new)) [])
-        (Halts (here (magic_due magic_octets) 0 (S.shown source.old)) (S.shown source.new)) }
-    ensures octets { OnOk result (Takes (S.shown source.old) (S.shown source.new) magic_octets) }
+        (λ _. Gives (here (capture_magic_due capture_magic) 0 (S.shown source.old)) (here Version 4 (S.shown source.new)) [])
+        (Halts (here (capture_magic_due capture_magic) 0 (S.shown source.old)) (S.shown source.new)) }
+    ensures octets { OnOk result (Takes (S.shown source.old) (S.shown source.new) capture_magic) }
     ensures later { IsLater (S.shown source.old) (S.shown source.new) }
 {
-    let wanted = *b"HTCP";
-    for at in 0..4usize {
-        match fields::magic(source, at as u64, wanted[at]) {
-            Ok(()) => {}
-            Err(fault) => return Err(fault),
-        }
+    match ht_heads::magic(source, b"HTCP") {
+        Ok(()) => Ok(()),
+        Err(fault) => Err(fault),
     }
-    Ok(())
 }
 
 /// Reads the seven octets in front of the frames.
 pub fn start<S: Source>(source: &mut S) -> Result<Turn, InFault>
     ensures told { MatchResult result
-        (λ turn. Gives (here (magic_due magic_octets) 0 (S.shown source.old)) (here (frame_due turn) 7 (S.shown source.new)) [])
-        (Halts (here (magic_due magic_octets) 0 (S.shown source.old)) (S.shown source.new)) }
+        (λ turn. Gives (here (capture_magic_due capture_magic) 0 (S.shown source.old)) (here (turn_due turn) 7 (S.shown source.new)) [])
+        (Halts (here (capture_magic_due capture_magic) 0 (S.shown source.old)) (S.shown source.new)) }
     ensures first { IfOk result (λ turn. (turn.frame ≡ 0) × (turn.number ≡ 0)) }
-    ensures octets { IfOk result (λ turn. Takes (S.shown source.old) (S.shown source.new) (start_octets turn.version turn.left)) }
+    ensures octets { IfOk result (λ turn. Takes (S.shown source.old) (S.shown source.new) (capture_start turn.version turn.left)) }
     ensures known { IfOk result (λ turn. known_version turn.version ≡ true) }
     ensures later { IsLater (S.shown source.old) (S.shown source.new) }
 {
@@ -58,30 +56,21 @@ pub fn head<S: Source>(source: &mut S, at: u64, turn: &Turn) -> Result<FrameHead
     requires room { at + 4 < 2 ^ 64 }
     requires left { 0 < turn.now.left }
     ensures told { MatchResult result
-        (λ head. Gives (here (frame_due turn.now) at (S.shown source.old)) (here (carriers_due turn.now head 0 []) (at + 4) (S.shown source.new)) [])
-        (Halts (here (frame_due turn.now) at (S.shown source.old)) (S.shown source.new)) }
+        (λ head. Gives (here (turn_due turn.now) at (S.shown source.old)) (here (carriers_due turn.now head 0 []) (at + 4) (S.shown source.new)) [])
+        (Halts (here (turn_due turn.now) at (S.shown source.old)) (S.shown source.new)) }
     ensures some { IfOk result (λ head. (head.frame ≡ turn.now.frame) × (1 ≤ head.length)) }
     ensures octets { IfOk result (λ head. Takes (S.shown source.old) (S.shown source.new) (head_octets head.rate head.length)) }
     ensures small { IfOk result (λ head. head.length < 2 ^ 16) }
     ensures none { IfOk result (λ head. head.erased ≡ 0) }
     ensures later { IsLater (S.shown source.old) (S.shown source.new) }
 {
-    let code = match fields::bandwidth(source, at) {
-        Ok(code) => code,
-        Err(fault) => return Err(fault),
-    };
-    let rate = match fields::mcs(source, at + 1, code) {
-        Ok(rate) => rate,
-        Err(fault) => return Err(fault),
-    };
-    let length = match fields::length(source, at + 2) {
-        Ok(length) => length,
-        Err(fault) => return Err(fault),
-    };
-    Ok(FrameHead {
-        frame: turn.frame,
-        rate,
-        length,
-        erased: 0,
-    })
+    match ht_heads::head(source, at) {
+        Ok((rate, length)) => Ok(FrameHead {
+            frame: turn.frame,
+            rate,
+            length,
+            erased: 0,
+        }),
+        Err(fault) => Err(fault),
+    }
 }

@@ -12,7 +12,7 @@ ghost use Rattle.ht_capture.specs.Erased.{flag_at};
 ghost use Rattle.ht_capture.specs.Fields.{Bandwidth, captures};
 ghost use Rattle.ht_capture.specs.Systems.{triangle_octets};
 ghost use Rattle.ht_capture.specs.declared.frames.CaptureFrame.{CaptureFrame};
-ghost use Rattle.ht_capture.specs.Files.{AreFrames, file_of};
+ghost use Rattle.ht_capture.specs.Files.{AreCaptureFrames, capture_file_of};
 ghost use Rattle.ht_capture.specs.Contents.{AreTyped, IsVersion, items_of};
 
 /// No capture is a prefix of another, and equal captures have equal items.
@@ -44,15 +44,15 @@ pub fn erased()
 /// The file written of frames is a capture that holds their heads and their jobs.
 pub fn written()
     ensures { (version : ℕ) (frames : List CaptureFrame)
-        → AreFrames frames → AreTyped frames → IsVersion version frames
-        → IsFile captures (file_of version frames) (items_of frames) }
+        → AreCaptureFrames frames → AreTyped frames → IsVersion version frames
+        → IsFile captures (capture_file_of version frames) (items_of frames) }
 {}
 
 /// Equal files have equal frames and are of one version, so what is read from a file that was written is its frames.
 pub fn equal_files()
     ensures { (version other : ℕ) (frames others : List CaptureFrame)
-        → AreFrames frames → AreTyped frames → IsVersion version frames
-        → AreFrames others → AreTyped others → IsVersion other others
-        → file_of version frames ≡ file_of other others
+        → AreCaptureFrames frames → AreTyped frames → IsVersion version frames
+        → AreCaptureFrames others → AreTyped others → IsVersion other others
+        → capture_file_of version frames ≡ capture_file_of other others
         → (version ≡ other) × (frames ≡ others) }
 {}

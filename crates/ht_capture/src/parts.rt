@@ -6,16 +6,16 @@ ghost use Rattle.ht_rate.specs.Rates.{carriers_of, symbols_of};
 ghost use Rattle.ht_capture.specs.declared.items.Item.TheVariants.{Frame};
 ghost use Rattle.ht_capture.specs.declared.places.Present.{Present as PresentValue};
 ghost use Rattle.ht_capture.specs.Frames.{jobs_at};
-ghost use Rattle.ht_capture.specs.Fields.{Over, Symbol, frame_due, next_symbol, symbol_due};
-ghost use Rattle.ht_capture.specs.Reading.{AreSeen, Halts, here};
+ghost use Rattle.ht_capture.specs.Fields.{Over, Symbol, turn_due, next_symbol, symbol_due};
+ghost use Rattle.ht_capture.specs.Reading.{AreSeen, here};
 ghost use Rattle.ht_capture.specs.Readers.{symbol_octets};
+ghost use Rattle.ht_fields.specs.WholeFiles.{Halts};
 
 use crate::carriers::carriers;
-use crate::fields;
 use crate::heads::head;
 use crate::places::{Present, SymbolTurn, Turn};
-use ht_fields::{Field, read_field};
-use ht_io::{InFault, Kind, Source};
+use ht_fields::{end, fill};
+use ht_io::{InFault, Source};
 
 /// Sees that the input ends.
 pub fn finish<S: Source>(source: &mut S, at: u64) -> Result<(), InFault>
@@ -24,11 +24,9 @@ pub fn finish<S: Source>(source: &mut S, at: u64) -> Result<(), InFault>
         (Halts (here Over at (S.shown source.old)) (S.shown source.new)) }
     ensures later { IsLater (S.shown source.old) (S.shown source.new) }
 {
-    let mut octet = [0u8; 1];
-    match read_field(source, &mut octet) {
-        Field::Whole => Err(fields::bad(Kind::Trailing, at)),
-        Field::Ended(_) => Ok(()),
-        Field::Broken => Err(InFault::Read),
+    match end(source, at) {
+        Ok(()) => Ok(()),
+        Err(fault) => Err(fault),
     }
 }
 
@@ -43,9 +41,9 @@ pub fn frame<S: Source>(
     requires left { 0 < turn.now.left }
     requires space { length present.old ≡ 114 }
     ensures told { MatchResult result
-        (λ got. Gives (here (frame_due turn.now) at (S.shown source.old))
+        (λ got. Gives (here (turn_due turn.now) at (S.shown source.old))
         (here (Symbol got.0 (take got.0.count present.new)) got.1 (S.shown source.new)) (Frame got.0.head ∷ []))
-        (Halts (here (frame_due turn.now) at (S.shown source.old)) (S.shown source.new)) }
+        (Halts (here (turn_due turn.now) at (S.shown source.old)) (S.shown source.new)) }
     ensures turn { IfOk result (λ got. (got.0.turn ≡ turn.now) × (got.0.symbol ≡ 0)) }
     ensures number { IfOk result (λ got. got.0.head.frame ≡ turn.now.frame) }
     ensures some { IfOk result (λ got. 1 ≤ got.0.count) }
@@ -113,8 +111,8 @@ pub fn symbol<S: Source>(
     ensures later { IsLater (S.shown source.old) (S.shown source.new) }
 {
     let octets = width(due.count, due.head.rate.streams());
-    match fields::fill(source, at, &mut samples[..octets]) {
-        Ok(behind) => Ok(behind),
+    match fill(source, at, &mut samples[..octets]) {
+        Ok(()) => Ok(at + octets as u64),
         Err(fault) => Err(fault),
     }
 }

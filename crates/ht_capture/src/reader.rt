@@ -6,11 +6,12 @@ ghost use Rattle.ht_io.specs.declared.faults.InFault.TheVariants.{NoMemory};
 ghost use Rattle.ht_fields.specs.Readers.{Gives};
 ghost use Rattle.ht_capture.specs.declared.items.Item.{Item as ItemValue};
 ghost use Rattle.ht_capture.specs.declared.items.Item.TheVariants.{Job as JobItem, Done};
-ghost use Rattle.ht_capture.specs.Fields.{Symbol, captures, frame_due, magic, magic_due};
-ghost use Rattle.ht_capture.specs.Reading.{Halts, here};
-ghost use Rattle.ht_capture.specs.Readers.{Counted, Falls, Follows, GivesItem, GoesOn, IsOfSymbol, IsPlaced, IsReady, StageFits, SymbolFits, TurnFits};
+ghost use Rattle.ht_capture.specs.Fields.{Symbol, captures, turn_due, capture_magic, capture_magic_due};
+ghost use Rattle.ht_capture.specs.Reading.{here};
+ghost use Rattle.ht_capture.specs.Readers.{Counted, Falls, StaysInFrame, GivesItem, GoesOn, IsOfSymbol, IsPlaced, IsReady, StageFits, SymbolFits, TurnFits};
 ghost use Rattle.ht_capture.specs.Readers.{counted, counts, counts_at, finished, finished_stage, more, more_at, most_of};
 ghost use Rattle.ht_capture.specs.Readers.{shown_at, shown_by, stage_after, symbol_at, symbol_under_way};
+ghost use Rattle.ht_fields.specs.WholeFiles.{Halts};
 
 use crate::items::Item;
 use crate::parts::{self, width};
@@ -59,7 +60,7 @@ fn after(due: &SymbolTurn, at: u64, present: &[Present]) -> Stage
     ensures counts { counts_at result ≡ counted (due.now.turn.frame + 1) (due.now.turn.number + due.now.count) }
     ensures fewer { more_at result ≤ (due.now.symbols - due.now.symbol - 1) * due.now.count + most_of (due.now.turn.left - 1) }
     ensures going { finished_stage result ≡ None }
-    ensures follows { Follows due.now (symbol_at result) }
+    ensures follows { StaysInFrame due.now (symbol_at result) }
 {
     let turn = Turn {
         number: due.turn.number + due.count as u64,
@@ -225,8 +226,8 @@ impl Reader {
     #[inline(never)]
     fn begin<S: Source>(&mut self, source: &mut S) -> Result<Item, InFault>
         ensures told { MatchResult result
-            (GivesItem (here (magic_due magic) 0 (S.shown source.old)) (shown_by self.new (S.shown source.new)))
-            (Halts (here (magic_due magic) 0 (S.shown source.old)) (S.shown source.new)) }
+            (GivesItem (here (capture_magic_due capture_magic) 0 (S.shown source.old)) (shown_by self.new (S.shown source.new)))
+            (Halts (here (capture_magic_due capture_magic) 0 (S.shown source.old)) (S.shown source.new)) }
         ensures stopped { IfErr result (λ fault. self.new.stage ≡ Stage.Stopped fault) }
         ensures memory { IfErr result (λ fault. fault ≡ NoMemory → ⊥) }
         ensures done { result ≡ Ok Done → self.new.stage ≡ Stage.Ended }
@@ -252,8 +253,8 @@ impl Reader {
         requires stage { self.old.stage ≡ Stage.NextFrame turn }
         requires fits { TurnFits turn self.old.at }
         ensures told { MatchResult result
-            (GivesItem (here (frame_due turn) self.old.at (S.shown source.old)) (shown_by self.new (S.shown source.new)))
-            (Halts (here (frame_due turn) self.old.at (S.shown source.old)) (S.shown source.new)) }
+            (GivesItem (here (turn_due turn) self.old.at (S.shown source.old)) (shown_by self.new (S.shown source.new)))
+            (Halts (here (turn_due turn) self.old.at (S.shown source.old)) (S.shown source.new)) }
         ensures stopped { IfErr result (λ fault. self.new.stage ≡ Stage.Stopped fault) }
         ensures memory { IfErr result (λ fault. fault ≡ NoMemory → ⊥) }
         ensures done { result ≡ Ok Done → self.new.stage ≡ Stage.Ended }
@@ -315,7 +316,7 @@ impl Reader {
         ensures counts { counts self.new ≡ counted (due.now.turn.frame + 1) (due.now.turn.number + (k + 1)) }
         ensures fewer { more self.new < more_at (Stage.Giving due.now k) }
         ensures going { finished self.new ≡ None }
-        ensures follows { Follows due.now (symbol_under_way self.new) }
+        ensures follows { StaysInFrame due.now (symbol_under_way self.new) }
     {
         if k + 1 < due.count {
             self.stage = Stage::Giving(*due, k + 1);

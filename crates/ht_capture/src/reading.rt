@@ -1,21 +1,23 @@
 //! Captures that are read whole.
-ghost use Rattle.std.specs.Prelude.{◌≡◌, ◌≤◌, ◌<◌, ◌+◌, ◌*◌, ◌/◌, ◌^◌, ℕ, List, length, flat_map, MatchResult, IfOk, IfErr, OnOk, OnErr};
+ghost use Rattle.std.specs.Prelude.{◌≡◌, ◌≤◌, ◌<◌, ◌+◌, ◌*◌, ◌/◌, ◌^◌, ℕ, List, length, flat_map, MatchResult, IfOk, IfErr, OnOk};
 ghost use Rattle.ht_io.specs.Devices.{Takes, IsLater};
 ghost use Rattle.ht_io.specs.declared.faults.InFault.TheVariants.{NoMemory};
-ghost use Rattle.ht_rate.specs.Rates.{carriers_of, streams_of, symbols_of};
+ghost use Rattle.ht_rate.specs.Rates.{streams_of, symbols_of};
 ghost use Rattle.ht_capture.specs.declared.places.Present.{Present as PresentValue};
-ghost use Rattle.ht_capture.specs.Fields.{Symbol, captures, frame_due, next_symbol, next_turn, symbol_due};
-ghost use Rattle.ht_capture.specs.Files.{FitsFrame, IsWhole, frame_octets, sample_octets};
-ghost use Rattle.ht_capture.specs.Contents.{AreBytes, AreSamples, IsTyped};
+ghost use Rattle.ht_capture.specs.Fields.{Symbol, captures, turn_due, next_symbol, next_turn, symbol_due};
+ghost use Rattle.ht_capture.specs.Files.{FitsFrame, HasAllCarriers, capture_frame_octets, sample_octets};
+ghost use Rattle.ht_capture.specs.Contents.{AreSamples, IsTyped};
 ghost use Rattle.ht_capture.specs.Reading.{here};
-ghost use Rattle.ht_capture.specs.Taking.{AddsSamples, Ends, Given, IsBehind, ReadsFile, SameTurn, triangles_of};
+ghost use Rattle.ht_capture.specs.Taking.{AddsSamples, IsBehind, ReadsCaptures, SameTurn, triangles_of};
+ghost use Rattle.ht_fields.specs.WholeFiles.{EndsEarly, GivesFields};
 
 use crate::carriers::carriers;
 use crate::frames::{CaptureFrame, Samples, Triangles};
 use crate::heads::{head, start};
+use crate::numbers;
 use crate::parts::{finish, width};
 use crate::places::{Present, SymbolTurn, Turn};
-use crate::{fields, numbers};
+use ht_fields::fill;
 use ht_io::{InFault, Source};
 use ht_metric::{Sample, Tap, Triangle};
 use std::alloc::Global;
@@ -54,17 +56,18 @@ fn symbol<S: Source>(
     requires some { 1 ≤ due.now.count }
     requires few { due.now.count ≤ 114 }
     ensures told { (present : List PresentValue) → MatchResult result
-        (λ behind. Given (here (Symbol due.now present) at (S.shown source.old)) (here (symbol_due (next_symbol due.now) present) behind (S.shown source.new)))
-        (Ends (here (Symbol due.now present) at (S.shown source.old)) (S.shown source.new)) }
+        (λ behind. GivesFields (here (Symbol due.now present) at (S.shown source.old))
+        (here (symbol_due (next_symbol due.now) present) behind (S.shown source.new)))
+        (EndsEarly (here (Symbol due.now present) at (S.shown source.old)) (S.shown source.new)) }
     ensures added { OnOk result ((octets : List ℕ) × Takes (S.shown source.old) (S.shown source.new) octets
         × (length octets ≡ due.now.count * (8 * streams_of due.now.head.rate)) × AddsSamples samples.old.items samples.new.items octets) }
     ensures place { IfOk result (λ behind. behind ≤ at + 3648) }
     ensures later { IsLater (S.shown source.old) (S.shown source.new) }
 {
     let width = width(due.count, due.head.rate.streams());
-    match fields::fill(source, at, &mut buffer[..width]) {
-        Ok(behind) => match add_samples(samples, &buffer[..width]) {
-            Ok(()) => Ok(behind),
+    match fill(source, at, &mut buffer[..width]) {
+        Ok(()) => match add_samples(samples, &buffer[..width]) {
+            Ok(()) => Ok(at + width as u64),
             Err(fault) => Err(fault),
         },
         Err(fault) => Err(fault),
@@ -119,8 +122,8 @@ fn samples<S: Source>(
     requires some { 1 ≤ due.old.count }
     requires few { due.old.count ≤ 114 }
     ensures told { (present : List PresentValue) → MatchResult result
-        (λ _. Given (here (Symbol due.old present) at.old (S.shown source.old)) (here (frame_due (next_turn due.new.turn)) at.new (S.shown source.new)))
-        (Ends (here (Symbol due.old present) at.old (S.shown source.old)) (S.shown source.new)) }
+        (λ _. GivesFields (here (Symbol due.old present) at.old (S.shown source.old)) (here (turn_due (next_turn due.new.turn)) at.new (S.shown source.new)))
+        (EndsEarly (here (Symbol due.old present) at.old (S.shown source.old)) (S.shown source.new)) }
     ensures octets { IfOk result (λ samples. Takes (S.shown source.old) (S.shown source.new) (flat_map sample_octets samples.items)) }
     ensures typed { IfOk result (λ samples. AreSamples samples.items) }
     ensures count { IfOk result (λ samples. length samples.items
@@ -165,12 +168,12 @@ fn frame<S: Source>(
     requires left { 0 < turn.old.left }
     requires frames { turn.old.frame + turn.old.left ≤ 65535 }
     ensures told { MatchResult result
-        (λ _. Given (here (frame_due turn.old) at.old (S.shown source.old)) (here (frame_due turn.new) at.new (S.shown source.new)))
-        (Ends (here (frame_due turn.old) at.old (S.shown source.old)) (S.shown source.new)) }
-    ensures octets { IfOk result (λ frame. Takes (S.shown source.old) (S.shown source.new) (frame_octets turn.old.version frame)) }
+        (λ _. GivesFields (here (turn_due turn.old) at.old (S.shown source.old)) (here (turn_due turn.new) at.new (S.shown source.new)))
+        (EndsEarly (here (turn_due turn.old) at.old (S.shown source.old)) (S.shown source.new)) }
+    ensures octets { IfOk result (λ frame. Takes (S.shown source.old) (S.shown source.new) (capture_frame_octets turn.old.version frame)) }
     ensures fits { IfOk result FitsFrame }
     ensures typed { IfOk result IsTyped }
-    ensures whole { (turn.old.version ≡ 2 → ⊥) → IfOk result IsWhole }
+    ensures whole { (turn.old.version ≡ 2 → ⊥) → IfOk result HasAllCarriers }
     ensures turn { IfOk result (λ _. IsBehind turn.new turn.old) }
     ensures place { IfOk result (λ _. at.new ≤ at.old + 73569334) }
     ensures later { IsLater (S.shown source.old) (S.shown source.new) }
@@ -220,10 +223,10 @@ fn frame<S: Source>(
 /// where memory ran out.
 pub fn read_captures<S: Source>(alloc: Global, source: &mut S) -> Result<Vec<CaptureFrame>, InFault>
     // What was left was the file of these frames, and is taken.
-    ensures file { IfOk result (λ frames. ReadsFile (S.shown source.old) (S.shown source.new) frames.items) }
+    ensures file { IfOk result (λ frames. ReadsCaptures (S.shown source.old) (S.shown source.new) frames.items) }
 
     // A refusal is the first fault of the capture, or its source failed within a capture or behind it.
-    ensures refused { IfErr result (Ends (here captures.start 0 (S.shown source.old)) (S.shown source.new)) }
+    ensures refused { IfErr result (EndsEarly (here captures.start 0 (S.shown source.old)) (S.shown source.new)) }
     ensures later { IsLater (S.shown source.old) (S.shown source.new) }
 {
     let mut turn = match start(source) {

@@ -1,17 +1,17 @@
 //! Captures as they are written.
-ghost use Rattle.std.specs.Prelude.{◌≡◌, ◌≤◌, ◌<◌, ◌+◌, ◌*◌, ◌-◌, ◌++◌, ◌∷◌, ◌==◌, [], false, All, length, flat_map, slice_index_or, OnOk, OnErr};
+ghost use Rattle.std.specs.Prelude.{◌≡◌, ◌≤◌, ◌<◌, ◌+◌, ◌*◌, ◌-◌, ◌++◌, ◌==◌, [], false, All, length, flat_map, slice_index_or, OnOk, OnErr};
 ghost use Rattle.ht_io.specs.Devices.{Grows, GrowsByPart, Rose, IsLater};
 ghost use Rattle.ht_rate.specs.Rates.{carriers_of};
-ghost use Rattle.ht_rate.specs.Schemes.{bandwidth_code as code_of};
 ghost use Rattle.ht_metric.specs.Rows.{no_leg};
-ghost use Rattle.ht_capture.specs.Files.{AreFrames, FitsFrame, IsWhole, behind, file_of, flagged, flagged_octets, frame_octets};
-ghost use Rattle.ht_capture.specs.Files.{front_octets, is_erased as erased_at, leg_octets, legs_octets, present_of, sample_octets, start_octets, tap_octets};
+ghost use Rattle.ht_capture.specs.Files.{AreCaptureFrames, FitsFrame, HasAllCarriers, triangles_behind};
+ghost use Rattle.ht_capture.specs.Files.{capture_file_of, flagged, flagged_octets, capture_frame_octets};
+ghost use Rattle.ht_capture.specs.Files.{front_octets, is_erased as erased_at, leg_octets, legs_octets, present_of, sample_octets, capture_start, tap_octets};
 
 use crate::chunk::Chunk;
 use crate::frames::CaptureFrame;
+use ht_heads::{head_of, start_of};
 use ht_io::{Failed, Sink};
 use ht_metric::{Sample, Tap, Triangle};
-use ht_rate::Bandwidth;
 
 /// The number of samples that are put at once: the most of a symbol.
 const SAMPLES: usize = 456;
@@ -73,7 +73,7 @@ fn add_flagged<'a>(chunk: &mut Chunk, erased: bool, triangles: &'a [Triangle]) -
     requires room { length chunk.old + 33 ≤ 4096 }
     requires some { erased ≡ false → 0 < length triangles.now }
     ensures put { chunk.new ≡ chunk.old ++ flagged erased triangles.now }
-    ensures behind { result.now ≡ behind erased triangles.now }
+    ensures behind { result.now ≡ triangles_behind erased triangles.now }
     ensures size { length chunk.new ≤ length chunk.old + 33 }
 {
     chunk.add(&[u8::from(erased)]);
@@ -96,16 +96,6 @@ fn add_carriers(chunk: &mut Chunk, frame: &CaptureFrame)
     }
 }
 
-// The code of a bandwidth.
-fn bandwidth_code(bandwidth: Bandwidth) -> u8
-    ensures { result ≡ code_of bandwidth }
-{
-    match bandwidth {
-        Bandwidth::Mhz20 => 0,
-        Bandwidth::Mhz40 => 1,
-    }
-}
-
 // Fills the chunk with what stands in front of the samples of a frame.
 #[tactic(auto, unfolding(crate::specs::Files::front_octets, crate::specs::Files::carriers_octets))]
 fn front(chunk: &mut Chunk, version: u8, frame: &CaptureFrame)
@@ -113,8 +103,7 @@ fn front(chunk: &mut Chunk, version: u8, frame: &CaptureFrame)
     ensures { chunk.new ≡ front_octets version frame.now }
 {
     chunk.clear();
-    chunk.add(&[bandwidth_code(frame.rate.bandwidth()), frame.rate.mcs()]);
-    chunk.add(&frame.length.to_be_bytes());
+    chunk.add(&head_of(&frame.rate, frame.length));
     if version == 2 {
         add_carriers(chunk, frame);
     } else {
@@ -137,6 +126,7 @@ fn fill(chunk: &mut Chunk, samples: &[Sample])
 // Puts samples, as many at once as a symbol may have.
 fn put_samples<K: Sink>(samples: &[Sample], chunk: &mut Chunk, sink: &mut K) -> Result<(), Failed>
     ensures grown { OnOk result (Grows (K.shown sink.old) (K.shown sink.new) (flat_map sample_octets samples.now)) }
+    ensures steady { OnOk result ((K.shown sink.new).faults ≡ (K.shown sink.old).faults) }
     ensures part { OnErr result (GrowsByPart (K.shown sink.old) (K.shown sink.new) (flat_map sample_octets samples.now)) }
     ensures cause { OnErr result (Rose (K.shown sink.old) (K.shown sink.new)) }
     ensures later { IsLater (K.shown sink.old) (K.shown sink.new) }
@@ -152,7 +142,7 @@ fn put_samples<K: Sink>(samples: &[Sample], chunk: &mut Chunk, sink: &mut K) -> 
 }
 
 // Puts a frame.
-#[tactic(auto, unfolding(crate::specs::Files::frame_octets))]
+#[tactic(auto, unfolding(crate::specs::Files::capture_frame_octets))]
 fn put_frame<K: Sink>(
     version: u8,
     frame: &CaptureFrame,
@@ -160,8 +150,9 @@ fn put_frame<K: Sink>(
     sink: &mut K,
 ) -> Result<(), Failed>
     requires fits { FitsFrame frame.now }
-    ensures grown { OnOk result (Grows (K.shown sink.old) (K.shown sink.new) (frame_octets version frame.now)) }
-    ensures part { OnErr result (GrowsByPart (K.shown sink.old) (K.shown sink.new) (frame_octets version frame.now)) }
+    ensures grown { OnOk result (Grows (K.shown sink.old) (K.shown sink.new) (capture_frame_octets version frame.now)) }
+    ensures steady { OnOk result ((K.shown sink.new).faults ≡ (K.shown sink.old).faults) }
+    ensures part { OnErr result (GrowsByPart (K.shown sink.old) (K.shown sink.new) (capture_frame_octets version frame.now)) }
     ensures cause { OnErr result (Rose (K.shown sink.old) (K.shown sink.new)) }
     ensures later { IsLater (K.shown sink.old) (K.shown sink.new) }
 {
@@ -171,22 +162,20 @@ fn put_frame<K: Sink>(
 }
 
 // Fills the chunk with what stands in front of the frames.
-#[tactic(auto, unfolding(crate::specs::Files::start_octets))]
 fn start(chunk: &mut Chunk, version: u8, count: u16)
-    ensures { chunk.new ≡ start_octets version count }
+    ensures { chunk.new ≡ capture_start version count }
 {
     chunk.clear();
-    chunk.add(b"HTCP");
-    chunk.add(&[version]);
-    chunk.add(&count.to_be_bytes());
+    chunk.add(&start_of(b"HTCP", version, count));
 }
 
 // Puts the file of frames in a version.
-#[tactic(auto, unfolding(crate::specs::Files::file_of))]
+#[tactic(auto, unfolding(crate::specs::Files::capture_file_of))]
 fn put_file<K: Sink>(version: u8, frames: &[CaptureFrame], sink: &mut K) -> Result<(), Failed>
-    requires frames { AreFrames frames.now }
-    ensures grown { OnOk result (Grows (K.shown sink.old) (K.shown sink.new) (file_of version frames.now)) }
-    ensures part { OnErr result (GrowsByPart (K.shown sink.old) (K.shown sink.new) (file_of version frames.now)) }
+    requires frames { AreCaptureFrames frames.now }
+    ensures grown { OnOk result (Grows (K.shown sink.old) (K.shown sink.new) (capture_file_of version frames.now)) }
+    ensures steady { OnOk result ((K.shown sink.new).faults ≡ (K.shown sink.old).faults) }
+    ensures part { OnErr result (GrowsByPart (K.shown sink.old) (K.shown sink.new) (capture_file_of version frames.now)) }
     ensures cause { OnErr result (Rose (K.shown sink.old) (K.shown sink.new)) }
     ensures later { IsLater (K.shown sink.old) (K.shown sink.new) }
 {
@@ -205,11 +194,12 @@ fn put_file<K: Sink>(version: u8, frames: &[CaptureFrame], sink: &mut K) -> Resu
 /// Where the sink fails, a part of the file from its front has been put.
 pub fn write_captures<K: Sink>(frames: &[CaptureFrame], sink: &mut K) -> Result<(), Failed>
     // At most 65535 frames, each with what its rate, its length and its present subcarriers ask for, and none erased.
-    requires frames { AreFrames frames.now }
-    requires whole { All IsWhole frames.now }
+    requires frames { AreCaptureFrames frames.now }
+    requires whole { All HasAllCarriers frames.now }
 
-    ensures grown { OnOk result (Grows (K.shown sink.old) (K.shown sink.new) (file_of 1 frames.now)) }
-    ensures part { OnErr result (GrowsByPart (K.shown sink.old) (K.shown sink.new) (file_of 1 frames.now)) }
+    ensures grown { OnOk result (Grows (K.shown sink.old) (K.shown sink.new) (capture_file_of 1 frames.now)) }
+    ensures steady { OnOk result ((K.shown sink.new).faults ≡ (K.shown sink.old).faults) }
+    ensures part { OnErr result (GrowsByPart (K.shown sink.old) (K.shown sink.new) (capture_file_of 1 frames.now)) }
     ensures cause { OnErr result (Rose (K.shown sink.old) (K.shown sink.new)) }
     ensures later { IsLater (K.shown sink.old) (K.shown sink.new) }
 {
@@ -223,10 +213,11 @@ pub fn write_captures<K: Sink>(frames: &[CaptureFrame], sink: &mut K) -> Result<
 /// Where the sink fails, a part of the file from its front has been put.
 pub fn write_captures_2<K: Sink>(frames: &[CaptureFrame], sink: &mut K) -> Result<(), Failed>
     // At most 65535 frames, each with what its rate, its length and its present subcarriers ask for.
-    requires frames { AreFrames frames.now }
+    requires frames { AreCaptureFrames frames.now }
 
-    ensures grown { OnOk result (Grows (K.shown sink.old) (K.shown sink.new) (file_of 2 frames.now)) }
-    ensures part { OnErr result (GrowsByPart (K.shown sink.old) (K.shown sink.new) (file_of 2 frames.now)) }
+    ensures grown { OnOk result (Grows (K.shown sink.old) (K.shown sink.new) (capture_file_of 2 frames.now)) }
+    ensures steady { OnOk result ((K.shown sink.new).faults ≡ (K.shown sink.old).faults) }
+    ensures part { OnErr result (GrowsByPart (K.shown sink.old) (K.shown sink.new) (capture_file_of 2 frames.now)) }
     ensures cause { OnErr result (Rose (K.shown sink.old) (K.shown sink.new)) }
     ensures later { IsLater (K.shown sink.old) (K.shown sink.new) }
 {

@@ -1,6 +1,6 @@
 //! Captures that are read and written back.
 ghost use Rattle.std.specs.Prelude.{◌≡◌, true, All};
-ghost use Rattle.ht_capture.specs.Files.{IsWhole};
+ghost use Rattle.ht_capture.specs.Files.{HasAllCarriers};
 
 use super::*;
 use ht_io::{FormatFault, GrowSink, InFault, Kind, MemSink, MemSource};
@@ -95,7 +95,7 @@ fn source(alloc: Global, octets: Vec<u8>) -> MemSource {
 
 /// Whether no subcarrier is erased.
 fn are_whole(frames: &[CaptureFrame]) -> bool
-    ensures { result ≡ true → All IsWhole frames.now }
+    ensures { result ≡ true → All HasAllCarriers frames.now }
 {
     for frame in frames {
         if frame.erased != 0 {

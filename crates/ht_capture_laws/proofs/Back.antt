@@ -9,7 +9,7 @@ use Rattle.std.proofs.lemmas.Grind.{flat_map-append}
 use Rattle.std.specs.List.{AllByRecursion}
 use Rattle.byteorder.specs.Endian.{big_bytes, big_number}
 use Rattle.ht_fields.specs.Grammar.{Good}
-use Rattle.ht_fields.specs.Cases.{IsEnd, IsField, IsFile, Leads, joined}
+use Rattle.ht_fields.specs.Cases.{IsEnd, IsField, IsFile, Leads, octets_of_fields}
 use Rattle.ht_fields.proofs.Answered.{file_items}
 use Rattle.ht_rate.specs.declared.rates.Rate.{Rate}
 use Rattle.ht_rate.specs.Schemes.{bandwidth_code}
@@ -24,16 +24,20 @@ use Rattle.ht_capture.specs.declared.items.Item.{Item}
 use Rattle.ht_capture.specs.declared.places.Present.{Present}
 use Rattle.ht_capture.specs.declared.places.SymbolTurn.{SymbolTurn}
 use Rattle.ht_capture.specs.declared.places.Turn.{Turn}
-use Rattle.ht_capture.specs.Contents.{AreBytes, AreSamples, AreTriangles, AreTyped, AreWhole, IsVersion, items_of}
-use Rattle.ht_capture.specs.Files.{AreFrames, FitsFrame, behind, carriers_octets, file_of, flagged, flagged_octets, frame_octets}
-use Rattle.ht_capture.specs.Files.{front_octets, head_octets, is_erased, legs_octets, present_among, sample_octets, start_octets}
+use Rattle.ht_capture.specs.Contents.{AreSamples, AreTyped, AreWhole, IsVersion, items_of}
+use Rattle.ht_capture.specs.Files.{AreCaptureFrames, FitsFrame, triangles_behind, carriers_octets}
+use Rattle.ht_capture.specs.Files.{capture_file_of, flagged, flagged_octets, capture_frame_octets}
+use Rattle.ht_capture.specs.Files.{front_octets, is_erased, legs_octets, present_among, sample_octets}
 use Rattle.ht_capture.specs.Frames.{carrier_octets, erase}
 use Rattle.ht_capture.specs.Numbers.{sample_at}
 use Rattle.ht_capture.specs.Systems.{samples_at, triangle_octets, triangle_of}
-use Rattle.ht_capture.specs.Fields.{State, Magic, Version, Count, Bandwidth, Mcs, Length, Flag, Triangle, Symbol, Over, bad_flag}
-use Rattle.ht_capture.specs.Fields.{captures, carriers_due, due_at, first_symbol, frame_due, judge_bandwidth, judge_count}
+use Rattle.ht_capture.specs.Fields.{CaptureState, Magic, Version, Count, Bandwidth, Mcs, Length, Flag, Triangle, Symbol, Over, bad_flag}
+use Rattle.ht_capture.specs.Fields.{captures, carriers_due, capture_due, first_symbol, turn_due, judge_bandwidth, judge_count}
 use Rattle.ht_capture.specs.Fields.{judge_flag, judge_length, judge_magic, judge_mcs, judge_symbol, judge_triangle, judge_version}
-use Rattle.ht_capture.specs.Fields.{known_version, magic, magic_due, new_head, next_symbol, next_turn, octet, present_at, symbol_due}
+use Rattle.ht_capture.specs.Fields.{known_version, capture_magic, capture_magic_due, new_head, next_symbol, next_turn, present_at, symbol_due}
+use Rattle.ht_capture.proofs.Framed.{typed_all}
+use Rattle.ht_capture.proofs.Endings.{samples_append}
+use Rattle.ht_capture.proofs.Marks.{clear_above, set_before, set_now}
 use Rattle.ht_capture.proofs.Encoded.{only_one, pair_back, pair_small, sample_back, triangle_back}
 use Rattle.ht_capture.proofs.Endings.{frame_is_due, symbol_is_due}
 use Rattle.ht_capture.proofs.Filed.{file_written, many}
@@ -43,10 +47,12 @@ use Rattle.ht_capture.proofs.Turns.{flag_is, frame_is, over_is, symbol_is, trian
 use Rattle.ht_capture_laws.specs.Items.{symbols_in}
 use Rattle.ht_capture_laws.specs.Written.{IsFileOf}
 use Rattle.ht_capture_laws.proofs.Given.{AtSymbol, Gathered, Sound}
-use Rattle.ht_capture_laws.proofs.Stages.{clear_above, erased_more, first_gathered, good_else, good_is}
-use Rattle.ht_capture_laws.proofs.Stages.{good_of_two, good_then, seen_more, set_before, set_now, step}
+use Rattle.ht_capture_laws.proofs.Stages.{erased_more, first_gathered, good_else, good_is}
+use Rattle.ht_capture_laws.proofs.Stages.{good_of_two, good_then, seen_more, step}
 use Rattle.ht_capture_laws.proofs.Tails.{Back, CarriersTail, CountTail, FrameTail, FramesTail, GoodFrame}
 use Rattle.ht_capture_laws.proofs.Tails.{SamplesTail, TriangleTail, VersionTail, Wrote, carriers_by, frames_octets}
+use Rattle.ht_fields.specs.Tests.{AreBytes, octet_of}
+use Rattle.ht_heads.specs.Heads.{head_octets, start_octets}
 
 -- octets that are octets
 bytes_front : (x rest : List ℕ) → AreBytes (x ++ rest) → AreBytes x
@@ -59,7 +65,7 @@ bytes_behind [] rest bytes = bytes
 bytes_behind (a ∷ x) rest bytes = bytes_behind x rest (λ j. bytes (suc j))
 
 -- one octet, and two
-single : (x : List ℕ) → length x ≡ 1 → x ≡ octet x ∷ []
+single : (x : List ℕ) → length x ≡ 1 → x ≡ octet_of x ∷ []
 single [] size = absurd (omega (arith, size))
 single (a ∷ []) size = refl
 single (a ∷ b ∷ x) size = absurd (omega (arith, size))
@@ -96,26 +102,22 @@ samples_all n x size bytes =
     let none : drop (0 + 8 * n) x ≡ [] = drop_all (0 + 8 * n) x (omega (arith, size)) in
     (back.0, sym (append-nil _) ∙ (ap (λ (z : List ℕ). flat_map sample_octets (samples_at n x 0) ++ z) (sym none) ∙ back.1))
 
-samples_joined : (xs ys : List Sample) → AreSamples xs → AreSamples ys → AreSamples (xs ++ ys)
-samples_joined [] ys a b = b
-samples_joined (x ∷ xs) ys a b = (a.0, a.1, samples_joined xs ys a.2 b)
-
 -- four parts, one behind another
 regroup : (whole a b c d : List ℕ) → whole ≡ a ++ (b ++ (c ++ d)) → whole ≡ ((a ++ b) ++ c) ++ d
 regroup whole a b c d e = e ∙ (sym (append_assoc a b (c ++ d)) ∙ sym (append_assoc (a ++ b) c d))
 
 -- the frames that are due
-frames_back : (turn : Turn) (octets : List ℕ) → Wrote (frame_due turn) octets → FramesTail turn.version turn.left octets
-unfolding frame_octets front_octets
+frames_back : (turn : Turn) (octets : List ℕ) → Wrote (turn_due turn) octets → FramesTail turn.version turn.left octets
+unfolding capture_frame_octets front_octets
 frames_back turn octets w =
     elim (cases_Bool (nat_eq turn.left 0)) [
       | inl e ↦
           let none : turn.left ≡ 0 = grind (arith, nat_tests) in
-          let nothing : octets ≡ [] = subst (λ (s : State). Wrote s octets) (over_is turn none) w in
+          let nothing : octets ≡ [] = subst (λ (s : CaptureState). Wrote s octets) (over_is turn none) w in
           record { frames = []; split = nothing; count = sym none; good = tt }
       | inr e ↦
           let some : 0 < turn.left = grind (arith, nat_tests) in
-          let t : FrameTail turn (λ f. head_octets f.rate f.length) octets = subst (λ (s : State). Wrote s octets) (frame_is turn some) w in
+          let t : FrameTail turn (λ f. head_octets f.rate f.length) octets = subst (λ (s : CaptureState). Wrote s octets) (frame_is turn some) w in
           let f = t.frame in
           let head : List ℕ = head_octets f.rate f.length in
           let carriers : List ℕ = carriers_octets turn.version (carriers_of f.rate) f.erased f.triangles in
@@ -130,7 +132,7 @@ frames_back turn octets w =
     ]
 
 -- what leads to the end from its beginning
-ended : (s : State) → IsEnd (due_at s) → Wrote s []
+ended : (s : CaptureState) → IsEnd (capture_due s) → Wrote s []
 ended (Symbol due present) e = absurd e
 ended (Magic x xs) e = absurd e
 ended Version e = absurd e
@@ -176,7 +178,8 @@ no_carrier_left turn head carrier present octets g all some t =
 -- a subcarrier that is present, in front of those behind it
 kept_by : (b : Bool) (n carrier erased : ℕ) (legs : List Leg) (ts : List (List Leg)) → is_erased erased carrier ≡ false
     → carriers_by b (suc n) carrier erased (legs ∷ ts) ≡ ((if b then 0 ∷ [] else []) ++ legs_octets legs) ++ carriers_by b n (carrier + 1) erased ts
-kept_by true n carrier erased legs ts clear = ap (λ (c : Bool). flagged c (legs ∷ ts) ++ flagged_octets n (carrier + 1) erased (behind c (legs ∷ ts))) clear
+kept_by true n carrier erased legs ts clear =
+    ap (λ (c : Bool). flagged c (legs ∷ ts) ++ flagged_octets n (carrier + 1) erased (triangles_behind c (legs ∷ ts))) clear
 kept_by false n carrier erased legs ts clear = refl
 
 kept_back : (turn : Turn) (head : FrameHead) (carrier seen : ℕ) (octets : List ℕ) → head.erased < 2 ^ carrier → TriangleTail turn head carrier seen octets
@@ -226,7 +229,7 @@ zero_back turn head carrier seen octets two low t =
 -- a subcarrier that is erased, in front of those behind it
 marked_by : (n carrier erased : ℕ) (ts : List (List Leg)) → is_erased erased carrier ≡ true
     → flagged_octets (suc n) carrier erased ts ≡ 1 ∷ flagged_octets n (carrier + 1) erased ts
-marked_by n carrier erased ts set = ap (λ (c : Bool). flagged c ts ++ flagged_octets n (carrier + 1) erased (behind c ts)) set
+marked_by n carrier erased ts set = ap (λ (c : Bool). flagged c ts ++ flagged_octets n (carrier + 1) erased (triangles_behind c ts)) set
 
 with_flags : (b : Bool) (n carrier erased : ℕ) (ts : List (List Leg)) → b ≡ true → carriers_by b n carrier erased ts ≡ flagged_octets n carrier erased ts
 with_flags b n carrier erased ts e = ap (λ (c : Bool). carriers_by c n carrier erased ts) e
@@ -275,18 +278,18 @@ carriers_back turn head carrier present octets g within some w =
             | inl v ↦
                 let two : turn.version ≡ 2 = grind (arith, nat_tests) in
                 let tail : turn.version ≡ 2 → CarriersTail turn head carrier (length present) octets =
-                subst (λ (s : State). Wrote s octets) (flag_is turn head carrier present lt two) w in tail two
+                subst (λ (s : CaptureState). Wrote s octets) (flag_is turn head carrier present lt two) w in tail two
             | inr v ↦
                 let one : turn.version ≡ 2 → ⊥ = λ z. grind (arith, nat_tests) in
                 let tail : TriangleTail turn head carrier (length present) octets =
-                subst (λ (s : State). Wrote s octets) (triangle_is turn head carrier present lt one) w in
+                subst (λ (s : CaptureState). Wrote s octets) (triangle_is turn head carrier present lt one) w in
                 plain_back turn head carrier (length present) octets one g.marks tail
           ]
       | inr e ↦
           let le : carriers_of head.rate ≤ carrier = grind (arith, nat_tests) in
           let all : carrier ≡ carriers_of head.rate = omega (arith, le, within) in
           let tail : SamplesTail (first_symbol turn head (length present)) octets =
-          subst (λ (s : State). Wrote s octets) (symbol_is turn head carrier present le) w in
+          subst (λ (s : CaptureState). Wrote s octets) (symbol_is turn head carrier present le) w in
           no_carrier_left turn head carrier present octets g all (some all) tail
     ]
 
@@ -320,13 +323,13 @@ symbol_back due present x a bytes size rest w =
     elim (cases_Bool (nat_lt (due.symbol + 1) due.symbols)) [
       | inl e ↦
           let lt : due.symbol + 1 < due.symbols = grind (arith, nat_tests) in
-          let t : SamplesTail (next_symbol due) rest = subst (λ (s : State). Wrote s rest) (symbol_is_due (next_symbol due) present lt) w in
+          let t : SamplesTail (next_symbol due) rest = subst (λ (s : CaptureState). Wrote s rest) (symbol_is_due (next_symbol due) present lt) w in
           let times : suc t.symbols * wide ≡ wide + t.symbols * wide = omega arith in
           record {
             samples = here ++ t.samples;
             frames = t.frames;
             split = joined_samples here t.samples x rest (frames_octets due.turn.version t.frames) back.1 t.split;
-            typed = samples_joined here t.samples back.0 t.typed;
+            typed = samples_append here t.samples back.0 t.typed;
             symbols = suc t.symbols;
             last = let last = t.last in omega arith;
             size = length-append here t.samples ∙ (ap (λ n. n + length t.samples) has ∙ (ap (λ n. wide + n) t.size ∙ sym times));
@@ -336,7 +339,7 @@ symbol_back due present x a bytes size rest w =
       | inr e ↦
           let le : due.symbols ≤ due.symbol + 1 = grind (arith, nat_tests) in
           let t : FramesTail due.turn.version (due.turn.left - 1) rest =
-          frames_back (next_turn (next_symbol due).turn) rest (subst (λ (s : State). Wrote s rest) (frame_is_due (next_symbol due) present le) w) in
+          frames_back (next_turn (next_symbol due).turn) rest (subst (λ (s : CaptureState). Wrote s rest) (frame_is_due (next_symbol due) present le) w) in
           let once : 1 * wide ≡ wide = omega arith in
           record {
             samples = here;
@@ -359,10 +362,6 @@ carriers_all true version n count erased ts is same =
     ap (λ k. flagged_octets k 0 erased ts) same ∙ ap (λ (c : Bool). if c then flagged_octets count 0 erased ts else flat_map legs_octets ts) (sym is)
 carriers_all false version n count erased ts is same = ap (λ (c : Bool). if c then flagged_octets count 0 erased ts else flat_map legs_octets ts) (sym is)
 
-rows_each : (streams : ℕ) (ts : List (List Leg)) → AreTriangles streams ts → AllByRecursion (λ (t : List Leg). length t ≡ streams) ts
-rows_each streams [] are = tt
-rows_each streams (t ∷ ts) are = (are.0, rows_each streams ts are.2)
-
 -- a frame behind its head
 frame_back : (turn : Turn) (rate : Rate) (len : ℕ) (x rest : List ℕ) → 1 ≤ len → len < 2 ^ 16
     → big_bytes 2 len ≡ x → CarriersTail turn (new_head turn rate len) 0 0 rest → Wrote (Length turn rate) (x ++ rest)
@@ -383,7 +382,7 @@ frame_back turn rate len x rest some small is t =
           marks = t.marks;
           present = let one = t.some in omega (arith, none, one);
           triangles = count;
-          streams = All-from_recursion _ t.triangles (rows_each (streams_of rate) t.triangles t.legs);
+          streams = typed_all (streams_of rate) t.triangles t.legs;
           samples = t.size ∙ ap (λ k. symbols_in (new_head turn rate len) * (k * streams_of rate)) none;
         };
         typed = record { length_is = small; triangles = t.legs; samples = t.typed };
@@ -395,12 +394,12 @@ frame_back turn rate len x rest some small is t =
     (tail, refl)
 
 -- an octet of the magic
-magic_back : (y : ℕ) (ys x : List ℕ) → x ≡ y ∷ [] → Back (Magic y ys) x (magic_due ys)
+magic_back : (y : ℕ) (ys x : List ℕ) → x ≡ y ∷ [] → Back (Magic y ys) x (capture_magic_due ys)
 magic_back y [] x is rest w = (rest, ap (λ (z : List ℕ). z ++ rest) is, w)
 magic_back y (z ∷ zs) x is rest w = (w.0, ap (λ (o : List ℕ). o ++ rest) is ∙ ap (λ (o : List ℕ). y ∷ o) w.1, w.2)
 
 count_back : (version : ℕ) (x : List ℕ) → length x ≡ 2 → AreBytes x
-    → Back (Count version) x (frame_due (record { version = version; left = big_number 2 x; frame = 0; number = 0 }))
+    → Back (Count version) x (turn_due (record { version = version; left = big_number 2 x; frame = 0; number = 0 }))
 count_back version x size bytes rest w =
     let both = pair x size bytes in
     let t = frames_back (record { version = version; left = big_number 2 x; frame = 0; number = 0 }) rest w in
@@ -451,24 +450,24 @@ bandwidth_back turn bandwidth x is low rest w =
 -- a flag that isn't 0
 one_flag : (turn : Turn) (head : FrameHead) (carrier : ℕ) (present : List Present) (x : List ℕ)
     → Gathered turn head carrier present → carrier < carriers_of head.rate
-    → length x ≡ 1 → (nat_eq (octet x) 0 ≡ false) → bad_flag head carrier (length present) (octet x) ≡ false
+    → length x ≡ 1 → (nat_eq (octet_of x) 0 ≡ false) → bad_flag head carrier (length present) (octet_of x) ≡ false
     → Back (Flag turn head carrier present) x (carriers_due turn (erase head carrier) (carrier + 1) present)
 unfolding erase
 one_flag turn head carrier present x g lt size other fine rest w two =
-    let positive : 1 ≤ octet x = grind (arith, nat_tests) in
-    let one : octet x ≡ 1 = only_one head carrier (length present) (octet x) (sym fine) positive in
+    let positive : 1 ≤ octet_of x = grind (arith, nat_tests) in
+    let one : octet_of x ≡ 1 = only_one head carrier (length present) (octet_of x) (sym fine) positive in
     let is : x ≡ 1 ∷ [] = single x size ∙ ap (λ (k : ℕ). k ∷ []) one in
-    let some : carrier + 1 ≡ carriers_of head.rate → 1 ≤ length present = λ last. some_left head carrier (length present) (octet x) (sym fine) last in
+    let some : carrier + 1 ≡ carriers_of head.rate → 1 ≤ length present = λ last. some_left head carrier (length present) (octet_of x) (sym fine) last in
     let tail : CarriersTail turn (erase head carrier) (carrier + 1) (length present) rest =
     carriers_back turn (erase head carrier) (carrier + 1) present rest (erased_more turn head carrier present g) (omega (arith, lt)) some w in
     subst (λ (z : List ℕ). CarriersTail turn head carrier (length present) (z ++ rest))
     (sym is) (one_back turn head carrier (length present) rest two g.marks tail)
 
 zero_flag : (turn : Turn) (head : FrameHead) (carrier : ℕ) (present : List Present) (x : List ℕ)
-    → Gathered turn head carrier present → length x ≡ 1 → nat_eq (octet x) 0 ≡ true
+    → Gathered turn head carrier present → length x ≡ 1 → nat_eq (octet_of x) 0 ≡ true
     → Back (Flag turn head carrier present) x (Triangle turn head carrier present)
 zero_flag turn head carrier present x g size same rest w two =
-    let zero_is : octet x ≡ 0 = grind (arith, nat_tests) in
+    let zero_is : octet_of x ≡ 0 = grind (arith, nat_tests) in
     let is : x ≡ 0 ∷ [] = single x size ∙ ap (λ (k : ℕ). k ∷ []) zero_is in
     subst (λ (z : List ℕ). CarriersTail turn head carrier (length present) (z ++ rest))
     (sym is) (zero_back turn head carrier (length present) rest two g.marks w)
@@ -511,29 +510,29 @@ not_none : (a : ℕ) → nat_eq a 0 ≡ false → 1 ≤ a
 not_none a e = grind (arith, nat_tests)
 
 -- each good field
-back : (s next : State) (x : List ℕ) (here : List Item) → Sound s → AreBytes x → IsField (due_at s) x (Good next here) → Back s x next
+back : (s next : CaptureState) (x : List ℕ) (here : List Item) → Sound s → AreBytes x → IsField (capture_due s) x (Good next here) → Back s x next
 unfolding judge_magic judge_version judge_count judge_bandwidth judge_mcs judge_length judge_flag judge_triangle judge_symbol
 back (Magic y ys) next x here sound bytes good =
-    good_then (λ n i. Back (Magic y ys) x n) (nat_eq (octet x) y) _ (magic_due ys) next [] here good.1
-    (λ e. magic_back y ys x (single x good.0 ∙ ap (λ (k : ℕ). k ∷ []) (same_test (octet x) y e)))
+    good_then (λ n i. Back (Magic y ys) x n) (nat_eq (octet_of x) y) _ (capture_magic_due ys) next [] here good.1
+    (λ e. magic_back y ys x (single x good.0 ∙ ap (λ (k : ℕ). k ∷ []) (same_test (octet_of x) y e)))
 back Version next x here sound bytes good =
-    good_then (λ n i. Back Version x n) (known_version (octet x)) _ (Count (octet x)) next [] here good.1
-    (λ e rest w. (octet x, rest, ap (λ (z : List ℕ). z ++ rest) (single x good.0), e, w))
+    good_then (λ n i. Back Version x n) (known_version (octet_of x)) _ (Count (octet_of x)) next [] here good.1
+    (λ e rest w. (octet_of x, rest, ap (λ (z : List ℕ). z ++ rest) (single x good.0), e, w))
 back (Count version) next x here sound bytes good =
     good_is (λ n i. Back (Count version) x n) _ next [] here good.1 (count_back version x good.0 bytes)
 back (Bandwidth turn) next x here sound bytes good =
-    good_else (λ n i. Back (Bandwidth turn) x n) (nat_lt 1 (octet x)) _ (Mcs turn (octet x)) next [] here good.1
-    (λ e. bandwidth_back turn (octet x) x (single x good.0) (at_most 1 (octet x) e))
+    good_else (λ n i. Back (Bandwidth turn) x n) (nat_lt 1 (octet_of x)) _ (Mcs turn (octet_of x)) next [] here good.1
+    (λ e. bandwidth_back turn (octet_of x) x (single x good.0) (at_most 1 (octet_of x) e))
 back (Mcs turn bandwidth) next x here sound bytes good =
-    good_else (λ n i. Back (Mcs turn bandwidth) x n) (nat_lt 31 (octet x)) _ (Length turn (rate_at bandwidth (octet x))) next [] here good.1
-    (λ e. mcs_back turn bandwidth (octet x) x (single x good.0) (at_most 31 (octet x) e))
+    good_else (λ n i. Back (Mcs turn bandwidth) x n) (nat_lt 31 (octet_of x)) _ (Length turn (rate_at bandwidth (octet_of x))) next [] here good.1
+    (λ e. mcs_back turn bandwidth (octet_of x) x (single x good.0) (at_most 31 (octet_of x) e))
 back (Length turn rate) next x here sound bytes good =
     good_else (λ n i. Back (Length turn rate) x n) (nat_eq (big_number 2 x) 0) _
     (carriers_due turn (new_head turn rate (big_number 2 x)) 0 []) next [] here good.1
     (λ e. length_back turn rate x good.0 bytes (not_none (big_number 2 x) e))
 back (Flag turn head carrier present) next x here sound bytes good =
-    good_of_two (λ n i. Back (Flag turn head carrier present) x n) (nat_eq (octet x) 0)
-    (bad_flag head carrier (length present) (octet x)) _ (Triangle turn head carrier present)
+    good_of_two (λ n i. Back (Flag turn head carrier present) x n) (nat_eq (octet_of x) 0)
+    (bad_flag head carrier (length present) (octet_of x)) _ (Triangle turn head carrier present)
     (carriers_due turn (erase head carrier) (carrier + 1) present) next [] _ here good.1
     (λ e. zero_flag turn head carrier present x sound.0 good.0 e)
     (λ e fine. one_flag turn head carrier present x sound.0 sound.1 good.0 e fine)
@@ -545,13 +544,13 @@ back (Symbol due present) next x here sound bytes good =
 back Over next x here sound bytes good = absurd good
 
 -- all good fields up to the end
-wrote : (fields : List (List ℕ)) (s t : State) (items : List Item) → Sound s → AreBytes (joined fields)
-    → Leads captures s fields items t → IsEnd (due_at t) → Wrote s (joined fields)
-wrote [] s t items sound bytes leads end = ended s (subst (λ (z : State). IsEnd (due_at z)) (sym leads.1) end)
+wrote : (fields : List (List ℕ)) (s t : CaptureState) (items : List Item) → Sound s → AreBytes (octets_of_fields fields)
+    → Leads captures s fields items t → IsEnd (capture_due t) → Wrote s (octets_of_fields fields)
+wrote [] s t items sound bytes leads end = ended s (subst (λ (z : CaptureState). IsEnd (capture_due z)) (sym leads.1) end)
 wrote (x ∷ xs) s t items sound bytes leads end =
-    let next : State = leads.0 in
-    back s next x leads.1 sound (bytes_front x (joined xs) bytes) leads.3 (joined xs)
-    (wrote xs next t leads.2 (step s next t x leads.1 sound leads.3).0 (bytes_behind x (joined xs) bytes) leads.4 end)
+    let next : CaptureState = leads.0 in
+    back s next x leads.1 sound (bytes_front x (octets_of_fields xs) bytes) leads.3 (octets_of_fields xs)
+    (wrote xs next t leads.2 (step s next t x leads.1 sound leads.3).0 (bytes_behind x (octets_of_fields xs) bytes) leads.4 end)
 
 -- frames that can stand in a capture
 frames_fit : (version : ℕ) (fs : List CaptureFrame) → AllByRecursion (GoodFrame version) fs → AllByRecursion FitsFrame fs
@@ -583,17 +582,17 @@ version_of version fs known good =
 -- The octets of a capture are those that are written of its frames.
 pub file_back : (octets : List ℕ) (items : List Item) → AreBytes octets → IsFile captures octets items
     → (version : ℕ) × (frames : List CaptureFrame) × IsFileOf version frames octets items
-unfolding file_of start_octets
+unfolding capture_file_of start_octets
 file_back octets items bytes file =
     let reaches = file.2 in
-    let all : octets ≡ joined reaches.fields = reaches.split ∙ append-nil (joined reaches.fields) in
+    let all : octets ≡ octets_of_fields reaches.fields = reaches.split ∙ append-nil (octets_of_fields reaches.fields) in
     let w = wrote reaches.fields captures.start file.1 items tt (subst AreBytes all bytes) reaches.good file.3 in
     let tail : VersionTail w.0 = w.2 in
     let version : ℕ = tail.0 in
     let count : CountTail version tail.1 = tail.4 in
-    let split : octets ≡ (magic ++ (version ∷ big_bytes 2 (length count.frames))) ++ frames_octets version count.frames =
-    all ∙ (w.1 ∙ ap (λ (z : List ℕ). magic ++ z) (tail.2 ∙ ap (λ (z : List ℕ). version ∷ z) count.split)) in
-    let fit : AreFrames count.frames =
+    let split : octets ≡ (capture_magic ++ (version ∷ big_bytes 2 (length count.frames))) ++ frames_octets version count.frames =
+    all ∙ (w.1 ∙ ap (λ (z : List ℕ). capture_magic ++ z) (tail.2 ∙ ap (λ (z : List ℕ). version ∷ z) count.split)) in
+    let fit : AreCaptureFrames count.frames =
     record { few = let few = count.few in omega arith; fit = All-from_recursion _ count.frames (frames_fit version count.frames count.good) } in
     let typed = frames_typed version count.frames count.good in
     let is_version = version_of version count.frames tail.3 count.good in (

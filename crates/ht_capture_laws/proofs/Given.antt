@@ -14,12 +14,12 @@ use Rattle.ht_capture.specs.declared.places.Present.{Present}
 use Rattle.ht_capture.specs.declared.places.SymbolTurn.{SymbolTurn}
 use Rattle.ht_capture.specs.declared.places.Turn.{Turn}
 use Rattle.ht_capture.specs.Frames.{carrier_octets, job_at, jobs_at}
-use Rattle.ht_capture.specs.Fields.{State, Magic, Version, Count, Bandwidth, Mcs, Length, Flag, Triangle, Symbol, Over}
+use Rattle.ht_capture.specs.Fields.{CaptureState, Magic, Version, Count, Bandwidth, Mcs, Length, Flag, Triangle, Symbol, Over}
 use Rattle.ht_capture_laws.specs.Items.{FrameJobs, IsHead, IsJobOf, items_in, place_in, present_below, symbol_places, symbols_in}
 use Rattle.ht_capture_laws.proofs.Lists.{all_append, range_append}
 
 -- the samples of a symbol are due
-abbrev pub InSymbols : State → Type 0
+abbrev pub InSymbols : CaptureState → Type 0
 InSymbols (Symbol due present) = Unit {0}
 InSymbols (Magic x xs) = ⊥
 InSymbols Version = ⊥
@@ -44,21 +44,21 @@ pub record IsFrame (frame number count : ℕ) (f : FrameJobs) : Type 0 where
   pub jobs : AreJobs f.head number 0 count f.jobs
 
 -- Frames from a frame and a job on, behind which a state was reached. Each is whole, but the last may be a front.
-abbrev pub AreFrames : State → ℕ → ℕ → List FrameJobs → Type 0
-AreFrames t frame number [] = Unit {0}
-AreFrames t frame number (f ∷ fs) =
-    (IsFrame frame number (symbols_in f.head) f × AreFrames t (frame + 1) (number + length f.jobs) fs)
+abbrev pub AreCaptureFrames : CaptureState → ℕ → ℕ → List FrameJobs → Type 0
+AreCaptureFrames t frame number [] = Unit {0}
+AreCaptureFrames t frame number (f ∷ fs) =
+    (IsFrame frame number (symbols_in f.head) f × AreCaptureFrames t (frame + 1) (number + length f.jobs) fs)
     ⊎ ((count : ℕ) × (count < symbols_in f.head) × IsFrame frame number count f × (fs ≡ []) × InSymbols t)
 
 abbrev pub made_of : FrameHead → List JobView → FrameJobs
 made_of head jobs = record { head = head; jobs = jobs }
 
 -- the items of such frames
-abbrev pub Frames : State → ℕ → ℕ → List Item → Type 0
-Frames t frame number items = (fs : List FrameJobs) × (items ≡ items_in fs) × AreFrames t frame number fs
+abbrev pub Frames : CaptureState → ℕ → ℕ → List Item → Type 0
+Frames t frame number items = (fs : List FrameJobs) × (items ≡ items_in fs) × AreCaptureFrames t frame number fs
 
 -- the jobs of the symbols from one on, and then more frames, or the end of what was read
-pub record Symbols (t : State) (due : SymbolTurn) (items : List Item) : Type 0 where
+pub record Symbols (t : CaptureState) (due : SymbolTurn) (items : List Item) : Type 0 where
   pub jobs : List JobView
   pub later : List Item
   pub count : ℕ
@@ -84,7 +84,7 @@ pub record AtSymbol (due : SymbolTurn) (present : List Present) : Type 0 where
   pub symbol : due.symbol < due.symbols
 
 -- a state in which a capture can be
-abbrev pub Sound : State → Type 0
+abbrev pub Sound : CaptureState → Type 0
 Sound (Magic x xs) = Unit {0}
 Sound Version = Unit {0}
 Sound (Count version) = Unit {0}
@@ -97,7 +97,7 @@ Sound (Symbol due present) = AtSymbol due present
 Sound Over = Unit {0}
 
 -- items that come from a state on, until another is reached
-abbrev pub Gives : State → State → List Item → Type 0
+abbrev pub Gives : CaptureState → CaptureState → List Item → Type 0
 Gives (Magic x xs) t items = Frames t 0 0 items
 Gives Version t items = Frames t 0 0 items
 Gives (Count version) t items = Frames t 0 0 items
@@ -110,11 +110,11 @@ Gives (Symbol due present) t items = Symbols t due items
 Gives Over t items = items ≡ []
 
 -- a field that gives these items leads to a sound state, and what comes from there on comes behind them
-abbrev pub Step : State → State → State → List Item → Type 0
+abbrev pub Step : CaptureState → CaptureState → CaptureState → List Item → Type 0
 Step s t next here = Sound next × ((rest : List Item) → Gives next t rest → Gives s t (here ++ rest))
 
 -- no items
-pub none_given : (s t : State) → Sound s → s ≡ t → Gives s t []
+pub none_given : (s t : CaptureState) → Sound s → s ≡ t → Gives s t []
 none_given (Magic x xs) t sound is = ([], refl, tt)
 none_given Version t sound is = ([], refl, tt)
 none_given (Count version) t sound is = ([], refl, tt)

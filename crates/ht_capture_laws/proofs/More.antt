@@ -6,7 +6,7 @@ use Rattle.std.proofs.lemmas.List.Elements.{All-from_recursion}
 use Rattle.std.proofs.Math.Nat.{mul-le-mul_right}
 use Rattle.std.specs.List.{filter}
 use Rattle.ht_io.specs.declared.faults.FormatFault.{FormatFault}
-use Rattle.ht_fields.specs.Cases.{Case, File, Clean, Longer, Faulty, Meets, Reaches, joined}
+use Rattle.ht_fields.specs.Cases.{Case, File, Clean, Longer, Faulty, Meets, Reaches, octets_of_fields}
 use Rattle.ht_fields.specs.Meanings.{Meaning, meaning}
 use Rattle.ht_fields.proofs.Answered.{found, met}
 use Rattle.ht_fields.proofs.Steps.{good_fields}
@@ -20,18 +20,18 @@ use Rattle.ht_capture.specs.declared.items.Item.{Item}
 use Rattle.ht_capture.specs.declared.items.Item.TheVariants.{Frame, Job}
 use Rattle.ht_capture.specs.declared.places.Present.{Present}
 use Rattle.ht_capture.specs.Contents.{AreTyped, IsVersion, frame_jobs, head_of, items_from, items_of, job_of, presents_of, symbol_jobs}
-use Rattle.ht_capture.specs.Fields.{State, captures}
-use Rattle.ht_capture.specs.Files.{AreFrames as CanBeWritten, file_of}
+use Rattle.ht_capture.specs.Fields.{CaptureState, captures}
+use Rattle.ht_capture.specs.Files.{AreCaptureFrames as CanBeWritten, capture_file_of}
 use Rattle.ht_capture.proofs.Filed.{file_written}
 use Rattle.ht_capture_laws.specs.Items.{FrameJobs, IsWholeFrame, carriers_in, cut_frames, frames_in}
 use Rattle.ht_capture_laws.specs.Items.{has_all_jobs, items_in, items_of_frame, symbols_in, whole_frames}
 use Rattle.ht_capture_laws.specs.Written.{items_each, items_for}
-use Rattle.ht_capture_laws.proofs.Given.{AreFrames, IsFrame, made_of}
+use Rattle.ht_capture_laws.proofs.Given.{AreCaptureFrames, IsFrame, made_of}
 use Rattle.ht_capture_laws.proofs.Parts.{frames_back, frames_of, jobs_count, all_there, some_missing, parted_of}
 
 -- each list of octets begins with good fields that give its items
 abbrev Reached : List ℕ → List Item → Type 0
-Reached octets items = (offset : ℕ) × (state : State) × (rest : List ℕ) × Reaches captures octets items offset state rest
+Reached octets items = (offset : ℕ) × (state : CaptureState) × (rest : List ℕ) × Reaches captures octets items offset state rest
 
 reach : (octets : List ℕ) (items : List Item) (case : Case) → Meets captures octets items case → Reached octets items
 reach octets items File m = (m.0, m.1, [], m.2)
@@ -44,9 +44,10 @@ items_more octets more =
     let f = found captures octets in
     let r = reach octets (capture_of octets).items f.0 f.1 in
     let path = r.3 in
-    let split : octets ++ more ≡ joined path.fields ++ (r.2 ++ more) = ap (λ (z : List ℕ). z ++ more) path.split ∙ append_assoc (joined path.fields) r.2 more in
+    let split : octets ++ more ≡ octets_of_fields path.fields ++ (r.2 ++ more) =
+    ap (λ (z : List ℕ). z ++ more) path.split ∙ append_assoc (octets_of_fields path.fields) r.2 more in
     let good = good_fields captures captures.start r.1 0 path.fields (capture_of octets).items (r.2 ++ more) path.good in (
-      (meaning captures r.1 (0 + length (joined path.fields)) (r.2 ++ more)).items,
+      (meaning captures r.1 (0 + length (octets_of_fields path.fields)) (r.2 ++ more)).items,
       ap (λ (o : List ℕ). (capture_of o).items) split
           ∙ ap (λ (m : Meaning Item). m.items) good,
     )
@@ -65,8 +66,8 @@ same_jobs (x ∷ xs) (y ∷ ys) behind gs few e =
     (ap (λ (z : JobView). z ∷ xs) first ∙ ap (λ (z : List JobView). y ∷ z) rest.0, rest.1)
 
 -- a frame has no more jobs than all
-at_most_all : (u : State) (frame number : ℕ) (g : FrameJobs) (gs : List FrameJobs)
-    → AreFrames u frame number (g ∷ gs) → length g.jobs ≤ symbols_in g.head * length (carriers_in g.head)
+at_most_all : (u : CaptureState) (frame number : ℕ) (g : FrameJobs) (gs : List FrameJobs)
+    → AreCaptureFrames u frame number (g ∷ gs) → length g.jobs ≤ symbols_in g.head * length (carriers_in g.head)
 at_most_all u frame number g gs (inl whole) = let size = jobs_count frame number (symbols_in g.head) g whole.0 in omega (arith, size)
 at_most_all u frame number g gs (inr cut) =
     let size = jobs_count frame number cut.0 g cut.2 in
@@ -75,8 +76,8 @@ at_most_all u frame number g gs (inr cut) =
     omega (arith, size, most)
 
 -- where a frame is whole, it is the frame that begins the same items
-same_frame : (u : State) (frame number : ℕ) (f g : FrameJobs) (gs : List FrameJobs) (behind : List Item)
-    → IsFrame frame number (symbols_in f.head) f → AreFrames u frame number (g ∷ gs)
+same_frame : (u : CaptureState) (frame number : ℕ) (f g : FrameJobs) (gs : List FrameJobs) (behind : List Item)
+    → IsFrame frame number (symbols_in f.head) f → AreCaptureFrames u frame number (g ∷ gs)
     → Frame f.head ∷ (map Job f.jobs ++ behind) ≡ Frame g.head ∷ (map Job g.jobs ++ items_in gs) → (f ≡ g) × (behind ≡ items_in gs)
 same_frame u frame number f g gs behind whole others e =
     let head : f.head ≡ g.head = cc in
@@ -90,8 +91,8 @@ same_frame u frame number f g gs behind whole others e =
 no_false : true ≡ false → ⊥
 no_false e = cc
 
-frames_behind : (u : State) (frame number : ℕ) (f : FrameJobs) (gs : List FrameJobs) → has_all_jobs f ≡ true
-    → AreFrames u frame number (f ∷ gs) → AreFrames u (frame + 1) (number + length f.jobs) gs
+frames_behind : (u : CaptureState) (frame number : ℕ) (f : FrameJobs) (gs : List FrameJobs) → has_all_jobs f ≡ true
+    → AreCaptureFrames u frame number (f ∷ gs) → AreCaptureFrames u (frame + 1) (number + length f.jobs) gs
 frames_behind u frame number f gs all (inl whole) = whole.1
 frames_behind u frame number f gs all (inr cut) = absurd (no_false (sym all ∙ some_missing frame number cut.0 f cut.1 cut.2))
 
@@ -104,8 +105,8 @@ dropped f fs missing = ap (λ (b : Bool). if b then f ∷ filter has_all_jobs fs
 no_frame : (f : FrameJobs) (rest later : List Item) → [] ≡ (Frame f.head ∷ rest) ++ later → ⊥
 no_frame f rest later e = cc
 
-whole_more : (t u : State) (frame number : ℕ) (fs gs : List FrameJobs) (later : List Item)
-    → AreFrames t frame number fs → AreFrames u frame number gs → items_in gs ≡ items_in fs ++ later
+whole_more : (t u : CaptureState) (frame number : ℕ) (fs gs : List FrameJobs) (later : List Item)
+    → AreCaptureFrames t frame number fs → AreCaptureFrames u frame number gs → items_in gs ≡ items_in fs ++ later
     → (rest : List FrameJobs) × (filter has_all_jobs gs ≡ filter has_all_jobs fs ++ rest)
 whole_more t u frame number [] gs later a b e = (filter has_all_jobs gs, refl)
 whole_more t u frame number (f ∷ fs) [] later a b e = absurd (no_frame f (map Job f.jobs ++ items_in fs) later e)
@@ -118,7 +119,7 @@ whole_more t u frame number (f ∷ fs) (g ∷ gs) later (inl whole) b e =
     let all = all_there frame number f whole.0 in
     let same = same_frame u frame number f g gs (items_in fs ++ later) whole.0 b
     (ap (λ (z : List Item). Frame f.head ∷ z) (sym (append_assoc (map Job f.jobs) (items_in fs) later)) ∙ sym e) in
-    let behind = frames_behind u frame number f gs all (subst (λ (z : FrameJobs). AreFrames u frame number (z ∷ gs)) (sym same.0) b) in
+    let behind = frames_behind u frame number f gs all (subst (λ (z : FrameJobs). AreCaptureFrames u frame number (z ∷ gs)) (sym same.0) b) in
     let rest = whole_more t u (frame + 1) (number + length f.jobs) fs gs later whole.1 behind (sym same.1) in (
       rest.0,
       ap (λ (z : FrameJobs). filter has_all_jobs (z ∷ gs)) (sym same.0) ∙ (kept f gs all ∙ (ap (λ (z : List FrameJobs). f ∷ z) rest.1
@@ -181,7 +182,7 @@ some_or_none x e = cc
 pub all_whole : (version : ℕ) (frames : List CaptureFrame) → CanBeWritten frames
     → AreTyped frames → IsVersion version frames → All IsWholeFrame (frames_in (items_of frames))
 all_whole version frames fit typed allowed =
-    let octets : List ℕ = file_of version frames in
+    let octets : List ℕ = capture_file_of version frames in
     let m = met captures octets (items_of frames) File (file_written version frames fit typed allowed) in
     let items : (capture_of octets).items ≡ items_of frames = ap (λ (m : Meaning Item). m.items) m in
     let p = parted_of octets in

@@ -11,11 +11,11 @@ use Rattle.ht_capture.specs.Captures.{capture_of}
 use Rattle.ht_capture.specs.declared.items.FrameHead.{FrameHead}
 use Rattle.ht_capture.specs.declared.items.Item.{Item}
 use Rattle.ht_capture.specs.declared.items.Item.TheVariants.{Frame, Job}
-use Rattle.ht_capture.specs.Fields.{State}
+use Rattle.ht_capture.specs.Fields.{CaptureState}
 use Rattle.ht_capture_laws.specs.Items.{FrameJobs, IsJobOf, IsNextHead, IsNextJob, IsWholeFrame, frames_in}
 use Rattle.ht_capture_laws.specs.Items.{items_in, items_of_frame, jobs_in, places_in, symbol_places, symbols_in}
 use Rattle.ht_capture_laws.proofs.Lists.{range_append}
-use Rattle.ht_capture_laws.proofs.Given.{AreFrames, IsFrame, made_of}
+use Rattle.ht_capture_laws.proofs.Given.{AreCaptureFrames, IsFrame, made_of}
 use Rattle.ht_capture_laws.proofs.Parts.{frames_back, frames_of, symbols_had}
 
 -- the frame that a head begins
@@ -149,7 +149,8 @@ no_more : (gs hs : List FrameJobs) (g : FrameJobs) → gs ++ g ∷ hs ≡ [] →
 no_more [] hs g e = cc
 no_more (x ∷ gs) hs g e = cc
 
-before : (t : State) (frame number : ℕ) (gs hs : List FrameJobs) (g : FrameJobs) → AreFrames t frame number (gs ++ g ∷ hs) → Before frame number gs g
+before : (t : CaptureState) (frame number : ℕ) (gs hs : List FrameJobs) (g : FrameJobs) → AreCaptureFrames t frame number (gs ++ g ∷ hs)
+    → Before frame number gs g
 before t frame number [] hs g (inl here) =
     let a : frame ≡ frame + 0 = omega arith in
     let b : number ≡ number + 0 = omega arith in
@@ -221,7 +222,7 @@ next_head octets front back head e =
     let f = frames_of octets in
     let fs = frames_in (capture_of octets).items in
     let a = at_head fs front back head (sym f.all ∙ e) in
-    let b = before f.last 0 0 a.gs a.hs a.g (subst (AreFrames f.last 0 0) a.is f.are) in
+    let b = before f.last 0 0 a.gs a.hs a.g (subst (AreCaptureFrames f.last 0 0) a.is f.are) in
     let seen : a.gs ≡ frames_in front = sym (ap frames_in a.front_is ∙ frames_back a.gs) in
     let next : IsNextHead a.gs a.g.head =
     record { number = let named = b.is.named in omega (arith, named); whole = All-from_recursion _ a.gs b.whole; good = b.is.head } in
@@ -265,6 +266,6 @@ pub next_job : (octets : List ℕ) (front back : List Item) (job : JobView)
 next_job octets front back job e =
     let f = frames_of octets in
     let a = at_job (frames_in (capture_of octets).items) front back job (sym f.all ∙ e) in
-    let b = before f.last 0 0 a.gs a.hs a.g (subst (AreFrames f.last 0 0) a.is f.are) in
+    let b = before f.last 0 0 a.gs a.hs a.g (subst (AreCaptureFrames f.last 0 0) a.is f.are) in
     subst (λ (z : List FrameJobs). IsNextJob z job) (sym (ap frames_in a.front_is ∙ in_front a.gs a.g.head a.js))
     (is_next_job a.gs a.g a.js a.ks job b a.jobs_are)

@@ -18,12 +18,13 @@ use Rattle.ht_capture.specs.Captures.{capture_of}
 use Rattle.ht_capture.specs.declared.items.FrameHead.{FrameHead}
 use Rattle.ht_capture.specs.declared.items.Item.{Item}
 use Rattle.ht_capture.specs.declared.items.Item.TheVariants.{Job}
-use Rattle.ht_capture.specs.Fields.{State, Magic, Version, Count, Bandwidth, Mcs, Length, Flag, Triangle, Symbol, Over, captures, due_at, judge_symbol}
+use Rattle.ht_capture.specs.Fields.{CaptureState, Magic, Version, Count, Bandwidth, Mcs, Length}
+use Rattle.ht_capture.specs.Fields.{Flag, Triangle, Symbol, Over, captures, capture_due, judge_symbol}
 use Rattle.ht_capture.specs.Files.{is_erased}
 use Rattle.ht_capture_laws.specs.Items.{FrameJobs, HasSymbols, IsFrontOfFrame, IsHead, IsPlaceIn, IsWholeFrame, carriers_in, frames_in}
 use Rattle.ht_capture_laws.specs.Items.{has_all_jobs, items_in, jobs_first, jobs_in, place_in, places_in, symbol_places, symbols_in}
 use Rattle.ht_capture_laws.proofs.Lists.{all_flat, all_kept, all_map, all_of_map, all_range, all_weaker, length-flat, range_append}
-use Rattle.ht_capture_laws.proofs.Given.{AreFrames, Frames, InSymbols, IsFrame}
+use Rattle.ht_capture_laws.proofs.Given.{AreCaptureFrames, Frames, InSymbols, IsFrame}
 use Rattle.ht_capture_laws.proofs.Stages.{fields_give}
 
 -- the frames of the items of frames
@@ -72,7 +73,7 @@ pub symbols_had : (frame number count : ℕ) (f : FrameJobs) → IsFrame frame n
 symbols_had frame number count f is = record { places = is.jobs.places; jobs = All-from_recursion _ f.jobs is.jobs.each }
 
 -- the whole frames and the one that is cut off
-pub record Parted (t : State) (fs : List FrameJobs) : Type 0 where
+pub record Parted (t : CaptureState) (fs : List FrameJobs) : Type 0 where
   pub order : fs ≡ filter has_all_jobs fs ++ filter (λ f. not (has_all_jobs f)) fs
   pub whole : AllByRecursion IsWholeFrame (filter has_all_jobs fs)
   pub cut : AllByRecursion IsFrontOfFrame (filter (λ f. not (has_all_jobs f)) fs)
@@ -80,7 +81,7 @@ pub record Parted (t : State) (fs : List FrameJobs) : Type 0 where
   pub ended : (filter (λ f. not (has_all_jobs f)) fs ≡ []) ⊎ InSymbols t
 
 -- the parts of a frame and those behind it, by its test
-abbrev PartedBy : State → FrameJobs → List FrameJobs → Bool → Type 0
+abbrev PartedBy : CaptureState → FrameJobs → List FrameJobs → Bool → Type 0
 PartedBy t f fs b =
     (f ∷ fs ≡ (if b then f ∷ filter has_all_jobs fs else filter has_all_jobs fs)
     ++ (if not b then f ∷ filter (λ g. not (has_all_jobs g)) fs else filter (λ g. not (has_all_jobs g)) fs))
@@ -89,12 +90,12 @@ PartedBy t f fs b =
     × (length (if not b then f ∷ filter (λ g. not (has_all_jobs g)) fs else filter (λ g. not (has_all_jobs g)) fs) ≤ 1)
     × (((if not b then f ∷ filter (λ g. not (has_all_jobs g)) fs else filter (λ g. not (has_all_jobs g)) fs) ≡ []) ⊎ InSymbols t)
 
-parted_by : (t : State) (f : FrameJobs) (fs : List FrameJobs) (b : Bool) → has_all_jobs f ≡ b → PartedBy t f fs b → Parted t (f ∷ fs)
+parted_by : (t : CaptureState) (f : FrameJobs) (fs : List FrameJobs) (b : Bool) → has_all_jobs f ≡ b → PartedBy t f fs b → Parted t (f ∷ fs)
 parted_by t f fs b is p =
     let q : PartedBy t f fs (has_all_jobs f) = subst (PartedBy t f fs) (sym is) p in
     record { order = q.0; whole = q.1; cut = q.2; one = q.3; ended = q.4 }
 
-pub parted : (t : State) (frame number : ℕ) (fs : List FrameJobs) → AreFrames t frame number fs → Parted t fs
+pub parted : (t : CaptureState) (frame number : ℕ) (fs : List FrameJobs) → AreCaptureFrames t frame number fs → Parted t fs
 parted t frame number [] are = record { order = refl; whole = tt; cut = tt; one = omega arith; ended = inl refl }
 parted t frame number (f ∷ fs) (inl whole) =
     let rest = parted t (frame + 1) (number + length f.jobs) fs whole.1 in
@@ -107,7 +108,7 @@ parted t frame number (f ∷ fs) (inr cut) =
     (subst (λ (z : List FrameJobs). PartedBy t f z false) (sym cut.3) one)
 
 -- heads are numbered one after another
-pub heads_numbered : (t : State) (frame number : ℕ) (fs : List FrameJobs) → AreFrames t frame number fs
+pub heads_numbered : (t : CaptureState) (frame number : ℕ) (fs : List FrameJobs) → AreCaptureFrames t frame number fs
     → map (λ (f : FrameJobs). f.head.frame) fs ≡ range_with_len frame (length fs)
 heads_numbered t frame number [] are = refl
 heads_numbered t frame number (f ∷ fs) (inl whole) =
@@ -128,7 +129,7 @@ jobs_then number jobs later a b =
     ∙ (ap (λ (z : List ℕ). range_with_len number (length jobs) ++ z) b
     ∙ (sym (range_append number (length jobs) (length later)) ∙ ap (range_with_len number) (sym (length-append jobs later)))))
 
-pub jobs_numbered : (t : State) (frame number : ℕ) (fs : List FrameJobs) → AreFrames t frame number fs
+pub jobs_numbered : (t : CaptureState) (frame number : ℕ) (fs : List FrameJobs) → AreCaptureFrames t frame number fs
     → map (λ (j : JobView). j.number) (jobs_in fs) ≡ range_with_len number (length (jobs_in fs))
 jobs_numbered t frame number [] are = refl
 jobs_numbered t frame number (f ∷ fs) (inl whole) =
@@ -138,7 +139,8 @@ jobs_numbered t frame number (f ∷ fs) (inr cut) =
     (subst (λ (z : List FrameJobs). map (λ (j : JobView). j.number) (jobs_in z) ≡ range_with_len (number + length f.jobs) (length (jobs_in z)))
     (sym cut.3) refl)
 
-pub heads_good : (t : State) (frame number : ℕ) (fs : List FrameJobs) → AreFrames t frame number fs → AllByRecursion (λ (f : FrameJobs). IsHead f.head) fs
+pub heads_good : (t : CaptureState) (frame number : ℕ) (fs : List FrameJobs) → AreCaptureFrames t frame number fs
+    → AllByRecursion (λ (f : FrameJobs). IsHead f.head) fs
 heads_good t frame number [] are = tt
 heads_good t frame number (f ∷ fs) (inl whole) = (whole.0.head, heads_good t (frame + 1) (number + length f.jobs) fs whole.1)
 heads_good t frame number (f ∷ fs) (inr cut) = (cut.2.head, subst (AllByRecursion (λ (g : FrameJobs). IsHead g.head)) (sym cut.3) tt)
@@ -165,7 +167,7 @@ jobs_placed frame number count f le is =
     (all_of_map (IsPlaceIn f.head) (λ (j : JobView). j.place) f.jobs
     (subst (AllByRecursion (IsPlaceIn f.head)) (sym is.jobs.places) (places_good f.head count le)))
 
-pub all_placed : (t : State) (frame number : ℕ) (fs : List FrameJobs) → AreFrames t frame number fs
+pub all_placed : (t : CaptureState) (frame number : ℕ) (fs : List FrameJobs) → AreCaptureFrames t frame number fs
     → AllByRecursion (λ (f : FrameJobs). All (λ (j : JobView). IsPlaceIn f.head j.place) f.jobs) fs
 all_placed t frame number [] are = tt
 all_placed t frame number (f ∷ fs) (inl whole) =
@@ -176,7 +178,7 @@ all_placed t frame number (f ∷ fs) (inr cut) = (
 )
 
 -- where the end of a capture is due, or a field is bad, no samples are due
-not_at_end : (s : State) → IsEnd (due_at s) → InSymbols s → ⊥
+not_at_end : (s : CaptureState) → IsEnd (capture_due s) → InSymbols s → ⊥
 not_at_end (Symbol due present) e within = e
 not_at_end (Magic x xs) e within = within
 not_at_end Version e within = within
@@ -188,7 +190,7 @@ not_at_end (Flag turn head carrier present) e within = within
 not_at_end (Triangle turn head carrier present) e within = within
 not_at_end Over e within = within
 
-not_at_fault : (s : State) (x : List ℕ) (kind : Kind) → IsField (due_at s) x (Bad kind) → InSymbols s → ⊥
+not_at_fault : (s : CaptureState) (x : List ℕ) (kind : Kind) → IsField (capture_due s) x (Bad kind) → InSymbols s → ⊥
 unfolding judge_symbol
 not_at_fault (Symbol due present) x kind bad within = let never = bad.1 in cc
 not_at_fault (Magic x xs) y kind bad within = within
@@ -203,23 +205,24 @@ not_at_fault Over y kind bad within = within
 
 -- the frames of octets
 pub record FramesOf (octets : List ℕ) : Type 0 where
-  pub last : State
+  pub last : CaptureState
   pub all : (capture_of octets).items ≡ items_in (frames_in (capture_of octets).items)
-  pub are : AreFrames last 0 0 (frames_in (capture_of octets).items)
+  pub are : AreCaptureFrames last 0 0 (frames_in (capture_of octets).items)
   pub early : InSymbols last → (capture_of octets).fault ≡ Some (record { kind = Truncated; offset = length octets })
 
-made : (octets : List ℕ) (t : State) → Frames t 0 0 (capture_of octets).items
+made : (octets : List ℕ) (t : CaptureState) → Frames t 0 0 (capture_of octets).items
     → (InSymbols t → (capture_of octets).fault ≡ Some (record { kind = Truncated; offset = length octets })) → FramesOf octets
 made octets t frames early =
     let same : frames_in (capture_of octets).items ≡ frames.0 = ap frames_in frames.1 ∙ frames_back frames.0 in
     record {
       last = t;
       all = frames.1 ∙ ap items_in (sym same);
-      are = subst (AreFrames t 0 0) (sym same) frames.2;
+      are = subst (AreCaptureFrames t 0 0) (sym same) frames.2;
       early = early;
     }
 
-reached : (octets : List ℕ) (items : List Item) (offset : ℕ) (t : State) (rest : List ℕ) → Reaches captures octets items offset t rest → Frames t 0 0 items
+reached : (octets : List ℕ) (items : List Item) (offset : ℕ) (t : CaptureState) (rest : List ℕ) → Reaches captures octets items offset t rest
+    → Frames t 0 0 items
 reached octets items offset t rest r = fields_give r.fields captures.start t items tt r.good
 
 by_case : (octets : List ℕ) (case : Case) → Meets captures octets (capture_of octets).items case

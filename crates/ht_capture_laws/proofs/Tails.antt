@@ -11,19 +11,20 @@ use Rattle.ht_capture.specs.declared.items.FrameHead.{FrameHead}
 use Rattle.ht_capture.specs.declared.places.SymbolTurn.{SymbolTurn}
 use Rattle.ht_capture.specs.declared.places.Turn.{Turn}
 use Rattle.ht_capture.specs.Contents.{AreLegs, AreSamples, AreTriangles, IsTyped}
-use Rattle.ht_capture.specs.Fields.{State, Magic, Version, Count, Bandwidth, Mcs, Length, Flag, Triangle, Symbol, Over, known_version}
-use Rattle.ht_capture.specs.Files.{FitsFrame, IsWhole, carriers_octets, flagged_octets, frame_octets}
-use Rattle.ht_capture.specs.Files.{head_octets, is_erased, legs_octets, present_among, sample_octets}
+use Rattle.ht_capture.specs.Fields.{CaptureState, Magic, Version, Count, Bandwidth, Mcs, Length, Flag, Triangle, Symbol, Over, known_version}
+use Rattle.ht_capture.specs.Files.{FitsFrame, HasAllCarriers, carriers_octets, flagged_octets, capture_frame_octets}
+use Rattle.ht_capture.specs.Files.{is_erased, legs_octets, present_among, sample_octets}
 use Rattle.ht_capture_laws.specs.Items.{symbols_in}
+use Rattle.ht_heads.specs.Heads.{head_octets}
 
 -- a frame that can stand in a capture of the version
 pub record GoodFrame (version : ℕ) (f : CaptureFrame) : Type 0 where
   pub fits : FitsFrame f
   pub typed : IsTyped f
-  pub whole : (version ≡ 2 → ⊥) → IsWhole f
+  pub whole : (version ≡ 2 → ⊥) → HasAllCarriers f
 
 abbrev pub frames_octets : ℕ → List CaptureFrame → List ℕ
-frames_octets version frames = flat_map (frame_octets version) frames
+frames_octets version frames = flat_map (capture_frame_octets version) frames
 
 -- the frames that are left, and their number
 pub record FramesTail (version left : ℕ) (octets : List ℕ) : Type 0 where
@@ -103,7 +104,7 @@ abbrev pub VersionTail : List ℕ → Type 0
 VersionTail octets = (version : ℕ) × (rest : List ℕ) × (octets ≡ version ∷ rest) × (known_version version ≡ true) × CountTail version rest
 
 -- what octets are that lead from a state to the end
-abbrev pub Wrote : State → List ℕ → Type 0
+abbrev pub Wrote : CaptureState → List ℕ → Type 0
 Wrote (Magic x xs) octets = (rest : List ℕ) × (octets ≡ (x ∷ xs) ++ rest) × VersionTail rest
 Wrote Version octets = VersionTail octets
 Wrote (Count version) octets = CountTail version octets
@@ -117,5 +118,5 @@ Wrote (Symbol due present) octets = SamplesTail due octets
 Wrote Over octets = octets ≡ []
 
 -- a field in front of what leads to the end leads there too
-abbrev pub Back : State → List ℕ → State → Type 0
+abbrev pub Back : CaptureState → List ℕ → CaptureState → Type 0
 Back s x next = (rest : List ℕ) → Wrote next rest → Wrote s (x ++ rest)

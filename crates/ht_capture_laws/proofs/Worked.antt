@@ -5,7 +5,7 @@ use Rattle.ht_fields.specs.Meanings.{meaning, meaning_of}
 use Rattle.ht_metric.specs.Jobs.{JobView}
 use Rattle.ht_capture.specs.Captures.{capture_of}
 use Rattle.ht_capture.specs.Frames.{erase, job_at, jobs_at}
-use Rattle.ht_capture.specs.Fields.{bad_flag, carriers_due, frame_due, head_given, judge_bandwidth, judge_count, judge_flag, judge_length}
+use Rattle.ht_capture.specs.Fields.{bad_flag, carriers_due, turn_due, head_given, judge_bandwidth, judge_count, judge_flag, judge_length}
 use Rattle.ht_capture.specs.Fields.{judge_magic, judge_mcs, judge_symbol, judge_triangle, judge_version, next_symbol, next_turn, symbol_due}
 use Rattle.ht_rate.specs.Rates.{bandwidth_of, carriers_of, coded_bits_of, data_bits_of, data_carriers_of, encoders_of, label_bits_of, mcs_of}
 use Rattle.ht_rate.specs.Rates.{modulation_of, needed_bits_of, pattern_of, pilots_of, rate_at, stream_bits_of, streams_of, symbols_of}
@@ -25,21 +25,21 @@ two_frames_length = refl
 
 -- all of it
 all_items : length (capture_of (two_frames 0 16)).items ≡ 6
-unfolding two_frames frame_with meaning meaning_of judge_magic judge_version judge_count frame_due judge_bandwidth judge_mcs judge_length carriers_due
+unfolding two_frames frame_with meaning meaning_of judge_magic judge_version judge_count turn_due judge_bandwidth judge_mcs judge_length carriers_due
     judge_flag bad_flag judge_triangle head_given erase symbol_due judge_symbol next_symbol next_turn jobs_at job_at rate_at carriers_of
     data_carriers_of pilots_of streams_of symbols_of needed_bits_of data_bits_of encoders_of mcs_of bandwidth_of coded_bits_of stream_bits_of
     label_bits_of modulation_of pattern_of
 all_items = refl
 
 both_whole : length (whole_frames (capture_of (two_frames 0 16)).items) ≡ 2
-unfolding two_frames frame_with meaning meaning_of judge_magic judge_version judge_count frame_due judge_bandwidth judge_mcs judge_length carriers_due
+unfolding two_frames frame_with meaning meaning_of judge_magic judge_version judge_count turn_due judge_bandwidth judge_mcs judge_length carriers_due
     judge_flag bad_flag judge_triangle head_given erase symbol_due judge_symbol next_symbol next_turn jobs_at job_at rate_at carriers_of
     data_carriers_of pilots_of streams_of symbols_of needed_bits_of data_bits_of encoders_of mcs_of bandwidth_of coded_bits_of stream_bits_of
     label_bits_of modulation_of pattern_of
 both_whole = refl
 
 none_cut : cut_frames (capture_of (two_frames 0 16)).items ≡ []
-unfolding two_frames frame_with meaning meaning_of judge_magic judge_version judge_count frame_due judge_bandwidth judge_mcs judge_length carriers_due
+unfolding two_frames frame_with meaning meaning_of judge_magic judge_version judge_count turn_due judge_bandwidth judge_mcs judge_length carriers_due
     judge_flag bad_flag judge_triangle head_given erase symbol_due judge_symbol next_symbol next_turn jobs_at job_at rate_at carriers_of
     data_carriers_of pilots_of streams_of symbols_of needed_bits_of data_bits_of encoders_of mcs_of bandwidth_of coded_bits_of stream_bits_of
     label_bits_of modulation_of pattern_of
@@ -47,21 +47,21 @@ none_cut = refl
 
 -- without its last octet
 one_whole : length (whole_frames (capture_of (two_frames 0 15)).items) ≡ 1
-unfolding two_frames frame_with meaning meaning_of judge_magic judge_version judge_count frame_due judge_bandwidth judge_mcs judge_length carriers_due
+unfolding two_frames frame_with meaning meaning_of judge_magic judge_version judge_count turn_due judge_bandwidth judge_mcs judge_length carriers_due
     judge_flag bad_flag judge_triangle head_given erase symbol_due judge_symbol next_symbol next_turn jobs_at job_at rate_at carriers_of
     data_carriers_of pilots_of streams_of symbols_of needed_bits_of data_bits_of encoders_of mcs_of bandwidth_of coded_bits_of stream_bits_of
     label_bits_of modulation_of pattern_of
 one_whole = refl
 
 one_cut : map (λ (j : JobView). j.place) (jobs_in (cut_frames (capture_of (two_frames 0 15)).items)) ≡ record { frame = 1; symbol = 0; carrier = 0 } ∷ []
-unfolding two_frames frame_with meaning meaning_of judge_magic judge_version judge_count frame_due judge_bandwidth judge_mcs judge_length carriers_due
+unfolding two_frames frame_with meaning meaning_of judge_magic judge_version judge_count turn_due judge_bandwidth judge_mcs judge_length carriers_due
     judge_flag bad_flag judge_triangle head_given erase symbol_due judge_symbol next_symbol next_turn jobs_at job_at rate_at carriers_of
     data_carriers_of pilots_of streams_of symbols_of needed_bits_of data_bits_of encoders_of mcs_of bandwidth_of coded_bits_of stream_bits_of
     label_bits_of modulation_of pattern_of
 one_cut = refl
 
 cut_early : (capture_of (two_frames 0 15)).fault ≡ Some (record { kind = Truncated; offset = 162 })
-unfolding two_frames frame_with meaning meaning_of judge_magic judge_version judge_count frame_due judge_bandwidth judge_mcs judge_length carriers_due
+unfolding two_frames frame_with meaning meaning_of judge_magic judge_version judge_count turn_due judge_bandwidth judge_mcs judge_length carriers_due
     judge_flag bad_flag judge_triangle head_given erase symbol_due judge_symbol next_symbol next_turn jobs_at job_at rate_at carriers_of
     data_carriers_of pilots_of streams_of symbols_of needed_bits_of data_bits_of encoders_of mcs_of bandwidth_of coded_bits_of stream_bits_of
     label_bits_of modulation_of pattern_of
@@ -69,21 +69,21 @@ cut_early = refl
 
 -- with MCS 32 in the second head
 bad_head : (capture_of (two_frames 32 16)).fault ≡ Some (record { kind = BadMcs; offset = 86 })
-unfolding two_frames frame_with meaning meaning_of judge_magic judge_version judge_count frame_due judge_bandwidth judge_mcs judge_length carriers_due
+unfolding two_frames frame_with meaning meaning_of judge_magic judge_version judge_count turn_due judge_bandwidth judge_mcs judge_length carriers_due
     judge_flag bad_flag judge_triangle head_given erase symbol_due judge_symbol next_symbol next_turn jobs_at job_at rate_at carriers_of
     data_carriers_of pilots_of streams_of symbols_of needed_bits_of data_bits_of encoders_of mcs_of bandwidth_of coded_bits_of stream_bits_of
     label_bits_of modulation_of pattern_of
 bad_head = refl
 
 first_whole : length (whole_frames (capture_of (two_frames 32 16)).items) ≡ 1
-unfolding two_frames frame_with meaning meaning_of judge_magic judge_version judge_count frame_due judge_bandwidth judge_mcs judge_length carriers_due
+unfolding two_frames frame_with meaning meaning_of judge_magic judge_version judge_count turn_due judge_bandwidth judge_mcs judge_length carriers_due
     judge_flag bad_flag judge_triangle head_given erase symbol_due judge_symbol next_symbol next_turn jobs_at job_at rate_at carriers_of
     data_carriers_of pilots_of streams_of symbols_of needed_bits_of data_bits_of encoders_of mcs_of bandwidth_of coded_bits_of stream_bits_of
     label_bits_of modulation_of pattern_of
 first_whole = refl
 
 nothing_cut : length (frames_in (capture_of (two_frames 32 16)).items) ≡ 1
-unfolding two_frames frame_with meaning meaning_of judge_magic judge_version judge_count frame_due judge_bandwidth judge_mcs judge_length carriers_due
+unfolding two_frames frame_with meaning meaning_of judge_magic judge_version judge_count turn_due judge_bandwidth judge_mcs judge_length carriers_due
     judge_flag bad_flag judge_triangle head_given erase symbol_due judge_symbol next_symbol next_turn jobs_at job_at rate_at carriers_of
     data_carriers_of pilots_of streams_of symbols_of needed_bits_of data_bits_of encoders_of mcs_of bandwidth_of coded_bits_of stream_bits_of
     label_bits_of modulation_of pattern_of

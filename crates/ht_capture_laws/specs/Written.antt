@@ -5,13 +5,13 @@ use Rattle.ht_capture.specs.declared.frames.CaptureFrame.{CaptureFrame}
 use Rattle.ht_capture.specs.declared.items.Item.{Item}
 use Rattle.ht_capture.specs.declared.items.Item.TheVariants.{Frame}
 use Rattle.ht_capture.specs.Contents.{AreTyped, IsVersion, frame_jobs, head_of, items_of, presents_of}
-use Rattle.ht_capture.specs.Files.{AreFrames, file_of}
+use Rattle.ht_capture.specs.Files.{AreCaptureFrames, capture_file_of}
 
 -- the octets are the file of frames that can be written in the version, and the items are their heads and jobs
 pub record IsFileOf (version : ℕ) (frames : List CaptureFrame) (octets : List ℕ) (items : List Item) : Type 0 where
-  pub file : octets ≡ file_of version frames
+  pub file : octets ≡ capture_file_of version frames
   pub shown : items ≡ items_of frames
-  pub fit : AreFrames frames
+  pub fit : AreCaptureFrames frames
   pub typed : AreTyped frames
   pub allowed : IsVersion version frames
 

@@ -3,11 +3,12 @@ ghost use Rattle.std.specs.Prelude.{◌≡◌, ℕ, List, map, All};
 ghost use Rattle.ht_fields.specs.Cases.{IsFile};
 ghost use Rattle.ht_capture.specs.declared.frames.CaptureFrame.{CaptureFrame};
 ghost use Rattle.ht_capture.specs.declared.items.Item.{Item};
-ghost use Rattle.ht_capture.specs.Contents.{AreBytes, AreTyped, IsVersion, items_of};
+ghost use Rattle.ht_capture.specs.Contents.{AreTyped, IsVersion, items_of};
 ghost use Rattle.ht_capture.specs.Fields.{captures};
-ghost use Rattle.ht_capture.specs.Files.{AreFrames};
+ghost use Rattle.ht_capture.specs.Files.{AreCaptureFrames};
 ghost use Rattle.ht_capture_laws.specs.Items.{IsWholeFrame, frames_in, items_of_frame};
 ghost use Rattle.ht_capture_laws.specs.Written.{IsFileOf, items_each};
+ghost use Rattle.ht_fields.specs.Tests.{AreBytes};
 
 /// Each capture is the file of frames, in version 1 or 2, and of one list of frames in one version alone. So what is
 /// read of a capture can be written again, octet by octet, and whoever knows all that is written knows all captures.
@@ -27,6 +28,6 @@ pub fn each_of_frames()
 pub fn frames_of_written()
     ensures each { (frames : List CaptureFrame) → map items_of_frame (frames_in (items_of frames)) ≡ items_each 0 0 frames }
     ensures whole { (version : ℕ) (frames : List CaptureFrame)
-        → AreFrames frames → AreTyped frames → IsVersion version frames
+        → AreCaptureFrames frames → AreTyped frames → IsVersion version frames
         → All IsWholeFrame (frames_in (items_of frames)) }
 {}

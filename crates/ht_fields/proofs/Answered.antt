@@ -7,7 +7,7 @@ use Rattle.ht_io.specs.declared.faults.Kind.{Kind}
 use Rattle.ht_io.specs.declared.faults.Kind.TheVariants.{Truncated, Trailing}
 use Rattle.ht_io.specs.declared.faults.FormatFault.{FormatFault}
 use Rattle.ht_fields.specs.Grammar.{Grammar, Bad}
-use Rattle.ht_fields.specs.Cases.{IsShort, Leads, joined, Reaches, IsFile, IsClean, HasTrailing, HasFault, Case, File, Clean, Longer, Faulty, Meets}
+use Rattle.ht_fields.specs.Cases.{IsShort, Leads, octets_of_fields, Reaches, IsFile, IsClean, HasTrailing, HasFault, Case, File, Clean, Longer, Faulty, Meets}
 use Rattle.ht_fields.specs.Meanings.{Meaning, before, refused, meaning, fault_of}
 use Rattle.ht_fields.proofs.Paths.{end_stuck, one_path}
 use Rattle.ht_fields.proofs.Steps.{good_fields, whole_file, trailing_octet, early_end, bad_field}
@@ -17,7 +17,7 @@ use Rattle.ht_fields.proofs.Texts.{some_case, some_octet}
 pub reached : {S I : Type 0} (f : Grammar S I) (octets : List ℕ) (items : List I) (offset : ℕ) (state : S) (rest : List ℕ)
     → Reaches f octets items offset state rest → meaning f f.start 0 octets ≡ before items (meaning f state offset rest)
 reached f octets items offset state rest r =
-    let place : 0 + length (joined r.fields) ≡ offset = omega (arith, r.length_is) in
+    let place : 0 + length (octets_of_fields r.fields) ≡ offset = omega (arith, r.length_is) in
     ap (meaning f f.start 0) r.split
     ∙ good_fields f f.start state 0 r.fields items rest r.good
     ∙ ap (λ n. before items (meaning f state n rest)) place
@@ -34,7 +34,7 @@ met f octets items File m =
     reached f octets items m.0 m.1 [] m.2 ∙ ap (before items) (whole_file f m.1 m.0 m.3) ∙ alone items None
 met f octets items Clean m =
     let r = m.3 in
-    let all : length octets ≡ length (joined r.fields) + length m.2 = ap length r.split ∙ length-append (joined r.fields) m.2 in
+    let all : length octets ≡ length (octets_of_fields r.fields) + length m.2 = ap length r.split ∙ length-append (octets_of_fields r.fields) m.2 in
     let total : m.0 + length m.2 ≡ length octets = omega (arith, all, r.length_is) in
     reached f octets items m.0 m.1 m.2 m.3
     ∙ ap (before items) (early_end f m.1 m.0 m.2 m.4 ∙ ap (refused Truncated) total)
@@ -74,8 +74,8 @@ within : {S I : Type 0} (f : Grammar S I) (octets : List ℕ) (items : List I) (
     → HasFault f octets items kind offset → offset < length octets
 within f octets items kind offset m =
     let r = m.3 in
-    let all : length octets ≡ length (joined r.fields) + (length m.1 + length m.2) =
-    ap length r.split ∙ (length-append (joined r.fields) (m.1 ++ m.2) ∙ ap (λ n. length (joined r.fields) + n) (length-append m.1 m.2)) in
+    let all : length octets ≡ length (octets_of_fields r.fields) + (length m.1 + length m.2) =
+    ap length r.split ∙ (length-append (octets_of_fields r.fields) (m.1 ++ m.2) ∙ ap (λ n. length (octets_of_fields r.fields) + n) (length-append m.1 m.2)) in
     omega (arith, all, r.length_is, some_octet (f.due m.0) m.1 (Bad kind) m.4)
 
 same_fault : (a b : FormatFault) → Some a ≡ Some b → a ≡ b
@@ -103,7 +103,7 @@ clean_found f octets e = let w = found f octets in clean_at f octets (meaning f 
 pub file_prefix : {S I : Type 0} (f : Grammar S I) (octets more : List ℕ) (items others : List I)
     → IsFile f octets items → IsFile f (octets ++ more) others → more ≡ []
 file_prefix f octets more items others p q =
-    let front : octets ≡ joined p.2.fields = p.2.split ∙ append-nil (joined p.2.fields) in
+    let front : octets ≡ octets_of_fields p.2.fields = p.2.split ∙ append-nil (octets_of_fields p.2.fields) in
     (one_path f f.start p.1 q.1 p.2.fields q.2.fields items others more [] p.2.good q.2.good
     (end_stuck (f.due p.1) more p.3) (end_stuck (f.due q.1) [] q.3) (ap (λ (z : List ℕ). z ++ more) (sym front) ∙ q.2.split)).2
 
@@ -121,7 +121,7 @@ pub bad_stays : {S I : Type 0} (f : Grammar S I) (octets : List ℕ) (items : Li
     × ((other : List ℕ) → HasFault f (front ++ other) items kind offset)
 bad_stays f octets items kind offset m =
     let r = m.3 in
-    let front = joined r.fields in (
+    let front = octets_of_fields r.fields in (
       front ++ m.1,
       m.2,
       r.split ∙ sym (append_assoc front m.1 m.2),
@@ -134,7 +134,7 @@ pub trailing_stays : {S I : Type 0} (f : Grammar S I) (octets other : List ℕ) 
     → HasTrailing f octets items offset → HasTrailing f (take (offset + 1) octets ++ other) items offset
 trailing_stays f octets other items offset m =
     let r = m.3 in
-    let front = joined r.fields in
+    let front = octets_of_fields r.fields in
     let cut : take (offset + 1) octets ≡ front ++ (m.1 ∷ []) =
     ap (take (offset + 1)) r.split ∙ (ap (λ n. take (n + 1) (front ++ (m.1 ∷ m.2))) r.length_is ∙ take-append-add front (m.1 ∷ m.2) 1) in (
       m.0,
@@ -153,10 +153,11 @@ trailing_stays f octets other items offset m =
 -- Good fields, and then less than a field: no fault but the early end.
 pub clean_meaning : {S I : Type 0} (f : Grammar S I) (s t : S) (at : ℕ) (fields : List (List ℕ)) (items : List I) (rest : List ℕ)
     → Leads f s fields items t → IsShort (f.due t) rest
-    → meaning f s at (joined fields ++ rest)
-    ≡ record { items = items; fault = Some (record { kind = Truncated; offset = at + length (joined fields ++ rest) }) }
+    → meaning f s at (octets_of_fields fields ++ rest)
+    ≡ record { items = items; fault = Some (record { kind = Truncated; offset = at + length (octets_of_fields fields ++ rest) }) }
 clean_meaning f s t at fields items rest l short =
-    let place : (at + length (joined fields)) + length rest ≡ at + length (joined fields ++ rest) = omega (arith, length-append (joined fields) rest) in
+    let place : (at + length (octets_of_fields fields)) + length rest ≡ at + length (octets_of_fields fields ++ rest) =
+    omega (arith, length-append (octets_of_fields fields) rest) in
     good_fields f s t at fields items rest l
-    ∙ ap (before items) (early_end f t (at + length (joined fields)) rest short ∙ ap (refused Truncated) place)
-    ∙ alone items (Some (record { kind = Truncated; offset = at + length (joined fields ++ rest) }))
+    ∙ ap (before items) (early_end f t (at + length (octets_of_fields fields)) rest short ∙ ap (refused Truncated) place)
+    ∙ alone items (Some (record { kind = Truncated; offset = at + length (octets_of_fields fields ++ rest) }))

@@ -2,7 +2,7 @@
 use Rattle.std.specs.Prelude.{◌≡◌, ℕ, ◌+◌, ◌<◌, List, [], ◌∷◌, ◌++◌, length}
 use Rattle.std.proofs.Common.{refl, sym, subst, arith}
 use Rattle.ht_fields.specs.Grammar.{Grammar, Due, End, Wants, Verdict, Good}
-use Rattle.ht_fields.specs.Cases.{IsEnd, IsField, IsShort, Leads, joined, Reaches, IsClean, IsCut, CanEnd}
+use Rattle.ht_fields.specs.Cases.{IsEnd, IsField, IsShort, Leads, octets_of_fields, Reaches, IsClean, IsCut, CanEnd}
 use Rattle.ht_fields.proofs.Paths.{Leads-append, Leads-part}
 use Rattle.ht_fields.proofs.Texts.{end_not_short}
 
@@ -20,7 +20,7 @@ cut_clean f octets c =
     let p = Leads-part f f.start c.4 c.0 (c.1 ∷ c.2) c.3 c.6 in (
       p.front,
       (
-        length (joined c.0),
+        length (octets_of_fields c.0),
         p.state,
         c.5,
         record { fields = c.0; good = p.first; split = c.8; length_is = refl },

@@ -1,9 +1,14 @@
 pub mod Answered
+pub mod Choices
 pub mod Cuts
+pub mod Endings
+pub mod Halting
 pub mod Joins
 pub mod Paths
 pub mod Pieces
+pub mod Putting
 pub mod Readers
+pub mod Routes
 pub mod Steps
 pub mod Texts
 mod Values

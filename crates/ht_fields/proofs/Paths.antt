@@ -4,7 +4,7 @@ use Rattle.std.proofs.Common.{refl, ap, ◌∙◌, sym, subst, append_assoc, ari
 use Rattle.std.proofs.Math.Seq.{take-append_seam, drop-append_seam}
 use Rattle.ht_io.specs.declared.faults.Kind.{Kind}
 use Rattle.ht_fields.specs.Grammar.{Grammar, Due, End, Wants, Verdict, Good, Bad}
-use Rattle.ht_fields.specs.Cases.{IsEnd, IsField, IsShort, Leads, joined}
+use Rattle.ht_fields.specs.Cases.{IsEnd, IsField, IsShort, Leads, octets_of_fields}
 
 -- equal joins of parts of equal length have equal parts
 pub same_front : (x y xs ys : List ℕ) → length x ≡ length y → x ++ xs ≡ y ++ ys → (x ≡ y) × (xs ≡ ys)
@@ -55,16 +55,16 @@ stuck d octets (at_bad bad more kind b is) = bad_stuck d octets bad more kind b 
 
 -- Two paths of good fields over one text, which both end where no good field is in front, end in one place.
 pub one_path : {S I : Type 0} (f : Grammar S I) (s t u : S) (xs ys : List (List ℕ)) (a b : List I) (r q : List ℕ)
-    → Leads f s xs a t → Leads f s ys b u → IsStuck (f.due t) r → IsStuck (f.due u) q → joined xs ++ r ≡ joined ys ++ q
-    → (a ≡ b) × (t ≡ u) × (r ≡ q) × (joined xs ≡ joined ys)
+    → Leads f s xs a t → Leads f s ys b u → IsStuck (f.due t) r → IsStuck (f.due u) q → octets_of_fields xs ++ r ≡ octets_of_fields ys ++ q
+    → (a ≡ b) × (t ≡ u) × (r ≡ q) × (octets_of_fields xs ≡ octets_of_fields ys)
 one_path f s t u [] [] a b r q l m n k e = (l.0 ∙ sym m.0, sym l.1 ∙ m.1, e, refl)
 one_path f s t u [] (y ∷ ys) a b r q l m n k e =
-    absurd (n y (joined ys ++ q) m.0 m.1 (subst (λ z. IsField (f.due z) y (Good m.0 m.1)) l.1 m.3) (e ∙ append_assoc y (joined ys) q))
+    absurd (n y (octets_of_fields ys ++ q) m.0 m.1 (subst (λ z. IsField (f.due z) y (Good m.0 m.1)) l.1 m.3) (e ∙ append_assoc y (octets_of_fields ys) q))
 one_path f s t u (x ∷ xs) [] a b r q l m n k e =
-    absurd (k x (joined xs ++ r) l.0 l.1 (subst (λ z. IsField (f.due z) x (Good l.0 l.1)) m.1 l.3) (sym e ∙ append_assoc x (joined xs) r))
+    absurd (k x (octets_of_fields xs ++ r) l.0 l.1 (subst (λ z. IsField (f.due z) x (Good l.0 l.1)) m.1 l.3) (sym e ∙ append_assoc x (octets_of_fields xs) r))
 one_path {S = S} {I = I} f s t u (x ∷ xs) (y ∷ ys) a b r q l m n k e =
-    let same = same_field (f.due s) x y (joined xs ++ r) (joined ys ++ q) (Good l.0 l.1) (Good m.0 m.1) l.3 m.3
-    (sym (append_assoc x (joined xs) r) ∙ (e ∙ append_assoc y (joined ys) q)) in
+    let same = same_field (f.due s) x y (octets_of_fields xs ++ r) (octets_of_fields ys ++ q) (Good l.0 l.1) (Good m.0 m.1) l.3 m.3
+    (sym (append_assoc x (octets_of_fields xs) r) ∙ (e ∙ append_assoc y (octets_of_fields ys) q)) in
     let verdict : Good l.0 l.1 ≡ Good m.0 m.1 = same.2 in
     let next : m.0 ≡ l.0 = cc in
     let here : l.1 ≡ m.1 = cc in
@@ -72,12 +72,12 @@ one_path {S = S} {I = I} f s t u (x ∷ xs) (y ∷ ys) a b r q l m n k e =
       l.5 ∙ (ap (λ (z : List I). z ++ l.2) here ∙ (ap (λ (z : List I). m.1 ++ z) rest.0 ∙ sym m.5)),
       rest.1,
       rest.2,
-      ap (λ (z : List ℕ). z ++ joined xs) same.0 ∙ ap (λ (z : List ℕ). y ++ z) rest.3,
+      ap (λ (z : List ℕ). z ++ octets_of_fields xs) same.0 ∙ ap (λ (z : List ℕ). y ++ z) rest.3,
     )
 
-pub joined-append : (xs ys : List (List ℕ)) → joined (xs ++ ys) ≡ joined xs ++ joined ys
+pub joined-append : (xs ys : List (List ℕ)) → octets_of_fields (xs ++ ys) ≡ octets_of_fields xs ++ octets_of_fields ys
 joined-append [] ys = refl
-joined-append (x ∷ xs) ys = ap (λ (z : List ℕ). x ++ z) (joined-append xs ys) ∙ sym (append_assoc x (joined xs) (joined ys))
+joined-append (x ∷ xs) ys = ap (λ (z : List ℕ). x ++ z) (joined-append xs ys) ∙ sym (append_assoc x (octets_of_fields xs) (octets_of_fields ys))
 
 -- Good fields, and more good fields.
 pub Leads-append : {S I : Type 0} (f : Grammar S I) (s t u : S) (xs ys : List (List ℕ)) (a b : List I)

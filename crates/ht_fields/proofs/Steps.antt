@@ -4,7 +4,7 @@ use Rattle.std.proofs.Common.{refl, ap, ◌∙◌, sym, append_assoc, arith, len
 use Rattle.ht_io.specs.declared.faults.Kind.{Kind}
 use Rattle.ht_io.specs.declared.faults.Kind.TheVariants.{Truncated, Trailing}
 use Rattle.ht_fields.specs.Grammar.{Grammar, Due, End, Wants, Verdict, Good, Bad}
-use Rattle.ht_fields.specs.Cases.{IsEnd, IsField, IsShort, Leads, joined}
+use Rattle.ht_fields.specs.Cases.{IsEnd, IsField, IsShort, Leads, octets_of_fields}
 use Rattle.ht_fields.specs.Meanings.{Meaning, before, ended, refused, judged, meaning_of, meaning}
 
 -- a field that is whole is judged
@@ -83,7 +83,7 @@ before-before {I = I} a b m = ap (λ (z : List I). record { items = z; fault = m
 
 -- Good fields: their items, and then what the rest means.
 pub good_fields : {S I : Type 0} (f : Grammar S I) (s t : S) (at : ℕ) (fields : List (List ℕ)) (items : List I) (rest : List ℕ)
-    → Leads f s fields items t → meaning f s at (joined fields ++ rest) ≡ before items (meaning f t (at + length (joined fields)) rest)
+    → Leads f s fields items t → meaning f s at (octets_of_fields fields ++ rest) ≡ before items (meaning f t (at + length (octets_of_fields fields)) rest)
 good_fields f s t at [] items rest l =
     let place : at ≡ at + 0 = omega arith in
     ap (λ u. meaning f u at rest) l.1 ∙ ap (λ n. meaning f t n rest) place ∙ ap (λ z. before z (meaning f t (at + 0) rest)) (sym l.0)
@@ -91,10 +91,11 @@ good_fields f s t at (x ∷ xs) items rest l =
     let next = l.0 in
     let here = l.1 in
     let later = l.2 in
-    let place : (at + length x) + length (joined xs) ≡ at + length (x ++ joined xs) = omega (arith, length-append x (joined xs)) in
-    ap (meaning f s at) (append_assoc x (joined xs) rest)
-    ∙ good_field f s next at x here (joined xs ++ rest) l.3
+    let place : (at + length x) + length (octets_of_fields xs) ≡ at + length (x ++ octets_of_fields xs) =
+    omega (arith, length-append x (octets_of_fields xs)) in
+    ap (meaning f s at) (append_assoc x (octets_of_fields xs) rest)
+    ∙ good_field f s next at x here (octets_of_fields xs ++ rest) l.3
     ∙ ap (before here) (good_fields f next t (at + length x) xs later rest l.4)
-    ∙ before-before here later (meaning f t ((at + length x) + length (joined xs)) rest)
-    ∙ ap (λ z. before z (meaning f t ((at + length x) + length (joined xs)) rest)) (sym l.5)
+    ∙ before-before here later (meaning f t ((at + length x) + length (octets_of_fields xs)) rest)
+    ∙ ap (λ z. before z (meaning f t ((at + length x) + length (octets_of_fields xs)) rest)) (sym l.5)
     ∙ ap (λ n. before items (meaning f t n rest)) place

@@ -4,7 +4,7 @@ use Rattle.std.proofs.Common.{refl, ap, ◌∙◌, sym, subst, inl, inr, append_
 use Rattle.std.proofs.lemmas.Bool.{cases_lt}
 use Rattle.std.proofs.lemmas.List.{take-append-drop, length-take-le}
 use Rattle.ht_fields.specs.Grammar.{Grammar, Due, End, Wants, Verdict, Good, Bad}
-use Rattle.ht_fields.specs.Cases.{IsEnd, IsField, IsShort, Leads, joined, Reaches, Case, File, Clean, Longer, Faulty, Meets}
+use Rattle.ht_fields.specs.Cases.{IsEnd, IsField, IsShort, Leads, octets_of_fields, Reaches, Case, File, Clean, Longer, Faulty, Meets}
 use Rattle.ht_fields.proofs.Paths.{Stop, at_end, at_short, at_bad, stuck, one_path, same_field}
 
 -- a good field in front of the octets
@@ -52,7 +52,7 @@ record Path {S I : Type 0} (f : Grammar S I) (s : S) (octets : List ℕ) : Type 
   state : S
   rest : List ℕ
   good : Leads f s fields items state
-  split : octets ≡ joined fields ++ rest
+  split : octets ≡ octets_of_fields fields ++ rest
   stop : Stop (f.due state) rest
 
 path_of : {S I : Type 0} (f : Grammar S I) (n : ℕ) (s : S) (octets : List ℕ) → length octets < n → Path f s octets
@@ -68,7 +68,7 @@ path_of f (suc n) s octets few =
             state = path.state;
             rest = path.rest;
             good = (w.next, w.here, path.items, w.good, path.good, refl);
-            split = w.split ∙ (ap (λ z. w.x ++ z) path.split ∙ sym (append_assoc w.x (joined path.fields) path.rest));
+            split = w.split ∙ (ap (λ z. w.x ++ z) path.split ∙ sym (append_assoc w.x (octets_of_fields path.fields) path.rest));
             stop = path.stop;
           }
     ]
@@ -85,9 +85,9 @@ case_at f octets items offset state rest r (at_bad bad more kind b is) =
 pub some_case : {S I : Type 0} (f : Grammar S I) (octets : List ℕ) → (items : List I) × (case : Case) × Meets f octets items case
 some_case f octets =
     let p = path_of f (length octets + 1) f.start octets (omega arith) in
-    let r : Reaches f octets p.items (length (joined p.fields)) p.state p.rest =
+    let r : Reaches f octets p.items (length (octets_of_fields p.fields)) p.state p.rest =
     record { fields = p.fields; good = p.good; split = p.split; length_is = refl } in
-    let found = case_at f octets p.items (length (joined p.fields)) p.state p.rest r p.stop in
+    let found = case_at f octets p.items (length (octets_of_fields p.fields)) p.state p.rest r p.stop in
     (p.items, found.0, found.1)
 
 -- what a case says of the state and the octets that are left

@@ -19,9 +19,9 @@ IsShort End octets = ⊥
 IsShort (Wants beyond judge) octets = length octets < beyond + 1
 
 -- the octets of fields, one after another
-abbrev pub joined : List (List ℕ) → List ℕ
-joined [] = []
-joined (x ∷ xs) = x ++ joined xs
+abbrev pub octets_of_fields : List (List ℕ) → List ℕ
+octets_of_fields [] = []
+octets_of_fields (x ∷ xs) = x ++ octets_of_fields xs
 
 -- good fields lead from one state to another, and give these items
 abbrev pub Leads : {S I : Type 0} → Grammar S I → S → List (List ℕ) → List I → S → Type 0
@@ -34,8 +34,8 @@ Leads f s (x ∷ xs) items t =
 pub record Reaches {S I : Type 0} (f : Grammar S I) (octets : List ℕ) (items : List I) (offset : ℕ) (state : S) (rest : List ℕ) : Type 0 where
   pub fields : List (List ℕ)
   pub good : Leads f f.start fields items state
-  pub split : octets ≡ joined fields ++ rest
-  pub length_is : offset ≡ length (joined fields)
+  pub split : octets ≡ octets_of_fields fields ++ rest
+  pub length_is : offset ≡ length (octets_of_fields fields)
 
 -- the octets are a file with these items
 abbrev pub IsFile : {S I : Type 0} → Grammar S I → List ℕ → List I → Type 0
@@ -76,7 +76,7 @@ abbrev pub IsCut : {S I : Type 0} → Grammar S I → List ℕ → Type 0
 IsCut f octets =
     (fields : List (List ℕ)) × (cut : List ℕ) × (behind : List (List ℕ)) × (items : List _) × (state : _) × (rest : List ℕ)
     × Leads f f.start (fields ++ cut ∷ behind) items state × IsEnd (f.due state)
-    × (octets ≡ joined fields ++ rest) × (length rest < length cut)
+    × (octets ≡ octets_of_fields fields ++ rest) × (length rest < length cut)
 
 -- wherever good fields lead, more good fields lead to the end of a file
 abbrev pub CanEnd : {S I : Type 0} → Grammar S I → Type 0

@@ -3,7 +3,7 @@ ghost use Rattle.std.specs.Prelude.{◌≡◌, ◌+◌, ◌<◌, ◌++◌, [], �
 ghost use Rattle.ht_io.specs.declared.faults.Kind.{Kind};
 ghost use Rattle.ht_io.specs.declared.faults.Kind.TheVariants.{Truncated, Trailing};
 ghost use Rattle.ht_fields.specs.Grammar.{Grammar, Good, Bad};
-ghost use Rattle.ht_fields.specs.Cases.{Case, Meets, IsFile, IsClean, HasTrailing, HasFault, IsEnd, IsField, IsShort, IsCut, CanEnd, Leads, joined};
+ghost use Rattle.ht_fields.specs.Cases.{Case, Meets, IsFile, IsClean, HasTrailing, HasFault, IsEnd, IsField, IsShort, IsCut, CanEnd, Leads, octets_of_fields};
 ghost use Rattle.ht_fields.specs.Meanings.{meaning, before, ended, refused, fault_of};
 
 /// Each list of octets meets exactly one of the four cases, with one list of items.
@@ -59,8 +59,8 @@ pub fn fields_first<S, I>()
     ensures many { (f : Grammar S I) (s t : S) (at : ℕ)
         (fields : List (List ℕ)) (items : List I) (rest : List ℕ)
         → Leads f s fields items t
-        → meaning f s at (joined fields ++ rest)
-        ≡ before items (meaning f t (at + length (joined fields)) rest) }
+        → meaning f s at (octets_of_fields fields ++ rest)
+        ≡ before items (meaning f t (at + length (octets_of_fields fields)) rest) }
     ensures one { (f : Grammar S I) (s t : S) (at : ℕ) (x : List ℕ) (items : List I) (rest : List ℕ)
         → IsField (f.due s) x (Good t items)
         → meaning f s at (x ++ rest) ≡ before items (meaning f t (at + length x) rest) }
@@ -83,9 +83,9 @@ pub fn clean<S, I>()
     ensures { (f : Grammar S I) (s t : S) (at : ℕ)
         (fields : List (List ℕ)) (items : List I) (rest : List ℕ)
         → Leads f s fields items t → IsShort (f.due t) rest
-        → meaning f s at (joined fields ++ rest) ≡ record {
+        → meaning f s at (octets_of_fields fields ++ rest) ≡ record {
           items = items;
-          fault = Some (record { kind = Truncated; offset = at + length (joined fields ++ rest) });
+          fault = Some (record { kind = Truncated; offset = at + length (octets_of_fields fields ++ rest) });
         } }
 {}
 

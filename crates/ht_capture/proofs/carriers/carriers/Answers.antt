@@ -5,9 +5,9 @@ use Rattle.ht_rate.specs.declared.rates.Rate.{Rate}
 use Rattle.ht_rate.specs.Rates.{carriers_of}
 use Rattle.ht_fields.proofs.Joins.{gives_more}
 use Rattle.ht_capture.specs.Reading.{AreSeen}
-use Rattle.ht_capture.proofs.Halting.{gives_halts}
 use Rattle.ht_capture.proofs.Gathering.{read_none, read_more, read_end}
 use Rattle.ht_capture.proofs.Turns.{carriers_first, carriers_so_far, carriers_over}
+use Rattle.ht_fields.proofs.Halting.{gives_halts}
 use Rattle.ht_capture.proofs.carriers.carriers.Goals as goal
 
 pub loop-index-init : goal.loop-index-init

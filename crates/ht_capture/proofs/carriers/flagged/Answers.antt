@@ -5,8 +5,8 @@ use Rattle.ht_fields.proofs.Joins.{gives_more}
 use Rattle.ht_capture.specs.declared.items.FrameHead.{FrameHead}
 use Rattle.ht_capture.specs.Fields.{Flag, carriers_due, head_given}
 use Rattle.ht_capture.specs.Reading.{here}
-use Rattle.ht_capture.proofs.Halting.{gives_halts}
 use Rattle.ht_capture.proofs.Turns.{same_erased, flagged_true, flagged_false}
+use Rattle.ht_fields.proofs.Halting.{gives_halts}
 use Rattle.ht_capture.proofs.carriers.flagged.Goals as goal
 
 pub returns-in-Ok-true-clause-told : goal.returns-in-Ok-true-clause-told

@@ -1,7 +1,8 @@
 use Rattle.std.proofs.Common.{◌≡◌, ◌≤◌, ◌+◌, ℕ, subst, true, false, ◌∙◌, [], ◌∷◌, refl, sym, ap, arith, length}
+use Rattle.ht_fields.proofs.Halting.{lacks_halts}
 use Rattle.ht_capture.proofs.Halting.{bad_halts, good_gives}
 use Rattle.ht_io.specs.declared.faults.Kind.TheVariants.{BadErased}
-use Rattle.ht_capture.specs.Fields.{Flag, Triangle, carriers_due, head_given, bad_flag}
+use Rattle.ht_capture.specs.Fields.{Flag, Triangle, captures, carriers_due, head_given, bad_flag}
 use Rattle.ht_capture.specs.Frames.{erase}
 use Rattle.ht_io.specs.Devices.{Takes}
 use Rattle.ht_capture.proofs.Encoded.{only_one}
@@ -36,7 +37,8 @@ pub returns-else-is_refused-clause-some : goal.returns-else-is_refused-clause-so
 returns-else-is_refused-clause-some g c = λ ok last. some_left c.args.head.now c.args.carrier c.args.count c.in-Ok.flag c.if-is_refused.ensures last
 
 pub returns-in-Err-clause-told : goal.returns-in-Err-clause-told
-returns-in-Err-clause-told g c = λ turn present e. c.in-Err.ensures.stopped (Flag turn c.args.head.now c.args.carrier present) refl
+returns-in-Err-clause-told g c = λ turn present e.
+    lacks_halts captures (Flag turn c.args.head.now c.args.carrier present) c.args.at 1 _ _ c.in-Err.fault refl c.in-Err.ensures.lacking
 
 pub returns-else-is_refused-clause-octets : goal.returns-else-is_refused-clause-octets
 returns-else-is_refused-clause-octets g c =

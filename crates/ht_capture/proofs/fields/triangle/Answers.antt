@@ -1,9 +1,10 @@
 use Rattle.std.proofs.Common.{◌≡◌, ◌≤◌, ◌+◌, ◌++◌, ◌∙◌, ℕ, List, subst, [], ◌∷◌, sym, ap, arith, length}
+use Rattle.ht_fields.proofs.Halting.{lacks_halts}
 use Rattle.ht_capture.proofs.Halting.{good_gives}
 use Rattle.std.proofs.lemmas.List.{length-take}
 use Rattle.ht_rate.specs.Rates.{streams_of}
 use Rattle.ht_capture.specs.Systems.{triangle_of, triangle_octets}
-use Rattle.ht_capture.specs.Fields.{Triangle, carriers_due, head_given}
+use Rattle.ht_capture.specs.Fields.{Triangle, captures, carriers_due, head_given}
 use Rattle.ht_capture.proofs.Judges.{good_triangle}
 use Rattle.ht_io.specs.Devices.{Takes}
 use Rattle.ht_capture.specs.Files.{legs_octets}
@@ -53,7 +54,8 @@ returns-in-Err-clause-told g c = λ turn head carrier present same.
     let width : length into ≡ triangle_octets (streams_of rate) =
     wide ∙ (c.triangle_width-width.ensures.value ∙ ap (λ n. triangle_octets n) c.streams-streams.ensures.value) in
     let some : 2 ≤ length into = omega (arith, wide, c.triangle_width-width.ensures.low) in
-    c.in-Err.ensures.stopped (Triangle turn head carrier present) (asks_legs (length into) head.rate rate width same some)
+    lacks_halts captures (Triangle turn head carrier present) c.args.at (length into) _ _ c.in-Err.fault
+    (asks_legs (length into) head.rate rate width same some) c.in-Err.ensures.lacking
 
 pub returns-in-Ok-clause-octets : goal.returns-in-Ok-clause-octets
 returns-in-Ok-clause-octets g c =

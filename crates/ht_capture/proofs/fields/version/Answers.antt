@@ -1,7 +1,8 @@
 use Rattle.std.proofs.Common.{◌+◌, [], ◌∷◌, refl, sym}
+use Rattle.ht_fields.proofs.Halting.{lacks_halts}
 use Rattle.ht_capture.proofs.Halting.{bad_halts, good_gives}
 use Rattle.ht_io.specs.declared.faults.Kind.TheVariants.{BadVersion}
-use Rattle.ht_capture.specs.Fields.{Version, Count}
+use Rattle.ht_capture.specs.Fields.{Version, Count, captures}
 use Rattle.ht_capture.proofs.Judges.{good_version, bad_version}
 use Rattle.ht_capture.proofs.fields.version.Goals as goal
 
@@ -16,4 +17,4 @@ returns-else-is_known-clause-told g c =
     (refl, bad_version c.in-Ok.version (sym c.if-is_known.ensures)) (λ e. cc, λ e. cc) c.in-Ok.ensures.whole c.bad.ensures
 
 pub returns-in-Err-clause-told : goal.returns-in-Err-clause-told
-returns-in-Err-clause-told g c = c.in-Err.ensures.stopped Version refl
+returns-in-Err-clause-told g c = lacks_halts captures Version c.args.at 1 _ _ c.in-Err.fault refl c.in-Err.ensures.lacking

@@ -3,7 +3,7 @@ use Rattle.ht_io.proofs.Calls.{later-later}
 use Rattle.ht_io.specs.Devices.{IsLater}
 use Rattle.ht_fields.proofs.Joins.{gives_more}
 use Rattle.ht_capture.proofs.Octets.{takes_start}
-use Rattle.ht_capture.proofs.Halting.{gives_halts}
+use Rattle.ht_fields.proofs.Halting.{gives_halts}
 use Rattle.ht_capture.proofs.heads.start.Goals as goal
 
 pub returns-in-Err-version-clause-told : goal.returns-in-Err-version-clause-told

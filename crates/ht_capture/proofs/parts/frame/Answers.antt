@@ -3,8 +3,8 @@ use Rattle.ht_fields.proofs.Joins.{gives_more}
 use Rattle.ht_rate.specs.declared.rates.Rate.{Rate}
 use Rattle.ht_rate.specs.Rates.{carriers_of}
 use Rattle.ht_capture.proofs.Bounds.{jobs_few}
-use Rattle.ht_capture.proofs.Halting.{gives_halts}
 use Rattle.ht_capture.proofs.Turns.{symbol_made}
+use Rattle.ht_fields.proofs.Halting.{gives_halts}
 use Rattle.ht_capture.proofs.parts.frame.Goals as goal
 
 pub returns-in-Err-clause-told : goal.returns-in-Err-clause-told

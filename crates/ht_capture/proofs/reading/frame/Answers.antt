@@ -4,11 +4,12 @@ use Rattle.ht_metric.specs.Rows.{Leg}
 use Rattle.ht_metric.specs.declared.sample.Sample.{Sample}
 use Rattle.ht_capture.specs.Files.{sample_octets}
 use Rattle.ht_capture.proofs.Octets.{takes_as}
-use Rattle.ht_capture.specs.Fields.{frame_due}
+use Rattle.ht_capture.specs.Fields.{turn_due}
 use Rattle.ht_capture.specs.Taking.{triangles_of}
-use Rattle.ht_capture.proofs.Endings.{given_ends, given_more, given_to, halts_ends}
+use Rattle.ht_capture.proofs.Endings.{given_to}
 use Rattle.ht_capture.proofs.Framed.{frame_fits, frame_taken, length-triangles, read_as, turn_is}
 use Rattle.ht_capture.proofs.Turns.{symbol_made}
+use Rattle.ht_fields.proofs.Endings.{given_ends, given_more, halts_ends}
 use Rattle.ht_capture.proofs.reading.frame.Goals as goal
 
 pub returns-in-Err-carriers-clause-told : goal.returns-in-Err-carriers-clause-told
@@ -25,7 +26,7 @@ returns-in-Err-samples-clause-told g c =
 
 pub returns-clause-told : goal.returns-clause-told
 returns-clause-told g c =
-    given_to _ _ _ _ _ (ap frame_due (sym (turn_is c.samples.new.due.turn c.args.turn.now c.in-Ok-samples.ensures.turn)))
+    given_to _ _ _ _ _ (ap turn_due (sym (turn_is c.samples.new.due.turn c.args.turn.now c.in-Ok-samples.ensures.turn)))
     (given_more _ _ _ (given_more _ _ _ (_, c.in-Ok.ensures.told)
     (_, symbol_made _ _ _ _ c.symbols.result _ _ _ _ c.symbols.ensures.value c.in-Ok-carriers.ensures.told))
     (c.in-Ok-samples.ensures.told (take c.in-Ok-carriers.gathered.count c.carriers.new.present)))

@@ -3,8 +3,9 @@ use Rattle.ht_io.proofs.Calls.{later-later}
 use Rattle.std.proofs.lemmas.List.{length_push}
 use Rattle.ht_capture.specs.declared.frames.CaptureFrame.{CaptureFrame}
 use Rattle.ht_capture.proofs.Turns.{over_is}
-use Rattle.ht_capture.proofs.Endings.{given_ends, given_more, given_to, halts_ends}
+use Rattle.ht_capture.proofs.Endings.{given_to}
 use Rattle.ht_capture.proofs.Framed.{so_far_file, so_far_more, so_far_none}
+use Rattle.ht_fields.proofs.Endings.{given_ends, given_more, halts_ends}
 use Rattle.ht_capture.proofs.reading.read_captures.Goals as goal
 
 pub loop-index-init : goal.loop-index-init

@@ -9,7 +9,8 @@ use Rattle.ht_capture.specs.Fields.{symbol_due}
 use Rattle.ht_capture.specs.Files.{sample_octets}
 use Rattle.ht_capture.specs.Contents.{AreSamples}
 use Rattle.ht_capture.proofs.Octets.{takes_as}
-use Rattle.ht_capture.proofs.Endings.{adding, frame_is_due, given_ends, given_more, given_none, given_to, is_next, symbol_is_due}
+use Rattle.ht_capture.proofs.Endings.{adding, frame_is_due, given_to, is_next, symbol_is_due}
+use Rattle.ht_fields.proofs.Endings.{given_ends, given_more, given_none}
 use Rattle.ht_capture.proofs.reading.samples.Goals as goal
 
 pub loop-due-init : goal.loop-due-init

@@ -6,14 +6,15 @@ use Rattle.ht_capture.specs.Fields.{Symbol, symbol_due}
 use Rattle.ht_capture.specs.Files.{sample_octets}
 use Rattle.ht_capture.specs.Contents.{AreSamples}
 use Rattle.ht_capture.specs.Reading.{here}
-use Rattle.ht_capture.specs.Taking.{Given, SameTurn}
+use Rattle.ht_capture.specs.Taking.{SameTurn}
+use Rattle.ht_fields.specs.WholeFiles.{GivesFields}
 use Rattle.ht_capture.proofs.reading.samples.Given as goal
 
 -- so many symbols were read
 abbrev pub invariant-loop-due : goal.invariant-loop-due
 invariant-loop-due g l = record {
   told : (present : List Present)
-      → Given (here (Symbol l.fn.due present) l.fn.at (g.S.Source.shown l.fn.source)) (here (symbol_due l.due present) l.at (g.S.Source.shown l.source));
+      → GivesFields (here (Symbol l.fn.due present) l.fn.at (g.S.Source.shown l.fn.source)) (here (symbol_due l.due present) l.at (g.S.Source.shown l.source));
   octets : Takes (g.S.Source.shown l.fn.source) (g.S.Source.shown l.source) (flat_map sample_octets l.samples.items);
   typed : AreSamples l.samples.items;
   count : length l.samples.items ≡ l.due.symbol * (l.fn.due.count * streams_of l.fn.due.head.rate);

@@ -1,5 +1,6 @@
 use Rattle.std.proofs.Common.{◌∙◌}
-use Rattle.ht_capture.proofs.Written.{on_err_then, behind_front}
+use Rattle.ht_fields.proofs.Putting.{on_err_then}
+use Rattle.ht_capture.proofs.Written.{behind_front}
 use Rattle.ht_capture.proofs.writing.put_frame.Goals as goal
 
 pub returns-clause-part : goal.returns-clause-part

@@ -2,12 +2,13 @@ use Rattle.std.proofs.Common.{◌≡◌, ◌++◌, List, [], flat_map, take, ref
 use Rattle.ht_io.proofs.Calls.{later-refl, later-later, failed-later}
 use Rattle.ht_io.proofs.Pieces.{grown-none}
 use Rattle.ht_metric.specs.declared.sample.Sample.{Sample}
+use Rattle.ht_fields.proofs.Putting.{on_err}
 use Rattle.ht_capture.specs.Files.{sample_octets}
-use Rattle.ht_capture.proofs.Written.{on_err, samples_split, piece_more, grows_piece, part_more}
+use Rattle.ht_capture.proofs.Written.{samples_split, piece_more, grows_piece, part_more}
 use Rattle.ht_capture.proofs.writing.put_samples.Goals as goal
 
 pub loop-rest-init : goal.loop-rest-init
-loop-rest-init g c = record { put = ([], refl, grown-none _); later = later-refl _ }
+loop-rest-init g c = record { put = ([], refl, grown-none _); later = later-refl _; steady = refl }
 
 pub returns-in_err-put-clause-part : goal.returns-in_err-put-clause-part
 returns-in_err-put-clause-part g c =
@@ -36,4 +37,5 @@ loop-rest-preserved g c =
     record {
       put = (_, piece_more so_far.0 _ _ _ _ behind so_far.1, grows_piece _ _ _ so_far.0 _ _ so_far.2 c.in_ok-put.ensures.grown put);
       later = later-later _ _ _ c.loop-rest.invariant.later c.in_ok-put.ensures.later;
+      steady = c.in_ok-put.ensures.steady ∙ c.loop-rest.invariant.steady;
     }

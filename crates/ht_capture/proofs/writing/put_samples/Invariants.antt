@@ -9,6 +9,7 @@ invariant-loop-rest g l = record {
   put : (front : List ℕ) × (front ++ flat_map sample_octets l.rest ≡ flat_map sample_octets l.samples)
       × Grows (g.K.Sink.shown l.fn.sink) (g.K.Sink.shown l.sink) front;
   later : IsLater (g.K.Sink.shown l.fn.sink) (g.K.Sink.shown l.sink);
+  steady : (g.K.Sink.shown l.sink).faults ≡ (g.K.Sink.shown l.fn.sink).faults;
 }
 
 abbrev pub decreases-loop-rest : goal.decreases-loop-rest

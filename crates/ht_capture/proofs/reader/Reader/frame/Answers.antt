@@ -2,10 +2,11 @@ use Rattle.std.proofs.Common.{◌≡◌, ◌++◌, List, length, take, drop, sym
 use Rattle.ht_capture.specs.declared.places.Present.{Present}
 use Rattle.ht_capture.specs.declared.stage.Stage.{Stage}
 use Rattle.ht_capture.specs.declared.stage.Stage.TheVariants.{NextFrame}
-use Rattle.ht_capture.specs.Fields.{Over, frame_due}
+use Rattle.ht_capture.specs.Fields.{Over, turn_due}
 use Rattle.ht_capture.specs.Readers.{StageFits, TurnFits}
 use Rattle.ht_capture.proofs.Grids.{written-all}
-use Rattle.ht_capture.proofs.Turns.{completes_over, halts_as, halts_from, over_is}
+use Rattle.ht_capture.proofs.Turns.{completes_over, halts_from, over_is}
+use Rattle.ht_fields.proofs.Halting.{halts_as}
 use Rattle.ht_capture.proofs.reader.Reader.frame.Goals as goal
 
 pub invariant_of-self-in-Err-frame : goal.invariant_of-self-in-Err-frame
@@ -28,4 +29,4 @@ returns-in-Ok-clause-told g c = rw (← c.self.view_is) (completes_over c.args.t
 pub returns-in-Err-clause-told : goal.returns-in-Err-clause-told
 returns-in-Err-clause-told g c =
     rw (← c.self.view_is) (halts_as _ _ c.in-Err.fault c.stop.result c.stop.ensures.same
-    (halts_from (frame_due c.args.turn) Over c.self.inside.at _ _ c.in-Err.fault (over_is c.args.turn c.if-turn-eq0.true) c.in-Err.ensures.told))
+    (halts_from (turn_due c.args.turn) Over c.self.inside.at _ _ c.in-Err.fault (over_is c.args.turn c.if-turn-eq0.true) c.in-Err.ensures.told))

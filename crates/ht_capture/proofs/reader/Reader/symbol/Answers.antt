@@ -2,7 +2,8 @@ use Rattle.std.proofs.Common.{◌≡◌, length, take, sym, ap, ◌∙◌, arith
 use Rattle.ht_capture.specs.Readers.{symbol_octets}
 use Rattle.ht_capture.proofs.Grids.{written-all}
 use Rattle.ht_capture.proofs.Symbols.{gives_read}
-use Rattle.ht_capture.proofs.Turns.{halts_as, halts_real}
+use Rattle.ht_capture.proofs.Turns.{halts_real}
+use Rattle.ht_fields.proofs.Halting.{halts_as}
 use Rattle.ht_capture.proofs.reader.Reader.symbol.Goals as goal
 
 pub stop-requires : goal.stop-requires
