@@ -1,5 +1,6 @@
-pub mod Choices
-pub mod Endings
-pub mod Routes
-pub mod Frames
+pub mod HeadRoutes
+pub mod FrameRoutes
+pub mod Levels
+pub mod PointRoutes
+pub mod Walks
 pub mod Putting

@@ -1,5 +1,6 @@
-pub mod Reading
-pub mod Ending
-pub mod Heads
+pub mod Headed
 pub mod Frames
 pub mod Files
+pub mod Places
+pub mod Points
+pub mod SymbolFiles

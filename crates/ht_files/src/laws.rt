@@ -1,9 +1,12 @@
-//! What holds of files of frames.
+//! What holds of files of frames and of files of symbols.
 ghost use Rattle.std.specs.Prelude.{◌≡◌, ℕ, List, [], ◌++◌};
 ghost use Rattle.ht_fields.specs.Cases.{IsFile};
 ghost use Rattle.ht_tx.specs.Frames.{FrameView};
 ghost use Rattle.ht_files.specs.Frames.{frames as frames_format};
-ghost use Rattle.ht_files.specs.Files.{AreFrames, file_of};
+ghost use Rattle.ht_files.specs.Files.{AreFrames, frames_file_of};
+ghost use Rattle.ht_files.specs.Points.{symbols as symbols_format};
+ghost use Rattle.ht_files.specs.SymbolFiles.{AreSymbolFrames, symbols_file_of};
+ghost use Rattle.ht_tx.specs.Symbols.{SymbolsView};
 
 /// No file is a prefix of another, and equal files have equal frames.
 pub fn no_prefix()
@@ -15,10 +18,29 @@ pub fn no_prefix()
 
 /// The file written of frames is a file, and holds these frames.
 pub fn written()
-    ensures { (frames : List FrameView) → AreFrames frames → IsFile frames_format (file_of frames) frames }
+    ensures { (frames : List FrameView) → AreFrames frames → IsFile frames_format (frames_file_of frames) frames }
 {}
 
 /// Frames of which the same file is written are the same: what is read of a file that was written are its frames.
 pub fn read_back()
-    ensures { (frames others : List FrameView) → AreFrames frames → AreFrames others → file_of frames ≡ file_of others → frames ≡ others }
+    ensures { (frames others : List FrameView) → AreFrames frames → AreFrames others → frames_file_of frames ≡ frames_file_of others → frames ≡ others }
+{}
+
+/// No file of symbols is a prefix of another, and equal files have equal symbols.
+pub fn no_symbols_prefix()
+    ensures prefix { (octets more : List ℕ) (frames others : List SymbolsView)
+        → IsFile symbols_format octets frames → IsFile symbols_format (octets ++ more) others → more ≡ [] }
+    ensures equal { (octets : List ℕ) (frames others : List SymbolsView)
+        → IsFile symbols_format octets frames → IsFile symbols_format octets others → frames ≡ others }
+{}
+
+/// The file written of symbols is a file, and holds these symbols.
+pub fn symbols_written()
+    ensures { (frames : List SymbolsView) → AreSymbolFrames frames → IsFile symbols_format (symbols_file_of frames) frames }
+{}
+
+/// Symbols of which the same file is written are the same: what is read of a file that was written are its symbols.
+pub fn symbols_read_back()
+    ensures { (frames others : List SymbolsView) → AreSymbolFrames frames → AreSymbolFrames others
+        → symbols_file_of frames ≡ symbols_file_of others → frames ≡ others }
 {}

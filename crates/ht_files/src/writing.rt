@@ -1,45 +1,29 @@
-//! Files of frames as they are written.
-ghost use Rattle.std.specs.Prelude.{◌≡◌, ◌≤◌, ◌++◌, [], ◌∷◌, length, OnOk, OnErr};
+//! Files of frames and of symbols as they are written.
+ghost use Rattle.std.specs.Prelude.{◌≡◌, ◌≤◌, ◌++◌, [], ◌∷◌, length, flat_map, OnOk, OnErr};
 ghost use Rattle.ht_io.specs.Devices.{Grows, GrowsByPart, Rose, IsLater};
-ghost use Rattle.ht_rate.specs.Schemes.{bandwidth_code};
-ghost use Rattle.ht_files.specs.Heads.{head_octets, start_octets};
-ghost use Rattle.ht_files.specs.Frames.{magic};
-ghost use Rattle.ht_files.specs.Files.{file_of, frame_octets};
+ghost use Rattle.ht_heads.specs.Heads.{head_octets};
+ghost use Rattle.ht_files.specs.Files.{frames_file_of, frame_octets};
+ghost use Rattle.ht_files.specs.Points.{point_octets};
+ghost use Rattle.ht_files.specs.SymbolFiles.{symbols_file_of, symbols_octets};
 
+use ht_heads::{head_of, start_of};
 use ht_io::{Failed, Sink};
-use ht_rate::Bandwidth;
-use ht_tx::Frame;
-
-// The code of a bandwidth.
-fn code(bandwidth: Bandwidth) -> u8
-    ensures { result ≡ bandwidth_code bandwidth }
-{
-    match bandwidth {
-        Bandwidth::Mhz20 => 0,
-        Bandwidth::Mhz40 => 1,
-    }
-}
+use ht_pam::Point;
+use ht_tx::{Frame, Symbols};
 
 // What stands in front of the octets of a frame's PSDU.
-#[tactic(auto, unfolding(crate::specs::Heads::head_octets))]
 fn front(frame: &Frame) -> [u8; 5]
     ensures { result ≡ head_octets frame.now.rate (length frame.now.octets) ++ (frame.now.seed ∷ []) }
 {
-    let length = (frame.octets().len() as u16).to_be_bytes();
-    let code = code(frame.rate().bandwidth());
-    [
-        code,
-        frame.rate().mcs(),
-        length[0],
-        length[1],
-        frame.seed().value(),
-    ]
+    let head = head_of(&frame.rate(), frame.octets().len() as u16);
+    [head[0], head[1], head[2], head[3], frame.seed().value()]
 }
 
 // Puts a frame.
 #[tactic(auto, unfolding(crate::specs::Files::frame_octets))]
 fn put_frame<K: Sink>(frame: &Frame, sink: &mut K) -> Result<(), Failed>
     ensures grown { OnOk result (Grows (K.shown sink.old) (K.shown sink.new) (frame_octets frame.now)) }
+    ensures steady { OnOk result ((K.shown sink.new).faults ≡ (K.shown sink.old).faults) }
     ensures part { OnErr result (GrowsByPart (K.shown sink.old) (K.shown sink.new) (frame_octets frame.now)) }
     ensures cause { OnErr result (Rose (K.shown sink.old) (K.shown sink.new)) }
     ensures later { IsLater (K.shown sink.old) (K.shown sink.new) }
@@ -49,30 +33,79 @@ fn put_frame<K: Sink>(frame: &Frame, sink: &mut K) -> Result<(), Failed>
     sink.put(frame.octets())
 }
 
-// What stands in front of the frames.
-#[tactic(auto, unfolding(crate::specs::Heads::start_octets))]
-fn start(count: u16) -> [u8; 7]
-    ensures { result ≡ start_octets magic count }
-{
-    let number = count.to_be_bytes();
-    [b'H', b'T', b'T', b'X', 1, number[0], number[1]]
-}
-
 /// Puts the file of these frames (HTTX). It takes no memory.
 ///
 /// Where the sink fails, a part of the file from its front was put.
-#[tactic(auto, unfolding(crate::specs::Files::file_of))]
+#[tactic(auto, unfolding(crate::specs::Files::frames_file_of))]
 pub fn write_frames<K: Sink>(frames: &[Frame], sink: &mut K) -> Result<(), Failed>
     requires few { length frames.now ≤ 65535 }
-    ensures grown { OnOk result (Grows (K.shown sink.old) (K.shown sink.new) (file_of frames.now)) }
-    ensures part { OnErr result (GrowsByPart (K.shown sink.old) (K.shown sink.new) (file_of frames.now)) }
+    ensures grown { OnOk result (Grows (K.shown sink.old) (K.shown sink.new) (frames_file_of frames.now)) }
+    ensures steady { OnOk result ((K.shown sink.new).faults ≡ (K.shown sink.old).faults) }
+    ensures part { OnErr result (GrowsByPart (K.shown sink.old) (K.shown sink.new) (frames_file_of frames.now)) }
     ensures cause { OnErr result (Rose (K.shown sink.old) (K.shown sink.new)) }
     ensures later { IsLater (K.shown sink.old) (K.shown sink.new) }
 {
-    let head = start(frames.len() as u16);
-    sink.put(&head)?;
+    let start = start_of(b"HTTX", 1, frames.len() as u16);
+    sink.put(&start)?;
     for frame in frames {
         put_frame(frame, sink)?;
+    }
+    Ok(())
+}
+
+// The octets of a point.
+fn octets_of_point(point: &Point) -> [u8; 2]
+    ensures { result ≡ point_octets point.now }
+{
+    let i = point.i.to_be_bytes();
+    let q = point.q.to_be_bytes();
+    [i[0], q[0]]
+}
+
+// Puts points.
+fn put_points<K: Sink>(points: &[Point], sink: &mut K) -> Result<(), Failed>
+    ensures grown { OnOk result (Grows (K.shown sink.old) (K.shown sink.new) (flat_map point_octets points.now)) }
+    ensures steady { OnOk result ((K.shown sink.new).faults ≡ (K.shown sink.old).faults) }
+    ensures part { OnErr result (GrowsByPart (K.shown sink.old) (K.shown sink.new) (flat_map point_octets points.now)) }
+    ensures cause { OnErr result (Rose (K.shown sink.old) (K.shown sink.new)) }
+    ensures later { IsLater (K.shown sink.old) (K.shown sink.new) }
+{
+    for point in points {
+        sink.put(&octets_of_point(point))?;
+    }
+    Ok(())
+}
+
+// Puts the symbols of a frame.
+#[tactic(auto, unfolding(crate::specs::SymbolFiles::symbols_octets))]
+fn put_symbols<K: Sink>(frame: &Symbols, sink: &mut K) -> Result<(), Failed>
+    ensures grown { OnOk result (Grows (K.shown sink.old) (K.shown sink.new) (symbols_octets frame.now)) }
+    ensures steady { OnOk result ((K.shown sink.new).faults ≡ (K.shown sink.old).faults) }
+    ensures part { OnErr result (GrowsByPart (K.shown sink.old) (K.shown sink.new) (symbols_octets frame.now)) }
+    ensures cause { OnErr result (Rose (K.shown sink.old) (K.shown sink.new)) }
+    ensures later { IsLater (K.shown sink.old) (K.shown sink.new) }
+{
+    let head = head_of(&frame.rate(), frame.length());
+    sink.put(&head)?;
+    put_points(frame.points(), sink)
+}
+
+/// Puts the file of the symbols of these frames (HTSY). It takes no memory.
+///
+/// Where the sink fails, a part of the file from its front was put.
+#[tactic(auto, unfolding(crate::specs::SymbolFiles::symbols_file_of))]
+pub fn write_symbols<K: Sink>(frames: &[Symbols], sink: &mut K) -> Result<(), Failed>
+    requires few { length frames.now ≤ 65535 }
+    ensures grown { OnOk result (Grows (K.shown sink.old) (K.shown sink.new) (symbols_file_of frames.now)) }
+    ensures steady { OnOk result ((K.shown sink.new).faults ≡ (K.shown sink.old).faults) }
+    ensures part { OnErr result (GrowsByPart (K.shown sink.old) (K.shown sink.new) (symbols_file_of frames.now)) }
+    ensures cause { OnErr result (Rose (K.shown sink.old) (K.shown sink.new)) }
+    ensures later { IsLater (K.shown sink.old) (K.shown sink.new) }
+{
+    let start = start_of(b"HTSY", 1, frames.len() as u16);
+    sink.put(&start)?;
+    for frame in frames {
+        put_symbols(frame, sink)?;
     }
     Ok(())
 }

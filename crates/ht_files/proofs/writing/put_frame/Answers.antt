@@ -1,4 +1,5 @@
-use Rattle.ht_files.proofs.Putting.{on_err, on_err_then, part_behind, part_front}
+use Rattle.ht_fields.proofs.Putting.{on_err, on_err_then}
+use Rattle.ht_files.proofs.Putting.{part_behind, part_front}
 use Rattle.ht_files.proofs.writing.put_frame.Goals as goal
 
 pub returns-in_err-put-clause-part : goal.returns-in_err-put-clause-part

@@ -1,13 +1,15 @@
-use Rattle.std.proofs.Common.{◌++◌, take, length, flat_map}
+use Rattle.std.proofs.Common.{◌≡◌, ◌++◌, take, length, flat_map}
 use Rattle.ht_io.specs.Devices.{Grows, IsLater}
-use Rattle.ht_files.specs.Heads.{start_octets}
-use Rattle.ht_files.specs.Frames.{magic}
+use Rattle.ht_heads.specs.Heads.{start_octets}
+use Rattle.ht_files.specs.Frames.{frames_magic}
 use Rattle.ht_files.specs.Files.{frame_octets}
 use Rattle.ht_files.proofs.writing.write_frames.Given as goal
 
 -- the first frames were put
 abbrev pub invariant-loop-frame : goal.invariant-loop-frame
 invariant-loop-frame g l = record {
-  put : Grows (g.K.Sink.shown l.fn.sink) (g.K.Sink.shown l.sink) (start_octets magic (length l.frames) ++ flat_map frame_octets (take l.frame-index l.frames));
+  put : Grows (g.K.Sink.shown l.fn.sink) (g.K.Sink.shown l.sink)
+      (start_octets frames_magic 1 (length l.frames) ++ flat_map frame_octets (take l.frame-index l.frames));
   later : IsLater (g.K.Sink.shown l.fn.sink) (g.K.Sink.shown l.sink);
+  steady : (g.K.Sink.shown l.sink).faults ≡ (g.K.Sink.shown l.fn.sink).faults;
 }

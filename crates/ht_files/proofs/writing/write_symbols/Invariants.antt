@@ -1,0 +1,15 @@
+use Rattle.std.proofs.Common.{◌≡◌, ◌++◌, take, length, flat_map}
+use Rattle.ht_io.specs.Devices.{Grows, IsLater}
+use Rattle.ht_heads.specs.Heads.{start_octets}
+use Rattle.ht_files.specs.Points.{symbols_magic}
+use Rattle.ht_files.specs.SymbolFiles.{symbols_octets}
+use Rattle.ht_files.proofs.writing.write_symbols.Given as goal
+
+-- the first frames were put
+abbrev pub invariant-loop-frame : goal.invariant-loop-frame
+invariant-loop-frame g l = record {
+  put : Grows (g.K.Sink.shown l.fn.sink) (g.K.Sink.shown l.sink)
+      (start_octets symbols_magic 1 (length l.frames) ++ flat_map symbols_octets (take l.frame-index l.frames));
+  later : IsLater (g.K.Sink.shown l.fn.sink) (g.K.Sink.shown l.sink);
+  steady : (g.K.Sink.shown l.sink).faults ≡ (g.K.Sink.shown l.fn.sink).faults;
+}

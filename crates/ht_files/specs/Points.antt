@@ -1,0 +1,95 @@
+-- Files of symbols as lists of fields.
+use Rattle.std.specs.Prelude.{ℕ, ◌+◌, ◌-◌, ◌<◌, List, [], ◌∷◌, ◌++◌, length, flat_map, slice_index, nat_eq, Bool, true, false, ◌&&◌, is_some, if◌then◌else◌}
+use Rattle.std.specs.Int.{cast_signed, cast_unsigned, w8}
+use Rattle.std.specs.Ordering.{int_eq}
+use Rattle.ht_io.specs.Devices.{Device}
+use Rattle.ht_io.specs.declared.faults.InFault.{InFault}
+use Rattle.ht_io.specs.declared.faults.Kind.{Kind}
+use Rattle.ht_io.specs.declared.faults.Kind.TheVariants.{BadPoint, BadPilot}
+use Rattle.ht_fields.specs.Grammar.{Grammar, Due, field, Verdict, Good}
+use Rattle.ht_fields.specs.Lacking.{FailsBehind}
+use Rattle.ht_fields.specs.Tests.{checked}
+use Rattle.ht_rate.specs.declared.kinds.Carrier.{Carrier}
+use Rattle.ht_rate.specs.declared.kinds.Carrier.TheVariants.{Data, Pilot}
+use Rattle.ht_rate.specs.declared.rates.Rate.{Rate}
+use Rattle.ht_rate.specs.Rates.{modulation_of}
+use Rattle.ht_pam.specs.declared.point.Point.{Point}
+use Rattle.ht_map.specs.Gray.{label_of}
+use Rattle.ht_tx.specs.Symbols.{SymbolsView, pilot_point, points_of}
+use Rattle.ht_files.specs.Headed.{HeadState, Headed, Body, frame_due, grammar_of}
+use Rattle.ht_files.specs.Places.{AreFitting, symbol_at_place, carrier_at_place, stream_at_place}
+
+-- behind the head of a frame the next point is due: the frames that are left, this one among them, its rate and length,
+-- and the points before, whose number is the place of the next one
+pub record PointDue : Type 0 where
+  pub left : ℕ
+  pub rate : Rate
+  pub length : ℕ
+  pub points : List Point
+
+-- `HTSY`
+abbrev pub symbols_magic : List ℕ
+symbols_magic = 72 ∷ 84 ∷ 83 ∷ 89 ∷ []
+
+-- the point of two octets: I and Q, each in two's complement
+unfoldable pub point_in : List ℕ → Point
+point_in octets = record {
+  i = cast_signed w8 (slice_index octets 0);
+  q = cast_signed w8 (slice_index octets 1);
+}
+
+-- the octets of a point
+abbrev pub point_octets : Point → List ℕ
+point_octets p = cast_unsigned w8 p.i ∷ cast_unsigned w8 p.q ∷ []
+
+abbrev pub same_point : Point → Point → Bool
+same_point a b = int_eq a.i b.i && int_eq a.q b.q
+
+-- the point fits its subcarrier: it is on the constellation, or it is the pilot's
+abbrev pub fits_carrier : Rate → ℕ → Carrier → ℕ → Point → Bool
+fits_carrier r symbol (Data m) stream point = is_some (label_of (modulation_of r) point)
+fits_carrier r symbol (Pilot k) stream point = same_point point (pilot_point r symbol k stream)
+
+-- the kind of fault of a point on a subcarrier
+abbrev pub kind_on : Carrier → Kind
+kind_on (Data m) = BadPoint
+kind_on (Pilot k) = BadPilot
+
+-- the two octets are no point of their symbol, subcarrier and stream
+unfoldable pub misfits : Rate → ℕ → Carrier → ℕ → List ℕ → Bool
+misfits r symbol carrier stream octets = if fits_carrier r symbol carrier stream (point_in octets) then false else true
+
+abbrev pub misfits_place : Rate → ℕ → List ℕ → Bool
+misfits_place r place octets = misfits r (symbol_at_place r place) (carrier_at_place r place) (stream_at_place r place) octets
+
+-- the points of a frame were not read: behind some that fit, all but the last at most, comes one that does not, or none
+abbrev pub PointsFail : Rate → ℕ → ℕ → Device ℕ → Device ℕ → InFault → Type 0
+PointsFail r len at before after fault =
+    (points : List Point) × (length points < points_of r len) × AreFitting r points
+    × FailsBehind (flat_map point_octets points) 2 (kind_on (carrier_at_place r (length points))) (misfits_place r (length points)) at before after fault
+
+-- the points with the next one
+abbrev pub points_with : PointDue → List ℕ → List Point
+points_with due octets = due.points ++ point_in octets ∷ []
+
+-- behind its last point the frame is whole
+unfoldable pub good_point : PointDue → List ℕ → Verdict (HeadState PointDue) SymbolsView
+good_point due octets =
+    if nat_eq (length due.points + 1) (points_of due.rate due.length)
+    then Good (frame_due (due.left - 1)) (record { rate = due.rate; length = due.length; points = points_with due octets } ∷ [])
+    else Good (Body (record { left = due.left; rate = due.rate; length = due.length; points = points_with due octets })) []
+
+-- a point is one field of two octets
+abbrev pub point_due : PointDue → Due (HeadState PointDue) SymbolsView
+point_due due =
+    field 2 (checked (kind_on (carrier_at_place due.rate (length due.points))) (misfits_place due.rate (length due.points)) (good_point due))
+
+abbrev pub first_point : ℕ → Rate → ℕ → PointDue
+first_point left rate len = record { left = left; rate = rate; length = len; points = [] }
+
+abbrev pub pointed : Headed PointDue SymbolsView
+pointed = record { magic = symbols_magic; first = first_point; due = point_due }
+
+-- the format
+abbrev pub symbols : Grammar (HeadState PointDue) SymbolsView
+symbols = grammar_of pointed
