@@ -64,3 +64,9 @@ each-part {A} {B} draw xs ys left us vs z w whole e h p =
 pub length-each : {A B : Type 0} (draw : A → ℕ → Drawn B) (xs : List A) (z : ℕ) → length (each draw xs z).value ≡ length xs
 length-each draw [] z = refl
 length-each draw (x ∷ xs) z = ap suc (length-each draw xs (draw x z).state)
+
+-- as many values as there are members, once none is left
+pub counted : {A B : Type 0} (draw : A → ℕ → Drawn B) (us : List B) (left all : List A) (z w : ℕ) → left ≡ []
+    → joined us (each draw left z) ≡ each draw all w → length us ≡ length all
+counted {A} {B} draw us left all z w none h =
+    ap (λ (d : Drawn (List B)). length d.value) (each-end draw left us z (each draw all w) none h) ∙ length-each draw all w

@@ -2,4 +2,5 @@ mod Drawing
 mod Mixing
 mod Shapes
 mod Signs
+mod Typed
 mod Worked

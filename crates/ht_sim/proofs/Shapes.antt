@@ -12,7 +12,7 @@ use Rattle.ht_sim.specs.Channel.{legs_drawn, mixed, symbol_mixed, symbols_mixed,
 use Rattle.ht_sim.specs.Draws.{several}
 use Rattle.ht_sim.specs.Words.{next}
 
-length-legs_drawn : (n z : ℕ) → length (legs_drawn n z).value ≡ n
+pub length-legs_drawn : (n z : ℕ) → length (legs_drawn n z).value ≡ n
 length-legs_drawn zero z = refl
 length-legs_drawn (suc n) z = ap suc (length-legs_drawn n (several tap_drawn n (next z)).state)
 

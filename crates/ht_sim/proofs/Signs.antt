@@ -1,10 +1,6 @@
 -- Sums and differences of 32 bits that don't overflow.
-use Rattle.std.proofs.Common.{◌≡◌, ℕ, ◌+◌, ◌-◌, ◌*◌, ◌^◌, ◌<◌, ◌≤◌, ℤ, pos, ◌+ℤ◌, ◌-ℤ◌, ◌*ℤ◌, unsigned_abs, w8, w16, w32, to_z, of_z, FitsSigned, arith}
-use Rattle.std.proofs.lemmas.Int.{ints, to_z-of_z}
-
--- what a field of a struct is, where it was passed
-pub passed : (r a b : ℤ) → FitsSigned w16 a → FitsSigned w8 b → r ≡ to_z w16 (of_z w16 a) *ℤ to_z w8 (of_z w8 b) → r ≡ a *ℤ b
-passed r a b f g e = let p = to_z-of_z w16 a f in let q = to_z-of_z w8 b g in cc
+use Rattle.std.proofs.Common.{◌≡◌, ℕ, ◌+◌, ◌-◌, ◌*◌, ◌^◌, ◌<◌, ◌≤◌, ℤ, pos, ◌+ℤ◌, ◌-ℤ◌, unsigned_abs, w32, to_z, of_z, arith}
+use Rattle.std.proofs.lemmas.Int.{ints}
 
 pub subtracts : (a b x y : ℤ) → unsigned_abs a ≤ 2 ^ 30 - 1 → unsigned_abs b ≤ 2 ^ 30 - 1 → a ≡ x → b ≡ y
     → to_z w32 (of_z w32 (to_z w32 (of_z w32 a) -ℤ to_z w32 (of_z w32 b))) ≡ x -ℤ y

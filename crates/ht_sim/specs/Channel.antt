@@ -18,8 +18,8 @@ abbrev pub diagonal_of : ℕ → ℕ
 diagonal_of w = 64 + w % 192
 
 -- a part of an entry, from -64 to 64
-abbrev pub part_of : ℕ → ℤ
-part_of w = pos (w % 129) -ℤ pos 64
+abbrev pub entry_part_of : ℕ → ℤ
+entry_part_of w = pos (w % 129) -ℤ pos 64
 
 -- a part of the noise, at most `noise` to either side
 abbrev pub noise_of : ℕ → ℕ → ℤ
@@ -27,7 +27,7 @@ noise_of noise w = pos (w % (2 * noise + 1)) -ℤ pos noise
 
 -- an entry: its real part is drawn first
 unfoldable pub tap_drawn : ℕ → Drawn Tap
-tap_drawn z = drawn (record { re = part_of (word z); im = part_of (word (next z)) }) (next (next z))
+tap_drawn z = drawn (record { re = entry_part_of (word z); im = entry_part_of (word (next z)) }) (next (next z))
 
 -- the last rows of a triangle, this number of them: each its diagonal, and then the entries to its right
 abbrev pub legs_drawn : ℕ → ℕ → Drawn (List Leg)

@@ -1,3 +1,6 @@
 pub mod Words
 pub mod Draws
 pub mod Channel
+pub mod Samples
+pub mod Failing
+pub mod Passing

@@ -8,12 +8,18 @@
 //! The seed 42 gives the words a15c02b7, 7b47f409, ba1d3330 and so on, and on one stream the diagonals 247, 73, 240, 83.
 #![tactic(auto)]
 
-mod channel;
+mod captures;
+mod faults;
+mod passing;
 mod rows;
+mod samples;
 #[cfg(test)]
 mod tests;
 mod triangles;
 mod words;
 
-pub use channel::pass;
+pub use captures::pass;
+pub use faults::SimFault;
+pub use passing::channel;
+pub use samples::sample_frames;
 pub use words::Words;

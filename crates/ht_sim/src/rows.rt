@@ -2,6 +2,7 @@
 ghost use Rattle.std.specs.Prelude.{◌≡◌, ◌+◌, ◌-◌, ◌≤◌, ◌<◌, ◌^◌, ◌*ℤ◌, pos, unsigned_abs, length, drop, slice_index_or, OnOk};
 ghost use Rattle.ht_metric.specs.Distance.{combined, received, times};
 ghost use Rattle.ht_metric.specs.Rows.{no_leg};
+ghost use Rattle.ht_capture.specs.Contents.{AreSamples};
 ghost use Rattle.ht_sim.specs.Channel.{mixed, row_mixed, sample_drawn};
 ghost use Rattle.ht_sim.specs.Draws.{drawn, each, joined};
 
@@ -89,6 +90,7 @@ pub fn add_samples(
     requires points { length vector.now ≡ length triangle.now }
     ensures added { OnOk result (drawn samples.new.items words.new
         ≡ joined samples.old.items (each (sample_drawn noise) (mixed triangle.now vector.now) words.old)) }
+    ensures typed { AreSamples samples.old.items → OnOk result (AreSamples samples.new.items) }
 {
     for row in 0..triangle.streams() {
         samples.push(words.sample(noise, exact(triangle, row, vector)))?;

@@ -1,6 +1,7 @@
 //! Random triangles.
 ghost use Rattle.std.specs.Prelude.{◌≡◌, ◌≤◌, All, IfOk, length};
 ghost use Rattle.ht_rate.specs.Rates.{carriers_of, streams_of};
+ghost use Rattle.ht_capture.specs.Contents.{AreTriangles};
 ghost use Rattle.ht_sim.specs.Channel.{triangle_drawn, triangles_drawn};
 ghost use Rattle.ht_sim.specs.Draws.{drawn};
 
@@ -91,6 +92,7 @@ pub fn triangles(alloc: Global, words: &mut Words, rate: &Rate) -> Result<Vec<Tr
     ensures value { IfOk result (λ triangles. drawn triangles.items words.new ≡ triangles_drawn rate.now words.old) }
     ensures count { IfOk result (λ triangles. length triangles.items ≡ carriers_of rate.now) }
     ensures streams { IfOk result (λ triangles. All (λ t. length t ≡ streams_of rate.now) triangles.items) }
+    ensures typed { IfOk result (λ triangles. AreTriangles (streams_of rate.now) triangles.items) }
 {
     let carriers = rate.carriers();
     let streams = rate.streams();

@@ -1,10 +1,13 @@
 //! The words of a seed, and the numbers that are drawn from them.
-ghost use Rattle.std.specs.Prelude.{◌≡◌, ◌≤◌, ◌^◌, unsigned_abs};
+ghost use Rattle.std.specs.Prelude.{◌≡◌, ◌≤◌, ◌^◌, ◌%◌, unsigned_abs, FitsSigned};
+ghost use Rattle.std.specs.Int.{w32};
 ghost use Rattle.ht_metric.specs.Distance.{received};
 ghost use Rattle.ht_sim.specs.Words.{first, next, word};
-ghost use Rattle.ht_sim.specs.Channel.{diagonal_of, noise_of, part_of, sample_drawn, tap_drawn};
+ghost use Rattle.ht_sim.specs.Samples.{scrambler_of};
+ghost use Rattle.ht_sim.specs.Channel.{diagonal_of, noise_of, entry_part_of, sample_drawn, tap_drawn};
 
 use ht_metric::{Sample, Tap};
+use ht_scramble::Seed;
 use rand_core::utils::NextWord;
 use rand_pcg::Pcg32;
 use std::marker::Model;
@@ -60,7 +63,7 @@ impl Words {
 
     // A part of an entry.
     fn part(&mut self) -> i16
-        ensures value { result ≡ part_of (word self.old) }
+        ensures value { result ≡ entry_part_of (word self.old) }
         ensures behind { self.new ≡ next self.old }
     {
         (self.draw() % 129) as i16 - 64
@@ -75,6 +78,25 @@ impl Words {
         let re = self.part();
         let im = self.part();
         Tap { re, im }
+    }
+
+    // The seed of a scrambler, from 1 to 127.
+    pub(crate) fn seed(&mut self) -> Seed
+        ensures value { result ≡ scrambler_of (word self.old) }
+        ensures behind { self.new ≡ next self.old }
+    {
+        match Seed::new(1 + (self.draw() % 127) as u8) {
+            Some(seed) => seed,
+            None => unreachable!(),
+        }
+    }
+
+    // An octet.
+    pub(crate) fn octet(&mut self) -> u8
+        ensures value { result ≡ word self.old % 256 }
+        ensures behind { self.new ≡ next self.old }
+    {
+        (self.draw() % 256) as u8
     }
 
     // A part of the noise, at most `noise` to either side.
@@ -94,6 +116,8 @@ impl Words {
         requires im { unsigned_abs exact.im ≤ 2 ^ 25 }
         ensures value { result ≡ (sample_drawn noise (received exact) self.old).value }
         ensures behind { self.new ≡ (sample_drawn noise (received exact) self.old).state }
+        ensures fits_re { FitsSigned w32 result.re }
+        ensures fits_im { FitsSigned w32 result.im }
     {
         let re = self.noise(noise);
         let im = self.noise(noise);

@@ -1,6 +1,6 @@
 -- Points in order, each the one that its subcarrier carries.
 use Rattle.std.proofs.Common.{◌≡◌, ℕ, zero, suc, ◌+◌, ◌-◌, ◌*◌, ◌/◌, ◌%◌, ◌<◌, ◌≤◌, List, [], ◌∷◌, ◌++◌, length}
-use Rattle.std.proofs.Common.{get_or, Bool, true, is_some, refl, ap, sym, ◌∙◌, subst, arith, inl, inr, w8, to_z, of_z}
+use Rattle.std.proofs.Common.{get_or, is_some, refl, ap, sym, ◌∙◌, subst, arith, inl, inr, w8, to_z, of_z}
 use Rattle.std.proofs.lemmas.List.{length-append, get_or_append_left, get_or_push}
 use Rattle.std.proofs.lemmas.Bool.{cases_lt}
 use Rattle.std.proofs.Math.Nat.{mul_assoc}
@@ -9,14 +9,14 @@ use Rattle.ht_rate.specs.declared.kinds.Carrier.{Carrier}
 use Rattle.ht_rate.specs.declared.kinds.Carrier.TheVariants.{Data, Pilot}
 use Rattle.ht_rate.specs.Carriers.{carrier_of}
 use Rattle.ht_rate.specs.Rates.{streams_of, carriers_of, symbols_of, modulation_of, label_bits_of}
-use Rattle.ht_map.specs.Gray.{label_of, point_of}
+use Rattle.ht_map.specs.Gray.{label_of}
 use Rattle.ht_map.proofs.LabelFacts.{label_of-point_of}
 use Rattle.ht_pam.specs.declared.point.Point.{Point}
 use Rattle.ht_pilot.specs.Pilots.{pilot_of}
 use Rattle.std.specs.Prelude.{ℤ, pos, negsuc, unsigned_abs}
 use Rattle.ht_tx.specs.Frames.{FrameView, IsPsdu}
 use Rattle.ht_tx.specs.Symbols.{Fits, IsSymbols, SymbolsView, index_of_point, origin, point_at, points_of, pilot_point}
-use Rattle.ht_tx.specs.Transmitted.{Carries, IsPointOf, IsTransmitted}
+use Rattle.ht_tx.specs.Transmitted.{Carries, IsTransmitted}
 use Rattle.ht_tx.specs.Sources.{AreCarried}
 use Rattle.ht_tx.proofs.Places.{digits, digits-below}
 

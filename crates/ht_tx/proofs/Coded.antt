@@ -1,17 +1,17 @@
 -- The coded bits of a frame.
 use Rattle.std.proofs.Common.{◌≡◌, ℕ, zero, suc, ◌+◌, ◌-◌, ◌*◌, ◌/◌, ◌%◌, ◌<◌, ◌≤◌, List, [], ◌∷◌, ◌++◌, map, take, drop}
-use Rattle.std.proofs.Common.{replicate, length, Bool, false, get_or, refl, ap, sym, ◌∙◌, subst, arith, inl, inr, append_assoc}
+use Rattle.std.proofs.Common.{replicate, length, Bool, false, get_or, refl, ap, sym, ◌∙◌, subst, arith, inl, inr}
 use Rattle.std.proofs.lemmas.Bool.{cases_lt}
 use Rattle.std.specs.List.{range_with_len}
-use Rattle.std.proofs.Math.Nat.{eq_of_mul-eq-mul_left, mul_comm, mul_assoc, mul-div_cancel_left}
+use Rattle.std.proofs.Math.Nat.{mul_comm, mul_assoc, mul-div_cancel_left}
 use Rattle.std.proofs.lemmas.Grind.{div_ceil_times}
-use Rattle.std.proofs.lemmas.List.{ext_get_or, length-append, length-replicate, length-take, length-drop, take_all, get_or_append_left}
+use Rattle.std.proofs.lemmas.List.{ext_get_or, length-append, length-replicate, length-take, length-drop, get_or_append_left}
 use Rattle.std.proofs.lemmas.List.{get_or-append-add, get_or-append_right, get_or-take, get_or-drop, get_or-replicate}
 use Rattle.std.proofs.lemmas.List.FromFn.{get_or-map-range_with_len, length-map-range_with_len}
 use Rattle.ht_rate.specs.declared.rates.Rate.{Rate}
 use Rattle.ht_rate.specs.declared.kinds.Pattern.{Pattern}
 use Rattle.ht_rate.specs.declared.kinds.Pattern.TheVariants.{Half, TwoThirds, ThreeQuarters, FiveSixths}
-use Rattle.ht_rate.specs.Rates.{coded_bits_of, data_bits_of, encoders_of, pattern_of, symbols_of, pads_of, needed_bits_of}
+use Rattle.ht_rate.specs.Rates.{data_bits_of, encoders_of, pattern_of, symbols_of, pads_of, needed_bits_of}
 use Rattle.ht_rate.specs.Schemes.{denominator_of, numerator_of}
 use Rattle.ht_rate.proofs.RateFacts.{encoders_of-range, data_bits_of-shared}
 use Rattle.ht_rate.proofs.LengthFacts.{data_share-coded, data_share-periods, pads_of-fills}
@@ -22,6 +22,7 @@ use Rattle.ht_scramble.proofs.Lists.{length-scrambled_from}
 use Rattle.ht_conv.specs.Puncturing.{sent_count}
 use Rattle.ht_conv.specs.Code.{sent_bits}
 use Rattle.ht_conv.proofs.Counts.{sent_count-ceil}
+use Rattle.ht_conv.proofs.Fitting.{moved, products, some_numerator}
 use Rattle.ht_conv.proofs.MidStream.{length-sent_bits}
 use Rattle.ht_parse.specs.Encoders.{list_of, IsParsed}
 use Rattle.ht_parse.specs.Streams.{share_of}
@@ -109,19 +110,6 @@ periods_keep ThreeQuarters k =
     omega (arith, (div_ceil_times (3 * k) 3 (omega arith)).0, (div_ceil_times (3 * k) 3 (omega arith)).1, sent_count-ceil ThreeQuarters (3 * k))
 periods_keep FiveSixths k =
     omega (arith, (div_ceil_times (5 * k) 5 (omega arith)).0, (div_ceil_times (5 * k) 5 (omega arith)).1, sent_count-ceil FiveSixths (5 * k))
-
-some_numerator : (p : Pattern) → 0 < numerator_of p
-some_numerator Half = omega arith
-some_numerator TwoThirds = omega arith
-some_numerator ThreeQuarters = omega arith
-some_numerator FiveSixths = omega arith
-
-products : (n w d share part : ℕ) → 0 < n → n * w ≡ part → part * d ≡ share * n → w * d ≡ share
-products n w d share part some a b =
-    eq_of_mul-eq-mul_left n some (w * d) share (sym (mul_assoc n w d) ∙ (ap (λ k. k * d) a ∙ (b ∙ mul_comm share n)))
-
-moved : (d symbols w share : ℕ) → w * d ≡ share → d * (symbols * w) ≡ symbols * share
-moved d symbols w share e = mul_comm d (symbols * w) ∙ (mul_assoc symbols w d ∙ ap (λ k. symbols * k) e)
 
 sent_share : (r : Rate) (symbols : ℕ) → sent_count (pattern_of r) (symbols * (data_bits_of r / encoders_of r)) ≡ symbols * share_of r
 unfolding share_of

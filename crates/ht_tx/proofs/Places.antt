@@ -1,10 +1,10 @@
 -- Places of label bits and of points, and their parts.
-use Rattle.std.proofs.Common.{◌≡◌, ℕ, zero, suc, ◌+◌, ◌-◌, ◌*◌, ◌/◌, ◌%◌, ◌<◌, ◌≤◌, refl, ap, sym, ◌∙◌, subst, arith}
+use Rattle.std.proofs.Common.{◌≡◌, ℕ, ◌+◌, ◌*◌, ◌/◌, ◌%◌, ◌<◌, ap, sym, ◌∙◌, arith}
 use Rattle.std.proofs.Math.Nat.{mul_comm, mul_assoc}
-use Rattle.std.proofs.lemmas.Nat.{div-add-mod', div-mul-add, mod-mul-add, mul-add-lt, mod_below, div_below}
+use Rattle.std.proofs.lemmas.Nat.{div-mul-add, mod-mul-add, mul-add-lt, mod_below, div_below}
 use Rattle.ht_rate.specs.declared.rates.Rate.{Rate}
 use Rattle.ht_rate.specs.Rates.{streams_of, stream_bits_of, coded_bits_of, data_carriers_of, label_bits_of}
-use Rattle.ht_rate.proofs.RateFacts.{streams_of-range, label_bits_of-range, stream_bits_of-is, coded_bits_of-is}
+use Rattle.ht_rate.proofs.RateFacts.{stream_bits_of-is, coded_bits_of-is}
 
 -- three digits, of which the lower two have a range, and back
 pub digits : (a b c n w : ℕ) → b < n → c < w

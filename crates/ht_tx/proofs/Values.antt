@@ -1,5 +1,5 @@
 -- Worked values: the octet a5 with seed 127 at 20 MHz and MCS 0.
-use Rattle.std.proofs.Common.{◌≡◌, ℕ, pos, negsuc, List, [], ◌∷◌, Bool, true, false, length, get_or, refl}
+use Rattle.std.proofs.Common.{◌≡◌, pos, negsuc, [], ◌∷◌, refl}
 use mathlib.Core.Bool.{xor}
 use Rattle.ht_rate.specs.Rates.{bandwidth_of, mcs_of, streams_of, modulation_of, pattern_of, data_carriers_of, pilots_of, carriers_of, label_bits_of}
 use Rattle.ht_rate.specs.Rates.{axis_bits_of, stream_bits_of, coded_bits_of, data_bits_of, encoders_of, needed_bits_of, symbols_of, pads_of, rate_at}

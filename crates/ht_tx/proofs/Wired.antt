@@ -1,8 +1,8 @@
 -- Each label bit of each symbol finds its coded bit.
-use Rattle.std.proofs.Common.{◌≡◌, ℕ, zero, suc, ◌+◌, ◌-◌, ◌*◌, ◌/◌, ◌%◌, ◌^◌, ◌<◌, ◌≤◌, List, Bool, false}
+use Rattle.std.proofs.Common.{◌≡◌, ℕ, ◌+◌, ◌-◌, ◌*◌, ◌/◌, ◌%◌, ◌^◌, ◌<◌, ◌≤◌, List, Bool, false}
 use Rattle.std.proofs.Common.{◌==◌, drop, take, slice_range, length, get_or, refl, ap, sym, ◌∙◌, subst, arith}
 use Rattle.std.specs.Int.{bit_at}
-use Rattle.std.proofs.Math.Nat.{mul_comm, mul_assoc, mul-le-mul_right}
+use Rattle.std.proofs.Math.Nat.{mul_comm, mul-le-mul_right}
 use Rattle.std.proofs.lemmas.Nat.{mul-add-lt}
 use Rattle.std.proofs.lemmas.List.{get_or-drop, get_or-take, length-drop, length-take}
 use Rattle.ht_rate.specs.declared.rates.Rate.{Rate}
@@ -16,16 +16,16 @@ use Rattle.ht_parse.specs.Streams.{share_of, source_of}
 use Rattle.ht_parse.proofs.Maps.{source_of-place}
 use Rattle.ht_interleave.specs.Interleaver.{origin_of}
 use Rattle.ht_interleave.proofs.Inverse.{origin_of-bound}
-use Rattle.ht_landing.specs.Landings.{Lands, coded_bit_of}
+use Rattle.ht_landing.specs.Landings.{coded_bit_of}
 use Rattle.ht_landing.proofs.Landed.{coded_bit_of-only}
 use Rattle.ht_tx.specs.Frames.{FrameView}
 use Rattle.ht_tx.specs.Coded.{coded_of, reach_of}
 use Rattle.ht_tx.specs.Transmitted.{label_bit_at, IsLabelOf, IsPointOf}
-use Rattle.ht_tx.specs.Sources.{slot_of, source_at, source_of_slot, AreCoded, IsSlot, AreWired}
+use Rattle.ht_tx.specs.Sources.{slot_of, source_at, source_of_slot, AreCoded, IsLabelSlot, AreWired}
 use Rattle.ht_tx.proofs.Places.{digits, digits-below, place-below, coded_bits_of-labels}
 
 -- the place of a label bit is in the table
-pub slot-below : (r : Rate) (carrier stream bit : ℕ) → IsSlot r carrier stream bit
+pub slot-below : (r : Rate) (carrier stream bit : ℕ) → IsLabelSlot r carrier stream bit
     → slot_of r carrier stream bit < data_carriers_of r * streams_of r * label_bits_of r
 unfolding slot_of
 slot-below r carrier stream bit h =
@@ -33,7 +33,7 @@ slot-below r carrier stream bit h =
     digits-below carrier (stream - 1) bit (data_carriers_of r) (streams_of r) (label_bits_of r) h.carrier_below stream_below h.bit_below
 
 -- and the table has its source
-pub source-there : (r : Rate) (reach carrier stream bit : ℕ) → IsSlot r carrier stream bit
+pub source-there : (r : Rate) (reach carrier stream bit : ℕ) → IsLabelSlot r carrier stream bit
     → source_of_slot r reach (slot_of r carrier stream bit) ≡ source_at r reach carrier stream bit
 unfolding slot_of source_of_slot
 source-there r reach carrier stream bit h =
@@ -46,7 +46,7 @@ source-there r reach carrier stream bit h =
     ∙ ap (λ (x : ℕ). source_at r reach carrier stream x) parts.2
 
 -- the coded bit of a label bit in symbol 0, and in another symbol
-pub from-symbol : (r : Rate) (symbol carrier stream bit : ℕ) → IsSlot r carrier stream bit
+pub from-symbol : (r : Rate) (symbol carrier stream bit : ℕ) → IsLabelSlot r carrier stream bit
     → ((coded_bit_of r (label_bit_at 0 carrier stream bit)).0 < encoders_of r)
     × ((coded_bit_of r (label_bit_at 0 carrier stream bit)).1 < share_of r)
     × ((coded_bit_of r (label_bit_at symbol carrier stream bit)).0 ≡ (coded_bit_of r (label_bit_at 0 carrier stream bit)).0)
@@ -86,13 +86,13 @@ wired f symbol all coded sources ls are_coded is_coded len table = record {
     start : ℕ
     start = symbol * share_of f.rate
 
-    source : (carrier stream bit : ℕ) → IsSlot f.rate carrier stream bit
+    source : (carrier stream bit : ℕ) → IsLabelSlot f.rate carrier stream bit
         → get_or sources (slot_of f.rate carrier stream bit) 0 ≡ source_at f.rate (reach_of f) carrier stream bit
     source carrier stream bit h =
         let lt : slot_of f.rate carrier stream bit < length sources = omega (arith, slot-below f.rate carrier stream bit h, coded_bits_of-labels f.rate) in
         table (slot_of f.rate carrier stream bit) lt ∙ source-there f.rate (reach_of f) carrier stream bit h
 
-    within : (carrier stream bit : ℕ) → IsSlot f.rate carrier stream bit
+    within : (carrier stream bit : ℕ) → IsLabelSlot f.rate carrier stream bit
         → get_or sources (slot_of f.rate carrier stream bit) 0 < length (drop (symbol * share_of f.rate) all)
     within carrier stream bit h =
         let from = from-symbol f.rate symbol carrier stream bit h in
@@ -102,7 +102,7 @@ wired f symbol all coded sources ls are_coded is_coded len table = record {
         let lt = inside j (symbol * share_of f.rate + i) (encoders_of f.rate) (symbols_of f.rate (length f.octets) * share_of f.rate) from.0 lq in
         omega (arith, source carrier stream bit h, lt, are_coded.whole, length-drop (symbol * share_of f.rate) all)
 
-    at : (carrier stream bit : ℕ) → IsSlot f.rate carrier stream bit
+    at : (carrier stream bit : ℕ) → IsLabelSlot f.rate carrier stream bit
         → get_or coded (get_or sources (slot_of f.rate carrier stream bit) 0) false
         ≡ get_or (coded_of f (coded_bit_of f.rate (label_bit_at symbol carrier stream bit)).0)
         (coded_bit_of f.rate (label_bit_at symbol carrier stream bit)).1 false
@@ -142,7 +142,7 @@ label-landed f symbol carrier stream label coded sources part h lc low high is_p
   below = subst (λ (n : ℕ). label < 2 ^ n) len below;
   bits = λ j q bit lands.
       let lb : bit < label_bits_of f.rate = lands.label.bit in
-      let is_slot : IsSlot f.rate carrier stream bit = record { carrier_below = lc; stream_low = low; stream_high = high; bit_below = lb } in
+      let is_slot : IsLabelSlot f.rate carrier stream bit = record { carrier_below = lc; stream_low = low; stream_high = high; bit_below = lb } in
       let from = coded_bit_of-only f.rate (label_bit_at symbol carrier stream bit) j q lands in
       let lp : bit < length part = omega arith in
       let source : get_or part bit 0 ≡ get_or sources (slot_of f.rate carrier stream bit) 0 =
@@ -180,7 +180,7 @@ part-inside f symbol carrier stream coded sources part slot b n h lc low high db
     let whole : length sources ≡ data_carriers_of f.rate * streams_of f.rate * label_bits_of f.rate = h.whole in
     let len : length part ≡ b =
     ap length is_part ∙ part-length sources slot b (omega (arith, label-within f.rate carrier stream slot b n lc low high db dn ds)) in
-    let is_slot : IsSlot f.rate carrier stream e = record { carrier_below = lc; stream_low = low; stream_high = high; bit_below = omega arith } in
+    let is_slot : IsLabelSlot f.rate carrier stream e = record { carrier_below = lc; stream_low = low; stream_high = high; bit_below = omega arith } in
     let same : slot ≡ (carrier * streams_of f.rate + (stream - 1)) * label_bits_of f.rate =
     ds ∙ ap (λ (x : ℕ). (carrier * x + (stream - 1)) * b) dn ∙ ap (λ (x : ℕ). (carrier * streams_of f.rate + (stream - 1)) * x) db in
     let source : get_or part e 0 ≡ get_or sources ((carrier * streams_of f.rate + (stream - 1)) * label_bits_of f.rate + e) 0 =

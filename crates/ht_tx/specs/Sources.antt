@@ -32,7 +32,7 @@ pub record AreCoded (f : FrameView) (bits : List Bool) : Type 0 where
       → slice_index_or bits (j * reach_of f + q) false ≡ slice_index_or (coded_of f j) q false
 
 -- a label bit that the rate has
-pub record IsSlot (r : Rate) (carrier stream bit : ℕ) : Type 0 where
+pub record IsLabelSlot (r : Rate) (carrier stream bit : ℕ) : Type 0 where
   pub carrier_below : carrier < data_carriers_of r
   pub stream_low : 1 ≤ stream
   pub stream_high : stream ≤ streams_of r
@@ -41,9 +41,9 @@ pub record IsSlot (r : Rate) (carrier stream bit : ℕ) : Type 0 where
 -- coded bits in which each label bit of a symbol finds its coded bit by its source
 pub record AreWired (f : FrameView) (symbol : ℕ) (coded : List Bool) (sources : List ℕ) : Type 0 where
   pub whole : length sources ≡ data_carriers_of f.rate * streams_of f.rate * label_bits_of f.rate
-  pub inside : (carrier stream bit : ℕ) → IsSlot f.rate carrier stream bit
+  pub inside : (carrier stream bit : ℕ) → IsLabelSlot f.rate carrier stream bit
       → slice_index_or sources (slot_of f.rate carrier stream bit) 0 < length coded
-  pub found : (carrier stream bit : ℕ) → IsSlot f.rate carrier stream bit
+  pub found : (carrier stream bit : ℕ) → IsLabelSlot f.rate carrier stream bit
       → let from = coded_bit_of f.rate (label_bit_at symbol carrier stream bit) in
       slice_index_or coded (slice_index_or sources (slot_of f.rate carrier stream bit) 0) false
       ≡ slice_index_or (coded_of f from.0) from.1 false

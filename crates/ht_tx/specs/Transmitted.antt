@@ -1,5 +1,5 @@
 -- What is sent of a frame (IEEE Std 802.11-2012, clause 20.3.11).
-use Rattle.std.specs.Prelude.{◌≡◌, ℕ, ◌^◌, ◌<◌, ◌≤◌, length, false, slice_index_or}
+use Rattle.std.specs.Prelude.{◌≡◌, ℕ, ◌^◌, ◌<◌, ◌≤◌, List, [], ◌∷◌, length, false, slice_index_or}
 use Rattle.ht_rate.specs.declared.kinds.Carrier.{Carrier}
 use Rattle.ht_rate.specs.declared.kinds.Carrier.TheVariants.{Data, Pilot}
 use Rattle.ht_rate.specs.Carriers.{carrier_of}
@@ -9,7 +9,7 @@ use Rattle.ht_map.specs.Gray.{label_bit, point_of}
 use Rattle.ht_landing.specs.declared.landings.Landing.{Landing}
 use Rattle.ht_landing.specs.Landings.{Lands}
 use Rattle.ht_tx.specs.Frames.{FrameView}
-use Rattle.ht_tx.specs.Symbols.{SymbolsView, pilot_point, point_at}
+use Rattle.ht_tx.specs.Symbols.{IsSymbols, SymbolsView, pilot_point, point_at}
 use Rattle.ht_tx.specs.Coded.{coded_of}
 
 -- a bit of a label
@@ -42,3 +42,10 @@ pub record IsTransmitted (f : FrameView) (sent : SymbolsView) : Type 0 where
       (symbol carrier stream : ℕ) → symbol < symbols_of f.rate (length f.octets) → carrier < carriers_of f.rate
       → 1 ≤ stream → stream ≤ streams_of f.rate
       → Carries f symbol (carrier_of f.rate carrier) stream (point_at f.rate sent.points symbol carrier stream)
+
+-- the symbols of frames, one after another, each with the points that its rate and its length ask for
+abbrev pub AreTransmitted : List FrameView → List SymbolsView → Type 0
+AreTransmitted [] [] = Unit {0}
+AreTransmitted [] (s ∷ sent) = ⊥
+AreTransmitted (f ∷ frames) [] = ⊥
+AreTransmitted (f ∷ frames) (s ∷ sent) = IsTransmitted f s × IsSymbols s.rate s.length s.points × AreTransmitted frames sent

@@ -20,6 +20,7 @@ mod coder;
 mod frames;
 mod mapper;
 mod points;
+mod sending;
 mod sources;
 mod symbols;
 #[cfg(test)]
@@ -28,5 +29,6 @@ mod transmitter;
 
 pub use frames::Frame;
 pub use points::Points;
+pub use sending::transmit_all;
 pub use symbols::Symbols;
 pub use transmitter::transmit;

@@ -1,5 +1,6 @@
 //! The whole chain.
 ghost use Rattle.std.specs.Prelude.{◌≡◌, ◌≤◌, IfOk, drop, length};
+ghost use Rattle.ht_tx.specs.Symbols.{IsSymbols};
 ghost use Rattle.ht_tx.specs.Transmitted.{IsTransmitted};
 
 use crate::coder::coded_bits;
@@ -15,7 +16,8 @@ use std::alloc::{AllocError, Global};
 /// On each pilot stands its value, and on each data subcarrier and stream the point of the label whose bits are the coded
 /// bits that land there. The only refusal is lack of memory.
 pub fn transmit(alloc: Global, frame: &Frame) -> Result<Symbols, AllocError>
-    ensures { IfOk result (λ sent. IsTransmitted frame.now sent) }
+    ensures sent { IfOk result (λ sent. IsTransmitted frame.now sent) }
+    ensures whole { IfOk result (λ sent. IsSymbols sent.rate sent.length sent.points) }
 {
     let rate = frame.rate();
     let length = frame.octets().len() as u16;

@@ -1,5 +1,6 @@
 use Rattle.std.proofs.Common.{arith, rules}
-use Rattle.ht_sim.proofs.Signs.{passed, subtracts, adds, subtracts_bound}
+use Rattle.ht_metric.proofs.Signs.{passed}
+use Rattle.ht_sim.proofs.Signs.{subtracts, adds, subtracts_bound}
 use Rattle.ht_sim.proofs.rows.product.Goals as goal
 
 pub returns-clause-re : goal.returns-clause-re

@@ -3,7 +3,9 @@ use Rattle.ht_metric.specs.Rows.{Leg}
 use Rattle.ht_sim.specs.Channel.{triangle_drawn}
 use Rattle.ht_sim.specs.Draws.{Drawn}
 use Rattle.ht_sim.proofs.Drawing.{several-step, several-end, length-several, All-several}
+use Rattle.ht_capture.specs.Contents.{AreTriangles}
 use Rattle.ht_sim.proofs.Shapes.{length-triangle_drawn}
+use Rattle.ht_sim.proofs.Typed.{triangles_typed}
 use Rattle.ht_sim.proofs.triangles.triangles.Goals as goal
 
 pub loop-carrier-preserved : goal.loop-carrier-preserved
@@ -29,3 +31,13 @@ returns-clause-streams c =
     λ k d below. subst (λ (ts : List (List Leg)). All (λ (t : List Leg). length t ≡ s) ts)
     (sym (ap (λ (u : Drawn (List (List Leg))). u.value) end)) all k d below
     ∙ c.streams-streams.ensures.value
+
+pub returns-clause-typed : goal.returns-clause-typed
+returns-clause-typed c =
+    let s = c.streams-streams.result in
+    let draw = triangle_drawn s in
+    let n = c.carriers-carriers.result in
+    let end = several-end draw c.loop-carrier.triangles.items _ c.loop-carrier.words _ (omega arith) c.loop-carrier.invariant in
+    subst (λ m. AreTriangles m c.loop-carrier.triangles.items) c.streams-streams.ensures.value
+    (subst (λ (ts : List (List Leg)). AreTriangles s ts)
+    (sym (ap (λ (u : Drawn (List (List Leg))). u.value) end)) (triangles_typed s n c.args.words.now))

@@ -1,4 +1,3 @@
-use Rattle.std.proofs.Common.{◌∙◌}
 use Rattle.ht_tx.proofs.Coded.{coded-out, shared}
 use Rattle.ht_tx.proofs.coder.coded_bits.Goals as goal
 

@@ -1,4 +1,4 @@
-use Rattle.std.proofs.Common.{◌≡◌, ◌+◌, ◌-◌, ◌*◌, ◌∙◌, ap, refl, slice_range}
+use Rattle.std.proofs.Common.{◌+◌, ◌*◌, ◌∙◌, ap, refl, slice_range}
 use Rattle.ht_rate.specs.Rates.{label_bits_of, streams_of, modulation_of}
 use Rattle.ht_tx.proofs.Wired.{part-inside, label-below, data-point}
 use Rattle.ht_tx.proofs.mapper.data_point.Goals as goal

@@ -1,5 +1,4 @@
-use Rattle.std.proofs.Common.{◌≡◌, ◌+◌, ◌^◌, ◌<◌, get_or, false, sym, subst, arith, ◌∙◌, refl}
-use Rattle.std.specs.Int.{from_bool}
+use Rattle.std.proofs.Common.{◌+◌, ◌^◌, ◌<◌, sym, subst, arith, refl}
 use Rattle.ht_tx.proofs.Labels.{small, below_more, bits_more}
 use Rattle.ht_tx.proofs.mapper.label.Goals as goal
 

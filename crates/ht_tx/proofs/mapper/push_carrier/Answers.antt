@@ -1,4 +1,4 @@
-use Rattle.std.proofs.Common.{◌≡◌, ◌+◌, ◌*◌, ◌<◌, ◌∙◌, ap, sym, subst, arith, length, vec_len}
+use Rattle.std.proofs.Common.{◌≡◌, ◌+◌, ◌*◌, ◌<◌, ◌∙◌, ap, sym, subst, arith, length}
 use Rattle.ht_rate.specs.Carriers.{carrier_of}
 use Rattle.ht_rate.specs.Rates.{carriers_of, streams_of}
 use Rattle.ht_tx.specs.Transmitted.{Carries}

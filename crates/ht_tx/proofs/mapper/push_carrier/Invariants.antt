@@ -1,6 +1,5 @@
 -- The points of the streams so far.
-use Rattle.std.proofs.Common.{◌≡◌, ◌+◌, ◌*◌, vec_len, vec_capacity}
-use Rattle.ht_rate.specs.Rates.{streams_of, carriers_of}
+use Rattle.std.proofs.Common.{◌≡◌, ◌+◌, vec_len, vec_capacity}
 use Rattle.ht_tx.specs.Sources.{AreCarried}
 use Rattle.ht_tx.proofs.mapper.push_carrier.Given as goal
 

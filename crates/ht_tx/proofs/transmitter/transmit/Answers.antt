@@ -1,4 +1,5 @@
-use Rattle.std.proofs.Common.{◌≡◌, ◌∙◌, arith}
+use Rattle.std.proofs.Common.{◌≡◌, ◌∙◌, sym, subst, arith}
+use Rattle.ht_tx.specs.Symbols.{IsSymbols, SymbolsView}
 use Rattle.ht_tx.proofs.Carried.{room-for-all, none-carried, finished, sent-out}
 use Rattle.ht_tx.proofs.Wired.{symbol-starts, wired-out}
 use Rattle.ht_tx.proofs.transmitter.transmit.Goals as goal
@@ -39,11 +40,21 @@ new-requires c =
     c.rate-rate.ensures c.octets.ensures.value c.octets.ensures.range c.from-5.ensures c.symbols-symbols.ensures.value c.loop-symbol.points.ok.0
     c.loop-symbol.invariant.count done c.loop-symbol.invariant.carried
 
-pub returns : goal.returns
-returns c =
+pub returns-clause-sent : goal.returns-clause-sent
+returns-clause-sent c =
     let test = c.loop-symbol-test.false in
     let done : c.loop-symbol.symbol ≡ c.symbols-symbols.result = omega arith in
     sent-out c.args.frame.now c.rate-rate.result c.octets.result.now c.loop-symbol.points.items
     c.from-5.result c.loop-symbol.points.len c.loop-symbol.symbol c.symbols-symbols.result
     c.new.result c.rate-rate.ensures c.octets.ensures.value c.from-5.ensures c.symbols-symbols.ensures.value c.loop-symbol.points.ok.0
     c.loop-symbol.invariant.count done c.loop-symbol.invariant.carried c.new.ensures
+
+pub returns-clause-whole : goal.returns-clause-whole
+returns-clause-whole c =
+    let test = c.loop-symbol-test.false in
+    let done : c.loop-symbol.symbol ≡ c.symbols-symbols.result = omega arith in
+    subst (λ (s : SymbolsView). IsSymbols s.rate s.length s.points) (sym c.new.ensures)
+    (finished c.args.frame.now c.rate-rate.result c.octets.result.now c.loop-symbol.points.items
+    c.from-5.result c.loop-symbol.points.len c.loop-symbol.symbol c.symbols-symbols.result
+    c.rate-rate.ensures c.octets.ensures.value c.octets.ensures.range c.from-5.ensures c.symbols-symbols.ensures.value c.loop-symbol.points.ok.0
+    c.loop-symbol.invariant.count done c.loop-symbol.invariant.carried)

@@ -1,5 +1,5 @@
 -- The points of the symbols so far.
-use Rattle.std.proofs.Common.{◌≡◌, ◌+◌, ◌*◌, vec_len, vec_capacity, length}
+use Rattle.std.proofs.Common.{◌≡◌, ◌*◌, vec_len, vec_capacity, length}
 use Rattle.ht_rate.specs.Rates.{streams_of, carriers_of, symbols_of}
 use Rattle.ht_tx.specs.Sources.{AreCarried}
 use Rattle.ht_tx.proofs.transmitter.transmit.Given as goal

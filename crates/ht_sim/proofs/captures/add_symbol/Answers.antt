@@ -3,7 +3,7 @@ use Rattle.ht_sim.specs.Channel.{mixed, sample_drawn, symbol_mixed}
 use Rattle.ht_sim.specs.Draws.{each, joined}
 use Rattle.ht_sim.proofs.Drawing.{each-part}
 use Rattle.ht_sim.proofs.Mixing.{symbol-drop, one_less}
-use Rattle.ht_sim.proofs.channel.add_symbol.Goals as goal
+use Rattle.ht_sim.proofs.captures.add_symbol.Goals as goal
 
 pub loop-triangle-preserved : goal.loop-triangle-preserved
 loop-triangle-preserved c =
@@ -25,4 +25,8 @@ loop-triangle-preserved c =
           (c.in_ok-add_samples.ensures.added
           ∙ ap (λ ys. joined c.loop-triangle.samples.items (each (sample_drawn c.args.noise) (mixed t ys) c.loop-triangle.words)) c.split_at.ensures.front);
       left = one_less (length c.split_at.result.1.now) (length points) (length ts) k streams below c.split_at.ensures.back_len c.loop-triangle.invariant.left;
+      typed = λ were. c.in_ok-add_samples.ensures.typed (c.loop-triangle.invariant.typed were);
     }
+
+pub returns-clause-typed : goal.returns-clause-typed
+returns-clause-typed c = c.loop-triangle.invariant.typed

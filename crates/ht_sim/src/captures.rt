@@ -1,6 +1,8 @@
 //! Frames that pass the channel.
 ghost use Rattle.std.specs.Prelude.{◌≡◌, ◌*◌, ◌≤◌, All, IfOk, OnOk, length};
 ghost use Rattle.ht_rate.specs.Rates.{carriers_of, streams_of, symbols_of};
+ghost use Rattle.ht_capture.specs.Contents.{AreSamples, AreTyped, IsTyped};
+ghost use Rattle.ht_capture.specs.Files.{FitsFrame, HasAllCarriers};
 ghost use Rattle.ht_sim.specs.Channel.{captures_of, frame_drawn, sample_drawn, symbol_mixed, symbols_mixed};
 ghost use Rattle.ht_sim.specs.Draws.{drawn, each, joined};
 
@@ -27,6 +29,7 @@ fn add_symbol(
     requires points { length points.now ≡ length triangles.now * streams }
     ensures added { OnOk result (drawn samples.new.items words.new
         ≡ joined samples.old.items (each (sample_drawn noise) (symbol_mixed streams triangles.now points.now) words.old)) }
+    ensures typed { AreSamples samples.old.items → OnOk result (AreSamples samples.new.items) }
 {
     let mut rest = points;
     for triangle in triangles {
@@ -49,8 +52,10 @@ fn samples(
 ) -> Result<Vec<Sample>, AllocError>
     requires streams { All (λ t. length t ≡ streams) triangles.now }
     requires points { length points.now ≡ symbols * (length triangles.now * streams) }
-    ensures { IfOk result (λ samples. drawn samples.items words.new
+    ensures drawn { IfOk result (λ samples. drawn samples.items words.new
         ≡ each (sample_drawn noise) (symbols_mixed symbols streams triangles.now points.now) words.old) }
+    ensures count { IfOk result (λ samples. length samples.items ≡ symbols * (length triangles.now * streams)) }
+    ensures typed { IfOk result (λ samples. AreSamples samples.items) }
 {
     let mut samples = Vec::with_capacity(alloc, points.len())?;
     let mut rest = points;
@@ -74,8 +79,11 @@ pub(crate) fn capture(
 ) -> Result<CaptureFrame, AllocError>
     requires some { 1 ≤ octets }
     requires points { length points.now ≡ symbols_of rate octets * (carriers_of rate * streams_of rate) }
-    ensures { IfOk result (λ captured. drawn captured words.new
+    ensures drawn { IfOk result (λ captured. drawn captured words.new
         ≡ frame_drawn noise (record { rate = rate; length = octets; points = points.now }) words.old) }
+    ensures fits { IfOk result FitsFrame }
+    ensures whole { IfOk result HasAllCarriers }
+    ensures typed { IfOk result IsTyped }
 {
     let triangles = triangles(alloc, words, &rate)?;
     let symbols = rate.symbols(octets);
@@ -102,7 +110,14 @@ pub fn pass(
     noise: u16,
     frames: &[Symbols],
 ) -> Result<Vec<CaptureFrame>, AllocError>
-    ensures { IfOk result (λ captured. captured.items ≡ captures_of seed noise frames.now) }
+    ensures drawn { IfOk result (λ captured. captured.items ≡ captures_of seed noise frames.now) }
+
+    // They can be written as a capture of version 1, where they are at most 65535: each has the triangles and the samples
+    // that its rate and its length ask for, no subcarrier is erased, and every number fits its field.
+    ensures count { IfOk result (λ captured. length captured.items ≡ length frames.now) }
+    ensures fit { IfOk result (λ captured. All FitsFrame captured.items) }
+    ensures whole { IfOk result (λ captured. All HasAllCarriers captured.items) }
+    ensures typed { IfOk result (λ captured. AreTyped captured.items) }
 {
     let mut words = Words::new(seed);
     let mut captured = Vec::with_capacity(alloc, frames.len())?;
