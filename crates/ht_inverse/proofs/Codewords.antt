@@ -1,0 +1,218 @@
+-- Codewords of a frame: their lengths, distances and joined bits.
+use Rattle.std.proofs.Common.{◌≡◌, ℕ, zero, suc, ◌+◌, ◌-◌, ◌*◌, ◌/◌, ◌%◌, ◌<◌, ◌≤◌, List, [], ◌∷◌, length, map, slice_index_or}
+use Rattle.std.proofs.Common.{Bool, true, false, Option, Some, None, Result, Ok, Err, refl, sym, ap, ◌∙◌, arith}
+use Rattle.std.specs.Prelude.{if◌then◌else◌, ◌==◌, sum}
+use Rattle.std.specs.List.{range_with_len}
+use Rattle.std.specs.Result.{IfOk}
+use Rattle.std.proofs.lemmas.List.{get_or-take, length-take-le}
+use Rattle.std.proofs.lemmas.List.FromFn.{length-map-range_with_len, get_or-map-range_with_len}
+use Rattle.std.proofs.lemmas.Nat.{div-mul-add, mod-mul-add, mul-add-lt}
+use Rattle.std.proofs.Math.Nat.{mul_comm}
+use Rattle.ht_rate.specs.declared.rates.Rate.{Rate}
+use Rattle.ht_rate.specs.declared.kinds.Pattern.{Pattern}
+use Rattle.ht_rate.specs.Rates.{encoders_of, needed_bits_of, pattern_of, steps_of}
+use Rattle.ht_rate.proofs.LengthFacts.{steps_of-shared}
+use Rattle.ht_rate.proofs.RateFacts.{encoders_of-range}
+use Rattle.ht_conv.specs.declared.puncture.Kept.{Kept}
+use Rattle.ht_conv.specs.declared.puncture.Kept.TheVariants.{Both, A, B}
+use Rattle.ht_conv.specs.Puncturing.{kept_count, kept_of, sent_count}
+use Rattle.ht_conv.specs.Code.{sent_bits}
+use Rattle.ht_parse.specs.Encoders.{AreShares, IsParsed, list_of}
+use Rattle.ht_parse.proofs.Unique.{parsed-bits}
+use Rattle.ht_viterbi.specs.declared.codeword.Codeword.{Codeword}
+use Rattle.ht_viterbi.specs.Inputs.{IsDecoded, distance, hamming, place_cost, tail}
+use Rattle.ht_viterbi.specs.Decoded.{decoded}
+use Rattle.ht_viterbi.proofs.Enumerating.{decoded_is}
+use Rattle.ht_inverse.specs.Received.{received_at, received_of}
+use Rattle.ht_inverse.specs.Decoding.{distance_at, input_of, scrambled_bits}
+use Rattle.ht_inverse.specs.Shares.{AreCodewords, codeword_of, no_codeword, untailed}
+
+-- a place costs at most 1
+place-low : (place : Option Bool) (bit : Bool) → place_cost place bit ≤ 1
+place-low None bit = omega arith
+place-low (Some false) false = omega arith
+place-low (Some false) true = omega arith
+place-low (Some true) false = omega arith
+place-low (Some true) true = omega arith
+
+hamming-low : (received : List (Option Bool)) (sent : List Bool) → hamming received sent ≤ length received
+hamming-low [] sent = omega arith
+hamming-low (place ∷ received) [] = omega arith
+hamming-low (place ∷ received) (bit ∷ sent) = omega (arith, place-low place bit, hamming-low received sent)
+
+kept-low : (kept : Kept) → kept_count kept ≤ 2
+kept-low Both = omega arith
+kept-low A = omega arith
+kept-low B = omega arith
+
+sent-low : (p : Pattern) (steps : ℕ) → sent_count p steps ≤ 2 * steps
+sent-low p zero = omega arith
+sent-low p (suc steps) = omega (arith, sent-low p steps, kept-low (kept_of p steps))
+
+-- so a distance is at most twice the number of steps
+pub distance-low : (p : Pattern) (received : List (Option Bool)) (input : List Bool) (steps : ℕ) → length received ≡ sent_count p steps
+    → distance p received input ≤ 2 * steps
+unfolding distance
+distance-low p received input steps many = omega (arith, hamming-low received (sent_bits p input), many, sent-low p steps)
+
+-- a received list has a place for each bit that is kept of the codeword's steps
+pub received-length : (r : Rate) (octets erased j steps : ℕ) (labels : List ℕ) (p : Pattern) (received : List (Option Bool))
+    → steps ≡ steps_of r octets → p ≡ pattern_of r → received ≡ received_of r octets erased labels j → length received ≡ sent_count p steps
+unfolding received_of
+received-length r octets erased j steps labels p received steps_are p_is received_is =
+    ap (λ (xs : List (Option Bool)). length xs) received_is
+    ∙ (length-map-range_with_len (received_at r erased labels j) 0 (sent_count (pattern_of r) (steps_of r octets))
+    ∙ sym (ap (λ (q : Pattern). sent_count q steps) p_is ∙ ap (λ (n : ℕ). sent_count (pattern_of r) n) steps_are))
+
+-- SERVICE and octets are what the inputs have before their tails
+pub data-bits : (r : Rate) (octets e : ℕ) → encoders_of r ≡ e → e * (steps_of r octets - 6) ≡ 16 + 8 * octets
+unfolding needed_bits_of
+data-bits r octets zero is = absurd (let h = (encoders_of-range r).0 in omega (arith, h, is))
+data-bits r octets (suc zero) is =
+    let h = steps_of-shared r octets in
+    let e = ap (λ k. k * steps_of r octets) is in
+    omega (arith, h, e, is)
+data-bits r octets (suc (suc zero)) is =
+    let h = steps_of-shared r octets in
+    let e = ap (λ k. k * steps_of r octets) is in
+    omega (arith, h, e, is)
+data-bits r octets (suc (suc (suc n))) is = absurd (let h = (encoders_of-range r).1 in omega (arith, h, is))
+
+-- a codeword has its tail
+pub steps-some : (r : Rate) (octets : ℕ) → tail ≤ steps_of r octets
+unfolding steps_of
+steps-some r octets = omega arith
+
+pub untailed-length : (input : List Bool) (steps : ℕ) → length input ≡ steps → length (untailed input) ≡ steps - 6
+untailed-length input steps long = length-take-le (length input - 6) input (omega arith) ∙ ap (λ k. k - 6) long
+
+-- the inputs are shares also without their tails
+pub untailed-shares : (r : Rate) (steps e : ℕ) (first second : List Bool) → encoders_of r ≡ e
+    → length first ≡ steps → length second ≡ (encoders_of r - 1) * steps → AreShares r (untailed first) (untailed second)
+untailed-shares r steps zero first second is long other = absurd (let h = (encoders_of-range r).0 in omega (arith, h, is))
+untailed-shares r steps (suc zero) first second is long other =
+    let none : length second ≡ 0 = other ∙ ap (λ k. (k - 1) * steps) is ∙ omega arith in
+    untailed-length second 0 none ∙ (let h : 0 - 6 ≡ 0 * length (untailed first) = omega arith in h) ∙ ap (λ k. (k - 1) * length (untailed first)) (sym is)
+untailed-shares r steps (suc (suc zero)) first second is long other =
+    let same : length second ≡ steps = other ∙ ap (λ k. (k - 1) * steps) is ∙ omega arith in
+    untailed-length second steps same ∙ (let h = untailed-length first steps long in let g : steps - 6 ≡ 1 * length (untailed first) = omega (arith, h) in g)
+    ∙ ap (λ k. (k - 1) * length (untailed first)) (sym is)
+untailed-shares r steps (suc (suc (suc n))) first second is long other = absurd (let h = (encoders_of-range r).1 in omega (arith, h, is))
+
+-- the inputs of a frame's codewords
+input-is : (r : Rate) (octets erased j : ℕ) (labels : List ℕ) (first second : Codeword) → AreCodewords r octets erased labels first second → j < encoders_of r
+    → list_of first.input second.input j ≡ input_of r octets erased labels j
+unfolding codeword_of
+input-is r octets erased zero labels first second are there = ap (λ (c : Codeword). c.input) are.first_is
+input-is r octets erased (suc zero) labels first second are there =
+    let two : encoders_of r ≡ 2 = let h = (encoders_of-range r).1 in omega (arith, h, there) in
+    ap (λ (c : Codeword). c.input) are.second_is
+    ∙ ap (λ (k : ℕ). (if k == 2 then codeword_of r octets erased labels 1 else no_codeword).input) two
+input-is r octets erased (suc (suc j)) labels first second are there = absurd (let h = (encoders_of-range r).1 in omega (arith, h, there))
+
+input-length : (r : Rate) (steps j : ℕ) (first second : List Bool) → length first ≡ steps → length second ≡ (encoders_of r - 1) * steps → j < encoders_of r
+    → length (list_of first second j) ≡ steps
+input-length r steps zero first second long other there = long
+input-length r steps (suc zero) first second long other there =
+    let two : encoders_of r ≡ 2 = let h = (encoders_of-range r).1 in omega (arith, h, there) in
+    other ∙ ap (λ k. (k - 1) * steps) two ∙ omega arith
+input-length r steps (suc (suc j)) first second long other there = absurd (let h = (encoders_of-range r).1 in omega (arith, h, there))
+
+untailed-list : (first second : List Bool) (j : ℕ) → list_of (untailed first) (untailed second) j ≡ untailed (list_of first second j)
+untailed-list first second zero = refl
+untailed-list first second (suc j) = refl
+
+-- the scrambled bits of a frame are what its inputs are parsed from
+parsed : (r : Rate) (octets erased : ℕ) (labels : List ℕ) (first second : Codeword) → AreCodewords r octets erased labels first second
+    → length first.input ≡ steps_of r octets → length second.input ≡ (encoders_of r - 1) * steps_of r octets
+    → IsParsed r (scrambled_bits r octets erased labels) (untailed first.input) (untailed second.input)
+unfolding scrambled_bits
+parsed r octets erased labels first second are long other =
+    let e = encoders_of r in
+    let steps = steps_of r octets in
+    let rule : ℕ → Bool = λ t. slice_index_or (input_of r octets erased labels (t % e)) (t / e) false in
+    let count : length (untailed first.input) ≡ steps - 6 = untailed-length first.input steps long in
+    let all : e * length (untailed first.input) ≡ 16 + 8 * octets = ap (λ k. e * k) count ∙ data-bits r octets e refl in
+    record {
+      shares = untailed-shares r steps e first.input second.input refl long other;
+      whole = length-map-range_with_len rule 0 (16 + 8 * octets) ∙ sym all;
+      places = λ j i there below.
+          let input = list_of first.input second.input j in
+          let row : e * i + j ≡ i * e + j = ap (λ k. k + j) (mul_comm e i) in
+          let within : e * i + j < 16 + 8 * octets = place-below e i j (length (untailed first.input)) (16 + 8 * octets) there below all in
+          let same : input ≡ input_of r octets erased labels j = input-is r octets erased j labels first second are there in
+          let here : i < length input - 6 =
+          let h = input-length r steps j first.input second.input long other there in omega (arith, below, count, h) in
+          get_or-map-range_with_len rule 0 (16 + 8 * octets) (e * i + j) (i * e + j) false within (omega (arith, row))
+          ∙ (ap (λ k. slice_index_or (input_of r octets erased labels k) ((i * e + j) / e) false) (mod-mul-add i e j there)
+          ∙ (ap (λ k. slice_index_or (input_of r octets erased labels j) k false) (div-mul-add i e j there)
+          ∙ (ap (λ (xs : List Bool). slice_index_or xs i false) (sym same)
+          ∙ (sym (get_or-take (length input - 6) input i false here)
+          ∙ ap (λ (xs : List Bool). slice_index_or xs i false) (sym (untailed-list first.input second.input j))))));
+    }
+  where
+    place-below : (e i j n all : ℕ) → j < e → i < n → e * n ≡ all → e * i + j < all
+    place-below e i j n all there below is =
+        let h = mul-add-lt i e j n below there in
+        let turned = mul_comm e i in
+        omega (arith, h, turned, is)
+
+pub joined-is : (r : Rate) (octets erased : ℕ) (labels : List ℕ) (first second : Codeword) (bits : List Bool) → AreCodewords r octets erased labels first second
+    → length first.input ≡ steps_of r octets → length second.input ≡ (encoders_of r - 1) * steps_of r octets
+    → IsParsed r bits (untailed first.input) (untailed second.input) → bits ≡ scrambled_bits r octets erased labels
+joined-is r octets erased labels first second bits are long other is =
+    parsed-bits r bits (scrambled_bits r octets erased labels) (untailed first.input) (untailed second.input) is
+    (parsed r octets erased labels first second are long other)
+
+-- and there are 16 for SERVICE and 8 for each octet
+pub joined-length : (r : Rate) (octets : ℕ) (first second : List Bool) (bits : List Bool) → length first ≡ steps_of r octets
+    → IsParsed r bits (untailed first) (untailed second) → length bits ≡ 16 + 8 * octets
+joined-length r octets first second bits long is =
+    is.whole ∙ (ap (λ k. encoders_of r * k) (untailed-length first (steps_of r octets) long) ∙ data-bits r octets (encoders_of r) refl)
+
+-- what is decoded is the codeword of its encoder
+pub codeword-is : (r : Rate) (octets erased j steps : ℕ) (labels : List ℕ) (p : Pattern) (received : List (Option Bool)) (c : Codeword)
+    → steps ≡ steps_of r octets → p ≡ pattern_of r → received ≡ received_of r octets erased labels j → tail ≤ steps
+    → IsDecoded steps p received c.input → c.distance ≡ distance p received c.input → c ≡ codeword_of r octets erased labels j
+unfolding codeword_of input_of distance_at
+codeword-is r octets erased j steps labels p received c steps_are p_is received_is some is far =
+    let input : c.input ≡ input_of r octets erased labels j =
+    sym (decoded_is steps p received c.input some is)
+    ∙ (ap (λ (n : ℕ). decoded n p received) steps_are
+    ∙ (ap (λ (q : Pattern). decoded (steps_of r octets) q received) p_is
+    ∙ ap (λ (v : List (Option Bool)). decoded (steps_of r octets) (pattern_of r) v) received_is)) in
+    let far_is : c.distance ≡ distance_at r octets erased labels j =
+    far
+    ∙ (ap (λ (q : Pattern). distance q received c.input) p_is
+    ∙ (ap (λ (v : List (Option Bool)). distance (pattern_of r) v c.input) received_is
+    ∙ ap (λ (u : List Bool). distance (pattern_of r) (received_of r octets erased labels j) u) input)) in
+    let made : List Bool → ℕ → Codeword = λ u n. record { input = u; distance = n } in
+    ap (λ u. made u c.distance) input ∙ ap (λ n. made (input_of r octets erased labels j) n) far_is
+
+-- two facts of a value give a third
+pub both-ok : {X Y : Type 0} (result : Result X Y) (P Q R : X → Type 0) → ((x : X) → P x → Q x → R x) → IfOk result P → IfOk result Q → IfOk result R
+both-ok (Ok x) P Q R rule p q = rule x p q
+both-ok (Err e) P Q R rule p q = tt
+
+-- the distances of the codewords together
+pub code-is : (r : Rate) (octets erased e : ℕ) (labels : List ℕ) (first second : Codeword) → encoders_of r ≡ e
+    → AreCodewords r octets erased labels first second
+    → first.distance + second.distance ≡ sum (map (distance_at r octets erased labels) (range_with_len 0 (encoders_of r)))
+unfolding codeword_of
+code-is r octets erased zero labels first second is are = absurd (let h = (encoders_of-range r).0 in omega (arith, h, is))
+code-is r octets erased (suc zero) labels first second is are =
+    let a : first.distance ≡ distance_at r octets erased labels 0 = ap (λ (c : Codeword). c.distance) are.first_is in
+    let b : second.distance ≡ 0 =
+    ap (λ (c : Codeword). c.distance) are.second_is ∙ ap (λ (k : ℕ). (if k == 2 then codeword_of r octets erased labels 1 else no_codeword).distance) is in
+    let all : 0 + distance_at r octets erased labels 0 ≡ sum (map (distance_at r octets erased labels) (range_with_len 0 (encoders_of r))) =
+    ap (λ k. sum (map (distance_at r octets erased labels) (range_with_len 0 k))) (sym is) in
+    omega (arith, a, b, all)
+code-is r octets erased (suc (suc zero)) labels first second is are =
+    let a : first.distance ≡ distance_at r octets erased labels 0 = ap (λ (c : Codeword). c.distance) are.first_is in
+    let b : second.distance ≡ distance_at r octets erased labels 1 =
+    ap (λ (c : Codeword). c.distance) are.second_is ∙ ap (λ (k : ℕ). (if k == 2 then codeword_of r octets erased labels 1 else no_codeword).distance) is in
+    let all : 0 + distance_at r octets erased labels 0 + distance_at r octets erased labels 1
+    ≡ sum (map (distance_at r octets erased labels) (range_with_len 0 (encoders_of r))) =
+    ap (λ k. sum (map (distance_at r octets erased labels) (range_with_len 0 k))) (sym is) in
+    omega (arith, a, b, all)
+code-is r octets erased (suc (suc (suc n))) labels first second is are = absurd (let h = (encoders_of-range r).1 in omega (arith, h, is))

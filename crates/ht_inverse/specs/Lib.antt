@@ -1,0 +1,5 @@
+pub mod Received
+pub mod Decoding
+pub mod Shares
+pub mod Tables
+pub mod Sent

@@ -1,0 +1,74 @@
+-- Where a symbol's labels have the coded bits of each encoder, and what the parts of the decoder hand on.
+use Rattle.std.specs.Prelude.{◌≡◌, ℕ, ◌+◌, ◌-◌, ◌*◌, ◌<◌, ◌≤◌, ◌==◌, List, [], length, map, take, slice_index_or}
+use Rattle.std.specs.Prelude.{Bool, false, Option, None, Some, if◌then◌else◌}
+use Rattle.std.specs.List.{range_with_len}
+use Rattle.std.specs.Int.{bit_at}
+use Rattle.ht_rate.specs.declared.rates.Rate.{Rate}
+use Rattle.ht_rate.specs.declared.kinds.Carrier.TheVariants.{Data}
+use Rattle.ht_rate.specs.Carriers.{index_of}
+use Rattle.ht_rate.specs.Rates.{data_carriers_of, encoders_of, label_bits_of, streams_of}
+use Rattle.ht_landing.specs.Landings.{landing_of}
+use Rattle.ht_parse.specs.Streams.{share_of}
+use Rattle.ht_viterbi.specs.declared.codeword.Codeword.{Codeword}
+use Rattle.ht_inverse.specs.declared.label_bit.LabelBit.{LabelBit}
+use Rattle.ht_inverse.specs.Received.{is_lost, received_at}
+use Rattle.ht_inverse.specs.Decoding.{distance_at, input_of}
+
+-- where the labels of a symbol have coded bit i of encoder j's share
+unfoldable pub label_bit_of : Rate → ℕ → ℕ → ℕ → LabelBit
+label_bit_of r erased j i =
+    let l = landing_of r j i in
+    record {
+      label = l.carrier * streams_of r + (l.stream - 1);
+      shift = label_bits_of r - 1 - l.bit;
+      lost = is_lost r erased l.carrier;
+    }
+
+-- the first of them
+abbrev pub label_bits_to : Rate → ℕ → ℕ → ℕ → List LabelBit
+label_bits_to r erased j count = map (label_bit_of r erased j) (range_with_len 0 count)
+
+-- what a label says of the bit that stands there
+abbrev pub bit_in : LabelBit → ℕ → Option Bool
+bit_in place label = if place.lost then None else Some (bit_at label place.shift == 1)
+
+-- an array has of each data subcarrier whether it is erased
+abbrev pub AreLost : Rate → ℕ → List Bool → Type 0
+AreLost r erased lost = (m : ℕ) → m < data_carriers_of r → slice_index_or lost m false ≡ is_lost r erased m
+
+-- the same of those whose subcarriers lie below an index
+abbrev pub AreLostBelow : Rate → ℕ → List Bool → ℕ → Type 0
+AreLostBelow r erased lost index =
+    (m : ℕ) → m < data_carriers_of r → index_of r (Data m) < index → slice_index_or lost m false ≡ is_lost r erased m
+
+-- a loop has the first places of a share
+pub record ListsPlaces (r : Rate) (erased j i count : ℕ) (places : List LabelBit) (len capacity : ℕ) : Type 0 where
+  pub items : places ≡ label_bits_to r erased j i
+  pub len_is : len ≡ i
+  pub room : capacity ≡ count
+
+-- a loop has the first q coded bits, and is at a place of a symbol
+pub record GathersBits (r : Rate) (erased j : ℕ) (labels : List ℕ) (symbol place q count : ℕ) (bits : List (Option Bool)) (len capacity : ℕ) : Type 0 where
+  pub counted : symbol * share_of r + place ≡ q
+  pub below : place < share_of r
+  pub few : symbol ≤ q
+  pub items : bits ≡ map (received_at r erased labels j) (range_with_len 0 q)
+  pub len_is : len ≡ q
+  pub room : capacity ≡ count
+
+-- an input without its tail of six bits
+abbrev pub untailed : List Bool → List Bool
+untailed input = take (length input - 6) input
+
+-- the codeword of encoder j
+unfoldable pub codeword_of : Rate → ℕ → ℕ → List ℕ → ℕ → Codeword
+codeword_of r octets erased labels j = record { input = input_of r octets erased labels j; distance = distance_at r octets erased labels j }
+
+-- in place of the second codeword where there is none
+abbrev pub no_codeword : Codeword
+no_codeword = record { input = []; distance = 0 }
+
+-- the codewords of a frame: the second one only where there are two encoders
+pub record AreCodewords (r : Rate) (octets erased : ℕ) (labels : List ℕ) (first second : Codeword) : Type 0 where
+  pub first_is : first ≡ codeword_of r octets erased labels 0
+  pub second_is : second ≡ (if encoders_of r == 2 then codeword_of r octets erased labels 1 else no_codeword)

@@ -1,0 +1,93 @@
+//! From the inputs of the encoders to octets.
+ghost use Rattle.std.specs.Prelude.{◌≡◌, ◌+◌, ◌-◌, ◌*◌, ◌%◌, ◌^◌, ◌≤◌, ℕ, List, IfOk, length, take};
+ghost use Rattle.ht_rate.specs.Rates.{encoders_of, steps_of};
+ghost use Rattle.ht_parse.specs.Encoders.{AreShares, IsParsed};
+ghost use Rattle.ht_inverse.specs.Decoding.{decoded_frame, outcome_of};
+ghost use Rattle.ht_inverse.specs.Shares.{AreCodewords, untailed};
+
+use crate::decoded::Decoded;
+use crate::octets::Octets;
+use crate::outcome::Outcome;
+use ht_bits::bits_to_octets;
+use ht_parse::join_encoders;
+use ht_rate::Rate;
+use ht_scramble::{recover, scramble};
+use ht_viterbi::Codeword;
+use std::alloc::{AllocError, Global};
+
+// The number of bits of SERVICE.
+const SERVICE: usize = 16;
+
+// The number of tail bits of an encoder.
+const TAIL: usize = 6;
+
+// The first seven bits.
+fn first_seven(bits: &[bool]) -> [bool; 7]
+    requires { 7 ≤ length bits.now }
+    ensures { result ≡ take 7 bits.now }
+{
+    [
+        bits[0], bits[1], bits[2], bits[3], bits[4], bits[5], bits[6],
+    ]
+}
+
+/// What scrambled bits come to: those of SERVICE and of octets. The only refusal is lack of memory.
+pub(crate) fn come_to(alloc: Global, bits: &mut [bool]) -> Result<Outcome, AllocError>
+    requires service { 16 ≤ length bits.old }
+    requires octets { (length bits.old - 16) % 8 ≡ 0 }
+    ensures { IfOk result (λ outcome. outcome ≡ outcome_of bits.old) }
+{
+    let Some(seed) = recover(&first_seven(bits)) else {
+        return Ok(Outcome::SeedZero);
+    };
+    scramble(bits, seed);
+    let octets = bits_to_octets(alloc, &bits[SERVICE..])?;
+    Ok(Outcome::Octets(Octets::from(octets)))
+}
+
+// An input without its tail.
+fn without_tail(input: &[bool]) -> &[bool]
+    ensures { result.now ≡ untailed input.now }
+{
+    &input[..input.len().saturating_sub(TAIL)]
+}
+
+// The encoders' inputs without their tails, put together.
+fn joined(
+    alloc: Global,
+    rate: &Rate,
+    first: &Codeword,
+    second: &Codeword,
+) -> Result<Vec<bool>, AllocError>
+    requires { AreShares rate.now (untailed first.now.input) (untailed second.now.input) }
+    ensures { IfOk result (λ bits. IsParsed rate.now bits.items (untailed first.now.input) (untailed second.now.input)) }
+{
+    join_encoders(
+        alloc,
+        rate,
+        without_tail(first.input.as_slice()),
+        without_tail(second.input.as_slice()),
+    )
+}
+
+/// The frame of these codewords. The only refusal is lack of memory.
+pub(crate) fn frame_of(
+    alloc: Global,
+    rate: &Rate,
+    octets: u16,
+    first: Codeword,
+    second: Codeword,
+) -> Result<Decoded, AllocError>
+    requires first { length first.input ≡ steps_of rate.now octets }
+    requires second { length second.input ≡ (encoders_of rate.now - 1) * steps_of rate.now octets }
+    requires few { first.distance + second.distance ≤ 2 ^ 31 }
+    ensures { (erased : ℕ) (labels : List ℕ) → AreCodewords rate.now octets erased labels first second
+        → IfOk result (λ frame. frame ≡ decoded_frame rate.now octets erased labels) }
+{
+    let mut bits = joined(alloc, rate, &first, &second)?;
+    let outcome = come_to(alloc, bits.as_mut_slice())?;
+    Ok(Decoded {
+        outcome,
+        code: first.distance + second.distance,
+    })
+}

@@ -1,0 +1,206 @@
+//! Where the labels of a symbol have an encoder's coded bits, and what the labels of a frame say of them.
+ghost use Rattle.std.specs.Prelude.{◌≡◌, ◌+◌, ◌-◌, ◌*◌, ◌^◌, ◌<◌, ◌≤◌, ℕ, IfOk, length, map, slice_index_or, vec_len, vec_capacity};
+ghost use Rattle.std.specs.List.{range_with_len};
+ghost use Rattle.ht_rate.specs.Rates.{encoders_of, label_bits_of, pattern_of, steps_of, symbols_of};
+ghost use Rattle.ht_parse.specs.Streams.{share_of};
+ghost use Rattle.ht_inverse.specs.Received.{labels_in_frame, labels_per_symbol, received_at, received_of};
+ghost use Rattle.ht_inverse.specs.Shares.{AreLost, GathersBits, ListsPlaces, bit_in, codeword_of, label_bit_of, label_bits_to};
+
+use crate::erasures::lost_carriers;
+use crate::label_bit::LabelBit;
+use ht_conv::sent;
+use ht_landing::Landing;
+use ht_rate::Rate;
+use ht_viterbi::{Codeword, decode};
+use std::alloc::{AllocError, Global};
+
+/// Where the labels of a symbol have the coded bits of an encoder's share, in their order.
+///
+/// It holds for every symbol, so a coded bit of a frame is found without a division.
+#[derive(Drop)]
+pub(crate) struct Share {
+    pub(crate) rate: Rate,
+    pub(crate) erased: u128,
+    pub(crate) encoder: u8,
+    pub(crate) places: Vec<LabelBit>,
+    pub(crate) ghost there: { encoder < encoders_of rate },
+    pub(crate) ghost places_are: { places.items ≡ label_bits_to rate erased encoder (share_of rate) },
+}
+
+// N_CBPS / N_ES, the coded bits of an encoder in a symbol.
+#[tactic(auto, unfolding(ht_parse::specs::Streams::share_of))]
+fn share_size(rate: &Rate) -> u32
+    ensures value { result ≡ share_of rate.now }
+    ensures high { result ≤ 2592 }
+{
+    u32::from(rate.coded_bits()) / u32::from(rate.encoders())
+}
+
+// Where coded bit i stands.
+fn place_of_bit(rate: &Rate, lost: &[bool; 108], encoder: u8, i: u32) -> LabelBit
+    requires { encoder < encoders_of rate.now }
+    ensures { (erased : ℕ) → AreLost rate.now erased lost.now → result ≡ label_bit_of rate.now erased encoder i }
+{
+    let landing = Landing::of(rate, encoder, i);
+    LabelBit {
+        label: u16::from(landing.carrier) * u16::from(rate.streams())
+            + u16::from(landing.stream - 1),
+        shift: rate.label_bits() - 1 - landing.bit,
+        lost: lost[usize::from(landing.carrier)],
+    }
+}
+
+// Where the first coded bits of a share stand.
+fn first_places(
+    alloc: Global,
+    rate: &Rate,
+    erased: u128,
+    encoder: u8,
+    count: u32,
+) -> Result<Vec<LabelBit>, AllocError>
+    requires { encoder < encoders_of rate.now }
+    ensures { IfOk result (λ places. places.items ≡ label_bits_to rate.now erased encoder count) }
+{
+    let lost = lost_carriers(rate, erased);
+    let mut places = Vec::with_capacity(alloc, count as usize)?;
+    for i in 0..count {
+        places.push_reserved(place_of_bit(rate, &lost, encoder, i));
+    }
+    Ok(places)
+}
+
+// What a label says of a coded bit.
+#[inline(always)]
+fn bit_from(place: LabelBit, label: u8) -> Option<bool>
+    requires { place.shift < 8 }
+    ensures { result ≡ bit_in place label }
+{
+    if place.lost {
+        None
+    } else {
+        Some(label >> place.shift & 1 == 1)
+    }
+}
+
+// The symbol of the next coded bit, and its place there.
+#[inline(always)]
+fn next_place(symbol: usize, place: usize, share: usize) -> (usize, usize)
+    requires place { place < share }
+    requires symbol { symbol < 2 ^ 32 }
+    ensures counted { result.0 * share + result.1 ≡ symbol * share + place + 1 }
+    ensures place { result.1 < share }
+    ensures few { result.0 ≤ symbol + 1 }
+{
+    if place + 1 == share {
+        (symbol + 1, 0)
+    } else {
+        (symbol, place + 1)
+    }
+}
+
+impl Share {
+    /// The share of an encoder at a rate, where these subcarriers are erased. The only refusal is lack of memory.
+    pub(crate) fn of(
+        alloc: Global,
+        rate: &Rate,
+        erased: u128,
+        encoder: u8,
+    ) -> Result<Share, AllocError>
+        requires { encoder < encoders_of rate.now }
+        ensures rate { IfOk result (λ share. share.rate ≡ rate.now) }
+        ensures erased { IfOk result (λ share. share.erased ≡ erased) }
+        ensures encoder { IfOk result (λ share. share.encoder ≡ encoder) }
+    {
+        let places = first_places(alloc, rate, erased, encoder, share_size(rate))?;
+        Ok(Share {
+            rate: *rate,
+            erased,
+            encoder,
+            places,
+        })
+    }
+
+    // What the labels say of the coded bit at a place of a symbol's share.
+    #[inline(always)]
+    fn bit(
+        &self,
+        labels: &[u8],
+        per_symbol: usize,
+        symbol: usize,
+        place: usize,
+        symbols: usize,
+    ) -> Option<bool>
+        requires labels { length labels.now ≡ symbols * labels_per_symbol self.now.rate }
+        requires few { symbols ≤ 2 ^ 20 }
+        requires per_symbol { per_symbol ≡ labels_per_symbol self.now.rate }
+        requires symbol { symbol < symbols }
+        requires place { place < share_of self.now.rate }
+        ensures { result ≡ received_at self.now.rate self.now.erased labels.now self.now.encoder (symbol * share_of self.now.rate + place) }
+    {
+        let place = self.places[place];
+        bit_from(
+            place,
+            labels[symbol * per_symbol + usize::from(place.label)],
+        )
+    }
+
+    // What the labels of some symbols say of the encoder's first coded bits.
+    fn received(
+        &self,
+        alloc: Global,
+        symbols: usize,
+        labels: &[u8],
+        count: usize,
+    ) -> Result<Vec<Option<bool>>, AllocError>
+        requires labels { length labels.now ≡ symbols * labels_per_symbol self.now.rate }
+        requires count { count ≤ symbols * share_of self.now.rate }
+        requires few { symbols ≤ 2 ^ 20 }
+        ensures { IfOk result (λ bits. bits.items ≡ map (received_at self.now.rate self.now.erased labels.now self.now.encoder) (range_with_len 0 count)) }
+    {
+        let share = self.places.len();
+        let per_symbol = usize::from(self.rate.data_carriers()) * usize::from(self.rate.streams());
+        let mut bits = Vec::with_capacity(alloc, count)?;
+        let mut symbol = 0;
+        let mut place = 0;
+        for _ in 0..count {
+            bits.push_reserved(self.bit(labels, per_symbol, symbol, place, symbols));
+            (symbol, place) = next_place(symbol, place, share);
+        }
+        Ok(bits)
+    }
+
+    /// The received list of a frame with this number of octets.
+    #[tactic(auto, using(ht_conv::proofs::Fitting::sent_fits), unfolding(ht_parse::specs::Streams::share_of, crate::specs::Received::received_of))]
+    pub(crate) fn gathered(
+        &self,
+        alloc: Global,
+        octets: u16,
+        labels: &[u8],
+    ) -> Result<Vec<Option<bool>>, AllocError>
+        requires some { 1 ≤ octets }
+        requires labels { length labels.now ≡ labels_in_frame self.now.rate octets }
+        ensures { IfOk result (λ bits. bits.items ≡ received_of self.now.rate octets self.now.erased labels.now self.now.encoder) }
+    {
+        let symbols = self.rate.symbols(octets) as usize;
+        let count = sent(self.rate.pattern(), self.rate.codeword_steps(octets)) as usize;
+        self.received(alloc, symbols, labels, count)
+    }
+
+    /// The codeword of a frame with this number of octets, decoded.
+    pub(crate) fn codeword(
+        &self,
+        alloc: Global,
+        octets: u16,
+        labels: &[u8],
+    ) -> Result<Codeword, AllocError>
+        requires some { 1 ≤ octets }
+        requires labels { length labels.now ≡ labels_in_frame self.now.rate octets }
+        ensures value { IfOk result (λ c. c ≡ codeword_of self.now.rate octets self.now.erased labels.now self.now.encoder) }
+        ensures steps { IfOk result (λ c. length c.input ≡ steps_of self.now.rate octets) }
+        ensures few { IfOk result (λ c. c.distance ≤ 2 ^ 30) }
+    {
+        let received = self.gathered(alloc, octets, labels)?;
+        let steps = self.rate.codeword_steps(octets);
+        decode(alloc, steps, self.rate.pattern(), &received)
+    }
+}

@@ -1,0 +1,130 @@
+//! Where the labels of a symbol have the coded bits of all encoders.
+ghost use Rattle.std.specs.Prelude.{◌≡◌, ◌==◌, ◌↔◌, ◌-◌, ◌*◌, ◌^◌, ◌≤◌, IfOk, IsTrue, if◌then◌else◌, length};
+ghost use Rattle.ht_rate.specs.Rates.{encoders_of, steps_of};
+ghost use Rattle.ht_inverse.specs.Decoding.{decoded_frame};
+ghost use Rattle.ht_inverse.specs.Received.{labels_in_frame};
+ghost use Rattle.ht_inverse.specs.Shares.{codeword_of, no_codeword};
+ghost use Rattle.ht_inverse.specs.Tables.{IsSecond};
+
+use crate::bits::frame_of;
+use crate::decoded::Decoded;
+use crate::share::Share;
+use ht_bits::Bits;
+use ht_rate::Rate;
+use ht_viterbi::Codeword;
+use std::alloc::{AllocError, Global};
+use std::thread;
+use std::thread::Threads;
+
+/// The shares of a rate's encoders, where some subcarriers are erased. It serves every frame of this rate with these
+/// erasures.
+#[derive(Drop)]
+pub(crate) struct Table {
+    pub(crate) first: Share,
+    pub(crate) second: Option<Share>,
+    pub(crate) ghost encoder: { first.encoder ≡ 0 },
+    pub(crate) ghost matched: { IsSecond first.rate first.erased second },
+}
+
+// The share of encoder 1, where the rate has one.
+fn second_share(alloc: Global, rate: &Rate, erased: u128) -> Result<Option<Share>, AllocError>
+    ensures { IfOk result (λ second. IsSecond rate.now erased second) }
+{
+    if rate.encoders() == 2 {
+        Ok(Some(Share::of(alloc, rate, erased, 1)?))
+    } else {
+        Ok(None)
+    }
+}
+
+impl Table {
+    /// The table of a rate, where these subcarriers are erased. The only refusal is lack of memory.
+    pub(crate) fn of(alloc: Global, rate: &Rate, erased: u128) -> Result<Table, AllocError>
+        ensures rate { IfOk result (λ table. table.first.rate ≡ rate.now) }
+        ensures erased { IfOk result (λ table. table.first.erased ≡ erased) }
+    {
+        let first = Share::of(alloc, rate, erased, 0)?;
+        let second = second_share(alloc, rate, erased)?;
+        Ok(Table { first, second })
+    }
+
+    /// Whether this is the table of a rate with these erasures.
+    pub(crate) fn serves(&self, rate: &Rate, erased: u128) -> bool
+        ensures { IsTrue result ↔ ((self.now.first.rate ≡ rate.now) × (self.now.first.erased ≡ erased)) }
+    {
+        self.first.rate == *rate && self.first.erased == erased
+    }
+
+    // The codeword of encoder 1, or an empty one where there is none.
+    fn second_codeword(
+        &self,
+        alloc: Global,
+        octets: u16,
+        labels: &[u8],
+    ) -> Result<Codeword, AllocError>
+        requires some { 1 ≤ octets }
+        requires labels { length labels.now ≡ labels_in_frame self.now.first.rate octets }
+        ensures value { IfOk result (λ c. c ≡ (if encoders_of self.now.first.rate == 2
+            then codeword_of self.now.first.rate octets self.now.first.erased labels.now 1 else no_codeword)) }
+        ensures steps { IfOk result (λ c. length c.input ≡ (encoders_of self.now.first.rate - 1) * steps_of self.now.first.rate octets) }
+        ensures few { IfOk result (λ c. c.distance ≤ 2 ^ 30) }
+    {
+        match &self.second {
+            Some(share) => share.codeword(alloc, octets, labels),
+            None => Ok(Codeword {
+                input: Bits::from(Vec::new(alloc)),
+                distance: 0,
+            }),
+        }
+    }
+
+    /// Decodes a frame with this number of octets. The only refusal is lack of memory.
+    pub(crate) fn decode(
+        &self,
+        alloc: Global,
+        octets: u16,
+        labels: &[u8],
+    ) -> Result<Decoded, AllocError>
+        requires some { 1 ≤ octets }
+        requires labels { length labels.now ≡ labels_in_frame self.now.first.rate octets }
+        ensures { IfOk result (λ frame. frame ≡ decoded_frame self.now.first.rate octets self.now.first.erased labels.now) }
+    {
+        let first = self.first.codeword(alloc, octets, labels)?;
+        let second = self.second_codeword(alloc, octets, labels)?;
+        frame_of(alloc, &self.first.rate, octets, first, second)
+    }
+
+    /// Decodes a frame as [`Table::decode`] does, and two codewords in two threads, where a thread can be made.
+    pub(crate) fn decode_together<R: Threads>(
+        &self,
+        rt: &R,
+        alloc: Global,
+        octets: u16,
+        labels: &[u8],
+    ) -> Result<Decoded, AllocError>
+        requires some { 1 ≤ octets }
+        requires labels { length labels.now ≡ labels_in_frame self.now.first.rate octets }
+        ensures { IfOk result (λ frame. frame ≡ decoded_frame self.now.first.rate octets self.now.first.erased labels.now) }
+    {
+        if self.second.is_none() {
+            return self.decode(alloc, octets, labels);
+        }
+        let (first, second) = thread::join(
+            rt,
+            || -> Result<Codeword, AllocError>
+                requires { (1 ≤ octets) × (length labels.now ≡ labels_in_frame self.now.first.rate octets) }
+                ensures value { IfOk result (λ c. c ≡ codeword_of self.entry.now.first.rate octets self.entry.now.first.erased labels.entry.now 0) }
+                ensures steps { IfOk result (λ c. length c.input ≡ steps_of self.entry.now.first.rate octets) }
+                ensures few { IfOk result (λ c. c.distance ≤ 2 ^ 30) }
+            { self.first.codeword(alloc, octets, labels) },
+            || -> Result<Codeword, AllocError>
+                requires { (1 ≤ octets) × (length labels.now ≡ labels_in_frame self.now.first.rate octets) }
+                ensures value { IfOk result (λ c. c ≡ (if encoders_of self.entry.now.first.rate == 2
+                    then codeword_of self.entry.now.first.rate octets self.entry.now.first.erased labels.entry.now 1 else no_codeword)) }
+                ensures steps { IfOk result (λ c. length c.input ≡ (encoders_of self.entry.now.first.rate - 1) * steps_of self.entry.now.first.rate octets) }
+                ensures few { IfOk result (λ c. c.distance ≤ 2 ^ 30) }
+            { self.second_codeword(alloc, octets, labels) },
+        );
+        frame_of(alloc, &self.first.rate, octets, first?, second?)
+    }
+}
