@@ -1,0 +1,5 @@
+pub mod Heads
+pub mod Labels
+pub mod Results
+pub mod Texts
+pub mod Folding

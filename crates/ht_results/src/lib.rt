@@ -1,0 +1,25 @@
+//! What the frames of a capture come to, as a definition over its octets (IEEE Std 802.11-2012, clause 20.3.11
+//! backwards).
+//!
+//! `results_of` in `specs/Results.antt` says it of any octets: a [`FrameResult`] for each frame that is whole among them.
+//! Its sums are those of the distances of the nearest vectors, over the data subcarriers and over the pilots
+//! (`data_sum_of`, `pilot_sum_of`), and its labels are looked up place by place (`frame_labels` in `specs/Labels.antt`)
+//! and decoded (`decoded_frame` of `ht_inverse`). `rx_text` in `specs/Texts.antt` is the text of it, with the last line.
+//! None of these goes over the jobs in the order in which a receiver takes them.
+//!
+//! `results_from` in `specs/Folding.antt` does: from a frame under way, each job adds its distance to a sum and puts its
+//! labels on their places, and a frame's last job gives its result. The module [`laws`] says that both come to the same,
+//! for any octets and any front of their jobs. So a receiver that follows the second keeps the first.
+//!
+//! Take a capture in version 2 of one frame at 20 MHz, MCS 0, of one octet, so of two symbols, in which subcarriers 0
+//! (data) and 7 (a pilot) alone are present, each with a channel of 10. Of the samples -7 and 11 in the first symbol and
+//! 12 + j and 11 in the second one the sums are 9 + 5 = 14 and 1 + 441 = 442, and the labels of subcarrier 0 are 0 and 1.
+//! `proofs/Worked.antt` computes them.
+#![tactic(auto)]
+
+mod frame_result;
+mod headed;
+pub mod laws;
+
+pub use frame_result::FrameResult;
+pub use headed::Headed;
