@@ -5,7 +5,7 @@ use Rattle.ht_metric.specs.Jobs.{JobView}
 use Rattle.ht_metric.specs.declared.hit.Hit.{Hit}
 use Rattle.ht_window.specs.Windows.{WindowView, jobs, front_hit}
 use Rattle.ht_window.specs.declared.slot.Slot.{Slot}
-use Rattle.ht_crew.specs.Feeds.{FeedView, Takes, GivesAsBefore}
+use Rattle.ht_crew.specs.Feeds.{FeedView, TakesHit, GivesAsBefore}
 use Rattle.ht_crew.specs.Driving.{Holds, IsAlong, one_without, waiting}
 
 -- the window after its first hit was given out
@@ -33,7 +33,7 @@ module _ {Fault : Type 0} where
     pub along : (all : List JobView) → IsAlong all f0 → IsAlong all f
 
   -- one of the jobs given is due no more
-  pub along_less : (all : List JobView) (f f' : FeedView Fault) → IsAlong all f → 1 ≤ length f.due → Takes f f' → GivesAsBefore f f' → IsAlong all f'
+  pub along_less : (all : List JobView) (f f' : FeedView Fault) → IsAlong all f → 1 ≤ length f.due → TakesHit f f' → GivesAsBefore f f' → IsAlong all f'
   along_less all f f' along some takes same =
       let n : ℕ = f.count in
       let due : ℕ = length f.due in
@@ -54,7 +54,7 @@ module _ {Fault : Type 0} where
       omega (arith, due)
 
   pub holds_less : (w : WindowView) (f f' : FeedView Fault) (job : JobView) (rest : List JobView)
-      → Holds w f → jobs w.slots ≡ job ∷ rest → Takes f f' → f'.count ≡ f.count → Holds (emitted w) f'
+      → Holds w f → jobs w.slots ≡ job ∷ rest → TakesHit f f' → f'.count ≡ f.count → Holds (emitted w) f'
   holds_less w f f' job rest holds e takes count =
       let some : length (jobs w.slots) ≡ length (job ∷ rest) = ap (λ (xs : List JobView). length xs) e in
       let less = length-drop 1 w.slots in
@@ -75,7 +75,7 @@ module _ {Fault : Type 0} where
 
   pub delivering_more : (w0 : WindowView) (f0 : FeedView Fault) (w : WindowView) (f f' : FeedView Fault) (hit : Hit) (rest : List JobView)
       → Delivering w0 f0 w f → front_hit w.slots ≡ Some hit → jobs w.slots ≡ hit.job ∷ rest
-      → Takes f f' → GivesAsBefore f f' → f.faults ≤ f'.faults → Delivering w0 f0 (emitted w) f'
+      → TakesHit f f' → GivesAsBefore f f' → f.faults ≤ f'.faults → Delivering w0 f0 (emitted w) f'
   delivering_more w0 f0 w f f' hit rest so_far front e takes as_before later = record {
     holds = holds_less w f f' hit.job rest so_far.holds e takes as_before.count;
     capacity = so_far.capacity;

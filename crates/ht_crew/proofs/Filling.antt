@@ -7,7 +7,7 @@ use Rattle.ht_metric.specs.Jobs.{JobView}
 use Rattle.ht_metric.specs.declared.hit.Hit.{Hit}
 use Rattle.ht_window.specs.Windows.{WindowView, unbooked, front_hit}
 use Rattle.ht_window.specs.declared.slot.Slot.{Slot}
-use Rattle.ht_crew.specs.Feeds.{FeedView, Gives, ComesFirst}
+use Rattle.ht_crew.specs.Feeds.{FeedView, GivesJob, ComesFirst}
 use Rattle.ht_crew.specs.Driving.{Holds, GoesOn, IsAlong, to_run, one_without, waiting}
 
 -- the window after a job was issued
@@ -41,7 +41,8 @@ module _ {Fault : Type 0} where
     pub failed : f.failed ≡ f0.failed
     pub along : (all : List JobView) → IsAlong all f0 → IsAlong all f
 
-  pub holds_more : (w : WindowView) (f f' : FeedView Fault) (job : JobView) → Holds w f → length w.slots < w.capacity → Gives f f' job → Holds (issued w job) f'
+  pub holds_more : (w : WindowView) (f f' : FeedView Fault) (job : JobView) → Holds w f → length w.slots < w.capacity → GivesJob f f' job
+      → Holds (issued w job) f'
   holds_more w f f' job holds room gives =
       let one_more : length (w.slots ++ unbooked job ∷ []) ≡ length w.slots + 1 = length-append w.slots (unbooked job ∷ []) in
       record {
@@ -51,7 +52,7 @@ module _ {Fault : Type 0} where
       }
 
   -- a job of the list more was given
-  pub along_more : (all : List JobView) (f f' : FeedView Fault) (job : JobView) → IsAlong all f → f.ended ≡ false → Gives f f' job → IsAlong all f'
+  pub along_more : (all : List JobView) (f f' : FeedView Fault) (job : JobView) → IsAlong all f → f.ended ≡ false → GivesJob f f' job → IsAlong all f'
   along_more all f f' job along running gives =
       rest f'.left refl (subst (λ (left : Option (List JobView)). ComesFirst left f'.left job) (along.left running) gives.left)
     where
@@ -77,7 +78,7 @@ module _ {Fault : Type 0} where
           }
 
   pub filling_more : (w0 : WindowView) (f0 : FeedView Fault) (w : WindowView) (f f' : FeedView Fault) (job : JobView) → Filling w0 f0 w f
-      → length w.slots < w.capacity → f.ended ≡ false → Gives f f' job → f.faults ≤ f'.faults
+      → length w.slots < w.capacity → f.ended ≡ false → GivesJob f f' job → f.faults ≤ f'.faults
       → f'.count + f'.more < 2 ^ 64 - 1 → Filling w0 f0 (issued w job) f'
   filling_more w0 f0 w f f' job filling room running gives later bound = record {
     holds = holds_more w f f' job filling.holds room gives;
@@ -92,13 +93,13 @@ module _ {Fault : Type 0} where
 
   -- a job that was given and waits is one that may still have come
   pub fewer_more : (w : WindowView) (f f' : FeedView Fault) (job : JobView) (running : Bool)
-      → running ≡ true → Gives f f' job → to_run running f' (issued w job) ≤ to_run running f w
+      → running ≡ true → GivesJob f f' job → to_run running f' (issued w job) ≤ to_run running f w
   fewer_more w f f' job running on gives =
       let less : to_run true f' (issued w job) ≤ to_run true f w = omega (arith, waiting_more w.slots job, gives.more) in
       subst (λ (r : Bool). to_run r f' (issued w job) ≤ to_run r f w) (sym on) less
 
   -- a feed that gave a job goes on
-  pub goes_on_more : (f f' : FeedView Fault) (job : JobView) (running : Bool) → running ≡ true → Gives f f' job → GoesOn running f'
+  pub goes_on_more : (f f' : FeedView Fault) (job : JobView) (running : Bool) → running ≡ true → GivesJob f f' job → GoesOn running f'
   goes_on_more f f' job running on gives =
       let still : GoesOn true f' = record { ended = gives.running; left = λ off. search rules } in
       subst (λ (r : Bool). GoesOn r f') (sym on) still

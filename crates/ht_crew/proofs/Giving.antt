@@ -7,7 +7,7 @@ use Rattle.std.proofs.lemmas.Option.{slice_get_within, slice_get-get_or, get_or_
 use Rattle.ht_metric.specs.Jobs.{JobView, Found, found_at}
 use Rattle.ht_metric.specs.declared.hit.Hit.{Hit}
 use Rattle.ht_metric.proofs.Finding.{near_is}
-use Rattle.ht_crew.specs.Feeds.{Gives, Takes}
+use Rattle.ht_crew.specs.Feeds.{GivesJob, TakesHit}
 use Rattle.ht_crew.specs.Lists.{Answer, answer, answer_of, Listed, IsListed, called, gave, took, shown, TakesInTurn}
 
 -- an entry that is there, behind those before it
@@ -32,7 +32,7 @@ due_more {A} xs taken given x within e =
 
 -- the next job of a feed over a list
 pub gives_next : (a : Listed) (job : JobView) → IsListed (called a) → a.ended ≡ false
-    → slice_get a.jobs a.given ≡ Some job → Gives (shown a) (shown (gave a)) job
+    → slice_get a.jobs a.given ≡ Some job → GivesJob (shown a) (shown (gave a)) job
 gives_next a job listed running e =
     let below = slice_get_within a.jobs a.given job e in
     record {
@@ -78,7 +78,7 @@ still_listed a hit listed first =
     }
 
 -- the first job due is due no more
-pub takes_first : (a : Listed) (hit : Hit) → Takes (shown a) (shown (took a hit))
+pub takes_first : (a : Listed) (hit : Hit) → TakesHit (shown a) (shown (took a hit))
 takes_first a hit = record {
   due = ap (λ (n : ℕ). drop n (take a.given a.jobs)) (length_more a.taken hit) ∙ sym (drop-drop 1 (length a.taken) (take a.given a.jobs));
   failed = refl;

@@ -4,3 +4,8 @@ mod Delivering
 mod Running
 mod Whole
 mod Values
+mod Booking
+mod Issuing
+mod Supplied
+mod Leading
+mod Settling

@@ -34,13 +34,13 @@ ComesFirst (Some before) (Some after) job = before ≡ job ∷ after
 
 module _ {Fault : Type 0} where
   -- a feed that has given nothing yet
-  pub record IsFresh (feed : FeedView Fault) : Type 0 where
+  pub record IsFreshFeed (feed : FeedView Fault) : Type 0 where
     pub none_given : feed.count ≡ 0
     pub none_due : feed.due ≡ []
     pub running : feed.ended ≡ false
 
   -- the feed gave this job
-  pub record Gives (old new : FeedView Fault) (job : JobView) : Type 0 where
+  pub record GivesJob (old new : FeedView Fault) (job : JobView) : Type 0 where
     pub running : new.ended ≡ false
     pub number : job.number ≡ old.count
     pub count : new.count ≡ old.count + 1
@@ -50,7 +50,7 @@ module _ {Fault : Type 0} where
     pub failed : new.failed ≡ old.failed
 
   -- the feed said that no job comes any more
-  pub record Ends (old new : FeedView Fault) : Type 0 where
+  pub record EndsJobs (old new : FeedView Fault) : Type 0 where
     pub ended : new.ended ≡ true
     pub count : new.count ≡ old.count
     pub due : new.due ≡ old.due
@@ -59,7 +59,7 @@ module _ {Fault : Type 0} where
     pub failed : new.failed ≡ old.failed
 
   -- the feed took the hit of the first job due
-  pub record Takes (old new : FeedView Fault) : Type 0 where
+  pub record TakesHit (old new : FeedView Fault) : Type 0 where
     pub due : new.due ≡ drop 1 old.due
     pub failed : new.failed ≡ old.failed
 

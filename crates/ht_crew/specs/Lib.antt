@@ -2,3 +2,6 @@ pub mod Feeds
 pub mod Lists
 pub mod Turns
 pub mod Driving
+pub mod Accounts
+pub mod Supplying
+pub mod Reports

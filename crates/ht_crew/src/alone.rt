@@ -1,6 +1,6 @@
 //! The drive without threads.
 ghost use Rattle.std.specs.Prelude.{◌≡◌, ◌+◌, ◌-◌, ◌^◌, ◌<◌, ◌≤◌, [], length, true, Err, None, IfOk, IfErr, OnOk};
-ghost use Rattle.ht_crew.specs.Feeds.{IsFresh, IsLeft};
+ghost use Rattle.ht_crew.specs.Feeds.{IsFreshFeed, IsLeft};
 ghost use Rattle.ht_crew.specs.Driving.{Failed, IsInTurn};
 
 use crate::caller::{deliver, fill, run};
@@ -26,7 +26,7 @@ pub fn drive_alone<F: Feed, G: Gate>(
 ) -> Result<Report, DriveFault<F::Fault>>
     requires some { 1 ≤ window }
     requires few { window ≤ 4096 }
-    requires fresh { IsFresh (F.shown feed.old) }
+    requires fresh { IsFreshFeed (F.shown feed.old) }
 
     // However it ends.
     ensures leads { F.leads feed.old feed.new }
@@ -67,7 +67,7 @@ fn run_all<F: Feed, G: Gate>(window: &mut Window, gate: &G, feed: &mut F) -> Res
     requires some { 1 ≤ window.old.capacity }
     requires empty { window.old.slots ≡ [] }
     requires front { window.old.front ≡ 0 }
-    requires fresh { IsFresh (F.shown feed.old) }
+    requires fresh { IsFreshFeed (F.shown feed.old) }
 
     ensures leads { F.leads feed.old feed.new }
     ensures due { length (F.shown feed.new).due ≤ window.old.capacity }

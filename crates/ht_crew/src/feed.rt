@@ -1,6 +1,6 @@
 //! Where jobs come from and hits go.
 ghost use Rattle.std.specs.Prelude.{◌≡◌, ◌+◌, ◌-◌, ◌^◌, ◌<◌, ◌≤◌, length, false, Some, slice_get, IfOk, IfErr, IfSome, IfNone, OnOk};
-ghost use Rattle.ht_crew.specs.Feeds.{FeedView, Gives, Ends, Takes, Fails, GivesAsBefore};
+ghost use Rattle.ht_crew.specs.Feeds.{FeedView, GivesJob, EndsJobs, TakesHit, Fails, GivesAsBefore};
 
 use ht_metric::{Hit, Job};
 
@@ -29,8 +29,8 @@ pub trait Feed {
     fn next(&mut self) -> Result<Option<Job>, Self::Fault>
         requires running { (shown self.old).ended ≡ false }
         requires few { length (shown self.old).due < 4096 }
-        ensures job { IfOk result (λ given. IfSome given (Gives (shown self.old) (shown self.new))) }
-        ensures none { IfOk result (λ given. IfNone given (Ends (shown self.old) (shown self.new))) }
+        ensures job { IfOk result (λ given. IfSome given (GivesJob (shown self.old) (shown self.new))) }
+        ensures none { IfOk result (λ given. IfNone given (EndsJobs (shown self.old) (shown self.new))) }
         ensures fault { IfErr result (Fails (shown self.old) (shown self.new)) }
         ensures later { (shown self.old).faults ≤ (shown self.new).faults }
         ensures bound { (shown self.new).count + (shown self.new).more < 2 ^ 64 - 1 }
@@ -39,7 +39,7 @@ pub trait Feed {
     /// Takes the hit of the first job due. A call that fails is counted and leaves the job due.
     fn take(&mut self, hit: Hit) -> Result<(), Self::Fault>
         requires first { slice_get (shown self.old).due 0 ≡ Some hit.job }
-        ensures taken { OnOk result (Takes (shown self.old) (shown self.new)) }
+        ensures taken { OnOk result (TakesHit (shown self.old) (shown self.new)) }
         ensures fault { IfErr result (Fails (shown self.old) (shown self.new)) }
         ensures as_before { GivesAsBefore (shown self.old) (shown self.new) }
         ensures later { (shown self.old).faults ≤ (shown self.new).faults }

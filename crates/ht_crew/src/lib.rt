@@ -1,9 +1,10 @@
-//! The drive that runs the jobs of a feed and hands it their hits in order.
+//! The drives that run the jobs of a feed and hand it their hits in order.
 //!
 //! A [`Feed`] gives detection jobs (crate `ht_metric`) numbered from 0, and takes each job's hit back, its first
 //! nearest vector. [`drive_alone`] runs them in the caller's thread. It asks for jobs until as many are due as its
 //! window has slots, runs the first that waits by the sphere search (`ht_sphere`), books the hit in the window
-//! (`ht_window`), and gives the feed what can be given in order. A [`Gate`] is called before and after each job.
+//! (`ht_window`), and gives the feed what can be given in order. [`drive`] does the same with workers in threads of their
+//! own (`ht_team`), and promises the same of the feed. A [`Gate`] is called before and after each job.
 //!
 //! Over a [`ListFeed`] of three jobs and a window of two, the calls of the feed are: `next`, `next`, `take` of 0,
 //! `next`, `take` of 1, `next`, which finds no job any more, and `take` of 2. If call 4 is to fail, the drive answers
@@ -13,15 +14,21 @@
 
 mod alone;
 mod caller;
+mod detect;
 mod drive_fault;
 mod feed;
 mod gate;
 pub mod laws;
+mod lead;
 mod list_fault;
 mod list_feed;
 mod report;
+mod supply;
+mod tally;
 #[cfg(test)]
 mod tests;
+mod threaded;
+mod turn;
 
 pub use alone::drive_alone;
 pub use drive_fault::DriveFault;
@@ -29,4 +36,5 @@ pub use feed::Feed;
 pub use gate::{Gate, OpenGate};
 pub use list_fault::ListFault;
 pub use list_feed::ListFeed;
-pub use report::{Passes, Ran, Report};
+pub use report::{DequeEnds, Deques, HitPass, JobOwner, JobPass, Passes, Ran, Report};
+pub use threaded::drive;

@@ -1,7 +1,7 @@
 //! A feed over a list of jobs, for tests: it fails at the calls that are named, and keeps the hits.
 ghost use Rattle.std.specs.Prelude.{◌≡◌, ◌↔◌, ◌+◌, ◌-◌, ◌^◌, ◌<◌, ◌≤◌, [], ◌++◌, ◌∷◌, length, drop, take, true, false, Some, Contains, slice_get};
 ghost use Rattle.std.specs.Prelude.{IsErr, IfOk, IfErr, IfSome, IfNone, OnOk, OnErr, OnSome};
-ghost use Rattle.ht_crew.specs.Feeds.{FeedView, Gives, Ends, Takes, Fails, GivesAsBefore};
+ghost use Rattle.ht_crew.specs.Feeds.{FeedView, GivesJob, EndsJobs, TakesHit, Fails, GivesAsBefore};
 ghost use Rattle.ht_crew.specs.Lists.{AreNumbered, Listed, IsListed, fresh, called, refused, gave, ended, took, shown, TakesInTurn};
 ghost use Rattle.ht_crew.specs.Turns.{stays, goes_on};
 
@@ -96,8 +96,8 @@ impl Feed for ListFeed {
     fn next(&mut self) -> Result<Option<Job>, ListFault>
         requires running { (shown self.old).ended ≡ false }
         requires few { length (shown self.old).due < 4096 }
-        ensures job { IfOk result (λ given. IfSome given (Gives (shown self.old) (shown self.new))) }
-        ensures none { IfOk result (λ given. IfNone given (Ends (shown self.old) (shown self.new))) }
+        ensures job { IfOk result (λ given. IfSome given (GivesJob (shown self.old) (shown self.new))) }
+        ensures none { IfOk result (λ given. IfNone given (EndsJobs (shown self.old) (shown self.new))) }
         ensures fault { IfErr result (Fails (shown self.old) (shown self.new)) }
         ensures later { (shown self.old).faults ≤ (shown self.new).faults }
         ensures bound { (shown self.new).count + (shown self.new).more < 2 ^ 64 - 1 }
@@ -121,7 +121,7 @@ impl Feed for ListFeed {
 
     fn take(&mut self, hit: Hit) -> Result<(), ListFault>
         requires first { slice_get (shown self.old).due 0 ≡ Some hit.job }
-        ensures taken { OnOk result (Takes (shown self.old) (shown self.new)) }
+        ensures taken { OnOk result (TakesHit (shown self.old) (shown self.new)) }
         ensures fault { IfErr result (Fails (shown self.old) (shown self.new)) }
         ensures as_before { GivesAsBefore (shown self.old) (shown self.new) }
         ensures later { (shown self.old).faults ≤ (shown self.new).faults }

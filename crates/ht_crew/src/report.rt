@@ -1,6 +1,11 @@
 //! What a drive says of its run.
-ghost use Rattle.std.specs.Prelude.{◌≡◌};
+ghost use Rattle.std.specs.Prelude.{◌≡◌, map};
+ghost use Rattle.ht_team.specs.Pools.{through};
 
+use ht_metric::{Hit, Job};
+use ht_team::ends::Ends;
+use ht_team::seat::{Owner, TaskPass};
+use ht_team::shared::AnswerPass;
 use std::marker::Model;
 
 /// A number of jobs for each worker.
@@ -42,19 +47,80 @@ impl Ran {
     }
 }
 
-/// What went through the workers' queues. It has no fields, since no drive with queues stands yet.
-#[derive(Clone, Copy, Debug, PartialEq, Eq)]
-pub struct Passes;
+/// The owner's end of a deque of jobs.
+pub type JobOwner = Owner<Job>;
+
+/// A pass on a deque of jobs.
+pub type JobPass = TaskPass<Job>;
+
+/// A pass on the queue of hits.
+pub type HitPass = AnswerPass<Hit>;
+
+/// The ends of a deque of jobs: the owner's end, which shows all that was pushed and taken, and a pass that shows
+/// nothing.
+pub type DequeEnds = Ends<Job>;
+
+/// The ends of some deques. Contracts see what was pushed and taken with each.
+#[derive(Drop)]
+pub struct Deques {
+    ends: Vec<DequeEnds>,
+}
+
+impl Model for Deques {
+    ghost use Rattle.std.specs.Prelude.{List, map};
+    ghost use Rattle.ht_metric.specs.Jobs.{JobView};
+    ghost use Rattle.ht_team.specs.Pools.{through};
+    ghost use Rattle.ht_team.specs.declared.hand.Hand.{Hand};
+
+    ghost Value = { List (Hand JobView) };
+
+    ghost view = { λ d. map through d.ends.items };
+}
+
+impl From<Vec<DequeEnds>> for Deques {
+    ghost from_gives = { λ ends deques. deques ≡ map through ends.items };
+
+    /// The ends of a vector. Takes no memory.
+    fn from(ends: Vec<DequeEnds>) -> Self {
+        Deques { ends }
+    }
+}
+
+impl Deques {
+    /// The ends as a slice.
+    pub fn as_slice(&self) -> &[DequeEnds]
+        ensures { map through result.now ≡ self.now }
+    {
+        self.ends.as_slice()
+    }
+
+    /// Gives the vector back. Takes no memory.
+    pub fn into_vec(self) -> Vec<DequeEnds>
+        ensures { map through result.items ≡ self }
+    {
+        self.ends
+    }
+}
+
+/// What went through the deques and the queue of a drive. Contracts see what was pushed and taken; the program stores no
+/// such list.
+#[derive(Drop)]
+pub struct Passes {
+    /// The deques, the caller's first.
+    pub deques: Deques,
+    /// All passes on the queue of hits, joined.
+    pub results: HitPass,
+}
 
 /// What a drive did.
-#[derive(Debug, Drop)]
+#[derive(Drop)]
 pub struct Report {
     /// The number of jobs that the feed gave.
     pub jobs: u64,
-    /// How many jobs the caller ran without a queue.
+    /// How many jobs the caller ran without a deque.
     pub own: u64,
-    /// How many jobs each worker took from a queue and ran, the caller first; empty without threads.
+    /// How many jobs each worker took from a deque and ran, the caller first; empty without threads.
     pub ran: Ran,
-    /// What went through the queues; none without threads.
+    /// What went through the deques and the queue; none without threads.
     pub passes: Option<Passes>,
 }

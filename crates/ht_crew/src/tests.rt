@@ -1,14 +1,18 @@
-//! The drive over a list of jobs, when all goes well and when each call of the feed fails in turn.
-ghost use Rattle.std.specs.Prelude.{◌≡◌, IfOk, length};
+//! The drives over a list of jobs, when all goes well and when each call of the feed fails in turn, and gates that only
+//! several threads can pass.
+ghost use Rattle.std.specs.Prelude.{◌≡◌, ◌≤◌, IfOk, length};
 ghost use Rattle.ht_crew.specs.Lists.{AreNumbered};
 
-use crate::{DriveFault, Gate, ListFault, ListFeed, OpenGate, drive_alone};
+use crate::{DriveFault, Gate, ListFault, ListFeed, OpenGate, drive, drive_alone};
 use ht_metric::{Hit, Job, Place, Sample, System, Tap, Triangle};
 use ht_pam::{Grid, Ladder, Point};
 use std::alloc::{AllocError, Global};
 use std::process::Abort;
+use std::sync::Wait;
 use std::sync::atomic::{AtomicU64, Ordering};
 use std::test::Fail;
+use std::thread;
+use std::thread::Threads;
 
 const NO_SAMPLE: Sample = Sample { re: 0, im: 0 };
 
@@ -109,13 +113,106 @@ fn all_jobs(rt: HostRuntime) -> Result<(), Fail> {
         assert_eq!(rt; report.jobs, 112);
         assert_eq!(rt; report.own, 112);
         assert!(rt; report.ran.as_slice().is_empty());
-        assert_eq!(rt; report.passes, None);
+        assert!(rt; report.passes.is_none());
         assert_eq!(rt; feed.taken().len(), 112);
         expect_first(&rt, feed.taken());
         assert_eq!(rt; gate.entered.load(Ordering::SeqCst), 112);
         assert_eq!(rt; gate.left.load(Ordering::SeqCst), 112);
         assert_eq!(rt; gate.strays.load(Ordering::SeqCst), 0);
     }
+    Ok(())
+}
+
+// Holds some jobs until others have passed, and gives up after a million turns.
+#[derive(Drop)]
+struct Held {
+    // Job 0 is held until the 111 others have left; else each of the first four to enter until four have entered.
+    zero: bool,
+    entered: AtomicU64,
+    left: AtomicU64,
+    strays: AtomicU64,
+}
+
+impl Held {
+    fn new(zero: bool) -> Held {
+        Held {
+            zero,
+            entered: AtomicU64::new(0),
+            left: AtomicU64::new(0),
+            strays: AtomicU64::new(0),
+        }
+    }
+
+    fn hold(&self, passed: &AtomicU64, count: u64) {
+        for _ in 0..1_000_000u64 {
+            if passed.load(Ordering::SeqCst) >= count {
+                return;
+            }
+            thread::yield_now();
+        }
+        self.strays.fetch_add(1, Ordering::SeqCst);
+    }
+}
+
+impl Gate for Held {
+    fn enter(&self, number: u64) {
+        let before = self.entered.fetch_add(1, Ordering::SeqCst);
+        if self.zero && number == 0 {
+            self.hold(&self.left, 111);
+        }
+        if !self.zero && before < 4 {
+            self.hold(&self.entered, 4);
+        }
+    }
+
+    fn leave(&self, _number: u64) {
+        self.left.fetch_add(1, Ordering::SeqCst);
+    }
+}
+
+#[test]
+fn threads_meet(rt: HostRuntime) -> Result<(), Fail> {
+    for (workers, zero) in [(2, true), (4, false), (64, true)] {
+        let gate = Held::new(zero);
+        let mut feed = ListFeed::new(rt.alloc(), jobs(rt.alloc())?, Vec::new(rt.alloc()))?;
+        let Ok(report) = drive(&rt, rt.alloc(), workers, 256, &gate, &mut feed) else {
+            assert!(rt; false, "{workers} workers");
+            return Ok(());
+        };
+        assert_eq!(rt; gate.strays.load(Ordering::SeqCst), 0);
+        assert_eq!(rt; gate.entered.load(Ordering::SeqCst), 112);
+        assert_eq!(rt; gate.left.load(Ordering::SeqCst), 112);
+        assert_eq!(rt; report.jobs, 112);
+        assert_eq!(rt; report.own, 0);
+        let ran = report.ran.as_slice();
+        assert_eq!(rt; ran.len(), usize::from(workers));
+        assert_eq!(rt; ran.iter().fold(0u64, |a, n| a.wrapping_add(*n)), 112);
+        assert!(rt; workers > 4 || ran.iter().all(|n| *n > 0));
+        assert_eq!(rt; feed.taken().len(), 112);
+        expect_first(&rt, feed.taken());
+    }
+    Ok(())
+}
+
+// With threads, too, each call of a run fails where it is to fail.
+fn expect_failing<R: Threads + Wait + Abort + Sync>(
+    rt: &R,
+    alloc: Global,
+    window: u16,
+    call: u64,
+) -> Result<(), AllocError>
+    requires some { 1 ≤ window }
+    requires few { window ≤ 4096 }
+{
+    let failing = vec![in alloc; call]?;
+    let mut feed = ListFeed::new(alloc, jobs(alloc)?, failing)?;
+    let fault = drive(rt, alloc, 3, window, &OpenGate, &mut feed).err();
+    assert_eq!(rt;
+        fault,
+        Some(DriveFault::Feed(ListFault { call })),
+        "{window} {call}"
+    );
+    expect_first(rt, feed.taken());
     Ok(())
 }
 
@@ -140,6 +237,7 @@ fn each_call_fails(rt: HostRuntime) -> Result<(), Fail> {
             );
             assert_eq!(rt; feed.taken().len() as u64, taken, "{window} {call}");
             expect_first(&rt, feed.taken());
+            expect_failing(&rt, rt.alloc(), window, call)?;
         }
     }
     Ok(())

@@ -5,7 +5,7 @@ use Rattle.std.proofs.lemmas.List.Sums.{sum_by-append, sum_by_push}
 use mathlib.Core.Option.{some}
 use lib.ListN.{get_elem?}
 use Rattle.crossbeam_deque.proofs.Lists.{at_set, at_snoc}
-use Rattle.ht_team.specs.Hands.{hand, joined, IdleIsEmpty, IsCounted, IsWhole}
+use Rattle.ht_team.specs.Hands.{hand, joined, IdleIsEmpty, IsCounted, AddsUp}
 use Rattle.ht_team.specs.declared.hand.Hand.{Hand}
 use Rattle.ht_team.proofs.Sums.{sum_by-set_at, sum_by-whole}
 
@@ -111,7 +111,7 @@ module _ {T : Type 0} where
     }
 
     -- who has every part knows the whole
-    pub counted-whole : (items : List T) → IsCounted items hands → v.parts ≡ 1024 → IsWhole v items
+    pub counted-whole : (items : List T) → IsCounted items hands → v.parts ≡ 1024 → AddsUp v items
     counted-whole items b all h =
         let whole : sum_by parts hands ≡ parts v = b.parts ∙ sym all in
         let p = sum_by-whole parts (pushed h) hands port v at whole (λ j u e none. ap (sum_by h) (b.idle j u e none).0) in

@@ -3,15 +3,15 @@ use Rattle.std.proofs.Common.{◌≡◌, ◌+◌, ◌++◌, ◌∷◌, [], ℕ, 
 use Rattle.std.proofs.lemmas.List.{append-nil, map-append, length-append, length-map}
 use Rattle.std.proofs.lemmas.List.Sums.{sum_by-append, sum_by-cons, sum_by_push}
 use Rattle.std.specs.List.{sum_by}
-use Rattle.ht_team.specs.Hands.{joined, SameCounts, IsWhole}
+use Rattle.ht_team.specs.Hands.{hand, joined, SameCounts, AddsUp}
 use Rattle.ht_team.specs.Helms.{HelmView, IsSettled}
 use Rattle.ht_team.specs.Gathering.{Gathers, ran_by}
-use Rattle.ht_team.specs.Pools.{HasRun, through_deque, through_queue}
+use Rattle.ht_team.specs.Pools.{HasRun, through, first_of, through_queue}
 use Rattle.ht_team.specs.declared.hand.Hand.{Hand}
 use Rattle.ht_team.specs.declared.member.Member.{Member}
 use Rattle.ht_team.specs.declared.closed.Closed.{Closed}
 
-ones : {X : Type 0} (xs : List X) → sum_by (λ _. 1) xs ≡ length xs
+pub ones : {X : Type 0} (xs : List X) → sum_by (λ _. 1) xs ≡ length xs
 ones [] = refl
 ones (x ∷ xs) = omega (arith, sum_by-cons (λ _. 1) x xs, ones xs)
 
@@ -61,7 +61,7 @@ module _ {T A : Type 0} (asked : A → T) (t0 : Hand T) (a0 : Hand A) (all : Lis
 
   module _ (helm : HelmView T A) (given_are : t0.pushed ≡ helm.given) (taken_are : t0.taken ≡ helm.taken) (answers_are : a0.taken ≡ helm.answers)
       (tasks : Hand T) (answers : Hand A) (held : List T) (waiting : List A) (gathered : Gathers asked t0 a0 all [] tasks answers)
-      (whole : IsWhole tasks held) (whole' : IsWhole answers waiting) (settled : IsSettled helm) where
+      (whole : AddsUp tasks held) (whole' : AddsUp answers waiting) (settled : IsSettled helm) where
     a : length tasks.pushed ≡ length tasks.taken + length held
     a = omega (arith, whole (λ _. 1), ones tasks.pushed, ones tasks.taken, ones held)
 
@@ -94,11 +94,14 @@ module _ {T A : Type 0} (asked : A → T) (t0 : Hand T) (a0 : Hand A) (all : Lis
     taken : SameCounts tasks.taken tasks.pushed
     taken h = omega (arith, whole h, sum_by-none h held none)
 
-    pub has_run : (closed : Closed T A) → through_deque closed ≡ tasks → through_queue closed ≡ answers
+    pub has_run : (closed : Closed T A) → map through closed.deques.items ≡ hand 1023 tasks.pushed tasks.taken ∷ []
+        → through_queue closed ≡ answers
         → closed.ran.items ≡ length helm.taken ∷ map (λ (m : Member T A). m.ran) all → HasRun asked helm all closed
     has_run closed of of' numbers = record {
-      pushed = ap (λ (v : Hand T). v.pushed) of ∙ (gathered.pushed ∙ given_are);
-      taken = λ h. ap (λ (v : Hand T). sum_by h v.taken) of ∙ (taken h ∙ ap (λ (v : Hand T). sum_by h v.pushed) (sym of));
+      deques = omega (arith, length-map closed.deques.items through, ap length of);
+      pushed = ap (λ (vs : List (Hand T)). (first_of vs).pushed) of ∙ (gathered.pushed ∙ given_are);
+      taken = λ h. ap (λ (vs : List (Hand T)). sum_by h (first_of vs).taken) of
+          ∙ (taken h ∙ ap (λ (vs : List (Hand T)). sum_by h (first_of vs).pushed) (sym of));
       run = λ h. ap (λ (v : Hand A). sum_by h (helm.taken ++ map asked v.pushed)) of' ∙ (ap (λ xs. sum_by h (xs ++ map asked answers.pushed))
           (sym taken_are) ∙ (sym (gathered.ran h) ∙ (taken h ∙ ap (sum_by h) (gathered.pushed ∙ given_are))));
       received = ap (λ (v : Hand A). v.taken) of' ∙ (gathered.popped ∙ answers_are);

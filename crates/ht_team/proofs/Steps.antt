@@ -2,7 +2,7 @@
 use Rattle.std.proofs.Common.{◌≡◌, ℕ, ◌-◌, ◌<◌, List, [], ◌∷◌, ◌++◌, refl, arith}
 use Rattle.crossbeam_deque.specs.Tasks.{Pushes, Takes, Forks, Merges, Learns}
 use Rattle.crossbeam_queue.specs.Fifo as fifo
-use Rattle.ht_team.specs.Hands.{hand, joined, IsCounted, IsWhole}
+use Rattle.ht_team.specs.Hands.{hand, joined, IsCounted, AddsUp}
 use Rattle.ht_team.specs.declared.hand.Hand.{Hand}
 use Rattle.ht_team.proofs.Counting.{counted-push, counted-take, counted-fork, counted-merge, counted-whole}
 
@@ -20,7 +20,7 @@ module _ {T : Type 0} where
   pub merges : (port : ℕ) (v : Hand T) (other : ℕ) (u : Hand T) → 0 < v.parts → Merges IsCounted port v other u (joined v u) (hand 0 [] [])
   merges port v other u part items hands b at two at' = counted-merge hands port v at items other u b at' part
 
-  pub learns : (port : ℕ) (v : Hand T) → v.parts ≡ 1024 → Learns IsCounted port v (IsWhole v)
+  pub learns : (port : ℕ) (v : Hand T) → v.parts ≡ 1024 → Learns IsCounted port v (AddsUp v)
   learns port v all items hands b at = counted-whole hands port v at items b all
 
   pub queue_pushes : (n port : ℕ) (v : Hand T) (x : T) → 0 < v.parts → fifo.Pushes IsCounted n port v x (λ w. w ≡ hand v.parts (v.pushed ++ x ∷ []) v.taken)
@@ -35,5 +35,5 @@ module _ {T : Type 0} where
   pub queue_merges : (port : ℕ) (v : Hand T) (other : ℕ) (u : Hand T) → 0 < v.parts → fifo.Merges IsCounted port v other u (joined v u) (hand 0 [] [])
   queue_merges port v other u part items hands b at two at' = merges port v other u part items hands b at two at'
 
-  pub queue_learns : (port : ℕ) (v : Hand T) → v.parts ≡ 1024 → fifo.Learns IsCounted port v (IsWhole v)
+  pub queue_learns : (port : ℕ) (v : Hand T) → v.parts ≡ 1024 → fifo.Learns IsCounted port v (AddsUp v)
   queue_learns port v all items hands b at = counted-whole hands port v at items b all

@@ -18,8 +18,8 @@ module _ {T : Type 0} where
   joined v w = hand (v.parts + w.parts) (v.pushed ++ w.pushed) (v.taken ++ w.taken)
 
   -- what was pushed is what was taken and what is held
-  abbrev pub IsWhole : Hand T → List T → Type 0
-  IsWhole v held = (h : T → ℕ) → sum_by h v.pushed ≡ sum_by h v.taken + sum_by h held
+  abbrev pub AddsUp : Hand T → List T → Type 0
+  AddsUp v held = (h : T → ℕ) → sum_by h v.pushed ≡ sum_by h v.taken + sum_by h held
 
   -- a pass without a part has pushed and taken nothing
   abbrev pub IdleIsEmpty : List (Hand T) → Type 0

@@ -43,7 +43,7 @@ module _ {T A : Type 0} where
     pub none_received : (answers_of m).taken ≡ []
 
   -- a worker that has not begun
-  pub record IsFresh (queue : TableId) (m : Member T A) : Type 0 where
+  pub record HasYetToServe (queue : TableId) (m : Member T A) : Type 0 where
     pub answers : AnswersTo queue m
     pub none_taken : tasks_of m ≡ []
     pub none_given : (answers_of m).pushed ≡ []

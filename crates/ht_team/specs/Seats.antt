@@ -14,3 +14,9 @@ pub record IsThiefs {T : Type 0} (deque : DequeId) (p : Pass T (Hand T) Global) 
   pub on_deque : IsPassOf deque p
   pub part : (view p).parts ≡ 1
   pub none_pushed : (view p).pushed ≡ []
+
+-- a pass on this deque with which nothing was pushed or taken
+pub record IsSpent {T : Type 0} (deque : DequeId) (p : Pass T (Hand T) Global) : Type 0 where
+  pub on_deque : IsPassOf deque p
+  pub none_pushed : (view p).pushed ≡ []
+  pub none_taken : (view p).taken ≡ []

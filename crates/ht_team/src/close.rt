@@ -3,13 +3,15 @@ ghost use Rattle.std.specs.Prelude.{◌≡◌, ◌+◌, ◌<◌, ◌≤◌, ◌�
 ghost use Rattle.std.specs.List.{All};
 ghost use Rattle.crossbeam_deque.specs.Handles.{worker_deque, worker_view};
 ghost use Rattle.crossbeam_queue.specs.Passes.{view};
+ghost use Rattle.ht_team.specs.Hands.{hand};
 ghost use Rattle.ht_team.specs.Members.{deque_of, IsAt, IsOnQueue, HasServed};
 ghost use Rattle.ht_team.specs.Helms.{IsSettled};
 ghost use Rattle.ht_team.specs.Gathering.{Gathers};
-ghost use Rattle.ht_team.specs.Pools.{HasRun};
+ghost use Rattle.ht_team.specs.Pools.{HasRun, through};
 ghost use Rattle.ht_team.specs.declared.member.Member.{Member as MemberValue};
 
 use crate::closed::Closed;
+use crate::ends::Ends;
 use crate::helm::Helm;
 use crate::member::Member;
 use crate::post::Post;
@@ -58,12 +60,26 @@ fn gather<W: Work>(
     }
 }
 
+// The ends of the deque alone.
+fn list_ends<T: Drop>(mut owner: Owner<T>, mut deques: Vec<Ends<T>>) -> Vec<Ends<T>>
+    requires all { (worker_view owner).parts ≡ 1024 }
+    requires places { 1 ≤ vec_capacity deques }
+    requires none { deques.items ≡ [] }
+    ensures { map through result.items ≡ hand 1023 (worker_view owner).pushed (worker_view owner).taken ∷ [] }
+{
+    let pass = owner.another::<Cut>();
+    deques.push_reserved(Ends::new(owner, pass));
+    deques
+}
+
 /// Joins the passes of all workers once they have ended, and tells what the pool has done. The caller has taken back or
-/// received an answer to as many tasks as it gave. `ran` has room for a number for the caller and for each worker.
+/// received an answer to as many tasks as it gave. `ran` has room for a number for the caller and for each worker, and
+/// `deques` for the ends of the deque.
 pub fn close<W: Work>(
     helm: Helm<'_, W>,
     members: Vec<Member<W::Task, W::Answer>>,
     mut ran: Vec<u64>,
+    deques: Vec<Ends<W::Task>>,
 ) -> Closed<W::Task, W::Answer>
     requires served { All (HasServed W.asked helm.queue) members.items }
     requires deques { map deque_of members.items ≡ replicate helm.helpers helm.deque }
@@ -71,6 +87,8 @@ pub fn close<W: Work>(
     requires settled { IsSettled helm }
     requires room { helm.helpers < vec_capacity ran }
     requires empty { ran.items ≡ [] }
+    requires places { 1 ≤ vec_capacity deques }
+    requires none { deques.items ≡ [] }
     ensures { HasRun W.asked helm.entry members.items result }
 {
     list(helm.ran, members.as_slice(), &mut ran);
@@ -84,7 +102,7 @@ pub fn close<W: Work>(
     owner.len_as::<Whole>();
     shared.learn(&mut pass);
     Closed {
-        deque: owner,
+        deques: list_ends(owner, deques),
         pass,
         ran,
     }

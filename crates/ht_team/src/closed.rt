@@ -1,13 +1,13 @@
 //! What is left of a pool.
 
-use crate::seat::Owner;
+use crate::ends::Ends;
 use crate::shared::AnswerPass;
 
 /// What went through a pool whose threads have ended.
 #[derive(Drop)]
 pub struct Closed<T: Drop, A: Drop> {
-    /// The caller's deque, with what all passes on it have pushed and taken.
-    pub deque: Owner<T>,
+    /// The deques, the caller's first.
+    pub deques: Vec<Ends<T>>,
     /// The joined pass of the queue of answers.
     pub pass: AnswerPass<A>,
     /// The number of tasks that each has run, the caller first.

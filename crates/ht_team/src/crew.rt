@@ -2,7 +2,7 @@
 ghost use Rattle.std.specs.Prelude.{◌≡◌, ◌≤◌, IfSome, IsSome, vec_len, vec_capacity};
 ghost use Rattle.std.specs.List.{All};
 ghost use Rattle.std.specs.Thread.{IsSync};
-ghost use Rattle.ht_team.specs.Members.{IsFresh, HasServed, HaveServed, deque_of};
+ghost use Rattle.ht_team.specs.Members.{HasYetToServe, HasServed, HaveServed, deque_of};
 
 use crate::member::Member;
 use crate::serve::serve;
@@ -19,7 +19,7 @@ fn crew<W: Work + Sync, R: Threads + Wait + Sync>(
     shared: &Shared<W::Answer>,
     mut members: Vec<Member<W::Task, W::Answer>>,
 ) -> Vec<Member<W::Task, W::Answer>>
-    requires fresh { All (IsFresh shared.now) members.items }
+    requires fresh { All (HasYetToServe shared.now) members.items }
     requires room { vec_len members ≤ vec_capacity members }
     ensures served { HaveServed W.asked shared.now members.items result.items }
     ensures count { vec_len result ≡ vec_len members }
@@ -31,12 +31,12 @@ fn crew<W: Work + Sync, R: Threads + Wait + Sync>(
     let (mine, mut members) = thread::join(
         rt,
         move || -> Member<W::Task, W::Answer>
-            requires { IsSync R.row × IsFresh shared.now mine }
+            requires { IsSync R.row × HasYetToServe shared.now mine }
             ensures served { HasServed W.asked shared.entry.now result }
             ensures deque { deque_of result ≡ deque_of mine }
         { serve(rt, work, shared, mine) },
         move || -> Vec<Member<W::Task, W::Answer>>
-            requires { IsSync R.row × (vec_len members ≤ vec_capacity members) × All (IsFresh shared.now) members.items }
+            requires { IsSync R.row × (vec_len members ≤ vec_capacity members) × All (HasYetToServe shared.now) members.items }
             ensures served { HaveServed W.asked shared.entry.now members.items result.items }
             ensures count { vec_len result ≡ vec_len members }
             ensures room { vec_capacity members ≤ vec_capacity result }
@@ -53,7 +53,7 @@ fn run_crew<W: Work + Sync, R: Threads + Wait + Sync>(
     shared: &Shared<W::Answer>,
     members: &mut Option<Vec<Member<W::Task, W::Answer>>>,
 )
-    requires { IfSome members.old (λ before. All (IsFresh shared.now) before.items × (vec_len before ≤ vec_capacity before)) }
+    requires { IfSome members.old (λ before. All (HasYetToServe shared.now) before.items × (vec_len before ≤ vec_capacity before)) }
     ensures served { IfSome members.new (λ after. IfSome members.old (λ before. HaveServed W.asked shared.now before.items after.items)) }
     ensures count { IfSome members.new (λ after. IfSome members.old (λ before. vec_len after ≡ vec_len before)) }
     ensures some { IsSome members.old → IsSome members.new }
@@ -72,7 +72,7 @@ pub fn beside<W: Work + Sync, R: Threads + Wait + Sync, C: FnMut() -> B, B>(
     members: Vec<Member<W::Task, W::Answer>>,
     caller: &mut C,
 ) -> (Vec<Member<W::Task, W::Answer>>, B)
-    requires fresh { All (IsFresh shared.now) members.items }
+    requires fresh { All (HasYetToServe shared.now) members.items }
     requires room { vec_len members ≤ vec_capacity members }
     requires caller { C.pre caller.old }
     ensures served { HaveServed W.asked shared.now members.items result.0.items }
@@ -83,7 +83,7 @@ pub fn beside<W: Work + Sync, R: Threads + Wait + Sync, C: FnMut() -> B, B>(
     let (_, answer) = join_mut(
         rt,
         &mut ||
-            requires { IsSync R.row × IfSome members (λ before. All (IsFresh shared.now) before.items × (vec_len before ≤ vec_capacity before)) }
+            requires { IsSync R.row × IfSome members (λ before. All (HasYetToServe shared.now) before.items × (vec_len before ≤ vec_capacity before)) }
         { run_crew(rt, work, shared, &mut members) },
         &mut || -> B
             requires { C.pre caller.now }

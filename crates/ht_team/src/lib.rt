@@ -18,6 +18,7 @@
 pub mod close;
 pub mod closed;
 pub mod crew;
+pub mod ends;
 pub mod hand;
 pub mod helm;
 pub mod member;

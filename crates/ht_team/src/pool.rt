@@ -4,9 +4,10 @@ ghost use Rattle.std.specs.List.{All};
 ghost use Rattle.crossbeam_deque.specs.Handles.{worker_deque, worker_view, worker_index, SameWorker};
 ghost use Rattle.crossbeam_queue.specs.Passes.{view as answer_view};
 ghost use Rattle.ht_team.specs.Hands.{hand};
-ghost use Rattle.ht_team.specs.Members.{IsFresh, IsOnQueue, deque_of};
+ghost use Rattle.ht_team.specs.Members.{HasYetToServe, IsOnQueue, deque_of};
 ghost use Rattle.ht_team.specs.Pools.{IsOpened};
 
+use crate::ends::Ends;
 use crate::member::Member;
 use crate::post::Post;
 use crate::rule::Cut;
@@ -25,6 +26,8 @@ pub struct Pool<T: Drop, A: Drop> {
     pub members: Vec<Member<T, A>>,
     /// Room for the number of tasks that each has run.
     pub ran: Vec<u64>,
+    /// Room for the ends of the deque.
+    pub deques: Vec<Ends<T>>,
 }
 
 impl<T: Drop + Send, A: Drop + Send> Pool<T, A> {
@@ -43,6 +46,7 @@ impl<T: Drop + Send, A: Drop + Send> Pool<T, A> {
         let shared = Shared::new(answers);
         let mut members = Vec::with_capacity(alloc, usize::from(helpers))?;
         let ran = Vec::with_capacity(alloc, usize::from(helpers) + 1)?;
+        let deques = Vec::with_capacity(alloc, 1)?;
         seat_all(&mut owner, &shared, &mut pass, &mut members, helpers)?;
         let post = Post::new(owner, pass, room, helpers);
         Ok(Pool {
@@ -50,6 +54,7 @@ impl<T: Drop + Send, A: Drop + Send> Pool<T, A> {
             post,
             members,
             ran,
+            deques,
         })
     }
 }
@@ -63,7 +68,7 @@ fn member<T: Drop, A: Drop>(
     requires some { 1 < (worker_view owner.old).parts }
     requires some_answer { 1 < (answer_view pass.old).parts }
     requires queue { IsOnQueue shared.now pass.old }
-    ensures fresh { IfOk result (IsFresh shared.now) }
+    ensures fresh { IfOk result (HasYetToServe shared.now) }
     ensures deque { IfOk result (λ m. deque_of m ≡ worker_deque owner.old) }
     ensures owner { worker_view owner.new ≡ hand ((worker_view owner.old).parts - 1) (worker_view owner.old).pushed (worker_view owner.old).taken }
     ensures same { SameWorker owner.old owner.new }
@@ -95,7 +100,7 @@ fn seat_all<T: Drop, A: Drop>(
     requires pass { answer_view pass.old ≡ hand 1024 [] [] }
     requires room { helpers ≤ vec_capacity members.old }
     requires empty { members.old.items ≡ [] }
-    ensures fresh { OnOk result (All (IsFresh shared.now) members.new.items) }
+    ensures fresh { OnOk result (All (HasYetToServe shared.now) members.new.items) }
     ensures deques { OnOk result (map deque_of members.new.items ≡ replicate helpers (worker_deque owner.old)) }
     ensures count { OnOk result (vec_len members.new ≡ helpers) }
     ensures room { OnOk result (vec_len members.new ≤ vec_capacity members.new) }

@@ -86,13 +86,13 @@ impl<T> queue_rule::Outcome<T, Hand<T>> for Take {
 pub struct Whole;
 
 impl<T> deque_rule::Lesson<T, Hand<T>> for Whole {
-    ghost use Rattle.ht_team.specs.Hands.{IsWhole};
+    ghost use Rattle.ht_team.specs.Hands.{AddsUp};
 
-    ghost fact = { IsWhole };
+    ghost fact = { AddsUp };
 }
 
 impl<T> queue_rule::Lesson<T, Hand<T>> for Whole {
-    ghost use Rattle.ht_team.specs.Hands.{IsWhole};
+    ghost use Rattle.ht_team.specs.Hands.{AddsUp};
 
-    ghost fact = { IsWhole };
+    ghost fact = { AddsUp };
 }

@@ -1,6 +1,6 @@
 //! What a worker does.
 ghost use Rattle.std.specs.Prelude.{◌≡◌};
-ghost use Rattle.ht_team.specs.Members.{deque_of, IsFresh, HasServed};
+ghost use Rattle.ht_team.specs.Members.{deque_of, HasYetToServe, HasServed};
 
 use crate::member::Member;
 use crate::shared::Shared;
@@ -16,7 +16,7 @@ pub(crate) fn serve<W: Work, R: Wait>(
     shared: &Shared<W::Answer>,
     member: Member<W::Task, W::Answer>,
 ) -> Member<W::Task, W::Answer>
-    requires fresh { IsFresh shared.now member }
+    requires fresh { HasYetToServe shared.now member }
     ensures served { HasServed W.asked shared.now result }
     ensures deque { deque_of result ≡ deque_of member }
 {

@@ -1,7 +1,7 @@
 //! What the threads of a pool share.
 ghost use Rattle.std.specs.Prelude.{◌≡◌, ◌-◌, ◌<◌, ◌++◌, ◌∷◌, [], List, IfSome, IfNone};
 ghost use Rattle.crossbeam_queue.specs.Passes.{view, IsPassOf};
-ghost use Rattle.ht_team.specs.Hands.{hand, joined, IsWhole};
+ghost use Rattle.ht_team.specs.Hands.{hand, joined, AddsUp};
 ghost use Rattle.ht_team.specs.Members.{queue_of, IsOnQueue};
 
 use crate::hand::Hand;
@@ -96,7 +96,7 @@ impl<A: Drop> Shared<A> {
         requires all { (view pass.old).parts ≡ 1024 }
         ensures queue { IsOnQueue self.now pass.new }
         ensures same { view pass.new ≡ view pass.old }
-        ensures whole { (held : List A) × IsWhole (view pass.old) held }
+        ensures whole { (held : List A) × AddsUp (view pass.old) held }
     {
         self.answers.learn_as::<Whole>(pass);
     }

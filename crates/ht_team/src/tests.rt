@@ -2,10 +2,11 @@
 ghost use Rattle.std.specs.Prelude.{◌≡◌, ◌+◌, ◌*◌, ◌<◌, ◌≤◌, [], length, map, replicate, IfOk, IfSome, vec_len, vec_capacity};
 ghost use Rattle.std.specs.List.{All};
 ghost use Rattle.ht_team.specs.Helms.{unused, IsSettled, IsSameHelm};
-ghost use Rattle.ht_team.specs.Members.{deque_of, IsFresh};
+ghost use Rattle.ht_team.specs.Members.{deque_of, HasYetToServe};
 
 use crate::close::close;
 use crate::crew::beside;
+use crate::ends::Ends;
 use crate::helm::Helm;
 use crate::member::Member;
 use crate::pool::Pool;
@@ -125,21 +126,24 @@ fn add_up<R: Threads + Wait + Sync>(
     post: Post<u32, Squared>,
     members: Vec<Member<u32, Squared>>,
     ran: Vec<u64>,
+    deques: Vec<Ends<u32>>,
     helpers: u8,
 ) -> (u64, Vec<u64>)
     requires post { post ≡ unused 1024 helpers post.deque shared.now }
-    requires fresh { All (IsFresh shared.now) members.items }
+    requires fresh { All (HasYetToServe shared.now) members.items }
     requires deques { map deque_of members.items ≡ replicate helpers post.deque }
     requires count { vec_len members ≡ helpers }
     requires seats { vec_len members ≤ vec_capacity members }
     requires none_ran { ran.items ≡ [] }
     requires places { helpers + 1 ≤ vec_capacity ran }
+    requires no_ends { deques.items ≡ [] }
+    requires room_for_ends { 1 ≤ vec_capacity deques }
     ensures { vec_len result.1 ≡ helpers + 1 }
 {
     let _helpers = helpers;
     let mut helm = Helm::new(post, shared, work);
     let (members, sum) = beside(rt, work, shared, members, &mut || lead(rt, work, &mut helm));
-    (sum, close(helm, members, ran).ran)
+    (sum, close(helm, members, ran, deques).ran)
 }
 
 fn run_squares<R: Threads + Wait + Sync>(
@@ -156,8 +160,9 @@ fn run_squares<R: Threads + Wait + Sync>(
         post,
         members,
         ran,
+        deques,
     } = Pool::open(alloc, helpers, 1024)?;
-    Ok(add_up(rt, work, &shared, post, members, ran, helpers))
+    Ok(add_up(rt, work, &shared, post, members, ran, deques, helpers))
 }
 
 #[test]

@@ -1,6 +1,6 @@
 use Rattle.std.proofs.Common.{◌≡◌, ◌∷◌, Some, sym, subst, rules}
 use Rattle.ht_window.specs.Windows.{WindowView, jobs, front_hit}
-use Rattle.ht_crew.specs.Feeds.{Takes}
+use Rattle.ht_crew.specs.Feeds.{TakesHit}
 use Rattle.ht_crew.proofs.Delivering.{Delivering, delivering_more, emitted}
 use Rattle.ht_crew.proofs.caller.deliver.Goals as goal
 
@@ -11,7 +11,7 @@ loop-hit-preserved g c =
     let first : front_hit before.window.slots ≡ Some c.in-Some.hit = search rules in
     let out : c.emit.new.self ≡ emitted before.window = search rules in
     let next : jobs before.window.slots ≡ c.in-Some.hit.job ∷ jobs c.emit.new.self.slots = search rules in
-    let takes : Takes (seen before.feed) (seen c.take.new.self) = search rules in
+    let takes : TakesHit (seen before.feed) (seen c.take.new.self) = search rules in
     let more = delivering_more c.args.window.now (seen c.args.feed.now) before.window (seen before.feed) (seen c.take.new.self) c.in-Some.hit
     (jobs c.emit.new.self.slots) before.invariant.so_far first next takes c.take.ensures.as_before c.take.ensures.later in
     record {

@@ -1,6 +1,6 @@
 use Rattle.std.proofs.Common.{◌≡◌, rules, ◌≤◌, ◌<◌, length, sym, subst, arith, false}
 use Rattle.ht_window.specs.Windows.{WindowView}
-use Rattle.ht_crew.specs.Feeds.{Gives}
+use Rattle.ht_crew.specs.Feeds.{GivesJob}
 use Rattle.ht_crew.specs.Driving.{to_run}
 use Rattle.ht_crew.proofs.Filling.{Filling, filling_more, fewer_more, goes_on_more, issued}
 use Rattle.ht_crew.proofs.caller.fill.Goals as goal
@@ -9,7 +9,7 @@ pub loop-running-preserved-in-Some : goal.loop-running-preserved-in-Some
 loop-running-preserved-in-Some g c =
     let seen = g.F.Feed.shown in
     let before = c.loop-running in
-    let gives : Gives (seen before.feed) (seen c.next.new.self) c.in-Some.job = search rules in
+    let gives : GivesJob (seen before.feed) (seen c.next.new.self) c.in-Some.job = search rules in
     let room : length before.window.slots < before.window.capacity = search rules in
     let running : (seen before.feed).ended ≡ false = search rules in
     let filling = filling_more c.args.window.now (seen c.args.feed.now) before.window (seen before.feed)

@@ -1,7 +1,7 @@
 use Rattle.std.proofs.Common.{◌≡◌, ◌∷◌, ◌++◌, ◌∙◌, [], rules}
 use Rattle.std.proofs.lemmas.List.Elements.{All-push, All-same}
 use Rattle.crossbeam_deque.specs.Handles.{worker_deque}
-use Rattle.ht_team.specs.Members.{IsFresh, deque_of}
+use Rattle.ht_team.specs.Members.{HasYetToServe, deque_of}
 use Rattle.ht_team.proofs.Copies.{copies-push}
 use Rattle.ht_team.proofs.pool.seat_all.Goals as goal
 
@@ -17,8 +17,8 @@ loop-preserved g c =
       tasks = search rules;
       queue = search rules;
       answers = search rules;
-      fresh = All-same (IsFresh c.args.shared.now) _ (c.loop.members.items ++ m ∷ []) items (All-push
-          (IsFresh c.args.shared.now) c.loop.members.items m was.fresh c.in_ok-member.ensures.fresh);
+      fresh = All-same (HasYetToServe c.args.shared.now) _ (c.loop.members.items ++ m ∷ []) items (All-push
+          (HasYetToServe c.args.shared.now) c.loop.members.items m was.fresh c.in_ok-member.ensures.fresh);
       deques = copies-push deque_of (worker_deque c.args.owner.now) c.loop.members.items c.push_reserved.new.self.items m c.loop.counter items was.deques at;
       count = search rules;
       room = search rules;

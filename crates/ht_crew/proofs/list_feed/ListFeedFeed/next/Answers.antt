@@ -1,7 +1,7 @@
 use Rattle.std.proofs.Common.{◌≡◌, ◌∙◌, ◌+◌, List, length, slice_get, Some, ap, refl, sym, subst}
 use Rattle.std.proofs.lemmas.Option.{slice_get_read}
 use Rattle.ht_metric.specs.Jobs.{JobView}
-use Rattle.ht_crew.specs.Feeds.{Gives}
+use Rattle.ht_crew.specs.Feeds.{GivesJob}
 use Rattle.ht_crew.specs.Lists.{Listed, IsListed, shown}
 use Rattle.ht_crew.proofs.Giving.{gives_next}
 use Rattle.ht_crew.proofs.list_feed.ListFeedFeed.next.Goals as goal
@@ -17,4 +17,4 @@ returns-clause-job c =
     ap (λ (s : Listed). slice_get s.jobs s.given) (sym is) ∙ (ap (λ (jobs : List JobView). slice_get jobs c.self.inside.given) (sym c.deref.ensures.value)
     ∙ (read ∙ ap Some (sym c.copy.ensures))) in
     let a = gives_next old c.copy.result (subst (λ (s : Listed). IsListed s) is c.self.invariant.0) c.requires.running there in
-    subst (λ (s : Listed). Gives (shown old) (shown (record s { given = s.given + 1 })) c.copy.result) (sym is) a
+    subst (λ (s : Listed). GivesJob (shown old) (shown (record s { given = s.given + 1 })) c.copy.result) (sym is) a

@@ -1,6 +1,6 @@
 use Rattle.std.proofs.Common.{◌≡◌, ◌∙◌, ◌++◌, ◌∷◌, [], List, length, slice_get, ap, sym, subst, arith}
 use Rattle.ht_metric.specs.declared.hit.Hit.{Hit}
-use Rattle.ht_crew.specs.Feeds.{Takes}
+use Rattle.ht_crew.specs.Feeds.{TakesHit}
 use Rattle.ht_crew.specs.Lists.{Listed, IsListed, took, shown, TakesInTurn}
 use Rattle.ht_crew.specs.contracts.list_feed.ListFeed.{the_view}
 use Rattle.ht_crew.proofs.Giving.{first_between, still_listed, takes_first, takes_in_turn}
@@ -43,7 +43,7 @@ returns-clause-taken c =
     let hit = c.args.hit in
     let at : List Hit → Listed = λ taken. record (the_view c.self.inside) { taken = taken } in
     let new : at c.push.new.self.items ≡ took old hit = ap at c.in-Ok.ensures.items ∙ ap (λ (s : Listed). record s { taken = s.taken ++ hit ∷ [] }) is in
-    subst (λ (s : Listed). Takes (shown old) (shown s)) (sym new) (takes_first old hit)
+    subst (λ (s : Listed). TakesHit (shown old) (shown s)) (sym new) (takes_first old hit)
 
 pub returns-clause-leads : goal.returns-clause-leads
 returns-clause-leads c =

@@ -16,4 +16,6 @@ returns g c =
       seats = seated.room;
       none_ran = search rules;
       places = search rules;
+      no_ends = search rules;
+      room_for_ends = search rules;
     }

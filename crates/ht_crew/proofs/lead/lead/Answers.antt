@@ -1,0 +1,45 @@
+use Rattle.std.proofs.Common.{◌∙◌, List, arith, rules, subst, sym}
+use Rattle.ht_metric.specs.Jobs.{JobView}
+use Rattle.ht_crew.specs.Accounts.{AreTold}
+use Rattle.ht_crew.proofs.Running.{goes_on_still}
+use Rattle.ht_crew.proofs.Supplied.{same_on}
+use Rattle.ht_crew.proofs.Leading.{holds_still}
+use Rattle.ht_crew.proofs.lead.lead.Goals as goal
+
+pub returns-in_err-deliver-clause-leads : goal.returns-in_err-deliver-clause-leads
+returns-in_err-deliver-clause-leads g c =
+    let go = g.met.F.Feed.goes_on in
+    go c.args.feed.now c.supply.new.feed c.deliver.new.feed
+    (go c.args.feed.now c.loop.feed c.supply.new.feed c.loop.invariant.leads c.supply.ensures.leads) c.deliver.ensures.leads
+
+pub returns-then-tally-clause-leads : goal.returns-then-tally-clause-leads
+returns-then-tally-clause-leads g c =
+    let go = g.met.F.Feed.goes_on in
+    go c.args.feed.now c.supply.new.feed c.deliver.new.feed
+    (go c.args.feed.now c.loop.feed c.supply.new.feed c.loop.invariant.leads c.supply.ensures.leads) c.deliver.ensures.leads
+
+pub loop-preserved : goal.loop-preserved
+loop-preserved g c =
+    let seen = g.F.Feed.shown in
+    let go = g.met.F.Feed.goes_on in
+    let before = c.loop.invariant in
+    let same = c.deliver.ensures.as_before in
+    let turn = c.turn.ensures.turn in
+    let supplied = go c.args.feed.now c.loop.feed c.supply.new.feed before.leads c.supply.ensures.leads in
+    record {
+      holds = holds_still c.supply.new.tally c.turn.new.tally c.deliver.new.window c.turn.new.window c.supply.new.helm c.turn.new.helm
+          (seen c.deliver.new.feed) c.in_ok-deliver.ensures.holds turn;
+      tallies = turn.tallies;
+      issued = omega (arith, turn.issued, c.supply.ensures.issued, same.count);
+      goes_on = goes_on_still (seen c.supply.new.feed) (seen c.deliver.new.feed) c.in_ok-running.running c.in_ok-running.ensures.running same;
+      capacity = turn.capacity_is ∙ (c.deliver.ensures.capacity ∙ (c.supply.ensures.capacity ∙ before.capacity));
+      same = same_on c.args.helm.now c.supply.new.helm c.turn.new.helm
+          (same_on c.args.helm.now c.loop.helm c.supply.new.helm before.same c.supply.ensures.same) turn.same;
+      bound = omega (arith, c.supply.ensures.bound, same.count);
+      later = omega (arith, before.later, c.supply.ensures.later, c.deliver.ensures.later);
+      failed = search rules;
+      along = λ jobs told. c.deliver.ensures.along jobs (c.in_ok-running.ensures.along jobs (before.along jobs told));
+      told = λ jobs told. subst (λ (given : List JobView). AreTold jobs given) (sym turn.given)
+          (c.supply.ensures.told jobs (before.along jobs told) (before.told jobs told));
+      leads = go c.args.feed.now c.supply.new.feed c.deliver.new.feed supplied c.deliver.ensures.leads;
+    }

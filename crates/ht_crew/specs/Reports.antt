@@ -1,0 +1,48 @@
+-- What the workers of a drive have run.
+use Rattle.std.specs.Prelude.{◌≡◌, ◌+◌, ◌≤◌, ℕ, [], length, map, sum, min, None, get_or}
+use Rattle.std.specs.List.{sum_by}
+use Rattle.crossbeam_queue.specs.Passes.{view}
+use Rattle.ht_metric.specs.Jobs.{JobView}
+use Rattle.ht_metric.specs.declared.hit.Hit.{Hit}
+use Rattle.ht_team.specs.Hands.{SameCounts}
+use Rattle.ht_team.specs.Pools.{first_of}
+use Rattle.ht_team.specs.declared.hand.Hand.{Hand}
+use Rattle.ht_crew.specs.Accounts.{HaveNumbers, asked}
+use Rattle.ht_crew.specs.declared.report.Passes.{Passes}
+use Rattle.ht_crew.specs.declared.report.Report.{Report}
+
+-- what went through the caller's deque
+abbrev pub by_caller : Passes → Hand JobView
+by_caller passes = first_of passes.deques
+
+-- what went through the queue of hits
+abbrev pub hits_of : Passes → Hand Hit
+hits_of passes = view passes.results
+
+-- one worker ran all jobs without a deque
+pub record HasRunAlone (report : Report) : Type 0 where
+  pub own : report.own ≡ report.jobs
+  pub ran : report.ran ≡ []
+  pub passes : report.passes ≡ None
+
+-- so many workers ran the jobs, where the pool had room for so many for sure
+pub record HasRunInPool (workers room : ℕ) (report : Report) (passes : Passes) : Type 0 where
+  -- there is one deque, the caller's
+  pub deques : length passes.deques ≡ 1
+  -- all jobs but the caller's own were pushed on the caller's deque
+  pub pushed : length (by_caller passes).pushed + report.own ≡ report.jobs
+  -- and for sure the first of them, as many as there was room for
+  pub sure : report.own + min report.jobs room ≤ report.jobs
+  -- each of them has a number of its own below the number of jobs
+  pub numbers : HaveNumbers report.jobs (by_caller passes).pushed
+  -- each was taken once, and nothing is left
+  pub taken : SameCounts (by_caller passes).taken (by_caller passes).pushed
+  -- by so many workers, the caller first, each of whom counted
+  pub each : length report.ran ≡ workers
+  pub ran : sum report.ran ≡ length (by_caller passes).taken
+  -- the hits pushed on the queue are as many as the jobs that the workers beside the caller ran
+  pub helped : length (hits_of passes).pushed + get_or report.ran 0 0 ≡ sum report.ran
+  -- they are of jobs that were run, each as often at most
+  pub of_jobs : (h : JobView → ℕ) → sum_by h (map asked (hits_of passes).pushed) ≤ sum_by h (by_caller passes).taken
+  -- and the caller received each of them once
+  pub received : SameCounts (hits_of passes).taken (hits_of passes).pushed

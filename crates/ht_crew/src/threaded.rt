@@ -1,0 +1,236 @@
+//! The drive with threads.
+ghost use Rattle.std.specs.Prelude.{◌≡◌, ◌+◌, ◌-◌, ◌^◌, ◌<◌, ◌≤◌, [], length, map, replicate, true, List};
+ghost use Rattle.std.specs.Prelude.{None, Err, Some, IfOk, IfErr, IfSome, IsSome, OnOk, vec_len, vec_capacity};
+ghost use Rattle.std.specs.List.{All};
+ghost use Rattle.ht_metric.specs.Jobs.{JobView};
+ghost use Rattle.ht_team.specs.Helms.{unused, IsSettled};
+ghost use Rattle.ht_team.specs.Members.{HasYetToServe, HasServed, deque_of};
+ghost use Rattle.ht_team.specs.Pools.{IsOpened};
+ghost use Rattle.ht_crew.specs.Feeds.{IsFreshFeed, IsLeft};
+ghost use Rattle.ht_crew.specs.Driving.{Failed, IsInTurn};
+ghost use Rattle.ht_crew.specs.Accounts.{Tallies, AreTold, asked};
+ghost use Rattle.ht_crew.specs.Reports.{HasRunAlone, HasRunInPool, by_caller};
+
+use crate::alone::drive_alone;
+use crate::detect::Detect;
+use crate::drive_fault::DriveFault;
+use crate::feed::Feed;
+use crate::gate::Gate;
+use crate::lead::lead;
+use crate::report::{Deques, Passes, Ran, Report};
+use crate::tally::Tally;
+use ht_metric::{Hit, Job};
+use ht_team::close::close;
+use ht_team::closed::Closed;
+use ht_team::crew::beside;
+use ht_team::ends::Ends;
+use ht_team::helm::Helm;
+use ht_team::member::Member;
+use ht_team::pool::Pool;
+use ht_team::post::Post;
+use ht_team::shared::Shared;
+use ht_window::Window;
+use std::alloc::Global;
+use std::sync::Wait;
+use std::thread::Threads;
+
+/// Runs all jobs of a feed by 1 to 64 workers, of which the caller is one, and hands it their hits in the order of the
+/// jobs.
+///
+/// The feed has given nothing yet. The caller asks it for jobs until `window` of them are due, 1 to 4096, or it has
+/// ended, and gives each to the pool, from which the other workers take them, each in a thread of its own. So whichever
+/// call of the feed fails, no more jobs than that are due. The gate is called before and after each job, by whoever
+/// runs it. With one worker it is [`drive_alone`].
+///
+/// It refuses with the feed's fault, or with `NoMemory`, and then before the first call of the feed. Threads that can't
+/// be started leave more to the caller.
+pub fn drive<R: Threads + Wait + Sync, F: Feed, G: Gate + Sync>(
+    rt: &R,
+    alloc: Global,
+    workers: u8,
+    window: u16,
+    gate: &G,
+    feed: &mut F,
+) -> Result<Report, DriveFault<F::Fault>>
+    requires one { 1 ≤ workers }
+    requires many { workers ≤ 64 }
+    requires some { 1 ≤ window }
+    requires few { window ≤ 4096 }
+    requires fresh { IsFreshFeed (F.shown feed.old) }
+
+    // However it ends.
+    ensures leads { F.leads feed.old feed.new }
+    ensures due { length (F.shown feed.new).due ≤ window }
+    ensures in_turn { IsInTurn (F.shown feed.old).left (F.shown feed.new) }
+    ensures later { (F.shown feed.old).faults ≤ (F.shown feed.new).faults }
+
+    // When the feed has ended, every job was run and taken, and no call failed.
+    ensures ended { OnOk result ((F.shown feed.new).ended ≡ true) }
+    ensures taken { OnOk result ((F.shown feed.new).due ≡ []) }
+    ensures left { OnOk result (IsLeft (F.shown feed.new).left []) }
+    ensures unfailed { OnOk result ((F.shown feed.new).failed ≡ (F.shown feed.old).failed) }
+    ensures jobs { IfOk result (λ report. report.jobs ≡ (F.shown feed.new).count) }
+
+    // What the workers did.
+    ensures alone { workers ≡ 1 → IfOk result HasRunAlone }
+    ensures passes { 2 ≤ workers → IfOk result (λ report. IsSome report.passes) }
+    ensures ran { 2 ≤ workers → IfOk result (λ report. IfSome report.passes (HasRunInPool workers window report)) }
+    ensures told { (jobs : List JobView) → (F.shown feed.old).left ≡ Some jobs
+        → IfOk result (λ report. IfSome report.passes (λ passes. AreTold jobs (by_caller passes).pushed)) }
+
+    // What it refuses with.
+    ensures fault { (fault : F.Fault) → result ≡ Err (DriveFault.Feed fault) → Failed (F.shown feed.old) (F.shown feed.new) fault }
+    ensures memory { result ≡ Err DriveFault.NoMemory → feed.new ≡ feed.old }
+{
+    if workers == 1 {
+        return drive_alone(alloc, window, gate, feed);
+    }
+    let Ok(slots) = Window::new(alloc, window, 0) else {
+        return Err(DriveFault::NoMemory);
+    };
+    let Ok(pool) = Pool::open(alloc, workers - 1, window) else {
+        return Err(DriveFault::NoMemory);
+    };
+    match in_pool(rt, pool, gate, slots, feed) {
+        Ok(report) => Ok(report),
+        Err(fault) => Err(DriveFault::Feed(fault)),
+    }
+}
+
+// Runs all jobs of a feed in a pool that was opened, and through an empty window.
+fn in_pool<R: Threads + Wait + Sync, F: Feed, G: Gate + Sync>(
+    rt: &R,
+    pool: Pool<Job, Hit>,
+    gate: &G,
+    window: Window,
+    feed: &mut F,
+) -> Result<Report, F::Fault>
+    requires opened { IsOpened pool.post.helpers window.capacity pool }
+    requires empty { window.slots ≡ [] }
+    requires front { window.front ≡ 0 }
+    requires fresh { IsFreshFeed (F.shown feed.old) }
+
+    ensures leads { F.leads feed.old feed.new }
+    ensures due { length (F.shown feed.new).due ≤ window.capacity }
+    ensures in_turn { IsInTurn (F.shown feed.old).left (F.shown feed.new) }
+    ensures later { (F.shown feed.old).faults ≤ (F.shown feed.new).faults }
+
+    ensures ended { OnOk result ((F.shown feed.new).ended ≡ true) }
+    ensures taken { OnOk result ((F.shown feed.new).due ≡ []) }
+    ensures left { OnOk result (IsLeft (F.shown feed.new).left []) }
+    ensures unfailed { OnOk result ((F.shown feed.new).failed ≡ (F.shown feed.old).failed) }
+    ensures jobs { IfOk result (λ report. report.jobs ≡ (F.shown feed.new).count) }
+
+    ensures passes { IfOk result (λ report. IsSome report.passes) }
+    ensures ran { IfOk result (λ report. IfSome report.passes (HasRunInPool (pool.post.helpers + 1) window.capacity report)) }
+    ensures told { (jobs : List JobView) → (F.shown feed.old).left ≡ Some jobs
+        → IfOk result (λ report. IfSome report.passes (λ passes. AreTold jobs (by_caller passes).pushed)) }
+
+    ensures fault { IfErr result (Failed (F.shown feed.old) (F.shown feed.new)) }
+{
+    let Pool {
+        shared,
+        post,
+        members,
+        ran,
+        deques,
+    } = pool;
+    let work = Detect { gate };
+    in_threads(rt, &work, &shared, post, members, ran, deques, window, feed)
+}
+
+// Runs all jobs of a feed beside the workers of a pool.
+fn in_threads<R: Threads + Wait + Sync, F: Feed, G: Gate + Sync>(
+    rt: &R,
+    work: &Detect<'_, G>,
+    shared: &Shared<Hit>,
+    post: Post<Job, Hit>,
+    members: Vec<Member<Job, Hit>>,
+    ran: Vec<u64>,
+    deques: Vec<Ends<Job>>,
+    mut window: Window,
+    feed: &mut F,
+) -> Result<Report, F::Fault>
+    requires post { post ≡ unused window.capacity post.helpers post.deque shared.now }
+    requires members { All (HasYetToServe shared.now) members.items }
+    requires deques { map deque_of members.items ≡ replicate post.helpers post.deque }
+    requires count { vec_len members ≡ post.helpers }
+    requires seats { vec_len members ≤ vec_capacity members }
+    requires none_ran { ran.items ≡ [] }
+    requires places { post.helpers + 1 ≤ vec_capacity ran }
+    requires no_ends { deques.items ≡ [] }
+    requires room_for_ends { 1 ≤ vec_capacity deques }
+    requires empty { window.slots ≡ [] }
+    requires front { window.front ≡ 0 }
+    requires fresh { IsFreshFeed (F.shown feed.old) }
+
+    ensures leads { F.leads feed.old feed.new }
+    ensures due { length (F.shown feed.new).due ≤ window.capacity }
+    ensures in_turn { IsInTurn (F.shown feed.old).left (F.shown feed.new) }
+    ensures later { (F.shown feed.old).faults ≤ (F.shown feed.new).faults }
+
+    ensures ended { OnOk result ((F.shown feed.new).ended ≡ true) }
+    ensures taken { OnOk result ((F.shown feed.new).due ≡ []) }
+    ensures left { OnOk result (IsLeft (F.shown feed.new).left []) }
+    ensures unfailed { OnOk result ((F.shown feed.new).failed ≡ (F.shown feed.old).failed) }
+    ensures jobs { IfOk result (λ report. report.jobs ≡ (F.shown feed.new).count) }
+
+    ensures passes { IfOk result (λ report. IsSome report.passes) }
+    ensures ran { IfOk result (λ report. IfSome report.passes (HasRunInPool (post.helpers + 1) window.capacity report)) }
+    ensures told { (jobs : List JobView) → (F.shown feed.old).left ≡ Some jobs
+        → IfOk result (λ report. IfSome report.passes (λ passes. AreTold jobs (by_caller passes).pushed)) }
+
+    ensures fault { IfErr result (Failed (F.shown feed.old) (F.shown feed.new)) }
+{
+    let mut helm = Helm::new(post, shared, work);
+    let mut tally = Tally {
+        issued: 0,
+        booked: 0,
+        own: 0,
+    };
+    let (members, answer) = beside(
+        rt,
+        work,
+        shared,
+        members,
+        &mut || lead(rt, work, &mut window, &mut helm, &mut tally, feed),
+    );
+    answer?;
+    Ok(finish(tally, &window, helm, members, ran, deques))
+}
+
+// What was done, once every job has its hit and the workers have ended.
+fn finish<G: Gate>(
+    tally: Tally,
+    window: &Window,
+    helm: Helm<'_, Detect<'_, G>>,
+    members: Vec<Member<Job, Hit>>,
+    ran: Vec<u64>,
+    deques: Vec<Ends<Job>>,
+) -> Report
+    requires served { All (HasServed asked helm.queue) members.items }
+    requires at { map deque_of members.items ≡ replicate helm.helpers helm.deque }
+    requires count { vec_len members ≡ helm.helpers }
+    requires none_ran { ran.items ≡ [] }
+    requires places { helm.helpers < vec_capacity ran }
+    requires no_ends { deques.items ≡ [] }
+    requires room_for_ends { 1 ≤ vec_capacity deques }
+    requires tallies { Tallies tally window.now helm }
+    requires booked { tally.booked ≡ tally.issued }
+    ensures jobs { result.jobs ≡ tally.issued }
+    ensures passes { IsSome result.passes }
+    ensures ran { IfSome result.passes (HasRunInPool (helm.entry.helpers + 1) helm.entry.room result) }
+    ensures given { IfSome result.passes (λ passes. (by_caller passes).pushed ≡ helm.entry.given) }
+{
+    let _room = window.has_room();
+    let Closed { deques, pass, ran } = close(helm, members, ran, deques);
+    Report {
+        jobs: tally.issued,
+        own: tally.own,
+        ran: Ran::from(ran),
+        passes: Some(Passes {
+            deques: Deques::from(deques),
+            results: pass,
+        }),
+    }
+}
