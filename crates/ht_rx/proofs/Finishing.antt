@@ -1,28 +1,32 @@
--- What a lister did over a new desk.
+-- What a feed did over a new desk.
 use Rattle.std.specs.Prelude.{◌≡◌, ℕ, List, [], ◌++◌, length, Option, Some, None, Result, Ok, Err, IsErr, IsErrAnd, MatchResult}
 use Rattle.std.proofs.Common.{refl, ap, ◌∙◌, sym, subst, append-nil, arith}
 use Rattle.std.proofs.lemmas.Bool.{false≢true}
 use Rattle.ht_io.specs.Devices.{Device, Grows, GrowsByPart, Rose, IsLater}
 use Rattle.ht_io.proofs.Calls.{takes-none, grows_by_part-none, failed-later}
 use Rattle.ht_fields.specs.Readers.{ReaderView, Gives}
-use Rattle.ht_metric.specs.Jobs.{JobView}
+use Rattle.ht_capture.specs.declared.items.FrameHead.{FrameHead}
 use Rattle.ht_capture.specs.declared.items.Item.{Item}
+use Rattle.ht_results.specs.declared.headed.Headed.{Headed}
 use Rattle.ht_rx.specs.declared.stop.Stop.{Stop}
 use Rattle.ht_rx.specs.declared.stop.Stop.TheVariants.{Broken}
 use Rattle.ht_rx.specs.declared.faults.FeedFault.{FeedFault}
 use Rattle.ht_rx.specs.declared.faults.FeedFault.TheVariants.{Write, NoMemory}
 use Rattle.ht_rx.specs.declared.faults.RxFault.{RxFault}
 use Rattle.ht_rx.specs.declared.faults.Ended.{Ended}
-use Rattle.ht_rx.specs.Texts.{frames_of, job_lines, jobs_of, lines_of}
+use Rattle.ht_rx.specs.Accounts.{Telling, PutsFirst, pieces_of}
+use Rattle.ht_results.specs.Heads.{headed}
+use Rattle.ht_results.specs.Texts.{frames_of}
+use Rattle.ht_rx.specs.Texts.{jobs_of}
 use Rattle.ht_rx.specs.Stops.{fault_of}
 use Rattle.ht_rx.specs.Reading.{Closes, ReadsBy}
-use Rattle.ht_rx.specs.Desks.{DeskView, IsNew}
-use Rattle.ht_rx.specs.Listing.{Lists, BreaksOff, seen_by}
-use Rattle.ht_rx.specs.Outcomes.{ListsBroken, ListsPart, StopsBy}
+use Rattle.ht_rx.specs.Desks.{DeskView, IsNewDesk}
+use Rattle.ht_rx.specs.Telling.{Tells, TellsPart, seen_by}
+use Rattle.ht_rx.specs.Outcomes.{TellsBroken, TellsPieces, StopsBy}
 use Rattle.ht_rx.proofs.Outcomes.{start, part, broken, known}
 
--- all items were read, and the lines of all their jobs were put
-pub record Finished (source source' sink sink' : Device ℕ) (frames jobs : ℕ) (stop : Stop) : Type 0 where
+-- all items were read, and all pieces of their jobs were put
+pub record Finished {P : Type 0} (pieces : List Headed → List P) (head : FrameHead) (source source' : Device ℕ) (device device' : Device P) (frames jobs : ℕ) (stop : Stop) : Type 0 where
   pub items : List Item
   pub between : ReaderView Item
   pub gives : Gives (start source) between items
@@ -30,75 +34,82 @@ pub record Finished (source source' sink sink' : Device ℕ) (frames jobs : ℕ)
   pub closes : Closes between source' stop
   pub frames_are : frames ≡ frames_of items
   pub jobs_are : jobs ≡ length (jobs_of items)
-  pub put : Grows sink sink' (job_lines (jobs_of items))
+  pub put : Grows device device' (pieces (headed head items))
 
 stopped_at : (a b : Option Stop) (stop : Stop) (old new : ReaderView Item) (items : List Item)
     → a ≡ None → b ≡ Some stop → ReadsBy a b old new items → ReadsBy None (Some stop) old new items
 stopped_at a b stop old new items p q reads =
     subst (λ (e : Option Stop). ReadsBy None e old new items) q (subst (λ (e : Option Stop). ReadsBy e b old new items) p reads)
 
-jobs_taken : (due last taken jobs : List JobView) → due ≡ [] → last ≡ [] → due ++ jobs ≡ taken ++ last → jobs ≡ taken
+jobs_taken : (due last taken jobs : List Headed) → due ≡ [] → last ≡ [] → due ++ jobs ≡ taken ++ last → jobs ≡ taken
 jobs_taken due last taken jobs none all is =
-    ap (λ (xs : List JobView). xs ++ jobs) (sym none) ∙ (is ∙ (ap (λ (xs : List JobView). taken ++ xs) all ∙ append-nil taken))
+    ap (λ (xs : List Headed). xs ++ jobs) (sym none) ∙ (is ∙ (ap (λ (xs : List Headed). taken ++ xs) all ∙ append-nil taken))
 
-lines_put : (text last put lines : List ℕ) → text ≡ [] → last ≡ [] → text ++ lines ≡ put ++ last → lines ≡ put
-lines_put text last put lines none all is =
-    ap (λ (xs : List ℕ). xs ++ lines) (sym none) ∙ (is ∙ (ap (λ (xs : List ℕ). put ++ xs) all ∙ append-nil put))
+-- all pieces were put, where nothing is kept back
+pieces_put : {P : Type 0} (old new : List Headed → List P) (taken : List Headed) (put : List P) → PutsFirst old new taken put → new [] ≡ [] → old taken ≡ put
+pieces_put {P = P} old new taken put first none =
+    ap old (sym (append-nil taken)) ∙ (first [] ∙ (ap (λ (xs : List P). put ++ xs) none ∙ append-nil put))
 
-pub finished : (old new : DeskView) (source source' sink sink' : Device ℕ) (jobs : ℕ) (stop : Stop)
-    → IsNew old → Lists (seen_by old source sink) (seen_by new source' sink') → new.stop ≡ Some stop → new.due ≡ [] → new.text ≡ [] → jobs ≡ new.count
-    → Finished source source' sink sink' new.frames jobs stop
-finished old new source source' sink sink' jobs stop fresh lists stopped due text count =
-    let closed = stopped_at old.stop new.stop stop (seen_by old source sink).standing.reader
-    (seen_by new source' sink').standing.reader lists.items fresh.stop stopped lists.reads in
-    let taken = jobs_taken old.due new.due lists.taken (jobs_of lists.items) fresh.due due lists.jobs in
-    let lines = lines_put old.text new.text lists.put (job_lines lists.taken) fresh.text text lists.lines in
-    record {
-      items = lists.items;
-      between = closed.between;
-      gives = subst (λ (r : ReaderView Item). Gives r closed.between lists.items) (fresh.first source) closed.gives;
-      later = closed.later;
-      closes = closed.closes;
-      frames_are = let e = lists.frames in let f = fresh.frames in omega (arith, e, f);
-      jobs_are = let e = lists.count in let f = fresh.count in omega (arith, count, e, f);
-      put = subst (λ (xs : List ℕ). Grows sink sink' xs) (sym lines ∙ ap job_lines (sym taken)) lists.octets;
-    }
+module _ {P : Type 0} where
+  pub finished : (old new : DeskView) (source source' : Device ℕ) (a b : Telling P) (jobs : ℕ) (stop : Stop)
+      → IsNewDesk old → Tells (seen_by old source a) (seen_by new source' b) → new.stop ≡ Some stop → new.due ≡ []
+      → a.Waits [] → (b.Waits [] → b.pieces [] ≡ []) → jobs ≡ new.count
+      → Finished a.pieces old.head source source' a.device b.device new.frames jobs stop
+  finished old new source source' a b jobs stop fresh tells stopped due rests nothing count =
+      let closed = stopped_at old.stop new.stop stop (seen_by old source a).standing.reader
+      (seen_by new source' b).standing.reader tells.items fresh.stop stopped tells.reads in
+      let taken = jobs_taken old.due new.due tells.taken (headed old.head tells.items) fresh.due due tells.jobs in
+      let waits = tells.waits (subst a.Waits (sym fresh.due) rests) in
+      let put = pieces_put a.pieces b.pieces tells.taken tells.put tells.first (nothing (subst b.Waits due waits)) in
+      record {
+        items = tells.items;
+        between = closed.between;
+        gives = subst (λ (r : ReaderView Item). Gives r closed.between tells.items) (fresh.first source) closed.gives;
+        later = closed.later;
+        closes = closed.closes;
+        frames_are = let e = tells.frames in let f = fresh.frames in omega (arith, e, f);
+        jobs_are = let e = tells.count in let f = fresh.count in omega (arith, count, e, f);
+        put = subst (λ (xs : List P). Grows a.device b.device xs) (sym put ∙ ap a.pieces (sym taken)) tells.grows;
+      }
 
--- the source failed behind all items, whose lines were put
-pub read_failed : (source source' sink sink' : Device ℕ) (frames jobs : ℕ) → Finished source source' sink sink' frames jobs Broken
-    → ListsBroken source source' sink sink' × Rose source source'
-read_failed source source' sink sink' frames jobs f =
-    (broken source source' sink sink' f.between f.items f.gives f.closes.0 f.put, failed-later source f.between.source source' f.later f.closes.1)
+  -- the source failed behind all items, whose pieces were put
+  pub read_failed : (pieces : List Headed → List P) (head : FrameHead) (source source' : Device ℕ) (device device' : Device P) (frames jobs : ℕ)
+      → Finished pieces head source source' device device' frames jobs Broken
+      → TellsBroken (pieces_of pieces) source source' device device' × Rose source source'
+  read_failed pieces head source source' device device' frames jobs f = (
+    broken pieces head source source' device device' f.between f.items f.gives f.closes.0 f.put,
+    failed-later source f.between.source source' f.later f.closes.1,
+  )
 
-part_listed : (old new : DeskView) (source source' sink sink' : Device ℕ) (fault : FeedFault)
-    → IsNew old → BreaksOff (seen_by old source sink) (seen_by new source' sink') fault → ListsPart source source' sink sink'
-part_listed old new source source' sink sink' fault fresh breaks =
-    let jobs = ap (λ (xs : List JobView). xs ++ jobs_of breaks.items) (sym fresh.due) ∙ breaks.jobs in
-    let put = subst (λ (xs : List ℕ). GrowsByPart sink sink' xs) (ap (λ (xs : List ℕ). xs ++ job_lines breaks.taken) fresh.text) breaks.octets in
-    part source sink sink' (seen_by old source sink).standing
-    (seen_by new source' sink').standing breaks.items breaks.taken breaks.rest (fresh.first source) fresh.stop breaks.reads jobs put
+  part_told : (old new : DeskView) (source source' : Device ℕ) (a b : Telling P) (fault : FeedFault)
+      → IsNewDesk old → TellsPart (seen_by old source a) (seen_by new source' b) fault → TellsPieces (pieces_of a.pieces) source source' a.device b.device
+  part_told old new source source' a b fault fresh breaks =
+      let jobs = ap (λ (xs : List Headed). xs ++ headed old.head breaks.items) (sym fresh.due) ∙ breaks.jobs in
+      part a.pieces old.head a.device b.device source (seen_by old source a).standing
+      (seen_by new source' b).standing breaks.items breaks.taken breaks.rest (fresh.first source) fresh.stop breaks.reads jobs breaks.part
 
-stops_as : (old new : DeskView) (source source' sink sink' : Device ℕ) (fault : FeedFault)
-    → IsNew old → BreaksOff (seen_by old source sink) (seen_by new source' sink') fault → StopsBy source source' sink sink' (fault_of fault)
-stops_as old new source source' sink sink' Write fresh breaks = (part_listed old new source source' sink sink' Write fresh breaks, breaks.cause refl)
-stops_as old new source source' sink sink' NoMemory fresh breaks = part_listed old new source source' sink sink' NoMemory fresh breaks
+  stops_as : (old new : DeskView) (source source' : Device ℕ) (a b : Telling P) (fault : FeedFault)
+      → IsNewDesk old → TellsPart (seen_by old source a) (seen_by new source' b) fault → StopsBy (pieces_of a.pieces) source source' a.device b.device (fault_of fault)
+  stops_as old new source source' a b Write fresh breaks = (part_told old new source source' a b Write fresh breaks, breaks.cause refl)
+  stops_as old new source source' a b NoMemory fresh breaks = part_told old new source source' a b NoMemory fresh breaks
 
--- the feed failed
-pub stops : (old new : DeskView) (source source' sink sink' : Device ℕ) (fault : FeedFault) (e : RxFault)
-    → IsNew old → BreaksOff (seen_by old source sink) (seen_by new source' sink') fault → e ≡ fault_of fault → StopsBy source source' sink sink' e
-stops old new source source' sink sink' fault e fresh breaks is =
-    subst (λ (r : RxFault). StopsBy source source' sink sink' r) (sym is) (stops_as old new source source' sink sink' fault fresh breaks)
+  -- the feed failed
+  pub stops : (old new : DeskView) (source source' : Device ℕ) (a b : Telling P) (fault : FeedFault) (e : RxFault)
+      → IsNewDesk old → TellsPart (seen_by old source a) (seen_by new source' b) fault → e ≡ fault_of fault
+      → StopsBy (pieces_of a.pieces) source source' a.device b.device e
+  stops old new source source' a b fault e fresh breaks is =
+      subst (λ (r : RxFault). StopsBy (pieces_of a.pieces) source source' a.device b.device r) (sym is) (stops_as old new source source' a b fault fresh breaks)
 
--- nothing was taken and nothing put
-pub part_none : (source sink : Device ℕ) → ListsPart source source sink sink
-part_none source sink =
-    record {
-      taken = [];
-      octets = takes-none source;
-      put = grows_by_part-none sink (lines_of []);
-      of_all = known source.known source.known [] (λ all. GrowsByPart sink sink (lines_of all))
-          (takes-none source) (λ rest. grows_by_part-none sink (lines_of rest));
-    }
+  -- nothing was taken and nothing put
+  pub part_none : (pieces : List ℕ → List P) (source : Device ℕ) (device : Device P) → TellsPieces pieces source source device device
+  part_none pieces source device =
+      record {
+        taken = [];
+        octets = takes-none source;
+        put = grows_by_part-none device (pieces []);
+        of_all = known source.known source.known [] (λ all. GrowsByPart device device (pieces all))
+            (takes-none source) (λ rest. grows_by_part-none device (pieces rest));
+      }
 
 -- an answer that is a fault of this kind
 pub stops_with : (result : Result Ended RxFault) (P : Ended → Type 0) (R Q : RxFault → Type 0) → IsErr result → IsErrAnd result Q → ((e : RxFault) → Q e → R e)

@@ -6,7 +6,7 @@ use Rattle.std.proofs.lemmas.Option.{same_Some}
 use Rattle.ht_io.specs.declared.faults.Kind.TheVariants.{Truncated}
 use Rattle.ht_io.specs.declared.faults.FormatFault.{FormatFault}
 use Rattle.ht_fields.specs.Grammar.{Grammar}
-use Rattle.ht_fields.specs.Cases.{joined, HasTrailing, Case, File, Clean, Longer, Faulty, Meets}
+use Rattle.ht_fields.specs.Cases.{octets_of_fields, HasTrailing, Case, File, Clean, Longer, Faulty, Meets}
 use Rattle.ht_fields.specs.Meanings.{Meaning, meaning, fault_of}
 use Rattle.ht_fields.specs.Readers.{IsEarly, EndsAt, ReaderView}
 use Rattle.ht_fields.proofs.Answered.{met, found, bad_stays, trailing_stays}
@@ -21,7 +21,7 @@ longer_within : {S I : Type 0} (f : Grammar S I) (octets : List ℕ) (items : Li
 longer_within f octets items offset m =
     let r = m.3 in
     let all = ap length r.split in
-    let parts = length-append (joined r.fields) (m.1 ∷ m.2) in
+    let parts = length-append (octets_of_fields r.fields) (m.1 ∷ m.2) in
     omega (arith, all, parts, r.length_is)
 
 early_front : {S I : Type 0} (f : Grammar S I) (octets : List ℕ) (fault : FormatFault) (n : ℕ) (items : List I) (case : Case)

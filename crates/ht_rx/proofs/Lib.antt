@@ -1,4 +1,5 @@
 pub mod Levels
+pub mod Heading
 pub mod Taking
 pub mod Waiting
 pub mod Finding
@@ -8,3 +9,7 @@ pub mod Leads
 pub mod Fronts
 pub mod Outcomes
 pub mod Finishing
+pub mod Listing
+pub mod Counting
+pub mod Booking
+pub mod Stamping

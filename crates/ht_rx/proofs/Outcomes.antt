@@ -1,16 +1,16 @@
--- What a listing comes to, from what its lister did.
+-- What it comes to that a capture is read and its hits are taken, from what the feed did.
 use Rattle.std.specs.Prelude.{◌≡◌, ◌⊎◌, ℕ, ◌+◌, ◌<◌, List, [], ◌++◌, length, take, Option, Some, None, IfSome}
 use Rattle.std.proofs.Common.{refl, ap, ◌∙◌, sym, subst, inl, inr, append_assoc, append-nil, arith, length-append, length-take}
 use Rattle.std.proofs.lemmas.Option.{IfSome_then}
 use Rattle.ht_io.specs.Devices.{Device, Takes, TakesAll, Grows, GrowsByPart}
 use Rattle.ht_io.specs.Pieces.{KnownTaken, KnownAllTaken}
-use Rattle.ht_io.proofs.Calls.{takes-append, takes-all, grows_by_part-front}
+use Rattle.ht_io.proofs.Calls.{takes-append, takes-all}
 use Rattle.ht_io.specs.declared.faults.FormatFault.{FormatFault}
 use Rattle.ht_fields.specs.Meanings.{Meaning, before}
 use Rattle.ht_fields.specs.Readers.{ReaderView, Gives, Refuses, RunsOut, Breaks, IsEarly}
 use Rattle.ht_fields.proofs.Answered.{alone}
 use Rattle.ht_fields.proofs.Joins.{gives_broke, ends_behind}
-use Rattle.ht_metric.specs.Jobs.{JobView}
+use Rattle.ht_capture.specs.declared.items.FrameHead.{FrameHead}
 use Rattle.ht_capture.specs.declared.items.Item.{Item}
 use Rattle.ht_capture.specs.Captures.{capture_of}
 use Rattle.ht_capture.specs.Fields.{captures}
@@ -18,19 +18,21 @@ use Rattle.ht_capture.specs.Reading.{here}
 use Rattle.ht_capture.specs.Readers.{Completes}
 use Rattle.ht_rx.specs.declared.stop.Stop.{Stop}
 use Rattle.ht_rx.specs.declared.stop.Stop.TheVariants.{Whole, Refused, Broken}
-use Rattle.ht_rx.specs.Texts.{frames_of, job_lines, jobs_of, lines_of}
-use Rattle.ht_rx.specs.Reading.{Standing, Closes, Reads, ReadsBy}
-use Rattle.ht_rx.specs.Outcomes.{IsFront, ListsWhole, ListsRefused, ListsBroken, ListsPart}
-use Rattle.ht_rx.specs.Leading.{jobs_of-append, job_lines-append}
+use Rattle.ht_results.specs.declared.headed.Headed.{Headed}
+use Rattle.ht_rx.specs.Accounts.{PutsPartOf, pieces_of}
+use Rattle.ht_results.specs.Heads.{headed, headed_jobs}
+use Rattle.ht_rx.specs.Heads.{last_head}
+use Rattle.ht_results.specs.Texts.{frames_of}
+use Rattle.ht_rx.specs.Texts.{jobs_of}
+use Rattle.ht_rx.specs.Reading.{Standing, Closes, ReadsOn, ReadsBy}
+use Rattle.ht_rx.specs.Outcomes.{IsFront, TellsWhole, TellsRefused, TellsBroken, TellsPieces}
+use Rattle.ht_rx.specs.Leading.{headed-append}
+use Rattle.ht_rx.proofs.Heading.{headed_is}
 use Rattle.ht_rx.proofs.Fronts.{before_fault, before_end}
 
 -- a reader in front of a capture
 abbrev pub start : Device ℕ → ReaderView Item
 start source = here captures.start 0 source
-
-pub lines_are : (octets : List ℕ) (items : List Item) → (capture_of octets).items ≡ items → lines_of octets ≡ job_lines (jobs_of items)
-unfolding lines_of
-lines_are octets items is = ap (λ (xs : List Item). job_lines (jobs_of xs)) is
 
 items_of : (octets : List ℕ) (items : List Item) (fault : Option FormatFault)
     → capture_of octets ≡ record { items = items; fault = fault } → (capture_of octets).items ≡ items
@@ -39,11 +41,6 @@ items_of octets items fault is = ap (λ (m : Meaning Item). m.items) is
 fault_is : (octets : List ℕ) (items : List Item) (fault : Option FormatFault)
     → capture_of octets ≡ record { items = items; fault = fault } → (capture_of octets).fault ≡ fault
 fault_is octets items fault is = ap (λ (m : Meaning Item). m.fault) is
-
--- the lines of all jobs of the items are those of the octets
-puts_all : (sink sink' : Device ℕ) (octets : List ℕ) (items : List Item) → (capture_of octets).items ≡ items
-    → Grows sink sink' (job_lines (jobs_of items)) → Grows sink sink' (lines_of octets)
-puts_all sink sink' octets items is grows = subst (λ (xs : List ℕ). Grows sink sink' xs) (sym (lines_are octets items is)) grows
 
 -- where what is left is known, the whole of it is said of
 pub known : (left after : Option (List ℕ)) (taken : List ℕ) (P : List ℕ → Type 0)
@@ -72,12 +69,18 @@ front_is octets n few early =
     let long : length (take n octets) ≡ n = omega (arith, few, length-take n octets) in
     subst (λ k. IsEarly k (capture_of (take n octets)).fault) (sym long) early
 
--- the source and the sink, before and after
-module _ (source source' sink sink' : Device ℕ) where
+-- an account that puts this in all; the source and the account's device, before and after
+module _ {P : Type 0} (pieces : List Headed → List P) (head : FrameHead) (source source' : Device ℕ) (device device' : Device P) where
+  -- the pieces of all jobs of the items are those of the octets
+  puts_all : (octets : List ℕ) (items : List Item) → (capture_of octets).items ≡ items
+      → Grows device device' (pieces (headed head items)) → Grows device device' (pieces_of pieces octets)
+  puts_all octets items is grows =
+      subst (λ (xs : List Headed). Grows device device' (pieces xs)) (headed_is head octets items is) grows
+
   pub whole : (mid : ReaderView Item) (items : List Item) (frames jobs : ℕ)
       → Gives (start source) mid items → Completes mid source' → frames ≡ frames_of items
-      → jobs ≡ length (jobs_of items) → Grows sink sink' (job_lines (jobs_of items))
-      → ListsWhole source source' sink sink' frames jobs
+      → jobs ≡ length (jobs_of items) → Grows device device' (pieces (headed head items))
+      → TellsWhole (pieces_of pieces) source source' device device' frames jobs
   whole mid items frames jobs g c f j put =
       let taken = g.taken ++ c.taken in
       let means : capture_of taken ≡ record { items = items; fault = None } = g.means c.taken ∙ (ap (before items) c.means ∙ alone items None) in
@@ -88,12 +91,12 @@ module _ (source source' sink sink' : Device ℕ) where
         whole = fault_is taken items None means;
         frames_are = f ∙ ap frames_of (sym is);
         jobs_are = j ∙ ap (λ (xs : List Item). length (jobs_of xs)) (sym is);
-        put = puts_all sink sink' taken items is put;
+        put = puts_all taken items is put;
       }
 
   -- a bad field, or an octet behind the capture
   refused_at : (mid : ReaderView Item) (items : List Item) (fault : FormatFault)
-      → Gives (start source) mid items → Refuses mid source' fault → Grows sink sink' (job_lines (jobs_of items)) → ListsRefused source source' sink sink' fault
+      → Gives (start source) mid items → Refuses mid source' fault → Grows device device' (pieces (headed head items)) → TellsRefused (pieces_of pieces) source source' device device' fault
   refused_at mid items fault g r put =
       let taken = g.taken ++ r.taken in
       let means : (rest : List ℕ) → capture_of (taken ++ rest) ≡ record { items = items; fault = Some fault } =
@@ -108,12 +111,12 @@ module _ (source source' sink sink' : Device ℕ) where
         refused = is;
         ends = λ n few. front_is taken n few (before_end captures (start source) taken fault n refl (λ xs. refl) is ends few);
         comes = known source.known source'.known taken (λ all. capture_of all ≡ capture_of taken) octets (λ rest. means rest ∙ sym here_means);
-        put = puts_all sink sink' taken items (items_of taken items (Some fault) here_means) put;
+        put = puts_all taken items (items_of taken items (Some fault) here_means) put;
       }
 
   -- an early end
   refused_early : (mid : ReaderView Item) (items : List Item) (fault : FormatFault)
-      → Gives (start source) mid items → RunsOut mid source' fault → Grows sink sink' (job_lines (jobs_of items)) → ListsRefused source source' sink sink' fault
+      → Gives (start source) mid items → RunsOut mid source' fault → Grows device device' (pieces (headed head items)) → TellsRefused (pieces_of pieces) source source' device device' fault
   refused_early mid items fault g r put =
       let taken = g.taken ++ r.taken in
       let means : capture_of taken ≡ record { items = items; fault = Some fault } = g.means r.taken ∙ (ap (before items) r.means ∙ alone items (Some fault)) in
@@ -126,17 +129,17 @@ module _ (source source' sink sink' : Device ℕ) where
         refused = is;
         ends = λ n few. front_is taken n few (before_fault captures taken fault n is (omega (arith, few, total)) few);
         comes = known_all source.known source'.known taken (λ octets. capture_of octets ≡ capture_of taken) all refl;
-        put = puts_all sink sink' taken items (items_of taken items (Some fault) means) put;
+        put = puts_all taken items (items_of taken items (Some fault) means) put;
       }
 
   pub refused : (mid : ReaderView Item) (items : List Item) (fault : FormatFault)
       → Gives (start source) mid items → Refuses mid source' fault ⊎ RunsOut mid source' fault
-      → Grows sink sink' (job_lines (jobs_of items)) → ListsRefused source source' sink sink' fault
+      → Grows device device' (pieces (headed head items)) → TellsRefused (pieces_of pieces) source source' device device' fault
   refused mid items fault g (inl r) put = refused_at mid items fault g r put
   refused mid items fault g (inr r) put = refused_early mid items fault g r put
 
   pub broken : (mid : ReaderView Item) (items : List Item)
-      → Gives (start source) mid items → Breaks mid source' → Grows sink sink' (job_lines (jobs_of items)) → ListsBroken source source' sink sink'
+      → Gives (start source) mid items → Breaks mid source' → Grows device device' (pieces (headed head items)) → TellsBroken (pieces_of pieces) source source' device device'
   broken mid items g b put =
       let broke = gives_broke (start source) mid source' items g b in
       let place : 0 + length broke.taken ≡ length broke.taken = omega arith in
@@ -144,7 +147,7 @@ module _ (source source' sink sink' : Device ℕ) where
         taken = broke.taken;
         octets = broke.octets;
         front = subst (λ n. IsEarly n (capture_of broke.taken).fault) place broke.early;
-        put = puts_all sink sink' broke.taken items broke.means put;
+        put = puts_all broke.taken items broke.means put;
       }
 
 -- the items are the first of those that the octets give
@@ -210,24 +213,27 @@ saw source old new items None is reads = saw_gives source new items (subst (λ (
 saw source old new items (Some stop) is reads =
     saw_closes source new.source reads.between items stop (subst (λ (r : ReaderView Item). Gives r reads.between items) is reads.gives) reads.closes
 
-part_of : (sink sink' : Device ℕ) (octets : List ℕ) (items : List Item) (jobs rest : List JobView)
-    → StartsWith items octets → jobs_of items ≡ jobs ++ rest → GrowsByPart sink sink' (job_lines jobs) → GrowsByPart sink sink' (lines_of octets)
-part_of sink sink' octets items jobs rest front is put =
-    let more = rest ++ jobs_of front.0 in
-    let all : lines_of octets ≡ job_lines jobs ++ job_lines more =
-    lines_are octets (items ++ front.0) front.1
-    ∙ (ap job_lines (jobs_of-append items front.0 ∙ (ap (λ (xs : List JobView). xs ++ jobs_of front.0) is ∙ append_assoc jobs rest (jobs_of front.0)))
-    ∙ job_lines-append jobs more) in
-    subst (λ (xs : List ℕ). GrowsByPart sink sink' xs) (sym all) (grows_by_part-front sink sink' (job_lines jobs) (job_lines more) put)
+-- an account that puts this in all
+module _ {P : Type 0} (pieces : List Headed → List P) (head : FrameHead) (device device' : Device P) where
+  part_of : (octets : List ℕ) (items : List Item) (taken rest : List Headed)
+      → StartsWith items octets → headed head items ≡ taken ++ rest → PutsPartOf device device' pieces taken
+      → GrowsByPart device device' (pieces_of pieces octets)
+  part_of octets items taken rest front is part =
+      let behind = headed (last_head head items) front.0 in
+      let all : taken ++ (rest ++ behind) ≡ headed_jobs octets =
+      sym (append_assoc taken rest behind)
+      ∙ (ap (λ (xs : List Headed). xs ++ behind) (sym is)
+      ∙ (sym (headed-append head items front.0) ∙ headed_is head octets (items ++ front.0) front.1)) in
+      subst (λ (xs : List Headed). GrowsByPart device device' (pieces xs)) all (part (rest ++ behind))
 
-pub part : (source sink sink' : Device ℕ) (old new : Standing) (items : List Item) (jobs rest : List JobView)
-    → old.reader ≡ start source → old.stop ≡ None → Reads old new items → jobs_of items ≡ jobs ++ rest → GrowsByPart sink sink' (job_lines jobs)
-    → ListsPart source new.reader.source sink sink'
-part source sink sink' old new items jobs rest reader going reads is put =
-    let s = saw source old.reader new.reader items new.stop reader (subst (λ (e : Option Stop). ReadsBy e new.stop old.reader new.reader items) going reads) in
-    record {
-      taken = s.taken;
-      octets = s.octets;
-      put = part_of sink sink' s.taken items jobs rest s.front is put;
-      of_all = IfSome_then source.known s.of_all (λ octets front. part_of sink sink' octets items jobs rest front is put);
-    }
+  pub part : (source : Device ℕ) (old new : Standing) (items : List Item) (taken rest : List Headed)
+      → old.reader ≡ start source → old.stop ≡ None → ReadsOn old new items → headed head items ≡ taken ++ rest → PutsPartOf device device' pieces taken
+      → TellsPieces (pieces_of pieces) source new.reader.source device device'
+  part source old new items taken rest reader going reads is put =
+      let s = saw source old.reader new.reader items new.stop reader (subst (λ (e : Option Stop). ReadsBy e new.stop old.reader new.reader items) going reads) in
+      record {
+        taken = s.taken;
+        octets = s.octets;
+        put = part_of s.taken items taken rest s.front is put;
+        of_all = IfSome_then source.known s.of_all (λ octets front. part_of octets items taken rest front is put);
+      }

@@ -1,37 +1,59 @@
--- A hit is taken: its job is no longer due, and its line waits or is put.
-use Rattle.std.proofs.Common.{◌≡◌, ℕ, List, [], ◌∷◌, ◌++◌, drop, slice_get, Option, Some, unwrap_or, sym, ap, ◌∙◌, subst, arith, append-nil}
-use Rattle.std.proofs.lemmas.Option.{none-some}
-use Rattle.ht_io.specs.Devices.{Device, Grows, GrowsByPart, Rose, IsLater}
+-- A hit is taken: its job is no longer due.
+use Rattle.std.proofs.Common.{◌≡◌, ℕ, List, [], ◌∷◌, ◌++◌, drop, slice_get, Option, None, Some, Result, Ok, Err, MatchResult, OnOk, OnErr, IfErr}
+use Rattle.std.proofs.Common.{refl, sym, ap, ◌∙◌, subst, arith, append-nil, unwrap_or}
+use Rattle.std.proofs.lemmas.Option.{none-some, same_Some}
+use Rattle.ht_io.specs.Devices.{Device, Rose, IsLater}
 use Rattle.ht_io.proofs.Calls.{later-refl}
 use Rattle.ht_metric.specs.Jobs.{JobView}
+use Rattle.ht_capture.specs.declared.items.FrameHead.{FrameHead}
 use Rattle.ht_rx.specs.declared.faults.FeedFault.{FeedFault}
 use Rattle.ht_rx.specs.declared.faults.FeedFault.TheVariants.{Write, NoMemory}
-use Rattle.ht_rx.specs.Texts.{job_line_of, job_lines}
+use Rattle.ht_results.specs.declared.headed.Headed.{Headed}
+use Rattle.ht_rx.specs.Accounts.{Telling, PutsOne, PutsPartOfOne}
+use Rattle.ht_results.specs.Heads.{headed_of}
+use Rattle.ht_rx.specs.Heads.{jobs_alone}
 use Rattle.ht_rx.specs.Leading.{reads_none}
 use Rattle.ht_rx.specs.Desks.{DeskView}
-use Rattle.ht_rx.specs.Listing.{Lists, BreaksOff, seen_by}
+use Rattle.ht_rx.specs.Telling.{Tells, TellsPart, seen_by}
 
-first_due : (due : List JobView) (job : JobView) → slice_get due 0 ≡ Some job → due ++ [] ≡ (job ∷ []) ++ drop 1 due
-first_due [] job is = absurd (none-some job is)
-first_due (x ∷ xs) job is = append-nil (x ∷ xs) ∙ ap (λ (y : JobView). y ∷ xs) (ap (λ o. unwrap_or o x) is)
+first_due : (due : List Headed) (h : Headed) → slice_get due 0 ≡ Some h → due ++ [] ≡ (h ∷ []) ++ drop 1 due
+first_due [] h is = absurd (none-some h is)
+first_due (x ∷ xs) h is = append-nil (x ∷ xs) ∙ ap (λ (y : Headed). y ∷ xs) (ap (λ o. unwrap_or o x) is)
 
-pub one_line : (text : List ℕ) (job : JobView) → text ++ job_lines (job ∷ []) ≡ text ++ job_line_of job
-one_line text job = ap (λ (line : List ℕ). text ++ line) (append-nil (job_line_of job))
+pub none_due : (due : List Headed) (job : JobView) → slice_get due 0 ≡ None → slice_get (jobs_alone due) 0 ≡ Some job → ⊥
+none_due [] job none some = none-some job some
+none_due (h ∷ hs) job none some = none-some h (sym none)
 
--- the hit of a job was taken, and these lines were put
-pub takes_one : (desk : DeskView) (due : List JobView) (text : List ℕ) (source sink after : Device ℕ) (job : JobView) (put : List ℕ)
-    → slice_get desk.due 0 ≡ Some job → due ≡ drop 1 desk.due → Grows sink after put
-    → desk.text ++ job_line_of job ≡ put ++ text → IsLater sink after → after.faults ≡ sink.faults
-    → Lists (seen_by desk source sink) (seen_by (record desk { due = due; text = text }) source after)
-takes_one desk due text source sink after job put first is grows line le steady =
+-- the job of the first one due
+pub first_headed : (due : List Headed) (h : Headed) (job : JobView) → slice_get due 0 ≡ Some h → slice_get (jobs_alone due) 0 ≡ Some job
+    → slice_get due 0 ≡ Some (headed_of h.head job)
+first_headed [] h job is some = absurd (none-some job some)
+first_headed (x ∷ xs) h job is some =
+    let same : x ≡ h = same_Some x h is in
+    let jobs : x.job ≡ job = same_Some x.job job some in
+    let at : FrameHead → JobView → Headed = λ head j. headed_of head j in
+    ap (λ (y : Headed). Some (at y.head x.job)) same ∙ ap (λ (j : JobView). Some (at h.head j)) jobs
+
+pub jobs_alone-drop : (due : List Headed) → jobs_alone (drop 1 due) ≡ drop 1 (jobs_alone due)
+jobs_alone-drop [] = refl
+jobs_alone-drop (h ∷ hs) = refl
+
+-- the hit of a job was taken, and pieces were put
+pub takes_one : {P : Type 0} (desk : DeskView) (due : List Headed) (source : Device ℕ) (a b : Telling P) (h : Headed)
+    → slice_get desk.due 0 ≡ Some h → due ≡ drop 1 desk.due → PutsOne a.device b.device a.pieces b.pieces h
+    → (a.Waits desk.due → b.Waits (drop 1 desk.due)) → IsLater a.device b.device → b.device.faults ≡ a.device.faults
+    → Tells (seen_by desk source a) (seen_by (record desk { due = due }) source b)
+takes_one desk due source a b h first is puts waits le steady =
     record {
       items = [];
-      taken = job ∷ [];
-      put = put;
-      reads = reads_none (seen_by desk source sink).standing;
-      jobs = first_due desk.due job first ∙ ap (λ (xs : List JobView). (job ∷ []) ++ xs) (sym is);
-      lines = one_line desk.text job ∙ line;
-      octets = grows;
+      taken = h ∷ [];
+      put = puts.0;
+      reads = reads_none (seen_by desk source a).standing;
+      head = refl;
+      jobs = first_due desk.due h first ∙ ap (λ (xs : List Headed). (h ∷ []) ++ xs) (sym is);
+      first = puts.2;
+      grows = puts.1;
+      waits = λ w. subst b.Waits (sym is) (waits w);
       steady = steady;
       frames = omega arith;
       count = omega arith;
@@ -39,19 +61,19 @@ takes_one desk due text source sink after job put first is grows line le steady 
       puts_later = le;
     }
 
--- the line of a job could not be put, or not made
-pub takes_none : (desk : DeskView) (text : List ℕ) (faults : ℕ) (failed : Option FeedFault) (source sink after : Device ℕ) (job : JobView) (fault : FeedFault)
-    → slice_get desk.due 0 ≡ Some job → GrowsByPart sink after (desk.text ++ job_line_of job) → IsLater sink after → (fault ≡ Write → Rose sink after)
-    → (fault ≡ NoMemory → after.faults ≡ sink.faults)
-    → BreaksOff (seen_by desk source sink) (seen_by (record desk { text = text; faults = faults; failed = failed }) source after) fault
-takes_none desk text faults failed source sink after job fault first grows le cause steady =
+-- the pieces of a job could not be put, or not made
+pub takes_none : {P : Type 0} (desk : DeskView) (faults : ℕ) (failed : Option FeedFault) (source : Device ℕ) (a b : Telling P) (h : Headed) (fault : FeedFault)
+    → slice_get desk.due 0 ≡ Some h → PutsPartOfOne a.device b.device a.pieces h → IsLater a.device b.device → (fault ≡ Write → Rose a.device b.device)
+    → (fault ≡ NoMemory → b.device.faults ≡ a.device.faults)
+    → TellsPart (seen_by desk source a) (seen_by (record desk { faults = faults; failed = failed }) source b) fault
+takes_none desk faults failed source a b h fault first part le cause steady =
     record {
       items = [];
-      taken = job ∷ [];
+      taken = h ∷ [];
       rest = drop 1 desk.due;
-      reads = reads_none (seen_by desk source sink).standing;
-      jobs = first_due desk.due job first;
-      octets = subst (λ (xs : List ℕ). GrowsByPart sink after xs) (sym (one_line desk.text job)) grows;
+      reads = reads_none (seen_by desk source a).standing;
+      jobs = first_due desk.due h first;
+      part = part;
       reads_later = later-refl source;
       puts_later = le;
       cause = cause;

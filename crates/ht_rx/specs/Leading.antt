@@ -1,18 +1,24 @@
--- Whoever lists on from where a lister stands has listed from where it began.
+-- Whoever goes on from where a feed over a capture stands has gone on from where it began.
 use Rattle.std.specs.Prelude.{◌≡◌, ℕ, ◌+◌, List, [], ◌∷◌, ◌++◌, Option, None, Some}
 use Rattle.std.proofs.Common.{refl, ap, ◌∙◌, sym, subst, arith, append_assoc, append-nil, length, length-append}
-use Rattle.ht_io.specs.Devices.{Device, GrowsByPart, Rose, IsLater}
+use Rattle.ht_io.specs.Devices.{Device, Grows, GrowsByPart, Rose, IsLater}
 use Rattle.ht_io.proofs.Calls.{grows-none, grows-append, grows_by_part-append, later-refl, later-later, failed-later}
 use Rattle.ht_fields.specs.Readers.{ReaderView, Gives}
 use Rattle.ht_fields.proofs.Joins.{gives_none, gives_more}
 use Rattle.ht_metric.specs.Jobs.{JobView}
+use Rattle.ht_capture.specs.declared.items.FrameHead.{FrameHead}
 use Rattle.ht_capture.specs.declared.items.Item.{Item}
 use Rattle.ht_capture.specs.declared.items.Item.TheVariants.{Frame, Job, Done}
+use Rattle.ht_results.specs.declared.headed.Headed.{Headed}
 use Rattle.ht_rx.specs.declared.stop.Stop.{Stop}
 use Rattle.ht_rx.specs.declared.faults.FeedFault.{FeedFault}
-use Rattle.ht_rx.specs.Texts.{frames_of, job_line_of, job_lines, jobs_of}
-use Rattle.ht_rx.specs.Reading.{Standing, Closes, Reads, ReadsBy}
-use Rattle.ht_rx.specs.Listing.{Seen, Lists, BreaksOff, Rests, LeadsBy}
+use Rattle.ht_rx.specs.Accounts.{PutsFirst, PutsPartOf}
+use Rattle.ht_results.specs.Heads.{headed, headed_of}
+use Rattle.ht_rx.specs.Heads.{last_head}
+use Rattle.ht_results.specs.Texts.{frames_of}
+use Rattle.ht_rx.specs.Texts.{job_line_of, job_lines, jobs_of}
+use Rattle.ht_rx.specs.Reading.{Standing, Closes, ReadsOn, ReadsBy}
+use Rattle.ht_rx.specs.Telling.{Seen, Tells, TellsPart, RestsThen, TellsBy}
 
 pub jobs_of-append : (xs ys : List Item) → jobs_of (xs ++ ys) ≡ jobs_of xs ++ jobs_of ys
 jobs_of-append [] ys = refl
@@ -35,7 +41,7 @@ reads_by-none : (stop : Option Stop) (reader : ReaderView Item) → ReadsBy stop
 reads_by-none None reader = gives_none reader
 reads_by-none (Some stop) reader = (refl, refl, refl)
 
-pub reads_none : (standing : Standing) → Reads standing standing []
+pub reads_none : (standing : Standing) → ReadsOn standing standing []
 reads_none standing = reads_by-none standing.stop standing.reader
 
 pub reads_on : (a b c : Option Stop) (old mid new : ReaderView Item) (items more : List Item) → IsLater old.source mid.source
@@ -63,117 +69,141 @@ reads_on (Some stop) (Some other) None old mid new items more p first later = ab
 reads_on (Some stop) (Some other) (Some last) old mid new items more p first later =
     (first.0 ∙ later.0, ap (λ (xs : List Item). xs ++ more) first.1 ∙ later.1, first.2 ∙ later.2)
 
+pub headed-append : (head : FrameHead) (xs ys : List Item) → headed head (xs ++ ys) ≡ headed head xs ++ headed (last_head head xs) ys
+headed-append head [] ys = refl
+headed-append head (Frame next ∷ xs) ys = headed-append next xs ys
+headed-append head (Job job ∷ xs) ys = ap (λ (jobs : List Headed). headed_of head job ∷ jobs) (headed-append head xs ys)
+headed-append head (Done ∷ xs) ys = headed-append head xs ys
+
+last_head-append : (head : FrameHead) (xs ys : List Item) → last_head head (xs ++ ys) ≡ last_head (last_head head xs) ys
+last_head-append head [] ys = refl
+last_head-append head (Frame next ∷ xs) ys = last_head-append next xs ys
+last_head-append head (Job job ∷ xs) ys = last_head-append head xs ys
+last_head-append head (Done ∷ xs) ys = last_head-append head xs ys
+
+pub heads-on : (head mid last : FrameHead) (xs ys : List Item) → mid ≡ last_head head xs → last ≡ last_head mid ys → last ≡ last_head head (xs ++ ys)
+heads-on head mid last xs ys a b = b ∙ (ap (λ (h : FrameHead). last_head h ys) a ∙ sym (last_head-append head xs ys))
+
+pub headed-on : (head mid : FrameHead) (xs ys : List Item) → mid ≡ last_head head xs → headed head (xs ++ ys) ≡ headed head xs ++ headed mid ys
+headed-on head mid xs ys is = headed-append head xs ys ∙ ap (λ (h : FrameHead). headed head xs ++ headed h ys) (sym is)
+
 -- the jobs of items and more items, behind jobs that were due
-jobs-on : (due mid last taken more : List JobView) (items others : List Item) → due ++ jobs_of items ≡ taken ++ mid → mid ++ jobs_of others ≡ more ++ last
-    → due ++ jobs_of (items ++ others) ≡ (taken ++ more) ++ last
-jobs-on due mid last taken more items others first later =
-    ap (λ (xs : List JobView). due ++ xs) (jobs_of-append items others)
-    ∙ (sym (append_assoc due (jobs_of items) (jobs_of others))
-    ∙ (ap (λ (xs : List JobView). xs ++ jobs_of others) first
-    ∙ (append_assoc taken mid (jobs_of others)
-    ∙ (ap (λ (xs : List JobView). taken ++ xs) later
-    ∙ sym (append_assoc taken more last)))))
-
--- the lines of jobs and more jobs, behind lines that waited
-lines-on : (text mid put : List ℕ) (taken more : List JobView) → text ++ job_lines taken ≡ put ++ mid
-    → text ++ job_lines (taken ++ more) ≡ put ++ (mid ++ job_lines more)
-lines-on text mid put taken more first =
-    ap (λ (xs : List ℕ). text ++ xs) (job_lines-append taken more)
-    ∙ (sym (append_assoc text (job_lines taken) (job_lines more))
-    ∙ (ap (λ (xs : List ℕ). xs ++ job_lines more) first
-    ∙ append_assoc put mid (job_lines more)))
-
-pub lists-none : (seen : Seen) → Lists seen seen
-lists-none seen =
-    record {
-      items = [];
-      taken = [];
-      put = [];
-      reads = reads_none seen.standing;
-      jobs = append-nil seen.due;
-      lines = append-nil seen.text;
-      octets = grows-none seen.sink;
-      steady = refl;
-      frames = omega arith;
-      count = omega arith;
-      reads_later = later-refl seen.standing.reader.source;
-      puts_later = later-refl seen.sink;
-    }
+jobs-on : (due mid last taken more came others : List Headed) → due ++ came ≡ taken ++ mid → mid ++ others ≡ more ++ last
+    → due ++ (came ++ others) ≡ (taken ++ more) ++ last
+jobs-on due mid last taken more came others first later =
+    sym (append_assoc due came others)
+    ∙ (ap (λ (xs : List Headed). xs ++ others) first
+    ∙ (append_assoc taken mid others
+    ∙ (ap (λ (xs : List Headed). taken ++ xs) later
+    ∙ sym (append_assoc taken more last))))
 
 -- what both give read, in turn
 reads-both : (old mid new : Standing) (items more : List Item) → IsLater old.reader.source mid.reader.source
-    → Reads old mid items → Reads mid new more → Reads old new (items ++ more)
+    → ReadsOn old mid items → ReadsOn mid new more → ReadsOn old new (items ++ more)
 reads-both old mid new items more p first later = reads_on old.stop mid.stop new.stop old.reader mid.reader new.reader items more p first later
 
-pub lists-on : (old mid new : Seen) → Lists old mid → Lists mid new → Lists old new
-lists-on old mid new a b =
-    record {
-      items = a.items ++ b.items;
-      taken = a.taken ++ b.taken;
-      put = a.put ++ b.put;
-      reads = reads-both old.standing mid.standing new.standing a.items b.items a.reads_later a.reads b.reads;
-      jobs = jobs-on old.due mid.due new.due a.taken b.taken a.items b.items a.jobs b.jobs;
-      lines = lines-on old.text mid.text a.put a.taken b.taken a.lines
-          ∙ (ap (λ (xs : List ℕ). a.put ++ xs) b.lines ∙ sym (append_assoc a.put b.put new.text));
-      octets = grows-append old.sink mid.sink new.sink a.put b.put a.octets b.octets;
-      steady = b.steady ∙ a.steady;
-      frames = let e = frames_of-append a.items b.items in let f = a.frames in let g = b.frames in omega (arith, e, f, g);
-      count =
-          let e = ap length (jobs_of-append a.items b.items) ∙ length-append (jobs_of a.items) (jobs_of b.items) in
-          let f = a.count in
-          let g = b.count in
-          omega (arith, e, f, g);
-      reads_later = later-later old.standing.reader.source mid.standing.reader.source new.standing.reader.source a.reads_later b.reads_later;
-      puts_later = later-later old.sink mid.sink new.sink a.puts_later b.puts_later;
-    }
+module _ {P : Type 0} where
+  puts-on : (old mid new : List Headed → List P) (taken more : List Headed) (p q : List P) → PutsFirst old mid taken p → PutsFirst mid new more q
+      → PutsFirst old new (taken ++ more) (p ++ q)
+  puts-on old mid new taken more p q first later = λ ys.
+      ap old (append_assoc taken more ys) ∙ (first (more ++ ys) ∙ (ap (λ (xs : List P). p ++ xs) (later ys) ∙ sym (append_assoc p q (new ys))))
 
-pub lists-fails : (old mid new : Seen) (fault : FeedFault) → Lists old mid → BreaksOff mid new fault → BreaksOff old new fault
-lists-fails old mid new fault a b =
-    let lines = lines-on old.text mid.text a.put a.taken b.taken a.lines in
-    let put = grows_by_part-append old.sink mid.sink new.sink a.put (mid.text ++ job_lines b.taken) a.octets b.octets in
-    record {
-      items = a.items ++ b.items;
-      taken = a.taken ++ b.taken;
-      rest = b.rest;
-      reads = reads-both old.standing mid.standing new.standing a.items b.items a.reads_later a.reads b.reads;
-      jobs = jobs-on old.due mid.due b.rest a.taken b.taken a.items b.items a.jobs b.jobs;
-      octets = subst (λ (xs : List ℕ). GrowsByPart old.sink new.sink xs) (sym lines) put;
-      reads_later = later-later old.standing.reader.source mid.standing.reader.source new.standing.reader.source a.reads_later b.reads_later;
-      puts_later = later-later old.sink mid.sink new.sink a.puts_later b.puts_later;
-      cause = λ is. failed-later old.sink mid.sink new.sink a.puts_later (b.cause is);
-      steady = λ is. b.steady is ∙ a.steady;
-    }
+  part-on : (a b c : Device P) (old mid : List Headed → List P) (taken more : List Headed) (p : List P) → Grows a b p → PutsFirst old mid taken p
+      → PutsPartOf b c mid more → PutsPartOf a c old (taken ++ more)
+  part-on a b c old mid taken more p grows first part = λ ys.
+      subst (λ (xs : List P). GrowsByPart a c xs) (sym (ap old (append_assoc taken more ys) ∙ first (more ++ ys)))
+      (grows_by_part-append a b c p (mid (more ++ ys)) grows (part ys))
 
-pub fails-rests : (old mid new : Seen) (fault other : FeedFault) → fault ≡ other → BreaksOff old mid fault → Rests mid new → BreaksOff old new other
-fails-rests old mid new fault other is a b =
-    record {
-      items = a.items;
-      taken = a.taken;
-      rest = a.rest;
-      reads = subst (λ (standing : Standing). Reads old.standing standing a.items) b.standing a.reads;
-      jobs = a.jobs;
-      octets = subst (λ (sink : Device ℕ). GrowsByPart old.sink sink (old.text ++ job_lines a.taken)) b.sink a.octets;
-      reads_later = subst (λ (standing : Standing). IsLater old.standing.reader.source standing.reader.source) b.standing a.reads_later;
-      puts_later = subst (λ (sink : Device ℕ). IsLater old.sink sink) b.sink a.puts_later;
-      cause = λ write. subst (λ (sink : Device ℕ). Rose old.sink sink) b.sink (a.cause (is ∙ write));
-      steady = λ none. ap (λ (sink : Device ℕ). sink.faults) (sym b.sink) ∙ a.steady (is ∙ none);
-    }
+  pub tells-none : (seen : Seen P) → Tells seen seen
+  tells-none seen =
+      record {
+        items = [];
+        taken = [];
+        put = [];
+        reads = reads_none seen.standing;
+        head = refl;
+        jobs = append-nil seen.due;
+        first = λ ys. refl;
+        grows = grows-none seen.account.device;
+        waits = λ w. w;
+        steady = refl;
+        frames = omega arith;
+        count = omega arith;
+        reads_later = later-refl seen.standing.reader.source;
+        puts_later = later-refl seen.account.device;
+      }
 
-pub rests-none : (seen : Seen) → Rests seen seen
-rests-none seen = record { standing = refl; sink = refl }
+  pub tells-on : (old mid new : Seen P) → Tells old mid → Tells mid new → Tells old new
+  tells-on old mid new a b =
+      record {
+        items = a.items ++ b.items;
+        taken = a.taken ++ b.taken;
+        put = a.put ++ b.put;
+        reads = reads-both old.standing mid.standing new.standing a.items b.items a.reads_later a.reads b.reads;
+        head = heads-on old.head mid.head new.head a.items b.items a.head b.head;
+        jobs = ap (λ (xs : List Headed). old.due ++ xs) (headed-on old.head mid.head a.items b.items a.head)
+            ∙ jobs-on old.due mid.due new.due a.taken b.taken (headed old.head a.items) (headed mid.head b.items) a.jobs b.jobs;
+        first = puts-on old.account.pieces mid.account.pieces new.account.pieces a.taken b.taken a.put b.put a.first b.first;
+        grows = grows-append old.account.device mid.account.device new.account.device a.put b.put a.grows b.grows;
+        waits = λ w. b.waits (a.waits w);
+        steady = b.steady ∙ a.steady;
+        frames = let e = frames_of-append a.items b.items in let f = a.frames in let g = b.frames in omega (arith, e, f, g);
+        count =
+            let e = ap length (jobs_of-append a.items b.items) ∙ length-append (jobs_of a.items) (jobs_of b.items) in
+            let f = a.count in
+            let g = b.count in
+            omega (arith, e, f, g);
+        reads_later = later-later old.standing.reader.source mid.standing.reader.source new.standing.reader.source a.reads_later b.reads_later;
+        puts_later = later-later old.account.device mid.account.device new.account.device a.puts_later b.puts_later;
+      }
 
-pub rests-on : (old mid new : Seen) → Rests old mid → Rests mid new → Rests old new
-rests-on old mid new a b = record { standing = a.standing ∙ b.standing; sink = a.sink ∙ b.sink }
+  pub tells-fails : (old mid new : Seen P) (fault : FeedFault) → Tells old mid → TellsPart mid new fault → TellsPart old new fault
+  tells-fails old mid new fault a b =
+      record {
+        items = a.items ++ b.items;
+        taken = a.taken ++ b.taken;
+        rest = b.rest;
+        reads = reads-both old.standing mid.standing new.standing a.items b.items a.reads_later a.reads b.reads;
+        jobs = ap (λ (xs : List Headed). old.due ++ xs) (headed-on old.head mid.head a.items b.items a.head)
+            ∙ jobs-on old.due mid.due b.rest a.taken b.taken (headed old.head a.items) (headed mid.head b.items) a.jobs b.jobs;
+        part = part-on old.account.device mid.account.device new.account.device
+            old.account.pieces mid.account.pieces a.taken b.taken a.put a.grows a.first b.part;
+        reads_later = later-later old.standing.reader.source mid.standing.reader.source new.standing.reader.source a.reads_later b.reads_later;
+        puts_later = later-later old.account.device mid.account.device new.account.device a.puts_later b.puts_later;
+        cause = λ is. failed-later old.account.device mid.account.device new.account.device a.puts_later (b.cause is);
+        steady = λ is. b.steady is ∙ a.steady;
+      }
 
-pub leads_by-none : (failed : Option FeedFault) (seen : Seen) → LeadsBy failed failed seen seen
-leads_by-none None seen = lists-none seen
-leads_by-none (Some fault) seen = (refl, rests-none seen)
+  fails-rests : (old mid new : Seen P) (fault other : FeedFault) → fault ≡ other → TellsPart old mid fault → RestsThen mid new → TellsPart old new other
+  fails-rests old mid new fault other is a b =
+      record {
+        items = a.items;
+        taken = a.taken;
+        rest = a.rest;
+        reads = subst (λ (standing : Standing). ReadsOn old.standing standing a.items) b.standing a.reads;
+        jobs = a.jobs;
+        part = subst (λ (device : Device P). PutsPartOf old.account.device device old.account.pieces a.taken) b.device a.part;
+        reads_later = subst (λ (standing : Standing). IsLater old.standing.reader.source standing.reader.source) b.standing a.reads_later;
+        puts_later = subst (λ (device : Device P). IsLater old.account.device device) b.device a.puts_later;
+        cause = λ write. subst (λ (device : Device P). Rose old.account.device device) b.device (a.cause (is ∙ write));
+        steady = λ none. ap (λ (device : Device P). device.faults) (sym b.device) ∙ a.steady (is ∙ none);
+      }
 
-pub leads_by-on : (a b c : Option FeedFault) (old mid new : Seen) → LeadsBy a b old mid → LeadsBy b c mid new → LeadsBy a c old new
-leads_by-on None None None old mid new first later = lists-on old mid new first later
-leads_by-on None None (Some fault) old mid new first later = lists-fails old mid new fault first later
-leads_by-on None (Some fault) None old mid new first later = absurd later
-leads_by-on None (Some fault) (Some other) old mid new first later = fails-rests old mid new fault other later.0 first later.1
-leads_by-on (Some fault) None c old mid new first later = absurd first
-leads_by-on (Some fault) (Some other) None old mid new first later = absurd later
-leads_by-on (Some fault) (Some other) (Some last) old mid new first later = (first.0 ∙ later.0, rests-on old mid new first.1 later.1)
+  rests-none : (seen : Seen P) → RestsThen seen seen
+  rests-none seen = record { standing = refl; device = refl }
+
+  rests-on : (old mid new : Seen P) → RestsThen old mid → RestsThen mid new → RestsThen old new
+  rests-on old mid new a b = record { standing = a.standing ∙ b.standing; device = a.device ∙ b.device }
+
+  pub tells_by-none : (failed : Option FeedFault) (seen : Seen P) → TellsBy failed failed seen seen
+  tells_by-none None seen = tells-none seen
+  tells_by-none (Some fault) seen = (refl, rests-none seen)
+
+  pub tells_by-on : (a b c : Option FeedFault) (old mid new : Seen P) → TellsBy a b old mid → TellsBy b c mid new → TellsBy a c old new
+  tells_by-on None None None old mid new first later = tells-on old mid new first later
+  tells_by-on None None (Some fault) old mid new first later = tells-fails old mid new fault first later
+  tells_by-on None (Some fault) None old mid new first later = absurd later
+  tells_by-on None (Some fault) (Some other) old mid new first later = fails-rests old mid new fault other later.0 first later.1
+  tells_by-on (Some fault) None c old mid new first later = absurd first
+  tells_by-on (Some fault) (Some other) None old mid new first later = absurd later
+  tells_by-on (Some fault) (Some other) (Some last) old mid new first later = (first.0 ∙ later.0, rests-on old mid new first.1 later.1)

@@ -1,8 +1,13 @@
 pub mod Texts
+pub mod Heads
 pub mod Stops
 pub mod Reading
 pub mod Desks
-pub mod Listing
+pub mod Accounts
+pub mod Telling
 pub mod Leading
-pub mod Listers
+pub mod Feeding
+pub mod Listing
+pub mod Keeping
 pub mod Outcomes
+pub mod Frames

@@ -5,6 +5,8 @@ use Rattle.ht_rx.specs.declared.stop.Stop.{Stop}
 use Rattle.ht_rx.specs.declared.stop.Stop.TheVariants.{Refused, Broken}
 use Rattle.ht_rx.specs.declared.faults.FeedFault.{FeedFault}
 use Rattle.ht_rx.specs.declared.faults.FeedFault.TheVariants.{Write as FeedWrite, NoMemory as FeedNoMemory}
+use Rattle.ht_rx.specs.declared.book_fault.BookFault.{BookFault}
+use Rattle.ht_rx.specs.declared.book_fault.BookFault.TheVariants.{Failed as BookFailed, NoMemory as BookMemory}
 use Rattle.ht_rx.specs.declared.faults.RxFault.{RxFault}
 use Rattle.ht_rx.specs.declared.faults.RxFault.TheVariants.{Write as RxWrite, NoMemory as RxNoMemory}
 
@@ -18,3 +20,8 @@ stop_of NoMemory = Broken
 abbrev pub fault_of : FeedFault → RxFault
 fault_of FeedWrite = RxWrite
 fault_of FeedNoMemory = RxNoMemory
+
+-- why a feed can't go on where its book refuses
+abbrev pub fault_of_book : BookFault → FeedFault
+fault_of_book BookFailed = FeedWrite
+fault_of_book BookMemory = FeedNoMemory

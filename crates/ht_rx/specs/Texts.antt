@@ -1,14 +1,13 @@
 -- What `detect` writes for a list of octets: a line for each job, and a last line.
-use Rattle.std.specs.Prelude.{ℕ, ◌+◌, ℤ, List, [], ◌∷◌, ◌++◌, Option, None, Some}
+use Rattle.std.specs.Prelude.{ℕ, ℤ, List, [], ◌∷◌, ◌++◌}
 use Rattle.std.specs.List.{flat_map}
-use Rattle.ht_io.specs.declared.faults.FormatFault.{FormatFault}
-use Rattle.ht_io.specs.Kinds.{name_of}
 use Rattle.ht_pam.specs.declared.point.Point.{Point}
 use Rattle.ht_metric.specs.Jobs.{JobView, near}
 use Rattle.ht_capture.specs.declared.items.Item.{Item}
 use Rattle.ht_capture.specs.declared.items.Item.TheVariants.{Frame, Job, Done}
 use Rattle.ht_capture.specs.Captures.{capture_of}
-use Rattle.ht_text.specs.Lines.{job_text, end_text, refused_text}
+use Rattle.ht_text.specs.Lines.{job_text}
+use Rattle.ht_results.specs.Texts.{last_line}
 
 -- I and Q of each point in turn
 abbrev pub levels_of : List Point → List ℤ
@@ -30,24 +29,9 @@ jobs_of (Frame head ∷ items) = jobs_of items
 jobs_of (Job job ∷ items) = job ∷ jobs_of items
 jobs_of (Done ∷ items) = jobs_of items
 
--- how many frames are among the items
-abbrev pub frames_of : List Item → ℕ
-frames_of [] = 0
-frames_of (Frame head ∷ items) = 1 + frames_of items
-frames_of (Job job ∷ items) = frames_of items
-frames_of (Done ∷ items) = frames_of items
-
 -- the lines of the jobs of the symbols that are whole in a list of octets
 unfoldable pub lines_of : List ℕ → List ℕ
 lines_of octets = job_lines (jobs_of (capture_of octets).items)
-
--- the last line: the number of frames, or the first fault
-abbrev pub last_of : Option FormatFault → ℕ → List ℕ
-last_of None frames = end_text frames
-last_of (Some fault) frames = refused_text (name_of fault.kind) fault.offset
-
-unfoldable pub last_line : List ℕ → List ℕ
-last_line octets = last_of (capture_of octets).fault (frames_of (capture_of octets).items)
 
 -- the reference text of a list of octets
 unfoldable pub detect_text : List ℕ → List ℕ

@@ -1,45 +1,45 @@
-//! The memory of a lister.
-ghost use Rattle.std.specs.Prelude.{◌≡◌, ◌+◌, ◌-◌, ◌^◌, ◌<◌, ◌≤◌, ℕ, List, Option, None, Some, length, slice_get};
+//! The memory of a feed over a capture.
+ghost use Rattle.std.specs.Prelude.{◌≡◌, ◌+◌, ◌-◌, ◌^◌, ◌<◌, ◌≤◌, ℕ, Option, None, Some, length, slice_get};
 ghost use Rattle.std.specs.Prelude.{IfErr, IfNone, IfOk, IfSome, MatchResult, OnOk};
 ghost use Rattle.ht_io.specs.Causes.{one_more};
 ghost use Rattle.ht_io.specs.Devices.{Device};
-ghost use Rattle.ht_crew.specs.Feeds.{Ends, Fails, Gives, GivesAsBefore, Takes};
+ghost use Rattle.ht_crew.specs.Feeds.{EndsJobs, Fails, GivesJob, GivesAsBefore, TakesHit};
 ghost use Rattle.ht_capture.specs.Readers.{more};
-ghost use Rattle.ht_rx.specs.Desks.{IsNew, IsSound, feed_of};
-ghost use Rattle.ht_rx.specs.Listing.{BreaksOff, Lists, seen_by};
+ghost use Rattle.ht_rx.specs.Accounts.{told_by};
+ghost use Rattle.ht_rx.specs.Desks.{IsNewDesk, IsSoundDesk, feed_of};
+ghost use Rattle.ht_rx.specs.Heads.{jobs_alone};
+ghost use Rattle.ht_rx.specs.Telling.{ReadsMore, Tells, TellsPart, seen_by};
 
+use crate::account::Account;
 use crate::faults::FeedFault;
+use crate::headed::no_head;
 use crate::reading::next_job;
 use crate::stop::Stop;
-use crate::writing::write;
 use circular_buffer::HeapCircularBuffer;
-use ht_capture::Reader;
-use ht_io::{Sink, Source};
+use ht_capture::{FrameHead, Reader};
+use ht_io::Source;
 use ht_metric::{Hit, Job};
+use ht_results::Headed;
 use std::alloc::{AllocError, Global};
 use std::marker::Model;
 
 /// The most jobs that may be due.
 const DUE: usize = 4096;
 
-/// Room for the lines of a symbol: 114 lines of at most 105 octets.
-const TEXT: usize = 11970;
-
-/// All memory that a lister needs: for the triangles of a frame, the samples of a symbol, the jobs that are due and
-/// the lines of a symbol.
+/// All memory of a feed over a capture: for the triangles of a frame, the samples of a symbol, and the jobs that are due.
 #[derive(Drop)]
 pub struct Desk {
     reader: Reader,
     // How the reading stopped, once it has.
     stop: Option<Stop>,
-    // The jobs given whose hits weren't taken yet, in order.
-    due: HeapCircularBuffer<Job>,
-    // The lines that weren't put yet.
-    text: String,
-    // The number of jobs given.
-    count: u64,
+    // The head that came last; any, where none came.
+    head: FrameHead,
     // The number of frames that began.
     frames: u16,
+    // The jobs given whose hits weren't taken yet, in order, each with the head of its frame.
+    due: HeapCircularBuffer<Headed>,
+    // The number of jobs given.
+    count: u64,
     // The number of calls that failed.
     faults: u64,
     // What a call that failed answered; all later calls answer it as well.
@@ -47,29 +47,29 @@ pub struct Desk {
 }
 
 impl Model for Desk {
-    ghost use Rattle.std.specs.Prelude.{◌≡◌, string_bytes};
-    ghost use Rattle.ht_rx.specs.Desks.{DeskView, IsSound, desk_view};
+    ghost use Rattle.std.specs.Prelude.{◌≡◌};
+    ghost use Rattle.ht_rx.specs.Desks.{DeskView, IsSoundDesk, desk_view};
 
     ghost Value = { DeskView };
 
-    ghost view = { λ d. desk_view d.reader d.stop d.due.items (string_bytes d.text) d.count d.frames d.faults d.failed };
+    ghost view = { λ d. desk_view d.reader d.stop d.head d.frames d.due.items d.count d.faults d.failed };
 
-    ghost invariant = { λ d. IsSound (desk_view d.reader d.stop d.due.items (string_bytes d.text) d.count d.frames d.faults d.failed)
+    ghost invariant = { λ d. IsSoundDesk (desk_view d.reader d.stop d.head d.frames d.due.items d.count d.faults d.failed)
         × (d.due.capacity ≡ 4096) };
 }
 
 impl Desk {
     /// A desk in front of a capture of which nothing was read. The only error is lack of memory.
     pub fn new(alloc: Global) -> Result<Desk, AllocError>
-        ensures { IfOk result IsNew }
+        ensures { IfOk result IsNewDesk }
     {
         Ok(Desk {
             reader: Reader::new(alloc)?,
             stop: None,
-            due: HeapCircularBuffer::with_capacity(alloc, DUE)?,
-            text: String::with_capacity(alloc, TEXT)?,
-            count: 0,
+            head: no_head(),
             frames: 0,
+            due: HeapCircularBuffer::with_capacity(alloc, DUE)?,
+            count: 0,
             faults: 0,
             failed: None,
         })
@@ -79,7 +79,7 @@ impl Desk {
     #[must_use]
     pub fn stop(&self) -> Option<Stop>
         ensures value { result ≡ self.now.stop }
-        ensures sound { IsSound self.now }
+        ensures sound { IsSoundDesk self.now }
     {
         self.stop
     }
@@ -115,19 +115,21 @@ impl Desk {
         requires going { self.old.stop ≡ None }
         requires well { self.old.failed ≡ None }
         requires room { length self.old.due < 4096 }
-        ensures job { IfSome result (Gives (feed_of self.old) (feed_of self.new)) }
-        ensures none { IfNone result (Ends (feed_of self.old) (feed_of self.new)) }
-        ensures lists { (sink : Device ℕ) →
-            Lists (seen_by self.old (S.shown source.old) sink) (seen_by self.new (S.shown source.new) sink) }
+        ensures job { IfSome result (GivesJob (feed_of self.old) (feed_of self.new)) }
+        ensures none { IfNone result (EndsJobs (feed_of self.old) (feed_of self.new)) }
+        ensures reads { ReadsMore self.old self.new (S.shown source.old) (S.shown source.new) }
         ensures well { self.new.failed ≡ None }
         ensures faults { self.new.faults ≡ self.old.faults }
         ensures bound { self.new.count + more self.new.reader < 2 ^ 64 - 1 }
-        ensures sound { IsSound self.new }
+        ensures sound { IsSoundDesk self.new }
     {
-        match next_job(&mut self.reader, &mut self.frames, source) {
+        match next_job(&mut self.reader, &mut self.head, &mut self.frames, source) {
             Ok(job) => {
                 self.count += 1;
-                let _ = self.due.push_back(job.copy());
+                let _ = self.due.push_back(Headed {
+                    head: self.head,
+                    job: job.copy(),
+                });
                 Some(job)
             }
             Err(stop) => {
@@ -137,21 +139,26 @@ impl Desk {
         }
     }
 
-    // Takes the hit of the first job due: its line waits, or is put together with the others of its symbol.
-    pub(crate) fn take<K: Sink>(&mut self, hit: Hit, sink: &mut K) -> Result<(), FeedFault>
+    // Hands the hit of the first job due to an account.
+    pub(crate) fn take<A: Account>(&mut self, hit: Hit, account: &mut A) -> Result<(), FeedFault>
         requires well { self.old.failed ≡ None }
-        requires first { slice_get self.old.due 0 ≡ Some hit.job }
-        ensures lists { (source : Device ℕ) → MatchResult result
-            (λ _. Lists (seen_by self.old source (K.shown sink.old)) (seen_by self.new source (K.shown sink.new)))
-            (BreaksOff (seen_by self.old source (K.shown sink.old)) (seen_by self.new source (K.shown sink.new))) }
-        ensures taken { OnOk result (Takes (feed_of self.old) (feed_of self.new)) }
+        requires first { slice_get (jobs_alone self.old.due) 0 ≡ Some hit.job }
+        ensures tells { (source : Device ℕ) → MatchResult result
+            (λ _. Tells (seen_by self.old source (told_by A.shown A.pieces A.waits account.old)) (seen_by self.new source (told_by A.shown A.pieces A.waits account.new)))
+            (TellsPart (seen_by self.old source (told_by A.shown A.pieces A.waits account.old)) (seen_by self.new source (told_by A.shown A.pieces A.waits account.new))) }
+        ensures taken { OnOk result (TakesHit (feed_of self.old) (feed_of self.new)) }
         ensures well { OnOk result (self.new.failed ≡ None) }
         ensures fault { IfErr result (Fails (feed_of self.old) (feed_of self.new)) }
         ensures as_before { GivesAsBefore (feed_of self.old) (feed_of self.new) }
         ensures later { self.old.faults ≤ self.new.faults }
-        ensures sound { IsSound self.new }
+        ensures same { A.lent account.new ≡ A.lent account.old }
+        ensures sound { IsSoundDesk self.new }
     {
-        match write(&mut self.text, &hit, &self.due, sink) {
+        let Some(first) = self.due.get(0) else {
+            unreachable!();
+        };
+        let head = first.head;
+        match account.take(&head, hit, &self.due) {
             Ok(()) => {
                 let _ = self.due.pop_front();
                 Ok(())

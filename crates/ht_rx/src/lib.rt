@@ -1,14 +1,19 @@
-//! Captures received and written out as text.
+//! Captures received: a line for each job, or a result for each frame.
 //!
-//! [`list_alone`] reads a capture from any source and puts a line into any sink for each job of each symbol that is
-//! whole: its place, the distance of its first nearest vector, and that vector (IEEE Std 802.11-2012, clause 20.3.11,
-//! for symbols and subcarriers). A [`Lister`] is the feed between the two. A drive of crate `ht_crew` asks it for jobs,
-//! which it takes from a capture's reader, and hands it their hits in order. It puts the lines of the hits, those of a
-//! symbol together. Its memory is a [`Desk`]. The lines that wait are of one symbol at most (`Waits` in
-//! `specs/Desks.antt`).
+//! A [`CaptureFeed`] stands between a capture and an [`Account`]. A drive of crate `ht_crew` asks it for jobs, which it
+//! takes from a capture's reader, and hands it their hits in order, which it hands on to the account. What becomes of
+//! the hits is the account's alone: a [`Lister`] puts a line for each, those of a symbol together; a [`Receiver`] books
+//! the [`FrameResult`] of each frame in a [`Book`] once its last hit came. What an account puts in all is a function of
+//! the jobs that come, so that one set of lemmas says for every account what a whole capture, a fault, a source that
+//! fails and a full memory come to (`specs/Telling.antt`, `specs/Outcomes.antt`).
+//!
+//! [`list_alone`] and [`receive_alone`] read a capture from any source and run every job in the calling thread.
+//! [`receive_text_alone`] puts the line of each frame into a sink. For each present subcarrier of each symbol (IEEE Std
+//! 802.11-2012, clause 20.3.11, for symbols and subcarriers) the first nearest vector is found; the labels of a frame's
+//! data subcarriers are decoded by crate `ht_inverse`.
 //!
 //! What must be put for a list of octets is a definition over the octets alone: `lines_of`, and with the last line
-//! `detect_text`, in `specs/Texts.antt`. `specs/Outcomes.antt` says what each answer means.
+//! `detect_text`, in `specs/Texts.antt`; `frame_lines_of` and `rx_text` in `specs/Frames.antt`.
 //!
 //! The capture `examples/z.htcp` has one frame of two symbols; its lines are
 //!
@@ -17,21 +22,45 @@
 //! job 0 0 1 100 -1 0
 //! ```
 //!
-//! and 110 more, and the answer is `Done { frames: 1, jobs: 112 }`. Without its last octet 56 lines are put, and the
-//! answer is `Refused` with Truncated at 1018.
+//! and 110 more, and the answer is `Done { frames: 1, jobs: 112 }`. Its frame's line is
+//! `frame 0 data 10400 pilot 800 code 0 seed zero`: 104 data jobs and 8 pilot jobs, each at 100. Without the last octet
+//! 56 lines are put, no frame is whole, and the answer is `Refused` with Truncated at 1018.
 #![tactic(auto)]
 
+mod account;
+mod book;
+mod book_fault;
 mod desk;
 mod faults;
+mod feed;
+mod headed;
 mod lines;
 mod list;
+mod list_book;
 mod lister;
+mod open_frame;
 mod reading;
+mod receive;
+mod receive_text;
+mod receiver;
 mod stop;
+mod telling;
+mod text_book;
 mod writing;
 
+pub use account::Account;
+pub use book::Book;
+pub use book_fault::BookFault;
 pub use desk::Desk;
 pub use faults::{Ended, FeedFault, RxFault};
+pub use feed::CaptureFeed;
+pub use ht_results::{FrameResult, Headed};
 pub use list::list_alone;
+pub use list_book::ListBook;
 pub use lister::Lister;
+pub use open_frame::OpenFrame;
+pub use receive::receive_alone;
+pub use receive_text::receive_text_alone;
+pub use receiver::Receiver;
 pub use stop::Stop;
+pub use text_book::TextBook;

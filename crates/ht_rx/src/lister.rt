@@ -1,60 +1,70 @@
-//! A feed over a capture that writes a line for each job.
-ghost use Rattle.std.specs.Prelude.{◌≡◌, OnOk};
-ghost use Rattle.ht_rx.specs.Desks.{feed_of};
-ghost use Rattle.ht_rx.specs.Listers.{LeadsOn, leads_on-more, leads_on-none, names, names_of};
+//! An account that puts a line for each job.
+ghost use Rattle.std.specs.Prelude.{◌≡◌, ◌++◌, [], ◌∷◌, string_bytes, IfOk};
+ghost use Rattle.ht_rx.specs.Heads.{jobs_alone};
+ghost use Rattle.ht_rx.specs.Keeping.{nothing_waits, waits_given};
+ghost use Rattle.ht_rx.specs.Listing.{Waits};
+ghost use Rattle.ht_rx.specs.Texts.{job_lines};
 
-use crate::desk::Desk;
+use crate::account::Account;
 use crate::faults::FeedFault;
-use ht_crew::Feed;
-use ht_io::{Sink, Source};
-use ht_metric::{Hit, Job};
+use crate::writing::write;
+use circular_buffer::HeapCircularBuffer;
+use ht_capture::FrameHead;
+use ht_io::Sink;
+use ht_metric::Hit;
+use ht_results::Headed;
+use std::alloc::{AllocError, Global};
 
-/// Reads the jobs of a capture from a source, and puts the line of each hit into a sink, those of a symbol together.
-///
-/// Its memory is a [`Desk`] that its maker lends it. Where the capture has a fault or the source fails, it keeps that
-/// on the desk and gives no more jobs, so that the hits of those that are due are still written. A call that fails is
-/// counted, and from then on each call fails with the same answer, and neither reads nor puts.
+/// Room for the lines of a symbol: 114 lines of at most 105 octets.
+const TEXT: usize = 11970;
+
+/// Puts the line of each hit into a sink, the lines of a symbol together.
 #[derive(Drop)]
-pub struct Lister<'a, S, K> {
-    desk: &'a mut Desk,
-    source: &'a mut S,
+pub struct Lister<'a, K> {
+    // The lines that weren't put yet.
+    text: &'a mut String,
     sink: &'a mut K,
 }
 
-impl<'a, S: Source, K: Sink> Lister<'a, S, K> {
-    /// A lister over a source and a sink, which goes on from where its desk stands. It takes no memory.
-    pub fn new(desk: &'a mut Desk, source: &'a mut S, sink: &'a mut K) -> Lister<'a, S, K>
-        ensures names { names_of result ≡ names desk.entry.ghost_name source.entry.ghost_name sink.entry.ghost_name }
-        ensures desk { result.desk.now ≡ desk.old }
-        ensures source { result.source.now ≡ source.old }
+/// Room for the lines of a symbol. The only error is lack of memory.
+pub(crate) fn room(alloc: Global) -> Result<String, AllocError>
+    ensures { IfOk result (λ text. string_bytes text ≡ []) }
+{
+    String::with_capacity(alloc, TEXT)
+}
+
+impl<'a, K: Sink> Lister<'a, K> {
+    /// A lister that puts lines into this sink, behind the lines that wait in this text. It takes no memory.
+    pub fn new(text: &'a mut String, sink: &'a mut K) -> Lister<'a, K>
+        ensures text { result.text.now ≡ text.old }
         ensures sink { result.sink.now ≡ sink.old }
+        ensures name { result.sink.ghost_name ≡ sink.entry.ghost_name }
     {
-        Lister { desk, source, sink }
+        Lister { text, sink }
     }
 }
 
-impl<'a, S: Source, K: Sink> Feed for Lister<'a, S, K> {
-    type Fault = FeedFault;
+impl<'a, K: Sink> Account for Lister<'a, K> {
+    type Piece = u8;
 
-    ghost shown = { λ l. feed_of l.desk.now };
+    ghost shown = { λ l. K.shown l.sink.now };
 
-    ghost leads = { LeadsOn S.shown K.shown };
+    ghost lent = { λ l. l.sink.ghost_name ∷ [] };
 
-    fn next(&mut self) -> Result<Option<Job>, FeedFault> {
-        if let Some(fault) = self.desk.failed() {
-            return Err(self.desk.fail(fault));
-        }
-        Ok(self.desk.next(self.source))
+    ghost pieces = { λ l jobs. string_bytes l.text.now ++ job_lines (jobs_alone jobs) };
+
+    ghost waits = { λ l due. Waits (string_bytes l.text.now) due };
+
+    fn take(
+        &mut self,
+        _: &FrameHead,
+        hit: Hit,
+        due: &HeapCircularBuffer<Headed>,
+    ) -> Result<(), FeedFault> {
+        write(self.text, &hit, due, self.sink)
     }
 
-    fn take(&mut self, hit: Hit) -> Result<(), FeedFault> {
-        if let Some(fault) = self.desk.failed() {
-            return Err(self.desk.fail(fault));
-        }
-        self.desk.take(hit, self.sink)
-    }
+    ghost more_due = { λ l. waits_given (string_bytes l.text.now) };
 
-    ghost stays = { leads_on-none S.shown K.shown };
-
-    ghost goes_on = { leads_on-more S.shown K.shown };
+    ghost none_due = { λ l. nothing_waits (string_bytes l.text.now) };
 }

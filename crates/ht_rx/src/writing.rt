@@ -1,15 +1,16 @@
 //! Lines that wait for the end of their symbol.
 ghost use Rattle.std.specs.Prelude.{◌≡◌, ◌++◌, ℕ, List, [], Some, false, slice_get, string_bytes, IfErr, MatchResult, OnErr, OnOk};
 ghost use Rattle.ht_io.specs.Devices.{Grows, GrowsByPart, Rose, IsLater};
-ghost use Rattle.ht_metric.specs.declared.job.Job.{Job as JobValue};
+ghost use Rattle.ht_results.specs.declared.headed.Headed.{Headed as HeadedValue};
 ghost use Rattle.ht_rx.specs.Texts.{job_line_of};
-ghost use Rattle.ht_rx.specs.Desks.{WaitsOn};
+ghost use Rattle.ht_rx.specs.Listing.{WaitsOn};
 
 use crate::faults::FeedFault;
 use crate::lines::push_line;
 use circular_buffer::HeapCircularBuffer;
 use ht_io::Sink;
-use ht_metric::{Hit, Job, Place};
+use ht_metric::{Hit, Place};
+use ht_results::Headed;
 
 // Puts the lines that wait.
 fn put<K: Sink>(text: &mut String, sink: &mut K) -> Result<(), FeedFault>
@@ -27,13 +28,13 @@ fn put<K: Sink>(text: &mut String, sink: &mut K) -> Result<(), FeedFault>
 }
 
 // Whether no job of the symbol at this place is due behind the first job.
-fn ends_symbol(due: &HeapCircularBuffer<Job>, place: Place) -> bool
-    ensures goes_on { result ≡ false → (next : JobValue) × (slice_get due.now.items 1 ≡ Some next)
-        × (next.place.frame ≡ place.frame) × (next.place.symbol ≡ place.symbol) }
+fn ends_symbol(due: &HeapCircularBuffer<Headed>, place: Place) -> bool
+    ensures goes_on { result ≡ false → (next : HeadedValue) × (slice_get due.now.items 1 ≡ Some next)
+        × (next.job.place.frame ≡ place.frame) × (next.job.place.symbol ≡ place.symbol) }
 {
     match due.get(1) {
-        Some(job) => {
-            let next = job.place();
+        Some(headed) => {
+            let next = headed.job.place();
             next.frame != place.frame || next.symbol != place.symbol
         }
         None => true,
@@ -44,13 +45,12 @@ fn ends_symbol(due: &HeapCircularBuffer<Job>, place: Place) -> bool
 pub(crate) fn write<K: Sink>(
     text: &mut String,
     hit: &Hit,
-    due: &HeapCircularBuffer<Job>,
+    due: &HeapCircularBuffer<Headed>,
     sink: &mut K,
 ) -> Result<(), FeedFault>
-    ensures lines { MatchResult result
-        (λ _. (put : List ℕ) × Grows (K.shown sink.old) (K.shown sink.new) put
-        × (string_bytes text.old ++ job_line_of hit.now.job ≡ put ++ string_bytes text.new))
-        (λ _. GrowsByPart (K.shown sink.old) (K.shown sink.new) (string_bytes text.old ++ job_line_of hit.now.job)) }
+    ensures lines { OnOk result ((put : List ℕ) × Grows (K.shown sink.old) (K.shown sink.new) put
+        × (string_bytes text.old ++ job_line_of hit.now.job ≡ put ++ string_bytes text.new)) }
+    ensures part { OnErr result (GrowsByPart (K.shown sink.old) (K.shown sink.new) (string_bytes text.old ++ job_line_of hit.now.job)) }
     ensures waits { OnOk result (WaitsOn (string_bytes text.old) (string_bytes text.new) hit.now.job due.now.items) }
     ensures cause { IfErr result (λ fault. fault ≡ FeedFault.Write → Rose (K.shown sink.old) (K.shown sink.new)) }
     ensures steady { OnOk result ((K.shown sink.new).faults ≡ (K.shown sink.old).faults) }

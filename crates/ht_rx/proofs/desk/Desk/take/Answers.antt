@@ -1,47 +1,47 @@
-use Rattle.std.proofs.Common.{◌≡◌, ◌∙◌, Some, slice_get, string_bytes, ap, subst}
+use Rattle.std.proofs.Common.{◌∙◌, slice_get, ap, sym, subst}
+use Rattle.ht_rx.specs.Accounts.{told_by}
 use Rattle.ht_rx.specs.Desks.{DeskView}
-use Rattle.ht_rx.specs.Listing.{Lists, BreaksOff, seen_by}
+use Rattle.ht_results.specs.Heads.{headed_of}
+use Rattle.ht_rx.specs.Heads.{jobs_alone}
+use Rattle.ht_rx.specs.Telling.{Tells, TellsPart, seen_by}
 use Rattle.ht_rx.specs.contracts.desk.Desk.{the_view}
-use Rattle.ht_rx.proofs.Sound.{sound_taken}
-use Rattle.ht_rx.proofs.Taking.{takes_one, takes_none}
+use Rattle.ht_rx.proofs.Taking.{first_headed, none_due, takes_one, takes_none}
 use Rattle.ht_rx.proofs.desk.Desk.take.Goals as goal
 
-pub invariant_of-self : goal.invariant_of-self
-invariant_of-self g c =
-    let desk = the_view c.self.inside in
-    let first : slice_get desk.due 0 ≡ Some c.args.hit.job = ap (λ (d : DeskView). slice_get d.due 0) c.self.view_is ∙ c.requires.first in
-    let popped = c.pop_front.ensures.items in (
-      sound_taken desk c.pop_front.new.self.items (string_bytes c.write.new.text) c.args.hit.job c.self.invariant.0 first
-          (ap (λ b. b.items) popped) c.in-Ok.ensures.waits,
-      ap (λ b. b.capacity) popped ∙ c.self.invariant.1,
-    )
+pub unreachable-requires : goal.unreachable-requires
+unreachable-requires g c =
+    let first = ap (λ (d : DeskView). slice_get (jobs_alone d.due) 0) c.self.view_is ∙ c.requires.first in
+    none_due c.self.inside.due.items c.args.hit.job (sym c.in_default.ensures) first
 
-pub returns-in-Ok-clause-lists : goal.returns-in-Ok-clause-lists
-returns-in-Ok-clause-lists g c = λ source.
+pub take-requires : goal.take-requires
+take-requires g c =
+    let first = ap (λ (d : DeskView). slice_get (jobs_alone d.due) 0) c.self.view_is ∙ c.requires.first in
+    record { first = first_headed c.self.inside.due.items c.in-Some.first.now c.args.hit.job (sym c.in-Some.ensures) first }
+
+pub returns-in-Ok-clause-tells : goal.returns-in-Ok-clause-tells
+returns-in-Ok-clause-tells g c = λ source.
     let desk = the_view c.self.inside in
-    let sink = g.K.Sink.shown c.args.sink.now in
-    let after = g.K.Sink.shown c.write.new.sink in
+    let before = told_by g.A.Account.shown g.A.Account.pieces g.A.Account.waits c.args.account.now in
+    let after = told_by g.A.Account.shown g.A.Account.pieces g.A.Account.waits c.take.new.self in
+    let h = headed_of c.in-Some.first.now.head c.args.hit.job in
     let due = c.pop_front.new.self.items in
-    let text = string_bytes c.write.new.text in
-    let lines = c.in-Ok.ensures.lines in
-    let first : slice_get desk.due 0 ≡ Some c.args.hit.job = ap (λ (d : DeskView). slice_get d.due 0) c.self.view_is ∙ c.requires.first in
-    let one = takes_one desk due text source sink after c.args.hit.job lines.0 first
-    (ap (λ b. b.items) c.pop_front.ensures.items) lines.1 lines.2 c.write.ensures.later c.in-Ok.ensures.steady in
-    let new : DeskView = record desk { due = due; text = text } in
-    subst (λ (d : DeskView). Lists (seen_by d source sink) (seen_by new source after)) c.self.view_is one
+    let first = ap (λ (d : DeskView). slice_get (jobs_alone d.due) 0) c.self.view_is ∙ c.requires.first in
+    let here = first_headed c.self.inside.due.items c.in-Some.first.now c.args.hit.job (sym c.in-Some.ensures) first in
+    let one = takes_one desk due source before after h here (ap (λ b. b.items) c.pop_front.ensures.items)
+    c.in-Ok.ensures.put c.in-Ok.ensures.waits c.take.ensures.later c.in-Ok.ensures.steady in
+    let new : DeskView = record desk { due = due } in
+    subst (λ (d : DeskView). Tells (seen_by d source before) (seen_by new source after)) c.self.view_is one
 
-pub returns-in-Ok-clause-sound : goal.returns-in-Ok-clause-sound
-returns-in-Ok-clause-sound g c = (invariant_of-self g c).0
-
-pub returns-in-Err-clause-lists : goal.returns-in-Err-clause-lists
-returns-in-Err-clause-lists g c = λ source.
+pub returns-in-Err-clause-tells : goal.returns-in-Err-clause-tells
+returns-in-Err-clause-tells g c = λ source.
     let desk = the_view c.self.inside in
-    let sink = g.K.Sink.shown c.args.sink.now in
-    let after = g.K.Sink.shown c.write.new.sink in
-    let text = string_bytes c.write.new.text in
+    let before = told_by g.A.Account.shown g.A.Account.pieces g.A.Account.waits c.args.account.now in
+    let after = told_by g.A.Account.shown g.A.Account.pieces g.A.Account.waits c.take.new.self in
+    let h = headed_of c.in-Some.first.now.head c.args.hit.job in
     let fault = c.in-Err.fault in
-    let first : slice_get desk.due 0 ≡ Some c.args.hit.job = ap (λ (d : DeskView). slice_get d.due 0) c.self.view_is ∙ c.requires.first in
-    let none = takes_none desk text c.note.new.faults c.note.new.failed source sink after c.args.hit.job fault
-    first c.in-Err.ensures.lines c.write.ensures.later c.in-Err.ensures.cause c.in-Err.ensures.unfailed in
-    let new : DeskView = record desk { text = text; faults = c.note.new.faults; failed = c.note.new.failed } in
-    subst (λ (d : DeskView). BreaksOff (seen_by d source sink) (seen_by new source after) fault) c.self.view_is none
+    let first = ap (λ (d : DeskView). slice_get (jobs_alone d.due) 0) c.self.view_is ∙ c.requires.first in
+    let here = first_headed c.self.inside.due.items c.in-Some.first.now c.args.hit.job (sym c.in-Some.ensures) first in
+    let none = takes_none desk c.note.new.faults c.note.new.failed source before after h fault here
+    c.in-Err.ensures.part c.take.ensures.later c.in-Err.ensures.cause c.in-Err.ensures.unfailed in
+    let new : DeskView = record desk { faults = c.note.new.faults; failed = c.note.new.failed } in
+    subst (λ (d : DeskView). TellsPart (seen_by d source before) (seen_by new source after) fault) c.self.view_is none

@@ -1,0 +1,23 @@
+-- What is booked of a frame, and what its receiver keeps of a frame under way.
+use Rattle.std.specs.Prelude.{◌≡◌, ℕ, ◌+◌, ◌*◌, ◌^◌, ◌≤◌, List, length}
+use Rattle.std.specs.List.{flat_map}
+use Rattle.ht_inverse.specs.Received.{labels_in_frame}
+use Rattle.ht_results.specs.declared.frame_result.FrameResult.{FrameResult}
+use Rattle.ht_results.specs.Folding.{FrameSoFar}
+use Rattle.ht_results.specs.Results.{results_of}
+
+-- what is booked in all of a list of octets, where this is booked of each result
+abbrev pub booked_of : {P : Type 0} → (FrameResult → List P) → List ℕ → List P
+booked_of booked octets = flat_map booked (results_of octets)
+
+-- a frame under way whose labels can be decoded: all of them stand there
+pub record HasLabels (f : FrameSoFar) : Type 0 where
+  pub some : 1 ≤ f.head.length
+  pub labels : length f.labels ≡ labels_in_frame f.head.rate f.head.length
+
+-- a frame of which a job is still to come; its sums can't leave their type
+pub record IsUnderWay (f : FrameSoFar) : Type 0 where
+  pub left : 1 ≤ f.left
+  pub kept : HasLabels f
+  pub data_room : f.data_sum + f.left * 2 ^ 66 ≤ 2 ^ 96
+  pub pilot_room : f.pilot_sum + f.left * 2 ^ 66 ≤ 2 ^ 96

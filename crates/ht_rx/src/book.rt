@@ -1,0 +1,37 @@
+//! Where the results of frames go.
+ghost use Rattle.std.specs.Prelude.{◌≡◌, ℕ, List, IfErr, OnErr, OnOk};
+ghost use Rattle.ht_io.specs.Devices.{Device, Grows, GrowsByPart, Rose, IsLater};
+ghost use Rattle.ht_results.specs.declared.frame_result.FrameResult.{FrameResult as ResultValue};
+ghost use Rattle.ht_rx.specs.declared.book_fault.BookFault.TheVariants.{Failed as BookFailed, NoMemory as BookMemory};
+
+use crate::book_fault::BookFault;
+use ht_results::FrameResult;
+
+/// What results of frames are booked in: a list that keeps them, or a sink that their lines are put into.
+pub trait Book {
+    /// What is booked, piece by piece, as contracts see it: results, or the octets of their lines.
+    type Piece;
+
+    /// The pieces that were booked where they are known, and how often booking failed.
+    ghost shown: { Self → Device Self.Piece };
+
+    /// Which borrows lead to its device.
+    ghost lent: { Self → List ℕ };
+
+    /// The pieces of a result.
+    ghost booked: { ResultValue → List Self.Piece };
+
+    /// Books a result behind the others. A refusal leaves a part of its pieces there.
+    fn frame(&mut self, frame: FrameResult) -> Result<(), BookFault>
+        ensures grown { OnOk result (Grows (shown self.old) (shown self.new) (booked frame)) }
+        ensures part { OnErr result (GrowsByPart (shown self.old) (shown self.new) (booked frame)) }
+
+        // A fault is counted exactly where the answer is Failed.
+        ensures steady { OnOk result ((shown self.new).faults ≡ (shown self.old).faults) }
+        ensures cause { IfErr result (λ fault. fault ≡ BookFailed → Rose (shown self.old) (shown self.new)) }
+        ensures unfailed { IfErr result (λ fault. fault ≡ BookMemory → (shown self.new).faults ≡ (shown self.old).faults) }
+
+        // It is the same device.
+        ensures later { IsLater (shown self.old) (shown self.new) }
+        ensures same { lent self.new ≡ lent self.old };
+}

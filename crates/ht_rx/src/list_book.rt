@@ -1,0 +1,49 @@
+//! A book that keeps results.
+ghost use Rattle.std.specs.Prelude.{◌≡◌, ◌∷◌, [], Some};
+
+use crate::book::Book;
+use crate::book_fault::BookFault;
+use ht_results::FrameResult;
+use std::alloc::Global;
+
+/// Keeps the results, in the order in which they were booked. It never fails but for lack of memory.
+#[derive(Debug, Drop)]
+pub struct ListBook {
+    results: Vec<FrameResult>,
+}
+
+impl ListBook {
+    /// A book of no results. It takes no memory.
+    pub fn new(alloc: Global) -> ListBook
+        ensures { result.results.items ≡ [] }
+    {
+        ListBook {
+            results: Vec::new(alloc),
+        }
+    }
+
+    /// The results that were booked.
+    #[must_use]
+    pub fn results(&self) -> &[FrameResult]
+        ensures { result.now ≡ self.now.results.items }
+    {
+        &self.results
+    }
+}
+
+impl Book for ListBook {
+    type Piece = FrameResult;
+
+    ghost shown = { λ b. record { known = Some b.results.items; faults = 0; borrow = 0 } };
+
+    ghost lent = { λ b. [] };
+
+    ghost booked = { λ frame. frame ∷ [] };
+
+    fn frame(&mut self, frame: FrameResult) -> Result<(), BookFault> {
+        match self.results.push(frame) {
+            Ok(()) => Ok(()),
+            Err(_) => Err(BookFault::NoMemory),
+        }
+    }
+}

@@ -1,0 +1,257 @@
+//! A frame under way.
+ghost use Rattle.std.specs.Prelude.{◌≡◌, ◌+◌, ◌-◌, ◌*◌, ◌^◌, ◌<◌, ◌≤◌, IfOk, OnOk, length, max, set};
+ghost use Rattle.ht_capture.specs.Files.{is_erased as erased_at, present_among};
+ghost use Rattle.ht_inverse.specs.Received.{labels_in_frame};
+ghost use Rattle.ht_map.specs.Gray.{label_of};
+ghost use Rattle.ht_metric.specs.Jobs.{near};
+ghost use Rattle.ht_rate.specs.Rates.{carriers_of};
+ghost use Rattle.ht_results.specs.Folding.{frame_begun, frame_of, jobs_in_frame, kind_of, label_at, label_place, put_labels, result_of, with_kind, with_octets};
+ghost use Rattle.ht_rx.specs.Frames.{HasLabels, IsUnderWay};
+
+use crate::headed::no_head;
+use ht_capture::FrameHead;
+use ht_inverse::{Decoded, Decoder};
+use ht_map::label;
+use ht_metric::{Hit, Vector};
+use ht_pam::Point;
+use ht_rate::{Carrier, Modulation, Rate};
+use ht_results::FrameResult;
+use std::alloc::{AllocError, Global};
+use std::marker::Model;
+
+/// The frame under way: what the hits of its jobs so far come to. Its labels are kept, one octet each, until its last
+/// job came; the next frame has their memory.
+#[derive(Drop)]
+pub struct OpenFrame {
+    head: FrameHead,
+    data_sum: u128,
+    pilot_sum: u128,
+    labels: Vec<u8>,
+    // The number of jobs that are still to come; 0 where no frame is under way.
+    left: u64,
+}
+
+impl Model for OpenFrame {
+    ghost use Rattle.std.specs.Prelude.{◌≤◌};
+    ghost use Rattle.ht_results.specs.Folding.{FrameSoFar};
+    ghost use Rattle.ht_rx.specs.Frames.{IsUnderWay};
+
+    ghost Value = { FrameSoFar };
+
+    ghost view = { λ f. record { head = f.head; data_sum = f.data_sum; pilot_sum = f.pilot_sum; labels = f.labels.items; left = f.left } };
+
+    ghost invariant = { λ f. 1 ≤ f.left
+        → IsUnderWay (record { head = f.head; data_sum = f.data_sum; pilot_sum = f.pilot_sum; labels = f.labels.items; left = f.left }) };
+}
+
+// The number of a frame's labels.
+fn labels_in(head: &FrameHead) -> usize
+    requires { 1 ≤ head.now.length }
+    ensures { result ≡ labels_in_frame head.now.rate head.now.length }
+{
+    let symbols = head.rate.symbols(head.length) as usize;
+    symbols * (usize::from(head.rate.data_carriers()) * usize::from(head.rate.streams()))
+}
+
+// Whether a subcarrier is erased.
+fn is_erased(erased: u128, carrier: u8) -> bool
+    requires { carrier < 128 }
+    ensures { result ≡ erased_at erased carrier }
+{
+    erased >> carrier & 1 == 1
+}
+
+// The number of subcarriers that are present.
+#[tactic(auto, using(crate::proofs::Stamping::present_step))]
+fn present_in(head: &FrameHead) -> u8
+    ensures value { result ≡ present_among (carriers_of head.now.rate) 0 head.now.erased }
+    ensures few { result ≤ 114 }
+{
+    let mut count = 0;
+    for carrier in 0..head.rate.carriers() {
+        if !is_erased(head.erased, carrier) {
+            count += 1;
+        }
+    }
+    count
+}
+
+// The number of a frame's jobs, at least one.
+fn jobs_in(head: &FrameHead) -> u64
+    requires { 1 ≤ head.now.length }
+    ensures value { result ≡ max 1 (jobs_in_frame head.now) }
+    ensures low { 1 ≤ result }
+    ensures high { result ≤ 2298924 }
+{
+    let symbols = u64::from(head.rate.symbols(head.length));
+    (symbols * u64::from(present_in(head))).max(1)
+}
+
+// What a subcarrier carries; there are no others than those of the rate.
+fn kind(rate: &Rate, carrier: u8) -> Carrier
+    ensures { result ≡ kind_of rate.now carrier }
+{
+    if carrier < rate.carriers() {
+        rate.carrier(carrier)
+    } else {
+        Carrier::Data(carrier)
+    }
+}
+
+// The label of a point of the constellation.
+fn label_for(modulation: Modulation, point: Point) -> u8
+    ensures { result ≡ label_at modulation point }
+{
+    label(modulation, point).unwrap_or(0)
+}
+
+// Puts a label on its place, where the frame has one.
+#[tactic(auto, using(std::proofs::lemmas::List::set_past))]
+fn put_label(labels: &mut [u8], at: usize, label: u8)
+    ensures { labels.new ≡ set labels.old at label }
+{
+    if at < labels.len() {
+        labels[at] = label;
+    }
+}
+
+// Puts the labels of a vector's points on their places, stream by stream.
+#[tactic(auto, using(crate::proofs::Stamping::labels_step))]
+fn put_vector(labels: &mut [u8], at: usize, modulation: Modulation, vector: &Vector)
+    requires { at < 2 ^ 63 }
+    ensures { labels.new ≡ put_labels modulation labels.old at vector.now }
+{
+    for k in 0..vector.len() {
+        let label = label_for(modulation, vector.point(k + 1));
+        put_label(labels, at + usize::from(k), label);
+    }
+}
+
+// The place of the first label of a data subcarrier.
+fn place_of(rate: &Rate, symbol: u32, m: u8) -> usize
+    ensures value { result ≡ label_place rate.now symbol m }
+    ensures bound { result < 2 ^ 63 }
+{
+    let carriers = usize::from(rate.data_carriers());
+    (symbol as usize * carriers + usize::from(m)) * usize::from(rate.streams())
+}
+
+impl OpenFrame {
+    /// No frame is under way. It takes no memory.
+    pub fn new(alloc: Global) -> OpenFrame
+        ensures { result.left ≡ 0 }
+    {
+        OpenFrame {
+            head: no_head(),
+            data_sum: 0,
+            pilot_sum: 0,
+            labels: Vec::new(alloc),
+            left: 0,
+        }
+    }
+
+    /// How many of its jobs are still to come.
+    pub fn left(&self) -> u64
+        ensures { result ≡ self.now.left }
+    {
+        self.left
+    }
+
+    // Begins a frame.
+    fn begin(&mut self, head: &FrameHead) -> Result<(), AllocError>
+        requires some { 1 ≤ head.now.length }
+        ensures begun { OnOk result (self.new ≡ frame_begun head.now) }
+        ensures ready { OnOk result (IsUnderWay self.new) }
+    {
+        self.left = 0;
+        self.labels.clear();
+        self.labels.resize(labels_in(head), 0)?;
+        self.head = *head;
+        self.data_sum = 0;
+        self.pilot_sum = 0;
+        self.left = jobs_in(head);
+        Ok(())
+    }
+
+    /// Goes on with the frame that is under way, or begins the one with this head. The only error is lack of memory.
+    pub fn enter(&mut self, head: &FrameHead) -> Result<(), AllocError>
+        ensures entered { OnOk result (self.new ≡ frame_of head.now self.old) }
+        ensures ready { OnOk result (IsUnderWay self.new) }
+    {
+        if self.left == 0 {
+            let head = FrameHead {
+                length: head.length.max(1),
+                ..*head
+            };
+            self.begin(&head)
+        } else {
+            Ok(())
+        }
+    }
+
+    /// Takes the hit of a job of the frame that is under way.
+    pub fn add(&mut self, hit: &Hit)
+        requires ready { IsUnderWay self.old }
+        ensures added { self.new ≡ with_kind hit.now.job self.old }
+        ensures kept { HasLabels self.new }
+    {
+        let place = hit.job().place();
+        self.left -= 1;
+        match kind(&self.head.rate, place.carrier) {
+            Carrier::Data(m) => {
+                let at = place_of(&self.head.rate, place.symbol, m);
+                self.data_sum += nearest_distance(hit);
+                put_vector(
+                    &mut self.labels,
+                    at,
+                    self.head.rate.modulation(),
+                    nearest(hit),
+                );
+            }
+            Carrier::Pilot(_) => {
+                self.pilot_sum += nearest_distance(hit);
+            }
+        }
+    }
+
+    /// The result of a frame whose last job came. The only error is lack of memory.
+    pub fn result<D: Decoder>(
+        &self,
+        alloc: Global,
+        decoder: &mut D,
+    ) -> Result<FrameResult, AllocError>
+        requires { HasLabels self.now }
+        ensures { IfOk result (λ r. r ≡ result_of self.now) }
+    {
+        let head = &self.head;
+        let Decoded { outcome, code } = decoder.decode(
+            alloc,
+            &head.rate,
+            head.length,
+            head.erased,
+            &self.labels,
+        )?;
+        Ok(FrameResult {
+            frame: head.frame,
+            data_sum: self.data_sum,
+            pilot_sum: self.pilot_sum,
+            code,
+            outcome,
+        })
+    }
+}
+
+// The first nearest vector of a hit's job.
+fn nearest(hit: &Hit) -> &Vector
+    ensures { result.now ≡ (near hit.now.job).vector }
+{
+    hit.vector()
+}
+
+// Its distance.
+fn nearest_distance(hit: &Hit) -> u128
+    ensures value { result ≡ (near hit.now.job).distance }
+    ensures bound { result < 2 ^ 66 }
+{
+    hit.distance()
+}
