@@ -1,0 +1,59 @@
+-- Accepted words give each option a value in its range.
+use Rattle.std.proofs.Common.{◌≡◌, ◌≤◌, ℕ, Bool, true, false, List, [], ◌∷◌, Option, IfSome, refl, codes}
+use Rattle.std.proofs.lemmas.Bool.{and_parts, leb-true}
+use Rattle.std.specs.Prelude.{bytes_eq, nat_le, if◌then◌else◌}
+use Rattle.ht_words.specs.declared.asked.Asked.{Asked}
+use Rattle.ht_words.specs.declared.asked.Asked.TheVariants.{Detect, Rx, Tx, Channel, Upgrade}
+use Rattle.ht_words.specs.declared.setting.Setting.TheVariants.{Workers, Window, Seed, Noise, Frames, Mcs, Bandwidth, Length}
+use Rattle.ht_words.specs.Settings.{admits, is_within}
+use Rattle.ht_words.specs.Words.{IsForWorkers, IsWithinRanges, are_accepted, asked_by, demo_in, for_channel, for_demo, for_workers, is_plain, only_if, value_of}
+
+within : (least most value : ℕ) → is_within least most value ≡ true → (least ≤ value) × (value ≤ most)
+within least most value inside =
+    let parts = and_parts (nat_le least value) _ inside in
+    (leb-true least value parts.0, leb-true value most parts.1)
+
+for_workers_within : (words : List (List ℕ)) → are_accepted for_workers words ≡ true → IsForWorkers (value_of words Workers) (value_of words Window)
+for_workers_within words accepted =
+    let values = and_parts (is_plain for_workers words) _ accepted in
+    let workers = and_parts (admits Workers (value_of words Workers)) _ values.1 in
+    let window = and_parts (admits Window (value_of words Window)) _ workers.1 in
+    let first = within 1 64 (value_of words Workers) workers.0 in
+    let second = within 1 4096 (value_of words Window) window.0 in
+    (first.0, first.1, second.0, second.1)
+
+demo_within : (words : List (List ℕ)) → are_accepted for_demo words ≡ true → IsWithinRanges (demo_in words)
+demo_within words accepted =
+    let values = and_parts (is_plain for_demo words) _ accepted in
+    let seed = and_parts (admits Seed (value_of words Seed)) _ values.1 in
+    let noise = and_parts (admits Noise (value_of words Noise)) _ seed.1 in
+    let frames = and_parts (admits Frames (value_of words Frames)) _ noise.1 in
+    let mcs = and_parts (admits Mcs (value_of words Mcs)) _ frames.1 in
+    let bandwidth = and_parts (admits Bandwidth (value_of words Bandwidth)) _ mcs.1 in
+    let length = and_parts (admits Length (value_of words Length)) _ bandwidth.1 in
+    let workers = and_parts (admits Workers (value_of words Workers)) _ length.1 in
+    let window = and_parts (admits Window (value_of words Window)) _ workers.1 in
+    let frames_in = within 1 64 (value_of words Frames) frames.0 in
+    let length_in = within 1 65535 (value_of words Length) length.0 in
+    let first = within 1 64 (value_of words Workers) workers.0 in
+    let second = within 1 4096 (value_of words Window) window.0 in
+    (frames_in.0, frames_in.1, length_in.0, length_in.1, (first.0, first.1, second.0, second.1))
+
+only : (accepted : Bool) (asked : Asked) → (accepted ≡ true → IsWithinRanges asked) → IfSome (only_if accepted asked) IsWithinRanges
+only true asked holds = holds refl
+only false asked holds = tt
+
+either : (test : Bool) (this that : Option Asked) → IfSome this IsWithinRanges → IfSome that IsWithinRanges → IfSome (if test then this else that) IsWithinRanges
+either true this that first second = first
+either false this that first second = second
+
+-- what accepted words ask for is in range
+pub asked-in_range : (words : List (List ℕ)) → IfSome (asked_by words) IsWithinRanges
+asked-in_range [] = tt
+asked-in_range (command ∷ words) =
+    either (bytes_eq command (codes "detect")) _ _ (only _ (Detect (value_of words Workers) (value_of words Window)) (for_workers_within words))
+    (either (bytes_eq command (codes "rx")) _ _ (only _ (Rx (value_of words Workers) (value_of words Window)) (for_workers_within words))
+    (either (bytes_eq command (codes "tx")) _ _ (only (are_accepted [] words) Tx (λ _. tt))
+    (either (bytes_eq command (codes "channel")) _ _ (only (are_accepted for_channel words) (Channel (value_of words Seed) (value_of words Noise)) (λ _. tt))
+    (either (bytes_eq command (codes "upgrade")) _ _ (only (are_accepted [] words) Upgrade (λ _. tt))
+    (either (bytes_eq command (codes "demo")) _ _ (only (are_accepted for_demo words) (demo_in words) (demo_within words)) tt)))))
