@@ -1,9 +1,11 @@
 -- Commands that read a format: those that write while they read, and those that write once they have read.
-use Rattle.std.specs.Prelude.{◌⊎◌, List, [], ℕ}
+use Rattle.std.specs.Prelude.{◌⊎◌, List, ℕ}
 use Rattle.ht_fields.specs.Grammar.{Grammar}
 use Rattle.ht_fields.specs.Cases.{IsFile, IsClean}
 use Rattle.ht_fields.specs.Meanings.{meaning}
-use Rattle.ht_cli.specs.Commands.{Command, Reads}
+use Rattle.ht_io.specs.Kinds.{name_of}
+use Rattle.ht_text.specs.Lines.{refused_text}
+use Rattle.ht_cli.specs.Commands.{Command, Conversion, Converts, Reads}
 
 -- the octets are a file of the format
 abbrev pub IsWhole : {S I : Type 0} → Grammar S I → List ℕ → Type 0
@@ -26,14 +28,16 @@ streaming f text lines =
       most = lines;
     })
 
+-- a file of the format, what it comes to, and the line of the first fault of what is none
+abbrev pub conversion : {S I : Type 0} → Grammar S I → (List ℕ → List ℕ → Type 0) → Conversion
+conversion f comes_to = record {
+  IsInput = IsWhole f;
+  HasNoFault = IsFaultless f;
+  fault = λ octets. (meaning f f.start 0 octets).fault;
+  ComesTo = comes_to;
+  refusal = λ fault. refused_text (name_of fault.kind) fault.offset;
+}
+
 -- it reads a file of the format to its end or its first fault, and only then writes
-abbrev pub whole : {S I : Type 0} → Grammar S I → (List ℕ → List ℕ) → Command
-whole f text =
-    Reads (record {
-      IsInput = IsWhole f;
-      HasNoFault = IsFaultless f;
-      fault = λ octets. (meaning f f.start 0 octets).fault;
-      text = text;
-      front = λ octets. [];
-      most = text;
-    })
+abbrev pub whole : {S I : Type 0} → Grammar S I → (List ℕ → List ℕ → Type 0) → Command
+whole f comes_to = Converts (conversion f comes_to)

@@ -1,7 +1,9 @@
 pub mod Commands
-pub mod Detecting
+pub mod Converting
 pub mod Filters
 pub mod Putting
 pub mod Statuses
+pub mod Stopping
+pub mod Streaming
 pub mod Tasks
 pub mod Words

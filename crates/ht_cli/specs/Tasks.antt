@@ -4,15 +4,24 @@ use Rattle.ht_io.specs.Devices.{Device}
 use Rattle.ht_capture.specs.Fields.{captures}
 use Rattle.ht_text.specs.Lines.{usage_text}
 use Rattle.ht_rx.specs.Texts.{detect_text, lines_of}
+use Rattle.ht_results.specs.Texts.{frame_lines_of, rx_text}
 use Rattle.ht_cli.specs.declared.status.Status.{Status}
 use Rattle.ht_cli.specs.declared.words.Asked.{Asked}
-use Rattle.ht_cli.specs.declared.words.Asked.TheVariants.{Detect}
-use Rattle.ht_cli.specs.Commands.{Command, Reads, Makes, Answers, Rejects}
-use Rattle.ht_cli.specs.Filters.{streaming}
+use Rattle.ht_cli.specs.declared.words.Asked.TheVariants.{Detect, Rx, Tx, Channel, Upgrade}
+use Rattle.ht_cli.specs.Commands.{Command, Reads, Converts, Makes, Answers, Rejects}
+use Rattle.ht_cli.specs.Filters.{streaming, whole}
+use Rattle.ht_cli.specs.Converting.{SendsTo, UpgradesTo}
+use Rattle.ht_files.specs.Frames.{frames}
+use Rattle.ht_files.specs.Points.{symbols}
+use Rattle.ht_sim.specs.Passing.{PassesTo}
 
 -- what each command reads and writes
 abbrev pub command_of : Asked → Command
 command_of Detect = streaming captures detect_text lines_of
+command_of Rx = streaming captures rx_text frame_lines_of
+command_of Tx = whole frames SendsTo
+command_of Channel = whole symbols (PassesTo 42 0)
+command_of Upgrade = whole captures UpgradesTo
 
 -- what each status says of a run: first the source before and after it, then the sink
 abbrev pub Answered : Option Asked → Device ℕ → Device ℕ → Device ℕ → Device ℕ → Status → Type 0
@@ -22,6 +31,7 @@ Answered None source source' sink sink' status = Rejects usage_text sink sink' s
 -- the command reads nothing
 abbrev pub IsMaker : Command → Type 0
 IsMaker (Reads filter) = ⊥
+IsMaker (Converts conversion) = ⊥
 IsMaker (Makes text) = Unit {0}
 
 -- the words ask for no command that reads

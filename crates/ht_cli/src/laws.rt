@@ -3,13 +3,17 @@
 //! The clauses of [`run`](crate::run) are the same for every command. Each law is a function with an empty body: its
 //! clauses follow from `Answered`, where a run goes from the source `a` to `b` and from the sink `c` to `d`.
 ghost use Rattle.std.specs.Prelude.{◌≡◌, ◌⊎◌, ℕ, List, [], Option, None, Some};
-ghost use Rattle.ht_io.specs.Devices.{Device, Grows, GrowsByPart, Rose};
-ghost use Rattle.ht_capture.specs.Fields.{captures};
+ghost use Rattle.ht_io.specs.Devices.{Device, Grows, GrowsByPart, Rose, TakesAll};
+ghost use Rattle.ht_capture.specs.declared.frames.CaptureFrame.{CaptureFrame};
+ghost use Rattle.ht_capture.specs.Captures.{capture_of};
+ghost use Rattle.ht_capture.specs.Contents.{AreTyped};
+ghost use Rattle.ht_capture.specs.Files.{AreCaptureFrames, capture_file_of};
 ghost use Rattle.ht_text.specs.Lines.{usage_text};
-ghost use Rattle.ht_rx.specs.Texts.{detect_text};
+ghost use Rattle.ht_results.specs.Texts.{frame_lines_of, rx_text};
+ghost use Rattle.ht_rx.specs.Texts.{detect_text, lines_of};
 ghost use Rattle.ht_cli.specs.Commands.{Answers, Makes};
-ghost use Rattle.ht_cli.specs.Filters.{whole as whole_filter};
-ghost use Rattle.ht_cli.specs.Detecting.{DetectsFront, DetectsLines, DetectsPart, DetectsRefused, DetectsWhole, IsCapture};
+ghost use Rattle.ht_cli.specs.Converting.{UpgradesTo};
+ghost use Rattle.ht_cli.specs.Streaming.{IsCapture, StreamsFront, StreamsLines, StreamsPart, StreamsRefused, StreamsWhole};
 ghost use Rattle.ht_cli.specs.Tasks.{Answered};
 
 use crate::status::Status;
@@ -40,19 +44,19 @@ pub fn clauses_of_run()
 /// What a status says of the octets that `detect` took and of the text that it put, in the words of captures.
 pub fn clauses_of_detect()
     // Done: what was left is a capture, and its text was put.
-    ensures done { (a b c d : Device ℕ) → Answered (Some Asked.Detect) a b c d Status.Done → DetectsWhole a b c d }
+    ensures done { (a b c d : Device ℕ) → Answered (Some Asked.Detect) a b c d Status.Done → StreamsWhole lines_of detect_text a b c d }
 
     // Refused: what was left is no capture, and its text was put, which names its first fault.
-    ensures refused { (a b c d : Device ℕ) → Answered (Some Asked.Detect) a b c d Status.Refused → DetectsRefused a b c d }
+    ensures refused { (a b c d : Device ℕ) → Answered (Some Asked.Detect) a b c d Status.Refused → StreamsRefused lines_of detect_text a b c d }
 
     // ReadFault: the lines of the symbols read whole were put, all of them, so that no write failed.
-    ensures broken_off { (a b c d : Device ℕ) → Answered (Some Asked.Detect) a b c d Status.ReadFault → DetectsFront a b c d }
+    ensures broken_off { (a b c d : Device ℕ) → Answered (Some Asked.Detect) a b c d Status.ReadFault → StreamsFront lines_of detect_text a b c d }
 
     // WriteFault: a part of the text was put.
-    ensures part { (a b c d : Device ℕ) → Answered (Some Asked.Detect) a b c d Status.WriteFault → DetectsPart a b c d }
+    ensures part { (a b c d : Device ℕ) → Answered (Some Asked.Detect) a b c d Status.WriteFault → StreamsPart lines_of detect_text a b c d }
 
     // NoMemory: a part of the lines of the symbols read whole was put.
-    ensures memory { (a b c d : Device ℕ) → Answered (Some Asked.Detect) a b c d Status.NoMemory → DetectsLines a b c d }
+    ensures memory { (a b c d : Device ℕ) → Answered (Some Asked.Detect) a b c d Status.NoMemory → StreamsLines lines_of detect_text a b c d }
 
     // Where all octets are known that the source had left, as those of a source in memory are: Done says that they are a
     // capture and Refused that they aren't, and either puts the text of them all.
@@ -62,12 +66,57 @@ pub fn clauses_of_detect()
         → (IsCapture all → ⊥) × Grows c d (detect_text all) }
 {}
 
-/// What a status says of the two kinds of commands that `detect` isn't of.
-pub fn clauses_of_kinds()
-    // A command that writes once it has read a capture puts nothing where the source failed.
-    ensures whole_read_fault { (text : List ℕ → List ℕ) (a b c d : Device ℕ)
-        → Answers (whole_filter captures text) a b c d Status.ReadFault → Grows c d [] }
+/// What a status says of the octets that `rx` took and of the text that it put, in the words of captures.
+pub fn clauses_of_rx()
+    // Done: what was left is a capture, and its text was put.
+    ensures done { (a b c d : Device ℕ) → Answered (Some Asked.Rx) a b c d Status.Done → StreamsWhole frame_lines_of rx_text a b c d }
 
+    // Refused: what was left is no capture, and its text was put, which names its first fault.
+    ensures refused { (a b c d : Device ℕ) → Answered (Some Asked.Rx) a b c d Status.Refused → StreamsRefused frame_lines_of rx_text a b c d }
+
+    // ReadFault: the lines of the frames read whole were put, all of them, so that no write failed.
+    ensures broken_off { (a b c d : Device ℕ) → Answered (Some Asked.Rx) a b c d Status.ReadFault → StreamsFront frame_lines_of rx_text a b c d }
+
+    // WriteFault: a part of the text was put.
+    ensures part { (a b c d : Device ℕ) → Answered (Some Asked.Rx) a b c d Status.WriteFault → StreamsPart frame_lines_of rx_text a b c d }
+
+    // NoMemory: a part of the lines of the frames read whole was put.
+    ensures memory { (a b c d : Device ℕ) → Answered (Some Asked.Rx) a b c d Status.NoMemory → StreamsLines frame_lines_of rx_text a b c d }
+
+    // Where all octets are known that the source had left, as those of a source in memory are: Done says that they are a
+    // capture and Refused that they aren't, and either puts the text of them all.
+    ensures known_done { (all : List ℕ) (a b c d : Device ℕ) → a.known ≡ Some all → Answered (Some Asked.Rx) a b c d Status.Done
+        → IsCapture all × Grows c d (rx_text all) × (b.known ≡ Some []) }
+    ensures known_refused { (all : List ℕ) (a b c d : Device ℕ) → a.known ≡ Some all → Answered (Some Asked.Rx) a b c d Status.Refused
+        → (IsCapture all → ⊥) × Grows c d (rx_text all) }
+{}
+
+/// What a status says of `upgrade`.
+pub fn clauses_of_upgrade()
+    // Done: what was left is a capture, and the capture of version 2 of its frames was put.
+    ensures done { (a b c d : Device ℕ) → Answered (Some Asked.Upgrade) a b c d Status.Done
+        → (taken : List ℕ) × (output : List ℕ) × TakesAll a b taken × UpgradesTo taken output × Grows c d output }
+
+    // Where the source failed, or memory ran out, nothing was put.
+    ensures read_fault { (a b c d : Device ℕ) → Answered (Some Asked.Upgrade) a b c d Status.ReadFault → d ≡ c }
+    ensures memory { (a b c d : Device ℕ) → Answered (Some Asked.Upgrade) a b c d Status.NoMemory → d ≡ c }
+{}
+
+/// What an upgraded capture means.
+pub fn upgraded()
+    // A capture has one upgraded capture, and one of version 2 is its own.
+    ensures one { (octets a b : List ℕ) → UpgradesTo octets a → UpgradesTo octets b → a ≡ b }
+    ensures stays { (frames : List CaptureFrame) (output : List ℕ) → AreCaptureFrames frames → AreTyped frames
+        → UpgradesTo (capture_file_of 2 frames) output → output ≡ capture_file_of 2 frames }
+
+    // Its items are those of the capture, so every text that is made of them is the same.
+    ensures items { (octets output : List ℕ) → UpgradesTo octets output → capture_of output ≡ capture_of octets }
+    ensures detects { (octets output : List ℕ) → UpgradesTo octets output → detect_text output ≡ detect_text octets }
+    ensures receives { (octets output : List ℕ) → UpgradesTo octets output → rx_text output ≡ rx_text octets }
+{}
+
+/// What a status says of a command that reads nothing.
+pub fn clauses_of_kinds()
     // A command that reads nothing puts its text, or a part of it where the sink failed or memory ran out.
     ensures making_done { (text : List ℕ) (a b c d : Device ℕ) → Answers (Makes text) a b c d Status.Done → Grows c d text }
     ensures making_part { (text : List ℕ) (a b c d : Device ℕ) (status : Status) → Answers (Makes text) a b c d status

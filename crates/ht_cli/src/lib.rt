@@ -1,17 +1,19 @@
 //! The commands of the program `radio`, over any source and any sink of octets.
 //!
 //! `run` is the whole program but for the world outside. It takes the words of a call, reads octets from a source, puts
-//! text into a sink and answers how the run ended. The one list of words that is accepted is the word `detect`: a
-//! capture of either version is read as it comes, and for each subcarrier that is present in each OFDM symbol (IEEE Std
-//! 802.11-2012, clause 20.3.11) the first nearest vector of its grid is written with its distance. So the capture
+//! text into a sink and answers how the run ended. The lists of words that are accepted are the word
+//! `detect` and the word `rx`: a capture of either version is read as it comes, and for each subcarrier that is present in
+//! each OFDM symbol (IEEE Std 802.11-2012, clause 20.3.11) the first nearest vector of its grid is found. `detect` writes
+//! it with its distance, and `rx` a line for each frame, with what its labels are decoded to. So `detect` on the capture
 //! `examples/z.htcp`, whose diagonals are 10 and whose samples are 0, gives
 //!
 //! ```text
 //! job 0 0 0 100 -1 0
 //! ```
 //!
-//! and 111 lines more, in which a pilot has its own value, and then `end 1 frames`. With 02 in octet 7 it is refused,
-//! by the one line `refused BadBandwidth at 7`. What must be written for a list of octets is `detect_text`, of crate
+//! and 111 lines more, in which a pilot has its own value, and then `end 1 frames`. `rx` on it gives
+//! `frame 0 data 10400 pilot 800 code 0 seed zero` before that line. With 02 in octet 7 either refuses it, by the one
+//! line `refused BadBandwidth at 7`. What must be written for a list of octets is `detect_text` or `rx_text`, of crate
 //! `ht_rx`.
 #![tactic(auto)]
 
@@ -22,6 +24,7 @@ ghost use Rattle.ht_cli.specs.Tasks.{Answered, ReadsNothing};
 mod commands;
 pub mod laws;
 mod lines;
+mod refusal;
 mod status;
 #[cfg(test)]
 mod tests;
@@ -36,11 +39,12 @@ pub use words::Asked;
 
 /// Runs the command that the words name, and answers how it ended.
 ///
-/// The words come without the program's name. The lines of a symbol are put once its jobs were run. The clauses on
+/// The words come without the program's name. The lines of a symbol are put once its jobs were run, and the line of a
+/// frame once all its jobs were. The clauses on
 /// octets speak of some octets that the call took: of those that the source had left, where they are known, as those in
 /// memory are; those of standard input and output aren't. The gate is called before and after each job.
 ///
-/// `Answered` says what each status means, for each command; [`laws`] spells it out for `detect`.
+/// `Answered` says what each status means, for each command; [`laws`] spells it out for `detect` and `rx`.
 pub fn run<S: Source, K: Sink, G: Gate>(
     alloc: Global,
     words: &[String],
@@ -85,6 +89,10 @@ pub fn run_alone<S: Source, K: Sink, G: Gate>(
 {
     match Asked::of(words) {
         Some(Asked::Detect) => commands::detect::run(alloc, source, sink, gate),
+        Some(Asked::Rx) => commands::rx::run(alloc, source, sink, gate),
+        Some(Asked::Tx) => commands::tx::run(alloc, source, sink),
+        Some(Asked::Channel) => commands::channel::run(alloc, source, sink),
+        Some(Asked::Upgrade) => commands::upgrade::run(alloc, source, sink),
         None => match put_usage(alloc, sink) {
             Ok(()) => Status::Usage,
             Err(fault) => fault.into(),

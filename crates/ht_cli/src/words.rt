@@ -7,6 +7,14 @@ ghost use Rattle.ht_cli.specs.Words.{asked};
 pub enum Asked {
     /// `detect`: the nearest vectors of a capture.
     Detect,
+    /// `rx`: the frames of a capture.
+    Rx,
+    /// `tx`: the symbols that are sent for frames.
+    Tx,
+    /// `channel`: the capture of symbols that passed the channel.
+    Channel,
+    /// `upgrade`: a capture as one of version 2.
+    Upgrade,
 }
 
 impl Asked {
@@ -16,6 +24,10 @@ impl Asked {
     {
         match words {
             [word] if word.as_str() == "detect" => Some(Asked::Detect),
+            [word] if word.as_str() == "rx" => Some(Asked::Rx),
+            [word] if word.as_str() == "tx" => Some(Asked::Tx),
+            [word] if word.as_str() == "channel" => Some(Asked::Channel),
+            [word] if word.as_str() == "upgrade" => Some(Asked::Upgrade),
             _ => None,
         }
     }

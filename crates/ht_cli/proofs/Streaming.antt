@@ -1,4 +1,4 @@
--- What a listing and a last line come to.
+-- What a run comes to that reads a capture, puts lines while it reads, and then puts the last line.
 use Rattle.std.specs.Prelude.{◌≡◌, ℕ, ◌+◌, List, [], ◌++◌, length, take, Option, Some, None, Err, IfSome}
 use Rattle.std.proofs.Common.{refl, ap, ◌∙◌, sym, subst, append-nil, arith}
 use Rattle.ht_io.specs.Kinds.{name_of}
@@ -15,8 +15,8 @@ use Rattle.ht_capture.specs.declared.items.Item.{Item}
 use Rattle.ht_capture.specs.Captures.{capture_of}
 use Rattle.ht_capture.specs.Fields.{captures}
 use Rattle.ht_text.specs.Lines.{end_text, refused_text}
-use Rattle.ht_rx.specs.Texts.{detect_text, frames_of, last_line, last_of, lines_of, job_lines, jobs_of}
-use Rattle.ht_rx.specs.Outcomes.{IsFront, ListsWhole, ListsRefused, ListsBroken, ListsPart, StopsBy}
+use Rattle.ht_results.specs.Texts.{frames_of, last_line, last_of}
+use Rattle.ht_rx.specs.Outcomes.{IsFront, TellsWhole, TellsRefused, TellsBroken, TellsPieces, StopsBy}
 use Rattle.ht_rx.proofs.Outcomes.{known_all, takes_of}
 use Rattle.ht_rx.specs.declared.faults.RxFault.{RxFault}
 use Rattle.ht_rx.specs.declared.faults.RxFault.TheVariants.{Read, Write as ListWrite, NoMemory as ListMemory}
@@ -24,33 +24,10 @@ use Rattle.ht_rx.specs.declared.faults.FeedFault.{FeedFault}
 use Rattle.ht_rx.specs.declared.faults.FeedFault.TheVariants.{Write, NoMemory as LineMemory}
 use Rattle.ht_cli.specs.declared.status.Status.{Status}
 use Rattle.ht_cli.specs.declared.status.Status.TheVariants.{Done, Refused, ReadFault, WriteFault, NoMemory}
-use Rattle.ht_cli.specs.declared.words.Asked.TheVariants.{Detect}
 use Rattle.ht_cli.specs.Commands.{Answers, PutsPart}
-use Rattle.ht_cli.specs.Filters.{IsWhole, IsFaultless}
+use Rattle.ht_cli.specs.Filters.{IsWhole, IsFaultless, streaming}
 use Rattle.ht_cli.specs.Putting.{Puts}
 use Rattle.ht_cli.specs.Statuses.{status_of_line, status_of_listing}
-use Rattle.ht_cli.specs.Tasks.{command_of}
-
--- the lines and the last line are the reference text
-text_is : (octets : List ℕ) (fault : Option FormatFault) (frames : ℕ)
-    → (capture_of octets).fault ≡ fault → frames_of (capture_of octets).items ≡ frames
-    → lines_of octets ++ last_of fault frames ≡ detect_text octets
-unfolding detect_text last_line
-text_is octets fault frames is count =
-    sym (ap (λ (f : Option FormatFault). lines_of octets ++ last_of f (frames_of (capture_of octets).items)) is
-    ∙ ap (λ n. lines_of octets ++ last_of fault n) count)
-
-text_front : (octets : List ℕ) → lines_of octets ++ last_line octets ≡ detect_text octets
-unfolding detect_text
-text_front octets = refl
-
-same_text : (a b : List ℕ) → capture_of a ≡ capture_of b → detect_text a ≡ detect_text b
-unfolding detect_text last_line lines_of
-same_text a b is = ap (λ (m : Meaning Item). job_lines (jobs_of m.items) ++ last_of m.fault (frames_of m.items)) is
-
-same_lines : (a b : List ℕ) → capture_of a ≡ capture_of b → lines_of a ≡ lines_of b
-unfolding lines_of
-same_lines a b is = ap (λ (m : Meaning Item). job_lines (jobs_of m.items)) is
 
 none_is_not : (fault : FormatFault) → None ≡ Some fault → ⊥
 none_is_not fault e = cc
@@ -70,11 +47,36 @@ by_part : (sink sink' : Device ℕ) (piece : List ℕ) → Grows sink sink' piec
 by_part sink sink' piece grows =
     subst (GrowsByPart sink sink') (append-nil piece) (grows_by_part-append sink sink' sink' piece [] grows (grows_by_part-none sink' []))
 
--- the source before and after, and the sink before
-module _ (source source' sink : Device ℕ) where
+-- the lines of a list of octets, and its reference text, which has the last line behind them; octets that mean the same
+-- have the same lines
+pub record IsStreamed (lines text : List ℕ → List ℕ) : Type 0 where
+  pub text_is : (octets : List ℕ) → lines octets ++ last_line octets ≡ text octets
+  pub same : (a b : List ℕ) → capture_of a ≡ capture_of b → lines a ≡ lines b
+
+-- a command; the source before and after, and the sink before
+module _ (lines text : List ℕ → List ℕ) (s : IsStreamed lines text) (source source' sink : Device ℕ) where
+  -- the lines and the last line are the reference text
+  text_is : (octets : List ℕ) (fault : Option FormatFault) (frames : ℕ)
+      → (capture_of octets).fault ≡ fault → frames_of (capture_of octets).items ≡ frames
+      → lines octets ++ last_of fault frames ≡ text octets
+  unfolding last_line
+  text_is octets fault frames is count =
+      sym (ap (λ (f : Option FormatFault). lines octets ++ last_of f (frames_of (capture_of octets).items)) is
+      ∙ ap (λ n. lines octets ++ last_of fault n) count) ∙ s.text_is octets
+
+  same_last : (a b : List ℕ) → capture_of a ≡ capture_of b → last_line a ≡ last_line b
+  unfolding last_line
+  same_last a b is = ap (λ (m : Meaning Item). last_of m.fault (frames_of m.items)) is
+
+  same_text : (a b : List ℕ) → capture_of a ≡ capture_of b → text a ≡ text b
+  same_text a b is =
+      sym (s.text_is a)
+      ∙ (ap (λ (xs : List ℕ). xs ++ last_line a) (s.same a b is)
+      ∙ (ap (λ (xs : List ℕ). lines b ++ xs) (same_last a b is) ∙ s.text_is b))
+
   -- what a status says of the run, with the sink after it
   abbrev pub Comes : Device ℕ → Status → Type 0
-  Comes sink' status = Answers (command_of Detect) source source' sink sink' status
+  Comes sink' status = Answers (streaming captures text lines) source source' sink sink' status
 
   -- a part of a text that is the same for all octets that were left
   part : (text_of : List ℕ → List ℕ) (sink' : Device ℕ) (taken : List ℕ) → Takes source source' taken → GrowsByPart sink sink' (text_of taken)
@@ -89,14 +91,14 @@ module _ (source source' sink : Device ℕ) where
 
   -- all octets that were left are a capture: their lines, and then the last line, or a part of it, or none of it
   whole_text : (taken : List ℕ) (frames : ℕ) → (capture_of taken).fault ≡ None → frames ≡ frames_of (capture_of taken).items
-      → lines_of taken ++ end_text frames ≡ detect_text taken
+      → lines taken ++ end_text frames ≡ text taken
   whole_text taken frames whole are = text_is taken None frames whole (sym are)
 
   whole_same : (text_of : List ℕ → List ℕ) (taken : List ℕ) → TakesAll source source' taken
       → IfSome source.known (λ all. text_of all ≡ text_of taken)
   whole_same text_of taken octets = known_all source.known source'.known taken (λ all. text_of all ≡ text_of taken) octets refl
 
-  pub whole_done : (mid sink' : Device ℕ) (frames jobs : ℕ) → ListsWhole source source' sink mid frames jobs
+  pub whole_done : (mid sink' : Device ℕ) (frames jobs : ℕ) → TellsWhole lines source source' sink mid frames jobs
       → Grows mid sink' (end_text frames) → Comes sink' Done
   whole_done mid sink' frames jobs l last =
       record {
@@ -104,31 +106,31 @@ module _ (source source' sink : Device ℕ) where
         octets = l.octets;
         input = file_found captures l.taken l.whole;
         text = subst (Grows sink sink') (whole_text l.taken frames l.whole l.frames_are)
-            (grows-append sink mid sink' (lines_of l.taken) (end_text frames) l.put last);
+            (grows-append sink mid sink' (lines l.taken) (end_text frames) l.put last);
       }
 
-  whole_part : (mid sink' : Device ℕ) (frames jobs : ℕ) → ListsWhole source source' sink mid frames jobs
+  whole_part : (mid sink' : Device ℕ) (frames jobs : ℕ) → TellsWhole lines source source' sink mid frames jobs
       → GrowsByPart mid sink' (end_text frames) → Rose sink sink' → Comes sink' WriteFault
   whole_part mid sink' frames jobs l last rose =
-      let text = subst (GrowsByPart sink sink') (whole_text l.taken frames l.whole l.frames_are)
-      (grows_by_part-append sink mid sink' (lines_of l.taken) (end_text frames) l.put last) in
-      (part detect_text sink' l.taken (takes_of source source' l.taken l.octets) text (whole_same detect_text l.taken l.octets), rose)
+      let put = subst (GrowsByPart sink sink') (whole_text l.taken frames l.whole l.frames_are)
+      (grows_by_part-append sink mid sink' (lines l.taken) (end_text frames) l.put last) in
+      (part text sink' l.taken (takes_of source source' l.taken l.octets) put (whole_same text l.taken l.octets), rose)
 
-  whole_lines : (sink' : Device ℕ) (frames jobs : ℕ) → ListsWhole source source' sink sink' frames jobs → Comes sink' NoMemory
+  whole_lines : (sink' : Device ℕ) (frames jobs : ℕ) → TellsWhole lines source source' sink sink' frames jobs → Comes sink' NoMemory
   whole_lines sink' frames jobs l =
-      let text = by_part sink sink' (lines_of l.taken) l.put in
-      part lines_of sink' l.taken (takes_of source source' l.taken l.octets) text (whole_same lines_of l.taken l.octets)
+      let put = by_part sink sink' (lines l.taken) l.put in
+      part lines sink' l.taken (takes_of source source' l.taken l.octets) put (whole_same lines l.taken l.octets)
 
   -- the octets taken end with the field at fault: their lines, and then the last line, or a part of it, or none of it
   refused_text_is : (taken : List ℕ) (fault : FormatFault) → (capture_of taken).fault ≡ Some fault
-      → lines_of taken ++ refused_text (name_of fault.kind) fault.offset ≡ detect_text taken
+      → lines taken ++ refused_text (name_of fault.kind) fault.offset ≡ text taken
   refused_text_is taken fault refused = text_is taken (Some fault) (frames_of (capture_of taken).items) refused refl
 
-  refused_same : (mid : Device ℕ) (fault : FormatFault) (l : ListsRefused source source' sink mid fault) (P : List ℕ → Type 0)
+  refused_same : (mid : Device ℕ) (fault : FormatFault) (l : TellsRefused lines source source' sink mid fault) (P : List ℕ → Type 0)
       → ((all : List ℕ) → capture_of all ≡ capture_of l.taken → P all) → IfSome source.known P
   refused_same mid fault l P so = IfSome_then source.known l.comes so
 
-  pub refused_done : (mid sink' : Device ℕ) (fault : FormatFault) → ListsRefused source source' sink mid fault
+  pub refused_done : (mid sink' : Device ℕ) (fault : FormatFault) → TellsRefused lines source source' sink mid fault
       → Grows mid sink' (refused_text (name_of fault.kind) fault.offset) → Comes sink' Refused
   refused_done mid sink' fault l last =
       let fault_of : (all : List ℕ) → capture_of all ≡ capture_of l.taken → (capture_of all).fault ≡ Some fault =
@@ -140,52 +142,52 @@ module _ (source source' sink : Device ℕ) where
         refused = l.refused;
         ends = λ n few. no_fault (take n l.taken) (l.ends n few);
         text = subst (Grows sink sink') (refused_text_is l.taken fault l.refused)
-            (grows-append sink mid sink' (lines_of l.taken) (refused_text (name_of fault.kind) fault.offset) l.put last);
+            (grows-append sink mid sink' (lines l.taken) (refused_text (name_of fault.kind) fault.offset) l.put last);
         no_input = refused_same mid fault l (λ all. IsWhole captures all → ⊥) (λ all is. no_capture all fault (fault_of all is));
         same_fault = refused_same mid fault l (λ all. (capture_of all).fault ≡ Some fault) fault_of;
-        same_text = refused_same mid fault l (λ all. detect_text all ≡ detect_text l.taken) (λ all is. same_text all l.taken is);
+        same_text = refused_same mid fault l (λ all. text all ≡ text l.taken) (λ all is. same_text all l.taken is);
       }
 
-  refused_part : (mid sink' : Device ℕ) (fault : FormatFault) → ListsRefused source source' sink mid fault
+  refused_part : (mid sink' : Device ℕ) (fault : FormatFault) → TellsRefused lines source source' sink mid fault
       → GrowsByPart mid sink' (refused_text (name_of fault.kind) fault.offset) → Rose sink sink' → Comes sink' WriteFault
   refused_part mid sink' fault l last rose =
-      let text = subst (GrowsByPart sink sink') (refused_text_is l.taken fault l.refused)
-      (grows_by_part-append sink mid sink' (lines_of l.taken) (refused_text (name_of fault.kind) fault.offset) l.put last) in
-      let same = refused_same mid fault l (λ all. detect_text all ≡ detect_text l.taken) (λ all is. same_text all l.taken is) in
-      (part detect_text sink' l.taken l.octets text same, rose)
+      let put = subst (GrowsByPart sink sink') (refused_text_is l.taken fault l.refused)
+      (grows_by_part-append sink mid sink' (lines l.taken) (refused_text (name_of fault.kind) fault.offset) l.put last) in
+      let same = refused_same mid fault l (λ all. text all ≡ text l.taken) (λ all is. same_text all l.taken is) in
+      (part text sink' l.taken l.octets put same, rose)
 
-  refused_lines : (sink' : Device ℕ) (fault : FormatFault) → ListsRefused source source' sink sink' fault → Comes sink' NoMemory
+  refused_lines : (sink' : Device ℕ) (fault : FormatFault) → TellsRefused lines source source' sink sink' fault → Comes sink' NoMemory
   refused_lines sink' fault l =
-      let same = refused_same sink' fault l (λ all. lines_of all ≡ lines_of l.taken) (λ all is. same_lines all l.taken is) in
-      part lines_of sink' l.taken l.octets (by_part sink sink' (lines_of l.taken) l.put) same
+      let same = refused_same sink' fault l (λ all. lines all ≡ lines l.taken) (λ all is. s.same all l.taken is) in
+      part lines sink' l.taken l.octets (by_part sink sink' (lines l.taken) l.put) same
 
   -- the listing stopped before its end
-  broken : (sink' : Device ℕ) → ListsBroken source source' sink sink' → Rose source source' → Comes sink' ReadFault
+  broken : (sink' : Device ℕ) → TellsBroken lines source source' sink sink' → Rose source source' → Comes sink' ReadFault
   broken sink' l rose = record { taken = l.taken; octets = l.octets; front = no_fault l.taken l.front; text = l.put; cause = rose }
 
-  lines_part : (sink' : Device ℕ) → ListsPart source source' sink sink' → Rose sink sink' → Comes sink' WriteFault
+  lines_part : (sink' : Device ℕ) → TellsPieces lines source source' sink sink' → Rose sink sink' → Comes sink' WriteFault
   lines_part sink' l rose =
-      let front : (octets : List ℕ) → GrowsByPart sink sink' (lines_of octets) → GrowsByPart sink sink' (detect_text octets) =
-      λ octets put. subst (GrowsByPart sink sink') (text_front octets) (grows_by_part-front sink sink' (lines_of octets) (last_line octets) put) in
+      let front : (octets : List ℕ) → GrowsByPart sink sink' (lines octets) → GrowsByPart sink sink' (text octets) =
+      λ octets put. subst (GrowsByPart sink sink') (s.text_is octets) (grows_by_part-front sink sink' (lines octets) (last_line octets) put) in
       (record { taken = l.taken; octets = l.octets; text = front l.taken l.put; of_all = IfSome_then source.known l.of_all front }, rose)
 
-  lines_lack : (sink' : Device ℕ) → ListsPart source source' sink sink' → Comes sink' NoMemory
+  lines_lack : (sink' : Device ℕ) → TellsPieces lines source source' sink sink' → Comes sink' NoMemory
   lines_lack sink' l = record { taken = l.taken; octets = l.octets; text = l.put; of_all = l.of_all }
 
   -- what stopped the last line, or the listing, says how the run ends
-  pub whole_stops : (mid sink' : Device ℕ) (frames jobs : ℕ) (fault : FeedFault) → ListsWhole source source' sink mid frames jobs → IsLater sink mid
+  pub whole_stops : (mid sink' : Device ℕ) (frames jobs : ℕ) (fault : FeedFault) → TellsWhole lines source source' sink mid frames jobs → IsLater sink mid
       → Puts mid sink' (end_text frames) (Err fault) → Comes sink' (status_of_line fault)
   whole_stops mid sink' frames jobs Write l later put = whole_part mid sink' frames jobs l put.0 (failed-later sink mid sink' later put.1)
   whole_stops mid sink' frames jobs LineMemory l later put =
-      whole_lines sink' frames jobs (subst (λ (k : Device ℕ). ListsWhole source source' sink k frames jobs) (sym put) l)
+      whole_lines sink' frames jobs (subst (λ (k : Device ℕ). TellsWhole lines source source' sink k frames jobs) (sym put) l)
 
-  pub refused_stops : (mid sink' : Device ℕ) (of : FormatFault) (fault : FeedFault) → ListsRefused source source' sink mid of → IsLater sink mid
+  pub refused_stops : (mid sink' : Device ℕ) (of : FormatFault) (fault : FeedFault) → TellsRefused lines source source' sink mid of → IsLater sink mid
       → Puts mid sink' (refused_text (name_of of.kind) of.offset) (Err fault) → Comes sink' (status_of_line fault)
   refused_stops mid sink' of Write l later put = refused_part mid sink' of l put.0 (failed-later sink mid sink' later put.1)
   refused_stops mid sink' of LineMemory l later put =
-      refused_lines sink' of (subst (λ (k : Device ℕ). ListsRefused source source' sink k of) (sym put) l)
+      refused_lines sink' of (subst (λ (k : Device ℕ). TellsRefused lines source source' sink k of) (sym put) l)
 
-  pub listing_stops : (sink' : Device ℕ) (fault : RxFault) → StopsBy source source' sink sink' fault → Comes sink' (status_of_listing fault)
+  pub listing_stops : (sink' : Device ℕ) (fault : RxFault) → StopsBy lines source source' sink sink' fault → Comes sink' (status_of_listing fault)
   listing_stops sink' Read stops = broken sink' stops.0 stops.1
   listing_stops sink' ListWrite stops = lines_part sink' stops.0 stops.1
   listing_stops sink' ListMemory stops = lines_lack sink' stops
