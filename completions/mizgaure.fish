@@ -1,0 +1,51 @@
+# Completion of mizgaure for fish.
+set -l commands judge capture example show answers measure sweep picture zero-forcing
+set -l none "not __fish_seen_subcommand_from $commands"
+complete -c mizgaure -n $none -f -a judge -d "Judge another receiver's answers"
+complete -c mizgaure -n $none -f -a capture -d 'Make a capture from floating point'
+complete -c mizgaure -n $none -f -a example -d 'Make a frame behind a random channel'
+complete -c mizgaure -n $none -f -a show -d 'Say what a file holds'
+complete -c mizgaure -n $none -f -a answers -d 'Run radio and keep its answers'
+complete -c mizgaure -n $none -f -a measure -d 'Measure error vector magnitude and error rates'
+complete -c mizgaure -n $none -f -a sweep -d 'Find error rates over the signal-to-noise ratio'
+complete -c mizgaure -n $none -f -a picture -d 'Draw a frame of a capture, or a sweep'
+complete -c mizgaure -n $none -f -a zero-forcing -d 'Answer by a zero-forcing detector'
+complete -c mizgaure -n $none -f -l version -d 'Say the version'
+complete -c mizgaure -l help -d 'Say more'
+
+set -l runs '__fish_seen_subcommand_from judge answers measure sweep picture'
+complete -c mizgaure -n $runs -l radio -r -d 'The program radio'
+set -l writes '__fish_seen_subcommand_from judge capture example answers measure sweep picture'
+complete -c mizgaure -n $writes -l force -d 'Overwrite a file that is there already'
+
+set -l judge '__fish_seen_subcommand_from judge'
+complete -c mizgaure -n $judge -l reference -r -d 'Kept lines of radio'
+complete -c mizgaure -n $judge -l list -x -d 'How many of the worst jobs'
+complete -c mizgaure -n $judge -l complete -d 'Ask for all answers'
+complete -c mizgaure -n '__fish_seen_subcommand_from judge measure' -l json -r -d 'Write as JSON lines'
+
+set -l output '__fish_seen_subcommand_from capture example answers sweep'
+complete -c mizgaure -n $output -s o -l output -r -d 'Where to write'
+complete -c mizgaure -n '__fish_seen_subcommand_from capture' -l gain -x -d 'What to multiply with before rounding'
+complete -c mizgaure -n '__fish_seen_subcommand_from capture' -l format -x -a '1 2' -d 'The version of the capture'
+complete -c mizgaure -n '__fish_seen_subcommand_from answers' -l command -x -a 'detect rx' -d 'What radio does'
+complete -c mizgaure -n '__fish_seen_subcommand_from example measure' -l sent -r -d 'What was sent'
+complete -c mizgaure -n '__fish_seen_subcommand_from measure' -l octets -r -d 'The octets that were sent'
+complete -c mizgaure -n '__fish_seen_subcommand_from measure picture' -l answers -r -d 'Kept lines of radio'
+
+set -l setting '__fish_seen_subcommand_from sweep example'
+complete -c mizgaure -n $setting -l bandwidth -x -a '20 40' -d 'In MHz'
+complete -c mizgaure -n $setting -l mcs -x -d '0 to 31'
+complete -c mizgaure -n $setting -l length -x -d 'Octets of a frame'
+complete -c mizgaure -n $setting -l snr -x -d 'In dB'
+complete -c mizgaure -n $setting -l antennas -x -d 'Receive antennas'
+complete -c mizgaure -n $setting -l decay -x -d 'Of the taps, in samples'
+complete -c mizgaure -n $setting -l estimate -x -a 'perfect ls' -d 'What is known of the channel'
+complete -c mizgaure -n $setting -l seed -x -d 'Of the random numbers'
+complete -c mizgaure -n '__fish_seen_subcommand_from sweep' -l frames -x -d 'Frames of each point'
+complete -c mizgaure -n '__fish_seen_subcommand_from sweep' -l processes -x -d 'How many share the work'
+complete -c mizgaure -n '__fish_seen_subcommand_from sweep' -l picture -r -d 'Draw it'
+
+set -l picture '__fish_seen_subcommand_from picture'
+complete -c mizgaure -n $picture -l frame -x -d 'The frame to draw'
+complete -c mizgaure -n "$picture; and not __fish_seen_subcommand_from constellation evm distances" -a 'constellation evm distances sweep'

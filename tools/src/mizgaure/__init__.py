@@ -1,0 +1,68 @@
+"""Tools for those who measure: from floating point to a verdict on a receiver of IEEE 802.11n.
+
+These tools stand beside Mizgaure's program ``radio``. The program is proved; **this package is tested and not proved.**
+No text of the program passes through it, and nothing that it says is a claim of the proofs.
+
+What is here:
+
+=================  =====================================================================================
+``rates``          the 64 rates, their constellations and subcarriers
+``formats``        captures (HTCP), files of frames (HTTX) and of symbols (HTSY) as numpy arrays, exact
+``quantise``       a capture from a channel and received vectors in floating point
+``answers``        the lines of ``radio detect`` and ``radio rx`` as arrays and records
+``program``        running the program
+``distances``      exact distances of vectors, and the zero-forcing detector
+``measures``       error vector magnitude, error rates with intervals
+``chain``          from octets to coded bits and where they land, to tell a tie of frames from an error
+``judge``          another receiver's answers beside the reference
+``sweep``          error rates against the signal-to-noise ratio, over random channels
+``pictures``       all of this drawn; needs matplotlib
+=================  =====================================================================================
+
+Symbols, subcarriers and frames are counted from 0. Arrays have the spatial streams of a frame from 0 on, so the
+first stream, which the standard and the program's pages call stream 1, is at index 0.
+"""
+
+from .answers import Answers, End, FrameAnswer, Jobs, Refused, read_answers
+from .errors import FitError, FormatError, InputError, LineError, MizgaureError, ProgramError
+from .formats import CaptureFrame, SentFrame, SymbolsFrame, read_htcp, read_htsy, read_httx, write_htcp, write_htsy, write_httx
+from .judge import judge
+from .measures import Proportion, error_rates, evm
+from .program import Radio
+from .quantise import Capture, MeasuredFrame, capture
+from .rates import Rate
+
+__version__ = "0.1.0"
+
+__all__ = [
+    "Answers",
+    "Capture",
+    "CaptureFrame",
+    "End",
+    "FitError",
+    "FormatError",
+    "FrameAnswer",
+    "InputError",
+    "Jobs",
+    "LineError",
+    "MeasuredFrame",
+    "MizgaureError",
+    "ProgramError",
+    "Proportion",
+    "Radio",
+    "Rate",
+    "Refused",
+    "SentFrame",
+    "SymbolsFrame",
+    "capture",
+    "error_rates",
+    "evm",
+    "judge",
+    "read_answers",
+    "read_htcp",
+    "read_htsy",
+    "read_httx",
+    "write_htcp",
+    "write_htsy",
+    "write_httx",
+]

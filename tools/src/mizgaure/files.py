@@ -1,0 +1,138 @@
+"""Files: opened for reading under their names, and written whole or not at all."""
+
+from __future__ import annotations
+
+import io
+import os
+import stat
+import sys
+import tempfile
+from contextlib import contextmanager
+from pathlib import Path
+from typing import BinaryIO, Iterator, Type, Union, cast
+
+from .errors import InputError
+
+Source = Union[str, os.PathLike, bytes, BinaryIO]
+Target = Union[str, os.PathLike, BinaryIO]
+
+
+@contextmanager
+def reading(source: Source) -> Iterator[BinaryIO]:
+    """Open octets for reading.
+
+    Parameters
+    ----------
+    source : path, ``"-"``, bytes or binary stream
+        ``"-"`` is standard input. A stream that is given stays open.
+
+    Raises
+    ------
+    InputError
+        If a file can't be opened.
+    """
+    if isinstance(source, (bytes, bytearray, memoryview)):
+        yield io.BytesIO(source)
+    elif hasattr(source, "read"):
+        yield cast(BinaryIO, source)
+    elif os.fspath(cast(str, source)) == "-":
+        yield sys.stdin.buffer
+    else:
+        path = os.fspath(cast(str, source))
+        try:
+            stream = open(path, "rb")
+        except OSError as error:
+            raise InputError(f"{path} can't be read: {error.strerror}") from error
+        with stream:
+            yield stream
+
+
+@contextmanager
+def naming(source: object, kind: Type[InputError] = InputError) -> Iterator[None]:
+    """Put the name of a file in front of what is said of its content, in errors of a kind."""
+    try:
+        yield
+    except kind as error:
+        if isinstance(source, (str, os.PathLike)):
+            name = "standard input" if os.fspath(source) == "-" else os.fspath(source)
+            if not str(error).startswith(name):
+                raise InputError(f"{name}: {error}") from error
+        raise
+
+
+@contextmanager
+def writing(target: Target, force: bool = False) -> Iterator[BinaryIO]:
+    """Open a file that appears under its name once all of it is written, and doesn't where the writing fails.
+
+    Parameters
+    ----------
+    target : path, ``"-"`` or binary stream
+        ``"-"`` is standard output. A stream that is given, standard output and what is no ordinary file, as ``/dev/null``,
+        are written as they are.
+    force : bool
+        Whether a file that is there already is replaced.
+
+    Raises
+    ------
+    InputError
+        If the file is there already and ``force`` isn't given, or if it can't be written.
+    """
+    if hasattr(target, "write"):
+        yield cast(BinaryIO, target)
+        return
+    name = os.fspath(cast(str, target))
+    if name == "-":
+        yield sys.stdout.buffer
+        sys.stdout.buffer.flush()
+        return
+    path = Path(name)
+    try:
+        if path.exists() and not path.is_file():
+            with open(path, "wb") as stream:
+                yield stream
+            return
+        refuse_overwriting(path, force)
+        yield from _written_aside(path, force)
+    except OSError as error:
+        raise InputError(f"{name} can't be written: {error.strerror or error}") from error
+
+
+def refuse_overwriting(path: Target, force: bool) -> None:
+    """Refuse a file that is there already, before work is done for it."""
+    if force or not isinstance(path, (str, os.PathLike)) or os.fspath(path) == "-":
+        return
+    if os.path.isfile(path):
+        raise InputError(f"{os.fspath(path)} is there already, and only --force overwrites it")
+
+
+def _written_aside(path: Path, force: bool) -> Iterator[BinaryIO]:
+    handle, aside = tempfile.mkstemp(prefix=f".{path.name}.", dir=path.parent)
+    try:
+        with open(handle, "wb") as stream:
+            yield stream
+        os.chmod(aside, _usual_mode(path))
+        if force:
+            os.replace(aside, path)
+        else:
+            _move_if_free(aside, path)
+    finally:
+        if os.path.exists(aside):
+            os.unlink(aside)
+
+
+def _usual_mode(path: Path) -> int:
+    if path.exists():
+        return stat.S_IMODE(path.stat().st_mode)
+    mask = os.umask(0)
+    os.umask(mask)
+    return 0o666 & ~mask
+
+
+def _move_if_free(aside: str, path: Path) -> None:
+    try:
+        os.link(aside, path)
+    except FileExistsError:
+        raise InputError(f"{path} is there already, and only --force overwrites it") from None
+    except OSError:  # a file system without links
+        refuse_overwriting(path, False)
+        os.replace(aside, path)

@@ -1,0 +1,273 @@
+"""A capture from floating point: the channel and the received vectors of frames, rotated, scaled and rounded.
+
+``docs/CAPTURES.md`` of the repository states the mathematics and works one subcarrier through by hand. The model is
+
+    Y = H K x + noise
+
+on each subcarrier, where x is a vector of points with odd parts, as in a file of symbols, and K is the normalising factor
+of clause 18.3.5.8 on a data subcarrier and 1 on a pilot. All else that happens between the constellation and the receive
+antennas is in H: cyclic shifts, spatial mapping, the power of each stream, the rotation of the upper half of a 40 MHz
+channel.
+"""
+
+from __future__ import annotations
+
+from dataclasses import dataclass
+from typing import Iterable, List, Optional, Sequence, Union
+
+import numpy as np
+
+from .errors import FitError, InputError
+from .formats import DIAGONAL_LIMIT, ENTRY_LIMITS, SAMPLE_LIMITS, CaptureFrame, check_shape, show
+from .rates import Rate
+
+
+@dataclass(eq=False)
+class MeasuredFrame:
+    """What a laboratory has of a frame, in floating point.
+
+    Parameters
+    ----------
+    bandwidth : int
+        20 or 40, in MHz.
+    mcs : int
+        0 to 31.
+    length : int
+        The number of octets of the PSDU, 1 to 65535.
+    channel : ndarray of complex, shape (subcarriers, antennas, streams)
+        H for each subcarrier in ascending frequency, pilots counted. There may be fewer antennas than streams.
+    received : ndarray of complex, shape (symbols, subcarriers, antennas)
+        Y for each symbol and subcarrier, in the same unit as H.
+    erased : sequence, optional
+        Which subcarriers are left out: their indexes from 0, or bool of shape (subcarriers,). What H and Y say there is
+        not looked at.
+    """
+
+    bandwidth: int
+    mcs: int
+    length: int
+    channel: np.ndarray
+    received: np.ndarray
+    erased: Optional[Union[np.ndarray, Sequence[int]]] = None
+
+    @property
+    def rate(self) -> Rate:
+        """The frame's rate."""
+        return Rate(self.bandwidth, self.mcs)
+
+    def erased_mask(self) -> np.ndarray:
+        """Which subcarriers are erased: bool, shape (subcarriers,)."""
+        carriers = self.rate.subcarriers
+        given = np.asarray([] if self.erased is None else self.erased)
+        if given.dtype == bool:
+            if given.shape != (carriers,):
+                raise InputError(f"erased has the shape {given.shape}, and {(carriers,)} is asked for")
+            return given.copy()
+        mask = np.zeros(carriers, bool)
+        for index in given.reshape(-1):
+            if index != int(index) or not 0 <= index < carriers:
+                raise InputError(f"subcarrier {index} is erased, and the subcarriers are 0 to {carriers - 1}")
+            mask[int(index)] = True
+        return mask
+
+
+@dataclass(eq=False)
+class Capture:
+    """Frames fit for a capture, and what rounding did to them.
+
+    Parameters
+    ----------
+    frames : list of CaptureFrame
+    gains : ndarray of float64, shape (frames,)
+        What each frame was multiplied with before it was rounded.
+    bounds : ndarray of float64, shape (frames,)
+        By how much rounding can change the square root of the distance of any vector of the frame, in whole units.
+    """
+
+    frames: List[CaptureFrame]
+    gains: np.ndarray
+    bounds: np.ndarray
+
+    def distance_change(self, frame: int, distance: np.ndarray) -> np.ndarray:
+        """By how much the distance of a vector in the capture can differ from the squared gain times its true distance.
+
+        Parameters
+        ----------
+        frame : int
+            The frame's number.
+        distance : array_like
+            Distances in the capture, as ``radio detect`` says them.
+
+        Returns
+        -------
+        ndarray of float64
+            At most E (2 sqrt(distance) + E), where E is the frame's bound.
+        """
+        bound = self.bounds[frame]
+        return bound * (2 * np.sqrt(np.asarray(distance, float)) + bound)
+
+
+def capture(frames: Iterable[MeasuredFrame], gain: Optional[Union[float, Sequence[float]]] = None) -> Capture:
+    """Make a capture of frames in floating point.
+
+    Parameters
+    ----------
+    frames : iterable of MeasuredFrame
+    gain : float or sequence of float, optional
+        What each frame is multiplied with before it is rounded, one number for all frames or one for each. By default the
+        largest with which nothing of the frame leaves its field.
+
+    Returns
+    -------
+    Capture
+        Its frames go to `write_htcp` as they are.
+
+    Raises
+    ------
+    FitError
+        If a number isn't finite, or doesn't fit its field at the gain given. The message names frame, subcarrier and entry.
+    InputError
+        If a shape is wrong, all subcarriers of a frame are erased, or a gain isn't above 0.
+    """
+    frames = list(frames)
+    gains: List[Optional[float]]
+    if gain is None or np.ndim(gain) == 0:
+        gains = [gain] * len(frames)  # type: ignore[list-item]
+    else:
+        gains = list(gain)  # type: ignore[arg-type]
+        if len(gains) != len(frames):
+            raise InputError(f"{len(gains)} gains are given for {len(frames)} frames")
+    made = [_quantised(number, frame, asked) for number, (frame, asked) in enumerate(zip(frames, gains))]
+    used = np.array([scale for _, scale in made], float)
+    return Capture([frame for frame, _ in made], used, np.array([rounding_bound(frame.rate) for frame, _ in made], float))
+
+
+def rounding_bound(rate: Rate) -> float:
+    """By how much rounding can change the square root of a distance, in whole units, at any gain.
+
+    With M the highest level, the error of row k of n, from rounding the sample and each entry by at most 1/2 in each part,
+    is at most (1 + M + 2 M (n - k)) / 2 in the real part, and the same in the imaginary part; in BPSK, whose points are
+    real, (2 + n - k) / 2 and (1 + n - k) / 2. The bound is the length of the vector of these.
+    """
+    behind = np.arange(rate.streams)[::-1]
+    if rate.bits_per_point == 1:
+        real, imag = (2 + behind) / 2, (1 + behind) / 2
+    else:
+        level = rate.highest_level
+        real = imag = (1 + level + 2 * level * behind) / 2
+    return float(np.sqrt(np.sum(real**2) + np.sum(imag**2)))
+
+
+def _quantised(number: int, frame: MeasuredFrame, gain: Optional[float]):
+    try:
+        rate, erased = frame.rate, frame.erased_mask()
+        symbols = rate.symbols(frame.length)
+    except InputError as error:
+        raise InputError(f"frame {number}: {error}") from error
+    channel, received = np.asarray(frame.channel, complex), np.asarray(frame.received, complex)
+    antennas = channel.shape[1] if channel.ndim == 3 else 0
+    if antennas == 0:
+        raise InputError(f"frame {number}: channel has the shape {channel.shape}, and (subcarriers, antennas, streams) is asked for")
+    check_shape(number, "channel", channel, (rate.subcarriers, antennas, rate.streams))
+    check_shape(number, "received", received, (symbols, rate.subcarriers, antennas))
+    if erased.all():
+        raise InputError(f"frame {number}: all subcarriers are erased, and a frame has a present one")
+    _check_finite(number, channel, received, erased)
+    triangles, samples = rotate(rate, channel, received, erased)
+    if gain is None:
+        gain = _largest_gain(triangles, samples)
+    elif not (np.isfinite(gain) and gain > 0):
+        raise InputError(f"frame {number}: the gain is {gain}, and has to be above 0")
+    triangles, samples = _rounded(triangles * gain), _rounded(samples * gain)
+    _check_fit(number, triangles, samples, gain)
+    return CaptureFrame(rate, frame.length, triangles, samples, erased), float(gain)
+
+
+def rotate(rate: Rate, channel: np.ndarray, received: np.ndarray, erased: np.ndarray):
+    """Rotate a frame so that each subcarrier's channel is upper triangular with a real diagonal of at least 0.
+
+    Parameters
+    ----------
+    rate : Rate
+    channel : ndarray of complex128, shape (subcarriers, antennas, streams)
+    received : ndarray of complex128, shape (symbols, subcarriers, antennas)
+    erased : ndarray of bool, shape (subcarriers,)
+
+    Returns
+    -------
+    triangles : ndarray of complex128, shape (subcarriers, streams, streams)
+        R of H K = Q R. Zeros where erased.
+    samples : ndarray of complex128, shape (symbols, subcarriers, streams)
+        Q* Y, with Q* the conjugate transpose. Zeros where erased.
+    """
+    factors = np.where(rate.is_pilot, 1.0, rate.normalising_factor)
+    scaled = np.where(erased[:, None, None], 0, channel) * factors[:, None, None]
+    vectors = np.where(erased[None, :, None], 0, received)
+    missing = rate.streams - channel.shape[1]
+    if missing > 0:  # antennas that hear nothing, so that there is a row for each stream
+        scaled = np.pad(scaled, ((0, 0), (0, missing), (0, 0)))
+        vectors = np.pad(vectors, ((0, 0), (0, 0), (0, missing)))
+    parts = [np.linalg.qr(matrix) for matrix in scaled]
+    rotation, triangles = (np.stack(part) for part in zip(*parts))
+    diagonal = np.einsum("cii->ci", triangles)
+    size = np.abs(diagonal)
+    phases = np.where(size > 0, diagonal / np.where(size > 0, size, 1), 1)
+    rotation = rotation * phases[:, None, :]
+    triangles = np.triu(triangles * phases.conj()[:, :, None])
+    np.einsum("cii->ci", triangles)[...] = size
+    samples = np.einsum("cak,sca->sck", rotation.conj(), vectors, optimize=True)
+    triangles[erased] = 0
+    samples[:, erased] = 0
+    return triangles, samples
+
+
+def _rounded(values: np.ndarray) -> np.ndarray:
+    return np.rint(values.real) + 1j * np.rint(values.imag)
+
+
+def _largest_gain(triangles: np.ndarray, samples: np.ndarray) -> float:
+    """The largest gain with which no part leaves its field; 1 where all is 0."""
+    diagonal = np.einsum("cii->ci", triangles).real
+    above = triangles - np.einsum("ci,ij->cij", diagonal, np.eye(diagonal.shape[-1]))
+    used = [np.max(diagonal) / DIAGONAL_LIMIT, _share(above, ENTRY_LIMITS), _share(samples, SAMPLE_LIMITS)]
+    return 1 / max(used) if max(used) > 0 else 1.0
+
+
+def _share(values: np.ndarray, limits) -> float:
+    low, high = limits
+    parts = np.stack((values.real, values.imag))
+    return max(np.max(parts) / high, np.min(parts) / low)
+
+
+def _check_finite(number: int, channel: np.ndarray, received: np.ndarray, erased: np.ndarray) -> None:
+    good = np.isfinite(channel) | erased[:, None, None]
+    if not good.all():
+        carrier, antenna, stream = np.argwhere(~good)[0]
+        raise FitError(f"frame {number}, subcarrier {carrier}: the channel of antenna {antenna} and stream {stream + 1} isn't finite")
+    good = np.isfinite(received) | erased[None, :, None]
+    if not good.all():
+        symbol, carrier, antenna = np.argwhere(~good)[0]
+        raise FitError(f"frame {number}, subcarrier {carrier}, symbol {symbol}: what antenna {antenna} received isn't finite")
+
+
+def _check_fit(number: int, triangles: np.ndarray, samples: np.ndarray, gain: float) -> None:
+    streams = triangles.shape[-1]
+    for row in range(streams):
+        for column in range(row, streams):
+            low, high = (0, DIAGONAL_LIMIT) if row == column else ENTRY_LIMITS
+            entry = triangles[:, row, column]
+            good = _within(entry, low, high)
+            if not good.all():
+                carrier = int(np.argmin(good))
+                raise FitError(f"frame {number}, subcarrier {carrier}: entry ({row + 1}, {column + 1}) of the triangle is "
+                               f"{show(entry[carrier])} at the gain {gain:.6g}, and the field takes {low} to {high}")
+    good = _within(samples, *SAMPLE_LIMITS)
+    if not good.all():
+        symbol, carrier, row = np.argwhere(~good)[0]
+        raise FitError(f"frame {number}, subcarrier {carrier}, symbol {symbol}: sample {row + 1} is "
+                       f"{show(samples[symbol, carrier, row])} at the gain {gain:.6g}, and the field takes -2^31 to 2^31 - 1")
+
+
+def _within(values: np.ndarray, low: int, high: int) -> np.ndarray:
+    parts = np.stack((values.real, values.imag))
+    return np.all((parts >= min(low, 0)) & (parts <= high), axis=0)

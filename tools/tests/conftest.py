@@ -1,0 +1,84 @@
+"""What the tests share: the repository's folders, the program, and small captures."""
+
+from __future__ import annotations
+
+import io
+import os
+import subprocess
+import sys
+from pathlib import Path
+from typing import Sequence
+
+import numpy as np
+import pytest
+
+from mizgaure import CaptureFrame, Radio, Rate, write_htcp
+
+TOP = Path(__file__).resolve().parents[2]
+VECTORS = TOP / "vectors"
+BUILT = TOP / "crates" / "ht_radio" / "out" / "ht_radio"
+
+
+def vectors(ending: str) -> list:
+    """The vectors with an ending that are no files at fault, as parameters of a test."""
+    paths = [path for path in sorted(VECTORS.glob(f"*/*{ending}")) if "-bad-" not in path.stem]
+    return [pytest.param(path, id=f"{path.parent.name}-{path.stem}") for path in paths]
+
+
+@pytest.fixture(scope="session")
+def radio() -> Radio:
+    """The program; never built by a test."""
+    path = os.environ.get("MIZGAURE_RADIO") or str(BUILT)
+    if not os.path.exists(path):
+        pytest.skip("the program isn't built: run ./radio once, or set MIZGAURE_RADIO")
+    return Radio(path, progress=False)
+
+
+@pytest.fixture
+def command(radio, tmp_path):
+    """The command mizgaure, as a user runs it: words to the finished process."""
+
+    def run(*words: object, given: bytes = b"") -> subprocess.CompletedProcess:
+        environment = {**os.environ, "MIZGAURE_RADIO": radio.path, "MIZGAURE_PYTHON": sys.executable}
+        return subprocess.run([str(TOP / "tools" / "mizgaure"), *map(str, words)], input=given, capture_output=True, cwd=tmp_path,
+                              env=environment, timeout=100, check=False)
+
+    return run
+
+
+def octets_of(frames: Sequence[CaptureFrame], **options) -> bytes:
+    """A capture in memory."""
+    made = io.BytesIO()
+    write_htcp(made, frames, **options)
+    return made.getvalue()
+
+
+def random_frame(rate: Rate, length: int, seed: int, largest: int = 200, noise: int = 60) -> CaptureFrame:
+    """A frame of small whole numbers, with points sent through its triangles."""
+    random = np.random.default_rng(seed)
+    n, carriers, symbols = rate.streams, rate.subcarriers, rate.symbols(length)
+    triangles = np.triu(random.integers(-largest, largest + 1, (carriers, n, n)) + 1j * random.integers(-largest, largest + 1, (carriers, n, n)), 1)
+    triangles = triangles + np.eye(n) * random.integers(1, largest, (carriers, n))[:, :, None]
+    points = rate.points[random.integers(0, rate.points.size, (symbols, carriers, n))]
+    points[:, rate.is_pilot] = rate.pilot_signs(symbols)
+    samples = np.einsum("ckl,scl->sck", triangles, points)
+    samples += random.integers(-noise, noise + 1, samples.shape) + 1j * random.integers(-noise, noise + 1, samples.shape)
+    return CaptureFrame(rate, length, triangles, samples)
+
+
+def grid_of(rate: Rate) -> np.ndarray:
+    """All vectors of the constellation in the order that decides ties: shape (vectors, streams)."""
+    points = np.array(sorted(rate.points, key=lambda point: (point.real, point.imag)))
+    return np.stack(np.meshgrid(*[points] * rate.streams, indexing="ij"), axis=-1).reshape(-1, rate.streams)
+
+
+def exhaustive(triangles: np.ndarray, samples: np.ndarray, rate: Rate) -> np.ndarray:
+    """The first nearest vector of each data subcarrier by trying all: shape (symbols, subcarriers, streams), zeros on pilots."""
+    grid = grid_of(rate)
+    found = np.zeros(samples.shape, complex)
+    for carrier in np.flatnonzero(~rate.is_pilot):
+        seen = grid @ triangles[carrier].T
+        rest = samples[:, carrier, None, :] - seen[None]
+        distance = (rest.real**2 + rest.imag**2).sum(axis=-1)
+        found[:, carrier] = grid[distance.argmin(axis=1)]
+    return found

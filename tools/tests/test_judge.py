@@ -1,0 +1,206 @@
+"""The judge: planted ties and errors are found, and nothing else is."""
+
+import json
+
+import numpy as np
+import pytest
+from conftest import VECTORS, octets_of, random_frame, vectors
+
+from mizgaure import InputError, LineError, Rate, judge, read_answers, read_htcp
+from mizgaure.answers import FrameAnswer
+from mizgaure.chain import encode, symbol_landing
+from mizgaure.distances import distances, on_grid, zero_forcing
+from mizgaure.rates import scrambling_sequence
+
+SMALL = VECTORS / "jobs" / "small-mcs09.htcp"
+
+
+def lines_of(jobs, number=0):
+    """Answers as another receiver writes them."""
+    return b"".join(b"job %d %d %d %s\n" % (number, s, c, b" ".join(b"%d %d" % (int(p.real), int(p.imag)) for p in vector))
+                    for s, c, vector in zip(jobs.symbol, jobs.carrier, jobs.points))
+
+
+def kept(path):
+    """The reference of a vector, and its one record of jobs."""
+    reference = path.with_suffix(".detect").read_bytes()
+    return reference, next(iter(read_answers(reference)))
+
+
+@pytest.mark.parametrize("path", vectors(".detect")[::5])
+def test_the_reference_is_the_same_as_itself(path):
+    capture, text = path.with_suffix(".htcp"), path.read_bytes()
+    found = judge(capture, text, reference=text)
+    counts = found.job_counts
+    assert found.is_clean and counts["same"] == sum(counts.values()) == text.count(b"job") and found.unanswered == found.misstated == 0
+
+
+def planted():
+    """Answers to a capture of many ties: another vector as near where there is one, errors on three jobs."""
+    reference, jobs = kept(SMALL)
+    (frame,) = read_htcp(SMALL)
+    grid = np.array(np.meshgrid(*[[-1 - 1j, -1 + 1j, 1 - 1j, 1 + 1j]] * 2, indexing="ij")).reshape(2, -1).T
+    points, expected = jobs.points.copy(), {}
+    for n in range(len(jobs)):
+        place = jobs.symbol[n : n + 1].repeat(len(grid)), jobs.carrier[n : n + 1].repeat(len(grid))
+        every = distances(frame, *place, grid)
+        allowed = on_grid(frame.rate, *place, grid)
+        expected[n] = ("same", jobs.distance[n])
+        others = [g for g in np.flatnonzero(allowed & (every == jobs.distance[n])) if (grid[g] != jobs.points[n]).any()]
+        farther = np.flatnonzero(allowed & (every > jobs.distance[n]))
+        if n % 9 == 4 and farther.size:
+            points[n], expected[n] = grid[farther[0]], ("worse", every[farther[0]])
+        elif others:
+            points[n], expected[n] = grid[others[0]], ("tie", jobs.distance[n])
+    points[7], expected[7] = -jobs.points[7], ("outside", -1)  # a pilot
+    points[50, 0], expected[50] = 3, ("outside", -1)
+    jobs.points = points
+    return reference, jobs, expected
+
+
+def test_planted_ties_and_errors():
+    reference, jobs, expected = planted()
+    mixed = lines_of(jobs).splitlines(keepends=True)
+    np.random.default_rng(1).shuffle(mixed)
+    found = judge(SMALL, b"".join(mixed), reference=reference)
+    (verdicts,) = found.jobs
+    order = np.lexsort((verdicts.carrier, verdicts.symbol))
+    got = [(str(verdicts.verdict[n]), int(verdicts.distance[n])) for n in order]
+    assert got == [(verdict, int(distance)) for verdict, distance in expected.values()]
+    counts = found.job_counts
+    assert counts["tie"] >= 1 and counts["worse"] >= 3 and counts["outside"] == 2 and not found.is_clean
+
+
+def test_ties_alone_are_clean():
+    reference, jobs, expected = planted()
+    ties = np.array([verdict == "tie" for verdict, _ in expected.values()])
+    jobs.symbol, jobs.carrier, jobs.points = jobs.symbol[ties], jobs.carrier[ties], jobs.points[ties]
+    found = judge(SMALL, lines_of(jobs), reference=reference)
+    assert found.is_clean and found.job_counts["tie"] == ties.sum() > 0 and found.unanswered == 56 - ties.sum()
+
+
+@pytest.mark.parametrize("rate, noise", [(Rate(20, 9), 300), (Rate(40, 18), 150), (Rate(20, 24), 300), (Rate(20, 3), 500)])
+def test_zero_forcing_is_worse_exactly_where_it_is(rate, noise, radio):
+    """The verdicts are those of comparing distances that are computed apart, in Python's whole numbers."""
+    frames = [random_frame(rate, 20, seed=seed, noise=noise) for seed in range(2)]
+    octets = octets_of(frames)
+    answers = [zero_forcing(frame, number) for number, frame in enumerate(frames)]
+    found = judge(octets, b"".join(lines_of(jobs, number) for number, jobs in enumerate(answers)), radio=radio)
+    for frame, jobs, reference, verdicts in zip(frames, answers, radio.detect(octets), found.jobs):
+        for n in range(len(jobs)):
+            ours = whole_distance(frame, jobs.symbol[n], jobs.carrier[n], jobs.points[n])
+            least = int(reference.distance[n])
+            same = (jobs.points[n] == reference.points[n]).all()
+            assert verdicts.verdict[n] == ("same" if same else "tie" if ours == least else "worse")
+            assert verdicts.distance[n] == ours
+    worse = found.job_counts["worse"]
+    assert worse > 0 if rate.streams > 1 else worse == 0
+
+
+def whole_distance(frame, symbol, carrier, vector):
+    total = 0
+    for row in range(frame.rate.streams):
+        real, imag = int(frame.samples[symbol, carrier, row].real), int(frame.samples[symbol, carrier, row].imag)
+        for column in range(row, frame.rate.streams):
+            entry, point = frame.triangles[carrier, row, column], vector[column]
+            a, b, i, q = (int(part) for part in (entry.real, entry.imag, point.real, point.imag))
+            real, imag = real - a * i + b * q, imag - a * q - b * i
+        total += real * real + imag * imag
+    return total
+
+
+def of_frames(stem, folder="rates"):
+    path = VECTORS / folder / f"{stem}.htcp"
+    reference = path.with_suffix(".detect").read_bytes() + path.with_suffix(".rx").read_bytes()
+    answer = next(r for r in read_answers(reference) if isinstance(r, FrameAnswer))
+    return path, reference, answer
+
+
+def test_octets_same_and_wrong():
+    path, reference, answer = of_frames("bw0-mcs09")
+    found = judge(path, b"frame 0 octets " + answer.octets.hex().upper().encode() + b"\n", reference=reference)
+    assert found.is_clean and found.frame_counts == {"same": 1, "tie": 0, "wrong": 0}
+    other = bytes([answer.octets[0] ^ 1]) + answer.octets[1:]
+    (verdict,) = judge(path, b"frame 0 octets " + other.hex().encode(), reference=reference).frames
+    assert verdict.verdict == "wrong" and verdict.code > verdict.least == 0
+    for text in (b"frame 0 seed zero\n", b"frame 0 octets " + other[1:].hex().encode()):
+        found = judge(path, text, reference=reference)
+        assert found.frames[0].verdict == "wrong" and found.frames[0].code is None and not found.is_clean
+
+
+def test_octets_as_near_are_a_tie():
+    """What is received lies half way between two codewords that one data bit sets apart.
+
+    Such codewords differ at ten places, the free distance of the code, so both are at distance 5 and none is nearer.
+    """
+    rate, sent = Rate(20, 0), bytes.fromhex("123456")
+    data = np.concatenate((np.zeros(16, np.uint8), np.unpackbits(np.frombuffer(sent, np.uint8), bitorder="little")))
+    inputs = np.concatenate((data ^ scrambling_sequence(99)[:40], np.zeros(6, np.uint8)))
+    coded, other = encode(rate, inputs), encode(rate, inputs ^ (np.arange(46) == 16 + 9))
+    apart = np.flatnonzero(coded != other)
+    assert apart.size == 10
+    coded[apart[:5]] ^= 1
+    carrier, _, _ = symbol_landing(rate)
+    symbols = rate.symbols(3)
+    labels = np.zeros((symbols, 52), int)
+    places_ = np.arange(coded.size)
+    labels[places_ // 52, carrier[0, places_ % 52]] = coded
+    frame = random_frame(rate, 3, seed=1, noise=0)
+    frame.triangles[:] = 10
+    frame.samples[:, ~rate.is_pilot, 0] = 10 * (2 * labels - 1)
+    frame.samples[:, rate.is_pilot] = 10 * rate.pilot_signs(symbols)
+    detected = b"".join(b"job 0 %d %d 0 %d 0\n" % (s, c, frame.samples[s, c, 0].real / 10) for s in range(symbols) for c in range(56))
+    reference = detected + b"frame 0 data 0 pilot 0 code 5 octets 123456\nend 1 frames\n"
+    verdicts = {octets: judge(octets_of([frame]), b"frame 0 octets " + octets, reference=reference).frames[0]
+                for octets in (b"123456", b"123656", b"123457")}
+    assert [v.verdict for v in verdicts.values()] == ["same", "tie", "wrong"]
+    assert verdicts[b"123656"].code == 5 and verdicts[b"123457"].code > 5
+
+
+@pytest.mark.parametrize("text, said", [
+    (b"", "there is no answer to a job or a frame"),
+    (b"job 0 0 0 1 1 1 1\n\njob 0 0 0 1 1\n", "line 3 has another number of streams than the lines of frame 0 before it"),
+    (b"job 0 0 0 1 1 1 1\njob 0 0 0 1 1 -1 1\n", "line 2 answers job 0 0 0 a second time"),
+    (b"frame 0 octets a5\nframe 0 seed zero\n", "line 2 answers frame 0 a second time"),
+    (b"job 0 0 0 1 1\n", "line 1 has 1 streams, and frame 0 has 2"),
+    (b"job 0 0 56 1 1 1 1\n", "line 1 answers job 0 0 56, which the capture doesn't have"),
+    (b"job 0 9 0 1 1 1 1\n", "line 1 answers job 0 9 0, which the capture doesn't have"),
+    (b"job 1 0 0 1 1 1 1\n", "there is an answer to frame 1, and the capture has 1 frames"),
+    (b"job 0 0 0 1 1 1\n", None),
+    (b"nonsense\n", "line 1 is no answer to a job or a frame: 'nonsense'"),
+    (b"frame 0 octets a\n", "line 1 is no answer to a job or a frame: 'frame 0 octets a'"),
+])
+def test_answers_that_are_none(text, said):
+    reference, _ = kept(SMALL)
+    with pytest.raises(InputError) as caught:
+        judge(SMALL, text, reference=reference)
+    assert said is None or str(caught.value) == said
+    assert isinstance(caught.value, (LineError, InputError))
+
+
+def test_a_reference_of_another_capture_is_refused():
+    reference, jobs = kept(VECTORS / "jobs" / "even-mcs09.htcp")
+    with pytest.raises(InputError, match="the reference isn't that of this capture"):
+        judge(SMALL, lines_of(jobs), reference=reference)
+
+
+def test_the_command(command, tmp_path):
+    reference, jobs, expected = planted()
+    (tmp_path / "theirs").write_bytes(lines_of(jobs))
+    done = command("judge", SMALL, "theirs", "--json", "verdicts.jsonl", "--list", 1)
+    assert done.returncode == 1 and done.stderr == b""
+    first, last = done.stdout.decode().splitlines()
+    assert first.startswith("outside: job 0 0 7 is outside its grid")
+    verdicts = [verdict for verdict, _ in expected.values()]
+    counted = ", ".join(f"{verdicts.count(v)} {v}" for v in ("same", "tie", "worse", "outside"))
+    assert last == f"jobs 56: {counted}; 0 without an answer"
+    records = [json.loads(line) for line in (tmp_path / "verdicts.jsonl").read_text().splitlines()]
+    assert [record["verdict"] for record in records[:-1]] == verdicts and records[-1]["counts"]["jobs"]["tie"] == verdicts.count("tie")
+    again = command("judge", SMALL, "theirs", "--json", "verdicts.jsonl")
+    assert again.returncode == 2 and b"is there already" in again.stderr
+    text = reference.replace(b"job 0 0 3 ", b"job 0 0 3 1")  # another distance than that of its vector
+    done = command("judge", SMALL, "-", given=text)
+    assert done.returncode == 0 and done.stdout == b"jobs 56: 56 same, 0 tie, 0 worse, 0 outside; 0 without an answer; 1 with another distance than stated\n"
+    part = b"".join(text.splitlines(keepends=True)[:20])
+    assert command("judge", SMALL, "-", given=part).returncode == 0
+    assert command("judge", SMALL, "-", "--complete", given=part).returncode == 1
