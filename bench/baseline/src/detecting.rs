@@ -228,13 +228,20 @@ impl Search<'_> {
     }
 }
 
-#[inline(never)]
-pub fn nearest(job: &Job) -> Hit {
+/// The first nearest points and their distance.
+#[inline(always)]
+pub fn found(job: &Job) -> ([Point; 4], u128) {
     let mut search = Search { job, points: [Point::default(); 4], best: [Point::default(); 4], distance: 0 };
     if !search.round() {
         search.go(usize::from(job.streams), 0);
     }
-    Hit { job: *job, points: search.best, distance: search.distance }
+    (search.best, search.distance)
+}
+
+#[inline(never)]
+pub fn nearest(job: &Job) -> Hit {
+    let (points, distance) = found(job);
+    Hit { job: *job, points, distance }
 }
 
 fn part(random: &mut Random, bound: u64) -> i32 {
@@ -247,6 +254,33 @@ fn ladder(levels: u64) -> Ladder {
 
 fn level(levels: u64, number: u64) -> i32 {
     2 * (number % levels) as i32 - (levels as i32 - 1)
+}
+
+/// Sends random points of the job's ladders through its channel, with noise.
+pub fn send(random: &mut Random, job: &mut Job, noise: u64) {
+    let n = usize::from(job.streams);
+    let mut x = [Complex::default(); 4];
+    for (point, axes) in x.iter_mut().zip(job.axes).take(n) {
+        *point = Complex { re: drawn(random, axes.i), im: drawn(random, axes.q) };
+    }
+    let mut at = 0;
+    for k in 0..n {
+        let d = i32::from(job.d[k]);
+        let mut y = Complex { re: d * x[k].re + part(random, noise), im: d * x[k].im + part(random, noise) };
+        for point in &x[k + 1..n] {
+            let (re, im) = job.above[at];
+            let heard = times(Complex { re: re.into(), im: im.into() }, *point);
+            y = Complex { re: y.re + heard.re, im: y.im + heard.im };
+            at += 1;
+        }
+        job.y[k] = y;
+    }
+}
+
+/// A random level of a ladder that allows all of them, or one.
+fn drawn(random: &mut Random, ladder: Ladder) -> i32 {
+    let at = if ladder.mask.is_power_of_two() { ladder.mask.trailing_zeros().into() } else { random.draw() };
+    level(ladder.size.into(), at)
 }
 
 fn times(r: Complex, x: Complex) -> Complex {

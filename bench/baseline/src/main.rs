@@ -4,10 +4,13 @@ mod decoding;
 mod detecting;
 mod listing;
 mod random;
+mod receiving;
+mod results;
+mod sending;
 
 fn main() {
     let words: Vec<String> = std::env::args().skip(1).collect();
-    if listing::run(&words) {
+    if receiving::run(&words) || sending::run(&words) {
         return;
     }
     match decoding::run(&words).or_else(|| detecting::run(&words)).or_else(|| capturing::run(&words)) {
