@@ -20,7 +20,6 @@
 #![tactic(auto)]
 
 mod carriers;
-mod chunk;
 mod fields;
 mod frames;
 mod heads;

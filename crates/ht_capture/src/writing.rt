@@ -7,8 +7,8 @@ ghost use Rattle.ht_capture.specs.Files.{AreCaptureFrames, FitsFrame, HasAllCarr
 ghost use Rattle.ht_capture.specs.Files.{capture_file_of, flagged, flagged_octets, capture_frame_octets};
 ghost use Rattle.ht_capture.specs.Files.{front_octets, is_erased as erased_at, leg_octets, legs_octets, present_of, sample_octets, capture_start, tap_octets};
 
-use crate::chunk::Chunk;
 use crate::frames::CaptureFrame;
+use ht_fields::Chunk;
 use ht_heads::{head_of, start_of};
 use ht_io::{Failed, Sink};
 use ht_metric::{Sample, Tap, Triangle};

@@ -16,7 +16,7 @@ use Rattle.ht_files.specs.Points.{symbols as symbols_format}
 use Rattle.ht_files.specs.SymbolFiles.{AreSymbolFrames, symbols_file_of}
 use Rattle.ht_files.proofs.FrameRoutes.{frames_written}
 use Rattle.ht_files.proofs.PointRoutes.{symbols_written}
-use Rattle.ht_sim.specs.Passing.{FailsToPass, Passes, PassesTo}
+use Rattle.ht_sim.specs.Passing.{FailsToPass, TakesAndPasses, PassesTo}
 use Rattle.ht_sim.specs.declared.faults.SimFault.TheVariants.{Format as SimFormat, Read as SimRead, Write as SimWrite}
 use Rattle.ht_cli.specs.declared.status.Status.{Status}
 use Rattle.ht_cli.specs.declared.status.Status.TheVariants.{Done, ReadFault, WriteFault}
@@ -63,7 +63,7 @@ module _ (seed noise : ℕ) (a b c d : Device ℕ) where
   abbrev pub PassComes : Device ℕ → Status → Type 0
   PassComes last status = Answers (whole symbols_format (PassesTo seed noise)) a b c last status
 
-  pub pass_done : (output : List ℕ) × Passes seed noise a b output × Grows c d output → PassComes d Done
+  pub pass_done : (output : List ℕ) × TakesAndPasses seed noise a b output × Grows c d output → PassComes d Done
   pass_done (output, (taken, octets, (frames, are, is, comes)), put) =
       converts symbols_format (PassesTo seed noise) a b c d taken output frames octets
       (subst (λ (xs : List ℕ). IsFile symbols_format xs frames) (sym is) (symbols_written frames are)) (frames, are, is, comes) put

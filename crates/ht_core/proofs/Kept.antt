@@ -12,7 +12,8 @@ use Rattle.ht_core.specs.declared.event.Event.TheVariants.{Issue, Push, Pop, Ste
 use Rattle.ht_core.specs.Machine.{CoreView, IsEnabled, after, hand, deque, hit_of, taken}
 use Rattle.std.specs.List.{All}
 use Rattle.std.proofs.lemmas.List.Elements.{All-nil, All-cons, All-append, All-set, All-drop, All-weaker}
-use Rattle.ht_core.specs.Facts.{IsIssued, IsCore, SameCounts, jobs_of, places}
+use Rattle.ht_counts.specs.Counts.{SameCounts}
+use Rattle.ht_core.specs.Facts.{IsIssued, IsCore, jobs_of, places}
 use Rattle.ht_core.proofs.Lists.{some_is, all_at, all_front, all_option, option_weaker, all_without, all_hit_of}
 use Rattle.ht_core.proofs.Lists.{issued_more, issued_last, get_more, take_next, jobs_append, jobs_length, found_number}
 use Rattle.ht_core.proofs.Sums.{weigh_put, weigh_front, weigh_without, weigh_jobs, weigh_places}

@@ -2,6 +2,7 @@
 use Rattle.std.specs.Prelude.{◌≡◌, ◌+◌, ◌<◌, ◌≤◌, ◌==◌, ℕ, List, ◌++◌, length, map, take, slice_get, IfSome, Some, Bool, true, false}
 use Rattle.std.specs.List.{All, sum_by, count_by, flat_map}
 use Rattle.std.specs.Option.{option_to_list}
+use Rattle.ht_counts.specs.Counts.{SameCounts}
 use Rattle.ht_metric.specs.Jobs.{JobView, Found}
 use Rattle.ht_metric.specs.declared.hit.Hit.{Hit}
 use Rattle.ht_core.specs.declared.event.Event.{Event}
@@ -20,10 +21,6 @@ answer_of hit = record { vector = hit.vector; distance = hit.distance }
 -- the jobs in all places
 abbrev pub places : CoreView → List JobView
 places c = flat_map option_to_list c.hands ++ flat_map (λ jobs. jobs) c.deques ++ jobs_of c.results ++ jobs_of c.booked ++ jobs_of c.emitted
-
--- both lists have the same jobs, each as often
-abbrev pub SameCounts : List JobView → List JobView → Type 0
-SameCounts xs ys = (h : JobView → ℕ) → sum_by h xs ≡ sum_by h ys
 
 -- the job is the issued one of its number
 abbrev pub IsIssued : List JobView → JobView → Type 0

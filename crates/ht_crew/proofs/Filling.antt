@@ -8,7 +8,7 @@ use Rattle.ht_metric.specs.declared.hit.Hit.{Hit}
 use Rattle.ht_window.specs.Windows.{WindowView, unbooked, front_hit}
 use Rattle.ht_window.specs.declared.slot.Slot.{Slot}
 use Rattle.ht_crew.specs.Feeds.{FeedView, GivesJob, ComesFirst}
-use Rattle.ht_crew.specs.Driving.{Holds, GoesOn, IsAlong, to_run, one_without, waiting}
+use Rattle.ht_crew.specs.Driving.{Holds, IsUnderWay, IsAlong, to_run, one_without, waiting}
 
 -- the window after a job was issued
 abbrev pub issued : WindowView → JobView → WindowView
@@ -99,7 +99,7 @@ module _ {Fault : Type 0} where
       subst (λ (r : Bool). to_run r f' (issued w job) ≤ to_run r f w) (sym on) less
 
   -- a feed that gave a job goes on
-  pub goes_on_more : (f f' : FeedView Fault) (job : JobView) (running : Bool) → running ≡ true → GivesJob f f' job → GoesOn running f'
+  pub goes_on_more : (f f' : FeedView Fault) (job : JobView) (running : Bool) → running ≡ true → GivesJob f f' job → IsUnderWay running f'
   goes_on_more f f' job running on gives =
-      let still : GoesOn true f' = record { ended = gives.running; left = λ off. search rules } in
-      subst (λ (r : Bool). GoesOn r f') (sym on) still
+      let still : IsUnderWay true f' = record { ended = gives.running; left = λ off. search rules } in
+      subst (λ (r : Bool). IsUnderWay r f') (sym on) still

@@ -10,7 +10,7 @@ use Rattle.ht_window.specs.declared.slot.Slot.{Slot}
 use Rattle.ht_window.specs.declared.window.Accepted.{Accepted}
 use Rattle.ht_window.specs.declared.window.Accepted.TheVariants.{Booked}
 use Rattle.ht_crew.specs.Feeds.{FeedView, GivesAsBefore, IsLeft}
-use Rattle.ht_crew.specs.Driving.{GoesOn, to_run, one_without, waiting}
+use Rattle.ht_crew.specs.Driving.{IsUnderWay, to_run, one_without, waiting}
 use Rattle.ht_crew.proofs.Filling.{one_more}
 
 -- one slot less waits
@@ -42,7 +42,7 @@ accepted w w' job hit answer window there is booked books =
 
 module _ {Fault : Type 0} where
   -- a feed that gives as before goes on as before
-  pub goes_on_still : (f f' : FeedView Fault) (running : Bool) → GoesOn running f → GivesAsBefore f f' → GoesOn running f'
+  pub goes_on_still : (f f' : FeedView Fault) (running : Bool) → IsUnderWay running f → GivesAsBefore f f' → IsUnderWay running f'
   goes_on_still f f' running on same = record {
     ended = same.ended ∙ on.ended;
     left = λ off. subst (λ (left : Option (List JobView)). IsLeft left []) (sym same.left) (on.left off);

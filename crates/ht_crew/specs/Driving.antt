@@ -19,7 +19,7 @@ waiting (slot ∷ slots) = one_without slot.hit (waiting slots)
 
 module _ {Fault : Type 0} where
   -- a call of the feed failed between the two moments, and this is what the last such call answered
-  pub record Failed (old new : FeedView Fault) (fault : Fault) : Type 0 where
+  pub record CallFailed (old new : FeedView Fault) (fault : Fault) : Type 0 where
     pub rose : HasRisen old.faults new.faults
     pub failed : new.failed ≡ Some fault
 
@@ -30,7 +30,7 @@ module _ {Fault : Type 0} where
     pub room : length window.slots ≤ window.capacity
 
   -- the feed goes on, or has ended and has nothing left
-  pub record GoesOn (running : Bool) (feed : FeedView Fault) : Type 0 where
+  pub record IsUnderWay (running : Bool) (feed : FeedView Fault) : Type 0 where
     pub ended : feed.ended ≡ not running
     pub left : running ≡ false → IsLeft feed.left []
 

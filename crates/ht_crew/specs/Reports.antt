@@ -4,7 +4,7 @@ use Rattle.std.specs.List.{sum_by}
 use Rattle.crossbeam_queue.specs.Passes.{view}
 use Rattle.ht_metric.specs.Jobs.{JobView}
 use Rattle.ht_metric.specs.declared.hit.Hit.{Hit}
-use Rattle.ht_team.specs.Hands.{SameCounts}
+use Rattle.ht_counts.specs.Counts.{SameCounts}
 use Rattle.ht_team.specs.Pools.{first_of}
 use Rattle.ht_team.specs.declared.hand.Hand.{Hand}
 use Rattle.ht_crew.specs.Accounts.{HaveNumbers, asked}

@@ -1,7 +1,7 @@
 //! The drive without threads.
 ghost use Rattle.std.specs.Prelude.{◌≡◌, ◌+◌, ◌-◌, ◌^◌, ◌<◌, ◌≤◌, [], length, true, Err, None, IfOk, IfErr, OnOk};
 ghost use Rattle.ht_crew.specs.Feeds.{IsFreshFeed, IsLeft};
-ghost use Rattle.ht_crew.specs.Driving.{Failed, IsInTurn};
+ghost use Rattle.ht_crew.specs.Driving.{CallFailed, IsInTurn};
 
 use crate::caller::{deliver, fill, run};
 use crate::drive_fault::DriveFault;
@@ -45,7 +45,7 @@ pub fn drive_alone<F: Feed, G: Gate>(
     ensures passes { IfOk result (λ report. report.passes ≡ None) }
 
     // What it refuses with.
-    ensures fault { (fault : F.Fault) → result ≡ Err (DriveFault.Feed fault) → Failed (F.shown feed.old) (F.shown feed.new) fault }
+    ensures fault { (fault : F.Fault) → result ≡ Err (DriveFault.Feed fault) → CallFailed (F.shown feed.old) (F.shown feed.new) fault }
     ensures memory { result ≡ Err DriveFault.NoMemory → feed.new ≡ feed.old }
 {
     let Ok(mut window) = Window::new(alloc, window, 0) else {
@@ -80,7 +80,7 @@ fn run_all<F: Feed, G: Gate>(window: &mut Window, gate: &G, feed: &mut F) -> Res
     ensures unfailed { OnOk result ((F.shown feed.new).failed ≡ (F.shown feed.old).failed) }
     ensures ran { IfOk result (λ jobs. jobs ≡ (F.shown feed.new).count) }
 
-    ensures fault { IfErr result (Failed (F.shown feed.old) (F.shown feed.new)) }
+    ensures fault { IfErr result (CallFailed (F.shown feed.old) (F.shown feed.new)) }
 {
     let mut ran = 0u64;
     let mut running = true;

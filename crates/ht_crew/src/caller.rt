@@ -2,7 +2,7 @@
 ghost use Rattle.std.specs.Prelude.{◌≡◌, ◌+◌, ◌-◌, ◌^◌, ◌<◌, ◌≤◌, length, not, true, false, List, None, Some, IfOk, IfErr, OnOk};
 ghost use Rattle.ht_window.specs.Windows.{front_hit};
 ghost use Rattle.ht_crew.specs.Feeds.{GivesAsBefore};
-ghost use Rattle.ht_crew.specs.Driving.{Failed, Holds, GoesOn, IsInTurn, IsAlong, to_run, waiting};
+ghost use Rattle.ht_crew.specs.Driving.{CallFailed, Holds, IsUnderWay, IsInTurn, IsAlong, to_run, waiting};
 ghost use Rattle.ht_metric.specs.Jobs.{JobView};
 
 use crate::feed::Feed;
@@ -44,7 +44,7 @@ pub(crate) fn fill<F: Feed>(
     running: bool,
 ) -> Result<bool, F::Fault>
     requires holds { Holds window.old (F.shown feed.old) }
-    requires running { GoesOn running (F.shown feed.old) }
+    requires running { IsUnderWay running (F.shown feed.old) }
     requires bound { (F.shown feed.old).count < 2 ^ 64 - 1 }
 
     // What is due stands in the window, and nothing is run.
@@ -59,11 +59,11 @@ pub(crate) fn fill<F: Feed>(
     ensures along { OnOk result ((jobs : List JobView) → IsAlong jobs (F.shown feed.old) → IsAlong jobs (F.shown feed.new)) }
 
     // It ends where the window is full or the feed has ended.
-    ensures running { IfOk result (λ on. GoesOn on (F.shown feed.new)) }
+    ensures running { IfOk result (λ on. IsUnderWay on (F.shown feed.new)) }
     ensures full { IfOk result (λ on. on ≡ true → length window.new.slots ≡ window.new.capacity) }
 
     ensures unfailed { OnOk result ((F.shown feed.new).failed ≡ (F.shown feed.old).failed) }
-    ensures fault { IfErr result (Failed (F.shown feed.old) (F.shown feed.new)) }
+    ensures fault { IfErr result (CallFailed (F.shown feed.old) (F.shown feed.new)) }
     ensures later { (F.shown feed.old).faults ≤ (F.shown feed.new).faults }
     ensures leads { F.leads feed.old feed.new }
 {
@@ -90,7 +90,7 @@ pub(crate) fn deliver<F: Feed>(window: &mut Window, feed: &mut F) -> Result<(), 
     ensures along { (jobs : List JobView) → IsAlong jobs (F.shown feed.old) → IsAlong jobs (F.shown feed.new) }
 
     ensures unfailed { OnOk result ((F.shown feed.new).failed ≡ (F.shown feed.old).failed) }
-    ensures fault { IfErr result (Failed (F.shown feed.old) (F.shown feed.new)) }
+    ensures fault { IfErr result (CallFailed (F.shown feed.old) (F.shown feed.new)) }
     ensures later { (F.shown feed.old).faults ≤ (F.shown feed.new).faults }
     ensures leads { F.leads feed.old feed.new }
 {

@@ -3,7 +3,7 @@ ghost use Rattle.std.specs.Prelude.{◌≡◌, ◌+◌, ◌-◌, ◌^◌, ◌<�
 ghost use Rattle.ht_metric.specs.Jobs.{JobView};
 ghost use Rattle.ht_team.specs.Helms.{IsSameHelm, unused};
 ghost use Rattle.ht_crew.specs.Feeds.{IsFreshFeed, IsLeft};
-ghost use Rattle.ht_crew.specs.Driving.{Failed, IsInTurn};
+ghost use Rattle.ht_crew.specs.Driving.{CallFailed, IsInTurn};
 ghost use Rattle.ht_crew.specs.Accounts.{Tallies, AreTold, IsUntouched, none_counted};
 
 use crate::caller::deliver;
@@ -48,7 +48,7 @@ pub(crate) fn lead<R: Wait, F: Feed, G: Gate>(
     ensures tallies { OnOk result (Tallies tally.new window.new helm.new) }
     ensures told { OnOk result ((jobs : List JobView) → (F.shown feed.old).left ≡ Some jobs → AreTold jobs helm.new.given) }
 
-    ensures fault { IfErr result (Failed (F.shown feed.old) (F.shown feed.new)) }
+    ensures fault { IfErr result (CallFailed (F.shown feed.old) (F.shown feed.new)) }
 {
     let mut running = true;
     for _ in rt.forever() {

@@ -2,7 +2,7 @@
 ghost use Rattle.std.specs.Prelude.{◌≡◌, ◌+◌, ◌-◌, ◌^◌, ◌<◌, ◌≤◌, length, not, true, false, List, Some, IfOk, IfErr, OnOk};
 ghost use Rattle.ht_metric.specs.Jobs.{JobView};
 ghost use Rattle.ht_team.specs.Helms.{IsSameHelm};
-ghost use Rattle.ht_crew.specs.Driving.{Failed, Holds, GoesOn, IsInTurn, IsAlong};
+ghost use Rattle.ht_crew.specs.Driving.{CallFailed, Holds, IsUnderWay, IsInTurn, IsAlong};
 ghost use Rattle.ht_crew.specs.Accounts.{Tallies, AreTold};
 
 use crate::detect::Detect;
@@ -26,7 +26,7 @@ pub(crate) fn supply<F: Feed, G: Gate>(
     requires holds { Holds window.old (F.shown feed.old) }
     requires tallies { Tallies tally.old window.old helm.old }
     requires issued { tally.old.issued ≡ (F.shown feed.old).count }
-    requires running { GoesOn running (F.shown feed.old) }
+    requires running { IsUnderWay running (F.shown feed.old) }
     requires bound { (F.shown feed.old).count < 2 ^ 64 - 1 }
 
     // What is due stands in the window, and was given to the pool or run.
@@ -41,9 +41,9 @@ pub(crate) fn supply<F: Feed, G: Gate>(
     ensures along { OnOk result ((jobs : List JobView) → IsAlong jobs (F.shown feed.old) → IsAlong jobs (F.shown feed.new)) }
     ensures told { (jobs : List JobView) → IsAlong jobs (F.shown feed.old) → AreTold jobs helm.old.given → AreTold jobs helm.new.given }
 
-    ensures running { IfOk result (λ on. GoesOn on (F.shown feed.new)) }
+    ensures running { IfOk result (λ on. IsUnderWay on (F.shown feed.new)) }
     ensures unfailed { OnOk result ((F.shown feed.new).failed ≡ (F.shown feed.old).failed) }
-    ensures fault { IfErr result (Failed (F.shown feed.old) (F.shown feed.new)) }
+    ensures fault { IfErr result (CallFailed (F.shown feed.old) (F.shown feed.new)) }
     ensures later { (F.shown feed.old).faults ≤ (F.shown feed.new).faults }
     ensures leads { F.leads feed.old feed.new }
 {

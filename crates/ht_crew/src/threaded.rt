@@ -7,7 +7,7 @@ ghost use Rattle.ht_team.specs.Helms.{unused, IsSettled};
 ghost use Rattle.ht_team.specs.Members.{HasYetToServe, HasServed, deque_of};
 ghost use Rattle.ht_team.specs.Pools.{IsOpened};
 ghost use Rattle.ht_crew.specs.Feeds.{IsFreshFeed, IsLeft};
-ghost use Rattle.ht_crew.specs.Driving.{Failed, IsInTurn};
+ghost use Rattle.ht_crew.specs.Driving.{CallFailed, IsInTurn};
 ghost use Rattle.ht_crew.specs.Accounts.{Tallies, AreTold, asked};
 ghost use Rattle.ht_crew.specs.Reports.{HasRunAlone, HasRunInPool, by_caller};
 
@@ -79,7 +79,7 @@ pub fn drive<R: Threads + Wait + Sync, F: Feed, G: Gate + Sync>(
         → IfOk result (λ report. IfSome report.passes (λ passes. AreTold jobs (by_caller passes).pushed)) }
 
     // What it refuses with.
-    ensures fault { (fault : F.Fault) → result ≡ Err (DriveFault.Feed fault) → Failed (F.shown feed.old) (F.shown feed.new) fault }
+    ensures fault { (fault : F.Fault) → result ≡ Err (DriveFault.Feed fault) → CallFailed (F.shown feed.old) (F.shown feed.new) fault }
     ensures memory { result ≡ Err DriveFault.NoMemory → feed.new ≡ feed.old }
 {
     if workers == 1 {
@@ -126,7 +126,7 @@ fn in_pool<R: Threads + Wait + Sync, F: Feed, G: Gate + Sync>(
     ensures told { (jobs : List JobView) → (F.shown feed.old).left ≡ Some jobs
         → IfOk result (λ report. IfSome report.passes (λ passes. AreTold jobs (by_caller passes).pushed)) }
 
-    ensures fault { IfErr result (Failed (F.shown feed.old) (F.shown feed.new)) }
+    ensures fault { IfErr result (CallFailed (F.shown feed.old) (F.shown feed.new)) }
 {
     let Pool {
         shared,
@@ -180,7 +180,7 @@ fn in_threads<R: Threads + Wait + Sync, F: Feed, G: Gate + Sync>(
     ensures told { (jobs : List JobView) → (F.shown feed.old).left ≡ Some jobs
         → IfOk result (λ report. IfSome report.passes (λ passes. AreTold jobs (by_caller passes).pushed)) }
 
-    ensures fault { IfErr result (Failed (F.shown feed.old) (F.shown feed.new)) }
+    ensures fault { IfErr result (CallFailed (F.shown feed.old) (F.shown feed.new)) }
 {
     let mut helm = Helm::new(post, shared, work);
     let mut tally = Tally {

@@ -19,9 +19,11 @@
 //! and for how the reading of a whole file ends, and `laws` what holds of every format.
 #![tactic(auto)]
 
+mod chunk;
 pub mod fields;
 pub mod laws;
 pub mod read;
 
+pub use chunk::Chunk;
 pub use fields::{bad, end, fill, number, octet, one_octet, pair};
 pub use read::{Field, read_field};

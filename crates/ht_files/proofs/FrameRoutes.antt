@@ -17,7 +17,7 @@ use Rattle.ht_rate.specs.declared.rates.Rate.{Rate}
 use Rattle.ht_scramble.specs.Sequence.{IsSeed}
 use Rattle.ht_tx.specs.Frames.{FrameView}
 use Rattle.ht_heads.specs.Heads.{head_octets}
-use Rattle.ht_files.specs.Headed.{HeadState, Body, frame_due}
+use Rattle.ht_files.specs.HeadedFormats.{HeadState, Body, frame_due}
 use Rattle.ht_files.specs.Frames.{FrameState, Seed, Octets, framed, frames, good_octets, good_seed, is_no_seed}
 use Rattle.ht_files.specs.Files.{AreFrames, IsFrame, frames_file_of, frame_octets}
 use Rattle.ht_files.proofs.HeadRoutes.{file_written, route_head}

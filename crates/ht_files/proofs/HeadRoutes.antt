@@ -29,8 +29,8 @@ use Rattle.ht_rate.proofs.Numbers.{rate_at-named, bandwidth_code-bound}
 use Rattle.ht_rate.proofs.RateFacts.{mcs_of-range}
 use Rattle.ht_heads.specs.Heads.{HeadFails, start_octets, head_octets, rate_octets}
 use Rattle.ht_heads.proofs.Leading.{HasHead, HasMagic, head_halts, magic_halts, not_above, route_magic, same_octet, some_length}
-use Rattle.ht_files.specs.Headed.{HeadState, Magic, Version, Count, Bandwidth, Mcs, Length, Body, Over, Headed, StartFails, frame_due, grammar_of, magic_due}
-use Rattle.ht_files.specs.Headed.{good_bandwidth, good_count, good_length, good_magic, good_mcs, good_version}
+use Rattle.ht_files.specs.HeadedFormats.{HeadState, Magic, Version, Count, Bandwidth, Mcs, Length, Body, Over, HeadedFormat, StartFails, frame_due, grammar_of, magic_due}
+use Rattle.ht_files.specs.HeadedFormats.{good_bandwidth, good_count, good_length, good_magic, good_mcs, good_version}
 
 pub frame_is : {B : Type 0} (left : ℕ) → 0 < left → (let s : HeadState B = frame_due left in s) ≡ Bandwidth left
 unfolding frame_due
@@ -41,7 +41,7 @@ unfolding frame_due
 over_is left none = let t : nat_eq left 0 ≡ true = grind (arith, nat_tests) in when_true _ _ _ t
 
 -- a magic is due
-has_magic : {B I : Type 0} (h : Headed B I) → HasMagic (grammar_of h) (magic_due {B = B})
+has_magic : {B I : Type 0} (h : HeadedFormat B I) → HasMagic (grammar_of h) (magic_due {B = B})
 unfolding good_magic
 has_magic h = record {
   octet = λ x more. route_field (grammar_of h) (Magic x more) (magic_due more) (x ∷ []) []
@@ -50,7 +50,7 @@ has_magic h = record {
 }
 
 -- the whole magic
-route_all_magic : {B I : Type 0} (h : Headed B I) → Route (grammar_of h) (magic_due h.magic) Version h.magic []
+route_all_magic : {B I : Type 0} (h : HeadedFormat B I) → Route (grammar_of h) (magic_due h.magic) Version h.magic []
 route_all_magic {B = B} h =
     let f = grammar_of h in
     let all : length h.magic ≤ length h.magic = omega arith in
@@ -60,20 +60,20 @@ route_all_magic {B = B} h =
     (take_all (length h.magic) h.magic all) (route_magic f (magic_due {B = B}) h.magic (length h.magic) (has_magic h) all))
 
 -- the magic, and then the version
-route_version : {B I : Type 0} (h : Headed B I) → Route (grammar_of h) (magic_due h.magic) Count (h.magic ++ (1 ∷ [])) []
+route_version : {B I : Type 0} (h : HeadedFormat B I) → Route (grammar_of h) (magic_due h.magic) Count (h.magic ++ (1 ∷ [])) []
 unfolding good_version
 route_version h =
     route_then (grammar_of h) (magic_due h.magic) Version Count h.magic (1 ∷ []) [] [] (route_all_magic h)
     (route_field (grammar_of h) Version Count (1 ∷ []) [] (refl, checked_good BadVersion (differs 1) good_version (1 ∷ []) _ refl refl))
 
-count_is : {B I : Type 0} (h : Headed B I) (count : ℕ) → count < 2 ^ 16
+count_is : {B I : Type 0} (h : HeadedFormat B I) (count : ℕ) → count < 2 ^ 16
     → (let v : Verdict (HeadState B) I = good_count (big_bytes 2 count) in v) ≡ Good (frame_due count) []
 unfolding good_count
 count_is {B = B} {I = I} h count small =
     ap (λ (n : ℕ). let v : Verdict (HeadState B) I = Good (frame_due n) [] in v) (big_number-reads_back 2 count [] small)
 
 -- the octets in front of the frames
-pub route_start : {B I : Type 0} (h : Headed B I) (count : ℕ) → count < 2 ^ 16
+pub route_start : {B I : Type 0} (h : HeadedFormat B I) (count : ℕ) → count < 2 ^ 16
     → Route (grammar_of h) (magic_due h.magic) (frame_due count) (start_octets h.magic 1 count) []
 unfolding start_octets
 route_start h count small =
@@ -83,20 +83,20 @@ route_start h count small =
     (route_field f Count (frame_due count) (big_bytes 2 count) [] (refl, count_is h count small)))
 
 -- the bandwidth of a frame
-route_bandwidth : {B I : Type 0} (h : Headed B I) (left code : ℕ) → 0 < left → code ≤ 1
+route_bandwidth : {B I : Type 0} (h : HeadedFormat B I) (left code : ℕ) → 0 < left → code ≤ 1
     → Route (grammar_of h) (frame_due left) (Mcs left code) (code ∷ []) []
 unfolding good_bandwidth
 route_bandwidth h left code some low = route_from (grammar_of h) (frame_due left) (Bandwidth left) (Mcs left code) (code ∷ []) [] (frame_is left some)
     (route_field (grammar_of h) (Bandwidth left) (Mcs left code) (code ∷ []) []
     (refl, checked_good BadBandwidth (is_above 1) (good_bandwidth left) (code ∷ []) _ (not_above code 1 low) refl))
 
-mcs_is : {B I : Type 0} (h : Headed B I) (left : ℕ) (rate : Rate)
+mcs_is : {B I : Type 0} (h : HeadedFormat B I) (left : ℕ) (rate : Rate)
     → (let v : Verdict (HeadState B) I = good_mcs left (bandwidth_code (bandwidth_of rate)) (mcs_of rate ∷ []) in v) ≡ Good (Length left rate) []
 unfolding good_mcs bandwidth_of
 mcs_is {B = B} {I = I} h left rate = ap (λ (r : Rate). let v : Verdict (HeadState B) I = Good (Length left r) [] in v) (rate_at-named rate)
 
 -- bandwidth and MCS
-route_rate : {B I : Type 0} (h : Headed B I) (left : ℕ) (rate : Rate) → 0 < left
+route_rate : {B I : Type 0} (h : HeadedFormat B I) (left : ℕ) (rate : Rate) → 0 < left
     → Route (grammar_of h) (frame_due left) (Length left rate) (rate_octets rate) []
 route_rate h left rate some =
     let f = grammar_of h in
@@ -106,14 +106,14 @@ route_rate h left rate some =
     (route_field f (Mcs left code) (Length left rate) (mcs_of rate ∷ []) []
     (refl, checked_good BadMcs (is_above 31) (good_mcs left code) (mcs_of rate ∷ []) _ (not_above (mcs_of rate) 31 (mcs_of-range rate)) (mcs_is h left rate)))
 
-length_is : {B I : Type 0} (h : Headed B I) (left : ℕ) (rate : Rate) (len : ℕ) → len < 2 ^ 16
+length_is : {B I : Type 0} (h : HeadedFormat B I) (left : ℕ) (rate : Rate) (len : ℕ) → len < 2 ^ 16
     → good_length h left rate (big_bytes 2 len) ≡ Good (Body (h.first left rate len)) []
 unfolding good_length
 length_is {B = B} {I = I} h left rate len small =
     ap (λ (n : ℕ). let v : Verdict (HeadState B) I = Good (Body (h.first left rate n)) [] in v) (big_number-reads_back 2 len [] small)
 
 -- bandwidth, MCS and length
-pub route_head : {B I : Type 0} (h : Headed B I) (left : ℕ) (rate : Rate) (len : ℕ) → 0 < left → 1 ≤ len → len < 2 ^ 16
+pub route_head : {B I : Type 0} (h : HeadedFormat B I) (left : ℕ) (rate : Rate) (len : ℕ) → 0 < left → 1 ≤ len → len < 2 ^ 16
     → Route (grammar_of h) (frame_due left) (Body (h.first left rate len)) (head_octets rate len) []
 route_head h left rate len left_some some small =
     let f = grammar_of h in
@@ -123,7 +123,7 @@ route_head h left rate len left_some some small =
     (refl, checked_good BadLength is_zero (good_length h left rate) (big_bytes 2 len) _ (some_length len small some) (length_is h left rate len small)))
 
 -- the octets in front of the frames were not read
-pub start_ends : {B I : Type 0} (h : Headed B I) (source after : Device ℕ) (fault : InFault)
+pub start_ends : {B I : Type 0} (h : HeadedFormat B I) (source after : Device ℕ) (fault : InFault)
     → length h.magic ≡ 4 → StartFails h.magic source after fault → EndsEarly (reader_in (grammar_of h) (magic_due h.magic) 0 source) after fault
 start_ends {B = B} h source after fault four (inl fails) =
     halts_ends (reader_in (grammar_of h) (magic_due h.magic) 0 source) after fault
@@ -142,7 +142,7 @@ start_ends {B = B} {I = I} h source after fault four (inr (inr (between, taken, 
     (lacks_halts f Count 5 2 between after fault (width_is 2 good (omega arith)) lacks))
 
 -- the head of a frame is due
-has_head : {B I : Type 0} (h : Headed B I) (left : ℕ) → 0 < left → HasHead (grammar_of h) (frame_due left) (Mcs left) (Length left)
+has_head : {B I : Type 0} (h : HeadedFormat B I) (left : ℕ) → 0 < left → HasHead (grammar_of h) (frame_due left) (Mcs left) (Length left)
 has_head {B = B} h left some = record {
   bandwidth = subst (λ (s : HeadState B). Judges (grammar_of h) s 1 BadBandwidth (is_above 1)) (sym (frame_is left some))
       (judges_checked (grammar_of h) (Bandwidth left) 1 BadBandwidth (is_above 1) (good_bandwidth left) refl (omega arith) (λ e. cc, λ e. cc));
@@ -153,14 +153,14 @@ has_head {B = B} h left some = record {
 }
 
 -- the head of a frame was not read
-pub head_ends : {B I : Type 0} (h : Headed B I) (left at : ℕ) (source after : Device ℕ) (fault : InFault)
+pub head_ends : {B I : Type 0} (h : HeadedFormat B I) (left at : ℕ) (source after : Device ℕ) (fault : InFault)
     → 0 < left → HeadFails at source after fault → EndsEarly (reader_in (grammar_of h) (frame_due left) at source) after fault
 head_ends h left at source after fault some fails =
     halts_ends (reader_in (grammar_of h) (frame_due left) at source) after fault
     (head_halts (grammar_of h) (frame_due left) (Mcs left) (Length left) at source after fault (has_head h left some) fails)
 
 -- a number of frames, each of which leads to the next one
-pub route_frames : {B V : Type 0} (h : Headed B V) (octets : V → List ℕ) (Fit : V → Type 0)
+pub route_frames : {B V : Type 0} (h : HeadedFormat B V) (octets : V → List ℕ) (Fit : V → Type 0)
     → ((left : ℕ) (f : V) → 0 < left → Fit f → Route (grammar_of h) (frame_due left) (frame_due (left - 1)) (octets f) (f ∷ []))
     → (fs : List V) (left : ℕ) → length fs ≤ left → All Fit fs
     → Route (grammar_of h) (frame_due left) (frame_due (left - length fs)) (flat_map octets fs) fs
@@ -175,7 +175,7 @@ route_frames {B = B} h octets Fit one (f ∷ fs) left few fit =
     (octets f) (flat_map octets fs) (f ∷ []) fs front rest)
 
 -- the beginning of a file, and a number of its frames
-pub route_so_far : {B V : Type 0} (h : Headed B V) (octets : V → List ℕ) (Fit : V → Type 0)
+pub route_so_far : {B V : Type 0} (h : HeadedFormat B V) (octets : V → List ℕ) (Fit : V → Type 0)
     → ((left : ℕ) (f : V) → 0 < left → Fit f → Route (grammar_of h) (frame_due left) (frame_due (left - 1)) (octets f) (f ∷ []))
     → (count : ℕ) (fs : List V) → count < 2 ^ 16 → length fs ≤ count → All Fit fs
     → Route (grammar_of h) (magic_due h.magic) (frame_due (count - length fs)) (start_octets h.magic 1 count ++ flat_map octets fs) fs
@@ -184,7 +184,7 @@ route_so_far h octets Fit one count fs small few fit =
     (route_start h count small) (route_frames h octets Fit one fs count few fit)
 
 -- the whole file, and then its end
-pub route_over : {B V : Type 0} (h : Headed B V) (octets : V → List ℕ) (Fit : V → Type 0)
+pub route_over : {B V : Type 0} (h : HeadedFormat B V) (octets : V → List ℕ) (Fit : V → Type 0)
     → ((left : ℕ) (f : V) → 0 < left → Fit f → Route (grammar_of h) (frame_due left) (frame_due (left - 1)) (octets f) (f ∷ []))
     → (count : ℕ) (fs : List V) → count < 2 ^ 16 → length fs ≡ count → All Fit fs
     → Route (grammar_of h) (magic_due h.magic) Over (start_octets h.magic 1 count ++ flat_map octets fs) fs
@@ -194,7 +194,7 @@ route_over h octets Fit one count fs small size fit =
     (route_so_far h octets Fit one count fs small (omega (arith, size)) fit)
 
 -- a file
-pub file_written : {B V : Type 0} (h : Headed B V) (octets : V → List ℕ) (Fit : V → Type 0)
+pub file_written : {B V : Type 0} (h : HeadedFormat B V) (octets : V → List ℕ) (Fit : V → Type 0)
     → ((left : ℕ) (f : V) → 0 < left → Fit f → Route (grammar_of h) (frame_due left) (frame_due (left - 1)) (octets f) (f ∷ []))
     → (fs : List V) → length fs ≤ 65535 → All Fit fs → IsFile (grammar_of h) (start_octets h.magic 1 (length fs) ++ flat_map octets fs) fs
 file_written h octets Fit one fs few fit =

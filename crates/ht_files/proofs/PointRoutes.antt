@@ -35,7 +35,7 @@ use Rattle.ht_pam.specs.declared.point.Point.{Point}
 use Rattle.ht_tx.specs.Symbols.{Fits, IsSymbols, SymbolsView, index_of_point, origin, pilot_point, points_of}
 use Rattle.ht_tx.proofs.Places.{digits, digits-below, parts-below}
 use Rattle.ht_heads.specs.Heads.{head_octets}
-use Rattle.ht_files.specs.Headed.{HeadState, Body, frame_due}
+use Rattle.ht_files.specs.HeadedFormats.{HeadState, Body, frame_due}
 use Rattle.ht_files.specs.Places.{AreFitting, FitsPlace, carrier_at_place, stream_at_place, symbol_at_place}
 use Rattle.ht_files.specs.Points.{PointDue, PointsFail, first_point, fits_carrier, good_point, kind_on, misfits, misfits_place, point_in, point_octets}
 use Rattle.ht_files.specs.Points.{pointed, symbols}

@@ -5,7 +5,7 @@ use Rattle.ht_fields.specs.Grammar.{Grammar, Due, field, Verdict, Good}
 use Rattle.ht_fields.specs.Tests.{checked, octet_of}
 use Rattle.ht_rate.specs.declared.rates.Rate.{Rate}
 use Rattle.ht_tx.specs.Frames.{FrameView}
-use Rattle.ht_files.specs.Headed.{HeadState, Headed, Body, frame_due, grammar_of}
+use Rattle.ht_files.specs.HeadedFormats.{HeadState, HeadedFormat, Body, frame_due, grammar_of}
 
 -- which field is due behind the head of a frame: the seed, or the octets of the PSDU
 pub data FrameState : Type 0 where
@@ -33,7 +33,7 @@ abbrev pub body_due : FrameState → Due (HeadState FrameState) FrameView
 body_due (Seed left rate len) = field 1 (checked BadSeed is_no_seed (good_seed left rate len))
 body_due (Octets left rate len seed) = field len (good_octets left rate seed)
 
-abbrev pub framed : Headed FrameState FrameView
+abbrev pub framed : HeadedFormat FrameState FrameView
 framed = record { magic = frames_magic; first = Seed; due = body_due }
 
 -- the format

@@ -1,4 +1,4 @@
-pub mod Headed
+pub mod HeadedFormats
 pub mod Frames
 pub mod Files
 pub mod Places

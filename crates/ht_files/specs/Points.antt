@@ -16,7 +16,7 @@ use Rattle.ht_rate.specs.Rates.{modulation_of}
 use Rattle.ht_pam.specs.declared.point.Point.{Point}
 use Rattle.ht_map.specs.Gray.{label_of}
 use Rattle.ht_tx.specs.Symbols.{SymbolsView, pilot_point, points_of}
-use Rattle.ht_files.specs.Headed.{HeadState, Headed, Body, frame_due, grammar_of}
+use Rattle.ht_files.specs.HeadedFormats.{HeadState, HeadedFormat, Body, frame_due, grammar_of}
 use Rattle.ht_files.specs.Places.{AreFitting, symbol_at_place, carrier_at_place, stream_at_place}
 
 -- behind the head of a frame the next point is due: the frames that are left, this one among them, its rate and length,
@@ -87,7 +87,7 @@ point_due due =
 abbrev pub first_point : ℕ → Rate → ℕ → PointDue
 first_point left rate len = record { left = left; rate = rate; length = len; points = [] }
 
-abbrev pub pointed : Headed PointDue SymbolsView
+abbrev pub pointed : HeadedFormat PointDue SymbolsView
 pointed = record { magic = symbols_magic; first = first_point; due = point_due }
 
 -- the format

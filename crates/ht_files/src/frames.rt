@@ -8,7 +8,7 @@ ghost use Rattle.ht_fields.specs.Readers.{reader_in};
 ghost use Rattle.ht_fields.specs.WholeFiles.{EndsEarly, ReadsWhole};
 ghost use Rattle.ht_scramble.specs.Sequence.{IsSeed};
 ghost use Rattle.ht_tx.specs.Frames.{IsPsdu};
-ghost use Rattle.ht_files.specs.Headed.{frame_due};
+ghost use Rattle.ht_files.specs.HeadedFormats.{frame_due};
 ghost use Rattle.ht_files.specs.Frames.{frames as frames_format, is_no_seed};
 ghost use Rattle.ht_files.specs.Files.{AreFrames, IsFrame, frame_octets, frames_file_of};
 

@@ -2,7 +2,7 @@
 ghost use Rattle.std.specs.Prelude.{[], IfOk, IfErr};
 ghost use Rattle.ht_io.specs.Devices.{Takes, IsLater};
 ghost use Rattle.ht_heads.specs.Heads.{start_octets};
-ghost use Rattle.ht_files.specs.Headed.{StartFails};
+ghost use Rattle.ht_files.specs.HeadedFormats.{StartFails};
 
 use ht_fields::{number, one_octet};
 use ht_heads::magic;

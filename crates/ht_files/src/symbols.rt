@@ -3,7 +3,7 @@ ghost use Rattle.std.specs.Prelude.{◌<◌, ◌+◌, ◌^◌, ℕ, IfOk, IfErr}
 ghost use Rattle.ht_io.specs.Devices.{Takes, IsLater};
 ghost use Rattle.ht_fields.specs.Readers.{reader_in};
 ghost use Rattle.ht_fields.specs.WholeFiles.{EndsEarly, ReadsWhole};
-ghost use Rattle.ht_files.specs.Headed.{frame_due};
+ghost use Rattle.ht_files.specs.HeadedFormats.{frame_due};
 ghost use Rattle.ht_files.specs.Points.{symbols as symbols_format};
 ghost use Rattle.ht_files.specs.SymbolFiles.{AreSymbolFrames, IsSymbolFrame, symbols_octets, symbols_file_of};
 

@@ -19,8 +19,8 @@ PassesTo seed noise octets output =
     × (output ≡ capture_file_of 1 (captures_of seed noise frames))
 
 -- the octets that were left were taken, and are a file of symbols that comes to this
-abbrev pub Passes : ℕ → ℕ → Device ℕ → Device ℕ → List ℕ → Type 0
-Passes seed noise source source' output = (taken : List ℕ) × TakesAll source source' taken × PassesTo seed noise taken output
+abbrev pub TakesAndPasses : ℕ → ℕ → Device ℕ → Device ℕ → List ℕ → Type 0
+TakesAndPasses seed noise source source' output = (taken : List ℕ) × TakesAll source source' taken × PassesTo seed noise taken output
 
 -- Why a file did not pass: first the source before and after, then the sink. Nothing was put before the whole file was
 -- read, and where the sink failed a part of what the file comes to.
@@ -29,5 +29,5 @@ FailsToPass seed noise source source' sink sink' (Format fault) =
     EndsEarly (reader_in symbols symbols.start 0 source) source' (InFormat fault) × (sink' ≡ sink)
 FailsToPass seed noise source source' sink sink' Read = EndsEarly (reader_in symbols symbols.start 0 source) source' InRead × (sink' ≡ sink)
 FailsToPass seed noise source source' sink sink' Write =
-    (output : List ℕ) × Passes seed noise source source' output × GrowsByPart sink sink' output × Rose sink sink'
+    (output : List ℕ) × TakesAndPasses seed noise source source' output × GrowsByPart sink sink' output × Rose sink sink'
 FailsToPass seed noise source source' sink sink' NoMemory = sink' ≡ sink

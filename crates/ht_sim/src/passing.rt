@@ -1,7 +1,7 @@
 //! Files of symbols that pass the channel.
 ghost use Rattle.std.specs.Prelude.{◌≡◌, ℕ, List, IfErr, OnOk};
 ghost use Rattle.ht_io.specs.Devices.{Grows};
-ghost use Rattle.ht_sim.specs.Passing.{FailsToPass, Passes};
+ghost use Rattle.ht_sim.specs.Passing.{FailsToPass, TakesAndPasses};
 
 use crate::captures::pass;
 use crate::faults::{SimFault, from_reading};
@@ -22,7 +22,7 @@ pub fn channel<S: Source, K: Sink>(
     source: &mut S,
     sink: &mut K,
 ) -> Result<(), SimFault>
-    ensures done { OnOk result ((output : List ℕ) × Passes seed noise (S.shown source.old) (S.shown source.new) output
+    ensures done { OnOk result ((output : List ℕ) × TakesAndPasses seed noise (S.shown source.old) (S.shown source.new) output
         × Grows (K.shown sink.old) (K.shown sink.new) output) }
     ensures steady { OnOk result ((K.shown sink.new).faults ≡ (K.shown sink.old).faults) }
     ensures failed { IfErr result (FailsToPass seed noise (S.shown source.old) (S.shown source.new) (K.shown sink.old) (K.shown sink.new)) }

@@ -3,7 +3,8 @@ use Rattle.std.proofs.Common.{◌≡◌, ◌+◌, ◌++◌, ◌∷◌, [], ℕ, 
 use Rattle.std.proofs.lemmas.List.{append-nil, map-append, length-append, length-map}
 use Rattle.std.proofs.lemmas.List.Sums.{sum_by-append, sum_by-cons, sum_by_push}
 use Rattle.std.specs.List.{sum_by}
-use Rattle.ht_team.specs.Hands.{hand, joined, SameCounts, AddsUp}
+use Rattle.ht_counts.specs.Counts.{SameCounts}
+use Rattle.ht_team.specs.Hands.{hand, joined, AddsUp}
 use Rattle.ht_team.specs.Helms.{HelmView, IsSettled}
 use Rattle.ht_team.specs.Gathering.{Gathers, ran_by}
 use Rattle.ht_team.specs.Pools.{HasRun, through, first_of, through_queue}

@@ -1,7 +1,7 @@
 -- The passes of the workers that have ended are joined, one worker after another.
 use Rattle.std.specs.Prelude.{◌≡◌, ◌+◌, ◌<◌, ◌++◌, ℕ, List, length, map}
 use Rattle.std.specs.List.{sum_by}
-use Rattle.ht_team.specs.Hands.{SameCounts}
+use Rattle.ht_counts.specs.Counts.{SameCounts}
 use Rattle.ht_team.specs.declared.hand.Hand.{Hand}
 use Rattle.ht_team.specs.declared.member.Member.{Member}
 

@@ -6,10 +6,6 @@ use lib.ListN.{get_elem?}
 use Rattle.ht_team.specs.declared.hand.Hand.{Hand}
 
 module _ {T : Type 0} where
-  -- both lists have the same members, each as often
-  abbrev pub SameCounts : List T → List T → Type 0
-  SameCounts xs ys = (h : T → ℕ) → sum_by h xs ≡ sum_by h ys
-
   abbrev pub hand : ℕ → List T → List T → Hand T
   hand parts pushed taken = record { parts = parts; pushed = pushed; taken = taken }
 

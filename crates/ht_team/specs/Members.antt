@@ -6,7 +6,7 @@ use Rattle.crossbeam_deque.specs.Handles.{view, stealer_deque}
 use Rattle.crossbeam_queue.specs.Passes.{Pass, view as answer_view}
 use Rattle.crossbeam_queue.specs.declared.array_queue.Doing.{Doing}
 use Rattle.crossbeam_queue.specs.declared.array_queue.Slotted.{Slotted}
-use Rattle.ht_team.specs.Hands.{SameCounts}
+use Rattle.ht_counts.specs.Counts.{SameCounts}
 use Rattle.ht_team.specs.Seats.{DequeId}
 use Rattle.ht_team.specs.declared.hand.Hand.{Hand}
 use Rattle.ht_team.specs.declared.member.Member.{Member}
@@ -25,8 +25,8 @@ module _ {T A : Type 0} where
   deque_of m = stealer_deque m.seat.thief
 
   -- a worker takes tasks from this deque
-  abbrev pub IsAt : DequeId → Member T A → Type 0
-  IsAt deque m = deque_of m ≡ deque
+  abbrev pub Serves : DequeId → Member T A → Type 0
+  Serves deque m = deque_of m ≡ deque
 
   -- the tasks that a worker has taken
   abbrev pub tasks_of : Member T A → List T

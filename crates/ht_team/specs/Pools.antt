@@ -3,7 +3,8 @@ use Rattle.std.specs.Prelude.{◌≡◌, ◌+◌, ◌≤◌, ℕ, List, [], ◌�
 use Rattle.std.specs.List.{All}
 use Rattle.crossbeam_deque.specs.Handles.{worker_view}
 use Rattle.crossbeam_queue.specs.Passes.{view as answer_view}
-use Rattle.ht_team.specs.Hands.{SameCounts, hand}
+use Rattle.ht_counts.specs.Counts.{SameCounts}
+use Rattle.ht_team.specs.Hands.{hand}
 use Rattle.ht_team.specs.Members.{deque_of, HasYetToServe}
 use Rattle.ht_team.specs.Helms.{HelmView, unused}
 use Rattle.ht_team.specs.declared.hand.Hand.{Hand}

@@ -4,7 +4,7 @@ ghost use Rattle.std.specs.List.{All};
 ghost use Rattle.crossbeam_deque.specs.Handles.{worker_deque, worker_view};
 ghost use Rattle.crossbeam_queue.specs.Passes.{view};
 ghost use Rattle.ht_team.specs.Hands.{hand};
-ghost use Rattle.ht_team.specs.Members.{deque_of, IsAt, IsOnQueue, HasServed};
+ghost use Rattle.ht_team.specs.Members.{deque_of, Serves, IsOnQueue, HasServed};
 ghost use Rattle.ht_team.specs.Helms.{IsSettled};
 ghost use Rattle.ht_team.specs.Gathering.{Gathers};
 ghost use Rattle.ht_team.specs.Pools.{HasRun, through};
@@ -40,7 +40,7 @@ fn gather<W: Work>(
     mut members: Vec<Member<W::Task, W::Answer>>,
 )
     requires served { All (HasServed W.asked shared.now) members.items }
-    requires deques { All (IsAt (worker_deque owner.old)) members.items }
+    requires deques { All (Serves (worker_deque owner.old)) members.items }
     requires queue { IsOnQueue shared.now pass.old }
     requires parts { (worker_view owner.old).parts + vec_len members ≡ 1024 }
     requires some { 0 < (worker_view owner.old).parts }

@@ -12,7 +12,7 @@ use crate::member::Member;
 use crate::post::Post;
 use crate::rule::Cut;
 use crate::seat::{Owner, Seat};
-use crate::shared::{AnswerPass, Answers, Shared};
+use crate::shared::{AnswerPass, AnswerQueue, Shared};
 use std::alloc::{AllocError, Global};
 
 /// All that a pool needs: what its threads share, the caller's post, and its workers.
@@ -39,7 +39,7 @@ impl<T: Drop + Send, A: Drop + Send> Pool<T, A> {
         ensures { IfOk result (IsOpened helpers room) }
     {
         let mut owner: Owner<T> = Owner::fifo_as(alloc, usize::from(room))?;
-        let (answers, mut pass): (Answers<A>, AnswerPass<A>) = Answers::ruled(
+        let (answers, mut pass): (AnswerQueue<A>, AnswerPass<A>) = AnswerQueue::ruled(
             alloc,
             usize::from(room),
         )?;

@@ -5,9 +5,9 @@ use crossbeam_deque::protocol as deque_rule;
 use crossbeam_queue::protocol as queue_rule;
 
 /// What was pushed is what was taken and what is held, counted with repeats.
-pub struct Counted;
+pub struct CountingRule;
 
-impl<T> deque_rule::Protocol<T, Hand<T>> for Counted {
+impl<T> deque_rule::Protocol<T, Hand<T>> for CountingRule {
     ghost use Rattle.std.specs.Prelude.{[]};
     ghost use Rattle.ht_team.specs.Hands.{hand, IsCounted};
 
@@ -18,7 +18,7 @@ impl<T> deque_rule::Protocol<T, Hand<T>> for Counted {
     ghost guest = { hand 0 [] [] };
 }
 
-impl<T> queue_rule::Protocol<T, Hand<T>> for Counted {
+impl<T> queue_rule::Protocol<T, Hand<T>> for CountingRule {
     ghost use Rattle.std.specs.Prelude.{[]};
     ghost use Rattle.ht_team.specs.Hands.{hand, IsCounted};
 

@@ -5,15 +5,15 @@ ghost use Rattle.crossbeam_deque.specs.Handles.{view, stealer_deque};
 ghost use Rattle.ht_team.specs.Seats.{IsThiefs};
 
 use crate::hand::Hand;
-use crate::rule::{Counted, Take};
+use crate::rule::{CountingRule, Take};
 use crossbeam_deque::{Pass, Steal, Stealer, Worker};
 use std::alloc::Global;
 
 /// The owner's end of a deque of tasks: its worker pushes at the back and pops at the front.
-pub type Owner<T> = Worker<T, Global, Hand<T>, Counted>;
+pub type Owner<T> = Worker<T, Global, Hand<T>, CountingRule>;
 
 /// What takes tasks at the front of a deque that others own.
-pub type Thief<T> = Stealer<T, Global, Hand<T>, Counted>;
+pub type Thief<T> = Stealer<T, Global, Hand<T>, CountingRule>;
 
 /// A pass on a deque.
 pub type TaskPass<T> = Pass<T, Hand<T>, Global>;

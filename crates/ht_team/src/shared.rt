@@ -5,7 +5,7 @@ ghost use Rattle.ht_team.specs.Hands.{hand, joined, AddsUp};
 ghost use Rattle.ht_team.specs.Members.{queue_of, IsOnQueue};
 
 use crate::hand::Hand;
-use crate::rule::{Counted, Cut, Push, Take, Whole};
+use crate::rule::{CountingRule, Cut, Push, Take, Whole};
 use crossbeam_queue::{Pass, RuledArrayQueue};
 use crossbeam_utils::CachePadded;
 use std::marker::Model;
@@ -14,7 +14,7 @@ use std::sync::atomic::{AtomicBool, Ordering};
 use std::thread;
 
 /// The queue of answers, with a bound on how many it holds.
-pub type Answers<A> = RuledArrayQueue<A, Hand<A>, Counted>;
+pub type AnswerQueue<A> = RuledArrayQueue<A, Hand<A>, CountingRule>;
 
 /// A pass on the queue of answers.
 pub type AnswerPass<A> = Pass<A, Hand<A>>;
@@ -23,7 +23,7 @@ pub type AnswerPass<A> = Pass<A, Hand<A>>;
 /// it is; none rests on the flag.
 #[derive(Drop)]
 pub struct Shared<A: Drop> {
-    pub(crate) answers: Answers<A>,
+    pub(crate) answers: AnswerQueue<A>,
     done: CachePadded<AtomicBool>,
 }
 
@@ -38,7 +38,7 @@ impl<A: Drop> Model for Shared<A> {
 
 impl<A: Drop> Shared<A> {
     /// What threads share that have yet to begin.
-    pub(crate) fn new(answers: Answers<A>) -> Shared<A>
+    pub(crate) fn new(answers: AnswerQueue<A>) -> Shared<A>
         ensures { result ≡ queue_of answers }
     {
         Shared {
@@ -117,7 +117,7 @@ impl<A: Drop> Shared<A> {
 // Puts an answer on the queue, and waits while it is full.
 fn deliver<A: Drop, R: Wait>(
     rt: &R,
-    answers: &Answers<A>,
+    answers: &AnswerQueue<A>,
     mut pass: AnswerPass<A>,
     answer: A,
 ) -> AnswerPass<A>

@@ -5,14 +5,14 @@ use Rattle.std.specs.Int.{bit_at}
 use Rattle.std.specs.Prelude.{if◌then◌else◌}
 use Rattle.std.proofs.lemmas.Bool.{cases_lt, le-leb, lt-leb, lt-ltb, le-ltb}
 use Rattle.std.proofs.lemmas.Nat.Bits.{bit_at-zero}
-use Rattle.ht_viterbi.specs.Trellis.{Pair, branch_cost, way, chosen, lesser, is_free, least_from, chosen_at}
+use Rattle.ht_viterbi.specs.Trellis.{StepPlaces, branch_cost, way, chosen, lesser, is_free, least_from, chosen_at}
 use Rattle.ht_viterbi.specs.Lanes.{HasLanes, IsClose}
 
 zero-number : (z n b c t : ℕ) → z ≡ (n + b) % 256 → n ≡ c → c ≡ t % 256 → (w : ℕ) → w ≡ b + t → z ≡ w % 256
 zero-number z n b c t e f g w h = omega arith
 
 -- the ways by a 0
-pub zero-lanes : (costs added next ways : List ℕ) (table : ℕ → ℕ) (pair : Pair)
+pub zero-lanes : (costs added next ways : List ℕ) (table : ℕ → ℕ) (pair : StepPlaces)
     → HasLanes costs (λ k. table k % 256) → HasLanes added (λ k. branch_cost pair k false)
     → HasLanes next (λ k. slice_index costs (k / 2)) → HasLanes ways (λ k. (slice_index next k + slice_index added k) % 256)
     → HasLanes ways (λ k. way table pair k false % 256)
@@ -26,7 +26,7 @@ zero-lanes costs added next ways table pair held branches after is = record {
 }
 
 -- the ways by a 1
-pub one-lanes : (costs one next ways : List ℕ) (table : ℕ → ℕ) (pair : Pair) → HasLanes costs (λ k. table k % 256) → HasLanes one (λ k. branch_cost pair k true)
+pub one-lanes : (costs one next ways : List ℕ) (table : ℕ → ℕ) (pair : StepPlaces) → HasLanes costs (λ k. table k % 256) → HasLanes one (λ k. branch_cost pair k true)
     → HasLanes next (λ k. slice_index costs (k / 2 + 32)) → HasLanes ways (λ k. (slice_index next k + slice_index one k) % 256)
     → HasLanes ways (λ k. way table pair k true % 256)
 one-lanes costs one next ways table pair held branches after is = record {
@@ -51,7 +51,7 @@ sign d p q a b e f g close = elim (cases_lt a b) [
   | inr more ↦ lt-leb 128 d (above d p q a b e f g close.1 more) ∙ sym (le-ltb a b more)
 ]
 
-sign-lanes : (zero_ways one_ways ahead : List ℕ) (table : ℕ → ℕ) (pair : Pair)
+sign-lanes : (zero_ways one_ways ahead : List ℕ) (table : ℕ → ℕ) (pair : StepPlaces)
     → HasLanes zero_ways (λ k. way table pair k false % 256) → HasLanes one_ways (λ k. way table pair k true % 256)
     → HasLanes ahead (λ k. (slice_index one_ways k + (256 - slice_index zero_ways k)) % 256) → IsClose table pair
     → (k : ℕ) → k < 64 → nat_le 128 (slice_index ahead k) ≡ chosen true (way table pair k false) (way table pair k true)
@@ -60,7 +60,7 @@ sign-lanes zero_ways one_ways ahead table pair zeros ones is close k lt =
     (way table pair k false) (is.lane k lt) (ones.lane k lt) (zeros.lane k lt) (close k lt)
 
 -- the choices where a 1 may be taken
-pub choices-lanes : (zero_ways one_ways ahead : List ℕ) (word : ℕ) (table : ℕ → ℕ) (pair : Pair)
+pub choices-lanes : (zero_ways one_ways ahead : List ℕ) (word : ℕ) (table : ℕ → ℕ) (pair : StepPlaces)
     → HasLanes zero_ways (λ k. way table pair k false % 256) → HasLanes one_ways (λ k. way table pair k true % 256)
     → HasLanes ahead (λ k. (slice_index one_ways k + (256 - slice_index zero_ways k)) % 256) → IsClose table pair
     → ((k : ℕ) → k < 64 → (bit_at word k ≡ 1) ↔ (nat_le 128 (slice_index ahead k) ≡ true))
@@ -70,7 +70,7 @@ choices-lanes zero_ways one_ways ahead word table pair zeros ones is close bits 
     ((λ e. sym same ∙ (bits k lt).0 e), λ e. (bits k lt).1 (same ∙ e))
 
 -- and the lesser ways
-pub lesser-lanes : (zero_ways one_ways ahead lesser_ways : List ℕ) (table : ℕ → ℕ) (pair : Pair)
+pub lesser-lanes : (zero_ways one_ways ahead lesser_ways : List ℕ) (table : ℕ → ℕ) (pair : StepPlaces)
     → HasLanes zero_ways (λ k. way table pair k false % 256) → HasLanes one_ways (λ k. way table pair k true % 256)
     → HasLanes ahead (λ k. (slice_index one_ways k + (256 - slice_index zero_ways k)) % 256) → IsClose table pair
     → HasLanes lesser_ways (λ k. if nat_le 128 (slice_index ahead k) then slice_index one_ways k else slice_index zero_ways k)
@@ -99,14 +99,14 @@ zeros (suc n) zero = refl
 zeros (suc n) (suc k) = zeros n k
 
 -- no step yet
-pub lanes-start : (pairs : List Pair) → pairs ≡ [] → HasLanes (replicate 64 0) (λ k. least_from pairs k % 256)
+pub lanes-start : (pairs : List StepPlaces) → pairs ≡ [] → HasLanes (replicate 64 0) (λ k. least_from pairs k % 256)
 lanes-start pairs none = record {
   count = refl;
-  lane = λ k lt. zeros 64 k ∙ sym (ap (λ (ps : List Pair). least_from ps k % 256) none);
+  lane = λ k lt. zeros 64 k ∙ sym (ap (λ (ps : List StepPlaces). least_from ps k % 256) none);
 }
 
 -- one step more
-pub lanes-step : (all pairs : List Pair) (lanes : List ℕ) (free : Bool) (pair : Pair) → all ≡ pair ∷ pairs → free ≡ is_free (length pairs)
+pub lanes-step : (all pairs : List StepPlaces) (lanes : List ℕ) (free : Bool) (pair : StepPlaces) → all ≡ pair ∷ pairs → free ≡ is_free (length pairs)
     → HasLanes lanes (λ k. lesser free (way (least_from pairs) pair k false) (way (least_from pairs) pair k true) % 256)
     → HasLanes lanes (λ k. least_from all k % 256)
 lanes-step all pairs lanes free pair cons is has = record {
@@ -114,10 +114,10 @@ lanes-step all pairs lanes free pair cons is has = record {
   lane = λ k lt.
       has.lane k lt
       ∙ (ap (λ (f : Bool). lesser f (way (least_from pairs) pair k false) (way (least_from pairs) pair k true) % 256) is
-      ∙ sym (ap (λ (ps : List Pair). least_from ps k % 256) cons));
+      ∙ sym (ap (λ (ps : List StepPlaces). least_from ps k % 256) cons));
 }
 
-pub chosen-lanes : (pairs : List Pair) (word : ℕ) (free : Bool) (pair : Pair) → free ≡ is_free (length pairs)
+pub chosen-lanes : (pairs : List StepPlaces) (word : ℕ) (free : Bool) (pair : StepPlaces) → free ≡ is_free (length pairs)
     → ((k : ℕ) → k < 64 → (bit_at word k ≡ 1) ↔ (chosen free (way (least_from pairs) pair k false) (way (least_from pairs) pair k true) ≡ true))
     → (k : ℕ) → k < 64 → (bit_at word k ≡ 1) ↔ (chosen_at pairs pair k ≡ true)
 chosen-lanes pairs word free pair is step k lt =

@@ -6,10 +6,10 @@ use Rattle.std.specs.List.{list_all}
 use Rattle.std.proofs.lemmas.Bool.{and_parts, and_from, not-true, not_from_false, eqb-true, eq-eqb, cases_lt}
 use Rattle.std.proofs.lemmas.Bool.Decides.{nat_tests}
 use Rattle.ht_viterbi.specs.Inputs.{is_terminated, is_before}
-use Rattle.ht_viterbi.specs.Trellis.{Pair, moved, branch_cost, chosen, lesser, is_free, way, least_from, chosen_at, first_from}
+use Rattle.ht_viterbi.specs.Trellis.{StepPlaces, moved, branch_cost, chosen, lesser, is_free, way, least_from, chosen_at, first_from}
 
 -- how far the pairs are from what an input sends, from a state on
-abbrev pub distance_from : List Pair → ℕ → List Bool → ℕ
+abbrev pub distance_from : List StepPlaces → ℕ → List Bool → ℕ
 distance_from [] state bits = 0
 distance_from (pair ∷ pairs) state [] = 0
 distance_from (pair ∷ pairs) state (bit ∷ bits) = branch_cost pair state bit + distance_from pairs (moved state bit) bits
@@ -90,11 +90,11 @@ few_not_free n few = grind (arith, nat_tests)
 not_free_few : (n : ℕ) → is_free n ≡ false → n < 6
 not_free_few n e = grind (arith, nat_tests)
 
-pub first-length : (pairs : List Pair) (state : ℕ) → length (first_from pairs state) ≡ length pairs
+pub first-length : (pairs : List StepPlaces) (state : ℕ) → length (first_from pairs state) ≡ length pairs
 first-length [] state = refl
 first-length (pair ∷ pairs) state = ap suc (first-length pairs _)
 
-pub first-distance : (pairs : List Pair) (state : ℕ) → distance_from pairs state (first_from pairs state) ≡ least_from pairs state
+pub first-distance : (pairs : List StepPlaces) (state : ℕ) → distance_from pairs state (first_from pairs state) ≡ least_from pairs state
 first-distance [] state = refl
 first-distance (pair ∷ pairs) state =
     ap (λ n. branch_cost pair state (chosen_at pairs pair state) + n) (first-distance pairs (moved state (chosen_at pairs pair state)))
@@ -103,7 +103,7 @@ first-distance (pair ∷ pairs) state =
 pub not_chosen : (free : Bool) (a b : ℕ) → free ≡ false → chosen free a b ≡ false
 not_chosen free a b e = rw e refl
 
-pub first-ends : (pairs : List Pair) (state : ℕ) → Ends (first_from pairs state)
+pub first-ends : (pairs : List StepPlaces) (state : ℕ) → Ends (first_from pairs state)
 first-ends [] state = tt
 first-ends (pair ∷ pairs) state =
     let bit = chosen_at pairs pair state in (
@@ -111,7 +111,7 @@ first-ends (pair ∷ pairs) state =
       first-ends pairs (moved state bit),
     )
 
-pub least-nearest : (pairs : List Pair) (state : ℕ) (other : List Bool) → length other ≡ length pairs
+pub least-nearest : (pairs : List StepPlaces) (state : ℕ) (other : List Bool) → length other ≡ length pairs
     → Ends other → least_from pairs state ≤ distance_from pairs state other
 least-nearest [] state other len ends = omega arith
 least-nearest (pair ∷ pairs) state [] len ends = absurd (omega arith)
@@ -121,7 +121,7 @@ least-nearest (pair ∷ pairs) state (bit ∷ bits) len ends =
     (λ none. ends.0 (omega (arith, not_free_few (length pairs) none))) in
     omega (arith, rest, here)
 
-pub first-first : (pairs : List Pair) (state : ℕ) (other : List Bool)
+pub first-first : (pairs : List StepPlaces) (state : ℕ) (other : List Bool)
     → length other ≡ length pairs → Ends other → IsTrue (is_before other (first_from pairs state))
     → least_from pairs state < distance_from pairs state other
 unfolding is_before

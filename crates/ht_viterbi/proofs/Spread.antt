@@ -1,6 +1,6 @@
 -- The least distances from two states lie at most twelve apart: in six steps of the same bits both come to the same state.
 use Rattle.std.proofs.Common.{◌≡◌, ℕ, zero, suc, ◌+◌, ◌*◌, ◌/◌, ◌<◌, ◌≤◌, List, [], ◌∷◌, length, Bool, true, false, refl, ap, arith}
-use Rattle.ht_viterbi.specs.Trellis.{Pair, moved, way, is_free, least_from, chosen_at}
+use Rattle.ht_viterbi.specs.Trellis.{StepPlaces, moved, way, is_free, least_from, chosen_at}
 use Rattle.ht_viterbi.specs.Lanes.{IsClose}
 use Rattle.ht_viterbi.proofs.Nearest.{lesser_least, lesser_is, not_chosen}
 use Rattle.ht_viterbi.proofs.Steps.{branch-le, moved-lt}
@@ -40,7 +40,7 @@ unfolding Alike
 alike-6 s t ls lt false = alike-5 (s / 2) (t / 2) (omega arith)
 alike-6 s t ls lt true = alike-5 (s / 2 + 32) (t / 2 + 32) (omega arith)
 
-spread-alike : (n : ℕ) (pairs : List Pair) (s t : ℕ) → Alike n s t → least_from pairs s ≤ 2 * n + least_from pairs t
+spread-alike : (n : ℕ) (pairs : List StepPlaces) (s t : ℕ) → Alike n s t → least_from pairs s ≤ 2 * n + least_from pairs t
 unfolding Alike
 spread-alike zero pairs s t same = let e : least_from pairs s ≡ least_from pairs t = ap (least_from pairs) same in omega arith
 spread-alike (suc n) [] s t same = omega arith
@@ -53,10 +53,10 @@ spread-alike (suc n) (pair ∷ pairs) s t same =
     let rest : least_from pairs (moved s bit) ≤ 2 * n + least_from pairs (moved t bit) = spread-alike n pairs (moved s bit) (moved t bit) (same bit) in
     omega (arith, there, here, rest, branch-le pair s bit)
 
-pub spread : (pairs : List Pair) (s t : ℕ) → s < 64 → t < 64 → least_from pairs s ≤ 12 + least_from pairs t
+pub spread : (pairs : List StepPlaces) (s t : ℕ) → s < 64 → t < 64 → least_from pairs s ≤ 12 + least_from pairs t
 spread pairs s t ls lt = spread-alike 6 pairs s t (alike-6 s t ls lt)
 
-pub ways-close : (pairs : List Pair) (pair : Pair) → IsClose (least_from pairs) pair
+pub ways-close : (pairs : List StepPlaces) (pair : StepPlaces) → IsClose (least_from pairs) pair
 ways-close pairs pair k lt =
     let one = branch-le pair k true in
     let none = branch-le pair k false in
@@ -65,7 +65,7 @@ ways-close pairs pair k lt =
     (omega (arith, one, none, up, down), omega (arith, one, none, up, down))
 
 -- the least distance from state 0 grows by two at most, and falls by twelve at most
-pub first-grows : (pairs : List Pair) (pair : Pair)
+pub first-grows : (pairs : List StepPlaces) (pair : StepPlaces)
     → (least_from (pair ∷ pairs) 0 ≤ least_from pairs 0 + 2) × (least_from pairs 0 ≤ least_from (pair ∷ pairs) 0 + 12)
 first-grows pairs pair =
     let free = is_free (length pairs) in

@@ -12,11 +12,11 @@ use Rattle.ht_conv.specs.declared.puncture.Kept.{Kept}
 use Rattle.ht_conv.specs.declared.puncture.Kept.TheVariants.{Both}
 use Rattle.ht_conv.specs.Puncturing.{period_of, kept_of, kept_count, sent_count}
 use Rattle.ht_viterbi.specs.Inputs.{place_cost}
-use Rattle.ht_viterbi.specs.Trellis.{Pair, pair_of, pair_at, phase_back, pairs_from, moved, output_a, output_b, branch_cost}
+use Rattle.ht_viterbi.specs.Trellis.{StepPlaces, pair_of, pair_at, phase_back, pairs_from, moved, output_a, output_b, branch_cost}
 use Rattle.ht_viterbi.specs.Trellis.{way, chosen, lesser, is_free, least_from, chosen_at, first_from, AreChoices}
 use Rattle.ht_viterbi.proofs.Sending.{length-pairs, sent-grows}
 
-abbrev pub erased : Pair
+abbrev pub erased : StepPlaces
 erased = (None, None)
 
 pub moved-lt : (k : ℕ) (bit : Bool) → k < 64 → moved k bit < 64
@@ -24,7 +24,7 @@ moved-lt k false p = omega arith
 moved-lt k true p = omega arith
 
 -- two tables that agree give the same ways
-pub way-same : (f g : ℕ → ℕ) → ((k : ℕ) → k < 64 → f k ≡ g k) → (pair : Pair) (k : ℕ) (bit : Bool) → k < 64 → way f pair k bit ≡ way g pair k bit
+pub way-same : (f g : ℕ → ℕ) → ((k : ℕ) → k < 64 → f k ≡ g k) → (pair : StepPlaces) (k : ℕ) (bit : Bool) → k < 64 → way f pair k bit ≡ way g pair k bit
 way-same f g same pair k bit p = ap (λ n. branch_cost pair k bit + n) (same (moved k bit) (moved-lt k bit p))
 
 place-le : (place : Option Bool) (bit : Bool) → place_cost place bit ≤ 1
@@ -34,7 +34,7 @@ place-le (Some false) true = omega arith
 place-le (Some true) false = omega arith
 place-le (Some true) true = omega arith
 
-pub branch-le : (pair : Pair) (state : ℕ) (bit : Bool) → branch_cost pair state bit ≤ 2
+pub branch-le : (pair : StepPlaces) (state : ℕ) (bit : Bool) → branch_cost pair state bit ≤ 2
 unfolding branch_cost
 branch-le pair state bit = omega (arith, place-le pair.0 (output_a state bit), place-le pair.1 (output_b state bit))
 
@@ -87,13 +87,13 @@ start-back pattern steps at start width kept p q is kept-is width-is =
     (omega arith, omega arith)
 
 -- the pair that is read is that of the step
-pub pair-back : (pattern : Pattern) (received : List (Option Bool)) (steps at start : ℕ) (kept : Kept) (pair : Pair) → 0 < at → at ≤ steps
+pub pair-back : (pattern : Pattern) (received : List (Option Bool)) (steps at start : ℕ) (kept : Kept) (pair : StepPlaces) → 0 < at → at ≤ steps
     → kept ≡ kept_of pattern (at - 1) → start ≡ sent_count pattern (at - 1) → pair ≡ pair_of kept received start
     → pairs_from pattern received (at - 1) (steps - (at - 1)) ≡ pair ∷ pairs_from pattern received at (steps - at)
 pair-back pattern received steps at start kept pair p q kept-is start-is pair-is =
     let same : pair ≡ pair_at pattern received (at - 1) =
     pair-is ∙ (ap (λ (k : Kept). pair_of k received start) kept-is ∙ ap (λ (n : ℕ). pair_of (kept_of pattern (at - 1)) received n) start-is) in
-    pairs-back pattern received steps at p q ∙ ap (λ (z : Pair). z ∷ pairs_from pattern received at (steps - at)) (sym same)
+    pairs-back pattern received steps at p q ∙ ap (λ (z : StepPlaces). z ∷ pairs_from pattern received at (steps - at)) (sym same)
 
 pub pairs-none : (pattern : Pattern) (received : List (Option Bool)) (steps : ℕ) → pairs_from pattern received steps (steps - steps) ≡ []
 unfolding pairs_from
@@ -114,14 +114,14 @@ pub zero-at : {xs : List ℕ} → xs ≡ replicate 64 0 → (k : ℕ) → slice_
 zero-at e k = ap (λ (xs : List ℕ). slice_index xs k) e ∙ zeros 64 k
 
 -- no step yet
-pub costs-start : (all : List Pair) (costs : List ℕ) → all ≡ [] → costs ≡ replicate 64 0 → (k : ℕ) → k < 64 → slice_index costs k ≡ least_from all k
-costs-start all costs none zeroed k p = zero-at zeroed k ∙ sym (ap (λ (ps : List Pair). least_from ps k) none)
+pub costs-start : (all : List StepPlaces) (costs : List ℕ) → all ≡ [] → costs ≡ replicate 64 0 → (k : ℕ) → k < 64 → slice_index costs k ≡ least_from all k
+costs-start all costs none zeroed k p = zero-at zeroed k ∙ sym (ap (λ (ps : List StepPlaces). least_from ps k) none)
 
-pub choices-start : (all : List Pair) (words : List ℕ) → all ≡ [] → AreChoices all words
-choices-start all words none = subst (λ (ps : List Pair). AreChoices ps words) (sym none) tt
+pub choices-start : (all : List StepPlaces) (words : List ℕ) → all ≡ [] → AreChoices all words
+choices-start all words none = subst (λ (ps : List StepPlaces). AreChoices ps words) (sym none) tt
 
 -- the table after one more step
-pub costs-step : (all pairs : List Pair) (costs into : ℕ → ℕ) (free : Bool) (pair : Pair) → all ≡ pair ∷ pairs → free ≡ is_free (length pairs)
+pub costs-step : (all pairs : List StepPlaces) (costs into : ℕ → ℕ) (free : Bool) (pair : StepPlaces) → all ≡ pair ∷ pairs → free ≡ is_free (length pairs)
     → ((k : ℕ) → k < 64 → costs k ≡ least_from pairs k)
     → ((k : ℕ) → k < 64 → into k ≡ lesser free (way costs pair k false) (way costs pair k true))
     → (k : ℕ) → k < 64 → into k ≡ least_from all k
@@ -130,18 +130,18 @@ costs-step all pairs costs into free pair cons is was step k p =
     ∙ ap (λ (f : Bool). lesser f (way costs pair k false) (way costs pair k true)) is
     ∙ ap (λ (a : ℕ). lesser (is_free (length pairs)) a (way costs pair k true)) (way-same costs (least_from pairs) was pair k false p)
     ∙ ap (λ (b : ℕ). lesser (is_free (length pairs)) (way (least_from pairs) pair k false) b) (way-same costs (least_from pairs) was pair k true p)
-    ∙ sym (ap (λ (xs : List Pair). least_from xs k) cons)
+    ∙ sym (ap (λ (xs : List StepPlaces). least_from xs k) cons)
 
 -- the choices after one more step
-pub choices-step : (all pairs : List Pair) (words : List ℕ) (m at word : ℕ) (pair : Pair) → all ≡ pair ∷ pairs → at ≡ m + 1 → m < length words
+pub choices-step : (all pairs : List StepPlaces) (words : List ℕ) (m at word : ℕ) (pair : StepPlaces) → all ≡ pair ∷ pairs → at ≡ m + 1 → m < length words
     → ((k : ℕ) → k < 64 → (bit_at word k ≡ 1) ↔ (chosen_at pairs pair k ≡ true))
     → AreChoices pairs (drop at words) → AreChoices all (drop m (set words m word))
 choices-step all pairs words m at word pair cons next p step rest =
     let list : drop m (set words m word) ≡ word ∷ drop at words = drop-set words m word p ∙ ap (λ n. word ∷ drop n words) (sym next) in
     let here : AreChoices (pair ∷ pairs) (word ∷ drop at words) = (step, rest) in
-    subst (λ (r : List ℕ). AreChoices all r) (sym list) (subst (λ (q : List Pair). AreChoices q (word ∷ drop at words)) (sym cons) here)
+    subst (λ (r : List ℕ). AreChoices all r) (sym list) (subst (λ (q : List StepPlaces). AreChoices q (word ∷ drop at words)) (sym cons) here)
 
-pub chosen-step : (pairs : List Pair) (word : ℕ) (costs : ℕ → ℕ) (free : Bool) (pair : Pair) → free ≡ is_free (length pairs)
+pub chosen-step : (pairs : List StepPlaces) (word : ℕ) (costs : ℕ → ℕ) (free : Bool) (pair : StepPlaces) → free ≡ is_free (length pairs)
     → ((k : ℕ) → k < 64 → costs k ≡ least_from pairs k)
     → ((k : ℕ) → k < 64 → (bit_at word k ≡ 1) ↔ (chosen free (way costs pair k false) (way costs pair k true) ≡ true))
     → (k : ℕ) → k < 64 → (bit_at word k ≡ 1) ↔ (chosen_at pairs pair k ≡ true)
@@ -153,7 +153,7 @@ chosen-step pairs word costs free pair is was step k q =
     ((λ e. sym same ∙ (step k q).0 e), λ e. (step k q).1 (same ∙ e))
 
 -- no distance grows by more than two
-pub bound-step : (into costs : List ℕ) (free : Bool) (pair : Pair) (b : ℕ) → length into ≡ 64 → ((k : ℕ) → slice_index costs k ≤ b)
+pub bound-step : (into costs : List ℕ) (free : Bool) (pair : StepPlaces) (b : ℕ) → length into ≡ 64 → ((k : ℕ) → slice_index costs k ≤ b)
     → ((k : ℕ) → k < 64 → slice_index into k ≡ lesser free (way (slice_index costs) pair k false) (way (slice_index costs) pair k true))
     → (k : ℕ) → slice_index into k ≤ b + 2
 bound-step into costs free pair b long was step k = go (nat_lt k 64) refl
@@ -172,7 +172,7 @@ same-bit false true n p q = p ∙ eq-eqb n 1 (q.1 refl)
 same-bit false false n p q = refl
 
 -- the walk takes the bit that the word has
-pub word-taken : (pairs : List Pair) (words : List ℕ) (at state : ℕ) (bit : Bool) → at < length words → length pairs ≡ length words → state < 64
+pub word-taken : (pairs : List StepPlaces) (words : List ℕ) (at state : ℕ) (bit : Bool) → at < length words → length pairs ≡ length words → state < 64
     → AreChoices (drop at pairs) (drop at words)
     → bit ≡ (bit_at (get_or words at 0) state == 1)
     → (first_from (drop at pairs) state ≡ bit ∷ first_from (drop (at + 1) pairs) (moved state bit)) × AreChoices (drop (at + 1) pairs) (drop (at + 1) words)
@@ -180,10 +180,10 @@ word-taken pairs words at state bit p len small are taken =
     let ps : drop at pairs ≡ get_or pairs at erased ∷ drop (at + 1) pairs = rw add-one (drop-cons pairs at erased (omega arith)) in
     let ws : drop at words ≡ get_or words at 0 ∷ drop (at + 1) words = rw add-one (drop-cons words at 0 p) in
     let both : AreChoices (get_or pairs at erased ∷ drop (at + 1) pairs) (get_or words at 0 ∷ drop (at + 1) words) =
-    subst (λ (q : List Pair). AreChoices q (get_or words at 0 ∷ drop (at + 1) words)) ps (subst (λ (r : List ℕ). AreChoices (drop at pairs) r) ws are) in
+    subst (λ (q : List StepPlaces). AreChoices q (get_or words at 0 ∷ drop (at + 1) words)) ps (subst (λ (r : List ℕ). AreChoices (drop at pairs) r) ws are) in
     let same : bit ≡ chosen_at (drop (at + 1) pairs) (get_or pairs at erased) state =
     same-bit bit _ (bit_at (get_or words at 0) state) taken (both.0 state small) in (
-      ap (λ (q : List Pair). first_from q state) ps ∙ ap (λ (b : Bool). b ∷ first_from (drop (at + 1) pairs) (moved state b)) (sym same),
+      ap (λ (q : List StepPlaces). first_from q state) ps ∙ ap (λ (b : Bool). b ∷ first_from (drop (at + 1) pairs) (moved state b)) (sym same),
       both.1,
     )
 
@@ -192,13 +192,13 @@ pub written : (xs rest : List ℕ) (len : ℕ) → length xs ≡ len → take le
 written xs rest len same = ap (λ (n : ℕ). take n (xs ++ rest)) (sym same) ∙ take-append_seam xs rest
 
 -- the choices of the steps from one on
-pub choices-drop : (k : ℕ) (pairs : List Pair) (words : List ℕ) → AreChoices pairs words → AreChoices (drop k pairs) (drop k words)
+pub choices-drop : (k : ℕ) (pairs : List StepPlaces) (words : List ℕ) → AreChoices pairs words → AreChoices (drop k pairs) (drop k words)
 choices-drop zero pairs words are = are
 choices-drop (suc k) [] words are = tt
 choices-drop (suc k) (pair ∷ pairs) [] are = absurd are
 choices-drop (suc k) (pair ∷ pairs) (word ∷ words) are = choices-drop k pairs words are.1
 
-pub walked : (whole old new : List Bool) (bit : Bool) (state state' at : ℕ) (pairs : List Pair) → new ≡ old ++ bit ∷ [] → state' ≡ moved state bit
+pub walked : (whole old new : List Bool) (bit : Bool) (state state' at : ℕ) (pairs : List StepPlaces) → new ≡ old ++ bit ∷ [] → state' ≡ moved state bit
     → first_from (drop at pairs) state ≡ bit ∷ first_from (drop (at + 1) pairs) (moved state bit)
     → old ++ first_from (drop at pairs) state ≡ whole → new ++ first_from (drop (at + 1) pairs) state' ≡ whole
 walked whole old new bit state state' at pairs e s next was =

@@ -1,6 +1,6 @@
 -- The costs of the 64 states as octets, in the lanes of a vector.
 use Rattle.std.specs.Prelude.{◌≡◌, ℕ, ◌+◌, ◌*◌, ◌<◌, List, [], Bool, true, false, Option, Some, None, length, slice_index, slice_index_or}
-use Rattle.ht_viterbi.specs.Trellis.{Pair, branch_cost, way}
+use Rattle.ht_viterbi.specs.Trellis.{StepPlaces, branch_cost, way}
 
 -- a vector of 64 lanes, each as the function says
 pub record HasLanes (lanes : List ℕ) (value : ℕ → ℕ) : Type 0 where
@@ -13,14 +13,14 @@ number_of_place None = 0
 number_of_place (Some false) = 1
 number_of_place (Some true) = 2
 
-abbrev pub number_of_pair : Pair → ℕ
+abbrev pub number_of_pair : StepPlaces → ℕ
 number_of_pair pair = 3 * number_of_place pair.0 + number_of_place pair.1
 
 -- the table has what each pair costs from each state
 abbrev pub HoldsBranches : List (List ℕ) → Bool → Type 0
-HoldsBranches table bit = (pair : Pair) → HasLanes (slice_index_or table (number_of_pair pair) []) (λ k. branch_cost pair k bit)
+HoldsBranches table bit = (pair : StepPlaces) → HasLanes (slice_index_or table (number_of_pair pair) []) (λ k. branch_cost pair k bit)
 
 -- no state's two ways lie 128 or more apart
-abbrev pub IsClose : (ℕ → ℕ) → Pair → Type 0
+abbrev pub IsClose : (ℕ → ℕ) → StepPlaces → Type 0
 IsClose table pair =
     (k : ℕ) → k < 64 → (way table pair k false < way table pair k true + 128) × (way table pair k true < way table pair k false + 128)

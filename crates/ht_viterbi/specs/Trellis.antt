@@ -12,16 +12,16 @@ use Rattle.ht_conv.specs.Register.{history_of}
 use Rattle.ht_viterbi.specs.Inputs.{place_cost}
 
 -- the two received places of a step
-abbrev pub Pair : Type 0
-Pair = Option Bool × Option Bool
+abbrev pub StepPlaces : Type 0
+StepPlaces = Option Bool × Option Bool
 
 -- a step's pair, whose places begin at `start`: a bit that was punctured counts as erased
-abbrev pub pair_of : Kept → List (Option Bool) → ℕ → Pair
+abbrev pub pair_of : Kept → List (Option Bool) → ℕ → StepPlaces
 pair_of Both received start = (slice_index_or received start None, slice_index_or received (start + 1) None)
 pair_of A received start = (slice_index_or received start None, None)
 pair_of B received start = (None, slice_index_or received start None)
 
-abbrev pub pair_at : Pattern → List (Option Bool) → ℕ → Pair
+abbrev pub pair_at : Pattern → List (Option Bool) → ℕ → StepPlaces
 pair_at pattern received step = pair_of (kept_of pattern step) received (sent_count pattern step)
 
 -- the place in its period of the step before
@@ -29,7 +29,7 @@ abbrev pub phase_back : ℕ → ℕ → ℕ
 phase_back phase period = if phase == 0 then period - 1 else phase - 1
 
 -- the pairs of `count` steps from a step on
-unfoldable pub pairs_from : Pattern → List (Option Bool) → ℕ → ℕ → List Pair
+unfoldable pub pairs_from : Pattern → List (Option Bool) → ℕ → ℕ → List StepPlaces
 pairs_from pattern received step zero = []
 pairs_from pattern received step (suc count) = pair_at pattern received step ∷ pairs_from pattern received (suc step) count
 
@@ -46,7 +46,7 @@ unfoldable pub output_b : ℕ → Bool → Bool
 output_b state bit = tapped taps_b (bit ∷ history_of state)
 
 -- what a step adds to the distance
-unfoldable pub branch_cost : Pair → ℕ → Bool → ℕ
+unfoldable pub branch_cost : StepPlaces → ℕ → Bool → ℕ
 branch_cost pair state bit = place_cost pair.0 (output_a state bit) + place_cost pair.1 (output_b state bit)
 
 -- a bit may be 1 where six bits or more follow it
@@ -62,27 +62,27 @@ abbrev pub lesser : Bool → ℕ → ℕ → ℕ
 lesser free zero_way one_way = if chosen free zero_way one_way then one_way else zero_way
 
 -- the distance by a first bit, where the table has that from each state afterwards
-abbrev pub way : (ℕ → ℕ) → Pair → ℕ → Bool → ℕ
+abbrev pub way : (ℕ → ℕ) → StepPlaces → ℕ → Bool → ℕ
 way table pair state bit = branch_cost pair state bit + table (moved state bit)
 
 -- the least distance of a terminated input from a state on
-abbrev pub least_from : List Pair → ℕ → ℕ
+abbrev pub least_from : List StepPlaces → ℕ → ℕ
 least_from [] state = 0
 least_from (pair ∷ pairs) state =
     lesser (is_free (length pairs)) (way (least_from pairs) pair state false) (way (least_from pairs) pair state true)
 
 -- whether the first input that has it begins with 1
-abbrev pub chosen_at : List Pair → Pair → ℕ → Bool
+abbrev pub chosen_at : List StepPlaces → StepPlaces → ℕ → Bool
 chosen_at pairs pair state =
     chosen (is_free (length pairs)) (way (least_from pairs) pair state false) (way (least_from pairs) pair state true)
 
 -- the first input that has it
-abbrev pub first_from : List Pair → ℕ → List Bool
+abbrev pub first_from : List StepPlaces → ℕ → List Bool
 first_from [] state = []
 first_from (pair ∷ pairs) state = chosen_at pairs pair state ∷ first_from pairs (moved state (chosen_at pairs pair state))
 
 -- a word of choices for each step: the bit at a state's number is 1 where a 1 is taken there
-abbrev pub AreChoices : List Pair → List ℕ → Type 0
+abbrev pub AreChoices : List StepPlaces → List ℕ → Type 0
 AreChoices [] words = Unit {0}
 AreChoices (pair ∷ pairs) [] = ⊥
 AreChoices (pair ∷ pairs) (word ∷ words) =

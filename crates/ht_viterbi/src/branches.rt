@@ -1,15 +1,15 @@
 //! What a step costs from each state: one octet for each of the 64 states, for each pair of received places.
 ghost use Rattle.std.specs.Prelude.{◌≡◌, ◌<◌, ◌≤◌, ℕ, List, [], slice_index, slice_index_or, length};
-ghost use Rattle.ht_viterbi.specs.Trellis.{branch_cost, Pair};
+ghost use Rattle.ht_viterbi.specs.Trellis.{branch_cost, StepPlaces};
 ghost use Rattle.ht_viterbi.specs.Lanes.{HasLanes, HoldsBranches, number_of_place, number_of_pair};
 
-use crate::pairs::{Pair, cost_of_branch};
+use crate::pairs::{StepPlaces, cost_of_branch};
 
 /// For each of the nine pairs the costs of all states at one input bit.
 pub(crate) type Branches = [[u8; 64]; 9];
 
 // What a step of this pair costs from each state.
-fn costs_of_pair(pair: Pair, bit: bool) -> [u8; 64]
+fn costs_of_pair(pair: StepPlaces, bit: bool) -> [u8; 64]
     ensures { HasLanes result (λ k. branch_cost pair k bit) }
 {
     let mut costs = [0u8; 64];
@@ -49,7 +49,7 @@ fn number_of(place: Option<bool>) -> usize
 }
 
 // The row of a pair.
-pub(crate) fn row_of(pair: Pair) -> usize
+pub(crate) fn row_of(pair: StepPlaces) -> usize
     ensures value { result ≡ number_of_pair pair }
     ensures bound { result < 9 }
 {

@@ -5,13 +5,13 @@ ghost use Rattle.std.specs.Prelude.{List, length, drop, replicate, slice_index};
 ghost use Rattle.std.specs.Int.{bit_at};
 ghost use Rattle.ht_conv.specs.Puncturing.{sent_count};
 ghost use Rattle.ht_viterbi.specs.Inputs.{IsDecoded, distance, tail};
-ghost use Rattle.ht_viterbi.specs.Trellis.{Pair, branch_cost, way, chosen, lesser, least_from, AreChoices, pairs_from};
+ghost use Rattle.ht_viterbi.specs.Trellis.{StepPlaces, branch_cost, way, chosen, lesser, least_from, AreChoices, pairs_from};
 ghost use Rattle.ht_viterbi.specs.Lanes.{HasLanes, HoldsBranches, IsClose};
 
 use crate::branches::{Branches, branches_of, row_of};
 use crate::codeword::Codeword;
 use crate::lanes::{after_one, after_zero, differences, negative, sums, taken};
-use crate::pairs::{Pair, pair_from, phase_before, places_of};
+use crate::pairs::{StepPlaces, pair_from, phase_before, places_of};
 use crate::walk::forwards;
 use ht_bits::Bits;
 use ht_conv::period;
@@ -22,10 +22,10 @@ use std::simd::prelude::*;
 // One step of the trellis. The answer has the new costs, modulo 256, and the states at which a 1 is taken.
 #[inline(always)]
 fn step(costs: u8x64, zero: u8x64, one: u8x64, free: bool) -> (u8x64, u64)
-    ensures costs { (table : ℕ → ℕ) (pair : Pair) → HasLanes costs (λ k. table k % 256)
+    ensures costs { (table : ℕ → ℕ) (pair : StepPlaces) → HasLanes costs (λ k. table k % 256)
         → HasLanes zero (λ k. branch_cost pair k false) → HasLanes one (λ k. branch_cost pair k true) → IsClose table pair
         → HasLanes result.0 (λ k. lesser free (way table pair k false) (way table pair k true) % 256) }
-    ensures choices { (table : ℕ → ℕ) (pair : Pair) → HasLanes costs (λ k. table k % 256)
+    ensures choices { (table : ℕ → ℕ) (pair : StepPlaces) → HasLanes costs (λ k. table k % 256)
         → HasLanes zero (λ k. branch_cost pair k false) → HasLanes one (λ k. branch_cost pair k true) → IsClose table pair
         → (k : ℕ) → k < 64 → (bit_at result.1 k ≡ 1) ↔ (chosen free (way table pair k false) (way table pair k true) ≡ true) }
 {
@@ -42,7 +42,7 @@ fn step(costs: u8x64, zero: u8x64, one: u8x64, free: bool) -> (u8x64, u64)
 
 // The costs of a pair's branches, from the table of all pairs.
 #[inline(always)]
-fn lanes_of(branches: &Branches, pair: Pair) -> u8x64
+fn lanes_of(branches: &Branches, pair: StepPlaces) -> u8x64
     ensures { (bit : Bool) → HoldsBranches branches.now bit → HasLanes result (λ k. branch_cost pair k bit) }
 {
     u8x64::from_array(branches[row_of(pair)])

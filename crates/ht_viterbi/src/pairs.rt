@@ -8,7 +8,7 @@ use crate::words::is_set;
 use ht_conv::Kept;
 
 /// The received places of a step's bits A and B; None where one is erased or punctured.
-pub(crate) type Pair = (Option<bool>, Option<bool>);
+pub(crate) type StepPlaces = (Option<bool>, Option<bool>);
 
 // The coded bits A and B that each state gives at an input bit of 0: bit n of the word is that of state n.
 const A_OF_ZERO: u64 = 0x6699_9966_6699_9966;
@@ -35,7 +35,7 @@ pub(crate) fn places_of(kept: Kept) -> usize
 }
 
 // The pair of a step whose places begin at `start`.
-pub(crate) fn pair_from(received: &[Option<bool>], start: usize, kept: Kept) -> Pair
+pub(crate) fn pair_from(received: &[Option<bool>], start: usize, kept: Kept) -> StepPlaces
     requires { start + kept_count kept ≤ length received.now }
     ensures { result ≡ pair_of kept received.now start }
 {
@@ -75,7 +75,7 @@ fn coded_b(state: usize, bit: bool) -> bool
 
 // What a step from a state adds to the distance.
 #[tactic(auto, unfolding(crate::specs::Trellis::branch_cost))]
-pub(crate) fn cost_of_branch(pair: Pair, state: usize, bit: bool) -> u32
+pub(crate) fn cost_of_branch(pair: StepPlaces, state: usize, bit: bool) -> u32
     requires { state < 64 }
     ensures value { result ≡ branch_cost pair state bit }
     ensures bound { result ≤ 2 }

@@ -4,10 +4,10 @@ ghost use Rattle.std.specs.Prelude.{List, [], length, drop, replicate, slice_ind
 ghost use Rattle.std.specs.Int.{bit_at};
 ghost use Rattle.ht_conv.specs.Puncturing.{sent_count};
 ghost use Rattle.ht_viterbi.specs.Inputs.{IsDecoded, distance, tail};
-ghost use Rattle.ht_viterbi.specs.Trellis.{way, chosen, lesser, least_from, first_from, AreChoices, pairs_from, moved, Pair};
+ghost use Rattle.ht_viterbi.specs.Trellis.{way, chosen, lesser, least_from, first_from, AreChoices, pairs_from, moved, StepPlaces};
 
 use crate::codeword::Codeword;
-use crate::pairs::{Pair, cost_of_branch, pair_from, places_of, state_after};
+use crate::pairs::{StepPlaces, cost_of_branch, pair_from, places_of, state_after};
 use crate::walk::forwards;
 use crate::words::with_flag;
 use ht_bits::Bits;
@@ -16,7 +16,7 @@ use ht_rate::Pattern;
 use std::alloc::{AllocError, Global};
 
 // The distance by a first bit.
-fn way_of(costs: &[u32; 64], pair: Pair, state: usize, bit: bool) -> u32
+fn way_of(costs: &[u32; 64], pair: StepPlaces, state: usize, bit: bool) -> u32
     requires state { state < 64 }
     requires bound { (k : ℕ) → slice_index costs.now k ≤ 2 ^ 30 }
     ensures value { result ≡ way (slice_index costs.now) pair state bit }
@@ -35,7 +35,7 @@ fn pick(free: bool, zero: u32, one: u32) -> (bool, u32)
 }
 
 // One step of the trellis. The answer has the states at which a 1 is taken.
-fn step(costs: &[u32; 64], pair: Pair, free: bool, into: &mut [u32; 64]) -> u64
+fn step(costs: &[u32; 64], pair: StepPlaces, free: bool, into: &mut [u32; 64]) -> u64
     requires { (k : ℕ) → slice_index costs.now k ≤ 2 ^ 30 }
     ensures costs { (k : ℕ) → k < 64
         → slice_index into.new k ≡ lesser free (way (slice_index costs.now) pair k false) (way (slice_index costs.now) pair k true) }

@@ -1,13 +1,13 @@
 use Rattle.std.proofs.Common.{◌≡◌, ◌+◌, ◌^◌, ◌-◌, ◌<◌, ◌≤◌, List, Some, None}
 use Rattle.ht_metric.specs.Jobs.{JobView}
 use Rattle.ht_window.specs.Windows.{front_hit}
-use Rattle.ht_crew.specs.Driving.{Holds, GoesOn, IsAlong, to_run, waiting}
+use Rattle.ht_crew.specs.Driving.{Holds, IsUnderWay, IsAlong, to_run, waiting}
 use Rattle.ht_crew.proofs.alone.run_all.Given as goal
 
 abbrev pub invariant-loop-running : goal.invariant-loop-running
 invariant-loop-running g l = record {
   holds : Holds l.window (g.F.Feed.shown l.feed);
-  goes_on : GoesOn l.running (g.F.Feed.shown l.feed);
+  goes_on : IsUnderWay l.running (g.F.Feed.shown l.feed);
   capacity : l.window.capacity ≡ l.fn.window.capacity;
   front : front_hit l.window.slots ≡ None;
   ran : l.ran + waiting l.window.slots ≡ (g.F.Feed.shown l.feed).count;

@@ -1,7 +1,7 @@
 use Rattle.std.proofs.Common.{◌≡◌, ◌-◌, ◌<◌, ◌≤◌, ◌^◌, List, Some}
 use Rattle.ht_metric.specs.Jobs.{JobView}
 use Rattle.ht_team.specs.Helms.{IsSameHelm}
-use Rattle.ht_crew.specs.Driving.{Holds, GoesOn, IsAlong}
+use Rattle.ht_crew.specs.Driving.{Holds, IsUnderWay, IsAlong}
 use Rattle.ht_crew.specs.Accounts.{Tallies, AreTold}
 use Rattle.ht_crew.proofs.lead.lead.Given as goal
 
@@ -10,7 +10,7 @@ invariant-loop g l = record {
   holds : Holds l.window (g.F.Feed.shown l.feed);
   tallies : Tallies l.tally l.window l.helm;
   issued : l.tally.issued ≡ (g.F.Feed.shown l.feed).count;
-  goes_on : GoesOn l.running (g.F.Feed.shown l.feed);
+  goes_on : IsUnderWay l.running (g.F.Feed.shown l.feed);
   capacity : l.window.capacity ≡ l.fn.window.capacity;
   same : IsSameHelm l.fn.helm l.helm;
   bound : (g.F.Feed.shown l.feed).count < 2 ^ 64 - 1;

@@ -1,12 +1,12 @@
 use Rattle.std.proofs.Common.{◌+◌, if◌then◌else◌}
-use Rattle.ht_crew.specs.Driving.{GoesOn}
+use Rattle.ht_crew.specs.Driving.{IsUnderWay}
 use Rattle.ht_crew.specs.Supplying.{Supplying}
 use Rattle.ht_crew.proofs.supply.supply.Given as goal
 
 abbrev pub invariant-loop-running : goal.invariant-loop-running
 invariant-loop-running g l = record {
   supplying : Supplying l.fn.window l.fn.helm (g.F.Feed.shown l.fn.feed) l.tally l.window l.helm (g.F.Feed.shown l.feed);
-  goes_on : GoesOn l.running (g.F.Feed.shown l.feed);
+  goes_on : IsUnderWay l.running (g.F.Feed.shown l.feed);
   leads : g.F.Feed.leads l.fn.feed l.feed;
 }
 

@@ -6,7 +6,7 @@ use Rattle.ht_fields.specs.Readers.{reader_in}
 use Rattle.ht_fields.proofs.Endings.{halts_ends, route_ends}
 use Rattle.ht_fields.proofs.Halting.{behind_halts, judges_checked, lacks_halts}
 use Rattle.ht_heads.specs.Heads.{head_octets}
-use Rattle.ht_files.specs.Headed.{Body, frame_due}
+use Rattle.ht_files.specs.HeadedFormats.{Body, frame_due}
 use Rattle.ht_files.specs.Frames.{Octets, Seed, framed, frames, good_octets, good_seed, is_no_seed}
 use Rattle.ht_files.proofs.HeadRoutes.{head_ends, route_head}
 use Rattle.ht_files.proofs.FrameRoutes.{frame_filled, route_seed, seed_as, seed_size, takes_frame}

@@ -9,7 +9,7 @@ use Rattle.ht_fields.proofs.Endings.{halts_ends, route_ends}
 use Rattle.ht_fields.proofs.Halting.{further_halts}
 use Rattle.ht_fields.proofs.Putting.{takes_as}
 use Rattle.ht_heads.specs.Heads.{start_octets}
-use Rattle.ht_files.specs.Headed.{Over, frame_due, magic_due}
+use Rattle.ht_files.specs.HeadedFormats.{Over, frame_due, magic_due}
 use Rattle.ht_files.specs.Points.{pointed, symbols, symbols_magic}
 use Rattle.ht_files.specs.SymbolFiles.{IsSymbolFrame, symbols_octets, symbols_file_of}
 use Rattle.ht_files.proofs.HeadRoutes.{length_start, no_frames, place_behind, place_more, route_over, route_so_far, so_far_fit, start_ends, takes_file}

@@ -5,7 +5,7 @@ use Rattle.crossbeam_deque.specs.Handles.{Pass, view as task_view, worker_deque,
 use Rattle.crossbeam_queue.specs.Passes.{view}
 use Rattle.std.specs.declared.alloc.Global.{Global}
 use Rattle.ht_team.specs.declared.hand.Hand.{Hand}
-use Rattle.ht_team.specs.Members.{IsAt, HasServed}
+use Rattle.ht_team.specs.Members.{Serves, HasServed}
 use Rattle.ht_team.proofs.Joining.{gathers-join}
 use Rattle.ht_team.proofs.Steps.{merges}
 use Rattle.ht_team.proofs.close.gather.Goals as goal
@@ -19,7 +19,7 @@ loop-member-preserved g c =
     let m = c.in-Some.member in
     let items = c.in-Some.ensures.items in
     let served = All-pop (HasServed g.W.Work.asked c.args.shared.now) c.loop-member.members.items c.pop.new.self.items (Some m) items was.served in
-    let deques = All-pop (IsAt (worker_deque c.args.owner.now)) c.loop-member.members.items c.pop.new.self.items (Some m) items was.deques in
+    let deques = All-pop (Serves (worker_deque c.args.owner.now)) c.loop-member.members.items c.pop.new.self.items (Some m) items was.deques in
     let pass = c.into_pass.ensures in
     record {
       deque = search rules;

@@ -1,7 +1,7 @@
 use Rattle.std.proofs.Common.{◌≡◌, [], length, map}
 use Rattle.crossbeam_deque.specs.Handles.{view, stealer_deque}
 use Rattle.crossbeam_queue.specs.Passes.{view as answer_view}
-use Rattle.ht_team.specs.Hands.{SameCounts}
+use Rattle.ht_counts.specs.Counts.{SameCounts}
 use Rattle.ht_team.specs.Members.{IsOnQueue}
 use Rattle.ht_team.proofs.serve.serve.Given as goal
 

@@ -1,6 +1,6 @@
 use Rattle.std.proofs.Common.{◌∙◌, ◌-◌, ◌%◌, List, true, false, ap, sym, length, arith, rules}
 use Rattle.ht_conv.specs.declared.puncture.Kept.{Kept}
-use Rattle.ht_viterbi.specs.Trellis.{Pair, pairs_from, least_from}
+use Rattle.ht_viterbi.specs.Trellis.{StepPlaces, pairs_from, least_from}
 use Rattle.ht_viterbi.proofs.Steps.{phase-step, kept-back, start-back, pair-back, pairs-none, free-back, choices-start, choices-step}
 use Rattle.ht_viterbi.proofs.Spread.{ways-close, first-grows}
 use Rattle.ht_viterbi.proofs.LaneSteps.{lanes-start, lanes-step, chosen-lanes}
@@ -17,7 +17,7 @@ loop-at-init c =
       start = c.requires.count;
       costs = lanes-start _ none;
       choices = choices-start _ _ none;
-      distance = sym (ap (λ (ps : List Pair). least_from ps 0) none);
+      distance = sym (ap (λ (ps : List StepPlaces). least_from ps 0) none);
       bound = omega arith;
     }
 
@@ -51,7 +51,7 @@ loop-at-preserved c =
     let close = ways-close pairs pair in
     let costs = lanes-step _ pairs c.step-word.result.0 _ pair cons free (c.step-word.ensures.costs (least_from pairs) pair was.costs zeros ones close) in
     let grows = first-grows pairs pair in
-    let same = ap (λ (ps : List Pair). least_from ps 0) cons in
+    let same = ap (λ (ps : List StepPlaces). least_from ps 0) cons in
     let distance = c.carried-distance.ensures _ (c.first_lane.ensures ∙ costs.lane 0 (omega arith))
     (omega (arith, grows.0, same, was.distance)) (omega (arith, grows.1, same, was.distance)) in
     record {

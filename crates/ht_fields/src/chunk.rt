@@ -1,9 +1,10 @@
-//! Octets that are put at once.
+//! Octets that are put at once, as a writer of a format gathers them.
 ghost use Rattle.std.specs.Prelude.{◌≡◌, ◌≤◌, ◌+◌, [], ◌++◌, length};
 
 use std::marker::Model;
 
-/// The most octets of a chunk. A head of a frame with its flags and triangles has up to 3,766, the samples of a symbol up to 3,648.
+/// The most octets of a chunk. The head of a frame of a capture with its flags and triangles has up to 3,766, the samples of a
+/// symbol up to 3,648.
 const ROOM: usize = 4096;
 
 /// At most 4,096 octets, one behind another.

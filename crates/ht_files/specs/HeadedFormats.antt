@@ -24,7 +24,7 @@ pub data HeadState (B : Type 0) : Type 0 where
   Over : HeadState B
 
 -- a format: its magic, what is due behind the head of a frame (by the frames that are left, rate and length), and in each state there
-pub record Headed (B I : Type 0) : Type 0 where
+pub record HeadedFormat (B I : Type 0) : Type 0 where
   pub magic : List ℕ
   pub first : ℕ → Rate → ℕ → B
   pub due : B → Due (HeadState B) I
@@ -54,10 +54,10 @@ good_bandwidth left octets = Good (Mcs left (octet_of octets)) []
 unfoldable pub good_mcs : {B I : Type 0} → ℕ → ℕ → List ℕ → Verdict (HeadState B) I
 good_mcs left bandwidth octets = Good (Length left (rate_at bandwidth (octet_of octets))) []
 
-unfoldable pub good_length : {B I : Type 0} → Headed B I → ℕ → Rate → List ℕ → Verdict (HeadState B) I
+unfoldable pub good_length : {B I : Type 0} → HeadedFormat B I → ℕ → Rate → List ℕ → Verdict (HeadState B) I
 good_length h left rate octets = Good (Body (h.first left rate (big_number 2 octets))) []
 
-abbrev pub head_due : {B I : Type 0} → Headed B I → HeadState B → Due (HeadState B) I
+abbrev pub head_due : {B I : Type 0} → HeadedFormat B I → HeadState B → Due (HeadState B) I
 head_due h (Magic x xs) = field 1 (checked BadMagic (differs x) (good_magic xs))
 head_due h Version = field 1 (checked BadVersion (differs 1) good_version)
 head_due h Count = field 2 (good_count)
@@ -68,7 +68,7 @@ head_due h (Body body) = h.due body
 head_due h Over = End
 
 -- the format as a grammar
-abbrev pub grammar_of : {B I : Type 0} → Headed B I → Grammar (HeadState B) I
+abbrev pub grammar_of : {B I : Type 0} → HeadedFormat B I → Grammar (HeadState B) I
 grammar_of h = record { start = magic_due h.magic; due = head_due h }
 
 -- why the octets in front of the frames were not read: the magic, the version, or the number of frames, which is never at fault
