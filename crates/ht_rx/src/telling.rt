@@ -19,10 +19,7 @@ use std::sync::Wait;
 use std::thread::Threads;
 
 // How the reading of a capture ended whose drive answered this.
-fn end_of(
-    desk: &Desk,
-    driven: Result<Report, DriveFault<FeedFault>>,
-) -> Result<Ended, RxFault>
+fn end_of(desk: &Desk, driven: Result<Report, DriveFault<FeedFault>>) -> Result<Ended, RxFault>
     requires stopped { OnOk driven (is_some desk.now.stop ≡ true) }
     ensures { result ≡ ended_by desk.now.stop desk.now.frames driven }
 {
