@@ -34,6 +34,8 @@ mod book_fault;
 mod desk;
 mod faults;
 mod feed;
+mod gatherer;
+mod gathering;
 mod headed;
 mod lines;
 mod list_book;
@@ -49,6 +51,7 @@ mod telling;
 #[cfg(test)]
 mod tests;
 mod text_book;
+mod whole_frame;
 mod writing;
 
 pub use account::Account;
