@@ -58,9 +58,9 @@ pub fn receive_alone<S: Source, B: Book, G: Gate>(
 /// Does as [`receive_alone`], and the jobs are run by 1 to 64 workers, of which the caller is one. The results are the
 /// same, in the same order.
 ///
-/// Frames that are whole wait, as many as there are workers, and are decoded at once, each in a thread of its own; so that
-/// many frames' labels are kept. A frame that is alone is decoded as soon as no job is due any more, the two codewords of
-/// one of two encoders in two threads. Frames too short to be worth a thread don't wait.
+/// Frames that are whole wait with their labels until there are as many as workers, and are then decoded at once, each in
+/// a thread of its own. They are decoded earlier where no job is due any more, and where a frame comes that is too short to
+/// be worth a thread. Of one that is alone the codewords of two encoders are decoded in two threads.
 pub fn receive<R: Threads + Wait + Sync, S: Source, B: Book, G: Gate + Sync>(
     rt: &R,
     alloc: Global,
