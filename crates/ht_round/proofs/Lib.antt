@@ -6,3 +6,6 @@ pub mod Small
 pub mod Frame
 pub mod Round
 pub mod Simulated
+pub mod Passed
+pub mod Drawn
+mod Worked

@@ -24,7 +24,7 @@ use Rattle.ht_round.specs.Returned.{returned_results, returned_text}
 use Rattle.ht_round.proofs.Round.{results_back, text_back}
 
 -- triangles
-length-several : {A : Type 0} (draw : ℕ → Drawn A) (n z : ℕ) → length (several draw n z).value ≡ n
+pub length-several : {A : Type 0} (draw : ℕ → Drawn A) (n z : ℕ) → length (several draw n z).value ≡ n
 length-several draw zero z = refl
 length-several draw (suc n) z = ap suc (length-several draw n (draw z).state)
 
