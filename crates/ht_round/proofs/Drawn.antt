@@ -1,5 +1,5 @@
 -- Sample frames can be written as a file, and hold octets.
-use Rattle.std.proofs.Common.{◌≡◌, ℕ, zero, suc, ◌+◌, ◌%◌, ◌<◌, ◌≤◌, ◌^◌, List, length, All, refl, ap, subst, sym, arith}
+use Rattle.std.proofs.Common.{ℕ, zero, suc, ◌<◌, ◌≤◌, ◌^◌, All, arith}
 use Rattle.std.proofs.lemmas.List.Elements.{All-cons, All-nil}
 use Rattle.std.proofs.lemmas.Nat.{mod_below}
 use Rattle.ht_rate.specs.declared.rates.Rate.{Rate}
@@ -7,7 +7,7 @@ use Rattle.ht_tx.specs.Frames.{FrameView}
 use Rattle.ht_files.specs.Files.{AreFrames, IsFrame}
 use Rattle.ht_return.specs.Returns.{AreOctets}
 use Rattle.ht_sim.specs.Draws.{Drawn, several}
-use Rattle.ht_sim.specs.Samples.{frames_drawn, octet_drawn, sample_frame_drawn, scrambler_of}
+use Rattle.ht_sim.specs.Samples.{frames_drawn, octet_drawn, sample_frame_drawn}
 use Rattle.ht_sim.specs.Words.{first, next, word}
 use Rattle.ht_round.specs.Exact.{HoldOctets}
 use Rattle.ht_round.proofs.Simulated.{length-several}

@@ -1,5 +1,5 @@
 -- What becomes of the file of the symbols that are sent of frames, passed through the simulated channel with noise 0.
-use Rattle.std.proofs.Common.{◌≡◌, inl, ℕ, suc, ◌≤◌, List, [], ◌∷◌, length, All, refl, sym, ap, ◌∙◌, arith}
+use Rattle.std.proofs.Common.{◌≡◌, inl, ℕ, List, [], ◌∷◌, All, refl, sym, ap, ◌∙◌, arith}
 use Rattle.std.proofs.lemmas.List.Elements.{All-cons, All-nil}
 use Rattle.ht_capture.specs.Files.{capture_file_of}
 use Rattle.ht_tx.specs.Frames.{FrameView}
@@ -38,11 +38,13 @@ passed_is seed frames sent output good out passes =
     (sym (symbols_same sent passes.0 (sent_frames frames sent good out) passes.1 passes.2))
 
 pub passed_results : (seed : ℕ) (frames : List FrameView) (sent : List SymbolsView) (output : List ℕ)
-    → AreFrames frames → HoldOctets frames → AreTransmitted frames sent → PassesTo seed 0 (symbols_file_of sent) output → results_of output ≡ returned_results frames
+    → AreFrames frames → HoldOctets frames → AreTransmitted frames sent → PassesTo seed 0 (symbols_file_of sent) output
+    → results_of output ≡ returned_results frames
 passed_results seed frames sent output good octets out passes =
     ap results_of (passed_is seed frames sent output good out passes) ∙ simulated_results 1 seed frames sent (inl refl) good octets out
 
 pub passed_text : (seed : ℕ) (frames : List FrameView) (sent : List SymbolsView) (output : List ℕ)
-    → AreFrames frames → HoldOctets frames → AreTransmitted frames sent → PassesTo seed 0 (symbols_file_of sent) output → rx_text output ≡ returned_text frames
+    → AreFrames frames → HoldOctets frames → AreTransmitted frames sent → PassesTo seed 0 (symbols_file_of sent) output
+    → rx_text output ≡ returned_text frames
 passed_text seed frames sent output good octets out passes =
     ap rx_text (passed_is seed frames sent output good out passes) ∙ simulated_text 1 seed frames sent (inl refl) good octets out

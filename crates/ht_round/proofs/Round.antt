@@ -18,7 +18,8 @@ use Rattle.ht_capture.specs.Contents.{AreTyped, AreWhole, IsVersion, head_of, it
 use Rattle.ht_capture.specs.Fields.{captures}
 use Rattle.ht_capture.specs.Files.{AreCaptureFrames, FitsFrame, capture_file_of}
 use Rattle.ht_capture.proofs.Filed.{file_written}
-use Rattle.ht_capture_laws.specs.Items.{FrameJobs, IsWholeFrame, carriers_in, frames_in, has_all_jobs, items_in, items_of_frame, place_in, symbol_places, symbols_in, whole_frames}
+use Rattle.ht_capture_laws.specs.Items.{FrameJobs, IsWholeFrame, carriers_in, frames_in, has_all_jobs, items_in}
+use Rattle.ht_capture_laws.specs.Items.{items_of_frame, place_in, symbol_places, symbols_in, whole_frames}
 use Rattle.ht_capture_laws.proofs.Lists.{length-flat}
 use Rattle.ht_capture_laws.proofs.More.{all_whole}
 use Rattle.ht_capture_laws.proofs.Parts.{frames_back}

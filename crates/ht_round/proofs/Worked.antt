@@ -1,5 +1,5 @@
 -- The text of two frames, and a frame of two streams that was received exactly, by computation.
-use Rattle.std.specs.Prelude.{◌≡◌, ℕ, pos, negsuc, List, [], ◌∷◌, ◌++◌, codes, length, map, replicate, refl}
+use Rattle.std.specs.Prelude.{◌≡◌, pos, negsuc, List, [], ◌∷◌, ◌++◌, codes, map, replicate, refl}
 use Rattle.std.specs.Fmt.{digits}
 use Rattle.std.specs.List.{flat_map, range_with_len}
 use Rattle.ht_rate.specs.Rates.{bandwidth_of, carriers_of, coded_bits_of, data_bits_of, data_carriers_of, encoders_of, label_bits_of, mcs_of}
