@@ -8,4 +8,5 @@ pub mod Round
 pub mod Simulated
 pub mod Passed
 pub mod Drawn
+pub mod Octets
 mod Worked

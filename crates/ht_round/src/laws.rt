@@ -5,7 +5,8 @@ ghost use Rattle.ht_rate.specs.declared.rates.Rate.{Rate};
 ghost use Rattle.ht_tx.specs.Frames.{FrameView};
 ghost use Rattle.ht_tx.specs.Symbols.{SymbolsView};
 ghost use Rattle.ht_tx.specs.Transmitted.{AreTransmitted};
-ghost use Rattle.ht_files.specs.Files.{AreFrames};
+ghost use Rattle.ht_fields.specs.Tests.{AreBytes};
+ghost use Rattle.ht_files.specs.Files.{AreFrames, frames_file_of};
 ghost use Rattle.ht_files.specs.SymbolFiles.{symbols_file_of};
 ghost use Rattle.ht_capture.specs.declared.frames.CaptureFrame.{CaptureFrame};
 ghost use Rattle.ht_capture.specs.Contents.{AreTyped, IsVersion};
@@ -35,6 +36,13 @@ pub fn exact_comes_back()
     ensures written { (version : ℕ) (frames : List FrameView) (sent : List SymbolsView) (captured : List CaptureFrame)
         → (version ≡ 1) ⊎ (version ≡ 2) → AreFrames frames → AreTransmitted frames sent → AreExact sent captured
         → AreCaptureFrames captured × AreTyped captured × IsVersion version captured }
+
+    // Read as frames and written again, as `upgrade` does, such a capture comes back too.
+    ensures rewritten { (version other into : ℕ) (frames : List FrameView) (sent : List SymbolsView) (captured others : List CaptureFrame)
+        → (version ≡ 1) ⊎ (version ≡ 2) → (into ≡ 1) ⊎ (into ≡ 2)
+        → AreFrames frames → HoldOctets frames → AreTransmitted frames sent → AreExact sent captured
+        → AreCaptureFrames others → AreTyped others → IsVersion other others → capture_file_of version captured ≡ capture_file_of other others
+        → rx_text (capture_file_of into others) ≡ returned_text frames }
 {}
 
 /// What passes the simulated channel with noise 0 is received exactly, whatever the seed, and so it comes back.
@@ -56,6 +64,11 @@ pub fn passed_comes_back()
     ensures text { (seed : ℕ) (frames : List FrameView) (sent : List SymbolsView) (output : List ℕ)
         → AreFrames frames → HoldOctets frames → AreTransmitted frames sent → PassesTo seed 0 (symbols_file_of sent) output
         → rx_text output ≡ returned_text frames }
+{}
+
+/// Frames whose file is a list of octets have octets, so the laws above speak of each file that there is.
+pub fn files_hold_octets()
+    ensures { (frames : List FrameView) → AreBytes (frames_file_of frames) → HoldOctets frames }
 {}
 
 /// Sample frames are ones of which the laws above speak, whatever the seed: a file can be written of them, and they have
