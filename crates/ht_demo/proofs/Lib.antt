@@ -1,0 +1,3 @@
+pub mod Bounded
+pub mod Drawn
+pub mod Small
