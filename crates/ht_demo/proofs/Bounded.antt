@@ -1,7 +1,7 @@
 -- The sums of a capture's frames, each and all together, fit their types.
-use Rattle.std.proofs.Common.{◌≡◌, ◌⊎◌, inl, inr, ℕ, zero, suc, ◌+◌, ◌*◌, ◌^◌, ◌<◌, ◌≤◌, List, [], ◌∷◌, ◌++◌, length, map, replicate, slice_index_or}
-use Rattle.std.proofs.Common.{Bool, true, false, not, All, IsTrue, if◌then◌else◌, refl, sym, ap, subst, ◌∙◌, arith, rules}
-use Rattle.std.specs.List.{AllByRecursion, filter, range_with_len, sum_by}
+use Rattle.std.proofs.Common.{◌≡◌, inl, ℕ, zero, suc, ◌+◌, ◌*◌, ◌^◌, ◌≤◌, List, [], ◌∷◌, ◌++◌, length, map, replicate, slice_index_or}
+use Rattle.std.proofs.Common.{Bool, true, false, not, All, if◌then◌else◌, refl, sym, ap, subst, ◌∙◌, arith, rules}
+use Rattle.std.specs.List.{AllByRecursion, filter, range_with_len}
 use Rattle.std.proofs.Math.Nat.{mul-le-mul, mul-le-mul_right, le_trans}
 use Rattle.std.proofs.lemmas.Bool.Decides.{nat_tests}
 use Rattle.std.proofs.lemmas.List.{length-map}
@@ -19,11 +19,10 @@ use Rattle.ht_rate.proofs.RateFacts.{carriers_of-range, data_carriers_of-range, 
 use Rattle.ht_pam.specs.declared.axes.Axes.{Axes}
 use Rattle.ht_pam.specs.declared.point.Point.{Point}
 use Rattle.ht_pam.specs.Grids.{AreLadders, IsGrid}
-use Rattle.ht_pam.specs.Ladders.{IsLadder, Rungs}
 use Rattle.ht_map.specs.Constellation.{axes_of, grid_of}
 use Rattle.ht_pilot.specs.Pilots.{pilot_of}
 use Rattle.ht_metric.specs.declared.sample.Sample.{Sample}
-use Rattle.ht_metric.specs.Distance.{IsInRange, distance_of}
+use Rattle.ht_metric.specs.Distance.{distance_of}
 use Rattle.ht_metric.specs.Jobs.{JobView, IsNear, near}
 use Rattle.ht_metric.specs.Rows.{Leg, Row, rows_of}
 use Rattle.ht_metric.specs.Vectors.{is_in}
@@ -171,11 +170,12 @@ unfolding items_from
 items_small frame number [] typed = tt
 items_small frame number (f ∷ frames) typed =
     let shaped = presents_shaped (carriers_of f.rate) 0 f.erased (streams_of f.rate) f.triangles (streams_of-range f.rate).1 typed.0.triangles in
-    let len = typed.0.length_is in
-    (omega (arith, len),
+    let len = typed.0.length_is in (
+      omega (arith, len),
       small_append (frame_jobs (symbols_of f.rate f.length) (head_of frame f) 0 number (presents_of f) f.samples) _
-      (frame_small (symbols_of f.rate f.length) (head_of frame f) 0 number (presents_of f) f.samples shaped typed.0.samples)
-      (items_small (frame + 1) (number + symbols_of f.rate f.length * length (presents_of f)) frames typed.1))
+          (frame_small (symbols_of f.rate f.length) (head_of frame f) 0 number (presents_of f) f.samples shaped typed.0.samples)
+          (items_small (frame + 1) (number + symbols_of f.rate f.length * length (presents_of f)) frames typed.1),
+    )
 
 -- a frame whose jobs are near
 abbrev pub IsSmallFrame : FrameJobs → Type 0

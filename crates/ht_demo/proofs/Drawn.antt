@@ -1,7 +1,6 @@
 -- Values that are drawn one after another.
 use Rattle.std.proofs.Common.{◌≡◌, ℕ, zero, suc, length, All, refl, ap}
 use Rattle.std.proofs.lemmas.List.Elements.{All-nil, All-cons}
-use Rattle.ht_tx.specs.Frames.{FrameView}
 use Rattle.ht_sim.specs.Draws.{Drawn, several}
 use Rattle.ht_sim.specs.Samples.{frames_drawn, sample_frame_drawn}
 use Rattle.ht_sim.specs.Words.{first}

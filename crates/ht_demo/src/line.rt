@@ -21,7 +21,7 @@ fn is_outcome(octets: &[u8], outcome: &Outcome) -> bool
 
 // How many frames came back as they were sent.
 fn matched(frames: &[Frame], results: &[FrameResult]) -> u16
-    requires { length frames.now ≤ 65535 }
+    requires { length results.now ≤ 65535 }
     ensures { result ≡ matched_in frames.now results.now }
 {
     let mut matched = 0;
@@ -63,6 +63,7 @@ fn code_sum(results: &[FrameResult]) -> u64
 
 // The number of symbols of all frames.
 fn symbols(plan: &Plan) -> u64
+    requires { 1 ≤ plan.now.length }
     ensures value { result ≡ all_symbols plan.now }
     ensures bound { result < 2 ^ 48 }
 {
@@ -78,20 +79,18 @@ pub(crate) fn line(
     results: &[FrameResult],
 ) -> Result<Vec<u8>, AllocError>
     requires planned { frames.now ≡ planned plan.now }
-    requires few { length frames.now ≤ 65535 }
     requires room { HaveRoom results.now }
     requires some { 1 ≤ plan.now.length }
     ensures { IfOk result (λ line. line.items ≡ line_of plan.now results.now) }
 {
     let symbols = symbols(plan);
     let jobs = symbols * u64::from(plan.rate.carriers());
-    let matched = matched(frames, results);
     demo_line(
         alloc,
         plan.frames,
         symbols,
         jobs,
-        matched,
+        matched(frames, results),
         data_sum(results),
         pilot_sum(results),
         code_sum(results),

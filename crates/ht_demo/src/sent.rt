@@ -21,7 +21,8 @@ fn passed(alloc: Global, plan: &Plan, frames: &[Frame]) -> Result<Vec<CaptureFra
     ensures typed { IfOk result (λ captured. AreTyped captured.items) }
 {
     let sent = transmit_all(alloc, frames)?;
-    pass(alloc, plan.seed, plan.noise, &sent)
+    let captured = pass(alloc, plan.seed, plan.noise, &sent)?;
+    Ok(captured)
 }
 
 // The octets of a capture. Its frames are let go once they are written.
