@@ -30,7 +30,7 @@ sent_frames frames sent good out =
     record { few = omega (arith, few, count); fit = all_symbols frames sent out }
 
 -- the file has no other symbols than these
-passed_is : (seed : ℕ) (frames : List FrameView) (sent : List SymbolsView) (output : List ℕ) → AreFrames frames → AreTransmitted frames sent
+pub passed_is : (seed : ℕ) (frames : List FrameView) (sent : List SymbolsView) (output : List ℕ) → AreFrames frames → AreTransmitted frames sent
     → PassesTo seed 0 (symbols_file_of sent) output → output ≡ capture_file_of 1 (captures_of seed 0 sent)
 passed_is seed frames sent output good out passes =
     passes.3
