@@ -6,4 +6,3 @@ pub mod Statuses
 pub mod Stopping
 pub mod Streaming
 pub mod Tasks
-pub mod Words

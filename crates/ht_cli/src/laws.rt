@@ -2,7 +2,8 @@
 //!
 //! The clauses of [`run`](crate::run) are the same for every command. Each law is a function with an empty body: its
 //! clauses follow from `Answered`, where a run goes from the source `a` to `b` and from the sink `c` to `d`.
-ghost use Rattle.std.specs.Prelude.{◌≡◌, ◌⊎◌, ℕ, List, [], Option, None, Some};
+ghost use Rattle.std.specs.Prelude.{◌≡◌, ◌⊎◌, ℕ, List, [], Option, None, Some, String};
+ghost use Rattle.std.specs.Global.{Global as GlobalValue};
 ghost use Rattle.ht_io.specs.Devices.{Device, Grows, GrowsByPart, Rose, TakesAll};
 ghost use Rattle.ht_capture.specs.declared.frames.CaptureFrame.{CaptureFrame};
 ghost use Rattle.ht_capture.specs.Captures.{capture_of};
@@ -11,13 +12,13 @@ ghost use Rattle.ht_capture.specs.Files.{AreCaptureFrames, capture_file_of};
 ghost use Rattle.ht_text.specs.Lines.{usage_text};
 ghost use Rattle.ht_results.specs.Texts.{frame_lines_of, rx_text};
 ghost use Rattle.ht_rx.specs.Texts.{detect_text, lines_of};
-ghost use Rattle.ht_cli.specs.Commands.{Answers, Makes};
+ghost use Rattle.ht_words.specs.Words.{asked};
 ghost use Rattle.ht_cli.specs.Converting.{UpgradesTo};
 ghost use Rattle.ht_cli.specs.Streaming.{IsCapture, StreamsFront, StreamsLines, StreamsPart, StreamsRefused, StreamsWhole};
 ghost use Rattle.ht_cli.specs.Tasks.{Answered};
 
 use crate::status::Status;
-use crate::words::Asked;
+use ht_words::Asked;
 
 /// What a status says of the words and of the devices, whatever the words ask for.
 pub fn clauses_of_run()
@@ -41,53 +42,81 @@ pub fn clauses_of_run()
         → (status ≡ Status.Usage) ⊎ (status ≡ Status.NoMemory) }
 {}
 
+/// What the words say of the status, for every list of words, of whatever octets each may be.
+pub fn clauses_of_words()
+    // Usage comes exactly where the words aren't accepted, but for a sink that failed and for lack of memory.
+    ensures only { (words : List (String GlobalValue)) (a b c d : Device ℕ) → Answered (asked words) a b c d Status.Usage → asked words ≡ None }
+    ensures always { (words : List (String GlobalValue)) (a b c d : Device ℕ) (status : Status) → asked words ≡ None
+        → Answered (asked words) a b c d status → (Rose c d → ⊥) → (status ≡ Status.Usage) ⊎ (status ≡ Status.NoMemory) }
+
+    // How many workers detect, and how large their window is, changes nothing of what a run says or writes.
+    ensures detects { (workers window others room : ℕ) (a b c d : Device ℕ) (status : Status)
+        → Answered (Some (Asked.Detect workers window)) a b c d status → Answered (Some (Asked.Detect others room)) a b c d status }
+    ensures receives { (workers window others room : ℕ) (a b c d : Device ℕ) (status : Status)
+        → Answered (Some (Asked.Rx workers window)) a b c d status → Answered (Some (Asked.Rx others room)) a b c d status }
+{}
+
 /// What a status says of the octets that `detect` took and of the text that it put, in the words of captures.
 pub fn clauses_of_detect()
     // Done: what was left is a capture, and its text was put.
-    ensures done { (a b c d : Device ℕ) → Answered (Some Asked.Detect) a b c d Status.Done → StreamsWhole lines_of detect_text a b c d }
+    ensures done { (workers window : ℕ) (a b c d : Device ℕ) → Answered (Some (Asked.Detect workers window)) a b c d Status.Done
+        → StreamsWhole lines_of detect_text a b c d }
 
     // Refused: what was left is no capture, and its text was put, which names its first fault.
-    ensures refused { (a b c d : Device ℕ) → Answered (Some Asked.Detect) a b c d Status.Refused → StreamsRefused lines_of detect_text a b c d }
+    ensures refused { (workers window : ℕ) (a b c d : Device ℕ) → Answered (Some (Asked.Detect workers window)) a b c d Status.Refused
+        → StreamsRefused lines_of detect_text a b c d }
 
     // ReadFault: the lines of the symbols read whole were put, all of them, so that no write failed.
-    ensures broken_off { (a b c d : Device ℕ) → Answered (Some Asked.Detect) a b c d Status.ReadFault → StreamsFront lines_of detect_text a b c d }
+    ensures broken_off { (workers window : ℕ) (a b c d : Device ℕ) → Answered (Some (Asked.Detect workers window)) a b c d Status.ReadFault
+        → StreamsFront lines_of detect_text a b c d }
 
     // WriteFault: a part of the text was put.
-    ensures part { (a b c d : Device ℕ) → Answered (Some Asked.Detect) a b c d Status.WriteFault → StreamsPart lines_of detect_text a b c d }
+    ensures part { (workers window : ℕ) (a b c d : Device ℕ) → Answered (Some (Asked.Detect workers window)) a b c d Status.WriteFault
+        → StreamsPart lines_of detect_text a b c d }
 
     // NoMemory: a part of the lines of the symbols read whole was put.
-    ensures memory { (a b c d : Device ℕ) → Answered (Some Asked.Detect) a b c d Status.NoMemory → StreamsLines lines_of detect_text a b c d }
+    ensures memory { (workers window : ℕ) (a b c d : Device ℕ) → Answered (Some (Asked.Detect workers window)) a b c d Status.NoMemory
+        → StreamsLines lines_of detect_text a b c d }
 
     // Where all octets are known that the source had left, as those of a source in memory are: Done says that they are a
     // capture and Refused that they aren't, and either puts the text of them all.
-    ensures known_done { (all : List ℕ) (a b c d : Device ℕ) → a.known ≡ Some all → Answered (Some Asked.Detect) a b c d Status.Done
+    ensures known_done { (workers window : ℕ) (all : List ℕ) (a b c d : Device ℕ) → a.known ≡ Some all
+        → Answered (Some (Asked.Detect workers window)) a b c d Status.Done
         → IsCapture all × Grows c d (detect_text all) × (b.known ≡ Some []) }
-    ensures known_refused { (all : List ℕ) (a b c d : Device ℕ) → a.known ≡ Some all → Answered (Some Asked.Detect) a b c d Status.Refused
+    ensures known_refused { (workers window : ℕ) (all : List ℕ) (a b c d : Device ℕ) → a.known ≡ Some all
+        → Answered (Some (Asked.Detect workers window)) a b c d Status.Refused
         → (IsCapture all → ⊥) × Grows c d (detect_text all) }
 {}
 
 /// What a status says of the octets that `rx` took and of the text that it put, in the words of captures.
 pub fn clauses_of_rx()
     // Done: what was left is a capture, and its text was put.
-    ensures done { (a b c d : Device ℕ) → Answered (Some Asked.Rx) a b c d Status.Done → StreamsWhole frame_lines_of rx_text a b c d }
+    ensures done { (workers window : ℕ) (a b c d : Device ℕ) → Answered (Some (Asked.Rx workers window)) a b c d Status.Done
+        → StreamsWhole frame_lines_of rx_text a b c d }
 
     // Refused: what was left is no capture, and its text was put, which names its first fault.
-    ensures refused { (a b c d : Device ℕ) → Answered (Some Asked.Rx) a b c d Status.Refused → StreamsRefused frame_lines_of rx_text a b c d }
+    ensures refused { (workers window : ℕ) (a b c d : Device ℕ) → Answered (Some (Asked.Rx workers window)) a b c d Status.Refused
+        → StreamsRefused frame_lines_of rx_text a b c d }
 
     // ReadFault: the lines of the frames read whole were put, all of them, so that no write failed.
-    ensures broken_off { (a b c d : Device ℕ) → Answered (Some Asked.Rx) a b c d Status.ReadFault → StreamsFront frame_lines_of rx_text a b c d }
+    ensures broken_off { (workers window : ℕ) (a b c d : Device ℕ) → Answered (Some (Asked.Rx workers window)) a b c d Status.ReadFault
+        → StreamsFront frame_lines_of rx_text a b c d }
 
     // WriteFault: a part of the text was put.
-    ensures part { (a b c d : Device ℕ) → Answered (Some Asked.Rx) a b c d Status.WriteFault → StreamsPart frame_lines_of rx_text a b c d }
+    ensures part { (workers window : ℕ) (a b c d : Device ℕ) → Answered (Some (Asked.Rx workers window)) a b c d Status.WriteFault
+        → StreamsPart frame_lines_of rx_text a b c d }
 
     // NoMemory: a part of the lines of the frames read whole was put.
-    ensures memory { (a b c d : Device ℕ) → Answered (Some Asked.Rx) a b c d Status.NoMemory → StreamsLines frame_lines_of rx_text a b c d }
+    ensures memory { (workers window : ℕ) (a b c d : Device ℕ) → Answered (Some (Asked.Rx workers window)) a b c d Status.NoMemory
+        → StreamsLines frame_lines_of rx_text a b c d }
 
     // Where all octets are known that the source had left, as those of a source in memory are: Done says that they are a
     // capture and Refused that they aren't, and either puts the text of them all.
-    ensures known_done { (all : List ℕ) (a b c d : Device ℕ) → a.known ≡ Some all → Answered (Some Asked.Rx) a b c d Status.Done
+    ensures known_done { (workers window : ℕ) (all : List ℕ) (a b c d : Device ℕ) → a.known ≡ Some all
+        → Answered (Some (Asked.Rx workers window)) a b c d Status.Done
         → IsCapture all × Grows c d (rx_text all) × (b.known ≡ Some []) }
-    ensures known_refused { (all : List ℕ) (a b c d : Device ℕ) → a.known ≡ Some all → Answered (Some Asked.Rx) a b c d Status.Refused
+    ensures known_refused { (workers window : ℕ) (all : List ℕ) (a b c d : Device ℕ) → a.known ≡ Some all
+        → Answered (Some (Asked.Rx workers window)) a b c d Status.Refused
         → (IsCapture all → ⊥) × Grows c d (rx_text all) }
 {}
 
@@ -113,12 +142,4 @@ pub fn upgraded()
     ensures items { (octets output : List ℕ) → UpgradesTo octets output → capture_of output ≡ capture_of octets }
     ensures detects { (octets output : List ℕ) → UpgradesTo octets output → detect_text output ≡ detect_text octets }
     ensures receives { (octets output : List ℕ) → UpgradesTo octets output → rx_text output ≡ rx_text octets }
-{}
-
-/// What a status says of a command that reads nothing.
-pub fn clauses_of_kinds()
-    // A command that reads nothing puts its text, or a part of it where the sink failed or memory ran out.
-    ensures making_done { (text : List ℕ) (a b c d : Device ℕ) → Answers (Makes text) a b c d Status.Done → Grows c d text }
-    ensures making_part { (text : List ℕ) (a b c d : Device ℕ) (status : Status) → Answers (Makes text) a b c d status
-        → (status ≡ Status.Done → ⊥) → GrowsByPart c d text × ((status ≡ Status.WriteFault) ⊎ (status ≡ Status.NoMemory)) }
 {}

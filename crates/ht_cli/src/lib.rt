@@ -1,9 +1,13 @@
 //! The commands of the program `radio`, over any source and any sink of octets.
 //!
-//! `run` is the whole program but for the world outside. It takes the words of a call, reads octets from a source, puts
-//! text into a sink and answers how the run ended. The lists of words that are accepted are the word
-//! `detect` and the word `rx`: a capture of either version is read as it comes, and for each subcarrier that is present in
-//! each OFDM symbol (IEEE Std 802.11-2012, clause 20.3.11) the first nearest vector of its grid is found. `detect` writes
+//! [`run`] is the whole program but for the world outside. It takes the words of a call, reads octets from a source, puts
+//! text into a sink and answers how the run ended. Crate `ht_words` says which lists of words are accepted, and what they
+//! ask for: a command with a value for each of its options. What the command writes is a definition over the octets that
+//! it reads, `command_of` in `specs/Tasks.antt`, in which the workers and their window don't stand: the text is the same
+//! for all of them.
+//!
+//! `detect` and `rx` read a capture of either version as it comes, and find for each subcarrier that is present in
+//! each OFDM symbol (IEEE Std 802.11-2012, clause 20.3.11) the first nearest vector of its grid. `detect` writes
 //! it with its distance, and `rx` a line for each frame, with what its labels are decoded to. So `detect` on the capture
 //! `examples/z.htcp`, whose diagonals are 10 and whose samples are 0, gives
 //!
@@ -13,12 +17,12 @@
 //!
 //! and 111 lines more, in which a pilot has its own value, and then `end 1 frames`. `rx` on it gives
 //! `frame 0 data 10400 pilot 800 code 0 seed zero` before that line. With 02 in octet 7 either refuses it, by the one
-//! line `refused BadBandwidth at 7`. What must be written for a list of octets is `detect_text` or `rx_text`, of crate
-//! `ht_rx`.
+//! line `refused BadBandwidth at 7`. What must be written for a list of octets is `detect_text` or `rx_text`, of the
+//! crates `ht_rx` and `ht_results`.
 #![tactic(auto)]
 
-ghost use Rattle.std.specs.Prelude.{◌≡◌, ◌≢◌, None};
-ghost use Rattle.ht_cli.specs.Words.{asked};
+ghost use Rattle.std.specs.Prelude.{◌≡◌, ◌≢◌, None, IfSome};
+ghost use Rattle.ht_words.specs.Words.{IsWithinRanges, asked};
 ghost use Rattle.ht_cli.specs.Tasks.{Answered, ReadsNothing};
 
 mod commands;
@@ -28,14 +32,13 @@ mod refusal;
 mod status;
 #[cfg(test)]
 mod tests;
-mod words;
 
 use ht_crew::Gate;
 use ht_io::{Sink, Source};
+pub use ht_words::Asked;
 use lines::put_usage;
 pub use status::Status;
 use std::alloc::Global;
-pub use words::Asked;
 
 /// Runs the command that the words name, and answers how it ended.
 ///
@@ -87,12 +90,33 @@ pub fn run_alone<S: Source, K: Sink, G: Gate>(
     // Where the sink failed the answer is WriteFault, whatever else failed.
     ensures writes { result ≢ Status.WriteFault → (K.shown sink.new).faults ≡ (K.shown sink.old).faults }
 {
-    match Asked::of(words) {
-        Some(Asked::Detect) => commands::detect::run(alloc, source, sink, gate),
-        Some(Asked::Rx) => commands::rx::run(alloc, source, sink, gate),
+    match Asked::of(alloc, words) {
+        Ok(asked) => obey(alloc, asked, source, sink, gate),
+        Err(_) => Status::NoMemory,
+    }
+}
+
+// Does what the words ask for, or puts the usage line where they ask for nothing.
+fn obey<S: Source, K: Sink, G: Gate>(
+    alloc: Global,
+    asked: Option<Asked>,
+    source: &mut S,
+    sink: &mut K,
+    gate: &G,
+) -> Status
+    requires ranges { IfSome asked IsWithinRanges }
+    ensures answered { Answered asked (S.shown source.old) (S.shown source.new) (K.shown sink.old) (K.shown sink.new) result }
+    ensures reads_nothing { ReadsNothing asked → source.new ≡ source.old }
+    ensures puts_nothing { asked ≡ None → result ≡ Status.NoMemory → sink.new ≡ sink.old }
+    ensures writes { result ≢ Status.WriteFault → (K.shown sink.new).faults ≡ (K.shown sink.old).faults }
+{
+    match asked {
+        Some(Asked::Detect { window, .. }) => commands::detect::run(alloc, window, source, sink, gate),
+        Some(Asked::Rx { window, .. }) => commands::rx::run(alloc, window, source, sink, gate),
         Some(Asked::Tx) => commands::tx::run(alloc, source, sink),
-        Some(Asked::Channel) => commands::channel::run(alloc, source, sink),
+        Some(Asked::Channel { seed, noise }) => commands::channel::run(alloc, seed, noise, source, sink),
         Some(Asked::Upgrade) => commands::upgrade::run(alloc, source, sink),
+        Some(Asked::Demo { .. }) => Status::NoMemory,
         None => match put_usage(alloc, sink) {
             Ok(()) => Status::Usage,
             Err(fault) => fault.into(),

@@ -1,12 +1,13 @@
 //! The command `tx`.
 ghost use Rattle.std.specs.Prelude.{◌≡◌, ◌≢◌, ◌≤◌, length, IfOk};
+ghost use Rattle.ht_files.specs.Frames.{frames};
 ghost use Rattle.ht_files.specs.SymbolFiles.{symbols_file_of};
 ghost use Rattle.ht_cli.specs.Commands.{Answers};
-ghost use Rattle.ht_cli.specs.Tasks.{command_of};
+ghost use Rattle.ht_cli.specs.Converting.{SendsTo};
+ghost use Rattle.ht_cli.specs.Filters.{whole};
 
 use crate::refusal::put_refusal;
 use crate::status::Status;
-use crate::words::Asked;
 use ht_files::{read_frames, write_symbols};
 use ht_io::{GrowSink, Sink, Source};
 use ht_tx::{Symbols, transmit_all};
@@ -26,7 +27,7 @@ fn file_of(alloc: Global, sent: &[Symbols]) -> Result<Vec<u8>, AllocError>
 
 /// Reads a file of frames to its end, and then puts the file of the symbols that are sent for them.
 pub fn run<S: Source, K: Sink>(alloc: Global, source: &mut S, sink: &mut K) -> Status
-    ensures answers { Answers (command_of Asked.Tx) (S.shown source.old) (S.shown source.new) (K.shown sink.old) (K.shown sink.new) result }
+    ensures answers { Answers (whole frames SendsTo) (S.shown source.old) (S.shown source.new) (K.shown sink.old) (K.shown sink.new) result }
     ensures writes { result ≢ Status.WriteFault → (K.shown sink.new).faults ≡ (K.shown sink.old).faults }
 {
     let frames = match read_frames(alloc, source) {
