@@ -1,4 +1,6 @@
 pub mod Converting
+pub mod Exactly
+pub mod Nothing
 pub mod Streaming
 pub mod Texts
 pub mod Spelled

@@ -1,5 +1,6 @@
 pub mod Commands
 pub mod Converting
+pub mod Exactly
 pub mod Filters
 pub mod Putting
 pub mod Statuses

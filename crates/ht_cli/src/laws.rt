@@ -2,7 +2,7 @@
 //!
 //! The clauses of [`run`](crate::run) are the same for every command. Each law is a function with an empty body: its
 //! clauses follow from `Answered`, where a run goes from the source `a` to `b` and from the sink `c` to `d`.
-ghost use Rattle.std.specs.Prelude.{◌≡◌, ◌⊎◌, ℕ, List, [], Option, None, Some, String};
+ghost use Rattle.std.specs.Prelude.{◌≡◌, ◌≢◌, ◌⊎◌, ℕ, List, [], IfSome, Option, None, Some, String};
 ghost use Rattle.std.specs.Global.{Global as GlobalValue};
 ghost use Rattle.ht_io.specs.Devices.{Device, Grows, GrowsByPart, Rose, TakesAll};
 ghost use Rattle.ht_capture.specs.declared.frames.CaptureFrame.{CaptureFrame};
@@ -15,10 +15,15 @@ ghost use Rattle.ht_rx.specs.Texts.{detect_text, lines_of};
 ghost use Rattle.ht_words.specs.Words.{asked};
 ghost use Rattle.ht_cli.specs.Converting.{UpgradesTo};
 ghost use Rattle.ht_cli.specs.Streaming.{IsCapture, StreamsFront, StreamsLines, StreamsPart, StreamsRefused, StreamsWhole};
-ghost use Rattle.ht_cli.specs.Tasks.{Answered};
+ghost use Rattle.ht_cli.specs.Exactly.{WritesExactly, sure_sink, sure_source};
+ghost use Rattle.ht_cli.specs.Tasks.{Answered, ReadsNothing, command_of};
 
+use crate::run_alone;
 use crate::status::Status;
+use ht_crew::OpenGate;
+use ht_io::{SureSink, SureSource};
 use ht_words::Asked;
+use std::alloc::Global;
 
 /// What a status says of the words and of the devices, whatever the words ask for.
 pub fn clauses_of_run()
@@ -35,9 +40,11 @@ pub fn clauses_of_run()
     ensures part_of_usage { (a b c d : Device ℕ) → Answered None a b c d Status.WriteFault → GrowsByPart c d usage_text }
     ensures memory_of_usage { (a b c d : Device ℕ) → Answered None a b c d Status.NoMemory → d ≡ c }
 
-    // What is left, where no device failed.
+    // What is left, where no device failed: of octets that are all known, exactly their text is put.
     ensures complete { (asked : Asked) (a b c d : Device ℕ) (status : Status) → Answered (Some asked) a b c d status
         → (Rose a b → ⊥) → (Rose c d → ⊥) → (status ≡ Status.Done) ⊎ (status ≡ Status.Refused) ⊎ (status ≡ Status.NoMemory) }
+    ensures exact { (asked : Asked) (all : List ℕ) (a b c d : Device ℕ) (status : Status) → a.known ≡ Some all → (Rose a b → ⊥) → (Rose c d → ⊥)
+        → Answered (Some asked) a b c d status → (status ≡ Status.NoMemory) ⊎ WritesExactly (command_of asked) all c d status }
     ensures complete_usage { (a b c d : Device ℕ) (status : Status) → Answered None a b c d status → (Rose c d → ⊥)
         → (status ≡ Status.Usage) ⊎ (status ≡ Status.NoMemory) }
 {}
@@ -143,3 +150,28 @@ pub fn upgraded()
     ensures detects { (octets output : List ℕ) → UpgradesTo octets output → detect_text output ≡ detect_text octets }
     ensures receives { (octets output : List ℕ) → UpgradesTo octets output → rx_text output ≡ rx_text octets }
 {}
+
+/// Runs as [`run_alone`] does, over devices in memory that never fail, and with a gate that does nothing.
+pub fn run_sure(
+    alloc: Global,
+    words: &[String],
+    source: &mut SureSource,
+    sink: &mut SureSink,
+) -> Status
+    // A read or a write that fails is never answered.
+    ensures reads { result ≢ Status.ReadFault }
+    ensures writes { result ≢ Status.WriteFault }
+
+    // Of words that are accepted exactly the text of all octets is put; of others the usage line, and nothing is read.
+    ensures exact { IfSome (asked words.now) (λ asked. (result ≡ Status.NoMemory)
+        ⊎ WritesExactly (command_of asked) source.old (sure_sink sink.old) (sure_sink sink.new) result) }
+    ensures usage { asked words.now ≡ None → ((result ≡ Status.NoMemory) × (sink.new ≡ sink.old))
+        ⊎ ((result ≡ Status.Usage) × Grows (sure_sink sink.old) (sure_sink sink.new) usage_text) }
+    ensures reads_nothing { ReadsNothing (asked words.now) → source.new ≡ source.old }
+
+    // Each status says what it says of any run.
+    ensures answered { Answered (asked words.now) (sure_source source.old) (sure_source source.new)
+        (sure_sink sink.old) (sure_sink sink.new) result }
+{
+    run_alone(alloc, words, source, sink, &OpenGate)
+}

@@ -28,15 +28,15 @@ ghost use Rattle.ht_cli.specs.Tasks.{Answered, ReadsNothing};
 mod commands;
 pub mod laws;
 mod lines;
-mod refusal;
 mod status;
 #[cfg(test)]
 mod tests;
 
 use ht_crew::Gate;
 use ht_io::{Sink, Source};
+use ht_rx::{list_alone, receive_text_alone};
 pub use ht_words::Asked;
-use lines::put_usage;
+use lines::{put_last, put_usage};
 pub use status::Status;
 use std::alloc::Global;
 
@@ -91,13 +91,13 @@ pub fn run_alone<S: Source, K: Sink, G: Gate>(
     ensures writes { result ≢ Status.WriteFault → (K.shown sink.new).faults ≡ (K.shown sink.old).faults }
 {
     match Asked::of(alloc, words) {
-        Ok(asked) => obey(alloc, asked, source, sink, gate),
+        Ok(asked) => carry_out(alloc, asked, source, sink, gate),
         Err(_) => Status::NoMemory,
     }
 }
 
-// Does what the words ask for, or puts the usage line where they ask for nothing.
-fn obey<S: Source, K: Sink, G: Gate>(
+// Does what was asked in this thread, or puts the usage line where nothing was.
+fn carry_out<S: Source, K: Sink, G: Gate>(
     alloc: Global,
     asked: Option<Asked>,
     source: &mut S,
@@ -111,15 +111,20 @@ fn obey<S: Source, K: Sink, G: Gate>(
     ensures writes { result ≢ Status.WriteFault → (K.shown sink.new).faults ≡ (K.shown sink.old).faults }
 {
     match asked {
-        Some(Asked::Detect { window, .. }) => commands::detect::run(alloc, window, source, sink, gate),
-        Some(Asked::Rx { window, .. }) => commands::rx::run(alloc, window, source, sink, gate),
+        Some(Asked::Detect { window, .. }) => {
+            let heard = list_alone(alloc, window, source, sink, gate);
+            put_last(alloc, heard, sink)
+        }
+        Some(Asked::Rx { window, .. }) => {
+            let heard = receive_text_alone(alloc, window, source, sink, gate);
+            put_last(alloc, heard, sink)
+        }
         Some(Asked::Tx) => commands::tx::run(alloc, source, sink),
-        Some(Asked::Channel { seed, noise }) => commands::channel::run(alloc, seed, noise, source, sink),
+        Some(Asked::Channel { seed, noise }) => {
+            commands::channel::run(alloc, seed, noise, source, sink)
+        }
         Some(Asked::Upgrade) => commands::upgrade::run(alloc, source, sink),
         Some(Asked::Demo { .. }) => Status::NoMemory,
-        None => match put_usage(alloc, sink) {
-            Ok(()) => Status::Usage,
-            Err(fault) => fault.into(),
-        },
+        None => put_usage(alloc, sink),
     }
 }

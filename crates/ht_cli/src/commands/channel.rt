@@ -5,7 +5,7 @@ ghost use Rattle.ht_sim.specs.Passing.{PassesTo};
 ghost use Rattle.ht_cli.specs.Commands.{Answers};
 ghost use Rattle.ht_cli.specs.Filters.{whole};
 
-use crate::refusal::put_refusal;
+use crate::lines::put_refusal;
 use crate::status::Status;
 use ht_io::{InFault, Sink, Source};
 use ht_sim::{SimFault, channel};

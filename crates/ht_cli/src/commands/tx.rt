@@ -6,7 +6,7 @@ ghost use Rattle.ht_cli.specs.Commands.{Answers};
 ghost use Rattle.ht_cli.specs.Converting.{SendsTo};
 ghost use Rattle.ht_cli.specs.Filters.{whole};
 
-use crate::refusal::put_refusal;
+use crate::lines::put_refusal;
 use crate::status::Status;
 use ht_files::{read_frames, write_symbols};
 use ht_io::{GrowSink, Sink, Source};

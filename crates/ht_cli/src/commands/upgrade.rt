@@ -5,7 +5,7 @@ ghost use Rattle.ht_cli.specs.Commands.{Answers};
 ghost use Rattle.ht_cli.specs.Converting.{UpgradesTo};
 ghost use Rattle.ht_cli.specs.Filters.{whole};
 
-use crate::refusal::put_refusal;
+use crate::lines::put_refusal;
 use crate::status::Status;
 use ht_capture::{read_captures, write_captures_2};
 use ht_io::{Sink, Source};
