@@ -1,7 +1,9 @@
 -- What a run comes to where no device failed.
-use Rattle.std.specs.Prelude.{◌≡◌, ◌⊎◌, ℕ, List, Option, Some, IfSome}
-use Rattle.std.proofs.Common.{refl, sym, subst, inl, inr}
+use Rattle.std.specs.Prelude.{◌≡◌, ◌⊎◌, ℕ, List, Option, None, Some, IfSome}
+use Rattle.std.proofs.Common.{refl, sym, subst, inl, inr, arith}
+use Rattle.ht_io.specs.Causes.{HasRisen}
 use Rattle.ht_io.specs.Devices.{Device, Grows, Rose}
+use Rattle.ht_io.specs.Writing.{Fitting}
 use Rattle.ht_io.specs.declared.faults.FormatFault.{FormatFault}
 use Rattle.ht_io.proofs.Calls.{takes_all-known}
 use Rattle.ht_words.specs.declared.asked.Asked.{Asked}
@@ -21,7 +23,7 @@ use Rattle.ht_cli.specs.Commands.{
   Reads,
   RefusesRun,
 }
-use Rattle.ht_cli.specs.Exactly.{WritesExactly}
+use Rattle.ht_cli.specs.Exactly.{WritesExactly, sure_sink, sure_source}
 use Rattle.ht_cli.specs.Tasks.{Answered, command_of}
 use Rattle.ht_cli.proofs.Spelled.{known_has}
 
@@ -75,6 +77,15 @@ module _ (all : List ℕ) (a b c d : Device ℕ) (is : a.known ≡ Some all) whe
     exactly (Makes IsText) WriteFault run = absurd (writes run.1)
     exactly (Makes IsText) NoMemory run = inl refl
 
-pub asked_exactly : (asked : Asked) (all : List ℕ) (a b c d : Device ℕ) (status : Status) → a.known ≡ Some all → (Rose a b → ⊥) → (Rose c d → ⊥)
-    → Answered (Some asked) a b c d status → (status ≡ NoMemory) ⊎ WritesExactly (command_of asked) all c d status
-asked_exactly asked all a b c d status is reads writes run = exactly all a b c d is reads writes (command_of asked) status run
+-- a device that never fails has not failed
+unfailed : (count : ℕ) → count ≡ 0 → HasRisen 0 count → ⊥
+unfailed count is rose = omega (arith, is, rose)
+
+-- a run over devices that never fail
+pub sure_exactly : (asked : Option Asked) (octets left : List ℕ) (held after : Fitting) (status : Status)
+    → Answered asked (sure_source octets) (sure_source left) (sure_sink held) (sure_sink after) status
+    → IfSome asked (λ asked. (status ≡ NoMemory) ⊎ WritesExactly (command_of asked) octets (sure_sink held) (sure_sink after) status)
+sure_exactly None octets left held after status run = tt
+sure_exactly (Some asked) octets left held after status run =
+    exactly octets (sure_source octets) (sure_source left) (sure_sink held) (sure_sink after) refl (unfailed 0 refl) (unfailed 0 refl)
+    (command_of asked) status run

@@ -1,0 +1,18 @@
+use Rattle.std.proofs.Common.{rules}
+use Rattle.ht_rx.specs.Texts.{detect_text, lines_of}
+use Rattle.ht_results.specs.Texts.{frame_lines_of, rx_text}
+use Rattle.ht_cli.proofs.Texts.{detects, receives}
+use Rattle.ht_cli.proofs.Streaming.{ends}
+use Rattle.ht_cli.proofs.carry_out.Goals as goal
+
+pub returns-in-Some-Detect-clause-answered : goal.returns-in-Some-Detect-clause-answered
+returns-in-Some-Detect-clause-answered g c =
+    let asked = c.in-Some-Detect.field-0-is in
+    let run = (ends lines_of detect_text detects _ _ _ _ _ c.list_alone-heard.result c.put_last.result c.list_alone-heard.ensures.lists
+    c.list_alone-heard.ensures.puts_later c.put_last.ensures.puts) in search rules
+
+pub returns-in-Some-Rx-clause-answered : goal.returns-in-Some-Rx-clause-answered
+returns-in-Some-Rx-clause-answered g c =
+    let asked = c.in-Some-Rx.field-0-is in
+    let run = (ends frame_lines_of rx_text receives _ _ _ _ _ c.receive_text_alone-heard.result c.put_last-in-Some-Rx.result
+    c.receive_text_alone-heard.ensures.receives c.receive_text_alone-heard.ensures.puts_later c.put_last-in-Some-Rx.ensures.puts) in search rules
