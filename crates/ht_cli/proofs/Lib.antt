@@ -1,6 +1,7 @@
 pub mod Converting
 pub mod Exactly
 pub mod Nothing
+pub mod Returning
 pub mod Streaming
 pub mod Texts
 pub mod Spelled

@@ -9,11 +9,18 @@ ghost use Rattle.ht_capture.specs.declared.frames.CaptureFrame.{CaptureFrame};
 ghost use Rattle.ht_capture.specs.Captures.{capture_of};
 ghost use Rattle.ht_capture.specs.Contents.{AreTyped};
 ghost use Rattle.ht_capture.specs.Files.{AreCaptureFrames, capture_file_of};
+ghost use Rattle.ht_tx.specs.Frames.{FrameView};
+ghost use Rattle.ht_tx.specs.Symbols.{SymbolsView};
+ghost use Rattle.ht_files.specs.Files.{AreFrames, frames_file_of};
+ghost use Rattle.ht_files.specs.SymbolFiles.{AreSymbolFrames, symbols_file_of};
+ghost use Rattle.ht_sim.specs.Passing.{PassesTo};
+ghost use Rattle.ht_round.specs.Exact.{AreExact, HoldOctets};
+ghost use Rattle.ht_round.specs.Returned.{returned_text};
 ghost use Rattle.ht_text.specs.Lines.{usage_text};
 ghost use Rattle.ht_results.specs.Texts.{frame_lines_of, rx_text};
 ghost use Rattle.ht_rx.specs.Texts.{detect_text, lines_of};
 ghost use Rattle.ht_words.specs.Words.{asked};
-ghost use Rattle.ht_cli.specs.Converting.{UpgradesTo};
+ghost use Rattle.ht_cli.specs.Converting.{SendsTo, UpgradesTo};
 ghost use Rattle.ht_cli.specs.Streaming.{IsCapture, StreamsFront, StreamsLines, StreamsPart, StreamsRefused, StreamsWhole};
 ghost use Rattle.ht_cli.specs.Exactly.{WritesExactly, sure_sink, sure_source};
 ghost use Rattle.ht_cli.specs.Tasks.{Answered, ReadsNothing, command_of};
@@ -149,6 +156,26 @@ pub fn upgraded()
     ensures items { (octets output : List ℕ) → UpgradesTo octets output → capture_of output ≡ capture_of octets }
     ensures detects { (octets output : List ℕ) → UpgradesTo octets output → detect_text output ≡ detect_text octets }
     ensures receives { (octets output : List ℕ) → UpgradesTo octets output → rx_text output ≡ rx_text octets }
+{}
+
+/// The way of frames through the commands: sent, passed through the channel without noise, and received, they come back.
+///
+/// Of each frame there is one line with its own octets and sums of 0, and then the end line, whatever the channel's seed.
+pub fn returned()
+    ensures passed { (frames : List FrameView) (seed : ℕ) (symbols capture : List ℕ) → AreFrames frames → HoldOctets frames
+        → SendsTo (frames_file_of frames) symbols → PassesTo seed 0 symbols capture → rx_text capture ≡ returned_text frames }
+
+    // So they do where the capture is upgraded before.
+    ensures upgraded { (frames : List FrameView) (seed : ℕ) (symbols capture output : List ℕ) → AreFrames frames → HoldOctets frames
+        → SendsTo (frames_file_of frames) symbols → PassesTo seed 0 symbols capture → UpgradesTo capture output
+        → rx_text output ≡ returned_text frames }
+
+    // And so they do through any channel without a 0 on its diagonal, where what is received is exactly what it makes of
+    // the symbols.
+    ensures exact { (version : ℕ) (frames : List FrameView) (sent : List SymbolsView) (captured : List CaptureFrame)
+        → (version ≡ 1) ⊎ (version ≡ 2) → AreFrames frames → HoldOctets frames → AreSymbolFrames sent
+        → SendsTo (frames_file_of frames) (symbols_file_of sent) → AreExact sent captured
+        → rx_text (capture_file_of version captured) ≡ returned_text frames }
 {}
 
 /// Runs as [`run_alone`] does, over devices in memory that never fail, and with a gate that does nothing.

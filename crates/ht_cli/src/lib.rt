@@ -34,11 +34,13 @@ mod tests;
 
 use ht_crew::Gate;
 use ht_io::{Sink, Source};
-use ht_rx::{list_alone, receive_text_alone};
+use ht_rx::{list, list_alone, receive_text, receive_text_alone};
 pub use ht_words::Asked;
 use lines::{put_last, put_usage};
 pub use status::Status;
 use std::alloc::Global;
+use std::sync::Wait;
+use std::thread::Threads;
 
 /// Runs the command that the words name, and answers how it ended.
 ///
@@ -47,8 +49,13 @@ use std::alloc::Global;
 /// octets speak of some octets that the call took: of those that the source had left, where they are known, as those in
 /// memory are; those of standard input and output aren't. The gate is called before and after each job.
 ///
+/// Where the words ask for two workers or more, the jobs are run in as many threads, of which the caller's is one, and
+/// the call waits for them; else it does as [`run_alone`]. Where memory runs out before it is known what the words ask
+/// for, nothing is read and nothing put.
+///
 /// `Answered` says what each status means, for each command; [`laws`] spells it out for `detect` and `rx`.
-pub fn run<S: Source, K: Sink, G: Gate>(
+pub fn run<R: Threads + Wait + Sync, S: Source, K: Sink, G: Gate + Sync>(
+    rt: &R,
     alloc: Global,
     words: &[String],
     source: &mut S,
@@ -67,10 +74,24 @@ pub fn run<S: Source, K: Sink, G: Gate>(
     // Where the sink failed the answer is WriteFault, whatever else failed.
     ensures writes { result ≢ Status.WriteFault → (K.shown sink.new).faults ≡ (K.shown sink.old).faults }
 {
-    run_alone(alloc, words, source, sink, gate)
+    let asked = match Asked::of(alloc, words) {
+        Ok(asked) => asked,
+        Err(_) => return Status::NoMemory,
+    };
+    match asked {
+        Some(Asked::Detect { workers, window }) if workers > 1 => {
+            let heard = list(rt, alloc, workers, window, source, sink, gate);
+            put_last(alloc, heard, sink)
+        }
+        Some(Asked::Rx { workers, window }) if workers > 1 => {
+            let heard = receive_text(rt, alloc, workers, window, source, sink, gate);
+            put_last(alloc, heard, sink)
+        }
+        _ => carry_out(alloc, asked, source, sink, gate),
+    }
 }
 
-/// Does as `run`, and runs every job in this thread.
+/// Does as [`run`], and runs every job in this thread, however many workers the words ask for.
 pub fn run_alone<S: Source, K: Sink, G: Gate>(
     alloc: Global,
     words: &[String],
