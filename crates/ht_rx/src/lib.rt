@@ -7,8 +7,9 @@
 //! the jobs that come, so that one set of lemmas says for every account what a whole capture, a fault, a source that
 //! fails and a full memory come to (`specs/Telling.antt`, `specs/Outcomes.antt`).
 //!
-//! [`list_alone`] and [`receive_alone`] read a capture from any source and run every job in the calling thread.
-//! [`receive_text_alone`] puts the line of each frame into a sink. For each present subcarrier of each symbol (IEEE Std
+//! [`list`] and [`receive`] read a capture from any source, and a crew of workers runs its jobs; [`list_alone`] and
+//! [`receive_alone`] promise the same, and run every job in the calling thread. [`receive_text`] and
+//! [`receive_text_alone`] put the line of each frame into a sink. For each present subcarrier of each symbol (IEEE Std
 //! 802.11-2012, clause 20.3.11, for symbols and subcarriers) the first nearest vector is found; the labels of a frame's
 //! data subcarriers are decoded by crate `ht_inverse`.
 //!
@@ -45,6 +46,8 @@ mod receiving;
 mod receiving_text;
 mod stop;
 mod telling;
+#[cfg(test)]
+mod tests;
 mod text_book;
 mod writing;
 
