@@ -1,5 +1,6 @@
 pub mod Converting
 pub mod Exactly
+pub mod Making
 pub mod Nothing
 pub mod Returning
 pub mod Streaming

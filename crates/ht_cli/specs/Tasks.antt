@@ -14,6 +14,13 @@ use Rattle.ht_cli.specs.Converting.{SendsTo, UpgradesTo}
 use Rattle.ht_files.specs.Frames.{frames}
 use Rattle.ht_files.specs.Points.{symbols}
 use Rattle.ht_sim.specs.Passing.{PassesTo}
+use Rattle.ht_rate.specs.declared.rates.Rate.{Rate}
+use Rattle.ht_demo.specs.declared.plan.Plan.{Plan}
+use Rattle.ht_demo.specs.Demos.{IsDemoLine}
+
+-- what a demonstration is to do
+abbrev pub plan_of : ℕ → ℕ → ℕ → Rate → ℕ → Plan
+plan_of seed noise count rate length = record { seed = seed; noise = noise; frames = count; rate = rate; length = length }
 
 -- What each command reads and writes. How many workers there are, and how large their window is, changes nothing of it.
 abbrev pub command_of : Asked → Command
@@ -22,7 +29,7 @@ command_of (Rx workers window) = streaming captures rx_text frame_lines_of
 command_of Tx = whole frames SendsTo
 command_of (Channel seed noise) = whole symbols (PassesTo seed noise)
 command_of Upgrade = whole captures UpgradesTo
-command_of (Demo seed noise count rate length workers window) = Makes (λ text. ⊥)
+command_of (Demo seed noise count rate length workers window) = Makes (IsDemoLine (plan_of seed noise count rate length))
 
 -- what each status says of a run: first the source before and after it, then the sink
 abbrev pub Answered : Option Asked → Device ℕ → Device ℕ → Device ℕ → Device ℕ → Status → Type 0

@@ -19,11 +19,14 @@ ghost use Rattle.ht_round.specs.Returned.{returned_text};
 ghost use Rattle.ht_text.specs.Lines.{usage_text};
 ghost use Rattle.ht_results.specs.Texts.{frame_lines_of, rx_text};
 ghost use Rattle.ht_rx.specs.Texts.{detect_text, lines_of};
+ghost use Rattle.ht_rate.specs.declared.rates.Rate.{Rate as RateValue};
+ghost use Rattle.ht_demo.specs.Demos.{IsDemoLine};
 ghost use Rattle.ht_words.specs.Words.{asked};
+ghost use Rattle.ht_cli.specs.Commands.{MakesPart, MakesText};
 ghost use Rattle.ht_cli.specs.Converting.{SendsTo, UpgradesTo};
 ghost use Rattle.ht_cli.specs.Streaming.{IsCapture, StreamsFront, StreamsLines, StreamsPart, StreamsRefused, StreamsWhole};
 ghost use Rattle.ht_cli.specs.Exactly.{WritesExactly, sure_sink, sure_source};
-ghost use Rattle.ht_cli.specs.Tasks.{Answered, ReadsNothing, command_of};
+ghost use Rattle.ht_cli.specs.Tasks.{Answered, ReadsNothing, command_of, plan_of};
 
 use crate::run_alone;
 use crate::status::Status;
@@ -68,6 +71,9 @@ pub fn clauses_of_words()
         → Answered (Some (Asked.Detect workers window)) a b c d status → Answered (Some (Asked.Detect others room)) a b c d status }
     ensures receives { (workers window others room : ℕ) (a b c d : Device ℕ) (status : Status)
         → Answered (Some (Asked.Rx workers window)) a b c d status → Answered (Some (Asked.Rx others room)) a b c d status }
+    ensures demonstrates { (seed noise count length workers window others room : ℕ) (rate : RateValue) (a b c d : Device ℕ) (status : Status)
+        → Answered (Some (Asked.Demo seed noise count rate length workers window)) a b c d status
+        → Answered (Some (Asked.Demo seed noise count rate length others room)) a b c d status }
 {}
 
 /// What a status says of the octets that `detect` took and of the text that it put, in the words of captures.
@@ -156,6 +162,24 @@ pub fn upgraded()
     ensures items { (octets output : List ℕ) → UpgradesTo octets output → capture_of output ≡ capture_of octets }
     ensures detects { (octets output : List ℕ) → UpgradesTo octets output → detect_text output ≡ detect_text octets }
     ensures receives { (octets output : List ℕ) → UpgradesTo octets output → rx_text output ≡ rx_text octets }
+{}
+
+/// What a status says of `demo`, which reads nothing.
+pub fn clauses_of_demo()
+    // Done: the line of the plan was put. WriteFault: a part of such a line. NoMemory: nothing.
+    ensures done { (seed noise count length workers window : ℕ) (rate : RateValue) (a b c d : Device ℕ)
+        → Answered (Some (Asked.Demo seed noise count rate length workers window)) a b c d Status.Done
+        → MakesText (IsDemoLine (plan_of seed noise count rate length)) c d }
+    ensures part { (seed noise count length workers window : ℕ) (rate : RateValue) (a b c d : Device ℕ)
+        → Answered (Some (Asked.Demo seed noise count rate length workers window)) a b c d Status.WriteFault
+        → MakesPart (IsDemoLine (plan_of seed noise count rate length)) c d }
+    ensures memory { (seed noise count length workers window : ℕ) (rate : RateValue) (a b c d : Device ℕ)
+        → Answered (Some (Asked.Demo seed noise count rate length workers window)) a b c d Status.NoMemory → d ≡ c }
+
+    // No other status comes.
+    ensures no_other { (seed noise count length workers window : ℕ) (rate : RateValue) (a b c d : Device ℕ) (status : Status)
+        → Answered (Some (Asked.Demo seed noise count rate length workers window)) a b c d status
+        → (status ≡ Status.Done) ⊎ (status ≡ Status.WriteFault) ⊎ (status ≡ Status.NoMemory) }
 {}
 
 /// The way of frames through the commands: sent, passed through the channel without noise, and received, they come back.

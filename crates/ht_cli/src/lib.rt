@@ -33,10 +33,11 @@ mod status;
 mod tests;
 
 use ht_crew::Gate;
+use ht_demo::{Plan, demo_alone};
 use ht_io::{Sink, Source};
 use ht_rx::{list, list_alone, receive_text, receive_text_alone};
 pub use ht_words::Asked;
-use lines::{put_last, put_usage};
+use lines::{put_last, put_line, put_usage};
 pub use status::Status;
 use std::alloc::Global;
 use std::sync::Wait;
@@ -145,7 +146,26 @@ fn carry_out<S: Source, K: Sink, G: Gate>(
             commands::channel::run(alloc, seed, noise, source, sink)
         }
         Some(Asked::Upgrade) => commands::upgrade::run(alloc, source, sink),
-        Some(Asked::Demo { .. }) => Status::NoMemory,
+        Some(
+            Asked::Demo {
+                seed,
+                noise,
+                frames,
+                rate,
+                length,
+                window,
+                ..
+            },
+        ) => {
+            let plan = Plan {
+                seed,
+                noise,
+                frames,
+                rate,
+                length,
+            };
+            put_line(demo_alone(alloc, window, &plan, gate), Status::Done, sink)
+        }
         None => put_usage(alloc, sink),
     }
 }

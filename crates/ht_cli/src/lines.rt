@@ -1,5 +1,5 @@
 //! The lines that a run puts itself: the last one, or how the program is called.
-ghost use Rattle.std.specs.Prelude.{◌≡◌, ◌≢◌, ℕ, List, IfOk};
+ghost use Rattle.std.specs.Prelude.{◌≡◌, ◌≢◌, ℕ, List, IfOk, OnErr};
 ghost use Rattle.ht_io.specs.Kinds.{name_of};
 ghost use Rattle.ht_text.specs.Lines.{end_text, refused_text, usage_text};
 ghost use Rattle.ht_cli.specs.Putting.{PutsLine};
@@ -14,6 +14,7 @@ use std::alloc::{AllocError, Global};
 /// Puts a line, after which the run ends with the status given. Without memory for it the sink is as before.
 pub fn put_line<K: Sink>(line: Result<Vec<u8>, AllocError>, then: Status, sink: &mut K) -> Status
     ensures puts { (text : List ℕ) → IfOk line (λ octets. octets.items ≡ text) → PutsLine text then (K.shown sink.old) (K.shown sink.new) result }
+    ensures lacks { OnErr line (result ≡ Status.NoMemory) }
     ensures nothing { then ≢ Status.NoMemory → result ≡ Status.NoMemory → sink.new ≡ sink.old }
     ensures writes { result ≢ Status.WriteFault → (K.shown sink.new).faults ≡ (K.shown sink.old).faults }
 {
