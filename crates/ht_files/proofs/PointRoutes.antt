@@ -1,10 +1,10 @@
 -- How the octets of points lead through the fields of a file.
 use Rattle.std.proofs.Common.{◌≡◌, inl, inr, ℕ, zero, suc, ◌+◌, ◌-◌, ◌*◌, ◌/◌, ◌%◌, ◌^◌}
-use Rattle.std.proofs.Common.{◌<◌, ◌≤◌, ℤ, List, [], ◌∷◌, ◌++◌, length, take, flat_map, get_or, Option}
-use Rattle.std.proofs.Common.{nat_eq, Bool, true, false, ◌&&◌, if◌then◌else◌, refl, sym, ap, subst, ◌∙◌, append_assoc, length-append, arith}
+use Rattle.std.proofs.Common.{◌<◌, ◌≤◌, ℤ, List, [], ◌∷◌, ◌++◌, length, flat_map, get_or}
+use Rattle.std.proofs.Common.{nat_eq, Bool, true, false, ◌&&◌, refl, sym, ap, subst, ◌∙◌, append_assoc, length-append, arith}
 use Rattle.std.specs.Ordering.{int_eq}
 use Rattle.std.proofs.lemmas.Bool.Decides.{Decides-int_eq, nat_tests}
-use Rattle.std.proofs.lemmas.List.{append-nil, get_or_default}
+use Rattle.std.proofs.lemmas.List.{append-nil}
 use Rattle.std.proofs.lemmas.Nat.{div-add-mod'}
 use Rattle.std.proofs.lemmas.Bool.{cases_lt}
 use Rattle.std.proofs.Math.Nat.{mul-le-mul, mul_assoc}
@@ -20,9 +20,8 @@ use Rattle.ht_fields.proofs.Answered.{file_items}
 use Rattle.ht_fields.proofs.Choices.{when_true, when_false, checked_good}
 use Rattle.ht_fields.proofs.Endings.{halts_ends}
 use Rattle.ht_fields.proofs.Halting.{behind_halts, gives_halts, judges_checked}
-use Rattle.ht_fields.proofs.Putting.{part_at, takes_as}
+use Rattle.ht_fields.proofs.Putting.{takes_as}
 use Rattle.ht_fields.proofs.Readers.{IsNamed}
-use Rattle.ht_io.specs.Pieces.{KnownGrown, KnownGrownByPart}
 use Rattle.ht_fields.proofs.Routes.{Route, route_as, route_field, route_gives, route_none, route_then}
 use Rattle.ht_rate.specs.declared.kinds.Carrier.{Carrier}
 use Rattle.ht_rate.specs.declared.kinds.Carrier.TheVariants.{Data, Pilot}
@@ -271,14 +270,6 @@ points_end left rate len at source mid after fault left_some some small taken la
     (route_points points left rate len [] points refl fitting few)
     (judges_checked symbols (Body due) 2 (kind_on (carrier_at_place rate place)) (misfits_place rate place) (good_point due) refl (omega arith)
     (kind_named (carrier_at_place rate place))) fails))
-
--- a part of the octets of a point, behind the points before it
-pub part_point : (points : List Point) (k : ℕ) (d : Point) (octets : List ℕ) (held mid new : Option (List ℕ)) → k < length points
-    → octets ≡ point_octets (get_or points k d)
-    → KnownGrown held mid (flat_map point_octets (take k points)) → KnownGrownByPart mid new octets → KnownGrownByPart held new (flat_map point_octets points)
-part_point points k d octets held mid new few is a b =
-    part_at point_octets points k (get_or points k d) [] held mid new few (get_or_default points k d (get_or points k d) few) a
-    (subst (λ (z : List ℕ). KnownGrownByPart mid new z) is b)
 
 pub length_symbols : (f : SymbolsView) (points : List Point) → points ≡ f.points → 4 + 2 * length points ≡ length (symbols_octets f)
 unfolding symbols_octets

@@ -1,5 +1,4 @@
-use Rattle.std.proofs.Common.{ℕ}
-use Rattle.ht_files.specs.Points.{pointed, symbols}
+use Rattle.ht_files.specs.Points.{pointed}
 use Rattle.ht_files.proofs.HeadRoutes.{head_ends}
 use Rattle.ht_files.proofs.PointRoutes.{points_end, takes_symbols}
 use Rattle.ht_files.proofs.symbols.frame.Goals as goal

@@ -1,7 +1,7 @@
 use Rattle.std.proofs.Common.{rules}
 use Rattle.ht_io.proofs.Calls.{later-later}
 use Rattle.ht_fields.proofs.Pieces.{takes-more}
-use Rattle.ht_fields.proofs.read.read_field.Goals as goal
+use Rattle.ht_fields.proofs.read.read_front.Goals as goal
 
 pub loop-count-preserved : goal.loop-count-preserved
 loop-count-preserved g c =

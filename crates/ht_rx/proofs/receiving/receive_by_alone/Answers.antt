@@ -1,6 +1,6 @@
 use Rattle.std.proofs.Common.{◌≤◌, arith}
 use Rattle.ht_rx.proofs.Booking.{frames_told}
-use Rattle.ht_rx.proofs.receive.receive_by.Goals as goal
+use Rattle.ht_rx.proofs.receiving.receive_by_alone.Goals as goal
 
 pub returns-clause-receives : goal.returns-clause-receives
 returns-clause-receives g c =

@@ -1,5 +1,5 @@
 use Rattle.ht_rx.proofs.Booking.{lines_told, same_first}
-use Rattle.ht_rx.proofs.receive_text.receive_into.Goals as goal
+use Rattle.ht_rx.proofs.receiving_text.receive_into_alone.Goals as goal
 
 pub returns-clause-receives : goal.returns-clause-receives
 returns-clause-receives g c =

@@ -1,6 +1,6 @@
 use Rattle.std.proofs.Common.{◌≤◌, ◌-◌, length, take}
 use Rattle.ht_io.specs.Devices.{Takes, IsLater}
-use Rattle.ht_fields.proofs.read.read_field.Given as goal
+use Rattle.ht_fields.proofs.read.read_front.Given as goal
 
 -- the front of the field was taken
 abbrev pub invariant-loop-count : goal.invariant-loop-count
