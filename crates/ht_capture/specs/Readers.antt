@@ -1,5 +1,5 @@
 -- What a reader of captures still gives.
-use Rattle.std.specs.Prelude.{◌≡◌, ℕ, ◌+◌, ◌-◌, ◌*◌, ◌<◌, ◌≤◌, List, [], ◌∷◌, length, take, drop, nat_lt, if◌then◌else◌, Option, Some, None, Result, Ok, Err}
+use Rattle.std.specs.Prelude.{◌≡◌, ℕ, ◌+◌, ◌-◌, ◌*◌, ◌<◌, ◌≤◌, List, [], ◌∷◌, length, take, drop, nat_lt, if◌then◌else◌, Bool, true, false, Option, Some, None, Result, Ok, Err}
 use Rattle.ht_io.specs.declared.faults.InFault.{InFault}
 use Rattle.ht_io.specs.declared.faults.InFault.TheVariants.{Format, Read, NoMemory}
 use Rattle.ht_fields.specs.Meanings.{Meaning, before, ended, refused, meaning}
@@ -120,6 +120,15 @@ IsReady (NextSymbol due) = ⊥
 IsReady (Giving due k) = Unit {0}
 IsReady Ended = Unit {0}
 IsReady (Stopped fault) = Unit {0}
+
+-- a symbol was read, and jobs of it are due
+abbrev pub has_job : Stage → Bool
+has_job Begin = false
+has_job (NextFrame turn) = false
+has_job (NextSymbol due) = false
+has_job (Giving due k) = true
+has_job Ended = false
+has_job (Stopped fault) = false
 
 -- the most heads and jobs of this number of frames: each has a head and at most 1,129,296 jobs
 abbrev pub most_of : ℕ → ℕ

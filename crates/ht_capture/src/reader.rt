@@ -1,5 +1,5 @@
 //! The reader of captures.
-ghost use Rattle.std.specs.Prelude.{◌≡◌, ◌<◌, ◌≤◌, ◌+◌, ◌-◌, ◌*◌, ℕ, [], ◌∷◌, None, Some, Ok, Err, Result, length, take, MatchResult, IfOk, IfErr};
+ghost use Rattle.std.specs.Prelude.{◌≡◌, ◌<◌, ◌≤◌, ◌+◌, ◌-◌, ◌*◌, ℕ, [], ◌∷◌, None, Some, Ok, Err, Result, length, take, is_some, MatchResult, IfOk, IfErr, IfSome, IfNone};
 ghost use Rattle.ht_io.specs.Devices.{Device, IsLater};
 ghost use Rattle.ht_io.specs.declared.faults.InFault.{InFault as InFaultValue};
 ghost use Rattle.ht_io.specs.declared.faults.InFault.TheVariants.{NoMemory};
@@ -9,7 +9,7 @@ ghost use Rattle.ht_capture.specs.declared.items.Item.TheVariants.{Job as JobIte
 ghost use Rattle.ht_capture.specs.Fields.{Symbol, captures, turn_due, capture_magic, capture_magic_due};
 ghost use Rattle.ht_capture.specs.Reading.{here};
 ghost use Rattle.ht_capture.specs.Readers.{Counted, Falls, StaysInFrame, GivesItem, GoesOn, IsOfSymbol, IsPlaced, IsReady, StageFits, SymbolFits, TurnFits};
-ghost use Rattle.ht_capture.specs.Readers.{counted, counts, counts_at, finished, finished_stage, more, more_at, most_of};
+ghost use Rattle.ht_capture.specs.Readers.{counted, counts, counts_at, finished, finished_stage, has_job, more, more_at, most_of};
 ghost use Rattle.ht_capture.specs.Readers.{shown_at, shown_by, stage_after, symbol_at, symbol_under_way};
 ghost use Rattle.ht_fields.specs.WholeFiles.{Halts};
 
@@ -81,7 +81,8 @@ fn after(due: &SymbolTurn, at: u64, present: &[Present]) -> Stage
     }
 }
 
-// The job of a present subcarrier of a symbol that was read.
+// The job of a present subcarrier of a symbol that was read. It is kept out of line, so that it is made in one place.
+#[inline(never)]
 fn job_of(due: &SymbolTurn, k: usize, at: u64, present: &[Present], samples: &[u8]) -> Job
     requires fits { SymbolFits due.now 1 at present.now }
     requires inside { k < due.now.count }
@@ -169,6 +170,40 @@ impl Reader {
         self.answer(source)
     }
 
+    /// The next job of the symbol that was read last, or none where all of its jobs were given: then
+    /// [`next`](Reader::next) reads on. It asks no source, so nothing can fail.
+    pub fn ready_job(&mut self) -> Option<Job>
+        ensures due { is_some result ≡ has_job self.old.stage }
+
+        // The job is the next item.
+        ensures told { IfSome result (λ job. (source : Device ℕ) → Gives (shown_by self.old source) (shown_by self.new source) (JobItem job ∷ [])) }
+        ensures counted { IfSome result (λ job. Counted (counts self.old) (counts self.new) (JobItem job)) }
+        ensures placed { IfSome result (λ job. IsPlaced (symbol_under_way self.old) (symbol_under_way self.new) (JobItem job)) }
+        ensures going { IfSome result (λ _. finished self.new ≡ None) }
+        ensures fewer { IfSome result (λ _. more self.new < more self.old) }
+
+        ensures none { IfNone result (self.new ≡ self.old) }
+    {
+        match self.stage {
+            Stage::Giving(due, k) => Some(self.give(&due, k)),
+            _ => None,
+        }
+    }
+
+    // Gives the next job of the symbol that was read.
+    fn give(&mut self, due: &SymbolTurn, k: usize) -> Job
+        requires stage { self.old.stage ≡ Stage.Giving due.now k }
+        ensures told { (source : Device ℕ) → Gives (shown_by self.old source) (shown_by self.new source) (JobItem result ∷ []) }
+        ensures counted { Counted (counts self.old) (counts self.new) (JobItem result) }
+        ensures placed { IsPlaced (symbol_under_way self.old) (symbol_under_way self.new) (JobItem result) }
+        ensures going { finished self.new ≡ None }
+        ensures fewer { more self.new < more self.old }
+    {
+        let job = job_of(due, k, self.at, &self.present, &self.samples);
+        self.pass(due, k);
+        job
+    }
+
     // Reads the symbol that is due, if one is.
     fn ready<S: Source>(&mut self, source: &mut S) -> Result<(), InFault>
         ensures told { MatchResult result
@@ -212,11 +247,7 @@ impl Reader {
             Stage::Begin => self.begin(source),
             Stage::NextFrame(turn) => self.frame(source, turn),
             Stage::NextSymbol(_) => unreachable!(),
-            Stage::Giving(due, k) => {
-                let job = job_of(&due, k, self.at, &self.present, &self.samples);
-                self.pass(&due, k);
-                Ok(Item::Job(job))
-            }
+            Stage::Giving(due, k) => Ok(Item::Job(self.give(&due, k))),
             Stage::Ended => Ok(Item::Done),
             Stage::Stopped(fault) => Err(fault),
         }

@@ -1,12 +1,14 @@
 //! The memory of a feed over a capture.
-ghost use Rattle.std.specs.Prelude.{◌≡◌, ◌+◌, ◌-◌, ◌^◌, ◌<◌, ◌≤◌, ℕ, Option, None, Some, length, slice_get};
+ghost use Rattle.std.specs.Prelude.{◌≡◌, ◌+◌, ◌-◌, ◌^◌, ◌<◌, ◌≤◌, ◌++◌, ℕ, [], ◌∷◌, Option, None, Some, length, slice_get};
 ghost use Rattle.std.specs.Prelude.{IfErr, IfNone, IfOk, IfSome, MatchResult, OnOk};
+ghost use Rattle.circular_buffer.specs.Buffer.{buffer};
 ghost use Rattle.ht_io.specs.Causes.{one_more};
 ghost use Rattle.ht_io.specs.Devices.{Device};
 ghost use Rattle.ht_crew.specs.Feeds.{EndsJobs, Fails, GivesJob, GivesAsBefore, TakesHit};
 ghost use Rattle.ht_capture.specs.Readers.{more};
 ghost use Rattle.ht_rx.specs.Accounts.{told_by};
 ghost use Rattle.ht_rx.specs.Desks.{IsNewDesk, IsSoundDesk, feed_of};
+ghost use Rattle.ht_results.specs.Heads.{headed_of};
 ghost use Rattle.ht_rx.specs.Heads.{jobs_alone};
 ghost use Rattle.ht_rx.specs.Telling.{ReadsMore, Tells, TellsPart, seen_by};
 
@@ -126,10 +128,7 @@ impl Desk {
         match next_job(&mut self.reader, &mut self.head, &mut self.frames, source) {
             Ok(job) => {
                 self.count += 1;
-                let _ = self.due.push_back(Headed {
-                    head: self.head,
-                    job: job.copy(),
-                });
+                keep(&mut self.due, &self.head, &job);
                 Some(job)
             }
             Err(stop) => {
@@ -158,7 +157,7 @@ impl Desk {
             unreachable!();
         };
         let head = first.head;
-        match account.take(&head, hit, &self.due) {
+        match account.take(&head, &hit, &self.due) {
             Ok(()) => {
                 let _ = self.due.pop_front();
                 Ok(())
@@ -169,6 +168,19 @@ impl Desk {
             }
         }
     }
+}
+
+// Keeps a job that is due behind the others, with the head of its frame. It is kept out of line, so that the job is copied
+// from where it stands.
+#[inline(never)]
+fn keep(due: &mut HeapCircularBuffer<Headed>, head: &FrameHead, job: &Job)
+    requires { length due.old.items < due.old.capacity }
+    ensures { due.new ≡ buffer (due.old.items ++ headed_of head.now job.now ∷ []) due.old.capacity }
+{
+    let _ = due.push_back(Headed {
+        head: *head,
+        job: job.copy(),
+    });
 }
 
 // Counts a fault, and keeps it.
