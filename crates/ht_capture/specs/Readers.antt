@@ -6,6 +6,8 @@ use Rattle.ht_fields.specs.Meanings.{Meaning, before, ended, refused, meaning}
 use Rattle.ht_fields.specs.Readers.{ReaderView, Gives}
 use Rattle.ht_io.specs.Devices.{Device, TakesAll}
 use Rattle.ht_rate.specs.Rates.{carriers_of, symbols_of}
+use Rattle.ht_map.specs.Constellation.{grid_of}
+use Rattle.ht_pam.specs.declared.axes.Axes.{Axes}
 use Rattle.ht_metric.specs.Jobs.{JobView}
 use Rattle.ht_capture.specs.declared.items.Item.{Item}
 use Rattle.ht_capture.specs.declared.items.Item.TheVariants.{Frame, Job, Done}
@@ -111,6 +113,15 @@ abbrev pub Counted : Counts → Counts → Item → Type 0
 Counted old new (Frame head) = (head.frame ≡ old.frames) × (new ≡ counted (old.frames + 1) old.jobs) × (new.frames ≤ 65535)
 Counted old new (Job job) = (job.number ≡ old.jobs) × (new ≡ counted old.frames (old.jobs + 1))
 Counted old new Done = Unit {0}
+
+-- while a frame is under way, the grid that is kept is that of its data subcarriers
+abbrev pub KeepsGrid : Stage → List Axes → Type 0
+KeepsGrid Begin grid = Unit {0}
+KeepsGrid (NextFrame turn) grid = Unit {0}
+KeepsGrid (NextSymbol due) grid = grid ≡ grid_of due.head.rate
+KeepsGrid (Giving due k) grid = grid ≡ grid_of due.head.rate
+KeepsGrid Ended grid = Unit {0}
+KeepsGrid (Stopped fault) grid = Unit {0}
 
 -- no symbol has to be read before the next item
 abbrev pub IsReady : Stage → Type 0

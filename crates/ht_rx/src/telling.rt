@@ -18,6 +18,10 @@ use std::alloc::Global;
 use std::sync::Wait;
 use std::thread::Threads;
 
+/// The most jobs that are due at a time where one thread runs them all: so many that an account sees whether another job of
+/// its symbol follows, and so few that they stay in the processor's first cache.
+const SLOTS: u16 = 16;
+
 // Drives a feed over a new desk in this thread, and answers how many jobs it gave.
 #[tactic(auto, using(crate::proofs::Giving::none_alone))]
 fn drive_feed_alone<S: Source, A: Account, G: Gate>(
@@ -125,7 +129,7 @@ pub(crate) fn tell_alone<S: Source, A: Account, G: Gate>(
     ensures same { A.lent account.new ≡ A.lent account.old }
 {
     let mut desk = Desk::new(alloc)?;
-    let jobs = drive_feed_alone(alloc, window, &mut desk, source, account, gate)?;
+    let jobs = drive_feed_alone(alloc, window.min(SLOTS), &mut desk, source, account, gate)?;
     end_of(&desk, jobs)
 }
 
