@@ -36,19 +36,19 @@ fn pilot_points(rate: &Rate, symbol: u32, index: u8) -> Grid
 
 // The grid of a subcarrier in a symbol, where this is that of the data subcarriers.
 #[tactic(auto, unfolding(crate::specs::Frames::grid_at))]
-fn grid_of(rate: &Rate, symbol: u32, carrier: u8, data: &Grid) -> Grid
+fn grid_of(rate: &Rate, symbol: u32, carrier: u8, full: &Grid) -> Grid
     requires carrier { carrier < carriers_of rate.now }
-    requires data { data.now ≡ full_grid rate.now }
+    requires full { full.now ≡ full_grid rate.now }
     ensures value { result ≡ grid_at rate.now symbol carrier }
     ensures streams { length result ≡ streams_of rate.now }
 {
     match rate.carrier(carrier) {
-        Carrier::Data(_) => *data,
+        Carrier::Data(_) => *full,
         Carrier::Pilot(index) => pilot_points(rate, symbol, index),
     }
 }
 
-/// The job of a present subcarrier, whose samples stand in the octets of its symbol from a place on. `data` is the grid of
+/// The job of a present subcarrier, whose samples stand in the octets of its symbol from a place on. `full` is the grid of
 /// the frame's data subcarriers.
 #[tactic(auto, unfolding(crate::specs::Frames::job_at))]
 pub fn job(
@@ -56,13 +56,13 @@ pub fn job(
     symbol: u32,
     number: u64,
     present: &Present,
-    data: &Grid,
+    full: &Grid,
     octets: &[u8],
     at: usize,
 ) -> Job
     requires carrier { present.now.carrier < carriers_of head.now.rate }
     requires triangle { length present.now.triangle ≡ streams_of head.now.rate }
-    requires data { data.now ≡ full_grid head.now.rate }
+    requires full { full.now ≡ full_grid head.now.rate }
     requires whole { at + carrier_octets head.now.rate ≤ length octets.now }
     ensures value { result ≡ job_at head.now symbol number present.now octets.now at }
     ensures number { result.number ≡ number }
@@ -74,6 +74,6 @@ pub fn job(
         symbol,
         carrier: present.carrier,
     };
-    let grid = grid_of(&head.rate, symbol, present.carrier, data);
+    let grid = grid_of(&head.rate, symbol, present.carrier, full);
     Job::new(number, place, grid, System::new(present.triangle, samples))
 }

@@ -128,8 +128,9 @@ pub(crate) fn tell_alone<S: Source, A: Account, G: Gate>(
     ensures puts_later { IsLater (A.shown account.old) (A.shown account.new) }
     ensures same { A.lent account.new ≡ A.lent account.old }
 {
-    let mut desk = Desk::new(alloc)?;
-    let jobs = drive_feed_alone(alloc, window.min(SLOTS), &mut desk, source, account, gate)?;
+    let window = window.min(SLOTS);
+    let mut desk = Desk::new(alloc, window)?;
+    let jobs = drive_feed_alone(alloc, window, &mut desk, source, account, gate)?;
     end_of(&desk, jobs)
 }
 
@@ -156,7 +157,7 @@ pub(crate) fn tell<R: Threads + Wait + Sync, S: Source, A: Account, G: Gate + Sy
     ensures puts_later { IsLater (A.shown account.old) (A.shown account.new) }
     ensures same { A.lent account.new ≡ A.lent account.old }
 {
-    let mut desk = Desk::new(alloc)?;
+    let mut desk = Desk::new(alloc, window)?;
     let jobs = drive_feed(rt, alloc, workers, window, &mut desk, source, account, gate)?;
     end_of(&desk, jobs)
 }
