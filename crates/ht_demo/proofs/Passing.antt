@@ -13,13 +13,15 @@ use Rattle.ht_capture.specs.Captures.{capture_of}
 use Rattle.ht_capture_laws.specs.Items.{whole_frames}
 use Rattle.ht_results.specs.declared.frame_result.FrameResult.{FrameResult}
 use Rattle.ht_results.specs.Results.{frame_result, results_of}
+use Rattle.ht_round.proofs.Simulated.{length-several}
+use Rattle.ht_sim.specs.Samples.{frames_drawn, sample_frame_drawn}
+use Rattle.ht_sim.specs.Words.{first}
 use Rattle.ht_rx.specs.declared.faults.Ended.{Ended}
 use Rattle.ht_rx.specs.declared.faults.Ended.TheVariants.{Done, Refused}
 use Rattle.ht_rx.specs.Frames.{booked_of}
 use Rattle.ht_rx.specs.Outcomes.{TellsTo}
 use Rattle.ht_demo.specs.declared.plan.Plan.{Plan}
 use Rattle.ht_demo.specs.Demos.{IsDemoLine, IsPassed, line_of, planned}
-use Rattle.ht_demo.proofs.Drawn.{length-planned}
 
 -- each frame is sent
 pub length-sent : (frames : List FrameView) (sent : List SymbolsView) → AreTransmitted frames sent → length sent ≡ length frames
@@ -27,6 +29,11 @@ length-sent [] [] are = refl
 length-sent [] (s ∷ sent) are = absurd are
 length-sent (f ∷ frames) [] are = absurd are
 length-sent (f ∷ frames) (s ∷ sent) are = ap suc (length-sent frames sent are.2)
+
+-- as many frames as are asked for
+pub length-planned : (plan : Plan) → length (planned plan) ≡ plan.frames
+unfolding frames_drawn
+length-planned plan = length-several (sample_frame_drawn plan.rate plan.length) plan.frames (first plan.seed)
 
 -- no more frames than a number of 16 bits counts
 pub planned_few : (plan : Plan) (frames : List FrameView) → frames ≡ planned plan → plan.frames < 2 ^ 16 → length frames ≤ 65535

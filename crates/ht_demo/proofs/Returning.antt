@@ -10,12 +10,12 @@ use Rattle.ht_capture.specs.Files.{capture_file_of}
 use Rattle.ht_sim.specs.Channel.{captures_of}
 use Rattle.ht_text.specs.Lines.{demo_text}
 use Rattle.ht_round.specs.Returned.{returned_from, returned_result, returned_results}
+use Rattle.ht_round.proofs.Drawn.{drawn_frames, drawn_octets}
 use Rattle.ht_round.proofs.Simulated.{simulated_results}
 use Rattle.ht_demo.specs.declared.plan.Plan.{Plan}
 use Rattle.ht_demo.specs.Demos.{IsDemoLine, all_jobs, all_symbols, capture_for, code_in, data_in, line_of, matched_in, pilot_in, planned, returned_line}
-use Rattle.ht_demo.proofs.Drawn.{length-planned}
 use Rattle.ht_demo.proofs.Matching.{matched-cons}
-use Rattle.ht_demo.proofs.Sampled.{planned_frames, planned_octets}
+use Rattle.ht_demo.proofs.Passing.{length-planned}
 
 -- every frame is matched
 same : (octets : List ℕ) → bytes_eq octets octets ≡ true
@@ -61,7 +61,8 @@ results_returned : (plan : Plan) → 1 ≤ plan.length → plan.length ≤ 65535
     → plan.noise ≡ 0 → results_of (capture_for plan is.sent) ≡ returned_results (planned plan)
 results_returned plan some few frames line is quiet =
     ap (λ (noise : ℕ). results_of (capture_file_of 1 (captures_of plan.seed noise is.sent))) quiet
-    ∙ simulated_results 1 plan.seed (planned plan) is.sent (inl refl) (planned_frames plan some few frames) (planned_octets plan) is.transmitted
+    ∙ simulated_results 1 plan.seed (planned plan) is.sent (inl refl) (drawn_frames plan.seed plan.rate plan.length plan.frames some few frames)
+    (drawn_octets plan.seed plan.rate plan.length plan.frames) is.transmitted
 
 pub noiseless_returns : (plan : Plan) (line : List ℕ) → 1 ≤ plan.length → plan.length ≤ 65535 → plan.frames ≤ 65535
     → IsDemoLine plan line → plan.noise ≡ 0 → line ≡ returned_line plan

@@ -74,10 +74,10 @@ impl<'a, R: Threads, B: Book, D: Decoder> Account for Gatherer<'a, R, B, D> {
     fn take(
         &mut self,
         head: &FrameHead,
-        hit: Hit,
+        hit: &Hit,
         due: &HeapCircularBuffer<Headed>,
     ) -> Result<(), FeedFault> {
-        gather(self.alloc, self.under_way, self.whole, head, &hit)?;
+        gather(self.alloc, self.under_way, self.whole, head, hit)?;
         if due.len() > 1 && !is_time(self.whole, self.at_once) {
             return Ok(());
         }
