@@ -1,22 +1,23 @@
-//! What a step costs from each state: one octet for each of the 64 states, for each pair of received places.
+//! What a step costs from each state: a lane for each of the 64 states, for each pair of received places.
 ghost use Rattle.std.specs.Prelude.{◌≡◌, ◌<◌, ◌≤◌, ℕ, List, [], slice_index, slice_index_or, length};
 ghost use Rattle.ht_viterbi.specs.Trellis.{branch_cost, StepPlaces};
 ghost use Rattle.ht_viterbi.specs.Lanes.{HasLanes, HoldsBranches, number_of_place, number_of_pair};
 
 use crate::pairs::{StepPlaces, cost_of_branch};
+use std::simd::prelude::*;
 
 /// For each of the nine pairs the costs of all states at one input bit.
-pub(crate) type Branches = [[u8; 64]; 9];
+pub(crate) type Branches = [u8x64; 9];
 
 // What a step of this pair costs from each state.
-fn costs_of_pair(pair: StepPlaces, bit: bool) -> [u8; 64]
+fn costs_of_pair(pair: StepPlaces, bit: bool) -> u8x64
     ensures { HasLanes result (λ k. branch_cost pair k bit) }
 {
     let mut costs = [0u8; 64];
     for state in 0..64usize {
         costs[state] = cost_of_branch(pair, state, bit) as u8;
     }
-    costs
+    u8x64::from_array(costs)
 }
 
 // The costs of all pairs, where the input bit is as given.

@@ -45,7 +45,7 @@ fn step(costs: u8x64, zero: u8x64, one: u8x64, free: bool) -> (u8x64, u64)
 fn lanes_of(branches: &Branches, pair: StepPlaces) -> u8x64
     ensures { (bit : Bool) → HoldsBranches branches.now bit → HasLanes result (λ k. branch_cost pair k bit) }
 {
-    u8x64::from_array(branches[row_of(pair)])
+    branches[row_of(pair)]
 }
 
 // A distance by its lowest octet, where it is known to lie at most 2 above the one before and not far below.
