@@ -1,6 +1,7 @@
 use Rattle.std.proofs.Common.{◌∙◌, ◌-◌, ◌%◌, List, true, false, ap, sym, length, arith, rules}
 use Rattle.ht_conv.specs.declared.puncture.Kept.{Kept}
-use Rattle.ht_viterbi.specs.Trellis.{StepPlaces, pairs_from, least_from}
+use Rattle.ht_viterbi.specs.Trellis.{StepPlaces, branch_cost, pairs_from, least_from}
+use Rattle.ht_viterbi.specs.Lanes.{rise}
 use Rattle.ht_viterbi.proofs.Steps.{phase-step, kept-back, start-back, pair-back, pairs-none, free-back, choices-start, choices-step}
 use Rattle.ht_viterbi.proofs.Spread.{ways-close, first-grows}
 use Rattle.ht_viterbi.proofs.LaneSteps.{lanes-start, lanes-step, chosen-lanes}
@@ -46,10 +47,10 @@ loop-at-preserved c =
     (c.loop-at.start - c.places_of-start.result) _ pair c.loop-at-test.true was.within kept back.0 c.pair_from-pair.ensures in
     let free = free-back c.args.pattern c.args.received.now steps at c.loop-at-test.true was.within in
     let pairs = pairs_from c.args.pattern c.args.received.now at (steps - at) in
-    let zeros = c.lanes_of.ensures false c.branches_of-zeros.ensures in
-    let ones = c.lanes_of-in-loop-at.ensures true c.branches_of-ones.ensures in
+    let zeros = c.lanes_of.ensures (λ pair k. branch_cost pair k false) c.costs_of_zero-zeros.ensures in
+    let mores = c.lanes_of-in-loop-at.ensures rise c.rises-rises.ensures in
     let close = ways-close pairs pair in
-    let costs = lanes-step _ pairs c.step-word.result.0 _ pair cons free (c.step-word.ensures.costs (least_from pairs) pair was.costs zeros ones close) in
+    let costs = lanes-step _ pairs c.step-word.result.0 _ pair cons free (c.step-word.ensures.costs (least_from pairs) pair was.costs zeros mores close) in
     let grows = first-grows pairs pair in
     let same = ap (λ (ps : List StepPlaces). least_from ps 0) cons in
     let distance = c.carried-distance.ensures _ (c.first_lane.ensures ∙ costs.lane 0 (omega arith))
@@ -62,7 +63,7 @@ loop-at-preserved c =
       start = back.0;
       costs = costs;
       choices = choices-step _ pairs c.loop-at.choices (at - 1) at c.step-word.result.1 pair cons (omega arith) (omega arith)
-          (chosen-lanes pairs c.step-word.result.1 _ pair free (c.step-word.ensures.choices (least_from pairs) pair was.costs zeros ones close)) was.choices;
+          (chosen-lanes pairs c.step-word.result.1 _ pair free (c.step-word.ensures.choices (least_from pairs) pair was.costs zeros mores close)) was.choices;
       distance = distance;
       bound = omega (arith, distance, grows.0, same, was.distance, was.bound);
     }
