@@ -9,3 +9,4 @@ pub mod Spread
 pub mod Values
 pub mod Enumerating
 pub mod Rows
+pub mod Carried

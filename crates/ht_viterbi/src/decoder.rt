@@ -1,6 +1,6 @@
 //! The decoder: all 64 states at once, their costs modulo 256. The ways of a state cost so nearly the same that their
 //! difference modulo 256 says which is the lesser.
-ghost use Rattle.std.specs.Prelude.{◌≡◌, ◌+◌, ◌-◌, ◌*◌, ◌%◌, ◌<◌, ◌≤◌, ◌^◌, ◌↔◌, ℕ, Bool, true, false, IfOk};
+ghost use Rattle.std.specs.Prelude.{◌≡◌, ◌≢◌, ◌+◌, ◌-◌, ◌*◌, ◌%◌, ◌<◌, ◌≤◌, ◌^◌, ◌↔◌, ℕ, Bool, true, false, IfOk};
 ghost use Rattle.std.specs.Prelude.{List, length, drop, replicate, slice_index};
 ghost use Rattle.std.specs.Int.{bit_at};
 ghost use Rattle.ht_conv.specs.Puncturing.{sent_count};
@@ -47,14 +47,31 @@ fn lanes_of(branches: &Branches, pair: StepPlaces) -> u8x64
     branches[row_of(pair)]
 }
 
-// A distance by its lowest octet, where it is known to lie at most 2 above the one before and not far below.
+// After how many steps the whole distance is looked at again.
+const STRETCH: usize = 64;
+
+// A distance by its lowest octet, where it is known to lie at most 128 above the one before and not far below.
 #[inline(always)]
 fn carried(before: u32, octet: u8) -> u32
     requires { before ≤ 2 ^ 30 }
-    ensures { (n : ℕ) → octet ≡ n % 256 → n ≤ before + 2 → before ≤ n + 12 → result ≡ n }
+    ensures { (n : ℕ) → octet ≡ n % 256 → n ≤ before + 128 → before ≤ n + 12 → result ≡ n }
 {
-    let most = before + 2;
+    let most = before + 128;
     most.saturating_sub((most + 256 - u32::from(octet)) % 256)
+}
+
+// The same once in a stretch of steps, and at other steps the one before.
+#[inline(always)]
+fn carried_at(at: usize, before: u32, octet: u8) -> u32
+    requires { before ≤ 2 ^ 30 }
+    ensures here { (n : ℕ) → at % 64 ≡ 0 → octet ≡ n % 256 → n ≤ before + 128 → before ≤ n + 12 → result ≡ n }
+    ensures others { at % 64 ≢ 0 → result ≡ before }
+{
+    if at % STRETCH == 0 {
+        carried(before, octet)
+    } else {
+        before
+    }
 }
 
 // The cost of state 0, modulo 256.
@@ -94,7 +111,7 @@ fn backwards(pattern: Pattern, received: &[Option<bool>], choices: &mut [u64]) -
             steps - at > 6,
         );
         choices[at] = word;
-        distance = carried(distance, first_lane(next));
+        distance = carried_at(at, distance, first_lane(next));
         costs = next;
     }
     distance
