@@ -46,18 +46,18 @@ carried-step pairs pair at distance octet new some was lowest here other =
     ceiling-kept at distance (least_from pairs 0) (least_from (pair ∷ pairs) 0) some was.ceiling was.exact grows in
     elim (cases_lt 0 ((at - 1) % 64)) [
       | inl more ↦ (
-        let same : new ≡ distance = other (omega arith) in
-        record {
-          floor = λ k lt. omega (arith, same, high k lt);
-          ceiling = omega (arith, same, low);
-          exact = λ e. absurd (omega arith);
-        })
+          let same : new ≡ distance = other (omega arith) in
+          record {
+            floor = λ k lt. omega (arith, same, high k lt);
+            ceiling = omega (arith, same, low);
+            exact = λ e. absurd (omega arith);
+          })
       | inr none ↦ (
-        let zero_at : (at - 1) % 64 ≡ 0 = omega arith in
-        let is : new ≡ least_from (pair ∷ pairs) 0 = here (least_from (pair ∷ pairs) 0) zero_at lowest (omega (arith, low)) (high 0 (omega arith)) in
-        record {
-          floor = λ k lt. omega (arith, is, spread (pair ∷ pairs) 0 k (omega arith) lt);
-          ceiling = omega (arith, is, zero_at);
-          exact = λ e. is;
-        })
+          let zero_at : (at - 1) % 64 ≡ 0 = omega arith in
+          let is : new ≡ least_from (pair ∷ pairs) 0 = here (least_from (pair ∷ pairs) 0) zero_at lowest (omega (arith, low)) (high 0 (omega arith)) in
+          record {
+            floor = λ k lt. omega (arith, is, spread (pair ∷ pairs) 0 k (omega arith) lt);
+            ceiling = omega (arith, is, zero_at);
+            exact = λ e. is;
+          })
     ]
