@@ -1,6 +1,4 @@
 pub mod Hands
 pub mod Seats
-pub mod Members
-pub mod Helms
-pub mod Gathering
-pub mod Pools
+pub mod Through
+pub mod Moving

@@ -15,19 +15,10 @@
 //! 4, 2, 3 and 1, the caller's first: they add up to 10, and so do those of any other run.
 #![tactic(auto)]
 
-pub mod close;
-pub mod closed;
-pub mod crew;
 pub mod ends;
 pub mod hand;
-pub mod helm;
-pub mod member;
-pub mod pool;
-pub mod post;
+mod lookout;
+mod moving;
+pub mod own;
 pub mod rule;
 pub mod seat;
-mod serve;
-pub mod shared;
-#[cfg(test)]
-mod tests;
-pub mod work;
