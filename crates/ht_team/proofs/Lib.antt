@@ -2,3 +2,5 @@ pub mod Sums
 pub mod Counting
 pub mod Steps
 pub mod Looking
+pub mod Serving
+pub mod Crews

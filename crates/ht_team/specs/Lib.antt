@@ -2,3 +2,4 @@ pub mod Hands
 pub mod Seats
 pub mod Through
 pub mod Moving
+pub mod Members

@@ -15,10 +15,15 @@
 //! 4, 2, 3 and 1, the caller's first: they add up to 10, and so do those of any other run.
 #![tactic(auto)]
 
+mod crew;
 pub mod ends;
 pub mod hand;
 mod lookout;
+pub mod member;
 mod moving;
 pub mod own;
 pub mod rule;
 pub mod seat;
+mod serve;
+pub mod shared;
+pub mod work;
