@@ -4,3 +4,4 @@ pub mod Steps
 pub mod Looking
 pub mod Serving
 pub mod Crews
+pub mod Backs

@@ -3,3 +3,4 @@ pub mod Seats
 pub mod Through
 pub mod Moving
 pub mod Members
+pub mod Helms

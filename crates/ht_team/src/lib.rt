@@ -18,10 +18,12 @@
 mod crew;
 pub mod ends;
 pub mod hand;
+pub mod helm;
 mod lookout;
 pub mod member;
 mod moving;
 pub mod own;
+pub mod post;
 pub mod rule;
 pub mod seat;
 mod serve;
