@@ -1,10 +1,12 @@
 -- A task is taken back.
-use Rattle.std.proofs.Common.{◌≡◌, ℕ, ◌+◌, List, [], ◌∷◌, ◌++◌, length, Option, Some, ap, ◌∙◌, refl, arith, subst, sym}
+use Rattle.std.proofs.Common.{◌≡◌, ℕ, ◌+◌, List, [], ◌∷◌, ◌++◌, length, map, take, drop, Option, Some, None, IfSome, ap, ◌∙◌, sym, refl, arith}
 use Rattle.std.specs.List.{sum_by}
-use Rattle.std.proofs.lemmas.List.{length-append}
+use Rattle.std.proofs.lemmas.List.{append-nil, drop_all, length-append, length-map, take_all}
 use Rattle.std.proofs.lemmas.List.Sums.{sum_by-append}
 use Rattle.ht_counts.specs.Counts.{SameCounts}
-use Rattle.ht_team.specs.Seats.{SeatView, OwnView, popped_from, taken_at, Steals}
+use Rattle.atomic_table.specs.Seated.{TableId}
+use Rattle.ht_team.specs.Seats.{DequeId, SeatView, OwnView, fresh_seat, fresh_own, popped_from, deques_at, taken_at, Steals}
+use Rattle.ht_team.specs.Helms.{HelmView, helm_view, unused, TakesBack}
 
 pub ones : {X : Type 0} (xs : List X) → sum_by (λ _. 1) xs ≡ length xs
 ones [] = refl
@@ -37,3 +39,57 @@ module _ {T : Type 0} (seats : List (SeatView T)) (own own' : OwnView T) (task :
     sum_by-append h (own.taken ++ taken_at seats) (task ∷ []),
     sum_by-append h own.taken (taken_at seats),
   )
+
+module _ {T A : Type 0} (queue : TableId) (answers : List A) where
+  pub takes-own : (own own' : OwnView T) (seats : List (SeatView T)) (task : T) → own' ≡ popped_from own task
+      → TakesBack (helm_view own seats queue answers) (helm_view own' seats queue answers) task
+  takes-own own own' seats task popped = record {
+    same = record { room_is = ap (λ (v : OwnView T). v.room) popped; deques_are = refl; queue_is = refl };
+    given_is = ap (λ (v : OwnView T). v.pushed) popped;
+    took = took-own seats own own' task popped;
+    answers_are = refl;
+  }
+
+  pub takes-other : (own : OwnView T) (seats seats' : List (SeatView T)) (task : Option T) → Steals seats seats' task
+      → IfSome task (TakesBack (helm_view own seats queue answers) (helm_view own seats' queue answers))
+  takes-other own seats seats' None steals = tt
+  takes-other own seats seats' (Some task) steals = record {
+    same = record { room_is = refl; deques_are = steals.at; queue_is = refl };
+    given_is = refl;
+    took = took-other seats own own task seats' refl steals;
+    answers_are = refl;
+  }
+
+  -- one task more
+  pub took_more : (old new : HelmView T A) (task : T) → TakesBack old new task → length new.taken ≡ length old.taken + 1
+  took_more old new task takes = same_length new.taken (old.taken ++ task ∷ []) takes.took ∙ length-append old.taken (task ∷ [])
+
+  -- nothing was given or taken yet
+  pub taken-none : (deques : List DequeId) → taken_at {T = T} (map fresh_seat deques) ≡ []
+  taken-none [] = refl
+  taken-none (deque ∷ deques) = taken-none deques
+
+  pub new_helm : (own : OwnView T) (seats : List (SeatView T)) (parts : ℕ) → own ≡ fresh_own parts own.room own.deque
+      → seats ≡ map fresh_seat (deques_at seats) → answers ≡ [] → helm_view own seats queue answers ≡ unused own.room (deques_at seats) queue
+  new_helm own seats parts fresh seats_are none =
+      let given : own.pushed ≡ [] = ap (λ (v : OwnView T). v.pushed) fresh in
+      let own_taken : own.taken ≡ [] = ap (λ (v : OwnView T). v.taken) fresh in
+      let seats_taken : taken_at seats ≡ [] = ap (λ (ss : List (SeatView T)). taken_at ss) seats_are ∙ taken-none (deques_at seats) in
+      let taken : own.taken ++ taken_at seats ≡ [] = ap (λ (xs : List T). xs ++ taken_at seats) own_taken ∙ seats_taken in
+      let at : List T → List T → List A → HelmView T A = λ xs ys zs. record {
+        room = own.room;
+        deques = deques_at seats;
+        queue = queue;
+        given = xs;
+        taken = ys;
+        answers = zs;
+      } in
+      ap (λ xs. at xs (own.taken ++ taken_at seats) answers) given ∙ (ap (λ ys. at [] ys answers) taken ∙ ap (λ zs. at [] [] zs) none)
+
+-- a slice of all members of a vector is written back whole
+pub whole_again : {T : Type 0} (len : ℕ) (old new : List (SeatView T)) → length old ≡ len → deques_at new ≡ deques_at old
+    → take len (new ++ drop (length new) old) ≡ new
+whole_again len old new all at =
+    let same : length new ≡ length old = sym (length-map new (λ s. s.at)) ∙ (ap (λ (ids : List DequeId). length ids) at ∙ length-map old (λ s. s.at)) in
+    let none : drop (length new) old ≡ [] = drop_all (length new) old (omega (arith, same)) in
+    ap (λ xs. take len (new ++ xs)) none ∙ (ap (take len) (append-nil new) ∙ take_all len new (omega (arith, same, all)))

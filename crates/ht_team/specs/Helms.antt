@@ -2,7 +2,7 @@
 use Rattle.std.specs.Prelude.{◌≡◌, ◌+◌, ◌≤◌, ℕ, List, [], ◌∷◌, ◌++◌, length}
 use Rattle.atomic_table.specs.Seated.{TableId}
 use Rattle.ht_counts.specs.Counts.{SameCounts}
-use Rattle.ht_team.specs.Seats.{DequeId}
+use Rattle.ht_team.specs.Seats.{DequeId, SeatView, OwnView, deques_at, taken_at}
 
 pub record HelmView (T A : Type 0) : Type 0 where
   -- so many tasks can be given for sure
@@ -18,6 +18,17 @@ pub record HelmView (T A : Type 0) : Type 0 where
   pub answers : List A
 
 module _ {T A : Type 0} where
+  -- a caller with this end of its own deque and these seats, who received these answers
+  abbrev pub helm_view : OwnView T → List (SeatView T) → TableId → List A → HelmView T A
+  helm_view own seats queue answers = record {
+    room = own.room;
+    deques = deques_at seats;
+    queue = queue;
+    given = own.pushed;
+    taken = own.taken ++ taken_at seats;
+    answers = answers;
+  }
+
   -- nothing was given yet
   abbrev pub unused : ℕ → List DequeId → TableId → HelmView T A
   unused room deques queue = record { room = room; deques = deques; queue = queue; given = []; taken = []; answers = [] }

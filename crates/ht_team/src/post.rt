@@ -21,21 +21,14 @@ pub struct Post<T: Drop, A: Drop> {
 }
 
 impl<T: Drop, A: Drop> Model for Post<T, A> {
-    ghost use Rattle.std.specs.Prelude.{◌≡◌, ◌+◌, ◌++◌, ◌<◌, ◌≤◌, ◌∷◌, [], length, drop};
+    ghost use Rattle.std.specs.Prelude.{◌≡◌, ◌+◌, ◌≤◌, ◌∷◌, [], length, drop};
     ghost use Rattle.crossbeam_queue.specs.Passes.{view as answer_view};
-    ghost use Rattle.ht_team.specs.Seats.{deques_at, taken_at};
-    ghost use Rattle.ht_team.specs.Helms.{HelmView};
+    ghost use Rattle.ht_team.specs.Seats.{deques_at};
+    ghost use Rattle.ht_team.specs.Helms.{HelmView, helm_view};
 
     ghost Value = { HelmView T A };
 
-    ghost view = { λ p. record {
-      room = p.own.room;
-      deques = deques_at p.seats.items;
-      queue = p.pass.table_id;
-      given = p.own.pushed;
-      taken = p.own.taken ++ taken_at p.seats.items;
-      answers = (answer_view p.pass).taken;
-    } };
+    ghost view = { λ p. helm_view p.own p.seats.items p.pass.table_id (answer_view p.pass).taken };
 
     ghost invariant = { λ p.
         (length p.seats.items ≤ 64)
@@ -76,9 +69,8 @@ impl<T: Drop, A: Drop> Post<T, A> {
         ensures took { IfSome result (TakesBack self.old self.new) }
         ensures none { IfNone result (self.new ≡ self.old) }
     {
-        let own = self.own.pop();
-        if own.is_some() {
-            return own;
+        if let Some(task) = self.own.pop() {
+            return Some(task);
         }
         steal_one(self.seats.as_mut_slice(), 0)
     }
