@@ -1,7 +1,9 @@
 pub mod Sums
 pub mod Counting
 pub mod Steps
+pub mod Lists
 pub mod Looking
 pub mod Serving
 pub mod Crews
 pub mod Backs
+pub mod Joining

@@ -4,3 +4,5 @@ pub mod Through
 pub mod Moving
 pub mod Members
 pub mod Helms
+pub mod Gathering
+pub mod Pools

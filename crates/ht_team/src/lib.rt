@@ -15,17 +15,22 @@
 //! 4, 2, 3 and 1, the caller's first: they add up to 10, and so do those of any other run.
 #![tactic(auto)]
 
-mod crew;
+pub mod close;
+pub mod closed;
+pub mod crew;
 pub mod ends;
+mod first;
 pub mod hand;
 pub mod helm;
 mod lookout;
 pub mod member;
 mod moving;
 pub mod own;
+pub mod pool;
 pub mod post;
 pub mod rule;
 pub mod seat;
 mod serve;
 pub mod shared;
+pub mod space;
 pub mod work;
