@@ -1,6 +1,7 @@
-use Rattle.std.proofs.Common.{◌≡◌, ◌++◌, ◌∷◌, [], length, take, rules}
-use Rattle.ht_team.specs.Seats.{deques_at, took_in}
-use Rattle.ht_team.proofs.Joining.{own_deques, at_place, row-step, joined_row-none}
+use Rattle.std.proofs.Common.{◌≡◌, ◌∙◌, [], List, length, ap, sym, rules}
+use Rattle.ht_team.specs.Seats.{SeatView}
+use Rattle.ht_team.specs.Gathering.{joined_row}
+use Rattle.ht_team.proofs.Joining.{at_place, row-step, joined_row-none}
 use Rattle.ht_team.proofs.close.join_row.Goals as goal
 
 pub absorb-requires : goal.absorb-requires
@@ -21,4 +22,7 @@ loop-seat-preserved g c =
     record { same = step.0; at = step.1; joined = step.2 }
 
 pub returns : goal.returns
-returns g c = ?
+returns g c =
+    let none : c.loop-seat.seats.items ≡ [] = search rules in
+    sym (joined_row-none c.loop-seat.owners) ∙ (ap (λ (ss : List (SeatView g.row.T.Denot)). joined_row c.loop-seat.owners ss) (sym none)
+    ∙ c.loop-seat.invariant.joined)
