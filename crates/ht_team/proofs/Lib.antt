@@ -7,3 +7,4 @@ pub mod Serving
 pub mod Crews
 pub mod Backs
 pub mod Joining
+pub mod Settling
