@@ -1,11 +1,12 @@
 -- A task is taken back.
 use Rattle.std.proofs.Common.{◌≡◌, ℕ, ◌+◌, List, [], ◌∷◌, ◌++◌, length, map, take, drop, Option, Some, None, IfSome, ap, ◌∙◌, sym, refl, arith}
 use Rattle.std.specs.List.{sum_by}
-use Rattle.std.proofs.lemmas.List.{append-nil, drop_all, length-append, length-map, take_all}
+use Rattle.std.proofs.lemmas.List.{length-append, length-map}
 use Rattle.std.proofs.lemmas.List.Sums.{sum_by-append}
 use Rattle.ht_counts.specs.Counts.{SameCounts}
 use Rattle.atomic_table.specs.Seated.{TableId}
 use Rattle.ht_team.specs.Seats.{DequeId, SeatView, OwnView, fresh_seat, fresh_own, popped_from, deques_at, taken_at, Steals}
+use Rattle.ht_team.proofs.Lists.{written_back}
 use Rattle.ht_team.specs.Helms.{HelmView, helm_view, unused, TakesBack}
 
 pub ones : {X : Type 0} (xs : List X) → sum_by (λ _. 1) xs ≡ length xs
@@ -86,10 +87,8 @@ module _ {T A : Type 0} (queue : TableId) (answers : List A) where
       } in
       ap (λ xs. at xs (own.taken ++ taken_at seats) answers) given ∙ (ap (λ ys. at [] ys answers) taken ∙ ap (λ zs. at [] [] zs) none)
 
--- a slice of all members of a vector is written back whole
+-- seats at the same deques are written back whole
 pub whole_again : {T : Type 0} (len : ℕ) (old new : List (SeatView T)) → length old ≡ len → deques_at new ≡ deques_at old
     → take len (new ++ drop (length new) old) ≡ new
-whole_again len old new all at =
-    let same : length new ≡ length old = sym (length-map new (λ s. s.at)) ∙ (ap (λ (ids : List DequeId). length ids) at ∙ length-map old (λ s. s.at)) in
-    let none : drop (length new) old ≡ [] = drop_all (length new) old (omega (arith, same)) in
-    ap (λ xs. take len (new ++ xs)) none ∙ (ap (take len) (append-nil new) ∙ take_all len new (omega (arith, same, all)))
+whole_again len old new all at = written_back len old new all
+    (sym (length-map new (λ s. s.at)) ∙ (ap (λ (ids : List DequeId). length ids) at ∙ length-map old (λ s. s.at)))

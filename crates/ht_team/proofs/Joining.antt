@@ -86,7 +86,7 @@ module _ {T : Type 0} where
   rows-pushed owners [] = refl
   rows-pushed owners (seats ∷ rows) = row-pushed (joined_rows owners rows) seats ∙ rows-pushed owners rows
 
-  same_parts : (m n : ℕ) (owners : List (OwnView T)) → m ≡ n → AllByRecursion (λ (o : OwnView T). o.parts ≡ m) owners
+  pub same_parts : (m n : ℕ) (owners : List (OwnView T)) → m ≡ n → AllByRecursion (λ (o : OwnView T). o.parts ≡ m) owners
       → AllByRecursion (λ (o : OwnView T). o.parts ≡ n) owners
   same_parts m n [] e all = tt
   same_parts m n (own ∷ owners) e all = (all.0 ∙ e, same_parts m n owners e all.1)

@@ -1,6 +1,6 @@
 -- Lists that pass from one vector to another.
-use Rattle.std.proofs.Common.{◌≡◌, ℕ, ◌<◌, List, [], ◌∷◌, ◌++◌, map, length, slice_index_or, ap, ◌∙◌, sym, subst, suc, arith}
-use Rattle.std.proofs.lemmas.List.{append_assoc}
+use Rattle.std.proofs.Common.{◌≡◌, ℕ, ◌<◌, List, [], ◌∷◌, ◌++◌, map, length, take, drop, slice_index_or, ap, ◌∙◌, sym, subst, suc, arith}
+use Rattle.std.proofs.lemmas.List.{append-nil, append_assoc, drop_all, take_all}
 use Rattle.std.specs.List.{All, flat_map, remove}
 
 module _ {X Y : Type 0} where
@@ -25,3 +25,9 @@ pub all_first : {X : Type 0} (P : X → Type 0) (xs ys : List X) (x : X) → xs 
 all_first P xs ys x e all =
     let both : All P (x ∷ ys) = subst (λ zs. All P zs) e all in
     (both 0 x (omega arith), λ k d lt. both (suc k) d (omega (arith, lt)))
+
+-- a slice of all members of a vector is written back whole
+pub written_back : {X : Type 0} (len : ℕ) (old new : List X) → length old ≡ len → length new ≡ length old → take len (new ++ drop (length new) old) ≡ new
+written_back len old new all same =
+    let none : drop (length new) old ≡ [] = drop_all (length new) old (omega (arith, same)) in
+    ap (λ xs. take len (new ++ xs)) none ∙ (ap (take len) (append-nil new) ∙ take_all len new (omega (arith, same, all)))

@@ -79,6 +79,18 @@ fn join_all<T: Drop>(owners: &mut [OwnDeque<T>], mut rows: Vec<Vec<Seat<T>>>)
     }
 }
 
+// The same for owners that are given back.
+fn join_owners<T: Drop>(
+    mut owners: Vec<OwnDeque<T>>,
+    rows: Vec<Vec<Seat<T>>>,
+) -> Vec<OwnDeque<T>>
+    requires at { All (λ (seats : List (SeatView T)). deques_at seats ≡ map (λ (o : OwnView T). o.deque) owners.items) (rows_of rows.items) }
+    ensures { result.items ≡ joined_rows owners.items (rows_of rows.items) }
+{
+    join_all(owners.as_mut_slice(), rows);
+    owners
+}
+
 // Closes the deques.
 fn close_all<T: Drop>(mut owners: Vec<OwnDeque<T>>, mut deques: Vec<Ends<T>>) -> Vec<Ends<T>>
     requires all { All (λ (o : OwnView T). o.parts ≡ 1024) owners.items }
@@ -127,7 +139,7 @@ pub fn close<W: Work>(
     owners.push_reserved(own);
     rows.push_reserved(seats);
     take_apart::<W>(shared, &mut pass, members, &mut ran, &mut owners, &mut rows);
-    join_all(owners.as_mut_slice(), rows);
+    let owners = join_owners(owners, rows);
     shared.learn(&mut pass);
     Closed {
         deques: close_all(owners, deques),
