@@ -12,7 +12,7 @@ use Rattle.ht_team.specs.Seats.{DequeId, SeatView, OwnView, deques_at, taken_at}
 use Rattle.ht_team.specs.Through.{through, first_of}
 use Rattle.ht_team.specs.Members.{Berth, berth, berths, berth_of, answers_of, tasks_of, HasServed}
 use Rattle.ht_team.specs.Helms.{HelmView, IsSettled, helm_view}
-use Rattle.ht_team.specs.Gathering.{Collects, IsAccounted, answered_by, ended, joined_rows}
+use Rattle.ht_team.specs.Gathering.{Collects, IsAccounted, answered_by, ended, joined_row, joined_rows}
 use Rattle.ht_team.specs.Pools.{HasRun, IsEmptied, taken_on, moved_on, through_deques, through_queue}
 use Rattle.ht_team.specs.declared.ends.Ends.{Ends}
 use Rattle.ht_team.specs.declared.hand.Hand.{Hand}
@@ -82,6 +82,26 @@ module _ {T : Type 0} where
     sum_by-append h v.taken (taken_on hands),
     sum_by-append h v.pushed (pushed_on_all hands),
   )
+
+  first-row : (owners : List (OwnView T)) (seats : List (SeatView T))
+      → (first_of (map ended (joined_row owners seats))).pushed ≡ (first_of (map ended owners)).pushed
+  first-row [] seats = refl
+  first-row (own ∷ owners) [] = refl
+  first-row (own ∷ owners) (seat ∷ seats) = refl
+
+  -- the first owner has pushed the same still
+  first-kept : (own : OwnView T) (owners : List (OwnView T)) (rows : List (List (SeatView T)))
+      → (first_of (map ended (joined_rows (own ∷ owners) rows))).pushed ≡ own.pushed
+  first-kept own owners [] = refl
+  first-kept own owners (seats ∷ rows) = first-row (joined_rows (own ∷ owners) rows) seats ∙ first-kept own owners rows
+
+  first-apart : (h : T → ℕ) (hands : List (Hand T)) → sum_by h (pushed_on_all hands) ≡ sum_by h (first_of hands).pushed + sum_by h (moved_on hands)
+  first-apart h [] = omega arith
+  first-apart h (v ∷ hands) = sum_by-append h v.pushed (pushed_on_all hands)
+
+  pub hands-whole : (ends : List (Ends T)) → AllByRecursion (λ (e : Ends T). IsAccounted (through e)) ends → AllByRecursion IsAccounted (map through ends)
+  hands-whole [] all = tt
+  hands-whole (e ∷ ends) all = (all.0, hands-whole ends all.1)
 
 module _ {T A : Type 0} (asked : A → T) (queue : TableId) where
   abbrev owns : List (Member T A) → List (OwnView T)
@@ -312,4 +332,48 @@ module _ {T A : Type 0} (asked : A → T) (queue : TableId) where
         )
 
         first_pushed : (first_of hands).pushed ≡ helm.given
-        first_pushed = ?
+        first_pushed = ap (λ vs. (first_of vs).pushed) hands_are ∙ (first-kept own (owns members) rows ∙ given)
+
+        pub has_run : (closed : Closed T A) → through_deques closed ≡ hands → through_queue closed ≡ after
+            → closed.ran.items ≡ length helm.taken ∷ map (λ (m : Member T A). m.ran) members → HasRun asked helm members closed
+        has_run closed of of' numbers_are = record {
+          deques = omega (
+            arith,
+            length-map closed.deques.items through,
+            ap length of,
+            ap length hands_are,
+            length-map joined ended,
+            joined_long,
+          );
+          pushed = ap (λ vs. (first_of vs).pushed) of ∙ first_pushed;
+          emptied = All-from_recursion IsEmptied (through_deques closed)
+              (subst (λ (vs : List (Hand T)). AllByRecursion IsEmptied vs) (sym of) emptied);
+          taken = subst (λ (vs : List (Hand T)). SameCounts (taken_on vs) (helm.given ++ moved_on vs)) (sym of) (λ h. omega (
+            arith,
+            emptied-same h hands emptied,
+            first-apart h hands,
+            ap (sum_by h) first_pushed,
+            sum_by-append h helm.given (moved_on hands),
+          ));
+          run = subst (λ (v : Hand A). SameCounts (helm.taken ++ map asked v.pushed) helm.given) (sym of') run;
+          received = ap (λ (v : Hand A). v.taken) of' ∙ answers;
+          answers = subst (λ (v : Hand A). SameCounts v.taken v.pushed) (sym of') (λ h. omega (
+            arith,
+            accounted h,
+            sum_by-none h waiting none_waits,
+          ));
+          numbers = numbers_are;
+          ran = omega (
+            arith,
+            ap sum numbers_are,
+            sum_by-cons (λ (n : ℕ). n) (length helm.taken) (map (λ (m : Member T A). m.ran) members),
+            numbers members by_recursion,
+            ap length answered,
+            run (λ (x : T). 1),
+            sum_by-append (λ (x : T). 1) helm.taken (map asked after.pushed),
+            ones helm.taken,
+            ones helm.given,
+            ones (map asked after.pushed),
+            length-map after.pushed asked,
+          );
+        }
