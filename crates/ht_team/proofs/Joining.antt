@@ -5,12 +5,10 @@ use Rattle.std.proofs.lemmas.List.{length-append, length-map, length-take}
 use Rattle.std.proofs.lemmas.List.Sums.{sum_by-append}
 use Rattle.std.proofs.Math.Seq.{map-set_same}
 use Rattle.ht_team.specs.Seats.{DequeId, SeatView, OwnView, took_in, deques_at, taken_at}
+use Rattle.ht_team.specs.Opening.{own_deques}
 use Rattle.ht_team.specs.Gathering.{joined_row, joined_rows}
 
 module _ {T : Type 0} where
-  abbrev pub own_deques : List (OwnView T) → List DequeId
-  own_deques owners = map (λ (o : OwnView T). o.deque) owners
-
   -- what all owners took, and what they pushed
   abbrev pub taken_by : List (OwnView T) → List T
   taken_by owners = flat_map (λ (o : OwnView T). o.taken) owners

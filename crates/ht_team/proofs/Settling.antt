@@ -19,7 +19,8 @@ use Rattle.ht_team.specs.declared.hand.Hand.{Hand}
 use Rattle.ht_team.specs.declared.member.Member.{Member}
 use Rattle.ht_team.specs.declared.closed.Closed.{Closed}
 use Rattle.ht_team.proofs.Backs.{ones}
-use Rattle.ht_team.proofs.Joining.{taken_by, pushed_by, own_deques, AreWhole, rows-pushed, rows-taken, rows-parts, same_parts, length_rows}
+use Rattle.ht_team.specs.Opening.{own_deques}
+use Rattle.ht_team.proofs.Joining.{taken_by, pushed_by, AreWhole, rows-pushed, rows-taken, rows-parts, same_parts, length_rows}
 
 sum_by-none : {X : Type 0} (h : X → ℕ) (xs : List X) → length xs ≡ 0 → sum_by h xs ≡ 0
 sum_by-none h [] e = refl

@@ -6,3 +6,4 @@ pub mod Members
 pub mod Helms
 pub mod Gathering
 pub mod Pools
+pub mod Opening

@@ -30,6 +30,7 @@ pub mod pool;
 pub mod post;
 pub mod rule;
 pub mod seat;
+mod seating;
 mod serve;
 pub mod shared;
 pub mod space;

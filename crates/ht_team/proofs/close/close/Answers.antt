@@ -11,7 +11,7 @@ use Rattle.ht_team.specs.Helms.{HelmView}
 use Rattle.ht_team.specs.Gathering.{IsAccounted, ended, joined_rows, rows_of}
 use Rattle.ht_team.specs.declared.ends.Ends.{Ends}
 use Rattle.ht_team.specs.declared.member.Member.{Member}
-use Rattle.ht_team.proofs.Joining.{own_deques}
+use Rattle.ht_team.specs.Opening.{own_deques}
 use Rattle.ht_team.proofs.Settling.{at_all, all_parts, joined_long, all_answers, has_run, hands-whole}
 use Rattle.ht_team.proofs.close.close.Goals as goal
 

@@ -4,7 +4,8 @@ use Rattle.std.proofs.lemmas.List.Elements.{All-pop}
 use Rattle.std.specs.Global.{Vec}
 use Rattle.ht_team.specs.Seats.{SeatView, OwnView, deques_at}
 use Rattle.ht_team.specs.Gathering.{rows_of, joined_rows}
-use Rattle.ht_team.proofs.Joining.{own_deques, row-deques, joined_rows-last}
+use Rattle.ht_team.specs.Opening.{own_deques}
+use Rattle.ht_team.proofs.Joining.{row-deques, joined_rows-last}
 use Rattle.ht_team.proofs.close.join_all.Goals as goal
 
 pub join_row-requires : goal.join_row-requires

@@ -2,7 +2,7 @@ use Rattle.std.proofs.Common.{◌≡◌, length, List}
 use Rattle.std.specs.List.{All}
 use Rattle.ht_team.specs.Seats.{SeatView, deques_at}
 use Rattle.ht_team.specs.Gathering.{joined_rows, rows_of}
-use Rattle.ht_team.proofs.Joining.{own_deques}
+use Rattle.ht_team.specs.Opening.{own_deques}
 use Rattle.ht_team.proofs.close.join_all.Given as goal
 
 abbrev pub invariant-loop-seats : goal.invariant-loop-seats

@@ -1,7 +1,7 @@
 use Rattle.std.proofs.Common.{◌≡◌, length, map, take}
 use Rattle.ht_team.specs.Seats.{deques_at}
 use Rattle.ht_team.specs.Gathering.{joined_row}
-use Rattle.ht_team.proofs.Joining.{own_deques}
+use Rattle.ht_team.specs.Opening.{own_deques}
 use Rattle.ht_team.proofs.close.join_row.Given as goal
 
 abbrev pub invariant-loop-seat : goal.invariant-loop-seat
