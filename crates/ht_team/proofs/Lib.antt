@@ -8,3 +8,4 @@ pub mod Crews
 pub mod Backs
 pub mod Joining
 pub mod Settling
+pub mod Opens

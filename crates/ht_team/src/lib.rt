@@ -34,4 +34,6 @@ mod seating;
 mod serve;
 pub mod shared;
 pub mod space;
+#[cfg(test)]
+mod tests;
 pub mod work;
