@@ -1,5 +1,5 @@
 -- A pool before its threads begin, and what it has done once they have ended.
-use Rattle.std.specs.Prelude.{◌≡◌, ◌+◌, ◌≤◌, ℕ, List, [], ◌∷◌, ◌++◌, length, map, sum, drop, vec_len, vec_capacity}
+use Rattle.std.specs.Prelude.{◌≡◌, ◌≤◌, ℕ, List, [], ◌∷◌, ◌++◌, length, map, sum, drop, vec_len, vec_capacity}
 use Rattle.std.specs.List.{All, flat_map}
 use Rattle.crossbeam_queue.specs.Passes.{view as answer_view}
 use Rattle.ht_counts.specs.Counts.{SameCounts}
@@ -33,14 +33,13 @@ module _ {T : Type 0} where
   IsEmptied v = SameCounts v.taken v.pushed
 
 module _ {T A : Type 0} where
-  -- a pool of so many helpers, with this room
-  pub record IsOpened (helpers room : ℕ) (p : Pool T A) : Type 0 where
+  -- a pool with this room in each deque
+  pub record IsOpened (room : ℕ) (p : Pool T A) : Type 0 where
     pub post : p.post ≡ unused room p.post.deques p.shared
-    pub workers : length p.post.deques ≡ helpers + 1
     pub fresh : All (HasYetToServe p.shared) p.members.items
     pub berths_are : map berth_of p.members.items ≡ berths p.post.deques
     pub seats : vec_len p.members ≤ vec_capacity p.members
-    pub space : IsVacant (helpers + 1) p.space
+    pub space : IsVacant (length p.post.deques) p.space
 
   -- what went through the deques, the caller's first, and through the queue of answers
   abbrev pub through_deques : Closed T A → List (Hand T)

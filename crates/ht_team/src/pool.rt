@@ -37,7 +37,8 @@ impl<T: Drop + Send, A: Drop + Send> Pool<T, A> {
     pub fn open(alloc: Global, helpers: u8, room: u16) -> Result<Pool<T, A>, AllocError>
         requires few { helpers ≤ 63 }
         requires some { 1 ≤ room }
-        ensures { IfOk result (IsOpened helpers room) }
+        ensures opened { IfOk result (IsOpened room) }
+        ensures workers { IfOk result (λ pool. length pool.post.deques ≡ helpers + 1) }
     {
         let workers = usize::from(helpers) + 1;
         let (answers, mut pass): (AnswerQueue<A>, AnswerPass<A>) = AnswerQueue::ruled(

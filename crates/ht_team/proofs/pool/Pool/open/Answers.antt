@@ -5,6 +5,7 @@ use Rattle.ht_team.specs.Hands.{hand}
 use Rattle.ht_team.specs.Seats.{DequeId, SeatView, OwnView, fresh_seat, fresh_own, deques_at}
 use Rattle.ht_team.specs.Members.{berth, berths}
 use Rattle.ht_team.specs.Helms.{HelmView, unused}
+use Rattle.ht_team.specs.Pools.{IsVacant}
 use Rattle.ht_team.specs.Opening.{own_deques}
 use Rattle.ht_team.proofs.Lists.{all_first}
 use Rattle.ht_team.proofs.Opens.{ready-less, deques-fresh}
@@ -41,8 +42,18 @@ new-post-requires-clause-answers g c =
     let parts : 1024 - length c.take_first.new.all.items ≡ 1025 - length c.in-Some-pop.seats.items = omega (arith, long, all, one) in
     c.seat_all.ensures.pass ∙ ap (λ (n : ℕ). hand n [] []) parts
 
-pub returns : goal.returns
-returns g c =
+pub returns-clause-workers : goal.returns-clause-workers
+returns-clause-workers g c =
+    let ids : List DequeId = own_deques c.in_ok-owners.owners.items in
+    let ready = ready-less ids c.in_ok-owners.owners.items c.take_first.new.all.items c.in_ok-owners.rows.items
+    c.pop.new.self.items c.in-Some.own c.in-Some-pop.seats c.in-Some.ensures.items c.in-Some-pop.ensures.items c.in_ok-owners.ensures.ready in
+    let at : deques_at c.in-Some-pop.seats.items ≡ ids =
+    ap (λ (ss : List (SeatView g.row.T.Denot)). deques_at ss) ready.2 ∙ deques-fresh g.row.T.Denot ids in
+    ap (λ (v : HelmView g.row.T.Denot g.row.A.Denot). length v.deques) c.new-post.ensures ∙ (ap (λ (xs : List DequeId). length xs) at
+    ∙ (length-map c.in_ok-owners.owners.items (λ (o : OwnView g.row.T.Denot). o.deque) ∙ search rules))
+
+pub returns-clause-opened : goal.returns-clause-opened
+returns-clause-opened g c =
     let ids : List DequeId = own_deques c.in_ok-owners.owners.items in
     let ready = ready-less ids c.in_ok-owners.owners.items c.take_first.new.all.items c.in_ok-owners.rows.items
     c.pop.new.self.items c.in-Some.own c.in-Some-pop.seats c.in-Some.ensures.items c.in-Some-pop.ensures.items c.in_ok-owners.ensures.ready in
@@ -53,17 +64,18 @@ returns g c =
     let post = c.new-post.ensures in
     let deques : c.new-post.result.deques ≡ ids = ap (λ (v : HelmView g.row.T.Denot g.row.A.Denot). v.deques) post ∙ at in
     let queue : c.seat_all.new.pass.table_id ≡ c.new-shared.result = c.seat_all.ensures.queue.0 in
+    let workers : length c.new-post.result.deques ≡ c.args.helpers + 1 = ap (λ (xs : List DequeId). length xs) deques
+    ∙ (length-map c.in_ok-owners.owners.items (λ (o : OwnView g.row.T.Denot). o.deque) ∙ search rules) in
     let rest : drop 1 ids ≡ own_deques c.take_first.new.all.items =
     ap (λ (os : List (OwnView g.row.T.Denot)). drop 1 (own_deques os)) c.in-Some.ensures.items in
     record {
       post = post ∙ (ap (λ (n : ℕ). unused n (deques_at c.in-Some-pop.seats.items) c.seat_all.new.pass.table_id) rooms.0
           ∙ (ap (λ (xs : List DequeId). unused c.args.room xs c.seat_all.new.pass.table_id) (at ∙ sym deques)
           ∙ ap (unused c.args.room c.new-post.result.deques) queue));
-      workers = ap (λ (xs : List DequeId). length xs) deques
-          ∙ (length-map c.in_ok-owners.owners.items (λ (o : OwnView g.row.T.Denot). o.deque) ∙ search rules);
       fresh = c.seat_all.ensures.fresh ids ready.0;
       berths_are = c.seat_all.ensures.berths ids ready.0
           ∙ (ap (λ (xs : List DequeId). map (berth ids) xs) (sym rest) ∙ ap (λ (xs : List DequeId). berths xs) (sym deques));
       seats = search rules;
-      space = record { ran = search rules; owners = search rules; rows = search rules; deques = search rules };
+      space = subst (λ (n : ℕ). IsVacant n (record { ran = c.in_ok-ran.ran; owners = c.seat_all.new.owners; rows = c.seat_all.new.rows; deques = c.in_ok-deques.deques }))
+          (sym workers) (record { ran = search rules; owners = search rules; rows = search rules; deques = search rules });
     }
