@@ -48,6 +48,8 @@ module _ {T A : Type 0} (queue : TableId) (answers : List A) where
     same = record { room_is = ap (λ (v : OwnView T). v.room) popped; deques_are = refl; queue_is = refl };
     given_is = ap (λ (v : OwnView T). v.pushed) popped;
     took = took-own seats own own' task popped;
+    longer = same_length (own'.taken ++ taken_at seats) ((own.taken ++ taken_at seats) ++ task ∷ []) (took-own seats own own' task popped)
+        ∙ length-append (own.taken ++ taken_at seats) (task ∷ []);
     answers_are = refl;
   }
 
@@ -58,12 +60,10 @@ module _ {T A : Type 0} (queue : TableId) (answers : List A) where
     same = record { room_is = refl; deques_are = steals.at; queue_is = refl };
     given_is = refl;
     took = took-other seats own own task seats' refl steals;
+    longer = same_length (own.taken ++ taken_at seats') ((own.taken ++ taken_at seats) ++ task ∷ [])
+        (took-other seats own own task seats' refl steals) ∙ length-append (own.taken ++ taken_at seats) (task ∷ []);
     answers_are = refl;
   }
-
-  -- one task more
-  pub took_more : (old new : HelmView T A) (task : T) → TakesBack old new task → length new.taken ≡ length old.taken + 1
-  took_more old new task takes = same_length new.taken (old.taken ++ task ∷ []) takes.took ∙ length-append old.taken (task ∷ [])
 
   -- nothing was given or taken yet
   pub taken-none : (deques : List DequeId) → taken_at {T = T} (map fresh_seat deques) ≡ []

@@ -363,6 +363,15 @@ module _ {T A : Type 0} (asked : A → T) (queue : TableId) where
             accounted h,
             sum_by-none h waiting none_waits,
           ));
+          each = omega (
+            arith,
+            ap length numbers_are,
+            length-map members (λ (m : Member T A). m.ran),
+            members_long,
+            long,
+            ids_long,
+            ap length ids_are,
+          );
           numbers = numbers_are;
           ran = omega (
             arith,

@@ -56,4 +56,5 @@ module _ {T A : Type 0} where
     pub same : IsSameHelm old new
     pub given_is : new.given ≡ old.given
     pub took : SameCounts new.taken (old.taken ++ task ∷ [])
+    pub longer : length new.taken ≡ length old.taken + 1
     pub answers_are : new.answers ≡ old.answers

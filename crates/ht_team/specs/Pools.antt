@@ -64,5 +64,6 @@ module _ {T A : Type 0} where
     pub received : (through_queue c).taken ≡ helm.answers
     pub answers : SameCounts (through_queue c).taken (through_queue c).pushed
     -- how many each has run, the caller first
+    pub each : length c.ran.items ≡ length helm.deques
     pub numbers : c.ran.items ≡ length helm.taken ∷ map (λ (m : Member T A). m.ran) helpers
     pub ran : sum c.ran.items ≡ length helm.given
