@@ -148,7 +148,7 @@ module _ {T : Type 0} where
 
     pub row-step : (d new : OwnView T) → new ≡ took_in (get_or owners k d) seat → joined_row owners left ≡ joined_row owners0 seats0
         → (own_deques (set owners k new) ≡ own_deques owners0) × (deques_at rest ≡ take (length rest) (own_deques owners0))
-          × (joined_row (set owners k new) rest ≡ joined_row owners0 seats0)
+        × (joined_row (set owners k new) rest ≡ joined_row owners0 seats0)
     row-step d new took was = (
       map-set_same (λ (o : OwnView T). o.deque) owners k new d (ap (λ (o : OwnView T). o.deque) took) ∙ same,
       at_front rest seat (own_deques owners0) (front ∙ ap (λ (ids : List DequeId). take (suc (length rest)) ids) same),

@@ -117,7 +117,7 @@ module _ {T A : Type 0} (asked : A → T) (queue : TableId) where
   -- the shares of all workers together balance
   shares : (h : T → ℕ) (members : List (Member T A)) → AllByRecursion (HasServed asked queue) members
       → sum_by h (taken_by (owns members)) + sum_by h (taken_at_all (seats_of members))
-        ≡ sum_by h (pushed_by (owns members)) + sum_by h (map asked (answered_by members))
+      ≡ sum_by h (pushed_by (owns members)) + sum_by h (map asked (answered_by members))
   shares h [] all = omega arith
   shares h (m ∷ members) all =
       let asks : map asked (answered_by (m ∷ members)) ≡ map asked (answers_of m).pushed ++ map asked (answered_by members) =

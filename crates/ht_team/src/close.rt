@@ -80,10 +80,7 @@ fn join_all<T: Drop>(owners: &mut [OwnDeque<T>], mut rows: Vec<Vec<Seat<T>>>)
 }
 
 // The same for owners that are given back.
-fn join_owners<T: Drop>(
-    mut owners: Vec<OwnDeque<T>>,
-    rows: Vec<Vec<Seat<T>>>,
-) -> Vec<OwnDeque<T>>
+fn join_owners<T: Drop>(mut owners: Vec<OwnDeque<T>>, rows: Vec<Vec<Seat<T>>>) -> Vec<OwnDeque<T>>
     requires at { All (λ (seats : List (SeatView T)). deques_at seats ≡ map (λ (o : OwnView T). o.deque) owners.items) (rows_of rows.items) }
     ensures { result.items ≡ joined_rows owners.items (rows_of rows.items) }
 {

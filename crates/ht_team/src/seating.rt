@@ -27,10 +27,7 @@ fn open_all<T: Drop>(
 }
 
 // A seat at each deque.
-fn seat_row<T: Drop>(
-    alloc: Global,
-    owners: &mut [OwnDeque<T>],
-) -> Result<Vec<Seat<T>>, AllocError>
+fn seat_row<T: Drop>(alloc: Global, owners: &mut [OwnDeque<T>]) -> Result<Vec<Seat<T>>, AllocError>
     requires few { length owners.old ≤ 64 }
     requires some { All (λ (o : OwnView T). 1 < o.parts) owners.old }
     ensures owners { OnOk result (owners.new ≡ lent 1 owners.old) }

@@ -78,7 +78,15 @@ pub(crate) fn serve<W: Work, R: Wait>(
         pass,
         ran: _,
     } = member;
-    let (pass, ran) = run_tasks(rt, work, shared, seats.as_mut_slice(), place, &mut own, pass);
+    let (pass, ran) = run_tasks(
+        rt,
+        work,
+        shared,
+        seats.as_mut_slice(),
+        place,
+        &mut own,
+        pass,
+    );
     Member {
         own,
         seats,

@@ -7,8 +7,7 @@ use Rattle.ht_team.proofs.crew.+crew+fn-crew-join+arg3.Goals as goal
 pub join-mine-requires-after_bounds : goal.join-mine-requires-after_bounds
 join-mine-requires-after_bounds g t c κs within =
     let fresh = All-pop (HasYetToServe c.args.shared.now) c.args.members.items c.pop.new.self.items (Some c.in-Some.mine) c.in-Some.ensures.items
-    c.requires.fresh in
-    (
+    c.requires.fresh in (
       ((search rules, fresh.1), search rules),
       (
         search rules,

@@ -25,10 +25,10 @@ loop-own-preserved g c =
     let left = ap length first in
     let rows_left = ap length last ∙ length-append c.pop.new.self.items (seats ∷ []) in
     let one = c.another.ensures.one in
-    let less = λ (deques : List DequeId) (ready : AreReady deques c.args.owners.now.items c.args.rows.now.items). 
+    let less = λ (deques : List DequeId) (ready : AreReady deques c.args.owners.now.items c.args.rows.now.items).
     ready-less deques c.loop-own.owners.items c.take_first.new.all.items c.loop-own.rows.items c.pop.new.self.items own seats first
     last (was.ready deques ready) in
-    let new = λ (deques : List DequeId) (ready : AreReady deques c.args.owners.now.items c.args.rows.now.items). 
+    let new = λ (deques : List DequeId) (ready : AreReady deques c.args.owners.now.items c.args.rows.now.items).
     member_new c.args.shared.now deques m (less deques ready).1 (less deques ready).2 (was.ready deques ready).few
     (record {
       to = c.another.ensures.new_queue;

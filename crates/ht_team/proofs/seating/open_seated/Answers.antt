@@ -25,7 +25,7 @@ returns-clause-ready g c =
     let count = c.in_ok-owners.ensures.count in
     let made = back ∙ (lent_all ∙ ap (λ n. lent n os) count) in
     let rows = subst (λ (xs : List (OwnView g.row.T.Denot)). All (λ (ss : Vec (SeatView g.row.T.Denot)). ss.items ≡ map fresh_seat (own_deques xs))
-      c.in_ok-rows.rows.items) value c.in_ok-rows.ensures.rows in
+    c.in_ok-rows.rows.items) value c.in_ok-rows.ensures.rows in
     (all_ready c.args.room c.args.workers os
     (take c.in_ok-owners.owners.len (c.seat_rows.new.owners ++ drop (length c.seat_rows.new.owners) c.in_ok-owners.owners.items)) c.in_ok-rows.rows.items
     c.in_ok-owners.ensures.fresh count c.requires.few made rows).0
@@ -42,7 +42,7 @@ returns-clause-rooms g c =
     let count = c.in_ok-owners.ensures.count in
     let made = back ∙ (lent_all ∙ ap (λ n. lent n os) count) in
     let rows = subst (λ (xs : List (OwnView g.row.T.Denot)). All (λ (ss : Vec (SeatView g.row.T.Denot)). ss.items ≡ map fresh_seat (own_deques xs))
-      c.in_ok-rows.rows.items) value c.in_ok-rows.ensures.rows in
+    c.in_ok-rows.rows.items) value c.in_ok-rows.ensures.rows in
     (all_ready c.args.room c.args.workers os
     (take c.in_ok-owners.owners.len (c.seat_rows.new.owners ++ drop (length c.seat_rows.new.owners) c.in_ok-owners.owners.items)) c.in_ok-rows.rows.items
     c.in_ok-owners.ensures.fresh count c.requires.few made rows).1

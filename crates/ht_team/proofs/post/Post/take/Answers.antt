@@ -10,7 +10,7 @@ pub returns-in-Some-clause-took : goal.returns-in-Some-clause-took
 returns-in-Some-clause-took g c =
     let p = c.self.inside in
     subst (λ (old : HelmView g.row.T.Denot g.row.A.Denot). TakesBack old
-      (helm_view c.pop.new.self p.seats.items p.pass.table_id (answer_view p.pass).taken) c.in-Some.task) c.self.view_is
+    (helm_view c.pop.new.self p.seats.items p.pass.table_id (answer_view p.pass).taken) c.in-Some.task) c.self.view_is
     (takes-own p.pass.table_id (answer_view p.pass).taken p.own c.pop.new.self p.seats.items c.in-Some.task (search rules))
 
 pub returns-clause-took : goal.returns-clause-took
@@ -24,7 +24,7 @@ returns-clause-took g c =
     let at : List (SeatView g.row.T.Denot) → OwnView g.row.T.Denot → HelmView g.row.T.Denot g.row.A.Denot =
     λ seats own. helm_view own seats p.pass.table_id (answer_view p.pass).taken in
     subst (λ (old : HelmView g.row.T.Denot g.row.A.Denot). IfSome c.steal_one.result (TakesBack old
-      (at (take p.seats.len (c.steal_one.new.seats ++ drop (length c.steal_one.new.seats) p.seats.items)) c.pop.new.self))) c.self.view_is
+    (at (take p.seats.len (c.steal_one.new.seats ++ drop (length c.steal_one.new.seats) p.seats.items)) c.pop.new.self))) c.self.view_is
     (subst (λ (seats : List (SeatView g.row.T.Denot)). IfSome c.steal_one.result (TakesBack (at p.seats.items p.own) (at seats c.pop.new.self))) (sym back)
     (subst (λ (own : OwnView g.row.T.Denot). IfSome c.steal_one.result (TakesBack (at p.seats.items p.own) (at c.steal_one.new.seats own))) (sym still)
     (takes-other p.pass.table_id (answer_view p.pass).taken p.own p.seats.items c.steal_one.new.seats c.steal_one.result steals)))
