@@ -1,0 +1,103 @@
+//! Receiving the frames of a capture.
+ghost use Rattle.std.specs.Prelude.{◌≡◌, ◌≢◌, ◌≤◌, Err, MatchResult};
+ghost use Rattle.ht_io.specs.Devices.{IsLater};
+ghost use Rattle.ht_rx.specs.Frames.{booked_of};
+ghost use Rattle.ht_rx.specs.Outcomes.{StopsBy, TellsTo};
+
+use crate::book::Book;
+use crate::faults::{Ended, RxFault};
+use crate::gatherer::Gatherer;
+use crate::open_frame::OpenFrame;
+use crate::receiver::Receiver;
+use crate::telling::{tell, tell_alone};
+use ht_crew::Gate;
+use ht_inverse::{Alone, Together};
+use ht_io::Source;
+use std::alloc::Global;
+use std::sync::Wait;
+use std::thread::Threads;
+
+/// Reads a capture from the source, and books the result of each frame that is whole before the capture's first fault:
+/// the sums of the distances of its data jobs and of its pilot jobs, what its labels are decoded to, and at how many
+/// places the codewords differ from them.
+///
+/// Every job runs in this thread, between the two calls of the gate. At most `window` jobs, 1 to 4096, were read and
+/// not yet taken at any moment. Nothing of the capture is kept but the triangles of a frame, the samples of a symbol,
+/// these jobs and the labels of one frame.
+///
+/// It answers `Done` for a capture, and `Refused` with the first fault of an input that is none. It refuses with
+/// `Read` where the source failed, having booked the frames that were read whole; with `Write` where the book failed,
+/// also if the source did; and with `NoMemory`. In the last two cases a part of the frames was booked.
+pub fn receive_alone<S: Source, B: Book, G: Gate>(
+    alloc: Global,
+    window: u16,
+    source: &mut S,
+    book: &mut B,
+    gate: &G,
+) -> Result<Ended, RxFault>
+    requires some { 1 ≤ window }
+    requires few { window ≤ 4096 }
+    ensures receives { MatchResult result
+        (TellsTo (booked_of B.booked) (S.shown source.old) (S.shown source.new) (B.shown book.old) (B.shown book.new))
+        (StopsBy (booked_of B.booked) (S.shown source.old) (S.shown source.new) (B.shown book.old) (B.shown book.new)) }
+
+    // Where the book failed the answer is `Write`, whatever else failed.
+    ensures writes { result ≢ Err RxFault.Write → (B.shown book.new).faults ≡ (B.shown book.old).faults }
+
+    // However it ends, the devices are the same, and take back no fault.
+    ensures reads_later { IsLater (S.shown source.old) (S.shown source.new) }
+    ensures books_later { IsLater (B.shown book.old) (B.shown book.new) }
+    ensures same { B.lent book.new ≡ B.lent book.old }
+{
+    let mut open = OpenFrame::new(alloc);
+    let mut decoder = Alone::new();
+    let mut receiver = Receiver::new(alloc, &mut open, book, &mut decoder);
+    tell_alone(alloc, window, source, &mut receiver, gate)
+}
+
+/// Does as [`receive_alone`], and the jobs are run by 1 to 64 workers, of which the caller is one. The results are the
+/// same, in the same order.
+///
+/// Frames that are whole wait with their labels until there are as many as workers, and are then decoded at once, each in
+/// a thread of its own. They are decoded earlier where they have more than 131,072 octets together, where no job is due any
+/// more, and where a frame comes that is too short to be worth a thread. So at most three of the longest frames are kept
+/// and decoded at once, whatever the workers. Of one that is alone the codewords of two encoders are decoded in two threads.
+pub fn receive<R: Threads + Wait + Sync, S: Source, B: Book, G: Gate + Sync>(
+    rt: &R,
+    alloc: Global,
+    workers: u8,
+    window: u16,
+    source: &mut S,
+    book: &mut B,
+    gate: &G,
+) -> Result<Ended, RxFault>
+    requires one { 1 ≤ workers }
+    requires many { workers ≤ 64 }
+    requires some { 1 ≤ window }
+    requires few { window ≤ 4096 }
+    ensures receives { MatchResult result
+        (TellsTo (booked_of B.booked) (S.shown source.old) (S.shown source.new) (B.shown book.old) (B.shown book.new))
+        (StopsBy (booked_of B.booked) (S.shown source.old) (S.shown source.new) (B.shown book.old) (B.shown book.new)) }
+
+    // Where the book failed the answer is `Write`, whatever else failed.
+    ensures writes { result ≢ Err RxFault.Write → (B.shown book.new).faults ≡ (B.shown book.old).faults }
+
+    // However it ends, the devices are the same, and take back no fault.
+    ensures reads_later { IsLater (S.shown source.old) (S.shown source.new) }
+    ensures books_later { IsLater (B.shown book.old) (B.shown book.new) }
+    ensures same { B.lent book.new ≡ B.lent book.old }
+{
+    let mut under_way = OpenFrame::new(alloc);
+    let mut whole = Vec::new(alloc);
+    let mut decoder = Together::new(rt);
+    let mut gatherer = Gatherer {
+        rt,
+        alloc,
+        at_once: workers,
+        under_way: &mut under_way,
+        whole: &mut whole,
+        book,
+        decoder: &mut decoder,
+    };
+    tell(rt, alloc, workers, window, source, &mut gatherer, gate)
+}
