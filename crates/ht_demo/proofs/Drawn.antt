@@ -7,7 +7,7 @@ use Rattle.ht_sim.specs.Words.{first}
 use Rattle.ht_demo.specs.declared.plan.Plan.{Plan}
 use Rattle.ht_demo.specs.Demos.{planned}
 
-length-several : {A : Type 0} (draw : ℕ → Drawn A) (n z : ℕ) → length (several draw n z).value ≡ n
+pub length-several : {A : Type 0} (draw : ℕ → Drawn A) (n z : ℕ) → length (several draw n z).value ≡ n
 length-several draw zero z = refl
 length-several draw (suc n) z = ap suc (length-several draw n (draw z).state)
 
