@@ -33,7 +33,7 @@ mod status;
 mod tests;
 
 use ht_crew::Gate;
-use ht_demo::{Plan, demo_alone};
+use ht_demo::{Plan, demo, demo_alone};
 use ht_io::{Sink, Source};
 use ht_rx::{list, list_alone, receive_text, receive_text_alone};
 pub use ht_words::Asked;
@@ -87,6 +87,27 @@ pub fn run<R: Threads + Wait + Sync, S: Source, K: Sink, G: Gate + Sync>(
         Some(Asked::Rx { workers, window }) if workers > 1 => {
             let heard = receive_text(rt, alloc, workers, window, source, sink, gate);
             put_last(alloc, heard, sink)
+        }
+        Some(
+            Asked::Demo {
+                seed,
+                noise,
+                frames,
+                rate,
+                length,
+                workers,
+                window,
+            },
+        ) if workers > 1 => {
+            let plan = Plan {
+                seed,
+                noise,
+                frames,
+                rate,
+                length,
+            };
+            let line = demo(rt, alloc, workers, window, &plan, gate);
+            put_line(line, Status::Done, sink)
         }
         _ => carry_out(alloc, asked, source, sink, gate),
     }
@@ -164,7 +185,8 @@ fn carry_out<S: Source, K: Sink, G: Gate>(
                 rate,
                 length,
             };
-            put_line(demo_alone(alloc, window, &plan, gate), Status::Done, sink)
+            let line = demo_alone(alloc, window, &plan, gate);
+            put_line(line, Status::Done, sink)
         }
         None => put_usage(alloc, sink),
     }
