@@ -32,14 +32,7 @@ fn main(rt: HostRuntime) -> ExitCode {
     };
     let mut source = StdSource::new(reader);
     let mut sink = StdSink::new(writer(&rt));
-    let status = run(
-        &rt,
-        rt.alloc(),
-        &words,
-        &mut source,
-        &mut sink,
-        &OpenGate,
-    );
+    let status = run(&rt, rt.alloc(), &words, &mut source, &mut sink, &OpenGate);
     let (failed, error) = match status {
         Status::ReadFault => ("reading standard input", source.last_error()),
         Status::WriteFault => ("writing standard output", sink.last_error()),
