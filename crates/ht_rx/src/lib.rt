@@ -3,7 +3,8 @@
 //! A [`CaptureFeed`] stands between a capture and an [`Account`]. A drive of crate `ht_crew` asks it for jobs, which it
 //! takes from a capture's reader, and hands it their hits in order, which it hands on to the account. What becomes of
 //! the hits is the account's alone: a [`Lister`] puts a line for each, those of a symbol together; a [`Receiver`] books
-//! the [`FrameResult`] of each frame in a [`Book`] once its last hit came. What an account puts in all is a function of
+//! the [`FrameResult`] of each frame in a [`Book`] once its last hit came, and an account like it, which serves a crew of
+//! workers, lets whole frames wait and decodes several at once. What an account puts in all is a function of
 //! the jobs that come, so that one set of lemmas says for every account what a whole capture, a fault, a source that
 //! fails and a full memory come to (`specs/Telling.antt`, `specs/Outcomes.antt`).
 //!
@@ -34,6 +35,8 @@ mod book_fault;
 mod desk;
 mod faults;
 mod feed;
+mod gatherer;
+mod gathering;
 mod headed;
 mod lines;
 mod list_book;
@@ -49,6 +52,7 @@ mod telling;
 #[cfg(test)]
 mod tests;
 mod text_book;
+mod whole_frame;
 mod writing;
 
 pub use account::Account;

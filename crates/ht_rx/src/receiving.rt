@@ -6,6 +6,7 @@ ghost use Rattle.ht_rx.specs.Outcomes.{StopsBy, TellsTo};
 
 use crate::book::Book;
 use crate::faults::{Ended, RxFault};
+use crate::gatherer::Gatherer;
 use crate::open_frame::OpenFrame;
 use crate::receiver::Receiver;
 use crate::telling::{tell, tell_alone};
@@ -54,8 +55,13 @@ pub fn receive_alone<S: Source, B: Book, G: Gate>(
     tell_alone(alloc, window, source, &mut receiver, gate)
 }
 
-/// Does as [`receive_alone`], and the jobs are run by 1 to 64 workers, of which the caller is one. The two codewords of a
-/// frame of two encoders are decoded in two threads. The results are the same, in the same order.
+/// Does as [`receive_alone`], and the jobs are run by 1 to 64 workers, of which the caller is one. The results are the
+/// same, in the same order.
+///
+/// Frames that are whole wait with their labels until there are as many as workers, and are then decoded at once, each in
+/// a thread of its own. They are decoded earlier where they have more than 131,072 octets together, where no job is due any
+/// more, and where a frame comes that is too short to be worth a thread. So at most three of the longest frames are kept
+/// and decoded at once, whatever the workers. Of one that is alone the codewords of two encoders are decoded in two threads.
 pub fn receive<R: Threads + Wait + Sync, S: Source, B: Book, G: Gate + Sync>(
     rt: &R,
     alloc: Global,
@@ -81,8 +87,17 @@ pub fn receive<R: Threads + Wait + Sync, S: Source, B: Book, G: Gate + Sync>(
     ensures books_later { IsLater (B.shown book.old) (B.shown book.new) }
     ensures same { B.lent book.new ≡ B.lent book.old }
 {
-    let mut open = OpenFrame::new(alloc);
+    let mut under_way = OpenFrame::new(alloc);
+    let mut whole = Vec::new(alloc);
     let mut decoder = Together::new(rt);
-    let mut receiver = Receiver::new(alloc, &mut open, book, &mut decoder);
-    tell(rt, alloc, workers, window, source, &mut receiver, gate)
+    let mut gatherer = Gatherer {
+        rt,
+        alloc,
+        at_once: workers,
+        under_way: &mut under_way,
+        whole: &mut whole,
+        book,
+        decoder: &mut decoder,
+    };
+    tell(rt, alloc, workers, window, source, &mut gatherer, gate)
 }

@@ -18,6 +18,10 @@ use std::alloc::Global;
 use std::sync::Wait;
 use std::thread::Threads;
 
+/// The most jobs that are due at a time where one thread runs them all: so many that an account sees whether another job of
+/// its symbol follows, and so few that they stay in the processor's first cache.
+const SLOTS: u16 = 16;
+
 // How the reading of a capture ended whose drive answered this.
 fn end_of(desk: &Desk, driven: Result<Report, DriveFault<FeedFault>>) -> Result<Ended, RxFault>
     requires stopped { OnOk driven (is_some desk.now.stop ≡ true) }
@@ -61,7 +65,8 @@ pub(crate) fn tell_alone<S: Source, A: Account, G: Gate>(
     ensures puts_later { IsLater (A.shown account.old) (A.shown account.new) }
     ensures same { A.lent account.new ≡ A.lent account.old }
 {
-    let mut desk = Desk::new(alloc)?;
+    let window = window.min(SLOTS);
+    let mut desk = Desk::new(alloc, window)?;
     let mut feed = CaptureFeed::new(&mut desk, source, account);
     let driven = drive_alone(alloc, window, gate, &mut feed);
     end_of(&desk, driven)
@@ -90,7 +95,7 @@ pub(crate) fn tell<R: Threads + Wait + Sync, S: Source, A: Account, G: Gate + Sy
     ensures puts_later { IsLater (A.shown account.old) (A.shown account.new) }
     ensures same { A.lent account.new ≡ A.lent account.old }
 {
-    let mut desk = Desk::new(alloc)?;
+    let mut desk = Desk::new(alloc, window)?;
     let mut feed = CaptureFeed::new(&mut desk, source, account);
     let driven = drive(rt, alloc, workers, window, gate, &mut feed);
     end_of(&desk, driven)

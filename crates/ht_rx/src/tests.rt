@@ -1,4 +1,4 @@
-//! A capture whose jobs are run by the caller alone and by two workers: its lines and its frame.
+//! Captures of zeros, whose jobs are run by the caller alone and by several workers: their lines and their frames.
 use super::*;
 use ht_crew::OpenGate;
 use ht_inverse::Outcome;
@@ -6,14 +6,21 @@ use ht_io::{MemSink, MemSource};
 use std::alloc::{AllocError, Global};
 use std::test::Fail;
 
-// A capture of one frame at 20 MHz, MCS 0, of length 1: the diagonal 10 on each subcarrier, every sample 0.
-fn zeros(alloc: Global) -> Result<MemSource, AllocError> {
-    let mut octets = b"HTCP\x01\x00\x01\x00\x00\x00\x01".to_vec(alloc)?;
-    for _ in 0..56u8 {
-        octets.extend_from_slice(&[0, 10])?;
-    }
-    for _ in 0..896u16 {
-        octets.push(0)?;
+// A capture of frames at 20 MHz, MCS 0, of this length and with this many symbols: the diagonal 10 on each subcarrier,
+// every sample 0.
+fn zeros(alloc: Global, frames: u8, length: u8, symbols: u8) -> Result<MemSource, AllocError> {
+    let mut octets = b"HTCP\x01\x00".to_vec(alloc)?;
+    octets.push(frames)?;
+    for _ in 0..frames {
+        octets.extend_from_slice(&[0, 0, 0, length])?;
+        for _ in 0..56u8 {
+            octets.extend_from_slice(&[0, 10])?;
+        }
+        for _ in 0..symbols {
+            for _ in 0..448u16 {
+                octets.push(0)?;
+            }
+        }
     }
     Ok(MemSource::new(octets, Vec::new(alloc), Vec::new(alloc)))
 }
@@ -52,42 +59,60 @@ const WHOLE: Result<Ended, RxFault> = Ok(Ended::Done {
 fn lines(rt: HostRuntime) -> Result<(), Fail> {
     let alloc = rt.alloc();
     let text = lines_of_zeros(alloc)?;
-    let (mut one, mut two) = (room(alloc)?, room(alloc)?);
-    let alone = list_alone(alloc, 16, &mut zeros(alloc)?, &mut one, &OpenGate);
-    let together = list(&rt, alloc, 2, 16, &mut zeros(alloc)?, &mut two, &OpenGate);
-    assert_eq!(rt; alone, WHOLE);
-    assert_eq!(rt; together, WHOLE);
-    assert!(rt; one.held() == text.as_bytes());
-    assert!(rt; two.held() == text.as_bytes());
+    let mut source = zeros(alloc, 1, 1, 2)?;
+    let mut sink = room(alloc)?;
+    assert_eq!(rt;
+        list_alone(alloc, 16, &mut source, &mut sink, &OpenGate),
+        WHOLE
+    );
+    assert!(rt; sink.held() == text.as_bytes());
+    let mut source = zeros(alloc, 1, 1, 2)?;
+    let mut sink = room(alloc)?;
+    assert_eq!(rt;
+        list(&rt, alloc, 2, 16, &mut source, &mut sink, &OpenGate),
+        WHOLE
+    );
+    assert!(rt; sink.held() == text.as_bytes());
     Ok(())
 }
 
 #[test]
 fn frame(rt: HostRuntime) -> Result<(), Fail> {
     let alloc = rt.alloc();
-    let (mut one, mut two) = (ListBook::new(alloc), ListBook::new(alloc));
-    let alone = receive_alone(alloc, 16, &mut zeros(alloc)?, &mut one, &OpenGate);
-    let together = receive(&rt, alloc, 2, 16, &mut zeros(alloc)?, &mut two, &OpenGate);
-    assert_eq!(rt; alone, WHOLE);
-    assert_eq!(rt; together, WHOLE);
-    for book in [one, two] {
-        let results = book.results();
-        assert_eq!(rt; results.len(), 1);
-        assert_eq!(rt; results[0].frame, 0);
-        assert_eq!(rt; results[0].data_sum, 10400);
-        assert_eq!(rt; results[0].pilot_sum, 800);
-        assert_eq!(rt; results[0].code, 0);
-        assert!(rt; matches!(&results[0].outcome, Outcome::SeedZero));
-    }
+    let mut source = zeros(alloc, 1, 1, 2)?;
+    let mut sink = room(alloc)?;
+    assert_eq!(rt;
+        receive_text(&rt, alloc, 2, 16, &mut source, &mut sink, &OpenGate),
+        WHOLE
+    );
+    assert!(rt; sink.held() == b"frame 0 data 10400 pilot 800 code 0 seed zero\n".as_slice());
     Ok(())
 }
 
+// Frames of 40 symbols, long enough to wait for each other, by as many workers: each of the 52 data jobs of a symbol and
+// of its 4 pilot jobs is at 100.
 #[test]
-fn line_of_the_frame(rt: HostRuntime) -> Result<(), Fail> {
+fn long_frames(rt: HostRuntime) -> Result<(), Fail> {
     let alloc = rt.alloc();
-    let mut sink = room(alloc)?;
-    let ended = receive_text(&rt, alloc, 2, 16, &mut zeros(alloc)?, &mut sink, &OpenGate);
-    assert_eq!(rt; ended, WHOLE);
-    assert!(rt; sink.held() == b"frame 0 data 10400 pilot 800 code 0 seed zero\n".as_slice());
+    for workers in [1, 2, 3, 4] {
+        let mut source = zeros(alloc, 3, 127, 40)?;
+        let mut book = ListBook::new(alloc);
+        let ended = receive(&rt, alloc, workers, 256, &mut source, &mut book, &OpenGate);
+        assert_eq!(rt;
+            ended,
+            Ok(Ended::Done {
+                frames: 3,
+                jobs: 6720
+            })
+        );
+        assert_eq!(rt; book.results().len(), 3);
+        for (number, result) in book.results().iter().enumerate() {
+            assert_eq!(rt; usize::from(result.frame), number);
+            assert_eq!(rt; result.data_sum, 208000);
+            assert_eq!(rt; result.pilot_sum, 16000);
+            assert_eq!(rt; result.code, 0);
+            assert!(rt; matches!(&result.outcome, Outcome::SeedZero));
+        }
+    }
     Ok(())
 }
