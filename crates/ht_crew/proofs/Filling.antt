@@ -34,6 +34,7 @@ module _ {Fault : Type 0} where
   pub record Filling (w0 : WindowView) (f0 : FeedView Fault) (w : WindowView) (f : FeedView Fault) : Type 0 where
     pub holds : Holds w f
     pub capacity : w.capacity ≡ w0.capacity
+    pub front_is : w.front ≡ w0.front
     pub ran : waiting w.slots + f0.count ≡ waiting w0.slots + f.count
     pub front : front_hit w0.slots ≡ None → front_hit w.slots ≡ None
     pub bound : f.count < 2 ^ 64 - 1
@@ -83,6 +84,7 @@ module _ {Fault : Type 0} where
   filling_more w0 f0 w f f' job filling room running gives later bound = record {
     holds = holds_more w f f' job filling.holds room gives;
     capacity = filling.capacity;
+    front_is = filling.front_is;
     ran = omega (arith, filling.ran, waiting_more w.slots job, gives.count);
     front = λ e. front_stays w.slots job (filling.front e);
     bound = omega (arith, bound);

@@ -1,6 +1,7 @@
 mod Giving
 mod Filling
 mod Delivering
+mod First
 mod Running
 mod Whole
 mod Values

@@ -3,7 +3,7 @@ ghost use Rattle.std.specs.Prelude.{◌≡◌, ◌+◌, ◌-◌, ◌^◌, ◌<�
 ghost use Rattle.ht_crew.specs.Feeds.{IsFreshFeed, IsLeft};
 ghost use Rattle.ht_crew.specs.Driving.{CallFailed, IsInTurn};
 
-use crate::caller::{deliver, fill, run};
+use crate::caller::{fill, run_first};
 use crate::drive_fault::DriveFault;
 use crate::feed::Feed;
 use crate::gate::Gate;
@@ -86,11 +86,9 @@ fn run_all<F: Feed, G: Gate>(window: &mut Window, gate: &G, feed: &mut F) -> Res
     let mut running = true;
     loop {
         running = fill(window, feed, running)?;
-        let Some(job) = window.first_unbooked() else {
+        if !run_first(gate, window, feed)? {
             return Ok(ran);
-        };
-        window.accept(run(gate, &job));
+        }
         ran += 1;
-        deliver(window, feed)?;
     }
 }

@@ -20,6 +20,6 @@ impl<'a, G: Gate> Work for Detect<'a, G> {
     ghost asked = { λ hit. hit.job };
 
     fn run(&self, task: Job) -> Hit {
-        run(self.gate, &task)
+        run(self.gate, task)
     }
 }

@@ -5,7 +5,7 @@ use Rattle.std.proofs.lemmas.List.{drop_more, take-append-drop}
 use Rattle.std.proofs.lemmas.Grind.{flat_map-append}
 use Rattle.ht_io.specs.Devices.{Device, Takes}
 use Rattle.ht_io.specs.Pieces.{KnownGrown, KnownGrownByPart}
-use Rattle.ht_io.proofs.Pieces.{grown_by_part-front, grown_by_part-append}
+use Rattle.ht_io.proofs.Pieces.{grown-append, grown_by_part-front, grown_by_part-append}
 
 -- the same octets by another name
 pub takes_as : (before after : Device ℕ) (xs ys : List ℕ) → xs ≡ ys → Takes before after xs → Takes before after ys
@@ -46,3 +46,23 @@ part_at {X = X} f xs k x start held mid new lt at a b =
     ∙ ap (λ z. start ++ z) (sym (flat_map-append f (take k xs) (drop k xs)) ∙ ap (flat_map f) (take-append-drop k xs))) in
     subst (λ (w : List ℕ). KnownGrownByPart held new w) all
     (grown_by_part-append held mid new front (f x ++ rest) a (grown_by_part-front mid new (f x) rest b))
+
+-- a piece behind what was put
+pub piece_more : (front piece rest left whole : List ℕ) → piece ++ rest ≡ left → front ++ left ≡ whole → (front ++ piece) ++ rest ≡ whole
+piece_more front piece rest left whole e all = append_assoc front piece rest ∙ (ap (λ z. front ++ z) e ∙ all)
+
+pub grows_piece : (held mid new : Option (List ℕ)) (front piece put : List ℕ) → KnownGrown held mid front
+    → KnownGrown mid new put → put ≡ piece → KnownGrown held new (front ++ piece)
+grows_piece held mid new front piece put a b is = grown-append held mid new front piece a (subst (λ (p : List ℕ). KnownGrown mid new p) is b)
+
+-- a part of a piece behind what was put
+pub part_more : (held mid new : Option (List ℕ)) (front piece put rest left whole : List ℕ)
+    → KnownGrown held mid front → KnownGrownByPart mid new put → put ≡ piece
+    → piece ++ rest ≡ left → front ++ left ≡ whole → KnownGrownByPart held new whole
+part_more held mid new front piece put rest left whole a b is e all =
+    let part : KnownGrownByPart mid new (piece ++ rest) = grown_by_part-front mid new piece rest (subst (λ (p : List ℕ). KnownGrownByPart mid new p) is b) in
+    subst (λ (w : List ℕ). KnownGrownByPart held new w) (ap (λ z. front ++ z) e ∙ all) (grown_by_part-append held mid new front (piece ++ rest) a part)
+
+-- a list in two parts
+pub map_split : {X : Type 0} (f : X → List ℕ) (xs : List X) (k : ℕ) → flat_map f (take k xs) ++ flat_map f (drop k xs) ≡ flat_map f xs
+map_split f xs k = sym (flat_map-append f (take k xs) (drop k xs)) ∙ ap (flat_map f) (take-append-drop k xs)

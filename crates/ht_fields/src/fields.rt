@@ -39,10 +39,8 @@ pub fn octet<S: Source>(source: &mut S, at: u64) -> Result<u8, InFault>
     ensures later { IsLater (S.shown source.old) (S.shown source.new) }
 {
     let mut octets = [0u8; 1];
-    match fill(source, at, &mut octets) {
-        Ok(()) => Ok(octets[0]),
-        Err(fault) => Err(fault),
-    }
+    fill(source, at, &mut octets)?;
+    Ok(octets[0])
 }
 
 /// Reads a field of two octets.
@@ -53,10 +51,8 @@ pub fn pair<S: Source>(source: &mut S, at: u64) -> Result<[u8; 2], InFault>
     ensures later { IsLater (S.shown source.old) (S.shown source.new) }
 {
     let mut octets = [0u8; 2];
-    match fill(source, at, &mut octets) {
-        Ok(()) => Ok(octets),
-        Err(fault) => Err(fault),
-    }
+    fill(source, at, &mut octets)?;
+    Ok(octets)
 }
 
 /// Reads a field that is a number of two octets, big-endian.
@@ -66,10 +62,8 @@ pub fn number<S: Source>(source: &mut S, at: u64) -> Result<u16, InFault>
     ensures lacking { IfErr result (LacksField 2 at (S.shown source.old) (S.shown source.new)) }
     ensures later { IsLater (S.shown source.old) (S.shown source.new) }
 {
-    match pair(source, at) {
-        Ok(octets) => Ok(BigEndian::read_u16(&octets)),
-        Err(fault) => Err(fault),
-    }
+    let octets = pair(source, at)?;
+    Ok(BigEndian::read_u16(&octets))
 }
 
 /// Reads an octet that has one value; another one is this kind of fault.
@@ -79,15 +73,10 @@ pub fn one_octet<S: Source>(source: &mut S, at: u64, wanted: u8, kind: Kind) -> 
     ensures failed { IfErr result (FailsField 1 kind (differs wanted) at (S.shown source.old) (S.shown source.new)) }
     ensures later { IsLater (S.shown source.old) (S.shown source.new) }
 {
-    match octet(source, at) {
-        Ok(octet) => {
-            if octet == wanted {
-                Ok(())
-            } else {
-                Err(bad(kind, at))
-            }
-        }
-        Err(fault) => Err(fault),
+    if octet(source, at)? == wanted {
+        Ok(())
+    } else {
+        Err(bad(kind, at))
     }
 }
 

@@ -14,9 +14,10 @@
 //! `77 1 1 9 5` gives it and is Trailing at 4, and `77 3 1 9 4 8 0` gives it and has a bad record at 4.
 //!
 //! `read_field` reads one field from any source, in whatever pieces the source gives it, and takes no octet
-//! behind the field. `octet`, `pair` and `number` read a field or say why there is none, `one_octet` one that has a
-//! single value, and `end` sees that nothing follows. The specs of this crate have the words for what a reader does
-//! and for how the reading of a whole file ends, and `laws` what holds of every format.
+//! behind the field; `read_front` tells how many octets came, also where the source failed. `octet`, `pair` and `number`
+//! read a field or say why there is none, `one_octet` one that has a single value, and `end` sees that nothing follows.
+//! The specs of this crate have the words for what a reader does and for how the reading of a whole file ends, and `laws`
+//! what holds of every format.
 #![tactic(auto)]
 
 mod chunk;
@@ -26,4 +27,4 @@ pub mod read;
 
 pub use chunk::Chunk;
 pub use fields::{bad, end, fill, number, octet, one_octet, pair};
-pub use read::{Field, read_field};
+pub use read::{Field, read_field, read_front};

@@ -1,6 +1,6 @@
 //! Fields read whole from a source.
-ghost use Rattle.std.specs.Prelude.{◌≡◌};
-ghost use Rattle.ht_io.specs.Devices.{Rose, IsLater};
+ghost use Rattle.std.specs.Prelude.{◌≡◌, ◌≤◌, ◌<◌, length, take, IfOk, IfErr, OnErr};
+ghost use Rattle.ht_io.specs.Devices.{Rose, IsLater, Takes, TakesAll};
 ghost use Rattle.ht_fields.specs.Reading.{ReadsField};
 
 use ht_io::{Failed, Source};
@@ -17,6 +17,29 @@ pub enum Field {
     Broken,
 }
 
+/// Reads octets into the front of the slice until it is full, the input ends or the source fails, in as many reads as
+/// the source takes for it, and gives how many came. Where the slice has more, the input ended behind them.
+///
+/// `Err` tells how many came before the source failed.
+pub fn read_front<S: Source>(source: &mut S, into: &mut [u8]) -> Result<usize, usize>
+    ensures within { IfOk result (λ count. count ≤ length into.new) }
+    ensures taken { IfOk result (λ count. Takes (S.shown source.old) (S.shown source.new) (take count into.new)) }
+    ensures ended { IfOk result (λ count. count < length into.new → TakesAll (S.shown source.old) (S.shown source.new) (take count into.new)) }
+    ensures broken { IfErr result (λ count. (count < length into.new) × Takes (S.shown source.old) (S.shown source.new) (take count into.new)) }
+    ensures cause { OnErr result (Rose (S.shown source.old) (S.shown source.new)) }
+    ensures later { IsLater (S.shown source.old) (S.shown source.new) }
+{
+    let mut count = 0;
+    while count < into.len() {
+        match source.read(&mut into[count..]) {
+            Ok(0) => return Ok(count),
+            Ok(more) => count += more,
+            Err(Failed) => return Err(count),
+        }
+    }
+    Ok(count)
+}
+
 /// Reads one field, of as many octets as `into` has, in as many reads as the source takes for it.
 /// No octet behind the field is taken.
 pub fn read_field<S: Source>(source: &mut S, into: &mut [u8]) -> Field
@@ -24,15 +47,16 @@ pub fn read_field<S: Source>(source: &mut S, into: &mut [u8]) -> Field
     ensures cause { result ≡ Field.Broken → Rose (S.shown source.old) (S.shown source.new) }
     ensures later { IsLater (S.shown source.old) (S.shown source.new) }
 {
-    let mut count = 0;
-    while count < into.len() {
-        match source.read(&mut into[count..]) {
-            Ok(0) => return Field::Ended(count),
-            Ok(more) => count += more,
-            Err(Failed) => return Field::Broken,
+    match read_front(source, into) {
+        Ok(count) => {
+            if count < into.len() {
+                Field::Ended(count)
+            } else {
+                Field::Whole
+            }
         }
+        Err(_) => Field::Broken,
     }
-    Field::Whole
 }
 
 #[cfg(test)]

@@ -1,21 +1,30 @@
-//! The points of a frame that are read one after another.
-ghost use Rattle.std.specs.Prelude.{◌≡◌, ◌≤◌, ◌<◌, ◌+◌, ◌^◌, ℕ, [], flat_map, vec_capacity, IfOk, IfErr, OnOk};
+//! The points of a frame, read symbol by symbol.
+ghost use Rattle.std.specs.Prelude.{◌≡◌, ◌≤◌, ◌<◌, ◌+◌, ◌*◌, ◌/◌, ◌^◌, ℕ, [], length, flat_map, vec_capacity, IfOk, IfErr, OnOk};
 ghost use Rattle.ht_io.specs.Devices.{Takes, IsLater};
 ghost use Rattle.ht_io.specs.declared.faults.InFault.TheVariants.{NoMemory};
-ghost use Rattle.ht_fields.specs.Lacking.{FailsField};
-ghost use Rattle.ht_rate.specs.Carriers.{IsAmong, carrier_of};
+ghost use Rattle.ht_fields.specs.Readers.{reader_in};
+ghost use Rattle.ht_fields.specs.WholeFiles.{EndsEarly};
+ghost use Rattle.ht_rate.specs.Carriers.{IsAmong};
 ghost use Rattle.ht_rate.specs.Rates.{carriers_of, streams_of};
-ghost use Rattle.ht_tx.specs.Symbols.{Fits, IsSymbols, points_of};
-ghost use Rattle.ht_files.specs.Places.{IsAt};
-ghost use Rattle.ht_files.specs.Points.{PointsFail, fits_carrier, kind_on, misfits, point_in, point_octets};
+ghost use Rattle.ht_tx.specs.Symbols.{IsSymbols, points_of};
+ghost use Rattle.ht_files.specs.HeadedFormats.{Body};
+ghost use Rattle.ht_files.specs.Places.{AreFitting, IsAt};
+ghost use Rattle.ht_files.specs.Points.{AddsPoints, AreCarriers, MeetsMisfit, TakesSymbol, first_point, fits_carrier, kind_on};
+ghost use Rattle.ht_files.specs.Points.{point_in, point_octets, points_due, symbols};
 
-use ht_fields::{bad, fill};
+use ht_fields::{bad, read_front};
 use ht_io::{InFault, Kind, Source};
 use ht_map::label;
 use ht_pam::Point;
 use ht_pilot::pilot;
 use ht_rate::{Carrier, Rate};
 use std::alloc::Global;
+
+/// The most subcarriers of a frame.
+const CARRIERS: usize = 114;
+
+/// The most octets of a symbol's points.
+const SYMBOL: usize = 912;
 
 // The symbol, subcarrier and stream of a point, all counted from 0.
 #[derive(Clone, Copy, Debug, PartialEq, Eq, Drop)]
@@ -85,29 +94,104 @@ fn kind(carrier: Carrier) -> Kind
     }
 }
 
-// Reads the point of a symbol, subcarrier and stream.
-fn point<S: Source>(source: &mut S, at: u64, rate: &Rate, walk: Walk) -> Result<Point, InFault>
-    requires room { at + 2 < 2 ^ 64 }
-    requires index { walk.index < carriers_of rate.now }
-    requires stream { walk.stream < streams_of rate.now }
-    ensures whole { IfOk result (λ point. Takes (S.shown source.old) (S.shown source.new) (point_octets point)) }
-    ensures fits { IfOk result (λ point. Fits rate.now walk.symbol (carrier_of rate.now walk.index) (walk.stream + 1) point) }
-    ensures failed { IfErr result (FailsField 2 (kind_on (carrier_of rate.now walk.index))
-        (misfits rate.now walk.symbol (carrier_of rate.now walk.index) (walk.stream + 1)) at (S.shown source.old) (S.shown source.new)) }
+// What the subcarriers of a rate carry, by their index.
+fn carriers(rate: &Rate) -> [Carrier; CARRIERS]
+    ensures { AreCarriers rate.now result }
+{
+    let mut carriers = [Carrier::Data(0); CARRIERS];
+    for index in 0..rate.carriers() {
+        carriers[usize::from(index)] = rate.carrier(index);
+    }
+    carriers
+}
+
+// Adds the points of a symbol that stand in the octets, the first of them at offset `at`, while they fit. An octet that
+// is left alone at the end is no point.
+fn add_points(
+    rate: &Rate,
+    carriers: &[Carrier; CARRIERS],
+    symbol: u32,
+    at: u64,
+    octets: &[u8],
+    points: &mut Vec<Point>,
+) -> Result<(), InFault>
+    requires carriers { AreCarriers rate.now carriers.now }
+    requires start { IsAt rate.now (length points.old.items) symbol 0 0 }
+    requires offset { at + length octets.now < 2 ^ 64 }
+    requires room { length points.old.items + length octets.now / 2 ≤ vec_capacity points.old }
+    requires few { length points.old.items + length octets.now / 2 ≤ 9195696 }
+    requires fitting { AreFitting rate.now points.old.items }
+    ensures fitting { AreFitting rate.now points.new.items }
+    ensures added { OnOk result (AddsPoints points.old.items points.new.items octets.now) }
+    ensures misfit { IfErr result (MeetsMisfit rate.now at points.old.items points.new.items octets.now) }
+    ensures room { vec_capacity points.new ≡ vec_capacity points.old }
+{
+    let mut walk = Walk {
+        symbol,
+        index: 0,
+        stream: 0,
+    };
+    for place in 0..octets.len() / 2 {
+        let point = made([octets[2 * place], octets[2 * place + 1]]);
+        let carrier = carriers[usize::from(walk.index)];
+        if !is_fitting(rate, walk.symbol, carrier, walk.stream + 1, point) {
+            return Err(bad(kind(carrier), at + 2 * place as u64));
+        }
+        points.push_reserved(point);
+        walk = next(rate, walk);
+    }
+    Ok(())
+}
+
+// Reads the points of a symbol by way of the block, which has room for just them, and adds them.
+fn symbol<S: Source>(
+    source: &mut S,
+    at: u64,
+    rate: &Rate,
+    carriers: &[Carrier; CARRIERS],
+    symbol: u32,
+    block: &mut [u8],
+    points: &mut Vec<Point>,
+) -> Result<(), InFault>
+    requires carriers { AreCarriers rate.now carriers.now }
+    requires start { IsAt rate.now (length points.old.items) symbol 0 0 }
+    requires offset { at + length block.old < 2 ^ 64 }
+    requires block { length block.old ≡ 2 * (carriers_of rate.now * streams_of rate.now) }
+    requires room { length points.old.items + carriers_of rate.now * streams_of rate.now ≤ vec_capacity points.old }
+    requires few { length points.old.items + carriers_of rate.now * streams_of rate.now ≤ 9195696 }
+    requires fitting { AreFitting rate.now points.old.items }
+    ensures fitting { AreFitting rate.now points.new.items }
+    ensures whole { OnOk result (TakesSymbol rate.now points.old.items points.new.items (S.shown source.old) (S.shown source.new)) }
+    ensures failed { (left len : ℕ) → length points.old.items + carriers_of rate.now * streams_of rate.now ≤ points_of rate.now len
+        → IfErr result (EndsEarly (reader_in symbols (Body (points_due left rate.now len points.old.items)) at (S.shown source.old))
+        (S.shown source.new)) }
+    ensures room { vec_capacity points.new ≡ vec_capacity points.old }
     ensures later { IsLater (S.shown source.old) (S.shown source.new) }
 {
-    let mut octets = [0u8; 2];
-    match fill(source, at, &mut octets) {
-        Ok(()) => {}
-        Err(fault) => return Err(fault),
+    match read_front(source, block) {
+        Ok(count) => match add_points(rate, carriers, symbol, at, &block[..count], points) {
+            Ok(()) => {
+                if count < block.len() {
+                    Err(bad(Kind::Truncated, at + count as u64))
+                } else {
+                    Ok(())
+                }
+            }
+            Err(fault) => Err(fault),
+        },
+        Err(count) => match add_points(rate, carriers, symbol, at, &block[..count], points) {
+            Ok(()) => Err(InFault::Read),
+            Err(fault) => Err(fault),
+        },
     }
-    let point = made(octets);
-    let carrier = rate.carrier(walk.index);
-    if is_fitting(rate, walk.symbol, carrier, walk.stream + 1, point) {
-        Ok(point)
-    } else {
-        Err(bad(kind(carrier), at))
-    }
+}
+
+// The number of octets of a symbol's points.
+fn width(rate: &Rate) -> usize
+    ensures value { result ≡ 2 * (carriers_of rate.now * streams_of rate.now) }
+    ensures bound { result ≤ 912 }
+{
+    2 * (usize::from(rate.carriers()) * usize::from(rate.streams()))
 }
 
 // The number of points of a frame.
@@ -147,20 +231,27 @@ pub fn read_points<S: Source>(
     requires room { points_of rate.now length ≤ vec_capacity points.old }
     ensures whole { OnOk result (Takes (S.shown source.old) (S.shown source.new) (flat_map point_octets points.new.items)) }
     ensures fits { OnOk result (IsSymbols rate.now length points.new.items) }
-    ensures failed { IfErr result (PointsFail rate.now length at (S.shown source.old) (S.shown source.new)) }
+    ensures failed { (left : ℕ) → IfErr result (EndsEarly (reader_in symbols (Body (first_point left rate.now length)) at (S.shown source.old))
+        (S.shown source.new)) }
     ensures later { IsLater (S.shown source.old) (S.shown source.new) }
 {
-    let mut walk = Walk {
-        symbol: 0,
-        index: 0,
-        stream: 0,
-    };
-    for place in 0..count_of(rate, length) {
-        match point(source, at + 2 * place as u64, rate, walk) {
-            Ok(point) => points.push_reserved(point),
+    let carriers = carriers(rate);
+    let width = width(rate);
+    let mut block = [0u8; SYMBOL];
+    let mut at = at;
+    for index in 0..rate.symbols(length) {
+        match symbol(
+            source,
+            at,
+            rate,
+            &carriers,
+            index,
+            &mut block[..width],
+            points,
+        ) {
+            Ok(()) => at += width as u64,
             Err(fault) => return Err(fault),
         }
-        walk = next(rate, walk);
     }
     Ok(())
 }

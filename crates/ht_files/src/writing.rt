@@ -6,10 +6,14 @@ ghost use Rattle.ht_files.specs.Files.{frames_file_of, frame_octets};
 ghost use Rattle.ht_files.specs.Points.{point_octets};
 ghost use Rattle.ht_files.specs.SymbolFiles.{symbols_file_of, symbols_octets};
 
+use ht_fields::Chunk;
 use ht_heads::{head_of, start_of};
 use ht_io::{Failed, Sink};
 use ht_pam::Point;
 use ht_tx::{Frame, Symbols};
+
+/// The number of points that are put at once: as many as fill a chunk.
+const POINTS: usize = 2048;
 
 // What stands in front of the octets of a frame's PSDU.
 fn front(frame: &Frame) -> [u8; 5]
@@ -62,23 +66,38 @@ fn octets_of_point(point: &Point) -> [u8; 2]
     [i[0], q[0]]
 }
 
-// Puts points.
-fn put_points<K: Sink>(points: &[Point], sink: &mut K) -> Result<(), Failed>
+// Fills the chunk with points.
+fn fill(chunk: &mut Chunk, points: &[Point])
+    requires few { length points.now ≤ 2048 }
+    ensures { chunk.new ≡ flat_map point_octets points.now }
+{
+    chunk.clear();
+    for point in points {
+        chunk.add(&octets_of_point(point));
+    }
+}
+
+// Puts points, as many at once as fill the chunk.
+fn put_points<K: Sink>(points: &[Point], chunk: &mut Chunk, sink: &mut K) -> Result<(), Failed>
     ensures grown { OnOk result (Grows (K.shown sink.old) (K.shown sink.new) (flat_map point_octets points.now)) }
     ensures steady { OnOk result ((K.shown sink.new).faults ≡ (K.shown sink.old).faults) }
     ensures part { OnErr result (GrowsByPart (K.shown sink.old) (K.shown sink.new) (flat_map point_octets points.now)) }
     ensures cause { OnErr result (Rose (K.shown sink.old) (K.shown sink.new)) }
     ensures later { IsLater (K.shown sink.old) (K.shown sink.new) }
 {
-    for point in points {
-        sink.put(&octets_of_point(point))?;
+    let mut rest = points;
+    while !rest.is_empty() {
+        let (now, later) = rest.split_at(rest.len().min(POINTS));
+        fill(chunk, now);
+        sink.put(chunk.as_slice())?;
+        rest = later;
     }
     Ok(())
 }
 
 // Puts the symbols of a frame.
 #[tactic(auto, unfolding(crate::specs::SymbolFiles::symbols_octets))]
-fn put_symbols<K: Sink>(frame: &Symbols, sink: &mut K) -> Result<(), Failed>
+fn put_symbols<K: Sink>(frame: &Symbols, chunk: &mut Chunk, sink: &mut K) -> Result<(), Failed>
     ensures grown { OnOk result (Grows (K.shown sink.old) (K.shown sink.new) (symbols_octets frame.now)) }
     ensures steady { OnOk result ((K.shown sink.new).faults ≡ (K.shown sink.old).faults) }
     ensures part { OnErr result (GrowsByPart (K.shown sink.old) (K.shown sink.new) (symbols_octets frame.now)) }
@@ -87,7 +106,7 @@ fn put_symbols<K: Sink>(frame: &Symbols, sink: &mut K) -> Result<(), Failed>
 {
     let head = head_of(&frame.rate(), frame.length());
     sink.put(&head)?;
-    put_points(frame.points(), sink)
+    put_points(frame.points(), chunk, sink)
 }
 
 /// Puts the file of the symbols of these frames (HTSY). It takes no memory.
@@ -104,8 +123,9 @@ pub fn write_symbols<K: Sink>(frames: &[Symbols], sink: &mut K) -> Result<(), Fa
 {
     let start = start_of(b"HTSY", 1, frames.len() as u16);
     sink.put(&start)?;
+    let mut chunk = Chunk::new();
     for frame in frames {
-        put_symbols(frame, sink)?;
+        put_symbols(frame, &mut chunk, sink)?;
     }
     Ok(())
 }

@@ -36,15 +36,11 @@ fn bandwidth<S: Source>(source: &mut S, at: u64) -> Result<u8, InFault>
     ensures failed { IfErr result (FailsField 1 BadBandwidth (is_above 1) at (S.shown source.old) (S.shown source.new)) }
     ensures later { IsLater (S.shown source.old) (S.shown source.new) }
 {
-    match octet(source, at) {
-        Ok(code) => {
-            if code > 1 {
-                Err(bad(Kind::BadBandwidth, at))
-            } else {
-                Ok(code)
-            }
-        }
-        Err(fault) => Err(fault),
+    let code = octet(source, at)?;
+    if code > 1 {
+        Err(bad(Kind::BadBandwidth, at))
+    } else {
+        Ok(code)
     }
 }
 
@@ -57,12 +53,10 @@ fn mcs<S: Source>(source: &mut S, at: u64, code: u8) -> Result<Rate, InFault>
     ensures failed { IfErr result (FailsField 1 BadMcs (is_above 31) at (S.shown source.old) (S.shown source.new)) }
     ensures later { IsLater (S.shown source.old) (S.shown source.new) }
 {
-    match octet(source, at) {
-        Ok(index) => match Rate::of(code, index) {
-            Ok(rate) => Ok(rate),
-            Err(_) => Err(bad(Kind::BadMcs, at)),
-        },
-        Err(fault) => Err(fault),
+    let index = octet(source, at)?;
+    match Rate::of(code, index) {
+        Ok(rate) => Ok(rate),
+        Err(_) => Err(bad(Kind::BadMcs, at)),
     }
 }
 
@@ -74,15 +68,11 @@ fn length<S: Source>(source: &mut S, at: u64) -> Result<u16, InFault>
     ensures failed { IfErr result (FailsField 2 BadLength is_zero at (S.shown source.old) (S.shown source.new)) }
     ensures later { IsLater (S.shown source.old) (S.shown source.new) }
 {
-    match number(source, at) {
-        Ok(length) => {
-            if length == 0 {
-                Err(bad(Kind::BadLength, at))
-            } else {
-                Ok(length)
-            }
-        }
-        Err(fault) => Err(fault),
+    let length = number(source, at)?;
+    if length == 0 {
+        Err(bad(Kind::BadLength, at))
+    } else {
+        Ok(length)
     }
 }
 

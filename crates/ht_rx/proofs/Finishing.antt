@@ -1,5 +1,5 @@
 -- What a feed did over a new desk.
-use Rattle.std.specs.Prelude.{◌≡◌, ℕ, List, [], ◌++◌, length, Option, Some, None, Result, Ok, Err, IsErr, IsErrAnd, MatchResult}
+use Rattle.std.specs.Prelude.{◌≡◌, ℕ, List, [], ◌++◌, length, Option, Some, None, is_some, true, Result, Ok, Err, IsErr, IsErrAnd, MatchResult}
 use Rattle.std.proofs.Common.{refl, ap, ◌∙◌, sym, subst, append-nil, arith}
 use Rattle.std.proofs.lemmas.Bool.{false≢true}
 use Rattle.ht_io.specs.Devices.{Device, Grows, GrowsByPart, Rose, IsLater}
@@ -9,7 +9,7 @@ use Rattle.ht_capture.specs.declared.items.FrameHead.{FrameHead}
 use Rattle.ht_capture.specs.declared.items.Item.{Item}
 use Rattle.ht_results.specs.declared.headed.Headed.{Headed}
 use Rattle.ht_rx.specs.declared.stop.Stop.{Stop}
-use Rattle.ht_rx.specs.declared.stop.Stop.TheVariants.{Broken}
+use Rattle.ht_rx.specs.declared.stop.Stop.TheVariants.{Whole, Refused, Broken}
 use Rattle.ht_rx.specs.declared.faults.FeedFault.{FeedFault}
 use Rattle.ht_rx.specs.declared.faults.FeedFault.TheVariants.{Write, NoMemory}
 use Rattle.ht_rx.specs.declared.faults.RxFault.{RxFault}
@@ -18,15 +18,15 @@ use Rattle.ht_rx.specs.Accounts.{Telling, PutsFirst, pieces_of}
 use Rattle.ht_results.specs.Heads.{headed}
 use Rattle.ht_results.specs.Texts.{frames_of}
 use Rattle.ht_rx.specs.Texts.{jobs_of}
-use Rattle.ht_rx.specs.Stops.{fault_of}
+use Rattle.ht_rx.specs.Stops.{ended_at, fault_of}
 use Rattle.ht_rx.specs.Reading.{Closes, ReadsBy}
 use Rattle.ht_rx.specs.Desks.{DeskView, IsNewDesk}
 use Rattle.ht_rx.specs.Telling.{Tells, TellsPart, seen_by}
-use Rattle.ht_rx.specs.Outcomes.{TellsBroken, TellsPieces, StopsBy}
-use Rattle.ht_rx.proofs.Outcomes.{start, part, broken, known}
+use Rattle.ht_rx.specs.Outcomes.{TellsBroken, TellsPieces, TellsTo, StopsBy}
+use Rattle.ht_rx.proofs.Outcomes.{start, part, whole, refused, broken, known}
 
 -- all items were read, and all pieces of their jobs were put
-pub record Finished {P : Type 0} (pieces : List Headed → List P) (head : FrameHead) (source source' : Device ℕ) (device device' : Device P) (frames jobs : ℕ) (stop : Stop) : Type 0 where
+record Finished {P : Type 0} (pieces : List Headed → List P) (head : FrameHead) (source source' : Device ℕ) (device device' : Device P) (frames jobs : ℕ) (stop : Stop) : Type 0 where
   pub items : List Item
   pub between : ReaderView Item
   pub gives : Gives (start source) between items
@@ -51,7 +51,7 @@ pieces_put {P = P} old new taken put first none =
     ap old (sym (append-nil taken)) ∙ (first [] ∙ (ap (λ (xs : List P). put ++ xs) none ∙ append-nil put))
 
 module _ {P : Type 0} where
-  pub finished : (old new : DeskView) (source source' : Device ℕ) (a b : Telling P) (jobs : ℕ) (stop : Stop)
+  finished : (old new : DeskView) (source source' : Device ℕ) (a b : Telling P) (jobs : ℕ) (stop : Stop)
       → IsNewDesk old → Tells (seen_by old source a) (seen_by new source' b) → new.stop ≡ Some stop → new.due ≡ []
       → a.Waits [] → (b.Waits [] → b.pieces [] ≡ []) → jobs ≡ new.count
       → Finished a.pieces old.head source source' a.device b.device new.frames jobs stop
@@ -73,13 +73,44 @@ module _ {P : Type 0} where
       }
 
   -- the source failed behind all items, whose pieces were put
-  pub read_failed : (pieces : List Headed → List P) (head : FrameHead) (source source' : Device ℕ) (device device' : Device P) (frames jobs : ℕ)
+  read_failed : (pieces : List Headed → List P) (head : FrameHead) (source source' : Device ℕ) (device device' : Device P) (frames jobs : ℕ)
       → Finished pieces head source source' device device' frames jobs Broken
       → TellsBroken (pieces_of pieces) source source' device device' × Rose source source'
   read_failed pieces head source source' device device' frames jobs f = (
     broken pieces head source source' device device' f.between f.items f.gives f.closes.0 f.put,
     failed-later source f.between.source source' f.later f.closes.1,
   )
+
+  -- the reading stopped so, and all hits were taken
+  ends : (pieces : List Headed → List P) (head : FrameHead) (source source' : Device ℕ) (device device' : Device P) (frames jobs : ℕ) (stop : Stop)
+      → Finished pieces head source source' device device' frames jobs stop
+      → MatchResult (ended_at (Some stop) frames jobs) (TellsTo (pieces_of pieces) source source' device device')
+      (StopsBy (pieces_of pieces) source source' device device')
+  ends pieces head source source' device device' frames jobs Whole f =
+      whole pieces head source source' device device' f.between f.items frames jobs f.gives f.closes f.frames_are f.jobs_are f.put
+  ends pieces head source source' device device' frames jobs (Refused fault) f =
+      refused pieces head source source' device device' f.between f.items fault f.gives f.closes f.put
+  ends pieces head source source' device device' frames jobs Broken f = read_failed pieces head source source' device device' frames jobs f
+
+  -- the drive of a feed over a new desk gave all hits, and the desk says how its reading ended
+  ends_at : (old new : DeskView) (source source' : Device ℕ) (a b : Telling P) (jobs : ℕ) (stop : Option Stop)
+      → IsNewDesk old → Tells (seen_by old source a) (seen_by new source' b) → new.stop ≡ stop → is_some stop ≡ true → new.due ≡ []
+      → a.Waits [] → (b.Waits [] → b.pieces [] ≡ []) → jobs ≡ new.count
+      → MatchResult (ended_at stop new.frames jobs) (TellsTo (pieces_of a.pieces) source source' a.device b.device)
+      (StopsBy (pieces_of a.pieces) source source' a.device b.device)
+  ends_at old new source source' a b jobs None fresh tells is stopped due rests nothing count = absurd (false≢true stopped)
+  ends_at old new source source' a b jobs (Some stop) fresh tells is stopped due rests nothing count =
+      ends a.pieces old.head source source' a.device b.device new.frames jobs stop
+      (finished old new source source' a b jobs stop fresh tells is due rests nothing count)
+
+  pub ended : (old new : DeskView) (source source' : Device ℕ) (a b : Telling P) (jobs : ℕ) (result : Result Ended RxFault)
+      → IsNewDesk old → Tells (seen_by old source a) (seen_by new source' b) → is_some new.stop ≡ true → new.due ≡ []
+      → a.Waits [] → (b.Waits [] → b.pieces [] ≡ []) → jobs ≡ new.count → result ≡ ended_at new.stop new.frames jobs
+      → MatchResult result (TellsTo (pieces_of a.pieces) source source' a.device b.device) (StopsBy (pieces_of a.pieces) source source' a.device b.device)
+  ended old new source source' a b jobs result fresh tells stopped due rests nothing count is =
+      subst (λ (r : Result Ended RxFault). MatchResult r (TellsTo (pieces_of a.pieces) source source' a.device b.device)
+      (StopsBy (pieces_of a.pieces) source source' a.device b.device)) (sym is)
+      (ends_at old new source source' a b jobs new.stop fresh tells refl stopped due rests nothing count)
 
   part_told : (old new : DeskView) (source source' : Device ℕ) (a b : Telling P) (fault : FeedFault)
       → IsNewDesk old → TellsPart (seen_by old source a) (seen_by new source' b) fault → TellsPieces (pieces_of a.pieces) source source' a.device b.device

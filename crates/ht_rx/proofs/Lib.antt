@@ -9,7 +9,7 @@ pub mod Leads
 pub mod Fronts
 pub mod Outcomes
 pub mod Finishing
-pub mod Listing
+pub mod Listed
 pub mod Counting
 pub mod Booking
 pub mod Stamping

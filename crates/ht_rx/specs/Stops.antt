@@ -1,14 +1,17 @@
--- One fault as another.
+-- One fault as another, and how the reading of a capture ended.
+use Rattle.std.specs.Prelude.{ℕ, Option, Some, None, Result, Ok, Err}
 use Rattle.ht_io.specs.declared.faults.InFault.{InFault}
 use Rattle.ht_io.specs.declared.faults.InFault.TheVariants.{Format, Read, NoMemory}
 use Rattle.ht_rx.specs.declared.stop.Stop.{Stop}
-use Rattle.ht_rx.specs.declared.stop.Stop.TheVariants.{Refused, Broken}
+use Rattle.ht_rx.specs.declared.stop.Stop.TheVariants.{Whole, Refused, Broken}
 use Rattle.ht_rx.specs.declared.faults.FeedFault.{FeedFault}
 use Rattle.ht_rx.specs.declared.faults.FeedFault.TheVariants.{Write as FeedWrite, NoMemory as FeedNoMemory}
 use Rattle.ht_rx.specs.declared.book_fault.BookFault.{BookFault}
 use Rattle.ht_rx.specs.declared.book_fault.BookFault.TheVariants.{Failed as BookFailed, NoMemory as BookMemory}
+use Rattle.ht_rx.specs.declared.faults.Ended.{Ended}
+use Rattle.ht_rx.specs.declared.faults.Ended.TheVariants.{Done, Refused as EndedRefused}
 use Rattle.ht_rx.specs.declared.faults.RxFault.{RxFault}
-use Rattle.ht_rx.specs.declared.faults.RxFault.TheVariants.{Write as RxWrite, NoMemory as RxNoMemory}
+use Rattle.ht_rx.specs.declared.faults.RxFault.TheVariants.{Read as RxRead, Write as RxWrite, NoMemory as RxNoMemory}
 
 -- how the reading stops where a reader halts; a reader never halts for lack of memory
 abbrev pub stop_of : InFault → Stop
@@ -25,3 +28,10 @@ fault_of FeedNoMemory = RxNoMemory
 abbrev pub fault_of_book : BookFault → FeedFault
 fault_of_book BookFailed = FeedWrite
 fault_of_book BookMemory = FeedNoMemory
+
+-- how the reading ended that stopped so, behind so many frames and jobs; it has always stopped
+abbrev pub ended_at : Option Stop → ℕ → ℕ → Result Ended RxFault
+ended_at (Some Whole) frames jobs = Ok (Done frames jobs)
+ended_at (Some (Refused fault)) frames jobs = Ok (EndedRefused fault)
+ended_at (Some Broken) frames jobs = Err RxRead
+ended_at None frames jobs = Err RxRead

@@ -25,12 +25,22 @@ pub fn nearest<L: Ledger>(job: &Job, steps: &mut Steps<L>) -> Hit
     ensures near { near job.now ≡ record { vector = result.vector; distance = result.distance } }
     ensures steps { steps.new ≤ steps.old + 2 * inside_of job.now }
 {
+    into_hit(job.copy(), steps)
+}
+
+/// The same of a job that isn't needed any more: it goes into its hit without a copy.
+pub fn into_hit<L: Ledger>(job: Job, steps: &mut Steps<L>) -> Hit
+    ensures job { result.job ≡ job }
+    ensures near { near job ≡ record { vector = result.vector; distance = result.distance } }
+    ensures steps { steps.new ≤ steps.old + 2 * inside_of job }
+{
     let mut levels = [0i8; 8];
     let levels = &mut levels[..2 * usize::from(job.system().streams())];
-    let distance = find(job, levels, steps);
+    let distance = find(&job, levels, steps);
+    let vector = vector_of(levels);
     Hit {
-        job: job.copy(),
-        vector: vector_of(levels),
+        job,
+        vector,
         distance,
     }
 }

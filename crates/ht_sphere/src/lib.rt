@@ -22,4 +22,4 @@ mod search;
 mod tests;
 mod vectors;
 
-pub use detector::nearest;
+pub use detector::{into_hit, nearest};

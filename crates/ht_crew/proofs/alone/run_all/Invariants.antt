@@ -1,6 +1,5 @@
-use Rattle.std.proofs.Common.{◌≡◌, ◌+◌, ◌^◌, ◌-◌, ◌<◌, ◌≤◌, List, Some, None}
+use Rattle.std.proofs.Common.{◌≡◌, ◌+◌, ◌^◌, ◌-◌, ◌<◌, ◌≤◌, List, Some, length}
 use Rattle.ht_metric.specs.Jobs.{JobView}
-use Rattle.ht_window.specs.Windows.{front_hit}
 use Rattle.ht_crew.specs.Driving.{Holds, IsUnderWay, IsAlong, to_run, waiting}
 use Rattle.ht_crew.proofs.alone.run_all.Given as goal
 
@@ -9,7 +8,7 @@ invariant-loop-running g l = record {
   holds : Holds l.window (g.F.Feed.shown l.feed);
   goes_on : IsUnderWay l.running (g.F.Feed.shown l.feed);
   capacity : l.window.capacity ≡ l.fn.window.capacity;
-  front : front_hit l.window.slots ≡ None;
+  waits : waiting l.window.slots ≡ length l.window.slots;
   ran : l.ran + waiting l.window.slots ≡ (g.F.Feed.shown l.feed).count;
   bound : (g.F.Feed.shown l.feed).count < 2 ^ 64 - 1;
   later : (g.F.Feed.shown l.fn.feed).faults ≤ (g.F.Feed.shown l.feed).faults;

@@ -1,4 +1,4 @@
-use Rattle.std.proofs.Common.{true, false, w8, FitsSigned, rules}
+use Rattle.std.proofs.Common.{w8, FitsSigned, rules}
 use Rattle.ht_files.proofs.Levels.{pilot_no, pilot_yes}
 use Rattle.ht_files.proofs.points.is_fitting.Goals as goal
 

@@ -1,9 +1,40 @@
-use Rattle.std.proofs.Common.{[], ℕ}
-use Rattle.ht_fields.proofs.Putting.{on_err}
-use Rattle.ht_files.proofs.PointRoutes.{part_point}
+use Rattle.std.proofs.Common.{◌≡◌, ◌++◌, List, [], flat_map, take, refl, ap, ◌∙◌}
+use Rattle.ht_io.proofs.Calls.{later-refl, later-later, failed-later}
+use Rattle.ht_io.proofs.Pieces.{grown-none}
+use Rattle.ht_pam.specs.declared.point.Point.{Point}
+use Rattle.ht_fields.proofs.Putting.{grows_piece, map_split, on_err, part_more, piece_more}
+use Rattle.ht_files.specs.Points.{point_octets}
 use Rattle.ht_files.proofs.writing.put_points.Goals as goal
+
+pub loop-rest-init : goal.loop-rest-init
+loop-rest-init g c = record { put = ([], refl, grown-none _); later = later-refl _; steady = refl }
 
 pub returns-in_err-put-clause-part : goal.returns-in_err-put-clause-part
 returns-in_err-put-clause-part g c =
-    on_err _ _ (part_point c.args.points.now c.loop-point.point-index _ c.octets_of_point.result _ _ _ c.loop-point-test.true c.octets_of_point.ensures
-    c.loop-point.invariant.put c.in_err-put.ensures.part)
+    let put : c.as_slice.result.now ≡ flat_map point_octets (take c.min.result c.loop-rest.rest.now) =
+    c.as_slice.ensures ∙ (c.fill.ensures ∙ ap (λ (s : List Point). flat_map point_octets s) c.split_at.ensures.front) in
+    let so_far = c.loop-rest.invariant.put in
+    on_err _ _ (part_more _ _ _ so_far.0 _ _ _ _ _ so_far.2 c.in_err-put.ensures.part put (map_split point_octets c.loop-rest.rest.now c.min.result) so_far.1)
+
+pub returns-in_err-put-clause-cause : goal.returns-in_err-put-clause-cause
+returns-in_err-put-clause-cause g c =
+    on_err _ _ (failed-later (g.K.Sink.shown c.args.sink.now) (g.K.Sink.shown c.loop-rest.sink)
+    (g.K.Sink.shown c.put.new.self) c.loop-rest.invariant.later c.in_err-put.ensures.cause)
+
+pub returns-in_err-put-clause-later : goal.returns-in_err-put-clause-later
+returns-in_err-put-clause-later g c = later-later _ _ _ c.loop-rest.invariant.later c.in_err-put.ensures.later
+
+pub loop-rest-preserved : goal.loop-rest-preserved
+loop-rest-preserved g c =
+    let put : c.as_slice.result.now ≡ flat_map point_octets (take c.min.result c.loop-rest.rest.now) =
+    c.as_slice.ensures ∙ (c.fill.ensures ∙ ap (λ (s : List Point). flat_map point_octets s) c.split_at.ensures.front) in
+    let behind : flat_map point_octets (take c.min.result c.loop-rest.rest.now) ++ flat_map point_octets c.split_at.result.1.now
+    ≡ flat_map point_octets c.loop-rest.rest.now =
+    ap (λ (s : List Point). flat_map point_octets (take c.min.result c.loop-rest.rest.now) ++ flat_map point_octets s) c.split_at.ensures.back
+    ∙ map_split point_octets c.loop-rest.rest.now c.min.result in
+    let so_far = c.loop-rest.invariant.put in
+    record {
+      put = (_, piece_more so_far.0 _ _ _ _ behind so_far.1, grows_piece _ _ _ so_far.0 _ _ so_far.2 c.in_ok-put.ensures.grown put);
+      later = later-later _ _ _ c.loop-rest.invariant.later c.in_ok-put.ensures.later;
+      steady = c.in_ok-put.ensures.steady ∙ c.loop-rest.invariant.steady;
+    }

@@ -1,13 +1,10 @@
-use Rattle.std.proofs.Common.{◌≡◌, Some, ap, ◌∙◌, sym, subst}
-use Rattle.ht_rx.specs.declared.stop.Stop.{Stop}
-use Rattle.ht_rx.specs.declared.stop.Stop.TheVariants.{Whole, Refused, Broken}
+use Rattle.std.proofs.Common.{◌≡◌, sym, subst}
 use Rattle.ht_rx.specs.declared.faults.RxFault.{RxFault}
 use Rattle.ht_rx.specs.declared.faults.RxFault.TheVariants.{NoMemory}
 use Rattle.ht_rx.specs.Accounts.{pieces_of, told_by}
 use Rattle.ht_rx.specs.Stops.{fault_of}
 use Rattle.ht_rx.specs.Outcomes.{TellsTo, StopsBy}
-use Rattle.ht_rx.proofs.Outcomes.{whole, refused}
-use Rattle.ht_rx.proofs.Finishing.{finished, read_failed, stops, stops_with, part_none}
+use Rattle.ht_rx.proofs.Finishing.{ended, stops, stops_with, part_none}
 use Rattle.ht_rx.proofs.telling.tell_alone.Goals as goal
 
 pub returns-in_err-desk-clause-tells : goal.returns-in_err-desk-clause-tells
@@ -22,50 +19,22 @@ returns-in_err-desk-clause-tells g c =
 pub returns-in_err-jobs-clause-tells : goal.returns-in_err-jobs-clause-tells
 returns-in_err-jobs-clause-tells g c =
     let source = g.S.Source.shown c.args.source.now in
-    let source' = g.S.Source.shown c.drive_feed.new.source in
+    let source' = g.S.Source.shown c.drive_feed_alone.new.source in
     let before = told_by g.A.Account.shown g.A.Account.pieces g.A.Account.waits c.args.account.now in
-    let after = told_by g.A.Account.shown g.A.Account.pieces g.A.Account.waits c.drive_feed.new.account in
+    let after = told_by g.A.Account.shown g.A.Account.pieces g.A.Account.waits c.drive_feed_alone.new.account in
     let pieces = pieces_of before.pieces in
     let fault = c.in_err-jobs.field-0.0 in
     let e = c.from_residual-in_err-jobs.ensures in
     stops_with c.from_residual-in_err-jobs.result (TellsTo pieces source source' before.device after.device)
     (StopsBy pieces source source' before.device after.device) (λ r. r ≡ fault_of fault) e.0 e.1
-    (λ r is. stops c.in_ok-desk.desk c.drive_feed.new.desk source source' before after fault r c.in_ok-desk.ensures c.in_err-jobs.ensures.tells is)
+    (λ r is. stops c.in_ok-desk.desk c.drive_feed_alone.new.desk source source' before after fault r c.in_ok-desk.ensures c.in_err-jobs.ensures.tells is)
 
-pub returns-in-Some-Whole-clause-tells : goal.returns-in-Some-Whole-clause-tells
-returns-in-Some-Whole-clause-tells g c =
+pub returns-clause-tells : goal.returns-clause-tells
+returns-clause-tells g c =
     let source = g.S.Source.shown c.args.source.now in
-    let source' = g.S.Source.shown c.drive_feed.new.source in
+    let source' = g.S.Source.shown c.drive_feed_alone.new.source in
     let before = told_by g.A.Account.shown g.A.Account.pieces g.A.Account.waits c.args.account.now in
-    let after = told_by g.A.Account.shown g.A.Account.pieces g.A.Account.waits c.drive_feed.new.account in
+    let after = told_by g.A.Account.shown g.A.Account.pieces g.A.Account.waits c.drive_feed_alone.new.account in
     let e = c.in_ok-jobs.ensures in
-    let stopped = sym c.stop.ensures.value ∙ (c.in-Some-Whole.is ∙ ap (λ (x : Stop). Some x) c.in-Some-Whole.field-0-is) in
-    let f = finished c.in_ok-desk.desk c.drive_feed.new.desk source source' before after
-    c.in_ok-jobs.jobs Whole c.in_ok-desk.ensures e.tells stopped e.taken c.requires.rests (g.met.A.Account.none_due c.drive_feed.new.account) e.jobs in
-    whole before.pieces c.in_ok-desk.desk.head source source' before.device after.device f.between f.items c.frames.result c.in_ok-jobs.jobs
-    f.gives f.closes (c.frames.ensures ∙ f.frames_are) f.jobs_are f.put
-
-pub returns-in-Some-Refused-clause-tells : goal.returns-in-Some-Refused-clause-tells
-returns-in-Some-Refused-clause-tells g c =
-    let source = g.S.Source.shown c.args.source.now in
-    let source' = g.S.Source.shown c.drive_feed.new.source in
-    let before = told_by g.A.Account.shown g.A.Account.pieces g.A.Account.waits c.args.account.now in
-    let after = told_by g.A.Account.shown g.A.Account.pieces g.A.Account.waits c.drive_feed.new.account in
-    let e = c.in_ok-jobs.ensures in
-    let fault = c.in-Some-Refused.fault in
-    let stopped = sym c.stop.ensures.value ∙ (c.in-Some-Refused.is ∙ ap (λ (x : Stop). Some x) c.in-Some-Refused.field-0-is) in
-    let f = finished c.in_ok-desk.desk c.drive_feed.new.desk source source' before after c.in_ok-jobs.jobs
-    (Refused fault) c.in_ok-desk.ensures e.tells stopped e.taken c.requires.rests (g.met.A.Account.none_due c.drive_feed.new.account) e.jobs in
-    refused before.pieces c.in_ok-desk.desk.head source source' before.device after.device f.between f.items fault f.gives f.closes f.put
-
-pub returns-in-Some-Broken-clause-tells : goal.returns-in-Some-Broken-clause-tells
-returns-in-Some-Broken-clause-tells g c =
-    let source = g.S.Source.shown c.args.source.now in
-    let source' = g.S.Source.shown c.drive_feed.new.source in
-    let before = told_by g.A.Account.shown g.A.Account.pieces g.A.Account.waits c.args.account.now in
-    let after = told_by g.A.Account.shown g.A.Account.pieces g.A.Account.waits c.drive_feed.new.account in
-    let e = c.in_ok-jobs.ensures in
-    let stopped = sym c.stop.ensures.value ∙ (c.in-Some-Broken.is ∙ ap (λ (x : Stop). Some x) c.in-Some-Broken.field-0-is) in
-    let f = finished c.in_ok-desk.desk c.drive_feed.new.desk source source' before after c.in_ok-jobs.jobs
-    Broken c.in_ok-desk.ensures e.tells stopped e.taken c.requires.rests (g.met.A.Account.none_due c.drive_feed.new.account) e.jobs in
-    read_failed before.pieces c.in_ok-desk.desk.head source source' before.device after.device c.drive_feed.new.desk.frames c.in_ok-jobs.jobs f
+    ended c.in_ok-desk.desk c.drive_feed_alone.new.desk source source' before after c.in_ok-jobs.jobs c.end_of.result
+    c.in_ok-desk.ensures e.tells e.ended e.taken c.requires.rests (g.met.A.Account.none_due c.drive_feed_alone.new.account) e.jobs c.end_of.ensures

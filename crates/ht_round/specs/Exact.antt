@@ -1,0 +1,38 @@
+-- Frames that were received exactly: each sample is what a triangle makes of the points that were sent.
+use Rattle.std.specs.Prelude.{◌≡◌, ◌<◌, List, [], ◌∷◌, length, map, All}
+use Rattle.ht_rate.specs.Rates.{carriers_of, streams_of, symbols_of}
+use Rattle.ht_metric.specs.Distance.{received}
+use Rattle.ht_metric.specs.Rows.{Leg}
+use Rattle.ht_capture.specs.declared.frames.CaptureFrame.{CaptureFrame}
+use Rattle.ht_capture.specs.Contents.{AreTriangles}
+use Rattle.ht_capture.specs.Files.{HasAllCarriers}
+use Rattle.ht_tx.specs.Frames.{FrameView}
+use Rattle.ht_tx.specs.Symbols.{SymbolsView}
+use Rattle.ht_return.specs.Returns.{AreOctets}
+use Rattle.ht_sim.specs.Channel.{symbols_mixed}
+
+-- the frames have octets: numbers below 256
+abbrev pub HoldOctets : List FrameView → Type 0
+HoldOctets frames = All (λ f. AreOctets f.octets) frames
+
+-- no diagonal is 0
+abbrev pub HasFullDiagonal : List Leg → Type 0
+HasFullDiagonal legs = All (λ leg. 0 < leg.diagonal) legs
+
+-- A frame as it was received of these symbols: all of its subcarriers are present, each has a triangle of as many rows
+-- as there are streams, without a 0 on its diagonal, and the samples are what the triangles make of the points.
+pub record IsExact (s : SymbolsView) (f : CaptureFrame) : Type 0 where
+  pub rate : f.rate ≡ s.rate
+  pub length_is : f.length ≡ s.length
+  pub whole : HasAllCarriers f
+  pub count : length f.triangles ≡ carriers_of f.rate
+  pub triangles : AreTriangles (streams_of f.rate) f.triangles
+  pub diagonals : All HasFullDiagonal f.triangles
+  pub samples : map received f.samples ≡ symbols_mixed (symbols_of s.rate s.length) (streams_of s.rate) f.triangles s.points
+
+-- frame by frame
+abbrev pub AreExact : List SymbolsView → List CaptureFrame → Type 0
+AreExact [] [] = Unit {0}
+AreExact [] (f ∷ captured) = ⊥
+AreExact (s ∷ sent) [] = ⊥
+AreExact (s ∷ sent) (f ∷ captured) = IsExact s f × AreExact sent captured

@@ -1,0 +1,80 @@
+//! Listing the jobs of a capture.
+ghost use Rattle.std.specs.Prelude.{◌≡◌, ◌≢◌, ◌≤◌, Err, MatchResult};
+ghost use Rattle.ht_io.specs.Devices.{IsLater};
+ghost use Rattle.ht_rx.specs.Outcomes.{StopsBy, TellsTo};
+ghost use Rattle.ht_rx.specs.Texts.{lines_of};
+
+use crate::faults::{Ended, RxFault};
+use crate::lister::{Lister, room};
+use crate::telling::{tell, tell_alone};
+use ht_crew::Gate;
+use ht_io::{Sink, Source};
+use std::alloc::Global;
+use std::sync::Wait;
+use std::thread::Threads;
+
+/// Reads a capture from the source, and puts a line into the sink for each job of each symbol that is whole before
+/// the capture's first fault: its place, the distance of its first nearest vector, and that vector.
+///
+/// Every job runs in this thread, between the two calls of the gate. At most `window` jobs, 1 to 4096, were read and
+/// not yet written at any moment. Nothing of the capture is kept but the triangles of a frame, the samples of a
+/// symbol, these jobs and the lines of one symbol.
+///
+/// It answers `Done` for a capture, and `Refused` with the first fault of an input that is none. It refuses with
+/// `Read` where the source failed, having put the lines of the symbols that were read whole; with `Write` where the
+/// sink failed, also if the source did; and with `NoMemory`. In the last two cases a part of the lines was put.
+pub fn list_alone<S: Source, K: Sink, G: Gate>(
+    alloc: Global,
+    window: u16,
+    source: &mut S,
+    sink: &mut K,
+    gate: &G,
+) -> Result<Ended, RxFault>
+    requires some { 1 ≤ window }
+    requires few { window ≤ 4096 }
+    ensures lists { MatchResult result
+        (TellsTo lines_of (S.shown source.old) (S.shown source.new) (K.shown sink.old) (K.shown sink.new))
+        (StopsBy lines_of (S.shown source.old) (S.shown source.new) (K.shown sink.old) (K.shown sink.new)) }
+
+    // Where the sink failed the answer is `Write`, whatever else failed.
+    ensures writes { result ≢ Err RxFault.Write → (K.shown sink.new).faults ≡ (K.shown sink.old).faults }
+
+    // However it ends, the devices are the same, and take back no fault.
+    ensures reads_later { IsLater (S.shown source.old) (S.shown source.new) }
+    ensures puts_later { IsLater (K.shown sink.old) (K.shown sink.new) }
+{
+    let mut text = room(alloc)?;
+    let mut lister = Lister::new(&mut text, sink);
+    tell_alone(alloc, window, source, &mut lister, gate)
+}
+
+/// Does as [`list_alone`], and the jobs are run by 1 to 64 workers, of which the caller is one. The lines are the same, in
+/// the same order.
+pub fn list<R: Threads + Wait + Sync, S: Source, K: Sink, G: Gate + Sync>(
+    rt: &R,
+    alloc: Global,
+    workers: u8,
+    window: u16,
+    source: &mut S,
+    sink: &mut K,
+    gate: &G,
+) -> Result<Ended, RxFault>
+    requires one { 1 ≤ workers }
+    requires many { workers ≤ 64 }
+    requires some { 1 ≤ window }
+    requires few { window ≤ 4096 }
+    ensures lists { MatchResult result
+        (TellsTo lines_of (S.shown source.old) (S.shown source.new) (K.shown sink.old) (K.shown sink.new))
+        (StopsBy lines_of (S.shown source.old) (S.shown source.new) (K.shown sink.old) (K.shown sink.new)) }
+
+    // Where the sink failed the answer is `Write`, whatever else failed.
+    ensures writes { result ≢ Err RxFault.Write → (K.shown sink.new).faults ≡ (K.shown sink.old).faults }
+
+    // However it ends, the devices are the same, and take back no fault.
+    ensures reads_later { IsLater (S.shown source.old) (S.shown source.new) }
+    ensures puts_later { IsLater (K.shown sink.old) (K.shown sink.new) }
+{
+    let mut text = room(alloc)?;
+    let mut lister = Lister::new(&mut text, sink);
+    tell(rt, alloc, workers, window, source, &mut lister, gate)
+}
