@@ -1,11 +1,13 @@
 -- What a reader of captures still gives.
-use Rattle.std.specs.Prelude.{◌≡◌, ℕ, ◌+◌, ◌-◌, ◌*◌, ◌<◌, ◌≤◌, List, [], ◌∷◌, length, take, drop, nat_lt, if◌then◌else◌, Option, Some, None, Result, Ok, Err}
+use Rattle.std.specs.Prelude.{◌≡◌, ℕ, ◌+◌, ◌-◌, ◌*◌, ◌<◌, ◌≤◌, List, [], ◌∷◌, length, take, drop, nat_lt, if◌then◌else◌, Bool, true, false, Option, Some, None, Result, Ok, Err}
 use Rattle.ht_io.specs.declared.faults.InFault.{InFault}
 use Rattle.ht_io.specs.declared.faults.InFault.TheVariants.{Format, Read, NoMemory}
 use Rattle.ht_fields.specs.Meanings.{Meaning, before, ended, refused, meaning}
 use Rattle.ht_fields.specs.Readers.{ReaderView, Gives}
 use Rattle.ht_io.specs.Devices.{Device, TakesAll}
 use Rattle.ht_rate.specs.Rates.{carriers_of, symbols_of}
+use Rattle.ht_map.specs.Constellation.{grid_of}
+use Rattle.ht_pam.specs.declared.axes.Axes.{Axes}
 use Rattle.ht_metric.specs.Jobs.{JobView}
 use Rattle.ht_capture.specs.declared.items.Item.{Item}
 use Rattle.ht_capture.specs.declared.items.Item.TheVariants.{Frame, Job, Done}
@@ -112,6 +114,15 @@ Counted old new (Frame head) = (head.frame ≡ old.frames) × (new ≡ counted (
 Counted old new (Job job) = (job.number ≡ old.jobs) × (new ≡ counted old.frames (old.jobs + 1))
 Counted old new Done = Unit {0}
 
+-- while a frame is under way, the grid that is kept is that of its data subcarriers
+abbrev pub KeepsGrid : Stage → List Axes → Type 0
+KeepsGrid Begin grid = Unit {0}
+KeepsGrid (NextFrame turn) grid = Unit {0}
+KeepsGrid (NextSymbol due) grid = grid ≡ grid_of due.head.rate
+KeepsGrid (Giving due k) grid = grid ≡ grid_of due.head.rate
+KeepsGrid Ended grid = Unit {0}
+KeepsGrid (Stopped fault) grid = Unit {0}
+
 -- no symbol has to be read before the next item
 abbrev pub IsReady : Stage → Type 0
 IsReady Begin = Unit {0}
@@ -120,6 +131,15 @@ IsReady (NextSymbol due) = ⊥
 IsReady (Giving due k) = Unit {0}
 IsReady Ended = Unit {0}
 IsReady (Stopped fault) = Unit {0}
+
+-- a symbol was read, and jobs of it are due
+abbrev pub has_job : Stage → Bool
+has_job Begin = false
+has_job (NextFrame turn) = false
+has_job (NextSymbol due) = false
+has_job (Giving due k) = true
+has_job Ended = false
+has_job (Stopped fault) = false
 
 -- the most heads and jobs of this number of frames: each has a head and at most 1,129,296 jobs
 abbrev pub most_of : ℕ → ℕ

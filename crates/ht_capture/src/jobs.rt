@@ -1,12 +1,12 @@
 //! The jobs of a symbol.
 ghost use Rattle.std.specs.Prelude.{◌≡◌, ◌+◌, ◌*◌, ◌≤◌, ◌<◌, length};
+ghost use Rattle.ht_map.specs.Constellation.{grid_of as full_grid};
 ghost use Rattle.ht_rate.specs.Rates.{carriers_of, pilots_of, streams_of};
 ghost use Rattle.ht_capture.specs.Frames.{carrier_octets, grid_at, job_at, one_point, pilot_grid};
 
 use crate::items::FrameHead;
 use crate::numbers;
 use crate::places::Present;
-use ht_map::grid;
 use ht_metric::{Job, Place, System};
 use ht_pam::{Grid, Ladder};
 use ht_pilot::pilot;
@@ -34,31 +34,35 @@ fn pilot_points(rate: &Rate, symbol: u32, index: u8) -> Grid
     grid
 }
 
-// The grid of a subcarrier in a symbol.
+// The grid of a subcarrier in a symbol, where this is that of the data subcarriers.
 #[tactic(auto, unfolding(crate::specs::Frames::grid_at))]
-fn grid_of(rate: &Rate, symbol: u32, carrier: u8) -> Grid
-    requires { carrier < carriers_of rate.now }
+fn grid_of(rate: &Rate, symbol: u32, carrier: u8, full: &Grid) -> Grid
+    requires carrier { carrier < carriers_of rate.now }
+    requires full { full.now ≡ full_grid rate.now }
     ensures value { result ≡ grid_at rate.now symbol carrier }
     ensures streams { length result ≡ streams_of rate.now }
 {
     match rate.carrier(carrier) {
-        Carrier::Data(_) => grid(rate),
+        Carrier::Data(_) => *full,
         Carrier::Pilot(index) => pilot_points(rate, symbol, index),
     }
 }
 
-/// The job of a present subcarrier, whose samples stand in the octets of its symbol from a place on.
+/// The job of a present subcarrier, whose samples stand in the octets of its symbol from a place on. `full` is the grid of
+/// the frame's data subcarriers.
 #[tactic(auto, unfolding(crate::specs::Frames::job_at))]
 pub fn job(
     head: &FrameHead,
     symbol: u32,
     number: u64,
     present: &Present,
+    full: &Grid,
     octets: &[u8],
     at: usize,
 ) -> Job
     requires carrier { present.now.carrier < carriers_of head.now.rate }
     requires triangle { length present.now.triangle ≡ streams_of head.now.rate }
+    requires full { full.now ≡ full_grid head.now.rate }
     requires whole { at + carrier_octets head.now.rate ≤ length octets.now }
     ensures value { result ≡ job_at head.now symbol number present.now octets.now at }
     ensures number { result.number ≡ number }
@@ -70,6 +74,6 @@ pub fn job(
         symbol,
         carrier: present.carrier,
     };
-    let grid = grid_of(&head.rate, symbol, present.carrier);
+    let grid = grid_of(&head.rate, symbol, present.carrier, full);
     Job::new(number, place, grid, System::new(present.triangle, samples))
 }

@@ -1,15 +1,17 @@
 //! The reader of captures.
-ghost use Rattle.std.specs.Prelude.{◌≡◌, ◌<◌, ◌≤◌, ◌+◌, ◌-◌, ◌*◌, ℕ, [], ◌∷◌, None, Some, Ok, Err, Result, length, take, MatchResult, IfOk, IfErr};
+ghost use Rattle.std.specs.Prelude.{◌≡◌, ◌<◌, ◌≤◌, ◌+◌, ◌-◌, ◌*◌, ℕ, List, [], ◌∷◌, None, Some, Ok, Err, Result, length, take, is_some, MatchResult, IfOk, IfErr, IfSome, IfNone};
 ghost use Rattle.ht_io.specs.Devices.{Device, IsLater};
 ghost use Rattle.ht_io.specs.declared.faults.InFault.{InFault as InFaultValue};
 ghost use Rattle.ht_io.specs.declared.faults.InFault.TheVariants.{NoMemory};
 ghost use Rattle.ht_fields.specs.Readers.{Gives};
+ghost use Rattle.ht_map.specs.Constellation.{grid_of};
+ghost use Rattle.ht_pam.specs.declared.axes.Axes.{Axes};
 ghost use Rattle.ht_capture.specs.declared.items.Item.{Item as ItemValue};
 ghost use Rattle.ht_capture.specs.declared.items.Item.TheVariants.{Job as JobItem, Done};
 ghost use Rattle.ht_capture.specs.Fields.{Symbol, captures, turn_due, capture_magic, capture_magic_due};
 ghost use Rattle.ht_capture.specs.Reading.{here};
-ghost use Rattle.ht_capture.specs.Readers.{Counted, Falls, StaysInFrame, GivesItem, GoesOn, IsOfSymbol, IsPlaced, IsReady, StageFits, SymbolFits, TurnFits};
-ghost use Rattle.ht_capture.specs.Readers.{counted, counts, counts_at, finished, finished_stage, more, more_at, most_of};
+ghost use Rattle.ht_capture.specs.Readers.{Counted, Falls, KeepsGrid, StaysInFrame, GivesItem, GoesOn, IsOfSymbol, IsPlaced, IsReady, StageFits, SymbolFits, TurnFits};
+ghost use Rattle.ht_capture.specs.Readers.{counted, counts, counts_at, finished, finished_stage, has_job, more, more_at, most_of};
 ghost use Rattle.ht_capture.specs.Readers.{shown_at, shown_by, stage_after, symbol_at, symbol_under_way};
 ghost use Rattle.ht_fields.specs.WholeFiles.{Halts};
 
@@ -19,7 +21,9 @@ use crate::places::{Present, SymbolTurn, Turn};
 use crate::stage::Stage;
 use crate::{heads, jobs};
 use ht_io::{InFault, Source};
+use ht_map::grid;
 use ht_metric::{Job, Tap, Triangle};
+use ht_pam::{Grid, Ladder};
 use std::alloc::{AllocError, Global};
 use std::marker::Model;
 
@@ -38,16 +42,19 @@ pub struct Reader {
     at: u64,
     present: Vec<Present>,
     samples: Vec<u8>,
+    // The grid of the data subcarriers of the frame under way; any, where none is.
+    grid: Grid,
 }
 
 impl Model for Reader {
-    ghost use Rattle.ht_capture.specs.Readers.{Progress, IsSound};
+    ghost use Rattle.ht_capture.specs.Readers.{Progress, IsSound, KeepsGrid};
 
     ghost Value = { Progress };
 
     ghost view = { λ r. record { stage = r.stage; at = r.at; present = r.present.items; samples = r.samples.items } };
 
-    ghost invariant = { λ r. IsSound (record { stage = r.stage; at = r.at; present = r.present.items; samples = r.samples.items }) };
+    ghost invariant = { λ r. IsSound (record { stage = r.stage; at = r.at; present = r.present.items; samples = r.samples.items })
+        × KeepsGrid r.stage r.grid };
 }
 
 // The stage behind a symbol: its next one, or the next frame.
@@ -61,6 +68,7 @@ fn after(due: &SymbolTurn, at: u64, present: &[Present]) -> Stage
     ensures fewer { more_at result ≤ (due.now.symbols - due.now.symbol - 1) * due.now.count + most_of (due.now.turn.left - 1) }
     ensures going { finished_stage result ≡ None }
     ensures follows { StaysInFrame due.now (symbol_at result) }
+    ensures grid { (grid : List Axes) → grid ≡ grid_of due.now.head.rate → KeepsGrid result grid }
 {
     let turn = Turn {
         number: due.turn.number + due.count as u64,
@@ -81,9 +89,18 @@ fn after(due: &SymbolTurn, at: u64, present: &[Present]) -> Stage
     }
 }
 
-// The job of a present subcarrier of a symbol that was read.
-fn job_of(due: &SymbolTurn, k: usize, at: u64, present: &[Present], samples: &[u8]) -> Job
+// The job of a present subcarrier of a symbol that was read. It is kept out of line, so that it is made in one place.
+#[inline(never)]
+fn job_of(
+    due: &SymbolTurn,
+    k: usize,
+    at: u64,
+    present: &[Present],
+    grid: &Grid,
+    samples: &[u8],
+) -> Job
     requires fits { SymbolFits due.now 1 at present.now }
+    requires grid { grid.now ≡ grid_of due.now.head.rate }
     requires inside { k < due.now.count }
     requires space { length present.now ≡ 114 }
     requires size { length samples.now ≡ 3648 }
@@ -100,6 +117,7 @@ fn job_of(due: &SymbolTurn, k: usize, at: u64, present: &[Present], samples: &[u
         due.symbol,
         number,
         &present[k],
+        grid,
         octets,
         width(k, streams),
     )
@@ -122,11 +140,13 @@ impl Reader {
         };
         let present = vec![in alloc; none; CARRIERS]?;
         let samples = vec![in alloc; 0u8; SYMBOL]?;
+        let zero = Ladder::of(1, 0b1);
         Ok(Reader {
             stage: Stage::Begin,
             at: 0,
             present,
             samples,
+            grid: Grid::one(zero, zero),
         })
     }
 
@@ -167,6 +187,40 @@ impl Reader {
     {
         self.ready(source)?;
         self.answer(source)
+    }
+
+    /// The next job of the symbol that was read last, or none where all of its jobs were given: then
+    /// [`next`](Reader::next) reads on. It asks no source, so nothing can fail.
+    pub fn ready_job(&mut self) -> Option<Job>
+        ensures due { is_some result ≡ has_job self.old.stage }
+
+        // The job is the next item.
+        ensures told { IfSome result (λ job. (source : Device ℕ) → Gives (shown_by self.old source) (shown_by self.new source) (JobItem job ∷ [])) }
+        ensures counted { IfSome result (λ job. Counted (counts self.old) (counts self.new) (JobItem job)) }
+        ensures placed { IfSome result (λ job. IsPlaced (symbol_under_way self.old) (symbol_under_way self.new) (JobItem job)) }
+        ensures going { IfSome result (λ _. finished self.new ≡ None) }
+        ensures fewer { IfSome result (λ _. more self.new < more self.old) }
+
+        ensures none { IfNone result (self.new ≡ self.old) }
+    {
+        match self.stage {
+            Stage::Giving(due, k) => Some(self.give(&due, k)),
+            _ => None,
+        }
+    }
+
+    // Gives the next job of the symbol that was read.
+    fn give(&mut self, due: &SymbolTurn, k: usize) -> Job
+        requires stage { self.old.stage ≡ Stage.Giving due.now k }
+        ensures told { (source : Device ℕ) → Gives (shown_by self.old source) (shown_by self.new source) (JobItem result ∷ []) }
+        ensures counted { Counted (counts self.old) (counts self.new) (JobItem result) }
+        ensures placed { IsPlaced (symbol_under_way self.old) (symbol_under_way self.new) (JobItem result) }
+        ensures going { finished self.new ≡ None }
+        ensures fewer { more self.new < more self.old }
+    {
+        let job = job_of(due, k, self.at, &self.present, &self.grid, &self.samples);
+        self.pass(due, k);
+        job
     }
 
     // Reads the symbol that is due, if one is.
@@ -212,11 +266,7 @@ impl Reader {
             Stage::Begin => self.begin(source),
             Stage::NextFrame(turn) => self.frame(source, turn),
             Stage::NextSymbol(_) => unreachable!(),
-            Stage::Giving(due, k) => {
-                let job = job_of(&due, k, self.at, &self.present, &self.samples);
-                self.pass(&due, k);
-                Ok(Item::Job(job))
-            }
+            Stage::Giving(due, k) => Ok(Item::Job(self.give(&due, k))),
             Stage::Ended => Ok(Item::Done),
             Stage::Stopped(fault) => Err(fault),
         }
@@ -276,6 +326,7 @@ impl Reader {
             match parts::frame(source, self.at, &turn, &mut self.present) {
                 Ok((due, behind)) => {
                     self.at = behind;
+                    self.grid = grid(&due.head.rate);
                     self.stage = Stage::NextSymbol(due);
                     Ok(Item::Frame(due.head))
                 }
@@ -287,6 +338,7 @@ impl Reader {
     // Reads a symbol: its jobs are due.
     #[inline(never)]
     fn symbol<S: Source>(&mut self, source: &mut S, due: SymbolTurn) -> Result<(), InFault>
+        requires stage { self.old.stage ≡ Stage.NextSymbol due }
         requires fits { SymbolFits due 0 self.old.at self.old.present }
         ensures told { MatchResult result
             (λ _. Gives (here (Symbol due (take due.count self.old.present)) self.old.at (S.shown source.old)) (shown_by self.new (S.shown source.new)) [])
@@ -309,6 +361,7 @@ impl Reader {
 
     // Leaves a job behind: the next one of its symbol is due, or what follows the symbol.
     fn pass(&mut self, due: &SymbolTurn, k: usize)
+        requires stage { self.old.stage ≡ Stage.Giving due.now k }
         requires fits { SymbolFits due.now 1 self.old.at self.old.present }
         requires inside { k < due.now.count }
         ensures told { (source : Device ℕ) → shown_at (Stage.Giving due.now (k + 1)) self.old.at self.old.present self.old.samples source

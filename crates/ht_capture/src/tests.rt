@@ -104,6 +104,29 @@ fn refusals(rt: HostRuntime) -> Result<(), Fail> {
     Ok(())
 }
 
+/// How many jobs a reader gives without a source.
+fn ready(reader: &mut Reader) -> u16 {
+    let mut count = 0;
+    for call in 0..300u16 {
+        if reader.ready_job().is_some() {
+            count = call + 1;
+        }
+    }
+    count
+}
+
+// Behind the first job of each of two symbols come the 55 others.
+#[test]
+fn jobs_of_symbols(rt: HostRuntime) -> Result<(), Fail> {
+    let mut source = whole(rt.alloc(), one_stream(rt.alloc(), 1, 0)?);
+    let mut reader = Reader::new(rt.alloc())?;
+    for count in [0, 0, 55, 55, 0] {
+        assert_eq!(rt; ready(&mut reader), count);
+        assert!(rt; reader.next(&mut source).is_ok());
+    }
+    Ok(())
+}
+
 // Captures that are no frame long, or less.
 #[test]
 fn short(rt: HostRuntime) -> Result<(), Fail> {

@@ -1,5 +1,5 @@
 pub mod Bounded
-pub mod Drawn
 pub mod Matching
 pub mod Passing
+pub mod Returning
 pub mod Small

@@ -13,15 +13,17 @@
 //! demo frames 8 symbols 256 jobs 14336 matched 8 data 0 pilot 0 code 0
 //! ```
 //!
-//! of 32 symbols a frame and 56 subcarriers a symbol. [`demo_alone`] makes it in the calling thread.
+//! of 32 symbols a frame and 56 subcarriers a symbol. [`demo_alone`] makes it in the calling thread, and [`demo`] with
+//! workers in threads. Without noise every frame comes back, at distance 0, whatever the plan ([`laws::noiseless`]).
 #![tactic(auto)]
 
-mod demo;
+mod demonstration;
+pub mod laws;
 mod line;
 mod plan;
 mod sent;
 #[cfg(test)]
 mod tests;
 
-pub use demo::demo_alone;
+pub use demonstration::{demo, demo_alone};
 pub use plan::Plan;

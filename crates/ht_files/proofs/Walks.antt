@@ -2,9 +2,10 @@
 use Rattle.std.proofs.Common.{◌≡◌, inl, inr, ℕ, zero, suc, ◌+◌, ◌*◌, ◌/◌, ◌%◌, ◌<◌, ◌≤◌, List, [], ◌∷◌, ◌++◌, length, take, drop, flat_map, get_or}
 use Rattle.std.proofs.Common.{true, refl, sym, ap, subst, ◌∙◌, append_assoc, length-append, arith}
 use Rattle.std.proofs.lemmas.Bool.{cases_lt}
+use Rattle.std.proofs.lemmas.Nat.{div-add-mod', div_below, mod_below}
 use Rattle.std.proofs.lemmas.List.{append-nil, get_or_append_left, get_or_push, length_push, take_more, take-append-drop}
 use Rattle.std.proofs.lemmas.Grind.{flat_map-append}
-use Rattle.std.proofs.Math.Nat.{mul_assoc, mul-le-mul}
+use Rattle.std.proofs.Math.Nat.{add-mul, mul_assoc, mul-le-mul}
 use Rattle.ht_fields.specs.Tests.{AreBytes}
 use Rattle.ht_rate.specs.declared.kinds.Carrier.{Carrier}
 use Rattle.ht_rate.specs.declared.rates.Rate.{Rate}
@@ -14,46 +15,54 @@ use Rattle.ht_rate.proofs.RateFacts.{carriers_of-range, streams_of-range}
 use Rattle.ht_pam.specs.declared.point.Point.{Point}
 use Rattle.ht_tx.specs.Symbols.{Fits, origin}
 use Rattle.ht_tx.proofs.Places.{digits}
-use Rattle.ht_files.specs.Places.{AreFitting, FitsPlace, IsAt, carrier_at_place, stream_at_place, symbol_at_place}
+use Rattle.ht_files.specs.Places.{AreFitting, FitsPlace, carrier_at_place, stream_at_place, symbol_at_place}
 use Rattle.ht_files.specs.Points.{kind_on, misfits, misfits_place, point_in, point_octets}
 use Rattle.ht_files.proofs.Levels.{octets_back}
 
--- the next stream
-pub next_stream : (r : Rate) (place symbol index stream : ℕ) → IsAt r place symbol index stream → stream + 1 < streams_of r
-    → IsAt r (place + 1) symbol index (stream + 1)
-next_stream r place symbol index stream at lt = record {
-  index_below = at.index_below;
-  stream_below = lt;
-  place_is = omega (arith, at.place_is);
-  symbol_low = omega (arith, at.symbol_low);
-}
+-- a symbol has at most 456 points
+pub symbol_bound : (r : Rate) → carriers_of r * streams_of r ≤ 456
+symbol_bound r =
+    let all : carriers_of r * streams_of r ≤ 114 * 4 = mul-le-mul (carriers_of-range r).1 (streams_of-range r).1 in
+    omega (arith, all)
 
--- what holds by symbol, subcarrier and stream holds by the place
-by_place : (r : Rate) (place symbol index stream : ℕ) (P : ℕ → Carrier → ℕ → Type 0) → IsAt r place symbol index stream
-    → P symbol (carrier_of r index) (stream + 1) → P (symbol_at_place r place) (carrier_at_place r place) (stream_at_place r place)
-by_place r place symbol index stream P at holds =
+-- a place of a frame by its symbol and its place there
+place_is : (r : Rate) (size symbol place : ℕ) → size ≡ symbol * (carriers_of r * streams_of r) + place
+    → size ≡ (symbol * carriers_of r + place / streams_of r) * streams_of r + place % streams_of r
+place_is r size symbol place is =
     let n = carriers_of r in
     let w = streams_of r in
-    let parts = digits symbol index stream n w at.index_below at.stream_below in
-    subst (λ (k : ℕ). P (symbol_at_place r k) (carrier_at_place r k) (stream_at_place r k)) (sym at.place_is)
-    (subst (λ (x : ℕ). P x (carrier_of r (((symbol * n + index) * w + stream) / w % n)) (((symbol * n + index) * w + stream) % w + 1)) (sym parts.0)
-    (subst (λ (x : ℕ). P symbol (carrier_of r x) (((symbol * n + index) * w + stream) % w + 1)) (sym parts.1)
-    (subst (λ (x : ℕ). P symbol (carrier_of r index) (x + 1)) (sym parts.2) holds)))
+    omega (arith, is, add-mul (symbol * n) (place / w) w, mul_assoc symbol n w, div-add-mod' place w)
 
-place_fits : (r : Rate) (place symbol index stream : ℕ) (p : Point) → IsAt r place symbol index stream
-    → Fits r symbol (carrier_of r index) (stream + 1) p → FitsPlace r place p
-place_fits r place symbol index stream p at fits = by_place r place symbol index stream (λ s c t. Fits r s c t p) at fits
+-- what holds by symbol, subcarrier and stream holds by the place
+by_place : (r : Rate) (size symbol place : ℕ) (P : ℕ → Carrier → ℕ → Type 0) → size ≡ symbol * (carriers_of r * streams_of r) + place
+    → place < carriers_of r * streams_of r → P symbol (carrier_of r (place / streams_of r)) (place % streams_of r + 1)
+    → P (symbol_at_place r size) (carrier_at_place r size) (stream_at_place r size)
+by_place r size symbol place P is few holds =
+    let n = carriers_of r in
+    let w = streams_of r in
+    let some : 0 < w = omega (arith, (streams_of-range r).0) in
+    let parts = digits symbol (place / w) (place % w) n w (div_below place w n some few) (mod_below place w some) in
+    let p = (symbol * n + place / w) * w + place % w in
+    subst (λ (k : ℕ). P (symbol_at_place r k) (carrier_at_place r k) (stream_at_place r k)) (sym (place_is r size symbol place is))
+    (subst (λ (x : ℕ). P x (carrier_of r (p / w % n)) (p % w + 1)) (sym parts.0)
+    (subst (λ (x : ℕ). P symbol (carrier_of r x) (p % w + 1)) (sym parts.1)
+    (subst (λ (x : ℕ). P symbol (carrier_of r (place / w)) (x + 1)) (sym parts.2) holds)))
+
+place_fits : (r : Rate) (size symbol place : ℕ) (p : Point) → size ≡ symbol * (carriers_of r * streams_of r) + place
+    → place < carriers_of r * streams_of r → Fits r symbol (carrier_of r (place / streams_of r)) (place % streams_of r + 1) p → FitsPlace r size p
+place_fits r size symbol place p is few fits = by_place r size symbol place (λ s c t. Fits r s c t p) is few fits
 
 -- two octets that are no point of their place
-pub misfit_at : (r : Rate) (place symbol index stream : ℕ) (carrier : Carrier) (octets : List ℕ) → IsAt r place symbol index stream
-    → carrier ≡ carrier_of r index → misfits r symbol carrier (stream + 1) octets ≡ true → misfits_place r place octets ≡ true
-misfit_at r place symbol index stream carrier octets at is wrong =
-    by_place r place symbol index stream (λ s c t. misfits r s c t octets ≡ true) at
-    (subst (λ (c : Carrier). misfits r symbol c (stream + 1) octets ≡ true) is wrong)
+pub misfit_at : (r : Rate) (size symbol place : ℕ) (carrier : Carrier) (octets : List ℕ) → size ≡ symbol * (carriers_of r * streams_of r) + place
+    → place < carriers_of r * streams_of r → carrier ≡ carrier_of r (place / streams_of r)
+    → misfits r symbol carrier (place % streams_of r + 1) octets ≡ true → misfits_place r size octets ≡ true
+misfit_at r size symbol place carrier octets is few same wrong =
+    by_place r size symbol place (λ s c t. misfits r s c t octets ≡ true) is few
+    (subst (λ (c : Carrier). misfits r symbol c (place % streams_of r + 1) octets ≡ true) same wrong)
 
-pub kind_at : (r : Rate) (place symbol index stream : ℕ) (carrier : Carrier) → IsAt r place symbol index stream
-    → carrier ≡ carrier_of r index → kind_on carrier ≡ kind_on (carrier_at_place r place)
-kind_at r place symbol index stream carrier at is = by_place r place symbol index stream (λ s c t. kind_on carrier ≡ kind_on c) at (ap kind_on is)
+pub kind_at : (r : Rate) (size symbol place : ℕ) (carrier : Carrier) → size ≡ symbol * (carriers_of r * streams_of r) + place
+    → place < carriers_of r * streams_of r → carrier ≡ carrier_of r (place / streams_of r) → kind_on carrier ≡ kind_on (carrier_at_place r size)
+kind_at r size symbol place carrier is few same = by_place r size symbol place (λ s c t. kind_on carrier ≡ kind_on c) is few (ap kind_on same)
 
 both_bytes : (a b : ℕ) → a < 256 → b < 256 → AreBytes (a ∷ b ∷ [])
 both_bytes a b low high zero = low
@@ -61,9 +70,10 @@ both_bytes a b low high (suc zero) = high
 both_bytes a b low high (suc (suc i)) = omega arith
 
 -- one point more
-pub fitting_more : (r : Rate) (old new : List Point) (symbol index stream : ℕ) (p : Point) → IsAt r (length old) symbol index stream
-    → new ≡ old ++ p ∷ [] → Fits r symbol (carrier_of r index) (stream + 1) p → AreFitting r old → AreFitting r new
-fitting_more r old new symbol index stream p at is fits before place lt = elim (cases_lt place (length old)) [
+pub fitting_more : (r : Rate) (old new : List Point) (symbol inside : ℕ) (p : Point)
+    → length old ≡ symbol * (carriers_of r * streams_of r) + inside → inside < carriers_of r * streams_of r
+    → new ≡ old ++ p ∷ [] → Fits r symbol (carrier_of r (inside / streams_of r)) (inside % streams_of r + 1) p → AreFitting r old → AreFitting r new
+fitting_more r old new symbol inside p at few is fits before place lt = elim (cases_lt place (length old)) [
   | inl earlier ↦
       let same : get_or old place origin ≡ get_or new place origin =
       sym (ap (λ (l : List Point). get_or l place origin) is ∙ get_or_append_left old (p ∷ []) origin place earlier) in
@@ -72,29 +82,13 @@ fitting_more r old new symbol index stream p at is fits before place lt = elim (
       let end : place ≡ length old = omega (arith, ap length is, length-append old (p ∷ [])) in
       let there : p ≡ get_or new place origin = sym (ap (λ (l : List Point). get_or l place origin) is ∙ get_or_push old p origin place (sym end)) in
       subst (λ (x : Point). FitsPlace r place x) there
-      (subst (λ (k : ℕ). FitsPlace r k p) (sym end) (place_fits r (length old) symbol index stream p at fits))
+      (subst (λ (k : ℕ). FitsPlace r k p) (sym end) (place_fits r (length old) symbol inside p at few fits))
 ]
 
 -- each point has two octets
 pub length-points : (points : List Point) → length (flat_map point_octets points) ≡ 2 * length points
 length-points [] = refl
 length-points (p ∷ points) = omega (arith, length-points points)
-
--- the walk begins anew with each symbol
-pub symbol_first : (r : Rate) (place symbol : ℕ) → place ≡ symbol * (carriers_of r * streams_of r) → IsAt r place symbol 0 0
-symbol_first r place symbol is =
-    let n = carriers_of r in
-    let w = streams_of r in
-    let some_n : 1 ≤ n = omega (arith, (carriers_of-range r).0) in
-    let some_w : 1 ≤ w = omega (arith, (streams_of-range r).0) in
-    let none : symbol * n + 0 ≡ symbol * n = omega arith in
-    record {
-      index_below = some_n;
-      stream_below = some_w;
-      place_is = is ∙ (sym (mul_assoc symbol n w) ∙ (ap (λ x. x * w) (sym none) ∙ (let z : (symbol * n + 0) * w ≡ (symbol * n + 0) * w + 0 = omega arith in z)));
-      symbol_low = let most : symbol * (1 * 1) ≤ symbol * (n * w) = mul-le-mul (let same : symbol ≤ symbol = omega arith in same) (mul-le-mul some_n some_w) in
-          omega (arith, most, is);
-    }
 
 -- no point was added yet
 pub none_added : (points : List Point) (octets : List ℕ) (k : ℕ) → k ≡ 0

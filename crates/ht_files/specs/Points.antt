@@ -1,5 +1,5 @@
 -- Files of symbols as lists of fields.
-use Rattle.std.specs.Prelude.{◌≡◌, ℕ, ◌+◌, ◌-◌, ◌*◌, ◌<◌, List, [], ◌∷◌, ◌++◌, length, flat_map, slice_index, slice_index_or, nat_eq, Bool, true, false, ◌&&◌, is_some, if◌then◌else◌}
+use Rattle.std.specs.Prelude.{◌≡◌, ℕ, ◌+◌, ◌-◌, ◌*◌, ◌/◌, ◌<◌, List, [], ◌∷◌, ◌++◌, length, flat_map, slice_index, slice_index_or, nat_eq, Bool, true, false, ◌&&◌, is_some, if◌then◌else◌}
 use Rattle.std.specs.Int.{cast_signed, cast_unsigned, w8}
 use Rattle.std.specs.Ordering.{int_eq}
 use Rattle.ht_io.specs.Devices.{Device, Takes}
@@ -63,9 +63,10 @@ misfits r symbol carrier stream octets = if fits_carrier r symbol carrier stream
 abbrev pub misfits_place : Rate → ℕ → List ℕ → Bool
 misfits_place r place octets = misfits r (symbol_at_place r place) (carrier_at_place r place) (stream_at_place r place) octets
 
--- what the subcarriers of a rate carry, by their index
+-- the subcarriers of the points of a symbol, in the order subcarrier, stream
 abbrev pub AreCarriers : Rate → List Carrier → Type 0
-AreCarriers r carriers = (index : ℕ) → index < carriers_of r → slice_index_or carriers index (Data 0) ≡ carrier_of r index
+AreCarriers r carriers =
+    (place : ℕ) → place < carriers_of r * streams_of r → slice_index_or carriers place (Data 0) ≡ carrier_of r (place / streams_of r)
 
 -- the octets are those of the points that were added, and of less than one point more
 pub record AddsPoints (old new : List Point) (octets : List ℕ) : Type 0 where

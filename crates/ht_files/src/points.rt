@@ -1,5 +1,5 @@
 //! The points of a frame, read symbol by symbol.
-ghost use Rattle.std.specs.Prelude.{◌≡◌, ◌≤◌, ◌<◌, ◌+◌, ◌*◌, ◌/◌, ◌^◌, ℕ, [], length, flat_map, vec_capacity, IfOk, IfErr, OnOk};
+ghost use Rattle.std.specs.Prelude.{◌≡◌, ◌≤◌, ◌<◌, ◌+◌, ◌*◌, ◌/◌, ◌%◌, ◌^◌, ℕ, [], length, flat_map, vec_capacity, IfOk, IfErr, OnOk};
 ghost use Rattle.ht_io.specs.Devices.{Takes, IsLater};
 ghost use Rattle.ht_io.specs.declared.faults.InFault.TheVariants.{NoMemory};
 ghost use Rattle.ht_fields.specs.Readers.{reader_in};
@@ -8,7 +8,7 @@ ghost use Rattle.ht_rate.specs.Carriers.{IsAmong};
 ghost use Rattle.ht_rate.specs.Rates.{carriers_of, streams_of};
 ghost use Rattle.ht_tx.specs.Symbols.{IsSymbols, points_of};
 ghost use Rattle.ht_files.specs.HeadedFormats.{Body};
-ghost use Rattle.ht_files.specs.Places.{AreFitting, IsAt};
+ghost use Rattle.ht_files.specs.Places.{AreFitting};
 ghost use Rattle.ht_files.specs.Points.{AddsPoints, AreCarriers, MeetsMisfit, TakesSymbol, first_point, fits_carrier, kind_on};
 ghost use Rattle.ht_files.specs.Points.{point_in, point_octets, points_due, symbols};
 
@@ -20,46 +20,11 @@ use ht_pilot::pilot;
 use ht_rate::{Carrier, Rate};
 use std::alloc::Global;
 
-/// The most subcarriers of a frame.
-const CARRIERS: usize = 114;
+/// The most points of a symbol: those of 114 subcarriers on 4 streams.
+const POINTS: usize = 456;
 
 /// The most octets of a symbol's points.
-const SYMBOL: usize = 912;
-
-// The symbol, subcarrier and stream of a point, all counted from 0.
-#[derive(Clone, Copy, Debug, PartialEq, Eq, Drop)]
-struct Walk {
-    symbol: u32,
-    index: u8,
-    stream: u8,
-}
-
-// The place behind one.
-fn next(rate: &Rate, walk: Walk) -> Walk
-    requires symbol { walk.symbol < 2 ^ 31 }
-    requires index { walk.index < carriers_of rate.now }
-    requires stream { walk.stream < streams_of rate.now }
-    ensures { (place : ℕ) → IsAt rate.now place walk.symbol walk.index walk.stream → IsAt rate.now (place + 1) result.symbol result.index result.stream }
-{
-    if walk.stream + 1 < rate.streams() {
-        Walk {
-            stream: walk.stream + 1,
-            ..walk
-        }
-    } else if walk.index + 1 < rate.carriers() {
-        Walk {
-            index: walk.index + 1,
-            stream: 0,
-            ..walk
-        }
-    } else {
-        Walk {
-            symbol: walk.symbol + 1,
-            index: 0,
-            stream: 0,
-        }
-    }
-}
+const SYMBOL: usize = 2 * POINTS;
 
 // The point of two octets.
 #[tactic(auto, unfolding(crate::specs::Points::point_in))]
@@ -72,15 +37,25 @@ fn made(octets: [u8; 2]) -> Point
     }
 }
 
-// Whether the point fits its subcarrier: it is on the constellation, or it is the pilot's.
-fn is_fitting(rate: &Rate, symbol: u32, carrier: Carrier, stream: u8, point: Point) -> bool
-    requires carrier { IsAmong rate.now carrier }
-    requires stream { (1 ≤ stream) × (stream ≤ streams_of rate.now) }
-    ensures { result ≡ fits_carrier rate.now symbol carrier stream point }
+// The stream of a symbol's point by its place, counted from 1.
+fn stream(rate: &Rate, place: usize) -> u8
+    ensures value { result ≡ place % streams_of rate.now + 1 }
+    ensures low { 1 ≤ result }
+    ensures high { result ≤ streams_of rate.now }
+{
+    (place % usize::from(rate.streams())) as u8 + 1
+}
+
+// Whether a symbol's point fits its place: it is on the constellation, or it is the pilot's.
+fn is_fitting(rate: &Rate, symbol: u32, carrier: Carrier, place: usize, point: Point) -> bool
+    requires { IsAmong rate.now carrier }
+    ensures { result ≡ fits_carrier rate.now symbol carrier (place % streams_of rate.now + 1) point }
 {
     match carrier {
         Carrier::Data(_) => label(rate.modulation(), point).is_some(),
-        Carrier::Pilot(index) => point.i == pilot(rate, symbol, index, stream) && point.q == 0,
+        Carrier::Pilot(index) => {
+            point.i == pilot(rate, symbol, index, stream(rate, place)) && point.q == 0
+        }
     }
 }
 
@@ -94,13 +69,17 @@ fn kind(carrier: Carrier) -> Kind
     }
 }
 
-// What the subcarriers of a rate carry, by their index.
-fn carriers(rate: &Rate) -> [Carrier; CARRIERS]
+// The subcarriers of the points of a symbol, in the order subcarrier, stream.
+fn carriers(rate: &Rate) -> [Carrier; POINTS]
     ensures { AreCarriers rate.now result }
 {
-    let mut carriers = [Carrier::Data(0); CARRIERS];
+    let mut carriers = [Carrier::Data(0); POINTS];
+    let streams = usize::from(rate.streams());
     for index in 0..rate.carriers() {
-        carriers[usize::from(index)] = rate.carrier(index);
+        let carrier = rate.carrier(index);
+        for stream in 0..streams {
+            carriers[usize::from(index) * streams + stream] = carrier;
+        }
     }
     carriers
 }
@@ -109,36 +88,30 @@ fn carriers(rate: &Rate) -> [Carrier; CARRIERS]
 // is left alone at the end is no point.
 fn add_points(
     rate: &Rate,
-    carriers: &[Carrier; CARRIERS],
+    carriers: &[Carrier; POINTS],
     symbol: u32,
     at: u64,
     octets: &[u8],
     points: &mut Vec<Point>,
 ) -> Result<(), InFault>
     requires carriers { AreCarriers rate.now carriers.now }
-    requires start { IsAt rate.now (length points.old.items) symbol 0 0 }
+    requires start { length points.old.items ≡ symbol * (carriers_of rate.now * streams_of rate.now) }
+    requires most { length octets.now ≤ 2 * (carriers_of rate.now * streams_of rate.now) }
     requires offset { at + length octets.now < 2 ^ 64 }
     requires room { length points.old.items + length octets.now / 2 ≤ vec_capacity points.old }
-    requires few { length points.old.items + length octets.now / 2 ≤ 9195696 }
     requires fitting { AreFitting rate.now points.old.items }
     ensures fitting { AreFitting rate.now points.new.items }
     ensures added { OnOk result (AddsPoints points.old.items points.new.items octets.now) }
     ensures misfit { IfErr result (MeetsMisfit rate.now at points.old.items points.new.items octets.now) }
     ensures room { vec_capacity points.new ≡ vec_capacity points.old }
 {
-    let mut walk = Walk {
-        symbol,
-        index: 0,
-        stream: 0,
-    };
     for place in 0..octets.len() / 2 {
         let point = made([octets[2 * place], octets[2 * place + 1]]);
-        let carrier = carriers[usize::from(walk.index)];
-        if !is_fitting(rate, walk.symbol, carrier, walk.stream + 1, point) {
+        let carrier = carriers[place];
+        if !is_fitting(rate, symbol, carrier, place, point) {
             return Err(bad(kind(carrier), at + 2 * place as u64));
         }
         points.push_reserved(point);
-        walk = next(rate, walk);
     }
     Ok(())
 }
@@ -148,17 +121,16 @@ fn symbol<S: Source>(
     source: &mut S,
     at: u64,
     rate: &Rate,
-    carriers: &[Carrier; CARRIERS],
+    carriers: &[Carrier; POINTS],
     symbol: u32,
     block: &mut [u8],
     points: &mut Vec<Point>,
 ) -> Result<(), InFault>
     requires carriers { AreCarriers rate.now carriers.now }
-    requires start { IsAt rate.now (length points.old.items) symbol 0 0 }
+    requires start { length points.old.items ≡ symbol * (carriers_of rate.now * streams_of rate.now) }
     requires offset { at + length block.old < 2 ^ 64 }
     requires block { length block.old ≡ 2 * (carriers_of rate.now * streams_of rate.now) }
     requires room { length points.old.items + carriers_of rate.now * streams_of rate.now ≤ vec_capacity points.old }
-    requires few { length points.old.items + carriers_of rate.now * streams_of rate.now ≤ 9195696 }
     requires fitting { AreFitting rate.now points.old.items }
     ensures fitting { AreFitting rate.now points.new.items }
     ensures whole { OnOk result (TakesSymbol rate.now points.old.items points.new.items (S.shown source.old) (S.shown source.new)) }

@@ -1,21 +1,24 @@
 -- Jobs that were found are due.
-use Rattle.std.proofs.Common.{◌≡◌, ℕ, ◌+◌, ◌-◌, ◌<◌, List, [], ◌∷◌, ◌++◌, drop, length, slice_get, None, Some, refl, sym, ap, ◌∙◌, subst, arith, append-nil, append_assoc, length-append}
+use Rattle.std.proofs.Common.{◌≡◌, ℕ, ◌+◌, ◌-◌, ◌<◌, List, [], ◌∷◌, ◌++◌, drop, length, slice_get, Option, None, Some, refl, sym, ap, ◌∙◌, subst, arith, append-nil, append_assoc, length-append}
 use Rattle.std.proofs.lemmas.Option.{none-some}
 use Rattle.circular_buffer.specs.Buffer.{keep_last}
 use Rattle.ht_metric.specs.Jobs.{JobView}
 use Rattle.ht_io.specs.Devices.{Device}
-use Rattle.ht_io.proofs.Calls.{grows-none, later-refl}
+use Rattle.ht_io.proofs.Calls.{grows-none, grows_by_part-none, later-refl}
 use Rattle.ht_capture.specs.declared.items.FrameHead.{FrameHead}
 use Rattle.ht_capture.specs.declared.items.Item.{Item}
 use Rattle.ht_capture.specs.declared.items.Item.TheVariants.{Frame, Job, Done}
 use Rattle.ht_results.specs.declared.headed.Headed.{Headed}
 use Rattle.ht_rx.specs.declared.faults.FeedFault.{FeedFault}
+use Rattle.ht_rx.specs.declared.faults.FeedFault.TheVariants.{Write, NoMemory}
+use Rattle.ht_rx.specs.Leading.{reads_none}
+use Rattle.ht_rx.specs.Reading.{standing}
 use Rattle.ht_rx.specs.Accounts.{Telling}
 use Rattle.ht_results.specs.Heads.{headed}
 use Rattle.ht_rx.specs.Heads.{jobs_alone}
 use Rattle.ht_rx.specs.Texts.{jobs_of}
 use Rattle.ht_rx.specs.Desks.{DeskView}
-use Rattle.ht_rx.specs.Telling.{ReadsMore, Tells, TellsBy, seen_by}
+use Rattle.ht_rx.specs.Telling.{ReadsMore, Tells, TellsPart, TellsBy, seen_by}
 
 -- a ring with room keeps all
 pub keeps_all : (n : ℕ) (due : List Headed) (h : Headed) → length due < n → keep_last n (due ++ h ∷ []) ≡ due ++ h ∷ []
@@ -67,6 +70,28 @@ leads_given old new source after account more r before now =
     let told = tells_given old new source after account more r in
     subst (λ f. TellsBy f new.failed (seen_by old source account) (seen_by new after account)) (sym before)
     (subst (λ f. TellsBy None f (seen_by old source account) (seen_by new after account)) (sym now) told)
+
+-- a feed that never failed, where memory lacked before anything was read
+pub leads_lacking : {P : Type 0} (old new : DeskView) (source after : Device ℕ) (account : Telling P) (faults : ℕ)
+    → new ≡ record old { faults = faults; failed = Some NoMemory } → after ≡ source → old.failed ≡ None
+    → TellsBy old.failed new.failed (seen_by old source account) (seen_by new after account)
+leads_lacking old new source after account faults is same before =
+    let failed : DeskView = record old { faults = faults; failed = Some NoMemory } in
+    let part : TellsPart (seen_by old source account) (seen_by failed source account) NoMemory = record {
+      items = [];
+      taken = [];
+      rest = old.due;
+      reads = reads_none (standing old.reader old.stop source);
+      jobs = append-nil old.due;
+      part = λ more. grows_by_part-none account.device (account.pieces more);
+      reads_later = later-refl source;
+      puts_later = later-refl account.device;
+      cause = λ write. cc;
+      steady = λ memory. refl;
+    } in
+    subst (λ (f : Option FeedFault). TellsBy f new.failed (seen_by old source account) (seen_by new after account)) (sym before)
+    (subst (λ (d : DeskView). TellsBy None d.failed (seen_by old source account) (seen_by d after account)) (sym is)
+    (subst (λ (s : Device ℕ). TellsPart (seen_by old source account) (seen_by failed s account) NoMemory) (sym same) part))
 
 pub jobs_alone-append : (xs ys : List Headed) → jobs_alone (xs ++ ys) ≡ jobs_alone xs ++ jobs_alone ys
 jobs_alone-append [] ys = refl

@@ -37,14 +37,14 @@ pub trait Account {
     fn take(
         &mut self,
         head: &FrameHead,
-        hit: Hit,
+        hit: &Hit,
         due: &HeapCircularBuffer<Headed>,
     ) -> Result<(), FeedFault>
-        requires first { slice_get due.now.items 0 ≡ Some (headed_of head.now hit.job) }
+        requires first { slice_get due.now.items 0 ≡ Some (headed_of head.now hit.now.job) }
 
         // What was put, and what is left to put.
-        ensures put { OnOk result (PutsOne (shown self.old) (shown self.new) (pieces self.old) (pieces self.new) (headed_of head.now hit.job)) }
-        ensures part { OnErr result (PutsPartOfOne (shown self.old) (shown self.new) (pieces self.old) (headed_of head.now hit.job)) }
+        ensures put { OnOk result (PutsOne (shown self.old) (shown self.new) (pieces self.old) (pieces self.new) (headed_of head.now hit.now.job)) }
+        ensures part { OnErr result (PutsPartOfOne (shown self.old) (shown self.new) (pieces self.old) (headed_of head.now hit.now.job)) }
         ensures waits { OnOk result (waits self.old due.now.items → waits self.new (drop 1 due.now.items)) }
 
         // The device has counted a fault exactly where the answer is Write.

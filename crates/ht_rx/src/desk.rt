@@ -1,12 +1,14 @@
 //! The memory of a feed over a capture.
-ghost use Rattle.std.specs.Prelude.{◌≡◌, ◌+◌, ◌-◌, ◌^◌, ◌<◌, ◌≤◌, ℕ, Option, None, Some, length, slice_get};
-ghost use Rattle.std.specs.Prelude.{IfErr, IfNone, IfOk, IfSome, MatchResult, OnOk};
+ghost use Rattle.std.specs.Prelude.{◌≡◌, ◌+◌, ◌-◌, ◌^◌, ◌<◌, ◌≤◌, ◌++◌, ℕ, [], ◌∷◌, Option, None, Some, length, slice_get};
+ghost use Rattle.std.specs.Prelude.{IfErr, IfNone, IfOk, IfSome, MatchResult, OnErr, OnOk};
+ghost use Rattle.circular_buffer.specs.Buffer.{buffer};
 ghost use Rattle.ht_io.specs.Causes.{one_more};
 ghost use Rattle.ht_io.specs.Devices.{Device};
 ghost use Rattle.ht_crew.specs.Feeds.{EndsJobs, Fails, GivesJob, GivesAsBefore, TakesHit};
 ghost use Rattle.ht_capture.specs.Readers.{more};
 ghost use Rattle.ht_rx.specs.Accounts.{told_by};
 ghost use Rattle.ht_rx.specs.Desks.{IsNewDesk, IsSoundDesk, feed_of};
+ghost use Rattle.ht_results.specs.Heads.{headed_of};
 ghost use Rattle.ht_rx.specs.Heads.{jobs_alone};
 ghost use Rattle.ht_rx.specs.Telling.{ReadsMore, Tells, TellsPart, seen_by};
 
@@ -54,13 +56,13 @@ impl Model for Desk {
 
     ghost view = { λ d. desk_view d.reader d.stop d.head d.frames d.due.items d.count d.faults d.failed };
 
-    ghost invariant = { λ d. IsSoundDesk (desk_view d.reader d.stop d.head d.frames d.due.items d.count d.faults d.failed)
-        × (d.due.capacity ≡ 4096) };
+    ghost invariant = { λ d. IsSoundDesk (desk_view d.reader d.stop d.head d.frames d.due.items d.count d.faults d.failed) };
 }
 
 impl Desk {
-    /// A desk in front of a capture of which nothing was read. The only error is lack of memory.
-    pub fn new(alloc: Global) -> Result<Desk, AllocError>
+    /// A desk in front of a capture of which nothing was read, with room for so many jobs that are due. Where more become
+    /// due it takes more memory. The only error is lack of memory.
+    pub fn new(alloc: Global, room: u16) -> Result<Desk, AllocError>
         ensures { IfOk result IsNewDesk }
     {
         Ok(Desk {
@@ -68,7 +70,7 @@ impl Desk {
             stop: None,
             head: no_head(),
             frames: 0,
-            due: HeapCircularBuffer::with_capacity(alloc, DUE)?,
+            due: HeapCircularBuffer::with_capacity(alloc, usize::from(room))?,
             count: 0,
             faults: 0,
             failed: None,
@@ -110,31 +112,31 @@ impl Desk {
         fault
     }
 
-    // Gives the next job, which is due from now on, or none where the reading stops.
-    pub(crate) fn next<S: Source>(&mut self, source: &mut S) -> Option<Job>
+    // Gives the next job, which is due from now on, or none where the reading stops. The only error is lack of memory, and
+    // then nothing was read.
+    pub(crate) fn next<S: Source>(&mut self, source: &mut S) -> Result<Option<Job>, AllocError>
         requires going { self.old.stop ≡ None }
         requires well { self.old.failed ≡ None }
         requires room { length self.old.due < 4096 }
-        ensures job { IfSome result (GivesJob (feed_of self.old) (feed_of self.new)) }
-        ensures none { IfNone result (EndsJobs (feed_of self.old) (feed_of self.new)) }
-        ensures reads { ReadsMore self.old self.new (S.shown source.old) (S.shown source.new) }
+        ensures job { IfOk result (λ given. IfSome given (GivesJob (feed_of self.old) (feed_of self.new))) }
+        ensures none { IfOk result (λ given. IfNone given (EndsJobs (feed_of self.old) (feed_of self.new))) }
+        ensures reads { OnOk result (ReadsMore self.old self.new (S.shown source.old) (S.shown source.new)) }
+        ensures memory { OnErr result ((self.new ≡ self.old) × (source.new ≡ source.old)) }
         ensures well { self.new.failed ≡ None }
         ensures faults { self.new.faults ≡ self.old.faults }
         ensures bound { self.new.count + more self.new.reader < 2 ^ 64 - 1 }
         ensures sound { IsSoundDesk self.new }
     {
+        make_room(&mut self.due)?;
         match next_job(&mut self.reader, &mut self.head, &mut self.frames, source) {
             Ok(job) => {
                 self.count += 1;
-                let _ = self.due.push_back(Headed {
-                    head: self.head,
-                    job: job.copy(),
-                });
-                Some(job)
+                keep(&mut self.due, &self.head, &job);
+                Ok(Some(job))
             }
             Err(stop) => {
                 self.stop = Some(stop);
-                None
+                Ok(None)
             }
         }
     }
@@ -158,7 +160,7 @@ impl Desk {
             unreachable!();
         };
         let head = first.head;
-        match account.take(&head, hit, &self.due) {
+        match account.take(&head, &hit, &self.due) {
             Ok(()) => {
                 let _ = self.due.pop_front();
                 Ok(())
@@ -169,6 +171,31 @@ impl Desk {
             }
         }
     }
+}
+
+// Makes room for one more job that is due, of which there are fewer than may be.
+fn make_room(due: &mut HeapCircularBuffer<Headed>) -> Result<(), AllocError>
+    requires { length due.old.items < 4096 }
+    ensures items { due.new.items ≡ due.old.items }
+    ensures room { OnOk result (length due.new.items < due.new.capacity) }
+{
+    if due.len() < due.capacity() {
+        return Ok(());
+    }
+    due.resize(DUE)
+}
+
+// Keeps a job that is due behind the others, with the head of its frame. It is kept out of line, so that the job is copied
+// from where it stands.
+#[inline(never)]
+fn keep(due: &mut HeapCircularBuffer<Headed>, head: &FrameHead, job: &Job)
+    requires { length due.old.items < due.old.capacity }
+    ensures { due.new ≡ buffer (due.old.items ++ headed_of head.now job.now ∷ []) due.old.capacity }
+{
+    let _ = due.push_back(Headed {
+        head: *head,
+        job: job.copy(),
+    });
 }
 
 // Counts a fault, and keeps it.

@@ -50,7 +50,10 @@ impl<'a, S: Source, A: Account> Feed for CaptureFeed<'a, S, A> {
         if let Some(fault) = self.desk.failed() {
             return Err(self.desk.fail(fault));
         }
-        Ok(self.desk.next(self.source))
+        match self.desk.next(self.source) {
+            Ok(given) => Ok(given),
+            Err(_) => Err(self.desk.fail(FeedFault::NoMemory)),
+        }
     }
 
     fn take(&mut self, hit: Hit) -> Result<(), FeedFault> {

@@ -58,10 +58,10 @@ impl<'a, K: Sink> Account for Lister<'a, K> {
     fn take(
         &mut self,
         _: &FrameHead,
-        hit: Hit,
+        hit: &Hit,
         due: &HeapCircularBuffer<Headed>,
     ) -> Result<(), FeedFault> {
-        write(self.text, &hit, due, self.sink)
+        write(self.text, hit, due, self.sink)
     }
 
     ghost more_due = { λ l. waits_given (string_bytes l.text.now) };

@@ -62,11 +62,11 @@ impl<'a, B: Book, D: Decoder> Account for Receiver<'a, B, D> {
     fn take(
         &mut self,
         head: &FrameHead,
-        hit: Hit,
+        hit: &Hit,
         _: &HeapCircularBuffer<Headed>,
     ) -> Result<(), FeedFault> {
         self.open.enter(head)?;
-        self.open.add(&hit);
+        self.open.add(hit);
         if self.open.left() > 0 {
             return Ok(());
         }

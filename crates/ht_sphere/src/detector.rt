@@ -1,7 +1,8 @@
 //! The sphere detector.
 ghost use Rattle.std.specs.Prelude.{◌≡◌, ◌<◌, ◌≤◌, ◌+◌, ◌*◌, ◌^◌, [], length, unsigned_abs};
 ghost use Rattle.std.specs.List.{All};
-ghost use Rattle.ht_metric.specs.Jobs.{near};
+ghost use Rattle.ht_metric.specs.Distance.{distance_of};
+ghost use Rattle.ht_metric.specs.Jobs.{near, IsNear};
 ghost use Rattle.ht_sphere.specs.Coordinates.{from_last, points_from};
 ghost use Rattle.ht_sphere.specs.Tree.{rounding, inside, inside_of};
 ghost use Rattle.ht_sphere.specs.Searching.{leaves, IsBestOf};
@@ -9,7 +10,7 @@ ghost use Rattle.ht_sphere.specs.Searching.{leaves, IsBestOf};
 use crate::round::round;
 use crate::search::search;
 use crate::vectors::vector_of;
-use ht_metric::{Hit, Job};
+use ht_metric::{Hit, Job, Vector};
 use ht_pam::Steps;
 use std::sync::ledger::Ledger;
 
@@ -34,13 +35,34 @@ pub fn into_hit<L: Ledger>(job: Job, steps: &mut Steps<L>) -> Hit
     ensures near { near job ≡ record { vector = result.vector; distance = result.distance } }
     ensures steps { steps.new ≤ steps.old + 2 * inside_of job }
 {
-    let mut levels = [0i8; 8];
-    let levels = &mut levels[..2 * usize::from(job.system().streams())];
-    let distance = find(&job, levels, steps);
-    let vector = vector_of(levels);
+    let Found { vector, distance } = answer(&job, steps);
     Hit {
         job,
         vector,
+        distance,
+    }
+}
+
+// What is found for a job.
+#[derive(Clone, Copy)]
+struct Found {
+    vector: Vector,
+    distance: u128,
+}
+
+// The first nearest vector of a job, and its distance. It is kept out of line, so that the job stays where it is.
+#[inline(never)]
+fn answer<L: Ledger>(job: &Job, steps: &mut Steps<L>) -> Found
+    ensures near { IsNear job.now result.vector }
+    ensures distance { result.distance ≡ distance_of job.now.system result.vector }
+    ensures bound { result.distance < 2 ^ 66 }
+    ensures steps { steps.new ≤ steps.old + 2 * inside_of job.now }
+{
+    let mut levels = [0i8; 8];
+    let levels = &mut levels[..2 * usize::from(job.system().streams())];
+    let distance = find(job, levels, steps);
+    Found {
+        vector: vector_of(levels),
         distance,
     }
 }

@@ -2,12 +2,7 @@ use Rattle.std.proofs.Common.{◌≡◌, ◌≤◌, ◌<◌, ◌+◌, ◌*◌, l
 use Rattle.ht_rate.specs.Rates.{carriers_of, streams_of, symbols_of}
 use Rattle.ht_tx.specs.Symbols.{points_of}
 use Rattle.ht_files.proofs.PointRoutes.{points_of-few, room_left, symbols_all, symbols_end, symbols_read, width_some}
-use Rattle.ht_files.proofs.Walks.{symbol_first}
 use Rattle.ht_files.proofs.points.read_points.Goals as goal
-
-pub symbol-requires-clause-start : goal.symbol-requires-clause-start
-symbol-requires-clause-start g c =
-    symbol_first c.args.rate.now (length c.loop-index.points.items) c.loop-index.index c.loop-index.invariant.size
 
 pub symbol-requires-clause-room : goal.symbol-requires-clause-room
 symbol-requires-clause-room g c =
@@ -18,16 +13,6 @@ symbol-requires-clause-room g c =
           (omega (arith, c.loop-index-test.true, c.symbols-index-end.ensures.value)),
       was.room,
       c.requires.room,
-    )
-
-pub symbol-requires-clause-few : goal.symbol-requires-clause-few
-symbol-requires-clause-few g c =
-    let was = c.loop-index.invariant in
-    omega (
-      arith,
-      room_left c.args.rate.now c.args.length (length c.loop-index.points.items) c.loop-index.index was.size
-          (omega (arith, c.loop-index-test.true, c.symbols-index-end.ensures.value)),
-      points_of-few c.args.rate.now c.args.length (omega arith),
     )
 
 pub overflow_add-at : goal.overflow_add-at

@@ -1,28 +1,11 @@
 use Rattle.std.proofs.Common.{refl, ◌∙◌}
 use Rattle.ht_metric.proofs.Finding.{near_is, found_same}
-use Rattle.ht_sphere.specs.Coordinates.{from_last}
-use Rattle.ht_sphere.proofs.Finding.{answered}
 use Rattle.ht_sphere.proofs.detector.into_hit.Goals as goal
-
-pub invariant_of-result-clause-near : goal.invariant_of-result-clause-near
-invariant_of-result-clause-near g c =
-    let job = c.args.job in
-    let a = answered job (from_last job.system job.grid) c.find-distance.new.levels c.find-distance.result
-    c.vector_of-vector.result c.system.ensures.job refl c.find-distance.ensures.best c.vector_of-vector.ensures in
-    a.0
-
-pub invariant_of-result-clause-far : goal.invariant_of-result-clause-far
-invariant_of-result-clause-far g c =
-    let job = c.args.job in
-    let a = answered job (from_last job.system job.grid) c.find-distance.new.levels c.find-distance.result
-    c.vector_of-vector.result c.system.ensures.job refl c.find-distance.ensures.best c.vector_of-vector.ensures in
-    a.1
 
 pub returns-clause-near : goal.returns-clause-near
 returns-clause-near g c =
     let job = c.args.job in
-    let x = c.vector_of-vector.result in
-    let a = answered job (from_last job.system job.grid) c.find-distance.new.levels c.find-distance.result
-    x c.system.ensures.job refl c.find-distance.ensures.best c.vector_of-vector.ensures in
-    near_is job x a.0 ∙ found_same job x x c.find-distance.result
-    c.find-distance.result job.system refl refl a.1 refl
+    let is = c.answer-vector.ensures in
+    let x = c.answer-vector.result.vector in
+    near_is job x is.near ∙ found_same job x x c.answer-vector.result.distance
+    c.answer-vector.result.distance job.system refl refl is.distance refl

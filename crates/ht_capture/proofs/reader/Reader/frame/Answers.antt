@@ -3,7 +3,7 @@ use Rattle.ht_capture.specs.declared.places.Present.{Present}
 use Rattle.ht_capture.specs.declared.stage.Stage.{Stage}
 use Rattle.ht_capture.specs.declared.stage.Stage.TheVariants.{NextFrame}
 use Rattle.ht_capture.specs.Fields.{Over, turn_due}
-use Rattle.ht_capture.specs.Readers.{StageFits, TurnFits}
+use Rattle.ht_capture.specs.Readers.{KeepsGrid, StageFits, TurnFits}
 use Rattle.ht_capture.proofs.Grids.{written-all}
 use Rattle.ht_capture.proofs.Turns.{completes_over, halts_from, over_is}
 use Rattle.ht_fields.proofs.Halting.{halts_as}
@@ -16,12 +16,14 @@ invariant_of-self-in-Err-frame g c =
     let len : length present ≡ 114 = omega arith in
     let whole : length present ≡ old.present.len = omega arith in
     let is : old.stage ≡ NextFrame c.args.turn = rw (← c.self-else-turn-eq0.view_is) at c.requires.stage in
-    let fits : TurnFits c.args.turn old.at = rw (← c.self-else-turn-eq0.view_is) at c.requires.fits in
-    record {
-      present = ap (λ (p : List Present). length p) (written-all present _ _ whole) ∙ len;
-      samples = search rules;
-      stage = subst (λ (s : Stage). StageFits s old.at (take old.present.len (present ++ drop (length present) old.present.items))) (sym is) fits;
-    }
+    let fits : TurnFits c.args.turn old.at = rw (← c.self-else-turn-eq0.view_is) at c.requires.fits in (
+      record {
+        present = ap (λ (p : List Present). length p) (written-all present _ _ whole) ∙ len;
+        samples = search rules;
+        stage = subst (λ (s : Stage). StageFits s old.at (take old.present.len (present ++ drop (length present) old.present.items))) (sym is) fits;
+      },
+      subst (λ (s : Stage). KeepsGrid s old.grid) (sym is) tt,
+    )
 
 pub returns-in-Ok-clause-told : goal.returns-in-Ok-clause-told
 returns-in-Ok-clause-told g c = rw (← c.self.view_is) (completes_over c.args.turn c.self.inside.at _ _ c.if-turn-eq0.true c.in-Ok.ensures.told)

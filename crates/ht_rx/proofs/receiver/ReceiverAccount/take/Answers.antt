@@ -10,8 +10,8 @@ pub returns-then-left-gt0-clause-put : goal.returns-then-left-gt0-clause-put
 returns-then-left-gt0-clause-put g c =
     let before = c.args.self.now.open.now in
     let after = c.add.new.self in
-    let h = headed_of c.args.head.now c.args.hit.job in
-    let goes = goes_on c.args.head.now c.args.hit.job before c.enter.new.self after c.in_ok-enter.ensures.entered c.add.ensures.added in
+    let h = headed_of c.args.head.now c.args.hit.now.job in
+    let goes = goes_on c.args.head.now c.args.hit.now.job before c.enter.new.self after c.in_ok-enter.ensures.entered c.add.ensures.added in
     let t = c.if-left-gt0.true in
     let l = c.left.ensures in
     let some : 1 ≤ after.left = omega (arith, t, l) in
@@ -21,7 +21,7 @@ pub returns-in_err-frame-clause-part : goal.returns-in_err-frame-clause-part
 returns-in_err-frame-clause-part g c =
     let before = c.args.self.now.open.now in
     let book = g.B.Book.shown c.args.self.now.book.now in
-    let h = headed_of c.args.head.now c.args.hit.job in
+    let h = headed_of c.args.head.now c.args.hit.now.job in
     err_so c.from_residual-in_err-frame.result (PutsPartOfOne book book (all_booked g.B.Book.booked before) h) (books_nothing g.B.Book.booked book before h)
 
 pub returns-in_err-frame-2-clause-part : goal.returns-in_err-frame-2-clause-part
@@ -30,8 +30,8 @@ returns-in_err-frame-2-clause-part g c =
     let after = c.add.new.self in
     let a = g.B.Book.shown c.args.self.now.book.now in
     let b = g.B.Book.shown c.frame.new.self in
-    let h = headed_of c.args.head.now c.args.hit.job in
-    let goes = goes_on c.args.head.now c.args.hit.job before c.enter.new.self after c.in_ok-enter.ensures.entered c.add.ensures.added in
+    let h = headed_of c.args.head.now c.args.hit.now.job in
+    let goes = goes_on c.args.head.now c.args.hit.now.job before c.enter.new.self after c.in_ok-enter.ensures.entered c.add.ensures.added in
     let f = c.if-left-gt0.false in
     let l = c.left.ensures in
     let none : after.left ≤ 0 = omega (arith, f, l) in
@@ -42,8 +42,8 @@ pub returns-clause-put : goal.returns-clause-put
 returns-clause-put g c =
     let before = c.args.self.now.open.now in
     let after = c.add.new.self in
-    let h = headed_of c.args.head.now c.args.hit.job in
-    let goes = goes_on c.args.head.now c.args.hit.job before c.enter.new.self after c.in_ok-enter.ensures.entered c.add.ensures.added in
+    let h = headed_of c.args.head.now c.args.hit.now.job in
+    let goes = goes_on c.args.head.now c.args.hit.now.job before c.enter.new.self after c.in_ok-enter.ensures.entered c.add.ensures.added in
     let f = c.if-left-gt0.false in
     let l = c.left.ensures in
     let none : after.left ≤ 0 = omega (arith, f, l) in (
