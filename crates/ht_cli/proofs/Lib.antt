@@ -1,4 +1,8 @@
 pub mod Converting
+pub mod Exactly
+pub mod Making
+pub mod Nothing
+pub mod Returning
 pub mod Streaming
 pub mod Texts
 pub mod Spelled

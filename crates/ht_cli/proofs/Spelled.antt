@@ -10,7 +10,7 @@ use Rattle.ht_cli.specs.Filters.{streaming}
 use Rattle.ht_cli.specs.Streaming.{IsCapture, StreamsFront, StreamsLines, StreamsPart, StreamsRefused, StreamsWhole}
 
 -- what holds of known octets
-known_has : (all : List ℕ) (known : Option (List ℕ)) (P : List ℕ → Type 0) → known ≡ Some all → IfSome known P → P all
+pub known_has : (all : List ℕ) (known : Option (List ℕ)) (P : List ℕ → Type 0) → known ≡ Some all → IfSome known P → P all
 known_has all known P is holds = subst (λ (o : Option (List ℕ)). IfSome o P) is holds
 
 module _ (lines text : List ℕ → List ℕ) (a b k l : Device ℕ) where

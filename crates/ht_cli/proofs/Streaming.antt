@@ -1,6 +1,6 @@
 -- What a run comes to that reads a capture, puts lines while it reads, and then puts the last line.
-use Rattle.std.specs.Prelude.{◌≡◌, ℕ, ◌+◌, List, [], ◌++◌, length, take, Option, Some, None, Err, IfSome}
-use Rattle.std.proofs.Common.{refl, ap, ◌∙◌, sym, subst, append-nil, arith}
+use Rattle.std.specs.Prelude.{◌≡◌, ℕ, ◌+◌, List, [], ◌++◌, length, take, Option, Some, None, Result, Ok, Err, IfSome, MatchResult}
+use Rattle.std.proofs.Common.{refl, ap, ◌∙◌, sym, subst, append-nil, inl, inr, arith}
 use Rattle.ht_io.specs.Kinds.{name_of}
 use Rattle.std.proofs.lemmas.Option.{IfSome_then}
 use Rattle.ht_io.specs.Devices.{Device, Takes, TakesAll, Grows, GrowsByPart, Rose, IsLater}
@@ -16,18 +16,17 @@ use Rattle.ht_capture.specs.Captures.{capture_of}
 use Rattle.ht_capture.specs.Fields.{captures}
 use Rattle.ht_text.specs.Lines.{end_text, refused_text}
 use Rattle.ht_results.specs.Texts.{frames_of, last_line, last_of}
-use Rattle.ht_rx.specs.Outcomes.{IsFront, TellsWhole, TellsRefused, TellsBroken, TellsPieces, StopsBy}
+use Rattle.ht_rx.specs.Outcomes.{IsFront, TellsWhole, TellsRefused, TellsBroken, TellsPieces, TellsTo, StopsBy}
 use Rattle.ht_rx.proofs.Outcomes.{known_all, takes_of}
 use Rattle.ht_rx.specs.declared.faults.RxFault.{RxFault}
 use Rattle.ht_rx.specs.declared.faults.RxFault.TheVariants.{Read, Write as ListWrite, NoMemory as ListMemory}
-use Rattle.ht_rx.specs.declared.faults.FeedFault.{FeedFault}
-use Rattle.ht_rx.specs.declared.faults.FeedFault.TheVariants.{Write, NoMemory as LineMemory}
+use Rattle.ht_rx.specs.declared.faults.Ended.{Ended}
+use Rattle.ht_rx.specs.declared.faults.Ended.TheVariants.{Done as EndedDone, Refused as EndedRefused}
 use Rattle.ht_cli.specs.declared.status.Status.{Status}
 use Rattle.ht_cli.specs.declared.status.Status.TheVariants.{Done, Refused, ReadFault, WriteFault, NoMemory}
 use Rattle.ht_cli.specs.Commands.{Answers, PutsPart}
 use Rattle.ht_cli.specs.Filters.{IsWhole, IsFaultless, streaming}
-use Rattle.ht_cli.specs.Putting.{Puts}
-use Rattle.ht_cli.specs.Statuses.{status_of_line, status_of_listing}
+use Rattle.ht_cli.specs.Stopping.{PutsLast}
 
 none_is_not : (fault : FormatFault) → None ≡ Some fault → ⊥
 none_is_not fault e = cc
@@ -98,7 +97,7 @@ module _ (lines text : List ℕ → List ℕ) (s : IsStreamed lines text) (sourc
       → IfSome source.known (λ all. text_of all ≡ text_of taken)
   whole_same text_of taken octets = known_all source.known source'.known taken (λ all. text_of all ≡ text_of taken) octets refl
 
-  pub whole_done : (mid sink' : Device ℕ) (frames jobs : ℕ) → TellsWhole lines source source' sink mid frames jobs
+  whole_done : (mid sink' : Device ℕ) (frames jobs : ℕ) → TellsWhole lines source source' sink mid frames jobs
       → Grows mid sink' (end_text frames) → Comes sink' Done
   whole_done mid sink' frames jobs l last =
       record {
@@ -130,7 +129,7 @@ module _ (lines text : List ℕ → List ℕ) (s : IsStreamed lines text) (sourc
       → ((all : List ℕ) → capture_of all ≡ capture_of l.taken → P all) → IfSome source.known P
   refused_same mid fault l P so = IfSome_then source.known l.comes so
 
-  pub refused_done : (mid sink' : Device ℕ) (fault : FormatFault) → TellsRefused lines source source' sink mid fault
+  refused_done : (mid sink' : Device ℕ) (fault : FormatFault) → TellsRefused lines source source' sink mid fault
       → Grows mid sink' (refused_text (name_of fault.kind) fault.offset) → Comes sink' Refused
   refused_done mid sink' fault l last =
       let fault_of : (all : List ℕ) → capture_of all ≡ capture_of l.taken → (capture_of all).fault ≡ Some fault =
@@ -174,20 +173,26 @@ module _ (lines text : List ℕ → List ℕ) (s : IsStreamed lines text) (sourc
   lines_lack : (sink' : Device ℕ) → TellsPieces lines source source' sink sink' → Comes sink' NoMemory
   lines_lack sink' l = record { taken = l.taken; octets = l.octets; text = l.put; of_all = l.of_all }
 
-  -- what stopped the last line, or the listing, says how the run ends
-  pub whole_stops : (mid sink' : Device ℕ) (frames jobs : ℕ) (fault : FeedFault) → TellsWhole lines source source' sink mid frames jobs → IsLater sink mid
-      → Puts mid sink' (end_text frames) (Err fault) → Comes sink' (status_of_line fault)
-  whole_stops mid sink' frames jobs Write l later put = whole_part mid sink' frames jobs l put.0 (failed-later sink mid sink' later put.1)
-  whole_stops mid sink' frames jobs LineMemory l later put =
-      whole_lines sink' frames jobs (subst (λ (k : Device ℕ). TellsWhole lines source source' sink k frames jobs) (sym put) l)
-
-  pub refused_stops : (mid sink' : Device ℕ) (of : FormatFault) (fault : FeedFault) → TellsRefused lines source source' sink mid of → IsLater sink mid
-      → Puts mid sink' (refused_text (name_of of.kind) of.offset) (Err fault) → Comes sink' (status_of_line fault)
-  refused_stops mid sink' of Write l later put = refused_part mid sink' of l put.0 (failed-later sink mid sink' later put.1)
-  refused_stops mid sink' of LineMemory l later put =
-      refused_lines sink' of (subst (λ (k : Device ℕ). TellsRefused lines source source' sink k of) (sym put) l)
-
-  pub listing_stops : (sink' : Device ℕ) (fault : RxFault) → StopsBy lines source source' sink sink' fault → Comes sink' (status_of_listing fault)
-  listing_stops sink' Read stops = broken sink' stops.0 stops.1
-  listing_stops sink' ListWrite stops = lines_part sink' stops.0 stops.1
-  listing_stops sink' ListMemory stops = lines_lack sink' stops
+  -- how the lines ended, and the last line behind them
+  pub ends : (mid sink' : Device ℕ) (heard : Result Ended RxFault) (status : Status)
+      → MatchResult heard (TellsTo lines source source' sink mid) (StopsBy lines source source' sink mid) → IsLater sink mid
+      → PutsLast heard mid sink' status → Comes sink' status
+  ends mid sink' (Ok (EndedDone frames jobs)) status l later (inl (is, last)) =
+      subst (Comes sink') (sym is) (whole_done mid sink' frames jobs l last)
+  ends mid sink' (Ok (EndedDone frames jobs)) status l later (inr (inl (is, last, rose))) =
+      subst (Comes sink') (sym is) (whole_part mid sink' frames jobs l last (failed-later sink mid sink' later rose))
+  ends mid sink' (Ok (EndedDone frames jobs)) status l later (inr (inr (is, same))) =
+      subst (Comes sink') (sym is) (whole_lines sink' frames jobs (subst (λ (k : Device ℕ). TellsWhole lines source source' sink k frames jobs) (sym same) l))
+  ends mid sink' (Ok (EndedRefused fault)) status l later (inl (is, last)) =
+      subst (Comes sink') (sym is) (refused_done mid sink' fault l last)
+  ends mid sink' (Ok (EndedRefused fault)) status l later (inr (inl (is, last, rose))) =
+      subst (Comes sink') (sym is) (refused_part mid sink' fault l last (failed-later sink mid sink' later rose))
+  ends mid sink' (Ok (EndedRefused fault)) status l later (inr (inr (is, same))) =
+      subst (Comes sink') (sym is) (refused_lines sink' fault (subst (λ (k : Device ℕ). TellsRefused lines source source' sink k fault) (sym same) l))
+  ends mid sink' (Err Read) status l later (is, same) =
+      subst (Comes sink') (sym is) (broken sink' (subst (λ (k : Device ℕ). TellsBroken lines source source' sink k) (sym same) l.0) l.1)
+  ends mid sink' (Err ListWrite) status l later (is, same) =
+      subst (Comes sink') (sym is)
+      (lines_part sink' (subst (λ (k : Device ℕ). TellsPieces lines source source' sink k) (sym same) l.0) (subst (λ (k : Device ℕ). Rose sink k) (sym same) l.1))
+  ends mid sink' (Err ListMemory) status l later (is, same) =
+      subst (Comes sink') (sym is) (lines_lack sink' (subst (λ (k : Device ℕ). TellsPieces lines source source' sink k) (sym same) l))

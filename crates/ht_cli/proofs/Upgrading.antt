@@ -19,7 +19,7 @@ use Rattle.ht_results.specs.Texts.{frame_lines_of, frames_of, last_line, last_of
 use Rattle.ht_capture_laws.specs.Items.{whole_frames}
 use Rattle.ht_rx.specs.Texts.{detect_text, job_lines, jobs_of, lines_of}
 use Rattle.ht_cli.specs.declared.status.Status.TheVariants.{Done, WriteFault}
-use Rattle.ht_cli.specs.declared.words.Asked.TheVariants.{Upgrade}
+use Rattle.ht_words.specs.declared.asked.Asked.TheVariants.{Upgrade}
 use Rattle.ht_cli.specs.Commands.{Answers}
 use Rattle.ht_cli.specs.Converting.{UpgradesTo}
 use Rattle.ht_cli.specs.Filters.{whole}

@@ -33,11 +33,11 @@ pub record Conversion : Type 1 where
   -- what is written where this is the first fault
   pub refusal : FormatFault → List ℕ
 
--- a command writes while it reads its input, or once it has read it, or it reads nothing and writes one text
+-- a command writes while it reads its input, or once it has read it, or it reads nothing and writes a text of this kind
 pub data Command : Type 1 where
   Reads : Filter → Command
   Converts : Conversion → Command
-  Makes : List ℕ → Command
+  Makes : (List ℕ → Type 0) → Command
 
 -- a part of this text of the octets that were taken was put
 pub record PutsPart (text_of : List ℕ → List ℕ) (source source' sink sink' : Device ℕ) : Type 0 where
@@ -120,6 +120,20 @@ module _ (f : Conversion) (source source' sink sink' : Device ℕ) where
     pub of_all : IfSome source.known (λ all. IsWritten f all text)
     pub put : GrowsByPart sink sink' text
 
+-- a run of a command that reads nothing and writes a text of this kind: the sink before it and after it
+module _ (IsText : List ℕ → Type 0) (sink sink' : Device ℕ) where
+  -- such a text was put
+  pub record MakesText : Type 0 where
+    pub text : List ℕ
+    pub made : IsText text
+    pub put : Grows sink sink' text
+
+  -- a part of such a text was put
+  pub record MakesPart : Type 0 where
+    pub text : List ℕ
+    pub made : IsText text
+    pub put : GrowsByPart sink sink' text
+
 -- what each status says of a run: first the source before and after it, then the sink
 abbrev pub Answers : Command → Device ℕ → Device ℕ → Device ℕ → Device ℕ → Status → Type 0
 Answers (Reads f) source source' sink sink' Done = FinishesRun f source source' sink sink'
@@ -134,12 +148,12 @@ Answers (Converts f) source source' sink sink' Usage = ⊥
 Answers (Converts f) source source' sink sink' ReadFault = LeavesOff f source source' sink sink'
 Answers (Converts f) source source' sink sink' WriteFault = WritesPart f source source' sink sink' × Rose sink sink'
 Answers (Converts f) source source' sink sink' NoMemory = sink' ≡ sink
-Answers (Makes text) source source' sink sink' Done = Grows sink sink' text
-Answers (Makes text) source source' sink sink' Refused = ⊥
-Answers (Makes text) source source' sink sink' Usage = ⊥
-Answers (Makes text) source source' sink sink' ReadFault = ⊥
-Answers (Makes text) source source' sink sink' WriteFault = GrowsByPart sink sink' text × Rose sink sink'
-Answers (Makes text) source source' sink sink' NoMemory = GrowsByPart sink sink' text
+Answers (Makes IsText) source source' sink sink' Done = MakesText IsText sink sink'
+Answers (Makes IsText) source source' sink sink' Refused = ⊥
+Answers (Makes IsText) source source' sink sink' Usage = ⊥
+Answers (Makes IsText) source source' sink sink' ReadFault = ⊥
+Answers (Makes IsText) source source' sink sink' WriteFault = MakesPart IsText sink sink' × Rose sink sink'
+Answers (Makes IsText) source source' sink sink' NoMemory = sink' ≡ sink
 
 -- what each status says where the words ask for no command, and this text tells how the program is called
 abbrev pub Rejects : List ℕ → Device ℕ → Device ℕ → Status → Type 0

@@ -1,9 +1,9 @@
 pub mod Commands
 pub mod Converting
+pub mod Exactly
 pub mod Filters
 pub mod Putting
 pub mod Statuses
 pub mod Stopping
 pub mod Streaming
 pub mod Tasks
-pub mod Words

@@ -2,8 +2,6 @@
 use Rattle.std.specs.Prelude.{ℕ}
 use Rattle.ht_rx.specs.declared.faults.RxFault.{RxFault}
 use Rattle.ht_rx.specs.declared.faults.RxFault.TheVariants.{Read, Write as WriteRx, NoMemory as NoMemoryRx}
-use Rattle.ht_rx.specs.declared.faults.FeedFault.{FeedFault}
-use Rattle.ht_rx.specs.declared.faults.FeedFault.TheVariants.{Write as WriteLine, NoMemory as NoMemoryLine}
 use Rattle.ht_cli.specs.declared.status.Status.{Status}
 use Rattle.ht_cli.specs.declared.status.Status.TheVariants.{Done, Refused, Usage, ReadFault, WriteFault, NoMemory}
 
@@ -15,11 +13,7 @@ number_of ReadFault = 3
 number_of WriteFault = 4
 number_of NoMemory = 5
 
-abbrev pub status_of_listing : RxFault → Status
-status_of_listing Read = ReadFault
-status_of_listing WriteRx = WriteFault
-status_of_listing NoMemoryRx = NoMemory
-
-abbrev pub status_of_line : FeedFault → Status
-status_of_line WriteLine = WriteFault
-status_of_line NoMemoryLine = NoMemory
+abbrev pub status_of : RxFault → Status
+status_of Read = ReadFault
+status_of WriteRx = WriteFault
+status_of NoMemoryRx = NoMemory

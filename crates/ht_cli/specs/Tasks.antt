@@ -6,22 +6,30 @@ use Rattle.ht_text.specs.Lines.{usage_text}
 use Rattle.ht_rx.specs.Texts.{detect_text, lines_of}
 use Rattle.ht_results.specs.Texts.{frame_lines_of, rx_text}
 use Rattle.ht_cli.specs.declared.status.Status.{Status}
-use Rattle.ht_cli.specs.declared.words.Asked.{Asked}
-use Rattle.ht_cli.specs.declared.words.Asked.TheVariants.{Detect, Rx, Tx, Channel, Upgrade}
+use Rattle.ht_words.specs.declared.asked.Asked.{Asked}
+use Rattle.ht_words.specs.declared.asked.Asked.TheVariants.{Detect, Rx, Tx, Channel, Upgrade, Demo}
 use Rattle.ht_cli.specs.Commands.{Command, Reads, Converts, Makes, Answers, Rejects}
 use Rattle.ht_cli.specs.Filters.{streaming, whole}
 use Rattle.ht_cli.specs.Converting.{SendsTo, UpgradesTo}
 use Rattle.ht_files.specs.Frames.{frames}
 use Rattle.ht_files.specs.Points.{symbols}
 use Rattle.ht_sim.specs.Passing.{PassesTo}
+use Rattle.ht_rate.specs.declared.rates.Rate.{Rate}
+use Rattle.ht_demo.specs.declared.plan.Plan.{Plan}
+use Rattle.ht_demo.specs.Demos.{IsDemoLine}
 
--- what each command reads and writes
+-- what a demonstration is to do
+abbrev pub plan_of : ℕ → ℕ → ℕ → Rate → ℕ → Plan
+plan_of seed noise count rate length = record { seed = seed; noise = noise; frames = count; rate = rate; length = length }
+
+-- What each command reads and writes. How many workers there are, and how large their window is, changes nothing of it.
 abbrev pub command_of : Asked → Command
-command_of Detect = streaming captures detect_text lines_of
-command_of Rx = streaming captures rx_text frame_lines_of
+command_of (Detect workers window) = streaming captures detect_text lines_of
+command_of (Rx workers window) = streaming captures rx_text frame_lines_of
 command_of Tx = whole frames SendsTo
-command_of Channel = whole symbols (PassesTo 42 0)
+command_of (Channel seed noise) = whole symbols (PassesTo seed noise)
 command_of Upgrade = whole captures UpgradesTo
+command_of (Demo seed noise count rate length workers window) = Makes (IsDemoLine (plan_of seed noise count rate length))
 
 -- what each status says of a run: first the source before and after it, then the sink
 abbrev pub Answered : Option Asked → Device ℕ → Device ℕ → Device ℕ → Device ℕ → Status → Type 0
@@ -32,7 +40,7 @@ Answered None source source' sink sink' status = Rejects usage_text sink sink' s
 abbrev pub IsMaker : Command → Type 0
 IsMaker (Reads filter) = ⊥
 IsMaker (Converts conversion) = ⊥
-IsMaker (Makes text) = Unit {0}
+IsMaker (Makes IsText) = Unit {0}
 
 -- the words ask for no command that reads
 abbrev pub ReadsNothing : Option Asked → Type 0

@@ -1,6 +1,4 @@
-//! The commands, each in a file of its own.
+//! The commands that read their whole input first, each in a file of its own.
 pub mod channel;
-pub mod detect;
-pub mod rx;
 pub mod tx;
 pub mod upgrade;

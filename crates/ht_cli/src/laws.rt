@@ -2,22 +2,38 @@
 //!
 //! The clauses of [`run`](crate::run) are the same for every command. Each law is a function with an empty body: its
 //! clauses follow from `Answered`, where a run goes from the source `a` to `b` and from the sink `c` to `d`.
-ghost use Rattle.std.specs.Prelude.{◌≡◌, ◌⊎◌, ℕ, List, [], Option, None, Some};
+ghost use Rattle.std.specs.Prelude.{◌≡◌, ◌≢◌, ◌⊎◌, ℕ, List, [], IfSome, Option, None, Some, String};
+ghost use Rattle.std.specs.Global.{Global as GlobalValue};
 ghost use Rattle.ht_io.specs.Devices.{Device, Grows, GrowsByPart, Rose, TakesAll};
 ghost use Rattle.ht_capture.specs.declared.frames.CaptureFrame.{CaptureFrame};
 ghost use Rattle.ht_capture.specs.Captures.{capture_of};
 ghost use Rattle.ht_capture.specs.Contents.{AreTyped};
 ghost use Rattle.ht_capture.specs.Files.{AreCaptureFrames, capture_file_of};
+ghost use Rattle.ht_tx.specs.Frames.{FrameView};
+ghost use Rattle.ht_tx.specs.Symbols.{SymbolsView};
+ghost use Rattle.ht_files.specs.Files.{AreFrames, frames_file_of};
+ghost use Rattle.ht_files.specs.SymbolFiles.{AreSymbolFrames, symbols_file_of};
+ghost use Rattle.ht_sim.specs.Passing.{PassesTo};
+ghost use Rattle.ht_round.specs.Exact.{AreExact, HoldOctets};
+ghost use Rattle.ht_round.specs.Returned.{returned_text};
 ghost use Rattle.ht_text.specs.Lines.{usage_text};
 ghost use Rattle.ht_results.specs.Texts.{frame_lines_of, rx_text};
 ghost use Rattle.ht_rx.specs.Texts.{detect_text, lines_of};
-ghost use Rattle.ht_cli.specs.Commands.{Answers, Makes};
-ghost use Rattle.ht_cli.specs.Converting.{UpgradesTo};
+ghost use Rattle.ht_rate.specs.declared.rates.Rate.{Rate as RateValue};
+ghost use Rattle.ht_demo.specs.Demos.{IsDemoLine};
+ghost use Rattle.ht_words.specs.Words.{asked};
+ghost use Rattle.ht_cli.specs.Commands.{MakesPart, MakesText};
+ghost use Rattle.ht_cli.specs.Converting.{SendsTo, UpgradesTo};
 ghost use Rattle.ht_cli.specs.Streaming.{IsCapture, StreamsFront, StreamsLines, StreamsPart, StreamsRefused, StreamsWhole};
-ghost use Rattle.ht_cli.specs.Tasks.{Answered};
+ghost use Rattle.ht_cli.specs.Exactly.{WritesExactly, sure_sink, sure_source};
+ghost use Rattle.ht_cli.specs.Tasks.{Answered, ReadsNothing, command_of, plan_of};
 
+use crate::run_alone;
 use crate::status::Status;
-use crate::words::Asked;
+use ht_crew::OpenGate;
+use ht_io::{SureSink, SureSource};
+use ht_words::Asked;
+use std::alloc::Global;
 
 /// What a status says of the words and of the devices, whatever the words ask for.
 pub fn clauses_of_run()
@@ -34,60 +50,93 @@ pub fn clauses_of_run()
     ensures part_of_usage { (a b c d : Device ℕ) → Answered None a b c d Status.WriteFault → GrowsByPart c d usage_text }
     ensures memory_of_usage { (a b c d : Device ℕ) → Answered None a b c d Status.NoMemory → d ≡ c }
 
-    // What is left, where no device failed.
+    // What is left, where no device failed: of octets that are all known, exactly their text is put.
     ensures complete { (asked : Asked) (a b c d : Device ℕ) (status : Status) → Answered (Some asked) a b c d status
         → (Rose a b → ⊥) → (Rose c d → ⊥) → (status ≡ Status.Done) ⊎ (status ≡ Status.Refused) ⊎ (status ≡ Status.NoMemory) }
+    ensures exact { (asked : Asked) (all : List ℕ) (a b c d : Device ℕ) (status : Status) → a.known ≡ Some all → (Rose a b → ⊥) → (Rose c d → ⊥)
+        → Answered (Some asked) a b c d status → (status ≡ Status.NoMemory) ⊎ WritesExactly (command_of asked) all c d status }
     ensures complete_usage { (a b c d : Device ℕ) (status : Status) → Answered None a b c d status → (Rose c d → ⊥)
         → (status ≡ Status.Usage) ⊎ (status ≡ Status.NoMemory) }
+{}
+
+/// What the words say of the status, for every list of words, of whatever octets each may be.
+pub fn clauses_of_words()
+    // Usage comes exactly where the words aren't accepted, but for a sink that failed and for lack of memory.
+    ensures only { (words : List (String GlobalValue)) (a b c d : Device ℕ) → Answered (asked words) a b c d Status.Usage → asked words ≡ None }
+    ensures always { (words : List (String GlobalValue)) (a b c d : Device ℕ) (status : Status) → asked words ≡ None
+        → Answered (asked words) a b c d status → (Rose c d → ⊥) → (status ≡ Status.Usage) ⊎ (status ≡ Status.NoMemory) }
+
+    // How many workers detect, and how large their window is, changes nothing of what a run says or writes.
+    ensures detects { (workers window others room : ℕ) (a b c d : Device ℕ) (status : Status)
+        → Answered (Some (Asked.Detect workers window)) a b c d status → Answered (Some (Asked.Detect others room)) a b c d status }
+    ensures receives { (workers window others room : ℕ) (a b c d : Device ℕ) (status : Status)
+        → Answered (Some (Asked.Rx workers window)) a b c d status → Answered (Some (Asked.Rx others room)) a b c d status }
+    ensures demonstrates { (seed noise count length workers window others room : ℕ) (rate : RateValue) (a b c d : Device ℕ) (status : Status)
+        → Answered (Some (Asked.Demo seed noise count rate length workers window)) a b c d status
+        → Answered (Some (Asked.Demo seed noise count rate length others room)) a b c d status }
 {}
 
 /// What a status says of the octets that `detect` took and of the text that it put, in the words of captures.
 pub fn clauses_of_detect()
     // Done: what was left is a capture, and its text was put.
-    ensures done { (a b c d : Device ℕ) → Answered (Some Asked.Detect) a b c d Status.Done → StreamsWhole lines_of detect_text a b c d }
+    ensures done { (workers window : ℕ) (a b c d : Device ℕ) → Answered (Some (Asked.Detect workers window)) a b c d Status.Done
+        → StreamsWhole lines_of detect_text a b c d }
 
     // Refused: what was left is no capture, and its text was put, which names its first fault.
-    ensures refused { (a b c d : Device ℕ) → Answered (Some Asked.Detect) a b c d Status.Refused → StreamsRefused lines_of detect_text a b c d }
+    ensures refused { (workers window : ℕ) (a b c d : Device ℕ) → Answered (Some (Asked.Detect workers window)) a b c d Status.Refused
+        → StreamsRefused lines_of detect_text a b c d }
 
     // ReadFault: the lines of the symbols read whole were put, all of them, so that no write failed.
-    ensures broken_off { (a b c d : Device ℕ) → Answered (Some Asked.Detect) a b c d Status.ReadFault → StreamsFront lines_of detect_text a b c d }
+    ensures broken_off { (workers window : ℕ) (a b c d : Device ℕ) → Answered (Some (Asked.Detect workers window)) a b c d Status.ReadFault
+        → StreamsFront lines_of detect_text a b c d }
 
     // WriteFault: a part of the text was put.
-    ensures part { (a b c d : Device ℕ) → Answered (Some Asked.Detect) a b c d Status.WriteFault → StreamsPart lines_of detect_text a b c d }
+    ensures part { (workers window : ℕ) (a b c d : Device ℕ) → Answered (Some (Asked.Detect workers window)) a b c d Status.WriteFault
+        → StreamsPart lines_of detect_text a b c d }
 
     // NoMemory: a part of the lines of the symbols read whole was put.
-    ensures memory { (a b c d : Device ℕ) → Answered (Some Asked.Detect) a b c d Status.NoMemory → StreamsLines lines_of detect_text a b c d }
+    ensures memory { (workers window : ℕ) (a b c d : Device ℕ) → Answered (Some (Asked.Detect workers window)) a b c d Status.NoMemory
+        → StreamsLines lines_of detect_text a b c d }
 
     // Where all octets are known that the source had left, as those of a source in memory are: Done says that they are a
     // capture and Refused that they aren't, and either puts the text of them all.
-    ensures known_done { (all : List ℕ) (a b c d : Device ℕ) → a.known ≡ Some all → Answered (Some Asked.Detect) a b c d Status.Done
+    ensures known_done { (workers window : ℕ) (all : List ℕ) (a b c d : Device ℕ) → a.known ≡ Some all
+        → Answered (Some (Asked.Detect workers window)) a b c d Status.Done
         → IsCapture all × Grows c d (detect_text all) × (b.known ≡ Some []) }
-    ensures known_refused { (all : List ℕ) (a b c d : Device ℕ) → a.known ≡ Some all → Answered (Some Asked.Detect) a b c d Status.Refused
+    ensures known_refused { (workers window : ℕ) (all : List ℕ) (a b c d : Device ℕ) → a.known ≡ Some all
+        → Answered (Some (Asked.Detect workers window)) a b c d Status.Refused
         → (IsCapture all → ⊥) × Grows c d (detect_text all) }
 {}
 
 /// What a status says of the octets that `rx` took and of the text that it put, in the words of captures.
 pub fn clauses_of_rx()
     // Done: what was left is a capture, and its text was put.
-    ensures done { (a b c d : Device ℕ) → Answered (Some Asked.Rx) a b c d Status.Done → StreamsWhole frame_lines_of rx_text a b c d }
+    ensures done { (workers window : ℕ) (a b c d : Device ℕ) → Answered (Some (Asked.Rx workers window)) a b c d Status.Done
+        → StreamsWhole frame_lines_of rx_text a b c d }
 
     // Refused: what was left is no capture, and its text was put, which names its first fault.
-    ensures refused { (a b c d : Device ℕ) → Answered (Some Asked.Rx) a b c d Status.Refused → StreamsRefused frame_lines_of rx_text a b c d }
+    ensures refused { (workers window : ℕ) (a b c d : Device ℕ) → Answered (Some (Asked.Rx workers window)) a b c d Status.Refused
+        → StreamsRefused frame_lines_of rx_text a b c d }
 
     // ReadFault: the lines of the frames read whole were put, all of them, so that no write failed.
-    ensures broken_off { (a b c d : Device ℕ) → Answered (Some Asked.Rx) a b c d Status.ReadFault → StreamsFront frame_lines_of rx_text a b c d }
+    ensures broken_off { (workers window : ℕ) (a b c d : Device ℕ) → Answered (Some (Asked.Rx workers window)) a b c d Status.ReadFault
+        → StreamsFront frame_lines_of rx_text a b c d }
 
     // WriteFault: a part of the text was put.
-    ensures part { (a b c d : Device ℕ) → Answered (Some Asked.Rx) a b c d Status.WriteFault → StreamsPart frame_lines_of rx_text a b c d }
+    ensures part { (workers window : ℕ) (a b c d : Device ℕ) → Answered (Some (Asked.Rx workers window)) a b c d Status.WriteFault
+        → StreamsPart frame_lines_of rx_text a b c d }
 
     // NoMemory: a part of the lines of the frames read whole was put.
-    ensures memory { (a b c d : Device ℕ) → Answered (Some Asked.Rx) a b c d Status.NoMemory → StreamsLines frame_lines_of rx_text a b c d }
+    ensures memory { (workers window : ℕ) (a b c d : Device ℕ) → Answered (Some (Asked.Rx workers window)) a b c d Status.NoMemory
+        → StreamsLines frame_lines_of rx_text a b c d }
 
     // Where all octets are known that the source had left, as those of a source in memory are: Done says that they are a
     // capture and Refused that they aren't, and either puts the text of them all.
-    ensures known_done { (all : List ℕ) (a b c d : Device ℕ) → a.known ≡ Some all → Answered (Some Asked.Rx) a b c d Status.Done
+    ensures known_done { (workers window : ℕ) (all : List ℕ) (a b c d : Device ℕ) → a.known ≡ Some all
+        → Answered (Some (Asked.Rx workers window)) a b c d Status.Done
         → IsCapture all × Grows c d (rx_text all) × (b.known ≡ Some []) }
-    ensures known_refused { (all : List ℕ) (a b c d : Device ℕ) → a.known ≡ Some all → Answered (Some Asked.Rx) a b c d Status.Refused
+    ensures known_refused { (workers window : ℕ) (all : List ℕ) (a b c d : Device ℕ) → a.known ≡ Some all
+        → Answered (Some (Asked.Rx workers window)) a b c d Status.Refused
         → (IsCapture all → ⊥) × Grows c d (rx_text all) }
 {}
 
@@ -115,10 +164,65 @@ pub fn upgraded()
     ensures receives { (octets output : List ℕ) → UpgradesTo octets output → rx_text output ≡ rx_text octets }
 {}
 
-/// What a status says of a command that reads nothing.
-pub fn clauses_of_kinds()
-    // A command that reads nothing puts its text, or a part of it where the sink failed or memory ran out.
-    ensures making_done { (text : List ℕ) (a b c d : Device ℕ) → Answers (Makes text) a b c d Status.Done → Grows c d text }
-    ensures making_part { (text : List ℕ) (a b c d : Device ℕ) (status : Status) → Answers (Makes text) a b c d status
-        → (status ≡ Status.Done → ⊥) → GrowsByPart c d text × ((status ≡ Status.WriteFault) ⊎ (status ≡ Status.NoMemory)) }
+/// What a status says of `demo`, which reads nothing.
+pub fn clauses_of_demo()
+    // Done: the line of the plan was put. WriteFault: a part of such a line. NoMemory: nothing.
+    ensures done { (seed noise count length workers window : ℕ) (rate : RateValue) (a b c d : Device ℕ)
+        → Answered (Some (Asked.Demo seed noise count rate length workers window)) a b c d Status.Done
+        → MakesText (IsDemoLine (plan_of seed noise count rate length)) c d }
+    ensures part { (seed noise count length workers window : ℕ) (rate : RateValue) (a b c d : Device ℕ)
+        → Answered (Some (Asked.Demo seed noise count rate length workers window)) a b c d Status.WriteFault
+        → MakesPart (IsDemoLine (plan_of seed noise count rate length)) c d }
+    ensures memory { (seed noise count length workers window : ℕ) (rate : RateValue) (a b c d : Device ℕ)
+        → Answered (Some (Asked.Demo seed noise count rate length workers window)) a b c d Status.NoMemory → d ≡ c }
+
+    // No other status comes.
+    ensures no_other { (seed noise count length workers window : ℕ) (rate : RateValue) (a b c d : Device ℕ) (status : Status)
+        → Answered (Some (Asked.Demo seed noise count rate length workers window)) a b c d status
+        → (status ≡ Status.Done) ⊎ (status ≡ Status.WriteFault) ⊎ (status ≡ Status.NoMemory) }
 {}
+
+/// The way of frames through the commands: sent, passed through the channel without noise, and received, they come back.
+///
+/// Of each frame there is one line with its own octets and sums of 0, and then the end line, whatever the channel's seed.
+pub fn returned()
+    ensures passed { (frames : List FrameView) (seed : ℕ) (symbols capture : List ℕ) → AreFrames frames → HoldOctets frames
+        → SendsTo (frames_file_of frames) symbols → PassesTo seed 0 symbols capture → rx_text capture ≡ returned_text frames }
+
+    // So they do where the capture is upgraded before.
+    ensures upgraded { (frames : List FrameView) (seed : ℕ) (symbols capture output : List ℕ) → AreFrames frames → HoldOctets frames
+        → SendsTo (frames_file_of frames) symbols → PassesTo seed 0 symbols capture → UpgradesTo capture output
+        → rx_text output ≡ returned_text frames }
+
+    // And so they do through any channel without a 0 on its diagonal, where what is received is exactly what it makes of
+    // the symbols.
+    ensures exact { (version : ℕ) (frames : List FrameView) (sent : List SymbolsView) (captured : List CaptureFrame)
+        → (version ≡ 1) ⊎ (version ≡ 2) → AreFrames frames → HoldOctets frames → AreSymbolFrames sent
+        → SendsTo (frames_file_of frames) (symbols_file_of sent) → AreExact sent captured
+        → rx_text (capture_file_of version captured) ≡ returned_text frames }
+{}
+
+/// Runs as [`run_alone`] does, over devices in memory that never fail, and with a gate that does nothing.
+pub fn run_sure(
+    alloc: Global,
+    words: &[String],
+    source: &mut SureSource,
+    sink: &mut SureSink,
+) -> Status
+    // A read or a write that fails is never answered.
+    ensures reads { result ≢ Status.ReadFault }
+    ensures writes { result ≢ Status.WriteFault }
+
+    // Of words that are accepted exactly the text of all octets is put; of others the usage line, and nothing is read.
+    ensures exact { IfSome (asked words.now) (λ asked. (result ≡ Status.NoMemory)
+        ⊎ WritesExactly (command_of asked) source.old (sure_sink sink.old) (sure_sink sink.new) result) }
+    ensures usage { asked words.now ≡ None → ((result ≡ Status.NoMemory) × (sink.new ≡ sink.old))
+        ⊎ ((result ≡ Status.Usage) × Grows (sure_sink sink.old) (sure_sink sink.new) usage_text) }
+    ensures reads_nothing { ReadsNothing (asked words.now) → source.new ≡ source.old }
+
+    // Each status says what it says of any run.
+    ensures answered { Answered (asked words.now) (sure_source source.old) (sure_source source.new)
+        (sure_sink sink.old) (sure_sink sink.new) result }
+{
+    run_alone(alloc, words, source, sink, &OpenGate)
+}

@@ -1,9 +1,13 @@
 //! The commands of the program `radio`, over any source and any sink of octets.
 //!
-//! `run` is the whole program but for the world outside. It takes the words of a call, reads octets from a source, puts
-//! text into a sink and answers how the run ended. The lists of words that are accepted are the word
-//! `detect` and the word `rx`: a capture of either version is read as it comes, and for each subcarrier that is present in
-//! each OFDM symbol (IEEE Std 802.11-2012, clause 20.3.11) the first nearest vector of its grid is found. `detect` writes
+//! [`run`] is the whole program but for the world outside. It takes the words of a call, reads octets from a source, puts
+//! text into a sink and answers how the run ended. Crate `ht_words` says which lists of words are accepted, and what they
+//! ask for: a command with a value for each of its options. What the command writes is a definition over the octets that
+//! it reads, `command_of` in `specs/Tasks.antt`, in which the workers and their window don't stand: the text is the same
+//! for all of them.
+//!
+//! `detect` and `rx` read a capture of either version as it comes, and find for each subcarrier that is present in
+//! each OFDM symbol (IEEE Std 802.11-2012, clause 20.3.11) the first nearest vector of its grid. `detect` writes
 //! it with its distance, and `rx` a line for each frame, with what its labels are decoded to. So `detect` on the capture
 //! `examples/z.htcp`, whose diagonals are 10 and whose samples are 0, gives
 //!
@@ -13,29 +17,31 @@
 //!
 //! and 111 lines more, in which a pilot has its own value, and then `end 1 frames`. `rx` on it gives
 //! `frame 0 data 10400 pilot 800 code 0 seed zero` before that line. With 02 in octet 7 either refuses it, by the one
-//! line `refused BadBandwidth at 7`. What must be written for a list of octets is `detect_text` or `rx_text`, of crate
-//! `ht_rx`.
+//! line `refused BadBandwidth at 7`. What must be written for a list of octets is `detect_text` or `rx_text`, of the
+//! crates `ht_rx` and `ht_results`.
 #![tactic(auto)]
 
-ghost use Rattle.std.specs.Prelude.{◌≡◌, ◌≢◌, None};
-ghost use Rattle.ht_cli.specs.Words.{asked};
+ghost use Rattle.std.specs.Prelude.{◌≡◌, ◌≢◌, None, IfSome};
+ghost use Rattle.ht_words.specs.Words.{IsWithinRanges, asked};
 ghost use Rattle.ht_cli.specs.Tasks.{Answered, ReadsNothing};
 
 mod commands;
 pub mod laws;
 mod lines;
-mod refusal;
 mod status;
 #[cfg(test)]
 mod tests;
-mod words;
 
 use ht_crew::Gate;
+use ht_demo::{Plan, demo_alone};
 use ht_io::{Sink, Source};
-use lines::put_usage;
+use ht_rx::{list, list_alone, receive_text, receive_text_alone};
+pub use ht_words::Asked;
+use lines::{put_last, put_line, put_usage};
 pub use status::Status;
 use std::alloc::Global;
-pub use words::Asked;
+use std::sync::Wait;
+use std::thread::Threads;
 
 /// Runs the command that the words name, and answers how it ended.
 ///
@@ -44,8 +50,13 @@ pub use words::Asked;
 /// octets speak of some octets that the call took: of those that the source had left, where they are known, as those in
 /// memory are; those of standard input and output aren't. The gate is called before and after each job.
 ///
+/// Where the words ask for two workers or more, the jobs are run in as many threads, of which the caller's is one, and
+/// the call waits for them; else it does as [`run_alone`]. Where memory runs out before it is known what the words ask
+/// for, nothing is read and nothing put.
+///
 /// `Answered` says what each status means, for each command; [`laws`] spells it out for `detect` and `rx`.
-pub fn run<S: Source, K: Sink, G: Gate>(
+pub fn run<R: Threads + Wait + Sync, S: Source, K: Sink, G: Gate + Sync>(
+    rt: &R,
     alloc: Global,
     words: &[String],
     source: &mut S,
@@ -64,10 +75,24 @@ pub fn run<S: Source, K: Sink, G: Gate>(
     // Where the sink failed the answer is WriteFault, whatever else failed.
     ensures writes { result ≢ Status.WriteFault → (K.shown sink.new).faults ≡ (K.shown sink.old).faults }
 {
-    run_alone(alloc, words, source, sink, gate)
+    let asked = match Asked::of(alloc, words) {
+        Ok(asked) => asked,
+        Err(_) => return Status::NoMemory,
+    };
+    match asked {
+        Some(Asked::Detect { workers, window }) if workers > 1 => {
+            let heard = list(rt, alloc, workers, window, source, sink, gate);
+            put_last(alloc, heard, sink)
+        }
+        Some(Asked::Rx { workers, window }) if workers > 1 => {
+            let heard = receive_text(rt, alloc, workers, window, source, sink, gate);
+            put_last(alloc, heard, sink)
+        }
+        _ => carry_out(alloc, asked, source, sink, gate),
+    }
 }
 
-/// Does as `run`, and runs every job in this thread.
+/// Does as [`run`], and runs every job in this thread, however many workers the words ask for.
 pub fn run_alone<S: Source, K: Sink, G: Gate>(
     alloc: Global,
     words: &[String],
@@ -87,15 +112,60 @@ pub fn run_alone<S: Source, K: Sink, G: Gate>(
     // Where the sink failed the answer is WriteFault, whatever else failed.
     ensures writes { result ≢ Status.WriteFault → (K.shown sink.new).faults ≡ (K.shown sink.old).faults }
 {
-    match Asked::of(words) {
-        Some(Asked::Detect) => commands::detect::run(alloc, source, sink, gate),
-        Some(Asked::Rx) => commands::rx::run(alloc, source, sink, gate),
+    match Asked::of(alloc, words) {
+        Ok(asked) => carry_out(alloc, asked, source, sink, gate),
+        Err(_) => Status::NoMemory,
+    }
+}
+
+// Does what was asked in this thread, or puts the usage line where nothing was.
+fn carry_out<S: Source, K: Sink, G: Gate>(
+    alloc: Global,
+    asked: Option<Asked>,
+    source: &mut S,
+    sink: &mut K,
+    gate: &G,
+) -> Status
+    requires ranges { IfSome asked IsWithinRanges }
+    ensures answered { Answered asked (S.shown source.old) (S.shown source.new) (K.shown sink.old) (K.shown sink.new) result }
+    ensures reads_nothing { ReadsNothing asked → source.new ≡ source.old }
+    ensures puts_nothing { asked ≡ None → result ≡ Status.NoMemory → sink.new ≡ sink.old }
+    ensures writes { result ≢ Status.WriteFault → (K.shown sink.new).faults ≡ (K.shown sink.old).faults }
+{
+    match asked {
+        Some(Asked::Detect { window, .. }) => {
+            let heard = list_alone(alloc, window, source, sink, gate);
+            put_last(alloc, heard, sink)
+        }
+        Some(Asked::Rx { window, .. }) => {
+            let heard = receive_text_alone(alloc, window, source, sink, gate);
+            put_last(alloc, heard, sink)
+        }
         Some(Asked::Tx) => commands::tx::run(alloc, source, sink),
-        Some(Asked::Channel) => commands::channel::run(alloc, source, sink),
+        Some(Asked::Channel { seed, noise }) => {
+            commands::channel::run(alloc, seed, noise, source, sink)
+        }
         Some(Asked::Upgrade) => commands::upgrade::run(alloc, source, sink),
-        None => match put_usage(alloc, sink) {
-            Ok(()) => Status::Usage,
-            Err(fault) => fault.into(),
-        },
+        Some(
+            Asked::Demo {
+                seed,
+                noise,
+                frames,
+                rate,
+                length,
+                window,
+                ..
+            },
+        ) => {
+            let plan = Plan {
+                seed,
+                noise,
+                frames,
+                rate,
+                length,
+            };
+            put_line(demo_alone(alloc, window, &plan, gate), Status::Done, sink)
+        }
+        None => put_usage(alloc, sink),
     }
 }

@@ -2,7 +2,7 @@
 use super::*;
 use ht_crew::OpenGate;
 use ht_inverse::Outcome;
-use ht_io::{MemSink, MemSource};
+use ht_io::{MemSink, MemSource, SureSink, SureSource};
 use ht_rx::{Ended, ListBook, receive_alone};
 use std::alloc::AllocError;
 use std::process::ExitCode;
@@ -82,75 +82,116 @@ fn two_stream_lines(alloc: Global) -> Result<String, AllocError> {
     Ok(text)
 }
 
-/// The status of a run over memory, and what its sink holds. The source is cut before each octet if it is to be, and
-/// fails at the one offset; the sink fails at the other.
-fn ran(
+/// The lines of the first frames of `zeros`, and then a last line.
+fn zero_frames(alloc: Global, frames: u8, last: &str) -> Result<String, AllocError> {
+    let mut text = String::new(alloc);
+    for frame in 0..frames {
+        write!(
+            text,
+            "frame {frame} data 10400 pilot 800 code 0 seed zero\n"
+        )?;
+    }
+    text.push_str(last)?;
+    Ok(text)
+}
+
+/// The words of a text, in which a space stands between two.
+fn words_of(alloc: Global, text: &str) -> Result<Vec<String>, AllocError> {
+    let mut words = Vec::new(alloc);
+    for word in text.split(' ') {
+        words.push(String::from_str(alloc, word)?)?;
+    }
+    Ok(words)
+}
+
+/// A source of these octets, which fails at an offset where one is given.
+fn source_of(
     alloc: Global,
-    words: &[&str],
     octets: Vec<u8>,
-    is_cut: bool,
     reads_to: Option<u64>,
-    puts_to: Option<u64>,
-) -> Result<(Status, Vec<u8>), AllocError> {
-    let mut list = Vec::new(alloc);
-    for word in words {
-        list.push(String::from_str(alloc, word)?)?;
-    }
-    let mut cuts = Vec::new(alloc);
-    if is_cut {
-        for at in 0..octets.len() {
-            cuts.push(at as u64)?;
-        }
-    }
+) -> Result<MemSource, AllocError> {
     let mut failing = Vec::new(alloc);
     if let Some(offset) = reads_to {
         failing.push(offset)?;
     }
-    let mut source = MemSource::new(octets, cuts, failing);
-    let space = Vec::with_capacity(alloc, 16384)?;
-    let mut sink = match puts_to {
-        None => MemSink::new(space, Vec::new(alloc)),
-        Some(offset) => MemSink::new(space, [offset].to_vec(alloc)?),
-    };
-    let status = run(alloc, &list, &mut source, &mut sink, &OpenGate);
+    Ok(MemSource::new(octets, Vec::new(alloc), failing))
+}
+
+/// A source of these octets, which gives one at a time.
+fn slow_source(alloc: Global, octets: Vec<u8>) -> Result<MemSource, AllocError> {
+    let mut cuts = Vec::new(alloc);
+    for at in 0..octets.len() {
+        cuts.push(at as u64)?;
+    }
+    Ok(MemSource::new(octets, cuts, Vec::new(alloc)))
+}
+
+/// The status of a run in one thread, and what its sink holds, which fails at an offset where one is given.
+fn ran(
+    alloc: Global,
+    words: &str,
+    mut source: MemSource,
+    puts_to: Option<u64>,
+) -> Result<(Status, Vec<u8>), AllocError> {
+    let mut failing = Vec::new(alloc);
+    if let Some(offset) = puts_to {
+        failing.push(offset)?;
+    }
+    let mut sink = MemSink::new(Vec::with_capacity(alloc, 16384)?, failing);
+    let words = words_of(alloc, words)?;
+    let status = run_alone(alloc, &words, &mut source, &mut sink, &OpenGate);
     let held = sink.held().to_vec(alloc)?;
     Ok((status, held))
 }
 
-// Whole captures, captures with a fault of each kind, and sources that fail: the text and how the run ends.
+/// A capture of version 2 in which no subcarrier of the first frame is present.
+fn all_erased(alloc: Global) -> Result<Vec<u8>, AllocError> {
+    let mut octets = b"HTCP\x02\x00\x01\x00\x00\x00\x01".to_vec(alloc)?;
+    for _ in 0..56u8 {
+        octets.push(1)?;
+    }
+    Ok(octets)
+}
+
+/// The zeros of one frame without their last octet.
+fn shorter(alloc: Global) -> Result<Vec<u8>, AllocError> {
+    let mut octets = zeros(alloc, 1)?;
+    let _ = octets.pop();
+    Ok(octets)
+}
+
+/// The zeros of one frame with one octet more.
+fn longer(alloc: Global) -> Result<Vec<u8>, AllocError> {
+    let mut octets = zeros(alloc, 1)?;
+    octets.push(0)?;
+    Ok(octets)
+}
+
+// Whole captures, captures with a fault of each kind, and sources that fail: how a run ends, how many symbols and how
+// many frames have their lines, and the last line.
 #[test]
-fn vectors(rt: HostRuntime) -> Result<(), Fail> {
+fn captures(rt: HostRuntime) -> Result<(), Fail> {
     let alloc = rt.alloc();
-    let longer = {
-        let mut octets = zeros(alloc, 1)?;
-        octets.push(0)?;
-        octets
-    };
-    let shorter = {
-        let mut octets = zeros(alloc, 1)?;
-        let _ = octets.pop();
-        octets
-    };
     let cases = [
         (zeros(alloc, 0)?, None, Status::Done, 0, "end 0 frames\n"),
         (zeros(alloc, 1)?, None, Status::Done, 2, "end 1 frames\n"),
         (zeros(alloc, 2)?, None, Status::Done, 4, "end 2 frames\n"),
         (
-            Vec::new(alloc),
+            b"".to_vec(alloc)?,
             None,
             Status::Refused,
             0,
             "refused Truncated at 0\n",
         ),
         (
-            shorter,
+            shorter(alloc)?,
             None,
             Status::Refused,
             1,
             "refused Truncated at 1018\n",
         ),
         (
-            longer,
+            longer(alloc)?,
             None,
             Status::Refused,
             2,
@@ -205,117 +246,32 @@ fn vectors(rt: HostRuntime) -> Result<(), Fail> {
             2,
             "refused BadMcs at 1020\n",
         ),
+        (
+            all_erased(alloc)?,
+            None,
+            Status::Refused,
+            0,
+            "refused BadErased at 66\n",
+        ),
         (zeros(alloc, 2)?, Some(1583), Status::ReadFault, 3, ""),
         (zeros(alloc, 2)?, Some(2031), Status::ReadFault, 4, ""),
     ];
     for (octets, reads_to, status, symbols, last) in cases {
-        let (answer, held) = ran(alloc, &["detect"], octets, false, reads_to, None)?;
+        let copy = octets.to_vec(alloc)?;
+        let (answer, held) = ran(alloc, "detect", source_of(alloc, copy, reads_to)?, None)?;
         assert_eq!(rt; answer, status);
         assert_eq!(rt;
             held.as_slice(),
             zero_lines(alloc, symbols, last)?.as_bytes()
         );
-    }
-    Ok(())
-}
-
-// The frames of captures, whole and at fault, and of sources and sinks that fail.
-#[test]
-fn frames(rt: HostRuntime) -> Result<(), Fail> {
-    let alloc = rt.alloc();
-    let longer = {
-        let mut octets = zeros(alloc, 1)?;
-        octets.push(0)?;
-        octets
-    };
-    let shorter = {
-        let mut octets = zeros(alloc, 1)?;
-        let _ = octets.pop();
-        octets
-    };
-    let line = "frame 0 data 10400 pilot 800 code 0 seed zero\n";
-    let cases = [
-        (zeros(alloc, 0)?, None, Status::Done, "", "end 0 frames\n"),
-        (zeros(alloc, 1)?, None, Status::Done, line, "end 1 frames\n"),
-        (
-            zeros(alloc, 2)?,
-            None,
-            Status::Done,
-            line,
-            "frame 1 data 10400 pilot 800 code 0 seed zero\nend 2 frames\n",
-        ),
-        (
-            Vec::new(alloc),
-            None,
-            Status::Refused,
-            "",
-            "refused Truncated at 0\n",
-        ),
-        (
-            shorter,
-            None,
-            Status::Refused,
-            "",
-            "refused Truncated at 1018\n",
-        ),
-        (
-            longer,
-            None,
-            Status::Refused,
-            line,
-            "refused Trailing at 1019\n",
-        ),
-        (
-            b"HX".to_vec(alloc)?,
-            None,
-            Status::Refused,
-            "",
-            "refused BadMagic at 1\n",
-        ),
-        (
-            with(zeros(alloc, 1)?, 4, 2),
-            None,
-            Status::Refused,
-            "",
-            "refused BadErased at 14\n",
-        ),
-        (
-            with(zeros(alloc, 2)?, 1020, 32),
-            None,
-            Status::Refused,
-            line,
-            "refused BadMcs at 1020\n",
-        ),
-        (
-            all_erased(alloc)?,
-            None,
-            Status::Refused,
-            "",
-            "refused BadErased at 66\n",
-        ),
-        (zeros(alloc, 2)?, Some(1583), Status::ReadFault, line, ""),
-    ];
-    for (octets, reads_to, status, lines, last) in cases {
-        let (answer, held) = ran(alloc, &["rx"], octets, false, reads_to, None)?;
+        let (answer, held) = ran(alloc, "rx", source_of(alloc, octets, reads_to)?, None)?;
         assert_eq!(rt; answer, status);
         assert_eq!(rt;
             held.as_slice(),
-            format!(in alloc; "{lines}{last}")?.as_bytes()
+            zero_frames(alloc, symbols / 2, last)?.as_bytes()
         );
     }
-    let (answer, held) = ran(alloc, &["rx"], zeros(alloc, 1)?, false, None, Some(10))?;
-    assert_eq!(rt; answer, Status::WriteFault);
-    assert_eq!(rt; held.as_slice(), b"frame 0 da".as_slice());
     Ok(())
-}
-
-/// A capture of version 2 in which no subcarrier of the first frame is present.
-fn all_erased(alloc: Global) -> Result<Vec<u8>, AllocError> {
-    let mut octets = b"HTCP\x02\x00\x01\x00\x00\x00\x01".to_vec(alloc)?;
-    for _ in 0..56u8 {
-        octets.push(1)?;
-    }
-    Ok(octets)
 }
 
 /// The labels that the octet a5 sends at 20 MHz, MCS 0, where the scrambler's seed is 127: those of two symbols.
@@ -418,11 +374,52 @@ fn octet(rt: HostRuntime) -> Result<(), Fail> {
     ];
     for (octets, size, outcome) in cases {
         assert_eq!(rt; octets.len(), size);
-        let (answer, held) = ran(alloc, &["rx"], octets, true, None, None)?;
+        let (answer, held) = ran(alloc, "rx", slow_source(alloc, octets)?, None)?;
         assert_eq!(rt; answer, Status::Done);
         let text = format!(in alloc; "frame 0 data 0 pilot 0 {outcome}\nend 1 frames\n")?;
         assert_eq!(rt; held.as_slice(), text.as_bytes());
     }
+    Ok(())
+}
+
+/// A file of symbols of that octet: 235 octets.
+fn symbols(alloc: Global) -> Result<Vec<u8>, AllocError> {
+    let mut octets = b"HTSY\x01\x00\x01\x00\x00\x00\x01".to_vec(alloc)?;
+    for carrier in 0..56u8 {
+        let one = is_one(&FIRST, [true, true, true, false], carrier);
+        octets.extend_from_slice(&[if one { 1 } else { 255 }, 0])?;
+    }
+    for carrier in 0..56u8 {
+        let one = is_one(&SECOND, [false, false, true, false], carrier);
+        octets.extend_from_slice(&[if one { 1 } else { 255 }, 0])?;
+    }
+    Ok(octets)
+}
+
+// The octet is sent, passes the channel, is upgraded and comes back.
+#[test]
+fn chain(rt: HostRuntime) -> Result<(), Fail> {
+    let alloc = rt.alloc();
+    let frames = b"HTTX\x01\x00\x01\x00\x00\x00\x01\x7f\xa5".to_vec(alloc)?;
+    let (answer, sent) = ran(alloc, "tx", source_of(alloc, frames, None)?, None)?;
+    assert_eq!(rt; answer, Status::Done);
+    assert_eq!(rt; sent.as_slice(), symbols(alloc)?.as_slice());
+    let words = "channel --seed 42 --noise 0";
+    let (answer, passed) = ran(alloc, words, source_of(alloc, sent, None)?, None)?;
+    assert_eq!(rt; answer, Status::Done);
+    assert_eq!(rt; passed.len(), 1019);
+    let front = b"HTCP\x01\x00\x01\x00\x00\x00\x01\x00\xf7\x00\x49\x00\xf0\x00\x53";
+    assert!(rt; passed.starts_with(front));
+    let (answer, upgraded) = ran(alloc, "upgrade", source_of(alloc, passed, None)?, None)?;
+    assert_eq!(rt; answer, Status::Done);
+    assert_eq!(rt; upgraded.len(), 1075);
+    let words = "rx --workers 1 --window 007";
+    let (answer, held) = ran(alloc, words, source_of(alloc, upgraded, None)?, None)?;
+    assert_eq!(rt; answer, Status::Done);
+    assert_eq!(rt;
+        held.as_slice(),
+        b"frame 0 data 0 pilot 0 code 0 octets a5\nend 1 frames\n".as_slice()
+    );
     Ok(())
 }
 
@@ -450,60 +447,138 @@ fn kept(rt: HostRuntime) -> Result<(), Fail> {
     Ok(())
 }
 
-// Two streams, and a source that gives one octet at a time.
+// Two streams, whole and cut off behind each octet.
 #[test]
-fn smoke(rt: HostRuntime) -> Result<(), Fail> {
+fn streams(rt: HostRuntime) -> Result<(), Fail> {
     let alloc = rt.alloc();
-    let (answer, held) = ran(alloc, &["detect"], two_streams(alloc)?, false, None, None)?;
+    let octets = two_streams(alloc)?;
+    let (answer, held) = ran(
+        alloc,
+        "detect",
+        source_of(alloc, octets.to_vec(alloc)?, None)?,
+        None,
+    )?;
     assert_eq!(rt; answer, Status::Done);
     assert_eq!(rt; held.as_slice(), two_stream_lines(alloc)?.as_bytes());
-    let (answer, held) = ran(alloc, &["detect"], zeros(alloc, 2)?, true, None, None)?;
+    let (answer, held) = ran(
+        alloc,
+        "rx",
+        source_of(alloc, octets.to_vec(alloc)?, None)?,
+        None,
+    )?;
+    assert_eq!(rt; answer, Status::Done);
+    assert_eq!(rt;
+        held.as_slice(),
+        zero_frames(alloc, 1, "end 1 frames\n")?.as_bytes()
+    );
+    for count in 0..octets.len() {
+        let source = source_of(alloc, octets[..count].to_vec(alloc)?, None)?;
+        let (answer, held) = ran(alloc, "rx", source, None)?;
+        assert_eq!(rt; answer, Status::Refused);
+        let line = format!(in alloc; "refused Truncated at {count}\n")?;
+        assert_eq!(rt; held.as_slice(), line.as_bytes());
+    }
+    Ok(())
+}
+
+// A source that gives one octet at a time.
+#[test]
+fn slow(rt: HostRuntime) -> Result<(), Fail> {
+    let alloc = rt.alloc();
+    let (answer, held) = ran(alloc, "detect", slow_source(alloc, zeros(alloc, 2)?)?, None)?;
     assert_eq!(rt; answer, Status::Done);
     assert_eq!(rt;
         held.as_slice(),
         zero_lines(alloc, 4, "end 2 frames\n")?.as_bytes()
     );
+    let (answer, held) = ran(alloc, "rx", slow_source(alloc, zeros(alloc, 2)?)?, None)?;
+    assert_eq!(rt; answer, Status::Done);
+    assert_eq!(rt;
+        held.as_slice(),
+        zero_frames(alloc, 2, "end 2 frames\n")?.as_bytes()
+    );
     Ok(())
 }
 
-// A sink that fails holds the text up to where it failed.
+// Sources that fail at each offset in turn: the lines of the frames read whole.
 #[test]
-fn failing(rt: HostRuntime) -> Result<(), Fail> {
+fn broken_off(rt: HostRuntime) -> Result<(), Fail> {
     let alloc = rt.alloc();
-    let text = zero_lines(alloc, 2, "end 1 frames\n")?;
-    for offset in 0..300u64 {
-        let (answer, held) = ran(
-            alloc,
-            &["detect"],
-            zeros(alloc, 1)?,
-            false,
-            None,
-            Some(offset),
-        )?;
-        assert_eq!(rt; answer, Status::WriteFault);
-        assert_eq!(rt; held.len() as u64, offset);
-        assert!(rt; text.as_bytes().starts_with(&held));
+    for offset in 0..2032u64 {
+        let source = source_of(alloc, zeros(alloc, 2)?, Some(offset))?;
+        let (answer, held) = ran(alloc, "rx", source, None)?;
+        assert_eq!(rt; answer, Status::ReadFault);
+        let frames = u8::from(offset >= 1019) + u8::from(offset >= 2031);
+        assert_eq!(rt; held.as_slice(), zero_frames(alloc, frames, "")?.as_bytes());
     }
     Ok(())
 }
 
-// Words that aren't accepted.
+// Sinks that fail at each offset in turn hold the text up to there.
+#[test]
+fn failing(rt: HostRuntime) -> Result<(), Fail> {
+    let alloc = rt.alloc();
+    let lines = zero_lines(alloc, 2, "end 1 frames\n")?;
+    for offset in 0..300u64 {
+        let source = source_of(alloc, zeros(alloc, 1)?, None)?;
+        let (answer, held) = ran(alloc, "detect", source, Some(offset))?;
+        assert_eq!(rt; answer, Status::WriteFault);
+        assert_eq!(rt; held.len() as u64, offset);
+        assert!(rt; lines.as_bytes().starts_with(&held));
+    }
+    let frames = zero_frames(alloc, 2, "end 2 frames\n")?;
+    assert_eq!(rt; frames.len(), 105);
+    for offset in 0..105u64 {
+        let source = source_of(alloc, zeros(alloc, 2)?, None)?;
+        let (answer, held) = ran(alloc, "rx", source, Some(offset))?;
+        assert_eq!(rt; answer, Status::WriteFault);
+        assert_eq!(rt; held.len() as u64, offset);
+        assert!(rt; frames.as_bytes().starts_with(&held));
+    }
+    Ok(())
+}
+
+// Words that aren't accepted, with a source that fails if it is read.
 #[test]
 fn refusals(rt: HostRuntime) -> Result<(), Fail> {
     let alloc = rt.alloc();
     let usage = "usage: radio COMMAND then options as --NAME DIGITS\n";
-    let lists: [&[&str]; 5] = [
-        &[],
-        &["rx", "rx"],
-        &["--help"],
-        &["Detect"],
-        &["detect", "detect"],
+    let texts = [
+        "",
+        "rx rx",
+        "--help",
+        "Detect",
+        "rx --workers 0",
+        "rx --workers=4",
+        "rx --workers 4 --workers 4",
+        "rx --seed 1",
+        "demo --bandwidth 30",
     ];
-    for words in lists {
-        let (answer, held) = ran(alloc, words, zeros(alloc, 1)?, false, Some(0), None)?;
+    for words in texts {
+        let source = source_of(alloc, zeros(alloc, 1)?, Some(0))?;
+        let (answer, held) = ran(alloc, words, source, None)?;
         assert_eq!(rt; answer, Status::Usage);
         assert_eq!(rt; held.as_slice(), usage.as_bytes());
     }
+    let mut source = source_of(alloc, zeros(alloc, 1)?, Some(0))?;
+    let mut sink = MemSink::new(Vec::with_capacity(alloc, 64)?, Vec::new(alloc));
+    let answer = run_alone(alloc, &[], &mut source, &mut sink, &OpenGate);
+    assert_eq!(rt; answer, Status::Usage);
+    assert_eq!(rt; sink.held(), usage.as_bytes());
+    Ok(())
+}
+
+// Devices that never fail.
+#[test]
+fn sure(rt: HostRuntime) -> Result<(), Fail> {
+    let alloc = rt.alloc();
+    let mut source = SureSource::new(zeros(alloc, 2)?);
+    let mut sink = SureSink::new(Vec::with_capacity(alloc, 105)?);
+    let words = words_of(alloc, "rx")?;
+    let answer = laws::run_sure(alloc, &words, &mut source, &mut sink);
+    assert_eq!(rt; answer, Status::Done);
+    let text = zero_frames(alloc, 2, "end 2 frames\n")?;
+    assert_eq!(rt; sink.held(), Some(text.as_bytes()));
     Ok(())
 }
 

@@ -1,4 +1,5 @@
 pub mod Answered
+pub mod Blocks
 pub mod Choices
 pub mod Cuts
 pub mod Endings

@@ -19,7 +19,11 @@ use Rattle.ht_tx.specs.Frames.{FrameView}
 use Rattle.ht_heads.specs.Heads.{head_octets}
 use Rattle.ht_files.specs.HeadedFormats.{HeadState, Body, frame_due}
 use Rattle.ht_files.specs.Frames.{FrameState, Seed, Octets, framed, frames, good_octets, good_seed, is_no_seed}
+use Rattle.ht_tx.specs.Symbols.{SymbolsView}
+use Rattle.ht_tx.specs.Transmitted.{AreTransmitted}
+use Rattle.ht_tx.proofs.Single.{all_transmitted}
 use Rattle.ht_files.specs.Files.{AreFrames, IsFrame, frames_file_of, frame_octets}
+use Rattle.ht_files.specs.SymbolFiles.{symbols_file_of}
 use Rattle.ht_files.proofs.HeadRoutes.{file_written, route_head}
 
 is_seed : (seed : ℕ) → IsSeed seed → is_no_seed (seed ∷ []) ≡ false
@@ -90,3 +94,10 @@ frame_filled f rate seed n into rest is wide =
     let all : n ≡ length into + 0 = omega (arith, wide) in
     let same : take n (into ++ rest) ≡ into = ap (λ k. take k (into ++ rest)) all ∙ (take-append-add into rest 0 ∙ append-nil into) in
     is ∙ ap (λ (o : List ℕ). let g : FrameView = record { rate = rate; seed = seed; octets = o } in g) same
+
+-- the symbols that are sent for the frames of one file
+pub one_sent : (fs gs : List FrameView) (ss ts : List SymbolsView) → AreFrames fs → AreFrames gs → frames_file_of fs ≡ frames_file_of gs
+    → AreTransmitted fs ss → AreTransmitted gs ts → symbols_file_of ss ≡ symbols_file_of ts
+one_sent fs gs ss ts are also same x y =
+    let frames : fs ≡ gs = frames_same fs gs are also same in
+    ap symbols_file_of (all_transmitted gs ss ts (subst (λ (z : List FrameView). AreTransmitted z ss) frames x) y)

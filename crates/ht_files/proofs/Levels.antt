@@ -1,15 +1,10 @@
 -- The octets of a point that fits its subcarrier give the point back.
-use Rattle.std.proofs.Common.{◌≡◌, inr, ℕ, zero, suc, ◌+◌, ◌%◌, ℤ, pos, negsuc, [], ◌∷◌, Bool, true, false, is_some, if◌then◌else◌, Option, None, Some}
+use Rattle.std.proofs.Common.{◌≡◌, ℕ, zero, suc, ◌+◌, ◌%◌, ℤ, pos, negsuc, [], ◌∷◌, Bool, true, false, is_some, if◌then◌else◌, Option, None, Some}
 use Rattle.std.proofs.Common.{refl, sym, ap, subst, ◌∙◌, arith, rules, w8, to_z, of_z, unsigned_abs, neg_ℤ, List, length, ◌^◌, ◌<◌, ◌&&◌, nat_eq, FitsSigned}
 use Rattle.std.specs.Ordering.{int_eq}
 use Rattle.std.proofs.lemmas.Bool.{and_parts, eqb-true}
 use Rattle.std.proofs.lemmas.Bool.Decides.{Decides-int_eq, nat_tests}
 use Rattle.std.proofs.lemmas.Int.{of_z-to_z, to_z-of_z}
-use Rattle.ht_io.specs.Devices.{Device, Takes}
-use Rattle.ht_io.specs.declared.faults.InFault.{InFault}
-use Rattle.ht_io.specs.declared.faults.InFault.TheVariants.{Format}
-use Rattle.ht_io.specs.declared.faults.Kind.{Kind}
-use Rattle.ht_fields.specs.Lacking.{FailsField}
 use Rattle.ht_fields.specs.Tests.{AreBytes}
 use Rattle.ht_fields.proofs.Choices.{when_false}
 use Rattle.ht_rate.specs.declared.kinds.Carrier.{Carrier}
@@ -17,7 +12,6 @@ use Rattle.ht_rate.specs.declared.kinds.Carrier.TheVariants.{Data, Pilot}
 use Rattle.ht_rate.specs.declared.kinds.Modulation.{Modulation}
 use Rattle.ht_rate.specs.declared.kinds.Modulation.TheVariants.{Bpsk, Qpsk, Qam16, Qam64}
 use Rattle.ht_rate.specs.declared.rates.Rate.{Rate}
-use Rattle.ht_rate.specs.Carriers.{carrier_of}
 use Rattle.ht_rate.specs.Rates.{modulation_of}
 use Rattle.ht_scramble.specs.Sequence.{polarity_at}
 use Rattle.ht_scramble.proofs.Signs.{unsigned_abs-polarity_at}
@@ -25,7 +19,7 @@ use Rattle.ht_pam.specs.declared.point.Point.{Point}
 use Rattle.ht_map.specs.Gray.{Axis, bits_at, i_axis, joined, label_of, q_axis, q_levels}
 use Rattle.ht_pilot.specs.Pilots.{is_negated, pilot_of}
 use Rattle.ht_tx.specs.Symbols.{Fits, pilot_point}
-use Rattle.ht_files.specs.Points.{fits_carrier, kind_on, misfits, point_in, point_octets}
+use Rattle.ht_files.specs.Points.{fits_carrier, misfits, point_in, point_octets}
 
 -- the number of an octet in two's complement gives it back
 abbrev pub IsSmall : ℤ → Type 0
@@ -171,15 +165,3 @@ pub misfit : (r : Rate) (symbol : ℕ) (carrier : Carrier) (stream : ℕ) (octet
 unfolding misfits
 misfit r symbol carrier stream octets p is unfit =
     when_false _ _ _ (ap (λ (z : Point). fits_carrier r symbol carrier stream z) (sym is) ∙ unfit)
-
--- a point that doesn't fit was read
-pub fails_as : (r : Rate) (symbol index stream at : ℕ) (carrier : Carrier) (octets : List ℕ) (p : Point) (kind : Kind)
-    (before after : Device ℕ) (fault : InFault)
-    → carrier ≡ carrier_of r index → p ≡ point_in octets → fits_carrier r symbol carrier stream p ≡ false → kind ≡ kind_on carrier
-    → length octets ≡ 2 → Takes before after octets → fault ≡ Format (record { kind = kind; offset = at })
-    → FailsField 2 (kind_on (carrier_of r index)) (misfits r symbol (carrier_of r index) stream) at before after fault
-fails_as r symbol index stream at carrier octets p kind before after fault is made unfit named two taken same =
-    let wrong : misfits r symbol (carrier_of r index) stream octets ≡ true =
-    ap (λ (c : Carrier). misfits r symbol c stream octets) (sym is) ∙ misfit r symbol carrier stream octets p made unfit in
-    let kinds : kind ≡ kind_on (carrier_of r index) = named ∙ ap kind_on is in
-    inr (octets, two, wrong, taken, same ∙ ap (λ (k : Kind). let f : InFault = Format (record { kind = k; offset = at }) in f) kinds)

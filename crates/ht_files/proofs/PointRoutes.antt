@@ -7,22 +7,25 @@ use Rattle.std.proofs.lemmas.Bool.Decides.{Decides-int_eq, nat_tests}
 use Rattle.std.proofs.lemmas.List.{append-nil}
 use Rattle.std.proofs.lemmas.Nat.{div-add-mod'}
 use Rattle.std.proofs.lemmas.Bool.{cases_lt}
-use Rattle.std.proofs.Math.Nat.{mul-le-mul, mul_assoc}
+use Rattle.std.proofs.Math.Nat.{add-mul, mul-le-mul, mul_assoc}
 use Rattle.std.proofs.Math.Seq.{get_or-append_seam}
-use Rattle.ht_io.specs.Devices.{Device, Takes, IsLater}
+use Rattle.ht_io.specs.Devices.{Device, Takes, TakesAll, IsLater, Rose}
 use Rattle.ht_io.proofs.Calls.{takes-append}
 use Rattle.ht_io.specs.declared.faults.InFault.{InFault}
+use Rattle.ht_io.specs.declared.faults.InFault.TheVariants.{Format, Read}
+use Rattle.ht_io.specs.declared.faults.Kind.TheVariants.{Truncated}
 use Rattle.ht_fields.specs.Cases.{IsField, IsFile}
 use Rattle.ht_fields.specs.Grammar.{Verdict, Good}
 use Rattle.ht_fields.specs.Readers.{reader_in}
 use Rattle.ht_fields.specs.WholeFiles.{EndsEarly}
 use Rattle.ht_fields.proofs.Answered.{file_items}
 use Rattle.ht_fields.proofs.Choices.{when_true, when_false, checked_good}
-use Rattle.ht_fields.proofs.Endings.{halts_ends}
-use Rattle.ht_fields.proofs.Halting.{behind_halts, gives_halts, judges_checked}
+use Rattle.ht_fields.proofs.Blocks.{block_broke, block_ended, block_refused}
+use Rattle.ht_fields.proofs.Endings.{route_ends}
+use Rattle.ht_fields.proofs.Halting.{judges_checked}
 use Rattle.ht_fields.proofs.Putting.{takes_as}
 use Rattle.ht_fields.proofs.Readers.{IsNamed}
-use Rattle.ht_fields.proofs.Routes.{Route, route_as, route_field, route_gives, route_none, route_then}
+use Rattle.ht_fields.proofs.Routes.{Route, route_as, route_field, route_none, route_then}
 use Rattle.ht_rate.specs.declared.kinds.Carrier.{Carrier}
 use Rattle.ht_rate.specs.declared.kinds.Carrier.TheVariants.{Data, Pilot}
 use Rattle.ht_rate.specs.declared.rates.Rate.{Rate}
@@ -36,7 +39,7 @@ use Rattle.ht_tx.proofs.Places.{digits, digits-below, parts-below}
 use Rattle.ht_heads.specs.Heads.{head_octets}
 use Rattle.ht_files.specs.HeadedFormats.{HeadState, Body, frame_due}
 use Rattle.ht_files.specs.Places.{AreFitting, FitsPlace, carrier_at_place, stream_at_place, symbol_at_place}
-use Rattle.ht_files.specs.Points.{PointDue, PointsFail, first_point, fits_carrier, good_point, kind_on, misfits, misfits_place, point_in, point_octets}
+use Rattle.ht_files.specs.Points.{AddsPoints, MeetsMisfit, PointDue, TakesSymbol, first_point, fits_carrier, good_point, kind_on, misfits, misfits_place, point_in, point_octets, points_due}
 use Rattle.ht_files.specs.Points.{pointed, symbols}
 use Rattle.ht_files.specs.SymbolFiles.{AreSymbolFrames, IsSymbolFrame, symbols_file_of, symbols_octets}
 use Rattle.ht_files.proofs.HeadRoutes.{file_written, head_size, route_head}
@@ -66,9 +69,6 @@ no_misfit r symbol carrier stream p fits =
     let test : fits_carrier r symbol carrier stream (point_in (point_octets p)) ≡ true =
     ap (λ (z : Point). fits_carrier r symbol carrier stream z) (point_back r symbol carrier stream p fits) ∙ fits_test r symbol carrier stream p fits in
     when_true _ _ _ test
-
-abbrev pub points_due : ℕ → Rate → ℕ → List Point → PointDue
-points_due left rate len points = record { left = left; rate = rate; length = len; points = points }
 
 abbrev frame_with : Rate → ℕ → List Point → SymbolsView
 frame_with rate len points = record { rate = rate; length = len; points = points }
@@ -253,23 +253,104 @@ kind_named : (carrier : Carrier) → IsNamed (kind_on carrier)
 kind_named (Data m) = (λ e. cc, λ e. cc)
 kind_named (Pilot k) = (λ e. cc, λ e. cc)
 
--- the points of a frame were not read
+-- what ended the reading of a frame's points ended that of the frame
 pub points_end : (left : ℕ) (rate : Rate) (len at : ℕ) (source mid after : Device ℕ) (fault : InFault)
     → 0 < left → 1 ≤ len → len < 2 ^ 16 → Takes source mid (head_octets rate len) → IsLater source mid
-    → PointsFail rate len (at + 4) mid after fault → EndsEarly (reader_in symbols (frame_due left) at source) after fault
-points_end left rate len at source mid after fault left_some some small taken later (points, few, fitting, fails) =
-    let s : HeadState PointDue = Body (first_point left rate len) in
-    let due = points_due left rate len points in
-    let place = length points in
-    halts_ends (reader_in symbols (frame_due left) at source) after fault
-    (gives_halts (reader_in symbols (frame_due left) at source) (reader_in symbols s (at + 4) mid) after fault
-    (route_gives symbols (frame_due left) s (head_octets rate len) [] at (at + 4) source mid (route_head pointed left rate len left_some some small)
-    (head_size rate len at) taken) later
-    (behind_halts symbols s (Body due) (flat_map point_octets points) (at + 4) 2 (kind_on (carrier_at_place rate place))
-    (misfits_place rate place) mid after fault
-    (route_points points left rate len [] points refl fitting few)
-    (judges_checked symbols (Body due) 2 (kind_on (carrier_at_place rate place)) (misfits_place rate place) (good_point due) refl (omega arith)
-    (kind_named (carrier_at_place rate place))) fails))
+    → EndsEarly (reader_in symbols (Body (first_point left rate len)) (at + 4) mid) after fault
+    → EndsEarly (reader_in symbols (frame_due left) at source) after fault
+points_end left rate len at source mid after fault left_some some small taken later ends =
+    route_ends symbols (frame_due left) (Body (first_point left rate len)) (head_octets rate len) [] at (at + 4) source mid after fault
+    (route_head pointed left rate len left_some some small) (head_size rate len at) taken later ends
+
+-- what ended it in a symbol ended it behind the symbols before
+pub symbols_end : (left : ℕ) (rate : Rate) (len start at : ℕ) (points : List Point) (source mid after : Device ℕ) (fault : InFault)
+    → AreFitting rate points → length points < points_of rate len → at ≡ start + 2 * length points
+    → Takes source mid (flat_map point_octets points) → IsLater source mid
+    → EndsEarly (reader_in symbols (Body (points_due left rate len points)) at mid) after fault
+    → EndsEarly (reader_in symbols (Body (first_point left rate len)) start source) after fault
+symbols_end left rate len start at points source mid after fault fitting few place taken later ends =
+    let behind : at ≡ start + length (flat_map point_octets points) = omega (arith, place, length-points points) in
+    route_ends symbols (Body (first_point left rate len)) (Body (points_due left rate len points)) (flat_map point_octets points) [] start at
+    source mid after fault (route_points points left rate len [] points refl fitting few) behind taken later ends
+
+-- the sizes of the points that were added
+pub added_size : (old new added : List Point) (octets rest : List ℕ) → new ≡ old ++ added → octets ≡ flat_map point_octets added ++ rest
+    → 2 * length new + length rest ≡ 2 * length old + length octets
+added_size old new added octets rest is split =
+    omega (
+      arith,
+      ap (λ (z : List Point). length z) is,
+      length-append old added,
+      ap (λ (z : List ℕ). length z) split,
+      length-append (flat_map point_octets added) rest,
+      length-points added,
+    )
+
+added_route : (left : ℕ) (r : Rate) (len : ℕ) (old new added : List Point) → new ≡ old ++ added → AreFitting r new → length new < points_of r len
+    → Route symbols (Body (points_due left r len old)) (Body (points_due left r len new)) (flat_map point_octets added) []
+added_route left r len old new added is fitting few = route_points added left r len old new is fitting few
+
+-- a point of a symbol was at fault
+pub symbol_misfit : (left : ℕ) (r : Rate) (len at w : ℕ) (old new : List Point) (octets : List ℕ) (source after : Device ℕ) (fault : InFault)
+    → AreFitting r new → length octets ≤ 2 * w → length old + w ≤ points_of r len → Takes source after octets → MeetsMisfit r at old new octets fault
+    → EndsEarly (reader_in symbols (Body (points_due left r len old)) at source) after fault
+symbol_misfit left r len at w old new octets source after fault fitting most room taken meets =
+    let due = points_due left r len new in
+    let place = length new in
+    let bad = meets.bad in
+    let few : length new < points_of r len =
+    omega (arith, added_size old new meets.added octets (bad ++ meets.rest) meets.points meets.split, length-append bad meets.rest, meets.two, most, room) in
+    let judge = judges_checked symbols (Body due) 2 (kind_on (carrier_at_place r place)) (misfits_place r place) (good_point due) refl (omega arith)
+    (kind_named (carrier_at_place r place)) in
+    subst (λ (f : InFault). EndsEarly (reader_in symbols (Body (points_due left r len old)) at source) after f) (sym meets.fault_is)
+    (block_refused symbols (Body (points_due left r len old)) (Body due) (flat_map point_octets meets.added) bad meets.rest at
+    (kind_on (carrier_at_place r place)) source after (added_route left r len old new meets.added meets.points fitting few)
+    (judge.bad bad meets.two meets.misfit)
+    (takes_as source after octets (flat_map point_octets meets.added ++ (bad ++ meets.rest)) meets.split taken))
+
+-- the input ended within a symbol
+pub symbol_ended : (left : ℕ) (r : Rate) (len at w : ℕ) (old new : List Point) (octets : List ℕ) (source after : Device ℕ) (fault : InFault)
+    → AreFitting r new → length octets < 2 * w → length old + w ≤ points_of r len → TakesAll source after octets → AddsPoints old new octets
+    → fault ≡ Format (record { kind = Truncated; offset = at + length octets })
+    → EndsEarly (reader_in symbols (Body (points_due left r len old)) at source) after fault
+symbol_ended left r len at w old new octets source after fault fitting most room taken adds is =
+    let few : length new < points_of r len =
+    omega (arith, added_size old new adds.added octets adds.rest adds.points adds.split, adds.short, most, room) in
+    subst (λ (f : InFault). EndsEarly (reader_in symbols (Body (points_due left r len old)) at source) after f) (sym is)
+    (subst (λ (z : List ℕ). EndsEarly (reader_in symbols (Body (points_due left r len old)) at source) after
+    (Format (record { kind = Truncated; offset = at + length z }))) (sym adds.split)
+    (block_ended symbols (Body (points_due left r len old)) (Body (points_due left r len new)) (flat_map point_octets adds.added) adds.rest at source after
+    (added_route left r len old new adds.added adds.points fitting few) adds.short
+    (subst (λ (z : List ℕ). TakesAll source after z) adds.split taken)))
+
+-- the source failed within a symbol
+pub symbol_broke : (left : ℕ) (r : Rate) (len at w : ℕ) (old new : List Point) (octets : List ℕ) (source after : Device ℕ)
+    → AreFitting r new → length octets < 2 * w → length old + w ≤ points_of r len → Takes source after octets → AddsPoints old new octets
+    → Rose source after → EndsEarly (reader_in symbols (Body (points_due left r len old)) at source) after Read
+symbol_broke left r len at w old new octets source after fitting most room taken adds rose =
+    let few : length new < points_of r len =
+    omega (arith, added_size old new adds.added octets adds.rest adds.points adds.split, adds.short, most, room) in
+    block_broke symbols (Body (points_due left r len old)) (Body (points_due left r len new)) (flat_map point_octets adds.added) adds.rest at source after
+    (added_route left r len old new adds.added adds.points fitting few) adds.short
+    (takes_as source after octets (flat_map point_octets adds.added ++ adds.rest) adds.split taken) rose
+
+no_rest : (xs : List ℕ) → length xs ≡ 0 → xs ≡ []
+no_rest [] e = refl
+no_rest (x ∷ xs) e = absurd (omega (arith, e))
+
+-- a symbol was read whole
+pub symbol_whole : (r : Rate) (old new : List Point) (octets : List ℕ) (source after : Device ℕ) → length octets ≡ 2 * (carriers_of r * streams_of r)
+    → Takes source after octets → AddsPoints old new octets → TakesSymbol r old new source after
+symbol_whole r old new octets source after whole taken adds =
+    let sizes : 2 * length adds.added + length adds.rest ≡ 2 * (carriers_of r * streams_of r) =
+    omega (arith, whole, ap (λ (z : List ℕ). length z) adds.split, length-append (flat_map point_octets adds.added) adds.rest, length-points adds.added) in
+    let none : adds.rest ≡ [] = no_rest adds.rest (omega (arith, sizes, adds.short)) in (
+      adds.added,
+      adds.points,
+      omega (arith, sizes, adds.short),
+      takes_as source after octets (flat_map point_octets adds.added)
+          (adds.split ∙ (ap (λ (z : List ℕ). flat_map point_octets adds.added ++ z) none ∙ append-nil (flat_map point_octets adds.added))) taken,
+    )
 
 pub length_symbols : (f : SymbolsView) (points : List Point) → points ≡ f.points → 4 + 2 * length points ≡ length (symbols_octets f)
 unfolding symbols_octets
@@ -317,3 +398,28 @@ unfolding points_of
 count_is r len n a b e f g =
     sym (mul_assoc n a b)
     ∙ (ap (λ x. x * a * b) e ∙ (ap (λ x. symbols_of r len * x * b) f ∙ ap (λ x. symbols_of r len * carriers_of r * x) g))
+
+-- behind some symbols there is room for one more
+pub room_left : (r : Rate) (len size symbol : ℕ) → size ≡ symbol * (carriers_of r * streams_of r) → symbol < symbols_of r len
+    → size + carriers_of r * streams_of r ≤ points_of r len
+unfolding points_of
+room_left r len size symbol is few =
+    let w = carriers_of r * streams_of r in
+    let next : (symbol + 1) * w ≡ symbol * w + 1 * w = add-mul symbol 1 w in
+    let more : symbol + 1 ≤ symbols_of r len = omega (arith, few) in
+    let all : (symbol + 1) * w ≤ symbols_of r len * w = mul-le-mul more (let same : w ≤ w = omega arith in same) in
+    omega (arith, is, next, all, mul_assoc (symbols_of r len) (carriers_of r) (streams_of r))
+
+-- all symbols have all points
+pub symbols_read : (r : Rate) (len size symbol : ℕ) → size ≡ symbol * (carriers_of r * streams_of r) → symbol ≡ symbols_of r len → size ≡ points_of r len
+unfolding points_of
+symbols_read r len size symbol is all =
+    is ∙ (ap (λ (n : ℕ). n * (carriers_of r * streams_of r)) all ∙ sym (mul_assoc (symbols_of r len) (carriers_of r) (streams_of r)))
+
+-- a symbol has points
+pub width_some : (r : Rate) → 1 ≤ carriers_of r * streams_of r
+width_some r =
+    let n : 1 ≤ carriers_of r = omega (arith, (carriers_of-range r).0) in
+    let w : 1 ≤ streams_of r = omega (arith, (streams_of-range r).0) in
+    let all : 1 * 1 ≤ carriers_of r * streams_of r = mul-le-mul n w in
+    omega (arith, all)

@@ -1,5 +1,5 @@
 -- The places of the points of a frame, in the order symbol, subcarrier, stream.
-use Rattle.std.specs.Prelude.{◌≡◌, ℕ, ◌+◌, ◌*◌, ◌/◌, ◌%◌, ◌<◌, ◌≤◌, List, length, slice_index_or}
+use Rattle.std.specs.Prelude.{ℕ, ◌+◌, ◌/◌, ◌%◌, ◌<◌, List, length, slice_index_or}
 use Rattle.ht_rate.specs.declared.kinds.Carrier.{Carrier}
 use Rattle.ht_rate.specs.declared.rates.Rate.{Rate}
 use Rattle.ht_rate.specs.Carriers.{carrier_of}
@@ -26,10 +26,3 @@ FitsPlace r place point = Fits r (symbol_at_place r place) (carrier_at_place r p
 -- the first points of a frame, each fitting its place
 abbrev pub AreFitting : Rate → List Point → Type 0
 AreFitting r points = (place : ℕ) → place < length points → FitsPlace r place (slice_index_or points place origin)
-
--- a walk over the places stands at this one: its symbol, subcarrier and stream, all counted from 0
-pub record IsAt (r : Rate) (place symbol index stream : ℕ) : Type 0 where
-  pub index_below : index < carriers_of r
-  pub stream_below : stream < streams_of r
-  pub place_is : place ≡ (symbol * carriers_of r + index) * streams_of r + stream
-  pub symbol_low : symbol ≤ place

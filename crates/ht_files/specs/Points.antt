@@ -1,23 +1,24 @@
 -- Files of symbols as lists of fields.
-use Rattle.std.specs.Prelude.{ℕ, ◌+◌, ◌-◌, ◌<◌, List, [], ◌∷◌, ◌++◌, length, flat_map, slice_index, nat_eq, Bool, true, false, ◌&&◌, is_some, if◌then◌else◌}
+use Rattle.std.specs.Prelude.{◌≡◌, ℕ, ◌+◌, ◌-◌, ◌*◌, ◌/◌, ◌<◌, List, [], ◌∷◌, ◌++◌, length, flat_map, slice_index, slice_index_or, nat_eq, Bool, true, false, ◌&&◌, is_some, if◌then◌else◌}
 use Rattle.std.specs.Int.{cast_signed, cast_unsigned, w8}
 use Rattle.std.specs.Ordering.{int_eq}
-use Rattle.ht_io.specs.Devices.{Device}
+use Rattle.ht_io.specs.Devices.{Device, Takes}
 use Rattle.ht_io.specs.declared.faults.InFault.{InFault}
+use Rattle.ht_io.specs.declared.faults.InFault.TheVariants.{Format}
 use Rattle.ht_io.specs.declared.faults.Kind.{Kind}
 use Rattle.ht_io.specs.declared.faults.Kind.TheVariants.{BadPoint, BadPilot}
 use Rattle.ht_fields.specs.Grammar.{Grammar, Due, field, Verdict, Good}
-use Rattle.ht_fields.specs.Lacking.{FailsBehind}
 use Rattle.ht_fields.specs.Tests.{checked}
 use Rattle.ht_rate.specs.declared.kinds.Carrier.{Carrier}
 use Rattle.ht_rate.specs.declared.kinds.Carrier.TheVariants.{Data, Pilot}
 use Rattle.ht_rate.specs.declared.rates.Rate.{Rate}
-use Rattle.ht_rate.specs.Rates.{modulation_of}
+use Rattle.ht_rate.specs.Carriers.{carrier_of}
+use Rattle.ht_rate.specs.Rates.{carriers_of, modulation_of, streams_of}
 use Rattle.ht_pam.specs.declared.point.Point.{Point}
 use Rattle.ht_map.specs.Gray.{label_of}
 use Rattle.ht_tx.specs.Symbols.{SymbolsView, pilot_point, points_of}
 use Rattle.ht_files.specs.HeadedFormats.{HeadState, HeadedFormat, Body, frame_due, grammar_of}
-use Rattle.ht_files.specs.Places.{AreFitting, symbol_at_place, carrier_at_place, stream_at_place}
+use Rattle.ht_files.specs.Places.{symbol_at_place, carrier_at_place, stream_at_place}
 
 -- behind the head of a frame the next point is due: the frames that are left, this one among them, its rate and length,
 -- and the points before, whose number is the place of the next one
@@ -62,11 +63,34 @@ misfits r symbol carrier stream octets = if fits_carrier r symbol carrier stream
 abbrev pub misfits_place : Rate → ℕ → List ℕ → Bool
 misfits_place r place octets = misfits r (symbol_at_place r place) (carrier_at_place r place) (stream_at_place r place) octets
 
--- the points of a frame were not read: behind some that fit, all but the last at most, comes one that does not, or none
-abbrev pub PointsFail : Rate → ℕ → ℕ → Device ℕ → Device ℕ → InFault → Type 0
-PointsFail r len at before after fault =
-    (points : List Point) × (length points < points_of r len) × AreFitting r points
-    × FailsBehind (flat_map point_octets points) 2 (kind_on (carrier_at_place r (length points))) (misfits_place r (length points)) at before after fault
+-- the subcarriers of the points of a symbol, in the order subcarrier, stream
+abbrev pub AreCarriers : Rate → List Carrier → Type 0
+AreCarriers r carriers =
+    (place : ℕ) → place < carriers_of r * streams_of r → slice_index_or carriers place (Data 0) ≡ carrier_of r (place / streams_of r)
+
+-- the octets are those of the points that were added, and of less than one point more
+pub record AddsPoints (old new : List Point) (octets : List ℕ) : Type 0 where
+  pub added : List Point
+  pub rest : List ℕ
+  pub points : new ≡ old ++ added
+  pub split : octets ≡ flat_map point_octets added ++ rest
+  pub short : length rest < 2
+
+-- behind those of the points that were added come two octets that are no point of their place, the fault, and maybe more
+pub record MeetsMisfit (r : Rate) (at : ℕ) (old new : List Point) (octets : List ℕ) (fault : InFault) : Type 0 where
+  pub added : List Point
+  pub bad : List ℕ
+  pub rest : List ℕ
+  pub points : new ≡ old ++ added
+  pub split : octets ≡ flat_map point_octets added ++ (bad ++ rest)
+  pub two : length bad ≡ 2
+  pub misfit : misfits_place r (length new) bad ≡ true
+  pub fault_is : fault ≡ Format (record { kind = kind_on (carrier_at_place r (length new)); offset = at + length (flat_map point_octets added) })
+
+-- the octets that were taken are those of the points that were added, one for each subcarrier and stream of a symbol
+abbrev pub TakesSymbol : Rate → List Point → List Point → Device ℕ → Device ℕ → Type 0
+TakesSymbol r old new before after =
+    (added : List Point) × (new ≡ old ++ added) × (length added ≡ carriers_of r * streams_of r) × Takes before after (flat_map point_octets added)
 
 -- the points with the next one
 abbrev pub points_with : PointDue → List ℕ → List Point
@@ -84,8 +108,12 @@ abbrev pub point_due : PointDue → Due (HeadState PointDue) SymbolsView
 point_due due =
     field 2 (checked (kind_on (carrier_at_place due.rate (length due.points))) (misfits_place due.rate (length due.points)) (good_point due))
 
+-- the next point, behind these
+abbrev pub points_due : ℕ → Rate → ℕ → List Point → PointDue
+points_due left rate len points = record { left = left; rate = rate; length = len; points = points }
+
 abbrev pub first_point : ℕ → Rate → ℕ → PointDue
-first_point left rate len = record { left = left; rate = rate; length = len; points = [] }
+first_point left rate len = points_due left rate len []
 
 abbrev pub pointed : HeadedFormat PointDue SymbolsView
 pointed = record { magic = symbols_magic; first = first_point; due = point_due }

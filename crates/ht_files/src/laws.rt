@@ -7,6 +7,7 @@ ghost use Rattle.ht_files.specs.Files.{AreFrames, frames_file_of};
 ghost use Rattle.ht_files.specs.Points.{symbols as symbols_format};
 ghost use Rattle.ht_files.specs.SymbolFiles.{AreSymbolFrames, symbols_file_of};
 ghost use Rattle.ht_tx.specs.Symbols.{SymbolsView};
+ghost use Rattle.ht_tx.specs.Transmitted.{AreTransmitted};
 
 /// No file is a prefix of another, and equal files have equal frames.
 pub fn no_prefix()
@@ -43,4 +44,12 @@ pub fn symbols_written()
 pub fn symbols_read_back()
     ensures { (frames others : List SymbolsView) → AreSymbolFrames frames → AreSymbolFrames others
         → symbols_file_of frames ≡ symbols_file_of others → frames ≡ others }
+{}
+
+/// For a file of frames one file of symbols is sent.
+pub fn one_file_sent()
+    ensures { (frames others : List FrameView) (sent also : List SymbolsView)
+        → AreFrames frames → AreFrames others → frames_file_of frames ≡ frames_file_of others
+        → AreTransmitted frames sent → AreTransmitted others also
+        → symbols_file_of sent ≡ symbols_file_of also }
 {}

@@ -1,15 +1,18 @@
-//! The points of a frame that are read one after another.
-ghost use Rattle.std.specs.Prelude.{◌≡◌, ◌≤◌, ◌<◌, ◌+◌, ◌^◌, ℕ, [], flat_map, vec_capacity, IfOk, IfErr, OnOk};
+//! The points of a frame, read symbol by symbol.
+ghost use Rattle.std.specs.Prelude.{◌≡◌, ◌≤◌, ◌<◌, ◌+◌, ◌*◌, ◌/◌, ◌%◌, ◌^◌, ℕ, [], length, flat_map, vec_capacity, IfOk, IfErr, OnOk};
 ghost use Rattle.ht_io.specs.Devices.{Takes, IsLater};
 ghost use Rattle.ht_io.specs.declared.faults.InFault.TheVariants.{NoMemory};
-ghost use Rattle.ht_fields.specs.Lacking.{FailsField};
-ghost use Rattle.ht_rate.specs.Carriers.{IsAmong, carrier_of};
+ghost use Rattle.ht_fields.specs.Readers.{reader_in};
+ghost use Rattle.ht_fields.specs.WholeFiles.{EndsEarly};
+ghost use Rattle.ht_rate.specs.Carriers.{IsAmong};
 ghost use Rattle.ht_rate.specs.Rates.{carriers_of, streams_of};
-ghost use Rattle.ht_tx.specs.Symbols.{Fits, IsSymbols, points_of};
-ghost use Rattle.ht_files.specs.Places.{IsAt};
-ghost use Rattle.ht_files.specs.Points.{PointsFail, fits_carrier, kind_on, misfits, point_in, point_octets};
+ghost use Rattle.ht_tx.specs.Symbols.{IsSymbols, points_of};
+ghost use Rattle.ht_files.specs.HeadedFormats.{Body};
+ghost use Rattle.ht_files.specs.Places.{AreFitting};
+ghost use Rattle.ht_files.specs.Points.{AddsPoints, AreCarriers, MeetsMisfit, TakesSymbol, first_point, fits_carrier, kind_on};
+ghost use Rattle.ht_files.specs.Points.{point_in, point_octets, points_due, symbols};
 
-use ht_fields::{bad, fill};
+use ht_fields::{bad, read_front};
 use ht_io::{InFault, Kind, Source};
 use ht_map::label;
 use ht_pam::Point;
@@ -17,40 +20,11 @@ use ht_pilot::pilot;
 use ht_rate::{Carrier, Rate};
 use std::alloc::Global;
 
-// The symbol, subcarrier and stream of a point, all counted from 0.
-#[derive(Clone, Copy, Debug, PartialEq, Eq, Drop)]
-struct Walk {
-    symbol: u32,
-    index: u8,
-    stream: u8,
-}
+/// The most points of a symbol: those of 114 subcarriers on 4 streams.
+const POINTS: usize = 456;
 
-// The place behind one.
-fn next(rate: &Rate, walk: Walk) -> Walk
-    requires symbol { walk.symbol < 2 ^ 31 }
-    requires index { walk.index < carriers_of rate.now }
-    requires stream { walk.stream < streams_of rate.now }
-    ensures { (place : ℕ) → IsAt rate.now place walk.symbol walk.index walk.stream → IsAt rate.now (place + 1) result.symbol result.index result.stream }
-{
-    if walk.stream + 1 < rate.streams() {
-        Walk {
-            stream: walk.stream + 1,
-            ..walk
-        }
-    } else if walk.index + 1 < rate.carriers() {
-        Walk {
-            index: walk.index + 1,
-            stream: 0,
-            ..walk
-        }
-    } else {
-        Walk {
-            symbol: walk.symbol + 1,
-            index: 0,
-            stream: 0,
-        }
-    }
-}
+/// The most octets of a symbol's points.
+const SYMBOL: usize = 2 * POINTS;
 
 // The point of two octets.
 #[tactic(auto, unfolding(crate::specs::Points::point_in))]
@@ -63,15 +37,25 @@ fn made(octets: [u8; 2]) -> Point
     }
 }
 
-// Whether the point fits its subcarrier: it is on the constellation, or it is the pilot's.
-fn is_fitting(rate: &Rate, symbol: u32, carrier: Carrier, stream: u8, point: Point) -> bool
-    requires carrier { IsAmong rate.now carrier }
-    requires stream { (1 ≤ stream) × (stream ≤ streams_of rate.now) }
-    ensures { result ≡ fits_carrier rate.now symbol carrier stream point }
+// The stream of a symbol's point by its place, counted from 1.
+fn stream(rate: &Rate, place: usize) -> u8
+    ensures value { result ≡ place % streams_of rate.now + 1 }
+    ensures low { 1 ≤ result }
+    ensures high { result ≤ streams_of rate.now }
+{
+    (place % usize::from(rate.streams())) as u8 + 1
+}
+
+// Whether a symbol's point fits its place: it is on the constellation, or it is the pilot's.
+fn is_fitting(rate: &Rate, symbol: u32, carrier: Carrier, place: usize, point: Point) -> bool
+    requires { IsAmong rate.now carrier }
+    ensures { result ≡ fits_carrier rate.now symbol carrier (place % streams_of rate.now + 1) point }
 {
     match carrier {
         Carrier::Data(_) => label(rate.modulation(), point).is_some(),
-        Carrier::Pilot(index) => point.i == pilot(rate, symbol, index, stream) && point.q == 0,
+        Carrier::Pilot(index) => {
+            point.i == pilot(rate, symbol, index, stream(rate, place)) && point.q == 0
+        }
     }
 }
 
@@ -85,29 +69,101 @@ fn kind(carrier: Carrier) -> Kind
     }
 }
 
-// Reads the point of a symbol, subcarrier and stream.
-fn point<S: Source>(source: &mut S, at: u64, rate: &Rate, walk: Walk) -> Result<Point, InFault>
-    requires room { at + 2 < 2 ^ 64 }
-    requires index { walk.index < carriers_of rate.now }
-    requires stream { walk.stream < streams_of rate.now }
-    ensures whole { IfOk result (λ point. Takes (S.shown source.old) (S.shown source.new) (point_octets point)) }
-    ensures fits { IfOk result (λ point. Fits rate.now walk.symbol (carrier_of rate.now walk.index) (walk.stream + 1) point) }
-    ensures failed { IfErr result (FailsField 2 (kind_on (carrier_of rate.now walk.index))
-        (misfits rate.now walk.symbol (carrier_of rate.now walk.index) (walk.stream + 1)) at (S.shown source.old) (S.shown source.new)) }
+// The subcarriers of the points of a symbol, in the order subcarrier, stream.
+fn carriers(rate: &Rate) -> [Carrier; POINTS]
+    ensures { AreCarriers rate.now result }
+{
+    let mut carriers = [Carrier::Data(0); POINTS];
+    let streams = usize::from(rate.streams());
+    for index in 0..rate.carriers() {
+        let carrier = rate.carrier(index);
+        for stream in 0..streams {
+            carriers[usize::from(index) * streams + stream] = carrier;
+        }
+    }
+    carriers
+}
+
+// Adds the points of a symbol that stand in the octets, the first of them at offset `at`, while they fit. An octet that
+// is left alone at the end is no point.
+fn add_points(
+    rate: &Rate,
+    carriers: &[Carrier; POINTS],
+    symbol: u32,
+    at: u64,
+    octets: &[u8],
+    points: &mut Vec<Point>,
+) -> Result<(), InFault>
+    requires carriers { AreCarriers rate.now carriers.now }
+    requires start { length points.old.items ≡ symbol * (carriers_of rate.now * streams_of rate.now) }
+    requires most { length octets.now ≤ 2 * (carriers_of rate.now * streams_of rate.now) }
+    requires offset { at + length octets.now < 2 ^ 64 }
+    requires room { length points.old.items + length octets.now / 2 ≤ vec_capacity points.old }
+    requires fitting { AreFitting rate.now points.old.items }
+    ensures fitting { AreFitting rate.now points.new.items }
+    ensures added { OnOk result (AddsPoints points.old.items points.new.items octets.now) }
+    ensures misfit { IfErr result (MeetsMisfit rate.now at points.old.items points.new.items octets.now) }
+    ensures room { vec_capacity points.new ≡ vec_capacity points.old }
+{
+    for place in 0..octets.len() / 2 {
+        let point = made([octets[2 * place], octets[2 * place + 1]]);
+        let carrier = carriers[place];
+        if !is_fitting(rate, symbol, carrier, place, point) {
+            return Err(bad(kind(carrier), at + 2 * place as u64));
+        }
+        points.push_reserved(point);
+    }
+    Ok(())
+}
+
+// Reads the points of a symbol by way of the block, which has room for just them, and adds them.
+fn symbol<S: Source>(
+    source: &mut S,
+    at: u64,
+    rate: &Rate,
+    carriers: &[Carrier; POINTS],
+    symbol: u32,
+    block: &mut [u8],
+    points: &mut Vec<Point>,
+) -> Result<(), InFault>
+    requires carriers { AreCarriers rate.now carriers.now }
+    requires start { length points.old.items ≡ symbol * (carriers_of rate.now * streams_of rate.now) }
+    requires offset { at + length block.old < 2 ^ 64 }
+    requires block { length block.old ≡ 2 * (carriers_of rate.now * streams_of rate.now) }
+    requires room { length points.old.items + carriers_of rate.now * streams_of rate.now ≤ vec_capacity points.old }
+    requires fitting { AreFitting rate.now points.old.items }
+    ensures fitting { AreFitting rate.now points.new.items }
+    ensures whole { OnOk result (TakesSymbol rate.now points.old.items points.new.items (S.shown source.old) (S.shown source.new)) }
+    ensures failed { (left len : ℕ) → length points.old.items + carriers_of rate.now * streams_of rate.now ≤ points_of rate.now len
+        → IfErr result (EndsEarly (reader_in symbols (Body (points_due left rate.now len points.old.items)) at (S.shown source.old))
+        (S.shown source.new)) }
+    ensures room { vec_capacity points.new ≡ vec_capacity points.old }
     ensures later { IsLater (S.shown source.old) (S.shown source.new) }
 {
-    let mut octets = [0u8; 2];
-    match fill(source, at, &mut octets) {
-        Ok(()) => {}
-        Err(fault) => return Err(fault),
+    match read_front(source, block) {
+        Ok(count) => match add_points(rate, carriers, symbol, at, &block[..count], points) {
+            Ok(()) => {
+                if count < block.len() {
+                    Err(bad(Kind::Truncated, at + count as u64))
+                } else {
+                    Ok(())
+                }
+            }
+            Err(fault) => Err(fault),
+        },
+        Err(count) => match add_points(rate, carriers, symbol, at, &block[..count], points) {
+            Ok(()) => Err(InFault::Read),
+            Err(fault) => Err(fault),
+        },
     }
-    let point = made(octets);
-    let carrier = rate.carrier(walk.index);
-    if is_fitting(rate, walk.symbol, carrier, walk.stream + 1, point) {
-        Ok(point)
-    } else {
-        Err(bad(kind(carrier), at))
-    }
+}
+
+// The number of octets of a symbol's points.
+fn width(rate: &Rate) -> usize
+    ensures value { result ≡ 2 * (carriers_of rate.now * streams_of rate.now) }
+    ensures bound { result ≤ 912 }
+{
+    2 * (usize::from(rate.carriers()) * usize::from(rate.streams()))
 }
 
 // The number of points of a frame.
@@ -147,20 +203,27 @@ pub fn read_points<S: Source>(
     requires room { points_of rate.now length ≤ vec_capacity points.old }
     ensures whole { OnOk result (Takes (S.shown source.old) (S.shown source.new) (flat_map point_octets points.new.items)) }
     ensures fits { OnOk result (IsSymbols rate.now length points.new.items) }
-    ensures failed { IfErr result (PointsFail rate.now length at (S.shown source.old) (S.shown source.new)) }
+    ensures failed { (left : ℕ) → IfErr result (EndsEarly (reader_in symbols (Body (first_point left rate.now length)) at (S.shown source.old))
+        (S.shown source.new)) }
     ensures later { IsLater (S.shown source.old) (S.shown source.new) }
 {
-    let mut walk = Walk {
-        symbol: 0,
-        index: 0,
-        stream: 0,
-    };
-    for place in 0..count_of(rate, length) {
-        match point(source, at + 2 * place as u64, rate, walk) {
-            Ok(point) => points.push_reserved(point),
+    let carriers = carriers(rate);
+    let width = width(rate);
+    let mut block = [0u8; SYMBOL];
+    let mut at = at;
+    for index in 0..rate.symbols(length) {
+        match symbol(
+            source,
+            at,
+            rate,
+            &carriers,
+            index,
+            &mut block[..width],
+            points,
+        ) {
+            Ok(()) => at += width as u64,
             Err(fault) => return Err(fault),
         }
-        walk = next(rate, walk);
     }
     Ok(())
 }

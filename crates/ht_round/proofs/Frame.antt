@@ -40,28 +40,31 @@ use Rattle.ht_round.proofs.Mixed.{HaveRows, all_symbols, length-symbols, symbols
 use Rattle.ht_round.proofs.Small.{exact_fit}
 
 -- sums of distances that are all 0
-no_sum : (jobs : List JobView) (n : ℕ) → AllByRecursion (λ (job : JobView). (near job).distance ≡ 0) jobs → fold (λ a job. a + (near job).distance) n jobs ≡ n
+abbrev IsExactlyNear : JobView → Type 0
+IsExactlyNear job = (near job).distance ≡ 0
+
+no_sum : (jobs : List JobView) (n : ℕ) → AllByRecursion IsExactlyNear jobs → fold (λ a job. a + (near job).distance) n jobs ≡ n
 no_sum [] n zeros = refl
 no_sum (job ∷ jobs) n zeros =
     let none = zeros.0 in
     let same : n + (near job).distance ≡ n = omega (arith, none) in
     ap (λ (k : ℕ). fold (λ a job. a + (near job).distance) k jobs) same ∙ no_sum jobs n zeros.1
 
-none_kept : (p : JobView → Bool) (jobs : List JobView) → AllByRecursion (λ (job : JobView). (near job).distance ≡ 0) jobs
-    → fold (λ a job. a + (near job).distance) 0 (filter p jobs) ≡ 0
+none_kept : (p : JobView → Bool) (jobs : List JobView) → AllByRecursion IsExactlyNear jobs → fold (λ a job. a + (near job).distance) 0 (filter p jobs) ≡ 0
 none_kept p jobs zeros =
     no_sum (filter p jobs) 0
-    (all_weaker (λ (job : JobView). ((near job).distance ≡ 0) × (p job ≡ true)) (λ (job : JobView). (near job).distance ≡ 0) (filter p jobs) (λ job both. both.0)
-    (all_kept (λ (job : JobView). (near job).distance ≡ 0) p jobs zeros))
+    (all_weaker (λ (job : JobView). IsExactlyNear job × (p job ≡ true)) IsExactlyNear (filter p jobs) (λ job both. both.0)
+    (all_kept IsExactlyNear p jobs zeros))
 
 -- a frame whose jobs are detected as they were sent
 found_back : (number : ℕ) (f : FrameView) (jobs : List JobView) (s : SymbolsView) → IsSeed f.seed → AreOctets f.octets → IsTransmitted f s
-    → IsWholeFrame (frame_of_jobs number f jobs) → AllByRecursion (IsFound f.rate s.points) jobs → frame_result (frame_of_jobs number f jobs) ≡ returned_result number f
+    → IsWholeFrame (frame_of_jobs number f jobs) → AllByRecursion (IsFound f.rate s.points) jobs
+    → frame_result (frame_of_jobs number f jobs) ≡ returned_result number f
 unfolding frame_result
 found_back number f jobs s seed octets sent whole found =
     let g : FrameJobs = frame_of_jobs number f jobs in
-    let zeros : AllByRecursion (λ (job : JobView). (near job).distance ≡ 0) jobs =
-    all_weaker (IsFound f.rate s.points) (λ (job : JobView). (near job).distance ≡ 0) jobs (λ job is. ap (λ (z : Found). z.distance) is) found in
+    let zeros : AllByRecursion IsExactlyNear jobs =
+    all_weaker (IsFound f.rate s.points) IsExactlyNear jobs (λ job is. ap (λ (z : Found). z.distance) is) found in
     let decoded : decoded_of g ≡ record { outcome = Octets f.octets; code = 0 } =
     sent_comes_back f (frame_labels g) seed octets (are_labels number f jobs s sent whole found) in
     let made : ℕ → ℕ → Decoded → FrameResult =
@@ -88,7 +91,8 @@ pub record IsReceivedAs (f : FrameView) (s : SymbolsView) (c : CaptureFrame) : T
   pub diagonals : AllByRecursion HasFullDiagonal c.triangles
   pub samples : map received c.samples ≡ symbols_from (symbols_of f.rate (length f.octets)) (streams_of f.rate) 0 c.triangles s.points
 
-pub as_received : (f : FrameView) (s : SymbolsView) (c : CaptureFrame) → IsTransmitted f s → IsSymbols s.rate s.length s.points → IsExact s c → IsReceivedAs f s c
+pub as_received : (f : FrameView) (s : SymbolsView) (c : CaptureFrame) → IsTransmitted f s → IsSymbols s.rate s.length s.points → IsExact s c
+    → IsReceivedAs f s c
 as_received f s c sent are exact =
     let n : ℕ = length f.octets in
     let rate : c.rate ≡ f.rate = exact.rate ∙ sent.rate in

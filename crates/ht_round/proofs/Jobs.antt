@@ -70,7 +70,8 @@ frame_items (suc n) head symbol number present samples =
     let w : ℕ = length present * streams_of head.rate in
     let here : List JobView = symbol_views head symbol number present (take w samples) in
     let rest : List JobView = frame_views n head (symbol + 1) (number + length present) present (drop w samples) in
-    ap (λ (z : List Item). z ++ frame_jobs n head (symbol + 1) (number + length present) present (drop w samples)) (symbol_items head symbol number present (take w samples))
+    ap (λ (z : List Item). z ++ frame_jobs n head (symbol + 1) (number + length present) present (drop w samples))
+    (symbol_items head symbol number present (take w samples))
     ∙ (ap (λ (z : List Item). map Job here ++ z) (frame_items n head (symbol + 1) (number + length present) present (drop w samples))
     ∙ sym (map-append Job here rest))
 
@@ -100,8 +101,8 @@ job_found head octets points symbol number carrier t samples rest are ls lc rows
     (true-IsTrue (is_in (grid_at r symbol carrier) xs) (in_grid r octets points symbol carrier are ls lc))
 
 -- the jobs of a symbol, from a subcarrier on
-symbol_found : (head : FrameHead) (octets : ℕ) (points : List Point) (symbol number carrier : ℕ) (ts : List (List Leg)) (samples : List Sample) (rest : List Complex)
-    → IsSymbols head.rate octets points → symbol < symbols_of head.rate octets → carrier + length ts ≤ carriers_of head.rate
+symbol_found : (head : FrameHead) (octets : ℕ) (points : List Point) (symbol number carrier : ℕ) (ts : List (List Leg)) (samples : List Sample)
+    (rest : List Complex) → IsSymbols head.rate octets points → symbol < symbols_of head.rate octets → carrier + length ts ≤ carriers_of head.rate
     → HaveRows (streams_of head.rate) ts → AllByRecursion HasFullDiagonal ts
     → map received samples ≡ symbol_from (streams_of head.rate) (symbol * carriers_of head.rate + carrier) ts points ++ rest
     → AllByRecursion (IsFound head.rate points) (symbol_views head symbol number (numbered carrier ts) samples)
@@ -117,7 +118,8 @@ symbol_found head octets points symbol number carrier (t ∷ ts) samples rest ar
     is ∙ (append_assoc here (symbol_from (streams_of r) (place + 1) ts points) rest
     ∙ ap (λ (k : ℕ). here ++ (symbol_from (streams_of r) k ts points ++ rest)) next) in
     let behind : map received (drop (streams_of r) samples) ≡ later ++ rest =
-    sym (drop-map received (streams_of r) samples) ∙ (ap (λ (cs : List Complex). drop (streams_of r) cs) split ∙ drop_at here (later ++ rest) (streams_of r) long) in (
+    sym (drop-map received (streams_of r) samples)
+    ∙ (ap (λ (cs : List Complex). drop (streams_of r) cs) split ∙ drop_at here (later ++ rest) (streams_of r) long) in (
       job_found head octets points symbol number carrier t samples (later ++ rest) are ls (omega (arith, lc)) rows.0 full.0 split,
       symbol_found head octets points symbol (number + 1) (carrier + 1) ts (drop (streams_of r) samples) rest are ls (omega (arith, lc)) rows.1 full.1 behind,
     )
@@ -134,7 +136,8 @@ frame_found (suc n) head octets points symbol number ts samples are ls count row
     let w : ℕ = length (numbered 0 ts) * streams_of r in
     let here : List Complex = symbol_from (streams_of r) (symbol * length ts) ts points in
     let later : List Complex = symbols_from n (streams_of r) (symbol + 1) ts points in
-    let wide : length here ≡ w = length-symbol (streams_of r) (symbol * length ts) ts points rows ∙ ap (λ (k : ℕ). k * streams_of r) (sym (length-numbered 0 ts)) in
+    let wide : length here ≡ w =
+    length-symbol (streams_of r) (symbol * length ts) ts points rows ∙ ap (λ (k : ℕ). k * streams_of r) (sym (length-numbered 0 ts)) in
     let place : symbol * length ts ≡ symbol * carriers_of r + 0 = ap (λ (k : ℕ). symbol * k) count ∙ omega arith in
     let first : map received (take w samples) ≡ symbol_from (streams_of r) (symbol * carriers_of r + 0) ts points ++ [] =
     sym (take-map received w samples) ∙ (ap (λ (cs : List Complex). take w cs) is ∙ (take_at here later w wide

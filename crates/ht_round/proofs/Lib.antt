@@ -6,3 +6,7 @@ pub mod Small
 pub mod Frame
 pub mod Round
 pub mod Simulated
+pub mod Passed
+pub mod Drawn
+pub mod Octets
+mod Worked

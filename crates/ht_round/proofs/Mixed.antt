@@ -41,7 +41,8 @@ symbol_is streams number (t ∷ ts) points =
     let behind : drop streams (take (suc n * streams) left) ≡ take (n * streams) (drop ((number + 1) * streams) points) =
     ap (λ (k : ℕ). drop streams (take k left)) wide
     ∙ (drop-take streams (n * streams) left
-    ∙ ap (λ (ps : List Point). take (n * streams) ps) (drop-drop streams (number * streams) points ∙ ap (λ (k : ℕ). drop k points) (next_place number streams))) in
+    ∙ ap (λ (ps : List Point). take (n * streams) ps)
+    (drop-drop streams (number * streams) points ∙ ap (λ (k : ℕ). drop k points) (next_place number streams))) in
     ap (λ (ps : List Point). mixed t ps ++ symbol_mixed streams ts (drop streams (take (suc n * streams) left))) here
     ∙ ap (λ (cs : List Complex). mixed t (vector_from streams points number) ++ cs)
     (ap (symbol_mixed streams ts) behind ∙ symbol_is streams (number + 1) ts points)

@@ -21,8 +21,8 @@ use Rattle.ht_pilot.specs.Pilots.{is_negated, pilot_of}
 use Rattle.ht_pam.specs.declared.axes.Axes.{Axes}
 use Rattle.ht_pam.specs.declared.point.Point.{Point}
 use Rattle.ht_pam.specs.Grids.{AreLadders, no_axes}
-use Rattle.ht_pam.specs.Ladders.{has}
-use Rattle.ht_map.specs.Constellation.{axes_of, grid_of}
+use Rattle.ht_pam.specs.Ladders.{IsLadder, has}
+use Rattle.ht_map.specs.Constellation.{axes_of, full, grid_of}
 use Rattle.ht_map.proofs.LabelFacts.{is_some-label_of}
 use Rattle.ht_metric.specs.Distance.{IsInRange}
 use Rattle.ht_metric.specs.Vectors.{is_in, no_point}
@@ -113,8 +113,9 @@ on_grid r symbol (Pilot k) xs long fits =
     (λ i lt.
     let low : i < streams_of r = omega (arith, lt, size) in
     let place : 1 + i ≡ i + 1 = omega arith in
+    let v : ℤ = pilot_of r symbol k (i + 1) in
     subst (λ (z : Axes). IsOn z (get_or xs i no_point)) (sym (get_or-map-range_with_len f 1 (streams_of r) i (i + 1) no_axes low place))
-    (subst (λ (p : Point). IsOn (one_point (pilot_of r symbol k (i + 1))) p) (sym (fits i low)) (on_one (pilot_of r symbol k (i + 1)) (abs-pilot r symbol k (i + 1)))))
+    (subst (λ (p : Point). IsOn (one_point v) p) (sym (fits i low)) (on_one v (abs-pilot r symbol k (i + 1)))))
 
 pub in_grid : (r : Rate) (octets : ℕ) (points : List Point) (symbol carrier : ℕ) → IsSymbols r octets points
     → symbol < symbols_of r octets → carrier < carriers_of r → is_in (grid_at r symbol carrier) (vector_at r points symbol carrier) ≡ true
@@ -134,12 +135,21 @@ pub length-grid : (r : Rate) (symbol carrier : ℕ) → length (grid_at r symbol
 unfolding grid_at
 length-grid r symbol carrier = long_for r symbol (carrier_of r carrier)
 
+full_2 : IsLadder (full 2)
+full_2 = record { size = inr (inl refl); some = omega arith; within = omega arith }
+
+full_4 : IsLadder (full 4)
+full_4 = record { size = inr (inr (inl refl)); some = omega arith; within = omega arith }
+
+full_8 : IsLadder (full 8)
+full_8 = record { size = inr (inr (inr refl)); some = omega arith; within = omega arith }
+
 ladders : (m : Modulation) → AreLadders (axes_of m)
 unfolding axes_of
-ladders Bpsk = record { i = record { size = inr (inl refl); some = omega arith; within = omega arith }; q = record { size = inl refl; some = omega arith; within = omega arith } }
-ladders Qpsk = record { i = record { size = inr (inl refl); some = omega arith; within = omega arith }; q = record { size = inr (inl refl); some = omega arith; within = omega arith } }
-ladders Qam16 = record { i = record { size = inr (inr (inl refl)); some = omega arith; within = omega arith }; q = record { size = inr (inr (inl refl)); some = omega arith; within = omega arith } }
-ladders Qam64 = record { i = record { size = inr (inr (inr refl)); some = omega arith; within = omega arith }; q = record { size = inr (inr (inr refl)); some = omega arith; within = omega arith } }
+ladders Bpsk = record { i = full_2; q = record { size = inl refl; some = omega arith; within = omega arith } }
+ladders Qpsk = record { i = full_2; q = full_2 }
+ladders Qam16 = record { i = full_4; q = full_4 }
+ladders Qam64 = record { i = full_8; q = full_8 }
 
 either_mask : (b : Bool) → (0 < (if b then 2 else 1)) × ((if b then 2 else 1) < 2 ^ 2)
 either_mask true = (omega arith, omega arith)

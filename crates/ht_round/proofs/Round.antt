@@ -17,8 +17,10 @@ use Rattle.ht_capture.specs.Captures.{capture_of}
 use Rattle.ht_capture.specs.Contents.{AreTyped, AreWhole, IsVersion, head_of, items_from, items_of, presents_of}
 use Rattle.ht_capture.specs.Fields.{captures}
 use Rattle.ht_capture.specs.Files.{AreCaptureFrames, FitsFrame, capture_file_of}
+use Rattle.ht_capture.proofs.Equal.{file_same}
 use Rattle.ht_capture.proofs.Filed.{file_written}
-use Rattle.ht_capture_laws.specs.Items.{FrameJobs, IsWholeFrame, carriers_in, frames_in, has_all_jobs, items_in, items_of_frame, place_in, symbol_places, symbols_in, whole_frames}
+use Rattle.ht_capture_laws.specs.Items.{FrameJobs, IsWholeFrame, carriers_in, frames_in, has_all_jobs, items_in}
+use Rattle.ht_capture_laws.specs.Items.{items_of_frame, place_in, symbol_places, symbols_in, whole_frames}
 use Rattle.ht_capture_laws.proofs.Lists.{length-flat}
 use Rattle.ht_capture_laws.proofs.More.{all_whole}
 use Rattle.ht_capture_laws.proofs.Parts.{frames_back}
@@ -194,3 +196,15 @@ text_back version frames sent captured either good octets out exact =
     ap (λ (m : Meaning Item). last_of m.fault (frames_of m.items)) (meant version captured w.0 w.1 w.2) ∙ ap end_text count in
     ap (λ (z : List ℕ). z ++ last_of (capture_of file).fault (frames_of (capture_of file).items)) lines
     ∙ ap (λ (z : List ℕ). returned_lines 0 frames ++ z) last
+
+-- the same frames, written again
+pub rewritten : (version other into : ℕ) (frames : List FrameView) (sent : List SymbolsView) (captured others : List CaptureFrame)
+    → (version ≡ 1) ⊎ (version ≡ 2) → (into ≡ 1) ⊎ (into ≡ 2)
+    → AreFrames frames → HoldOctets frames → AreTransmitted frames sent → AreExact sent captured
+    → AreCaptureFrames others → AreTyped others → IsVersion other others → capture_file_of version captured ≡ capture_file_of other others
+    → rx_text (capture_file_of into others) ≡ returned_text frames
+rewritten version other into frames sent captured others either either_into good octets out exact fit typed allowed same =
+    let w = written version frames sent captured either good out exact in
+    let those : captured ≡ others = (file_same version other captured others w.0 w.1 w.2 fit typed allowed same).1 in
+    ap (λ (cs : List CaptureFrame). rx_text (capture_file_of into cs)) (sym those)
+    ∙ text_back into frames sent captured either_into good octets out exact

@@ -14,7 +14,8 @@ use Rattle.ht_tx.specs.Frames.{FrameView}
 use Rattle.ht_tx.specs.Symbols.{SymbolsView}
 use Rattle.ht_tx.specs.Transmitted.{AreTransmitted}
 use Rattle.ht_files.specs.Files.{AreFrames}
-use Rattle.ht_sim.specs.Channel.{captures_of, diagonal_of, entry_part_of, frame_drawn, legs_drawn, noise_of, sample_drawn, symbols_mixed, tap_drawn, triangle_drawn}
+use Rattle.ht_sim.specs.Channel.{captures_of, diagonal_of, entry_part_of, frame_drawn, legs_drawn}
+use Rattle.ht_sim.specs.Channel.{noise_of, sample_drawn, symbols_mixed, tap_drawn, triangle_drawn}
 use Rattle.ht_sim.specs.Draws.{Drawn, each, several}
 use Rattle.ht_sim.specs.Words.{first, next, word}
 use Rattle.ht_results.specs.Results.{results_of}
@@ -24,7 +25,7 @@ use Rattle.ht_round.specs.Returned.{returned_results, returned_text}
 use Rattle.ht_round.proofs.Round.{results_back, text_back}
 
 -- triangles
-length-several : {A : Type 0} (draw : ℕ → Drawn A) (n z : ℕ) → length (several draw n z).value ≡ n
+pub length-several : {A : Type 0} (draw : ℕ → Drawn A) (n z : ℕ) → length (several draw n z).value ≡ n
 length-several draw zero z = refl
 length-several draw (suc n) z = ap suc (length-several draw n (draw z).state)
 

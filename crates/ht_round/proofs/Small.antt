@@ -69,7 +69,8 @@ scaled_small d x small in_it =
     let low : unsigned_abs (pos d) ≤ 65536 = omega (arith, small) in
     (product (pos d) x.i 65536 7 low in_it.i, product (pos d) x.q 65536 7 low in_it.q)
 
-row_small : (leg : Leg) (xs : List Point) → leg.diagonal < 2 ^ 16 → AreTaps leg.right → length leg.right ≤ 3 → All IsInRange xs → Small 1835008 (row_mixed leg xs)
+row_small : (leg : Leg) (xs : List Point) → leg.diagonal < 2 ^ 16 → AreTaps leg.right → length leg.right ≤ 3 → All IsInRange xs
+    → Small 1835008 (row_mixed leg xs)
 row_small leg [] small typed few within = none_small 1835008
 row_small leg (x ∷ xs) small typed few within =
     let own = scaled_small leg.diagonal x small (All-head IsInRange x xs within) in

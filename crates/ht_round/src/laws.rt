@@ -1,16 +1,21 @@
 //! What follows from the definitions of sending, receiving and decoding. The functions here do nothing: their contracts
 //! are laws.
-ghost use Rattle.std.specs.Prelude.{◌≡◌, ◌⊎◌, ℕ, List};
+ghost use Rattle.std.specs.Prelude.{◌≡◌, ◌⊎◌, ◌≤◌, ℕ, List};
+ghost use Rattle.ht_rate.specs.declared.rates.Rate.{Rate};
 ghost use Rattle.ht_tx.specs.Frames.{FrameView};
 ghost use Rattle.ht_tx.specs.Symbols.{SymbolsView};
 ghost use Rattle.ht_tx.specs.Transmitted.{AreTransmitted};
-ghost use Rattle.ht_files.specs.Files.{AreFrames};
+ghost use Rattle.ht_fields.specs.Tests.{AreBytes};
+ghost use Rattle.ht_files.specs.Files.{AreFrames, frames_file_of};
+ghost use Rattle.ht_files.specs.SymbolFiles.{symbols_file_of};
 ghost use Rattle.ht_capture.specs.declared.frames.CaptureFrame.{CaptureFrame};
 ghost use Rattle.ht_capture.specs.Contents.{AreTyped, IsVersion};
 ghost use Rattle.ht_capture.specs.Files.{AreCaptureFrames, capture_file_of};
 ghost use Rattle.ht_results.specs.Results.{results_of};
 ghost use Rattle.ht_results.specs.Texts.{rx_text};
 ghost use Rattle.ht_sim.specs.Channel.{captures_of};
+ghost use Rattle.ht_sim.specs.Passing.{PassesTo};
+ghost use Rattle.ht_sim.specs.Samples.{frames_drawn};
 ghost use Rattle.ht_round.specs.Exact.{AreExact, HoldOctets};
 ghost use Rattle.ht_round.specs.Returned.{returned_results, returned_text};
 
@@ -31,6 +36,13 @@ pub fn exact_comes_back()
     ensures written { (version : ℕ) (frames : List FrameView) (sent : List SymbolsView) (captured : List CaptureFrame)
         → (version ≡ 1) ⊎ (version ≡ 2) → AreFrames frames → AreTransmitted frames sent → AreExact sent captured
         → AreCaptureFrames captured × AreTyped captured × IsVersion version captured }
+
+    // Read as frames and written again, as `upgrade` does, such a capture comes back too.
+    ensures rewritten { (version other into : ℕ) (frames : List FrameView) (sent : List SymbolsView) (captured others : List CaptureFrame)
+        → (version ≡ 1) ⊎ (version ≡ 2) → (into ≡ 1) ⊎ (into ≡ 2)
+        → AreFrames frames → HoldOctets frames → AreTransmitted frames sent → AreExact sent captured
+        → AreCaptureFrames others → AreTyped others → IsVersion other others → capture_file_of version captured ≡ capture_file_of other others
+        → rx_text (capture_file_of into others) ≡ returned_text frames }
 {}
 
 /// What passes the simulated channel with noise 0 is received exactly, whatever the seed, and so it comes back.
@@ -42,4 +54,26 @@ pub fn simulated_comes_back()
     ensures text { (version seed : ℕ) (frames : List FrameView) (sent : List SymbolsView)
         → (version ≡ 1) ⊎ (version ≡ 2) → AreFrames frames → HoldOctets frames → AreTransmitted frames sent
         → rx_text (capture_file_of version (captures_of seed 0 sent)) ≡ returned_text frames }
+{}
+
+/// The same of files: whatever capture the file of the symbols that are sent passes to, with noise 0.
+pub fn passed_comes_back()
+    ensures results { (seed : ℕ) (frames : List FrameView) (sent : List SymbolsView) (output : List ℕ)
+        → AreFrames frames → HoldOctets frames → AreTransmitted frames sent → PassesTo seed 0 (symbols_file_of sent) output
+        → results_of output ≡ returned_results frames }
+    ensures text { (seed : ℕ) (frames : List FrameView) (sent : List SymbolsView) (output : List ℕ)
+        → AreFrames frames → HoldOctets frames → AreTransmitted frames sent → PassesTo seed 0 (symbols_file_of sent) output
+        → rx_text output ≡ returned_text frames }
+{}
+
+/// Frames whose file is a list of octets have octets, so the laws above speak of each file that there is.
+pub fn files_hold_octets()
+    ensures { (frames : List FrameView) → AreBytes (frames_file_of frames) → HoldOctets frames }
+{}
+
+/// Sample frames are ones of which the laws above speak, whatever the seed: a file can be written of them, and they have
+/// octets.
+pub fn drawn_can_come_back()
+    ensures frames { (seed : ℕ) (rate : Rate) (len count : ℕ) → 1 ≤ len → len ≤ 65535 → count ≤ 65535 → AreFrames (frames_drawn seed rate len count) }
+    ensures octets { (seed : ℕ) (rate : Rate) (len count : ℕ) → HoldOctets (frames_drawn seed rate len count) }
 {}

@@ -8,6 +8,10 @@
 //! They rest on two facts. A triangle without a 0 on its diagonal makes different samples of different vectors, so the
 //! vector that was sent is the only one at distance 0 (`ht_metric`). And the labels of a frame are decoded to its octets
 //! (`ht_return`).
+//!
+//! `specs/Exact.antt` says what it is to be received exactly, and `specs/Returned.antt` what comes of frames that come
+//! back. `proofs/Worked.antt` works out the text of two frames, and a symbol of two streams: where 1 and -1 are sent over
+//! a triangle with 2 and 1 - j in its first row and 3 in its second one, the samples are 1 + j and -3.
 #![tactic(auto)]
 
 pub mod laws;

@@ -3,8 +3,8 @@ use Rattle.std.proofs.Common.{◌≡◌, ℕ, ◌==◌, ◌≤◌, List, [], ◌
 use Rattle.std.specs.List.{flat_map}
 use Rattle.std.proofs.Math.Path.{fun_ext}
 use Rattle.std.proofs.lemmas.Grind.{flat_map-append}
-use Rattle.ht_io.specs.Devices.{Device, GrowsByPart}
-use Rattle.ht_io.proofs.Calls.{grows_by_part-front, grows_by_part-none}
+use Rattle.ht_io.specs.Devices.{Device, Grows, GrowsByPart}
+use Rattle.ht_io.proofs.Calls.{grows_by_part-append, grows_by_part-front, grows_by_part-none}
 use Rattle.ht_metric.specs.Jobs.{JobView}
 use Rattle.ht_capture.specs.declared.items.FrameHead.{FrameHead}
 use Rattle.ht_inverse.specs.declared.decoded.Decoded.{Decoded}
@@ -74,6 +74,15 @@ module _ {P : Type 0} (booked : FrameResult → List P) where
 
   pub books_nothing : (a : Device P) (before : FrameSoFar) (h : Headed) → PutsPartOfOne a a (all_booked before) h
   books_nothing a before h = λ more. grows_by_part-none a (all_booked before (h ∷ more))
+
+  -- some results are booked, and a part of the next one
+  pub booked_part : (a b c : Device P) (xs : List FrameResult) (r : FrameResult) (rest all : List FrameResult) → all ≡ xs ++ r ∷ rest
+      → Grows a b (flat_map booked xs) → GrowsByPart b c (booked r) → GrowsByPart a c (flat_map booked all)
+  booked_part a b c xs r rest all is grows part =
+      let front = grows_by_part-front b c (booked r) (flat_map booked rest) part in
+      let both = grows_by_part-append a b c (flat_map booked xs) (booked r ++ flat_map booked rest) grows front in
+      subst (λ (rs : List FrameResult). GrowsByPart a c (flat_map booked rs)) (sym is)
+      (subst (λ (ps : List P). GrowsByPart a c ps) (sym (flat_map-append booked xs (r ∷ rest))) both)
 
 pub frames_told : {P : Type 0} (booked : FrameResult → List P) (f : FrameSoFar) (result : Result Ended RxFault) (source source' : Device ℕ) (book book' : Device P)
     → f.left ≤ 0

@@ -1,5 +1,5 @@
 -- What a feed did over a new desk.
-use Rattle.std.specs.Prelude.{◌≡◌, ℕ, List, [], ◌++◌, length, Option, Some, None, is_some, true, Result, Ok, Err, IsErr, IsErrAnd, MatchResult}
+use Rattle.std.specs.Prelude.{◌≡◌, ℕ, List, [], ◌++◌, length, Option, Some, None, is_some, true, Result, Ok, Err, IfOk, IsErr, IsErrAnd, MatchResult, OnOk}
 use Rattle.std.proofs.Common.{refl, ap, ◌∙◌, sym, subst, append-nil, arith}
 use Rattle.std.proofs.lemmas.Bool.{false≢true}
 use Rattle.ht_io.specs.Devices.{Device, Grows, GrowsByPart, Rose, IsLater}
@@ -8,6 +8,10 @@ use Rattle.ht_fields.specs.Readers.{ReaderView, Gives}
 use Rattle.ht_capture.specs.declared.items.FrameHead.{FrameHead}
 use Rattle.ht_capture.specs.declared.items.Item.{Item}
 use Rattle.ht_results.specs.declared.headed.Headed.{Headed}
+use Rattle.ht_crew.specs.Driving.{CallFailed}
+use Rattle.ht_crew.specs.declared.drive_fault.DriveFault.{DriveFault}
+use Rattle.ht_crew.specs.declared.drive_fault.DriveFault.TheVariants.{Feed, NoMemory as DriveMemory}
+use Rattle.ht_crew.specs.declared.report.Report.{Report}
 use Rattle.ht_rx.specs.declared.stop.Stop.{Stop}
 use Rattle.ht_rx.specs.declared.stop.Stop.TheVariants.{Whole, Refused, Broken}
 use Rattle.ht_rx.specs.declared.faults.FeedFault.{FeedFault}
@@ -18,10 +22,12 @@ use Rattle.ht_rx.specs.Accounts.{Telling, PutsFirst, pieces_of}
 use Rattle.ht_results.specs.Heads.{headed}
 use Rattle.ht_results.specs.Texts.{frames_of}
 use Rattle.ht_rx.specs.Texts.{jobs_of}
-use Rattle.ht_rx.specs.Stops.{ended_at, fault_of}
+use Rattle.ht_rx.specs.Stops.{ended_at, ended_by, fault_of}
 use Rattle.ht_rx.specs.Reading.{Closes, ReadsBy}
-use Rattle.ht_rx.specs.Desks.{DeskView, IsNewDesk}
-use Rattle.ht_rx.specs.Telling.{Tells, TellsPart, seen_by}
+use Rattle.ht_rx.specs.Desks.{DeskView, IsNewDesk, feed_of}
+use Rattle.ht_rx.specs.Heads.{jobs_alone}
+use Rattle.ht_rx.specs.Telling.{Seen, Tells, TellsBy, TellsPart, seen_by}
+use Rattle.ht_rx.proofs.Giving.{none_alone}
 use Rattle.ht_rx.specs.Outcomes.{TellsBroken, TellsPieces, TellsTo, StopsBy}
 use Rattle.ht_rx.proofs.Outcomes.{start, part, whole, refused, broken, known}
 
@@ -103,15 +109,6 @@ module _ {P : Type 0} where
       ends a.pieces old.head source source' a.device b.device new.frames jobs stop
       (finished old new source source' a b jobs stop fresh tells is due rests nothing count)
 
-  pub ended : (old new : DeskView) (source source' : Device ℕ) (a b : Telling P) (jobs : ℕ) (result : Result Ended RxFault)
-      → IsNewDesk old → Tells (seen_by old source a) (seen_by new source' b) → is_some new.stop ≡ true → new.due ≡ []
-      → a.Waits [] → (b.Waits [] → b.pieces [] ≡ []) → jobs ≡ new.count → result ≡ ended_at new.stop new.frames jobs
-      → MatchResult result (TellsTo (pieces_of a.pieces) source source' a.device b.device) (StopsBy (pieces_of a.pieces) source source' a.device b.device)
-  ended old new source source' a b jobs result fresh tells stopped due rests nothing count is =
-      subst (λ (r : Result Ended RxFault). MatchResult r (TellsTo (pieces_of a.pieces) source source' a.device b.device)
-      (StopsBy (pieces_of a.pieces) source source' a.device b.device)) (sym is)
-      (ends_at old new source source' a b jobs new.stop fresh tells refl stopped due rests nothing count)
-
   part_told : (old new : DeskView) (source source' : Device ℕ) (a b : Telling P) (fault : FeedFault)
       → IsNewDesk old → TellsPart (seen_by old source a) (seen_by new source' b) fault → TellsPieces (pieces_of a.pieces) source source' a.device b.device
   part_told old new source source' a b fault fresh breaks =
@@ -124,13 +121,6 @@ module _ {P : Type 0} where
   stops_as old new source source' a b Write fresh breaks = (part_told old new source source' a b Write fresh breaks, breaks.cause refl)
   stops_as old new source source' a b NoMemory fresh breaks = part_told old new source source' a b NoMemory fresh breaks
 
-  -- the feed failed
-  pub stops : (old new : DeskView) (source source' : Device ℕ) (a b : Telling P) (fault : FeedFault) (e : RxFault)
-      → IsNewDesk old → TellsPart (seen_by old source a) (seen_by new source' b) fault → e ≡ fault_of fault
-      → StopsBy (pieces_of a.pieces) source source' a.device b.device e
-  stops old new source source' a b fault e fresh breaks is =
-      subst (λ (r : RxFault). StopsBy (pieces_of a.pieces) source source' a.device b.device r) (sym is) (stops_as old new source source' a b fault fresh breaks)
-
   -- nothing was taken and nothing put
   pub part_none : (pieces : List ℕ → List P) (source : Device ℕ) (device : Device P) → TellsPieces pieces source source device device
   part_none pieces source device =
@@ -141,6 +131,49 @@ module _ {P : Type 0} where
         of_all = known source.known source.known [] (λ all. GrowsByPart device device (pieces all))
             (takes-none source) (λ rest. grows_by_part-none device (pieces rest));
       }
+
+  -- what a drive says of a feed over a new desk
+  pub record Heard (old new : DeskView) (source source' : Device ℕ) (a b : Telling P) (driven : Result Report (DriveFault FeedFault)) : Type 0 where
+    pub fresh : IsNewDesk old
+    pub leads : TellsBy old.failed new.failed (seen_by old source a) (seen_by new source' b)
+    pub ended : OnOk driven (is_some new.stop ≡ true)
+    pub taken : OnOk driven (jobs_alone new.due ≡ [])
+    pub unfailed : OnOk driven (new.failed ≡ old.failed)
+    pub jobs : IfOk driven (λ report. report.jobs ≡ new.count)
+    pub fault : (fault : FeedFault) → driven ≡ Err (Feed fault) → CallFailed (feed_of old) (feed_of new) fault
+    pub source_rests : driven ≡ Err DriveMemory → source' ≡ source
+    pub device_rests : driven ≡ Err DriveMemory → b.device ≡ a.device
+
+  well : (x y : Option FeedFault) (old new : Seen P) → x ≡ None → y ≡ x → TellsBy x y old new → Tells old new
+  well x y old new none same told =
+      subst (λ (f : Option FeedFault). TellsBy f None old new) none (subst (λ (f : Option FeedFault). TellsBy x f old new) (same ∙ none) told)
+
+  ill : (x y : Option FeedFault) (old new : Seen P) (fault : FeedFault) → x ≡ None → y ≡ Some fault → TellsBy x y old new → TellsPart old new fault
+  ill x y old new fault none is told =
+      subst (λ (f : Option FeedFault). TellsBy f (Some fault) old new) none (subst (λ (f : Option FeedFault). TellsBy x f old new) is told)
+
+  heard_by : (old new : DeskView) (source source' : Device ℕ) (a b : Telling P) (driven : Result Report (DriveFault FeedFault))
+      → Heard old new source source' a b driven → a.Waits [] → (b.Waits [] → b.pieces [] ≡ [])
+      → MatchResult (ended_by new.stop new.frames driven) (TellsTo (pieces_of a.pieces) source source' a.device b.device)
+      (StopsBy (pieces_of a.pieces) source source' a.device b.device)
+  heard_by old new source source' a b (Ok report) h rests nothing =
+      let told = well old.failed new.failed (seen_by old source a) (seen_by new source' b) h.fresh.failed h.unfailed h.leads in
+      ends_at old new source source' a b report.jobs new.stop h.fresh told refl h.ended (none_alone new.due h.taken) rests nothing h.jobs
+  heard_by old new source source' a b (Err (Feed fault)) h rests nothing =
+      let failed = (h.fault fault refl).failed in
+      stops_as old new source source' a b fault h.fresh
+      (ill old.failed new.failed (seen_by old source a) (seen_by new source' b) fault h.fresh.failed failed h.leads)
+  heard_by old new source source' a b (Err DriveMemory) h rests nothing =
+      subst (λ (s : Device ℕ). TellsPieces (pieces_of a.pieces) source s a.device b.device) (sym (h.source_rests refl))
+      (subst (λ (d : Device P). TellsPieces (pieces_of a.pieces) source source a.device d) (sym (h.device_rests refl)) (part_none (pieces_of a.pieces) source a.device))
+
+  -- the end of the reading of a capture, as its drive and its desk tell it
+  pub heard : (old new : DeskView) (source source' : Device ℕ) (a b : Telling P) (driven : Result Report (DriveFault FeedFault)) (result : Result Ended RxFault)
+      → Heard old new source source' a b driven → a.Waits [] → (b.Waits [] → b.pieces [] ≡ []) → result ≡ ended_by new.stop new.frames driven
+      → MatchResult result (TellsTo (pieces_of a.pieces) source source' a.device b.device) (StopsBy (pieces_of a.pieces) source source' a.device b.device)
+  heard old new source source' a b driven result h rests nothing is =
+      subst (λ (r : Result Ended RxFault). MatchResult r (TellsTo (pieces_of a.pieces) source source' a.device b.device)
+      (StopsBy (pieces_of a.pieces) source source' a.device b.device)) (sym is) (heard_by old new source source' a b driven h rests nothing)
 
 -- an answer that is a fault of this kind
 pub stops_with : (result : Result Ended RxFault) (P : Ended → Type 0) (R Q : RxFault → Type 0) → IsErr result → IsErrAnd result Q → ((e : RxFault) → Q e → R e)

@@ -12,4 +12,5 @@ pub mod Finishing
 pub mod Listed
 pub mod Counting
 pub mod Booking
+pub mod Gathered
 pub mod Stamping

@@ -7,6 +7,7 @@ pub mod Accounts
 pub mod Telling
 pub mod Leading
 pub mod Feeding
+pub mod Gathering
 pub mod Listing
 pub mod Keeping
 pub mod Outcomes

@@ -1,5 +1,8 @@
 -- One fault as another, and how the reading of a capture ended.
 use Rattle.std.specs.Prelude.{ℕ, Option, Some, None, Result, Ok, Err}
+use Rattle.ht_crew.specs.declared.drive_fault.DriveFault.{DriveFault}
+use Rattle.ht_crew.specs.declared.drive_fault.DriveFault.TheVariants.{Feed, NoMemory as DriveMemory}
+use Rattle.ht_crew.specs.declared.report.Report.{Report}
 use Rattle.ht_io.specs.declared.faults.InFault.{InFault}
 use Rattle.ht_io.specs.declared.faults.InFault.TheVariants.{Format, Read, NoMemory}
 use Rattle.ht_rx.specs.declared.stop.Stop.{Stop}
@@ -35,3 +38,9 @@ ended_at (Some Whole) frames jobs = Ok (Done frames jobs)
 ended_at (Some (Refused fault)) frames jobs = Ok (EndedRefused fault)
 ended_at (Some Broken) frames jobs = Err RxRead
 ended_at None frames jobs = Err RxRead
+
+-- how it ended, where its drive answered this
+abbrev pub ended_by : Option Stop → ℕ → Result Report (DriveFault FeedFault) → Result Ended RxFault
+ended_by stop frames (Ok report) = ended_at stop frames report.jobs
+ended_by stop frames (Err (Feed fault)) = Err (fault_of fault)
+ended_by stop frames (Err DriveMemory) = Err RxNoMemory

@@ -3,12 +3,14 @@
 //! A [`CaptureFeed`] stands between a capture and an [`Account`]. A drive of crate `ht_crew` asks it for jobs, which it
 //! takes from a capture's reader, and hands it their hits in order, which it hands on to the account. What becomes of
 //! the hits is the account's alone: a [`Lister`] puts a line for each, those of a symbol together; a [`Receiver`] books
-//! the [`FrameResult`] of each frame in a [`Book`] once its last hit came. What an account puts in all is a function of
+//! the [`FrameResult`] of each frame in a [`Book`] once its last hit came, and an account like it, which serves a crew of
+//! workers, lets whole frames wait and decodes several at once. What an account puts in all is a function of
 //! the jobs that come, so that one set of lemmas says for every account what a whole capture, a fault, a source that
 //! fails and a full memory come to (`specs/Telling.antt`, `specs/Outcomes.antt`).
 //!
-//! [`list_alone`] and [`receive_alone`] read a capture from any source and run every job in the calling thread.
-//! [`receive_text_alone`] puts the line of each frame into a sink. For each present subcarrier of each symbol (IEEE Std
+//! [`list`] and [`receive`] read a capture from any source, and a crew of workers runs its jobs; [`list_alone`] and
+//! [`receive_alone`] promise the same, and run every job in the calling thread. [`receive_text`] and
+//! [`receive_text_alone`] put the line of each frame into a sink. For each present subcarrier of each symbol (IEEE Std
 //! 802.11-2012, clause 20.3.11, for symbols and subcarriers) the first nearest vector is found; the labels of a frame's
 //! data subcarriers are decoded by crate `ht_inverse`.
 //!
@@ -33,6 +35,8 @@ mod book_fault;
 mod desk;
 mod faults;
 mod feed;
+mod gatherer;
+mod gathering;
 mod headed;
 mod lines;
 mod list_book;
@@ -45,7 +49,10 @@ mod receiving;
 mod receiving_text;
 mod stop;
 mod telling;
+#[cfg(test)]
+mod tests;
 mod text_book;
+mod whole_frame;
 mod writing;
 
 pub use account::Account;

@@ -6,65 +6,16 @@ ghost use Rattle.ht_rx.specs.Outcomes.{StopsBy, TellsTo};
 
 use crate::book::Book;
 use crate::faults::{Ended, RxFault};
+use crate::gatherer::Gatherer;
 use crate::open_frame::OpenFrame;
 use crate::receiver::Receiver;
 use crate::telling::{tell, tell_alone};
 use ht_crew::Gate;
-use ht_inverse::{Alone, Decoder, Together};
+use ht_inverse::{Alone, Together};
 use ht_io::Source;
 use std::alloc::Global;
 use std::sync::Wait;
 use std::thread::Threads;
-
-// Receives by a receiver that has no frame under way, in this thread.
-fn receive_by_alone<S: Source, B: Book, D: Decoder, G: Gate>(
-    alloc: Global,
-    window: u16,
-    source: &mut S,
-    receiver: &mut Receiver<'_, B, D>,
-    gate: &G,
-) -> Result<Ended, RxFault>
-    requires some { 1 ≤ window }
-    requires few { window ≤ 4096 }
-    requires none { receiver.old.open.now.left ≡ 0 }
-    ensures receives { MatchResult result
-        (TellsTo (booked_of B.booked) (S.shown source.old) (S.shown source.new) (B.shown receiver.old.book.now) (B.shown receiver.new.book.now))
-        (StopsBy (booked_of B.booked) (S.shown source.old) (S.shown source.new) (B.shown receiver.old.book.now) (B.shown receiver.new.book.now)) }
-    ensures writes { result ≢ Err RxFault.Write → (B.shown receiver.new.book.now).faults ≡ (B.shown receiver.old.book.now).faults }
-    ensures reads_later { IsLater (S.shown source.old) (S.shown source.new) }
-    ensures books_later { IsLater (B.shown receiver.old.book.now) (B.shown receiver.new.book.now) }
-    ensures name { receiver.new.book.ghost_name ≡ receiver.old.book.ghost_name }
-    ensures same { B.lent receiver.new.book.now ≡ B.lent receiver.old.book.now }
-{
-    tell_alone(alloc, window, source, receiver, gate)
-}
-
-// Receives by a receiver that has no frame under way, and by a crew of workers.
-fn receive_by<R: Threads + Wait + Sync, S: Source, B: Book, D: Decoder, G: Gate + Sync>(
-    rt: &R,
-    alloc: Global,
-    workers: u8,
-    window: u16,
-    source: &mut S,
-    receiver: &mut Receiver<'_, B, D>,
-    gate: &G,
-) -> Result<Ended, RxFault>
-    requires one { 1 ≤ workers }
-    requires many { workers ≤ 64 }
-    requires some { 1 ≤ window }
-    requires few { window ≤ 4096 }
-    requires none { receiver.old.open.now.left ≡ 0 }
-    ensures receives { MatchResult result
-        (TellsTo (booked_of B.booked) (S.shown source.old) (S.shown source.new) (B.shown receiver.old.book.now) (B.shown receiver.new.book.now))
-        (StopsBy (booked_of B.booked) (S.shown source.old) (S.shown source.new) (B.shown receiver.old.book.now) (B.shown receiver.new.book.now)) }
-    ensures writes { result ≢ Err RxFault.Write → (B.shown receiver.new.book.now).faults ≡ (B.shown receiver.old.book.now).faults }
-    ensures reads_later { IsLater (S.shown source.old) (S.shown source.new) }
-    ensures books_later { IsLater (B.shown receiver.old.book.now) (B.shown receiver.new.book.now) }
-    ensures name { receiver.new.book.ghost_name ≡ receiver.old.book.ghost_name }
-    ensures same { B.lent receiver.new.book.now ≡ B.lent receiver.old.book.now }
-{
-    tell(rt, alloc, workers, window, source, receiver, gate)
-}
 
 /// Reads a capture from the source, and books the result of each frame that is whole before the capture's first fault:
 /// the sums of the distances of its data jobs and of its pilot jobs, what its labels are decoded to, and at how many
@@ -101,11 +52,16 @@ pub fn receive_alone<S: Source, B: Book, G: Gate>(
     let mut open = OpenFrame::new(alloc);
     let mut decoder = Alone::new();
     let mut receiver = Receiver::new(alloc, &mut open, book, &mut decoder);
-    receive_by_alone(alloc, window, source, &mut receiver, gate)
+    tell_alone(alloc, window, source, &mut receiver, gate)
 }
 
-/// Does as [`receive_alone`], and the jobs are run by 1 to 64 workers, of which the caller is one. The two codewords of a
-/// frame of two encoders are decoded in two threads. The results are the same, in the same order.
+/// Does as [`receive_alone`], and the jobs are run by 1 to 64 workers, of which the caller is one. The results are the
+/// same, in the same order.
+///
+/// Frames that are whole wait with their labels until there are as many as workers, and are then decoded at once, each in
+/// a thread of its own. They are decoded earlier where they have more than 131,072 octets together, where no job is due any
+/// more, and where a frame comes that is too short to be worth a thread. So at most three of the longest frames are kept
+/// and decoded at once, whatever the workers. Of one that is alone the codewords of two encoders are decoded in two threads.
 pub fn receive<R: Threads + Wait + Sync, S: Source, B: Book, G: Gate + Sync>(
     rt: &R,
     alloc: Global,
@@ -131,8 +87,17 @@ pub fn receive<R: Threads + Wait + Sync, S: Source, B: Book, G: Gate + Sync>(
     ensures books_later { IsLater (B.shown book.old) (B.shown book.new) }
     ensures same { B.lent book.new ≡ B.lent book.old }
 {
-    let mut open = OpenFrame::new(alloc);
+    let mut under_way = OpenFrame::new(alloc);
+    let mut whole = Vec::new(alloc);
     let mut decoder = Together::new(rt);
-    let mut receiver = Receiver::new(alloc, &mut open, book, &mut decoder);
-    receive_by(rt, alloc, workers, window, source, &mut receiver, gate)
+    let mut gatherer = Gatherer {
+        rt,
+        alloc,
+        at_once: workers,
+        under_way: &mut under_way,
+        whole: &mut whole,
+        book,
+        decoder: &mut decoder,
+    };
+    tell(rt, alloc, workers, window, source, &mut gatherer, gate)
 }

@@ -13,52 +13,6 @@ use std::alloc::Global;
 use std::sync::Wait;
 use std::thread::Threads;
 
-// Receives into a book of lines, in this thread.
-fn receive_into_alone<S: Source, K: Sink, G: Gate>(
-    alloc: Global,
-    window: u16,
-    source: &mut S,
-    book: &mut TextBook<'_, K>,
-    gate: &G,
-) -> Result<Ended, RxFault>
-    requires some { 1 ≤ window }
-    requires few { window ≤ 4096 }
-    ensures receives { MatchResult result
-        (TellsTo frame_lines_of (S.shown source.old) (S.shown source.new) (K.shown book.old.sink.now) (K.shown book.new.sink.now))
-        (StopsBy frame_lines_of (S.shown source.old) (S.shown source.new) (K.shown book.old.sink.now) (K.shown book.new.sink.now)) }
-    ensures writes { result ≢ Err RxFault.Write → (K.shown book.new.sink.now).faults ≡ (K.shown book.old.sink.now).faults }
-    ensures reads_later { IsLater (S.shown source.old) (S.shown source.new) }
-    ensures puts_later { IsLater (K.shown book.old.sink.now) (K.shown book.new.sink.now) }
-    ensures name { book.new.sink.ghost_name ≡ book.old.sink.ghost_name }
-{
-    receive_alone(alloc, window, source, book, gate)
-}
-
-// Receives into a book of lines, by a crew of workers.
-fn receive_into<R: Threads + Wait + Sync, S: Source, K: Sink, G: Gate + Sync>(
-    rt: &R,
-    alloc: Global,
-    workers: u8,
-    window: u16,
-    source: &mut S,
-    book: &mut TextBook<'_, K>,
-    gate: &G,
-) -> Result<Ended, RxFault>
-    requires one { 1 ≤ workers }
-    requires many { workers ≤ 64 }
-    requires some { 1 ≤ window }
-    requires few { window ≤ 4096 }
-    ensures receives { MatchResult result
-        (TellsTo frame_lines_of (S.shown source.old) (S.shown source.new) (K.shown book.old.sink.now) (K.shown book.new.sink.now))
-        (StopsBy frame_lines_of (S.shown source.old) (S.shown source.new) (K.shown book.old.sink.now) (K.shown book.new.sink.now)) }
-    ensures writes { result ≢ Err RxFault.Write → (K.shown book.new.sink.now).faults ≡ (K.shown book.old.sink.now).faults }
-    ensures reads_later { IsLater (S.shown source.old) (S.shown source.new) }
-    ensures puts_later { IsLater (K.shown book.old.sink.now) (K.shown book.new.sink.now) }
-    ensures name { book.new.sink.ghost_name ≡ book.old.sink.ghost_name }
-{
-    receive(rt, alloc, workers, window, source, book, gate)
-}
-
 /// Does as [`receive_alone`] with a [`TextBook`]: puts the line of each frame that is whole before the capture's first
 /// fault into the sink, each in one put.
 pub fn receive_text_alone<S: Source, K: Sink, G: Gate>(
@@ -82,7 +36,7 @@ pub fn receive_text_alone<S: Source, K: Sink, G: Gate>(
     ensures puts_later { IsLater (K.shown sink.old) (K.shown sink.new) }
 {
     let mut book = TextBook::new(alloc, sink);
-    receive_into_alone(alloc, window, source, &mut book, gate)
+    receive_alone(alloc, window, source, &mut book, gate)
 }
 
 /// Does as [`receive`] with a [`TextBook`]: puts the line of each frame that is whole before the capture's first fault
@@ -112,5 +66,5 @@ pub fn receive_text<R: Threads + Wait + Sync, S: Source, K: Sink, G: Gate + Sync
     ensures puts_later { IsLater (K.shown sink.old) (K.shown sink.new) }
 {
     let mut book = TextBook::new(alloc, sink);
-    receive_into(rt, alloc, workers, window, source, &mut book, gate)
+    receive(rt, alloc, workers, window, source, &mut book, gate)
 }

@@ -10,6 +10,7 @@
 
 mod captures;
 mod faults;
+pub mod laws;
 mod passing;
 mod rows;
 mod samples;

@@ -4,5 +4,6 @@ pub mod Labels
 pub mod Parsed
 pub mod Places
 pub mod Sequences
+pub mod Single
 pub mod Values
 pub mod Wired

@@ -18,6 +18,7 @@
 
 mod coder;
 mod frames;
+pub mod laws;
 mod mapper;
 mod points;
 mod sending;

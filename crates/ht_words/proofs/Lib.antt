@@ -1,3 +1,4 @@
+pub mod Acceptance
 pub mod Numbers
 pub mod Ranges
 pub mod ReadingLemmas

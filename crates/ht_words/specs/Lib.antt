@@ -1,3 +1,4 @@
+pub mod Accepted
 pub mod Readings
 pub mod Settings
 pub mod Words

@@ -13,6 +13,7 @@
 #![tactic(auto)]
 
 mod asked;
+pub mod laws;
 mod plain;
 mod read;
 mod setting;

@@ -537,3 +537,126 @@ fn refuses_other_words(rt: HostRuntime) -> Result<(), Fail> {
     }
     Ok(())
 }
+
+/// An option: its name, its least and its greatest value, a number above that, and two spellings of the least value, of
+/// 20 digits and of 21.
+struct Edges {
+    name: &'static str,
+    least: &'static str,
+    most: &'static str,
+    above: &'static str,
+    padded: &'static str,
+    long: &'static str,
+}
+
+static EDGES: [Edges; 8] = [
+    Edges {
+        name: "--workers",
+        least: "1",
+        most: "64",
+        above: "65",
+        padded: "00000000000000000001",
+        long: "000000000000000000001",
+    },
+    Edges {
+        name: "--window",
+        least: "1",
+        most: "4096",
+        above: "4097",
+        padded: "00000000000000000001",
+        long: "000000000000000000001",
+    },
+    Edges {
+        name: "--seed",
+        least: "0",
+        most: "18446744073709551615",
+        above: "18446744073709551616",
+        padded: "00000000000000000000",
+        long: "000000000000000000000",
+    },
+    Edges {
+        name: "--noise",
+        least: "0",
+        most: "65535",
+        above: "65536",
+        padded: "00000000000000000000",
+        long: "000000000000000000000",
+    },
+    Edges {
+        name: "--frames",
+        least: "1",
+        most: "64",
+        above: "65",
+        padded: "00000000000000000001",
+        long: "000000000000000000001",
+    },
+    Edges {
+        name: "--mcs",
+        least: "0",
+        most: "31",
+        above: "32",
+        padded: "00000000000000000000",
+        long: "000000000000000000000",
+    },
+    Edges {
+        name: "--bandwidth",
+        least: "20",
+        most: "40",
+        above: "41",
+        padded: "00000000000000000020",
+        long: "000000000000000000020",
+    },
+    Edges {
+        name: "--length",
+        least: "1",
+        most: "65535",
+        above: "65536",
+        padded: "00000000000000000001",
+        long: "000000000000000000001",
+    },
+];
+
+// Each command, and the options that it has.
+static COMMANDS: [(&str, &str); 6] = [
+    ("detect", "--workers --window"),
+    ("rx", "--workers --window"),
+    ("tx", ""),
+    ("channel", "--seed --noise"),
+    ("upgrade", ""),
+    (
+        "demo",
+        "--seed --noise --frames --mcs --bandwidth --length --workers --window",
+    ),
+];
+
+// Each option behind each command, in three good spellings and in ten bad ones.
+#[test]
+fn takes_its_own_options(rt: HostRuntime) -> Result<(), Fail> {
+    let alloc = rt.alloc();
+    for (command, options) in &COMMANDS {
+        for edges in &EDGES {
+            let has = options.split(' ').any(|option| option == edges.name);
+            let (name, least) = (edges.name, edges.least);
+            for digits in [least, edges.most, edges.padded] {
+                let text = format!(in alloc; "{command}|{name}|{digits}")?;
+                assert_eq!(rt; asked(alloc, &text)?.is_some(), has, "{text}");
+            }
+            let bad = [
+                format!(in alloc; "{command}|{name}|{}", edges.above)?,
+                format!(in alloc; "{command}|{name}|{}", edges.long)?,
+                format!(in alloc; "{command}|{name}|+{least}")?,
+                format!(in alloc; "{command}|{name}|-{least}")?,
+                format!(in alloc; "{command}|{name}|{least} ")?,
+                format!(in alloc; "{command}|{name}|")?,
+                format!(in alloc; "{command}|{name}")?,
+                format!(in alloc; "{command}|{name}={least}")?,
+                format!(in alloc; "{command}|{name}|{least}|{name}|{least}")?,
+                format!(in alloc; "{command}|{least}|{name}")?,
+            ];
+            for text in &bad {
+                assert_eq!(rt; asked(alloc, text)?, None, "{text}");
+            }
+        }
+    }
+    Ok(())
+}

@@ -1,32 +1,20 @@
 //! The command `tx`.
-ghost use Rattle.std.specs.Prelude.{◌≡◌, ◌≢◌, ◌≤◌, length, IfOk};
-ghost use Rattle.ht_files.specs.SymbolFiles.{symbols_file_of};
+ghost use Rattle.std.specs.Prelude.{◌≡◌, ◌≢◌};
+ghost use Rattle.ht_files.specs.Frames.{frames};
 ghost use Rattle.ht_cli.specs.Commands.{Answers};
-ghost use Rattle.ht_cli.specs.Tasks.{command_of};
+ghost use Rattle.ht_cli.specs.Converting.{SendsTo};
+ghost use Rattle.ht_cli.specs.Filters.{whole};
 
-use crate::refusal::put_refusal;
+use crate::lines::put_refusal;
 use crate::status::Status;
-use crate::words::Asked;
 use ht_files::{read_frames, write_symbols};
-use ht_io::{GrowSink, Sink, Source};
-use ht_tx::{Symbols, transmit_all};
-use std::alloc::{AllocError, Global};
-
-// The file of the symbols, made in memory so that it can be put at once.
-fn file_of(alloc: Global, sent: &[Symbols]) -> Result<Vec<u8>, AllocError>
-    requires few { length sent.now ≤ 65535 }
-    ensures { IfOk result (λ file. file.items ≡ symbols_file_of sent.now) }
-{
-    let mut file = GrowSink::new(alloc);
-    match write_symbols(sent, &mut file) {
-        Ok(()) => Ok(file.into_held()),
-        Err(_) => Err(AllocError),
-    }
-}
+use ht_io::{Sink, Source};
+use ht_tx::transmit_all;
+use std::alloc::Global;
 
 /// Reads a file of frames to its end, and then puts the file of the symbols that are sent for them.
 pub fn run<S: Source, K: Sink>(alloc: Global, source: &mut S, sink: &mut K) -> Status
-    ensures answers { Answers (command_of Asked.Tx) (S.shown source.old) (S.shown source.new) (K.shown sink.old) (K.shown sink.new) result }
+    ensures answers { Answers (whole frames SendsTo) (S.shown source.old) (S.shown source.new) (K.shown sink.old) (K.shown sink.new) result }
     ensures writes { result ≢ Status.WriteFault → (K.shown sink.new).faults ≡ (K.shown sink.old).faults }
 {
     let frames = match read_frames(alloc, source) {
@@ -37,11 +25,7 @@ pub fn run<S: Source, K: Sink>(alloc: Global, source: &mut S, sink: &mut K) -> S
         Ok(sent) => sent,
         Err(_) => return Status::NoMemory,
     };
-    let file = match file_of(alloc, &sent) {
-        Ok(file) => file,
-        Err(_) => return Status::NoMemory,
-    };
-    match sink.put(&file) {
+    match write_symbols(&sent, sink) {
         Ok(()) => Status::Done,
         Err(_) => Status::WriteFault,
     }

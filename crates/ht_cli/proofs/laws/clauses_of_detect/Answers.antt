@@ -3,22 +3,22 @@ use Rattle.ht_cli.proofs.Spelled.{finishes, refuses, breaks_off, part_put, lines
 use Rattle.ht_cli.proofs.laws.clauses_of_detect.Goals as goal
 
 pub returns-clause-done : goal.returns-clause-done
-returns-clause-done c = finishes lines_of detect_text
+returns-clause-done c = λ workers window. finishes lines_of detect_text
 
 pub returns-clause-refused : goal.returns-clause-refused
-returns-clause-refused c = refuses lines_of detect_text
+returns-clause-refused c = λ workers window. refuses lines_of detect_text
 
 pub returns-clause-broken_off : goal.returns-clause-broken_off
-returns-clause-broken_off c = breaks_off lines_of detect_text
+returns-clause-broken_off c = λ workers window. breaks_off lines_of detect_text
 
 pub returns-clause-part : goal.returns-clause-part
-returns-clause-part c = part_put lines_of detect_text
+returns-clause-part c = λ workers window. part_put lines_of detect_text
 
 pub returns-clause-memory : goal.returns-clause-memory
-returns-clause-memory c = lines_put lines_of detect_text
+returns-clause-memory c = λ workers window. lines_put lines_of detect_text
 
 pub returns-clause-known_done : goal.returns-clause-known_done
-returns-clause-known_done c = λ all a b k l known run. all_of_capture lines_of detect_text a b k l all known run
+returns-clause-known_done c = λ workers window all a b k l known run. all_of_capture lines_of detect_text a b k l all known run
 
 pub returns-clause-known_refused : goal.returns-clause-known_refused
-returns-clause-known_refused c = λ all a b k l known run. text_of_refused lines_of detect_text a b k l all known run
+returns-clause-known_refused c = λ workers window all a b k l known run. text_of_refused lines_of detect_text a b k l all known run

@@ -1,73 +1,48 @@
-use Rattle.std.proofs.Common.{◌≡◌, ◌+◌, ◌<◌, ◌∙◌, ◌++◌, ◌∷◌, [], List, length, refl, sym, ap, subst, arith}
-use Rattle.std.proofs.lemmas.List.{length_push}
-use Rattle.ht_io.proofs.Calls.{later-later, later-refl}
-use Rattle.ht_pam.specs.declared.point.Point.{Point}
+use Rattle.std.proofs.Common.{◌≡◌, ◌≤◌, ◌<◌, ◌+◌, ◌*◌, length, arith}
+use Rattle.ht_rate.specs.Rates.{carriers_of, streams_of, symbols_of}
 use Rattle.ht_tx.specs.Symbols.{points_of}
-use Rattle.ht_files.specs.Places.{IsAt}
-use Rattle.ht_files.proofs.PointRoutes.{symbols_all}
-use Rattle.ht_files.proofs.Walks.{fails_behind, fitting_more, none_fitting, takes_no_point, takes_point, walk_first}
+use Rattle.ht_files.proofs.PointRoutes.{points_of-few, room_left, symbols_all, symbols_end, symbols_read, width_some}
 use Rattle.ht_files.proofs.points.read_points.Goals as goal
 
-pub loop-place-init : goal.loop-place-init
-loop-place-init g c =
-    let r = c.args.rate.now in
-    let start = g.S.Source.shown c.args.source.now in
-    let points = c.args.points.now.items in
-    record {
-      octets = takes_no_point points start c.requires.none;
-      size = ap (λ (l : List Point). length l) c.requires.none;
-      fitting = none_fitting r points c.requires.none;
-      walk = walk_first r;
-      room = refl;
-      later = later-refl start;
-    }
-
-pub returns-in-Err-clause-failed : goal.returns-in-Err-clause-failed
-returns-in-Err-clause-failed g c =
-    let was = c.loop-place.invariant in
-    let points = c.loop-place.points.items in
-    let walk = c.loop-place.walk in
-    let between = g.S.Source.shown c.loop-place.source in
-    let few : length points < points_of c.args.rate.now c.args.length =
-    omega (arith, was.size, c.loop-place-test.true, c.count_of-place-end.ensures.value) in (
-      points,
-      few,
-      was.fitting,
-      (
-        between,
-        was.octets,
-        was.later,
-        fails_behind c.args.rate.now points c.loop-place.place walk.symbol walk.index walk.stream c.args.at between (g.S.Source.shown c.point.new.source)
-            c.in-Err.fault was.walk was.size c.in-Err.ensures.failed,
-      ),
+pub symbol-requires-clause-room : goal.symbol-requires-clause-room
+symbol-requires-clause-room g c =
+    let was = c.loop-index.invariant in
+    omega (
+      arith,
+      room_left c.args.rate.now c.args.length (length c.loop-index.points.items) c.loop-index.index was.size
+          (omega (arith, c.loop-index-test.true, c.symbols-index-end.ensures.value)),
+      was.room,
+      c.requires.room,
     )
 
-pub loop-place-preserved : goal.loop-place-preserved
-loop-place-preserved g c =
-    let was = c.loop-place.invariant in
+pub overflow_add-at : goal.overflow_add-at
+overflow_add-at g c =
+    let was = c.loop-index.invariant in
     let r = c.args.rate.now in
-    let xs = c.loop-place.points.items in
-    let ys = c.push_reserved.new.self.items in
-    let p = c.in-Ok.point in
-    let walk = c.loop-place.walk in
-    let start = g.S.Source.shown c.args.source.now in
-    let before = g.S.Source.shown c.loop-place.source in
-    let after = g.S.Source.shown c.point.new.source in
-    let items : ys ≡ xs ++ p ∷ [] = c.push_reserved.ensures.items in
-    let here : IsAt r (length xs) walk.symbol walk.index walk.stream = subst (λ k. IsAt r k walk.symbol walk.index walk.stream) (sym was.size) was.walk in
-    record {
-      octets = takes_point xs ys p start before after items was.octets c.in-Ok.ensures.whole;
-      size = ap (λ (l : List Point). length l) items ∙ (length_push xs p ∙ ap (λ n. n + 1) was.size);
-      fitting = fitting_more r xs ys walk.symbol walk.index walk.stream p here items c.in-Ok.ensures.fits was.fitting;
-      walk = c.next-walk.ensures c.loop-place.place was.walk;
-      room = c.push_reserved.ensures.capacity ∙ was.room;
-      later = later-later start before after was.later c.in-Ok.ensures.later;
-    }
+    let size = length c.loop-index.points.items in
+    let index = c.loop-index.index in
+    let below : index < symbols_of r c.args.length = omega (arith, c.loop-index-test.true, c.symbols-index-end.ensures.value) in
+    let room : size + carriers_of r * streams_of r ≤ points_of r c.args.length = room_left r c.args.length size index was.size below in
+    omega (arith, was.place, room, points_of-few r c.args.length (omega arith), c.width-width.ensures.value, c.requires.place)
+
+pub returns-in-Err-clause-failed : goal.returns-in-Err-clause-failed
+returns-in-Err-clause-failed g c = λ left.
+    let was = c.loop-index.invariant in
+    let r = c.args.rate.now in
+    let points = c.loop-index.points.items in
+    let index = c.loop-index.index in
+    let below : index < symbols_of r c.args.length = omega (arith, c.loop-index-test.true, c.symbols-index-end.ensures.value) in
+    let room : length points + carriers_of r * streams_of r ≤ points_of r c.args.length = room_left r c.args.length (length points) index was.size below in
+    let few : length points < points_of r c.args.length = omega (arith, room, width_some r) in
+    symbols_end left r c.args.length c.args.at c.loop-index.at points (g.S.Source.shown c.args.source.now) (g.S.Source.shown c.loop-index.source)
+    (g.S.Source.shown c.symbol.new.source) c.in-Err.fault was.fitting few was.place was.octets was.later
+    (c.in-Err.ensures.failed left c.args.length room)
 
 pub returns-clause-fits : goal.returns-clause-fits
 returns-clause-fits g c =
-    let was = c.loop-place.invariant in
-    let points = c.loop-place.points.items in
-    let whole : length points ≡ points_of c.args.rate.now c.args.length =
-    omega (arith, was.size, c.loop-place-test.false, c.loop-place.auto.place-end, c.count_of-place-end.ensures.value) in
-    symbols_all c.args.rate.now c.args.length points c.requires.some (omega arith) whole was.fitting
+    let was = c.loop-index.invariant in
+    let r = c.args.rate.now in
+    let points = c.loop-index.points.items in
+    let all : c.loop-index.index ≡ symbols_of r c.args.length =
+    omega (arith, c.loop-index-test.false, c.loop-index.auto.index-end, c.symbols-index-end.ensures.value) in
+    symbols_all r c.args.length points c.requires.some (omega arith) (symbols_read r c.args.length (length points) c.loop-index.index was.size all) was.fitting

@@ -11,7 +11,7 @@ pub returns-in-Err-read_points-clause-failed : goal.returns-in-Err-read_points-c
 returns-in-Err-read_points-clause-failed g c = λ left some.
     points_end left c.in-Ok.head.0 c.in-Ok.head.1 c.args.at (g.S.Source.shown c.args.source.now) (g.S.Source.shown c.head.new.source)
     (g.S.Source.shown c.read_points.new.source) c.in-Err-read_points.fault some c.in-Ok.ensures.some c.in-Ok.ensures.small
-    c.in-Ok.ensures.whole c.in-Ok.ensures.later c.in-Err-read_points.ensures.failed
+    c.in-Ok.ensures.whole c.in-Ok.ensures.later (c.in-Err-read_points.ensures.failed left)
 
 pub returns-in-Ok-read_points-clause-whole : goal.returns-in-Ok-read_points-clause-whole
 returns-in-Ok-read_points-clause-whole g c =

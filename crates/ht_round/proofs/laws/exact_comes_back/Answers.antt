@@ -1,4 +1,4 @@
-use Rattle.ht_round.proofs.Round.{results_back, text_back, written}
+use Rattle.ht_round.proofs.Round.{results_back, rewritten, text_back, written}
 use Rattle.ht_round.proofs.laws.exact_comes_back.Goals as goal
 
 pub returns-clause-results : goal.returns-clause-results
@@ -9,3 +9,6 @@ returns-clause-text c = text_back
 
 pub returns-clause-written : goal.returns-clause-written
 returns-clause-written c = written
+
+pub returns-clause-rewritten : goal.returns-clause-rewritten
+returns-clause-rewritten c = rewritten

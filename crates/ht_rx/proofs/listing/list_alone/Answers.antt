@@ -1,5 +1,4 @@
-use Rattle.std.proofs.Common.{rules, ◌≡◌, ℕ, MatchResult, string_bytes, sym, subst}
-use Rattle.ht_io.specs.Devices.{Device}
+use Rattle.std.proofs.Common.{rules, ◌≡◌, string_bytes, sym, subst}
 use Rattle.ht_rx.specs.declared.faults.RxFault.{RxFault}
 use Rattle.ht_rx.specs.declared.faults.RxFault.TheVariants.{NoMemory}
 use Rattle.ht_rx.specs.Outcomes.{StopsBy, TellsTo}
@@ -23,5 +22,4 @@ returns-clause-lists g c =
     let sink = g.K.Sink.shown c.args.sink.now in
     let told = lines_told c.tell_alone.result (string_bytes c.new-lister.result.text.now) source source' sink
     (g.K.Sink.shown c.tell_alone.new.account.sink.now) (search rules) (search rules) in
-    let is : g.K.Sink.shown c.tell_alone.new.account.sink.now ≡ g.K.Sink.shown c.sink-1.given.0 = search rules in
-    subst (λ (device : Device ℕ). MatchResult c.tell_alone.result (TellsTo lines_of source source' sink device) (StopsBy lines_of source source' sink device)) is told
+    search rules

@@ -1,0 +1,247 @@
+//! Runs the program on files made and spoiled at random, and checks what it writes. `checks/inputs --help` says more.
+use checks::expected::{self, Outcome, Sums};
+use checks::program::{Ran, Room};
+use checks::random::Random;
+use checks::rates::Rate;
+use checks::walking::{Format, Walk};
+use checks::{making, options, side_by_side, spoiling};
+use std::io::Write;
+use std::time::Duration;
+
+const HELP: &str = "\
+usage: checks/inputs [--seed N] [--count N] [--from N] [--seconds N]
+       checks/inputs [--seed N] --show N > FILE
+
+Runs every command on files made and spoiled at random, from a seed (1), COUNT
+of them (20000), the first of which has the number FROM (0), for at most so many
+seconds (110). --show writes the input with a number, to try it by hand.
+";
+
+/// Of one input the most memory that a run may hold, in kilobytes.
+const MEMORY: u64 = 64 * 1024;
+
+/// An input: a valid file, and what became of it.
+struct Input {
+    format: Format,
+    valid: Vec<u8>,
+    octets: Vec<u8>,
+    how: &'static str,
+}
+
+impl Input {
+    fn numbered(seed: u64, number: u64) -> Self {
+        let mut random = Random::of_input(seed, number);
+        let formats = [Format::Capture, Format::Capture, Format::Capture, Format::Frames, Format::Symbols];
+        let format = formats[number as usize % formats.len()];
+        let rate = Rate::numbered(number as usize / formats.len());
+        let valid = making::file(&mut random, format, rate);
+        let (octets, how) = if random.once_in(4) {
+            (valid.clone(), "whole")
+        } else {
+            let of_other = random.one_of(&[Format::Capture, Format::Frames, format]);
+            let another = Rate::numbered(random.below(64));
+            let other = making::file(&mut random, of_other, another);
+            spoiling::spoil(&mut random, format, &valid, &other)
+        };
+        Input { format, valid, octets, how }
+    }
+}
+
+/// Runs of one input.
+struct Runs<'a, 'b> {
+    room: &'a mut Room<'b>,
+}
+
+impl Runs<'_, '_> {
+    /// Runs the words on the octets, and checks what holds of each run.
+    fn run(&mut self, words: &[String], octets: &[u8]) -> Result<Ran, String> {
+        let ran =
+            self.room.run(words, octets).map_err(|error| format!("`{}` couldn't be run: {error}", words.join(" ")))?;
+        let wrong = |what: String| Err(format!("`{}`: {what}", words.join(" ")));
+        match ran.code() {
+            Some(0 | 1) if !ran.said.is_empty() => wrong(format!("it said '{}'", ran.said.trim_end())),
+            Some(0 | 1) if ran.memory > MEMORY => wrong(format!("it held {} kB", ran.memory)),
+            Some(0 | 1) => Ok(ran),
+            _ => wrong(ran.ended()),
+        }
+    }
+
+    /// Runs the words on octets that are no file: the refused line alone has to come.
+    fn refused(&mut self, words: &[String], octets: &[u8], walk: &Walk) -> Result<(), String> {
+        let ran = self.run(words, octets)?;
+        let wanted = walk.last_line();
+        if ran.code() == Some(1) && ran.text == format!("{wanted}\n").as_bytes() {
+            return Ok(());
+        }
+        Err(format!(
+            "`{}`: {} and '{}' in place of '{wanted}'",
+            words.join(" "),
+            ran.ended(),
+            String::from_utf8_lossy(&ran.text)
+        ))
+    }
+
+    /// Runs the words on octets that are a file: what comes has to be the other file.
+    fn made(&mut self, words: &[String], octets: &[u8], wanted: &[u8]) -> Result<(), String> {
+        let ran = self.run(words, octets)?;
+        if ran.code() == Some(0) && ran.text == wanted {
+            Ok(())
+        } else {
+            Err(format!("`{}`: {} and another file", words.join(" "), ran.ended()))
+        }
+    }
+
+    /// The text of a command that receives, on octets and once more with other workers on what they come to by `upgrade`.
+    fn received(
+        &mut self,
+        command: &str,
+        [first, second]: [(u32, u32); 2],
+        octets: &[u8],
+        upgraded: &[u8],
+    ) -> Result<Ran, String> {
+        let one = self.run(&options::received(command, first.0, first.1), octets)?;
+        let other = self.run(&options::received(command, second.0, second.1), upgraded)?;
+        if (one.code(), &one.text) == (other.code(), &other.text) {
+            return Ok(one);
+        }
+        // Which of both is it?
+        let same = self.run(&options::received(command, second.0, second.1), octets)?;
+        let cause = if same.text == one.text { "after `upgrade`" } else { "with other workers and window" };
+        Err(format!("`{command}` with {first:?} and {second:?}: another text {cause}"))
+    }
+
+    fn capture(&mut self, input: &Input) -> Result<(), String> {
+        let octets = &input.octets;
+        let walk = Walk::of(Format::Capture, octets);
+        let is_whole = walk.fault.is_none();
+        let upgraded = if is_whole { expected::upgraded(&walk, octets) } else { octets.clone() };
+        let upgrade = ["upgrade".to_string()];
+        if is_whole {
+            self.made(&upgrade, octets, &upgraded)?
+        } else {
+            self.refused(&upgrade, octets, &walk)?
+        }
+        let listed = self.received("detect", [(1, 1), (4, 256)], octets, &upgraded)?;
+        let sums = expected::check_jobs(&walk, octets, &before_last(&listed, &walk)?)?;
+        let received = self.received("rx", [(1, 256), (4, 1)], octets, &upgraded)?;
+        let lines = before_last(&received, &walk)?;
+        check_frames(&lines, &walk, &sums)?;
+        self.beginning(input, &lines)
+    }
+
+    /// The lines of the frames that end before the first octet that was changed are those of the valid file.
+    fn beginning(&mut self, input: &Input, lines: &[&str]) -> Result<(), String> {
+        let changed = input.valid.iter().zip(&input.octets).take_while(|(one, two)| one == two).count();
+        let walk = Walk::of(Format::Capture, &input.valid);
+        let before = walk.frames.iter().filter(|frame| frame.end <= changed).count();
+        if before == 0 || input.how == "whole" || input.valid[5..7] != input.octets[5..7] {
+            return Ok(());
+        }
+        let valid = self.run(&options::received("rx", 4, 256), &input.valid)?;
+        let of_valid = before_last(&valid, &walk)?;
+        if lines.len() >= before && of_valid[..before] == lines[..before] {
+            Ok(())
+        } else {
+            Err("a line of a frame before the fault is another".to_string())
+        }
+    }
+
+    fn frames(&mut self, input: &Input, seed: u64, noise: u16) -> Result<(), String> {
+        let octets = &input.octets;
+        let walk = Walk::of(Format::Frames, octets);
+        let tx = ["tx".to_string()];
+        if walk.fault.is_some() {
+            return self.refused(&tx, octets, &walk);
+        }
+        let sent = self.run(&tx, octets)?;
+        let symbols = Walk::of(Format::Symbols, &sent.text);
+        let heads = |walk: &Walk| walk.frames.iter().map(|frame| (frame.rate, frame.length)).collect::<Vec<_>>();
+        if sent.code() != Some(0) || symbols.fault.is_some() || heads(&walk) != heads(&symbols) {
+            return Err(format!("`tx`: {} and no file of these frames' symbols", sent.ended()));
+        }
+        let (seed, noise) = options::channel_of(seed, noise);
+        let (capture, sums) = expected::passed(&symbols, &sent.text, seed, noise);
+        self.made(&options::passed(seed, noise), &sent.text, &capture)?;
+        let received = self.run(&options::received("rx", 4, 256), &capture)?;
+        let lines = before_last(&received, &Walk::of(Format::Capture, &capture))?;
+        for (number, (frame, sums)) in walk.frames.iter().zip(&sums).enumerate() {
+            let hex: String = octets[frame.body..frame.end].iter().map(|octet| format!("{octet:02x}")).collect();
+            let line = lines.get(number).ok_or("a frame has no line")?;
+            if expected::frame_line(line, number, frame, sums) != Some((0, Outcome::Hex(&hex))) {
+                return Err(format!("frame {number} came back as '{line}'"));
+            }
+        }
+        Ok(())
+    }
+
+    fn symbols(&mut self, input: &Input, seed: u64, noise: u16) -> Result<(), String> {
+        let walk = Walk::of(Format::Symbols, &input.octets);
+        let (seed, noise) = options::channel_of(seed, noise);
+        let channel = options::passed(seed, noise);
+        if walk.fault.is_some() {
+            return self.refused(&channel, &input.octets, &walk);
+        }
+        let (capture, _) = expected::passed(&walk, &input.octets, seed, noise);
+        self.made(&channel, &input.octets, &capture)
+    }
+}
+
+/// The lines before the last one, which has to be the right one with its status.
+fn before_last<'a>(ran: &'a Ran, walk: &Walk) -> Result<Vec<&'a str>, String> {
+    let mut lines = ran.lines()?;
+    let last = lines.pop().unwrap_or_default();
+    let status = i32::from(walk.fault.is_some());
+    if last == walk.last_line() && ran.code() == Some(status) {
+        return Ok(lines);
+    }
+    Err(format!("'{last}' with {} in place of '{}' with status {status}", ran.ended(), walk.last_line()))
+}
+
+fn check_frames(lines: &[&str], walk: &Walk, sums: &[Sums]) -> Result<(), String> {
+    if lines.len() != walk.whole() {
+        return Err(format!("{} lines of frames in place of {}", lines.len(), walk.whole()));
+    }
+    for (number, line) in lines.iter().enumerate() {
+        if expected::frame_line(line, number, &walk.frames[number], &sums[number]).is_none() {
+            return Err(format!("'{line}' doesn't fit to the jobs of frame {number}, {:?}", sums[number]));
+        }
+    }
+    Ok(())
+}
+
+fn main() {
+    let mut values = [("--seed", 1), ("--count", 20_000), ("--from", 0), ("--seconds", 110), ("--show", u64::MAX)];
+    let words: Vec<String> = std::env::args().skip(1).collect();
+    for pair in words.chunks(2) {
+        let place = values.iter().position(|(name, _)| *name == pair[0]);
+        match (place, pair.get(1).and_then(|word| word.parse().ok())) {
+            (Some(place), Some(value)) => values[place].1 = value,
+            _ => {
+                print!("{HELP}");
+                std::process::exit(2);
+            }
+        }
+    }
+    let [seed, count, first, seconds, shown] = values.map(|(_, value)| value);
+    if shown != u64::MAX {
+        let input = Input::numbered(seed, shown);
+        eprintln!("input {shown}: {:?}, {}", input.format, input.how);
+        std::io::stdout().write_all(&input.octets).expect("the input can't be written");
+        return;
+    }
+    let case = |number: u64, room: &mut Room| {
+        let input = Input::numbered(seed, number);
+        let mut random = Random::of_input(!seed, number);
+        let (of_channel, noise) = (random.draw(), random.below(9) as u16);
+        let mut runs = Runs { room };
+        let result = match input.format {
+            Format::Capture => runs.capture(&input),
+            Format::Frames => runs.frames(&input, of_channel, noise),
+            Format::Symbols => runs.symbols(&input, of_channel, noise),
+        };
+        result.map_err(|wrong| format!("{:?} {}: {wrong}", input.format, input.how))
+    };
+    println!("inputs: {count} from seed {seed}");
+    side_by_side::run(side_by_side::processors(), first, count, Duration::from_secs(seconds), |_| {}, case)
+        .report("inputs");
+}

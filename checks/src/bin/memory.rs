@@ -1,0 +1,143 @@
+//! Runs the program with growth after growth of its memory refused, and checks what it writes. `checks/memory` says how.
+use checks::program::{self, Ran, Room};
+use checks::{options, side_by_side};
+use std::collections::BTreeMap;
+use std::fs;
+use std::path::PathBuf;
+use std::sync::Mutex;
+use std::time::Duration;
+
+/// For how long cases are begun.
+const TIME: Duration = Duration::from_secs(150);
+
+/// How many octets beyond those mapped at its beginning a run may map, at most, where this is limited.
+const BEYOND: u64 = 48 << 20;
+const STEP: u64 = 512 << 10;
+
+/// A call of the program that needs no more memory than there is.
+struct Call {
+    words: Vec<String>,
+    input: Vec<u8>,
+    text: Vec<u8>,
+    code: Option<i32>,
+    /// Whether lines may stand where memory ran out.
+    is_streaming: bool,
+    /// How many growths a run takes, at most.
+    growths: u64,
+}
+
+impl Call {
+    fn new(room: &mut Room, words: Vec<String>, input: Vec<u8>) -> Self {
+        let usual = room.run(&words, &input).expect("the program can't be run");
+        assert!(usual.code().is_some(), "`{}`: {}", words.join(" "), usual.ended());
+        let tell = std::env::temp_dir().join(format!("checks-{}-growths", std::process::id()));
+        room.variables = vec![preload(), ("REFUSE_TELL".to_string(), tell.display().to_string())];
+        // Threads may take turns, so the number isn't the same in each run.
+        let count = |room: &mut Room| {
+            room.again(&words).expect("the program can't be run");
+            fs::read_to_string(&tell)
+                .ok()
+                .and_then(|text| text.trim().parse().ok())
+                .expect("the growths weren't counted")
+        };
+        let growths = (0..5).map(|_| count(room)).max().unwrap_or(0);
+        room.variables.clear();
+        let is_streaming = ["detect", "rx"].contains(&words[0].as_str());
+        Call { words, input, code: usual.code(), text: usual.text, is_streaming, growths }
+    }
+
+    /// What became of the run: its end in a word, or what is wrong.
+    fn judge(&self, ran: &Ran) -> Result<&'static str, String> {
+        let may_stand = if self.is_streaming { self.text.starts_with(&ran.text) } else { ran.text.is_empty() };
+        match ran.code() {
+            _ if !ran.said.is_empty() => Err(format!("it said '{}'", ran.said.trim_end())),
+            Some(5) if may_stand => Ok("ended with status 5"),
+            code if code == self.code && ran.text == self.text => Ok("ended as ever"),
+            _ => Err(format!("{} and '{}'", ran.ended(), String::from_utf8_lossy(&ran.text))),
+        }
+    }
+}
+
+fn preload() -> (String, String) {
+    ("LD_PRELOAD".to_string(), std::env::var("REFUSE").expect("REFUSE has to name the library that refuses memory"))
+}
+
+fn file(name: &str) -> Vec<u8> {
+    let path: PathBuf = program::top().join(name);
+    fs::read(&path).unwrap_or_else(|error| panic!("{}: {error}", path.display()))
+}
+
+/// The capture `z` with its frame twice.
+fn two_frames() -> Vec<u8> {
+    let mut octets = file("examples/z.htcp");
+    octets[6] = 2;
+    octets.extend_from_within(7..);
+    octets
+}
+
+fn calls(room: &mut Room) -> Vec<Call> {
+    let mut calls = Vec::new();
+    for workers in if options::ARE_THERE { vec![1, 4] } else { vec![1] } {
+        for command in ["rx", "detect"] {
+            calls.push(Call::new(room, options::received(command, workers, 256), two_frames()));
+        }
+        if options::ARE_THERE {
+            calls.push(Call::new(room, options::demonstrated(workers), Vec::new()));
+        }
+    }
+    calls.push(Call::new(room, vec!["tx".to_string()], file("vectors/worked/a5.httx")));
+    calls.push(Call::new(room, vec!["channel".to_string()], file("vectors/worked/a5.htsy")));
+    calls.push(Call::new(room, vec!["upgrade".to_string()], file("vectors/worked/a5.htcp")));
+    calls.push(Call::new(room, vec!["tx".to_string()], file("vectors/worked/a5-bad-seed.httx")));
+    calls.push(Call::new(room, vec!["rx".to_string(), "rx".to_string()], Vec::new()));
+    calls
+}
+
+fn main() {
+    let slot = Mutex::new(None);
+    let mut room =
+        Room::new(&program::path(), &std::env::temp_dir(), &format!("checks-{}-usual", std::process::id()), &slot)
+            .expect("the files of a room can't be made");
+    let calls = calls(&mut room);
+    let mut cases = Vec::new();
+    for (place, call) in calls.iter().enumerate() {
+        for kind in ["REFUSE_ONE", "REFUSE_FROM"] {
+            cases.extend((1..=call.growths).map(|number| (place, kind, number)));
+        }
+        cases.extend((0..=BEYOND / STEP).map(|steps| (place, "REFUSE_BEYOND", steps * STEP)));
+    }
+    let ends: Mutex<BTreeMap<(usize, &str, &str), u64>> = Mutex::new(BTreeMap::new());
+    let sum = side_by_side::run(
+        side_by_side::processors(),
+        0,
+        cases.len() as u64,
+        TIME,
+        |_| {},
+        |number, room| {
+            let (place, kind, at) = cases[number as usize];
+            let call = &calls[place];
+            room.variables = vec![preload(), (kind.to_string(), at.to_string())];
+            let ran = room.run(&call.words, &call.input).map_err(|error| error.to_string())?;
+            let end =
+                call.judge(&ran).map_err(|wrong| format!("`{}` with {kind}={at}: {wrong}", call.words.join(" ")))?;
+            *ends.lock().unwrap().entry((place, kind, end)).or_default() += 1;
+            Ok(())
+        },
+    );
+    let ends = ends.into_inner().unwrap();
+    for (place, call) in calls.iter().enumerate() {
+        let of = |kind: &str, end: &str| ends.get(&(place, kind, end)).copied().unwrap_or(0);
+        let counts = |kind: &str| {
+            format!("{} with status 5, {} as ever", of(kind, "ended with status 5"), of(kind, "ended as ever"))
+        };
+        println!(
+            "memory: `{}`, {} growths. One refused: {}. All from one on: {}. Little to map: {}.",
+            call.words.join(" "),
+            call.growths,
+            counts("REFUSE_ONE"),
+            counts("REFUSE_FROM"),
+            counts("REFUSE_BEYOND")
+        );
+    }
+    sum.report("memory");
+}

@@ -1,0 +1,27 @@
+-- A run that read nothing and put nothing, for lack of memory.
+use Rattle.std.specs.Prelude.{◌≡◌, ℕ, List, [], Option, Some, None, IfSome}
+use Rattle.std.proofs.Common.{refl}
+use Rattle.ht_io.specs.Devices.{Device, GrowsByPart}
+use Rattle.ht_io.proofs.Calls.{takes-none, grows_by_part-none}
+use Rattle.ht_words.specs.declared.asked.Asked.{Asked}
+use Rattle.ht_cli.specs.declared.status.Status.TheVariants.{NoMemory}
+use Rattle.ht_cli.specs.Commands.{Command, Answers, Reads, Converts, Makes}
+use Rattle.ht_cli.specs.Tasks.{Answered, command_of}
+
+none_of_all : (known : Option (List ℕ)) (text : List ℕ → List ℕ) (sink : Device ℕ) → IfSome known (λ all. GrowsByPart sink sink (text all))
+none_of_all None text sink = tt
+none_of_all (Some all) text sink = grows_by_part-none sink (text all)
+
+nothing_of : (command : Command) (source sink : Device ℕ) → Answers command source source sink sink NoMemory
+nothing_of (Reads f) source sink = record {
+  taken = [];
+  octets = takes-none source;
+  text = grows_by_part-none sink (f.most []);
+  of_all = none_of_all source.known f.most sink;
+}
+nothing_of (Converts f) source sink = refl
+nothing_of (Makes IsText) source sink = refl
+
+pub nothing_done : (asked : Option Asked) (source sink : Device ℕ) → Answered asked source source sink sink NoMemory
+nothing_done None source sink = refl
+nothing_done (Some asked) source sink = nothing_of (command_of asked) source sink

@@ -1,0 +1,49 @@
+//! Frames that are sent through the channel.
+ghost use Rattle.std.specs.Prelude.{◌≡◌, ◌≤◌, All, IfOk, length};
+ghost use Rattle.ht_capture.specs.Contents.{AreTyped};
+ghost use Rattle.ht_capture.specs.Files.{AreCaptureFrames, HasAllCarriers, capture_file_of};
+ghost use Rattle.ht_results.specs.Results.{results_of};
+ghost use Rattle.ht_demo.specs.Demos.{ArePassed, HaveRoom, IsPassed};
+
+use crate::plan::Plan;
+use ht_capture::{CaptureFrame, write_captures};
+use ht_io::GrowSink;
+use ht_sim::pass;
+use ht_tx::{Frame, transmit_all};
+use std::alloc::{AllocError, Global};
+
+// Sends frames through the channel of a plan. Their symbols are let go once they have passed.
+fn passed(alloc: Global, plan: &Plan, frames: &[Frame]) -> Result<Vec<CaptureFrame>, AllocError>
+    requires { length frames.now ≤ 65535 }
+    ensures passed { IfOk result (λ captured. ArePassed plan.now frames.now captured.items) }
+    ensures fit { IfOk result (λ captured. AreCaptureFrames captured.items) }
+    ensures whole { IfOk result (λ captured. All HasAllCarriers captured.items) }
+    ensures typed { IfOk result (λ captured. AreTyped captured.items) }
+{
+    let sent = transmit_all(alloc, frames)?;
+    let captured = pass(alloc, plan.seed, plan.noise, &sent)?;
+    Ok(captured)
+}
+
+// The octets of a capture. Its frames are let go once they are written.
+fn written(alloc: Global, captured: Vec<CaptureFrame>) -> Result<Vec<u8>, AllocError>
+    requires fit { AreCaptureFrames captured.items }
+    requires whole { All HasAllCarriers captured.items }
+    ensures { IfOk result (λ octets. octets.items ≡ capture_file_of 1 captured.items) }
+{
+    let mut sink = GrowSink::new(alloc);
+    match write_captures(&captured, &mut sink) {
+        Ok(()) => Ok(sink.into_held()),
+        Err(_) => Err(AllocError),
+    }
+}
+
+// The octets of the capture that frames come to.
+pub(crate) fn capture(alloc: Global, plan: &Plan, frames: &[Frame]) -> Result<Vec<u8>, AllocError>
+    requires { length frames.now ≤ 65535 }
+    ensures passed { IfOk result (λ octets. IsPassed plan.now frames.now octets.items) }
+    ensures room { IfOk result (λ octets. HaveRoom (results_of octets.items)) }
+{
+    let captured = passed(alloc, plan, frames)?;
+    written(alloc, captured)
+}

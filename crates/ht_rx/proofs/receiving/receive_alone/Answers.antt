@@ -1,0 +1,12 @@
+use Rattle.std.proofs.Common.{rules, ◌≤◌, arith}
+use Rattle.ht_rx.proofs.Booking.{frames_told}
+use Rattle.ht_rx.proofs.receiving.receive_alone.Goals as goal
+
+pub returns-clause-receives : goal.returns-clause-receives
+returns-clause-receives g c =
+    let before = c.new-receiver.result in
+    let after = c.tell_alone.new.account in
+    let zero : before.open.now.left ≤ 0 = search rules in
+    let told = frames_told g.B.Book.booked before.open.now c.tell_alone.result (g.S.Source.shown c.args.source.now)
+    (g.S.Source.shown c.tell_alone.new.source) (g.B.Book.shown before.book.now) (g.B.Book.shown after.book.now) zero c.tell_alone.ensures.tells in
+    search rules
