@@ -1,4 +1,4 @@
-use Rattle.std.proofs.Common.{◌∙◌, ℕ, ◌-◌, ◌%◌, List, true, false, ap, sym, subst, length, arith, rules}
+use Rattle.std.proofs.Common.{◌∙◌, ℕ, ◌-◌, ◌%◌, List, false, ap, sym, subst, length, arith, rules}
 use Rattle.ht_conv.specs.declared.puncture.Kept.{Kept}
 use Rattle.ht_viterbi.specs.Trellis.{StepPlaces, branch_cost, pairs_from, least_from}
 use Rattle.ht_viterbi.specs.Lanes.{rise}
