@@ -1,7 +1,7 @@
 //! The program `radio`: the commands of `ht_cli` over standard input and standard output.
 //!
-//! It hands on the words behind the program's name and ends with the status that `run` answers. Where the system's call for the words finds no memory it ends with status 5, and where it is
-//! refused for another cause, as a word that isn't UTF-8, with status 6; in both cases it reads and writes nothing. Where
+//! It hands on the words behind the program's name and ends with the status that `run` answers. Where the system's call
+//! for the words finds no memory it ends with status 5, and where it is refused for another cause, as a word that isn't UTF-8, with status 6; in both cases it reads and writes nothing. Where
 //! reading or writing failed, the system's last error is said on standard error, and nothing else ever is.
 #![tactic(auto)]
 
