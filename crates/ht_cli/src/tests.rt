@@ -580,7 +580,10 @@ fn sure(rt: HostRuntime) -> Result<(), Fail> {
     let answer = laws::run_sure(alloc, &words, &mut source, &mut sink);
     assert_eq!(rt; answer, Status::Done);
     let text = zero_frames(alloc, 2, "end 2 frames\n")?;
-    assert_eq!(rt; sink.held(), Some(text.as_bytes()));
+    match sink.held() {
+        Some(held) => assert_eq!(rt; held, text.as_bytes()),
+        None => assert!(rt; false),
+    }
     Ok(())
 }
 
@@ -649,7 +652,7 @@ fn threads_meet(rt: HostRuntime) -> Result<(), Fail> {
         ),
         ("rx --workers 2", zero_frames(alloc, 1, "end 1 frames\n")?),
     ];
-    for (words, text) in &cases {
+    for (words, text) in cases {
         let gate = Held::new();
         let (answer, held) = ran_by(&rt, alloc, words, zeros(alloc, 1)?, &gate)?;
         assert_eq!(rt; answer, Status::Done);
