@@ -28,7 +28,7 @@ def test_read_and_written_back(path):
 @pytest.mark.parametrize("path", [p for p in sorted(VECTORS.glob("*/*-bad-*")) if p.read_bytes()[:2] == b"HT"], ids=lambda path: path.name)
 def test_vectors_at_fault(path):
     """The refused line stands in the place of the file's output."""
-    wanted = path.with_suffix({".httx": ".htsy", ".htsy": ".channel"}[path.suffix]).read_text()
+    wanted = path.with_suffix({".httx": ".htsy", ".htsy": ".channel", ".htcp": ".upgraded"}[path.suffix]).read_text()
     with pytest.raises(FormatError) as caught:
         list(read_any(path)[1])
     assert f"{caught.value}\n" == wanted

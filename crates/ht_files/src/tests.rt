@@ -200,3 +200,33 @@ fn cuts(rt: HostRuntime) -> Result<(), Fail> {
     }
     Ok(())
 }
+
+// A pilot of the symbols is at fault, and then the file is cut or the source fails: within its field, behind it, and behind
+// the symbol.
+#[test]
+fn faults_before(rt: HostRuntime) -> Result<(), Fail> {
+    let alloc = rt.alloc();
+    let mut octets = ONE_SENT;
+    octets[25] = 255;
+    for (cut, is_seen) in [
+        (26u8, false),
+        (27, true),
+        (40, true),
+        (123, true),
+        (200, true),
+    ] {
+        let offset = u64::from(cut);
+        let mut failing = Vec::new(alloc);
+        failing.push(offset)?;
+        let whole = symbols_again(alloc, &octets[..cut as usize], Vec::new(alloc))?;
+        let broken = symbols_again(alloc, &octets, failing)?;
+        if is_seen {
+            assert_eq!(rt; whole, format(Kind::BadPilot, 25));
+            assert_eq!(rt; broken, format(Kind::BadPilot, 25));
+        } else {
+            assert_eq!(rt; whole, format(Kind::Truncated, offset));
+            assert_eq!(rt; broken, Err(InFault::Read));
+        }
+    }
+    Ok(())
+}

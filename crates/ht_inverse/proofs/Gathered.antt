@@ -1,16 +1,16 @@
 -- What the places of a share say of the coded bits of each symbol.
 use Rattle.std.proofs.Common.{◌≡◌, ℕ, ◌+◌, ◌-◌, ◌*◌, ◌^◌, ◌/◌, ◌%◌, ◌<◌, ◌≤◌, List, ◌∷◌, [], ◌++◌, map, length, slice_index_or}
-use Rattle.std.proofs.Common.{Bool, Option, None, Some, refl, sym, ap, ◌∙◌, subst, arith}
+use Rattle.std.proofs.Common.{Bool, Option, None, Some, refl, sym, ap, ◌∙◌, subst, arith, mod-lt}
 use Rattle.std.specs.Prelude.{if◌then◌else◌, ◌==◌}
 use Rattle.std.specs.Int.{bit_at}
 use Rattle.std.specs.List.{range_with_len}
 use Rattle.std.proofs.lemmas.List.FromFn.{length-map-range_with_len, get_or-map-range_with_len, map-range_with_len_more}
-use Rattle.std.proofs.lemmas.Nat.{div-mul-add, mod-mul-add, mul-add-lt}
-use Rattle.std.proofs.Math.Nat.{add-mul, mod-eq_of_lt, mul_assoc, mul_comm, mul-le-mul}
+use Rattle.std.proofs.lemmas.Nat.{div-mul-add, mod-mul-add, mul-add-lt, div-add-mod'}
+use Rattle.std.proofs.Math.Nat.{add-mul, div-le_self, mod-eq_of_lt, mul_assoc, mul_comm, mul-le-mul}
 use Rattle.ht_rate.specs.declared.rates.Rate.{Rate}
-use Rattle.ht_rate.specs.Rates.{encoders_of, streams_of, data_carriers_of, label_bits_of, modulation_of}
+use Rattle.ht_rate.specs.Rates.{coded_bits_of, encoders_of, streams_of, data_carriers_of, label_bits_of, modulation_of}
 use Rattle.ht_rate.specs.Schemes.{bits_of}
-use Rattle.ht_rate.proofs.RateFacts.{streams_of-range, data_carriers_of-range, label_bits_of-range}
+use Rattle.ht_rate.proofs.RateFacts.{coded_bits_of-range, streams_of-range, data_carriers_of-range, label_bits_of-range}
 use Rattle.ht_map.specs.Gray.{label_bit}
 use Rattle.ht_parse.specs.Streams.{share_of, stream_place_of}
 use Rattle.ht_interleave.specs.Interleaver.{place_of}
@@ -77,16 +77,23 @@ place-received r erased j n i labels below =
     ∙ (ap (λ k. said (label_number r n there.carrier there.stream) k) (modulation-bits r)
     ∙ ap (λ k. said k (label_bits_of r)) (number-split n (data_carriers_of r) there.carrier (streams_of r) (there.stream - 1)))
 
+-- a symbol has few coded bits
+pub share-few : (r : Rate) → share_of r ≤ 2592
+unfolding share_of
+share-few r =
+    let most = (coded_bits_of-range r).1 in
+    let less = div-le_self (coded_bits_of r) (encoders_of r) in
+    omega (arith, most, less)
+
 pub places-length : (r : Rate) (erased j : ℕ) (places : List LabelBit) → places ≡ label_bits_to r erased j (share_of r) → length places ≡ share_of r
 places-length r erased j places are =
     ap (λ (xs : List LabelBit). length xs) are ∙ length-map-range_with_len (label_bit_of r erased j) 0 (share_of r)
 
-pub place-is : (r : Rate) (erased j i : ℕ) (places : List LabelBit) (place : LabelBit) → places ≡ label_bits_to r erased j (share_of r) → i < share_of r
-    → place ≡ slice_index_or places i place → place ≡ label_bit_of r erased j i
-place-is r erased j i places place are below is =
-    is
-    ∙ (ap (λ (xs : List LabelBit). slice_index_or xs i place) are
-    ∙ get_or-map-range_with_len (label_bit_of r erased j) 0 (share_of r) i i place below (omega arith))
+pub place-is : (r : Rate) (erased j i : ℕ) (places : List LabelBit) (past : LabelBit) → places ≡ label_bits_to r erased j (share_of r) → i < share_of r
+    → slice_index_or places i past ≡ label_bit_of r erased j i
+place-is r erased j i places past are below =
+    ap (λ (xs : List LabelBit). slice_index_or xs i past) are
+    ∙ get_or-map-range_with_len (label_bit_of r erased j) 0 (share_of r) i i past below (omega arith)
 
 -- the label of a place stands among those of the symbols
 pub label-within : (r : Rate) (erased j symbol i symbols per : ℕ) (place : LabelBit) → j < encoders_of r
@@ -125,3 +132,21 @@ value-added f list value here next is more so_far =
     ap (λ xs. xs ++ value ∷ []) so_far
     ∙ (ap (λ b. map f (range_with_len 0 here) ++ b ∷ []) is
     ∙ (sym (map-range_with_len_more f 0 here here (omega arith)) ∙ ap (λ k. map f (range_with_len 0 k)) (sym more)))
+
+-- the length of a list of values
+pub counted-length : {A : Type 0} (f : ℕ → A) (list : List A) (count : ℕ) → list ≡ map f (range_with_len 0 count) → length list ≡ count
+counted-length {A} f list count is = ap (λ (xs : List A). length xs) is ∙ length-map-range_with_len f 0 count
+
+-- the bits of a whole symbol are among those that are wanted
+pub whole-within : (symbol count wide share : ℕ) → wide ≡ share → symbol < count / wide → symbol * share + wide ≤ count
+whole-within symbol count wide share same below =
+    let parts = div-add-mod' count wide in
+    let up : (symbol + 1) * wide ≤ count / wide * wide = mul-le-mul (omega arith) (omega arith) in
+    let one = add-mul symbol 1 wide in
+    subst (λ (n : ℕ). symbol * n + wide ≤ count) same (omega (arith, parts, up, one))
+
+-- whole symbols and a rest
+pub parted : (count wide share : ℕ) → wide ≡ share → 0 < share → (count / wide * share + count % wide ≡ count) × (count % wide ≤ share)
+parted count wide share same some =
+    let rest : count % wide < wide = mod-lt count (omega arith) in
+    (subst (λ (n : ℕ). count / wide * n + count % wide ≡ count) same (div-add-mod' count wide), omega (arith, rest))

@@ -1,5 +1,5 @@
 -- Where a symbol's labels have the coded bits of each encoder, and what the parts of the decoder hand on.
-use Rattle.std.specs.Prelude.{◌≡◌, ℕ, ◌+◌, ◌-◌, ◌*◌, ◌<◌, ◌≤◌, ◌==◌, List, [], length, map, take, slice_index_or}
+use Rattle.std.specs.Prelude.{◌≡◌, ℕ, ◌+◌, ◌-◌, ◌*◌, ◌<◌, ◌==◌, List, [], length, map, take, slice_index_or}
 use Rattle.std.specs.Prelude.{Bool, false, Option, None, Some, if◌then◌else◌}
 use Rattle.std.specs.List.{range_with_len}
 use Rattle.std.specs.Int.{bit_at}
@@ -8,10 +8,9 @@ use Rattle.ht_rate.specs.declared.kinds.Carrier.TheVariants.{Data}
 use Rattle.ht_rate.specs.Carriers.{index_of}
 use Rattle.ht_rate.specs.Rates.{data_carriers_of, encoders_of, label_bits_of, streams_of}
 use Rattle.ht_landing.specs.Landings.{landing_of}
-use Rattle.ht_parse.specs.Streams.{share_of}
 use Rattle.ht_viterbi.specs.declared.codeword.Codeword.{Codeword}
 use Rattle.ht_inverse.specs.declared.label_bit.LabelBit.{LabelBit}
-use Rattle.ht_inverse.specs.Received.{is_lost, received_at}
+use Rattle.ht_inverse.specs.Received.{is_lost}
 use Rattle.ht_inverse.specs.Decoding.{distance_at, input_of}
 
 -- where the labels of a symbol have coded bit i of encoder j's share
@@ -45,15 +44,6 @@ AreLostBelow r erased lost index =
 pub record ListsPlaces (r : Rate) (erased j i count : ℕ) (places : List LabelBit) (len capacity : ℕ) : Type 0 where
   pub items : places ≡ label_bits_to r erased j i
   pub len_is : len ≡ i
-  pub room : capacity ≡ count
-
--- a loop has the first q coded bits, and is at a place of a symbol
-pub record GathersBits (r : Rate) (erased j : ℕ) (labels : List ℕ) (symbol place q count : ℕ) (bits : List (Option Bool)) (len capacity : ℕ) : Type 0 where
-  pub counted : symbol * share_of r + place ≡ q
-  pub below : place < share_of r
-  pub few : symbol ≤ q
-  pub items : bits ≡ map (received_at r erased labels j) (range_with_len 0 q)
-  pub len_is : len ≡ q
   pub room : capacity ≡ count
 
 -- an input without its tail of six bits

@@ -4,7 +4,7 @@ ghost use Rattle.std.specs.List.{range_with_len};
 ghost use Rattle.ht_rate.specs.Rates.{encoders_of, label_bits_of, pattern_of, steps_of, symbols_of};
 ghost use Rattle.ht_parse.specs.Streams.{share_of};
 ghost use Rattle.ht_inverse.specs.Received.{labels_in_frame, labels_per_symbol, received_at, received_of};
-ghost use Rattle.ht_inverse.specs.Shares.{AreLost, GathersBits, ListsPlaces, bit_in, codeword_of, label_bit_of, label_bits_to};
+ghost use Rattle.ht_inverse.specs.Shares.{AreLost, ListsPlaces, bit_in, codeword_of, label_bit_of, label_bits_to};
 
 use crate::erasures::lost_carriers;
 use crate::label_bit::LabelBit;
@@ -82,22 +82,6 @@ fn bit_from(place: LabelBit, label: u8) -> Option<bool>
     }
 }
 
-// The symbol of the next coded bit, and its place there.
-#[inline(always)]
-fn next_place(symbol: usize, place: usize, share: usize) -> (usize, usize)
-    requires place { place < share }
-    requires symbol { symbol < 2 ^ 32 }
-    ensures counted { result.0 * share + result.1 ≡ symbol * share + place + 1 }
-    ensures place { result.1 < share }
-    ensures few { result.0 ≤ symbol + 1 }
-{
-    if place + 1 == share {
-        (symbol + 1, 0)
-    } else {
-        (symbol, place + 1)
-    }
-}
-
 impl Share {
     /// The share of an encoder at a rate, where these subcarriers are erased. The only refusal is lack of memory.
     pub(crate) fn of(
@@ -124,12 +108,14 @@ impl Share {
     #[inline(always)]
     fn bit(
         &self,
+        places: &[LabelBit],
         labels: &[u8],
         per_symbol: usize,
         symbol: usize,
         place: usize,
         symbols: usize,
     ) -> Option<bool>
+        requires places { places.now ≡ self.now.places.items }
         requires labels { length labels.now ≡ symbols * labels_per_symbol self.now.rate }
         requires few { symbols ≤ 2 ^ 20 }
         requires per_symbol { per_symbol ≡ labels_per_symbol self.now.rate }
@@ -137,14 +123,42 @@ impl Share {
         requires place { place < share_of self.now.rate }
         ensures { result ≡ received_at self.now.rate self.now.erased labels.now self.now.encoder (symbol * share_of self.now.rate + place) }
     {
-        let place = self.places[place];
+        let place = places[place];
         bit_from(
             place,
             labels[symbol * per_symbol + usize::from(place.label)],
         )
     }
 
-    // What the labels of some symbols say of the encoder's first coded bits.
+    // Appends what the labels say of a symbol's first coded bits, which come next.
+    #[inline(always)]
+    fn push_symbol(
+        &self,
+        bits: &mut Vec<Option<bool>>,
+        labels: &[u8],
+        symbols: usize,
+        symbol: usize,
+        count: usize,
+    )
+        requires labels { length labels.now ≡ symbols * labels_per_symbol self.now.rate }
+        requires few { symbols ≤ 2 ^ 20 }
+        requires share { count ≤ share_of self.now.rate }
+        requires within { symbol * share_of self.now.rate + count ≤ symbols * share_of self.now.rate }
+        requires room { symbol * share_of self.now.rate + count ≤ vec_capacity bits.old }
+        requires so_far { bits.old.items
+            ≡ map (received_at self.now.rate self.now.erased labels.now self.now.encoder) (range_with_len 0 (symbol * share_of self.now.rate)) }
+        ensures items { bits.new.items
+            ≡ map (received_at self.now.rate self.now.erased labels.now self.now.encoder) (range_with_len 0 (symbol * share_of self.now.rate + count)) }
+        ensures room { vec_capacity bits.new ≡ vec_capacity bits.old }
+    {
+        let places = self.places.as_slice();
+        let per_symbol = usize::from(self.rate.data_carriers()) * usize::from(self.rate.streams());
+        for place in 0..count {
+            bits.push_reserved(self.bit(places, labels, per_symbol, symbol, place, symbols));
+        }
+    }
+
+    // What the labels of some symbols say of the encoder's first coded bits: of whole symbols, and of a part of the next.
     fn received(
         &self,
         alloc: Global,
@@ -158,14 +172,11 @@ impl Share {
         ensures { IfOk result (λ bits. bits.items ≡ map (received_at self.now.rate self.now.erased labels.now self.now.encoder) (range_with_len 0 count)) }
     {
         let share = self.places.len();
-        let per_symbol = usize::from(self.rate.data_carriers()) * usize::from(self.rate.streams());
         let mut bits = Vec::with_capacity(alloc, count)?;
-        let mut symbol = 0;
-        let mut place = 0;
-        for _ in 0..count {
-            bits.push_reserved(self.bit(labels, per_symbol, symbol, place, symbols));
-            (symbol, place) = next_place(symbol, place, share);
+        for symbol in 0..count / share {
+            self.push_symbol(&mut bits, labels, symbols, symbol, share);
         }
+        self.push_symbol(&mut bits, labels, symbols, count / share, count % share);
         Ok(bits)
     }
 

@@ -20,10 +20,14 @@ use std::thread::Threads;
 /// The labels of a frame that is worth a thread of its own.
 const MANY: usize = 2048;
 
+/// The octets of frames that wait for more: those of two of the longest frames.
+const MOST: u32 = 131072;
+
 /// Books the result of each frame in a book, as a [`Receiver`](crate::Receiver) does, and decodes several at once.
 ///
-/// A frame whose last job came waits, until as many wait as may be decoded at once, or a frame comes that isn't worth the
-/// wait, or no job is due any more. Then all that wait are decoded, each in a thread of its own, and booked in order.
+/// A frame whose last job came waits, until as many wait as may be decoded at once, or they have more than 131,072 octets
+/// together, or a frame comes that isn't worth the wait, or no job is due any more. Then all that wait are decoded, each in
+/// a thread of its own, and booked in order. So there are never more than three of the longest frames.
 #[derive(Drop)]
 pub(crate) struct Gatherer<'a, R, B, D> {
     pub(crate) rt: &'a R,
@@ -37,10 +41,21 @@ pub(crate) struct Gatherer<'a, R, B, D> {
     pub(crate) decoder: &'a mut D,
 }
 
+// The octets of frames, all together.
+fn octets(whole: &[WholeFrame]) -> u32 {
+    let mut octets = 0u32;
+    for frame in whole {
+        octets = octets.saturating_add(u32::from(frame.octets()));
+    }
+    octets
+}
+
 // Whether the frames are decoded that wait.
 fn is_time(whole: &[WholeFrame], at_once: u8) -> bool {
     match whole.last() {
-        Some(frame) => whole.len() >= usize::from(at_once) || frame.labels() < MANY,
+        Some(frame) => {
+            whole.len() >= usize::from(at_once) || frame.labels() < MANY || octets(whole) > MOST
+        }
         None => false,
     }
 }

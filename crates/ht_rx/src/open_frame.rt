@@ -157,6 +157,11 @@ impl OpenFrame {
         self.left
     }
 
+    /// The number of its octets, or of those of the frame before where none is under way.
+    pub(crate) fn octets(&self) -> u16 {
+        self.head.length
+    }
+
     /// The number of labels that are kept.
     pub(crate) fn labels(&self) -> usize {
         self.labels.len()

@@ -59,8 +59,9 @@ pub fn receive_alone<S: Source, B: Book, G: Gate>(
 /// same, in the same order.
 ///
 /// Frames that are whole wait with their labels until there are as many as workers, and are then decoded at once, each in
-/// a thread of its own. They are decoded earlier where no job is due any more, and where a frame comes that is too short to
-/// be worth a thread. Of one that is alone the codewords of two encoders are decoded in two threads.
+/// a thread of its own. They are decoded earlier where they have more than 131,072 octets together, where no job is due any
+/// more, and where a frame comes that is too short to be worth a thread. So at most three of the longest frames are kept
+/// and decoded at once, whatever the workers. Of one that is alone the codewords of two encoders are decoded in two threads.
 pub fn receive<R: Threads + Wait + Sync, S: Source, B: Book, G: Gate + Sync>(
     rt: &R,
     alloc: Global,

@@ -40,6 +40,11 @@ impl WholeFrame {
         self.frame.labels()
     }
 
+    /// The number of its octets.
+    pub(crate) fn octets(&self) -> u16 {
+        self.frame.octets()
+    }
+
     /// Its result. The only error is lack of memory.
     pub(crate) fn result<D: Decoder>(
         &self,

@@ -1,10 +1,14 @@
 //! The shift register of the scrambler, forwards and backwards.
-ghost use Rattle.std.specs.Prelude.{◌≡◌, ◌+◌, ◌<◌, ◌↔◌, ℕ, replicate, false, IsNone, IfSome};
+ghost use Rattle.std.specs.Prelude.{◌≡◌, ◌+◌, ◌-◌, ◌<◌, ◌≤◌, ◌↔◌, ℕ, length, slice_index_or, replicate, false, IsNone, IfSome};
+ghost use Rattle.std.specs.Bool.{xor};
 ghost use Rattle.ht_scramble.specs.Sequence.{IsSeed, sequence, first_seven, seed_of, scrambled};
 ghost use Rattle.ht_scramble.specs.Register.{register_at};
 
 use crate::Seed;
 use ht_bits::octet_of;
+
+// After how many bits the sequence begins again.
+const PERIOD: usize = 127;
 
 // The next bit of the sequence: s(t) = s(t - 7) xor s(t - 4).
 fn next_bit(register: u8) -> bool
@@ -23,16 +27,47 @@ fn shifted(register: u8, latest: bool) -> u8
     ((register << 1) & 0x7f) | u8::from(latest)
 }
 
+// The sequence of a seed until it begins again.
+fn sequence_of(seed: Seed) -> [bool; 127]
+    ensures { (t : ℕ) → t < 127 → slice_index_or result t false ≡ sequence seed t }
+{
+    let mut sequence = [false; 127];
+    let mut register = seed.value();
+    for bit in sequence.iter_mut() {
+        let latest = next_bit(register);
+        *bit = latest;
+        register = shifted(register, latest);
+    }
+    sequence
+}
+
+// Adds the sequence to the bits from a place on to another, modulo 2.
+#[inline(always)]
+fn add(bits: &mut [bool], start: usize, end: usize, sequence: &[bool; 127])
+    requires order { start ≤ end }
+    requires within { end ≤ length bits.old }
+    requires few { end ≤ start + 127 }
+    ensures length { length bits.new ≡ length bits.old }
+    ensures here { (k : ℕ) → start ≤ k → k < end
+        → slice_index_or bits.new k false ≡ xor (slice_index_or bits.old k false) (slice_index_or sequence.now (k - start) false) }
+    ensures before { (k : ℕ) → k < start → slice_index_or bits.new k false ≡ slice_index_or bits.old k false }
+    ensures behind { (k : ℕ) → end ≤ k → slice_index_or bits.new k false ≡ slice_index_or bits.old k false }
+{
+    for place in start..end {
+        bits[place] ^= sequence[place - start];
+    }
+}
+
 /// Adds the sequence of this seed to the bits, modulo 2, from its start. Scrambling twice restores the bits (IEEE Std
 /// 802.11-2012, clause 18.3.5.5).
 pub fn scramble(bits: &mut [bool], seed: Seed)
     ensures { bits.new ≡ scrambled seed bits.old }
 {
-    let mut register = seed.value();
-    for bit in bits.iter_mut() {
-        let latest = next_bit(register);
-        *bit ^= latest;
-        register = shifted(register, latest);
+    let sequence = sequence_of(seed);
+    for turn in 0..bits.len().div_ceil(PERIOD) {
+        let start = PERIOD * turn;
+        let end = bits.len().min(start + PERIOD);
+        add(bits, start, end, &sequence);
     }
 }
 

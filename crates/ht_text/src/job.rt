@@ -1,5 +1,5 @@
 //! The line of a detection job.
-ghost use Rattle.std.specs.Prelude.{◌≡◌, ◌+◌, ◌*◌, ◌≤◌, ◌++◌, length, IfOk, OnErr, OnOk, string_bytes, string_len, string_capacity};
+ghost use Rattle.std.specs.Prelude.{◌≡◌, ◌+◌, ◌*◌, ◌≤◌, ◌++◌, [], ◌∷◌, length, IfOk, OnErr, OnOk, string_bytes, string_len, string_capacity};
 ghost use Rattle.ht_text.specs.Lines.{job_text, spaced};
 
 use crate::room::{push, push_number};
@@ -79,7 +79,30 @@ fn push_points(text: &mut String, points: &[i8])
     ensures room { string_len text.new + string_capacity text.old ≤ string_len text.old + 5 * length points.now + string_capacity text.new }
 {
     for point in points {
-        push(text, " ");
-        push_number(text, *point);
+        push_level(text, *point);
+    }
+}
+
+// Appends a space and the number. Those that are levels of constellations are put in one piece.
+#[tactic(auto, unfolding(crate::specs::Lines::spaced))]
+fn push_level(text: &mut String, level: i8)
+    requires room { string_len text.old + 5 ≤ string_capacity text.old }
+    ensures bytes { string_bytes text.new ≡ string_bytes text.old ++ spaced (level ∷ []) }
+    ensures room { string_len text.new + string_capacity text.old ≤ string_len text.old + 5 + string_capacity text.new }
+{
+    match level {
+        -7 => push(text, " -7"),
+        -5 => push(text, " -5"),
+        -3 => push(text, " -3"),
+        -1 => push(text, " -1"),
+        0 => push(text, " 0"),
+        1 => push(text, " 1"),
+        3 => push(text, " 3"),
+        5 => push(text, " 5"),
+        7 => push(text, " 7"),
+        _ => {
+            push(text, " ");
+            push_number(text, level);
+        }
     }
 }

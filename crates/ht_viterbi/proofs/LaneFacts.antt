@@ -8,7 +8,7 @@ use Rattle.std.proofs.lemmas.List.{get_or-map, length-map}
 use Rattle.std.proofs.lemmas.Simd.{pick_l_left, get_or-zip2, length-zip2, length-sel_l, get_or-sel_l}
 use Rattle.std.proofs.lemmas.Simd.{length-replicate, get_or-replicate, tops_compared, mask_l-mod, bit_mask_l}
 use Rattle.ht_viterbi.specs.Lanes.{HasLanes}
-use Rattle.ht_viterbi.specs.declared.lanes.TheConstants.{AFTER_ZERO, AFTER_ONE}
+use Rattle.ht_viterbi.specs.declared.lanes.TheConstants.{AFTER_ZERO, WITH_ONE}
 
 -- an operator on two vectors
 pub zip2-lanes : (f : ℕ → ℕ → ℕ) (a b : List ℕ) → length a ≡ 64 → length b ≡ 64 → HasLanes (zip2 f a b) (λ k. f (slice_index a k) (slice_index b k))
@@ -31,8 +31,8 @@ pick-lanes v ks from lv lk within is = record {
 pub after_zero-at : (k : ℕ) → k < 64 → get_or AFTER_ZERO k 0 ≡ k / 2
 after_zero-at k lt = eqb-true (get_or AFTER_ZERO k 0) (k / 2) (agree_below_at (λ n. eqb (get_or AFTER_ZERO n 0) (n / 2)) (λ _. true) 64 k refl lt)
 
-pub after_one-at : (k : ℕ) → k < 64 → get_or AFTER_ONE k 0 ≡ k / 2 + 32
-after_one-at k lt = eqb-true (get_or AFTER_ONE k 0) (k / 2 + 32) (agree_below_at (λ n. eqb (get_or AFTER_ONE n 0) (n / 2 + 32)) (λ _. true) 64 k refl lt)
+pub with_one-at : (k : ℕ) → k < 64 → get_or WITH_ONE k 0 ≡ k % 32 + 32
+with_one-at k lt = eqb-true (get_or WITH_ONE k 0) (k % 32 + 32) (agree_below_at (λ n. eqb (get_or WITH_ONE n 0) (n % 32 + 32)) (λ _. true) 64 k refl lt)
 
 abbrev pub at_least : List ℕ → List Bool
 at_least v = zip2 leb (replicate 64 128) v

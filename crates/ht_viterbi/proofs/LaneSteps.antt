@@ -6,7 +6,8 @@ use Rattle.std.specs.Prelude.{if◌then◌else◌}
 use Rattle.std.proofs.lemmas.Bool.{cases_lt, le-leb, lt-leb, lt-ltb, le-ltb}
 use Rattle.std.proofs.lemmas.Nat.Bits.{bit_at-zero}
 use Rattle.ht_viterbi.specs.Trellis.{StepPlaces, branch_cost, way, chosen, lesser, is_free, least_from, chosen_at}
-use Rattle.ht_viterbi.specs.Lanes.{HasLanes, IsClose}
+use Rattle.ht_viterbi.specs.Lanes.{HasLanes, IsClose, rise}
+use Rattle.ht_viterbi.proofs.Steps.{branch-le}
 
 zero-number : (z n b c t : ℕ) → z ≡ (n + b) % 256 → n ≡ c → c ≡ t % 256 → (w : ℕ) → w ≡ b + t → z ≡ w % 256
 zero-number z n b c t e f g w h = omega arith
@@ -25,78 +26,89 @@ zero-lanes costs added next ways table pair held branches after is = record {
       (is.lane k lt) (after.lane k lt) (held.lane (k / 2) (omega arith)) (way table pair k false) h;
 }
 
--- the ways by a 1
-pub one-lanes : (costs one next ways : List ℕ) (table : ℕ → ℕ) (pair : StepPlaces) → HasLanes costs (λ k. table k % 256) → HasLanes one (λ k. branch_cost pair k true)
-    → HasLanes next (λ k. slice_index costs (k / 2 + 32)) → HasLanes ways (λ k. (slice_index next k + slice_index one k) % 256)
-    → HasLanes ways (λ k. way table pair k true % 256)
-one-lanes costs one next ways table pair held branches after is = record {
+ahead-number : (a d u v r x y s t : ℕ) → a ≡ (d + r) % 256 → d ≡ (u + (256 - v)) % 256 → u ≡ s % 256 → v ≡ t % 256
+    → r ≡ (x + (256 - y)) % 256 → y ≤ 2 → a ≡ ((x + s) % 256 + (256 - (y + t) % 256)) % 256
+ahead-number a d u v r x y s t e f g h i few = omega arith
+
+-- how much farther the ways by a 1 are, modulo 256
+abbrev pub IsAhead : List ℕ → (ℕ → ℕ) → StepPlaces → Type 0
+IsAhead ahead table pair = HasLanes ahead (λ k. (way table pair k true % 256 + (256 - way table pair k false % 256)) % 256)
+
+pub ahead-lanes : (costs upper apart spread more ahead : List ℕ) (table : ℕ → ℕ) (pair : StepPlaces) → HasLanes costs (λ k. table k % 256)
+    → HasLanes upper (λ k. slice_index costs (k % 32 + 32)) → HasLanes apart (λ k. (slice_index upper k + (256 - slice_index costs k)) % 256)
+    → HasLanes spread (λ k. slice_index apart (k / 2)) → HasLanes more (rise pair)
+    → HasLanes ahead (λ k. (slice_index spread k + slice_index more k) % 256) → IsAhead ahead table pair
+ahead-lanes costs upper apart spread more ahead table pair held ups aparts spreads mores is = record {
   count = is.count;
   lane = λ k lt.
-      let b : slice_index one k ≡ branch_cost pair k true = branches.lane k lt in
-      let h : way table pair k true ≡ slice_index one k + table (k / 2 + 32) = ap (λ (n : ℕ). n + table (k / 2 + 32)) (sym b) in
-      zero-number _ (slice_index next k) (slice_index one k) (slice_index costs (k / 2 + 32)) (table (k / 2 + 32))
-      (is.lane k lt) (after.lane k lt) (held.lane (k / 2 + 32) (omega arith)) (way table pair k true) h;
+      let half : (k / 2) % 32 ≡ k / 2 = omega arith in
+      let low : k / 2 < 64 = omega arith in
+      let high : k / 2 + 32 < 64 = omega arith in
+      let up : slice_index upper (k / 2) ≡ table (k / 2 + 32) % 256 =
+      ups.lane (k / 2) low ∙ (ap (λ (n : ℕ). slice_index costs (n + 32)) half ∙ held.lane (k / 2 + 32) high) in
+      let apart_is : slice_index spread k ≡ (slice_index upper (k / 2) + (256 - slice_index costs (k / 2))) % 256 =
+      spreads.lane k lt ∙ aparts.lane (k / 2) low in
+      ahead-number (slice_index ahead k) (slice_index spread k) (slice_index upper (k / 2)) (slice_index costs (k / 2)) (slice_index more k)
+      (branch_cost pair k true) (branch_cost pair k false) (table (k / 2 + 32)) (table (k / 2))
+      (is.lane k lt) apart_is up (held.lane (k / 2) low) (mores.lane k lt) (branch-le pair k false);
 }
 
-below : (d p q a b : ℕ) → d ≡ (p + (256 - q)) % 256 → p ≡ a % 256 → q ≡ b % 256 → b < a + 128 → a < b → 128 ≤ d
-below d p q a b e f g near less = omega arith
+below : (d a b : ℕ) → d ≡ (a % 256 + (256 - b % 256)) % 256 → b < a + 128 → a < b → 128 ≤ d
+below d a b e near less = omega arith
 
-above : (d p q a b : ℕ) → d ≡ (p + (256 - q)) % 256 → p ≡ a % 256 → q ≡ b % 256 → a < b + 128 → b ≤ a → d < 128
-above d p q a b e f g near more = omega arith
+above : (d a b : ℕ) → d ≡ (a % 256 + (256 - b % 256)) % 256 → a < b + 128 → b ≤ a → d < 128
+above d a b e near more = omega arith
 
 -- the difference of two close numbers, modulo 256, has its highest bit where the first is the lesser
-sign : (d p q a b : ℕ) → d ≡ (p + (256 - q)) % 256 → p ≡ a % 256 → q ≡ b % 256 → (b < a + 128) × (a < b + 128) → nat_le 128 d ≡ nat_lt a b
-sign d p q a b e f g close = elim (cases_lt a b) [
-  | inl less ↦ le-leb 128 d (below d p q a b e f g close.0 less) ∙ sym (lt-ltb a b less)
-  | inr more ↦ lt-leb 128 d (above d p q a b e f g close.1 more) ∙ sym (le-ltb a b more)
+sign : (d a b : ℕ) → d ≡ (a % 256 + (256 - b % 256)) % 256 → (b < a + 128) × (a < b + 128) → nat_le 128 d ≡ nat_lt a b
+sign d a b e close = elim (cases_lt a b) [
+  | inl less ↦ le-leb 128 d (below d a b e close.0 less) ∙ sym (lt-ltb a b less)
+  | inr more ↦ lt-leb 128 d (above d a b e close.1 more) ∙ sym (le-ltb a b more)
 ]
 
-sign-lanes : (zero_ways one_ways ahead : List ℕ) (table : ℕ → ℕ) (pair : StepPlaces)
-    → HasLanes zero_ways (λ k. way table pair k false % 256) → HasLanes one_ways (λ k. way table pair k true % 256)
-    → HasLanes ahead (λ k. (slice_index one_ways k + (256 - slice_index zero_ways k)) % 256) → IsClose table pair
+sign-lanes : (ahead : List ℕ) (table : ℕ → ℕ) (pair : StepPlaces) → IsAhead ahead table pair → IsClose table pair
     → (k : ℕ) → k < 64 → nat_le 128 (slice_index ahead k) ≡ chosen true (way table pair k false) (way table pair k true)
-sign-lanes zero_ways one_ways ahead table pair zeros ones is close k lt =
-    sign (slice_index ahead k) (slice_index one_ways k) (slice_index zero_ways k) (way table pair k true)
-    (way table pair k false) (is.lane k lt) (ones.lane k lt) (zeros.lane k lt) (close k lt)
+sign-lanes ahead table pair is close k lt =
+    sign (slice_index ahead k) (way table pair k true) (way table pair k false) (is.lane k lt) (close k lt)
 
 -- the choices where a 1 may be taken
-pub choices-lanes : (zero_ways one_ways ahead : List ℕ) (word : ℕ) (table : ℕ → ℕ) (pair : StepPlaces)
-    → HasLanes zero_ways (λ k. way table pair k false % 256) → HasLanes one_ways (λ k. way table pair k true % 256)
-    → HasLanes ahead (λ k. (slice_index one_ways k + (256 - slice_index zero_ways k)) % 256) → IsClose table pair
+pub choices-lanes : (ahead : List ℕ) (word : ℕ) (table : ℕ → ℕ) (pair : StepPlaces) → IsAhead ahead table pair → IsClose table pair
     → ((k : ℕ) → k < 64 → (bit_at word k ≡ 1) ↔ (nat_le 128 (slice_index ahead k) ≡ true))
     → (k : ℕ) → k < 64 → (bit_at word k ≡ 1) ↔ (chosen true (way table pair k false) (way table pair k true) ≡ true)
-choices-lanes zero_ways one_ways ahead word table pair zeros ones is close bits k lt =
-    let same = sign-lanes zero_ways one_ways ahead table pair zeros ones is close k lt in
+choices-lanes ahead word table pair is close bits k lt =
+    let same = sign-lanes ahead table pair is close k lt in
     ((λ e. sym same ∙ (bits k lt).0 e), λ e. (bits k lt).1 (same ∙ e))
 
--- and the lesser ways
-pub lesser-lanes : (zero_ways one_ways ahead lesser_ways : List ℕ) (table : ℕ → ℕ) (pair : StepPlaces)
-    → HasLanes zero_ways (λ k. way table pair k false % 256) → HasLanes one_ways (λ k. way table pair k true % 256)
-    → HasLanes ahead (λ k. (slice_index one_ways k + (256 - slice_index zero_ways k)) % 256) → IsClose table pair
-    → HasLanes lesser_ways (λ k. if nat_le 128 (slice_index ahead k) then slice_index one_ways k else slice_index zero_ways k)
-    → HasLanes lesser_ways (λ k. lesser true (way table pair k false) (way table pair k true) % 256)
-lesser-lanes zero_ways one_ways ahead lesser_ways table pair zeros ones is close taken = record {
-  count = taken.count;
-  lane = λ k lt.
-      taken.lane k lt
-      ∙ ap (λ (t : Bool). if t then slice_index one_ways k else slice_index zero_ways k)
-      (sign-lanes zero_ways one_ways ahead table pair zeros ones is close k lt)
-      ∙ ap (λ (n : ℕ). if nat_lt (way table pair k true) (way table pair k false) then n else slice_index zero_ways k) (ones.lane k lt)
-      ∙ ap (λ (n : ℕ). if nat_lt (way table pair k true) (way table pair k false) then way table pair k true % 256 else n) (zeros.lane k lt)
-      ∙ modulo (nat_lt (way table pair k true) (way table pair k false)) (way table pair k true) (way table pair k false);
-}
-  where
-    modulo : (t : Bool) (a b : ℕ) → (if t then a % 256 else b % 256) ≡ (if t then a else b) % 256
-    modulo true a b = refl
-    modulo false a b = refl
-
-pub no-choices : (zero_way one_way k : ℕ) → (bit_at 0 k ≡ 1) ↔ (chosen false zero_way one_way ≡ true)
-no-choices zero_way one_way k = ((λ e. absurd (omega (arith, bit_at-zero k))), λ e. absurd (true≢false (sym e)))
+lesser-number : (t : Bool) (n z d a b : ℕ) → n ≡ (z + (if t then d else 0)) % 256 → z ≡ b % 256
+    → d ≡ (a % 256 + (256 - b % 256)) % 256 → n ≡ (if t then a else b) % 256
+lesser-number true n z d a b e f g = omega arith
+lesser-number false n z d a b e f g = omega arith
 
 zeros : (n k : ℕ) → slice_index (replicate n 0) k ≡ 0
 zeros zero k = refl
 zeros (suc n) zero = refl
 zeros (suc n) (suc k) = zeros n k
+
+-- and the lesser ways
+pub lesser-lanes : (zero_ways ahead fall lesser_ways : List ℕ) (table : ℕ → ℕ) (pair : StepPlaces)
+    → HasLanes zero_ways (λ k. way table pair k false % 256) → IsAhead ahead table pair → IsClose table pair
+    → HasLanes fall (λ k. if nat_le 128 (slice_index ahead k) then slice_index ahead k else slice_index (replicate 64 0) k)
+    → HasLanes lesser_ways (λ k. (slice_index zero_ways k + slice_index fall k) % 256)
+    → HasLanes lesser_ways (λ k. lesser true (way table pair k false) (way table pair k true) % 256)
+lesser-lanes zero_ways ahead fall lesser_ways table pair zero_is is close falls taken = record {
+  count = taken.count;
+  lane = λ k lt.
+      let by : slice_index fall k ≡ (if nat_lt (way table pair k true) (way table pair k false) then slice_index ahead k else 0) =
+      falls.lane k lt
+      ∙ (ap (λ (t : Bool). if t then slice_index ahead k else slice_index (replicate 64 0) k) (sign-lanes ahead table pair is close k lt)
+      ∙ ap (λ (n : ℕ). if nat_lt (way table pair k true) (way table pair k false) then slice_index ahead k else n) (zeros 64 k)) in
+      lesser-number (nat_lt (way table pair k true) (way table pair k false)) (slice_index lesser_ways k) (slice_index zero_ways k)
+      (slice_index ahead k) (way table pair k true) (way table pair k false)
+      (taken.lane k lt ∙ ap (λ (n : ℕ). (slice_index zero_ways k + n) % 256) by) (zero_is.lane k lt) (is.lane k lt);
+}
+
+pub no-choices : (zero_way one_way k : ℕ) → (bit_at 0 k ≡ 1) ↔ (chosen false zero_way one_way ≡ true)
+no-choices zero_way one_way k = ((λ e. absurd (omega (arith, bit_at-zero k))), λ e. absurd (true≢false (sym e)))
 
 -- no step yet
 pub lanes-start : (pairs : List StepPlaces) → pairs ≡ [] → HasLanes (replicate 64 0) (λ k. least_from pairs k % 256)

@@ -8,3 +8,5 @@ pub mod LaneSteps
 pub mod Spread
 pub mod Values
 pub mod Enumerating
+pub mod Rows
+pub mod Carried

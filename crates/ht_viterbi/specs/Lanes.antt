@@ -1,5 +1,5 @@
 -- The costs of the 64 states as octets, in the lanes of a vector.
-use Rattle.std.specs.Prelude.{◌≡◌, ℕ, ◌+◌, ◌*◌, ◌<◌, List, [], Bool, true, false, Option, Some, None, length, slice_index, slice_index_or}
+use Rattle.std.specs.Prelude.{◌≡◌, ℕ, ◌+◌, ◌-◌, ◌*◌, ◌%◌, ◌<◌, List, [], Bool, true, false, Option, Some, None, length, slice_index, slice_index_or}
 use Rattle.ht_viterbi.specs.Trellis.{StepPlaces, branch_cost, way}
 
 -- a vector of 64 lanes, each as the function says
@@ -16,9 +16,13 @@ number_of_place (Some true) = 2
 abbrev pub number_of_pair : StepPlaces → ℕ
 number_of_pair pair = 3 * number_of_place pair.0 + number_of_place pair.1
 
--- the table has what each pair costs from each state
-abbrev pub HoldsBranches : List (List ℕ) → Bool → Type 0
-HoldsBranches table bit = (pair : StepPlaces) → HasLanes (slice_index_or table (number_of_pair pair) []) (λ k. branch_cost pair k bit)
+-- what a 1 costs more than a 0, modulo 256
+abbrev pub rise : StepPlaces → ℕ → ℕ
+rise pair state = (branch_cost pair state true + (256 - branch_cost pair state false)) % 256
+
+-- the table has for each pair a row of what the function says of each state
+abbrev pub HoldsRows : List (List ℕ) → (StepPlaces → ℕ → ℕ) → Type 0
+HoldsRows table value = (pair : StepPlaces) → HasLanes (slice_index_or table (number_of_pair pair) []) (value pair)
 
 -- no state's two ways lie 128 or more apart
 abbrev pub IsClose : (ℕ → ℕ) → StepPlaces → Type 0

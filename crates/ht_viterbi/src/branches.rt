@@ -1,38 +1,65 @@
-//! What a step costs from each state: one octet for each of the 64 states, for each pair of received places.
-ghost use Rattle.std.specs.Prelude.{◌≡◌, ◌<◌, ◌≤◌, ℕ, List, [], slice_index, slice_index_or, length};
+//! What a step costs from each state, and how much more by a 1: a lane for each of the 64 states, for each pair of received
+//! places.
+ghost use Rattle.std.specs.Prelude.{◌≡◌, ◌<◌, ◌≤◌, ℕ, false, List, [], slice_index, slice_index_or, length};
 ghost use Rattle.ht_viterbi.specs.Trellis.{branch_cost, StepPlaces};
-ghost use Rattle.ht_viterbi.specs.Lanes.{HasLanes, HoldsBranches, number_of_place, number_of_pair};
+ghost use Rattle.ht_viterbi.specs.Lanes.{HasLanes, HoldsRows, number_of_place, number_of_pair, rise};
 
+use crate::lanes::differences;
 use crate::pairs::{StepPlaces, cost_of_branch};
+use std::simd::prelude::*;
 
-/// For each of the nine pairs the costs of all states at one input bit.
-pub(crate) type Branches = [[u8; 64]; 9];
+/// A row of all states for each of the nine pairs.
+pub(crate) type Branches = [u8x64; 9];
 
 // What a step of this pair costs from each state.
-fn costs_of_pair(pair: StepPlaces, bit: bool) -> [u8; 64]
+fn costs_of_pair(pair: StepPlaces, bit: bool) -> u8x64
     ensures { HasLanes result (λ k. branch_cost pair k bit) }
 {
     let mut costs = [0u8; 64];
     for state in 0..64usize {
         costs[state] = cost_of_branch(pair, state, bit) as u8;
     }
-    costs
+    u8x64::from_array(costs)
 }
 
-// The costs of all pairs, where the input bit is as given.
-pub(crate) fn branches_of(bit: bool) -> Branches
-    ensures { HoldsBranches result bit }
+// What a 1 costs more than a 0 in a step of this pair, from each state, modulo 256.
+fn rises_of_pair(pair: StepPlaces) -> u8x64
+    ensures { HasLanes result (rise pair) }
+{
+    differences(costs_of_pair(pair, true), costs_of_pair(pair, false))
+}
+
+// What a 0 costs at each pair.
+pub(crate) fn costs_of_zero() -> Branches
+    ensures { HoldsRows result (λ pair k. branch_cost pair k false) }
 {
     [
-        costs_of_pair((None, None), bit),
-        costs_of_pair((None, Some(false)), bit),
-        costs_of_pair((None, Some(true)), bit),
-        costs_of_pair((Some(false), None), bit),
-        costs_of_pair((Some(false), Some(false)), bit),
-        costs_of_pair((Some(false), Some(true)), bit),
-        costs_of_pair((Some(true), None), bit),
-        costs_of_pair((Some(true), Some(false)), bit),
-        costs_of_pair((Some(true), Some(true)), bit),
+        costs_of_pair((None, None), false),
+        costs_of_pair((None, Some(false)), false),
+        costs_of_pair((None, Some(true)), false),
+        costs_of_pair((Some(false), None), false),
+        costs_of_pair((Some(false), Some(false)), false),
+        costs_of_pair((Some(false), Some(true)), false),
+        costs_of_pair((Some(true), None), false),
+        costs_of_pair((Some(true), Some(false)), false),
+        costs_of_pair((Some(true), Some(true)), false),
+    ]
+}
+
+// What a 1 costs more at each pair.
+pub(crate) fn rises() -> Branches
+    ensures { HoldsRows result rise }
+{
+    [
+        rises_of_pair((None, None)),
+        rises_of_pair((None, Some(false))),
+        rises_of_pair((None, Some(true))),
+        rises_of_pair((Some(false), None)),
+        rises_of_pair((Some(false), Some(false))),
+        rises_of_pair((Some(false), Some(true))),
+        rises_of_pair((Some(true), None)),
+        rises_of_pair((Some(true), Some(false))),
+        rises_of_pair((Some(true), Some(true))),
     ]
 }
 

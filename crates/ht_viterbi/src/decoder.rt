@@ -1,16 +1,16 @@
 //! The decoder: all 64 states at once, their costs modulo 256. The ways of a state cost so nearly the same that their
 //! difference modulo 256 says which is the lesser.
-ghost use Rattle.std.specs.Prelude.{◌≡◌, ◌+◌, ◌-◌, ◌*◌, ◌%◌, ◌<◌, ◌≤◌, ◌^◌, ◌↔◌, ℕ, Bool, true, false, IfOk};
+ghost use Rattle.std.specs.Prelude.{◌≡◌, ◌≢◌, ◌+◌, ◌-◌, ◌*◌, ◌%◌, ◌<◌, ◌≤◌, ◌^◌, ◌↔◌, ℕ, Bool, true, false, IfOk};
 ghost use Rattle.std.specs.Prelude.{List, length, drop, replicate, slice_index};
 ghost use Rattle.std.specs.Int.{bit_at};
 ghost use Rattle.ht_conv.specs.Puncturing.{sent_count};
 ghost use Rattle.ht_viterbi.specs.Inputs.{IsDecoded, distance, tail};
 ghost use Rattle.ht_viterbi.specs.Trellis.{StepPlaces, branch_cost, way, chosen, lesser, least_from, AreChoices, pairs_from};
-ghost use Rattle.ht_viterbi.specs.Lanes.{HasLanes, HoldsBranches, IsClose};
+ghost use Rattle.ht_viterbi.specs.Lanes.{HasLanes, HoldsRows, IsClose, rise};
 
-use crate::branches::{Branches, branches_of, row_of};
+use crate::branches::{Branches, costs_of_zero, rises, row_of};
 use crate::codeword::Codeword;
-use crate::lanes::{after_one, after_zero, differences, negative, sums, taken};
+use crate::lanes::{after_zero, differences, falls, negative, sums, with_one};
 use crate::pairs::{StepPlaces, pair_from, phase_before, places_of};
 use crate::walk::forwards;
 use ht_bits::Bits;
@@ -19,43 +19,60 @@ use ht_rate::Pattern;
 use std::alloc::{AllocError, Global};
 use std::simd::prelude::*;
 
-// One step of the trellis. The answer has the new costs, modulo 256, and the states at which a 1 is taken.
+// One step of the trellis: `zero` is what a 0 costs from each state, and `more` what a 1 costs more. The answer has the
+// new costs, modulo 256, and the states at which a 1 is taken.
 #[inline(always)]
-fn step(costs: u8x64, zero: u8x64, one: u8x64, free: bool) -> (u8x64, u64)
+fn step(costs: u8x64, zero: u8x64, more: u8x64, free: bool) -> (u8x64, u64)
     ensures costs { (table : ℕ → ℕ) (pair : StepPlaces) → HasLanes costs (λ k. table k % 256)
-        → HasLanes zero (λ k. branch_cost pair k false) → HasLanes one (λ k. branch_cost pair k true) → IsClose table pair
+        → HasLanes zero (λ k. branch_cost pair k false) → HasLanes more (rise pair) → IsClose table pair
         → HasLanes result.0 (λ k. lesser free (way table pair k false) (way table pair k true) % 256) }
     ensures choices { (table : ℕ → ℕ) (pair : StepPlaces) → HasLanes costs (λ k. table k % 256)
-        → HasLanes zero (λ k. branch_cost pair k false) → HasLanes one (λ k. branch_cost pair k true) → IsClose table pair
+        → HasLanes zero (λ k. branch_cost pair k false) → HasLanes more (rise pair) → IsClose table pair
         → (k : ℕ) → k < 64 → (bit_at result.1 k ≡ 1) ↔ (chosen free (way table pair k false) (way table pair k true) ≡ true) }
 {
     let zero_ways = sums(after_zero(costs), zero);
     if free {
-        let one_ways = sums(after_one(costs), one);
-        let ahead = differences(one_ways, zero_ways);
-        let choices = negative(ahead);
-        (taken(ahead, one_ways, zero_ways), choices)
+        let apart = after_zero(differences(with_one(costs), costs));
+        let ahead = sums(apart, more);
+        (sums(zero_ways, falls(ahead)), negative(ahead))
     } else {
         (zero_ways, 0)
     }
 }
 
-// The costs of a pair's branches, from the table of all pairs.
+// The row of a pair, from the table of all pairs.
 #[inline(always)]
 fn lanes_of(branches: &Branches, pair: StepPlaces) -> u8x64
-    ensures { (bit : Bool) → HoldsBranches branches.now bit → HasLanes result (λ k. branch_cost pair k bit) }
+    ensures { (value : StepPlaces → ℕ → ℕ) → HoldsRows branches.now value → HasLanes result (value pair) }
 {
-    u8x64::from_array(branches[row_of(pair)])
+    branches[row_of(pair)]
 }
 
-// A distance by its lowest octet, where it is known to lie at most 2 above the one before and not far below.
+// After how many steps the whole distance is looked at again.
+const STRETCH: usize = 64;
+
+// A distance by its lowest octet, where it is known to lie at most 128 above the one before and not far below.
 #[inline(always)]
 fn carried(before: u32, octet: u8) -> u32
     requires { before ≤ 2 ^ 30 }
-    ensures { (n : ℕ) → octet ≡ n % 256 → n ≤ before + 2 → before ≤ n + 12 → result ≡ n }
+    ensures { (n : ℕ) → octet ≡ n % 256 → n ≤ before + 128 → before ≤ n + 12 → result ≡ n }
 {
-    let most = before + 2;
+    let most = before + 128;
     most.saturating_sub((most + 256 - u32::from(octet)) % 256)
+}
+
+// The same once in a stretch of steps, and at other steps the one before.
+#[inline(always)]
+fn carried_at(at: usize, before: u32, octet: u8) -> u32
+    requires { before ≤ 2 ^ 30 }
+    ensures here { (n : ℕ) → at % 64 ≡ 0 → octet ≡ n % 256 → n ≤ before + 128 → before ≤ n + 12 → result ≡ n }
+    ensures others { at % 64 ≢ 0 → result ≡ before }
+{
+    if at % STRETCH == 0 {
+        carried(before, octet)
+    } else {
+        before
+    }
 }
 
 // The cost of state 0, modulo 256.
@@ -73,8 +90,8 @@ fn backwards(pattern: Pattern, received: &[Option<bool>], choices: &mut [u64]) -
     ensures choices { AreChoices (pairs_from pattern received.now 0 (length choices.old)) choices.new }
     ensures least { result ≡ least_from (pairs_from pattern received.now 0 (length choices.old)) 0 }
 {
-    let zeros = branches_of(false);
-    let ones = branches_of(true);
+    let zeros = costs_of_zero();
+    let rises = rises();
     let steps = choices.len();
     let mut costs = u8x64::splat(0);
     let mut distance = 0u32;
@@ -91,11 +108,11 @@ fn backwards(pattern: Pattern, received: &[Option<bool>], choices: &mut [u64]) -
         let (next, word) = step(
             costs,
             lanes_of(&zeros, pair),
-            lanes_of(&ones, pair),
+            lanes_of(&rises, pair),
             steps - at > 6,
         );
         choices[at] = word;
-        distance = carried(distance, first_lane(next));
+        distance = carried_at(at, distance, first_lane(next));
         costs = next;
     }
     distance

@@ -1,5 +1,5 @@
 //! One step of the trellis on all 64 states at once: lane `n` of a vector is that of state `n`, modulo 256.
-ghost use Rattle.std.specs.Prelude.{◌≡◌, ◌+◌, ◌-◌, ◌/◌, ◌%◌, ◌<◌, ◌≤◌, ◌↔◌, if◌then◌else◌, nat_le, ℕ, true, slice_index};
+ghost use Rattle.std.specs.Prelude.{◌≡◌, ◌+◌, ◌-◌, ◌/◌, ◌%◌, ◌<◌, ◌≤◌, ◌↔◌, if◌then◌else◌, nat_le, ℕ, true, replicate, slice_index};
 ghost use Rattle.std.specs.Int.{bit_at};
 ghost use Rattle.ht_viterbi.specs.Trellis.{way, chosen, lesser, StepPlaces, branch_cost};
 ghost use Rattle.ht_viterbi.specs.Lanes.{HasLanes};
@@ -13,11 +13,11 @@ const AFTER_ZERO: [usize; 64] = [
     26, 27, 27, 28, 28, 29, 29, 30, 30, 31, 31,
 ];
 
-// For each state the state after an input bit of 1.
-const AFTER_ONE: [usize; 64] = [
-    32, 32, 33, 33, 34, 34, 35, 35, 36, 36, 37, 37, 38, 38, 39, 39, 40, 40, 41, 41, 42, 42, 43, 43,
-    44, 44, 45, 45, 46, 46, 47, 47, 48, 48, 49, 49, 50, 50, 51, 51, 52, 52, 53, 53, 54, 54, 55, 55,
-    56, 56, 57, 57, 58, 58, 59, 59, 60, 60, 61, 61, 62, 62, 63, 63,
+// For each state the one with the same bits but a 1 as the latest.
+const WITH_ONE: [usize; 64] = [
+    32, 33, 34, 35, 36, 37, 38, 39, 40, 41, 42, 43, 44, 45, 46, 47, 48, 49, 50, 51, 52, 53, 54, 55,
+    56, 57, 58, 59, 60, 61, 62, 63, 32, 33, 34, 35, 36, 37, 38, 39, 40, 41, 42, 43, 44, 45, 46, 47,
+    48, 49, 50, 51, 52, 53, 54, 55, 56, 57, 58, 59, 60, 61, 62, 63,
 ];
 
 // The cost of the state after a 0, for each state.
@@ -28,12 +28,12 @@ pub(crate) fn after_zero(costs: u8x64) -> u8x64
     costs.swizzle(AFTER_ZERO)
 }
 
-// The cost of the state after a 1, for each state.
+// The cost of the state with the same bits but a 1 as the latest, for each state.
 #[inline(always)]
-pub(crate) fn after_one(costs: u8x64) -> u8x64
-    ensures { HasLanes result (λ k. slice_index costs (k / 2 + 32)) }
+pub(crate) fn with_one(costs: u8x64) -> u8x64
+    ensures { HasLanes result (λ k. slice_index costs (k % 32 + 32)) }
 {
-    costs.swizzle(AFTER_ONE)
+    costs.swizzle(WITH_ONE)
 }
 
 // The sums lane by lane, modulo 256.
@@ -60,10 +60,12 @@ pub(crate) fn negative(differences: u8x64) -> u64
     differences.simd_ge(u8x64::splat(128)).to_bitmask()
 }
 
-// The lanes of `one` where a difference is negative, and else those of `zero`.
+// The lanes that are negative, and 0 in place of the others.
 #[inline(always)]
-pub(crate) fn taken(differences: u8x64, one: u8x64, zero: u8x64) -> u8x64
-    ensures { HasLanes result (λ k. if nat_le 128 (slice_index differences k) then slice_index one k else slice_index zero k) }
+pub(crate) fn falls(differences: u8x64) -> u8x64
+    ensures { HasLanes result (λ k. if nat_le 128 (slice_index differences k) then slice_index differences k else slice_index (replicate 64 0) k) }
 {
-    differences.simd_ge(u8x64::splat(128)).select(one, zero)
+    differences
+        .simd_ge(u8x64::splat(128))
+        .select(differences, u8x64::splat(0))
 }

@@ -2,7 +2,6 @@ use Rattle.std.proofs.Common.{◌≡◌, ◌*◌, ◌+◌, ◌-◌, ℕ, Bool, f
 use Rattle.ht_rate.proofs.RateFacts.{data_carriers_of-range}
 use Rattle.ht_rate.specs.Rates.{streams_of, label_bits_of}
 use Rattle.ht_landing.specs.declared.landings.Landing.{Landing}
-use Rattle.ht_landing.specs.Landings.{landing_of}
 use Rattle.ht_inverse.specs.declared.label_bit.LabelBit.{LabelBit}
 use Rattle.ht_inverse.specs.Received.{is_lost}
 use Rattle.ht_inverse.specs.Shares.{label_bit_of}

@@ -2,6 +2,7 @@ use Rattle.std.proofs.Common.{◌≡◌, ◌≤◌, ◌*◌, ◌-◌, ◌%◌, l
 use Rattle.ht_conv.specs.Puncturing.{period_of, sent_count}
 use Rattle.ht_viterbi.specs.Trellis.{least_from, AreChoices, pairs_from}
 use Rattle.ht_viterbi.specs.Lanes.{HasLanes}
+use Rattle.ht_viterbi.proofs.Carried.{IsCarried}
 use Rattle.ht_viterbi.proofs.decoder.backwards.Given as goal
 
 abbrev pub invariant-loop-at : goal.invariant-loop-at
@@ -13,8 +14,8 @@ invariant-loop-at l = record {
   start : l.start ≡ sent_count l.fn.pattern l.at;
   costs : HasLanes l.costs (λ k. least_from (pairs_from l.fn.pattern l.received l.at (l.steps - l.at)) k % 256);
   choices : AreChoices (pairs_from l.fn.pattern l.received l.at (l.steps - l.at)) (drop l.at l.choices);
-  distance : l.distance ≡ least_from (pairs_from l.fn.pattern l.received l.at (l.steps - l.at)) 0;
-  bound : l.distance ≤ 2 * (l.steps - l.at);
+  distance : IsCarried l.at l.distance (least_from (pairs_from l.fn.pattern l.received l.at (l.steps - l.at)));
+  bound : least_from (pairs_from l.fn.pattern l.received l.at (l.steps - l.at)) 0 ≤ 2 * (l.steps - l.at);
 }
 
 abbrev pub decreases-loop-at : goal.decreases-loop-at

@@ -1,8 +1,5 @@
-use Rattle.std.proofs.Common.{◌≡◌, ◌≤◌, length, ap, sym, ◌∙◌, arith, List, Bool, Option, ℕ}
+use Rattle.std.proofs.Common.{◌≡◌, ◌≤◌, ◌∙◌, arith}
 use Rattle.std.proofs.lemmas.Result.{IfOk-weaker}
-use Rattle.ht_rate.specs.Rates.{pattern_of}
-use Rattle.ht_rate.specs.declared.kinds.Pattern.{Pattern}
-use Rattle.ht_conv.specs.Puncturing.{sent_count}
 use Rattle.ht_viterbi.specs.Inputs.{IsDecoded, distance}
 use Rattle.ht_inverse.specs.Shares.{codeword_of}
 use Rattle.ht_inverse.proofs.Codewords.{both-ok, codeword-is, distance-low, received-length}

@@ -1,47 +1,96 @@
-use Rattle.std.proofs.Common.{◌≡◌, ◌<◌, ◌*◌, ◌+◌, arith, ap, ◌∙◌, subst}
+use Rattle.std.proofs.Common.{◌≡◌, ◌∙◌, ◌*◌, ◌+◌, ℕ, arith, ap, map}
+use Rattle.std.specs.List.{range_with_len}
+use Rattle.std.proofs.Math.Nat.{add-mul}
 use Rattle.ht_parse.specs.Streams.{share_of}
 use Rattle.ht_landing.proofs.Landed.{share-some}
 use Rattle.ht_inverse.specs.Received.{received_at}
-use Rattle.ht_inverse.proofs.Gathered.{places-length, value-added}
+use Rattle.ht_inverse.proofs.Gathered.{places-length, whole-within, parted}
 use Rattle.ht_inverse.proofs.share.Share.received.Goals as goal
 
-pub loop-init : goal.loop-init
-loop-init c = record {
-  counted = omega arith;
-  below = share-some c.args.self.now.rate;
-  few = omega arith;
-  items = c.in_ok-bits.ensures.items;
-  len_is = c.in_ok-bits.ensures.len;
-  room = c.in_ok-bits.ensures.exact;
-}
-
-pub next_place-requires-clause-place : goal.next_place-requires-clause-place
-next_place-requires-clause-place c =
+pub nonzero_div-symbol-end : goal.nonzero_div-symbol-end
+nonzero_div-symbol-end c =
     let s = c.args.self.now in
-    let h = places-length s.rate s.erased s.encoder s.places.items s.places_are in
-    let b = c.loop.invariant.below in
-    omega (arith, h, b, c.len-share.ensures)
+    let wide : c.len-share.result ≡ share_of s.rate =
+    omega (arith, places-length s.rate s.erased s.encoder s.places.items s.places_are, c.len-share.ensures) in
+    omega (arith, wide, share-some s.rate)
 
-pub loop-preserved : goal.loop-preserved
-loop-preserved c =
+pub nonzero_div-count : goal.nonzero_div-count
+nonzero_div-count c =
     let s = c.args.self.now in
-    let h = places-length s.rate s.erased s.encoder s.places.items s.places_are in
-    let wide : c.len-share.result ≡ share_of s.rate = omega (arith, h, c.len-share.ensures) in
-    let next = subst (λ n. c.next_place.result.0 * n + c.next_place.result.1 ≡ c.loop.symbol * n + c.loop.place + 1) wide c.next_place.ensures.counted in
-    let counted = c.loop.invariant.counted in
-    let below = subst (λ n. c.next_place.result.1 < n) wide c.next_place.ensures.place in
-    let few = c.next_place.ensures.few in
-    let q_few = c.loop.invariant.few in
-    let len = c.loop.invariant.len_is in
-    let room = c.loop.invariant.room in
-    let f = received_at s.rate s.erased c.args.labels.now s.encoder in
-    let bit = c.bit.ensures ∙ ap f counted in
-    let grown = value-added f c.loop.bits.items c.bit.result c.loop.counter (c.loop.counter + 1) bit (omega arith) c.loop.invariant.items in
+    let wide : c.len-share.result ≡ share_of s.rate =
+    omega (arith, places-length s.rate s.erased s.encoder s.places.items s.places_are, c.len-share.ensures) in
+    omega (arith, wide, share-some s.rate)
+
+pub nonzero_rem-count : goal.nonzero_rem-count
+nonzero_rem-count c =
+    let s = c.args.self.now in
+    let wide : c.len-share.result ≡ share_of s.rate =
+    omega (arith, places-length s.rate s.erased s.encoder s.places.items s.places_are, c.len-share.ensures) in
+    omega (arith, wide, share-some s.rate)
+
+pub push_symbol-requires-clause-share : goal.push_symbol-requires-clause-share
+push_symbol-requires-clause-share c =
+    let s = c.args.self.now in
+    let wide : c.len-share.result ≡ share_of s.rate =
+    omega (arith, places-length s.rate s.erased s.encoder s.places.items s.places_are, c.len-share.ensures) in
+    omega (arith, wide)
+
+pub push_symbol-requires-clause-within : goal.push_symbol-requires-clause-within
+push_symbol-requires-clause-within c =
+    let s = c.args.self.now in
+    let wide : c.len-share.result ≡ share_of s.rate =
+    omega (arith, places-length s.rate s.erased s.encoder s.places.items s.places_are, c.len-share.ensures) in
+    let inside = whole-within c.loop-symbol.symbol c.args.count c.len-share.result (share_of s.rate) wide c.loop-symbol-test.true in
+    omega (arith, inside, c.requires.count)
+
+pub push_symbol-requires-clause-room : goal.push_symbol-requires-clause-room
+push_symbol-requires-clause-room c =
+    let s = c.args.self.now in
+    let wide : c.len-share.result ≡ share_of s.rate =
+    omega (arith, places-length s.rate s.erased s.encoder s.places.items s.places_are, c.len-share.ensures) in
+    let inside = whole-within c.loop-symbol.symbol c.args.count c.len-share.result (share_of s.rate) wide c.loop-symbol-test.true in
+    omega (arith, inside, c.loop-symbol.invariant.room)
+
+pub loop-symbol-preserved : goal.loop-symbol-preserved
+loop-symbol-preserved c =
+    let s = c.args.self.now in
+    let wide : c.len-share.result ≡ share_of s.rate =
+    omega (arith, places-length s.rate s.erased s.encoder s.places.items s.places_are, c.len-share.ensures) in
+    let next : c.loop-symbol.symbol * share_of s.rate + c.len-share.result ≡ (c.loop-symbol.symbol + 1) * share_of s.rate =
+    omega (arith, wide, add-mul c.loop-symbol.symbol 1 (share_of s.rate)) in
     record {
-      counted = omega (arith, next, counted);
-      below = below;
-      few = omega (arith, few, q_few);
-      items = c.push_reserved.ensures.items ∙ grown;
-      len_is = omega (arith, len, c.push_reserved.ensures.len);
-      room = c.push_reserved.ensures.capacity ∙ room;
+      items = c.push_symbol.ensures.items
+          ∙ ap (λ (n : ℕ). map (received_at s.rate s.erased c.args.labels.now s.encoder) (range_with_len 0 n)) next;
+      room = c.push_symbol.ensures.room ∙ c.loop-symbol.invariant.room;
     }
+
+pub push_symbol-requires-2-clause-share : goal.push_symbol-requires-2-clause-share
+push_symbol-requires-2-clause-share c =
+    let s = c.args.self.now in
+    let wide : c.len-share.result ≡ share_of s.rate =
+    omega (arith, places-length s.rate s.erased s.encoder s.places.items s.places_are, c.len-share.ensures) in
+    (parted c.args.count c.len-share.result (share_of s.rate) wide (share-some s.rate)).1
+
+pub push_symbol-requires-2-clause-within : goal.push_symbol-requires-2-clause-within
+push_symbol-requires-2-clause-within c =
+    let s = c.args.self.now in
+    let wide : c.len-share.result ≡ share_of s.rate =
+    omega (arith, places-length s.rate s.erased s.encoder s.places.items s.places_are, c.len-share.ensures) in
+    let all = (parted c.args.count c.len-share.result (share_of s.rate) wide (share-some s.rate)).0 in
+    omega (arith, all, c.requires.count)
+
+pub push_symbol-requires-2-clause-room : goal.push_symbol-requires-2-clause-room
+push_symbol-requires-2-clause-room c =
+    let s = c.args.self.now in
+    let wide : c.len-share.result ≡ share_of s.rate =
+    omega (arith, places-length s.rate s.erased s.encoder s.places.items s.places_are, c.len-share.ensures) in
+    let all = (parted c.args.count c.len-share.result (share_of s.rate) wide (share-some s.rate)).0 in
+    omega (arith, all, c.loop-symbol.invariant.room)
+
+pub returns : goal.returns
+returns c =
+    let s = c.args.self.now in
+    let wide : c.len-share.result ≡ share_of s.rate =
+    omega (arith, places-length s.rate s.erased s.encoder s.places.items s.places_are, c.len-share.ensures) in
+    let all = (parted c.args.count c.len-share.result (share_of s.rate) wide (share-some s.rate)).0 in
+    c.push_symbol-2.ensures.items ∙ ap (λ (n : ℕ). map (received_at s.rate s.erased c.args.labels.now s.encoder) (range_with_len 0 n)) all

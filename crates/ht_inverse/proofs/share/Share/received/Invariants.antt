@@ -1,7 +1,11 @@
-use Rattle.std.proofs.Common.{vec_len, vec_capacity}
-use Rattle.ht_inverse.specs.Shares.{GathersBits}
+use Rattle.std.proofs.Common.{◌≡◌, ◌*◌, map, vec_capacity}
+use Rattle.std.specs.List.{range_with_len}
+use Rattle.ht_parse.specs.Streams.{share_of}
+use Rattle.ht_inverse.specs.Received.{received_at}
 use Rattle.ht_inverse.proofs.share.Share.received.Given as goal
 
-abbrev pub invariant-loop : goal.invariant-loop
-invariant-loop l =
-    GathersBits l.self.rate l.self.erased l.self.encoder l.labels l.symbol l.place l.counter l.count l.bits.items (vec_len l.bits) (vec_capacity l.bits)
+abbrev pub invariant-loop-symbol : goal.invariant-loop-symbol
+invariant-loop-symbol l = record {
+  items : l.bits.items ≡ map (received_at l.self.rate l.self.erased l.labels l.self.encoder) (range_with_len 0 (l.symbol * share_of l.self.rate));
+  room : vec_capacity l.bits ≡ l.count;
+}
