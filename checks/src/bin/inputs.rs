@@ -14,7 +14,7 @@ usage: checks/inputs [--seed N] [--count N] [--from N] [--seconds N]
 
 Runs every command on files made and spoiled at random, from a seed (1), COUNT
 of them (20000), the first of which has the number FROM (0), for at most so many
-seconds (110). --show writes the input with a number, to try it by hand.
+seconds (90). --show writes the input with a number, to try it by hand.
 ";
 
 /// Of one input the most memory that a run may hold, in kilobytes.
@@ -212,7 +212,7 @@ fn check_frames(lines: &[&str], walk: &Walk, sums: &[Sums]) -> Result<(), String
 }
 
 fn main() {
-    let mut values = [("--seed", 1), ("--count", 20_000), ("--from", 0), ("--seconds", 110), ("--show", u64::MAX)];
+    let mut values = [("--seed", 1), ("--count", 20_000), ("--from", 0), ("--seconds", 90), ("--show", u64::MAX)];
     let words: Vec<String> = std::env::args().skip(1).collect();
     for pair in words.chunks(2) {
         let place = values.iter().position(|(name, _)| *name == pair[0]);

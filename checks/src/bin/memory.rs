@@ -8,7 +8,7 @@ use std::sync::Mutex;
 use std::time::Duration;
 
 /// For how long cases are begun.
-const TIME: Duration = Duration::from_secs(150);
+const TIME: Duration = Duration::from_secs(140);
 
 /// How many octets beyond those mapped at its beginning a run may map, at most, where this is limited.
 const BEYOND: u64 = 48 << 20;

@@ -6,7 +6,7 @@ use std::fs;
 use std::time::Duration;
 
 /// For how long runs are begun.
-const TIME: Duration = Duration::from_secs(100);
+const TIME: Duration = Duration::from_secs(90);
 
 const RUNS: u64 = 2_000;
 const WORKERS: [u32; 6] = [1, 2, 3, 4, 7, 64];
