@@ -1,4 +1,5 @@
 //! Small valid files of every format, made at random.
+use crate::channel::Channel;
 use crate::random::Random;
 use crate::rates::{Point, Rate};
 use crate::walking::Format;
@@ -68,15 +69,21 @@ enum Content {
     Extremes,
 }
 
-struct Triangle {
-    diagonal: Vec<u16>,
-    /// Row by row.
-    above: Vec<(i16, i16)>,
+/// The octets of a triangle.
+fn triangle(random: &mut Random, streams: usize, content: Content) -> Vec<u8> {
+    let is_wide = random.once_in(4);
+    let mut octets = Vec::new();
+    for row in 0..streams {
+        octets.extend(diagonal(random, content, is_wide).to_be_bytes());
+        for _ in 2 * (row + 1)..2 * streams {
+            octets.extend(entry(random, content, is_wide).to_be_bytes());
+        }
+    }
+    octets
 }
 
-fn triangle(random: &mut Random, streams: usize, content: Content) -> Triangle {
-    let is_wide = random.once_in(4);
-    let diagonal = |random: &mut Random| match content {
+fn diagonal(random: &mut Random, content: Content, is_wide: bool) -> u16 {
+    match content {
         Content::Sent if is_wide => random.between(64, 65535) as u16,
         Content::Sent => random.between(64, 255) as u16,
         Content::Ties => random.between(0, 8) as u16,
@@ -84,49 +91,17 @@ fn triangle(random: &mut Random, streams: usize, content: Content) -> Triangle {
             let any = random.draw() as u16;
             random.one_of(&[0, 0, 1, 255, 65534, 65535, any])
         }
-    };
-    let part = |random: &mut Random| match content {
-        Content::Sent if is_wide => random.draw() as i16,
-        Content::Sent => random.between(-64, 64) as i16,
-        Content::Ties => random.between(-2, 2) as i16,
-        Content::Extremes => {
-            let any = random.draw() as i16;
-            random.one_of(&[0, 1, -1, i16::MIN, i16::MAX, any])
-        }
-    };
-    Triangle {
-        diagonal: (0..streams).map(|_| diagonal(random)).collect(),
-        above: (0..streams * (streams - 1) / 2).map(|_| (part(random), part(random))).collect(),
     }
 }
 
-impl Triangle {
-    fn put(&self, octets: &mut Vec<u8>) {
-        let mut above = self.above.iter();
-        for (row, diagonal) in self.diagonal.iter().enumerate() {
-            octets.extend(diagonal.to_be_bytes());
-            for (re, im) in above.by_ref().take(self.diagonal.len() - 1 - row) {
-                octets.extend(re.to_be_bytes());
-                octets.extend(im.to_be_bytes());
-            }
-        }
-    }
-
-    /// What is received of points without noise.
-    fn received(&self, points: &[Point]) -> Vec<(i32, i32)> {
-        let mut above = self.above.iter();
-        (0..points.len())
-            .map(|row| {
-                let diagonal = i32::from(self.diagonal[row]);
-                let mut sum = (diagonal * i32::from(points[row].0), diagonal * i32::from(points[row].1));
-                for (point, entry) in points[row + 1..].iter().zip(above.by_ref()) {
-                    let (re, im) = (i32::from(entry.0), i32::from(entry.1));
-                    let (i, q) = (i32::from(point.0), i32::from(point.1));
-                    sum = (sum.0 + re * i - im * q, sum.1 + im * i + re * q);
-                }
-                sum
-            })
-            .collect()
+/// A part of an entry above the diagonal.
+fn entry(random: &mut Random, content: Content, is_wide: bool) -> i16 {
+    let any = random.draw() as i16;
+    match content {
+        Content::Sent if is_wide => any,
+        Content::Sent => random.between(-64, 64) as i16,
+        Content::Ties => random.between(-2, 2) as i16,
+        Content::Extremes => random.one_of(&[0, 1, -1, i16::MIN, i16::MAX, any]),
     }
 }
 
@@ -135,7 +110,7 @@ fn capture(random: &mut Random, rate: Rate, length: u16, version: u8, octets: &m
     let content = if rate.vectors() <= CHEAP { random.one_of(&contents) } else { Content::Sent };
     let noise = random.one_of(&[0, 1, 8]);
     let erased = if version == 2 { erased(random, rate) } else { 0 };
-    let mut triangles = Vec::new();
+    let mut channels = Vec::new();
     for carrier in 0..rate.carriers() {
         let is_erased = erased >> carrier & 1 == 1;
         if version == 2 {
@@ -143,16 +118,16 @@ fn capture(random: &mut Random, rate: Rate, length: u16, version: u8, octets: &m
         }
         if !is_erased {
             let triangle = triangle(random, rate.streams(), content);
-            triangle.put(octets);
-            triangles.push((carrier, triangle));
+            channels.push((carrier, Channel::of(rate.streams(), &triangle)));
+            octets.extend(triangle);
         }
     }
     for symbol in 0..rate.symbols(length) {
-        for (carrier, triangle) in &triangles {
-            let sent = triangle.received(&vector(random, rate, symbol, *carrier));
+        for (carrier, channel) in &channels {
+            let sent = channel.sent(&vector(random, rate, symbol, *carrier));
             for (re, im) in sent {
                 for part in [re, im] {
-                    octets.extend(sample(random, content, part, noise).to_be_bytes());
+                    octets.extend(sample(random, content, part as i32, noise).to_be_bytes());
                 }
             }
         }

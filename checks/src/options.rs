@@ -2,7 +2,7 @@
 
 /// Whether the program has the options `--workers`, `--window`, `--seed` and `--noise`, and the command `demo`. Where it
 /// hasn't, each call is made without them.
-pub const ARE_THERE: bool = false;
+pub const ARE_THERE: bool = true;
 
 /// The words of a call of `detect` or `rx` with so many workers and a window of so many jobs.
 pub fn received(command: &str, workers: u32, window: u32) -> Vec<String> {

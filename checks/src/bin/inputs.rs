@@ -164,9 +164,11 @@ impl Runs<'_, '_> {
         self.made(&options::passed(seed, noise), &sent.text, &capture)?;
         let received = self.run(&options::received("rx", 4, 256), &capture)?;
         let lines = before_last(&received, &Walk::of(Format::Capture, &capture))?;
-        for (number, (frame, sums)) in walk.frames.iter().zip(&sums).enumerate() {
+        if lines.len() != walk.whole() {
+            return Err(format!("{} lines of frames in place of {}", lines.len(), walk.whole()));
+        }
+        for (number, ((frame, sums), line)) in walk.frames.iter().zip(&sums).zip(&lines).enumerate() {
             let hex: String = octets[frame.body..frame.end].iter().map(|octet| format!("{octet:02x}")).collect();
-            let line = lines.get(number).ok_or("a frame has no line")?;
             if expected::frame_line(line, number, frame, sums) != Some((0, Outcome::Hex(&hex))) {
                 return Err(format!("frame {number} came back as '{line}'"));
             }

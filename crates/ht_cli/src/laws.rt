@@ -2,7 +2,7 @@
 //!
 //! The clauses of [`run`](crate::run) are the same for every command. Each law is a function with an empty body: its
 //! clauses follow from `Answered`, where a run goes from the source `a` to `b` and from the sink `c` to `d`.
-ghost use Rattle.std.specs.Prelude.{◌≡◌, ◌≢◌, ◌⊎◌, ℕ, List, [], IfSome, Option, None, Some, String};
+ghost use Rattle.std.specs.Prelude.{◌≡◌, ◌≢◌, ◌⊎◌, ◌≤◌, ℕ, List, [], IfSome, Option, None, Some, String};
 ghost use Rattle.std.specs.Global.{Global as GlobalValue};
 ghost use Rattle.ht_io.specs.Devices.{Device, Grows, GrowsByPart, Rose, TakesAll};
 ghost use Rattle.ht_capture.specs.declared.frames.CaptureFrame.{CaptureFrame};
@@ -20,7 +20,7 @@ ghost use Rattle.ht_text.specs.Lines.{usage_text};
 ghost use Rattle.ht_results.specs.Texts.{frame_lines_of, rx_text};
 ghost use Rattle.ht_rx.specs.Texts.{detect_text, lines_of};
 ghost use Rattle.ht_rate.specs.declared.rates.Rate.{Rate as RateValue};
-ghost use Rattle.ht_demo.specs.Demos.{IsDemoLine};
+ghost use Rattle.ht_demo.specs.Demos.{IsDemoLine, returned_line};
 ghost use Rattle.ht_words.specs.Words.{asked};
 ghost use Rattle.ht_cli.specs.Commands.{MakesPart, MakesText};
 ghost use Rattle.ht_cli.specs.Converting.{SendsTo, UpgradesTo};
@@ -175,6 +175,12 @@ pub fn clauses_of_demo()
         → MakesPart (IsDemoLine (plan_of seed noise count rate length)) c d }
     ensures memory { (seed noise count length workers window : ℕ) (rate : RateValue) (a b c d : Device ℕ)
         → Answered (Some (Asked.Demo seed noise count rate length workers window)) a b c d Status.NoMemory → d ≡ c }
+
+    // Without noise every frame comes back, and all sums are 0.
+    ensures noiseless { (seed count length workers window : ℕ) (rate : RateValue) (a b c d : Device ℕ)
+        → 1 ≤ length → length ≤ 65535 → count ≤ 65535
+        → Answered (Some (Asked.Demo seed 0 count rate length workers window)) a b c d Status.Done
+        → Grows c d (returned_line (plan_of seed 0 count rate length)) }
 
     // No other status comes.
     ensures no_other { (seed noise count length workers window : ℕ) (rate : RateValue) (a b c d : Device ℕ) (status : Status)

@@ -23,7 +23,7 @@
 
 ghost use Rattle.std.specs.Prelude.{◌≡◌, ◌≢◌, None, IfSome};
 ghost use Rattle.ht_words.specs.Words.{IsWithinRanges, asked};
-ghost use Rattle.ht_cli.specs.Tasks.{Answered, ReadsNothing};
+ghost use Rattle.ht_cli.specs.Tasks.{Answered, ReadsNothing, plan_of};
 
 mod commands;
 pub mod laws;
@@ -33,8 +33,9 @@ mod status;
 mod tests;
 
 use ht_crew::Gate;
-use ht_demo::{Plan, demo_alone};
+use ht_demo::{Plan, demo, demo_alone};
 use ht_io::{Sink, Source};
+use ht_rate::Rate;
 use ht_rx::{list, list_alone, receive_text, receive_text_alone};
 pub use ht_words::Asked;
 use lines::{put_last, put_line, put_usage};
@@ -87,6 +88,21 @@ pub fn run<R: Threads + Wait + Sync, S: Source, K: Sink, G: Gate + Sync>(
         Some(Asked::Rx { workers, window }) if workers > 1 => {
             let heard = receive_text(rt, alloc, workers, window, source, sink, gate);
             put_last(alloc, heard, sink)
+        }
+        Some(
+            Asked::Demo {
+                seed,
+                noise,
+                frames,
+                rate,
+                length,
+                workers,
+                window,
+            },
+        ) if workers > 1 => {
+            let plan = planned(seed, noise, frames, rate, length);
+            let line = demo(rt, alloc, workers, window, &plan, gate);
+            put_line(line, Status::Done, sink)
         }
         _ => carry_out(alloc, asked, source, sink, gate),
     }
@@ -157,15 +173,23 @@ fn carry_out<S: Source, K: Sink, G: Gate>(
                 ..
             },
         ) => {
-            let plan = Plan {
-                seed,
-                noise,
-                frames,
-                rate,
-                length,
-            };
-            put_line(demo_alone(alloc, window, &plan, gate), Status::Done, sink)
+            let plan = planned(seed, noise, frames, rate, length);
+            let line = demo_alone(alloc, window, &plan, gate);
+            put_line(line, Status::Done, sink)
         }
         None => put_usage(alloc, sink),
+    }
+}
+
+// What a demonstration with these options is to do.
+fn planned(seed: u64, noise: u16, frames: u16, rate: Rate, length: u16) -> Plan
+    ensures { result ≡ plan_of seed noise frames rate length }
+{
+    Plan {
+        seed,
+        noise,
+        frames,
+        rate,
+        length,
     }
 }

@@ -6,7 +6,9 @@ use ht_io::{MemSink, MemSource, SureSink, SureSource};
 use ht_rx::{Ended, ListBook, receive_alone};
 use std::alloc::AllocError;
 use std::process::ExitCode;
+use std::sync::atomic::{AtomicU64, Ordering};
 use std::test::Fail;
+use std::thread;
 
 /// A capture of the given number of frames at 20 MHz, MCS 0, of length 1: the diagonal 10 on each subcarrier, every sample 0.
 fn zeros(alloc: Global, frames: u8) -> Result<Vec<u8>, AllocError> {
@@ -579,6 +581,109 @@ fn sure(rt: HostRuntime) -> Result<(), Fail> {
     assert_eq!(rt; answer, Status::Done);
     let text = zero_frames(alloc, 2, "end 2 frames\n")?;
     assert_eq!(rt; sink.held(), Some(text.as_bytes()));
+    Ok(())
+}
+
+/// Holds job 0 until 111 others have left, and gives up after a million turns.
+#[derive(Drop)]
+struct Held {
+    entered: AtomicU64,
+    left: AtomicU64,
+    strays: AtomicU64,
+}
+
+impl Held {
+    fn new() -> Held {
+        Held {
+            entered: AtomicU64::new(0),
+            left: AtomicU64::new(0),
+            strays: AtomicU64::new(0),
+        }
+    }
+}
+
+impl Gate for Held {
+    fn enter(&self, number: u64) {
+        self.entered.fetch_add(1, Ordering::SeqCst);
+        if number > 0 {
+            return;
+        }
+        for _ in 0..1_000_000u64 {
+            if self.left.load(Ordering::SeqCst) >= 111 {
+                return;
+            }
+            thread::yield_now();
+        }
+        self.strays.fetch_add(1, Ordering::SeqCst);
+    }
+
+    fn leave(&self, _number: u64) {
+        self.left.fetch_add(1, Ordering::SeqCst);
+    }
+}
+
+/// The status of a run by as many workers as the words say, and what its sink holds.
+fn ran_by<R: Threads + Wait + Sync, G: Gate + Sync>(
+    rt: &R,
+    alloc: Global,
+    words: &str,
+    octets: Vec<u8>,
+    gate: &G,
+) -> Result<(Status, Vec<u8>), AllocError> {
+    let mut source = source_of(alloc, octets, None)?;
+    let mut sink = MemSink::new(Vec::with_capacity(alloc, 16384)?, Vec::new(alloc));
+    let words = words_of(alloc, words)?;
+    let status = run(rt, alloc, &words, &mut source, &mut sink, gate);
+    let held = sink.held().to_vec(alloc)?;
+    Ok((status, held))
+}
+
+// Two workers meet at a gate that one alone can't pass.
+#[test]
+fn threads_meet(rt: HostRuntime) -> Result<(), Fail> {
+    let alloc = rt.alloc();
+    let cases = [
+        (
+            "detect --workers 2",
+            zero_lines(alloc, 2, "end 1 frames\n")?,
+        ),
+        ("rx --workers 2", zero_frames(alloc, 1, "end 1 frames\n")?),
+    ];
+    for (words, text) in &cases {
+        let gate = Held::new();
+        let (answer, held) = ran_by(&rt, alloc, words, zeros(alloc, 1)?, &gate)?;
+        assert_eq!(rt; answer, Status::Done);
+        assert_eq!(rt; held.as_slice(), text.as_bytes());
+        assert_eq!(rt; gate.strays.load(Ordering::SeqCst), 0);
+        assert_eq!(rt; gate.entered.load(Ordering::SeqCst), 112);
+        assert_eq!(rt; gate.left.load(Ordering::SeqCst), 112);
+    }
+    Ok(())
+}
+
+// The text is the same for all workers and windows.
+#[test]
+fn crews(rt: HostRuntime) -> Result<(), Fail> {
+    let alloc = rt.alloc();
+    let lines = zero_lines(alloc, 4, "end 2 frames\n")?;
+    let frames = zero_frames(alloc, 2, "end 2 frames\n")?;
+    for workers in [1, 2, 7, 64] {
+        for window in [1, 2, 4096] {
+            let words = format!(in alloc; "detect --workers {workers} --window {window}")?;
+            let (answer, held) = ran_by(&rt, alloc, &words, zeros(alloc, 2)?, &OpenGate)?;
+            assert_eq!(rt; answer, Status::Done);
+            assert_eq!(rt; held.as_slice(), lines.as_bytes());
+            let words = format!(in alloc; "rx --window {window} --workers {workers}")?;
+            let (answer, held) = ran_by(&rt, alloc, &words, zeros(alloc, 2)?, &OpenGate)?;
+            assert_eq!(rt; answer, Status::Done);
+            assert_eq!(rt; held.as_slice(), frames.as_bytes());
+        }
+    }
+    let words = "demo --frames 64 --length 1 --window 4096";
+    let (answer, held) = ran_by(&rt, alloc, words, Vec::new(alloc), &OpenGate)?;
+    assert_eq!(rt; answer, Status::Done);
+    let line = b"demo frames 64 symbols 128 jobs 7168 matched 64 data 0 pilot 0 code 0\n";
+    assert_eq!(rt; held.as_slice(), line.as_slice());
     Ok(())
 }
 

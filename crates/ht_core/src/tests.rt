@@ -1,4 +1,4 @@
-//! A run of two jobs and two actors, and events that must not come.
+//! Runs of a few jobs and actors, and events that must not come.
 use crate::{Core, Event, Spot, StepFault, enabled, place_of, step};
 use ht_metric::{Hit, Job, Place, Sample, System, Tap, Triangle, plain_nearest};
 use ht_pam::{Grid, Ladder};
@@ -161,5 +161,47 @@ fn window_of_two(rt: HostRuntime) -> Result<(), Fail> {
     }
     assert_eq!(rt; place_of(&core, 0), Some(Spot::Emitted));
     assert_eq!(rt; place_of(&core, 1), Some(Spot::Deque(0)));
+    Ok(())
+}
+
+// A worker moves so many jobs from another's deque to its own, one steal and one push each, and pops its own front.
+fn moves(
+    rt: &impl Abort,
+    core: &mut Core,
+    thief: u8,
+    from: u8,
+    count: u8,
+) -> Result<(), StepFault> {
+    for _ in 0..count {
+        for event in [Event::Steal { thief, from }, Event::Push(thief)] {
+            assert!(rt; enabled(core, &event));
+            step(core, event)?;
+        }
+    }
+    step(core, Event::Pop(thief))
+}
+
+// Worker 1 moves eight of ten jobs and takes the first in hand; worker 2 moves the seven others on.
+#[test]
+fn jobs_moved_on(rt: HostRuntime) -> Result<(), Fail> {
+    let mut core = Core::new(rt.alloc(), 3, 16)?;
+    for number in 0..10 {
+        for event in [Event::Issue(job(number, 3)), Event::Push(0)] {
+            assert!(rt; enabled(&core, &event));
+            step(&mut core, event)?;
+        }
+    }
+    moves(&rt, &mut core, 1, 0, 8)?;
+    moves(&rt, &mut core, 2, 1, 7)?;
+    refused(&rt, &mut core, Event::Steal { thief: 0, from: 1 });
+    for number in 0..10u64 {
+        let spot = match number {
+            0 => Spot::Hand(1),
+            1 => Spot::Hand(2),
+            2..=7 => Spot::Deque(2),
+            _ => Spot::Deque(0),
+        };
+        assert_eq!(rt; place_of(&core, number), Some(spot));
+    }
     Ok(())
 }

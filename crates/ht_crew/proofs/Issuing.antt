@@ -36,7 +36,7 @@ abbrev one_own : Tally → Tally
 one_own t = record { issued = t.issued + 1; booked = t.booked + 1; own = t.own + 1 }
 
 pub same_helm : (h : JobHelm) → IsSameHelm h h
-same_helm h = record { room_is = refl; helpers_are = refl; deque_is = refl; queue_is = refl }
+same_helm h = record { room_is = refl; deques_are = refl; queue_is = refl }
 
 module _ (t : Tally) (w : WindowView) (h : JobHelm) (job : JobView) (tallies : Tallies t w h) (number : t.issued ≡ job.number) (last : job.number < 2 ^ 64 - 1) where
   -- it was given to the pool
@@ -54,7 +54,7 @@ module _ (t : Tally) (w : WindowView) (h : JobHelm) (job : JobView) (tallies : T
         };
         issued = refl;
         told = λ all told at. told_more all h.given job told at;
-        same = record { room_is = refl; helpers_are = refl; deque_is = refl; queue_is = refl };
+        same = record { room_is = refl; deques_are = refl; queue_is = refl };
         capacity_is = refl;
         front_is = refl;
         jobs_are = map-append (λ (s : Slot). s.job) w.slots (unbooked job ∷ []);

@@ -14,8 +14,7 @@ use Rattle.ht_crew.proofs.Filling.{along_more}
 pub same_on : (a b c : JobHelm) → IsSameHelm a b → IsSameHelm b c → IsSameHelm a c
 same_on a b c ab bc = record {
   room_is = bc.room_is ∙ ab.room_is;
-  helpers_are = bc.helpers_are ∙ ab.helpers_are;
-  deque_is = bc.deque_is ∙ ab.deque_is;
+  deques_are = bc.deques_are ∙ ab.deques_are;
   queue_is = bc.queue_is ∙ ab.queue_is;
 }
 

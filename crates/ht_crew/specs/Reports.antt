@@ -1,11 +1,12 @@
 -- What the workers of a drive have run.
-use Rattle.std.specs.Prelude.{◌≡◌, ◌+◌, ◌≤◌, ℕ, [], length, map, sum, min, None, get_or}
-use Rattle.std.specs.List.{sum_by}
+use Rattle.std.specs.Prelude.{◌≡◌, ◌+◌, ◌≤◌, ◌++◌, ℕ, [], length, map, sum, min, None, get_or}
+use Rattle.std.specs.List.{All, sum_by}
 use Rattle.crossbeam_queue.specs.Passes.{view}
 use Rattle.ht_metric.specs.Jobs.{JobView}
 use Rattle.ht_metric.specs.declared.hit.Hit.{Hit}
 use Rattle.ht_counts.specs.Counts.{SameCounts}
-use Rattle.ht_team.specs.Pools.{first_of}
+use Rattle.ht_team.specs.Pools.{IsEmptied, taken_on, moved_on}
+use Rattle.ht_team.specs.Through.{first_of}
 use Rattle.ht_team.specs.declared.hand.Hand.{Hand}
 use Rattle.ht_crew.specs.Accounts.{HaveNumbers, asked}
 use Rattle.ht_crew.specs.declared.report.Passes.{Passes}
@@ -27,22 +28,24 @@ pub record HasRunAlone (report : Report) : Type 0 where
 
 -- so many workers ran the jobs, where the pool had room for so many for sure
 pub record HasRunInPool (workers room : ℕ) (report : Report) (passes : Passes) : Type 0 where
-  -- there is one deque, the caller's
-  pub deques : length passes.deques ≡ 1
+  -- there is a deque for each worker, the caller's first
+  pub deques : length passes.deques ≡ workers
   -- all jobs but the caller's own were pushed on the caller's deque
   pub pushed : length (by_caller passes).pushed + report.own ≡ report.jobs
   -- and for sure the first of them, as many as there was room for
   pub sure : report.own + min report.jobs room ≤ report.jobs
   -- each of them has a number of its own below the number of jobs
   pub numbers : HaveNumbers report.jobs (by_caller passes).pushed
-  -- each was taken once, and nothing is left
-  pub taken : SameCounts (by_caller passes).taken (by_caller passes).pushed
+  -- on each deque what was taken is what was pushed, so nothing is left
+  pub emptied : All IsEmptied passes.deques
+  -- the jobs run, which are those taken on all deques less those moved on, are those pushed on the caller's, each once
+  pub run : SameCounts (taken_on passes.deques) ((by_caller passes).pushed ++ moved_on passes.deques)
   -- by so many workers, the caller first, each of whom counted
   pub each : length report.ran ≡ workers
-  pub ran : sum report.ran ≡ length (by_caller passes).taken
+  pub ran : sum report.ran ≡ length (by_caller passes).pushed
   -- the hits pushed on the queue are as many as the jobs that the workers beside the caller ran
   pub helped : length (hits_of passes).pushed + get_or report.ran 0 0 ≡ sum report.ran
   -- they are of jobs that were run, each as often at most
-  pub of_jobs : (h : JobView → ℕ) → sum_by h (map asked (hits_of passes).pushed) ≤ sum_by h (by_caller passes).taken
+  pub of_jobs : (h : JobView → ℕ) → sum_by h (map asked (hits_of passes).pushed) ≤ sum_by h (by_caller passes).pushed
   -- and the caller received each of them once
   pub received : SameCounts (hits_of passes).taken (hits_of passes).pushed

@@ -1,6 +1,6 @@
 //! What a drive says of its run.
 ghost use Rattle.std.specs.Prelude.{◌≡◌, map};
-ghost use Rattle.ht_team.specs.Pools.{through};
+ghost use Rattle.ht_team.specs.Through.{through};
 
 use ht_metric::{Hit, Job};
 use ht_team::ends::Ends;
@@ -69,7 +69,7 @@ pub struct Deques {
 impl Model for Deques {
     ghost use Rattle.std.specs.Prelude.{List, map};
     ghost use Rattle.ht_metric.specs.Jobs.{JobView};
-    ghost use Rattle.ht_team.specs.Pools.{through};
+    ghost use Rattle.ht_team.specs.Through.{through};
     ghost use Rattle.ht_team.specs.declared.hand.Hand.{Hand};
 
     ghost Value = { List (Hand JobView) };

@@ -198,19 +198,22 @@ fn threads_meet(rt: HostRuntime) -> Result<(), Fail> {
 fn expect_failing<R: Threads + Wait + Abort + Sync>(
     rt: &R,
     alloc: Global,
+    workers: u8,
     window: u16,
     call: u64,
 ) -> Result<(), AllocError>
+    requires one { 1 ≤ workers }
+    requires many { workers ≤ 64 }
     requires some { 1 ≤ window }
     requires few { window ≤ 4096 }
 {
     let failing = vec![in alloc; call]?;
     let mut feed = ListFeed::new(alloc, jobs(alloc)?, failing)?;
-    let fault = drive(rt, alloc, 3, window, &OpenGate, &mut feed).err();
+    let fault = drive(rt, alloc, workers, window, &OpenGate, &mut feed).err();
     assert_eq!(rt;
         fault,
         Some(DriveFault::Feed(ListFault { call })),
-        "{window} {call}"
+        "{workers} {window} {call}"
     );
     expect_first(rt, feed.taken());
     Ok(())
@@ -237,7 +240,8 @@ fn each_call_fails(rt: HostRuntime) -> Result<(), Fail> {
             );
             assert_eq!(rt; feed.taken().len() as u64, taken, "{window} {call}");
             expect_first(&rt, feed.taken());
-            expect_failing(&rt, rt.alloc(), window, call)?;
+            expect_failing(&rt, rt.alloc(), 2, window, call)?;
+            expect_failing(&rt, rt.alloc(), 4, window, call)?;
         }
     }
     Ok(())

@@ -1,11 +1,11 @@
 //! The drive with threads.
-ghost use Rattle.std.specs.Prelude.{◌≡◌, ◌+◌, ◌-◌, ◌^◌, ◌<◌, ◌≤◌, [], length, map, replicate, true, List};
+ghost use Rattle.std.specs.Prelude.{◌≡◌, ◌+◌, ◌-◌, ◌^◌, ◌<◌, ◌≤◌, [], length, map, true, List};
 ghost use Rattle.std.specs.Prelude.{None, Err, Some, IfOk, IfErr, IfSome, IsSome, OnOk, vec_len, vec_capacity};
 ghost use Rattle.std.specs.List.{All};
 ghost use Rattle.ht_metric.specs.Jobs.{JobView};
 ghost use Rattle.ht_team.specs.Helms.{unused, IsSettled};
-ghost use Rattle.ht_team.specs.Members.{HasYetToServe, HasServed, deque_of};
-ghost use Rattle.ht_team.specs.Pools.{IsOpened};
+ghost use Rattle.ht_team.specs.Members.{HasYetToServe, HasServed, berth_of, berths};
+ghost use Rattle.ht_team.specs.Pools.{IsOpened, IsVacant};
 ghost use Rattle.ht_crew.specs.Feeds.{IsFreshFeed, IsLeft};
 ghost use Rattle.ht_crew.specs.Driving.{CallFailed, IsInTurn};
 ghost use Rattle.ht_crew.specs.Accounts.{Tallies, AreTold, asked};
@@ -23,12 +23,12 @@ use ht_metric::{Hit, Job};
 use ht_team::close::close;
 use ht_team::closed::Closed;
 use ht_team::crew::beside;
-use ht_team::ends::Ends;
 use ht_team::helm::Helm;
 use ht_team::member::Member;
 use ht_team::pool::Pool;
 use ht_team::post::Post;
 use ht_team::shared::Shared;
+use ht_team::space::Space;
 use ht_window::Window;
 use std::alloc::Global;
 use std::sync::Wait;
@@ -105,7 +105,7 @@ fn in_pool<R: Threads + Wait + Sync, F: Feed, G: Gate + Sync>(
     window: Window,
     feed: &mut F,
 ) -> Result<Report, F::Fault>
-    requires opened { IsOpened pool.post.helpers window.capacity pool }
+    requires opened { IsOpened window.capacity pool }
     requires empty { window.slots ≡ [] }
     requires front { window.front ≡ 0 }
     requires fresh { IsFreshFeed (F.shown feed.old) }
@@ -122,7 +122,7 @@ fn in_pool<R: Threads + Wait + Sync, F: Feed, G: Gate + Sync>(
     ensures jobs { IfOk result (λ report. report.jobs ≡ (F.shown feed.new).count) }
 
     ensures passes { IfOk result (λ report. IsSome report.passes) }
-    ensures ran { IfOk result (λ report. IfSome report.passes (HasRunInPool (pool.post.helpers + 1) window.capacity report)) }
+    ensures ran { IfOk result (λ report. IfSome report.passes (HasRunInPool (length pool.post.deques) window.capacity report)) }
     ensures told { (jobs : List JobView) → (F.shown feed.old).left ≡ Some jobs
         → IfOk result (λ report. IfSome report.passes (λ passes. AreTold jobs (by_caller passes).pushed)) }
 
@@ -132,11 +132,10 @@ fn in_pool<R: Threads + Wait + Sync, F: Feed, G: Gate + Sync>(
         shared,
         post,
         members,
-        ran,
-        deques,
+        space,
     } = pool;
     let work = Detect { gate };
-    in_threads(rt, &work, &shared, post, members, ran, deques, window, feed)
+    in_threads(rt, &work, &shared, post, members, space, window, feed)
 }
 
 // Runs all jobs of a feed beside the workers of a pool.
@@ -146,20 +145,15 @@ fn in_threads<R: Threads + Wait + Sync, F: Feed, G: Gate + Sync>(
     shared: &Shared<Hit>,
     post: Post<Job, Hit>,
     members: Vec<Member<Job, Hit>>,
-    ran: Vec<u64>,
-    deques: Vec<Ends<Job>>,
+    space: Space<Job>,
     mut window: Window,
     feed: &mut F,
 ) -> Result<Report, F::Fault>
-    requires post { post ≡ unused window.capacity post.helpers post.deque shared.now }
+    requires post { post ≡ unused window.capacity post.deques shared.now }
     requires members { All (HasYetToServe shared.now) members.items }
-    requires deques { map deque_of members.items ≡ replicate post.helpers post.deque }
-    requires count { vec_len members ≡ post.helpers }
+    requires berths { map berth_of members.items ≡ berths post.deques }
     requires seats { vec_len members ≤ vec_capacity members }
-    requires none_ran { ran.items ≡ [] }
-    requires places { post.helpers + 1 ≤ vec_capacity ran }
-    requires no_ends { deques.items ≡ [] }
-    requires room_for_ends { 1 ≤ vec_capacity deques }
+    requires space { IsVacant (length post.deques) space }
     requires empty { window.slots ≡ [] }
     requires front { window.front ≡ 0 }
     requires fresh { IsFreshFeed (F.shown feed.old) }
@@ -176,7 +170,7 @@ fn in_threads<R: Threads + Wait + Sync, F: Feed, G: Gate + Sync>(
     ensures jobs { IfOk result (λ report. report.jobs ≡ (F.shown feed.new).count) }
 
     ensures passes { IfOk result (λ report. IsSome report.passes) }
-    ensures ran { IfOk result (λ report. IfSome report.passes (HasRunInPool (post.helpers + 1) window.capacity report)) }
+    ensures ran { IfOk result (λ report. IfSome report.passes (HasRunInPool (length post.deques) window.capacity report)) }
     ensures told { (jobs : List JobView) → (F.shown feed.old).left ≡ Some jobs
         → IfOk result (λ report. IfSome report.passes (λ passes. AreTold jobs (by_caller passes).pushed)) }
 
@@ -196,7 +190,7 @@ fn in_threads<R: Threads + Wait + Sync, F: Feed, G: Gate + Sync>(
         &mut || lead(rt, work, &mut window, &mut helm, &mut tally, feed),
     );
     answer?;
-    Ok(finish(tally, &window, helm, members, ran, deques))
+    Ok(finish(tally, &window, helm, members, space))
 }
 
 // What was done, once every job has its hit and the workers have ended.
@@ -205,25 +199,20 @@ fn finish<G: Gate>(
     window: &Window,
     helm: Helm<'_, Detect<'_, G>>,
     members: Vec<Member<Job, Hit>>,
-    ran: Vec<u64>,
-    deques: Vec<Ends<Job>>,
+    space: Space<Job>,
 ) -> Report
     requires served { All (HasServed asked helm.queue) members.items }
-    requires at { map deque_of members.items ≡ replicate helm.helpers helm.deque }
-    requires count { vec_len members ≡ helm.helpers }
-    requires none_ran { ran.items ≡ [] }
-    requires places { helm.helpers < vec_capacity ran }
-    requires no_ends { deques.items ≡ [] }
-    requires room_for_ends { 1 ≤ vec_capacity deques }
+    requires berths { map berth_of members.items ≡ berths helm.deques }
+    requires space { IsVacant (length helm.deques) space }
     requires tallies { Tallies tally window.now helm }
     requires booked { tally.booked ≡ tally.issued }
     ensures jobs { result.jobs ≡ tally.issued }
     ensures passes { IsSome result.passes }
-    ensures ran { IfSome result.passes (HasRunInPool (helm.entry.helpers + 1) helm.entry.room result) }
+    ensures ran { IfSome result.passes (HasRunInPool (length helm.entry.deques) helm.entry.room result) }
     ensures given { IfSome result.passes (λ passes. (by_caller passes).pushed ≡ helm.entry.given) }
 {
     let _room = window.has_room();
-    let Closed { deques, pass, ran } = close(helm, members, ran, deques);
+    let Closed { deques, pass, ran } = close(helm, members, space);
     Report {
         jobs: tally.issued,
         own: tally.own,

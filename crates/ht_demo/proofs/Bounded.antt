@@ -33,7 +33,8 @@ use Rattle.ht_capture.specs.declared.items.FrameHead.{FrameHead}
 use Rattle.ht_capture.specs.declared.items.Item.{Item}
 use Rattle.ht_capture.specs.declared.items.Item.TheVariants.{Frame, Job, Done}
 use Rattle.ht_capture.specs.declared.places.Present.{Present}
-use Rattle.ht_capture.specs.Contents.{AreLegs, AreSamples, AreTriangles, AreTyped, AreWhole, IsVersion, frame_jobs, head_of, items_from, items_of, job_of, presents, presents_of, seen, symbol_jobs}
+use Rattle.ht_capture.specs.Contents.{AreLegs, AreSamples, AreTriangles, AreTyped, AreWhole, IsVersion, frame_jobs, head_of, items_from, items_of, job_of}
+use Rattle.ht_capture.specs.Contents.{presents, presents_of, seen, symbol_jobs}
 use Rattle.ht_capture.specs.Captures.{capture_of}
 use Rattle.ht_capture.specs.Fields.{captures}
 use Rattle.ht_capture.specs.Files.{AreCaptureFrames, HasAllCarriers, capture_file_of, is_erased, triangles_behind}

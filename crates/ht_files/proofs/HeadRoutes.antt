@@ -29,7 +29,8 @@ use Rattle.ht_rate.proofs.Numbers.{rate_at-named, bandwidth_code-bound}
 use Rattle.ht_rate.proofs.RateFacts.{mcs_of-range}
 use Rattle.ht_heads.specs.Heads.{HeadFails, start_octets, head_octets, rate_octets}
 use Rattle.ht_heads.proofs.Leading.{HasHead, HasMagic, head_halts, magic_halts, not_above, route_magic, same_octet, some_length}
-use Rattle.ht_files.specs.HeadedFormats.{HeadState, Magic, Version, Count, Bandwidth, Mcs, Length, Body, Over, HeadedFormat, StartFails, frame_due, grammar_of, magic_due}
+use Rattle.ht_files.specs.HeadedFormats.{HeadState, Magic, Version, Count, Bandwidth, Mcs, Length, Body, Over, HeadedFormat, StartFails, frame_due}
+use Rattle.ht_files.specs.HeadedFormats.{grammar_of, magic_due}
 use Rattle.ht_files.specs.HeadedFormats.{good_bandwidth, good_count, good_length, good_magic, good_mcs, good_version}
 
 pub frame_is : {B : Type 0} (left : ℕ) → 0 < left → (let s : HeadState B = frame_due left in s) ≡ Bandwidth left

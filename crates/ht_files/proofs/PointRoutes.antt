@@ -39,7 +39,8 @@ use Rattle.ht_tx.proofs.Places.{digits, digits-below, parts-below}
 use Rattle.ht_heads.specs.Heads.{head_octets}
 use Rattle.ht_files.specs.HeadedFormats.{HeadState, Body, frame_due}
 use Rattle.ht_files.specs.Places.{AreFitting, FitsPlace, carrier_at_place, stream_at_place, symbol_at_place}
-use Rattle.ht_files.specs.Points.{AddsPoints, MeetsMisfit, PointDue, TakesSymbol, first_point, fits_carrier, good_point, kind_on, misfits, misfits_place, point_in, point_octets, points_due}
+use Rattle.ht_files.specs.Points.{AddsPoints, MeetsMisfit, PointDue, TakesSymbol, first_point, fits_carrier, good_point, kind_on, misfits, misfits_place}
+use Rattle.ht_files.specs.Points.{point_in, point_octets, points_due}
 use Rattle.ht_files.specs.Points.{pointed, symbols}
 use Rattle.ht_files.specs.SymbolFiles.{AreSymbolFrames, IsSymbolFrame, symbols_file_of, symbols_octets}
 use Rattle.ht_files.proofs.HeadRoutes.{file_written, head_size, route_head}

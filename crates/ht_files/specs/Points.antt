@@ -1,5 +1,6 @@
 -- Files of symbols as lists of fields.
-use Rattle.std.specs.Prelude.{◌≡◌, ℕ, ◌+◌, ◌-◌, ◌*◌, ◌/◌, ◌<◌, List, [], ◌∷◌, ◌++◌, length, flat_map, slice_index, slice_index_or, nat_eq, Bool, true, false, ◌&&◌, is_some, if◌then◌else◌}
+use Rattle.std.specs.Prelude.{◌≡◌, ℕ, ◌+◌, ◌-◌, ◌*◌, ◌/◌, ◌<◌, List, [], ◌∷◌, ◌++◌, length, flat_map, slice_index, slice_index_or, nat_eq, Bool, true, false}
+use Rattle.std.specs.Prelude.{◌&&◌, is_some, if◌then◌else◌}
 use Rattle.std.specs.Int.{cast_signed, cast_unsigned, w8}
 use Rattle.std.specs.Ordering.{int_eq}
 use Rattle.ht_io.specs.Devices.{Device, Takes}

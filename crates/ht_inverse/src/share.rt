@@ -145,8 +145,10 @@ impl Share {
         requires share { count ≤ share_of self.now.rate }
         requires within { symbol * share_of self.now.rate + count ≤ symbols * share_of self.now.rate }
         requires room { symbol * share_of self.now.rate + count ≤ vec_capacity bits.old }
-        requires so_far { bits.old.items ≡ map (received_at self.now.rate self.now.erased labels.now self.now.encoder) (range_with_len 0 (symbol * share_of self.now.rate)) }
-        ensures items { bits.new.items ≡ map (received_at self.now.rate self.now.erased labels.now self.now.encoder) (range_with_len 0 (symbol * share_of self.now.rate + count)) }
+        requires so_far { bits.old.items
+            ≡ map (received_at self.now.rate self.now.erased labels.now self.now.encoder) (range_with_len 0 (symbol * share_of self.now.rate)) }
+        ensures items { bits.new.items
+            ≡ map (received_at self.now.rate self.now.erased labels.now self.now.encoder) (range_with_len 0 (symbol * share_of self.now.rate + count)) }
         ensures room { vec_capacity bits.new ≡ vec_capacity bits.old }
     {
         let places = self.places.as_slice();

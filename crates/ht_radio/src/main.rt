@@ -1,8 +1,9 @@
 //! The program `radio`: the commands of `ht_cli` over standard input and standard output.
 //!
-//! It hands on the words behind the program's name and ends with the status that `run` answers. Where the system's call for the words finds no memory it ends with status 5, and where it is
-//! refused for another cause, as a word that isn't UTF-8, with status 6; in both cases it reads and writes nothing. Where
-//! reading or writing failed, the system's last error is said on standard error, and nothing else ever is.
+//! It hands on the words behind the program's name and ends with the status that `run` answers. Where the system's call
+//! for the words finds no memory it ends with status 5, and where it is refused for another cause, as a word that isn't
+//! UTF-8, with status 6; in both cases it reads and writes nothing. Where reading or writing failed, the system's last
+//! error is said on standard error, and nothing else ever is.
 #![tactic(auto)]
 
 use ht_cli::{Status, run};
@@ -32,14 +33,7 @@ fn main(rt: HostRuntime) -> ExitCode {
     };
     let mut source = StdSource::new(reader);
     let mut sink = StdSink::new(writer(&rt));
-    let status = run(
-        &rt,
-        rt.alloc(),
-        &words,
-        &mut source,
-        &mut sink,
-        &OpenGate,
-    );
+    let status = run(&rt, rt.alloc(), &words, &mut source, &mut sink, &OpenGate);
     let (failed, error) = match status {
         Status::ReadFault => ("reading standard input", source.last_error()),
         Status::WriteFault => ("writing standard output", sink.last_error()),

@@ -10,7 +10,8 @@ use Rattle.ht_rate.specs.Rates.{carriers_of}
 use Rattle.ht_metric.specs.Jobs.{JobView}
 use Rattle.ht_capture.specs.declared.items.FrameHead.{FrameHead}
 use Rattle.ht_capture.specs.Files.{is_erased, present_among}
-use Rattle.ht_capture_laws.specs.Items.{FrameJobs, HasSymbols, IsFrontOfFrame, IsHead, IsJobOf, IsPlaceIn, IsWholeFrame, carriers_in, place_in, symbol_places, symbols_in}
+use Rattle.ht_capture_laws.specs.Items.{FrameJobs, HasSymbols, IsFrontOfFrame, IsHead, IsJobOf, IsPlaceIn, IsWholeFrame, carriers_in, place_in, symbol_places}
+use Rattle.ht_capture_laws.specs.Items.{symbols_in}
 use Rattle.ht_capture_laws.proofs.Lists.{all_of_map, all_weaker, length-flat}
 use Rattle.ht_capture_laws.proofs.Parts.{places_good}
 use Rattle.ht_results.specs.declared.frame_result.FrameResult.{FrameResult}

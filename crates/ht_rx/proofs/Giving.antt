@@ -1,5 +1,6 @@
 -- Jobs that were found are due.
-use Rattle.std.proofs.Common.{◌≡◌, ℕ, ◌+◌, ◌-◌, ◌<◌, List, [], ◌∷◌, ◌++◌, drop, length, slice_get, Option, None, Some, refl, sym, ap, ◌∙◌, subst, arith, append-nil, append_assoc, length-append}
+use Rattle.std.proofs.Common.{◌≡◌, ℕ, ◌+◌, ◌-◌, ◌<◌, List, [], ◌∷◌, ◌++◌, drop, length, slice_get, Option, None, Some, refl, sym, ap, ◌∙◌, subst, arith}
+use Rattle.std.proofs.Common.{append-nil, append_assoc, length-append}
 use Rattle.std.proofs.lemmas.Option.{none-some}
 use Rattle.circular_buffer.specs.Buffer.{keep_last}
 use Rattle.ht_metric.specs.Jobs.{JobView}

@@ -146,8 +146,10 @@ impl Desk {
         requires well { self.old.failed ≡ None }
         requires first { slice_get (jobs_alone self.old.due) 0 ≡ Some hit.job }
         ensures tells { (source : Device ℕ) → MatchResult result
-            (λ _. Tells (seen_by self.old source (told_by A.shown A.pieces A.waits account.old)) (seen_by self.new source (told_by A.shown A.pieces A.waits account.new)))
-            (TellsPart (seen_by self.old source (told_by A.shown A.pieces A.waits account.old)) (seen_by self.new source (told_by A.shown A.pieces A.waits account.new))) }
+            (λ _. Tells (seen_by self.old source (told_by A.shown A.pieces A.waits account.old))
+            (seen_by self.new source (told_by A.shown A.pieces A.waits account.new)))
+            (TellsPart (seen_by self.old source (told_by A.shown A.pieces A.waits account.old))
+            (seen_by self.new source (told_by A.shown A.pieces A.waits account.new))) }
         ensures taken { OnOk result (TakesHit (feed_of self.old) (feed_of self.new)) }
         ensures well { OnOk result (self.new.failed ≡ None) }
         ensures fault { IfErr result (Fails (feed_of self.old) (feed_of self.new)) }

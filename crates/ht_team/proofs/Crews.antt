@@ -3,16 +3,16 @@ use Rattle.std.proofs.Common.{◌≡◌, List, [], ◌∷◌, ◌++◌, map, ap,
 use Rattle.std.proofs.lemmas.List.{map-append}
 use Rattle.std.proofs.lemmas.List.Elements.{All-push, All-same}
 use Rattle.atomic_table.specs.Seated.{TableId}
-use Rattle.ht_team.specs.Members.{deque_of, HasServed, HaveServed}
+use Rattle.ht_team.specs.Members.{berth_of, HasServed, HaveServed}
 use Rattle.ht_team.specs.declared.member.Member.{Member}
 
 module _ {T A : Type 0} (asked : A → T) (queue : TableId) where
   pub have_served-push : (before front after all : List (Member T A)) (m m' : Member T A) → before ≡ front ++ m ∷ [] → all ≡ after ++ m' ∷ []
-      → HaveServed asked queue front after → HasServed asked queue m' → deque_of m' ≡ deque_of m → HaveServed asked queue before all
+      → HaveServed asked queue front after → HasServed asked queue m' → berth_of m' ≡ berth_of m → HaveServed asked queue before all
   have_served-push before front after all m m' b a those this same =
-      let new : map deque_of all ≡ map deque_of after ++ deque_of m' ∷ [] = ap (map deque_of) a ∙ map-append deque_of after (m' ∷ []) in
-      let old : map deque_of before ≡ map deque_of front ++ deque_of m ∷ [] = ap (map deque_of) b ∙ map-append deque_of front (m ∷ []) in
+      let new : map berth_of all ≡ map berth_of after ++ berth_of m' ∷ [] = ap (map berth_of) a ∙ map-append berth_of after (m' ∷ []) in
+      let old : map berth_of before ≡ map berth_of front ++ berth_of m ∷ [] = ap (map berth_of) b ∙ map-append berth_of front (m ∷ []) in
       record {
         served = All-same (HasServed asked queue) all (after ++ m' ∷ []) a (All-push (HasServed asked queue) after m' those.served this);
-        deques = new ∙ (ap (λ x. map deque_of after ++ x ∷ []) same ∙ (ap (λ xs. xs ++ deque_of m ∷ []) those.deques ∙ sym old));
+        berths_are = new ∙ (ap (λ x. map berth_of after ++ x ∷ []) same ∙ (ap (λ xs. xs ++ berth_of m ∷ []) those.berths_are ∙ sym old));
       }

@@ -1,123 +1,158 @@
--- One more worker's passes are joined; and what is known once all are.
-use Rattle.std.proofs.Common.{◌≡◌, ◌+◌, ◌++◌, ◌∷◌, [], ℕ, List, length, map, sum, arith, ap, ◌∙◌, sym, refl}
-use Rattle.std.proofs.lemmas.List.{append-nil, map-append, length-append, length-map}
-use Rattle.std.proofs.lemmas.List.Sums.{sum_by-append, sum_by-cons, sum_by_push}
-use Rattle.std.specs.List.{sum_by}
-use Rattle.ht_counts.specs.Counts.{SameCounts}
-use Rattle.ht_team.specs.Hands.{hand, joined, AddsUp}
-use Rattle.ht_team.specs.Helms.{HelmView, IsSettled}
-use Rattle.ht_team.specs.Gathering.{Gathers, ran_by}
-use Rattle.ht_team.specs.Pools.{HasRun, through, first_of, through_queue}
-use Rattle.ht_team.specs.declared.hand.Hand.{Hand}
-use Rattle.ht_team.specs.declared.member.Member.{Member}
-use Rattle.ht_team.specs.declared.closed.Closed.{Closed}
+-- Seats are joined into the owners' ends, deque by deque.
+use Rattle.std.proofs.Common.{◌≡◌, ℕ, zero, suc, ◌+◌, ◌<◌, ◌≤◌, List, [], ◌∷◌, ◌++◌, length, map, set, get_or, take, drop, ap, ◌∙◌, sym, refl, arith}
+use Rattle.std.specs.List.{AllByRecursion, flat_map, sum_by}
+use Rattle.std.proofs.lemmas.List.{length-append, length-map, length-take}
+use Rattle.std.proofs.lemmas.List.Sums.{sum_by-append}
+use Rattle.std.proofs.Math.Seq.{map-set_same}
+use Rattle.ht_team.specs.Seats.{DequeId, SeatView, OwnView, took_in, deques_at, taken_at}
+use Rattle.ht_team.specs.Opening.{own_deques}
+use Rattle.ht_team.specs.Gathering.{joined_row, joined_rows}
 
-pub ones : {X : Type 0} (xs : List X) → sum_by (λ _. 1) xs ≡ length xs
-ones [] = refl
-ones (x ∷ xs) = omega (arith, sum_by-cons (λ _. 1) x xs, ones xs)
+module _ {T : Type 0} where
+  -- what all owners took, and what they pushed
+  abbrev pub taken_by : List (OwnView T) → List T
+  taken_by owners = flat_map (λ (o : OwnView T). o.taken) owners
 
-sum_by-none : {X : Type 0} (h : X → ℕ) (xs : List X) → length xs ≡ 0 → sum_by h xs ≡ 0
-sum_by-none h [] e = refl
-sum_by-none h (x ∷ xs) e = absurd (omega (arith, e))
+  abbrev pub pushed_by : List (OwnView T) → List T
+  pushed_by owners = flat_map (λ (o : OwnView T). o.pushed) owners
 
-sum-map : {X : Type 0} (f : X → ℕ) (xs : List X) → sum_by (λ (n : ℕ). n) (map f xs) ≡ sum_by f xs
-sum-map f [] = refl
-sum-map f (x ∷ xs) = omega (arith, sum_by-cons (λ (n : ℕ). n) (f x) (map f xs), sum_by-cons f x xs, sum-map f xs)
+  -- the last seat first
+  pub joined_row-last : (owners : List (OwnView T)) (seats : List (SeatView T)) (seat : SeatView T) (d : OwnView T) → length seats < length owners
+      → joined_row (set owners (length seats) (took_in (get_or owners (length seats) d) seat)) seats ≡ joined_row owners (seats ++ seat ∷ [])
+  joined_row-last [] seats seat d lt = absurd (omega (arith, lt))
+  joined_row-last (own ∷ []) [] seat d lt = refl
+  joined_row-last (own ∷ next ∷ owners) [] seat d lt = refl
+  joined_row-last (own ∷ owners) (first ∷ seats) seat d lt =
+      ap (λ (xs : List (OwnView T)). took_in own first ∷ xs) (joined_row-last owners seats seat d (omega (arith, lt)))
 
-module _ {T A : Type 0} (asked : A → T) (t0 : Hand T) (a0 : Hand A) (all : List (Member T A)) where
-  pub gathers-join : (left left' : List (Member T A)) (m : Member T A) (tasks more tasks' : Hand T) (answers others answers' : Hand A)
-      → Gathers asked t0 a0 all left tasks answers → left ≡ left' ++ m ∷ []
-      → tasks' ≡ joined tasks more → more.parts ≡ 1 → more.pushed ≡ [] → answers' ≡ joined answers others → others.parts ≡ 1 → others.taken ≡ []
-      → SameCounts (map asked others.pushed) more.taken → m.ran ≡ length others.pushed → Gathers asked t0 a0 all left' tasks' answers'
-  gathers-join left left' m tasks more tasks' answers others answers' was e t one none a one' none' share ran =
-      let less : length left ≡ length left' + 1 = ap length e ∙ length-append left' (m ∷ []) in
-      let tp : tasks'.parts ≡ tasks.parts + more.parts = ap (λ (v : Hand T). v.parts) t in
-      let an : answers'.parts ≡ answers.parts + others.parts = ap (λ (v : Hand A). v.parts) a in
-      let both : answers'.pushed ≡ answers.pushed ++ others.pushed = ap (λ (v : Hand A). v.pushed) a in
-      let pushed : map asked answers'.pushed ≡ map asked answers.pushed ++ map asked others.pushed = ap (map asked) both
-      ∙ map-append asked answers.pushed others.pushed in
-      let took : tasks'.taken ≡ tasks.taken ++ more.taken = ap (λ (v : Hand T). v.taken) t in
-      let long : length answers'.pushed ≡ length answers.pushed + length others.pushed = ap length both ∙ length-append answers.pushed others.pushed in
-      let sums : ran_by left ≡ ran_by left' + m.ran = ap ran_by e ∙ sum_by_push (λ (x : Member T A). x.ran) left' m in
-      record {
-        parts = omega (arith, was.parts, less, tp, one);
-        some = omega (arith, was.some, tp);
-        answer_parts = omega (arith, was.answer_parts, less, an, one');
-        some_answer = omega (arith, was.some_answer, an);
-        pushed = ap (λ (v : Hand T). v.pushed) t ∙ (ap (λ (xs : List T). tasks.pushed ++ xs) none ∙ (append-nil tasks.pushed ∙ was.pushed));
-        ran = λ h. omega (
-          arith,
-          ap (sum_by h) took,
-          ap (sum_by h) pushed,
-          sum_by-append h tasks.taken more.taken,
-          sum_by-append h t0.taken (map asked answers'.pushed),
-          sum_by-append h t0.taken (map asked answers.pushed),
-          sum_by-append h (map asked answers.pushed) (map asked others.pushed),
-          was.ran h,
-          share h,
-        );
-        popped = ap (λ (v : Hand A). v.taken) a ∙ (ap (λ (xs : List A). answers.taken ++ xs) none' ∙ (append-nil answers.taken ∙ was.popped));
-        numbers = omega (arith, long, sums, ran, was.numbers);
-      }
+  pub joined_row-none : (owners : List (OwnView T)) → joined_row owners [] ≡ owners
+  joined_row-none [] = refl
+  joined_row-none (own ∷ owners) = refl
 
-  module _ (helm : HelmView T A) (given_are : t0.pushed ≡ helm.given) (taken_are : t0.taken ≡ helm.taken) (answers_are : a0.taken ≡ helm.answers)
-      (tasks : Hand T) (answers : Hand A) (held : List T) (waiting : List A) (gathered : Gathers asked t0 a0 all [] tasks answers)
-      (whole : AddsUp tasks held) (whole' : AddsUp answers waiting) (settled : IsSettled helm) where
-    a : length tasks.pushed ≡ length tasks.taken + length held
-    a = omega (arith, whole (λ _. 1), ones tasks.pushed, ones tasks.taken, ones held)
+  -- the last thread first
+  pub joined_rows-last : (owners : List (OwnView T)) (rows : List (List (SeatView T))) (seats : List (SeatView T))
+      → joined_rows (joined_row owners seats) rows ≡ joined_rows owners (rows ++ seats ∷ [])
+  joined_rows-last owners [] seats = refl
+  joined_rows-last owners (row ∷ rows) seats = ap (λ (xs : List (OwnView T)). joined_row xs row) (joined_rows-last owners rows seats)
 
-    b : length tasks.taken ≡ length helm.taken + length answers.pushed
-    b = omega (
+  pub row-deques : (owners : List (OwnView T)) (seats : List (SeatView T)) → own_deques (joined_row owners seats) ≡ own_deques owners
+  row-deques [] seats = refl
+  row-deques (own ∷ owners) [] = refl
+  row-deques (own ∷ owners) (seat ∷ seats) = ap (λ (xs : List DequeId). own.deque ∷ xs) (row-deques owners seats)
+
+  pub row-pushed : (owners : List (OwnView T)) (seats : List (SeatView T)) → pushed_by (joined_row owners seats) ≡ pushed_by owners
+  row-pushed [] seats = refl
+  row-pushed (own ∷ owners) [] = refl
+  row-pushed (own ∷ owners) (seat ∷ seats) = ap (λ (xs : List T). own.pushed ++ xs) (row-pushed owners seats)
+
+  pub row-parts : (parts : ℕ) (owners : List (OwnView T)) (seats : List (SeatView T)) → length seats ≡ length owners
+      → AllByRecursion (λ (o : OwnView T). o.parts ≡ parts) owners → AllByRecursion (λ (o : OwnView T). o.parts ≡ parts + 1) (joined_row owners seats)
+  row-parts parts [] seats same all = tt
+  row-parts parts (own ∷ owners) [] same all = absurd (omega (arith, same))
+  row-parts parts (own ∷ owners) (seat ∷ seats) same all =
+      (omega (arith, all.0), row-parts parts owners seats (omega (arith, same)) all.1)
+
+  -- what was taken at the seats is taken by the owners: the shares are joined, by induction on the number of deques
+  pub row-taken : (h : T → ℕ) (owners : List (OwnView T)) (seats : List (SeatView T)) → length seats ≡ length owners
+      → sum_by h (taken_by (joined_row owners seats)) ≡ sum_by h (taken_by owners) + sum_by h (taken_at seats)
+  row-taken h [] [] same = omega arith
+  row-taken h [] (seat ∷ seats) same = absurd (omega (arith, same))
+  row-taken h (own ∷ owners) [] same = absurd (omega (arith, same))
+  row-taken h (own ∷ owners) (seat ∷ seats) same = omega (
+    arith,
+    row-taken h owners seats (omega (arith, same)),
+    sum_by-append h (own.taken ++ seat.taken) (taken_by (joined_row owners seats)),
+    sum_by-append h own.taken seat.taken,
+    sum_by-append h own.taken (taken_by owners),
+    sum_by-append h seat.taken (taken_at seats),
+  )
+
+  length_owners : (owners : List (OwnView T)) (seats : List (SeatView T)) → length (joined_row owners seats) ≡ length owners
+  length_owners [] seats = refl
+  length_owners (own ∷ owners) [] = refl
+  length_owners (own ∷ owners) (seat ∷ seats) = ap suc (length_owners owners seats)
+
+  -- each thread has a seat at each deque
+  abbrev pub AreWhole : ℕ → List (List (SeatView T)) → Type 0
+  AreWhole deques rows = AllByRecursion (λ (seats : List (SeatView T)). length seats ≡ deques) rows
+
+  pub length_rows : (owners : List (OwnView T)) (rows : List (List (SeatView T))) → length (joined_rows owners rows) ≡ length owners
+  length_rows owners [] = refl
+  length_rows owners (seats ∷ rows) = length_owners (joined_rows owners rows) seats ∙ length_rows owners rows
+
+  pub rows-pushed : (owners : List (OwnView T)) (rows : List (List (SeatView T))) → pushed_by (joined_rows owners rows) ≡ pushed_by owners
+  rows-pushed owners [] = refl
+  rows-pushed owners (seats ∷ rows) = row-pushed (joined_rows owners rows) seats ∙ rows-pushed owners rows
+
+  pub same_parts : (m n : ℕ) (owners : List (OwnView T)) → m ≡ n → AllByRecursion (λ (o : OwnView T). o.parts ≡ m) owners
+      → AllByRecursion (λ (o : OwnView T). o.parts ≡ n) owners
+  same_parts m n [] e all = tt
+  same_parts m n (own ∷ owners) e all = (all.0 ∙ e, same_parts m n owners e all.1)
+
+  pub rows-parts : (parts : ℕ) (owners : List (OwnView T)) (rows : List (List (SeatView T))) → AreWhole (length owners) rows
+      → AllByRecursion (λ (o : OwnView T). o.parts ≡ parts) owners
+      → AllByRecursion (λ (o : OwnView T). o.parts ≡ parts + length rows) (joined_rows owners rows)
+  rows-parts parts owners [] whole all = same_parts parts (parts + 0) owners (omega arith) all
+  rows-parts parts owners (seats ∷ rows) whole all =
+      same_parts (parts + length rows + 1) (parts + length (seats ∷ rows)) (joined_rows owners (seats ∷ rows)) (omega arith)
+      (row-parts (parts + length rows) (joined_rows owners rows) seats (whole.0 ∙ sym (length_rows owners rows)) (rows-parts parts owners rows whole.1 all))
+
+  pub rows-taken : (h : T → ℕ) (owners : List (OwnView T)) (rows : List (List (SeatView T))) → AreWhole (length owners) rows
+      → sum_by h (taken_by (joined_rows owners rows)) ≡ sum_by h (taken_by owners) + sum_by h (flat_map (λ (seats : List (SeatView T)). taken_at seats) rows)
+  rows-taken h owners [] whole = omega arith
+  rows-taken h owners (seats ∷ rows) whole = omega (
+    arith,
+    row-taken h (joined_rows owners rows) seats (whole.0 ∙ sym (length_rows owners rows)),
+    rows-taken h owners rows whole.1,
+    sum_by-append h (taken_at seats) (flat_map (λ (seats : List (SeatView T)). taken_at seats) rows),
+  )
+
+  -- the last of the seats is at the deque in its place
+  pub at_last : (seats : List (SeatView T)) (seat : SeatView T) (owners : List (OwnView T)) (d : OwnView T)
+      → deques_at (seats ++ seat ∷ []) ≡ take (suc (length seats)) (own_deques owners) → seat.at ≡ (get_or owners (length seats) d).deque
+  at_last [] seat [] d e = absurd (omega (arith, ap length e))
+  at_last [] seat (own ∷ owners) d e = ap (λ (ids : List DequeId). get_or ids 0 seat.at) e
+  at_last (first ∷ seats) seat [] d e = absurd (omega (arith, ap length e))
+  at_last (first ∷ seats) seat (own ∷ owners) d e = at_last seats seat owners d (ap (drop 1) e)
+
+  at_front : (seats : List (SeatView T)) (seat : SeatView T) (ids : List DequeId)
+      → deques_at (seats ++ seat ∷ []) ≡ take (suc (length seats)) ids → deques_at seats ≡ take (length seats) ids
+  at_front [] seat ids e = refl
+  at_front (first ∷ seats) seat [] e = absurd (omega (arith, ap length e))
+  at_front (first ∷ seats) seat (id ∷ ids) e =
+      ap (λ (x : DequeId). x ∷ deques_at seats) (ap (λ (xs : List DequeId). get_or xs 0 first.at) e)
+      ∙ ap (λ (xs : List DequeId). id ∷ xs) (at_front seats seat ids (ap (drop 1) e))
+
+  module _ (owners owners0 : List (OwnView T)) (left rest seats0 : List (SeatView T)) (seat : SeatView T) (k : ℕ) (last : left ≡ rest ++ seat ∷ [])
+      (place : k ≡ length rest) (same : own_deques owners ≡ own_deques owners0)
+      (at : deques_at left ≡ take (length left) (own_deques owners0)) where
+    long : length left ≡ suc (length rest)
+    long = ap length last ∙ (length-append rest (seat ∷ []) ∙ omega arith)
+
+    front : deques_at (rest ++ seat ∷ []) ≡ take (suc (length rest)) (own_deques owners)
+    front = ap (λ (ss : List (SeatView T)). deques_at ss) (sym last) ∙ (at ∙ (ap (λ n. take n (own_deques owners0)) long
+        ∙ ap (λ (ids : List DequeId). take (suc (length rest)) ids) (sym same)))
+
+    small : length rest < length owners
+    small = omega (
       arith,
-      ap length taken_are,
-      gathered.ran (λ _. 1),
-      ones tasks.taken,
-      ones (t0.taken ++ map asked answers.pushed),
-      length-append t0.taken (map asked answers.pushed),
-      length-map answers.pushed asked,
+      ap length front,
+      length-map (rest ++ seat ∷ []) (λ (s : SeatView T). s.at),
+      length-append rest (seat ∷ []),
+      length-take (suc (length rest)) (own_deques owners),
+      length-map owners (λ (o : OwnView T). o.deque),
     )
 
-    c : length answers.pushed ≡ length answers.taken + length waiting
-    c = omega (arith, whole' (λ _. 1), ones answers.pushed, ones answers.taken, ones waiting)
+    pub at_place : (d : OwnView T) → seat.at ≡ (get_or owners k d).deque
+    at_place d = at_last rest seat owners d front ∙ ap (λ n. (get_or owners n d).deque) (sym place)
 
-    d : length tasks.pushed ≡ length helm.given
-    d = ap length (gathered.pushed ∙ given_are)
-
-    e : length answers.taken ≡ length helm.answers
-    e = ap length (gathered.popped ∙ answers_are)
-
-    none : length held ≡ 0
-    none = omega (arith, a, b, c, d, e, settled)
-
-    none' : length waiting ≡ 0
-    none' = omega (arith, a, b, c, d, e, settled)
-
-    taken : SameCounts tasks.taken tasks.pushed
-    taken h = omega (arith, whole h, sum_by-none h held none)
-
-    pub has_run : (closed : Closed T A) → map through closed.deques.items ≡ hand 1023 tasks.pushed tasks.taken ∷ []
-        → through_queue closed ≡ answers
-        → closed.ran.items ≡ length helm.taken ∷ map (λ (m : Member T A). m.ran) all → HasRun asked helm all closed
-    has_run closed of of' numbers = record {
-      deques = omega (arith, length-map closed.deques.items through, ap length of);
-      pushed = ap (λ (vs : List (Hand T)). (first_of vs).pushed) of ∙ (gathered.pushed ∙ given_are);
-      taken = λ h. ap (λ (vs : List (Hand T)). sum_by h (first_of vs).taken) of
-          ∙ (taken h ∙ ap (λ (vs : List (Hand T)). sum_by h (first_of vs).pushed) (sym of));
-      run = λ h. ap (λ (v : Hand A). sum_by h (helm.taken ++ map asked v.pushed)) of' ∙ (ap (λ xs. sum_by h (xs ++ map asked answers.pushed))
-          (sym taken_are) ∙ (sym (gathered.ran h) ∙ (taken h ∙ ap (sum_by h) (gathered.pushed ∙ given_are))));
-      received = ap (λ (v : Hand A). v.taken) of' ∙ (gathered.popped ∙ answers_are);
-      answers = λ h. ap (λ (v : Hand A). sum_by h v.taken) of' ∙ (omega (arith, whole' h, sum_by-none h waiting none')
-          ∙ ap (λ (v : Hand A). sum_by h v.pushed) (sym of'));
-      numbers = numbers;
-      ran = omega (
-        arith,
-        ap sum numbers,
-        sum_by-cons (λ (n : ℕ). n) (length helm.taken) (map (λ (m : Member T A). m.ran) all),
-        sum-map (λ (m : Member T A). m.ran) all,
-        gathered.numbers,
-        a,
-        b,
-        d,
-        none,
-      );
-    }
+    pub row-step : (d new : OwnView T) → new ≡ took_in (get_or owners k d) seat → joined_row owners left ≡ joined_row owners0 seats0
+        → (own_deques (set owners k new) ≡ own_deques owners0) × (deques_at rest ≡ take (length rest) (own_deques owners0))
+        × (joined_row (set owners k new) rest ≡ joined_row owners0 seats0)
+    row-step d new took was = (
+      map-set_same (λ (o : OwnView T). o.deque) owners k new d (ap (λ (o : OwnView T). o.deque) took) ∙ same,
+      at_front rest seat (own_deques owners0) (front ∙ ap (λ (ids : List DequeId). take (suc (length rest)) ids) same),
+      ap (λ (o : OwnView T). joined_row (set owners k o) rest) took
+          ∙ (ap (λ n. joined_row (set owners n (took_in (get_or owners n d) seat)) rest) place
+          ∙ (joined_row-last owners rest seat d small ∙ (ap (λ (ss : List (SeatView T)). joined_row owners ss) (sym last) ∙ was))),
+    )

@@ -1,6 +1,11 @@
 pub mod Sums
 pub mod Counting
 pub mod Steps
+pub mod Lists
+pub mod Looking
+pub mod Serving
 pub mod Crews
+pub mod Backs
 pub mod Joining
-pub mod Copies
+pub mod Settling
+pub mod Opens

@@ -1,22 +1,44 @@
--- The passes of the workers that have ended are joined, one worker after another.
-use Rattle.std.specs.Prelude.{◌≡◌, ◌+◌, ◌<◌, ◌++◌, ℕ, List, length, map}
-use Rattle.std.specs.List.{sum_by}
-use Rattle.ht_counts.specs.Counts.{SameCounts}
+-- The seats and passes of the workers that have ended are joined, one worker after another.
+use Rattle.std.specs.Prelude.{◌≡◌, ◌+◌, ◌<◌, ◌++◌, ℕ, List, [], ◌∷◌, length, map}
+use Rattle.std.specs.Global.{Vec}
+use Rattle.std.specs.List.{flat_map}
+use Rattle.ht_team.specs.Hands.{hand, AddsUp}
+use Rattle.ht_team.specs.Seats.{SeatView, OwnView, took_in}
+use Rattle.ht_team.specs.Members.{answers_of}
 use Rattle.ht_team.specs.declared.hand.Hand.{Hand}
 use Rattle.ht_team.specs.declared.member.Member.{Member}
 
-module _ {T A : Type 0} where
-  -- how many tasks they have run
-  abbrev pub ran_by : List (Member T A) → ℕ
-  ran_by members = sum_by (λ (m : Member T A). m.ran) members
+module _ {T : Type 0} where
+  -- the seats of each thread
+  abbrev pub rows_of : List (Vec (SeatView T)) → List (List (SeatView T))
+  rows_of rows = map (λ (seats : Vec (SeatView T)). seats.items) rows
 
-  -- what went through the caller's deque and pass, t and a alone, once the passes of all workers but those that are left are joined with these
-  pub record Gathers (asked : A → T) (t : Hand T) (a : Hand A) (all left : List (Member T A)) (tasks : Hand T) (answers : Hand A) : Type 0 where
-    pub parts : tasks.parts + length left ≡ 1024
-    pub some : 0 < tasks.parts
-    pub answer_parts : answers.parts + length left ≡ 1024
-    pub some_answer : 0 < answers.parts
-    pub pushed : tasks.pushed ≡ t.pushed
-    pub ran : SameCounts tasks.taken (t.taken ++ map asked answers.pushed)
-    pub popped : answers.taken ≡ a.taken
-    pub numbers : length answers.pushed + ran_by left ≡ ran_by all
+  -- one thread's seats are joined into the owners' ends, deque by deque
+  abbrev pub joined_row : List (OwnView T) → List (SeatView T) → List (OwnView T)
+  joined_row [] seats = []
+  joined_row (own ∷ owners) [] = own ∷ owners
+  joined_row (own ∷ owners) (seat ∷ seats) = took_in own seat ∷ joined_row owners seats
+
+  -- the seats of all threads
+  abbrev pub joined_rows : List (OwnView T) → List (List (SeatView T)) → List (OwnView T)
+  joined_rows owners [] = owners
+  joined_rows owners (seats ∷ rows) = joined_row (joined_rows owners rows) seats
+
+  -- what went through a deque that is closed
+  abbrev pub ended : OwnView T → Hand T
+  ended own = hand 1023 own.pushed own.taken
+
+  -- what was pushed is what was taken and something that is held
+  abbrev pub IsAccounted : Hand T → Type 0
+  IsAccounted v = (held : List T) × AddsUp v held
+
+module _ {T A : Type 0} where
+  -- the answers of some workers
+  abbrev pub answered_by : List (Member T A) → List A
+  answered_by members = flat_map (λ (m : Member T A). (answers_of m).pushed) members
+
+  -- the caller's pass on the queue of answers, once the passes of these workers are joined into it
+  pub record Collects (before after : Hand A) (members : List (Member T A)) : Type 0 where
+    pub parts : after.parts ≡ before.parts + length members
+    pub pushed : after.pushed ≡ before.pushed ++ answered_by members
+    pub taken : after.taken ≡ before.taken

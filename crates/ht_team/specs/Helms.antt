@@ -1,34 +1,41 @@
 -- What is seen of the caller's end of a pool.
 use Rattle.std.specs.Prelude.{◌≡◌, ◌+◌, ◌≤◌, ℕ, List, [], ◌∷◌, ◌++◌, length}
 use Rattle.atomic_table.specs.Seated.{TableId}
-use Rattle.ht_team.specs.Seats.{DequeId}
+use Rattle.ht_counts.specs.Counts.{SameCounts}
+use Rattle.ht_team.specs.Seats.{DequeId, SeatView, OwnView, deques_at, taken_at}
 
 pub record HelmView (T A : Type 0) : Type 0 where
   -- so many tasks can be given for sure
   pub room : ℕ
-  -- the number of workers beside the caller
-  pub helpers : ℕ
-  -- the caller's deque, and the queue of answers
-  pub deque : DequeId
+  -- a deque for each worker, the caller's first, and the queue of answers
+  pub deques : List DequeId
   pub queue : TableId
-  -- the tasks that were given, and those that were taken back and run, in order
+  -- the tasks that were given, in order
   pub given : List T
+  -- the tasks that were taken back and run
   pub taken : List T
   -- the answers that were received, in order
   pub answers : List A
 
 module _ {T A : Type 0} where
+  -- a caller with this end of its own deque and these seats, who received these answers
+  abbrev pub helm_view : OwnView T → List (SeatView T) → TableId → List A → HelmView T A
+  helm_view own seats queue answers = record {
+    room = own.room;
+    deques = deques_at seats;
+    queue = queue;
+    given = own.pushed;
+    taken = own.taken ++ taken_at seats;
+    answers = answers;
+  }
+
   -- nothing was given yet
-  abbrev pub unused : ℕ → ℕ → DequeId → TableId → HelmView T A
-  unused room helpers deque queue = record { room = room; helpers = helpers; deque = deque; queue = queue; given = []; taken = []; answers = [] }
+  abbrev pub unused : ℕ → List DequeId → TableId → HelmView T A
+  unused room deques queue = record { room = room; deques = deques; queue = queue; given = []; taken = []; answers = [] }
 
   -- one more task was given
   abbrev pub gave : HelmView T A → T → HelmView T A
   gave helm task = record helm { given = helm.given ++ task ∷ [] }
-
-  -- one more task was taken back
-  abbrev pub took : HelmView T A → T → HelmView T A
-  took helm task = record helm { taken = helm.taken ++ task ∷ [] }
 
   -- one more answer was received
   abbrev pub received : HelmView T A → A → HelmView T A
@@ -41,6 +48,13 @@ module _ {T A : Type 0} where
   -- it is the same helm, of the same pool
   pub record IsSameHelm (old new : HelmView T A) : Type 0 where
     pub room_is : new.room ≡ old.room
-    pub helpers_are : new.helpers ≡ old.helpers
-    pub deque_is : new.deque ≡ old.deque
+    pub deques_are : new.deques ≡ old.deques
     pub queue_is : new.queue ≡ old.queue
+
+  -- one more task was taken back
+  pub record TakesBack (old new : HelmView T A) (task : T) : Type 0 where
+    pub same : IsSameHelm old new
+    pub given_is : new.given ≡ old.given
+    pub took : SameCounts new.taken (old.taken ++ task ∷ [])
+    pub longer : length new.taken ≡ length old.taken + 1
+    pub answers_are : new.answers ≡ old.answers

@@ -1,59 +1,69 @@
 -- A pool before its threads begin, and what it has done once they have ended.
-use Rattle.std.specs.Prelude.{◌≡◌, ◌+◌, ◌≤◌, ℕ, List, [], ◌∷◌, ◌++◌, length, map, sum, replicate, vec_len, vec_capacity}
-use Rattle.std.specs.List.{All}
-use Rattle.crossbeam_deque.specs.Handles.{worker_view}
+use Rattle.std.specs.Prelude.{◌≡◌, ◌≤◌, ℕ, List, [], ◌∷◌, ◌++◌, length, map, sum, drop, vec_len, vec_capacity}
+use Rattle.std.specs.List.{All, flat_map}
 use Rattle.crossbeam_queue.specs.Passes.{view as answer_view}
 use Rattle.ht_counts.specs.Counts.{SameCounts}
-use Rattle.ht_team.specs.Hands.{hand}
-use Rattle.ht_team.specs.Members.{deque_of, HasYetToServe}
+use Rattle.ht_team.specs.Through.{through, first_of}
+use Rattle.ht_team.specs.Members.{Berth, berth_of, berths, HasYetToServe}
 use Rattle.ht_team.specs.Helms.{HelmView, unused}
 use Rattle.ht_team.specs.declared.hand.Hand.{Hand}
 use Rattle.ht_team.specs.declared.member.Member.{Member}
+use Rattle.ht_team.specs.declared.space.Space.{Space}
 use Rattle.ht_team.specs.declared.pool.Pool.{Pool}
-use Rattle.ht_team.specs.declared.ends.Ends.{Ends}
 use Rattle.ht_team.specs.declared.closed.Closed.{Closed}
 
--- what went through a deque that is done with
-abbrev pub through : {T : Type 0} → Ends T → Hand T
-through e = worker_view e.owner
+module _ {T : Type 0} where
+  -- room for so many workers, and nothing is there
+  pub record IsVacant (workers : ℕ) (s : Space T) : Type 0 where
+    pub ran : (s.ran.items ≡ []) × (workers ≤ vec_capacity s.ran)
+    pub owners : (s.owners.items ≡ []) × (workers ≤ vec_capacity s.owners)
+    pub rows : (s.rows.items ≡ []) × (workers ≤ vec_capacity s.rows)
+    pub deques : (s.deques.items ≡ []) × (workers ≤ vec_capacity s.deques)
 
--- the first of these hands
-abbrev pub first_of : {T : Type 0} → List (Hand T) → Hand T
-first_of [] = hand 0 [] []
-first_of (v ∷ vs) = v
+  -- all that was taken on these deques
+  abbrev pub taken_on : List (Hand T) → List T
+  taken_on hands = flat_map (λ (v : Hand T). v.taken) hands
+
+  -- what was pushed on the deques other than the first, the caller's
+  abbrev pub moved_on : List (Hand T) → List T
+  moved_on hands = flat_map (λ (v : Hand T). v.pushed) (drop 1 hands)
+
+  -- what was pushed was taken, each as often, so nothing is left
+  abbrev pub IsEmptied : Hand T → Type 0
+  IsEmptied v = SameCounts v.taken v.pushed
 
 module _ {T A : Type 0} where
-  -- a pool of so many helpers, with this room
-  pub record IsOpened (helpers room : ℕ) (p : Pool T A) : Type 0 where
-    pub post : p.post ≡ unused room helpers p.post.deque p.shared
+  -- a pool with this room in each deque
+  pub record IsOpened (room : ℕ) (p : Pool T A) : Type 0 where
+    pub post : p.post ≡ unused room p.post.deques p.shared
     pub fresh : All (HasYetToServe p.shared) p.members.items
-    pub deques : map deque_of p.members.items ≡ replicate helpers p.post.deque
-    pub count : vec_len p.members ≡ helpers
+    pub berths_are : map berth_of p.members.items ≡ berths p.post.deques
     pub seats : vec_len p.members ≤ vec_capacity p.members
-    pub none_ran : p.ran.items ≡ []
-    pub places : helpers + 1 ≤ vec_capacity p.ran
-    pub no_ends : p.deques.items ≡ []
-    pub room_for_ends : 1 ≤ vec_capacity p.deques
+    pub space : IsVacant (length p.post.deques) p.space
 
-  -- what went through the caller's deque, and through the queue of answers
-  abbrev pub through_deque : Closed T A → Hand T
-  through_deque c = first_of (map through c.deques.items)
+  -- what went through the deques, the caller's first, and through the queue of answers
+  abbrev pub through_deques : Closed T A → List (Hand T)
+  through_deques c = map through c.deques.items
 
   abbrev pub through_queue : Closed T A → Hand A
   through_queue c = answer_view c.pass
 
   -- what was done, where the helm is as the caller left it
   pub record HasRun (asked : A → T) (helm : HelmView T A) (helpers : List (Member T A)) (c : Closed T A) : Type 0 where
-    -- there is one deque
-    pub deques : length c.deques.items ≡ 1
-    -- the tasks that were pushed are those that were given, and each was taken once, so none is left
-    pub pushed : (through_deque c).pushed ≡ helm.given
-    pub taken : SameCounts (through_deque c).taken (through_deque c).pushed
-    -- each task that was given was run once, by the caller or by a worker, who pushed its answer
+    -- there is a deque for each worker
+    pub deques : length c.deques.items ≡ length helm.deques
+    -- the tasks that were pushed on the caller's are those that were given
+    pub pushed : (first_of (through_deques c)).pushed ≡ helm.given
+    -- none is left on any
+    pub emptied : All IsEmptied (through_deques c)
+    -- the tasks run, which are those taken less those moved on, are those that were given, each once
+    pub taken : SameCounts (taken_on (through_deques c)) (helm.given ++ moved_on (through_deques c))
+    -- each was run by the caller or by a worker, who pushed its answer
     pub run : SameCounts (helm.taken ++ map asked (through_queue c).pushed) helm.given
     -- all answers were received
     pub received : (through_queue c).taken ≡ helm.answers
     pub answers : SameCounts (through_queue c).taken (through_queue c).pushed
     -- how many each has run, the caller first
+    pub each : length c.ran.items ≡ length helm.deques
     pub numbers : c.ran.items ≡ length helm.taken ∷ map (λ (m : Member T A). m.ran) helpers
     pub ran : sum c.ran.items ≡ length helm.given

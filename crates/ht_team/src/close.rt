@@ -1,108 +1,145 @@
 //! A pool once its threads have ended.
-ghost use Rattle.std.specs.Prelude.{◌≡◌, ◌+◌, ◌<◌, ◌≤◌, ◌∷◌, [], List, length, map, replicate, sum, vec_len, vec_capacity};
+ghost use Rattle.std.specs.Prelude.{◌≡◌, ◌+◌, ◌<◌, ◌≤◌, ◌++◌, ◌∷◌, [], List, length, map, vec_capacity};
 ghost use Rattle.std.specs.List.{All};
-ghost use Rattle.crossbeam_deque.specs.Handles.{worker_deque, worker_view};
 ghost use Rattle.crossbeam_queue.specs.Passes.{view};
-ghost use Rattle.ht_team.specs.Hands.{hand};
-ghost use Rattle.ht_team.specs.Members.{deque_of, Serves, IsOnQueue, HasServed};
+ghost use Rattle.ht_team.specs.Seats.{SeatView, OwnView, deques_at};
+ghost use Rattle.ht_team.specs.Through.{through};
+ghost use Rattle.ht_team.specs.Members.{IsOnQueue, HasServed, berth_of, berths};
 ghost use Rattle.ht_team.specs.Helms.{IsSettled};
-ghost use Rattle.ht_team.specs.Gathering.{Gathers};
-ghost use Rattle.ht_team.specs.Pools.{HasRun, through};
+ghost use Rattle.ht_team.specs.Gathering.{Collects, IsAccounted, ended, joined_row, joined_rows, rows_of};
+ghost use Rattle.ht_team.specs.Pools.{HasRun, IsVacant};
 ghost use Rattle.ht_team.specs.declared.member.Member.{Member as MemberValue};
+ghost use Rattle.ht_team.specs.declared.ends.Ends.{Ends as EndsValue};
 
 use crate::closed::Closed;
 use crate::ends::Ends;
+use crate::first::take_first;
 use crate::helm::Helm;
 use crate::member::Member;
+use crate::own::OwnDeque;
 use crate::post::Post;
-use crate::rule::{Cut, Whole};
-use crate::seat::Owner;
+use crate::seat::Seat;
 use crate::shared::{AnswerPass, Shared};
+use crate::space::Space;
 use crate::work::Work;
 
-// The number of tasks that each has run, the caller first.
-fn list<T: Drop, A: Drop>(caller: u64, members: &[Member<T, A>], ran: &mut Vec<u64>)
-    requires room { length members.now < vec_capacity ran.old }
-    requires empty { ran.old.items ≡ [] }
-    ensures { ran.new.items ≡ caller ∷ map (λ (m : MemberValue T A). m.ran) members.now }
-{
-    ran.push_reserved(caller);
-    for member in members {
-        ran.push_reserved(member.ran);
-    }
-}
-
-// Joins the passes of all workers.
-fn gather<W: Work>(
-    owner: &mut Owner<W::Task>,
+// Takes the workers apart: their numbers, their deques and their seats, and joins their passes on the queue.
+fn take_apart<W: Work>(
     shared: &Shared<W::Answer>,
     pass: &mut AnswerPass<W::Answer>,
     mut members: Vec<Member<W::Task, W::Answer>>,
+    ran: &mut Vec<u64>,
+    owners: &mut Vec<OwnDeque<W::Task>>,
+    rows: &mut Vec<Vec<Seat<W::Task>>>,
 )
     requires served { All (HasServed W.asked shared.now) members.items }
-    requires deques { All (Serves (worker_deque owner.old)) members.items }
     requires queue { IsOnQueue shared.now pass.old }
-    requires parts { (worker_view owner.old).parts + vec_len members ≡ 1024 }
-    requires some { 0 < (worker_view owner.old).parts }
-    requires answer_parts { (view pass.old).parts ≡ (worker_view owner.old).parts }
-    requires none_pushed { (view pass.old).pushed ≡ [] }
+    requires some { 0 < (view pass.old).parts }
+    requires numbers { length ran.old.items + length members.items ≤ vec_capacity ran.old }
+    requires places { length owners.old.items + length members.items ≤ vec_capacity owners.old }
+    requires room { length rows.old.items + length members.items ≤ vec_capacity rows.old }
+    ensures ran { ran.new.items ≡ ran.old.items ++ map (λ (m : MemberValue W.Task W.Answer). m.ran) members.items }
+    ensures owners { owners.new.items ≡ owners.old.items ++ map (λ (m : MemberValue W.Task W.Answer). m.own) members.items }
+    ensures rows { rows_of rows.new.items ≡ rows_of rows.old.items ++ map (λ (m : MemberValue W.Task W.Answer). m.seats.items) members.items }
     ensures queue { IsOnQueue shared.now pass.new }
-    ensures gathered { Gathers W.asked (worker_view owner.old) (view pass.old) members.items [] (worker_view owner.new) (view pass.new) }
+    ensures collected { Collects (view pass.old) (view pass.new) members.items }
 {
-    while let Some(member) = members.pop() {
+    while let Some(member) = take_first(&mut members) {
         let Member {
-            seat,
+            own,
+            seats,
+            place: _,
             pass: answers,
-            ran: _,
+            ran: number,
         } = member;
-        owner.absorb::<Cut>(seat.into_pass());
+        ran.push_reserved(number);
+        owners.push_reserved(own);
+        rows.push_reserved(seats);
         shared.absorb(pass, answers);
     }
 }
 
-// The ends of the deque alone.
-fn list_ends<T: Drop>(mut owner: Owner<T>, mut deques: Vec<Ends<T>>) -> Vec<Ends<T>>
-    requires all { (worker_view owner).parts ≡ 1024 }
-    requires places { 1 ≤ vec_capacity deques }
-    requires none { deques.items ≡ [] }
-    ensures { map through result.items ≡ hand 1023 (worker_view owner).pushed (worker_view owner).taken ∷ [] }
+// Joins one thread's seats into the owners' ends.
+fn join_row<T: Drop>(owners: &mut [OwnDeque<T>], mut seats: Vec<Seat<T>>)
+    requires at { deques_at seats.items ≡ map (λ (o : OwnView T). o.deque) owners.old }
+    ensures { owners.new ≡ joined_row owners.old seats.items }
 {
-    let pass = owner.another::<Cut>();
-    deques.push_reserved(Ends::new(owner, pass));
+    while let Some(seat) = seats.pop() {
+        owners[seats.len()].absorb(seat);
+    }
+}
+
+// Joins the seats of all threads into the owners' ends.
+fn join_all<T: Drop>(owners: &mut [OwnDeque<T>], mut rows: Vec<Vec<Seat<T>>>)
+    requires at { All (λ (seats : List (SeatView T)). deques_at seats ≡ map (λ (o : OwnView T). o.deque) owners.old) (rows_of rows.items) }
+    ensures { owners.new ≡ joined_rows owners.old (rows_of rows.items) }
+{
+    while let Some(seats) = rows.pop() {
+        join_row(owners, seats);
+    }
+}
+
+// The same for owners that are given back.
+fn join_owners<T: Drop>(mut owners: Vec<OwnDeque<T>>, rows: Vec<Vec<Seat<T>>>) -> Vec<OwnDeque<T>>
+    requires at { All (λ (seats : List (SeatView T)). deques_at seats ≡ map (λ (o : OwnView T). o.deque) owners.items) (rows_of rows.items) }
+    ensures { result.items ≡ joined_rows owners.items (rows_of rows.items) }
+{
+    join_all(owners.as_mut_slice(), rows);
+    owners
+}
+
+// Closes the deques.
+fn close_all<T: Drop>(mut owners: Vec<OwnDeque<T>>, mut deques: Vec<Ends<T>>) -> Vec<Ends<T>>
+    requires all { All (λ (o : OwnView T). o.parts ≡ 1024) owners.items }
+    requires none { deques.items ≡ [] }
+    requires places { length owners.items ≤ vec_capacity deques }
+    ensures through { map through result.items ≡ map ended owners.items }
+    ensures whole { All (λ (e : EndsValue T). IsAccounted (through e)) result.items }
+{
+    while let Some(own) = take_first(&mut owners) {
+        deques.push_reserved(own.close());
+    }
     deques
 }
 
-/// Joins the passes of all workers once they have ended, and tells what the pool has done. The caller has taken back or
-/// received an answer to as many tasks as it gave. `ran` has room for a number for the caller and for each worker, and
-/// `deques` for the ends of the deque.
+/// Joins the seats and passes of all workers once they have ended, and tells what the pool has done. The caller has
+/// taken back or received an answer to as many tasks as it gave.
 pub fn close<W: Work>(
     helm: Helm<'_, W>,
     members: Vec<Member<W::Task, W::Answer>>,
-    mut ran: Vec<u64>,
-    deques: Vec<Ends<W::Task>>,
+    space: Space<W::Task>,
 ) -> Closed<W::Task, W::Answer>
     requires served { All (HasServed W.asked helm.queue) members.items }
-    requires deques { map deque_of members.items ≡ replicate helm.helpers helm.deque }
-    requires count { vec_len members ≡ helm.helpers }
+    requires berths { map berth_of members.items ≡ berths helm.deques }
     requires settled { IsSettled helm }
-    requires room { helm.helpers < vec_capacity ran }
-    requires empty { ran.items ≡ [] }
-    requires places { 1 ≤ vec_capacity deques }
-    requires none { deques.items ≡ [] }
+    requires space { IsVacant (length helm.deques) space }
     ensures { HasRun W.asked helm.entry members.items result }
 {
-    list(helm.ran, members.as_slice(), &mut ran);
-    let Helm { post, shared, .. } = helm;
-    let Post {
-        mut owner,
-        mut pass,
+    let Helm {
+        post,
+        shared,
+        ran: caller,
         ..
+    } = helm;
+    let Post {
+        own,
+        seats,
+        mut pass,
     } = post;
-    gather::<W>(&mut owner, shared, &mut pass, members);
-    owner.len_as::<Whole>();
+    let Space {
+        mut ran,
+        mut owners,
+        mut rows,
+        deques,
+    } = space;
+    ran.push_reserved(caller);
+    owners.push_reserved(own);
+    rows.push_reserved(seats);
+    take_apart::<W>(shared, &mut pass, members, &mut ran, &mut owners, &mut rows);
+    let owners = join_owners(owners, rows);
     shared.learn(&mut pass);
     Closed {
-        deques: list_ends(owner, deques),
+        deques: close_all(owners, deques),
         pass,
         ran,
     }

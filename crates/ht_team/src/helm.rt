@@ -1,14 +1,14 @@
 //! The caller's end of a pool.
 ghost use Rattle.std.specs.Prelude.{◌≡◌, ◌≤◌, [], length, IfErr, IfSome, IfNone, OnOk};
-ghost use Rattle.ht_team.specs.Helms.{gave, took, received};
+ghost use Rattle.ht_team.specs.Helms.{gave, received, TakesBack};
 
 use crate::post::Post;
 use crate::shared::Shared;
 use crate::work::Work;
 use std::marker::Model;
 
-/// Where a caller gives tasks to the pool and gets answers. Contracts see the tasks that it gave, those that it took
-/// back and ran itself, and the answers that it received, each in order.
+/// Where a caller gives tasks to the pool and gets answers. Contracts see the tasks that it gave, in order, those that it
+/// took back and ran itself, and the answers that it received, in order.
 #[derive(Drop)]
 pub struct Helm<'a, W: Work> {
     pub(crate) post: Post<W::Task, W::Answer>,
@@ -58,9 +58,9 @@ impl<'a, W: Work> Helm<'a, W> {
         self.post.give(task)
     }
 
-    /// Takes back the first task that no worker took, and runs it. There may be none.
+    /// Takes back the first task that no worker took, or else one from a worker's deque, and runs it. There may be none.
     pub fn run_one(&mut self) -> Option<W::Answer>
-        ensures ran { IfSome result (λ answer. self.new ≡ took self.old (W.asked answer)) }
+        ensures ran { IfSome result (λ answer. TakesBack self.old self.new (W.asked answer)) }
         ensures none { IfNone result (self.new ≡ self.old) }
     {
         if self.ran == u64::MAX {

@@ -1,13 +1,18 @@
 //! A worker's own things.
 
+use crate::own::OwnDeque;
 use crate::seat::Seat;
 use crate::shared::AnswerPass;
 
 /// A worker before its thread begins, and after it has ended.
 #[derive(Drop)]
 pub struct Member<T: Drop, A: Drop> {
-    /// Its seat at the caller's deque.
-    pub seat: Seat<T>,
+    /// Its own deque.
+    pub own: OwnDeque<T>,
+    /// Its seats at all deques, in the order of the deques.
+    pub seats: Vec<Seat<T>>,
+    /// The number of its own deque in this order.
+    pub place: u8,
     /// Its pass on the queue of answers.
     pub pass: AnswerPass<A>,
     /// The number of tasks that it has run.

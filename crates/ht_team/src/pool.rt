@@ -1,18 +1,21 @@
 //! A pool before its threads begin.
-ghost use Rattle.std.specs.Prelude.{◌≡◌, ◌-◌, ◌<◌, ◌≤◌, [], map, replicate, IfOk, OnOk, vec_len, vec_capacity};
+ghost use Rattle.std.specs.Prelude.{◌≡◌, ◌+◌, ◌-◌, ◌<◌, ◌≤◌, [], List, length, map, IfOk, OnOk, vec_capacity};
 ghost use Rattle.std.specs.List.{All};
-ghost use Rattle.crossbeam_deque.specs.Handles.{worker_deque, worker_view, worker_index, SameWorker};
 ghost use Rattle.crossbeam_queue.specs.Passes.{view as answer_view};
 ghost use Rattle.ht_team.specs.Hands.{hand};
-ghost use Rattle.ht_team.specs.Members.{HasYetToServe, IsOnQueue, deque_of};
+ghost use Rattle.ht_team.specs.Seats.{DequeId, OwnView, fresh_own};
+ghost use Rattle.ht_team.specs.Members.{HasYetToServe, IsOnQueue, berth, berth_of};
+ghost use Rattle.ht_team.specs.Opening.{AreReady, own_deques};
 ghost use Rattle.ht_team.specs.Pools.{IsOpened};
 
-use crate::ends::Ends;
+use crate::first::take_first;
 use crate::member::Member;
+use crate::own::OwnDeque;
 use crate::post::Post;
-use crate::rule::Cut;
-use crate::seat::{Owner, Seat};
+use crate::seat::Seat;
+use crate::seating::open_seated;
 use crate::shared::{AnswerPass, AnswerQueue, Shared};
+use crate::space::Space;
 use std::alloc::{AllocError, Global};
 
 /// All that a pool needs: what its threads share, the caller's post, and its workers.
@@ -24,94 +27,87 @@ pub struct Pool<T: Drop, A: Drop> {
     pub post: Post<T, A>,
     /// The workers beside the caller.
     pub members: Vec<Member<T, A>>,
-    /// Room for the number of tasks that each has run.
-    pub ran: Vec<u64>,
-    /// Room for the ends of the deque.
-    pub deques: Vec<Ends<T>>,
+    /// Room for what is left of the pool.
+    pub space: Space<T>,
 }
 
 impl<T: Drop + Send, A: Drop + Send> Pool<T, A> {
-    /// A pool of the caller and `helpers` workers, at most 63. It can hold `room` tasks and as many answers at least,
-    /// and takes all the memory for these now.
+    /// A pool of the caller and `helpers` workers, at most 63. Each deque can hold `room` tasks, and the queue as many
+    /// answers at least. It takes all the memory for these now, and that for the end of the pool.
     pub fn open(alloc: Global, helpers: u8, room: u16) -> Result<Pool<T, A>, AllocError>
         requires few { helpers ≤ 63 }
         requires some { 1 ≤ room }
-        ensures { IfOk result (IsOpened helpers room) }
+        ensures opened { IfOk result (IsOpened room) }
+        ensures workers { IfOk result (λ pool. length pool.post.deques ≡ helpers + 1) }
     {
-        let mut owner: Owner<T> = Owner::fifo_as(alloc, usize::from(room))?;
+        let workers = usize::from(helpers) + 1;
         let (answers, mut pass): (AnswerQueue<A>, AnswerPass<A>) = AnswerQueue::ruled(
             alloc,
             usize::from(room),
         )?;
         let shared = Shared::new(answers);
         let mut members = Vec::with_capacity(alloc, usize::from(helpers))?;
-        let ran = Vec::with_capacity(alloc, usize::from(helpers) + 1)?;
-        let deques = Vec::with_capacity(alloc, 1)?;
-        seat_all(&mut owner, &shared, &mut pass, &mut members, helpers)?;
-        let post = Post::new(owner, pass, room, helpers);
+        let ran = Vec::with_capacity(alloc, workers)?;
+        let deques = Vec::with_capacity(alloc, workers)?;
+        let (mut owners, mut rows) = open_seated(alloc, workers, room)?;
+        let Some(own) = take_first(&mut owners) else {
+            unreachable!()
+        };
+        let Some(seats) = rows.pop() else {
+            unreachable!()
+        };
+        seat_all(&shared, &mut pass, &mut owners, &mut rows, &mut members);
+        let post = Post::new(own, seats, pass);
         Ok(Pool {
             shared,
             post,
             members,
-            ran,
-            deques,
+            space: Space {
+                ran,
+                owners,
+                rows,
+                deques,
+            },
         })
     }
 }
 
-// A worker that has run nothing.
-fn member<T: Drop, A: Drop>(
-    owner: &mut Owner<T>,
-    shared: &Shared<A>,
-    pass: &mut AnswerPass<A>,
-) -> Result<Member<T, A>, AllocError>
-    requires some { 1 < (worker_view owner.old).parts }
-    requires some_answer { 1 < (answer_view pass.old).parts }
-    requires queue { IsOnQueue shared.now pass.old }
-    ensures fresh { IfOk result (HasYetToServe shared.now) }
-    ensures deque { IfOk result (λ m. deque_of m ≡ worker_deque owner.old) }
-    ensures owner { worker_view owner.new ≡ hand ((worker_view owner.old).parts - 1) (worker_view owner.old).pushed (worker_view owner.old).taken }
-    ensures same { SameWorker owner.old owner.new }
-    ensures index { worker_index owner.new ≡ worker_index owner.old }
-    ensures queue { IsOnQueue shared.now pass.new }
-    ensures pass { answer_view pass.new ≡ hand ((answer_view pass.old).parts - 1) (answer_view pass.old).pushed (answer_view pass.old).taken }
-{
-    let task_pass = owner.another::<Cut>();
-    let answer_pass = shared.another(pass);
-    let thief = owner.stealer()?;
-    Ok(Member {
-        seat: Seat::new(thief, task_pass),
-        pass: answer_pass,
-        ran: 0,
-    })
-}
-
-// Makes the workers, and cuts their passes off.
+// Makes the workers of their deques and seats, and cuts their passes on the queue off.
 fn seat_all<T: Drop, A: Drop>(
-    owner: &mut Owner<T>,
     shared: &Shared<A>,
     pass: &mut AnswerPass<A>,
+    owners: &mut Vec<OwnDeque<T>>,
+    rows: &mut Vec<Vec<Seat<T>>>,
     members: &mut Vec<Member<T, A>>,
-    helpers: u8,
-) -> Result<(), AllocError>
-    requires few { helpers ≤ 63 }
-    requires owner { worker_view owner.old ≡ hand 1024 [] [] }
+)
+    requires few { length owners.old.items ≤ 63 }
+    requires rows { length rows.old.items ≡ length owners.old.items }
+    requires none { members.old.items ≡ [] }
+    requires room { length owners.old.items ≤ vec_capacity members.old }
     requires queue { IsOnQueue shared.now pass.old }
     requires pass { answer_view pass.old ≡ hand 1024 [] [] }
-    requires room { helpers ≤ vec_capacity members.old }
-    requires empty { members.old.items ≡ [] }
-    ensures fresh { OnOk result (All (HasYetToServe shared.now) members.new.items) }
-    ensures deques { OnOk result (map deque_of members.new.items ≡ replicate helpers (worker_deque owner.old)) }
-    ensures count { OnOk result (vec_len members.new ≡ helpers) }
-    ensures room { OnOk result (vec_len members.new ≤ vec_capacity members.new) }
-    ensures owner { OnOk result (worker_view owner.new ≡ hand (1024 - helpers) [] []) }
-    ensures same { OnOk result (SameWorker owner.old owner.new) }
-    ensures index { OnOk result (worker_index owner.new ≡ worker_index owner.old) }
-    ensures queue { OnOk result (IsOnQueue shared.now pass.new) }
-    ensures pass { OnOk result (answer_view pass.new ≡ hand (1024 - helpers) [] []) }
+    ensures fresh { (deques : List DequeId) → AreReady deques owners.old.items rows.old.items → All (HasYetToServe shared.now) members.new.items }
+    ensures berths { (deques : List DequeId) → AreReady deques owners.old.items rows.old.items
+        → map berth_of members.new.items ≡ map (berth deques) (own_deques owners.old.items) }
+    ensures count { length members.new.items ≡ length owners.old.items }
+    ensures room { vec_capacity members.new ≡ vec_capacity members.old }
+    ensures owners { (owners.new.items ≡ []) × (vec_capacity owners.new ≡ vec_capacity owners.old) }
+    ensures rows { (rows.new.items ≡ []) × (vec_capacity rows.new ≡ vec_capacity rows.old) }
+    ensures queue { IsOnQueue shared.now pass.new }
+    ensures pass { answer_view pass.new ≡ hand (1024 - length owners.old.items) [] [] }
 {
-    for _ in 0..helpers {
-        members.push_reserved(member(owner, shared, pass)?);
+    let mut place = 0u8;
+    while let Some(own) = take_first(owners) {
+        let Some(seats) = rows.pop() else {
+            unreachable!()
+        };
+        place += 1;
+        members.push_reserved(Member {
+            own,
+            seats,
+            place,
+            pass: shared.another(pass),
+            ran: 0,
+        });
     }
-    Ok(())
 }

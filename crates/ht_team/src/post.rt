@@ -1,67 +1,57 @@
 //! What the caller of a pool owns.
-ghost use Rattle.std.specs.Prelude.{◌≡◌, ◌-◌, ◌≤◌, [], length, IfErr, IfSome, IfNone, OnOk};
-ghost use Rattle.crossbeam_deque.specs.Handles.{worker_deque, worker_view, worker_flavor, worker_index, worker_capacity};
+ghost use Rattle.std.specs.Prelude.{◌≡◌, ◌+◌, ◌-◌, ◌≤◌, ◌∷◌, [], length, drop, map, IfErr, IfSome, IfNone, OnOk};
 ghost use Rattle.crossbeam_queue.specs.Passes.{view as answer_view};
-ghost use Rattle.ht_team.specs.Helms.{unused, gave, took, received};
 ghost use Rattle.ht_team.specs.Hands.{hand};
+ghost use Rattle.ht_team.specs.Seats.{fresh_seat, fresh_own, deques_at};
+ghost use Rattle.ht_team.specs.Helms.{unused, gave, received, TakesBack};
 ghost use Rattle.ht_team.specs.Members.{IsOnQueue};
 
-use crate::rule::{Push, Take};
-use crate::seat::Owner;
+use crate::lookout::steal_one;
+use crate::own::OwnDeque;
+use crate::seat::Seat;
 use crate::shared::{AnswerPass, Shared};
 use std::marker::Model;
 
-/// The owner's end of the caller's deque, and the caller's pass on the queue of answers.
+/// The caller's own deque, its seats at all deques, and its pass on the queue of answers.
 #[derive(Drop)]
 pub struct Post<T: Drop, A: Drop> {
-    pub(crate) owner: Owner<T>,
+    pub(crate) own: OwnDeque<T>,
+    pub(crate) seats: Vec<Seat<T>>,
     pub(crate) pass: AnswerPass<A>,
-    room: u16,
 }
 
 impl<T: Drop, A: Drop> Model for Post<T, A> {
-    ghost use Rattle.std.specs.Prelude.{◌≡◌, ◌-◌, ◌<◌, ◌≤◌, [], length};
-    ghost use Rattle.crossbeam_deque.specs.Handles.{worker_deque, worker_view, worker_flavor, worker_index, worker_capacity};
+    ghost use Rattle.std.specs.Prelude.{◌≡◌, ◌+◌, ◌≤◌, ◌∷◌, [], length, drop};
     ghost use Rattle.crossbeam_queue.specs.Passes.{view as answer_view};
-    ghost use Rattle.ht_team.specs.Helms.{HelmView};
+    ghost use Rattle.ht_team.specs.Seats.{deques_at};
+    ghost use Rattle.ht_team.specs.Helms.{HelmView, helm_view};
 
     ghost Value = { HelmView T A };
 
-    ghost view = { λ p. record {
-      room = p.room;
-      helpers = 1024 - (worker_view p.owner).parts;
-      deque = worker_deque p.owner;
-      queue = p.pass.table_id;
-      given = (worker_view p.owner).pushed;
-      taken = (worker_view p.owner).taken;
-      answers = (answer_view p.pass).taken;
-    } };
+    ghost view = { λ p. helm_view p.own p.seats.items p.pass.table_id (answer_view p.pass).taken };
 
     ghost invariant = { λ p.
-        (worker_flavor p.owner ≡ 0)
-        × (0 < (worker_view p.owner).parts)
-        × ((worker_view p.owner).parts ≤ 1024)
-        × ((answer_view p.pass).parts ≡ (worker_view p.owner).parts)
+        (length p.seats.items ≤ 64)
+        × (deques_at p.seats.items ≡ p.own.deque ∷ drop 1 (deques_at p.seats.items))
+        × (p.own.parts + length p.seats.items ≡ 1024)
+        × ((answer_view p.pass).parts + length p.seats.items ≡ 1025)
         × ((answer_view p.pass).pushed ≡ [])
-        × (p.pass.me.1 ≡ [])
-        × (worker_index p.owner ≤ length (worker_view p.owner).pushed)
-        × (p.room ≤ worker_capacity p.owner) };
+        × (p.pass.me.1 ≡ []) };
 }
 
 impl<T: Drop, A: Drop> Post<T, A> {
-    /// The post of a caller with so many helpers, at most 63.
-    pub(crate) fn new(owner: Owner<T>, pass: AnswerPass<A>, room: u16, helpers: u8) -> Post<T, A>
-        requires few { helpers ≤ 63 }
-        requires flavor { worker_flavor owner ≡ 0 }
-        requires index { worker_index owner ≡ 0 }
-        requires capacity { room ≤ worker_capacity owner }
-        requires tasks { worker_view owner ≡ hand (1024 - helpers) [] [] }
+    /// The post of a caller who has given nothing yet, and who has a seat at each deque, of which its own is the first.
+    pub(crate) fn new(own: OwnDeque<T>, seats: Vec<Seat<T>>, pass: AnswerPass<A>) -> Post<T, A>
+        requires few { length seats.items ≤ 64 }
+        requires first { deques_at seats.items ≡ own.deque ∷ drop 1 (deques_at seats.items) }
+        requires seats { seats.items ≡ map fresh_seat (deques_at seats.items) }
+        requires own { own ≡ fresh_own (1024 - length seats.items) own.room own.deque }
         requires idle { pass.me.1 ≡ [] }
-        requires answers { answer_view pass ≡ hand (1024 - helpers) [] [] }
-        ensures { result ≡ unused room helpers (worker_deque owner) pass.table_id }
+        requires answers { answer_view pass ≡ hand (1025 - length seats.items) [] [] }
+        ensures { result ≡ unused own.room (deques_at seats.items) pass.table_id }
     {
-        let _helpers = helpers;
-        Post { owner, pass, room }
+        let _seats = seats.len();
+        Post { own, seats, pass }
     }
 
     /// Gives a task to the pool. It comes back where there is no memory for it.
@@ -71,15 +61,18 @@ impl<T: Drop, A: Drop> Post<T, A> {
         ensures same { IfErr result (λ _. self.new ≡ self.old) }
         ensures room { IfErr result (λ _. self.old.room ≤ length self.old.given) }
     {
-        self.owner.push_as::<Push>(task)
+        self.own.push(task)
     }
 
-    /// Takes the first task back that no worker took.
+    /// Takes the first task back that no worker took, or else one from a worker's deque.
     pub(crate) fn take(&mut self) -> Option<T>
-        ensures took { IfSome result (λ task. self.new ≡ took self.old task) }
+        ensures took { IfSome result (TakesBack self.old self.new) }
         ensures none { IfNone result (self.new ≡ self.old) }
     {
-        self.owner.pop_as::<Take>()
+        if let Some(task) = self.own.pop() {
+            return Some(task);
+        }
+        steal_one(self.seats.as_mut_slice(), 0)
     }
 
     /// Receives an answer, if there is one.

@@ -2,12 +2,14 @@
 ghost use Rattle.std.specs.Prelude.{◌≡◌, ◌++◌, ◌∷◌, []};
 ghost use Rattle.crossbeam_deque.specs.Steals.{MatchSteal};
 ghost use Rattle.crossbeam_deque.specs.Handles.{view, stealer_deque};
-ghost use Rattle.ht_team.specs.Seats.{IsThiefs};
+ghost use Rattle.ht_team.specs.Hands.{hand};
+ghost use Rattle.ht_team.specs.Seats.{IsThiefs, fresh_seat, stole};
 
 use crate::hand::Hand;
 use crate::rule::{CountingRule, Take};
 use crossbeam_deque::{Pass, Steal, Stealer, Worker};
 use std::alloc::Global;
+use std::marker::Model;
 
 /// The owner's end of a deque of tasks: its worker pushes at the back and pops at the front.
 pub type Owner<T> = Worker<T, Global, Hand<T>, CountingRule>;
@@ -18,22 +20,31 @@ pub type Thief<T> = Stealer<T, Global, Hand<T>, CountingRule>;
 /// A pass on a deque.
 pub type TaskPass<T> = Pass<T, Hand<T>, Global>;
 
-/// A thief with its pass: one part of its deque, with which nothing was pushed.
+/// A thief with its pass, with which nothing was pushed. Contracts see which deque it is at, and the tasks that it has
+/// taken there, in order.
 #[derive(Drop)]
 pub struct Seat<T: Drop> {
-    /// What takes the tasks.
-    pub thief: Thief<T>,
-    /// What it has taken.
-    pub pass: TaskPass<T>,
-    pub ghost of: { IsThiefs (stealer_deque thief) pass },
+    thief: Thief<T>,
+    pass: TaskPass<T>,
+}
+
+impl<T: Drop> Model for Seat<T> {
+    ghost use Rattle.crossbeam_deque.specs.Handles.{view as pass_view, stealer_deque};
+    ghost use Rattle.ht_team.specs.Seats.{IsThiefs, SeatView};
+
+    ghost Value = { SeatView T };
+
+    ghost view = { λ s. record { at = stealer_deque s.thief; taken = (pass_view s.pass).taken } };
+
+    ghost invariant = { λ s. IsThiefs (stealer_deque s.thief) s.pass };
 }
 
 impl<T: Drop> Seat<T> {
     /// The seat of a thief and its pass.
-    pub fn new(thief: Thief<T>, pass: TaskPass<T>) -> Seat<T>
+    pub(crate) fn new(thief: Thief<T>, pass: TaskPass<T>) -> Seat<T>
         requires of { IsThiefs (stealer_deque thief) pass }
-        ensures thief { result.thief ≡ thief }
-        ensures pass { result.pass ≡ pass }
+        requires fresh { (view pass).taken ≡ [] }
+        ensures { result ≡ fresh_seat (stealer_deque thief) }
     {
         Seat { thief, pass }
     }
@@ -41,19 +52,15 @@ impl<T: Drop> Seat<T> {
     /// Takes the first task of the deque. `Empty` says that there was none at one moment of the call, `Retry` that
     /// another thread took it first.
     pub fn steal(&mut self) -> Steal<T>
-        ensures deque { stealer_deque self.new.thief ≡ stealer_deque self.old.thief }
-        ensures taken { MatchSteal result
-            ((view self.new.pass).taken ≡ (view self.old.pass).taken)
-            ((view self.new.pass).taken ≡ (view self.old.pass).taken)
-            (λ task. (view self.new.pass).taken ≡ (view self.old.pass).taken ++ task ∷ []) }
+        ensures { MatchSteal result (self.new ≡ self.old) (self.new ≡ self.old) (λ task. self.new ≡ stole self.old task) }
     {
         self.thief.steal_as::<Take>(&mut self.pass)
     }
 
     /// The pass alone.
     pub(crate) fn into_pass(self) -> TaskPass<T>
-        ensures pass { result ≡ self.pass }
-        ensures of { IsThiefs (stealer_deque self.thief) result }
+        ensures of { IsThiefs self.at result }
+        ensures taken { (view result).taken ≡ self.taken }
     {
         self.pass
     }

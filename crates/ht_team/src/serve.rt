@@ -1,15 +1,66 @@
 //! What a worker does.
-ghost use Rattle.std.specs.Prelude.{◌≡◌};
-ghost use Rattle.ht_team.specs.Members.{deque_of, HasYetToServe, HasServed};
+ghost use Rattle.std.specs.Prelude.{◌≡◌, ◌≤◌, [], length};
+ghost use Rattle.crossbeam_queue.specs.Passes.{view as answer_view};
+ghost use Rattle.ht_team.specs.Hands.{hand};
+ghost use Rattle.ht_team.specs.Seats.{deques_at};
+ghost use Rattle.ht_team.specs.Members.{berth_of, Balances, IsOnQueue, HasYetToServe, HasServed};
 
+use crate::lookout::next_task;
 use crate::member::Member;
-use crate::shared::Shared;
+use crate::own::OwnDeque;
+use crate::seat::Seat;
+use crate::shared::{AnswerPass, Shared};
 use crate::work::Work;
-use crossbeam_deque::Steal;
 use std::sync::Wait;
 use std::thread;
 
-/// Takes tasks and puts their answers on the queue, until no task comes any more and none is left.
+// Runs tasks and puts their answers on the queue, until no task comes any more and none is left. Answers how many it
+// ran.
+fn run_tasks<W: Work, R: Wait>(
+    rt: &R,
+    work: &W,
+    shared: &Shared<W::Answer>,
+    seats: &mut [Seat<W::Task>],
+    place: u8,
+    own: &mut OwnDeque<W::Task>,
+    mut pass: AnswerPass<W::Answer>,
+) -> (AnswerPass<W::Answer>, u64)
+    requires few { length seats.old ≤ 64 }
+    requires queue { IsOnQueue shared.now pass }
+    requires part { answer_view pass ≡ hand 1 [] [] }
+    requires balanced { Balances W.asked seats.old own.old [] }
+    ensures at { deques_at seats.new ≡ deques_at seats.old }
+    ensures deque { own.new.deque ≡ own.old.deque }
+    ensures parts { own.new.parts ≡ own.old.parts }
+    ensures queue { IsOnQueue shared.now result.0 }
+    ensures part { (answer_view result.0).parts ≡ 1 }
+    ensures none_received { (answer_view result.0).taken ≡ [] }
+    ensures balanced { Balances W.asked seats.new own.new (answer_view result.0).pushed }
+    ensures ran { result.1 ≡ length (answer_view result.0).pushed }
+{
+    let mut ran = 0u64;
+    for _ in rt.forever() {
+        let last = shared.is_finished();
+        if ran == u64::MAX {
+            return (pass, ran);
+        }
+        match next_task(seats, place, own) {
+            Some(task) => {
+                pass = shared.deliver(rt, pass, work.run(task));
+                ran += 1;
+            }
+            None => {
+                if last {
+                    return (pass, ran);
+                }
+                thread::yield_now();
+            }
+        }
+    }
+    unreachable!()
+}
+
+/// Runs tasks of a worker, until no task comes any more and none is left.
 pub(crate) fn serve<W: Work, R: Wait>(
     rt: &R,
     work: &W,
@@ -18,32 +69,29 @@ pub(crate) fn serve<W: Work, R: Wait>(
 ) -> Member<W::Task, W::Answer>
     requires fresh { HasYetToServe shared.now member }
     ensures served { HasServed W.asked shared.now result }
-    ensures deque { deque_of result ≡ deque_of member }
+    ensures berth { berth_of result ≡ berth_of member }
 {
     let Member {
-        mut seat,
-        mut pass,
+        mut own,
+        mut seats,
+        place,
+        pass,
         ran: _,
     } = member;
-    let mut ran = 0u64;
-    for _ in rt.forever() {
-        let last = shared.is_finished();
-        if ran == u64::MAX {
-            break;
-        }
-        match seat.steal() {
-            Steal::Success(task) => {
-                pass = shared.deliver(rt, pass, work.run(task));
-                ran += 1;
-            }
-            Steal::Empty => {
-                if last {
-                    break;
-                }
-                thread::yield_now();
-            }
-            Steal::Retry => {}
-        }
+    let (pass, ran) = run_tasks(
+        rt,
+        work,
+        shared,
+        seats.as_mut_slice(),
+        place,
+        &mut own,
+        pass,
+    );
+    Member {
+        own,
+        seats,
+        place,
+        pass,
+        ran,
     }
-    Member { seat, pass, ran }
 }

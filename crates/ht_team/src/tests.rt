@@ -1,17 +1,18 @@
 //! Squares of the first numbers by one, two and four threads, which all run a task at the same time at first.
-ghost use Rattle.std.specs.Prelude.{◌≡◌, ◌+◌, ◌*◌, ◌<◌, ◌≤◌, [], length, map, replicate, IfOk, IfSome, vec_len, vec_capacity};
+ghost use Rattle.std.specs.Prelude.{◌≡◌, ◌+◌, ◌*◌, ◌≤◌, [], length, map, IfOk, IfSome, vec_len, vec_capacity};
 ghost use Rattle.std.specs.List.{All};
 ghost use Rattle.ht_team.specs.Helms.{unused, IsSettled, IsSameHelm};
-ghost use Rattle.ht_team.specs.Members.{deque_of, HasYetToServe};
+ghost use Rattle.ht_team.specs.Members.{berth_of, berths, HasYetToServe};
+ghost use Rattle.ht_team.specs.Pools.{IsVacant};
 
 use crate::close::close;
 use crate::crew::beside;
-use crate::ends::Ends;
 use crate::helm::Helm;
 use crate::member::Member;
 use crate::pool::Pool;
 use crate::post::Post;
 use crate::shared::Shared;
+use crate::space::Space;
 use crate::work::Work;
 use std::alloc::{AllocError, Global};
 use std::sync::Wait;
@@ -125,25 +126,18 @@ fn add_up<R: Threads + Wait + Sync>(
     shared: &Shared<Squared>,
     post: Post<u32, Squared>,
     members: Vec<Member<u32, Squared>>,
-    ran: Vec<u64>,
-    deques: Vec<Ends<u32>>,
-    helpers: u8,
+    space: Space<u32>,
 ) -> (u64, Vec<u64>)
-    requires post { post ≡ unused 1024 helpers post.deque shared.now }
+    requires post { post ≡ unused 1024 post.deques shared.now }
     requires fresh { All (HasYetToServe shared.now) members.items }
-    requires deques { map deque_of members.items ≡ replicate helpers post.deque }
-    requires count { vec_len members ≡ helpers }
+    requires berths { map berth_of members.items ≡ berths post.deques }
     requires seats { vec_len members ≤ vec_capacity members }
-    requires none_ran { ran.items ≡ [] }
-    requires places { helpers + 1 ≤ vec_capacity ran }
-    requires no_ends { deques.items ≡ [] }
-    requires room_for_ends { 1 ≤ vec_capacity deques }
-    ensures { vec_len result.1 ≡ helpers + 1 }
+    requires space { IsVacant (length post.deques) space }
+    ensures { vec_len result.1 ≡ vec_len members + 1 }
 {
-    let _helpers = helpers;
     let mut helm = Helm::new(post, shared, work);
     let (members, sum) = beside(rt, work, shared, members, &mut || lead(rt, work, &mut helm));
-    (sum, close(helm, members, ran, deques).ran)
+    (sum, close(helm, members, space).ran)
 }
 
 fn run_squares<R: Threads + Wait + Sync>(
@@ -153,16 +147,14 @@ fn run_squares<R: Threads + Wait + Sync>(
     helpers: u8,
 ) -> Result<(u64, Vec<u64>), AllocError>
     requires { helpers ≤ 63 }
-    ensures { IfOk result (λ done. vec_len done.1 ≡ helpers + 1) }
 {
     let Pool {
         shared,
         post,
         members,
-        ran,
-        deques,
+        space,
     } = Pool::open(alloc, helpers, 1024)?;
-    Ok(add_up(rt, work, &shared, post, members, ran, deques, helpers))
+    Ok(add_up(rt, work, &shared, post, members, space))
 }
 
 #[test]

@@ -1,5 +1,5 @@
 -- A distance is looked at every 64 steps, and its lowest octet then determines it.
-use Rattle.std.proofs.Common.{◌≡◌, ◌≢◌, ◌∙◌, inl, inr, ℕ, ◌+◌, ◌-◌, ◌*◌, ◌%◌, ◌<◌, ◌≤◌, List, ◌∷◌, length, true, refl, sym, ap, arith}
+use Rattle.std.proofs.Common.{◌≡◌, ◌≢◌, inl, inr, ℕ, ◌+◌, ◌-◌, ◌*◌, ◌%◌, ◌<◌, ◌≤◌, List, ◌∷◌, length, refl, sym, arith}
 use Rattle.std.proofs.lemmas.Bool.{cases_lt}
 use Rattle.ht_viterbi.specs.Trellis.{StepPlaces, moved, way, is_free, least_from, chosen_at}
 use Rattle.ht_viterbi.proofs.Nearest.{lesser_is}

@@ -19,7 +19,8 @@ use ht_rate::Pattern;
 use std::alloc::{AllocError, Global};
 use std::simd::prelude::*;
 
-// One step of the trellis: `zero` is what a 0 costs from each state, and `more` what a 1 costs more. The answer has the new costs, modulo 256, and the states at which a 1 is taken.
+// One step of the trellis: `zero` is what a 0 costs from each state, and `more` what a 1 costs more. The answer has the
+// new costs, modulo 256, and the states at which a 1 is taken.
 #[inline(always)]
 fn step(costs: u8x64, zero: u8x64, more: u8x64, free: bool) -> (u8x64, u64)
     ensures costs { (table : ℕ → ℕ) (pair : StepPlaces) → HasLanes costs (λ k. table k % 256)

@@ -13,7 +13,7 @@ const AFTER_ZERO: [usize; 64] = [
     26, 27, 27, 28, 28, 29, 29, 30, 30, 31, 31,
 ];
 
-// For each state the state that differs in the latest input bit alone, or else the state itself: that with a 1.
+// For each state the one with the same bits but a 1 as the latest.
 const WITH_ONE: [usize; 64] = [
     32, 33, 34, 35, 36, 37, 38, 39, 40, 41, 42, 43, 44, 45, 46, 47, 48, 49, 50, 51, 52, 53, 54, 55,
     56, 57, 58, 59, 60, 61, 62, 63, 32, 33, 34, 35, 36, 37, 38, 39, 40, 41, 42, 43, 44, 45, 46, 47,
@@ -28,7 +28,7 @@ pub(crate) fn after_zero(costs: u8x64) -> u8x64
     costs.swizzle(AFTER_ZERO)
 }
 
-// The cost of the state whose latest input bit is 1 in place of any, for each state.
+// The cost of the state with the same bits but a 1 as the latest, for each state.
 #[inline(always)]
 pub(crate) fn with_one(costs: u8x64) -> u8x64
     ensures { HasLanes result (λ k. slice_index costs (k % 32 + 32)) }

@@ -26,6 +26,6 @@ pub returns-in-Some-Demo-clause-answered : goal.returns-in-Some-Demo-clause-answ
 returns-in-Some-Demo-clause-answered g c =
     let plan = plan_of c.in-Some-Demo.seed c.in-Some-Demo.noise c.in-Some-Demo.frames c.in-Some-Demo.rate c.in-Some-Demo.length in
     let run = makes (IsDemoLine plan) (g.S.Source.shown c.args.source.now) (g.S.Source.shown c.args.source.now)
-    (g.K.Sink.shown c.args.sink.now) (g.K.Sink.shown c.put_line.new.sink) (λ (line : Vec ℕ Global). line.items) c.demo_alone.result
-    c.put_line.result c.demo_alone.ensures c.put_line.ensures.puts c.put_line.ensures.lacks
+    (g.K.Sink.shown c.args.sink.now) (g.K.Sink.shown c.put_line.new.sink) (λ (line : Vec ℕ Global). line.items) c.demo_alone-line.result
+    c.put_line.result (rw c.planned-plan.ensures at c.demo_alone-line.ensures.line) c.put_line.ensures.puts c.put_line.ensures.lacks
     (λ lack. ap g.K.Sink.shown (c.put_line.ensures.nothing done_is_not lack)) in search rules

@@ -1,4 +1,4 @@
-use Rattle.std.proofs.Common.{Some, refl, arith}
+use Rattle.std.proofs.Common.{Some, refl}
 use Rattle.ht_crew.proofs.Settling.{has_run_in_pool}
 use Rattle.ht_crew.proofs.threaded.finish.Goals as goal
 
@@ -11,4 +11,4 @@ returns-clause-ran g c =
       ran = c.from.result;
       passes = Some (record { deques = c.from-2.result; results = c.close-deques.result.pass });
     })
-    c.from-2.result (omega (arith, c.requires.count, c.args.members.ok)) refl refl c.from.ensures c.from-2.ensures
+    c.from-2.result refl refl c.from.ensures c.from-2.ensures

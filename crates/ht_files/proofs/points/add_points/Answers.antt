@@ -1,4 +1,5 @@
-use Rattle.std.proofs.Common.{◌/◌, ◌%◌, length-append, ◌≡◌, ◌+◌, ◌*◌, ◌<◌, ◌++◌, ◌∷◌, [], ◌∙◌, ℕ, List, length, drop, flat_map, refl, sym, ap, subst, arith, slice_index, slice_index_or}
+use Rattle.std.proofs.Common.{◌/◌, ◌%◌, length-append, ◌≡◌, ◌+◌, ◌*◌, ◌<◌, ◌++◌, ◌∷◌, [], ◌∙◌, ℕ, List, length, drop, flat_map, refl, sym, ap, subst, arith}
+use Rattle.std.proofs.Common.{slice_index, slice_index_or}
 use Rattle.std.proofs.lemmas.List.{length-drop, take-append-drop}
 use Rattle.std.proofs.lemmas.Nat.{div_below}
 use Rattle.ht_io.specs.declared.faults.InFault.{InFault}

@@ -1,4 +1,5 @@
-use Rattle.std.proofs.Common.{◌≡◌, ◌∙◌, ◌≢◌, inl, inr, ℕ, ◌-◌, ◌<◌, false, ap, sym, arith, length, slice_set, slice_index_or, get_or-set_other, get_or-set_same, length-set}
+use Rattle.std.proofs.Common.{◌≡◌, ◌∙◌, ◌≢◌, inl, inr, ℕ, ◌-◌, ◌<◌, false}
+use Rattle.std.proofs.Common.{ap, sym, arith, length, slice_set, slice_index_or, get_or-set_other, get_or-set_same, length-set}
 use Rattle.std.proofs.lemmas.Bool.{cases_lt}
 use mathlib.Core.Bool.{xor}
 use Rattle.ht_scramble.proofs.scrambler.add.Goals as goal

@@ -1,20 +1,27 @@
-use Rattle.std.proofs.Common.{◌≡◌, ◌-◌, ◌≤◌, [], map, replicate, vec_len, vec_capacity}
+use Rattle.std.proofs.Common.{◌≡◌, ◌+◌, ◌-◌, ◌++◌, ◌≤◌, [], List, length, map, vec_capacity}
 use Rattle.std.specs.List.{All}
-use Rattle.crossbeam_deque.specs.Handles.{worker_deque, worker_view, worker_index, SameWorker}
 use Rattle.crossbeam_queue.specs.Passes.{view as answer_view}
 use Rattle.ht_team.specs.Hands.{hand}
-use Rattle.ht_team.specs.Members.{HasYetToServe, IsOnQueue, deque_of}
+use Rattle.ht_team.specs.Seats.{DequeId}
+use Rattle.ht_team.specs.Members.{HasYetToServe, IsOnQueue, berth, berth_of}
+use Rattle.ht_team.specs.Opening.{AreReady, own_deques}
 use Rattle.ht_team.proofs.pool.seat_all.Given as goal
 
-abbrev pub invariant-loop : goal.invariant-loop
-invariant-loop g l = record {
-  same : SameWorker l.fn.owner l.owner;
-  index : worker_index l.owner ≡ worker_index l.fn.owner;
-  tasks : worker_view l.owner ≡ hand (1024 - l.counter) [] [];
+abbrev pub invariant-loop-own : goal.invariant-loop-own
+invariant-loop-own g l = record {
+  count : length l.members.items + length l.owners.items ≡ length l.fn.owners.items;
+  rows_left : length l.rows.items ≡ length l.owners.items;
+  place : l.place ≡ length l.members.items;
+  room : vec_capacity l.members ≡ vec_capacity l.fn.members;
+  owners_room : vec_capacity l.owners ≡ vec_capacity l.fn.owners;
+  rows_room : vec_capacity l.rows ≡ vec_capacity l.fn.rows;
   queue : IsOnQueue l.shared l.pass;
-  answers : answer_view l.pass ≡ hand (1024 - l.counter) [] [];
-  fresh : All (HasYetToServe l.shared) l.members.items;
-  deques : map deque_of l.members.items ≡ replicate l.counter (worker_deque l.fn.owner);
-  count : vec_len l.members ≡ l.counter;
-  room : l.helpers ≤ vec_capacity l.members;
+  parts : answer_view l.pass ≡ hand (1024 - length l.members.items) [] [];
+  ready : (deques : List DequeId) → AreReady deques l.fn.owners.items l.fn.rows.items → AreReady deques l.owners.items l.rows.items;
+  fresh : (deques : List DequeId) → AreReady deques l.fn.owners.items l.fn.rows.items → All (HasYetToServe l.shared) l.members.items;
+  berths : (deques : List DequeId) → AreReady deques l.fn.owners.items l.fn.rows.items
+      → map berth_of l.members.items ++ map (berth deques) (own_deques l.owners.items) ≡ map (berth deques) (own_deques l.fn.owners.items);
 }
+
+abbrev pub decreases-loop-own : goal.decreases-loop-own
+decreases-loop-own g l = length l.owners.items

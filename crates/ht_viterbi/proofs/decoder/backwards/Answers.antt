@@ -1,4 +1,4 @@
-use Rattle.std.proofs.Common.{◌∙◌, ℕ, ◌-◌, ◌%◌, List, true, false, ap, sym, subst, length, arith, rules}
+use Rattle.std.proofs.Common.{◌∙◌, ℕ, ◌-◌, ◌%◌, List, false, ap, sym, subst, length, arith, rules}
 use Rattle.ht_conv.specs.declared.puncture.Kept.{Kept}
 use Rattle.ht_viterbi.specs.Trellis.{StepPlaces, branch_cost, pairs_from, least_from}
 use Rattle.ht_viterbi.specs.Lanes.{rise}
@@ -57,7 +57,8 @@ loop-at-preserved c =
     let grows = first-grows pairs pair in
     let same = ap (λ (ps : List StepPlaces). least_from ps 0) cons in
     let here = carried-step pairs pair at c.loop-at.distance c.first_lane.result c.carried_at-distance.result c.loop-at-test.true was.distance
-    (c.first_lane.ensures ∙ (costs.lane 0 (omega arith) ∙ ap (λ (n : ℕ). n % 256) same)) c.carried_at-distance.ensures.here c.carried_at-distance.ensures.others in
+    (c.first_lane.ensures ∙ (costs.lane 0 (omega arith) ∙ ap (λ (n : ℕ). n % 256) same))
+    c.carried_at-distance.ensures.here c.carried_at-distance.ensures.others in
     record {
       within = omega arith;
       count = search rules;

@@ -18,7 +18,8 @@ pub bounds-labels-symbol : goal.bounds-labels-symbol
 bounds-labels-symbol c =
     let s = c.args.self.now in
     let place : LabelBit = slice_index_or c.args.places.now c.args.place (record { label = 0; shift = 0; lost = false }) in
-    let is = place-is s.rate s.erased s.encoder c.args.place c.args.places.now (record { label = 0; shift = 0; lost = false }) (c.requires.places ∙ s.places_are) c.requires.place in
+    let is = place-is s.rate s.erased s.encoder c.args.place c.args.places.now (record { label = 0; shift = 0; lost = false })
+    (c.requires.places ∙ s.places_are) c.requires.place in
     let w = label-within s.rate s.erased s.encoder c.args.symbol c.args.place c.args.symbols c.args.per_symbol place s.there is c.requires.symbol
     c.requires.per_symbol in
     let inside = w.0 in
@@ -29,7 +30,8 @@ pub overflow_add-symbol : goal.overflow_add-symbol
 overflow_add-symbol c =
     let s = c.args.self.now in
     let place : LabelBit = slice_index_or c.args.places.now c.args.place (record { label = 0; shift = 0; lost = false }) in
-    let is = place-is s.rate s.erased s.encoder c.args.place c.args.places.now (record { label = 0; shift = 0; lost = false }) (c.requires.places ∙ s.places_are) c.requires.place in
+    let is = place-is s.rate s.erased s.encoder c.args.place c.args.places.now (record { label = 0; shift = 0; lost = false })
+    (c.requires.places ∙ s.places_are) c.requires.place in
     let w = label-within s.rate s.erased s.encoder c.args.symbol c.args.place c.args.symbols c.args.per_symbol place s.there is c.requires.symbol
     c.requires.per_symbol in
     let inside = w.0 in
@@ -40,7 +42,8 @@ pub bit_from-requires : goal.bit_from-requires
 bit_from-requires c =
     let s = c.args.self.now in
     let place : LabelBit = slice_index_or c.args.places.now c.args.place (record { label = 0; shift = 0; lost = false }) in
-    let is = place-is s.rate s.erased s.encoder c.args.place c.args.places.now (record { label = 0; shift = 0; lost = false }) (c.requires.places ∙ s.places_are) c.requires.place in
+    let is = place-is s.rate s.erased s.encoder c.args.place c.args.places.now (record { label = 0; shift = 0; lost = false })
+    (c.requires.places ∙ s.places_are) c.requires.place in
     let w = label-within s.rate s.erased s.encoder c.args.symbol c.args.place c.args.symbols c.args.per_symbol place s.there is c.requires.symbol
     c.requires.per_symbol in
     let low = w.1 in
@@ -50,7 +53,8 @@ pub returns : goal.returns
 returns c =
     let s = c.args.self.now in
     let place : LabelBit = slice_index_or c.args.places.now c.args.place (record { label = 0; shift = 0; lost = false }) in
-    let is = place-is s.rate s.erased s.encoder c.args.place c.args.places.now (record { label = 0; shift = 0; lost = false }) (c.requires.places ∙ s.places_are) c.requires.place in
+    let is = place-is s.rate s.erased s.encoder c.args.place c.args.places.now (record { label = 0; shift = 0; lost = false })
+    (c.requires.places ∙ s.places_are) c.requires.place in
     bit-is s.rate s.erased s.encoder c.args.symbol c.args.place c.args.per_symbol c.args.labels.now c.bit_from.result place is c.requires.place
     c.requires.per_symbol
     (c.bit_from.ensures ∙ ap (λ n. bit_in place (slice_index_or c.args.labels.now (c.args.symbol * c.args.per_symbol + n) 0)) c.from.ensures)

@@ -3,4 +3,4 @@ use Rattle.ht_team.proofs.Steps.{takes}
 use Rattle.ht_team.proofs.seat.Seat.steal.Goals as goal
 
 pub steal_as-requires-clause-takes : goal.steal_as-requires-clause-takes
-steal_as-requires-clause-takes g c = takes _ _ (omega (arith, c.args.self.now.of.part))
+steal_as-requires-clause-takes g c = takes _ _ (omega (arith, c.self.invariant.part))

@@ -1,0 +1,7 @@
+use Rattle.std.proofs.Common.{◌∙◌, sym, arith}
+use Rattle.ht_team.proofs.helm.Helm.run_one.Goals as goal
+
+pub invariant_of-self-2 : goal.invariant_of-self-2
+invariant_of-self-2 g c =
+    let takes = c.in_ok-task.ensures.took in
+    let was = c.self.invariant in (was.0 ∙ sym takes.same.queue_is, omega (arith, was.1, takes.longer))
