@@ -10,6 +10,7 @@ use crate::caller::deliver;
 use crate::detect::Detect;
 use crate::feed::Feed;
 use crate::gate::Gate;
+use crate::pace::Pace;
 use crate::supply::supply;
 use crate::tally::Tally;
 use crate::turn::turn;
@@ -50,14 +51,15 @@ pub(crate) fn lead<R: Wait, F: Feed, G: Gate>(
 
     ensures fault { IfErr result (CallFailed (F.shown feed.old) (F.shown feed.new)) }
 {
+    let mut pace = Pace::new();
     let mut running = true;
     for _ in rt.forever() {
-        running = supply(work, window, helm, tally, running, feed)?;
+        running = supply(work, window, helm, tally, &mut pace, running, feed)?;
         deliver(window, feed)?;
         if !running && tally.booked == tally.issued {
             return Ok(());
         }
-        turn(window, helm, tally);
+        turn(window, helm, tally, &mut pace);
     }
     unreachable!()
 }

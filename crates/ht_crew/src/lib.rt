@@ -22,6 +22,7 @@ pub mod laws;
 mod lead;
 mod list_fault;
 mod list_feed;
+mod pace;
 mod report;
 mod supply;
 mod tally;

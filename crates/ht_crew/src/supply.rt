@@ -8,6 +8,7 @@ ghost use Rattle.ht_crew.specs.Accounts.{Tallies, AreTold};
 use crate::detect::Detect;
 use crate::feed::Feed;
 use crate::gate::Gate;
+use crate::pace::Pace;
 use crate::tally::Tally;
 use crate::turn::issue;
 use ht_team::helm::Helm;
@@ -20,6 +21,7 @@ pub(crate) fn supply<F: Feed, G: Gate>(
     window: &mut Window,
     helm: &mut Helm<'_, Detect<'_, G>>,
     tally: &mut Tally,
+    pace: &mut Pace,
     running: bool,
     feed: &mut F,
 ) -> Result<bool, F::Fault>
@@ -50,7 +52,7 @@ pub(crate) fn supply<F: Feed, G: Gate>(
     let mut running = running;
     while running && window.has_room() {
         match feed.next()? {
-            Some(job) => issue(work, window, helm, tally, job),
+            Some(job) => issue(work, window, helm, tally, pace, job),
             None => running = false,
         }
     }

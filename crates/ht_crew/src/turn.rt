@@ -1,11 +1,12 @@
 //! What a caller does with one job or one hit.
-ghost use Rattle.std.specs.Prelude.{◌≡◌, ◌+◌, ◌-◌, ◌<◌, ◌≤◌, ◌^◌, true, length, IfSome, IfNone};
+ghost use Rattle.std.specs.Prelude.{◌≡◌, ◌+◌, ◌-◌, ◌<◌, ◌≤◌, ◌^◌, true, length, IfSome, IfNone, IfErr, IsTrue, OnOk};
 ghost use Rattle.ht_window.specs.Accepting.{IsUnbooked};
-ghost use Rattle.ht_team.specs.Helms.{IsSameHelm};
+ghost use Rattle.ht_team.specs.Helms.{IsSameHelm, gave};
 ghost use Rattle.ht_crew.specs.Accounts.{HasBooked, Tallies, IssuesJob, TakesTurn, sources};
 
 use crate::detect::Detect;
 use crate::gate::Gate;
+use crate::pace::Pace;
 use crate::tally::Tally;
 use ht_metric::{Hit, Job};
 use ht_team::helm::Helm;
@@ -25,12 +26,33 @@ pub(crate) fn book(window: &mut Window, hit: Hit) -> bool
     }
 }
 
-/// Issues a job and gives it to the pool, or runs it where the pool has no memory for it.
+// Whether the caller keeps the next job for itself: where jobs are cheap, once the pool was given as many as it has room
+// for.
+fn is_kept(tally: Tally, room: u16, pace: &Pace) -> bool
+    requires some { tally.own ≤ tally.issued }
+    ensures { IsTrue result → room ≤ tally.issued - tally.own }
+{
+    u64::from(room) <= tally.issued - tally.own && pace.is_quick()
+}
+
+// Gives a job to the pool. It comes back where the caller keeps it, or the pool has no memory for it.
+fn offer<G: Gate>(helm: &mut Helm<'_, Detect<'_, G>>, kept: bool, job: Job) -> Result<(), Job>
+    requires kept { IsTrue kept → helm.old.room ≤ length helm.old.given }
+    ensures given { OnOk result (helm.new ≡ gave helm.old job) }
+    ensures back { IfErr result (λ back. back ≡ job) }
+    ensures same { IfErr result (λ _. helm.new ≡ helm.old) }
+    ensures room { IfErr result (λ _. helm.old.room ≤ length helm.old.given) }
+{
+    if kept { Err(job) } else { helm.give(job) }
+}
+
+/// Issues a job and gives it to the pool, or runs it where jobs are cheap, and where the pool has no memory for it.
 pub(crate) fn issue<G: Gate>(
     work: &Detect<'_, G>,
     window: &mut Window,
     helm: &mut Helm<'_, Detect<'_, G>>,
     tally: &mut Tally,
+    pace: &mut Pace,
     job: Job,
 )
     requires room { length window.old.slots < window.old.capacity }
@@ -40,10 +62,13 @@ pub(crate) fn issue<G: Gate>(
     requires tallies { Tallies tally.old window.old helm.old }
     ensures issues { IssuesJob job tally.old window.old helm.old tally.new window.new helm.new }
 {
+    let kept = is_kept(*tally, helm.room(), pace);
     window.issue(job.copy());
     tally.issued += 1;
-    if let Err(back) = helm.give(job) {
-        book(window, work.run(back));
+    if let Err(back) = offer(helm, kept, job) {
+        let hit = work.run(back);
+        pace.see(&hit);
+        book(window, hit);
         tally.booked += 1;
         tally.own += 1;
     }
@@ -68,6 +93,7 @@ pub(crate) fn turn<G: Gate>(
     window: &mut Window,
     helm: &mut Helm<'_, Detect<'_, G>>,
     tally: &mut Tally,
+    pace: &mut Pace,
 )
     requires tallies { Tallies tally.old window.old helm.old }
     ensures turn { TakesTurn tally.old window.old helm.old tally.new window.new helm.new }
@@ -76,6 +102,7 @@ pub(crate) fn turn<G: Gate>(
         thread::yield_now();
         return;
     };
+    pace.see(&hit);
     if book(window, hit) {
         tally.booked += 1;
     }

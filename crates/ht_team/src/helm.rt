@@ -47,6 +47,13 @@ impl<'a, W: Work> Helm<'a, W> {
         }
     }
 
+    /// How many tasks can be given for sure.
+    pub fn room(&self) -> u16
+        ensures { result ≡ self.now.room }
+    {
+        self.post.room()
+    }
+
     /// Gives a task to the pool. It comes back where there is no memory for it, and then at least `room` tasks were
     /// given before.
     pub fn give(&mut self, task: W::Task) -> Result<(), W::Task>

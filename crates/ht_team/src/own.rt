@@ -49,6 +49,13 @@ impl<T: Drop> OwnDeque<T> {
         Ok(OwnDeque { owner, room })
     }
 
+    /// For how many tasks there is room for sure.
+    pub(crate) fn room(&self) -> u16
+        ensures { result ≡ self.now.room }
+    {
+        self.room
+    }
+
     /// A new seat at the deque.
     pub(crate) fn seat(&mut self) -> Result<Seat<T>, AllocError>
         requires some { 1 < self.old.parts }

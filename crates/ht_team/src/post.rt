@@ -54,6 +54,13 @@ impl<T: Drop, A: Drop> Post<T, A> {
         Post { own, seats, pass }
     }
 
+    /// How many tasks can be given for sure.
+    pub(crate) fn room(&self) -> u16
+        ensures { result ≡ self.now.room }
+    {
+        self.own.room()
+    }
+
     /// Gives a task to the pool. It comes back where there is no memory for it.
     pub(crate) fn give(&mut self, task: T) -> Result<(), T>
         ensures given { OnOk result (self.new ≡ gave self.old task) }
