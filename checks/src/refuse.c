@@ -4,17 +4,19 @@
  * REFUSE_FROM=N    the Nth growth and all behind it are refused
  * REFUSE_BEYOND=N  the process may map no more than N octets beyond those that it has mapped where main begins; so the
  *                  stacks of threads are refused, too, which the C library maps by itself
- * REFUSE_TELL=FILE the number of growths is written there at the end
+ * REFUSE_TELL=FILE the number of growths so far is written there at each growth, since a run may end without its destructors
  *
  * A growth is a call of malloc, calloc, realloc, reallocarray, aligned_alloc, memalign or posix_memalign. */
 #define _GNU_SOURCE
 #include <dlfcn.h>
 #include <errno.h>
+#include <fcntl.h>
 #include <stdatomic.h>
 #include <stdint.h>
 #include <stdio.h>
 #include <stdlib.h>
 #include <sys/resource.h>
+#include <unistd.h>
 
 void *__libc_malloc(size_t);
 void *__libc_calloc(size_t, size_t);
@@ -24,13 +26,27 @@ void *__libc_memalign(size_t, size_t);
 static atomic_ulong growths;
 static atomic_bool has_begun;
 static unsigned long one, from;
-static const char *tell;
+static int told = -1;
 static int (*real_main)(int, char **, char **);
+
+/* Writes the number in twenty digits, with no memory. */
+static void tell(unsigned long number) {
+    char text[21];
+    text[20] = '\n';
+    for (int place = 19; place >= 0; place--) {
+        text[place] = (char)('0' + number % 10);
+        number /= 10;
+    }
+    if (pwrite(told, text, sizeof text, 0) < 0)
+        told = -1;
+}
 
 static int is_refused(void) {
     if (!atomic_load(&has_begun))
         return 0;
     unsigned long number = atomic_fetch_add(&growths, 1) + 1;
+    if (told >= 0)
+        tell(number);
     if (number == one || (from != 0 && number >= from)) {
         errno = ENOMEM;
         return 1;
@@ -85,7 +101,9 @@ static unsigned long mapped(void) {
 static int begin(int count, char **words, char **variables) {
     one = number_of("REFUSE_ONE");
     from = number_of("REFUSE_FROM");
-    tell = getenv("REFUSE_TELL");
+    const char *file = getenv("REFUSE_TELL");
+    if (file != NULL)
+        told = open(file, O_WRONLY | O_CREAT | O_TRUNC, 0600);
     const char *beyond = getenv("REFUSE_BEYOND");
     if (beyond != NULL) {
         struct rlimit limit = {.rlim_cur = mapped() + strtoul(beyond, NULL, 10), .rlim_max = RLIM_INFINITY};
@@ -102,16 +120,4 @@ int __libc_start_main(int (*main)(int, char **, char **), int count, char **word
             dlsym(RTLD_NEXT, "__libc_start_main");
     real_main = main;
     return start(begin, count, words, init, fini, loader, stack);
-}
-
-__attribute__((destructor)) static void end(void) {
-    unsigned long count = atomic_load(&growths);
-    atomic_store(&has_begun, 0);
-    if (!tell)
-        return;
-    FILE *file = fopen(tell, "w");
-    if (file != NULL) {
-        fprintf(file, "%lu\n", count);
-        fclose(file);
-    }
 }
