@@ -1,7 +1,7 @@
 //! What the program has to write for a file, as far as it can be said without a second receiver.
 use crate::channel::Channel;
 use crate::making::CHEAP;
-use crate::rates::Point;
+use crate::rates::{Point, Rate};
 use crate::walking::{Frame, Walk};
 
 /// The sums of the distances of a frame's jobs.
@@ -26,6 +26,31 @@ pub fn upgraded(walk: &Walk, octets: &[u8]) -> Vec<u8> {
         made.extend_from_slice(&octets[frame.body..frame.end]);
     }
     made
+}
+
+/// The file of the simulator's sample frames for a seed: frames of one rate and one number of octets.
+pub fn sample_frames(seed: u64, count: u16, rate: Rate, length: u16) -> Vec<u8> {
+    let mut words = Words::new(seed);
+    let mut made = b"HTTX\x01".to_vec();
+    made.extend(count.to_be_bytes());
+    for _ in 0..count {
+        made.extend([rate.wide.into(), rate.mcs]);
+        made.extend(length.to_be_bytes());
+        made.push(1 + words.below(127) as u8);
+        made.extend((0..length).map(|_| words.below(256) as u8));
+    }
+    made
+}
+
+/// The text of `rx` on a capture in which every frame comes back with its octets and the least distances are the noise:
+/// for a whole file of frames, and the sums of the noise.
+pub fn returned(walk: &Walk, octets: &[u8], sums: &[Sums]) -> String {
+    let mut text = String::new();
+    for (number, (frame, sums)) in walk.frames.iter().zip(sums).enumerate() {
+        let hex: String = octets[frame.body..frame.end].iter().map(|octet| format!("{octet:02x}")).collect();
+        text += &format!("frame {number} data {} pilot {} code 0 octets {hex}\n", sums.data, sums.pilot);
+    }
+    text + &walk.last_line() + "\n"
 }
 
 /// The capture that a whole file of symbols comes to in the simulator's channel, and the sums of its noise.

@@ -1,9 +1,5 @@
 //! The options of a call, in one place.
 
-/// Whether the program has the options `--workers`, `--window`, `--seed` and `--noise`, and the command `demo`. Where it
-/// hasn't, each call is made without them.
-pub const ARE_THERE: bool = true;
-
 /// The words of a call of `detect` or `rx` with so many workers and a window of so many jobs.
 pub fn received(command: &str, workers: u32, window: u32) -> Vec<String> {
     with(command, &[("workers", workers.into()), ("window", window.into())])
@@ -14,16 +10,9 @@ pub fn passed(seed: u64, noise: u16) -> Vec<String> {
     with("channel", &[("seed", seed), ("noise", noise.into())])
 }
 
-/// The seed and the noise of a call of `channel`: those given, or those that it has without options.
-pub fn channel_of(seed: u64, noise: u16) -> (u64, u16) {
-    if ARE_THERE { (seed, noise) } else { (42, 0) }
-}
-
 fn with(command: &str, values: &[(&str, u64)]) -> Vec<String> {
     let mut words = vec![command.to_string()];
-    if ARE_THERE {
-        words.extend(values.iter().flat_map(|(name, value)| [format!("--{name}"), value.to_string()]));
-    }
+    words.extend(values.iter().flat_map(|(name, value)| [format!("--{name}"), value.to_string()]));
     words
 }
 

@@ -16,12 +16,21 @@ pub struct Sum {
     pub most_memory: u64,
     pub longest: Duration,
     pub time: Duration,
-    /// Where the time was up before all cases had run.
-    pub is_cut: bool,
+    /// The number of cases that there are. Where the time is up before, not all have run.
+    pub cases: u64,
 }
 
+/// A check fails where fewer than one in so many cases could be run in its time.
+const LEAST: u64 = 10;
+
 impl Sum {
-    /// Prints the cases that failed, the figures, and the count as the last line. Ends the program.
+    /// The number of cases that were run.
+    fn ran(&self) -> u64 {
+        self.passed + self.failed.len() as u64
+    }
+
+    /// Prints the cases that failed, the figures, and the count as the last line, where a check that could run too few of its
+    /// cases has failed once more. Ends the program.
     pub fn report(self, name: &str) -> ! {
         for (number, wrong) in self.failed.iter().take(20) {
             println!("failed: {name} {number}: {wrong}");
@@ -33,10 +42,15 @@ impl Sum {
             self.time.as_secs_f64(),
             self.longest.as_secs_f64(),
             self.most_memory as f64 / 1024.0,
-            if self.is_cut { "; the time was up before all cases had run" } else { "" }
+            if self.ran() < self.cases { "; the time was up before all cases had run" } else { "" }
         );
-        println!("{} passed, {} failed", self.passed, self.failed.len());
-        std::process::exit(i32::from(!self.failed.is_empty() || self.passed == 0));
+        let mut failed = self.failed.len();
+        if self.ran() < self.cases / LEAST {
+            println!("failed: {name}: only {} of {} cases could be run in the time", self.ran(), self.cases);
+            failed += 1;
+        }
+        println!("{} passed, {failed} failed", self.passed);
+        std::process::exit(i32::from(failed > 0 || self.passed == 0));
     }
 }
 
@@ -63,11 +77,7 @@ pub fn run(
         let mut mine = Sum::default();
         loop {
             let number = next.fetch_add(1, Ordering::Relaxed);
-            if number >= first + count {
-                break;
-            }
-            if started.elapsed() > time {
-                mine.is_cut = true;
+            if number >= first + count || started.elapsed() > time {
                 break;
             }
             match case(number, &mut room) {
@@ -81,7 +91,6 @@ pub fn run(
         sum.runs += room.runs;
         sum.most_memory = sum.most_memory.max(room.most_memory);
         sum.longest = sum.longest.max(room.longest);
-        sum.is_cut |= mine.is_cut;
     };
     thread::scope(|scope| {
         scope.spawn(|| {
@@ -98,6 +107,7 @@ pub fn run(
     let mut sum = sum.into_inner().unwrap();
     sum.failed.sort();
     sum.time = started.elapsed();
+    sum.cases = count;
     sum
 }
 

@@ -159,7 +159,6 @@ impl Runs<'_, '_> {
         if sent.code() != Some(0) || symbols.fault.is_some() || heads(&walk) != heads(&symbols) {
             return Err(format!("`tx`: {} and no file of these frames' symbols", sent.ended()));
         }
-        let (seed, noise) = options::channel_of(seed, noise);
         let (capture, sums) = expected::passed(&symbols, &sent.text, seed, noise);
         self.made(&options::passed(seed, noise), &sent.text, &capture)?;
         let received = self.run(&options::received("rx", 4, 256), &capture)?;
@@ -178,7 +177,6 @@ impl Runs<'_, '_> {
 
     fn symbols(&mut self, input: &Input, seed: u64, noise: u16) -> Result<(), String> {
         let walk = Walk::of(Format::Symbols, &input.octets);
-        let (seed, noise) = options::channel_of(seed, noise);
         let channel = options::passed(seed, noise);
         if walk.fault.is_some() {
             return self.refused(&channel, &input.octets, &walk);

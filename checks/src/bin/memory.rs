@@ -14,12 +14,21 @@ const TIME: Duration = Duration::from_secs(140);
 const BEYOND: u64 = 48 << 20;
 const STEP: u64 = 512 << 10;
 
+/// Whether a call starts threads. A thread that can't be started is a growth that a run can do without.
+#[derive(Clone, Copy, PartialEq, Eq)]
+enum Threads {
+    One,
+    Several,
+}
+
 /// A call of the program that needs no more memory than there is.
 struct Call {
     words: Vec<String>,
     input: Vec<u8>,
     text: Vec<u8>,
-    code: Option<i32>,
+    /// The status that it ends with.
+    code: i32,
+    threads: Threads,
     /// Whether lines may stand where memory ran out.
     is_streaming: bool,
     /// How many growths a run takes, at most.
@@ -27,9 +36,9 @@ struct Call {
 }
 
 impl Call {
-    fn new(room: &mut Room, words: Vec<String>, input: Vec<u8>) -> Self {
+    fn new(room: &mut Room, words: Vec<String>, input: Vec<u8>, code: i32, threads: Threads) -> Self {
         let usual = room.run(&words, &input).expect("the program can't be run");
-        assert!(usual.code().is_some(), "`{}`: {}", words.join(" "), usual.ended());
+        assert!(usual.code() == Some(code), "`{}`: {}, and not {code}", words.join(" "), usual.ended());
         let tell = std::env::temp_dir().join(format!("checks-{}-growths", std::process::id()));
         room.variables = vec![preload(), ("REFUSE_TELL".to_string(), tell.display().to_string())];
         // Threads may take turns, so the number isn't the same in each run.
@@ -43,7 +52,7 @@ impl Call {
         let growths = (0..5).map(|_| count(room)).max().unwrap_or(0);
         room.variables.clear();
         let is_streaming = ["detect", "rx"].contains(&words[0].as_str());
-        Call { words, input, code: usual.code(), text: usual.text, is_streaming, growths }
+        Call { words, input, code, threads, text: usual.text, is_streaming, growths }
     }
 
     /// What became of the run: its end in a word, or what is wrong.
@@ -52,7 +61,7 @@ impl Call {
         match ran.code() {
             _ if !ran.said.is_empty() => Err(format!("it said '{}'", ran.said.trim_end())),
             Some(5) if may_stand => Ok("ended with status 5"),
-            code if code == self.code && ran.text == self.text => Ok("ended as ever"),
+            Some(code) if code == self.code && ran.text == self.text => Ok("ended as ever"),
             _ => Err(format!("{} and '{}'", ran.ended(), String::from_utf8_lossy(&ran.text))),
         }
     }
@@ -77,19 +86,22 @@ fn two_frames() -> Vec<u8> {
 
 fn calls(room: &mut Room) -> Vec<Call> {
     let mut calls = Vec::new();
-    for workers in if options::ARE_THERE { vec![1, 4] } else { vec![1] } {
+    for workers in [1, 4] {
+        let threads = if workers > 1 { Threads::Several } else { Threads::One };
         for command in ["rx", "detect"] {
-            calls.push(Call::new(room, options::received(command, workers, 256), two_frames()));
+            calls.push(Call::new(room, options::received(command, workers, 256), two_frames(), 0, threads));
         }
-        if options::ARE_THERE {
-            calls.push(Call::new(room, options::demonstrated(workers), Vec::new()));
-        }
+        calls.push(Call::new(room, options::demonstrated(workers), Vec::new(), 0, threads));
     }
-    calls.push(Call::new(room, vec!["tx".to_string()], file("vectors/worked/a5.httx")));
-    calls.push(Call::new(room, vec!["channel".to_string()], file("vectors/worked/a5.htsy")));
-    calls.push(Call::new(room, vec!["upgrade".to_string()], file("vectors/worked/a5.htcp")));
-    calls.push(Call::new(room, vec!["tx".to_string()], file("vectors/worked/a5-bad-seed.httx")));
-    calls.push(Call::new(room, vec!["rx".to_string(), "rx".to_string()], Vec::new()));
+    let mut alone = |words: &[&str], input, code| {
+        let words = words.iter().map(|word| word.to_string()).collect();
+        calls.push(Call::new(room, words, input, code, Threads::One));
+    };
+    alone(&["tx"], file("vectors/worked/a5.httx"), 0);
+    alone(&["channel"], file("vectors/worked/a5.htsy"), 0);
+    alone(&["upgrade"], file("vectors/worked/a5.htcp"), 0);
+    alone(&["tx"], file("vectors/worked/a5-bad-seed.httx"), 1);
+    alone(&["rx", "rx"], Vec::new(), 2);
     calls
 }
 
@@ -107,7 +119,7 @@ fn main() {
         cases.extend((0..=BEYOND / STEP).map(|steps| (place, "REFUSE_BEYOND", steps * STEP)));
     }
     let ends: Mutex<BTreeMap<(usize, &str, &str), u64>> = Mutex::new(BTreeMap::new());
-    let sum = side_by_side::run(
+    let mut sum = side_by_side::run(
         side_by_side::processors(),
         0,
         cases.len() as u64,
@@ -138,6 +150,10 @@ fn main() {
             counts("REFUSE_FROM"),
             counts("REFUSE_BEYOND")
         );
+        if call.threads == Threads::Several && of("REFUSE_ONE", "ended as ever") == 0 {
+            let wrong = format!("`{}` gives up at growths that it can do without", call.words.join(" "));
+            sum.failed.push((place as u64, wrong));
+        }
     }
     sum.report("memory");
 }

@@ -1,8 +1,11 @@
 //! Runs `detect` and `rx` with all numbers of workers and all windows, over and over, and checks that the text is always
-//! that of the vectors. `checks/stress` says how.
+//! that of the vectors, and that of a larger capture of sample frames what was sent. `checks/stress` says how.
 use checks::program::{self, Room};
-use checks::{options, side_by_side};
+use checks::rates::Rate;
+use checks::walking::{Format, Walk};
+use checks::{expected, options, side_by_side};
 use std::fs;
+use std::sync::Mutex;
 use std::time::Duration;
 
 /// For how long runs are begun.
@@ -25,6 +28,15 @@ const CAPTURES: [&str; 10] = [
     "version2/bw1-mcs31",
     "worked/a5-pilots-alone",
 ];
+
+/// The larger capture: sample frames of a seed at 20 MHz, MCS 15, with noise. It is received with these workers and
+/// windows.
+const SEED: u64 = 42;
+const FRAMES: u16 = 8;
+const LENGTH: u16 = 1500;
+const NOISE: u16 = 8;
+const SAMPLE_WORKERS: [u32; 4] = [1, 2, 7, 64];
+const SAMPLE_WINDOWS: [u32; 3] = [1, 2, 4096];
 
 /// What is run: a command on a capture has to write the text.
 struct Case {
@@ -50,7 +62,40 @@ fn cases() -> Vec<Case> {
     CAPTURES.into_iter().flat_map(of).collect()
 }
 
+/// The capture of sample frames, and what was sent in it: by the rules of docs/SIMULATOR.md, but for the symbols, which
+/// `tx` makes.
+fn samples(room: &mut Room) -> Case {
+    let frames = expected::sample_frames(SEED, FRAMES, Rate::of(0, 15), LENGTH);
+    let symbols = room.run(&["tx".to_string()], &frames).expect("the program can't be run").text;
+    let (octets, sums) = expected::passed(&Walk::of(Format::Symbols, &symbols), &symbols, SEED, NOISE);
+    let text = expected::returned(&Walk::of(Format::Frames, &frames), &frames, &sums).into_bytes();
+    Case { command: "rx", capture: "sample frames", octets, text }
+}
+
+/// Runs a case, and says what is wrong.
+fn run(room: &mut Room, case: &Case, workers: u32, window: u32) -> Result<(), String> {
+    let words = options::received(case.command, workers, window);
+    let ran = room.run(&words, &case.octets).map_err(|error| error.to_string())?;
+    if ran.code() == Some(0) && ran.text == case.text && ran.said.is_empty() {
+        return Ok(());
+    }
+    let how = format!("{workers} workers and a window of {window}");
+    Err(format!("`{}` on {} with {how}: {} and another text", case.command, case.capture, ran.ended()))
+}
+
 fn main() {
+    let slot = Mutex::new(None);
+    let mut room = Room::new(&program::path(), &std::env::temp_dir(), "checks-samples", &slot)
+        .expect("the files of a room can't be made");
+    let samples = samples(&mut room);
+    let pairs = SAMPLE_WORKERS.into_iter().flat_map(|workers| SAMPLE_WINDOWS.map(|window| (workers, window)));
+    let (mut received, mut wrong) = (0, Vec::new());
+    for (place, (workers, window)) in pairs.enumerate() {
+        match run(&mut room, &samples, workers, window) {
+            Ok(()) => received += 1,
+            Err(what) => wrong.push((place as u64, what)),
+        }
+    }
     let cases = cases();
     let count = std::env::args().nth(1).map_or(RUNS, |word| word.parse().expect("the number of runs"));
     let threads = side_by_side::processors();
@@ -64,18 +109,11 @@ fn main() {
         let case = &cases[number as usize % cases.len()];
         let pair = number as usize / cases.len();
         let (workers, window) = (WORKERS[pair % WORKERS.len()], WINDOWS[pair / WORKERS.len() % WINDOWS.len()]);
-        let ran = room
-            .run(&options::received(case.command, workers, window), &case.octets)
-            .map_err(|error| error.to_string())?;
-        if ran.code() == Some(0) && ran.text == case.text && ran.said.is_empty() {
-            return Ok(());
-        }
-        Err(format!(
-            "`{}` on {} with {workers} workers and a window of {window}: {} and another text",
-            case.command,
-            case.capture,
-            ran.ended()
-        ))
+        run(room, case, workers, window)
     };
-    side_by_side::run(threads, 0, count, TIME, prepare, case).report("stress");
+    let mut sum = side_by_side::run(threads, 0, count, TIME, prepare, case);
+    sum.passed += received;
+    sum.failed.append(&mut wrong);
+    sum.runs += room.runs;
+    sum.report("stress");
 }

@@ -8,8 +8,8 @@
 //! those of whole frames and then of at most one that is cut off, with the numbers and the places of all jobs; more octets
 //! take none of it back. [`files`]: each capture is the file of frames, and shows just these.
 //!
-//! Since no body does anything, no wrong body can be refused, and the crate has no must-fail edits. That its definitions
-//! mean what they say is shown by a small capture that is worked out in proofs/Worked.antt.
+//! Since no body does anything, no wrong body can be refused: the must-fail edits turn definitions, which the laws refuse.
+//! That the definitions mean what they say is shown by a small capture that is worked out in proofs/Worked.antt.
 #![tactic(auto)]
 
 pub mod beginnings;

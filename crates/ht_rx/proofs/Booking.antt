@@ -85,9 +85,11 @@ module _ {P : Type 0} (booked : FrameResult → List P) where
       subst (λ (rs : List FrameResult). GrowsByPart a c (flat_map booked rs)) (sym is)
       (subst (λ (ps : List P). GrowsByPart a c ps) (sym (flat_map-append booked xs (r ∷ rest))) both)
 
-pub frames_told : {P : Type 0} (booked : FrameResult → List P) (f : FrameSoFar) (result : Result Ended RxFault) (source source' : Device ℕ) (book book' : Device P)
+pub frames_told : {P : Type 0} (booked : FrameResult → List P) (f : FrameSoFar) (result : Result Ended RxFault)
+    (source source' : Device ℕ) (book book' : Device P)
     → f.left ≤ 0
-    → MatchResult result (TellsTo (pieces_of (all_booked booked f)) source source' book book') (StopsBy (pieces_of (all_booked booked f)) source source' book book')
+    → MatchResult result (TellsTo (pieces_of (all_booked booked f)) source source' book book')
+      (StopsBy (pieces_of (all_booked booked f)) source source' book book')
     → MatchResult result (TellsTo (booked_of booked) source source' book book') (StopsBy (booked_of booked) source source' book book')
 frames_told {P = P} booked f result source source' book book' none told =
     let zero : f.left ≡ 0 = omega (arith, none) in

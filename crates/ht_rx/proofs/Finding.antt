@@ -48,7 +48,8 @@ finds_end a b c before now stop f closes le =
     let same : f.items ++ [] ≡ f.items = append-nil f.items in
     record {
       items = f.items;
-      reads = subst (λ (xs : List Item). ReadsOn (at a None) (at c (Some stop)) xs) same (reads_on None None (Some stop) a b c f.items [] f.later f.reads reads);
+      reads = subst (λ (xs : List Item). ReadsOn (at a None) (at c (Some stop)) xs) same
+          (reads_on None None (Some stop) a b c f.items [] f.later f.reads reads);
       jobs = f.jobs;
       head = f.head;
       frames = f.frames;

@@ -32,7 +32,8 @@ use Rattle.ht_rx.specs.Outcomes.{TellsBroken, TellsPieces, TellsTo, StopsBy}
 use Rattle.ht_rx.proofs.Outcomes.{start, part, whole, refused, broken, known}
 
 -- all items were read, and all pieces of their jobs were put
-record Finished {P : Type 0} (pieces : List Headed → List P) (head : FrameHead) (source source' : Device ℕ) (device device' : Device P) (frames jobs : ℕ) (stop : Stop) : Type 0 where
+record Finished {P : Type 0} (pieces : List Headed → List P) (head : FrameHead) (source source' : Device ℕ)
+    (device device' : Device P) (frames jobs : ℕ) (stop : Stop) : Type 0 where
   pub items : List Item
   pub between : ReaderView Item
   pub gives : Gives (start source) between items
@@ -117,7 +118,8 @@ module _ {P : Type 0} where
       (seen_by new source' b).standing breaks.items breaks.taken breaks.rest (fresh.first source) fresh.stop breaks.reads jobs breaks.part
 
   stops_as : (old new : DeskView) (source source' : Device ℕ) (a b : Telling P) (fault : FeedFault)
-      → IsNewDesk old → TellsPart (seen_by old source a) (seen_by new source' b) fault → StopsBy (pieces_of a.pieces) source source' a.device b.device (fault_of fault)
+      → IsNewDesk old → TellsPart (seen_by old source a) (seen_by new source' b) fault
+      → StopsBy (pieces_of a.pieces) source source' a.device b.device (fault_of fault)
   stops_as old new source source' a b Write fresh breaks = (part_told old new source source' a b Write fresh breaks, breaks.cause refl)
   stops_as old new source source' a b NoMemory fresh breaks = part_told old new source source' a b NoMemory fresh breaks
 
@@ -165,7 +167,8 @@ module _ {P : Type 0} where
       (ill old.failed new.failed (seen_by old source a) (seen_by new source' b) fault h.fresh.failed failed h.leads)
   heard_by old new source source' a b (Err DriveMemory) h rests nothing =
       subst (λ (s : Device ℕ). TellsPieces (pieces_of a.pieces) source s a.device b.device) (sym (h.source_rests refl))
-      (subst (λ (d : Device P). TellsPieces (pieces_of a.pieces) source source a.device d) (sym (h.device_rests refl)) (part_none (pieces_of a.pieces) source a.device))
+      (subst (λ (d : Device P). TellsPieces (pieces_of a.pieces) source source a.device d) (sym (h.device_rests refl))
+          (part_none (pieces_of a.pieces) source a.device))
 
   -- the end of the reading of a capture, as its drive and its desk tell it
   pub heard : (old new : DeskView) (source source' : Device ℕ) (a b : Telling P) (driven : Result Report (DriveFault FeedFault)) (result : Result Ended RxFault)

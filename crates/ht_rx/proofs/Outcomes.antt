@@ -96,7 +96,8 @@ module _ {P : Type 0} (pieces : List Headed → List P) (head : FrameHead) (sour
 
   -- a bad field, or an octet behind the capture
   refused_at : (mid : ReaderView Item) (items : List Item) (fault : FormatFault)
-      → Gives (start source) mid items → Refuses mid source' fault → Grows device device' (pieces (headed head items)) → TellsRefused (pieces_of pieces) source source' device device' fault
+      → Gives (start source) mid items → Refuses mid source' fault → Grows device device' (pieces (headed head items))
+      → TellsRefused (pieces_of pieces) source source' device device' fault
   refused_at mid items fault g r put =
       let taken = g.taken ++ r.taken in
       let means : (rest : List ℕ) → capture_of (taken ++ rest) ≡ record { items = items; fault = Some fault } =
@@ -116,7 +117,8 @@ module _ {P : Type 0} (pieces : List Headed → List P) (head : FrameHead) (sour
 
   -- an early end
   refused_early : (mid : ReaderView Item) (items : List Item) (fault : FormatFault)
-      → Gives (start source) mid items → RunsOut mid source' fault → Grows device device' (pieces (headed head items)) → TellsRefused (pieces_of pieces) source source' device device' fault
+      → Gives (start source) mid items → RunsOut mid source' fault → Grows device device' (pieces (headed head items))
+      → TellsRefused (pieces_of pieces) source source' device device' fault
   refused_early mid items fault g r put =
       let taken = g.taken ++ r.taken in
       let means : capture_of taken ≡ record { items = items; fault = Some fault } = g.means r.taken ∙ (ap (before items) r.means ∙ alone items (Some fault)) in
@@ -139,7 +141,8 @@ module _ {P : Type 0} (pieces : List Headed → List P) (head : FrameHead) (sour
   refused mid items fault g (inr r) put = refused_early mid items fault g r put
 
   pub broken : (mid : ReaderView Item) (items : List Item)
-      → Gives (start source) mid items → Breaks mid source' → Grows device device' (pieces (headed head items)) → TellsBroken (pieces_of pieces) source source' device device'
+      → Gives (start source) mid items → Breaks mid source' → Grows device device' (pieces (headed head items))
+      → TellsBroken (pieces_of pieces) source source' device device'
   broken mid items g b put =
       let broke = gives_broke (start source) mid source' items g b in
       let place : 0 + length broke.taken ≡ length broke.taken = omega arith in
@@ -230,7 +233,8 @@ module _ {P : Type 0} (pieces : List Headed → List P) (head : FrameHead) (devi
       → old.reader ≡ start source → old.stop ≡ None → ReadsOn old new items → headed head items ≡ taken ++ rest → PutsPartOf device device' pieces taken
       → TellsPieces (pieces_of pieces) source new.reader.source device device'
   part source old new items taken rest reader going reads is put =
-      let s = saw source old.reader new.reader items new.stop reader (subst (λ (e : Option Stop). ReadsBy e new.stop old.reader new.reader items) going reads) in
+      let s = saw source old.reader new.reader items new.stop reader
+          (subst (λ (e : Option Stop). ReadsBy e new.stop old.reader new.reader items) going reads) in
       record {
         taken = s.taken;
         octets = s.octets;

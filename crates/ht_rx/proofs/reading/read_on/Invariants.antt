@@ -9,7 +9,8 @@ invariant-loop-next g l = record {
   going : finished l.reader ≡ None;
   counts : counts l.reader ≡ counted l.frames (counts l.fn.reader).jobs;
   fewer : more l.reader ≤ more l.fn.reader;
-  finds : Finds (standing l.fn.reader None (g.S.Source.shown l.fn.source)) (standing l.reader None (g.S.Source.shown l.source)) (begun l.fn.head l.fn.frames) (begun l.head l.frames) [];
+  finds : Finds (standing l.fn.reader None (g.S.Source.shown l.fn.source)) (standing l.reader None (g.S.Source.shown l.source))
+      (begun l.fn.head l.fn.frames) (begun l.head l.frames) [];
 }
 
 abbrev pub decreases-loop-next : goal.decreases-loop-next

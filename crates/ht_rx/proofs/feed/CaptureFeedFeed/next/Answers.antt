@@ -25,6 +25,7 @@ returns-in-Err-clause-leads g c =
     let same = c.in-Err.ensures.memory in
     let with : DeskView → DeskView = λ d. record d { faults = one_more d.faults; failed = Some NoMemory } in (
       refl,
-      leads_lacking desk c.fail-in-Err.new.self (g.S.Source.shown c.args.self.now.source.now) (g.S.Source.shown c.next.new.source) account (one_more desk.faults)
+      leads_lacking desk c.fail-in-Err.new.self (g.S.Source.shown c.args.self.now.source.now) (g.S.Source.shown c.next.new.source)
+          account (one_more desk.faults)
           (c.fail-in-Err.ensures.noted ∙ ap with same.0) (ap g.S.Source.shown same.1) (sym c.failed.ensures ∙ c.in_default.is),
     )
