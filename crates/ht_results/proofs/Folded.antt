@@ -35,7 +35,8 @@ frame_after-append f [] ys = refl
 frame_after-append f (x ∷ xs) ys = frame_after-append (with_job x f) xs ys
 
 -- the jobs of items with their heads are those of the frames that stand among the items
-headed-jobs : (head : FrameHead) (jobs : List JobView) (items : List Item) → headed head (map Job jobs ++ items) ≡ map (headed_of head) jobs ++ headed head items
+headed-jobs : (head : FrameHead) (jobs : List JobView) (items : List Item)
+    → headed head (map Job jobs ++ items) ≡ map (headed_of head) jobs ++ headed head items
 headed-jobs head [] items = refl
 headed-jobs head (job ∷ jobs) items = ap (λ (xs : List Headed). headed_of head job ∷ xs) (headed-jobs head jobs items)
 

@@ -20,7 +20,8 @@ put_behind m (p ∷ ps) xs ys n at is =
     ∙ put_behind m ps xs (set ys at (label_at m p)) n (at + 1) is)
 
 -- within a front what is behind it stays
-put_within : (m : Modulation) (ps : List Point) (xs ys : List ℕ) (at : ℕ) → at + length ps ≤ length xs → put_labels m (xs ++ ys) at ps ≡ put_labels m xs at ps ++ ys
+put_within : (m : Modulation) (ps : List Point) (xs ys : List ℕ) (at : ℕ) → at + length ps ≤ length xs
+    → put_labels m (xs ++ ys) at ps ≡ put_labels m xs at ps ++ ys
 put_within m [] xs ys at fits = refl
 put_within m (p ∷ ps) xs ys at fits =
     let first : List ℕ = set xs at (label_at m p) in

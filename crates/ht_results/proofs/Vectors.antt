@@ -27,10 +27,22 @@ use Rattle.ht_results.specs.Labels.{stream_label}
 -- the grid of a rate
 ladders : (m : Modulation) → AreLadders (axes_of m)
 unfolding axes_of
-ladders Bpsk = record { i = record { size = inr (inl refl); some = omega arith; within = omega arith }; q = record { size = inl refl; some = omega arith; within = omega arith } }
-ladders Qpsk = record { i = record { size = inr (inl refl); some = omega arith; within = omega arith }; q = record { size = inr (inl refl); some = omega arith; within = omega arith } }
-ladders Qam16 = record { i = record { size = inr (inr (inl refl)); some = omega arith; within = omega arith }; q = record { size = inr (inr (inl refl)); some = omega arith; within = omega arith } }
-ladders Qam64 = record { i = record { size = inr (inr (inr refl)); some = omega arith; within = omega arith }; q = record { size = inr (inr (inr refl)); some = omega arith; within = omega arith } }
+ladders Bpsk = record {
+  i = record { size = inr (inl refl); some = omega arith; within = omega arith };
+  q = record { size = inl refl; some = omega arith; within = omega arith };
+}
+ladders Qpsk = record {
+  i = record { size = inr (inl refl); some = omega arith; within = omega arith };
+  q = record { size = inr (inl refl); some = omega arith; within = omega arith };
+}
+ladders Qam16 = record {
+  i = record { size = inr (inr (inl refl)); some = omega arith; within = omega arith };
+  q = record { size = inr (inr (inl refl)); some = omega arith; within = omega arith };
+}
+ladders Qam64 = record {
+  i = record { size = inr (inr (inr refl)); some = omega arith; within = omega arith };
+  q = record { size = inr (inr (inr refl)); some = omega arith; within = omega arith };
+}
 
 grid_length : (r : Rate) → length (grid_of r) ≡ streams_of r
 unfolding grid_of

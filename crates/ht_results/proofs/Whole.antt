@@ -162,10 +162,12 @@ result_is : (f : FrameJobs) → IsWholeFrame f → result_of (with_all (frame_be
 result_is f whole =
     let start : FrameSoFar = frame_begun f.head in
     let at = placed f whole in
-    let within : Within f.head.rate f.jobs = all_weaker (AtPlace f.head) (λ (j : JobView). j.place.carrier < carriers_of f.head.rate) f.jobs (λ j p. p.carrier) at in
+    let within : Within f.head.rate f.jobs =
+        all_weaker (AtPlace f.head) (λ (j : JobView). j.place.carrier < carriers_of f.head.rate) f.jobs (λ j p. p.carrier) at in
     let left : ℕ = start.left - length f.jobs in
     ap result_of (all_jobs f.jobs start)
-    ∙ (ap (λ (z : ℕ). made f.head z (pilot_after f.head.rate f.jobs 0) (labels_after f.head.rate f.jobs start.labels) left) (data_is f.head.rate f.jobs 0 within)
+    ∙ (ap (λ (z : ℕ). made f.head z (pilot_after f.head.rate f.jobs 0) (labels_after f.head.rate f.jobs start.labels) left)
+    (data_is f.head.rate f.jobs 0 within)
     ∙ (ap (λ (z : ℕ). made f.head (data_sum_of f) z (labels_after f.head.rate f.jobs start.labels) left) (pilot_is f.head.rate f.jobs 0 within)
     ∙ (ap (λ (z : List ℕ). made f.head (data_sum_of f) (pilot_sum_of f) z left)
     (labels_are f 0 (symbols_in f.head * carriers_of f.head.rate) at (rising f whole))

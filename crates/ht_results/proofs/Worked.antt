@@ -67,6 +67,7 @@ decoded_line : result_line (record { frame = 0; data_sum = 14; pilot_sum = 442; 
 unfolding result_line frame_text sums_text outcome_text digits
 decoded_line = refl
 
-seedless_line : result_line (record { frame = 7; data_sum = 0; pilot_sum = 0; code = 0; outcome = SeedZero }) ≡ codes "frame 7 data 0 pilot 0 code 0 seed zero" ++ 10 ∷ []
+seedless_line : result_line (record { frame = 7; data_sum = 0; pilot_sum = 0; code = 0; outcome = SeedZero })
+    ≡ codes "frame 7 data 0 pilot 0 code 0 seed zero" ++ 10 ∷ []
 unfolding result_line frame_text sums_text outcome_text digits
 seedless_line = refl

@@ -43,7 +43,8 @@ only : (accepted : Bool) (asked : Asked) → (accepted ≡ true → IsWithinRang
 only true asked holds = holds refl
 only false asked holds = tt
 
-either : (test : Bool) (this that : Option Asked) → IfSome this IsWithinRanges → IfSome that IsWithinRanges → IfSome (if test then this else that) IsWithinRanges
+either : (test : Bool) (this that : Option Asked) → IfSome this IsWithinRanges → IfSome that IsWithinRanges
+    → IfSome (if test then this else that) IsWithinRanges
 either true this that first second = first
 either false this that first second = second
 

@@ -28,7 +28,8 @@ is_fitting-requires c =
     let k = c.loop-place.place in
     let few : k < carriers_of r * streams_of r = omega (arith, c.loop-place-test.true, c.requires.most) in
     let some : 0 < streams_of r = omega (arith, (streams_of-range r).0) in
-    subst (λ (x : Carrier). IsAmong r x) (sym (c.requires.carriers k few)) (carrier_of-among r (k / streams_of r) (div_below k (streams_of r) (carriers_of r) some few))
+    subst (λ (x : Carrier). IsAmong r x) (sym (c.requires.carriers k few))
+    (carrier_of-among r (k / streams_of r) (div_below k (streams_of r) (carriers_of r) some few))
 
 pub returns-then-not-is_fitting-clause-misfit : goal.returns-then-not-is_fitting-clause-misfit
 returns-then-not-is_fitting-clause-misfit c =
