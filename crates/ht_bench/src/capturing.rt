@@ -45,7 +45,7 @@ impl Line {
     }
 }
 
-// A capture of version 1, with 16-QAM at rate 3/4 on so many streams, and 4,000 octets for each of them in a frame.
+// A capture of version 1, with 16-QAM at rate 3/4 on a number of streams, and 4,000 octets for each of them in a frame.
 fn capture(alloc: Global, streams: u8) -> Result<Vec<u8>, AllocError>
     requires few { streams ≤ 4 }
     requires some { 1 ≤ streams }
@@ -69,7 +69,7 @@ fn capture(alloc: Global, streams: u8) -> Result<Vec<u8>, AllocError>
     Ok(octets)
 }
 
-// So many random octets more.
+// A number of random octets more.
 fn fill(octets: &mut Vec<u8>, random: &mut Random, count: u64) -> Result<(), AllocError> {
     for _ in 0..count {
         octets.push((random.draw() % 256) as u8)?;

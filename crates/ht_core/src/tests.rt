@@ -164,7 +164,7 @@ fn window_of_two(rt: HostRuntime) -> Result<(), Fail> {
     Ok(())
 }
 
-// A worker moves so many jobs from another's deque to its own, one steal and one push each, and pops its own front.
+// A worker moves a number of jobs from another's deque to its own, one steal and one push each, and pops its own front.
 fn moves(
     rt: &impl Abort,
     core: &mut Core,

@@ -26,7 +26,7 @@ pub record HasRunAlone (report : Report) : Type 0 where
   pub ran : report.ran ≡ []
   pub passes : report.passes ≡ None
 
--- so many workers ran the jobs, where the pool had room for so many for sure
+-- this number of workers ran the jobs, where the pool had room for that number for sure
 pub record HasRunInPool (workers room : ℕ) (report : Report) (passes : Passes) : Type 0 where
   -- there is a deque for each worker, the caller's first
   pub deques : length passes.deques ≡ workers
@@ -40,7 +40,7 @@ pub record HasRunInPool (workers room : ℕ) (report : Report) (passes : Passes)
   pub emptied : All IsEmptied passes.deques
   -- the jobs run, which are those taken on all deques less those moved on, are those pushed on the caller's, each once
   pub run : SameCounts (taken_on passes.deques) ((by_caller passes).pushed ++ moved_on passes.deques)
-  -- by so many workers, the caller first, each of whom counted
+  -- by this number of workers, the caller first, each of whom counted
   pub each : length report.ran ≡ workers
   pub ran : sum report.ran ≡ length (by_caller passes).pushed
   -- the hits pushed on the queue are as many as the jobs that the workers beside the caller ran

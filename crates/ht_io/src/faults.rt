@@ -94,7 +94,7 @@ pub enum InFault {
     #[error("the input can't be read")]
     Read,
     /// Memory ran out.
-    #[error("memory ran out")]
+    #[error("out of memory")]
     NoMemory,
 }
 

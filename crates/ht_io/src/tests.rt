@@ -8,7 +8,7 @@ use crate::{
 use std::io::{self, ErrorKind, Read, Write};
 use std::test::Fail;
 
-// A device of std that is interrupted so many times before each call that it does.
+// A device of std that is interrupted a number of times before each call that it does.
 #[derive(Drop)]
 struct Interrupted {
     times: u32,
@@ -68,7 +68,7 @@ fn kind_of(last: Option<io::Error>) -> Option<ErrorKind> {
     last.map(|error| error.kind())
 }
 
-// How often each of so many reads of eight octets takes: the count, or None at a failure.
+// How often each of a number of reads of eight octets takes: the count, or None at a failure.
 fn counts<S: Source>(source: &mut S) -> [Option<usize>; 6] {
     let mut into = [0u8; 8];
     let mut all = [None; 6];
@@ -193,7 +193,7 @@ fn vectors_texts(rt: HostRuntime) -> Result<(), Fail> {
         ),
         (
             format!(in alloc; "{}", InFault::NoMemory)?,
-            "memory ran out",
+            "out of memory",
         ),
         (format!(in alloc; "{Failed}")?, "the device failed"),
     ] {

@@ -32,7 +32,7 @@ abbrev pub fault_of_book : BookFault → FeedFault
 fault_of_book BookFailed = FeedWrite
 fault_of_book BookMemory = FeedNoMemory
 
--- how the reading ended that stopped so, behind so many frames and jobs; it has always stopped
+-- how the reading ended that stopped so, behind this number of frames and of jobs; it has always stopped
 abbrev pub ended_at : Option Stop → ℕ → ℕ → Result Ended RxFault
 ended_at (Some Whole) frames jobs = Ok (Done frames jobs)
 ended_at (Some (Refused fault)) frames jobs = Ok (EndedRefused fault)

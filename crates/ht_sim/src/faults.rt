@@ -18,7 +18,7 @@ pub enum SimFault {
     #[error("the output can't be written")]
     Write,
     /// Memory ran out.
-    #[error("memory ran out")]
+    #[error("out of memory")]
     NoMemory,
 }
 

@@ -5,7 +5,7 @@ use Rattle.ht_counts.specs.Counts.{SameCounts}
 use Rattle.ht_team.specs.Seats.{DequeId, SeatView, OwnView, deques_at, taken_at}
 
 pub record HelmView (T A : Type 0) : Type 0 where
-  -- so many tasks can be given for sure
+  -- this number of tasks can be given for sure
   pub room : ℕ
   -- a deque for each worker, the caller's first, and the queue of answers
   pub deques : List DequeId

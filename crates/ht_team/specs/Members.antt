@@ -24,7 +24,7 @@ pub record Berth : Type 0 where
   pub parts : ℕ
   pub at : List DequeId
 
--- with seats of so many threads at each deque
+-- with seats of this number of threads at each deque
 abbrev pub berth : List DequeId → DequeId → Berth
 berth deques own = record { deque = own; parts = 1024 - length deques; at = deques }
 

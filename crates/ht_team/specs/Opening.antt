@@ -9,7 +9,7 @@ module _ {T : Type 0} where
   abbrev pub own_deques : List (OwnView T) → List DequeId
   own_deques owners = map (λ (o : OwnView T). o.deque) owners
 
-  -- so many seats at each deque were made
+  -- this number of seats at each deque was made
   abbrev pub lent : ℕ → List (OwnView T) → List (OwnView T)
   lent seats owners = map (λ (o : OwnView T). record o { parts = o.parts - seats }) owners
 

@@ -13,7 +13,7 @@ use Rattle.ht_team.specs.declared.pool.Pool.{Pool}
 use Rattle.ht_team.specs.declared.closed.Closed.{Closed}
 
 module _ {T : Type 0} where
-  -- room for so many workers, and nothing is there
+  -- room for this number of workers, and nothing is there
   pub record IsVacant (workers : ℕ) (s : Space T) : Type 0 where
     pub ran : (s.ran.items ≡ []) × (workers ≤ vec_capacity s.ran)
     pub owners : (s.owners.items ≡ []) × (workers ≤ vec_capacity s.owners)

@@ -46,7 +46,7 @@ module _ {T : Type 0} where
   abbrev pub stole : SeatView T → T → SeatView T
   stole seat task = record { at = seat.at; taken = seat.taken ++ task ∷ [] }
 
-  -- nothing was pushed or taken yet, and so many parts are left
+  -- nothing was pushed or taken yet, and this number of parts is left
   abbrev pub fresh_own : ℕ → ℕ → DequeId → OwnView T
   fresh_own parts room deque = record { deque = deque; room = room; parts = parts; pushed = []; taken = [] }
 

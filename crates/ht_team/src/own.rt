@@ -41,7 +41,7 @@ impl<T: Drop> Model for OwnDeque<T> {
 }
 
 impl<T: Drop> OwnDeque<T> {
-    /// A new deque with room for so many tasks.
+    /// A new deque with room for a number of tasks.
     pub(crate) fn open(alloc: Global, room: u16) -> Result<OwnDeque<T>, AllocError>
         ensures { IfOk result (λ own. own ≡ fresh_own 1024 room own.deque) }
     {

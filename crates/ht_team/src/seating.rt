@@ -8,7 +8,7 @@ use crate::own::OwnDeque;
 use crate::seat::Seat;
 use std::alloc::{AllocError, Global};
 
-// So many deques, each with room for so many tasks.
+// A number of deques, each with room for a number of tasks.
 fn open_all<T: Drop>(
     alloc: Global,
     workers: usize,
@@ -59,7 +59,7 @@ fn seat_rows<T: Drop>(
     Ok(rows)
 }
 
-/// So many deques, each with room for so many tasks, and for each thread a seat at each.
+/// A number of deques, each with room for a number of tasks, and for each thread a seat at each.
 pub(crate) fn open_seated<T: Drop>(
     alloc: Global,
     workers: usize,
