@@ -55,7 +55,7 @@ use std::thread::Threads;
 /// the call waits for them; else it does as [`run_alone`]. Where memory runs out before it is known what the words ask
 /// for, nothing is read and nothing put.
 ///
-/// `Answered` says what each status means, for each command; [`laws`] spells it out for `detect` and `rx`.
+/// `Answered` says what each status means, for each command; [`laws`] spells it out for `detect`, `rx`, `upgrade` and `demo`.
 pub fn run<R: Threads + Wait + Sync, S: Source, K: Sink, G: Gate + Sync>(
     rt: &R,
     alloc: Global,
