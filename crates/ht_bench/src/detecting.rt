@@ -2,9 +2,9 @@
 ghost use Rattle.std.specs.Prelude.{◌≡◌, ◌<◌, ◌≤◌, length};
 
 use crate::random::Random;
-use ht_metric::{Job, Place, Sample, System, Tap, Triangle};
+use ht_metric::{Hit, Job, Place, Sample, System, Tap, Triangle};
 use ht_pam::{Grid, Ladder, Point, Steps};
-use ht_sphere::nearest;
+use ht_sphere::{into_hit, nearest};
 use std::alloc::{AllocError, Global};
 use std::marker::Brand;
 use std::sync::ledger::{Blank, Ledger};
@@ -16,15 +16,25 @@ const NO_TAP: Tap = Tap { re: 0, im: 0 };
 
 const NO_SAMPLE: Sample = Sample { re: 0, im: 0 };
 
-/// How many streams, which constellation, how much noise, and how often all jobs are detected.
+/// Which call, how many streams, which constellation, how much noise, and how often all jobs are detected.
 #[derive(Drop)]
 pub struct Line {
+    detector: Detector,
     streams: u8,
     i_levels: u8,
     q_levels: u8,
     noise: u64,
     diagonals: Diagonals,
     count: u32,
+}
+
+/// Which call of the detector is run.
+#[derive(Clone, Copy)]
+enum Detector {
+    /// `nearest`, of jobs that stay where they are.
+    Nearest,
+    /// `into_hit`, of jobs that are given away: a copy of each.
+    IntoHit,
 }
 
 /// How large the diagonals of a channel are.
@@ -50,9 +60,11 @@ impl Line {
         let [detector, streams, modulation, noise, diagonals, count] = words else {
             return None;
         };
-        if detector.as_str() != "nearest" {
-            return None;
-        }
+        let detector = match detector.as_str() {
+            "nearest" => Detector::Nearest,
+            "into_hit" => Detector::IntoHit,
+            _ => return None,
+        };
         let (i_levels, q_levels) = match modulation.as_str() {
             "bpsk" => (2, 1),
             "qpsk" => (2, 2),
@@ -66,6 +78,7 @@ impl Line {
             _ => return None,
         };
         Some(Line {
+            detector,
             streams: streams.as_str().parse().ok()?,
             i_levels,
             q_levels,
@@ -84,7 +97,7 @@ impl Line {
         }
         let mut checksum = 0u64;
         for _ in 0..self.count {
-            checksum = detected(&jobs, checksum);
+            checksum = detected(self.detector, &jobs, checksum);
         }
         Ok(checksum)
     }
@@ -234,11 +247,14 @@ fn times(r: Tap, x: Point) -> Sample {
 }
 
 // A checksum that depends on each hit and its place.
-fn detected(jobs: &[Job], start: u64) -> u64 {
-    counted::<Brand>(jobs, start, Blank::new(1))
+fn detected(detector: Detector, jobs: &[Job], start: u64) -> u64 {
+    match detector {
+        Detector::Nearest => all_nearest::<Brand>(jobs, start, Blank::new(1)),
+        Detector::IntoHit => all_into_hits::<Brand>(jobs, start, Blank::new(1)),
+    }
 }
 
-fn counted<L: Ledger>(jobs: &[Job], start: u64, blank: Blank) -> u64
+fn all_nearest<L: Ledger>(jobs: &[Job], start: u64, blank: Blank) -> u64
     requires name { blank.name ≡ L.name }
     requires parts { blank.parts ≡ L.parts }
     requires some { 0 < blank.parts }
@@ -246,15 +262,33 @@ fn counted<L: Ledger>(jobs: &[Job], start: u64, blank: Blank) -> u64
     let mut steps = Steps::<L>::new(blank);
     let mut checksum = start;
     for job in jobs {
-        let hit = nearest(job, &mut steps);
-        checksum = folded(checksum, (hit.distance() % (1 << 64)) as u64);
-        for stream in 1..hit.vector().len() + 1 {
-            let point = hit.vector().point(stream);
-            checksum = folded(checksum, u64::from(point.i.cast_unsigned()));
-            checksum = folded(checksum, u64::from(point.q.cast_unsigned()));
-        }
+        checksum = with_hit(checksum, &nearest(job, &mut steps));
     }
     checksum
+}
+
+fn all_into_hits<L: Ledger>(jobs: &[Job], start: u64, blank: Blank) -> u64
+    requires name { blank.name ≡ L.name }
+    requires parts { blank.parts ≡ L.parts }
+    requires some { 0 < blank.parts }
+{
+    let mut steps = Steps::<L>::new(blank);
+    let mut checksum = start;
+    for job in jobs {
+        checksum = with_hit(checksum, &into_hit(job.copy(), &mut steps));
+    }
+    checksum
+}
+
+// The checksum with one hit more.
+fn with_hit(start: u64, hit: &Hit) -> u64 {
+    let mut sum = folded(start, (hit.distance() % (1 << 64)) as u64);
+    for stream in 1..hit.vector().len() + 1 {
+        let point = hit.vector().point(stream);
+        sum = folded(sum, u64::from(point.i.cast_unsigned()));
+        sum = folded(sum, u64::from(point.q.cast_unsigned()));
+    }
+    sum
 }
 
 fn folded(sum: u64, number: u64) -> u64 {

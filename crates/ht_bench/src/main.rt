@@ -4,6 +4,7 @@
 //! ht_bench decode PATTERN STEPS PERCENT COUNT          the decoder
 //! ht_bench plain_decode PATTERN STEPS PERCENT COUNT    the same, state by state
 //! ht_bench nearest STREAMS MODULATION NOISE DIAGONALS COUNT    the detector, on 256 jobs so often
+//! ht_bench into_hit STREAMS MODULATION NOISE DIAGONALS COUNT   the same, on copies of the jobs that it is given
 //! ht_bench reader STREAMS COUNT                        the reader, on one capture so often
 //! ```
 //!

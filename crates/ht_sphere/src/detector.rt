@@ -26,7 +26,15 @@ pub fn nearest<L: Ledger>(job: &Job, steps: &mut Steps<L>) -> Hit
     ensures near { near job.now ≡ record { vector = result.vector; distance = result.distance } }
     ensures steps { steps.new ≤ steps.old + 2 * inside_of job.now }
 {
-    into_hit(job.copy(), steps)
+    let mut levels = [0i8; 8];
+    let levels = &mut levels[..2 * usize::from(job.system().streams())];
+    let distance = find(job, levels, steps);
+    let vector = vector_of(levels);
+    Hit {
+        job: job.copy(),
+        vector,
+        distance,
+    }
 }
 
 /// The same of a job that isn't needed any more: it goes into its hit without a copy.
@@ -68,7 +76,8 @@ fn answer<L: Ledger>(job: &Job, steps: &mut Steps<L>) -> Found
 }
 
 // The levels of the best vector, and its distance. Successive rounding comes first, and ends the search where no other
-// vector can be as near.
+// vector can be as near. Each caller has a copy of it, without a call.
+#[inline(always)]
 fn find<L: Ledger>(job: &Job, levels: &mut [i8], steps: &mut Steps<L>) -> u128
     requires room { length levels.old ≡ 2 * length job.now.system }
     requires levels { All (λ x. unsigned_abs x ≤ 7) levels.old }

@@ -11,7 +11,9 @@ use crate::remainder::{cost, cost_of_others, nearest_i, nearest_q, remainder_of}
 use ht_metric::Job;
 
 // Gives each coordinate of the first k streams the level that is nearest behind those chosen before. What is added to
-// the distance is theirs, and the distance of each other vector is at least `others`.
+// the distance is theirs, and the distance of each other vector is at least `others`. Each caller has a copy of it, as a
+// loop.
+#[inline(always)]
 pub(crate) fn round(job: &Job, k: u8, levels: &mut [i8], distance: &mut u128, others: &mut u128)
     requires last { k ≤ length job.now.system }
     requires room { length levels.old ≡ 2 * length job.now.system }
