@@ -1,14 +1,14 @@
 -- A window that is filled from a feed.
-use Rattle.std.proofs.Common.{◌≡◌, ℕ, ◌+◌, ◌-◌, ◌^◌, ◌<◌, ◌≤◌, List, [], ◌∷◌, ◌++◌, length, take, drop, Bool}
+use Rattle.std.proofs.Common.{◌≡◌, ℕ, ◌+◌, ◌-◌, List, [], ◌∷◌, ◌++◌, length, take, drop, Bool}
 use Rattle.std.proofs.Common.{true, false, Option, Some, None, ap, ◌∙◌, sym, refl, arith, rules, subst}
-use Rattle.std.proofs.lemmas.List.{length-append, length-drop, length-take-le, map-append, drop-drop, drop-append-le}
+use Rattle.std.proofs.lemmas.List.{length-append, length-drop, length-take-le, drop-drop, drop-append-le}
 use Rattle.std.proofs.Math.Seq.{take-add}
 use Rattle.ht_metric.specs.Jobs.{JobView}
 use Rattle.ht_metric.specs.declared.hit.Hit.{Hit}
-use Rattle.ht_window.specs.Windows.{WindowView, unbooked, front_hit}
+use Rattle.ht_window.specs.Windows.{WindowView, unbooked}
 use Rattle.ht_window.specs.declared.slot.Slot.{Slot}
 use Rattle.ht_crew.specs.Feeds.{FeedView, GivesJob, ComesFirst}
-use Rattle.ht_crew.specs.Driving.{Holds, IsUnderWay, IsAlong, to_run, one_without, waiting}
+use Rattle.ht_crew.specs.Driving.{IsUnderWay, IsAlong, one_without, waiting}
 
 -- the window after a job was issued
 abbrev pub issued : WindowView → JobView → WindowView
@@ -24,34 +24,7 @@ pub waiting_more : (slots : List Slot) (job : JobView) → waiting (slots ++ unb
 waiting_more [] job = refl
 waiting_more (slot ∷ slots) job = one_more slot.hit (waiting (slots ++ unbooked job ∷ [])) (waiting slots) (waiting_more slots job)
 
--- a front without a hit stays so
-pub front_stays : (slots : List Slot) (job : JobView) → front_hit slots ≡ None → front_hit (slots ++ unbooked job ∷ []) ≡ None
-front_stays [] job e = refl
-front_stays (slot ∷ slots) job e = e
-
 module _ {Fault : Type 0} where
-  -- what was filled so far
-  pub record Filling (w0 : WindowView) (f0 : FeedView Fault) (w : WindowView) (f : FeedView Fault) : Type 0 where
-    pub holds : Holds w f
-    pub capacity : w.capacity ≡ w0.capacity
-    pub front_is : w.front ≡ w0.front
-    pub ran : waiting w.slots + f0.count ≡ waiting w0.slots + f.count
-    pub front : front_hit w0.slots ≡ None → front_hit w.slots ≡ None
-    pub bound : f.count < 2 ^ 64 - 1
-    pub later : f0.faults ≤ f.faults
-    pub failed : f.failed ≡ f0.failed
-    pub along : (all : List JobView) → IsAlong all f0 → IsAlong all f
-
-  pub holds_more : (w : WindowView) (f f' : FeedView Fault) (job : JobView) → Holds w f → length w.slots < w.capacity → GivesJob f f' job
-      → Holds (issued w job) f'
-  holds_more w f f' job holds room gives =
-      let one_more : length (w.slots ++ unbooked job ∷ []) ≡ length w.slots + 1 = length-append w.slots (unbooked job ∷ []) in
-      record {
-        due = map-append (λ (s : Slot). s.job) w.slots (unbooked job ∷ []) ∙ (ap (λ (xs : List JobView). xs ++ job ∷ []) holds.due ∙ sym gives.due);
-        count = omega (arith, one_more, holds.count, gives.count);
-        room = omega (arith, one_more, room);
-      }
-
   -- a job of the list more was given
   pub along_more : (all : List JobView) (f f' : FeedView Fault) (job : JobView) → IsAlong all f → f.ended ≡ false → GivesJob f f' job → IsAlong all f'
   along_more all f f' job along running gives =
@@ -77,28 +50,6 @@ module _ {Fault : Type 0} where
                 ∙ (sym (drop-append-le (n - due) (take n all) (job ∷ []) (omega (arith, front)))
                 ∙ (ap (λ (xs : List JobView). drop (n - due) xs) (sym more) ∙ ap (λ (k : ℕ). drop k (take f'.count all)) (sym from))));
           }
-
-  pub filling_more : (w0 : WindowView) (f0 : FeedView Fault) (w : WindowView) (f f' : FeedView Fault) (job : JobView) → Filling w0 f0 w f
-      → length w.slots < w.capacity → f.ended ≡ false → GivesJob f f' job → f.faults ≤ f'.faults
-      → f'.count + f'.more < 2 ^ 64 - 1 → Filling w0 f0 (issued w job) f'
-  filling_more w0 f0 w f f' job filling room running gives later bound = record {
-    holds = holds_more w f f' job filling.holds room gives;
-    capacity = filling.capacity;
-    front_is = filling.front_is;
-    ran = omega (arith, filling.ran, waiting_more w.slots job, gives.count);
-    front = λ e. front_stays w.slots job (filling.front e);
-    bound = omega (arith, bound);
-    later = omega (arith, later, filling.later);
-    failed = gives.failed ∙ filling.failed;
-    along = λ all start. along_more all f f' job (filling.along all start) running gives;
-  }
-
-  -- a job that was given and waits is one that may still have come
-  pub fewer_more : (w : WindowView) (f f' : FeedView Fault) (job : JobView) (running : Bool)
-      → running ≡ true → GivesJob f f' job → to_run running f' (issued w job) ≤ to_run running f w
-  fewer_more w f f' job running on gives =
-      let less : to_run true f' (issued w job) ≤ to_run true f w = omega (arith, waiting_more w.slots job, gives.more) in
-      subst (λ (r : Bool). to_run r f' (issued w job) ≤ to_run r f w) (sym on) less
 
   -- a feed that gave a job goes on
   pub goes_on_more : (f f' : FeedView Fault) (job : JobView) (running : Bool) → running ≡ true → GivesJob f f' job → IsUnderWay running f'

@@ -1,7 +1,7 @@
 mod Giving
 mod Filling
 mod Delivering
-mod First
+mod Coming
 mod Running
 mod Whole
 mod Values

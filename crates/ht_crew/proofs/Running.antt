@@ -1,16 +1,14 @@
 -- A job that was run waits no more.
-use Rattle.std.proofs.Common.{◌≡◌, ℕ, zero, suc, ◌+◌, ◌-◌, ◌<◌, List, [], ◌∷◌, slice_get, slice_set}
-use Rattle.std.proofs.Common.{Option, Some, None, Bool, if◌then◌else◌, ap, ◌∙◌, sym, arith, rules, subst}
+use Rattle.std.proofs.Common.{◌≡◌, ℕ, zero, suc, ◌+◌, ◌-◌, List, [], ◌∷◌, slice_get, slice_set}
+use Rattle.std.proofs.Common.{Option, Some, None, Bool, ap, ◌∙◌, sym, arith, rules, subst}
 use Rattle.std.proofs.lemmas.Option.{same_Some}
 use Rattle.ht_metric.specs.Jobs.{JobView}
 use Rattle.ht_metric.specs.declared.hit.Hit.{Hit}
 use Rattle.ht_window.specs.Windows.{WindowView, IsWindow, unbooked, booked}
 use Rattle.ht_window.specs.Accepting.{IsUnbooked, Books}
 use Rattle.ht_window.specs.declared.slot.Slot.{Slot}
-use Rattle.ht_window.specs.declared.window.Accepted.{Accepted}
-use Rattle.ht_window.specs.declared.window.Accepted.TheVariants.{Booked}
 use Rattle.ht_crew.specs.Feeds.{FeedView, GivesAsBefore, IsLeft}
-use Rattle.ht_crew.specs.Driving.{IsUnderWay, to_run, one_without, waiting}
+use Rattle.ht_crew.specs.Driving.{IsUnderWay, one_without, waiting}
 use Rattle.ht_crew.proofs.Filling.{one_more}
 
 -- one slot less waits
@@ -34,12 +32,6 @@ waiting_booked w w' job hit window there is books =
     ap (λ (v : WindowView). v.slots) books ∙ ap (λ (n : ℕ). slice_set w.slots n (booked hit)) at in
     waiting_set w.slots k job hit there.1 ∙ ap (λ (s : List Slot). waiting s + 1) (sym slots)
 
--- a hit of a job that waits is taken
-pub accepted : (w w' : WindowView) (job : JobView) (hit : Hit) (answer : Accepted) → IsWindow w → IsUnbooked w job → hit.job ≡ job
-    → (IsUnbooked w hit.job → answer ≡ Booked) → (answer ≡ Booked → Books w hit w') → waiting w.slots ≡ waiting w'.slots + 1
-accepted w w' job hit answer window there is booked books =
-    waiting_booked w w' job hit window there is (books (booked (subst (λ (j : JobView). IsUnbooked w j) (sym is) there)))
-
 module _ {Fault : Type 0} where
   -- a feed that gives as before goes on as before
   pub goes_on_still : (f f' : FeedView Fault) (running : Bool) → IsUnderWay running f → GivesAsBefore f f' → IsUnderWay running f'
@@ -47,11 +39,3 @@ module _ {Fault : Type 0} where
     ended = same.ended ∙ on.ended;
     left = λ off. subst (λ (left : Option (List JobView)). IsLeft left []) (sym same.left) (on.left off);
   }
-
-  -- one job less is to be run
-  pub fewer_run : (w1 w2 w3 : WindowView) (f1 f2 : FeedView Fault) (running : Bool) → GivesAsBefore f1 f2
-      → waiting w1.slots ≡ waiting w2.slots + 1 → waiting w3.slots ≡ waiting w2.slots → to_run running f2 w3 < to_run running f1 w1
-  fewer_run w1 w2 w3 f1 f2 running same less still =
-      let more : to_run running f2 w3 ≡ (if running then f1.more else 0) + waiting w3.slots =
-      ap (λ (m : ℕ). (if running then m else 0) + waiting w3.slots) same.more in
-      omega (arith, more, less, still)

@@ -1,5 +1,5 @@
 -- Worked values.
-use Rattle.std.proofs.Common.{◌≡◌, [], ◌∷◌, Some, true, false, refl}
+use Rattle.std.proofs.Common.{◌≡◌, [], ◌∷◌, None, Some, refl}
 use Rattle.ht_metric.specs.Jobs.{JobView}
 use Rattle.ht_metric.specs.declared.hit.Hit.{Hit}
 use Rattle.ht_window.specs.Windows.{unbooked, booked}
@@ -49,12 +49,13 @@ module _ (a b c : JobView) (hit : Hit) where
   first_came : ComesFirst (Some (b ∷ c ∷ [])) (Some (c ∷ [])) b
   first_came = refl
 
-  -- two of three slots wait, and one job may still come
+  -- two of three slots wait
   two_wait : waiting (unbooked a ∷ booked hit ∷ unbooked c ∷ []) ≡ 2
   two_wait = refl
 
-  three_to_run : to_run true (shown two) (record { capacity = 3; front = 0; slots = unbooked a ∷ unbooked b ∷ [] }) ≡ 3
-  three_to_run = refl
+  -- while a job is next, as many are to be run as may still come, and it; else none
+  two_to_run : to_run (Some b) (shown two) ≡ 2
+  two_to_run = refl
 
-  none_to_run : to_run false (shown (ended start)) (record { capacity = 3; front = 0; slots = [] }) ≡ 0
+  none_to_run : to_run None (shown (ended start)) ≡ 0
   none_to_run = refl

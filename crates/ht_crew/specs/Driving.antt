@@ -1,5 +1,5 @@
 -- How the window of a drive and its feed stand to each other.
-use Rattle.std.specs.Prelude.{◌≡◌, ℕ, ◌+◌, ◌-◌, ◌≤◌, List, [], ◌∷◌, length, take, drop, Bool, false, not, if◌then◌else◌, Option, Some, None}
+use Rattle.std.specs.Prelude.{◌≡◌, ℕ, ◌+◌, ◌-◌, ◌<◌, ◌≤◌, List, [], ◌∷◌, length, take, drop, Bool, false, not, if◌then◌else◌, Option, Some, None, is_some}
 use Rattle.ht_io.specs.Causes.{HasRisen}
 use Rattle.ht_metric.specs.Jobs.{JobView}
 use Rattle.ht_metric.specs.declared.hit.Hit.{Hit}
@@ -16,6 +16,15 @@ one_without (Some hit) count = count
 abbrev pub waiting : List Slot → ℕ
 waiting [] = 0
 waiting (slot ∷ slots) = one_without slot.hit (waiting slots)
+
+-- how many jobs may be due at a time in one thread: two where it asks for the next one ahead
+abbrev pub at_once : Bool → ℕ
+at_once ahead = if ahead then 2 else 1
+
+-- a job that there may be, as a list
+abbrev pub as_list : Option JobView → List JobView
+as_list None = []
+as_list (Some job) = job ∷ []
 
 module _ {Fault : Type 0} where
   -- a call of the feed failed between the two moments, and this is what the last such call answered
@@ -34,10 +43,6 @@ module _ {Fault : Type 0} where
     pub ended : feed.ended ≡ not running
     pub left : running ≡ false → IsLeft feed.left []
 
-  -- a number of jobs beyond which none is run any more
-  abbrev pub to_run : Bool → FeedView Fault → WindowView → ℕ
-  to_run running feed window = (if running then feed.more else 0) + waiting window.slots
-
   -- where the feed's jobs were known at the start, those due are the last of those given
   abbrev pub IsInTurn : Option (List JobView) → FeedView Fault → Type 0
   IsInTurn None feed = Unit {0}
@@ -48,3 +53,18 @@ module _ {Fault : Type 0} where
     pub left : feed.ended ≡ false → feed.left ≡ Some (drop feed.count jobs)
     pub within : feed.count ≤ length jobs
     pub due : IsInTurn (Some jobs) feed
+
+  -- a number of jobs beyond which none is run any more, where this one is next
+  abbrev pub to_run : Option JobView → FeedView Fault → ℕ
+  to_run None feed = 0
+  to_run (Some job) feed = feed.more + 1
+
+  -- this job came, if one did, and is the only one due; else the feed has ended
+  pub record ComesNext (old new : FeedView Fault) (job : Option JobView) : Type 0 where
+    pub due : new.due ≡ as_list job
+    pub count : new.count ≡ old.count + length new.due
+    pub ended : new.ended ≡ not (is_some job)
+    pub left : job ≡ None → IsLeft new.left []
+    pub fewer : to_run job new < old.more + 1
+    pub failed : new.failed ≡ old.failed
+    pub along : (jobs : List JobView) → IsAlong jobs old → IsAlong jobs new

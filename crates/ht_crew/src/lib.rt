@@ -1,10 +1,10 @@
 //! The drives that run the jobs of a feed and hand it their hits in order.
 //!
 //! A [`Feed`] gives detection jobs (crate `ht_metric`) numbered from 0, and takes each job's hit back, its first
-//! nearest vector. [`drive_alone`] runs them in the caller's thread. It asks for jobs until as many are due as its
-//! window has slots, runs the first that waits by the sphere search (`ht_sphere`), books the hit in the window
-//! (`ht_window`), and gives the feed what can be given in order. [`drive`] does the same with workers in threads of their
-//! own (`ht_team`), and promises the same of the feed. A [`Gate`] is called before and after each job.
+//! nearest vector. [`drive_alone`] runs them in the caller's thread by the sphere search (`ht_sphere`), one after another,
+//! and asks for the next job before it hands a hit back. [`drive`] does the same with workers in threads of their own
+//! (`ht_team`), books their hits in a window (`ht_window`) and gives the feed what can be given in order. It promises the
+//! same of the feed. A [`Gate`] is called before and after each job.
 //!
 //! Over a [`ListFeed`] of three jobs and a window of two, the calls of the feed are: `next`, `next`, `take` of 0,
 //! `next`, `take` of 1, `next`, which finds no job any more, and `take` of 2. If call 4 is to fail, the drive answers

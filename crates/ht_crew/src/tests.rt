@@ -219,8 +219,7 @@ fn expect_failing<R: Threads + Wait + Abort + Sync>(
     Ok(())
 }
 
-// A run has 113 calls of `next` and 112 of `take`. In a small window they alternate once it is full; in a large one
-// all jobs come first.
+// A run has 113 calls of `next` and 112 of `take`. They alternate, behind a second job where two may be due.
 #[test]
 fn each_call_fails(rt: HostRuntime) -> Result<(), Fail> {
     for window in [1, 2, 256] {
@@ -228,11 +227,7 @@ fn each_call_fails(rt: HostRuntime) -> Result<(), Fail> {
             let failing = vec![in rt.alloc(); call]?;
             let mut feed = ListFeed::new(rt.alloc(), jobs(rt.alloc())?, failing)?;
             let fault = drive_alone(rt.alloc(), window, &OpenGate, &mut feed).err();
-            let taken = if window < 113 {
-                (call + 1).saturating_sub(u64::from(window)) / 2
-            } else {
-                call.saturating_sub(113)
-            };
+            let taken = (call + 1).saturating_sub(u64::from(window.min(2))) / 2;
             assert_eq!(rt;
                 fault,
                 Some(DriveFault::Feed(ListFault { call })),

@@ -18,9 +18,8 @@ use std::alloc::Global;
 use std::sync::Wait;
 use std::thread::Threads;
 
-/// The most jobs that are due at a time where one thread runs them all: so many that an account sees whether another job of
-/// its symbol follows, and so few that they stay in the processor's first cache.
-const SLOTS: u16 = 16;
+/// The most jobs that are due at a time where one thread runs them all.
+const DUE_ALONE: u16 = 2;
 
 // How the reading of a capture ended whose drive answered this.
 fn end_of(desk: &Desk, driven: Result<Report, DriveFault<FeedFault>>) -> Result<Ended, RxFault>
@@ -65,8 +64,7 @@ pub(crate) fn tell_alone<S: Source, A: Account, G: Gate>(
     ensures puts_later { IsLater (A.shown account.old) (A.shown account.new) }
     ensures same { A.lent account.new ≡ A.lent account.old }
 {
-    let window = window.min(SLOTS);
-    let mut desk = Desk::new(alloc, window)?;
+    let mut desk = Desk::new(alloc, window.min(DUE_ALONE))?;
     let mut feed = CaptureFeed::new(&mut desk, source, account);
     let driven = drive_alone(alloc, window, gate, &mut feed);
     end_of(&desk, driven)

@@ -1,15 +1,15 @@
-use Rattle.std.proofs.Common.{◌≡◌, ◌+◌, ◌^◌, ◌-◌, ◌<◌, ◌≤◌, List, Some, length}
+use Rattle.std.proofs.Common.{◌≡◌, ◌+◌, ◌^◌, ◌-◌, ◌<◌, ◌≤◌, List, [], Some, None, is_some, not, length}
 use Rattle.ht_metric.specs.Jobs.{JobView}
-use Rattle.ht_crew.specs.Driving.{Holds, IsUnderWay, IsAlong, to_run, waiting}
+use Rattle.ht_crew.specs.Feeds.{IsLeft}
+use Rattle.ht_crew.specs.Driving.{IsAlong, as_list, to_run}
 use Rattle.ht_crew.proofs.alone.run_all.Given as goal
 
-abbrev pub invariant-loop-running : goal.invariant-loop-running
-invariant-loop-running g l = record {
-  holds : Holds l.window (g.F.Feed.shown l.feed);
-  goes_on : IsUnderWay l.running (g.F.Feed.shown l.feed);
-  capacity : l.window.capacity ≡ l.fn.window.capacity;
-  waits : waiting l.window.slots ≡ length l.window.slots;
-  ran : l.ran + waiting l.window.slots ≡ (g.F.Feed.shown l.feed).count;
+abbrev pub invariant-loop-next : goal.invariant-loop-next
+invariant-loop-next g l = record {
+  due : (g.F.Feed.shown l.feed).due ≡ as_list l.next;
+  ended : (g.F.Feed.shown l.feed).ended ≡ not (is_some l.next);
+  left : l.next ≡ None → IsLeft (g.F.Feed.shown l.feed).left [];
+  ran : l.ran + length (as_list l.next) ≡ (g.F.Feed.shown l.feed).count;
   bound : (g.F.Feed.shown l.feed).count < 2 ^ 64 - 1;
   later : (g.F.Feed.shown l.fn.feed).faults ≤ (g.F.Feed.shown l.feed).faults;
   failed : (g.F.Feed.shown l.feed).failed ≡ (g.F.Feed.shown l.fn.feed).failed;
@@ -17,5 +17,5 @@ invariant-loop-running g l = record {
   leads : g.F.Feed.leads l.fn.feed l.feed;
 }
 
-abbrev pub decreases-loop-running : goal.decreases-loop-running
-decreases-loop-running g l = to_run l.running (g.F.Feed.shown l.feed) l.window
+abbrev pub decreases-loop-next : goal.decreases-loop-next
+decreases-loop-next g l = to_run l.next (g.F.Feed.shown l.feed)
