@@ -3,6 +3,7 @@ ghost use Rattle.std.specs.Prelude.{◌≡◌, ◌+◌, ◌-◌, ◌*◌, ◌^�
 ghost use Rattle.std.specs.List.{range_with_len};
 ghost use Rattle.ht_rate.specs.Rates.{encoders_of, label_bits_of, pattern_of, steps_of, symbols_of};
 ghost use Rattle.ht_parse.specs.Streams.{share_of};
+ghost use Rattle.ht_viterbi.specs.Received.{known_of};
 ghost use Rattle.ht_inverse.specs.Received.{labels_in_frame, labels_per_symbol, received_at, received_of};
 ghost use Rattle.ht_inverse.specs.Shares.{AreLost, ListsPlaces, bit_in, codeword_of, label_bit_of, label_bits_to};
 
@@ -11,7 +12,7 @@ use crate::label_bit::LabelBit;
 use ht_conv::sent;
 use ht_landing::Landing;
 use ht_rate::Rate;
-use ht_viterbi::{Codeword, decode};
+use ht_viterbi::{Codeword, ReceivedBit, decode_received};
 use std::alloc::{AllocError, Global};
 
 /// Where the labels of a symbol have the coded bits of an encoder's share, in their order.
@@ -71,14 +72,16 @@ fn first_places(
 
 // What a label says of a coded bit.
 #[inline(always)]
-fn bit_from(place: LabelBit, label: u8) -> Option<bool>
+fn bit_from(place: LabelBit, label: u8) -> ReceivedBit
     requires { place.shift < 8 }
-    ensures { result ≡ bit_in place label }
+    ensures { known_of result ≡ bit_in place label }
 {
     if place.lost {
-        None
+        ReceivedBit::Erased
+    } else if label >> place.shift & 1 == 1 {
+        ReceivedBit::One
     } else {
-        Some(label >> place.shift & 1 == 1)
+        ReceivedBit::Zero
     }
 }
 
@@ -114,14 +117,14 @@ impl Share {
         symbol: usize,
         place: usize,
         symbols: usize,
-    ) -> Option<bool>
+    ) -> ReceivedBit
         requires places { places.now ≡ self.now.places.items }
         requires labels { length labels.now ≡ symbols * labels_per_symbol self.now.rate }
         requires few { symbols ≤ 2 ^ 20 }
         requires per_symbol { per_symbol ≡ labels_per_symbol self.now.rate }
         requires symbol { symbol < symbols }
         requires place { place < share_of self.now.rate }
-        ensures { result ≡ received_at self.now.rate self.now.erased labels.now self.now.encoder (symbol * share_of self.now.rate + place) }
+        ensures { known_of result ≡ received_at self.now.rate self.now.erased labels.now self.now.encoder (symbol * share_of self.now.rate + place) }
     {
         let place = places[place];
         bit_from(
@@ -134,7 +137,7 @@ impl Share {
     #[inline(always)]
     fn push_symbol(
         &self,
-        bits: &mut Vec<Option<bool>>,
+        bits: &mut Vec<ReceivedBit>,
         labels: &[u8],
         symbols: usize,
         symbol: usize,
@@ -145,9 +148,9 @@ impl Share {
         requires share { count ≤ share_of self.now.rate }
         requires within { symbol * share_of self.now.rate + count ≤ symbols * share_of self.now.rate }
         requires room { symbol * share_of self.now.rate + count ≤ vec_capacity bits.old }
-        requires so_far { bits.old.items
+        requires so_far { map known_of bits.old.items
             ≡ map (received_at self.now.rate self.now.erased labels.now self.now.encoder) (range_with_len 0 (symbol * share_of self.now.rate)) }
-        ensures items { bits.new.items
+        ensures items { map known_of bits.new.items
             ≡ map (received_at self.now.rate self.now.erased labels.now self.now.encoder) (range_with_len 0 (symbol * share_of self.now.rate + count)) }
         ensures room { vec_capacity bits.new ≡ vec_capacity bits.old }
     {
@@ -165,11 +168,12 @@ impl Share {
         symbols: usize,
         labels: &[u8],
         count: usize,
-    ) -> Result<Vec<Option<bool>>, AllocError>
+    ) -> Result<Vec<ReceivedBit>, AllocError>
         requires labels { length labels.now ≡ symbols * labels_per_symbol self.now.rate }
         requires count { count ≤ symbols * share_of self.now.rate }
         requires few { symbols ≤ 2 ^ 20 }
-        ensures { IfOk result (λ bits. bits.items ≡ map (received_at self.now.rate self.now.erased labels.now self.now.encoder) (range_with_len 0 count)) }
+        ensures { IfOk result (λ bits. map known_of bits.items
+            ≡ map (received_at self.now.rate self.now.erased labels.now self.now.encoder) (range_with_len 0 count)) }
     {
         let share = self.places.len();
         let mut bits = Vec::with_capacity(alloc, count)?;
@@ -187,10 +191,11 @@ impl Share {
         alloc: Global,
         octets: u16,
         labels: &[u8],
-    ) -> Result<Vec<Option<bool>>, AllocError>
+    ) -> Result<Vec<ReceivedBit>, AllocError>
         requires some { 1 ≤ octets }
         requires labels { length labels.now ≡ labels_in_frame self.now.rate octets }
-        ensures { IfOk result (λ bits. bits.items ≡ received_of self.now.rate octets self.now.erased labels.now self.now.encoder) }
+        ensures { IfOk result (λ bits. map known_of bits.items
+            ≡ received_of self.now.rate octets self.now.erased labels.now self.now.encoder) }
     {
         let symbols = self.rate.symbols(octets) as usize;
         let count = sent(self.rate.pattern(), self.rate.codeword_steps(octets)) as usize;
@@ -212,6 +217,6 @@ impl Share {
     {
         let received = self.gathered(alloc, octets, labels)?;
         let steps = self.rate.codeword_steps(octets);
-        decode(alloc, steps, self.rate.pattern(), &received)
+        decode_received(alloc, steps, self.rate.pattern(), &received)
     }
 }

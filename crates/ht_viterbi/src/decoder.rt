@@ -7,7 +7,7 @@ ghost use Rattle.ht_conv.specs.Puncturing.{sent_count};
 ghost use Rattle.ht_viterbi.specs.Inputs.{IsDecoded, distance, tail};
 ghost use Rattle.ht_viterbi.specs.Trellis.{StepPlaces, branch_cost, way, chosen, lesser, least_from, AreChoices};
 ghost use Rattle.ht_viterbi.specs.Lanes.{HasLanes, HoldsRows, IsClose, pairs_at, rise};
-ghost use Rattle.ht_viterbi.specs.Received.{place_of};
+ghost use Rattle.ht_viterbi.specs.Received.{known_of};
 
 use crate::branches::{Branches, costs_of_zero, lanes_of, rises};
 use crate::codeword::Codeword;
@@ -152,8 +152,8 @@ pub fn decode_received(
     requires least { tail ≤ steps }
     requires most { steps ≤ 524302 }
     requires received { length received.now ≡ sent_count pattern steps }
-    ensures input { IfOk result (λ c. IsDecoded steps pattern (map place_of received.now) c.input) }
-    ensures distance { IfOk result (λ c. c.distance ≡ distance pattern (map place_of received.now) c.input) }
+    ensures input { IfOk result (λ c. IsDecoded steps pattern (map known_of received.now) c.input) }
+    ensures distance { IfOk result (λ c. c.distance ≡ distance pattern (map known_of received.now) c.input) }
     ensures steps { IfOk result (λ c. length c.input ≡ steps) }
     ensures ending { IfOk result (λ c. drop (steps - tail) c.input ≡ replicate tail false) }
 {
@@ -193,7 +193,7 @@ pub fn decode(
 
 // The same places as received bits.
 fn received_bits(alloc: Global, places: &[Option<bool>]) -> Result<Vec<ReceivedBit>, AllocError>
-    ensures { IfOk result (λ bits. map place_of bits.items ≡ places.now) }
+    ensures { IfOk result (λ bits. map known_of bits.items ≡ places.now) }
 {
     let mut bits = Vec::with_capacity(alloc, places.len())?;
     for place in places {

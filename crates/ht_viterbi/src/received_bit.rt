@@ -1,7 +1,7 @@
 //! A coded bit as it was received.
 ghost use Rattle.std.specs.Prelude.{◌≡◌, ◌<◌};
 ghost use Rattle.ht_viterbi.specs.Lanes.{number_of_place};
-ghost use Rattle.ht_viterbi.specs.Received.{place_of};
+ghost use Rattle.ht_viterbi.specs.Received.{known_of};
 
 /// What is known of a coded bit: nothing where it was lost, or its hard decision. It takes one octet, where an
 /// `Option<bool>` takes two.
@@ -19,7 +19,7 @@ impl ReceivedBit {
     /// The received bit of a place, None where it is erased.
     #[inline(always)]
     pub fn of(place: Option<bool>) -> ReceivedBit
-        ensures { place_of result ≡ place }
+        ensures { known_of result ≡ place }
     {
         match place {
             None => ReceivedBit::Erased,
@@ -31,7 +31,7 @@ impl ReceivedBit {
     // Its number, in the order of the table of branches.
     #[inline(always)]
     pub(crate) fn number(self) -> u8
-        ensures value { result ≡ number_of_place (place_of self) }
+        ensures value { result ≡ number_of_place (known_of self) }
         ensures bound { result < 3 }
     {
         match self {

@@ -2,7 +2,7 @@
 ghost use Rattle.std.specs.Prelude.{◌≡◌, ◌+◌, ◌%◌, ◌<◌, ◌≤◌, ◌^◌, ℕ, length, map, slice_index};
 ghost use Rattle.ht_conv.specs.Puncturing.{kept_count, period_of, sent_count};
 ghost use Rattle.ht_viterbi.specs.Lanes.{HasRows, number_of_pair};
-ghost use Rattle.ht_viterbi.specs.Received.{place_of};
+ghost use Rattle.ht_viterbi.specs.Received.{known_of};
 ghost use Rattle.ht_viterbi.specs.Trellis.{pair_of};
 
 use crate::pairs::places_of;
@@ -14,7 +14,7 @@ use ht_rate::Pattern;
 #[inline(always)]
 fn row_from(received: &[ReceivedBit], start: usize, kept: Kept) -> u8
     requires { start + kept_count kept ≤ length received.now }
-    ensures value { result ≡ number_of_pair (pair_of kept (map place_of received.now) start) }
+    ensures value { result ≡ number_of_pair (pair_of kept (map known_of received.now) start) }
     ensures bound { result < 9 }
 {
     match kept {
@@ -41,9 +41,9 @@ fn fill_turn(
     requires few { length rows.old ≤ 2 ^ 20 }
     requires received { length received.now ≡ sent_count pattern (length rows.old) }
     requires begin { begin ≡ sent_count pattern first }
-    requires so_far { HasRows pattern (map place_of received.now) rows.old first }
+    requires so_far { HasRows pattern (map known_of received.now) rows.old first }
     ensures next { result ≡ sent_count pattern (first + count) }
-    ensures rows { HasRows pattern (map place_of received.now) rows.new (first + count) }
+    ensures rows { HasRows pattern (map known_of received.now) rows.new (first + count) }
     ensures length { length rows.new ≡ length rows.old }
 {
     let period = period(pattern);
@@ -61,7 +61,7 @@ fn fill_turn(
 fn fill(pattern: Pattern, received: &[ReceivedBit], rows: &mut [u8])
     requires few { length rows.old ≤ 2 ^ 20 }
     requires received { length received.now ≡ sent_count pattern (length rows.old) }
-    ensures rows { HasRows pattern (map place_of received.now) rows.new (length rows.old) }
+    ensures rows { HasRows pattern (map known_of received.now) rows.new (length rows.old) }
     ensures length { length rows.new ≡ length rows.old }
 {
     let steps = rows.len();
@@ -84,7 +84,7 @@ fn fill(pattern: Pattern, received: &[ReceivedBit], rows: &mut [u8])
 pub(crate) fn fill_rows(pattern: Pattern, received: &[ReceivedBit], rows: &mut [u8])
     requires few { length rows.old ≤ 2 ^ 20 }
     requires received { length received.now ≡ sent_count pattern (length rows.old) }
-    ensures rows { HasRows pattern (map place_of received.now) rows.new (length rows.old) }
+    ensures rows { HasRows pattern (map known_of received.now) rows.new (length rows.old) }
     ensures length { length rows.new ≡ length rows.old }
 {
     match pattern {

@@ -1,7 +1,7 @@
 use Rattle.std.proofs.Common.{◌≡◌, ◌+◌, ◌*◌, ◌≤◌, length, map, arith, rules, refl, slice_index_or}
 use Rattle.ht_conv.specs.declared.puncture.Kept.TheVariants.{Both}
 use Rattle.ht_conv.specs.Puncturing.{kept_of, sent_count}
-use Rattle.ht_viterbi.specs.Received.{place_of}
+use Rattle.ht_viterbi.specs.Received.{known_of}
 use Rattle.ht_viterbi.proofs.Turns.{kept-in, row-more, sent-low, start-next}
 use Rattle.ht_viterbi.proofs.rows.fill_turn.Goals as goal
 
@@ -39,7 +39,7 @@ loop-phase-preserved c =
     (omega (arith, test, c.requires.within)) (omega arith) was.start kept c.places_of-start.ensures in
     record {
       start = next.0;
-      rows = row-more c.args.pattern (map place_of c.args.received.now) c.loop-phase.rows at (c.args.first + (c.loop-phase.phase + 1))
+      rows = row-more c.args.pattern (map known_of c.args.received.now) c.loop-phase.rows at (c.args.first + (c.loop-phase.phase + 1))
           c.row_from.result c.loop-phase.start _ (omega (arith, test, c.requires.within, was.length)) (omega arith)
           c.row_from.ensures.value kept was.start was.rows;
       length = search rules;

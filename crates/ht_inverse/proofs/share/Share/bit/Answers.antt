@@ -1,4 +1,5 @@
 use Rattle.std.proofs.Common.{◌*◌, ◌+◌, false, arith, ap, ◌∙◌, slice_index_or}
+use Rattle.ht_viterbi.specs.Received.{known_of}
 use Rattle.ht_inverse.specs.Shares.{bit_in}
 use Rattle.ht_inverse.specs.declared.label_bit.LabelBit.{LabelBit}
 use Rattle.ht_inverse.proofs.Gathered.{bit-is, few-labels, label-within, place-is, places-length, share-few}
@@ -55,6 +56,6 @@ returns c =
     let place : LabelBit = slice_index_or c.args.places.now c.args.place (record { label = 0; shift = 0; lost = false }) in
     let is = place-is s.rate s.erased s.encoder c.args.place c.args.places.now (record { label = 0; shift = 0; lost = false })
     (c.requires.places ∙ s.places_are) c.requires.place in
-    bit-is s.rate s.erased s.encoder c.args.symbol c.args.place c.args.per_symbol c.args.labels.now c.bit_from.result place is c.requires.place
+    bit-is s.rate s.erased s.encoder c.args.symbol c.args.place c.args.per_symbol c.args.labels.now (known_of c.bit_from.result) place is c.requires.place
     c.requires.per_symbol
     (c.bit_from.ensures ∙ ap (λ n. bit_in place (slice_index_or c.args.labels.now (c.args.symbol * c.args.per_symbol + n) 0)) c.from.ensures)
