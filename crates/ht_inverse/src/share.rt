@@ -1,5 +1,5 @@
 //! Where the labels of a symbol have an encoder's coded bits, and what the labels of a frame say of them.
-ghost use Rattle.std.specs.Prelude.{◌≡◌, ◌+◌, ◌-◌, ◌*◌, ◌^◌, ◌<◌, ◌≤◌, ℕ, IfOk, length, map, slice_index_or, vec_len, vec_capacity};
+ghost use Rattle.std.specs.Prelude.{◌≡◌, ◌+◌, ◌-◌, ◌*◌, ◌^◌, ◌<◌, ◌≤◌, ℕ, true, false, IfOk, length, map, slice_index_or, vec_len, vec_capacity};
 ghost use Rattle.std.specs.List.{range_with_len};
 ghost use Rattle.ht_rate.specs.Rates.{encoders_of, label_bits_of, pattern_of, steps_of, symbols_of};
 ghost use Rattle.ht_parse.specs.Streams.{share_of};
@@ -70,13 +70,14 @@ fn first_places(
     Ok(places)
 }
 
-// What a label says of a coded bit.
+// What a label says of a coded bit. Of a whole share no place needs to be asked whether it is lost.
 #[inline(always)]
-fn bit_from(place: LabelBit, label: u8) -> ReceivedBit
-    requires { place.shift < 8 }
+fn bit_from(place: LabelBit, label: u8, whole: bool) -> ReceivedBit
+    requires shift { place.shift < 8 }
+    requires whole { whole ≡ true → place.lost ≡ false }
     ensures { known_of result ≡ bit_in place label }
 {
-    if place.lost {
+    if !whole && place.lost {
         ReceivedBit::Erased
     } else if label >> place.shift & 1 == 1 {
         ReceivedBit::One
@@ -117,6 +118,7 @@ impl Share {
         symbol: usize,
         place: usize,
         symbols: usize,
+        whole: bool,
     ) -> ReceivedBit
         requires places { places.now ≡ self.now.places.items }
         requires labels { length labels.now ≡ symbols * labels_per_symbol self.now.rate }
@@ -124,13 +126,45 @@ impl Share {
         requires per_symbol { per_symbol ≡ labels_per_symbol self.now.rate }
         requires symbol { symbol < symbols }
         requires place { place < share_of self.now.rate }
+        requires whole { whole ≡ true → self.now.erased ≡ 0 }
         ensures { known_of result ≡ received_at self.now.rate self.now.erased labels.now self.now.encoder (symbol * share_of self.now.rate + place) }
     {
         let place = places[place];
         bit_from(
             place,
             labels[symbol * per_symbol + usize::from(place.label)],
+            whole,
         )
+    }
+
+    // The same, where it is known whether the share is whole.
+    #[inline(always)]
+    fn push_bits(
+        &self,
+        bits: &mut Vec<ReceivedBit>,
+        labels: &[u8],
+        symbols: usize,
+        symbol: usize,
+        count: usize,
+        whole: bool,
+    )
+        requires labels { length labels.now ≡ symbols * labels_per_symbol self.now.rate }
+        requires few { symbols ≤ 2 ^ 20 }
+        requires share { count ≤ share_of self.now.rate }
+        requires within { symbol * share_of self.now.rate + count ≤ symbols * share_of self.now.rate }
+        requires whole { whole ≡ true → self.now.erased ≡ 0 }
+        requires room { symbol * share_of self.now.rate + count ≤ vec_capacity bits.old }
+        requires so_far { map known_of bits.old.items
+            ≡ map (received_at self.now.rate self.now.erased labels.now self.now.encoder) (range_with_len 0 (symbol * share_of self.now.rate)) }
+        ensures items { map known_of bits.new.items
+            ≡ map (received_at self.now.rate self.now.erased labels.now self.now.encoder) (range_with_len 0 (symbol * share_of self.now.rate + count)) }
+        ensures room { vec_capacity bits.new ≡ vec_capacity bits.old }
+    {
+        let places = self.places.as_slice();
+        let per_symbol = usize::from(self.rate.data_carriers()) * usize::from(self.rate.streams());
+        for place in 0..count {
+            bits.push_reserved(self.bit(places, labels, per_symbol, symbol, place, symbols, whole));
+        }
     }
 
     // Appends what the labels say of a symbol's first coded bits, which come next.
@@ -154,10 +188,10 @@ impl Share {
             ≡ map (received_at self.now.rate self.now.erased labels.now self.now.encoder) (range_with_len 0 (symbol * share_of self.now.rate + count)) }
         ensures room { vec_capacity bits.new ≡ vec_capacity bits.old }
     {
-        let places = self.places.as_slice();
-        let per_symbol = usize::from(self.rate.data_carriers()) * usize::from(self.rate.streams());
-        for place in 0..count {
-            bits.push_reserved(self.bit(places, labels, per_symbol, symbol, place, symbols));
+        if self.erased == 0 {
+            self.push_bits(bits, labels, symbols, symbol, count, true);
+        } else {
+            self.push_bits(bits, labels, symbols, symbol, count, false);
         }
     }
 

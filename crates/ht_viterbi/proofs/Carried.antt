@@ -32,7 +32,10 @@ floor rows distance (suc n) from within was k lt =
 
 ceiling : (rows : List ℕ) (n from : ℕ) → from + n ≤ length rows
     → least_from (pairs_at rows from) 0 ≤ least_from (pairs_at rows (from + n)) 0 + 2 * n
-ceiling rows zero from within = let same = ap (λ (at : ℕ). least_from (pairs_at rows at) 0) (let none : from + 0 ≡ from = omega arith in none) in omega (arith, same)
+ceiling rows zero from within =
+    let none : from + 0 ≡ from = omega arith in
+    let same = ap (λ (at : ℕ). least_from (pairs_at rows at) 0) none in
+    omega (arith, same)
 ceiling rows (suc n) from within =
     let next : from + suc n ≡ from + 1 + n = omega arith in
     let same = ap (λ (at : ℕ). least_from (pairs_at rows at) 0) next in

@@ -18,7 +18,8 @@ loop-at-preserved c =
     let pairs = pairs_at rows at in
     let cons = pairs-before rows at (omega (arith, test)) (omega (arith, was.high, within)) in
     let left = pairs-length rows at in
-    let free = free-known c.args.free (length pairs) (λ e. omega (arith, left, c.requires.tail e, test)) (λ e. omega (arith, left, c.requires.before e, was.high)) in
+    let free = free-known c.args.free (length pairs)
+    (λ e. omega (arith, left, c.requires.tail e, test)) (λ e. omega (arith, left, c.requires.before e, was.high)) in
     let zeros = c.lanes_of.ensures (λ pair k. branch_cost pair k false) c.requires.zeros in
     let mores = c.lanes_of-in-loop-at.ensures rise c.requires.rises in
     let close = ways-close pairs pair in

@@ -16,8 +16,8 @@ pub decode_received-requires-clause-received : goal.decode_received-requires-cla
 decode_received-requires-clause-received c =
     let s = c.args.self.now in
     sym (length-map c.deref.result.now known_of)
-    ∙ received-length s.rate c.args.octets s.erased s.encoder c.codeword_steps-steps.result c.args.labels.now c.pattern.result (map known_of c.deref.result.now)
-    c.codeword_steps-steps.ensures.value c.pattern.ensures (is-received c.deref.ensures.value c.in_ok-received.ensures)
+    ∙ received-length s.rate c.args.octets s.erased s.encoder c.codeword_steps-steps.result c.args.labels.now c.pattern.result
+    (map known_of c.deref.result.now) c.codeword_steps-steps.ensures.value c.pattern.ensures (is-received c.deref.ensures.value c.in_ok-received.ensures)
 
 pub returns-clause-value : goal.returns-clause-value
 returns-clause-value c =
@@ -26,7 +26,8 @@ returns-clause-value c =
     let p = c.pattern.result in
     let received = map known_of c.deref.result.now in
     let low = c.codeword_steps-steps.ensures.low in
-    both-ok c.decode_received.result (λ codeword. IsDecoded steps p received codeword.input) (λ codeword. codeword.distance ≡ distance p received codeword.input)
+    both-ok c.decode_received.result (λ codeword. IsDecoded steps p received codeword.input)
+    (λ codeword. codeword.distance ≡ distance p received codeword.input)
     (λ codeword. codeword ≡ codeword_of s.rate c.args.octets s.erased c.args.labels.now s.encoder)
     (λ codeword is far.
     codeword-is s.rate c.args.octets s.erased s.encoder steps c.args.labels.now p received codeword c.codeword_steps-steps.ensures.value c.pattern.ensures
