@@ -13,9 +13,7 @@ use Rattle.ht_rate.specs.declared.kinds.Pattern.{Pattern}
 use Rattle.ht_rate.specs.Rates.{encoders_of, needed_bits_of, pattern_of, steps_of}
 use Rattle.ht_rate.proofs.LengthFacts.{steps_of-shared}
 use Rattle.ht_rate.proofs.RateFacts.{encoders_of-range}
-use Rattle.ht_conv.specs.declared.puncture.Kept.{Kept}
-use Rattle.ht_conv.specs.declared.puncture.Kept.TheVariants.{Both, A, B}
-use Rattle.ht_conv.specs.Puncturing.{kept_count, kept_of, sent_count}
+use Rattle.ht_conv.specs.Puncturing.{sent_count}
 use Rattle.ht_conv.specs.Code.{sent_bits}
 use Rattle.ht_parse.specs.Encoders.{AreShares, IsParsed, list_of}
 use Rattle.ht_parse.proofs.Unique.{parsed-bits}
@@ -23,6 +21,7 @@ use Rattle.ht_viterbi.specs.declared.codeword.Codeword.{Codeword}
 use Rattle.ht_viterbi.specs.Inputs.{IsDecoded, distance, hamming, place_cost, tail}
 use Rattle.ht_viterbi.specs.Decoded.{decoded}
 use Rattle.ht_viterbi.proofs.Enumerating.{decoded_is}
+use Rattle.ht_viterbi.proofs.Turns.{sent-low}
 use Rattle.ht_inverse.specs.Received.{received_at, received_of}
 use Rattle.ht_inverse.specs.Decoding.{distance_at, input_of, scrambled_bits}
 use Rattle.ht_inverse.specs.Shares.{AreCodewords, codeword_of, no_codeword, untailed}
@@ -39,15 +38,6 @@ hamming-low : (received : List (Option Bool)) (sent : List Bool) → hamming rec
 hamming-low [] sent = omega arith
 hamming-low (place ∷ received) [] = omega arith
 hamming-low (place ∷ received) (bit ∷ sent) = omega (arith, place-low place bit, hamming-low received sent)
-
-kept-low : (kept : Kept) → kept_count kept ≤ 2
-kept-low Both = omega arith
-kept-low A = omega arith
-kept-low B = omega arith
-
-sent-low : (p : Pattern) (steps : ℕ) → sent_count p steps ≤ 2 * steps
-sent-low p zero = omega arith
-sent-low p (suc steps) = omega (arith, sent-low p steps, kept-low (kept_of p steps))
 
 -- so a distance is at most twice the number of steps
 pub distance-low : (p : Pattern) (received : List (Option Bool)) (input : List Bool) (steps : ℕ) → length received ≡ sent_count p steps

@@ -5,6 +5,7 @@ use Rattle.std.specs.Prelude.{if◌then◌else◌, ◌==◌}
 use Rattle.std.specs.Int.{bit_at}
 use Rattle.std.specs.List.{range_with_len}
 use Rattle.std.proofs.lemmas.List.FromFn.{length-map-range_with_len, get_or-map-range_with_len, map-range_with_len_more}
+use Rattle.std.proofs.lemmas.List.{length-map, map-append}
 use Rattle.std.proofs.lemmas.Nat.{div-mul-add, mod-mul-add, mul-add-lt, div-add-mod'}
 use Rattle.std.proofs.Math.Nat.{add-mul, div-le_self, mod-eq_of_lt, mul_assoc, mul_comm, mul-le-mul}
 use Rattle.ht_rate.specs.declared.rates.Rate.{Rate}
@@ -17,6 +18,8 @@ use Rattle.ht_interleave.specs.Interleaver.{place_of}
 use Rattle.ht_landing.specs.declared.landings.Landing.{Landing}
 use Rattle.ht_landing.specs.Landings.{landing_of}
 use Rattle.ht_landing.proofs.Landed.{lands}
+use Rattle.ht_viterbi.specs.declared.received_bit.ReceivedBit.{ReceivedBit}
+use Rattle.ht_viterbi.specs.Received.{known_of}
 use Rattle.ht_inverse.specs.declared.label_bit.LabelBit.{LabelBit}
 use Rattle.ht_inverse.specs.Received.{is_lost, label_number, labels_per_symbol, received_at}
 use Rattle.ht_inverse.specs.Shares.{bit_in, label_bit_of, label_bits_to}
@@ -133,9 +136,19 @@ value-added f list value here next is more so_far =
     ∙ (ap (λ b. map f (range_with_len 0 here) ++ b ∷ []) is
     ∙ (sym (map-range_with_len_more f 0 here here (omega arith)) ∙ ap (λ k. map f (range_with_len 0 k)) (sym more)))
 
+-- and a received bit the next place
+pub place-added : (f : ℕ → Option Bool) (old new : List ReceivedBit) (bit : ReceivedBit) (here next : ℕ) → new ≡ old ++ bit ∷ [] → known_of bit ≡ f here
+    → next ≡ here + 1 → map known_of old ≡ map f (range_with_len 0 here) → map known_of new ≡ map f (range_with_len 0 next)
+place-added f old new bit here next is place more so_far =
+    ap (λ (bits : List ReceivedBit). map known_of bits) is
+    ∙ (map-append known_of old (bit ∷ []) ∙ value-added f (map known_of old) (known_of bit) here next place more so_far)
+
 -- the length of a list of values
 pub counted-length : {A : Type 0} (f : ℕ → A) (list : List A) (count : ℕ) → list ≡ map f (range_with_len 0 count) → length list ≡ count
 counted-length {A} f list count is = ap (λ (xs : List A). length xs) is ∙ length-map-range_with_len f 0 count
+
+pub places-counted : (f : ℕ → Option Bool) (bits : List ReceivedBit) (count : ℕ) → map known_of bits ≡ map f (range_with_len 0 count) → length bits ≡ count
+places-counted f bits count is = sym (length-map bits known_of) ∙ counted-length f (map known_of bits) count is
 
 -- the bits of a whole symbol are among those that are wanted
 pub whole-within : (symbol count wide share : ℕ) → wide ≡ share → symbol < count / wide → symbol * share + wide ≤ count

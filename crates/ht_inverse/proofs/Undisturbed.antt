@@ -27,7 +27,7 @@ use Rattle.ht_inverse.specs.Received.{is_lost, label_number, received_at, receiv
 use Rattle.ht_inverse.specs.Sent.{HoldCoded}
 
 -- nothing is erased
-none-lost : (r : Rate) (carrier : ℕ) → is_lost r 0 carrier ≡ false
+pub none-lost : (r : Rate) (carrier : ℕ) → is_lost r 0 carrier ≡ false
 unfolding is_lost
 none-lost r carrier = ap (λ (n : ℕ). n == 1) (bit_at-zero (index_of r (Data carrier)))
 

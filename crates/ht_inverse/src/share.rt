@@ -1,8 +1,9 @@
 //! Where the labels of a symbol have an encoder's coded bits, and what the labels of a frame say of them.
-ghost use Rattle.std.specs.Prelude.{◌≡◌, ◌+◌, ◌-◌, ◌*◌, ◌^◌, ◌<◌, ◌≤◌, ℕ, IfOk, length, map, slice_index_or, vec_len, vec_capacity};
+ghost use Rattle.std.specs.Prelude.{◌≡◌, ◌+◌, ◌-◌, ◌*◌, ◌^◌, ◌<◌, ◌≤◌, ℕ, true, false, IfOk, length, map, slice_index_or, vec_len, vec_capacity};
 ghost use Rattle.std.specs.List.{range_with_len};
 ghost use Rattle.ht_rate.specs.Rates.{encoders_of, label_bits_of, pattern_of, steps_of, symbols_of};
 ghost use Rattle.ht_parse.specs.Streams.{share_of};
+ghost use Rattle.ht_viterbi.specs.Received.{known_of};
 ghost use Rattle.ht_inverse.specs.Received.{labels_in_frame, labels_per_symbol, received_at, received_of};
 ghost use Rattle.ht_inverse.specs.Shares.{AreLost, ListsPlaces, bit_in, codeword_of, label_bit_of, label_bits_to};
 
@@ -11,7 +12,7 @@ use crate::label_bit::LabelBit;
 use ht_conv::sent;
 use ht_landing::Landing;
 use ht_rate::Rate;
-use ht_viterbi::{Codeword, decode};
+use ht_viterbi::{Codeword, ReceivedBit, decode_received};
 use std::alloc::{AllocError, Global};
 
 /// Where the labels of a symbol have the coded bits of an encoder's share, in their order.
@@ -69,16 +70,19 @@ fn first_places(
     Ok(places)
 }
 
-// What a label says of a coded bit.
+// What a label says of a coded bit. Of a whole share no place needs to be asked whether it is lost.
 #[inline(always)]
-fn bit_from(place: LabelBit, label: u8) -> Option<bool>
-    requires { place.shift < 8 }
-    ensures { result ≡ bit_in place label }
+fn bit_from(place: LabelBit, label: u8, whole: bool) -> ReceivedBit
+    requires shift { place.shift < 8 }
+    requires whole { whole ≡ true → place.lost ≡ false }
+    ensures { known_of result ≡ bit_in place label }
 {
-    if place.lost {
-        None
+    if !whole && place.lost {
+        ReceivedBit::Erased
+    } else if label >> place.shift & 1 == 1 {
+        ReceivedBit::One
     } else {
-        Some(label >> place.shift & 1 == 1)
+        ReceivedBit::Zero
     }
 }
 
@@ -114,27 +118,60 @@ impl Share {
         symbol: usize,
         place: usize,
         symbols: usize,
-    ) -> Option<bool>
+        whole: bool,
+    ) -> ReceivedBit
         requires places { places.now ≡ self.now.places.items }
         requires labels { length labels.now ≡ symbols * labels_per_symbol self.now.rate }
         requires few { symbols ≤ 2 ^ 20 }
         requires per_symbol { per_symbol ≡ labels_per_symbol self.now.rate }
         requires symbol { symbol < symbols }
         requires place { place < share_of self.now.rate }
-        ensures { result ≡ received_at self.now.rate self.now.erased labels.now self.now.encoder (symbol * share_of self.now.rate + place) }
+        requires whole { whole ≡ true → self.now.erased ≡ 0 }
+        ensures { known_of result ≡ received_at self.now.rate self.now.erased labels.now self.now.encoder (symbol * share_of self.now.rate + place) }
     {
         let place = places[place];
         bit_from(
             place,
             labels[symbol * per_symbol + usize::from(place.label)],
+            whole,
         )
+    }
+
+    // The same, where it is known whether the share is whole.
+    #[inline(always)]
+    fn push_bits(
+        &self,
+        bits: &mut Vec<ReceivedBit>,
+        labels: &[u8],
+        symbols: usize,
+        symbol: usize,
+        count: usize,
+        whole: bool,
+    )
+        requires labels { length labels.now ≡ symbols * labels_per_symbol self.now.rate }
+        requires few { symbols ≤ 2 ^ 20 }
+        requires share { count ≤ share_of self.now.rate }
+        requires within { symbol * share_of self.now.rate + count ≤ symbols * share_of self.now.rate }
+        requires whole { whole ≡ true → self.now.erased ≡ 0 }
+        requires room { symbol * share_of self.now.rate + count ≤ vec_capacity bits.old }
+        requires so_far { map known_of bits.old.items
+            ≡ map (received_at self.now.rate self.now.erased labels.now self.now.encoder) (range_with_len 0 (symbol * share_of self.now.rate)) }
+        ensures items { map known_of bits.new.items
+            ≡ map (received_at self.now.rate self.now.erased labels.now self.now.encoder) (range_with_len 0 (symbol * share_of self.now.rate + count)) }
+        ensures room { vec_capacity bits.new ≡ vec_capacity bits.old }
+    {
+        let places = self.places.as_slice();
+        let per_symbol = usize::from(self.rate.data_carriers()) * usize::from(self.rate.streams());
+        for place in 0..count {
+            bits.push_reserved(self.bit(places, labels, per_symbol, symbol, place, symbols, whole));
+        }
     }
 
     // Appends what the labels say of a symbol's first coded bits, which come next.
     #[inline(always)]
     fn push_symbol(
         &self,
-        bits: &mut Vec<Option<bool>>,
+        bits: &mut Vec<ReceivedBit>,
         labels: &[u8],
         symbols: usize,
         symbol: usize,
@@ -145,16 +182,16 @@ impl Share {
         requires share { count ≤ share_of self.now.rate }
         requires within { symbol * share_of self.now.rate + count ≤ symbols * share_of self.now.rate }
         requires room { symbol * share_of self.now.rate + count ≤ vec_capacity bits.old }
-        requires so_far { bits.old.items
+        requires so_far { map known_of bits.old.items
             ≡ map (received_at self.now.rate self.now.erased labels.now self.now.encoder) (range_with_len 0 (symbol * share_of self.now.rate)) }
-        ensures items { bits.new.items
+        ensures items { map known_of bits.new.items
             ≡ map (received_at self.now.rate self.now.erased labels.now self.now.encoder) (range_with_len 0 (symbol * share_of self.now.rate + count)) }
         ensures room { vec_capacity bits.new ≡ vec_capacity bits.old }
     {
-        let places = self.places.as_slice();
-        let per_symbol = usize::from(self.rate.data_carriers()) * usize::from(self.rate.streams());
-        for place in 0..count {
-            bits.push_reserved(self.bit(places, labels, per_symbol, symbol, place, symbols));
+        if self.erased == 0 {
+            self.push_bits(bits, labels, symbols, symbol, count, true);
+        } else {
+            self.push_bits(bits, labels, symbols, symbol, count, false);
         }
     }
 
@@ -165,11 +202,12 @@ impl Share {
         symbols: usize,
         labels: &[u8],
         count: usize,
-    ) -> Result<Vec<Option<bool>>, AllocError>
+    ) -> Result<Vec<ReceivedBit>, AllocError>
         requires labels { length labels.now ≡ symbols * labels_per_symbol self.now.rate }
         requires count { count ≤ symbols * share_of self.now.rate }
         requires few { symbols ≤ 2 ^ 20 }
-        ensures { IfOk result (λ bits. bits.items ≡ map (received_at self.now.rate self.now.erased labels.now self.now.encoder) (range_with_len 0 count)) }
+        ensures { IfOk result (λ bits. map known_of bits.items
+            ≡ map (received_at self.now.rate self.now.erased labels.now self.now.encoder) (range_with_len 0 count)) }
     {
         let share = self.places.len();
         let mut bits = Vec::with_capacity(alloc, count)?;
@@ -187,10 +225,11 @@ impl Share {
         alloc: Global,
         octets: u16,
         labels: &[u8],
-    ) -> Result<Vec<Option<bool>>, AllocError>
+    ) -> Result<Vec<ReceivedBit>, AllocError>
         requires some { 1 ≤ octets }
         requires labels { length labels.now ≡ labels_in_frame self.now.rate octets }
-        ensures { IfOk result (λ bits. bits.items ≡ received_of self.now.rate octets self.now.erased labels.now self.now.encoder) }
+        ensures { IfOk result (λ bits. map known_of bits.items
+            ≡ received_of self.now.rate octets self.now.erased labels.now self.now.encoder) }
     {
         let symbols = self.rate.symbols(octets) as usize;
         let count = sent(self.rate.pattern(), self.rate.codeword_steps(octets)) as usize;
@@ -212,6 +251,6 @@ impl Share {
     {
         let received = self.gathered(alloc, octets, labels)?;
         let steps = self.rate.codeword_steps(octets);
-        decode(alloc, steps, self.rate.pattern(), &received)
+        decode_received(alloc, steps, self.rate.pattern(), &received)
     }
 }

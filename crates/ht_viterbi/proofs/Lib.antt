@@ -8,5 +8,6 @@ pub mod LaneSteps
 pub mod Spread
 pub mod Values
 pub mod Enumerating
-pub mod Rows
+pub mod RowFacts
 pub mod Carried
+pub mod Turns

@@ -12,7 +12,7 @@ use Rattle.ht_conv.specs.declared.puncture.Kept.{Kept}
 use Rattle.ht_conv.specs.declared.puncture.Kept.TheVariants.{Both}
 use Rattle.ht_conv.specs.Puncturing.{period_of, kept_of, kept_count, sent_count}
 use Rattle.ht_viterbi.specs.Inputs.{place_cost}
-use Rattle.ht_viterbi.specs.Trellis.{StepPlaces, pair_of, pair_at, phase_back, pairs_from, moved, output_a, output_b, branch_cost}
+use Rattle.ht_viterbi.specs.Trellis.{StepPlaces, pair_of, pair_at, pairs_from, moved, output_a, output_b, branch_cost}
 use Rattle.ht_viterbi.specs.Trellis.{way, chosen, lesser, is_free, least_from, chosen_at, first_from, AreChoices}
 use Rattle.ht_viterbi.proofs.Sending.{length-pairs, sent-grows}
 
@@ -54,24 +54,6 @@ pairs-back pattern received steps at p q =
     let next : suc (at - 1) ≡ at = omega arith in
     ap (λ (n : ℕ). pairs_from pattern received (at - 1) n) more
     ∙ ap (λ (n : ℕ). pair_at pattern received (at - 1) ∷ pairs_from pattern received n (steps - at)) next
-
--- the phases of the steps, from the last backwards
-pub phase-back : (pattern : Pattern) (at phase phase' : ℕ) → 0 < at → phase ≡ at % length (period_of pattern)
-    → phase' ≡ phase_back phase (length (period_of pattern)) → phase' ≡ (at - 1) % length (period_of pattern)
-phase-back Half at phase phase' p is back = grind (arith, nat_tests)
-phase-back TwoThirds at phase phase' p is back = grind (arith, nat_tests)
-phase-back ThreeQuarters at phase phase' p is back = grind (arith, nat_tests)
-phase-back FiveSixths at phase phase' p is back = grind (arith, nat_tests)
-
-pub phase-step : (pattern : Pattern) (period : List Kept) (at phase phase' : ℕ) → period ≡ period_of pattern → 0 < at → phase ≡ at % length (period_of pattern)
-    → phase' ≡ phase_back phase (length period) → phase' ≡ (at - 1) % length (period_of pattern)
-phase-step pattern period at phase phase' is p here back =
-    phase-back pattern at phase phase' p here (back ∙ ap (λ (z : List Kept). phase_back phase (length z)) is)
-
--- what is kept of a step, read from the period
-pub kept-back : (pattern : Pattern) (period : List Kept) (at phase : ℕ) → period ≡ period_of pattern → phase ≡ (at - 1) % length (period_of pattern)
-    → get_or period phase Both ≡ kept_of pattern (at - 1)
-kept-back pattern period at phase is phase-is = ap (λ (z : List Kept). get_or z phase Both) is ∙ ap (λ (n : ℕ). get_or (period_of pattern) n Both) phase-is
 
 -- where the places of the step before begin
 pub start-back : (pattern : Pattern) (steps at start width : ℕ) (kept : Kept) → 0 < at → at ≤ steps → start ≡ sent_count pattern at

@@ -1,4 +1,5 @@
 pub mod Inputs
 pub mod Decoded
+pub mod Received
 pub mod Trellis
 pub mod Lanes

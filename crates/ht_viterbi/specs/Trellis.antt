@@ -1,5 +1,5 @@
 -- The trellis of the code's 64 states, from its end backwards. No public clause speaks of it.
-use Rattle.std.specs.Prelude.{◌≡◌, ℕ, zero, suc, ◌+◌, ◌-◌, ◌/◌, ◌<◌, nat_lt, ◌==◌, Bool, true, false, if◌then◌else◌, ◌&&◌, not, ◌↔◌}
+use Rattle.std.specs.Prelude.{◌≡◌, ℕ, zero, suc, ◌+◌, ◌/◌, ◌<◌, nat_lt, Bool, true, false, if◌then◌else◌, ◌&&◌, not, ◌↔◌}
 use Rattle.std.specs.Prelude.{List, [], ◌∷◌, length, slice_index_or, Option, None}
 use Rattle.std.specs.Int.{bit_at}
 use Rattle.ht_rate.specs.declared.kinds.Pattern.{Pattern}
@@ -23,10 +23,6 @@ pair_of B received start = (None, slice_index_or received start None)
 
 abbrev pub pair_at : Pattern → List (Option Bool) → ℕ → StepPlaces
 pair_at pattern received step = pair_of (kept_of pattern step) received (sent_count pattern step)
-
--- the place in its period of the step before
-abbrev pub phase_back : ℕ → ℕ → ℕ
-phase_back phase period = if phase == 0 then period - 1 else phase - 1
 
 -- the pairs of `count` steps from a step on
 unfoldable pub pairs_from : Pattern → List (Option Bool) → ℕ → ℕ → List StepPlaces

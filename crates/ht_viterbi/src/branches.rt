@@ -1,8 +1,8 @@
-//! What a step costs from each state, and how much more by a 1: a lane for each of the 64 states, for each pair of received
-//! places.
-ghost use Rattle.std.specs.Prelude.{◌≡◌, ◌<◌, ◌≤◌, ℕ, false, List, [], slice_index, slice_index_or, length};
+//! What a step costs from each state, and how much more by a 1: a lane for each of the 64 states, for each pair of
+//! received places.
+ghost use Rattle.std.specs.Prelude.{◌≡◌, ◌<◌, ◌≤◌, ℕ, false, slice_index, length};
 ghost use Rattle.ht_viterbi.specs.Trellis.{branch_cost, StepPlaces};
-ghost use Rattle.ht_viterbi.specs.Lanes.{HasLanes, HoldsRows, number_of_place, number_of_pair, rise};
+ghost use Rattle.ht_viterbi.specs.Lanes.{HasLanes, HoldsRows, pair_of_number, rise};
 
 use crate::lanes::differences;
 use crate::pairs::{StepPlaces, cost_of_branch};
@@ -63,22 +63,11 @@ pub(crate) fn rises() -> Branches
     ]
 }
 
-// The number of a place, in the order of the table.
-fn number_of(place: Option<bool>) -> usize
-    ensures value { result ≡ number_of_place place }
-    ensures bound { result < 3 }
+// The row of a step.
+#[inline(always)]
+pub(crate) fn lanes_of(branches: &Branches, row: u8) -> u8x64
+    requires { row < 9 }
+    ensures { (value : StepPlaces → ℕ → ℕ) → HoldsRows branches.now value → HasLanes result (value (pair_of_number row)) }
 {
-    match place {
-        None => 0,
-        Some(false) => 1,
-        Some(true) => 2,
-    }
-}
-
-// The row of a pair.
-pub(crate) fn row_of(pair: StepPlaces) -> usize
-    ensures value { result ≡ number_of_pair pair }
-    ensures bound { result < 9 }
-{
-    3 * number_of(pair.0) + number_of(pair.1)
+    branches[usize::from(row)]
 }

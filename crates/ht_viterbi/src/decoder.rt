@@ -1,20 +1,21 @@
 //! The decoder: all 64 states at once, their costs modulo 256. The ways of a state cost so nearly the same that their
 //! difference modulo 256 says which is the lesser.
-ghost use Rattle.std.specs.Prelude.{◌≡◌, ◌≢◌, ◌+◌, ◌-◌, ◌*◌, ◌%◌, ◌<◌, ◌≤◌, ◌^◌, ◌↔◌, ℕ, Bool, true, false, IfOk};
-ghost use Rattle.std.specs.Prelude.{List, length, drop, replicate, slice_index};
+ghost use Rattle.std.specs.Prelude.{◌≡◌, ◌+◌, ◌-◌, ◌%◌, ◌<◌, ◌≤◌, ◌^◌, ◌↔◌, ℕ, true, false, IfOk};
+ghost use Rattle.std.specs.Prelude.{length, drop, map, replicate, slice_index};
 ghost use Rattle.std.specs.Int.{bit_at};
 ghost use Rattle.ht_conv.specs.Puncturing.{sent_count};
 ghost use Rattle.ht_viterbi.specs.Inputs.{IsDecoded, distance, tail};
-ghost use Rattle.ht_viterbi.specs.Trellis.{StepPlaces, branch_cost, way, chosen, lesser, least_from, AreChoices, pairs_from};
-ghost use Rattle.ht_viterbi.specs.Lanes.{HasLanes, HoldsRows, IsClose, rise};
+ghost use Rattle.ht_viterbi.specs.Trellis.{StepPlaces, branch_cost, way, chosen, lesser, least_from, AreChoices};
+ghost use Rattle.ht_viterbi.specs.Lanes.{HasLanes, HoldsRows, IsClose, pairs_at, rise};
+ghost use Rattle.ht_viterbi.specs.Received.{known_of};
 
-use crate::branches::{Branches, costs_of_zero, rises, row_of};
+use crate::branches::{Branches, costs_of_zero, lanes_of, rises};
 use crate::codeword::Codeword;
 use crate::lanes::{after_zero, differences, falls, negative, sums, with_one};
-use crate::pairs::{StepPlaces, pair_from, phase_before, places_of};
+use crate::received_bit::ReceivedBit;
+use crate::rows::fill_rows;
 use crate::walk::forwards;
 use ht_bits::Bits;
-use ht_conv::period;
 use ht_rate::Pattern;
 use std::alloc::{AllocError, Global};
 use std::simd::prelude::*;
@@ -40,16 +41,19 @@ fn step(costs: u8x64, zero: u8x64, more: u8x64, free: bool) -> (u8x64, u64)
     }
 }
 
-// The row of a pair, from the table of all pairs.
-#[inline(always)]
-fn lanes_of(branches: &Branches, pair: StepPlaces) -> u8x64
-    ensures { (value : StepPlaces → ℕ → ℕ) → HoldsRows branches.now value → HasLanes result (value pair) }
-{
-    branches[row_of(pair)]
-}
-
 // After how many steps the whole distance is looked at again.
 const STRETCH: usize = 64;
+
+// The number of tail bits.
+const TAIL: usize = 6;
+
+// No state costs anything at the end.
+#[inline(always)]
+fn no_costs() -> u8x64
+    ensures { result ≡ replicate 64 0 }
+{
+    u8x64::splat(0)
+}
 
 // A distance by its lowest octet, where it is known to lie at most 128 above the one before and not far below.
 #[inline(always)]
@@ -61,20 +65,6 @@ fn carried(before: u32, octet: u8) -> u32
     most.saturating_sub((most + 256 - u32::from(octet)) % 256)
 }
 
-// The same once in a stretch of steps, and at other steps the one before.
-#[inline(always)]
-fn carried_at(at: usize, before: u32, octet: u8) -> u32
-    requires { before ≤ 2 ^ 30 }
-    ensures here { (n : ℕ) → at % 64 ≡ 0 → octet ≡ n % 256 → n ≤ before + 128 → before ≤ n + 12 → result ≡ n }
-    ensures others { at % 64 ≢ 0 → result ≡ before }
-{
-    if at % STRETCH == 0 {
-        carried(before, octet)
-    } else {
-        before
-    }
-}
-
 // The cost of state 0, modulo 256.
 #[inline(always)]
 fn first_lane(costs: u8x64) -> u8
@@ -83,37 +73,64 @@ fn first_lane(costs: u8x64) -> u8
     costs[0]
 }
 
+// Fills in the choices of some steps, from the last to the first, and gives the costs before them from those behind them.
+#[inline(always)]
+fn stretch(
+    zeros: &Branches,
+    rises: &Branches,
+    rows: &[u8],
+    choices: &mut [u64],
+    behind: u8x64,
+    from: usize,
+    to: usize,
+    free: bool,
+) -> u8x64
+    requires zeros { HoldsRows zeros.now (λ pair k. branch_cost pair k false) }
+    requires rises { HoldsRows rises.now rise }
+    requires rows { (k : ℕ) → slice_index rows.now k < 9 }
+    requires count { length choices.old ≡ length rows.now }
+    requires order { from ≤ to }
+    requires within { to ≤ length rows.now }
+    requires tail { free ≡ false → length rows.now ≤ from + 6 }
+    requires before { free ≡ true → to + 6 ≤ length rows.now }
+    requires behind { HasLanes behind (λ k. least_from (pairs_at rows.now to) k % 256) }
+    requires chosen { AreChoices (pairs_at rows.now to) (drop to choices.old) }
+    ensures costs { HasLanes result (λ k. least_from (pairs_at rows.now from) k % 256) }
+    ensures choices { AreChoices (pairs_at rows.now from) (drop from choices.new) }
+    ensures length { length choices.new ≡ length choices.old }
+{
+    let mut costs = behind;
+    let mut at = to;
+    while at > from {
+        at -= 1;
+        let row = rows[at];
+        let (next, word) = step(costs, lanes_of(zeros, row), lanes_of(rises, row), free);
+        choices[at] = word;
+        costs = next;
+    }
+    costs
+}
+
 // Fills in the choices of all steps, from the last to the first, and gives the least distance from state 0.
-fn backwards(pattern: Pattern, received: &[Option<bool>], choices: &mut [u64]) -> u32
-    requires count { length received.now ≡ sent_count pattern (length choices.old) }
-    requires few { length choices.old ≤ 2 ^ 20 }
-    ensures choices { AreChoices (pairs_from pattern received.now 0 (length choices.old)) choices.new }
-    ensures least { result ≡ least_from (pairs_from pattern received.now 0 (length choices.old)) 0 }
+fn backwards(rows: &[u8], choices: &mut [u64]) -> u32
+    requires rows { (k : ℕ) → slice_index rows.now k < 9 }
+    requires tail { 6 ≤ length rows.now }
+    requires few { length rows.now ≤ 2 ^ 20 }
+    requires count { length choices.old ≡ length rows.now }
+    ensures choices { AreChoices (pairs_at rows.now 0) choices.new }
+    ensures least { result ≡ least_from (pairs_at rows.now 0) 0 }
 {
     let zeros = costs_of_zero();
     let rises = rises();
-    let steps = choices.len();
-    let mut costs = u8x64::splat(0);
-    let mut distance = 0u32;
-    let mut at = steps;
-    let mut start = received.len();
-    let period = period(pattern);
-    let mut phase = steps % period.len();
+    let steps = rows.len();
+    let mut at = steps - TAIL;
+    let mut costs = stretch(&zeros, &rises, rows, choices, no_costs(), at, steps, false);
+    let mut distance = carried(0, first_lane(costs));
     while at > 0 {
-        at -= 1;
-        phase = phase_before(phase, period.len());
-        let kept = period[phase];
-        start -= places_of(kept);
-        let pair = pair_from(received, start, kept);
-        let (next, word) = step(
-            costs,
-            lanes_of(&zeros, pair),
-            lanes_of(&rises, pair),
-            steps - at > 6,
-        );
-        choices[at] = word;
-        distance = carried_at(at, distance, first_lane(next));
-        costs = next;
+        let from = at.saturating_sub(STRETCH);
+        costs = stretch(&zeros, &rises, rows, choices, costs, from, at, true);
+        distance = carried(distance, first_lane(costs));
+        at = from;
     }
     distance
 }
@@ -121,9 +138,39 @@ fn backwards(pattern: Pattern, received: &[Option<bool>], choices: &mut [u64]) -
 /// Decodes a punctured codeword: the first terminated input whose coded bits are nearest to `received`.
 ///
 /// `steps` is the length of the input with its tail of six zeros, from 6 to 524302. `received` has the coded bits
-/// that `pattern` keeps of these steps, A before B, None where a place is erased; an erased place counts for
-/// nothing. The memory for all steps is taken first, eight octets a step and one for each bit of the answer; lack
-/// of it is the only error, and then nothing has changed.
+/// that `pattern` keeps of these steps, A before B; an erased place counts for nothing. The memory for all steps is taken
+/// first, nine octets a step and one for each bit of the answer; lack of it is the only error, and then nothing has
+/// changed.
+///
+/// IEEE Std 802.11-2012, clauses 18.3.5.6 and 20.3.11.6.
+pub fn decode_received(
+    alloc: Global,
+    steps: u32,
+    pattern: Pattern,
+    received: &[ReceivedBit],
+) -> Result<Codeword, AllocError>
+    requires least { tail ≤ steps }
+    requires most { steps ≤ 524302 }
+    requires received { length received.now ≡ sent_count pattern steps }
+    ensures input { IfOk result (λ c. IsDecoded steps pattern (map known_of received.now) c.input) }
+    ensures distance { IfOk result (λ c. c.distance ≡ distance pattern (map known_of received.now) c.input) }
+    ensures steps { IfOk result (λ c. length c.input ≡ steps) }
+    ensures ending { IfOk result (λ c. drop (steps - tail) c.input ≡ replicate tail false) }
+{
+    let mut rows = Vec::from_elem(alloc, 0u8, steps as usize)?;
+    let mut choices = Vec::from_elem(alloc, 0u64, steps as usize)?;
+    let mut input = Vec::with_capacity(alloc, steps as usize)?;
+    fill_rows(pattern, received, rows.as_mut_slice());
+    let distance = backwards(&rows, choices.as_mut_slice());
+    forwards(&choices, &mut input);
+    Ok(Codeword {
+        input: Bits::from(input),
+        distance,
+    })
+}
+
+/// Decodes a punctured codeword as [`decode_received`] does, with None where a place is erased. It takes one octet more
+/// for each place.
 ///
 /// IEEE Std 802.11-2012, clauses 18.3.5.6 and 20.3.11.6.
 pub fn decode(
@@ -140,12 +187,17 @@ pub fn decode(
     ensures steps { IfOk result (λ c. length c.input ≡ steps) }
     ensures ending { IfOk result (λ c. drop (steps - tail) c.input ≡ replicate tail false) }
 {
-    let mut choices = Vec::from_elem(alloc, 0u64, steps as usize)?;
-    let mut input = Vec::with_capacity(alloc, steps as usize)?;
-    let distance = backwards(pattern, received, choices.as_mut_slice());
-    forwards(&choices, &mut input);
-    Ok(Codeword {
-        input: Bits::from(input),
-        distance,
-    })
+    let bits = received_bits(alloc, received)?;
+    decode_received(alloc, steps, pattern, &bits)
+}
+
+// The same places as received bits.
+fn received_bits(alloc: Global, places: &[Option<bool>]) -> Result<Vec<ReceivedBit>, AllocError>
+    ensures { IfOk result (λ bits. map known_of bits.items ≡ places.now) }
+{
+    let mut bits = Vec::with_capacity(alloc, places.len())?;
+    for place in places {
+        bits.push_reserved(ReceivedBit::of(*place));
+    }
+    Ok(bits)
 }

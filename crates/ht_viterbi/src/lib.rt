@@ -22,11 +22,14 @@ mod lanes;
 pub mod laws;
 mod pairs;
 mod plain;
+mod received_bit;
+mod rows;
 #[cfg(test)]
 mod tests;
 mod walk;
 mod words;
 
 pub use codeword::Codeword;
-pub use decoder::decode;
+pub use decoder::{decode, decode_received};
 pub use plain::plain_decode;
+pub use received_bit::ReceivedBit;

@@ -2,7 +2,7 @@
 ghost use Rattle.std.specs.Prelude.{◌≡◌, ◌+◌, ◌<◌, ◌≤◌, length};
 ghost use Rattle.ht_conv.specs.Puncturing.{kept_count};
 ghost use Rattle.ht_viterbi.specs.Inputs.{place_cost};
-ghost use Rattle.ht_viterbi.specs.Trellis.{pair_of, output_a, output_b, branch_cost, moved, phase_back};
+ghost use Rattle.ht_viterbi.specs.Trellis.{pair_of, output_a, output_b, branch_cost, moved};
 
 use crate::words::is_set;
 use ht_conv::Kept;
@@ -14,15 +14,6 @@ pub(crate) type StepPlaces = (Option<bool>, Option<bool>);
 const A_OF_ZERO: u64 = 0x6699_9966_6699_9966;
 
 const B_OF_ZERO: u64 = 0x55aa_aa55_aa55_55aa;
-
-// The place in its period of the step before.
-pub(crate) fn phase_before(phase: usize, period: usize) -> usize
-    requires { phase < period }
-    ensures value { result ≡ phase_back phase period }
-    ensures bound { result < period }
-{
-    if phase == 0 { period - 1 } else { phase - 1 }
-}
 
 // How many places a step has.
 pub(crate) fn places_of(kept: Kept) -> usize

@@ -1,6 +1,6 @@
 use Rattle.std.proofs.Common.{false}
 use Rattle.ht_viterbi.specs.Trellis.{branch_cost}
-use Rattle.ht_viterbi.proofs.Rows.{in-order}
+use Rattle.ht_viterbi.proofs.RowFacts.{in-order}
 use Rattle.ht_viterbi.proofs.branches.costs_of_zero.Goals as goal
 
 pub returns : goal.returns

@@ -1,5 +1,5 @@
 use Rattle.ht_viterbi.specs.Lanes.{rise}
-use Rattle.ht_viterbi.proofs.Rows.{in-order}
+use Rattle.ht_viterbi.proofs.RowFacts.{in-order}
 use Rattle.ht_viterbi.proofs.branches.rises.Goals as goal
 
 pub returns : goal.returns

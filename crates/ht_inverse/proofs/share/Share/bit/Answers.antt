@@ -1,7 +1,10 @@
-use Rattle.std.proofs.Common.{◌*◌, ◌+◌, false, arith, ap, ◌∙◌, slice_index_or}
-use Rattle.ht_inverse.specs.Shares.{bit_in}
+use Rattle.std.proofs.Common.{ℕ, ◌*◌, ◌+◌, false, arith, ap, ◌∙◌, slice_index_or}
+use Rattle.ht_viterbi.specs.Received.{known_of}
+use Rattle.ht_landing.specs.Landings.{landing_of}
+use Rattle.ht_inverse.specs.Shares.{bit_in, label_bit_of}
 use Rattle.ht_inverse.specs.declared.label_bit.LabelBit.{LabelBit}
 use Rattle.ht_inverse.proofs.Gathered.{bit-is, few-labels, label-within, place-is, places-length, share-few}
+use Rattle.ht_inverse.proofs.Undisturbed.{none-lost}
 use Rattle.ht_inverse.proofs.share.Share.bit.Goals as goal
 
 pub offset_bounds-places-place : goal.offset_bounds-places-place
@@ -38,8 +41,8 @@ overflow_add-symbol c =
     let few = few-labels s.rate c.args.symbols (c.args.symbol * c.args.per_symbol + place.label) c.requires.few (omega (arith, inside)) in
     omega (arith, few, c.from.ensures)
 
-pub bit_from-requires : goal.bit_from-requires
-bit_from-requires c =
+pub bit_from-requires-clause-shift : goal.bit_from-requires-clause-shift
+bit_from-requires-clause-shift c =
     let s = c.args.self.now in
     let place : LabelBit = slice_index_or c.args.places.now c.args.place (record { label = 0; shift = 0; lost = false }) in
     let is = place-is s.rate s.erased s.encoder c.args.place c.args.places.now (record { label = 0; shift = 0; lost = false })
@@ -49,12 +52,22 @@ bit_from-requires c =
     let low = w.1 in
     omega (arith, low)
 
+pub bit_from-requires-clause-whole : goal.bit_from-requires-clause-whole
+unfolding label_bit_of
+bit_from-requires-clause-whole c = λ whole.
+    let s = c.args.self.now in
+    let is = place-is s.rate s.erased s.encoder c.args.place c.args.places.now (record { label = 0; shift = 0; lost = false })
+    (c.requires.places ∙ s.places_are) c.requires.place in
+    ap (λ (place : LabelBit). place.lost) is
+    ∙ (ap (λ (n : ℕ). (label_bit_of s.rate n s.encoder c.args.place).lost) (c.requires.whole whole)
+    ∙ none-lost s.rate (landing_of s.rate s.encoder c.args.place).carrier)
+
 pub returns : goal.returns
 returns c =
     let s = c.args.self.now in
     let place : LabelBit = slice_index_or c.args.places.now c.args.place (record { label = 0; shift = 0; lost = false }) in
     let is = place-is s.rate s.erased s.encoder c.args.place c.args.places.now (record { label = 0; shift = 0; lost = false })
     (c.requires.places ∙ s.places_are) c.requires.place in
-    bit-is s.rate s.erased s.encoder c.args.symbol c.args.place c.args.per_symbol c.args.labels.now c.bit_from.result place is c.requires.place
-    c.requires.per_symbol
+    bit-is s.rate s.erased s.encoder c.args.symbol c.args.place c.args.per_symbol c.args.labels.now (known_of c.bit_from.result) place is
+    c.requires.place c.requires.per_symbol
     (c.bit_from.ensures ∙ ap (λ n. bit_in place (slice_index_or c.args.labels.now (c.args.symbol * c.args.per_symbol + n) 0)) c.from.ensures)

@@ -1,42 +1,51 @@
-use Rattle.std.proofs.Common.{◌≡◌, ◌≤◌, ◌∙◌, arith}
+use Rattle.std.proofs.Common.{◌≡◌, ◌≤◌, ◌∙◌, List, Bool, Option, ap, sym, length, map, arith}
+use Rattle.std.proofs.lemmas.List.{length-map}
 use Rattle.std.proofs.lemmas.Result.{IfOk-weaker}
 use Rattle.ht_viterbi.specs.Inputs.{IsDecoded, distance}
+use Rattle.ht_viterbi.specs.declared.received_bit.ReceivedBit.{ReceivedBit}
+use Rattle.ht_viterbi.specs.Received.{known_of}
 use Rattle.ht_inverse.specs.Shares.{codeword_of}
 use Rattle.ht_inverse.proofs.Codewords.{both-ok, codeword-is, distance-low, received-length}
 use Rattle.ht_inverse.proofs.share.Share.codeword.Goals as goal
 
-pub decode-requires-clause-received : goal.decode-requires-clause-received
-decode-requires-clause-received c =
+-- the places of what was gathered
+is-received : {bits items : List ReceivedBit} {received : List (Option Bool)} → bits ≡ items → map known_of items ≡ received → map known_of bits ≡ received
+is-received same is = ap (λ (xs : List ReceivedBit). map known_of xs) same ∙ is
+
+pub decode_received-requires-clause-received : goal.decode_received-requires-clause-received
+decode_received-requires-clause-received c =
     let s = c.args.self.now in
-    received-length s.rate c.args.octets s.erased s.encoder c.codeword_steps-steps.result c.args.labels.now c.pattern.result c.deref.result.now
-    c.codeword_steps-steps.ensures.value c.pattern.ensures (c.deref.ensures.value ∙ c.in_ok-received.ensures)
+    sym (length-map c.deref.result.now known_of)
+    ∙ received-length s.rate c.args.octets s.erased s.encoder c.codeword_steps-steps.result c.args.labels.now c.pattern.result
+    (map known_of c.deref.result.now) c.codeword_steps-steps.ensures.value c.pattern.ensures (is-received c.deref.ensures.value c.in_ok-received.ensures)
 
 pub returns-clause-value : goal.returns-clause-value
 returns-clause-value c =
     let s = c.args.self.now in
     let steps = c.codeword_steps-steps.result in
     let p = c.pattern.result in
-    let received = c.deref.result.now in
+    let received = map known_of c.deref.result.now in
     let low = c.codeword_steps-steps.ensures.low in
-    both-ok c.decode.result (λ codeword. IsDecoded steps p received codeword.input) (λ codeword. codeword.distance ≡ distance p received codeword.input)
+    both-ok c.decode_received.result (λ codeword. IsDecoded steps p received codeword.input)
+    (λ codeword. codeword.distance ≡ distance p received codeword.input)
     (λ codeword. codeword ≡ codeword_of s.rate c.args.octets s.erased c.args.labels.now s.encoder)
     (λ codeword is far.
     codeword-is s.rate c.args.octets s.erased s.encoder steps c.args.labels.now p received codeword c.codeword_steps-steps.ensures.value c.pattern.ensures
-    (c.deref.ensures.value ∙ c.in_ok-received.ensures) (omega (arith, low)) is far)
-    c.decode.ensures.input c.decode.ensures.distance
+    (is-received c.deref.ensures.value c.in_ok-received.ensures) (omega (arith, low)) is far)
+    c.decode_received.ensures.input c.decode_received.ensures.distance
 
 pub returns-clause-few : goal.returns-clause-few
 returns-clause-few c =
     let s = c.args.self.now in
     let steps = c.codeword_steps-steps.result in
     let p = c.pattern.result in
-    let received = c.deref.result.now in
+    let received = map known_of c.deref.result.now in
     let high = c.codeword_steps-steps.ensures.high in
     let many =
     received-length s.rate c.args.octets s.erased s.encoder steps c.args.labels.now p received c.codeword_steps-steps.ensures.value c.pattern.ensures
-    (c.deref.ensures.value ∙ c.in_ok-received.ensures) in
-    IfOk-weaker c.decode.result (λ codeword. codeword.distance ≡ distance p received codeword.input) (λ codeword. codeword.distance ≤ 1073741824)
+    (is-received c.deref.ensures.value c.in_ok-received.ensures) in
+    IfOk-weaker c.decode_received.result (λ codeword. codeword.distance ≡ distance p received codeword.input) (λ codeword. codeword.distance ≤ 1073741824)
     (λ codeword far.
     let low = distance-low p received codeword.input steps many in
     omega (arith, far, low, high))
-    c.decode.ensures.distance
+    c.decode_received.ensures.distance

@@ -1,0 +1,60 @@
+-- The steps of a period, where the period begins at a step.
+use Rattle.std.proofs.Common.{◌≡◌, ◌∙◌, ℕ, zero, suc, ◌+◌, ◌-◌, ◌*◌, ◌%◌, ◌<◌, ◌≤◌, ◌≢◌, List, length, set, slice_index, get_or, Option, Bool}
+use Rattle.std.proofs.Common.{ap, sym, subst, arith, below_more, get_or-set_other, get_or-set_same}
+use Rattle.ht_rate.specs.declared.kinds.Pattern.{Pattern}
+use Rattle.ht_rate.specs.declared.kinds.Pattern.TheVariants.{Half, TwoThirds, ThreeQuarters, FiveSixths}
+use Rattle.ht_conv.specs.declared.puncture.Kept.{Kept}
+use Rattle.ht_conv.specs.declared.puncture.Kept.TheVariants.{Both, A, B}
+use Rattle.ht_conv.specs.Puncturing.{period_of, kept_of, kept_count, sent_count}
+use Rattle.ht_viterbi.specs.Lanes.{HasRows, number_of_pair}
+use Rattle.ht_viterbi.specs.Trellis.{pair_of, pair_at}
+use Rattle.ht_viterbi.proofs.Sending.{sent-grows}
+
+phase-in : (pattern : Pattern) (first phase : ℕ) → first % length (period_of pattern) ≡ 0 → phase < length (period_of pattern)
+    → (first + phase) % length (period_of pattern) ≡ phase
+phase-in Half first phase begins lt = omega arith
+phase-in TwoThirds first phase begins lt = omega arith
+phase-in ThreeQuarters first phase begins lt = omega arith
+phase-in FiveSixths first phase begins lt = omega arith
+
+-- what is kept of a step, read from the period
+pub kept-in : (pattern : Pattern) (period : List Kept) (first phase : ℕ) → period ≡ period_of pattern → first % length (period_of pattern) ≡ 0
+    → phase < length (period_of pattern) → get_or period phase Both ≡ kept_of pattern (first + phase)
+kept-in pattern period first phase is begins lt =
+    ap (λ (z : List Kept). get_or z phase Both) is
+    ∙ ap (λ (n : ℕ). get_or (period_of pattern) n Both) (sym (phase-in pattern first phase begins lt))
+
+-- where the places of the next step begin
+pub start-next : (pattern : Pattern) (steps at next start width : ℕ) (kept : Kept) → at < steps → next ≡ at + 1 → start ≡ sent_count pattern at
+    → kept ≡ kept_of pattern at → width ≡ kept_count kept
+    → (start + width ≡ sent_count pattern next) × (start + width ≤ sent_count pattern steps)
+start-next pattern steps at next start width kept lt more is kept-is width-is =
+    let same : width ≡ kept_count (kept_of pattern at) = width-is ∙ ap kept_count kept-is in
+    let here : sent_count pattern (suc at) ≡ sent_count pattern next = let e : suc at ≡ next = omega arith in ap (sent_count pattern) e in
+    let whole : suc at + (steps - suc at) ≡ steps = omega arith in
+    let rest : sent_count pattern (suc at) ≤ sent_count pattern steps =
+    subst (λ (n : ℕ). sent_count pattern (suc at) ≤ sent_count pattern n) whole (sent-grows pattern (steps - suc at) (suc at)) in
+    (omega (arith, same, is, here), omega (arith, same, is, rest))
+
+kept-few : (kept : Kept) → kept_count kept ≤ 2
+kept-few Both = omega arith
+kept-few A = omega arith
+kept-few B = omega arith
+
+-- a step sends two bits at most
+pub sent-low : (pattern : Pattern) (steps : ℕ) → sent_count pattern steps ≤ 2 * steps
+sent-low pattern zero = omega arith
+sent-low pattern (suc steps) = omega (arith, sent-low pattern steps, kept-few (kept_of pattern steps))
+
+-- one row more
+pub row-more : (pattern : Pattern) (received : List (Option Bool)) (rows : List ℕ) (at next row start : ℕ) (kept : Kept) → at < length rows → next ≡ at + 1
+    → row ≡ number_of_pair (pair_of kept received start) → kept ≡ kept_of pattern at → start ≡ sent_count pattern at
+    → HasRows pattern received rows at → HasRows pattern received (set rows at row) next
+row-more pattern received rows at next row start kept within more is kept-is start-is were =
+    let here : row ≡ number_of_pair (pair_at pattern received at) =
+    is ∙ (ap (λ (k : Kept). number_of_pair (pair_of k received start)) kept-is
+    ∙ ap (λ (n : ℕ). number_of_pair (pair_of (kept_of pattern at) received n)) start-is) in
+    subst (λ (n : ℕ). HasRows pattern received (set rows at row) n) (sym more)
+    (below_more _ _
+    (λ k h. let other : k ≢ at = omega arith in get_or-set_other rows at k row 0 other ∙ were k h)
+    (get_or-set_same rows at row 0 within ∙ here))

@@ -1,0 +1,36 @@
+use Rattle.std.proofs.Common.{◌∙◌, ◌-◌, ℕ, Bool, false, ap, length, slice_index, arith, rules}
+use Rattle.ht_viterbi.specs.Trellis.{branch_cost, is_free, least_from}
+use Rattle.ht_viterbi.specs.Lanes.{pair_of_number, pairs_at, rise}
+use Rattle.ht_viterbi.proofs.LaneSteps.{lanes-step, chosen-lanes}
+use Rattle.ht_viterbi.proofs.RowFacts.{free-known, pairs-before, pairs-length}
+use Rattle.ht_viterbi.proofs.Spread.{ways-close}
+use Rattle.ht_viterbi.proofs.Steps.{choices-step}
+use Rattle.ht_viterbi.proofs.decoder.stretch.Goals as goal
+
+pub loop-at-preserved : goal.loop-at-preserved
+loop-at-preserved c =
+    let rows = c.args.rows.now in
+    let at = c.loop-at.at in
+    let was = c.loop-at.invariant in
+    let within = c.requires.within in
+    let test = c.loop-at-test.true in
+    let pair = pair_of_number (slice_index rows (at - 1)) in
+    let pairs = pairs_at rows at in
+    let cons = pairs-before rows at (omega (arith, test)) (omega (arith, was.high, within)) in
+    let left = pairs-length rows at in
+    let free = free-known c.args.free (length pairs)
+    (λ e. omega (arith, left, c.requires.tail e, test)) (λ e. omega (arith, left, c.requires.before e, was.high)) in
+    let zeros = c.lanes_of.ensures (λ pair k. branch_cost pair k false) c.requires.zeros in
+    let mores = c.lanes_of-in-loop-at.ensures rise c.requires.rises in
+    let close = ways-close pairs pair in
+    record {
+      low = omega (arith, test);
+      high = omega (arith, was.high);
+      count = search rules;
+      costs = lanes-step _ pairs c.step-word.result.0 c.args.free pair cons free
+          (c.step-word.ensures.costs (least_from pairs) pair was.costs zeros mores close);
+      choices = choices-step _ pairs c.loop-at.choices (at - 1) at c.step-word.result.1 pair cons (omega (arith, test))
+          (omega (arith, was.count, was.high, within, test))
+          (chosen-lanes pairs c.step-word.result.1 c.args.free pair free
+          (c.step-word.ensures.choices (least_from pairs) pair was.costs zeros mores close)) was.choices;
+    }
