@@ -2,6 +2,7 @@
 mod capturing;
 mod decoding;
 mod detecting;
+mod framing;
 mod listing;
 mod random;
 mod receiving;
@@ -13,7 +14,7 @@ fn main() {
     if receiving::run(&words) || sending::run(&words) {
         return;
     }
-    match decoding::run(&words).or_else(|| detecting::run(&words)).or_else(|| capturing::run(&words)) {
+    match decoding::run(&words).or_else(|| framing::run(&words)).or_else(|| detecting::run(&words)).or_else(|| capturing::run(&words)) {
         Some(checksum) => println!("{checksum}"),
         None => println!("these words choose no line"),
     }
