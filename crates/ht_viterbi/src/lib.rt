@@ -9,8 +9,8 @@
 //! sends `11 01 11 11 00 10 11` and lies at distance 5 too, but comes later.
 //!
 //! [`decode`] keeps the costs of all 64 states, modulo 256, in the lanes of one vector, from the last step to the first,
-//! so that one way forwards gives the first of the nearest inputs. [`plain_decode`] answers the same state by state. The
-//! definitions are in `specs/Inputs.antt`: a minimum over all inputs, with no trellis in it. `specs/Decoded.antt` has
+//! so that one way forwards gives the first of the nearest inputs. [`decode_received`] does the same with an octet for each
+//! place, a [`ReceivedBit`]. [`plain_decode`] answers the same state by state. The definitions are in `specs/Inputs.antt`: a minimum over all inputs, with no trellis in it. `specs/Decoded.antt` has
 //! the same as a function of what is received, over the list of all inputs. The laws that follow from them are in
 //! [`laws`].
 #![tactic(auto)]
