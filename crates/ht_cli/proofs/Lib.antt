@@ -1,3 +1,4 @@
+pub mod Accepted
 pub mod Converting
 pub mod Exactly
 pub mod Making

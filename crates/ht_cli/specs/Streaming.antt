@@ -5,6 +5,9 @@ use Rattle.ht_io.specs.declared.faults.FormatFault.{FormatFault}
 use Rattle.ht_fields.specs.Cases.{IsFile, IsClean}
 use Rattle.ht_capture.specs.Captures.{capture_of}
 use Rattle.ht_capture.specs.Fields.{captures}
+use Rattle.ht_cli.specs.declared.status.Status.{Status}
+use Rattle.ht_cli.specs.Commands.{Answers}
+use Rattle.ht_cli.specs.Filters.{streaming}
 
 -- the octets are a capture
 abbrev pub IsCapture : List ℕ → Type 0
@@ -20,6 +23,10 @@ HasNoFault octets = IsCapture octets ⊎ IsCleanFront octets
 
 -- the lines of a list of octets, and its reference text; the source and the sink before a run and after it
 module _ (lines text : List ℕ → List ℕ) (source source' sink sink' : Device ℕ) where
+  -- what a status says of such a run, in the form for all commands
+  abbrev pub Streams : Status → Type 0
+  Streams status = Answers (streaming captures text lines) source source' sink sink' status
+
   -- what was left of the source is a capture, all of it was taken, and its reference text was put
   pub record StreamsWhole : Type 0 where
     pub taken : List ℕ

@@ -2,7 +2,7 @@
 //!
 //! The clauses of [`run`](crate::run) are the same for every command. Each law is a function with an empty body: its
 //! clauses follow from `Answered`, where a run goes from the source `a` to `b` and from the sink `c` to `d`.
-ghost use Rattle.std.specs.Prelude.{◌≡◌, ◌≢◌, ◌⊎◌, ◌≤◌, ℕ, List, [], IfSome, Option, None, Some, String};
+ghost use Rattle.std.specs.Prelude.{◌≡◌, ◌≢◌, ◌⊎◌, ◌≤◌, ℕ, List, [], IfSome, Option, None, Some, String, map, string_bytes};
 ghost use Rattle.std.specs.Global.{Global as GlobalValue};
 ghost use Rattle.ht_io.specs.Devices.{Device, Grows, GrowsByPart, Rose, TakesAll};
 ghost use Rattle.ht_capture.specs.declared.frames.CaptureFrame.{CaptureFrame};
@@ -21,10 +21,11 @@ ghost use Rattle.ht_results.specs.Texts.{frame_lines_of, rx_text};
 ghost use Rattle.ht_rx.specs.Texts.{detect_text, lines_of};
 ghost use Rattle.ht_rate.specs.declared.rates.Rate.{Rate as RateValue};
 ghost use Rattle.ht_demo.specs.Demos.{IsDemoLine, returned_line};
+ghost use Rattle.ht_words.specs.Accepted.{IsAccepted};
 ghost use Rattle.ht_words.specs.Words.{asked};
 ghost use Rattle.ht_cli.specs.Commands.{MakesPart, MakesText};
 ghost use Rattle.ht_cli.specs.Converting.{SendsTo, UpgradesTo};
-ghost use Rattle.ht_cli.specs.Streaming.{IsCapture, StreamsFront, StreamsLines, StreamsPart, StreamsRefused, StreamsWhole};
+ghost use Rattle.ht_cli.specs.Streaming.{IsCapture, Streams, StreamsFront, StreamsLines, StreamsPart, StreamsRefused, StreamsWhole};
 ghost use Rattle.ht_cli.specs.Exactly.{WritesExactly, sure_sink, sure_source};
 ghost use Rattle.ht_cli.specs.Tasks.{Answered, ReadsNothing, command_of, plan_of};
 
@@ -62,9 +63,14 @@ pub fn clauses_of_run()
 /// What the words say of the status, for every list of words, of whatever octets each may be.
 pub fn clauses_of_words()
     // Usage comes exactly where the words aren't accepted, but for a sink that failed and for lack of memory.
-    ensures only { (words : List (String GlobalValue)) (a b c d : Device ℕ) → Answered (asked words) a b c d Status.Usage → asked words ≡ None }
-    ensures always { (words : List (String GlobalValue)) (a b c d : Device ℕ) (status : Status) → asked words ≡ None
+    ensures only { (words : List (String GlobalValue)) (a b c d : Device ℕ) → Answered (asked words) a b c d Status.Usage
+        → IsAccepted (map string_bytes words) → ⊥ }
+    ensures always { (words : List (String GlobalValue)) (a b c d : Device ℕ) (status : Status) → (IsAccepted (map string_bytes words) → ⊥)
         → Answered (asked words) a b c d status → (Rose c d → ⊥) → (status ≡ Status.Usage) ⊎ (status ≡ Status.NoMemory) }
+
+    // Done, Refused and ReadFault come only where they are.
+    ensures accepted { (words : List (String GlobalValue)) (a b c d : Device ℕ) (status : Status) → Answered (asked words) a b c d status
+        → (status ≡ Status.Done) ⊎ (status ≡ Status.Refused) ⊎ (status ≡ Status.ReadFault) → IsAccepted (map string_bytes words) }
 
     // How many workers detect, and how large their window is, changes nothing of what a run says or writes.
     ensures detects { (workers window others room : ℕ) (a b c d : Device ℕ) (status : Status)
@@ -76,68 +82,41 @@ pub fn clauses_of_words()
         → Answered (Some (Asked.Demo seed noise count rate length others room)) a b c d status }
 {}
 
-/// What a status says of the octets that `detect` took and of the text that it put, in the words of captures.
-pub fn clauses_of_detect()
+/// What a status says of the octets that `detect` or `rx` took and of the text that it put, in the words of captures.
+///
+/// Either puts lines of a capture while it reads it, `detect` those of its symbols and `rx` those of its frames. What is
+/// said of such a run is the same for both.
+pub fn clauses_of_streaming()
+    ensures detect { (workers window : ℕ) (a b c d : Device ℕ) (status : Status)
+        → Answered (Some (Asked.Detect workers window)) a b c d status → Streams lines_of detect_text a b c d status }
+    ensures rx { (workers window : ℕ) (a b c d : Device ℕ) (status : Status)
+        → Answered (Some (Asked.Rx workers window)) a b c d status → Streams frame_lines_of rx_text a b c d status }
+
     // Done: what was left is a capture, and its text was put.
-    ensures done { (workers window : ℕ) (a b c d : Device ℕ) → Answered (Some (Asked.Detect workers window)) a b c d Status.Done
-        → StreamsWhole lines_of detect_text a b c d }
+    ensures done { (lines text : List ℕ → List ℕ) (a b c d : Device ℕ) → Streams lines text a b c d Status.Done → StreamsWhole lines text a b c d }
 
     // Refused: what was left is no capture, and its text was put, which names its first fault.
-    ensures refused { (workers window : ℕ) (a b c d : Device ℕ) → Answered (Some (Asked.Detect workers window)) a b c d Status.Refused
-        → StreamsRefused lines_of detect_text a b c d }
+    ensures refused { (lines text : List ℕ → List ℕ) (a b c d : Device ℕ) → Streams lines text a b c d Status.Refused
+        → StreamsRefused lines text a b c d }
 
-    // ReadFault: the lines of the symbols read whole were put, all of them, so that no write failed.
-    ensures broken_off { (workers window : ℕ) (a b c d : Device ℕ) → Answered (Some (Asked.Detect workers window)) a b c d Status.ReadFault
-        → StreamsFront lines_of detect_text a b c d }
+    // ReadFault: the lines of the symbols or frames read whole were put, all of them, so that no write failed.
+    ensures broken_off { (lines text : List ℕ → List ℕ) (a b c d : Device ℕ) → Streams lines text a b c d Status.ReadFault
+        → StreamsFront lines text a b c d }
 
     // WriteFault: a part of the text was put.
-    ensures part { (workers window : ℕ) (a b c d : Device ℕ) → Answered (Some (Asked.Detect workers window)) a b c d Status.WriteFault
-        → StreamsPart lines_of detect_text a b c d }
+    ensures part { (lines text : List ℕ → List ℕ) (a b c d : Device ℕ) → Streams lines text a b c d Status.WriteFault
+        → StreamsPart lines text a b c d }
 
-    // NoMemory: a part of the lines of the symbols read whole was put.
-    ensures memory { (workers window : ℕ) (a b c d : Device ℕ) → Answered (Some (Asked.Detect workers window)) a b c d Status.NoMemory
-        → StreamsLines lines_of detect_text a b c d }
+    // NoMemory: a part of the lines of the symbols or frames read whole was put.
+    ensures memory { (lines text : List ℕ → List ℕ) (a b c d : Device ℕ) → Streams lines text a b c d Status.NoMemory
+        → StreamsLines lines text a b c d }
 
     // Where all octets are known that the source had left, as those of a source in memory are: Done says that they are a
     // capture and Refused that they aren't, and either puts the text of them all.
-    ensures known_done { (workers window : ℕ) (all : List ℕ) (a b c d : Device ℕ) → a.known ≡ Some all
-        → Answered (Some (Asked.Detect workers window)) a b c d Status.Done
-        → IsCapture all × Grows c d (detect_text all) × (b.known ≡ Some []) }
-    ensures known_refused { (workers window : ℕ) (all : List ℕ) (a b c d : Device ℕ) → a.known ≡ Some all
-        → Answered (Some (Asked.Detect workers window)) a b c d Status.Refused
-        → (IsCapture all → ⊥) × Grows c d (detect_text all) }
-{}
-
-/// What a status says of the octets that `rx` took and of the text that it put, in the words of captures.
-pub fn clauses_of_rx()
-    // Done: what was left is a capture, and its text was put.
-    ensures done { (workers window : ℕ) (a b c d : Device ℕ) → Answered (Some (Asked.Rx workers window)) a b c d Status.Done
-        → StreamsWhole frame_lines_of rx_text a b c d }
-
-    // Refused: what was left is no capture, and its text was put, which names its first fault.
-    ensures refused { (workers window : ℕ) (a b c d : Device ℕ) → Answered (Some (Asked.Rx workers window)) a b c d Status.Refused
-        → StreamsRefused frame_lines_of rx_text a b c d }
-
-    // ReadFault: the lines of the frames read whole were put, all of them, so that no write failed.
-    ensures broken_off { (workers window : ℕ) (a b c d : Device ℕ) → Answered (Some (Asked.Rx workers window)) a b c d Status.ReadFault
-        → StreamsFront frame_lines_of rx_text a b c d }
-
-    // WriteFault: a part of the text was put.
-    ensures part { (workers window : ℕ) (a b c d : Device ℕ) → Answered (Some (Asked.Rx workers window)) a b c d Status.WriteFault
-        → StreamsPart frame_lines_of rx_text a b c d }
-
-    // NoMemory: a part of the lines of the frames read whole was put.
-    ensures memory { (workers window : ℕ) (a b c d : Device ℕ) → Answered (Some (Asked.Rx workers window)) a b c d Status.NoMemory
-        → StreamsLines frame_lines_of rx_text a b c d }
-
-    // Where all octets are known that the source had left, as those of a source in memory are: Done says that they are a
-    // capture and Refused that they aren't, and either puts the text of them all.
-    ensures known_done { (workers window : ℕ) (all : List ℕ) (a b c d : Device ℕ) → a.known ≡ Some all
-        → Answered (Some (Asked.Rx workers window)) a b c d Status.Done
-        → IsCapture all × Grows c d (rx_text all) × (b.known ≡ Some []) }
-    ensures known_refused { (workers window : ℕ) (all : List ℕ) (a b c d : Device ℕ) → a.known ≡ Some all
-        → Answered (Some (Asked.Rx workers window)) a b c d Status.Refused
-        → (IsCapture all → ⊥) × Grows c d (rx_text all) }
+    ensures known_done { (lines text : List ℕ → List ℕ) (all : List ℕ) (a b c d : Device ℕ) → a.known ≡ Some all
+        → Streams lines text a b c d Status.Done → IsCapture all × Grows c d (text all) × (b.known ≡ Some []) }
+    ensures known_refused { (lines text : List ℕ → List ℕ) (all : List ℕ) (a b c d : Device ℕ) → a.known ≡ Some all
+        → Streams lines text a b c d Status.Refused → (IsCapture all → ⊥) × Grows c d (text all) }
 {}
 
 /// What a status says of `upgrade`.

@@ -2,3 +2,4 @@ pub mod Acceptance
 pub mod Numbers
 pub mod Ranges
 pub mod ReadingLemmas
+pub mod Spelling
