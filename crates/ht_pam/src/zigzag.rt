@@ -99,6 +99,7 @@ impl Ladder {
     /// near. It takes no step.
     ///
     /// The target is within plus or minus 2^33, and `d`, a diagonal of a triangular channel, at most 65535.
+    #[inline(always)]
     pub fn nearest(self, target: i64, d: u32) -> i8
         requires target { unsigned_abs target ≤ 2 ^ 33 }
         requires diagonal { d ≤ 65535 }
