@@ -194,6 +194,6 @@ module _ (lines text : List ℕ → List ℕ) (s : IsStreamed lines text) (sourc
   ends mid sink' (Err ListWrite) status l later (is, same) =
       subst (Comes sink') (sym is)
       (lines_part sink' (subst (λ (k : Device ℕ). TellsPieces lines source source' sink k) (sym same) l.0)
-          (subst (λ (k : Device ℕ). Rose sink k) (sym same) l.1))
+      (subst (λ (k : Device ℕ). Rose sink k) (sym same) l.1))
   ends mid sink' (Err ListMemory) status l later (is, same) =
       subst (Comes sink') (sym is) (lines_lack sink' (subst (λ (k : Device ℕ). TellsPieces lines source source' sink k) (sym same) l))

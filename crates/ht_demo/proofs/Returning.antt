@@ -50,7 +50,7 @@ line-returned : (plan : Plan) → line_of plan (returned_results (planned plan))
 unfolding line_of returned_line
 line-returned plan =
     let text : ℕ → ℕ → ℕ → ℕ → List ℕ =
-        λ matched distances pilots codes. demo_text plan.frames (all_symbols plan) (all_jobs plan) matched distances pilots codes in
+    λ matched distances pilots codes. demo_text plan.frames (all_symbols plan) (all_jobs plan) matched distances pilots codes in
     let results = returned_results (planned plan) in
     ap (λ n. text n (data_in results) (pilot_in results) (code_in results)) (all_matched 0 (planned plan) ∙ length-planned plan)
     ∙ ap (λ n. text plan.frames n (pilot_in results) (code_in results)) (no_data 0 (planned plan))

@@ -191,10 +191,7 @@ fn vectors_texts(rt: HostRuntime) -> Result<(), Fail> {
             format!(in alloc; "{}", InFault::Read)?,
             "the input can't be read",
         ),
-        (
-            format!(in alloc; "{}", InFault::NoMemory)?,
-            "out of memory",
-        ),
+        (format!(in alloc; "{}", InFault::NoMemory)?, "out of memory"),
         (format!(in alloc; "{Failed}")?, "the device failed"),
     ] {
         assert_eq!(rt; shown.as_str(), text);

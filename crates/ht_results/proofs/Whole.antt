@@ -163,7 +163,7 @@ result_is f whole =
     let start : FrameSoFar = frame_begun f.head in
     let at = placed f whole in
     let within : Within f.head.rate f.jobs =
-        all_weaker (AtPlace f.head) (λ (j : JobView). j.place.carrier < carriers_of f.head.rate) f.jobs (λ j p. p.carrier) at in
+    all_weaker (AtPlace f.head) (λ (j : JobView). j.place.carrier < carriers_of f.head.rate) f.jobs (λ j p. p.carrier) at in
     let left : ℕ = start.left - length f.jobs in
     ap result_of (all_jobs f.jobs start)
     ∙ (ap (λ (z : ℕ). made f.head z (pilot_after f.head.rate f.jobs 0) (labels_after f.head.rate f.jobs start.labels) left)

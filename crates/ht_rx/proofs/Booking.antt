@@ -89,7 +89,7 @@ pub frames_told : {P : Type 0} (booked : FrameResult → List P) (f : FrameSoFar
     (source source' : Device ℕ) (book book' : Device P)
     → f.left ≤ 0
     → MatchResult result (TellsTo (pieces_of (all_booked booked f)) source source' book book')
-      (StopsBy (pieces_of (all_booked booked f)) source source' book book')
+    (StopsBy (pieces_of (all_booked booked f)) source source' book book')
     → MatchResult result (TellsTo (booked_of booked) source source' book book') (StopsBy (booked_of booked) source source' book book')
 frames_told {P = P} booked f result source source' book book' none told =
     let zero : f.left ≡ 0 = omega (arith, none) in

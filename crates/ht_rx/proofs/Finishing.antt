@@ -168,7 +168,7 @@ module _ {P : Type 0} where
   heard_by old new source source' a b (Err DriveMemory) h rests nothing =
       subst (λ (s : Device ℕ). TellsPieces (pieces_of a.pieces) source s a.device b.device) (sym (h.source_rests refl))
       (subst (λ (d : Device P). TellsPieces (pieces_of a.pieces) source source a.device d) (sym (h.device_rests refl))
-          (part_none (pieces_of a.pieces) source a.device))
+      (part_none (pieces_of a.pieces) source a.device))
 
   -- the end of the reading of a capture, as its drive and its desk tell it
   pub heard : (old new : DeskView) (source source' : Device ℕ) (a b : Telling P) (driven : Result Report (DriveFault FeedFault)) (result : Result Ended RxFault)

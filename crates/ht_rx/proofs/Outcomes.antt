@@ -234,7 +234,7 @@ module _ {P : Type 0} (pieces : List Headed → List P) (head : FrameHead) (devi
       → TellsPieces (pieces_of pieces) source new.reader.source device device'
   part source old new items taken rest reader going reads is put =
       let s = saw source old.reader new.reader items new.stop reader
-          (subst (λ (e : Option Stop). ReadsBy e new.stop old.reader new.reader items) going reads) in
+      (subst (λ (e : Option Stop). ReadsBy e new.stop old.reader new.reader items) going reads) in
       record {
         taken = s.taken;
         octets = s.octets;

@@ -33,7 +33,7 @@ sound_given desk reader head frames due sound none going one fewer =
 pub reads_job : (desk : DeskView) (reader : Progress) (head : FrameHead) (frames : ℕ) (due : List Headed) (job : JobView) (source after : Device ℕ)
     → desk.stop ≡ None
     → Finds (standing desk.reader None source) (standing reader None after) (begun desk.head desk.frames) (begun head frames)
-      (headed_of head job ∷ [])
+    (headed_of head job ∷ [])
     → due ≡ desk.due ++ headed_of head job ∷ []
     → ReadsMore desk (record desk { reader = reader; head = head; frames = frames; due = due; count = desk.count + 1 }) source after
 reads_job desk reader head frames due job source after none finds is =
