@@ -1,7 +1,7 @@
 -- What is promised of a command in the form for all commands, in the words of captures.
 use Rattle.std.specs.Prelude.{◌≡◌, ℕ, List, [], Option, Some, IfSome}
 use Rattle.std.proofs.Common.{sym, subst}
-use Rattle.ht_io.specs.Devices.{Device, Grows, GrowsByPart, Rose}
+use Rattle.ht_io.specs.Devices.{Device, Grows}
 use Rattle.ht_io.proofs.Calls.{takes_all-known}
 use Rattle.ht_cli.specs.declared.status.Status.TheVariants.{Done, Refused, ReadFault, WriteFault, NoMemory}
 use Rattle.ht_cli.specs.Streaming.{IsCapture, Streams, StreamsFront, StreamsLines, StreamsPart, StreamsRefused, StreamsWhole}
