@@ -4,6 +4,7 @@
 //! ht_bench decode PATTERN STEPS PERCENT COUNT          the decoder
 //! ht_bench plain_decode PATTERN STEPS PERCENT COUNT    the same, state by state
 //! ht_bench nearest STREAMS MODULATION NOISE DIAGONALS COUNT    the detector, on 256 jobs so often
+//! ht_bench drive WORKERS STREAMS MODULATION NOISE DIAGONALS COUNT    the drive, on the same jobs
 //! ht_bench reader STREAMS COUNT                        the reader, on one capture so often
 //! ```
 //!
@@ -17,13 +18,23 @@
 mod capturing;
 mod decoding;
 mod detecting;
+mod driving;
+mod jobs;
 mod random;
+mod rounds;
+mod sums;
 
 use std::alloc::{AllocError, Global};
+use std::sync::Wait;
+use std::thread::Threads;
 use std::{env, io};
 
 // The checksum of the line that the words choose, if they choose one.
-fn checksum(alloc: Global, words: &[String]) -> Result<Option<u64>, AllocError> {
+fn checksum<R: Threads + Wait + Sync>(
+    rt: &R,
+    alloc: Global,
+    words: &[String],
+) -> Result<Option<u64>, AllocError> {
     if let Some(line) = decoding::Line::from_words(words) {
         return Ok(Some(line.run(alloc)?));
     }
@@ -33,6 +44,9 @@ fn checksum(alloc: Global, words: &[String]) -> Result<Option<u64>, AllocError> 
     if let Some(line) = capturing::Line::from_words(words) {
         return Ok(Some(line.run(alloc)?));
     }
+    if let Some(line) = driving::Line::from_words(words) {
+        return Ok(Some(line.run(rt, alloc)?));
+    }
     Ok(None)
 }
 
@@ -41,7 +55,7 @@ fn main(rt: HostRuntime) -> io::Result<()> {
     for word in env::args(&rt)?.skip(1) {
         words.push(word)?;
     }
-    match checksum(rt.alloc(), &words)? {
+    match checksum(&rt, rt.alloc(), &words)? {
         Some(sum) => println!(rt; "{sum}"),
         None => println!(rt; "these words choose no line"),
     }
