@@ -2,6 +2,7 @@
 ghost use Rattle.std.specs.Prelude.{◌≤◌};
 
 use crate::random::Random;
+use crate::sums::folded;
 use ht_capture::{FrameHead, Item, Reader};
 use ht_io::SureSource;
 use ht_metric::Job;
@@ -120,8 +121,4 @@ fn with_job(start: u64, job: &Job) -> u64 {
         sum = folded(sum, u64::from(grid.i_ladder(stream) == Ladder::of(2, 0b10)));
     }
     sum
-}
-
-fn folded(sum: u64, number: u64) -> u64 {
-    (sum ^ number).wrapping_mul(0x100_0000_01b3)
 }

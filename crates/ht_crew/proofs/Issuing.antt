@@ -38,7 +38,8 @@ one_own t = record { issued = t.issued + 1; booked = t.booked + 1; own = t.own +
 pub same_helm : (h : JobHelm) → IsSameHelm h h
 same_helm h = record { room_is = refl; deques_are = refl; queue_is = refl }
 
-module _ (t : Tally) (w : WindowView) (h : JobHelm) (job : JobView) (tallies : Tallies t w h) (number : t.issued ≡ job.number) (last : job.number < 2 ^ 64 - 1) where
+module _ (t : Tally) (w : WindowView) (h : JobHelm) (job : JobView) (tallies : Tallies t w h) (number : t.issued ≡ job.number)
+    (last : job.number < 2 ^ 64 - 1) where
   -- it was given to the pool
   pub issues_given : (w' : WindowView) (h' : JobHelm) → w' ≡ issued w job → h' ≡ gave h job → IssuesJob job t w h (one_issued t) w' h'
   issues_given w' h' wi hi =

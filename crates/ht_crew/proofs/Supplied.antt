@@ -25,7 +25,8 @@ at_dropped (suc n) (y ∷ ys) x rest e = at_dropped n ys x rest e
 
 module _ {Fault : Type 0} where
   -- a job that is given is the one of its number, where all are told
-  job_at : (all : List JobView) (f f' : FeedView Fault) (job : JobView) → IsAlong all f → f.ended ≡ false → GivesJob f f' job → slice_get all job.number ≡ Some job
+  job_at : (all : List JobView) (f f' : FeedView Fault) (job : JobView) → IsAlong all f → f.ended ≡ false → GivesJob f f' job
+      → slice_get all job.number ≡ Some job
   job_at all f f' job along running gives =
       rest f'.left (subst (λ (left : Option (List JobView)). ComesFirst left f'.left job) (along.left running) gives.left)
     where

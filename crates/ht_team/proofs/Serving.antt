@@ -26,7 +26,8 @@ module _ {T A : Type 0} (asked : A → T) where
       )
 
   -- no task was found
-  pub balances-still : (ss ss' : List (SeatView T)) (o o' : OwnView T) (some : List A) → Gets ss o ss' o' None → Balances asked ss o some → Balances asked ss' o' some
+  pub balances-still : (ss ss' : List (SeatView T)) (o o' : OwnView T) (some : List A) → Gets ss o ss' o' None → Balances asked ss o some
+      → Balances asked ss' o' some
   balances-still ss ss' o o' some gets was h = omega (
     arith,
     gets.got h,

@@ -115,7 +115,8 @@ returns g c =
     ∙ (ap (λ (os : List (OwnView g.row.W-Task.Denot)). joined_rows os (rows_of c.take_apart.new.rows.items)) owners_are
     ∙ ap (λ (rs : List (List (SeatView g.row.W-Task.Denot))). joined_rows (p.own ∷ owns) rs) rows_are) in
     let waiting = c.learn.ensures.whole in
-    let ran_are = c.take_apart.ensures.ran ∙ (ap (λ (xs : List ℕ). xs ++ map (λ (m : Member g.row.W-Task.Denot g.row.W-Answer.Denot). m.ran) c.args.members.items)
+    let ran_are = c.take_apart.ensures.ran
+    ∙ (ap (λ (xs : List ℕ). xs ++ map (λ (m : Member g.row.W-Task.Denot g.row.W-Answer.Denot). m.ran) c.args.members.items)
     (c.push_reserved.ensures.items ∙ ap (λ (xs : List ℕ). xs ++ c.helm.inside.ran ∷ []) c.requires.space.ran.0)
     ∙ ap (λ (n : ℕ). n ∷ map (λ (m : Member g.row.W-Task.Denot g.row.W-Answer.Denot). m.ran) c.args.members.items)
     (c.helm.invariant.1 ∙ ap (λ (v : HelmView g.row.W-Task.Denot g.row.W-Answer.Denot). length v.taken) c.helm.view_is)) in

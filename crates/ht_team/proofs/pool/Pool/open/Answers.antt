@@ -76,6 +76,7 @@ returns-clause-opened g c =
       berths_are = c.seat_all.ensures.berths ids ready.0
           ∙ (ap (λ (xs : List DequeId). map (berth ids) xs) (sym rest) ∙ ap (λ (xs : List DequeId). berths xs) (sym deques));
       seats = search rules;
-      space = subst (λ (n : ℕ). IsVacant n (record { ran = c.in_ok-ran.ran; owners = c.seat_all.new.owners; rows = c.seat_all.new.rows; deques = c.in_ok-deques.deques }))
+      space = subst (λ (n : ℕ).
+          IsVacant n (record { ran = c.in_ok-ran.ran; owners = c.seat_all.new.owners; rows = c.seat_all.new.rows; deques = c.in_ok-deques.deques }))
           (sym workers) (record { ran = search rules; owners = search rules; rows = search rules; deques = search rules });
     }
