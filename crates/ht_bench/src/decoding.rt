@@ -7,7 +7,7 @@ use std::alloc::{AllocError, Global};
 
 /// Which decoder is run.
 #[derive(Clone, Copy)]
-enum Decoder {
+enum DecoderKind {
     Fast,
     Plain,
 }
@@ -15,7 +15,7 @@ enum Decoder {
 /// A codeword's form, how many of a hundred places are wrong, and how often it is decoded.
 #[derive(Drop)]
 pub struct Line {
-    decoder: Decoder,
+    decoder: DecoderKind,
     pattern: Pattern,
     steps: u32,
     percent: u64,
@@ -29,8 +29,8 @@ impl Line {
             return None;
         };
         let decoder = match decoder.as_str() {
-            "decode" => Decoder::Fast,
-            "plain_decode" => Decoder::Plain,
+            "decode" => DecoderKind::Fast,
+            "plain_decode" => DecoderKind::Plain,
             _ => return None,
         };
         let pattern = match pattern.as_str() {
@@ -87,8 +87,8 @@ impl Line {
             return Err(AllocError);
         }
         match self.decoder {
-            Decoder::Fast => decode(alloc, steps, pattern, received),
-            Decoder::Plain => plain_decode(alloc, steps, pattern, received),
+            DecoderKind::Fast => decode(alloc, steps, pattern, received),
+            DecoderKind::Plain => plain_decode(alloc, steps, pattern, received),
         }
     }
 }

@@ -8,7 +8,7 @@ use Rattle.ht_metric.specs.Jobs.{JobView, Found, found_at}
 use Rattle.ht_metric.specs.declared.hit.Hit.{Hit}
 use Rattle.ht_metric.proofs.Finding.{near_is}
 use Rattle.ht_crew.specs.Feeds.{GivesJob, TakesHit}
-use Rattle.ht_crew.specs.Lists.{Answer, answer, answer_of, Listed, IsListed, called, gave, took, shown, TakesInTurn}
+use Rattle.ht_crew.specs.Lists.{JobAnswer, answer, answer_of, Listed, IsListed, called, gave, took, shown, TakesInTurn}
 
 -- an entry that is there, behind those before it
 pub take_next : {A : Type 0} (xs : List A) (n : ℕ) (x : A) → slice_get xs n ≡ Some x → take (n + 1) xs ≡ take n xs ++ x ∷ []
@@ -61,7 +61,7 @@ pub hit_answers : (hit : Hit) → answer_of hit ≡ answer hit.job
 hit_answers hit =
     let found : Found = record { vector = hit.vector; distance = hit.distance } in
     let far : found ≡ found_at hit.job hit.vector = ap (λ (d : ℕ). let f : Found = record { vector = hit.vector; distance = d } in f) hit.far in
-    ap (λ (f : Found). let a : Answer = record { job = hit.job; found = f } in a) (far ∙ sym (near_is hit.job hit.vector hit.near))
+    ap (λ (f : Found). let a : JobAnswer = record { job = hit.job; found = f } in a) (far ∙ sym (near_is hit.job hit.vector hit.near))
 
 -- one more hit
 pub length_more : {A : Type 0} (xs : List A) (x : A) → length (xs ++ x ∷ []) ≡ length xs + 1
@@ -94,7 +94,7 @@ takes_in_turn a hit first =
     record {
       jobs = refl;
       taken = map-append answer_of a.taken (hit ∷ [])
-          ∙ (ap (λ (x : Answer). map answer_of a.taken ++ x ∷ []) (hit_answers hit)
+          ∙ (ap (λ (x : JobAnswer). map answer_of a.taken ++ x ∷ []) (hit_answers hit)
           ∙ ap (λ (jobs : List JobView). map answer_of a.taken ++ map answer jobs)
           (sym (ap (λ (m : ℕ). drop n (take m a.jobs)) (length_more a.taken hit) ∙ next)));
     }

@@ -7,16 +7,16 @@ use Rattle.ht_crew.specs.Feeds.{FeedView}
 use Rattle.ht_crew.specs.declared.list_fault.ListFault.{ListFault}
 
 -- a job and what was found for it
-pub record Answer : Type 0 where
+pub record JobAnswer : Type 0 where
   pub job : JobView
   pub found : Found
 
 -- what a hit says
-abbrev pub answer_of : Hit → Answer
+abbrev pub answer_of : Hit → JobAnswer
 answer_of hit = record { job = hit.job; found = record { vector = hit.vector; distance = hit.distance } }
 
 -- a job and its first nearest vector
-abbrev pub answer : JobView → Answer
+abbrev pub answer : JobView → JobAnswer
 answer job = record { job = job; found = near job }
 
 -- job k has number k

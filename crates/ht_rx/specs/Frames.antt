@@ -16,7 +16,7 @@ pub record HasLabels (f : FrameSoFar) : Type 0 where
   pub labels : length f.labels ≡ labels_in_frame f.head.rate f.head.length
 
 -- a frame of which a job is still to come; its sums can't leave their type
-pub record IsUnderWay (f : FrameSoFar) : Type 0 where
+pub record IsOpenFrame (f : FrameSoFar) : Type 0 where
   pub left : 1 ≤ f.left
   pub kept : HasLabels f
   pub data_room : f.data_sum + f.left * 2 ^ 66 ≤ 2 ^ 96

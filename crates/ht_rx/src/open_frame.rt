@@ -6,7 +6,7 @@ ghost use Rattle.ht_map.specs.Gray.{label_of};
 ghost use Rattle.ht_metric.specs.Jobs.{near};
 ghost use Rattle.ht_rate.specs.Rates.{carriers_of};
 ghost use Rattle.ht_results.specs.Folding.{frame_begun, frame_of, jobs_in_frame, kind_of, label_at, label_place, put_labels, result_of, with_kind, with_octets};
-ghost use Rattle.ht_rx.specs.Frames.{HasLabels, IsUnderWay};
+ghost use Rattle.ht_rx.specs.Frames.{HasLabels, IsOpenFrame};
 
 use crate::headed::no_head;
 use ht_capture::FrameHead;
@@ -34,14 +34,14 @@ pub struct OpenFrame {
 impl Model for OpenFrame {
     ghost use Rattle.std.specs.Prelude.{◌≤◌};
     ghost use Rattle.ht_results.specs.Folding.{FrameSoFar};
-    ghost use Rattle.ht_rx.specs.Frames.{IsUnderWay};
+    ghost use Rattle.ht_rx.specs.Frames.{IsOpenFrame};
 
     ghost Value = { FrameSoFar };
 
     ghost view = { λ f. record { head = f.head; data_sum = f.data_sum; pilot_sum = f.pilot_sum; labels = f.labels.items; left = f.left } };
 
     ghost invariant = { λ f. 1 ≤ f.left
-        → IsUnderWay (record { head = f.head; data_sum = f.data_sum; pilot_sum = f.pilot_sum; labels = f.labels.items; left = f.left }) };
+        → IsOpenFrame (record { head = f.head; data_sum = f.data_sum; pilot_sum = f.pilot_sum; labels = f.labels.items; left = f.left }) };
 }
 
 // The number of a frame's labels.
@@ -171,7 +171,7 @@ impl OpenFrame {
     fn begin(&mut self, head: &FrameHead) -> Result<(), AllocError>
         requires some { 1 ≤ head.now.length }
         ensures begun { OnOk result (self.new ≡ frame_begun head.now) }
-        ensures ready { OnOk result (IsUnderWay self.new) }
+        ensures ready { OnOk result (IsOpenFrame self.new) }
     {
         self.left = 0;
         self.labels.clear();
@@ -186,7 +186,7 @@ impl OpenFrame {
     /// Goes on with the frame that is under way, or begins the one with this head. The only error is lack of memory.
     pub fn enter(&mut self, head: &FrameHead) -> Result<(), AllocError>
         ensures entered { OnOk result (self.new ≡ frame_of head.now self.old) }
-        ensures ready { OnOk result (IsUnderWay self.new) }
+        ensures ready { OnOk result (IsOpenFrame self.new) }
     {
         if self.left == 0 {
             let head = FrameHead {
@@ -201,7 +201,7 @@ impl OpenFrame {
 
     /// Takes the hit of a job of the frame that is under way.
     pub fn add(&mut self, hit: &Hit)
-        requires ready { IsUnderWay self.old }
+        requires ready { IsOpenFrame self.old }
         ensures added { self.new ≡ with_kind hit.now.job self.old }
         ensures kept { HasLabels self.new }
     {

@@ -43,7 +43,7 @@ pub fn into_hit<L: Ledger>(job: Job, steps: &mut Steps<L>) -> Hit
     ensures near { near job ≡ record { vector = result.vector; distance = result.distance } }
     ensures steps { steps.new ≤ steps.old + 2 * inside_of job }
 {
-    let Found { vector, distance } = answer(&job, steps);
+    let NearestFound { vector, distance } = answer(&job, steps);
     Hit {
         job,
         vector,
@@ -53,14 +53,14 @@ pub fn into_hit<L: Ledger>(job: Job, steps: &mut Steps<L>) -> Hit
 
 // What is found for a job.
 #[derive(Clone, Copy)]
-struct Found {
+struct NearestFound {
     vector: Vector,
     distance: u128,
 }
 
 // The first nearest vector of a job, and its distance. It is kept out of line, so that the job stays where it is.
 #[inline(never)]
-fn answer<L: Ledger>(job: &Job, steps: &mut Steps<L>) -> Found
+fn answer<L: Ledger>(job: &Job, steps: &mut Steps<L>) -> NearestFound
     ensures near { IsNear job.now result.vector }
     ensures distance { result.distance ≡ distance_of job.now.system result.vector }
     ensures bound { result.distance < 2 ^ 66 }
@@ -69,7 +69,7 @@ fn answer<L: Ledger>(job: &Job, steps: &mut Steps<L>) -> Found
     let mut levels = [0i8; 8];
     let levels = &mut levels[..2 * usize::from(job.system().streams())];
     let distance = find(job, levels, steps);
-    Found {
+    NearestFound {
         vector: vector_of(levels),
         distance,
     }
