@@ -42,7 +42,8 @@ some_due jobs taken given job first =
     omega (arith, slice_get_within (jobs_from jobs taken (given - taken)) 0 job first, length_from jobs taken (given - taken))
 
 -- the first job due was taken
-pub takes : {Fault : Type 0} (feed : RoundsView) → feed.taken < feed.given → TakesHit {Fault = Fault} (shown feed) (shown (record feed { taken = feed.taken + 1 }))
+pub takes : {Fault : Type 0} (feed : RoundsView) → feed.taken < feed.given
+    → TakesHit {Fault = Fault} (shown feed) (shown (record feed { taken = feed.taken + 1 }))
 takes feed some =
     let count : ℕ = feed.given - (feed.taken + 1) in
     let more : feed.given - feed.taken ≡ suc count = omega (arith, some) in

@@ -53,7 +53,8 @@ one_job job (Pilot k) f = refl
 
 pub all_jobs : (jobs : List JobView) (f : FrameSoFar)
     → with_all f jobs
-    ≡ parts f (data_after f.head.rate jobs f.data_sum) (pilot_after f.head.rate jobs f.pilot_sum) (labels_after f.head.rate jobs f.labels) (f.left - length jobs)
+    ≡ parts f (data_after f.head.rate jobs f.data_sum) (pilot_after f.head.rate jobs f.pilot_sum) (labels_after f.head.rate jobs f.labels)
+    (f.left - length jobs)
 all_jobs [] f = ap (parts f f.data_sum f.pilot_sum f.labels) (omega arith)
 all_jobs (job ∷ jobs) f =
     let c : Carrier = kind_of f.head.rate job.place.carrier in

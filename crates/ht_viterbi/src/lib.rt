@@ -10,9 +10,9 @@
 //!
 //! [`decode`] keeps the costs of all 64 states, modulo 256, in the lanes of one vector, from the last step to the first,
 //! so that one way forwards gives the first of the nearest inputs. [`decode_received`] does the same with an octet for each
-//! place, a [`ReceivedBit`]. [`plain_decode`] answers the same state by state. The definitions are in `specs/Inputs.antt`: a minimum over all inputs, with no trellis in it. `specs/Decoded.antt` has
-//! the same as a function of what is received, over the list of all inputs. The laws that follow from them are in
-//! [`laws`].
+//! place, a [`ReceivedBit`]. [`plain_decode`] answers the same state by state. The definitions are in `specs/Inputs.antt`:
+//! a minimum over all inputs, with no trellis in it. `specs/Decoded.antt` has the same as a function of what is received,
+//! over the list of all inputs. The laws that follow from them are in [`laws`].
 #![tactic(auto)]
 
 mod branches;
