@@ -1,5 +1,5 @@
 -- The jobs due of a feed that goes over the same jobs again and again.
-use Rattle.std.proofs.Common.{◌≡◌, ℕ, zero, suc, ◌+◌, ◌-◌, ◌<◌, ◌≤◌, List, [], ◌∷◌, ◌++◌, length, drop, slice_get, Some, false, ap, ◌∙◌, sym, refl, arith}
+use Rattle.std.proofs.Common.{◌≡◌, ℕ, zero, suc, ◌+◌, ◌-◌, ◌<◌, List, [], ◌∷◌, ◌++◌, length, drop, slice_get, Some, false, ap, ◌∙◌, sym, refl, arith}
 use Rattle.std.proofs.lemmas.Option.{slice_get_within}
 use Rattle.ht_metric.specs.Jobs.{JobView}
 use Rattle.ht_crew.specs.Feeds.{GivesJob, TakesHit}
@@ -42,7 +42,8 @@ some_due jobs taken given job first =
     omega (arith, slice_get_within (jobs_from jobs taken (given - taken)) 0 job first, length_from jobs taken (given - taken))
 
 -- the first job due was taken
-pub takes : {Fault : Type 0} (feed : RoundsView) → feed.taken < feed.given → TakesHit {Fault = Fault} (shown feed) (shown (record feed { taken = feed.taken + 1 }))
+pub takes : {Fault : Type 0} (feed : RoundsView) → feed.taken < feed.given
+    → TakesHit {Fault = Fault} (shown feed) (shown (record feed { taken = feed.taken + 1 }))
 takes feed some =
     let count : ℕ = feed.given - (feed.taken + 1) in
     let more : feed.given - feed.taken ≡ suc count = omega (arith, some) in

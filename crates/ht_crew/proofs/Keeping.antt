@@ -1,5 +1,6 @@
 -- A job that the caller keeps: it is issued, run and taken at once.
-use Rattle.std.proofs.Common.{◌≡◌, ℕ, ◌+◌, ◌-◌, ◌<◌, ◌≤◌, ◌^◌, List, [], ◌∷◌, length, take, drop, true, false, Option, Some, None, ap, ◌∙◌, sym, refl, arith, rules}
+use Rattle.std.proofs.Common.{◌≡◌, ℕ, ◌+◌, ◌-◌, ◌<◌, ◌≤◌, ◌^◌, List, [], ◌∷◌, length, take, drop, true, false, Option, Some, None}
+use Rattle.std.proofs.Common.{ap, ◌∙◌, sym, refl, arith, rules}
 use Rattle.ht_metric.specs.declared.hit.Hit.{Hit}
 use Rattle.ht_metric.specs.Jobs.{JobView}
 use Rattle.ht_window.specs.Windows.{WindowView, front_hit}
