@@ -18,7 +18,7 @@ use Rattle.ht_crew.proofs.Booking.{waits_at_end}
 number_step : (n m k : ℕ) → k ≡ m → (if k == n then 1 else 0) + (if nat_lt n m then 1 else 0) ≤ (if nat_lt n (m + 1) then 1 else 0)
 number_step n m k e = grind (arith, nat_tests, e)
 
-below_more : (n m : ℕ) → (if nat_lt n m then 1 else 0) ≤ (if nat_lt n (m + 1) then 1 else 0)
+pub below_more : (n m : ℕ) → (if nat_lt n m then 1 else 0) ≤ (if nat_lt n (m + 1) then 1 else 0)
 below_more n m = grind (arith, nat_tests)
 
 -- one job more has the next number
@@ -32,7 +32,7 @@ told_more all (g ∷ given) job told at = (told.0, told_more all given job told.
 abbrev one_issued : Tally → Tally
 one_issued t = record { issued = t.issued + 1; booked = t.booked; own = t.own }
 
-abbrev one_own : Tally → Tally
+abbrev pub one_own : Tally → Tally
 one_own t = record { issued = t.issued + 1; booked = t.booked + 1; own = t.own + 1 }
 
 pub same_helm : (h : JobHelm) → IsSameHelm h h

@@ -9,4 +9,5 @@ mod Booking
 mod Issuing
 mod Supplied
 mod Leading
+mod Keeping
 mod Settling

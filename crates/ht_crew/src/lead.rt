@@ -10,6 +10,7 @@ use crate::caller::deliver;
 use crate::detect::Detect;
 use crate::feed::Feed;
 use crate::gate::Gate;
+use crate::keep::{is_kept, keep};
 use crate::pace::Pace;
 use crate::supply::supply;
 use crate::tally::Tally;
@@ -59,7 +60,11 @@ pub(crate) fn lead<R: Wait, F: Feed, G: Gate>(
         if !running && tally.booked == tally.issued {
             return Ok(());
         }
-        turn(window, helm, tally, &mut pace);
+        if tally.booked == tally.issued && is_kept(*tally, helm.room(), &pace) {
+            running = keep(work, window, helm, tally, &mut pace, running, feed)?;
+        } else {
+            turn(window, helm, tally, &mut pace);
+        }
     }
     unreachable!()
 }

@@ -18,6 +18,7 @@ mod detect;
 mod drive_fault;
 mod feed;
 mod gate;
+mod keep;
 pub mod laws;
 mod lead;
 mod list_fault;

@@ -8,14 +8,15 @@ ghost use Rattle.ht_crew.specs.Accounts.{Tallies, AreTold};
 use crate::detect::Detect;
 use crate::feed::Feed;
 use crate::gate::Gate;
+use crate::keep::is_kept;
 use crate::pace::Pace;
 use crate::tally::Tally;
 use crate::turn::issue;
 use ht_team::helm::Helm;
 use ht_window::Window;
 
-/// Asks the feed for jobs and issues them until the window is full or the feed has ended. Answers whether the feed
-/// goes on.
+/// Asks the feed for jobs and issues them until the window is full or the feed has ended. Where the caller keeps the next
+/// jobs for itself, it asks for none. Answers whether the feed goes on.
 pub(crate) fn supply<F: Feed, G: Gate>(
     work: &Detect<'_, G>,
     window: &mut Window,
@@ -49,6 +50,9 @@ pub(crate) fn supply<F: Feed, G: Gate>(
     ensures later { (F.shown feed.old).faults ≤ (F.shown feed.new).faults }
     ensures leads { F.leads feed.old feed.new }
 {
+    if is_kept(*tally, helm.room(), pace) {
+        return Ok(running);
+    }
     let mut running = running;
     while running && window.has_room() {
         match feed.next()? {

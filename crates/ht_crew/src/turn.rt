@@ -1,7 +1,7 @@
 //! What a caller does with one job or one hit.
-ghost use Rattle.std.specs.Prelude.{◌≡◌, ◌+◌, ◌-◌, ◌<◌, ◌≤◌, ◌^◌, true, length, IfSome, IfNone, IfErr, IsTrue, OnOk};
+ghost use Rattle.std.specs.Prelude.{◌≡◌, ◌+◌, ◌-◌, ◌<◌, ◌^◌, true, length, IfSome, IfNone};
 ghost use Rattle.ht_window.specs.Accepting.{IsUnbooked};
-ghost use Rattle.ht_team.specs.Helms.{IsSameHelm, gave};
+ghost use Rattle.ht_team.specs.Helms.{IsSameHelm};
 ghost use Rattle.ht_crew.specs.Accounts.{HasBooked, Tallies, IssuesJob, TakesTurn, sources};
 
 use crate::detect::Detect;
@@ -26,27 +26,7 @@ pub(crate) fn book(window: &mut Window, hit: Hit) -> bool
     }
 }
 
-// Whether the caller keeps the next job for itself: where jobs are cheap, once the pool was given as many as it has room
-// for.
-fn is_kept(tally: Tally, room: u16, pace: &Pace) -> bool
-    requires some { tally.own ≤ tally.issued }
-    ensures { IsTrue result → room ≤ tally.issued - tally.own }
-{
-    u64::from(room) <= tally.issued - tally.own && pace.is_quick()
-}
-
-// Gives a job to the pool. It comes back where the caller keeps it, or the pool has no memory for it.
-fn offer<G: Gate>(helm: &mut Helm<'_, Detect<'_, G>>, kept: bool, job: Job) -> Result<(), Job>
-    requires kept { IsTrue kept → helm.old.room ≤ length helm.old.given }
-    ensures given { OnOk result (helm.new ≡ gave helm.old job) }
-    ensures back { IfErr result (λ back. back ≡ job) }
-    ensures same { IfErr result (λ _. helm.new ≡ helm.old) }
-    ensures room { IfErr result (λ _. helm.old.room ≤ length helm.old.given) }
-{
-    if kept { Err(job) } else { helm.give(job) }
-}
-
-/// Issues a job and gives it to the pool, or runs it where jobs are cheap, and where the pool has no memory for it.
+/// Issues a job and gives it to the pool, or runs it where the pool has no memory for it.
 pub(crate) fn issue<G: Gate>(
     work: &Detect<'_, G>,
     window: &mut Window,
@@ -62,10 +42,9 @@ pub(crate) fn issue<G: Gate>(
     requires tallies { Tallies tally.old window.old helm.old }
     ensures issues { IssuesJob job tally.old window.old helm.old tally.new window.new helm.new }
 {
-    let kept = is_kept(*tally, helm.room(), pace);
     window.issue(job.copy());
     tally.issued += 1;
-    if let Err(back) = offer(helm, kept, job) {
+    if let Err(back) = helm.give(job) {
         let hit = work.run(back);
         pace.see(&hit);
         book(window, hit);

@@ -11,8 +11,8 @@ use crate::own::OwnDeque;
 use crate::seat::Seat;
 use crate::shared::{AnswerPass, Shared};
 use crate::work::Work;
+use crossbeam_utils::Backoff;
 use std::sync::Wait;
-use std::thread;
 
 // Runs tasks and puts their answers on the queue, until no task comes any more and none is left. Answers how many it
 // ran.
@@ -39,6 +39,7 @@ fn run_tasks<W: Work, R: Wait>(
     ensures ran { result.1 ≡ length (answer_view result.0).pushed }
 {
     let mut ran = 0u64;
+    let backoff = Backoff::new();
     for _ in rt.forever() {
         let last = shared.is_finished();
         if ran == u64::MAX {
@@ -48,12 +49,13 @@ fn run_tasks<W: Work, R: Wait>(
             Some(task) => {
                 pass = shared.deliver(rt, pass, work.run(task));
                 ran += 1;
+                backoff.reset();
             }
             None => {
                 if last {
                     return (pass, ran);
                 }
-                thread::yield_now();
+                backoff.snooze();
             }
         }
     }

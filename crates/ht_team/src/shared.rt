@@ -7,11 +7,10 @@ ghost use Rattle.ht_team.specs.Members.{queue_of, IsOnQueue};
 use crate::hand::Hand;
 use crate::rule::{CountingRule, Cut, Push, Take, Whole};
 use crossbeam_queue::{Pass, RuledArrayQueue};
-use crossbeam_utils::CachePadded;
+use crossbeam_utils::{Backoff, CachePadded};
 use std::marker::Model;
 use std::sync::Wait;
 use std::sync::atomic::{AtomicBool, Ordering};
-use std::thread;
 
 /// The queue of answers, with a bound on how many it holds.
 pub type AnswerQueue<A> = RuledArrayQueue<A, Hand<A>, CountingRule>;
@@ -127,12 +126,13 @@ fn deliver<A: Drop, R: Wait>(
     ensures pushed { view result ≡ hand (view pass).parts ((view pass).pushed ++ answer ∷ []) (view pass).taken }
 {
     let mut answer = answer;
+    let backoff = Backoff::new();
     for _ in rt.forever() {
         match answers.try_push_as::<Push>(&mut pass, answer) {
             Ok(()) => return pass,
             Err(back) => answer = back,
         }
-        thread::yield_now();
+        backoff.snooze();
     }
     unreachable!()
 }

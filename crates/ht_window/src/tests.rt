@@ -85,3 +85,13 @@ fn two_slots(rt: HostRuntime) -> Result<(), Fail> {
     }
     Ok(())
 }
+
+#[test]
+fn without_booking(rt: HostRuntime) -> Result<(), Fail> {
+    let mut window = Window::new(rt.alloc(), 1, 7)?;
+    window.issue(job(7, 3));
+    let first = window.withdraw().map(|job| job.number());
+    assert_eq!(rt; first, Some(7));
+    assert!(rt; window.withdraw().is_none());
+    Ok(())
+}

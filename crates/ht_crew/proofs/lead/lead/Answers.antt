@@ -43,3 +43,32 @@ loop-preserved g c =
           (c.supply.ensures.told jobs (before.along jobs told) (before.told jobs told));
       leads = go c.args.feed.now c.supply.new.feed c.deliver.new.feed supplied c.deliver.ensures.leads;
     }
+
+pub returns-in_err-running-2-clause-leads : goal.returns-in_err-running-2-clause-leads
+returns-in_err-running-2-clause-leads g c =
+    let go = g.met.F.Feed.goes_on in
+    let supplied = go c.args.feed.now c.loop.feed c.supply.new.feed c.loop.invariant.leads c.supply.ensures.leads in
+    go c.args.feed.now c.deliver.new.feed c.keep.new.feed
+    (go c.args.feed.now c.supply.new.feed c.deliver.new.feed supplied c.deliver.ensures.leads) c.keep.ensures.leads
+
+pub loop-preserved-then-is_kept : goal.loop-preserved-then-is_kept
+loop-preserved-then-is_kept g c =
+    let go = g.met.F.Feed.goes_on in
+    let before = c.loop.invariant in
+    let kept = c.in_ok-running-2.ensures in
+    let supplied = go c.args.feed.now c.loop.feed c.supply.new.feed before.leads c.supply.ensures.leads in
+    record {
+      holds = kept.holds;
+      tallies = kept.tallies;
+      issued = kept.issued;
+      goes_on = kept.running;
+      capacity = c.keep.ensures.capacity ∙ (c.deliver.ensures.capacity ∙ (c.supply.ensures.capacity ∙ before.capacity));
+      same = same_on c.args.helm.now c.loop.helm c.supply.new.helm before.same c.supply.ensures.same;
+      bound = kept.bound;
+      later = omega (arith, before.later, c.supply.ensures.later, c.deliver.ensures.later, c.keep.ensures.later);
+      failed = search rules;
+      along = λ jobs told. kept.along jobs (c.deliver.ensures.along jobs (c.in_ok-running.ensures.along jobs (before.along jobs told)));
+      told = λ jobs told. c.supply.ensures.told jobs (before.along jobs told) (before.told jobs told);
+      leads = go c.args.feed.now c.deliver.new.feed c.keep.new.feed
+          (go c.args.feed.now c.supply.new.feed c.deliver.new.feed supplied c.deliver.ensures.leads) c.keep.ensures.leads;
+    }
