@@ -9,7 +9,7 @@ pub struct Channel {
 }
 
 impl Channel {
-    /// The channel of so many streams whose triangle the octets are, row by row.
+    /// The channel of a number of streams whose triangle the octets are, row by row.
     pub fn of(streams: usize, octets: &[u8]) -> Self {
         let mut numbers = octets.chunks_exact(2).map(|pair| u16::from_be_bytes([pair[0], pair[1]]));
         let mut channel = Channel { diagonal: Vec::new(), above: Vec::new() };

@@ -38,7 +38,7 @@ impl Random {
         values[self.below(values.len())]
     }
 
-    /// True once in so many draws.
+    /// True once in this number of draws, on the average.
     pub fn once_in(&mut self, count: usize) -> bool {
         self.below(count) == 0
     }

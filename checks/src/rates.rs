@@ -56,7 +56,7 @@ impl Rate {
         if self.wide && [21, 22, 23, 28, 29, 30, 31].contains(&self.mcs) { 2 } else { 1 }
     }
 
-    /// The number of symbols of a frame of so many octets.
+    /// The number of symbols of a frame of a number of octets.
     pub fn symbols(self, length: u16) -> u32 {
         let of_a_stream =
             if self.wide { [54, 108, 162, 216, 324, 432, 486, 540] } else { [26, 52, 78, 104, 156, 208, 234, 260] };

@@ -20,7 +20,7 @@ pub struct Sum {
     pub cases: u64,
 }
 
-/// A check fails where fewer than one in so many cases could be run in its time.
+/// A check fails where fewer than one case in this number could be run in its time.
 const LEAST: u64 = 10;
 
 impl Sum {

@@ -13,8 +13,8 @@ usage: checks/inputs [--seed N] [--count N] [--from N] [--seconds N]
        checks/inputs [--seed N] --show N > FILE
 
 Runs every command on files made and spoiled at random, from a seed (1), COUNT
-of them (20000), the first of which has the number FROM (0), for at most so many
-seconds (90). --show writes the input with a number, to try it by hand.
+of them (20000), the first of which has the number FROM (0), for at most SECONDS
+(90). --show writes the input with a number, to try it by hand.
 ";
 
 /// Of one input the most memory that a run may hold, in kilobytes.

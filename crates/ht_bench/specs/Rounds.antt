@@ -15,7 +15,7 @@ pub record RoundsView : Type 0 where
 abbrev pub rounds : List JobView → ℕ → ℕ → ℕ → Bool → RoundsView
 rounds jobs given taken all ended = record { jobs = jobs; given = given; taken = taken; all = all; ended = ended }
 
--- a feed of so many jobs in all that has given none
+-- a feed of this number of jobs in all that has given none
 abbrev pub fresh : List JobView → ℕ → RoundsView
 fresh jobs all = rounds jobs 0 0 all false
 
@@ -33,7 +33,7 @@ no_job = record { number = 0; place = record { frame = 0; symbol = 0; carrier = 
 abbrev pub job_at : List JobView → ℕ → JobView
 job_at jobs number = record (get_or jobs (number % 256) no_job) { number = number }
 
--- so many jobs, from this number on
+-- a number of jobs, numbered from this number on
 abbrev pub jobs_from : List JobView → ℕ → ℕ → List JobView
 jobs_from jobs number zero = []
 jobs_from jobs number (suc count) = job_at jobs number ∷ jobs_from jobs (number + 1) count

@@ -29,7 +29,7 @@ def steps(rate: Rate, length: int) -> int:
 
 @lru_cache(maxsize=8)
 def kept_places(rate: Rate, count: int) -> np.ndarray:
-    """Which of the coded bits A0 B0 A1 B1 .. of so many steps are kept (clauses 18.3.5.6 and 20.3.11.6): int64, ascending."""
+    """Which of the coded bits A0 B0 A1 B1 .. of a number of steps are kept (clauses 18.3.5.6 and 20.3.11.6): int64, ascending."""
     pattern = KEPT[rate.coding_rate.denominator]
     period = max(step for step, _ in pattern) + 1
     places = np.array([2 * step + half for step, half in pattern])

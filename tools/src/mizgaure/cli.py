@@ -98,7 +98,7 @@ def parser() -> argparse.ArgumentParser:
     c.add_argument("answers", metavar="ANSWERS", help="lines 'job FRAME SYMBOL CARRIER I Q ..' and 'frame N octets HEX'; - is standard input")
     c.add_argument("--reference", metavar="LINES", help="kept lines of radio detect and radio rx, in place of running it")
     c.add_argument("--json", metavar="FILE", help="write all verdicts as JSON lines")
-    c.add_argument("--list", metavar="N", type=_count, default=10, help="print at most so many of the worst jobs (default 10)")
+    c.add_argument("--list", metavar="N", type=_count, default=10, help="print at most N of the worst jobs (default 10)")
     c.add_argument("--complete", action="store_true", help="end with status 1 also where a job has no answer")
 
     c = command("capture", _capture, "make a capture from channels and received vectors in floating point", output=True)

@@ -173,7 +173,7 @@ class Judgement:
         return not (jobs[WORSE] or jobs[OUTSIDE] or frames[WRONG])
 
     def worst(self, count: int) -> List[dict]:
-        """The records of so many jobs that are outside or worse, the farthest first."""
+        """The records of at most this number of jobs that are outside or worse, the farthest first."""
         records = [record for part in self.jobs for record in part.records() if record["verdict"] in (WORSE, OUTSIDE)]
         records.sort(key=lambda record: record["least"] - record["distance"] if record["verdict"] == WORSE else -(2**70))
         return records[:count]

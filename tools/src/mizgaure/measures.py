@@ -33,7 +33,7 @@ QUANTILE_95 = 1.959963984540054  # of the normal distribution, at 0.975
 
 @dataclass(frozen=True)
 class Proportion:
-    """So many events of so many.
+    """A number of events in a number of trials.
 
     Parameters
     ----------

@@ -80,7 +80,7 @@ def check_ending(target: Target) -> str:
 
 
 def _drawn(Figure, rows: int, columns: int, width: float, height: float):
-    """A figure with panels of so many inches each, and room for its title and its legend."""
+    """A figure with panels of a given size in inches, and room for its title and its legend."""
     across = LEFT + columns * width + (columns - 1) * GAP + RIGHT
     down = HEAD + rows * height + (rows - 1) * GAP + FOOT
     figure = Figure(figsize=(across, down))

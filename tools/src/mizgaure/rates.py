@@ -160,7 +160,7 @@ class Rate:
         return float(self.power) ** -0.5
 
     def pilot_signs(self, symbols: int, first: int = 0) -> np.ndarray:
-        """The signs of the pilots of so many symbols, from symbol ``first`` on: int8, shape (symbols, pilots, streams), 1 or -1."""
+        """The signs of the pilots of a number of symbols, from symbol ``first`` on: int8, shape (symbols, pilots, streams), 1 or -1."""
         n = np.arange(first, first + symbols)[:, None, None]
         k = np.arange(self.pilots)[None, :, None]
         stream = np.arange(1, self.streams + 1)[None, None, :]
