@@ -61,7 +61,7 @@ impl Call {
         match ran.code() {
             _ if !ran.said.is_empty() => Err(format!("it said '{}'", ran.said.trim_end())),
             Some(5) if may_stand => Ok("ended with status 5"),
-            Some(code) if code == self.code && ran.text == self.text => Ok("ended as ever"),
+            Some(code) if code == self.code && ran.text == self.text => Ok("ended as usual"),
             _ => Err(format!("{} and '{}'", ran.ended(), String::from_utf8_lossy(&ran.text))),
         }
     }
@@ -140,7 +140,7 @@ fn main() {
     for (place, call) in calls.iter().enumerate() {
         let of = |kind: &str, end: &str| ends.get(&(place, kind, end)).copied().unwrap_or(0);
         let counts = |kind: &str| {
-            format!("{} with status 5, {} as ever", of(kind, "ended with status 5"), of(kind, "ended as ever"))
+            format!("{} with status 5, {} as usual", of(kind, "ended with status 5"), of(kind, "ended as usual"))
         };
         println!(
             "memory: `{}`, {} growths. One refused: {}. All from one on: {}. Little to map: {}.",
@@ -150,7 +150,7 @@ fn main() {
             counts("REFUSE_FROM"),
             counts("REFUSE_BEYOND")
         );
-        if call.threads == Threads::Several && of("REFUSE_ONE", "ended as ever") == 0 {
+        if call.threads == Threads::Several && of("REFUSE_ONE", "ended as usual") == 0 {
             let wrong = format!("`{}` gives up at growths that it can do without", call.words.join(" "));
             sum.failed.push((place as u64, wrong));
         }

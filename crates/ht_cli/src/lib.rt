@@ -47,9 +47,8 @@ use std::thread::Threads;
 /// Runs the command that the words name, and answers how it ended.
 ///
 /// The words come without the program's name. The lines of a symbol are put once its jobs were run, and the line of a
-/// frame once all its jobs were. The clauses on
-/// octets speak of some octets that the call took: of those that the source had left, where they are known, as those in
-/// memory are; those of standard input and output aren't. The gate is called before and after each job.
+/// frame once all its jobs were. The clauses on octets speak of some octets that the call took: of those that the source
+/// had left, where they are known, as those in memory are; those of standard input and output aren't. The gate is called before and after each job.
 ///
 /// Where the words ask for two workers or more, the jobs are run in as many threads, of which the caller's is one, and
 /// the call waits for them; else it does as [`run_alone`]. Where memory runs out before it is known what the words ask

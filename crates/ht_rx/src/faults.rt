@@ -1,11 +1,11 @@
-//! What listing a capture comes to.
+//! What going through a capture comes to.
 ghost use Rattle.std.specs.Prelude.{◌≡◌};
 
 use ht_io::{Failed, FormatFault};
 use std::alloc::AllocError;
 use thiserror::Error;
 
-/// Why a listing can't go on.
+/// Why a feed over a capture can't go on.
 #[derive(Clone, Copy, Debug, PartialEq, Eq, Error)]
 pub enum FeedFault {
     /// The sink failed.
@@ -36,7 +36,7 @@ impl From<Failed> for FeedFault {
     }
 }
 
-/// How a listing ended that wrote all that it had to.
+/// How the reading of a capture ended, where all was put that had to be.
 #[derive(Clone, Copy, Debug, PartialEq, Eq)]
 pub enum Ended {
     /// The input is a capture with this number of frames and of jobs.
@@ -45,7 +45,7 @@ pub enum Ended {
     Refused(FormatFault),
 }
 
-/// Why a listing didn't write all that it had to.
+/// Why not all was put that had to be.
 #[derive(Clone, Copy, Debug, PartialEq, Eq, Error)]
 pub enum RxFault {
     /// The source failed.

@@ -15,7 +15,7 @@
 //! data subcarriers are decoded by crate `ht_inverse`.
 //!
 //! What must be put for a list of octets is a definition over the octets alone: `lines_of`, and with the last line
-//! `detect_text`, in `specs/Texts.antt`; `frame_lines_of` and `rx_text` in `specs/Frames.antt`.
+//! `detect_text`, in `specs/Texts.antt`; `frame_lines_of` and `rx_text` in `specs/Texts.antt` of `ht_results`.
 //!
 //! The capture `examples/z.htcp` has one frame of two symbols; its lines are
 //!

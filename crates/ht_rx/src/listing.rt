@@ -16,8 +16,8 @@ use std::thread::Threads;
 /// Reads a capture from the source, and puts a line into the sink for each job of each symbol that is whole before
 /// the capture's first fault: its place, the distance of its first nearest vector, and that vector.
 ///
-/// Every job runs in this thread, between the two calls of the gate. At most `window` jobs, 1 to 4096, were read and
-/// not yet written at any moment. Nothing of the capture is kept but the triangles of a frame, the samples of a
+/// Every job runs in this thread, between the two calls of the gate. At most `window` jobs, 1 to 4096, were given and
+/// not yet taken at any moment. Nothing of the capture is kept but the triangles of a frame, the samples of a
 /// symbol, these jobs and the lines of one symbol.
 ///
 /// It answers `Done` for a capture, and `Refused` with the first fault of an input that is none. It refuses with

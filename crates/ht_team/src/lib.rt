@@ -6,10 +6,11 @@
 //! receives answers. [`beside`](crew::beside) runs the workers, each in a thread of its own, while the caller works at
 //! its helm in the thread that called. [`close`](close::close) then joins what all have done.
 //!
-//! Tasks go through a deque (crate `crossbeam_deque`) that only the caller pushes on, and answers through a queue with a
-//! bound (`crossbeam_queue`). Each worker has a pass on both, which remembers in proofs what was pushed and taken with
-//! it. So [`close`](close::close) can say what the threads did, in whatever order they ran: each task that was given was
-//! run once, by the caller or by a worker, no task is left, and every answer was received.
+//! Tasks go through deques (crate `crossbeam_deque`): the caller pushes on its own, and each worker moves tasks from
+//! another's deque to its own. Answers go through a queue with a bound (`crossbeam_queue`). Each thread has a seat at every
+//! deque and a pass on the queue, which remember in proofs what was pushed and taken with them. So
+//! [`close`](close::close) can say what the threads did, in whatever order they ran: each task that was given was run once,
+//! by the caller or by a worker, no task is left, and every answer was received.
 //!
 //! With three workers beside the caller and the tasks 0 to 9 to square, the numbers of tasks run may come out as
 //! 4, 2, 3 and 1, the caller's first: they add up to 10, and so do those of any other run.
