@@ -1,5 +1,6 @@
 -- How many heads and jobs come at most.
-use Rattle.std.proofs.Common.{◌≡◌, ◌⊎◌, ℕ, zero, suc, ◌+◌, ◌-◌, ◌*◌, ◌<◌, ◌≤◌, Bool, true, false, ◌||◌, nat_lt, refl, ap, ◌∙◌, inl, inr, arith}
+use Rattle.std.proofs.Common.{◌≡◌, ◌⊎◌, ℕ, zero, suc, ◌+◌, ◌-◌, ◌*◌, ◌<◌, ◌≤◌, true, ◌||◌, nat_lt, refl, ap, ◌∙◌, inl, inr, arith}
+use Rattle.std.proofs.lemmas.Bool.{or_cases}
 use Rattle.std.proofs.lemmas.Bool.Decides.{nat_tests}
 use Rattle.std.proofs.Math.Nat.{mul-le-mul_left, mul-le-mul_right}
 use Rattle.ht_rate.specs.declared.rates.Rate.{Rate}
@@ -7,10 +8,6 @@ use Rattle.ht_rate.specs.Rates.{streams_of, data_carriers_of, pilots_of, carrier
 use Rattle.ht_rate.specs.Rates.{coded_bits_of, data_bits_of, modulation_of, pattern_of, needed_bits_of}
 use Rattle.ht_rate.proofs.AllRates.{each_bandwidth, each_streams, each_scheme, each_rate, at_rate}
 use Rattle.ht_rate.proofs.RateFacts.{encoders_of-range, carriers_of-range}
-
-either : (a b : Bool) → (a || b) ≡ true → (a ≡ true) ⊎ (b ≡ true)
-either true b e = inl refl
-either false b e = inr e
 
 less : (x y : ℕ) → nat_lt x y ≡ true → x < y
 less x y e = grind (arith, nat_tests)
@@ -20,7 +17,7 @@ few_or_fast : (r : Rate) → (carriers_of r < 57) ⊎ (53 < data_bits_of r)
 unfolding carriers_of pilots_of data_bits_of pattern_of coded_bits_of streams_of stream_bits_of data_carriers_of label_bits_of modulation_of
     each_bandwidth each_streams each_scheme each_rate
 few_or_fast r =
-    elim (either (nat_lt (carriers_of r) 57) (nat_lt 53 (data_bits_of r)) (at_rate (λ r. nat_lt (carriers_of r) 57 || nat_lt 53 (data_bits_of r)) refl r)) [
+    elim (or_cases (nat_lt (carriers_of r) 57) (nat_lt 53 (data_bits_of r)) (at_rate (λ r. nat_lt (carriers_of r) 57 || nat_lt 53 (data_bits_of r)) refl r)) [
       | inl e ↦ inl (less (carriers_of r) 57 e)
       | inr e ↦ inr (less 53 (data_bits_of r) e)
     ]

@@ -188,7 +188,8 @@ sample_back octets at enough bytes =
     let second : List ℕ = big_bytes 4 (cast_unsigned w32 (cast_signed w32 (big_number 4 (drop (at + 4) octets)))) in
     (re.0, im.0, append_assoc first second (drop (at + 8) octets) ∙ (ap (λ (z : List ℕ). first ++ z) (ap (λ n. second ++ drop n octets) (sym e) ∙ im.1) ∙ re.1))
 
-samples_more : (xs : List Sample) (s : Sample) → AreSamples xs → FitsSigned w32 s.re → FitsSigned w32 s.im → AreSamples (xs ++ s ∷ [])
+-- one sample more
+pub samples_more : (xs : List Sample) (s : Sample) → AreSamples xs → FitsSigned w32 s.re → FitsSigned w32 s.im → AreSamples (xs ++ s ∷ [])
 samples_more [] s typed f g = (f, g, tt)
 samples_more (x ∷ xs) s typed f g = (typed.0, typed.1, samples_more xs s typed.2 f g)
 

@@ -27,6 +27,7 @@ use Rattle.ht_capture.specs.Erased.{flag_at}
 use Rattle.ht_fields.proofs.Steps.{early_end, good_field}
 use Rattle.ht_fields.proofs.Readers.{field_is}
 use Rattle.ht_rate.proofs.RateFacts.{streams_of-range, carriers_of-range}
+use Rattle.ht_capture.proofs.Encoded.{only_one}
 use Rattle.ht_capture.proofs.Judges.{zero_flag, flag_good, flag_bad, good_triangle}
 use Rattle.ht_capture.proofs.Turns.{flag_is, triangle_is, none_given, one_given}
 use Rattle.ht_fields.specs.Tests.{octet_of}
@@ -98,10 +99,6 @@ join head mid h c octets rest r low bit is m =
         subst (λ (k : ℕ). (bit_at h.erased k ≡ 1) ↔ (flag_at (triangle_octets (streams_of head.rate)) (suc i) octets ≡ 1)) place
         (subst (λ (o : List ℕ). (bit_at h.erased ((c + 1) + i) ≡ 1) ↔ (flag_at (triangle_octets (streams_of head.rate)) i o ≡ 1)) (sym is)
         (subst (λ (w : ℕ). (bit_at h.erased ((c + 1) + i) ≡ 1) ↔ (flag_at w i rest ≡ 1)) wide (m.here i within)))
-
-at_most_one : (head : FrameHead) (c count y : ℕ) → 1 ≤ y → bad_flag head c count y ≡ false → y ≡ 1
-unfolding bad_flag
-at_most_one head c count y some b = grind (arith, nat_tests)
 
 bit_cases : (b : Bool) → (b ≡ true) ⊎ (b ≡ false)
 bit_cases true = inl refl
@@ -209,7 +206,7 @@ marked turn head h c at present (y ∷ ys) more lt none goes e = by_flag (bit_ca
     by_flag (inr z) (inr b) =
         let w = triangle_octets (streams_of head.rate) in
         let some : 1 ≤ y = grind (arith, nat_tests) in
-        let one : y ≡ 1 = at_most_one head c (length present) y some b in
+        let one : y ≡ 1 = only_one head c (length present) y (sym b) some in
         let mid = erase head c in
         let is = judged_items _ (Good (carriers_due turn mid (c + 1) present) (head_given mid (c + 1))) at ys
         (Frame h ∷ more) _ (judged_flag turn head c at y present ys) (flag_good turn head c present y some b) e in

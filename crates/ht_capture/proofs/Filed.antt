@@ -30,10 +30,10 @@ use Rattle.ht_capture.specs.Contents.{items_from, items_of, job_of, presents, pr
 use Rattle.ht_capture.proofs.Grids.{ones}
 use Rattle.ht_capture.proofs.Turns.{over_is, symbol_good}
 use Rattle.ht_capture.proofs.Decoded.{behind_more, length-samples, rows_read}
-use Rattle.ht_capture.proofs.Written.{samples_split}
 use Rattle.ht_capture.proofs.Routes.{Route, behind_length, behind_typed, first_turn, none_erased, given_with, route_as, route_field, route_flagged}
 use Rattle.ht_capture.proofs.Routes.{route_from, route_gives, route_head, route_none, route_plain, route_start, route_then, with_erased}
 use Rattle.ht_fields.proofs.Choices.{when_true, when_false}
+use Rattle.ht_fields.proofs.Putting.{map_split}
 
 -- a system for each of these subcarriers
 abbrev AreHeld : ℕ → List Present → Type 0
@@ -67,12 +67,13 @@ length-presents zero k e ts = refl
 length-presents (suc n) k e ts = length-step (is_erased e k) k (present_among n (k + 1) e) ts _
     (length-presents n (k + 1) e (triangles_behind (is_erased e k) ts))
 
-samples_behind : (n : ℕ) (samples : List Sample) → AreSamples samples → AreSamples (drop n samples)
+-- samples that are numbers of the machine stay so in each part
+pub samples_behind : (n : ℕ) (samples : List Sample) → AreSamples samples → AreSamples (drop n samples)
 samples_behind zero samples typed = typed
 samples_behind (suc n) [] typed = tt
 samples_behind (suc n) (s ∷ ss) typed = samples_behind n ss typed.2
 
-samples_before : (n : ℕ) (samples : List Sample) → AreSamples samples → AreSamples (take n samples)
+pub samples_before : (n : ℕ) (samples : List Sample) → AreSamples samples → AreSamples (take n samples)
 samples_before zero samples typed = tt
 samples_before (suc n) [] typed = tt
 samples_before (suc n) (s ∷ ss) typed = (typed.0, typed.1, samples_before n ss typed.2)
@@ -107,7 +108,7 @@ jobs_read head symbol number (p ∷ ps) samples octets rest at held few is typed
     let one : n ≤ length samples = omega (arith, few, total) in
     let size : length (flat_map sample_octets (take n samples)) ≡ 8 * n = length-samples (take n samples) ∙ ap (λ k. 8 * k) (length-take-le n samples one) in
     let parted : drop at octets ≡ flat_map sample_octets (take n samples) ++ (flat_map sample_octets (drop n samples) ++ rest) =
-    is ∙ (ap (λ z. z ++ rest) (sym (samples_split samples n))
+    is ∙ (ap (λ z. z ++ rest) (sym (map_split sample_octets samples n))
     ∙ append_assoc (flat_map sample_octets (take n samples)) (flat_map sample_octets (drop n samples)) rest) in
     let next : drop (at + 8 * n) octets ≡ flat_map sample_octets (drop n samples) ++ rest =
     behind_more octets (flat_map sample_octets (take n samples)) _ at (8 * n) parted size in
@@ -184,7 +185,7 @@ route_behind (suc n) last turn head symbol number present samples sum end held s
     (length-take-le w samples enough) (samples_before w samples typed) in
     let behind = route_behind n last turn head (symbol + 1) (number + c) present (drop w samples) next more held some rest (samples_behind w samples typed) in
     route_from _ _ _ _ _ (symbol_more turn head symbol number c present (omega (arith, sum)))
-    (route_as _ _ _ _ _ (samples_split samples w) (route_then _ _ _ _ _ _ _ front behind))
+    (route_as _ _ _ _ _ (map_split sample_octets samples w) (route_then _ _ _ _ _ _ _ front behind))
 
 -- the symbols of a frame
 pub route_symbols : (n last : ℕ) (turn : Turn) (head : FrameHead) (number : ℕ) (present : List Present) (samples : List Sample)
@@ -204,7 +205,7 @@ route_symbols (suc n) last turn head number present samples is one end held some
     let rest : length (drop w samples) ≡ n * w = omega (arith, all, split, length-drop w samples) in
     let front = symbol_step turn head 0 number present (take w samples) held some (length-take-le w samples enough) (samples_before w samples typed) in
     let behind = route_behind n last turn head 0 number present (drop w samples) next more held some rest (samples_behind w samples typed) in
-    route_as _ _ _ _ _ (samples_split samples w) (route_then _ _ _ _ _ _ _ front behind)
+    route_as _ _ _ _ _ (map_split sample_octets samples w) (route_then _ _ _ _ _ _ _ front behind)
 
 none_fails : (n needed bits : ℕ) → 1 ≤ needed → needed ≤ n * bits → 1 ≤ n
 none_fails zero needed bits some le = let e : 0 * bits ≡ 0 = omega arith in absurd (omega (arith, some, le, e))

@@ -1,6 +1,7 @@
 -- A frame that was read.
-use Rattle.std.proofs.Common.{◌≡◌, ◌⊎◌, inl, inr, ℕ, ◌+◌, ◌*◌, ◌-◌, ◌≤◌, List, [], ◌∷◌, ◌++◌, length, take, flat_map}
-use Rattle.std.proofs.Common.{All, Bool, true, false, nat_eq, ◌||◌, refl, sym, ap, subst, ◌∙◌, append_assoc, arith}
+use Rattle.std.proofs.Common.{◌≡◌, inl, inr, ℕ, ◌+◌, ◌*◌, ◌-◌, ◌≤◌, List, [], ◌∷◌, ◌++◌, length, take, flat_map}
+use Rattle.std.proofs.Common.{All, true, nat_eq, sym, ap, subst, ◌∙◌, append_assoc, arith}
+use Rattle.std.proofs.lemmas.Bool.{or_cases}
 use Rattle.std.proofs.lemmas.Bool.Decides.{nat_tests}
 use Rattle.std.proofs.lemmas.List.{append-nil, length-map, length-take-le}
 use Rattle.std.proofs.lemmas.List.Elements.{All-nil, All-cons, All-push}
@@ -78,7 +79,7 @@ no_frames version = record { fit = All-nil FitsFrame; typed = tt; whole = λ not
 fit_more : (xs : List CaptureFrame) (f : CaptureFrame) → All FitsFrame xs → FitsFrame f → All FitsFrame (xs ++ f ∷ [])
 fit_more xs f all one = All-push FitsFrame xs f all one
 
-typed_more : (xs : List CaptureFrame) (f : CaptureFrame) → AreTyped xs → IsTyped f → AreTyped (xs ++ f ∷ [])
+pub typed_more : (xs : List CaptureFrame) (f : CaptureFrame) → AreTyped xs → IsTyped f → AreTyped (xs ++ f ∷ [])
 typed_more [] f all one = (one, tt)
 typed_more (x ∷ xs) f all one = (all.0, typed_more xs f all.1 one)
 
@@ -94,13 +95,9 @@ more_frames version xs f ys is all fits typed whole = subst (λ (z : List Captur
   whole = λ not. whole_more xs f (all.whole not) (whole not);
 })
 
-or_true : (a b : Bool) → (a || b) ≡ true → (a ≡ true) ⊎ (b ≡ true)
-or_true true b e = inl refl
-or_true false b e = inr e
-
 version_of : (version : ℕ) (frames : List CaptureFrame) → known_version version ≡ true → ((version ≡ 2 → ⊥) → AreWhole frames) → IsVersion version frames
 version_of version frames known whole =
-    elim (or_true (nat_eq version 1) (nat_eq version 2) known) [
+    elim (or_cases (nat_eq version 1) (nat_eq version 2) known) [
       | inl one ↦ let is : version ≡ 1 = grind (arith, nat_tests) in inl (is, whole (λ two. absurd (omega (arith, is, two))))
       | inr two ↦ let is : version ≡ 2 = grind (arith, nat_tests) in inr is
     ]

@@ -1,5 +1,5 @@
 -- Octets that were taken one after another.
-use Rattle.std.proofs.Common.{◌≡◌, ℕ, ◌+◌, List, [], ◌∷◌, ◌++◌, Option, sym, ap, subst}
+use Rattle.std.proofs.Common.{◌≡◌, ℕ, List, [], ◌∷◌, ◌++◌, Option, sym, ap, subst}
 use Rattle.byteorder.specs.Endian.{big_bytes}
 use Rattle.ht_io.specs.Pieces.{KnownTaken}
 use Rattle.ht_io.proofs.Pieces.{taken-append}

@@ -1,11 +1,10 @@
 -- Octets that are put one after another.
 use Rattle.std.proofs.Common.{◌≡◌, ℕ, zero, suc, ◌+◌, ◌*◌, ◌-◌, ◌<◌, ◌≤◌, List, [], ◌∷◌, ◌++◌, length, drop}
-use Rattle.std.proofs.Common.{slice_index_or, flat_map, Bool, true, false, if◌then◌else◌, take, Option}
+use Rattle.std.proofs.Common.{slice_index_or, flat_map, Bool, true, false, if◌then◌else◌, Option}
 use Rattle.std.proofs.Common.{refl, sym, ap, subst, ◌∙◌, append_assoc, length-append, arith}
-use Rattle.std.proofs.lemmas.List.{get_or-drop, drop-drop, length-drop, append-nil, drop_all, take-append-drop}
-use Rattle.std.proofs.lemmas.Grind.{flat_map-append}
+use Rattle.std.proofs.lemmas.List.{get_or-drop, drop-drop, length-drop, append-nil, drop_all}
 use Rattle.ht_io.specs.Pieces.{KnownGrown, KnownGrownByPart}
-use Rattle.ht_io.proofs.Pieces.{grown-append, grown_by_part-front, grown_by_part-append}
+use Rattle.ht_io.proofs.Pieces.{grown_by_part-append}
 use Rattle.ht_metric.specs.declared.sample.Sample.{Sample}
 use Rattle.std.proofs.Math.Seq.{drop-cons}
 use Rattle.ht_metric.specs.declared.tap.Tap.{Tap}
@@ -117,27 +116,6 @@ present_most (suc n) k erased = present_few (is_erased erased k) _ (present_amon
 pub triangle_done : (chunk old : List ℕ) (legs : List Leg) (k : ℕ) → length legs ≤ k
     → chunk ++ legs_octets (drop k legs) ≡ old ++ legs_octets legs → chunk ≡ old ++ legs_octets legs
 triangle_done chunk old legs k over eq = sym (append-nil chunk) ∙ (ap (λ l. chunk ++ legs_octets l) (sym (drop_all k legs over)) ∙ eq)
-
--- some samples, and those behind them
-pub samples_split : (samples : List Sample) (k : ℕ)
-    → flat_map sample_octets (take k samples) ++ flat_map sample_octets (drop k samples) ≡ flat_map sample_octets samples
-samples_split samples k = sym (flat_map-append sample_octets (take k samples) (drop k samples)) ∙ ap (flat_map sample_octets) (take-append-drop k samples)
-
--- a piece behind what was put
-pub piece_more : (front piece rest left whole : List ℕ) → piece ++ rest ≡ left → front ++ left ≡ whole → (front ++ piece) ++ rest ≡ whole
-piece_more front piece rest left whole e all = append_assoc front piece rest ∙ (ap (λ z. front ++ z) e ∙ all)
-
-pub grows_piece : (held mid new : Option (List ℕ)) (front piece put : List ℕ) → KnownGrown held mid front
-    → KnownGrown mid new put → put ≡ piece → KnownGrown held new (front ++ piece)
-grows_piece held mid new front piece put a b is = grown-append held mid new front piece a (subst (λ (p : List ℕ). KnownGrown mid new p) is b)
-
--- a part of a piece behind what was put
-pub part_more : (held mid new : Option (List ℕ)) (front piece put rest left whole : List ℕ)
-    → KnownGrown held mid front → KnownGrownByPart mid new put → put ≡ piece
-    → piece ++ rest ≡ left → front ++ left ≡ whole → KnownGrownByPart held new whole
-part_more held mid new front piece put rest left whole a b is e all =
-    let part : KnownGrownByPart mid new (piece ++ rest) = grown_by_part-front mid new piece rest (subst (λ (p : List ℕ). KnownGrownByPart mid new p) is b) in
-    subst (λ (w : List ℕ). KnownGrownByPart held new w) (ap (λ z. front ++ z) e ∙ all) (grown_by_part-append held mid new front (piece ++ rest) a part)
 
 -- a part of the samples of a frame, behind its front
 pub behind_front : (version : ℕ) (f : CaptureFrame) (held mid new : Option (List ℕ)) (put : List ℕ) (samples : List Sample)

@@ -47,22 +47,13 @@ use Rattle.ht_capture.proofs.Turns.{flag_is, frame_is, over_is, symbol_is, trian
 use Rattle.ht_capture_laws.specs.Items.{symbols_in}
 use Rattle.ht_capture_laws.specs.Written.{IsFileOf}
 use Rattle.ht_capture_laws.proofs.Given.{AtSymbol, Gathered, Sound}
+use Rattle.ht_capture_laws.proofs.Lists.{bytes_behind, bytes_front}
 use Rattle.ht_capture_laws.proofs.Stages.{erased_more, first_gathered, good_else, good_is}
 use Rattle.ht_capture_laws.proofs.Stages.{good_of_two, good_then, seen_more, step}
 use Rattle.ht_capture_laws.proofs.Tails.{Back, CarriersTail, CountTail, FrameTail, FramesTail, GoodFrame}
 use Rattle.ht_capture_laws.proofs.Tails.{SamplesTail, TriangleTail, VersionTail, Wrote, carriers_by, frames_octets}
 use Rattle.ht_fields.specs.Tests.{AreBytes, octet_of}
 use Rattle.ht_heads.specs.Heads.{head_octets, start_octets}
-
--- octets that are octets
-bytes_front : (x rest : List ℕ) → AreBytes (x ++ rest) → AreBytes x
-bytes_front [] rest bytes i = omega arith
-bytes_front (a ∷ x) rest bytes zero = bytes 0
-bytes_front (a ∷ x) rest bytes (suc i) = bytes_front x rest (λ j. bytes (suc j)) i
-
-bytes_behind : (x rest : List ℕ) → AreBytes (x ++ rest) → AreBytes rest
-bytes_behind [] rest bytes = bytes
-bytes_behind (a ∷ x) rest bytes = bytes_behind x rest (λ j. bytes (suc j))
 
 -- one octet, and two
 single : (x : List ℕ) → length x ≡ 1 → x ≡ octet_of x ∷ []

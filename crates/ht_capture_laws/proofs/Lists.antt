@@ -1,7 +1,8 @@
--- Ranges, filters and maps.
+-- Ranges, filters, maps and octets.
 use Rattle.std.proofs.Common.{◌≡◌, ℕ, zero, suc, ◌+◌, ◌*◌, ◌<◌, List, [], ◌∷◌, ◌++◌, length, map, flat_map}
 use Rattle.std.proofs.Common.{Bool, true, false, if◌then◌else◌, refl, ap, ◌∙◌, length-append, arith}
 use Rattle.std.specs.List.{filter, range_with_len, AllByRecursion}
+use Rattle.ht_fields.specs.Tests.{AreBytes}
 
 pub range_append : (a n m : ℕ) → range_with_len a (n + m) ≡ range_with_len a n ++ range_with_len (a + n) m
 range_append a zero m =
@@ -61,3 +62,13 @@ all_kept P p (x ∷ xs) a = kept_of P p x (p x) (filter p xs) refl a.0 (all_kept
 pub length-flat : {X : Type 0} (f : ℕ → List X) (w a n : ℕ) → ((i : ℕ) → length (f i) ≡ w) → length (flat_map f (range_with_len a n)) ≡ n * w
 length-flat f w a zero each = omega arith
 length-flat f w a (suc n) each = omega (arith, length-append (f a) (flat_map f (range_with_len (a + 1) n)), each a, length-flat f w (a + 1) n each)
+
+-- octets that are octets, in two parts
+pub bytes_front : (xs ys : List ℕ) → AreBytes (xs ++ ys) → AreBytes xs
+bytes_front [] ys bytes i = omega arith
+bytes_front (x ∷ xs) ys bytes zero = bytes 0
+bytes_front (x ∷ xs) ys bytes (suc i) = bytes_front xs ys (λ j. bytes (suc j)) i
+
+pub bytes_behind : (xs ys : List ℕ) → AreBytes (xs ++ ys) → AreBytes ys
+bytes_behind [] ys bytes = bytes
+bytes_behind (x ∷ xs) ys bytes = bytes_behind xs ys (λ j. bytes (suc j))

@@ -1,11 +1,11 @@
 -- More octets take back no item and no whole frame, and the frames of written frames.
 use Rattle.std.proofs.Common.{◌≡◌, inl, inr, ℕ, zero, suc, ◌+◌, ◌*◌, ◌≤◌, List, [], ◌∷◌, ◌++◌, length, take, drop, map, Bool}
-use Rattle.std.proofs.Common.{true, false, if◌then◌else◌, Some, None, All, refl, sym, ap, subst, ◌∙◌, append_assoc, arith}
+use Rattle.std.proofs.Common.{true, false, if◌then◌else◌, All, refl, sym, ap, subst, ◌∙◌, append_assoc, arith}
+use Rattle.std.proofs.lemmas.Option.{none-some}
 use Rattle.std.proofs.lemmas.List.{append-nil, map-append}
 use Rattle.std.proofs.lemmas.List.Elements.{All-from_recursion}
 use Rattle.std.proofs.Math.Nat.{mul-le-mul_right}
 use Rattle.std.specs.List.{filter}
-use Rattle.ht_io.specs.declared.faults.FormatFault.{FormatFault}
 use Rattle.ht_fields.specs.Cases.{Case, File, Clean, Longer, Faulty, Meets, Reaches, octets_of_fields}
 use Rattle.ht_fields.specs.Meanings.{Meaning, meaning}
 use Rattle.ht_fields.proofs.Answered.{found, met}
@@ -176,9 +176,6 @@ frames_each frames =
     let l = listed 0 0 frames in
     ap (map items_of_frame) (ap frames_in l.1 ∙ frames_back l.0) ∙ l.2
 
-some_or_none : (x : FormatFault) → Some x ≡ None → ⊥
-some_or_none x e = cc
-
 pub all_whole : (version : ℕ) (frames : List CaptureFrame) → CanBeWritten frames
     → AreTyped frames → IsVersion version frames → All IsWholeFrame (frames_in (items_of frames))
 all_whole version frames fit typed allowed =
@@ -188,7 +185,7 @@ all_whole version frames fit typed allowed =
     let p = parted_of octets in
     let none : cut_frames (capture_of octets).items ≡ [] = elim p.ended [
       | inl none ↦ none
-      | inr within ↦ absurd (some_or_none _ (sym ((frames_of octets).early within) ∙ ap (λ (m : Meaning Item). m.fault) m))
+      | inr within ↦ absurd (none-some _ (sym (ap (λ (m : Meaning Item). m.fault) m) ∙ (frames_of octets).early within))
     ] in
     let whole : whole_frames (capture_of octets).items ≡ frames_in (capture_of octets).items =
     sym (p.order ∙ (ap (λ (z : List FrameJobs). whole_frames (capture_of octets).items ++ z) none ∙ append-nil (whole_frames (capture_of octets).items))) in

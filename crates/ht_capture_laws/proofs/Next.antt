@@ -47,8 +47,8 @@ one_more : (i item : Item) (front xs : List Item) → item ≡ i → front ≡ x
 one_more i item front xs first is = ap (λ (z : Item). z ∷ front) (sym first) ∙ ap (λ (z : List Item). item ∷ z) is
 
 -- more items behind a part
-part_more : (front part later rest : List Item) → front ≡ part ++ later → later ≡ rest → front ≡ part ++ rest
-part_more front part later rest a b = a ∙ ap (λ (z : List Item). part ++ z) b
+front_as : (front part later rest : List Item) → front ≡ part ++ later → later ≡ rest → front ≡ part ++ rest
+front_as front part later rest a b = a ∙ ap (λ (z : List Item). part ++ z) b
 
 -- a head stands behind jobs
 behind_jobs : (jobs : List JobView) (rest front back : List Item) (head : FrameHead) → map Job jobs ++ rest ≡ front ++ Frame head ∷ back
@@ -66,7 +66,7 @@ behind_frame : (i : Item) (f : FrameJobs) (front later : List Item) (gs : List F
     → Frame f.head ≡ i → front ≡ map Job f.jobs ++ later → later ≡ items_in gs ++ rest → i ∷ front ≡ items_in (f ∷ gs) ++ rest
 behind_frame i f front later gs rest first a b =
     one_more i (Frame f.head) front ((map Job f.jobs ++ items_in gs) ++ rest) first
-    (part_more front (map Job f.jobs) later (items_in gs ++ rest) a b ∙ sym (append_assoc (map Job f.jobs) (items_in gs) rest))
+    (front_as front (map Job f.jobs) later (items_in gs ++ rest) a b ∙ sym (append_assoc (map Job f.jobs) (items_in gs) rest))
 
 -- a frame more in front
 head_behind : (f : FrameJobs) (fs : List FrameJobs) (i : Item) (front later : List Item) (head : FrameHead)
@@ -76,7 +76,7 @@ head_behind f fs i front later head first passed a = record {
   g = a.g;
   hs = a.hs;
   is = ap (λ (z : List FrameJobs). f ∷ z) a.is;
-  front_is = one_more i (Frame f.head) front (map Job f.jobs ++ items_in a.gs) first (part_more front (map Job f.jobs) later (items_in a.gs) passed a.front_is);
+  front_is = one_more i (Frame f.head) front (map Job f.jobs ++ items_in a.gs) first (front_as front (map Job f.jobs) later (items_in a.gs) passed a.front_is);
   head_is = a.head_is;
 }
 

@@ -1,6 +1,6 @@
 -- What a reading of a whole file, and what is written then, come to.
 use Rattle.std.specs.Prelude.{◌≡◌, ℕ, List, [], Option, Some, None, IfSome}
-use Rattle.std.proofs.lemmas.Option.{IfSome_then}
+use Rattle.std.proofs.lemmas.Option.{IfSome_then, none-some}
 use Rattle.std.proofs.Common.{refl, ap, ◌∙◌, sym, subst, inl, inr, append-nil}
 use Rattle.ht_io.specs.Devices.{Device, Takes, TakesAll, Grows, GrowsByPart, Rose}
 use Rattle.ht_io.specs.Kinds.{name_of}
@@ -22,9 +22,6 @@ use Rattle.ht_cli.specs.declared.status.Status.TheVariants.{Done, Refused, Write
 use Rattle.ht_cli.specs.Commands.{Answers, IsWritten}
 use Rattle.ht_cli.specs.Filters.{IsWhole, conversion, whole}
 use Rattle.ht_cli.specs.Stopping.{PutsRefusal}
-
-none_is_not : (fault : FormatFault) → None ≡ Some fault → ⊥
-none_is_not fault e = cc
 
 if_known : (o : Option (List ℕ)) (P : List ℕ → Type 0) → ((xs : List ℕ) → o ≡ Some xs → P xs) → IfSome o P
 if_known None P h = tt
@@ -62,7 +59,7 @@ module _ {S I : Type 0} (f : Grammar S I) (comes_to : List ℕ → List ℕ → 
   -- what has a fault is no file
   no_file : (octets : List ℕ) (fault : FormatFault) → (meaning f f.start 0 octets).fault ≡ Some fault → IsWhole f octets → ⊥
   no_file octets fault is file =
-      none_is_not fault (sym (ap (λ (m : Meaning I). m.fault) (met f octets (meaning f f.start 0 octets).items File file)) ∙ is)
+      none-some fault (sym (ap (λ (m : Meaning I). m.fault) (met f octets (meaning f f.start 0 octets).items File file)) ∙ is)
 
   -- a file with these items is whole
   pub whole_from : (octets : List ℕ) (items : List I) → IsFile f octets items → IsWhole f octets

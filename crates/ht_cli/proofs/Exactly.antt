@@ -4,7 +4,6 @@ use Rattle.std.proofs.Common.{refl, sym, subst, inl, inr, arith}
 use Rattle.ht_io.specs.Causes.{HasRisen}
 use Rattle.ht_io.specs.Devices.{Device, Grows, Rose}
 use Rattle.ht_io.specs.Writing.{Fitting}
-use Rattle.ht_io.specs.declared.faults.FormatFault.{FormatFault}
 use Rattle.ht_io.proofs.Calls.{takes_all-known}
 use Rattle.ht_words.specs.declared.asked.Asked.{Asked}
 use Rattle.ht_cli.specs.declared.status.Status.{Status}

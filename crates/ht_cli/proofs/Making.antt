@@ -1,5 +1,5 @@
 -- What a command comes to that reads nothing and puts one text.
-use Rattle.std.specs.Prelude.{◌≡◌, ◌⊎◌, ℕ, List, Result, Ok, Err, IfOk, OnErr}
+use Rattle.std.specs.Prelude.{◌≡◌, ℕ, List, Result, Ok, Err, IfOk, OnErr}
 use Rattle.std.proofs.Common.{refl, sym, subst, inl, inr}
 use Rattle.ht_io.specs.Devices.{Device}
 use Rattle.ht_cli.specs.declared.status.Status.{Status}

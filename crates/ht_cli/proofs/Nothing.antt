@@ -1,5 +1,5 @@
 -- A run that read nothing and put nothing, for lack of memory.
-use Rattle.std.specs.Prelude.{◌≡◌, ℕ, List, [], Option, Some, None, IfSome}
+use Rattle.std.specs.Prelude.{ℕ, List, [], Option, Some, None, IfSome}
 use Rattle.std.proofs.Common.{refl}
 use Rattle.ht_io.specs.Devices.{Device, GrowsByPart}
 use Rattle.ht_io.proofs.Calls.{takes-none, grows_by_part-none}

@@ -1,39 +1,24 @@
 -- What is sent, passes the channel without noise, and is received.
-use Rattle.std.specs.Prelude.{◌≡◌, ◌⊎◌, ℕ, List, [], ◌∷◌, length, All}
-use Rattle.std.proofs.Common.{refl, ap, ◌∙◌, sym, subst, inl, arith}
-use Rattle.std.proofs.lemmas.List.Elements.{All-nil, All-cons}
+use Rattle.std.specs.Prelude.{◌≡◌, ◌⊎◌, ℕ, List}
+use Rattle.std.proofs.Common.{refl, ap, ◌∙◌, sym, subst, inl}
 use Rattle.ht_capture.specs.declared.frames.CaptureFrame.{CaptureFrame}
 use Rattle.ht_capture.specs.Files.{capture_file_of}
 use Rattle.ht_results.specs.Texts.{rx_text}
 use Rattle.ht_tx.specs.Frames.{FrameView}
 use Rattle.ht_tx.specs.Symbols.{SymbolsView}
 use Rattle.ht_tx.specs.Transmitted.{AreTransmitted}
-use Rattle.ht_tx.proofs.Sequences.{length-sent}
 use Rattle.ht_files.specs.Files.{AreFrames, frames_file_of}
-use Rattle.ht_files.specs.SymbolFiles.{AreSymbolFrames, IsSymbolFrame, symbols_file_of}
+use Rattle.ht_files.specs.SymbolFiles.{AreSymbolFrames, symbols_file_of}
 use Rattle.ht_files.proofs.FrameRoutes.{frames_same}
 use Rattle.ht_files.proofs.PointRoutes.{symbols_same}
-use Rattle.ht_sim.specs.Channel.{captures_of}
 use Rattle.ht_sim.specs.Passing.{PassesTo}
 use Rattle.ht_round.specs.Exact.{AreExact, HoldOctets}
 use Rattle.ht_round.specs.Returned.{returned_text}
+use Rattle.ht_round.proofs.Passed.{sent_frames}
 use Rattle.ht_round.proofs.Round.{text_back}
 use Rattle.ht_round.proofs.Simulated.{simulated_text}
 use Rattle.ht_cli.specs.Converting.{SendsTo, UpgradesTo}
 use Rattle.ht_cli.proofs.Upgrading.{same_reception}
-
--- what is sent of frames can be written in a file
-each_fits : (frames : List FrameView) (sent : List SymbolsView) → AreTransmitted frames sent → All IsSymbolFrame sent
-each_fits [] [] all = All-nil IsSymbolFrame
-each_fits [] (s ∷ sent) all = absurd all
-each_fits (f ∷ frames) [] all = absurd all
-each_fits (f ∷ frames) (s ∷ sent) all = All-cons IsSymbolFrame s sent all.1 (each_fits frames sent all.2)
-
-sent_fits : (frames : List FrameView) (sent : List SymbolsView) → AreFrames frames → AreTransmitted frames sent → AreSymbolFrames sent
-sent_fits frames sent are all = record {
-  few = omega (arith, are.few, length-sent frames sent all);
-  fit = each_fits frames sent all;
-}
 
 module _ (frames : List FrameView) (are : AreFrames frames) where
   -- the symbols that are sent for a file of these frames
@@ -41,7 +26,7 @@ module _ (frames : List FrameView) (are : AreFrames frames) where
       → SendsTo (frames_file_of frames) symbols → AreTransmitted frames points
   sent_of symbols points fit from (others, sent, also, all, same, is) =
       let frames_are = frames_same others frames also are (sym same) in
-      let points_are = symbols_same sent points (sent_fits others sent also all) fit (sym is ∙ from) in
+      let points_are = symbols_same sent points (sent_frames others sent also all) fit (sym is ∙ from) in
       subst (λ (fs : List FrameView). AreTransmitted fs points) frames_are (subst (λ (s : List SymbolsView). AreTransmitted others s) points_are all)
 
   module _ (hold : HoldOctets frames) where

@@ -2,7 +2,7 @@
 use Rattle.std.specs.Prelude.{◌≡◌, ℕ, ◌+◌, List, [], ◌++◌, length, take, Option, Some, None, Result, Ok, Err, IfSome, MatchResult}
 use Rattle.std.proofs.Common.{refl, ap, ◌∙◌, sym, subst, append-nil, inl, inr, arith}
 use Rattle.ht_io.specs.Kinds.{name_of}
-use Rattle.std.proofs.lemmas.Option.{IfSome_then}
+use Rattle.std.proofs.lemmas.Option.{IfSome_then, none-some}
 use Rattle.ht_io.specs.Devices.{Device, Takes, TakesAll, Grows, GrowsByPart, Rose, IsLater}
 use Rattle.ht_io.specs.declared.faults.FormatFault.{FormatFault}
 use Rattle.ht_io.proofs.Calls.{grows-append, grows_by_part-none, grows_by_part-front, grows_by_part-append, failed-later}
@@ -28,13 +28,10 @@ use Rattle.ht_cli.specs.Commands.{Answers, PutsPart}
 use Rattle.ht_cli.specs.Filters.{IsWhole, IsFaultless, streaming}
 use Rattle.ht_cli.specs.Stopping.{PutsLast}
 
-none_is_not : (fault : FormatFault) → None ≡ Some fault → ⊥
-none_is_not fault e = cc
-
 -- what has a fault is no capture
 no_capture : (octets : List ℕ) (fault : FormatFault) → (capture_of octets).fault ≡ Some fault → IsWhole captures octets → ⊥
 no_capture octets fault is file =
-    none_is_not fault (sym (ap (λ (m : Meaning Item). m.fault) (met captures octets (capture_of octets).items File file)) ∙ is)
+    none-some fault (sym (ap (λ (m : Meaning Item). m.fault) (met captures octets (capture_of octets).items File file)) ∙ is)
 
 no_fault : (octets : List ℕ) → IsFront octets → IsFaultless captures octets
 no_fault octets front =

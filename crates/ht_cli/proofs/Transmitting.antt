@@ -1,6 +1,6 @@
 -- What sending the frames of a file, and passing symbols through the channel, come to.
-use Rattle.std.specs.Prelude.{◌≡◌, ◌≤◌, ℕ, List, length, Some}
-use Rattle.std.proofs.Common.{refl, ap, ◌∙◌, sym, subst, arith}
+use Rattle.std.specs.Prelude.{◌≡◌, ◌≤◌, ℕ, List, length}
+use Rattle.std.proofs.Common.{refl, ap, sym, subst, arith}
 use Rattle.ht_io.specs.Devices.{Device, Grows, GrowsByPart, Rose}
 use Rattle.ht_io.specs.declared.faults.FormatFault.{FormatFault}
 use Rattle.ht_io.specs.declared.faults.InFault.TheVariants.{Format, Read}
@@ -13,7 +13,7 @@ use Rattle.ht_tx.proofs.Sequences.{length-sent}
 use Rattle.ht_files.specs.Files.{AreFrames, frames_file_of}
 use Rattle.ht_files.specs.Frames.{frames as frames_format}
 use Rattle.ht_files.specs.Points.{symbols as symbols_format}
-use Rattle.ht_files.specs.SymbolFiles.{AreSymbolFrames, symbols_file_of}
+use Rattle.ht_files.specs.SymbolFiles.{symbols_file_of}
 use Rattle.ht_files.proofs.FrameRoutes.{frames_written}
 use Rattle.ht_files.proofs.PointRoutes.{symbols_written}
 use Rattle.ht_sim.specs.Passing.{FailsToPass, TakesAndPasses, PassesTo}

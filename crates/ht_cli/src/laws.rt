@@ -54,8 +54,9 @@ pub fn clauses_of_run()
     // What is left, where no device failed: of octets that are all known, exactly their text is put.
     ensures complete { (asked : Asked) (a b c d : Device ℕ) (status : Status) → Answered (Some asked) a b c d status
         → (Rose a b → ⊥) → (Rose c d → ⊥) → (status ≡ Status.Done) ⊎ (status ≡ Status.Refused) ⊎ (status ≡ Status.NoMemory) }
-    ensures exact { (asked : Asked) (all : List ℕ) (a b c d : Device ℕ) (status : Status) → a.known ≡ Some all → (Rose a b → ⊥) → (Rose c d → ⊥)
-        → Answered (Some asked) a b c d status → (status ≡ Status.NoMemory) ⊎ WritesExactly (command_of asked) all c d status }
+    ensures exact { (asked : Asked) (all : List ℕ) (a b c d : Device ℕ) (status : Status) → a.known ≡ Some all
+        → (Rose a b → ⊥) → (Rose c d → ⊥) → Answered (Some asked) a b c d status
+        → (status ≡ Status.NoMemory) ⊎ WritesExactly (command_of asked) all c d status }
     ensures complete_usage { (a b c d : Device ℕ) (status : Status) → Answered None a b c d status → (Rose c d → ⊥)
         → (status ≡ Status.Usage) ⊎ (status ≡ Status.NoMemory) }
 {}

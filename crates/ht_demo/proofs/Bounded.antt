@@ -1,26 +1,19 @@
 -- The sums of a capture's frames, each and all together, fit their types.
-use Rattle.std.proofs.Common.{◌≡◌, inl, ℕ, zero, suc, ◌+◌, ◌*◌, ◌^◌, ◌≤◌, List, [], ◌∷◌, ◌++◌, length, map, replicate, slice_index_or}
-use Rattle.std.proofs.Common.{Bool, true, false, not, All, if◌then◌else◌, refl, sym, ap, subst, ◌∙◌, arith, rules}
+use Rattle.std.proofs.Common.{◌≡◌, inl, ℕ, zero, suc, ◌+◌, ◌*◌, ◌^◌, ◌≤◌, List, [], ◌∷◌, ◌++◌, length, map, slice_index_or}
+use Rattle.std.proofs.Common.{Bool, true, false, not, All, refl, sym, ap, subst, ◌∙◌, arith, rules}
 use Rattle.std.specs.List.{AllByRecursion, filter, range_with_len}
 use Rattle.std.proofs.Math.Nat.{mul-le-mul, mul-le-mul_right, le_trans}
 use Rattle.std.proofs.lemmas.Bool.Decides.{nat_tests}
 use Rattle.std.proofs.lemmas.List.{length-map}
+use Rattle.std.proofs.lemmas.List.FromFn.{length-range_with_len}
 use Rattle.std.proofs.lemmas.List.Elements.{All-nil, All-cons, All-head, All-tail, All-filter, All-from_recursion, All-weaker}
 use Rattle.std.proofs.lemmas.List.Sums.{count_by-le-length, length-filter, sum_by-le}
-use Rattle.ht_rate.specs.declared.kinds.Carrier.{Carrier}
-use Rattle.ht_rate.specs.declared.kinds.Carrier.TheVariants.{Data, Pilot}
-use Rattle.ht_rate.specs.declared.kinds.Modulation.{Modulation}
-use Rattle.ht_rate.specs.declared.kinds.Modulation.TheVariants.{Bpsk, Qpsk, Qam16, Qam64}
 use Rattle.ht_rate.specs.declared.rates.Rate.{Rate}
 use Rattle.ht_rate.specs.Carriers.{carrier_of}
-use Rattle.ht_rate.specs.Rates.{carriers_of, data_carriers_of, labels_of, modulation_of, streams_of, symbols_of}
-use Rattle.ht_rate.proofs.LengthFacts.{labels_of-bound}
-use Rattle.ht_rate.proofs.RateFacts.{carriers_of-range, data_carriers_of-range, streams_of-range}
-use Rattle.ht_pam.specs.declared.axes.Axes.{Axes}
+use Rattle.ht_rate.specs.Rates.{carriers_of, streams_of, symbols_of}
+use Rattle.ht_rate.proofs.RateFacts.{carriers_of-range, streams_of-range}
 use Rattle.ht_pam.specs.declared.point.Point.{Point}
-use Rattle.ht_pam.specs.Grids.{AreLadders, IsGrid}
-use Rattle.ht_map.specs.Constellation.{axes_of, grid_of}
-use Rattle.ht_pilot.specs.Pilots.{pilot_of}
+use Rattle.ht_pam.specs.Grids.{IsGrid}
 use Rattle.ht_metric.specs.declared.sample.Sample.{Sample}
 use Rattle.ht_metric.specs.Distance.{distance_of}
 use Rattle.ht_metric.specs.Jobs.{JobView, IsNear, near}
@@ -38,9 +31,10 @@ use Rattle.ht_capture.specs.Contents.{presents, presents_of, seen, symbol_jobs}
 use Rattle.ht_capture.specs.Captures.{capture_of}
 use Rattle.ht_capture.specs.Fields.{captures}
 use Rattle.ht_capture.specs.Files.{AreCaptureFrames, HasAllCarriers, capture_file_of, is_erased, triangles_behind}
-use Rattle.ht_capture.specs.Frames.{grid_at, grid_for, one_point, pilot_grid}
-use Rattle.ht_capture.proofs.Filed.{file_written}
-use Rattle.ht_capture.proofs.Grids.{length-grid_of, length-pilot_grid}
+use Rattle.ht_capture.specs.Frames.{grid_at}
+use Rattle.ht_capture.proofs.Filed.{file_written, samples_before, samples_behind}
+use Rattle.ht_capture.proofs.Routes.{behind_typed}
+use Rattle.ht_files.proofs.PointRoutes.{symbols_most}
 use Rattle.ht_capture_laws.specs.Items.{FrameJobs, carriers_in, frames_in, has_all_jobs, items_of_frame, jobs_first, symbols_in, whole_frames}
 use Rattle.ht_capture_laws.specs.Written.{items_each}
 use Rattle.ht_capture_laws.proofs.Lists.{all_append, all_kept}
@@ -51,50 +45,16 @@ use Rattle.ht_fields.proofs.Answered.{met}
 use Rattle.ht_results.specs.declared.frame_result.FrameResult.{FrameResult}
 use Rattle.ht_results.specs.Results.{distances, frame_result, on_data, results_of}
 use Rattle.ht_demo.specs.Demos.{HaveRoom}
-use Rattle.ht_demo.proofs.Small.{drop_typed, rows_small, take_typed}
+use Rattle.ht_round.proofs.Points.{ladders_for, length-grid}
+use Rattle.ht_demo.proofs.Small.{rows_small}
 
--- the ladders of a constellation, and of a pilot
-axes_good : (m : Modulation) → AreLadders (axes_of m)
-unfolding axes_of
-axes_good Bpsk = search rules
-axes_good Qpsk = search rules
-axes_good Qam16 = search rules
-axes_good Qam64 = search rules
-
-one_good : (b : Bool) → AreLadders (record { i = record { size = 2; mask = if b then 2 else 1 }; q = record { size = 1; mask = 1 } })
-one_good true = search rules
-one_good false = search rules
-
-all_replicated : (n : ℕ) (a : Axes) → AreLadders a → All AreLadders (replicate n a)
-all_replicated zero a good = All-nil AreLadders
-all_replicated (suc n) a good = All-cons AreLadders a (replicate n a) good (all_replicated n a good)
-
-all_mapped : (f : ℕ → Axes) (xs : List ℕ) → ((n : ℕ) → AreLadders (f n)) → All AreLadders (map f xs)
-all_mapped f [] good = All-nil AreLadders
-all_mapped f (x ∷ xs) good = All-cons AreLadders (f x) (map f xs) (good x) (all_mapped f xs good)
-
-data_ladders : (rate : Rate) → All AreLadders (grid_of rate)
-unfolding grid_of
-data_ladders rate = all_replicated (streams_of rate) (axes_of (modulation_of rate)) (axes_good (modulation_of rate))
-
-pilot_ladders : (rate : Rate) (symbol k : ℕ) → All AreLadders (pilot_grid rate symbol k)
-unfolding pilot_grid
-pilot_ladders rate symbol k =
-    all_mapped (λ stream. one_point (pilot_of rate symbol k stream)) (range_with_len 1 (streams_of rate)) (λ stream. one_good _)
-
-for_good : (rate : Rate) (symbol : ℕ) (c : Carrier) → IsGrid (grid_for rate symbol c)
-for_good rate symbol (Data m) =
-    let count = length-grid_of rate (grid_of rate) refl in
-    let range = streams_of-range rate in
-    record { some = omega (arith, count, range); few = omega (arith, count, range); ladders = data_ladders rate }
-for_good rate symbol (Pilot k) =
-    let count = length-pilot_grid rate symbol k (pilot_grid rate symbol k) refl in
-    let range = streams_of-range rate in
-    record { some = omega (arith, count, range); few = omega (arith, count, range); ladders = pilot_ladders rate symbol k }
-
+-- the grid of a subcarrier
 grid_good : (rate : Rate) (symbol carrier : ℕ) → IsGrid (grid_at rate symbol carrier)
 unfolding grid_at
-grid_good rate symbol carrier = for_good rate symbol (carrier_of rate carrier)
+grid_good rate symbol carrier =
+    let count = length-grid rate symbol carrier in
+    let range = streams_of-range rate in
+    record { some = omega (arith, count, range); few = omega (arith, count, range); ladders = ladders_for rate symbol (carrier_of rate carrier) }
 
 -- the distance of a job's first nearest vector
 abbrev pub IsSmall : JobView → Type 0
@@ -135,11 +95,6 @@ seen_shaped : (b : Bool) (carrier streams : ℕ) (triangles : List (List Leg)) �
 seen_shaped true carrier streams triangles few typed = tt
 seen_shaped false carrier streams triangles few typed = (first_shaped streams triangles few typed, tt)
 
-behind_typed : (b : Bool) (streams : ℕ) (triangles : List (List Leg)) → AreTriangles streams triangles → AreTriangles streams (triangles_behind b triangles)
-behind_typed true streams triangles typed = typed
-behind_typed false streams [] typed = tt
-behind_typed false streams (t ∷ triangles) typed = typed.2
-
 presents_shaped : (n carrier erased streams : ℕ) (triangles : List (List Leg)) → streams ≤ 4 → AreTriangles streams triangles
     → AllByRecursion IsShaped (presents n carrier erased triangles)
 presents_shaped zero carrier erased streams triangles few typed = tt
@@ -154,7 +109,7 @@ symbol_small : (head : FrameHead) (symbol number : ℕ) (present : List Present)
 symbol_small head symbol number [] samples shaped typed = tt
 symbol_small head symbol number (p ∷ present) samples shaped typed = (
   near_small (job_of head symbol number p samples) p.triangle samples (grid_good head.rate symbol p.carrier) refl shaped.0.0 shaped.0.1 typed,
-  symbol_small head symbol (number + 1) present _ shaped.1 (drop_typed (streams_of head.rate) samples typed),
+  symbol_small head symbol (number + 1) present _ shaped.1 (samples_behind (streams_of head.rate) samples typed),
 )
 
 frame_small : (n : ℕ) (head : FrameHead) (symbol number : ℕ) (present : List Present) (samples : List Sample) → AllByRecursion IsShaped present
@@ -163,8 +118,8 @@ frame_small zero head symbol number present samples shaped typed = tt
 frame_small (suc n) head symbol number present samples shaped typed =
     let w : ℕ = length present * streams_of head.rate in
     small_append (symbol_jobs head symbol number present _) (frame_jobs n head (symbol + 1) (number + length present) present _)
-    (symbol_small head symbol number present _ shaped (take_typed w samples typed))
-    (frame_small n head (symbol + 1) (number + length present) present _ shaped (drop_typed w samples typed))
+    (symbol_small head symbol number present _ shaped (samples_before w samples typed))
+    (frame_small n head (symbol + 1) (number + length present) present _ shaped (samples_behind w samples typed))
 
 items_small : (frame number : ℕ) (frames : List CaptureFrame) → AreTyped frames → AreSmall (items_from frame number frames)
 unfolding items_from
@@ -195,29 +150,13 @@ frames_small (Job job ∷ items) small = frames_small items small.1
 frames_small (Done ∷ items) small = frames_small items small
 
 -- how many jobs a frame has
-symbols_few : (r : Rate) (octets : ℕ) → octets ≤ 65535 → symbols_of r octets ≤ 1048896
-unfolding labels_of
-symbols_few r octets le =
-    let most = labels_of-bound r octets le in
-    let one : 1 ≤ data_carriers_of r * streams_of r =
-    let carriers = (data_carriers_of-range r).0 in
-    let streams = (streams_of-range r).0 in
-    let d : 1 ≤ data_carriers_of r = omega (arith, carriers) in
-    mul-le-mul d streams in
-    let less : symbols_of r octets * 1 ≤ symbols_of r octets * (data_carriers_of r * streams_of r) = mul-le-mul (omega arith) one in
-    omega (arith, most, less)
-
 filter_few : {X : Type 0} (p : X → Bool) (xs : List X) → length (filter p xs) ≤ length xs
 filter_few p xs = let a = length-filter p xs in let b = count_by-le-length p xs in omega (arith, a, b)
-
-length-range : (a n : ℕ) → length (range_with_len a n) ≡ n
-length-range a zero = refl
-length-range a (suc n) = ap suc (length-range (a + 1) n)
 
 carriers_few : (head : FrameHead) → length (carriers_in head) ≤ 114
 carriers_few head =
     let most = filter_few (λ carrier. not (is_erased head.erased carrier)) (range_with_len 0 (carriers_of head.rate)) in
-    let all = length-range 0 (carriers_of head.rate) in
+    let all = length-range_with_len 0 (carriers_of head.rate) in
     let range = (carriers_of-range head.rate).1 in
     omega (arith, most, all, range)
 
@@ -226,7 +165,7 @@ jobs_few f le all =
     let n : ℕ = symbols_in f.head in
     let m : ℕ = length (carriers_in f.head) in
     let is : length f.jobs ≡ n * m = grind (arith, nat_tests, all) in
-    let most : n * m ≤ 1048896 * 114 = mul-le-mul (symbols_few f.head.rate f.head.length le) (carriers_few f.head) in
+    let most : n * m ≤ 20166 * 114 = mul-le-mul (symbols_most f.head.rate f.head.length le) (carriers_few f.head) in
     omega (arith, is, most)
 
 -- the sum over the jobs that a test picks

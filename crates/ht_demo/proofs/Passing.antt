@@ -1,19 +1,18 @@
 -- How many frames are captured, and what is known of their results once they were received.
-use Rattle.std.proofs.Common.{◌≡◌, ℕ, suc, ◌^◌, ◌<◌, ◌≤◌, List, [], ◌∷◌, ◌++◌, length, map, Some, refl, sym, ap, subst, ◌∙◌, arith}
+use Rattle.std.proofs.Common.{◌≡◌, ℕ, ◌^◌, ◌<◌, ◌≤◌, List, [], ◌∷◌, ◌++◌, length, map, Some, sym, ap, subst, ◌∙◌, arith}
 use Rattle.std.proofs.lemmas.List.{map-id}
 use Rattle.std.proofs.lemmas.List.Concat.{flat_map_single}
 use Rattle.ht_io.specs.Devices.{Device}
 use Rattle.ht_io.specs.Pieces.{KnownGrown}
 use Rattle.ht_fields.specs.Meanings.{Meaning}
 use Rattle.ht_tx.specs.Frames.{FrameView}
-use Rattle.ht_tx.specs.Symbols.{SymbolsView}
 use Rattle.ht_tx.specs.Transmitted.{AreTransmitted}
 use Rattle.ht_capture.specs.declared.items.Item.{Item}
 use Rattle.ht_capture.specs.Captures.{capture_of}
 use Rattle.ht_capture_laws.specs.Items.{whole_frames}
 use Rattle.ht_results.specs.declared.frame_result.FrameResult.{FrameResult}
 use Rattle.ht_results.specs.Results.{frame_result, results_of}
-use Rattle.ht_round.proofs.Simulated.{length-several}
+use Rattle.ht_sim.proofs.Drawing.{length-several}
 use Rattle.ht_sim.specs.Samples.{frames_drawn, sample_frame_drawn}
 use Rattle.ht_sim.specs.Words.{first}
 use Rattle.ht_rx.specs.declared.faults.Ended.{Ended}
@@ -22,13 +21,6 @@ use Rattle.ht_rx.specs.Frames.{booked_of}
 use Rattle.ht_rx.specs.Outcomes.{TellsTo}
 use Rattle.ht_demo.specs.declared.plan.Plan.{Plan}
 use Rattle.ht_demo.specs.Demos.{IsDemoLine, IsPassed, line_of, planned}
-
--- each frame is sent
-pub length-sent : (frames : List FrameView) (sent : List SymbolsView) → AreTransmitted frames sent → length sent ≡ length frames
-length-sent [] [] are = refl
-length-sent [] (s ∷ sent) are = absurd are
-length-sent (f ∷ frames) [] are = absurd are
-length-sent (f ∷ frames) (s ∷ sent) are = ap suc (length-sent frames sent are.2)
 
 -- as many frames as are asked for
 pub length-planned : (plan : Plan) → length (planned plan) ≡ plan.frames

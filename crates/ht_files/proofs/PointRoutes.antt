@@ -1,12 +1,11 @@
 -- How the octets of points lead through the fields of a file.
 use Rattle.std.proofs.Common.{◌≡◌, inl, inr, ℕ, zero, suc, ◌+◌, ◌-◌, ◌*◌, ◌/◌, ◌%◌, ◌^◌}
 use Rattle.std.proofs.Common.{◌<◌, ◌≤◌, ℤ, List, [], ◌∷◌, ◌++◌, length, flat_map, get_or}
-use Rattle.std.proofs.Common.{nat_eq, Bool, true, false, ◌&&◌, refl, sym, ap, subst, ◌∙◌, append_assoc, length-append, arith}
+use Rattle.std.proofs.Common.{nat_eq, true, false, refl, sym, ap, subst, ◌∙◌, append_assoc, length-append, arith}
 use Rattle.std.specs.Ordering.{int_eq}
 use Rattle.std.proofs.lemmas.Bool.Decides.{Decides-int_eq, nat_tests}
 use Rattle.std.proofs.lemmas.List.{append-nil}
-use Rattle.std.proofs.lemmas.Nat.{div-add-mod'}
-use Rattle.std.proofs.lemmas.Bool.{cases_lt}
+use Rattle.std.proofs.lemmas.Bool.{and_from, cases_lt}
 use Rattle.std.proofs.Math.Nat.{add-mul, mul-le-mul, mul_assoc}
 use Rattle.std.proofs.Math.Seq.{get_or-append_seam}
 use Rattle.ht_io.specs.Devices.{Device, Takes, TakesAll, IsLater, Rose}
@@ -35,7 +34,7 @@ use Rattle.ht_rate.proofs.LengthFacts.{symbols_of-holds}
 use Rattle.ht_rate.proofs.RateFacts.{carriers_of-range, data_bits_of-range, encoders_of-range, streams_of-range}
 use Rattle.ht_pam.specs.declared.point.Point.{Point}
 use Rattle.ht_tx.specs.Symbols.{Fits, IsSymbols, SymbolsView, index_of_point, origin, pilot_point, points_of}
-use Rattle.ht_tx.proofs.Places.{digits, digits-below, parts-below}
+use Rattle.ht_tx.proofs.Places.{digits, digits-below, parts-again, parts-below}
 use Rattle.ht_heads.specs.Heads.{head_octets}
 use Rattle.ht_files.specs.HeadedFormats.{HeadState, Body, frame_due}
 use Rattle.ht_files.specs.Places.{AreFitting, FitsPlace, carrier_at_place, stream_at_place, symbol_at_place}
@@ -50,17 +49,12 @@ use Rattle.ht_files.proofs.Walks.{length-points}
 int_same : (a b : ℤ) → a ≡ b → int_eq a b ≡ true
 int_same a b e = (Decides-int_eq a b).1 e
 
-both_true : (a b : Bool) → a ≡ true → b ≡ true → (a && b) ≡ true
-both_true true true a b = refl
-both_true true false a b = absurd cc
-both_true false b p q = absurd cc
-
 fits_test : (r : Rate) (symbol : ℕ) (carrier : Carrier) (stream : ℕ) (p : Point) → Fits r symbol carrier stream p
     → fits_carrier r symbol carrier stream p ≡ true
 fits_test r symbol (Data m) stream p fits = fits
 fits_test r symbol (Pilot k) stream p fits =
     let v = pilot_point r symbol k stream in
-    both_true (int_eq p.i v.i) (int_eq p.q v.q) (int_same p.i v.i (ap (λ (z : Point). z.i) fits)) (int_same p.q v.q (ap (λ (z : Point). z.q) fits))
+    and_from (int_eq p.i v.i) (int_eq p.q v.q) (int_same p.i v.i (ap (λ (z : Point). z.i) fits)) (int_same p.q v.q (ap (λ (z : Point). z.q) fits))
 
 -- the octets of a point that fits are no fault
 no_misfit : (r : Rate) (symbol : ℕ) (carrier : Carrier) (stream : ℕ) (p : Point) → Fits r symbol carrier stream p
@@ -158,9 +152,6 @@ route_frame_points (z ∷ ys) y left rate len xs all is fitting whole =
     (route_frame_points ys z left rate len (xs ++ y ∷ []) all (more_behind all xs (z ∷ ys) y is) fitting whole)
 
 -- there is a point, and all fit their places
-place_again : (p n w : ℕ) → (p / w / n * n + p / w % n) * w + p % w ≡ p
-place_again p n w = ap (λ (x : ℕ). x * w + p % w) (div-add-mod' (p / w) n) ∙ div-add-mod' p w
-
 pub fitting_all : (r : Rate) (len : ℕ) (points : List Point) → IsSymbols r len points → AreFitting r points
 unfolding points_of index_of_point
 fitting_all r len points is place few =
@@ -174,7 +165,7 @@ fitting_all r len points is place few =
     let high : place % w + 1 ≤ w = omega (arith, parts.2) in
     let first : place % w + 1 - 1 ≡ place % w = omega arith in
     let there : (place / w / n * n + place / w % n) * w + (place % w + 1 - 1) ≡ place =
-    ap (λ (x : ℕ). (place / w / n * n + place / w % n) * w + x) first ∙ place_again place n w in
+    ap (λ (x : ℕ). (place / w / n * n + place / w % n) * w + x) first ∙ parts-again place n w in
     subst (λ (k : ℕ). FitsPlace r place (get_or points k origin)) there (is.fits (place / w / n) (place / w % n) (place % w + 1) parts.0 parts.1 low high)
 
 -- the points of a frame are those of its symbols
@@ -371,7 +362,7 @@ takes_symbols f rate len made points a b c is same x y =
     (takes-append a b c (head_octets rate len) (flat_map point_octets points) x y)
 
 -- no frame has more symbols than the longest one at the lowest rate
-symbols_most : (r : Rate) (len : ℕ) → len ≤ 65535 → symbols_of r len ≤ 20166
+pub symbols_most : (r : Rate) (len : ℕ) → len ≤ 65535 → symbols_of r len ≤ 20166
 unfolding needed_bits_of
 symbols_most r len bounded = elim (cases_lt 20166 (symbols_of r len)) [
   | inl more ↦

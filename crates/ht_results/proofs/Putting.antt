@@ -1,11 +1,13 @@
 -- Labels that are put on their places, in a list made of blocks.
 use Rattle.std.proofs.Common.{◌≡◌, ◌≢◌, ℕ, zero, suc, ◌+◌, ◌-◌, ◌*◌, ◌<◌, ◌≤◌, List, [], ◌∷◌, ◌++◌, length, map, set, replicate}
-use Rattle.std.proofs.Common.{refl, sym, ap, ◌∙◌, length-append, arith}
+use Rattle.std.proofs.Common.{refl, sym, ap, ◌∙◌, arith}
 use Rattle.std.specs.List.{flat_map, range_with_len}
 use Rattle.std.proofs.lemmas.List.{length-set, set-append_left, set-append_right, replicate-append-replicate}
-use Rattle.std.proofs.Math.Nat.{mul_assoc, mul-le-mul_right, add-mul}
+use Rattle.std.proofs.Math.Nat.{mul_assoc, add-mul}
 use Rattle.ht_rate.specs.declared.kinds.Modulation.{Modulation}
 use Rattle.ht_pam.specs.declared.point.Point.{Point}
+use Rattle.ht_capture.proofs.Symbols.{place_within}
+use Rattle.ht_capture_laws.proofs.Lists.{length-flat}
 use Rattle.ht_results.specs.Folding.{label_at, put_labels}
 
 -- behind a front the front stays
@@ -73,11 +75,6 @@ put_block m ps f g w a (suc n) (suc k) at wide below fits here others =
     ∙ ap (λ (z : List ℕ). g a ++ z) (put_block m ps f g w (a + 1) n k at wide (omega (arith, below)) fits later
     (λ i low high apart. others i (omega (arith, low)) (omega (arith, high)) (λ e. apart (e ∙ place))))))
 
-length-blocks : (f : ℕ → List ℕ) (w a n : ℕ) → ((i : ℕ) → length (f i) ≡ w) → length (flat_map f (range_with_len a n)) ≡ n * w
-length-blocks f w a zero each = omega arith
-length-blocks f w a (suc n) each =
-    omega (arith, length-append (f a) (flat_map f (range_with_len (a + 1) n)), each a, length-blocks f w (a + 1) n each)
-
 -- blocks in rows
 abbrev pub table : (ℕ → ℕ → List ℕ) → ℕ → ℕ → List ℕ
 table f rows columns = flat_map (λ i. flat_map (f i) (range_with_len 0 columns)) (range_with_len 0 rows)
@@ -94,12 +91,6 @@ arranged row columns column w =
     let grouped = mul_assoc row columns w in
     omega (arith, split, grouped)
 
-within : (column columns w : ℕ) → column < columns → column * w + w ≤ columns * w
-within column columns w below =
-    let next : (column + 1) * w ≤ columns * w = mul-le-mul_right w (omega (arith, below)) in
-    let split : (column + 1) * w ≡ column * w + w = omega arith in
-    omega (arith, next, split)
-
 -- the labels of one block of a table
 pub put_table : (m : Modulation) (ps : List Point) (f g : ℕ → ℕ → List ℕ) (rows columns w row column : ℕ)
     → ((i j : ℕ) → length (f i j) ≡ w) → row < rows → column < columns → length ps ≡ w
@@ -108,7 +99,7 @@ pub put_table : (m : Modulation) (ps : List Point) (f g : ℕ → ℕ → List �
     → put_labels m (table f rows columns) ((row * columns + column) * w) ps ≡ table g rows columns
 put_table m ps f g rows columns w row column wide in_row in_column long here others =
     let place : (row * columns + column) * w ≡ row * (columns * w) + (column * w + 0) = arranged row columns column w in
-    let last : column * w + w ≤ columns * w = within column columns w in_column in
+    let last : column * w + w ≤ columns * w = place_within column columns w in_column in
     let whole : 0 + length ps ≤ w = omega (arith, long) in
     let inner : put_labels m (flat_map (f row) (range_with_len 0 columns)) (column * w + 0) ps ≡ flat_map (g row) (range_with_len 0 columns) =
     put_block m ps (f row) (g row) w 0 columns column 0 (wide row) in_column whole
@@ -117,7 +108,7 @@ put_table m ps f g rows columns w row column wide in_row in_column long here oth
     (λ j low high apart. others row j in_row (omega (arith, high)) (λ r c. apart (omega (arith, c)))) in
     ap (λ (z : ℕ). put_labels m (table f rows columns) z ps) place
     ∙ put_block m ps (λ i. flat_map (f i) (range_with_len 0 columns)) (λ i. flat_map (g i) (range_with_len 0 columns)) (columns * w) 0 rows row (column * w + 0)
-    (λ i. length-blocks (f i) w 0 columns (wide i)) in_row (omega (arith, long, last))
+    (λ i. length-flat (f i) w 0 columns (wide i)) in_row (omega (arith, long, last))
     (ap (λ (i : ℕ). put_labels m (flat_map (f i) (range_with_len 0 columns)) (column * w + 0) ps) (omega arith)
     ∙ (inner ∙ ap (λ (i : ℕ). flat_map (g i) (range_with_len 0 columns)) (omega arith)))
     (λ i low high apart. flat_same (f i) (g i) 0 columns

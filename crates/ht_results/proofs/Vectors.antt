@@ -25,7 +25,7 @@ use Rattle.ht_results.specs.Folding.{label_at}
 use Rattle.ht_results.specs.Labels.{stream_label}
 
 -- the grid of a rate
-ladders : (m : Modulation) → AreLadders (axes_of m)
+pub ladders : (m : Modulation) → AreLadders (axes_of m)
 unfolding axes_of
 ladders Bpsk = record {
   i = record { size = inr (inl refl); some = omega arith; within = omega arith };

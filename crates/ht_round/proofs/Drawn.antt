@@ -1,20 +1,14 @@
 -- Sample frames can be written as a file, and hold octets.
-use Rattle.std.proofs.Common.{ℕ, zero, suc, ◌<◌, ◌≤◌, ◌^◌, All, arith}
-use Rattle.std.proofs.lemmas.List.Elements.{All-cons, All-nil}
+use Rattle.std.proofs.Common.{ℕ, ◌<◌, ◌≤◌, ◌^◌, arith}
 use Rattle.std.proofs.lemmas.Nat.{mod_below}
 use Rattle.ht_rate.specs.declared.rates.Rate.{Rate}
 use Rattle.ht_tx.specs.Frames.{FrameView}
 use Rattle.ht_files.specs.Files.{AreFrames, IsFrame}
 use Rattle.ht_return.specs.Returns.{AreOctets}
-use Rattle.ht_sim.specs.Draws.{Drawn, several}
 use Rattle.ht_sim.specs.Samples.{frames_drawn, octet_drawn, sample_frame_drawn}
 use Rattle.ht_sim.specs.Words.{first, next, word}
+use Rattle.ht_sim.proofs.Drawing.{All-several, length-several}
 use Rattle.ht_round.specs.Exact.{HoldOctets}
-use Rattle.ht_round.proofs.Simulated.{length-several}
-
-all_several : {A : Type 0} (P : A → Type 0) (draw : ℕ → Drawn A) (n z : ℕ) → ((s : ℕ) → P (draw s).value) → All P (several draw n z).value
-all_several P draw zero z each = All-nil P
-all_several P draw (suc n) z each = All-cons P (draw z).value (several draw n (draw z).state).value (each z) (all_several P draw n (draw z).state each)
 
 frame_is : (rate : Rate) (len z : ℕ) → 1 ≤ len → len ≤ 65535 → IsFrame (sample_frame_drawn rate len z).value
 unfolding sample_frame_drawn
@@ -25,14 +19,14 @@ frame_is rate len z some few =
 
 octets_are : (rate : Rate) (len z : ℕ) → AreOctets (sample_frame_drawn rate len z).value.octets
 unfolding sample_frame_drawn
-octets_are rate len z = all_several (λ octet. octet < 2 ^ 8) octet_drawn len (next z) (λ s. mod_below (word s) 256 (omega arith))
+octets_are rate len z = All-several (λ octet. octet < 2 ^ 8) octet_drawn len (next z) (λ s. mod_below (word s) 256 (omega arith))
 
 pub drawn_frames : (seed : ℕ) (rate : Rate) (len count : ℕ) → 1 ≤ len → len ≤ 65535 → count ≤ 65535 → AreFrames (frames_drawn seed rate len count)
 unfolding frames_drawn
 drawn_frames seed rate len count some few many =
     let size = length-several (sample_frame_drawn rate len) count (first seed) in
-    record { few = omega (arith, size, many); fit = all_several IsFrame (sample_frame_drawn rate len) count (first seed) (λ z. frame_is rate len z some few) }
+    record { few = omega (arith, size, many); fit = All-several IsFrame (sample_frame_drawn rate len) count (first seed) (λ z. frame_is rate len z some few) }
 
 pub drawn_octets : (seed : ℕ) (rate : Rate) (len count : ℕ) → HoldOctets (frames_drawn seed rate len count)
 unfolding frames_drawn
-drawn_octets seed rate len count = all_several (λ (f : FrameView). AreOctets f.octets) (sample_frame_drawn rate len) count (first seed) (octets_are rate len)
+drawn_octets seed rate len count = All-several (λ (f : FrameView). AreOctets f.octets) (sample_frame_drawn rate len) count (first seed) (octets_are rate len)

@@ -28,7 +28,8 @@ use Rattle.ht_tx.specs.Symbols.{IsSymbols}
 use Rattle.ht_sim.specs.Channel.{mixed}
 use Rattle.ht_round.specs.Exact.{HasFullDiagonal}
 use Rattle.ht_round.proofs.Points.{in_grid, length-grid, length-vector, vector_at}
-use Rattle.ht_round.proofs.Mixed.{HaveRows, length-symbol, length-mixed, noiseless_rows, regular_rows, symbol_from, symbols_from}
+use Rattle.ht_sim.proofs.Shapes.{length-mixed}
+use Rattle.ht_round.proofs.Mixed.{HaveRows, length-symbol, noiseless_rows, regular_rows, symbol_from, symbols_from}
 
 -- all subcarriers from one on, with their triangles
 abbrev pub numbered : ℕ → List (List Leg) → List Present

@@ -6,7 +6,7 @@ use Rattle.std.specs.Cmp.Derive.{both_true}
 use Rattle.std.proofs.lemmas.Bool.{cases_Bool, cases_eq, eq-eqb}
 use Rattle.std.proofs.lemmas.List.{get_or-append_right, get_or_append_left}
 use Rattle.std.proofs.lemmas.List.FromFn.{get_or-map-range_with_len, length-map-range_with_len}
-use Rattle.std.proofs.Math.Nat.{add-mul, mul-le-mul_right, mul_assoc}
+use Rattle.std.proofs.Math.Nat.{add-mul, mul_assoc}
 use Rattle.ht_rate.specs.declared.kinds.Carrier.{Carrier}
 use Rattle.ht_rate.specs.declared.kinds.Carrier.TheVariants.{Data}
 use Rattle.ht_rate.specs.declared.kinds.Modulation.{Modulation}
@@ -29,6 +29,7 @@ use Rattle.ht_inverse.specs.Received.{label_number}
 use Rattle.ht_tx.specs.Frames.{FrameView}
 use Rattle.ht_tx.specs.Symbols.{SymbolsView, point_at}
 use Rattle.ht_tx.specs.Transmitted.{Carries, IsLabelOf, IsPointOf, IsTransmitted}
+use Rattle.ht_tx.proofs.Places.{pair-below}
 use Rattle.ht_return.specs.Returns.{AreLabelsOf}
 use Rattle.ht_results.specs.Labels.{carrier_labels, frame_label, frame_labels, label_in, stands_at, symbol_labels}
 use Rattle.ht_results.proofs.Places.{stands}
@@ -62,12 +63,6 @@ arranged row columns column w m =
     let grouped = mul_assoc row columns w in
     omega (arith, split, grouped)
 
-within : (column columns w m : ℕ) → column < columns → m < w → column * w + m < columns * w
-within column columns w m below lt =
-    let next : (column + 1) * w ≤ columns * w = mul-le-mul_right w (omega (arith, below)) in
-    let split : (column + 1) * w ≡ column * w + w = omega arith in
-    omega (arith, next, split, lt)
-
 -- the labels of a frame stand in the order symbol, data subcarrier, stream
 label_there : (g : FrameJobs) (symbol carrier stream : ℕ) → symbol < symbols_in g.head → carrier < data_carriers_of g.head.rate
     → 1 ≤ stream → stream ≤ streams_of g.head.rate
@@ -84,7 +79,7 @@ label_there g symbol carrier stream ls lc low high =
     let third : 1 + m ≡ stream = omega (arith, low) in
     ap (λ (k : ℕ). get_or (frame_labels g) k 0) (arranged symbol d carrier w m)
     ∙ (block_at (symbol_labels g) (d * w) 0 (symbols_in g.head) symbol (carrier * w + m)
-    (λ i. length-flat (carrier_labels g i) w 0 d (λ j. length-map-range_with_len (frame_label g i j) 1 w)) ls (within carrier d w m lc lt)
+    (λ i. length-flat (carrier_labels g i) w 0 d (λ j. length-map-range_with_len (frame_label g i j) 1 w)) ls (pair-below carrier m d w lc lt)
     ∙ (ap (λ (i : ℕ). get_or (symbol_labels g i) (carrier * w + m) 0) first
     ∙ (block_at (carrier_labels g symbol) w 0 d carrier m (λ j. length-map-range_with_len (frame_label g symbol j) 1 w) lc lt
     ∙ (ap (λ (j : ℕ). get_or (carrier_labels g symbol j) m 0) second

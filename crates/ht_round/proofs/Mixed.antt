@@ -12,6 +12,7 @@ use Rattle.ht_metric.specs.Distance.{combined, plus, received, scaled}
 use Rattle.ht_metric.specs.Noiseless.{IsNoiseless, IsRegular}
 use Rattle.ht_metric.specs.Rows.{Leg, Row, rows_of}
 use Rattle.ht_sim.specs.Channel.{mixed, row_mixed, symbol_mixed, symbols_mixed}
+use Rattle.ht_sim.proofs.Shapes.{length-mixed}
 use Rattle.ht_round.specs.Exact.{HasFullDiagonal}
 use Rattle.ht_round.proofs.Points.{vector_from}
 
@@ -69,10 +70,6 @@ all_symbols n streams ts points =
 -- how many there are
 abbrev pub HaveRows : ℕ → List (List Leg) → Type 0
 HaveRows streams ts = AllByRecursion (λ (t : List Leg). length t ≡ streams) ts
-
-pub length-mixed : (t : List Leg) (points : List Point) → length (mixed t points) ≡ length t
-length-mixed [] points = refl
-length-mixed (leg ∷ legs) points = ap suc (length-mixed legs (drop 1 points))
 
 pub length-symbol : (streams number : ℕ) (ts : List (List Leg)) (points : List Point) → HaveRows streams ts
     → length (symbol_from streams number ts points) ≡ length ts * streams

@@ -1,22 +1,14 @@
 -- Frames whose file is a list of octets have octets.
-use Rattle.std.proofs.Common.{ℕ, zero, suc, ◌<◌, ◌^◌, List, [], ◌∷◌, ◌++◌, length, flat_map, arith}
+use Rattle.std.proofs.Common.{suc, ◌<◌, ◌^◌, List, [], ◌∷◌, length, flat_map}
 use Rattle.std.proofs.lemmas.List.Elements.{All-cons, All-from_get_or, All-nil}
 use Rattle.ht_fields.specs.Tests.{AreBytes}
 use Rattle.ht_heads.specs.Heads.{head_octets, start_octets}
+use Rattle.ht_capture_laws.proofs.Lists.{bytes_behind, bytes_front}
 use Rattle.ht_tx.specs.Frames.{FrameView}
 use Rattle.ht_files.specs.Files.{frame_octets, frames_file_of}
 use Rattle.ht_files.specs.Frames.{frames_magic}
 use Rattle.ht_return.specs.Returns.{AreOctets}
 use Rattle.ht_round.specs.Exact.{HoldOctets}
-
-bytes_front : (xs ys : List ℕ) → AreBytes (xs ++ ys) → AreBytes xs
-bytes_front [] ys bytes i = omega arith
-bytes_front (x ∷ xs) ys bytes zero = bytes 0
-bytes_front (x ∷ xs) ys bytes (suc i) = bytes_front xs ys (λ j. bytes (suc j)) i
-
-bytes_behind : (xs ys : List ℕ) → AreBytes (xs ++ ys) → AreBytes ys
-bytes_behind [] ys bytes = bytes
-bytes_behind (x ∷ xs) ys bytes = bytes_behind xs ys (λ j. bytes (suc j))
 
 frame_bytes : (f : FrameView) → AreBytes (frame_octets f) → AreOctets f.octets
 unfolding frame_octets

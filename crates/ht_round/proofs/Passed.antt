@@ -17,13 +17,14 @@ use Rattle.ht_round.specs.Exact.{HoldOctets}
 use Rattle.ht_round.specs.Returned.{returned_results, returned_text}
 use Rattle.ht_round.proofs.Simulated.{simulated_results, simulated_text}
 
+-- what is sent of frames can be written in a file
 all_symbols : (frames : List FrameView) (sent : List SymbolsView) → AreTransmitted frames sent → All IsSymbolFrame sent
 all_symbols [] [] out = All-nil IsSymbolFrame
 all_symbols [] (s ∷ sent) out = absurd out
 all_symbols (f ∷ frames) [] out = absurd out
 all_symbols (f ∷ frames) (s ∷ sent) out = All-cons IsSymbolFrame s sent out.1 (all_symbols frames sent out.2)
 
-sent_frames : (frames : List FrameView) (sent : List SymbolsView) → AreFrames frames → AreTransmitted frames sent → AreSymbolFrames sent
+pub sent_frames : (frames : List FrameView) (sent : List SymbolsView) → AreFrames frames → AreTransmitted frames sent → AreSymbolFrames sent
 sent_frames frames sent good out =
     let few = good.few in
     let count = length-sent frames sent out in

@@ -10,8 +10,6 @@ use Rattle.std.proofs.lemmas.List.Elements.{All-map, All-replicate}
 use Rattle.std.proofs.lemmas.List.FromFn.{get_or-map-range_with_len, length-map-range_with_len}
 use Rattle.ht_rate.specs.declared.kinds.Carrier.{Carrier}
 use Rattle.ht_rate.specs.declared.kinds.Carrier.TheVariants.{Data, Pilot}
-use Rattle.ht_rate.specs.declared.kinds.Modulation.{Modulation}
-use Rattle.ht_rate.specs.declared.kinds.Modulation.TheVariants.{Bpsk, Qpsk, Qam16, Qam64}
 use Rattle.ht_rate.specs.declared.rates.Rate.{Rate}
 use Rattle.ht_rate.specs.Carriers.{carrier_of}
 use Rattle.ht_rate.specs.Rates.{carriers_of, modulation_of, streams_of, symbols_of}
@@ -21,8 +19,8 @@ use Rattle.ht_pilot.specs.Pilots.{is_negated, pilot_of}
 use Rattle.ht_pam.specs.declared.axes.Axes.{Axes}
 use Rattle.ht_pam.specs.declared.point.Point.{Point}
 use Rattle.ht_pam.specs.Grids.{AreLadders, no_axes}
-use Rattle.ht_pam.specs.Ladders.{IsLadder, has}
-use Rattle.ht_map.specs.Constellation.{axes_of, full, grid_of}
+use Rattle.ht_pam.specs.Ladders.{has}
+use Rattle.ht_map.specs.Constellation.{axes_of, grid_of}
 use Rattle.ht_map.proofs.LabelFacts.{is_some-label_of}
 use Rattle.ht_metric.specs.Distance.{IsInRange}
 use Rattle.ht_metric.specs.Vectors.{is_in, no_point}
@@ -30,6 +28,7 @@ use Rattle.ht_metric.proofs.Allowed.{small_points}
 use Rattle.ht_capture.specs.Frames.{grid_at, grid_for, one_point, pilot_grid}
 use Rattle.ht_tx.specs.Symbols.{Fits, IsSymbols, index_of_point, pilot_point, point_at, points_of}
 use Rattle.ht_tx.proofs.Places.{digits-below}
+use Rattle.ht_results.proofs.Vectors.{ladders}
 
 -- the vector of this number among points
 abbrev pub vector_from : ℕ → List Point → ℕ → List Point
@@ -126,7 +125,7 @@ in_grid r octets points symbol carrier are ls lc =
     (are.fits symbol carrier (i + 1) ls lc (omega arith) (omega (arith, lt))))
 
 -- a grid has a ladder for each stream
-long_for : (r : Rate) (symbol : ℕ) (c : Carrier) → length (grid_for r symbol c) ≡ streams_of r
+pub long_for : (r : Rate) (symbol : ℕ) (c : Carrier) → length (grid_for r symbol c) ≡ streams_of r
 unfolding grid_of pilot_grid
 long_for r symbol (Data m) = length-replicate (streams_of r) (axes_of (modulation_of r))
 long_for r symbol (Pilot k) = length-map-range_with_len (λ stream. one_point (pilot_of r symbol k stream)) 1 (streams_of r)
@@ -134,22 +133,6 @@ long_for r symbol (Pilot k) = length-map-range_with_len (λ stream. one_point (p
 pub length-grid : (r : Rate) (symbol carrier : ℕ) → length (grid_at r symbol carrier) ≡ streams_of r
 unfolding grid_at
 length-grid r symbol carrier = long_for r symbol (carrier_of r carrier)
-
-full_2 : IsLadder (full 2)
-full_2 = record { size = inr (inl refl); some = omega arith; within = omega arith }
-
-full_4 : IsLadder (full 4)
-full_4 = record { size = inr (inr (inl refl)); some = omega arith; within = omega arith }
-
-full_8 : IsLadder (full 8)
-full_8 = record { size = inr (inr (inr refl)); some = omega arith; within = omega arith }
-
-ladders : (m : Modulation) → AreLadders (axes_of m)
-unfolding axes_of
-ladders Bpsk = record { i = full_2; q = record { size = inl refl; some = omega arith; within = omega arith } }
-ladders Qpsk = record { i = full_2; q = full_2 }
-ladders Qam16 = record { i = full_4; q = full_4 }
-ladders Qam64 = record { i = full_8; q = full_8 }
 
 either_mask : (b : Bool) → (0 < (if b then 2 else 1)) × ((if b then 2 else 1) < 2 ^ 2)
 either_mask true = (omega arith, omega arith)
@@ -160,7 +143,7 @@ one_ladders v =
     let mask = either_mask (int_eq v (pos 1)) in
     record { i = record { size = inr (inl refl); some = mask.0; within = mask.1 }; q = record { size = inl refl; some = omega arith; within = omega arith } }
 
-ladders_for : (r : Rate) (symbol : ℕ) (c : Carrier) → All AreLadders (grid_for r symbol c)
+pub ladders_for : (r : Rate) (symbol : ℕ) (c : Carrier) → All AreLadders (grid_for r symbol c)
 unfolding grid_of pilot_grid
 ladders_for r symbol (Data m) = All-replicate AreLadders (streams_of r) (axes_of (modulation_of r)) (ladders (modulation_of r))
 ladders_for r symbol (Pilot k) =

@@ -1,23 +1,23 @@
 -- What passes the simulated channel with noise 0 is received exactly.
-use Rattle.std.proofs.Common.{◌≡◌, ◌⊎◌, ℕ, zero, suc, ◌%◌, ◌<◌, ◌^◌, ℤ, pos, ◌+ℤ◌, ◌-ℤ◌, List, [], ◌∷◌, length, map, All}
-use Rattle.std.proofs.Common.{w16, FitsSigned, refl, sym, ap, ◌∙◌, arith}
-use Rattle.std.proofs.lemmas.Int.{fits_signed_from_abs, ints}
+use Rattle.std.proofs.Common.{◌≡◌, ◌⊎◌, ℕ, zero, suc, ◌%◌, ◌<◌, ℤ, pos, ◌+ℤ◌, ◌-ℤ◌, List, [], ◌∷◌, map, All}
+use Rattle.std.proofs.Common.{refl, ap, ◌∙◌, arith}
+use Rattle.std.proofs.lemmas.Int.{ints}
 use Rattle.std.proofs.lemmas.List.Elements.{All-cons, All-nil}
-use Rattle.std.proofs.lemmas.Nat.{mod_below}
 use Rattle.ht_rate.specs.Rates.{carriers_of, streams_of, symbols_of}
 use Rattle.ht_metric.specs.declared.complex.Complex.{Complex}
 use Rattle.ht_metric.specs.Distance.{received}
 use Rattle.ht_metric.specs.Rows.{Leg}
-use Rattle.ht_capture.specs.Contents.{AreLegs, AreTaps, AreTriangles}
 use Rattle.ht_capture.specs.Files.{capture_file_of}
 use Rattle.ht_tx.specs.Frames.{FrameView}
 use Rattle.ht_tx.specs.Symbols.{SymbolsView}
 use Rattle.ht_tx.specs.Transmitted.{AreTransmitted}
 use Rattle.ht_files.specs.Files.{AreFrames}
-use Rattle.ht_sim.specs.Channel.{captures_of, diagonal_of, entry_part_of, frame_drawn, legs_drawn}
+use Rattle.ht_sim.specs.Channel.{captures_of, diagonal_of, frame_drawn, legs_drawn}
 use Rattle.ht_sim.specs.Channel.{noise_of, sample_drawn, symbols_mixed, tap_drawn, triangle_drawn}
-use Rattle.ht_sim.specs.Draws.{Drawn, each, several}
+use Rattle.ht_sim.specs.Draws.{each, several}
 use Rattle.ht_sim.specs.Words.{first, next, word}
+use Rattle.ht_sim.proofs.Drawing.{length-several}
+use Rattle.ht_sim.proofs.Typed.{triangles_typed}
 use Rattle.ht_results.specs.Results.{results_of}
 use Rattle.ht_results.specs.Texts.{rx_text}
 use Rattle.ht_round.specs.Exact.{AreExact, HasFullDiagonal, HoldOctets, IsExact}
@@ -25,40 +25,12 @@ use Rattle.ht_round.specs.Returned.{returned_results, returned_text}
 use Rattle.ht_round.proofs.Round.{results_back, text_back}
 
 -- triangles
-pub length-several : {A : Type 0} (draw : ℕ → Drawn A) (n z : ℕ) → length (several draw n z).value ≡ n
-length-several draw zero z = refl
-length-several draw (suc n) z = ap suc (length-several draw n (draw z).state)
-
-length-legs : (n z : ℕ) → length (legs_drawn n z).value ≡ n
-length-legs zero z = refl
-length-legs (suc n) z = ap suc (length-legs n (several tap_drawn n (next z)).state)
-
-part_fits : (w : ℕ) → FitsSigned w16 (entry_part_of w)
-part_fits w = fits_signed_from_abs w16 (entry_part_of w) (omega (arith, ints, mod_below w 129 (omega arith)))
-
-taps_typed : (n z : ℕ) → AreTaps (several tap_drawn n z).value
-unfolding tap_drawn
-taps_typed zero z = tt
-taps_typed (suc n) z = (part_fits (word z), part_fits (word (next z)), taps_typed n (next (next z)))
-
-legs_typed : (n z : ℕ) → AreLegs (legs_drawn n z).value
-legs_typed zero z = tt
-legs_typed (suc n) z =
-    let right = several tap_drawn n (next z) in
-    let low : diagonal_of (word z) < 2 ^ 16 = omega (arith, mod_below (word z) 192 (omega arith)) in
-    (low, length-several tap_drawn n (next z) ∙ sym (length-legs n right.state), taps_typed n (next z), legs_typed n right.state)
-
 legs_full : (n z : ℕ) → HasFullDiagonal (legs_drawn n z).value
 legs_full zero z = All-nil (λ (leg : Leg). 0 < leg.diagonal)
 legs_full (suc n) z =
     let right = several tap_drawn n (next z) in
     All-cons (λ (leg : Leg). 0 < leg.diagonal) (record { diagonal = diagonal_of (word z); right = right.value }) (legs_drawn n right.state).value
     (omega arith) (legs_full n right.state)
-
-triangles_typed : (streams n z : ℕ) → AreTriangles streams (several (triangle_drawn streams) n z).value
-unfolding triangle_drawn
-triangles_typed streams zero z = tt
-triangles_typed streams (suc n) z = (length-legs streams z, legs_typed streams z, triangles_typed streams n (legs_drawn streams z).state)
 
 triangles_full : (streams n z : ℕ) → All HasFullDiagonal (several (triangle_drawn streams) n z).value
 unfolding triangle_drawn

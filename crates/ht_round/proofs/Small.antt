@@ -22,19 +22,19 @@ use Rattle.ht_round.proofs.Mixed.{symbol_from, symbols_from}
 use Rattle.ht_round.proofs.Points.{in_range, vector_at}
 
 -- both parts are at most so large
-abbrev Small : ℕ → Complex → Type 0
+abbrev pub Small : ℕ → Complex → Type 0
 Small n c = (unsigned_abs c.re ≤ n) × (unsigned_abs c.im ≤ n)
 
 abs-16 : (a : ℤ) → FitsSigned w16 a → unsigned_abs a ≤ 32768
 abs-16 a fits = omega (arith, ints)
 
-product : (a b : ℤ) (m n : ℕ) → unsigned_abs a ≤ m → unsigned_abs b ≤ n → unsigned_abs (a *ℤ b) ≤ m * n
+pub product : (a b : ℤ) (m n : ℕ) → unsigned_abs a ≤ m → unsigned_abs b ≤ n → unsigned_abs (a *ℤ b) ≤ m * n
 product a b m n p q = let times = mul-le (unsigned_abs a) (unsigned_abs b) m n p q in let e = unsigned_abs-mul a b in omega (arith, times, e)
 
 sum_small : (a b : ℤ) (m n : ℕ) → unsigned_abs a ≤ m → unsigned_abs b ≤ n → unsigned_abs (a +ℤ b) ≤ m + n
 sum_small a b m n p q = omega (arith, ints)
 
-difference_small : (a b : ℤ) (m n : ℕ) → unsigned_abs a ≤ m → unsigned_abs b ≤ n → unsigned_abs (a -ℤ b) ≤ m + n
+pub difference_small : (a b : ℤ) (m n : ℕ) → unsigned_abs a ≤ m → unsigned_abs b ≤ n → unsigned_abs (a -ℤ b) ≤ m + n
 difference_small a b m n p q = omega (arith, ints)
 
 times_small : (r : Tap) (x : Point) → FitsSigned w16 r.re → FitsSigned w16 r.im → IsInRange x → Small 458752 (times r x)
@@ -54,7 +54,7 @@ at_most c m n s le = (let p = s.0 in omega (arith, p, le), let q = s.1 in omega 
 none_small : (n : ℕ) → Small n (record { re = pos 0; im = pos 0 })
 none_small n = (omega arith, omega arith)
 
-combined_small : (taps : List Tap) (xs : List Point) → AreTaps taps → All IsInRange xs → Small (458752 * length taps) (combined taps xs)
+pub combined_small : (taps : List Tap) (xs : List Point) → AreTaps taps → All IsInRange xs → Small (458752 * length taps) (combined taps xs)
 combined_small [] xs typed within = none_small (458752 * length {A = Tap} [])
 combined_small (r ∷ taps) [] typed within = none_small (458752 * length (r ∷ taps))
 combined_small (r ∷ taps) (x ∷ xs) typed within =

@@ -1,6 +1,6 @@
-mod Drawing
+pub mod Drawing
 mod Mixing
-mod Shapes
+pub mod Shapes
 mod Signs
-mod Typed
+pub mod Typed
 mod Worked

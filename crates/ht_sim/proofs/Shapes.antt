@@ -20,7 +20,7 @@ pub length-triangle_drawn : (n z : ℕ) → length (triangle_drawn n z).value �
 unfolding triangle_drawn
 length-triangle_drawn n z = length-legs_drawn n z
 
-length-mixed : (t : List Leg) (points : List Point) → length (mixed t points) ≡ length t
+pub length-mixed : (t : List Leg) (points : List Point) → length (mixed t points) ≡ length t
 length-mixed [] points = refl
 length-mixed (leg ∷ legs) points = ap suc (length-mixed legs (drop 1 points))
 

@@ -11,7 +11,9 @@ use Rattle.ht_rate.proofs.RateFacts.{carriers_of-range}
 use Rattle.ht_capture.specs.declared.frames.CaptureFrame.{CaptureFrame}
 use Rattle.ht_capture.specs.Contents.{AreLegs, AreSamples, AreTaps, AreTriangles, AreTyped, IsTyped}
 use Rattle.ht_capture.specs.Files.{FitsFrame, present_among}
+use Rattle.ht_capture.proofs.Encoded.{samples_more}
 use Rattle.ht_capture.proofs.Filed.{all_present}
+use Rattle.ht_capture.proofs.Framed.{typed_more}
 use Rattle.ht_sim.specs.Channel.{diagonal_of, entry_part_of, legs_drawn, tap_drawn, triangle_drawn}
 use Rattle.ht_sim.specs.Draws.{several}
 use Rattle.ht_sim.specs.Words.{next, word}
@@ -48,10 +50,6 @@ triangles_typed streams zero z = tt
 triangles_typed streams (suc n) z =
     (length-triangle_drawn streams z, triangle_typed streams z, triangles_typed streams n (triangle_drawn streams z).state)
 
-samples_more : (xs : List Sample) (s : Sample) → AreSamples xs → FitsSigned w32 s.re → FitsSigned w32 s.im → AreSamples (xs ++ s ∷ [])
-samples_more [] s typed f g = (f, g, tt)
-samples_more (x ∷ xs) s typed f g = (typed.0, typed.1, samples_more xs s typed.2 f g)
-
 -- one more sample
 pub one_more_sample : (xs ys : List Sample) (s : Sample) → ys ≡ xs ++ s ∷ [] → AreSamples xs
     → FitsSigned w32 s.re → FitsSigned w32 s.im → AreSamples ys
@@ -60,10 +58,6 @@ one_more_sample xs ys s is typed f g = subst AreSamples (sym is) (samples_more x
 -- no samples
 pub no_samples : (xs : List Sample) → xs ≡ [] → AreSamples xs
 no_samples xs is = subst AreSamples (sym is) tt
-
-typed_more : (xs : List CaptureFrame) (f : CaptureFrame) → AreTyped xs → IsTyped f → AreTyped (xs ++ f ∷ [])
-typed_more [] f typed fits = (fits, tt)
-typed_more (x ∷ xs) f typed fits = (typed.0, typed_more xs f typed.1 fits)
 
 -- one more frame
 pub one_more_typed : (xs ys : List CaptureFrame) (f : CaptureFrame) → ys ≡ xs ++ f ∷ [] → AreTyped xs → IsTyped f → AreTyped ys

@@ -254,7 +254,7 @@ shared f r items bits dr di db =
     rw dr (no_rest (encoders_of f.rate) _ (length bits) (encoders_of-range f.rate).0 (encoders_of-range f.rate).1 (ap length (db ∙ di) ∙ input-whole f))
 
 -- bits with zeros in the place of some
-zeroed-at : (bits : List Bool) (at count k : ℕ) → at + count ≤ length bits
+pub zeroed-at : (bits : List Bool) (at count k : ℕ) → at + count ≤ length bits
     → ((k < at → get_or (zeroed at count bits) k false ≡ get_or bits k false)
     × (at ≤ k → k < at + count → get_or (zeroed at count bits) k false ≡ false)
     × (at + count ≤ k → get_or (zeroed at count bits) k false ≡ get_or bits k false))

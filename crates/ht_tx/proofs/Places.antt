@@ -1,7 +1,7 @@
 -- Places of label bits and of points, and their parts.
 use Rattle.std.proofs.Common.{◌≡◌, ℕ, ◌+◌, ◌*◌, ◌/◌, ◌%◌, ◌<◌, ap, sym, ◌∙◌, arith}
 use Rattle.std.proofs.Math.Nat.{mul_comm, mul_assoc}
-use Rattle.std.proofs.lemmas.Nat.{div-mul-add, mod-mul-add, mul-add-lt, mod_below, div_below}
+use Rattle.std.proofs.lemmas.Nat.{div-add-mod', div-mul-add, mod-mul-add, mul-add-lt, mod_below, div_below}
 use Rattle.ht_rate.specs.declared.rates.Rate.{Rate}
 use Rattle.ht_rate.specs.Rates.{streams_of, stream_bits_of, coded_bits_of, data_carriers_of, label_bits_of}
 use Rattle.ht_rate.proofs.RateFacts.{stream_bits_of-is, coded_bits_of-is}
@@ -16,11 +16,13 @@ digits a b c n w lb lc =
       mod-mul-add (a * n + b) w c lc,
     )
 
--- and their number is below that of all
+-- the number of two digits is below that of all
+pub pair-below : (a b h n : ℕ) → a < h → b < n → a * n + b < h * n
+pair-below a b h n la lb = omega (arith, mul-add-lt a n b h la lb, mul_comm n h)
+
+-- and so is that of three
 pub digits-below : (a b c h n w : ℕ) → a < h → b < n → c < w → (a * n + b) * w + c < h * n * w
-digits-below a b c h n w la lb lc =
-    let high : a * n + b < h * n = omega (arith, mul-add-lt a n b h la lb, mul_comm n h) in
-    omega (arith, mul-add-lt (a * n + b) w c (h * n) high lc, mul_comm w (h * n))
+digits-below a b c h n w la lb lc = pair-below (a * n + b) c (h * n) w (pair-below a b h n la lb) lc
 
 -- the coded bits of a symbol: a label for each data subcarrier and stream
 pub coded_bits_of-labels : (r : Rate) → coded_bits_of r ≡ data_carriers_of r * streams_of r * label_bits_of r
@@ -39,7 +41,10 @@ parts-below p h n w some_n some_w lt =
       mod_below p w some_w,
     )
 
+-- and give it again
+pub parts-again : (p n w : ℕ) → (p / w / n * n + p / w % n) * w + p % w ≡ p
+parts-again p n w = ap (λ (x : ℕ). x * w + p % w) (div-add-mod' (p / w) n) ∙ div-add-mod' p w
+
 -- the place of a label bit in its stream
 pub place-below : (r : Rate) (carrier bit : ℕ) → carrier < data_carriers_of r → bit < label_bits_of r → carrier * label_bits_of r + bit < stream_bits_of r
-place-below r carrier bit lc lb =
-    omega (arith, stream_bits_of-is r, mul-add-lt carrier (label_bits_of r) bit (data_carriers_of r) lc lb, mul_comm (label_bits_of r) (data_carriers_of r))
+place-below r carrier bit lc lb = omega (arith, stream_bits_of-is r, pair-below carrier bit (data_carriers_of r) (label_bits_of r) lc lb)

@@ -4,7 +4,6 @@ use Rattle.std.proofs.Common.{refl, sym, ap, subst, ◌∙◌, arith}
 use Rattle.std.specs.Int.{bit_at}
 use Rattle.std.proofs.lemmas.Bool.Decides.{nat_tests}
 use Rattle.std.proofs.lemmas.List.{same_lists, get_or_default}
-use Rattle.std.proofs.lemmas.Nat.{div-add-mod'}
 use Rattle.std.proofs.lemmas.Nat.Bits.{bit_at-lt, same_from_bits_below}
 use Rattle.ht_rate.specs.declared.kinds.Carrier.{Carrier}
 use Rattle.ht_rate.specs.declared.kinds.Carrier.TheVariants.{Data, Pilot}
@@ -20,7 +19,7 @@ use Rattle.ht_landing.proofs.Landed.{coded_bit_of-lands}
 use Rattle.ht_tx.specs.Frames.{FrameView}
 use Rattle.ht_tx.specs.Symbols.{IsSymbols, SymbolsView, index_of_point, origin, point_at, points_of}
 use Rattle.ht_tx.specs.Transmitted.{AreTransmitted, Carries, IsLabelOf, IsTransmitted, label_bit_at}
-use Rattle.ht_tx.proofs.Places.{parts-below}
+use Rattle.ht_tx.proofs.Places.{parts-again, parts-below}
 
 same_bit : (a b : ℕ) → a < 2 → b < 2 → (a == 1) ≡ (b == 1) → a ≡ b
 same_bit a b low high same = grind (arith, nat_tests)
@@ -50,9 +49,6 @@ one_carried f symbol (Data m) stream p q few low high x y =
     x.mapped ∙ (ap (point_of (modulation_of f.rate)) (one_label f symbol m stream x.label y.label few low high x.landed y.landed) ∙ sym y.mapped)
 one_carried f symbol (Pilot k) stream p q few low high x y = x ∙ sym y
 
-place_again : (p n w : ℕ) → (p / w / n * n + p / w % n) * w + p % w ≡ p
-place_again p n w = ap (λ (x : ℕ). x * w + p % w) (div-add-mod' (p / w) n) ∙ div-add-mod' p w
-
 -- the point at a place is that of its symbol, subcarrier and stream
 same_point_at : (f : FrameView) (s t : SymbolsView) → IsTransmitted f s → IsTransmitted f t → (place : ℕ) → place < points_of f.rate (length f.octets)
     → get_or s.points place origin ≡ get_or t.points place origin
@@ -70,7 +66,7 @@ same_point_at f s t x y place few =
     let low : 1 ≤ stream = omega arith in
     let high : stream ≤ w = omega (arith, parts.2) in
     let first : stream - 1 ≡ place % w = omega arith in
-    let there : (symbol * n + index) * w + (stream - 1) ≡ place = ap (λ (k : ℕ). (symbol * n + index) * w + k) first ∙ place_again place n w in
+    let there : (symbol * n + index) * w + (stream - 1) ≡ place = ap (λ (k : ℕ). (symbol * n + index) * w + k) first ∙ parts-again place n w in
     subst (λ (k : ℕ). get_or s.points k origin ≡ get_or t.points k origin) there
     (one_carried f symbol (carrier_of r index) stream (point_at r s.points symbol index stream) (point_at r t.points symbol index stream)
     (carrier_of-among r index parts.1) low high (x.points symbol index stream parts.0 parts.1 low high) (y.points symbol index stream parts.0 parts.1 low high))

@@ -2,8 +2,7 @@
 use Rattle.std.proofs.Common.{◌≡◌, ℕ, ◌+◌, ◌-◌, ◌*◌, ◌/◌, ◌%◌, ◌^◌, ◌<◌, ◌≤◌, List, Bool, false}
 use Rattle.std.proofs.Common.{◌==◌, drop, take, slice_range, length, get_or, refl, ap, sym, ◌∙◌, subst, arith}
 use Rattle.std.specs.Int.{bit_at}
-use Rattle.std.proofs.Math.Nat.{mul_comm, mul-le-mul_right}
-use Rattle.std.proofs.lemmas.Nat.{mul-add-lt}
+use Rattle.std.proofs.Math.Nat.{mul-le-mul_right}
 use Rattle.std.proofs.lemmas.List.{get_or-drop, get_or-take, length-drop, length-take}
 use Rattle.ht_rate.specs.declared.rates.Rate.{Rate}
 use Rattle.ht_rate.specs.declared.kinds.Modulation.{Modulation}
@@ -22,7 +21,7 @@ use Rattle.ht_tx.specs.Frames.{FrameView}
 use Rattle.ht_tx.specs.Coded.{coded_of, reach_of}
 use Rattle.ht_tx.specs.Transmitted.{label_bit_at, IsLabelOf, IsPointOf}
 use Rattle.ht_tx.specs.Sources.{slot_of, source_at, source_of_slot, AreCoded, IsLabelSlot, AreWired}
-use Rattle.ht_tx.proofs.Places.{digits, digits-below, place-below, coded_bits_of-labels}
+use Rattle.ht_tx.proofs.Places.{digits, digits-below, pair-below, place-below, coded_bits_of-labels}
 
 -- the place of a label bit is in the table
 pub slot-below : (r : Rate) (carrier stream bit : ℕ) → IsLabelSlot r carrier stream bit
@@ -60,14 +59,6 @@ from-symbol r symbol carrier stream bit h =
     let none : 0 * share_of r + (source_of r stream (origin_of r stream p)).1 ≡ (source_of r stream (origin_of r stream p)).1 = omega arith in
     (at.0, subst (λ (x : ℕ). x < share_of r) (sym none) at.1, refl, ap (λ (x : ℕ). symbol * share_of r + x) (sym none))
 
--- a place in the lists of the encoders
-inside : (j q e reach : ℕ) → j < e → q < reach → j * reach + q < e * reach
-inside j q e reach lj lq =
-    omega (arith, mul-add-lt j reach q e lj lq, mul_comm reach e)
-
-symbol-below : (symbol symbols share i : ℕ) → symbol < symbols → i < share → symbol * share + i < symbols * share
-symbol-below symbol symbols share i ls li = omega (arith, mul-add-lt symbol share i symbols ls li, mul_comm share symbols)
-
 pub wired : (f : FrameView) (symbol : ℕ) (all coded : List Bool) (sources : List ℕ) → symbol < symbols_of f.rate (length f.octets) → AreCoded f all
     → coded ≡ drop (symbol * share_of f.rate) all → length sources ≡ coded_bits_of f.rate
     → ((slot : ℕ) → slot < length sources → get_or sources slot 0 ≡ source_of_slot f.rate (reach_of f) slot)
@@ -98,8 +89,8 @@ wired f symbol all coded sources ls are_coded is_coded len table = record {
         let from = from-symbol f.rate symbol carrier stream bit h in
         let j = (coded_bit_of f.rate (label_bit_at 0 carrier stream bit)).0 in
         let i = (coded_bit_of f.rate (label_bit_at 0 carrier stream bit)).1 in
-        let lq = symbol-below symbol (symbols_of f.rate (length f.octets)) (share_of f.rate) i ls from.1 in
-        let lt = inside j (symbol * share_of f.rate + i) (encoders_of f.rate) (symbols_of f.rate (length f.octets) * share_of f.rate) from.0 lq in
+        let lq = pair-below symbol i (symbols_of f.rate (length f.octets)) (share_of f.rate) ls from.1 in
+        let lt = pair-below j (symbol * share_of f.rate + i) (encoders_of f.rate) (symbols_of f.rate (length f.octets) * share_of f.rate) from.0 lq in
         omega (arith, source carrier stream bit h, lt, are_coded.whole, length-drop (symbol * share_of f.rate) all)
 
     at : (carrier stream bit : ℕ) → IsLabelSlot f.rate carrier stream bit
@@ -110,7 +101,7 @@ wired f symbol all coded sources ls are_coded is_coded len table = record {
         let from = from-symbol f.rate symbol carrier stream bit h in
         let j = (coded_bit_of f.rate (label_bit_at 0 carrier stream bit)).0 in
         let i = (coded_bit_of f.rate (label_bit_at 0 carrier stream bit)).1 in
-        let lq = symbol-below symbol (symbols_of f.rate (length f.octets)) (share_of f.rate) i ls from.1 in
+        let lq = pair-below symbol i (symbols_of f.rate (length f.octets)) (share_of f.rate) ls from.1 in
         let reach = symbols_of f.rate (length f.octets) * share_of f.rate in
         let place : symbol * share_of f.rate + (j * reach + i) ≡ j * reach + (symbol * share_of f.rate + i) = omega arith in
         ap (λ (l : List Bool). get_or l (get_or sources (slot_of f.rate carrier stream bit) 0) false) is_coded

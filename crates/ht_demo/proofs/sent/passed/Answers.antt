@@ -1,6 +1,6 @@
 use Rattle.std.proofs.Common.{List, length, ap, arith}
 use Rattle.ht_tx.specs.Symbols.{SymbolsView}
-use Rattle.ht_demo.proofs.Passing.{length-sent}
+use Rattle.ht_tx.proofs.Sequences.{length-sent}
 use Rattle.ht_demo.proofs.sent.passed.Goals as goal
 
 -- each frame is sent and captured
