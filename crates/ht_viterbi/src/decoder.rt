@@ -102,9 +102,7 @@ fn stretch(
     ensures room { length rows.now ≤ vec_capacity choices.new }
 {
     let mut costs = behind;
-    let mut at = to;
-    while at > from {
-        at -= 1;
+    for at in (from..to).rev() {
         let row = rows[at];
         let (next, word) = step(costs, lanes_of(zeros, row), lanes_of(rises, row), free);
         choices.push_reserved(word);

@@ -12,6 +12,3 @@ invariant-loop-at l = record {
   costs : HasLanes l.costs (λ k. least_from (pairs_at l.rows l.at) k % 256);
   choices : AreChoices (pairs_at l.rows l.at) (reverse l.choices.items);
 }
-
-abbrev pub decreases-loop-at : goal.decreases-loop-at
-decreases-loop-at l = l.at
