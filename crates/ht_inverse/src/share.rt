@@ -1,5 +1,6 @@
 //! Where the labels of a symbol have an encoder's coded bits, and what the labels of a frame say of them.
-ghost use Rattle.std.specs.Prelude.{◌≡◌, ◌+◌, ◌-◌, ◌*◌, ◌^◌, ◌<◌, ◌≤◌, ℕ, true, false, IfOk, length, map, slice_index_or, vec_len, vec_capacity};
+ghost use Rattle.std.specs.Prelude.{◌≡◌, ◌+◌, ◌-◌, ◌*◌, ◌^◌, ◌<◌, ◌≤◌, ℕ, true, false, IfOk};
+ghost use Rattle.std.specs.Prelude.{length, map, slice_index_or, vec_len, vec_capacity};
 ghost use Rattle.std.specs.List.{range_with_len};
 ghost use Rattle.ht_rate.specs.Rates.{encoders_of, label_bits_of, pattern_of, steps_of, symbols_of};
 ghost use Rattle.ht_parse.specs.Streams.{share_of};
@@ -137,9 +138,9 @@ impl Share {
         )
     }
 
-    // The same, where it is known whether the share is whole.
+    // Appends what the labels say of a symbol's first coded bits, which come next.
     #[inline(always)]
-    fn push_bits(
+    fn push_symbol(
         &self,
         bits: &mut Vec<ReceivedBit>,
         labels: &[u8],
@@ -167,58 +168,40 @@ impl Share {
         }
     }
 
-    // Appends what the labels say of a symbol's first coded bits, which come next.
-    #[inline(always)]
-    fn push_symbol(
-        &self,
-        bits: &mut Vec<ReceivedBit>,
-        labels: &[u8],
-        symbols: usize,
-        symbol: usize,
-        count: usize,
-    )
-        requires labels { length labels.now ≡ symbols * labels_per_symbol self.now.rate }
-        requires few { symbols ≤ 2 ^ 20 }
-        requires share { count ≤ share_of self.now.rate }
-        requires within { symbol * share_of self.now.rate + count ≤ symbols * share_of self.now.rate }
-        requires room { symbol * share_of self.now.rate + count ≤ vec_capacity bits.old }
-        requires so_far { map known_of bits.old.items
-            ≡ map (received_at self.now.rate self.now.erased labels.now self.now.encoder) (range_with_len 0 (symbol * share_of self.now.rate)) }
-        ensures items { map known_of bits.new.items
-            ≡ map (received_at self.now.rate self.now.erased labels.now self.now.encoder) (range_with_len 0 (symbol * share_of self.now.rate + count)) }
-        ensures room { vec_capacity bits.new ≡ vec_capacity bits.old }
-    {
-        if self.erased == 0 {
-            self.push_bits(bits, labels, symbols, symbol, count, true);
-        } else {
-            self.push_bits(bits, labels, symbols, symbol, count, false);
-        }
-    }
-
     // What the labels of some symbols say of the encoder's first coded bits: of whole symbols, and of a part of the next.
+    #[inline(always)]
     fn received(
         &self,
         alloc: Global,
         symbols: usize,
         labels: &[u8],
         count: usize,
+        whole: bool,
     ) -> Result<Vec<ReceivedBit>, AllocError>
         requires labels { length labels.now ≡ symbols * labels_per_symbol self.now.rate }
         requires count { count ≤ symbols * share_of self.now.rate }
         requires few { symbols ≤ 2 ^ 20 }
+        requires whole { whole ≡ true → self.now.erased ≡ 0 }
         ensures { IfOk result (λ bits. map known_of bits.items
             ≡ map (received_at self.now.rate self.now.erased labels.now self.now.encoder) (range_with_len 0 count)) }
     {
         let share = self.places.len();
         let mut bits = Vec::with_capacity(alloc, count)?;
         for symbol in 0..count / share {
-            self.push_symbol(&mut bits, labels, symbols, symbol, share);
+            self.push_symbol(&mut bits, labels, symbols, symbol, share, whole);
         }
-        self.push_symbol(&mut bits, labels, symbols, count / share, count % share);
+        self.push_symbol(
+            &mut bits,
+            labels,
+            symbols,
+            count / share,
+            count % share,
+            whole,
+        );
         Ok(bits)
     }
 
-    /// The received list of a frame with this number of octets.
+    /// The received list of a frame with this number of octets. A whole share has loops of its own.
     #[tactic(auto, using(ht_conv::proofs::Fitting::sent_fits), unfolding(ht_parse::specs::Streams::share_of, crate::specs::Received::received_of))]
     pub(crate) fn gathered(
         &self,
@@ -233,7 +216,11 @@ impl Share {
     {
         let symbols = self.rate.symbols(octets) as usize;
         let count = sent(self.rate.pattern(), self.rate.codeword_steps(octets)) as usize;
-        self.received(alloc, symbols, labels, count)
+        if self.erased == 0 {
+            self.received(alloc, symbols, labels, count, true)
+        } else {
+            self.received(alloc, symbols, labels, count, false)
+        }
     }
 
     /// The codeword of a frame with this number of octets, decoded.

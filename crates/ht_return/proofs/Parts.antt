@@ -109,10 +109,10 @@ unfolding part_of
 part-length f j = length-map-range_with_len (λ i. get_or (coder_input f) (encoders_of f.rate * i + j) false) 0 (length (coder_input f) / encoders_of f.rate)
 
 -- zeros, place by place, are zeros
-all-zero : (bits : List Bool) → ((k : ℕ) → k < length bits → get_or bits k false ≡ false) → list_all not bits ≡ true
-all-zero [] zeros = refl
-all-zero (false ∷ bits) zeros = all-zero bits (λ k lt. zeros (suc k) (omega arith))
-all-zero (true ∷ bits) zeros = absurd (true≢false (zeros 0 (omega arith)))
+zeros-at : (bits : List Bool) → ((k : ℕ) → k < length bits → get_or bits k false ≡ false) → list_all not bits ≡ true
+zeros-at [] zeros = refl
+zeros-at (false ∷ bits) zeros = zeros-at bits (λ k lt. zeros (suc k) (omega arith))
+zeros-at (true ∷ bits) zeros = absurd (true≢false (zeros 0 (omega arith)))
 
 -- a bit of the tail of encoder j is one of the zeroed places
 tail-place : (e i j steps all : ℕ) → e * (steps - 6) ≡ all → 6 ≤ steps → j < e → steps - 6 ≤ i → i < steps
@@ -152,7 +152,7 @@ coded-of f =
       rest = λ j. drop steps (part j);
       terminated = λ j there.
           terminated-from steps (take steps (part j)) (long j)
-          (ends-test (take steps (part j)) (all-zero (drop (length (take steps (part j)) - 6) (take steps (part j)))
+          (ends-test (take steps (part j)) (zeros-at (drop (length (take steps (part j)) - 6) (take steps (part j)))
           (λ k lt.
           let place : length (take steps (part j)) - 6 + k ≡ steps - 6 + k = ap (λ (z : ℕ). z - 6 + k) (long j) in
           let rest : k < length (drop (length (take steps (part j)) - 6) (take steps (part j))) = lt in

@@ -3,7 +3,7 @@ use Rattle.std.specs.List.{range_with_len}
 use Rattle.ht_parse.specs.Streams.{share_of}
 use Rattle.ht_viterbi.specs.Received.{known_of}
 use Rattle.ht_inverse.specs.Received.{received_at}
-use Rattle.ht_inverse.proofs.share.Share.push_bits.Given as goal
+use Rattle.ht_inverse.proofs.share.Share.push_symbol.Given as goal
 
 abbrev pub invariant-loop-place : goal.invariant-loop-place
 invariant-loop-place l = record {

@@ -3,7 +3,7 @@ use Rattle.std.specs.List.{range_with_len}
 use Rattle.ht_parse.specs.Streams.{share_of}
 use Rattle.ht_inverse.specs.Received.{received_at}
 use Rattle.ht_inverse.proofs.Gathered.{place-added, places-counted}
-use Rattle.ht_inverse.proofs.share.Share.push_bits.Goals as goal
+use Rattle.ht_inverse.proofs.share.Share.push_symbol.Goals as goal
 
 pub loop-place-init : goal.loop-place-init
 loop-place-init c =
