@@ -143,20 +143,6 @@ module _ {Fault : Type 0} where
         along = λ all start. along_less all f1 f2 (came.along all start) (omega (arith, some)) takes same;
       }
 
-  -- a job came, and none was run yet
-  pub runs_none : (f f' : FeedView Fault) (next : Option JobView) → ComesNext f f' next → RunsOn f f' 0 next
-  runs_none f f' next comes =
-      let due : length f'.due ≡ length (as_list next) = ap (λ (jobs : List JobView). length jobs) comes.due in
-      record {
-        due = comes.due;
-        number = comes.number;
-        count = omega (arith, due, comes.count);
-        ended = comes.ended;
-        left = comes.left;
-        failed = comes.failed;
-        along = comes.along;
-      }
-
   -- the job that came last was run, and the next one came
   pub runs_more : (f0 f f' : FeedView Fault) (ran : ℕ) (last : Option JobView) (job : JobView) (next : Option JobView)
       → RunsOn f0 f ran last → last ≡ Some job → ComesNext f f' next → RunsOn f0 f' (ran + 1) next
