@@ -1,16 +1,14 @@
 -- Jobs that the caller keeps.
-use Rattle.std.proofs.Common.{◌≡◌, ℕ, ◌+◌, ◌-◌, ◌<◌, ◌≤◌, ◌^◌, List, [], ◌∷◌, length, take, drop, slice_get, Option, Some, None, IfSome}
+use Rattle.std.proofs.Common.{◌≡◌, ℕ, ◌+◌, ◌-◌, List, [], ◌∷◌, length}
+use Rattle.std.proofs.Common.{take, drop, slice_get, Option, Some, None, IfSome}
 use Rattle.std.proofs.Common.{ap, ◌∙◌, sym, subst, refl, arith, rules}
 use Rattle.ht_metric.specs.declared.hit.Hit.{Hit}
 use Rattle.ht_metric.specs.Jobs.{JobView}
-use Rattle.ht_window.specs.Windows.{WindowView, front_hit}
+use Rattle.ht_window.specs.Windows.{front_hit}
 use Rattle.ht_window.specs.declared.slot.Slot.{Slot}
 use Rattle.ht_crew.specs.Feeds.{FeedView}
 use Rattle.ht_crew.specs.Driving.{IsAlong, RunsOn, as_list, one_without, waiting}
-use Rattle.ht_crew.specs.Accounts.{JobHelm, Tallies}
-use Rattle.ht_crew.specs.declared.tally.Tally.{Tally}
 use Rattle.ht_crew.proofs.Giving.{first_between}
-use Rattle.ht_crew.proofs.Issuing.{below_later}
 
 some_left : (hit : Option Hit) (n : ℕ) → hit ≡ None → one_without hit n ≡ 0 → ⊥
 some_left None n e none = omega (arith, none)

@@ -90,7 +90,11 @@ fn run_all<F: Feed, G: Gate>(ahead: bool, gate: &G, feed: &mut F) -> Result<u64,
 
 /// Gives the feed the hit of the one job due, and asks it for the next job; where two may be due it asks first, so that the
 /// feed knows whether another job follows.
-pub(crate) fn hand_back<F: Feed>(ahead: bool, hit: Hit, feed: &mut F) -> Result<Option<Job>, F::Fault>
+pub(crate) fn hand_back<F: Feed>(
+    ahead: bool,
+    hit: Hit,
+    feed: &mut F,
+) -> Result<Option<Job>, F::Fault>
     requires alone { (F.shown feed.old).due ≡ hit.job ∷ [] }
     requires running { (F.shown feed.old).ended ≡ false }
 
