@@ -1,5 +1,6 @@
 -- A job is issued.
-use Rattle.std.proofs.Common.{◌≡◌, ℕ, ◌+◌, ◌-◌, ◌<◌, ◌≤◌, ◌^◌, List, [], ◌∷◌, ◌++◌, length, Bool, true, if◌then◌else◌, ◌==◌, nat_lt, slice_get}
+use Rattle.std.proofs.Common.{◌≡◌, ℕ, ◌+◌, ◌-◌, ◌<◌, ◌≤◌, ◌^◌, List, [], ◌∷◌, ◌++◌, length}
+use Rattle.std.proofs.Common.{Bool, true, if◌then◌else◌, ◌==◌, nat_lt, slice_get}
 use Rattle.std.proofs.Common.{Some, ◌∙◌, sym, refl, arith, subst}
 use Rattle.std.proofs.lemmas.Bool.Decides.{nat_tests}
 use Rattle.std.proofs.lemmas.List.{length-append, map-append}
@@ -18,8 +19,9 @@ use Rattle.ht_crew.proofs.Booking.{waits_at_end}
 number_step : (n m k : ℕ) → k ≡ m → (if k == n then 1 else 0) + (if nat_lt n m then 1 else 0) ≤ (if nat_lt n (m + 1) then 1 else 0)
 number_step n m k e = grind (arith, nat_tests, e)
 
-pub below_more : (n m : ℕ) → (if nat_lt n m then 1 else 0) ≤ (if nat_lt n (m + 1) then 1 else 0)
-below_more n m = grind (arith, nat_tests)
+-- a number below a count is below each later one
+pub below_later : (n m more : ℕ) → (if nat_lt n m then 1 else 0) ≤ (if nat_lt n (m + more) then 1 else 0)
+below_later n m more = grind (arith, nat_tests)
 
 -- one job more has the next number
 numbers_more : (given : List JobView) (job : JobView) (count : ℕ) → job.number ≡ count → HaveNumbers count given → HaveNumbers (count + 1) (given ++ job ∷ [])
@@ -78,7 +80,7 @@ module _ (t : Tally) (w : WindowView) (h : JobHelm) (job : JobView) (tallies : T
           given = omega (arith, tallies.given);
           sources = omega (arith, tallies.sources);
           sure = λ some. room;
-          numbers = λ n. omega (arith, tallies.numbers n, below_more n t.issued);
+          numbers = λ n. omega (arith, tallies.numbers n, below_later n t.issued 1);
           few = omega (arith, number, last);
         };
         issued = refl;

@@ -1,5 +1,6 @@
 -- What the counts of a caller have to do with its window and with its helm at the pool.
-use Rattle.std.specs.Prelude.{◌≡◌, ◌+◌, ◌<◌, ◌≤◌, ◌^◌, ℕ, List, [], ◌∷◌, ◌++◌, length, Bool, if◌then◌else◌, ◌==◌, nat_lt, slice_get, Some}
+use Rattle.std.specs.Prelude.{◌≡◌, ◌+◌, ◌<◌, ◌≤◌, ◌^◌, ℕ, List, [], ◌∷◌, ◌++◌, length}
+use Rattle.std.specs.Prelude.{Bool, if◌then◌else◌, ◌==◌, nat_lt, slice_get, Some}
 use Rattle.std.specs.List.{sum_by}
 use Rattle.ht_metric.specs.Jobs.{JobView}
 use Rattle.ht_metric.specs.declared.hit.Hit.{Hit}

@@ -2,41 +2,65 @@
 
 use ht_metric::Hit;
 
-/// What a caller has seen of the cost of its jobs: how many cheap ones came last, 255 at most.
+/// The credit from which on jobs count as cheap.
+const QUICK: u8 = 192;
+
+/// What a dear job takes from the credit at least.
+const DEAR: u8 = 8;
+
+/// What a caller has seen of the cost of its jobs, as a credit from 0 to 255: a cheap job adds one to it, and a dear one takes
+/// from it, the more the dearer it was.
+///
+/// A job is cheap where the distance of its hit is less than four times the square of the least diagonal: then few vectors
+/// beside that of successive rounding may be nearer, and the search looks at little more. A dear one takes as much as its
+/// distance has that measure in it, at least 8.
 #[derive(Clone, Copy, Debug)]
 pub(crate) struct Pace {
-    cheap: u8,
+    credit: u8,
 }
 
 impl Pace {
     /// Nothing was seen yet.
     pub(crate) fn new() -> Pace {
-        Pace { cheap: 0 }
+        Pace { credit: 0 }
     }
 
     /// Sees the hit of a job.
     pub(crate) fn see(&mut self, hit: &Hit) {
-        self.cheap = if is_cheap(hit) {
-            self.cheap.saturating_add(1)
+        let distance = u64::try_from(hit.distance()).unwrap_or(u64::MAX);
+        let measure = measure(hit);
+        self.credit = if distance < measure {
+            self.credit.saturating_add(1)
         } else {
-            0
+            self.credit.saturating_sub(price(distance, measure))
         };
     }
 
-    /// Whether the last 255 jobs were cheap, so that moving the next one to another thread costs more than running it.
+    /// Whether so many of the last jobs were cheap that moving the next one to another thread costs more than running it.
     pub(crate) fn is_quick(&self) -> bool {
-        self.cheap == u8::MAX
+        self.credit >= QUICK
     }
 }
 
-// Whether the search of a hit ended with successive rounding for sure: where the distance is less than the square of each
-// diagonal, every other vector is farther.
-fn is_cheap(hit: &Hit) -> bool {
+// Four times the square of the least diagonal of a hit's system.
+fn measure(hit: &Hit) -> u64 {
+    let least = u64::from(least_diagonal(hit));
+    4 * least * least
+}
+
+// The least diagonal of a hit's system.
+fn least_diagonal(hit: &Hit) -> u16 {
     let system = hit.job().system();
     let mut least = u16::MAX;
     for row in 0..system.streams() {
         least = least.min(system.diagonal(row + 1));
     }
-    let least = u64::from(least);
-    hit.distance() < u128::from(least.saturating_mul(least))
+    least
+}
+
+// What a dear job takes from the credit: how often its distance has the measure in it, from 8 to 255.
+fn price(distance: u64, measure: u64) -> u8 {
+    u8::try_from(distance / measure.max(1))
+        .unwrap_or(u8::MAX)
+        .max(DEAR)
 }

@@ -63,12 +63,15 @@ loop-preserved-then-is_kept g c =
       issued = kept.issued;
       goes_on = kept.running;
       capacity = c.keep.ensures.capacity ∙ (c.deliver.ensures.capacity ∙ (c.supply.ensures.capacity ∙ before.capacity));
-      same = same_on c.args.helm.now c.loop.helm c.supply.new.helm before.same c.supply.ensures.same;
+      same = same_on c.args.helm.now c.supply.new.helm c.keep.new.helm
+          (same_on c.args.helm.now c.loop.helm c.supply.new.helm before.same c.supply.ensures.same) c.keep.ensures.same;
       bound = kept.bound;
       later = omega (arith, before.later, c.supply.ensures.later, c.deliver.ensures.later, c.keep.ensures.later);
       failed = search rules;
       along = λ jobs told. kept.along jobs (c.deliver.ensures.along jobs (c.in_ok-running.ensures.along jobs (before.along jobs told)));
-      told = λ jobs told. c.supply.ensures.told jobs (before.along jobs told) (before.told jobs told);
+      told = λ jobs told. c.keep.ensures.told jobs
+          (c.deliver.ensures.along jobs (c.in_ok-running.ensures.along jobs (before.along jobs told)))
+          (c.supply.ensures.told jobs (before.along jobs told) (before.told jobs told));
       leads = go c.args.feed.now c.deliver.new.feed c.keep.new.feed
           (go c.args.feed.now c.supply.new.feed c.deliver.new.feed supplied c.deliver.ensures.leads) c.keep.ensures.leads;
     }
