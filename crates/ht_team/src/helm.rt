@@ -62,7 +62,11 @@ impl<'a, W: Work> Helm<'a, W> {
         ensures same { IfErr result (λ _. self.new ≡ self.old) }
         ensures room { IfErr result (λ _. self.old.room ≤ length self.old.given) }
     {
-        self.post.give(task)
+        let given = self.post.give(task);
+        if given.is_ok() {
+            self.shared.wake_one();
+        }
+        given
     }
 
     /// Takes back the first task that no worker took, or else one from a worker's deque, and runs it. There may be none.

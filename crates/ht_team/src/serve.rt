@@ -12,7 +12,28 @@ use crate::seat::Seat;
 use crate::shared::{AnswerPass, Shared};
 use crate::work::Work;
 use crossbeam_utils::Backoff;
+use crossbeam_utils::sync::Key;
 use std::sync::Wait;
+
+// Announces that the worker is about to sleep, where it has waited by turns for long enough.
+fn prepare_sleep<'a, A: Drop>(shared: &'a Shared<A>, backoff: &Backoff) -> Option<Key<'a>> {
+    if backoff.is_completed() {
+        Some(shared.prepare_sleep())
+    } else {
+        None
+    }
+}
+
+// Waits before the next look: asleep where that was announced, and else by turns.
+fn rest<R: Wait>(rt: &R, backoff: &Backoff, sleep: Option<Key<'_>>) {
+    match sleep {
+        Some(key) => {
+            key.wait(rt);
+            backoff.reset();
+        }
+        None => backoff.snooze(),
+    }
+}
 
 // Runs tasks and puts their answers on the queue, until no task comes any more and none is left. Answers how many it
 // ran.
@@ -41,12 +62,14 @@ fn run_tasks<W: Work, R: Wait>(
     let mut ran = 0u64;
     let backoff = Backoff::new();
     for _ in rt.forever() {
-        let last = shared.is_finished();
         if ran == u64::MAX {
             return (pass, ran);
         }
+        let sleep = prepare_sleep(shared, &backoff);
+        let last = shared.is_finished();
         match next_task(seats, place, own) {
             Some(task) => {
+                drop(sleep);
                 pass = shared.deliver(rt, pass, work.run(task));
                 ran += 1;
                 backoff.reset();
@@ -55,7 +78,7 @@ fn run_tasks<W: Work, R: Wait>(
                 if last {
                     return (pass, ran);
                 }
-                backoff.snooze();
+                rest(rt, &backoff, sleep);
             }
         }
     }

@@ -7,6 +7,7 @@ ghost use Rattle.ht_team.specs.Members.{queue_of, IsOnQueue};
 use crate::hand::Hand;
 use crate::rule::{CountingRule, Cut, Push, Take, Whole};
 use crossbeam_queue::{Pass, RuledArrayQueue};
+use crossbeam_utils::sync::{EventCount, Key};
 use crossbeam_utils::{Backoff, CachePadded};
 use std::marker::Model;
 use std::sync::Wait;
@@ -18,12 +19,13 @@ pub type AnswerQueue<A> = RuledArrayQueue<A, Hand<A>, CountingRule>;
 /// A pass on the queue of answers.
 pub type AnswerPass<A> = Pass<A, Hand<A>>;
 
-/// The queue of answers, and a flag that tells the workers that no task comes any more. Contracts see which queue
-/// it is; none rests on the flag.
+/// The queue of answers, a flag that tells the workers that no task comes any more, and what idle workers sleep on.
+/// Contracts see which queue it is; none rests on the other two.
 #[derive(Drop)]
 pub struct Shared<A: Drop> {
     pub(crate) answers: AnswerQueue<A>,
     done: CachePadded<AtomicBool>,
+    news: CachePadded<EventCount>,
 }
 
 impl<A: Drop> Model for Shared<A> {
@@ -43,12 +45,25 @@ impl<A: Drop> Shared<A> {
         Shared {
             answers,
             done: CachePadded::new(AtomicBool::new(false)),
+            news: CachePadded::new(EventCount::new()),
         }
     }
 
-    /// Tells the workers that no task comes any more.
+    /// Wakes one worker, if any sleeps. To be called once a task was given.
+    pub(crate) fn wake_one(&self) {
+        self.news.notify_one();
+    }
+
+    /// Announces that a worker is about to sleep. It looks once more for a task and at the flag before it waits on the
+    /// key; where it finds something, it drops the key.
+    pub(crate) fn prepare_sleep(&self) -> Key<'_> {
+        self.news.prepare_wait()
+    }
+
+    /// Tells the workers that no task comes any more, and wakes all that sleep.
     pub(crate) fn finish(&self) {
         self.done.store(true, Ordering::SeqCst);
+        self.news.notify_all();
     }
 
     /// Whether they were told so.
