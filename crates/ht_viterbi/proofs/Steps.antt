@@ -1,14 +1,16 @@
 -- One step of the plain decoder, state by state.
-use Rattle.std.proofs.Common.{◌≡◌, ◌↔◌, ℕ, zero, suc, ◌+◌, ◌-◌, ◌<◌, ◌≤◌, List, [], ◌∷◌, ◌++◌, Bool, true, false, Option, Some, None, length}
-use Rattle.std.proofs.Common.{take, drop, reverse, get_or, slice_index, replicate, nat_lt, refl, ap, sym, ◌∙◌, subst, arith, add-one, append_assoc, ◌==◌}
+use Rattle.std.proofs.Common.{◌≡◌, ◌↔◌, ℕ, zero, suc, ◌+◌, ◌-◌, ◌%◌, ◌<◌, ◌≤◌, List, [], ◌∷◌, ◌++◌, Bool, true, false, Option, Some, None, length}
+use Rattle.std.proofs.Common.{take, drop, set, get_or, slice_index, replicate, nat_lt, refl, ap, sym, ◌∙◌, subst, arith, add-one, append_assoc, ◌==◌}
 use Rattle.std.specs.Int.{bit_at}
 use Rattle.std.proofs.Math.Seq.{drop-cons, take-append_seam}
 use Rattle.std.proofs.lemmas.Bool.{eqb-true, eq-eqb}
 use Rattle.std.proofs.lemmas.Bool.Decides.{nat_tests}
-use Rattle.std.proofs.lemmas.List.{get_or-reverse, get_or_past, length-reverse, reverse-append}
+use Rattle.std.proofs.lemmas.List.{drop-set, get_or_past}
 use Rattle.ht_rate.specs.declared.kinds.Pattern.{Pattern}
+use Rattle.ht_rate.specs.declared.kinds.Pattern.TheVariants.{Half, TwoThirds, ThreeQuarters, FiveSixths}
 use Rattle.ht_conv.specs.declared.puncture.Kept.{Kept}
-use Rattle.ht_conv.specs.Puncturing.{kept_of, kept_count, sent_count}
+use Rattle.ht_conv.specs.declared.puncture.Kept.TheVariants.{Both}
+use Rattle.ht_conv.specs.Puncturing.{period_of, kept_of, kept_count, sent_count}
 use Rattle.ht_viterbi.specs.Inputs.{place_cost}
 use Rattle.ht_viterbi.specs.Trellis.{StepPlaces, pair_of, pair_at, pairs_from, moved, output_a, output_b, branch_cost}
 use Rattle.ht_viterbi.specs.Trellis.{way, chosen, lesser, is_free, least_from, chosen_at, first_from, AreChoices}
@@ -112,14 +114,14 @@ costs-step all pairs costs into free pair cons is was step k p =
     ∙ ap (λ (b : ℕ). lesser (is_free (length pairs)) (way (least_from pairs) pair k false) b) (way-same costs (least_from pairs) was pair k true p)
     ∙ sym (ap (λ (xs : List StepPlaces). least_from xs k) cons)
 
--- the choices after one more step, which come behind those at hand
-pub choices-step : (all pairs : List StepPlaces) (old new : List ℕ) (word : ℕ) (pair : StepPlaces) → all ≡ pair ∷ pairs → new ≡ old ++ word ∷ []
+-- the choices after one more step
+pub choices-step : (all pairs : List StepPlaces) (words : List ℕ) (m at word : ℕ) (pair : StepPlaces) → all ≡ pair ∷ pairs → at ≡ m + 1 → m < length words
     → ((k : ℕ) → k < 64 → (bit_at word k ≡ 1) ↔ (chosen_at pairs pair k ≡ true))
-    → AreChoices pairs (reverse old) → AreChoices all (reverse new)
-choices-step all pairs old new word pair cons is step rest =
-    let list : reverse new ≡ word ∷ reverse old = ap (λ (ws : List ℕ). reverse ws) is ∙ reverse-append old (word ∷ []) in
-    let here : AreChoices (pair ∷ pairs) (word ∷ reverse old) = (step, rest) in
-    subst (λ (r : List ℕ). AreChoices all r) (sym list) (subst (λ (q : List StepPlaces). AreChoices q (word ∷ reverse old)) (sym cons) here)
+    → AreChoices pairs (drop at words) → AreChoices all (drop m (set words m word))
+choices-step all pairs words m at word pair cons next p step rest =
+    let list : drop m (set words m word) ≡ word ∷ drop at words = drop-set words m word p ∙ ap (λ n. word ∷ drop n words) (sym next) in
+    let here : AreChoices (pair ∷ pairs) (word ∷ drop at words) = (step, rest) in
+    subst (λ (r : List ℕ). AreChoices all r) (sym list) (subst (λ (q : List StepPlaces). AreChoices q (word ∷ drop at words)) (sym cons) here)
 
 pub chosen-step : (pairs : List StepPlaces) (word : ℕ) (costs : ℕ → ℕ) (free : Bool) (pair : StepPlaces) → free ≡ is_free (length pairs)
     → ((k : ℕ) → k < 64 → costs k ≡ least_from pairs k)
@@ -151,25 +153,21 @@ same-bit true b n p q = sym (q.0 (eqb-true n 1 (sym p)))
 same-bit false true n p q = p ∙ eq-eqb n 1 (q.1 refl)
 same-bit false false n p q = refl
 
--- the walk takes the bit that the word has; the words come from the last step to the first
-pub word-taken : (pairs : List StepPlaces) (words : List ℕ) (at following state : ℕ) (bit : Bool) → at + 1 + following ≡ length words
-    → length pairs ≡ length words → state < 64 → AreChoices (drop at pairs) (drop at (reverse words))
-    → bit ≡ (bit_at (get_or words following 0) state == 1)
-    → first_from (drop at pairs) state ≡ bit ∷ first_from (drop (at + 1) pairs) (moved state bit)
-word-taken pairs words at following state bit place len small are taken =
-    let inside : at < length words = omega (arith, place) in
-    let ps : drop at pairs ≡ get_or pairs at erased ∷ drop (at + 1) pairs = rw add-one (drop-cons pairs at erased (omega (arith, inside, len))) in
-    let ws : drop at (reverse words) ≡ get_or (reverse words) at 0 ∷ drop (at + 1) (reverse words) =
-    rw add-one (drop-cons (reverse words) at 0 (omega (arith, inside, length-reverse words))) in
-    let turned : get_or (reverse words) at 0 ≡ get_or words following 0 =
-    get_or-reverse words at 0 inside ∙ ap (λ (n : ℕ). get_or words n 0) (let e : length words - 1 - at ≡ following = omega (arith, place) in e) in
-    let both : AreChoices (get_or pairs at erased ∷ drop (at + 1) pairs) (get_or (reverse words) at 0 ∷ drop (at + 1) (reverse words)) =
-    subst (λ (q : List StepPlaces). AreChoices q (get_or (reverse words) at 0 ∷ drop (at + 1) (reverse words))) ps
-    (subst (λ (r : List ℕ). AreChoices (drop at pairs) r) ws are) in
+-- the walk takes the bit that the word has
+pub word-taken : (pairs : List StepPlaces) (words : List ℕ) (at state : ℕ) (bit : Bool) → at < length words → length pairs ≡ length words → state < 64
+    → AreChoices (drop at pairs) (drop at words)
+    → bit ≡ (bit_at (get_or words at 0) state == 1)
+    → (first_from (drop at pairs) state ≡ bit ∷ first_from (drop (at + 1) pairs) (moved state bit)) × AreChoices (drop (at + 1) pairs) (drop (at + 1) words)
+word-taken pairs words at state bit p len small are taken =
+    let ps : drop at pairs ≡ get_or pairs at erased ∷ drop (at + 1) pairs = rw add-one (drop-cons pairs at erased (omega arith)) in
+    let ws : drop at words ≡ get_or words at 0 ∷ drop (at + 1) words = rw add-one (drop-cons words at 0 p) in
+    let both : AreChoices (get_or pairs at erased ∷ drop (at + 1) pairs) (get_or words at 0 ∷ drop (at + 1) words) =
+    subst (λ (q : List StepPlaces). AreChoices q (get_or words at 0 ∷ drop (at + 1) words)) ps (subst (λ (r : List ℕ). AreChoices (drop at pairs) r) ws are) in
     let same : bit ≡ chosen_at (drop (at + 1) pairs) (get_or pairs at erased) state =
-    same-bit bit _ (bit_at (get_or (reverse words) at 0) state)
-    (taken ∙ ap (λ (n : ℕ). bit_at n state == 1) (sym turned)) (both.0 state small) in
-    ap (λ (q : List StepPlaces). first_from q state) ps ∙ ap (λ (b : Bool). b ∷ first_from (drop (at + 1) pairs) (moved state b)) (sym same)
+    same-bit bit _ (bit_at (get_or words at 0) state) taken (both.0 state small) in (
+      ap (λ (q : List StepPlaces). first_from q state) ps ∙ ap (λ (b : Bool). b ∷ first_from (drop (at + 1) pairs) (moved state b)) (sym same),
+      both.1,
+    )
 
 -- what was written into a whole vector is what it has
 pub written : (xs rest : List ℕ) (len : ℕ) → length xs ≡ len → take len (xs ++ rest) ≡ xs
@@ -182,13 +180,12 @@ choices-drop (suc k) [] words are = tt
 choices-drop (suc k) (pair ∷ pairs) [] are = absurd are
 choices-drop (suc k) (pair ∷ pairs) (word ∷ words) are = choices-drop k pairs words are.1
 
-pub walked : (whole old new : List Bool) (bit : Bool) (state state' at at' : ℕ) (pairs : List StepPlaces) → at' ≡ at + 1 → new ≡ old ++ bit ∷ []
-    → state' ≡ moved state bit → first_from (drop at pairs) state ≡ bit ∷ first_from (drop (at + 1) pairs) (moved state bit)
-    → old ++ first_from (drop at pairs) state ≡ whole → new ++ first_from (drop at' pairs) state' ≡ whole
-walked whole old new bit state state' at at' pairs more e s next was =
-    ap (λ (z : List Bool). z ++ first_from (drop at' pairs) state') e
-    ∙ append_assoc old (bit ∷ []) (first_from (drop at' pairs) state')
-    ∙ ap (λ (n : ℕ). old ++ (bit ∷ first_from (drop n pairs) state')) more
+pub walked : (whole old new : List Bool) (bit : Bool) (state state' at : ℕ) (pairs : List StepPlaces) → new ≡ old ++ bit ∷ [] → state' ≡ moved state bit
+    → first_from (drop at pairs) state ≡ bit ∷ first_from (drop (at + 1) pairs) (moved state bit)
+    → old ++ first_from (drop at pairs) state ≡ whole → new ++ first_from (drop (at + 1) pairs) state' ≡ whole
+walked whole old new bit state state' at pairs e s next was =
+    ap (λ (z : List Bool). z ++ first_from (drop (at + 1) pairs) state') e
+    ∙ append_assoc old (bit ∷ []) (first_from (drop (at + 1) pairs) state')
     ∙ ap (λ (n : ℕ). old ++ (bit ∷ first_from (drop (at + 1) pairs) n)) s
     ∙ ap (λ (z : List Bool). old ++ z) (sym next)
     ∙ was

@@ -1,7 +1,7 @@
 //! The decoder: all 64 states at once, their costs modulo 256. The ways of a state cost so nearly the same that their
 //! difference modulo 256 says which is the lesser.
 ghost use Rattle.std.specs.Prelude.{◌≡◌, ◌+◌, ◌-◌, ◌%◌, ◌<◌, ◌≤◌, ◌^◌, ◌↔◌, ℕ, true, false, IfOk};
-ghost use Rattle.std.specs.Prelude.{[], length, drop, map, replicate, reverse, slice_index, vec_len, vec_capacity};
+ghost use Rattle.std.specs.Prelude.{length, drop, map, replicate, slice_index};
 ghost use Rattle.std.specs.Int.{bit_at};
 ghost use Rattle.ht_conv.specs.Puncturing.{sent_count};
 ghost use Rattle.ht_viterbi.specs.Inputs.{IsDecoded, distance, tail};
@@ -73,13 +73,13 @@ fn first_lane(costs: u8x64) -> u8
     costs[0]
 }
 
-// Appends the choices of some steps, from the last to the first, and gives the costs before them from those behind them.
+// Fills in the choices of some steps, from the last to the first, and gives the costs before them from those behind them.
 #[inline(always)]
 fn stretch(
     zeros: &Branches,
     rises: &Branches,
     rows: &[u8],
-    choices: &mut Vec<u64>,
+    choices: &mut [u64],
     behind: u8x64,
     from: usize,
     to: usize,
@@ -88,38 +88,34 @@ fn stretch(
     requires zeros { HoldsRows zeros.now (λ pair k. branch_cost pair k false) }
     requires rises { HoldsRows rises.now rise }
     requires rows { (k : ℕ) → slice_index rows.now k < 9 }
+    requires count { length choices.old ≡ length rows.now }
     requires order { from ≤ to }
     requires within { to ≤ length rows.now }
-    requires count { vec_len choices.old + to ≡ length rows.now }
-    requires room { length rows.now ≤ vec_capacity choices.old }
     requires tail { free ≡ false → length rows.now ≤ from + 6 }
     requires before { free ≡ true → to + 6 ≤ length rows.now }
     requires behind { HasLanes behind (λ k. least_from (pairs_at rows.now to) k % 256) }
-    requires chosen { AreChoices (pairs_at rows.now to) (reverse choices.old.items) }
+    requires chosen { AreChoices (pairs_at rows.now to) (drop to choices.old) }
     ensures costs { HasLanes result (λ k. least_from (pairs_at rows.now from) k % 256) }
-    ensures choices { AreChoices (pairs_at rows.now from) (reverse choices.new.items) }
-    ensures count { vec_len choices.new + from ≡ length rows.now }
-    ensures room { length rows.now ≤ vec_capacity choices.new }
+    ensures choices { AreChoices (pairs_at rows.now from) (drop from choices.new) }
+    ensures length { length choices.new ≡ length choices.old }
 {
     let mut costs = behind;
     for at in (from..to).rev() {
         let row = rows[at];
         let (next, word) = step(costs, lanes_of(zeros, row), lanes_of(rises, row), free);
-        choices.push_reserved(word);
+        choices[at] = word;
         costs = next;
     }
     costs
 }
 
-// Appends the choices of all steps, from the last to the first, and gives the least distance from state 0.
-fn backwards(rows: &[u8], choices: &mut Vec<u64>) -> u32
+// Fills in the choices of all steps, from the last to the first, and gives the least distance from state 0.
+fn backwards(rows: &[u8], choices: &mut [u64]) -> u32
     requires rows { (k : ℕ) → slice_index rows.now k < 9 }
     requires tail { 6 ≤ length rows.now }
     requires few { length rows.now ≤ 2 ^ 20 }
-    requires fresh { choices.old.items ≡ [] }
-    requires room { length rows.now ≤ vec_capacity choices.old }
-    ensures choices { AreChoices (pairs_at rows.now 0) (reverse choices.new.items) }
-    ensures count { vec_len choices.new ≡ length rows.now }
+    requires count { length choices.old ≡ length rows.now }
+    ensures choices { AreChoices (pairs_at rows.now 0) choices.new }
     ensures least { result ≡ least_from (pairs_at rows.now 0) 0 }
 {
     let zeros = costs_of_zero();
@@ -160,10 +156,10 @@ pub fn decode_received(
     ensures ending { IfOk result (λ c. drop (steps - tail) c.input ≡ replicate tail false) }
 {
     let mut rows = Vec::from_elem(alloc, 0u8, steps as usize)?;
-    let mut choices = Vec::with_capacity(alloc, steps as usize)?;
+    let mut choices = Vec::from_elem(alloc, 0u64, steps as usize)?;
     let mut input = Vec::with_capacity(alloc, steps as usize)?;
     fill_rows(pattern, received, rows.as_mut_slice());
-    let distance = backwards(&rows, &mut choices);
+    let distance = backwards(&rows, choices.as_mut_slice());
     forwards(&choices, &mut input);
     Ok(Codeword {
         input: Bits::from(input),

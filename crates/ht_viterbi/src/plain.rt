@@ -1,6 +1,6 @@
 //! The plain decoder: 64 costs a step.
 ghost use Rattle.std.specs.Prelude.{◌≡◌, ◌≢◌, ◌+◌, ◌-◌, ◌*◌, ◌^◌, ◌<◌, ◌≤◌, ◌↔◌, ℕ, true, false, IfOk};
-ghost use Rattle.std.specs.Prelude.{List, [], length, drop, replicate, reverse, slice_index, vec_len, vec_capacity};
+ghost use Rattle.std.specs.Prelude.{List, [], length, drop, replicate, slice_index, vec_capacity};
 ghost use Rattle.std.specs.Int.{bit_at};
 ghost use Rattle.ht_conv.specs.Puncturing.{sent_count};
 ghost use Rattle.ht_viterbi.specs.Inputs.{IsDecoded, distance, tail};
@@ -60,21 +60,14 @@ fn no_costs() -> [u32; 64]
     [0; 64]
 }
 
-// Appends the choices of all steps, from the last to the first, and gives the least distance from state 0.
-fn backwards(
-    pattern: Pattern,
-    steps: usize,
-    received: &[Option<bool>],
-    choices: &mut Vec<u64>,
-) -> u32
-    requires received { length received.now ≡ sent_count pattern steps }
-    requires few { steps ≤ 2 ^ 20 }
-    requires fresh { choices.old.items ≡ [] }
-    requires room { steps ≤ vec_capacity choices.old }
-    ensures choices { AreChoices (pairs_from pattern received.now 0 steps) (reverse choices.new.items) }
-    ensures count { vec_len choices.new ≡ steps }
-    ensures least { result ≡ least_from (pairs_from pattern received.now 0 steps) 0 }
+// Fills in the choices of all steps, from the last to the first, and gives the least distance from state 0.
+fn backwards(pattern: Pattern, received: &[Option<bool>], choices: &mut [u64]) -> u32
+    requires count { length received.now ≡ sent_count pattern (length choices.old) }
+    requires few { length choices.old ≤ 2 ^ 20 }
+    ensures choices { AreChoices (pairs_from pattern received.now 0 (length choices.old)) choices.new }
+    ensures least { result ≡ least_from (pairs_from pattern received.now 0 (length choices.old)) 0 }
 {
+    let steps = choices.len();
     let mut costs = no_costs();
     let mut at = steps;
     let mut start = received.len();
@@ -83,12 +76,12 @@ fn backwards(
         let kept = kept_at(pattern, at as u32);
         start -= places_of(kept);
         let mut into = no_costs();
-        choices.push_reserved(step(
+        choices[at] = step(
             &costs,
             pair_from(received, start, kept),
             steps - at > 6,
             &mut into,
-        ));
+        );
         costs = into;
     }
     costs[0]
@@ -116,9 +109,9 @@ pub fn plain_decode(
     ensures steps { IfOk result (λ c. length c.input ≡ steps) }
     ensures ending { IfOk result (λ c. drop (steps - tail) c.input ≡ replicate tail false) }
 {
-    let mut choices = Vec::with_capacity(alloc, steps as usize)?;
+    let mut choices = Vec::from_elem(alloc, 0u64, steps as usize)?;
     let mut input = Vec::with_capacity(alloc, steps as usize)?;
-    let distance = backwards(pattern, steps as usize, received, &mut choices);
+    let distance = backwards(pattern, received, choices.as_mut_slice());
     forwards(&choices, &mut input);
     Ok(Codeword {
         input: Bits::from(input),

@@ -1,20 +1,20 @@
 //! The way forwards through the trellis.
-ghost use Rattle.std.specs.Prelude.{◌≡◌, ◌≤◌, List, [], length, reverse, vec_capacity};
+ghost use Rattle.std.specs.Prelude.{◌≡◌, ◌≤◌, List, [], length, vec_capacity};
 ghost use Rattle.ht_viterbi.specs.Trellis.{StepPlaces, first_from, AreChoices};
 
 use crate::pairs::state_after;
 use crate::words::is_set;
 
-// The input that the choices lead to from state 0. Those of the last step come first.
+// The input that the choices lead to from state 0.
 pub(crate) fn forwards(choices: &[u64], input: &mut Vec<bool>)
     requires room { length choices.now ≤ vec_capacity input.old }
     requires fresh { input.old.items ≡ [] }
-    ensures { (pairs : List StepPlaces) → length pairs ≡ length choices.now → AreChoices pairs (reverse choices.now)
+    ensures { (pairs : List StepPlaces) → length pairs ≡ length choices.now → AreChoices pairs choices.now
         → input.new.items ≡ first_from pairs 0 }
 {
     let mut state = 0usize;
-    for following in (0..choices.len()).rev() {
-        let bit = is_set(choices[following], state);
+    for word in choices {
+        let bit = is_set(*word, state);
         input.push_reserved(bit);
         state = state_after(state, bit);
     }

@@ -29,8 +29,7 @@ loop-at-init c =
     let same = c.carried-distance.ensures least (c.first_lane.ensures ∙ costs.lane 0 (omega arith)) (omega (arith, grows, none, tail)) (omega arith) in
     record {
       within = omega (arith, tail);
-      count = c.stretch-costs.ensures.count;
-      room = c.stretch-costs.ensures.room;
+      count = c.stretch-costs.ensures.length ∙ c.requires.count;
       costs = costs;
       choices = c.stretch-costs.ensures.choices;
       distance = same;
@@ -53,8 +52,7 @@ loop-at-preserved c =
     (omega (arith, grows, was.distance, down)) (omega (arith, falls, was.distance)) in
     record {
       within = omega (arith, down, was.within);
-      count = c.stretch-costs-in-loop-at.ensures.count;
-      room = c.stretch-costs-in-loop-at.ensures.room;
+      count = c.stretch-costs-in-loop-at.ensures.length ∙ was.count;
       costs = costs;
       choices = c.stretch-costs-in-loop-at.ensures.choices;
       distance = same;

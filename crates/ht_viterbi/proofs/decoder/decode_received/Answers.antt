@@ -1,4 +1,4 @@
-use Rattle.std.proofs.Common.{◌≡◌, ◌∙◌, ℕ, List, Bool, ap, sym, subst, length, map, reverse}
+use Rattle.std.proofs.Common.{◌≡◌, ◌≤◌, ◌∙◌, ℕ, List, Bool, ap, sym, subst, length, map, arith}
 use Rattle.std.proofs.lemmas.List.{length-map}
 use Rattle.ht_conv.specs.Puncturing.{sent_count}
 use Rattle.ht_viterbi.specs.Inputs.{IsDecoded, distance}
@@ -27,13 +27,14 @@ input-is : (c : goal.After-drop-rows-2) → c.from.result ≡ first_from (pairs_
 input-is c =
     let received = map known_of c.args.received.now in
     let pairs = pairs_from c.args.pattern received 0 c.args.steps in
-    let filled : AreChoices pairs (reverse c.backwards-distance.new.choices.items) =
-    subst (λ (ps : List StepPlaces). AreChoices ps (reverse c.backwards-distance.new.choices.items)) (pairs-are c) c.backwards-distance.ensures.choices in
-    let are : AreChoices pairs (reverse c.deref-2.result.now) =
-    subst (λ (ws : List ℕ). AreChoices pairs (reverse ws)) (sym c.deref-2.ensures.value) filled in
-    let count : length c.deref.result.now ≡ c.args.steps = c.deref.ensures.len ∙ c.in_ok-rows.ensures.len in
+    let kept : c.deref-2.result.now ≡ c.backwards-distance.new.choices =
+    c.deref-2.ensures.value ∙ written c.backwards-distance.new.choices _ c.in_ok-choices.choices.len
+    (c.backwards-distance.auto.choices ∙ c.as_mut_slice-2.ensures.len) in
+    let are : AreChoices pairs c.deref-2.result.now =
+    subst (λ (ws : List ℕ). AreChoices pairs ws) (sym kept)
+    (subst (λ (ps : List StepPlaces). AreChoices ps c.backwards-distance.new.choices) (pairs-are c) c.backwards-distance.ensures.choices) in
     c.from.ensures ∙ c.forwards.ensures pairs
-    (length-pairs c.args.pattern received 0 c.args.steps ∙ sym (c.deref-2.ensures.len ∙ (c.backwards-distance.ensures.count ∙ count))) are
+    (length-pairs c.args.pattern received 0 c.args.steps ∙ sym (c.deref-2.ensures.len ∙ c.in_ok-choices.ensures.len)) are
 
 -- as many places as bits
 many : (c : goal.After-drop-rows-2) → length (map known_of c.args.received.now) ≡ sent_count c.args.pattern c.args.steps

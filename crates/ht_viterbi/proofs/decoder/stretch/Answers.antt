@@ -1,5 +1,5 @@
-use Rattle.std.proofs.Common.{◌-◌, false, length, slice_index, arith}
-use Rattle.ht_viterbi.specs.Trellis.{branch_cost, least_from}
+use Rattle.std.proofs.Common.{◌∙◌, ◌-◌, ℕ, Bool, false, ap, length, slice_index, arith, rules}
+use Rattle.ht_viterbi.specs.Trellis.{branch_cost, is_free, least_from}
 use Rattle.ht_viterbi.specs.Lanes.{pair_of_number, pairs_at, rise}
 use Rattle.ht_viterbi.proofs.LaneSteps.{lanes-step, chosen-lanes}
 use Rattle.ht_viterbi.proofs.RowFacts.{free-known, pairs-before, pairs-length}
@@ -26,11 +26,11 @@ loop-at-preserved c =
     record {
       low = omega (arith, test);
       high = omega (arith, was.high);
-      count = omega (arith, was.count, c.push_reserved.ensures.len, test);
-      room = omega (arith, was.room, c.push_reserved.ensures.capacity);
+      count = search rules;
       costs = lanes-step _ pairs c.step-word.result.0 c.args.free pair cons free
           (c.step-word.ensures.costs (least_from pairs) pair was.costs zeros mores close);
-      choices = choices-step _ pairs c.loop-at.choices.items _ c.step-word.result.1 pair cons c.push_reserved.ensures.items
+      choices = choices-step _ pairs c.loop-at.choices (at - 1) at c.step-word.result.1 pair cons (omega (arith, test))
+          (omega (arith, was.count, was.high, within, test))
           (chosen-lanes pairs c.step-word.result.1 c.args.free pair free
           (c.step-word.ensures.choices (least_from pairs) pair was.costs zeros mores close)) was.choices;
     }

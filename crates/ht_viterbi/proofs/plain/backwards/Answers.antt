@@ -1,4 +1,4 @@
-use Rattle.std.proofs.Common.{◌-◌, ◌*◌, ℕ, List, ap, length, slice_index, arith, rules}
+use Rattle.std.proofs.Common.{◌-◌, ◌*◌, length, slice_index, arith, rules}
 use Rattle.ht_viterbi.specs.Trellis.{pairs_from}
 use Rattle.ht_viterbi.proofs.Steps.{start-back, pair-back, pairs-none, free-back, costs-start, choices-start}
 use Rattle.ht_viterbi.proofs.Steps.{costs-step, choices-step, chosen-step, bound-step, zero-at}
@@ -6,12 +6,11 @@ use Rattle.ht_viterbi.proofs.plain.backwards.Goals as goal
 
 pub loop-at-init : goal.loop-at-init
 loop-at-init c =
-    let none = pairs-none c.args.pattern c.args.received.now c.args.steps in
+    let none = pairs-none c.args.pattern c.args.received.now (length c.args.choices.now) in
     record {
       within = omega arith;
-      count = omega (arith, ap (λ (xs : List ℕ). length xs) c.requires.fresh, c.args.choices.now.ok.0);
-      room = c.requires.room;
-      start = c.requires.received;
+      count = search rules;
+      start = c.requires.count;
       costs = costs-start _ _ none c.no_costs-costs.ensures;
       choices = choices-start _ _ none;
       bound = λ k. omega (arith, zero-at c.no_costs-costs.ensures k);
@@ -20,13 +19,13 @@ loop-at-init c =
 pub pair_from-requires : goal.pair_from-requires
 pair_from-requires c =
     let was = c.loop-at.invariant in
-    let back = start-back c.args.pattern c.args.steps c.loop-at.at c.loop-at.start c.places_of-start.result
+    let back = start-back c.args.pattern (length c.args.choices.now) c.loop-at.at c.loop-at.start c.places_of-start.result
     c.kept_at-kept.result c.loop-at-test.true was.within was.start c.kept_at-kept.ensures c.places_of-start.ensures in
     omega (arith, back.1)
 
 pub loop-at-preserved : goal.loop-at-preserved
 loop-at-preserved c =
-    let steps = c.args.steps in
+    let steps = length c.args.choices.now in
     let at = c.loop-at.at in
     let was = c.loop-at.invariant in
     let back = start-back c.args.pattern steps at c.loop-at.start c.places_of-start.result c.kept_at-kept.result
@@ -37,11 +36,10 @@ loop-at-preserved c =
     let pairs = pairs_from c.args.pattern c.args.received.now at (steps - at) in
     record {
       within = omega arith;
-      count = omega (arith, was.count, c.push_reserved.ensures.len, c.loop-at-test.true);
-      room = omega (arith, was.room, c.push_reserved.ensures.capacity);
+      count = search rules;
       start = back.0;
       costs = costs-step _ pairs (slice_index c.loop-at.costs) (slice_index c.step.new.into) _ _ cons free was.costs c.step.ensures.costs;
-      choices = choices-step _ pairs c.loop-at.choices.items _ c.step.result _ cons c.push_reserved.ensures.items
+      choices = choices-step _ pairs c.loop-at.choices (at - 1) at c.step.result _ cons (omega arith) (omega arith)
           (chosen-step pairs c.step.result (slice_index c.loop-at.costs) _ _ free was.costs c.step.ensures.choices) was.choices;
       bound = λ k. omega (arith, bound-step c.step.new.into c.loop-at.costs _ _ (2 * (steps - at)) (search rules) was.bound c.step.ensures.costs k);
     }
