@@ -224,10 +224,13 @@ fn keep(due: &mut HeapCircularBuffer<Headed>, head: &FrameHead, job: &Job)
     requires { length due.old.items < due.old.capacity }
     ensures { due.new ≡ buffer (due.old.items ++ headed_of head.now job.now ∷ []) due.old.capacity }
 {
-    let _ = due.push_back(Headed {
+    let headed = Headed {
         head: *head,
         job: job.copy(),
-    });
+    };
+    let Ok(()) = due.try_push_back(headed) else {
+        unreachable!();
+    };
 }
 
 // Counts a fault, and keeps it.
