@@ -127,7 +127,9 @@ impl Desk {
         ensures bound { self.new.count + more self.new.reader < 2 ^ 64 - 1 }
         ensures sound { IsSoundDesk self.new }
     {
-        if has_room(&self.due) && let Some(job) = self.reader.ready_job() {
+        if has_room(&self.due)
+            && let Some(job) = self.reader.ready_job()
+        {
             self.count += 1;
             keep(&mut self.due, &self.head, &job);
             return Ok(Some(job));

@@ -1,9 +1,8 @@
-use Rattle.std.proofs.Common.{◌≡◌, ◌∙◌, ◌∷◌, ◌++◌, [], ◌+◌, List, None, is_some, refl, ap, subst, arith}
+use Rattle.std.proofs.Common.{◌≡◌, ◌∙◌, ◌∷◌, [], ◌+◌, None, is_some, refl, ap, subst, arith}
 use Rattle.ht_io.proofs.Calls.{later-refl}
 use Rattle.ht_capture.specs.declared.items.Item.TheVariants.{Job}
 use Rattle.ht_crew.specs.Feeds.{GivesJob}
 use Rattle.ht_rx.specs.Desks.{DeskView, feed_of}
-use Rattle.ht_results.specs.declared.headed.Headed.{Headed}
 use Rattle.ht_results.specs.Heads.{headed_of}
 use Rattle.ht_rx.specs.Heads.{jobs_alone}
 use Rattle.ht_rx.specs.Reading.{begun, standing}

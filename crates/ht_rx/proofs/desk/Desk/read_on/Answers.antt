@@ -1,5 +1,4 @@
-use Rattle.std.proofs.Common.{◌≡◌, ◌∙◌, ◌∷◌, ◌++◌, [], ◌<◌, ◌+◌, length, List, None, Some, is_some, refl, ap, sym, subst}
-use Rattle.ht_metric.specs.Jobs.{JobView}
+use Rattle.std.proofs.Common.{◌≡◌, ◌∙◌, ◌∷◌, ◌++◌, [], ◌+◌, List, None, Some, is_some, refl, ap, sym, subst}
 use Rattle.ht_crew.specs.Feeds.{GivesJob}
 use Rattle.ht_rx.specs.Desks.{DeskView, feed_of}
 use Rattle.ht_results.specs.declared.headed.Headed.{Headed}
