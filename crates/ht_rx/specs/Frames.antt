@@ -1,9 +1,12 @@
 -- What is booked of a frame, and what its receiver keeps of a frame under way.
-use Rattle.std.specs.Prelude.{◌≡◌, ℕ, ◌+◌, ◌*◌, ◌^◌, ◌≤◌, List, length}
+use Rattle.std.specs.Prelude.{◌≡◌, ℕ, ◌+◌, ◌*◌, ◌^◌, ◌<◌, ◌≤◌, List, length, slice_index_or}
 use Rattle.std.specs.List.{flat_map}
+use Rattle.ht_rate.specs.declared.kinds.Carrier.{Carrier}
+use Rattle.ht_rate.specs.declared.kinds.Carrier.TheVariants.{Data}
+use Rattle.ht_rate.specs.declared.rates.Rate.{Rate}
 use Rattle.ht_inverse.specs.Received.{labels_in_frame}
 use Rattle.ht_results.specs.declared.frame_result.FrameResult.{FrameResult}
-use Rattle.ht_results.specs.Folding.{FrameSoFar}
+use Rattle.ht_results.specs.Folding.{FrameSoFar, kind_of}
 use Rattle.ht_results.specs.Results.{results_of}
 
 -- what is booked in all of a list of octets, where this is booked of each result
@@ -14,6 +17,14 @@ booked_of booked octets = flat_map booked (results_of octets)
 pub record HasLabels (f : FrameSoFar) : Type 0 where
   pub some : 1 ≤ f.head.length
   pub labels : length f.labels ≡ labels_in_frame f.head.rate f.head.length
+
+-- the first of them are what the subcarriers of a rate carry
+abbrev pub KnowsBelow : ℕ → List Carrier → Rate → Type 0
+KnowsBelow count carriers rate = (c : ℕ) → c < count → slice_index_or carriers c (Data 0) ≡ kind_of rate c
+
+-- all of them are
+abbrev pub KnowsCarriers : List Carrier → Rate → Type 0
+KnowsCarriers carriers rate = KnowsBelow (length carriers) carriers rate
 
 -- a frame of which a job is still to come; its sums can't leave their type
 pub record IsOpenFrame (f : FrameSoFar) : Type 0 where

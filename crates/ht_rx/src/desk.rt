@@ -1,6 +1,6 @@
 //! The memory of a feed over a capture.
 ghost use Rattle.std.specs.Prelude.{◌≡◌, ◌+◌, ◌-◌, ◌^◌, ◌<◌, ◌≤◌, ◌++◌, ℕ, [], ◌∷◌, Option, None, Some, length, slice_get};
-ghost use Rattle.std.specs.Prelude.{IfErr, IfNone, IfOk, IfSome, MatchResult, OnErr, OnOk};
+ghost use Rattle.std.specs.Prelude.{◌↔◌, IfErr, IfNone, IfOk, IfSome, IsTrue, MatchResult, OnErr, OnOk};
 ghost use Rattle.circular_buffer.specs.Buffer.{buffer};
 ghost use Rattle.ht_io.specs.Causes.{one_more};
 ghost use Rattle.ht_io.specs.Devices.{Device};
@@ -127,6 +127,31 @@ impl Desk {
         ensures bound { self.new.count + more self.new.reader < 2 ^ 64 - 1 }
         ensures sound { IsSoundDesk self.new }
     {
+        if has_room(&self.due)
+            && let Some(job) = self.reader.ready_job()
+        {
+            self.count += 1;
+            keep(&mut self.due, &self.head, &job);
+            return Ok(Some(job));
+        }
+        self.read_on(source)
+    }
+
+    // The same where no job is ready, or where memory has to be had first. It is called once a symbol, and kept out of line.
+    #[inline(never)]
+    fn read_on<S: Source>(&mut self, source: &mut S) -> Result<Option<Job>, AllocError>
+        requires going { self.old.stop ≡ None }
+        requires well { self.old.failed ≡ None }
+        requires room { length self.old.due < 4096 }
+        ensures job { IfOk result (λ given. IfSome given (GivesJob (feed_of self.old) (feed_of self.new))) }
+        ensures none { IfOk result (λ given. IfNone given (EndsJobs (feed_of self.old) (feed_of self.new))) }
+        ensures reads { OnOk result (ReadsMore self.old self.new (S.shown source.old) (S.shown source.new)) }
+        ensures memory { OnErr result ((self.new ≡ self.old) × (source.new ≡ source.old)) }
+        ensures well { self.new.failed ≡ None }
+        ensures faults { self.new.faults ≡ self.old.faults }
+        ensures bound { self.new.count + more self.new.reader < 2 ^ 64 - 1 }
+        ensures sound { IsSoundDesk self.new }
+    {
         make_room(&mut self.due)?;
         match next_job(&mut self.reader, &mut self.head, &mut self.frames, source) {
             Ok(job) => {
@@ -175,13 +200,20 @@ impl Desk {
     }
 }
 
+// Whether there is room for one more job that is due.
+fn has_room(due: &HeapCircularBuffer<Headed>) -> bool
+    ensures { IsTrue result ↔ (length due.now.items < due.now.capacity) }
+{
+    due.len() < due.capacity()
+}
+
 // Makes room for one more job that is due, of which there are fewer than may be.
 fn make_room(due: &mut HeapCircularBuffer<Headed>) -> Result<(), AllocError>
     requires { length due.old.items < 4096 }
     ensures items { due.new.items ≡ due.old.items }
     ensures room { OnOk result (length due.new.items < due.new.capacity) }
 {
-    if due.len() < due.capacity() {
+    if has_room(due) {
         return Ok(());
     }
     due.resize(DUE)
@@ -194,10 +226,13 @@ fn keep(due: &mut HeapCircularBuffer<Headed>, head: &FrameHead, job: &Job)
     requires { length due.old.items < due.old.capacity }
     ensures { due.new ≡ buffer (due.old.items ++ headed_of head.now job.now ∷ []) due.old.capacity }
 {
-    let _ = due.push_back(Headed {
+    let headed = Headed {
         head: *head,
         job: job.copy(),
-    });
+    };
+    let Ok(()) = due.try_push_back(headed) else {
+        unreachable!();
+    };
 }
 
 // Counts a fault, and keeps it.

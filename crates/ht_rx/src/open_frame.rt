@@ -6,7 +6,7 @@ ghost use Rattle.ht_map.specs.Gray.{label_of};
 ghost use Rattle.ht_metric.specs.Jobs.{near};
 ghost use Rattle.ht_rate.specs.Rates.{carriers_of};
 ghost use Rattle.ht_results.specs.Folding.{frame_begun, frame_of, jobs_in_frame, kind_of, label_at, label_place, put_labels, result_of, with_kind, with_octets};
-ghost use Rattle.ht_rx.specs.Frames.{HasLabels, IsOpenFrame};
+ghost use Rattle.ht_rx.specs.Frames.{HasLabels, IsOpenFrame, KnowsCarriers};
 
 use crate::headed::no_head;
 use ht_capture::FrameHead;
@@ -19,11 +19,16 @@ use ht_results::FrameResult;
 use std::alloc::{AllocError, Global};
 use std::marker::Model;
 
+/// The most subcarriers of a frame.
+const CARRIERS: usize = 114;
+
 /// The frame under way: what the hits of its jobs so far come to. Its labels are kept, one octet each, until its last
 /// job came; the next frame has their memory.
 #[derive(Drop)]
 pub struct OpenFrame {
     head: FrameHead,
+    // What each of its subcarriers carries, so that no job counts the pilots below its own.
+    carriers: [Carrier; CARRIERS],
     data_sum: u128,
     pilot_sum: u128,
     labels: Vec<u8>,
@@ -34,14 +39,15 @@ pub struct OpenFrame {
 impl Model for OpenFrame {
     ghost use Rattle.std.specs.Prelude.{◌≤◌};
     ghost use Rattle.ht_results.specs.Folding.{FrameSoFar};
-    ghost use Rattle.ht_rx.specs.Frames.{IsOpenFrame};
+    ghost use Rattle.ht_rx.specs.Frames.{IsOpenFrame, KnowsCarriers};
 
     ghost Value = { FrameSoFar };
 
     ghost view = { λ f. record { head = f.head; data_sum = f.data_sum; pilot_sum = f.pilot_sum; labels = f.labels.items; left = f.left } };
 
     ghost invariant = { λ f. 1 ≤ f.left
-        → IsOpenFrame (record { head = f.head; data_sum = f.data_sum; pilot_sum = f.pilot_sum; labels = f.labels.items; left = f.left }) };
+        → IsOpenFrame (record { head = f.head; data_sum = f.data_sum; pilot_sum = f.pilot_sum; labels = f.labels.items; left = f.left })
+        × KnowsCarriers f.carriers f.head.rate };
 }
 
 // The number of a frame's labels.
@@ -98,6 +104,29 @@ fn kind(rate: &Rate, carrier: u8) -> Carrier
     }
 }
 
+// Notes what each subcarrier carries, by its index.
+fn note_carriers(carriers: &mut [Carrier], rate: &Rate)
+    requires { length carriers.old ≤ 256 }
+    ensures { KnowsCarriers carriers.new rate.now }
+{
+    for index in 0..carriers.len() {
+        carriers[index] = kind(rate, index as u8);
+    }
+}
+
+// What a subcarrier carries, where this was noted of the first ones.
+fn noted_kind(carriers: &[Carrier], rate: &Rate, carrier: u8) -> Carrier
+    requires { KnowsCarriers carriers.now rate.now }
+    ensures { result ≡ kind_of rate.now carrier }
+{
+    let index = usize::from(carrier);
+    if index < carriers.len() {
+        carriers[index]
+    } else {
+        kind(rate, carrier)
+    }
+}
+
 // The label of a point of the constellation.
 fn label_for(modulation: Modulation, point: Point) -> u8
     ensures { result ≡ label_at modulation point }
@@ -143,6 +172,7 @@ impl OpenFrame {
     {
         OpenFrame {
             head: no_head(),
+            carriers: [Carrier::Data(0); CARRIERS],
             data_sum: 0,
             pilot_sum: 0,
             labels: Vec::new(alloc),
@@ -177,6 +207,7 @@ impl OpenFrame {
         self.labels.clear();
         self.labels.resize(labels_in(head), 0)?;
         self.head = *head;
+        note_carriers(&mut self.carriers, &head.rate);
         self.data_sum = 0;
         self.pilot_sum = 0;
         self.left = jobs_in(head);
@@ -207,7 +238,7 @@ impl OpenFrame {
     {
         let place = hit.job().place();
         self.left -= 1;
-        match kind(&self.head.rate, place.carrier) {
+        match noted_kind(&self.carriers, &self.head.rate, place.carrier) {
             Carrier::Data(m) => {
                 let at = place_of(&self.head.rate, place.symbol, m);
                 self.data_sum += nearest_distance(hit);

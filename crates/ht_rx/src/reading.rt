@@ -37,40 +37,6 @@ pub(crate) fn next_job<S: Source>(
     ensures fewer { IfOk result (λ job. more reader.new < more reader.old) }
     ensures no_more { more reader.new ≤ more reader.old }
 {
-    if let Some(job) = reader.ready_job() {
-        return Ok(job);
-    }
-    read_on(reader, head, frames, source)
-}
-
-// The same where no job is ready. It is called once a symbol, and kept out of line.
-#[inline(never)]
-fn read_on<S: Source>(
-    reader: &mut Reader,
-    head: &mut FrameHead,
-    frames: &mut u16,
-    source: &mut S,
-) -> Result<Job, Stop>
-    requires going { finished reader.old ≡ None }
-    requires frames { (counts reader.old).frames ≡ frames.old }
-
-    // What the octets that this call took mean.
-    ensures job { IfOk result (λ job. Finds
-        (standing reader.old None (S.shown source.old)) (standing reader.new None (S.shown source.new))
-        (begun head.old frames.old) (begun head.new frames.new) (headed_of head.new job ∷ [])) }
-    ensures stopped { IfErr result (λ stop. Finds
-        (standing reader.old None (S.shown source.old)) (standing reader.new (Some stop) (S.shown source.new))
-        (begun head.old frames.old) (begun head.new frames.new) []) }
-
-    // Behind a job the reader goes on, and the job has the next number.
-    ensures going { IfOk result (λ job. finished reader.new ≡ None) }
-    ensures number { IfOk result (λ job. job.number ≡ (counts reader.old).jobs) }
-    ensures counts { IfOk result (λ job. counts reader.new ≡ counted frames.new ((counts reader.old).jobs + 1)) }
-
-    // How much still comes, at most.
-    ensures fewer { IfOk result (λ job. more reader.new < more reader.old) }
-    ensures no_more { more reader.new ≤ more reader.old }
-{
     loop {
         match reader.next(source) {
             Ok(Item::Frame(next)) => {

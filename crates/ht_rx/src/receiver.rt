@@ -22,7 +22,7 @@ use std::alloc::Global;
 #[derive(Drop)]
 pub struct Receiver<'a, B, D> {
     alloc: Global,
-    open: &'a mut OpenFrame,
+    under_way: &'a mut OpenFrame,
     book: &'a mut B,
     decoder: &'a mut D,
 }
@@ -31,17 +31,17 @@ impl<'a, B: Book, D: Decoder> Receiver<'a, B, D> {
     /// A receiver that books results in this book, and goes on from the frame that is under way. It takes no memory.
     pub fn new(
         alloc: Global,
-        open: &'a mut OpenFrame,
+        under_way: &'a mut OpenFrame,
         book: &'a mut B,
         decoder: &'a mut D,
     ) -> Receiver<'a, B, D>
-        ensures open { result.open.now ≡ open.old }
+        ensures under_way { result.under_way.now ≡ under_way.old }
         ensures book { result.book.now ≡ book.old }
         ensures name { result.book.ghost_name ≡ book.entry.ghost_name }
     {
         Receiver {
             alloc,
-            open,
+            under_way,
             book,
             decoder,
         }
@@ -55,7 +55,7 @@ impl<'a, B: Book, D: Decoder> Account for Receiver<'a, B, D> {
 
     ghost lent = { λ r. r.book.ghost_name ∷ B.lent r.book.now };
 
-    ghost pieces = { λ r jobs. flat_map B.booked (results_from r.open.now jobs) };
+    ghost pieces = { λ r jobs. flat_map B.booked (results_from r.under_way.now jobs) };
 
     ghost waits = { λ r due. ⊤ };
 
@@ -65,12 +65,12 @@ impl<'a, B: Book, D: Decoder> Account for Receiver<'a, B, D> {
         hit: &Hit,
         _: &HeapCircularBuffer<Headed>,
     ) -> Result<(), FeedFault> {
-        self.open.enter(head)?;
-        self.open.add(hit);
-        if self.open.left() > 0 {
+        self.under_way.enter(head)?;
+        self.under_way.add(hit);
+        if self.under_way.left() > 0 {
             return Ok(());
         }
-        let frame = self.open.result(self.alloc, self.decoder)?;
+        let frame = self.under_way.result(self.alloc, self.decoder)?;
         self.book.frame(frame)?;
         Ok(())
     }

@@ -8,7 +8,7 @@ use Rattle.ht_rx.proofs.receiver.ReceiverAccount.take.Goals as goal
 
 pub returns-then-left-gt0-clause-put : goal.returns-then-left-gt0-clause-put
 returns-then-left-gt0-clause-put g c =
-    let before = c.args.self.now.open.now in
+    let before = c.args.self.now.under_way.now in
     let after = c.add.new.self in
     let h = headed_of c.args.head.now c.args.hit.now.job in
     let goes = goes_on c.args.head.now c.args.hit.now.job before c.enter.new.self after c.in_ok-enter.ensures.entered c.add.ensures.added in
@@ -19,14 +19,14 @@ returns-then-left-gt0-clause-put g c =
 
 pub returns-in_err-frame-clause-part : goal.returns-in_err-frame-clause-part
 returns-in_err-frame-clause-part g c =
-    let before = c.args.self.now.open.now in
+    let before = c.args.self.now.under_way.now in
     let book = g.B.Book.shown c.args.self.now.book.now in
     let h = headed_of c.args.head.now c.args.hit.now.job in
     err_so c.from_residual-in_err-frame.result (PutsPartOfOne book book (all_booked g.B.Book.booked before) h) (books_nothing g.B.Book.booked book before h)
 
 pub returns-in_err-frame-2-clause-part : goal.returns-in_err-frame-2-clause-part
 returns-in_err-frame-2-clause-part g c =
-    let before = c.args.self.now.open.now in
+    let before = c.args.self.now.under_way.now in
     let after = c.add.new.self in
     let a = g.B.Book.shown c.args.self.now.book.now in
     let b = g.B.Book.shown c.frame.new.self in
@@ -40,7 +40,7 @@ returns-in_err-frame-2-clause-part g c =
 
 pub returns-clause-put : goal.returns-clause-put
 returns-clause-put g c =
-    let before = c.args.self.now.open.now in
+    let before = c.args.self.now.under_way.now in
     let after = c.add.new.self in
     let h = headed_of c.args.head.now c.args.hit.now.job in
     let goes = goes_on c.args.head.now c.args.hit.now.job before c.enter.new.self after c.in_ok-enter.ensures.entered c.add.ensures.added in

@@ -1,7 +1,7 @@
 use Rattle.std.proofs.Common.{◌≡◌, ◌≤◌, [], None}
 use Rattle.ht_capture.specs.Readers.{counted, counts, finished, more}
 use Rattle.ht_rx.specs.Reading.{Finds, begun, standing}
-use Rattle.ht_rx.proofs.reading.read_on.Given as goal
+use Rattle.ht_rx.proofs.reading.next_job.Given as goal
 
 -- only heads came so far
 abbrev pub invariant-loop-next : goal.invariant-loop-next
