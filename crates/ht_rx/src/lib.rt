@@ -32,6 +32,7 @@
 mod account;
 mod book;
 mod book_fault;
+mod decoding;
 mod desk;
 mod faults;
 mod feed;

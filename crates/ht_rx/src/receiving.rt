@@ -7,6 +7,7 @@ ghost use Rattle.ht_rx.specs.Outcomes.{StopsBy, TellsTo};
 use crate::book::Book;
 use crate::faults::{Ended, RxFault};
 use crate::gatherer::Gatherer;
+use crate::gathering::abandon;
 use crate::open_frame::OpenFrame;
 use crate::receiver::Receiver;
 use crate::telling::{tell, tell_alone};
@@ -14,6 +15,7 @@ use ht_crew::Gate;
 use ht_inverse::{Alone, Together};
 use ht_io::Source;
 use std::alloc::Global;
+use std::collections::VecDeque;
 use std::sync::Wait;
 use std::thread::Threads;
 
@@ -88,16 +90,18 @@ pub fn receive<R: Threads + Wait + Sync, S: Source, B: Book, G: Gate + Sync>(
     ensures same { B.lent book.new ≡ B.lent book.old }
 {
     let mut under_way = OpenFrame::new(alloc);
-    let mut whole = Vec::new(alloc);
+    let mut queue = VecDeque::new(alloc);
     let mut decoder = Together::new(rt);
     let mut gatherer = Gatherer {
         rt,
         alloc,
-        at_once: workers,
+        beside: workers - 1,
         under_way: &mut under_way,
-        whole: &mut whole,
+        queue: &mut queue,
         book,
         decoder: &mut decoder,
     };
-    tell(rt, alloc, workers, window, source, &mut gatherer, gate)
+    let ended = tell(rt, alloc, workers, window, source, &mut gatherer, gate);
+    abandon(rt, queue);
+    ended
 }
