@@ -104,7 +104,12 @@ impl Decoding {
     pub(crate) fn finish<R: Threads>(self, rt: &R) -> Result<FrameResult, AllocError>
         ensures { IfOk result (λ r. r ≡ result_of self) }
     {
-        match self.work {
+        let Decoding {
+            frame: _,
+            octets: _,
+            work,
+        } = self;
+        match work {
             Work::Thread(handle) => handle.join(rt),
             Work::Done(outcome) => outcome,
         }

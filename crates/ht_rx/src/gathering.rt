@@ -1,5 +1,5 @@
 //! Whole frames are decoded while more jobs come, and their results are booked in order.
-ghost use Rattle.std.specs.Prelude.{◌≡◌, ◌≤◌, [], ◌∷◌, ◌++◌, false, List, length, map, option_to_list, IfErr, IfOk, OnErr, OnOk};
+ghost use Rattle.std.specs.Prelude.{◌≡◌, ◌≤◌, [], ◌∷◌, ◌++◌, false, List, None, length, map, option_to_list, IfErr, IfOk, OnErr, OnOk};
 ghost use Rattle.std.specs.List.{flat_map};
 ghost use Rattle.ht_io.specs.Devices.{Grows, GrowsByPart, IsLater, Rose};
 ghost use Rattle.ht_results.specs.declared.headed.Headed.{Headed as HeadedValue};
@@ -100,6 +100,18 @@ fn is_time(queue: &VecDeque<Decoding>, room: usize) -> bool
     }
 }
 
+// Takes the oldest frame out of the queue, if it is to be finished.
+fn take_oldest(queue: &mut VecDeque<Decoding>, room: usize) -> Option<Decoding>
+    ensures items { queue.old.items ≡ option_to_list result ++ queue.new.items }
+    ensures few { result ≡ None → length queue.new.items ≤ room }
+{
+    if is_time(queue, room) {
+        queue.pop_front()
+    } else {
+        None
+    }
+}
+
 // Waits for the result of a frame, and books it.
 fn book_one<R: Threads, B: Book>(
     rt: &R,
@@ -136,10 +148,7 @@ pub(crate) fn finish<R: Threads, B: Book>(
     ensures later { IsLater (B.shown book.old) (B.shown book.new) }
     ensures same { B.lent book.new ≡ B.lent book.old }
 {
-    while is_time(queue, room) {
-        let Some(oldest) = queue.pop_front() else {
-            unreachable!();
-        };
+    while let Some(oldest) = take_oldest(queue, room) {
         book_one(rt, oldest, book)?;
     }
     Ok(())

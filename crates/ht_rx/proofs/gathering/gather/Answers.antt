@@ -27,5 +27,5 @@ returns c = λ more.
     let l = c.left.ensures in
     let last : after.left ≤ 0 = omega (arith, f, l) in
     let idle : none.left ≡ 0 = search rules in
-    let whole : c.new-4.result ≡ after = search rules in
-    gathers_one before after none c.new-4.result h more goes (none_left after.left last) (none_left none.left (omega (arith, idle))) whole
+    let whole : c.new-2.result ≡ after = search rules in
+    gathers_one before after none c.new-2.result h more goes (none_left after.left last) (none_left none.left (omega (arith, idle))) whole
