@@ -21,11 +21,14 @@ use std::thread::Threads;
 /// Books the result of each frame in a book, as a [`Receiver`](crate::Receiver) does, and decodes whole frames in threads
 /// of their own while it takes more hits.
 ///
-/// A frame of 400 octets or more whose last job came is decoded in a thread of its own. Where there are more of them than
-/// `beside`, or they have more than 131,072 octets together, the caller waits for the oldest ones and books their results.
-/// So while hits are taken at most `beside` frames of at most 131,072 octets are being decoded, and with the one under way,
-/// and with one that was whole last, there are never more than three of the longest frames. A shorter frame is decoded at
-/// once by the caller, and booked in its turn. Where no other job is due, all results are booked.
+/// A frame of 400 octets or more is decoded in a thread of its own once its last job came; a shorter one is decoded by
+/// the caller, at once. Results are booked in order, and that of a frame that the caller decoded as soon as it is the
+/// oldest.
+///
+/// Behind each hit at most `beside` frames, of at most 131,072 octets together, have no booked result, besides the frame
+/// under way. Where one more is whole, it is begun, and then the caller waits for the oldest ones. As two of the longest
+/// frames have 131,070 octets, there are never more than three of the longest frames, the one under way among them.
+/// Where no other job is due, the caller decodes the frame that is whole then, and books all results.
 #[derive(Drop)]
 pub(crate) struct Gatherer<'a, R, B, D> {
     pub(crate) rt: &'a R,
@@ -67,7 +70,14 @@ impl<'a, R: Threads, B: Book, D: Decoder> Account for Gatherer<'a, R, B, D> {
         let room = room(self.beside, due.len());
         match gather(self.alloc, self.under_way, head, hit)? {
             Some(frame) => {
-                decode(self.rt, self.alloc, self.queue, frame, room > 0, self.decoder)?;
+                decode(
+                    self.rt,
+                    self.alloc,
+                    self.queue,
+                    frame,
+                    room > 0,
+                    self.decoder,
+                )?;
                 finish(self.rt, room, self.queue, self.book)
             }
             None if room > 0 => Ok(()),

@@ -23,7 +23,7 @@ use std::thread::Threads;
 /// The fewest octets of a frame that is worth a thread of its own.
 const LEAST: u16 = 400;
 
-/// The most octets of frames that are decoded while more jobs come: two of the longest frames have fewer.
+/// The most octets of frames that are decoded while more jobs come. Two of the longest frames have fewer.
 const MOST: u32 = 131072;
 
 /// Takes the hit of a job of the frame that is under way, or that begins with this head. Where it was the last one, the
@@ -113,11 +113,7 @@ fn take_oldest(queue: &mut VecDeque<Decoding>, room: usize) -> Option<Decoding>
 }
 
 // Waits for the result of a frame, and books it.
-fn book_one<R: Threads, B: Book>(
-    rt: &R,
-    frame: Decoding,
-    book: &mut B,
-) -> Result<(), FeedFault>
+fn book_one<R: Threads, B: Book>(rt: &R, frame: Decoding, book: &mut B) -> Result<(), FeedFault>
     ensures put { OnOk result (Grows (B.shown book.old) (B.shown book.new) (B.booked (result_of frame))) }
     ensures part { OnErr result (GrowsByPart (B.shown book.old) (B.shown book.new) (B.booked (result_of frame))) }
     ensures steady { OnOk result ((B.shown book.new).faults ≡ (B.shown book.old).faults) }
@@ -131,8 +127,8 @@ fn book_one<R: Threads, B: Book>(
     Ok(())
 }
 
-/// Books the results of the oldest frames, until no more than `room` frames are left, they have at most 131,072 octets
-/// together, and the oldest of them isn't decoded yet as far as is known.
+/// Books the results of the oldest frames, until at most `room` frames are left, they have at most 131,072 octets together,
+/// and the oldest of them has a thread.
 pub(crate) fn finish<R: Threads, B: Book>(
     rt: &R,
     room: usize,

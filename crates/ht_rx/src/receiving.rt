@@ -60,10 +60,12 @@ pub fn receive_alone<S: Source, B: Book, G: Gate>(
 /// Does as [`receive_alone`], and the jobs are run by 1 to 64 workers, of which the caller is one. The results are the
 /// same, in the same order.
 ///
-/// Frames that are whole wait with their labels until there are as many as workers, and are then decoded at once, each in
-/// a thread of its own. They are decoded earlier where they have more than 131,072 octets together, where no job is due any
-/// more, and where a frame comes that is too short to be worth a thread. So at most three of the longest frames are kept
-/// and decoded at once, whatever the workers. Of one that is alone the codewords of two encoders are decoded in two threads.
+/// A frame of 400 octets or more that is whole is decoded in a thread of its own, while the jobs behind it are read and
+/// run; a shorter one is decoded by the caller. Results are booked in order. While jobs are run, fewer frames than there
+/// are workers are being decoded, of at most 131,072 octets together, beside the frame under way; where one more is whole
+/// the caller waits for the oldest ones. So at most three of the longest frames are kept, whatever the workers. Where no
+/// job is due any more the caller waits for all of them. It decodes the frame that is whole then, and the codewords of
+/// two encoders in two threads. However it ends, no thread is left behind.
 pub fn receive<R: Threads + Wait + Sync, S: Source, B: Book, G: Gate + Sync>(
     rt: &R,
     alloc: Global,
