@@ -1,11 +1,12 @@
--- The hit of one more job where whole frames wait.
+-- The hit of one more job where the results of whole frames are still to be booked.
 use Rattle.std.proofs.Common.{◌≡◌, ℕ, ◌==◌, ◌≤◌, List, [], ◌∷◌, ◌++◌, Bool, true, false, if◌then◌else◌, Result, Ok, Err, MatchResult, OnErr, OnOk, map, arith}
-use Rattle.std.proofs.Common.{refl, sym, ap, ◌∙◌, subst, append_assoc}
+use Rattle.std.specs.Prelude.{Option, option_to_list}
+use Rattle.std.proofs.Common.{refl, sym, ap, ◌∙◌, subst, append-nil, append_assoc}
 use Rattle.std.proofs.lemmas.List.{map-append}
 use Rattle.std.specs.List.{flat_map}
 use Rattle.std.proofs.lemmas.Grind.{flat_map-append}
 use Rattle.ht_io.specs.Devices.{Device, Grows, GrowsByPart}
-use Rattle.ht_io.proofs.Calls.{grows_by_part-front}
+use Rattle.ht_io.proofs.Calls.{grows-append, grows-none, grows_by_part-front, grows_by_part-none}
 use Rattle.ht_capture.specs.declared.items.FrameHead.{FrameHead}
 use Rattle.ht_results.specs.declared.frame_result.FrameResult.{FrameResult}
 use Rattle.ht_results.specs.declared.headed.Headed.{Headed}
@@ -15,18 +16,16 @@ use Rattle.ht_rx.specs.declared.faults.RxFault.{RxFault}
 use Rattle.ht_rx.specs.Accounts.{PutsOne, PutsPartOfOne, pieces_of}
 use Rattle.ht_rx.specs.Frames.{booked_of}
 use Rattle.ht_rx.specs.Outcomes.{StopsBy, TellsTo}
-use Rattle.ht_rx.proofs.Booking.{frames_told}
-use Rattle.ht_rx.specs.Gathering.{results_behind}
+use Rattle.ht_rx.proofs.Booking.{booked_part, frames_told}
+use Rattle.ht_rx.specs.Gathering.{BooksFirst, results_behind}
 use Rattle.ht_rx.proofs.Counting.{none_if, none_left, one_if}
 
 -- behind the hit of a job the frame goes on
-pub gathers_on : (whole : List FrameSoFar) (before after : FrameSoFar) (h : Headed) (more : List Headed) → after ≡ with_job h before → (after.left == 0) ≡ false
-    → results_behind whole before (h ∷ more) ≡ results_behind whole after more
-gathers_on whole before after h more is left =
-    ap (λ (rs : List FrameResult). map result_of whole ++ rs) (
+pub gathers_on : (before after : FrameSoFar) (h : Headed) (more : List Headed) → after ≡ with_job h before → (after.left == 0) ≡ false
+    → results_from before (h ∷ more) ≡ results_from after more
+gathers_on before after h more is left =
     ap (λ (f : FrameSoFar). result_if f ++ results_from f more) (sym is)
     ∙ ap (λ (rs : List FrameResult). rs ++ results_from after more) (none_if after left)
-    )
 
 -- where no frame is under way, the next job begins one
 begins : (head : FrameHead) (f : FrameSoFar) → (f.left == 0) ≡ true → frame_of head f ≡ frame_begun (with_octets head)
@@ -40,47 +39,99 @@ begin_as : (f g : FrameSoFar) (jobs : List Headed) → (f.left == 0) ≡ true �
 begin_as f g [] a b = refl
 begin_as f g (h ∷ hs) a b = ap (λ (x : FrameSoFar). result_if x ++ results_from x hs) (begins_as h f g a b)
 
--- behind the hit of its last job the frame waits
-pub gathers_one : (whole whole' : List FrameSoFar) (before after none : FrameSoFar) (h : Headed) (more : List Headed) → after ≡ with_job h before
-    → (after.left == 0) ≡ true → (none.left == 0) ≡ true → whole' ≡ whole ++ after ∷ []
-    → results_behind whole before (h ∷ more) ≡ results_behind whole' none more
-gathers_one whole whole' before after none h more is last idle waits =
-    let rest = results_from after more in
-    let results = map result_of whole in
-    ap (λ (rs : List FrameResult). results ++ rs) (
+-- behind the hit of its last job the frame is whole
+pub gathers_one : (before after none whole : FrameSoFar) (h : Headed) (more : List Headed) → after ≡ with_job h before
+    → (after.left == 0) ≡ true → (none.left == 0) ≡ true → whole ≡ after
+    → results_from before (h ∷ more) ≡ results_behind (whole ∷ []) none more
+gathers_one before after none whole h more is last idle same =
     ap (λ (f : FrameSoFar). result_if f ++ results_from f more) (sym is)
-    ∙ ap (λ (rs : List FrameResult). rs ++ rest) (one_if after last)
-    )
-    ∙ (sym (append_assoc results (result_of after ∷ []) rest)
-    ∙ (ap (λ (rs : List FrameResult). rs ++ rest) (sym (map-append result_of whole (after ∷ [])))
-    ∙ (ap (λ (fs : List FrameSoFar). map result_of fs ++ rest) (sym waits)
-    ∙ ap (λ (rs : List FrameResult). map result_of whole' ++ rs) (begin_as after none more last idle))))
+    ∙ (ap (λ (rs : List FrameResult). rs ++ results_from after more) (one_if after last)
+    ∙ (ap (λ (f : FrameSoFar). result_of f ∷ results_from after more) (sym same)
+    ∙ ap (λ (rs : List FrameResult). result_of whole ∷ rs) (begin_as after none more last idle)))
+
+-- the same, where it is known whether a frame is whole
+pub gathers_as : (whole known : Option FrameSoFar) (before after : FrameSoFar) (h : Headed) → whole ≡ known
+    → ((more : List Headed) → results_from before (h ∷ more) ≡ results_behind (option_to_list whole) after more) → (more : List Headed)
+    → results_from before (h ∷ more) ≡ results_behind (option_to_list known) after more
+gathers_as whole known before after h is gathers more =
+    gathers more ∙ ap (λ (o : Option FrameSoFar). results_behind (option_to_list o) after more) is
+
+-- a frame that is whole stands behind the others
+pub gathers_behind : (whole new whole' : List FrameSoFar) (before after : FrameSoFar) (h : Headed) → whole' ≡ whole ++ new
+    → ((more : List Headed) → results_from before (h ∷ more) ≡ results_behind new after more) → (more : List Headed)
+    → results_behind whole before (h ∷ more) ≡ results_behind whole' after more
+gathers_behind whole new whole' before after h is gathers more =
+    let rest = results_from after more in
+    ap (λ (rs : List FrameResult). map result_of whole ++ rs) (gathers more)
+    ∙ (sym (append_assoc (map result_of whole) (map result_of new) rest)
+    ∙ (ap (λ (rs : List FrameResult). rs ++ rest) (sym (map-append result_of whole new))
+    ∙ ap (λ (fs : List FrameSoFar). map result_of fs ++ rest) (sym is)))
+
+-- no result was booked yet
+pub books_none : {P : Type 0} (booked : FrameResult → List P) (a : Device P) (whole : List FrameSoFar) → BooksFirst booked a a whole whole
+books_none booked a whole = ([], refl, grows-none a)
+
+module _ {P : Type 0} (booked : FrameResult → List P) (a b c : Device P) (old mid new : List FrameSoFar) (f : FrameSoFar) where
+  -- the results of the first ones and of the next one
+  results_next : (done : List FrameSoFar) → flat_map booked (map result_of (done ++ f ∷ [])) ≡ flat_map booked (map result_of done) ++ booked (result_of f)
+  results_next done =
+      ap (flat_map booked) (map-append result_of done (f ∷ []))
+      ∙ (flat_map-append booked (map result_of done) (result_of f ∷ [])
+      ∙ ap (λ (ps : List P). flat_map booked (map result_of done) ++ ps) (append-nil (booked (result_of f))))
+
+  -- the next one was booked too
+  pub books_next : BooksFirst booked a b old mid → mid ≡ f ∷ new → Grows b c (booked (result_of f)) → BooksFirst booked a c old new
+  books_next books is grows = (
+    books.0 ++ f ∷ [],
+    books.1 ∙ (ap (λ (fs : List FrameSoFar). books.0 ++ fs) is ∙ sym (append_assoc books.0 (f ∷ []) new)),
+    subst (λ (ps : List P). Grows a c ps) (sym (results_next books.0)) (grows-append a b c (flat_map booked (map result_of books.0)) (booked (result_of f)) books.2 grows),
+  )
+
+  -- a part of the next one was booked
+  pub books_next_part : BooksFirst booked a b old mid → mid ≡ f ∷ new → GrowsByPart b c (booked (result_of f)) → GrowsByPart a c (flat_map booked (map result_of old))
+  books_next_part books is part =
+      let all : map result_of old ≡ map result_of books.0 ++ result_of f ∷ map result_of new =
+      ap (map result_of) (books.1 ∙ ap (λ (fs : List FrameSoFar). books.0 ++ fs) is) ∙ map-append result_of books.0 (f ∷ new) in
+      booked_part booked a b c (map result_of books.0) (result_of f) (map result_of new) (map result_of old) all books.2 part
 
 abbrev pub booked_behind : {P : Type 0} → (FrameResult → List P) → List FrameSoFar → FrameSoFar → List Headed → List P
 booked_behind booked fs f jobs = flat_map booked (results_behind fs f jobs)
 
+-- where nothing was put, none of all pieces was
+pub puts_nothing : {P : Type 0} (booked : FrameResult → List P) (a : Device P) (whole : List FrameSoFar) (before : FrameSoFar) (h : Headed)
+    → PutsPartOfOne a a (booked_behind booked whole before) h
+puts_nothing booked a whole before h = λ more. grows_by_part-none a (booked_behind booked whole before (h ∷ more))
+
 module _ {P : Type 0} (booked : FrameResult → List P) (a b : Device P) (whole whole' : List FrameSoFar) (before after : FrameSoFar) (h : Headed) where
-  -- what is booked behind the hit, where these frames wait then
+  -- what is booked behind the hit, where these frames are whole then
   behind : ((more : List Headed) → results_behind whole before (h ∷ more) ≡ results_behind whole' after more) → (more : List Headed)
       → booked_behind booked whole before (h ∷ more) ≡ flat_map booked (map result_of whole') ++ flat_map booked (results_from after more)
   behind gathers more = ap (flat_map booked) (gathers more) ∙ flat_map-append booked (map result_of whole') (results_from after more)
 
-  -- all that waited was booked
-  puts_all : (none : List FrameSoFar) → ((more : List Headed) → results_behind whole before (h ∷ more) ≡ results_behind whole' after more)
-      → Grows a b (flat_map booked (map result_of whole')) → none ≡ [] → PutsOne a b (booked_behind booked whole before) (booked_behind booked none after) h
-  puts_all none gathers grows is =
-      let put = flat_map booked (map result_of whole') in (
-        put,
-        grows,
-        λ more. behind gathers more ∙ ap (λ (fs : List FrameSoFar). put ++ booked_behind booked fs after more) (sym is),
-      )
+  -- the results of the first ones were booked
+  first_booked : (done left : List FrameSoFar) (more : List Headed) → whole' ≡ done ++ left
+      → booked_behind booked whole' after more ≡ flat_map booked (map result_of done) ++ booked_behind booked left after more
+  first_booked done left more is =
+      let rest = results_from after more in
+      ap (λ (fs : List FrameSoFar). booked_behind booked fs after more) is
+      ∙ (ap (λ (rs : List FrameResult). flat_map booked (rs ++ rest)) (map-append result_of done left)
+      ∙ (ap (flat_map booked) (append_assoc (map result_of done) (map result_of left) rest)
+      ∙ flat_map-append booked (map result_of done) (map result_of left ++ rest)))
 
-  pub puts_waiting : {A E : Type 0} (result : Result A E) (none : List FrameSoFar)
+  pub puts_first : (left : List FrameSoFar) → ((more : List Headed) → results_behind whole before (h ∷ more) ≡ results_behind whole' after more)
+      → BooksFirst booked a b whole' left → PutsOne a b (booked_behind booked whole before) (booked_behind booked left after) h
+  puts_first left gathers books = (
+    flat_map booked (map result_of books.0),
+    books.2,
+    λ more. ap (flat_map booked) (gathers more) ∙ first_booked books.0 left more books.1,
+  )
+
+  pub puts_waiting : {A E : Type 0} (result : Result A E) (left : List FrameSoFar)
       → ((more : List Headed) → results_behind whole before (h ∷ more) ≡ results_behind whole' after more)
-      → OnOk result (Grows a b (flat_map booked (map result_of whole'))) → OnOk result (none ≡ [])
-      → OnOk result (PutsOne a b (booked_behind booked whole before) (booked_behind booked none after) h)
-  puts_waiting (Ok x) none gathers grows is = puts_all none gathers grows is
-  puts_waiting (Err e) none gathers grows is = tt
+      → OnOk result (BooksFirst booked a b whole' left)
+      → OnOk result (PutsOne a b (booked_behind booked whole before) (booked_behind booked left after) h)
+  puts_waiting (Ok x) left gathers books = puts_first left gathers books
+  puts_waiting (Err e) left gathers books = tt
 
   -- a part of what waited was booked
   pub part_waiting : {A E : Type 0} (result : Result A E)

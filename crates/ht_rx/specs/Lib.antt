@@ -12,3 +12,4 @@ pub mod Listing
 pub mod Keeping
 pub mod Outcomes
 pub mod Frames
+pub mod Decoding

@@ -1,63 +1,53 @@
-//! An account that decodes several frames at once.
-ghost use Rattle.std.specs.Prelude.{◌≡◌, ◌∷◌};
+//! An account that decodes whole frames while more jobs come.
+ghost use Rattle.std.specs.Prelude.{◌≡◌, ◌≤◌, ◌∷◌};
 ghost use Rattle.std.specs.List.{flat_map};
 ghost use Rattle.ht_rx.specs.Gathering.{WaitForJobs, none_behind, results_behind, wait_on};
 
 use crate::account::Account;
 use crate::book::Book;
+use crate::decoding::Decoding;
 use crate::faults::FeedFault;
-use crate::gathering::{flush, gather};
+use crate::gathering::{decode, finish, gather};
 use crate::open_frame::OpenFrame;
-use crate::whole_frame::WholeFrame;
 use circular_buffer::HeapCircularBuffer;
 use ht_capture::FrameHead;
 use ht_inverse::Decoder;
 use ht_metric::Hit;
 use ht_results::Headed;
 use std::alloc::Global;
+use std::collections::VecDeque;
 use std::thread::Threads;
 
-/// The labels of a frame that is worth a thread of its own.
-const MANY: usize = 2048;
-
-/// The octets of frames that wait for more: those of two of the longest frames.
-const MOST: u32 = 131072;
-
-/// Books the result of each frame in a book, as a [`Receiver`](crate::Receiver) does, and decodes several at once.
+/// Books the result of each frame in a book, as a [`Receiver`](crate::Receiver) does, and decodes whole frames in threads
+/// of their own while it takes more hits.
 ///
-/// A frame whose last job came waits, until as many wait as may be decoded at once, or they have more than 131,072 octets
-/// together, or a frame comes that isn't worth the wait, or no job is due any more. Then all that wait are decoded, each in
-/// a thread of its own, and booked in order. So there are never more than three of the longest frames.
+/// A frame of 400 octets or more is decoded in a thread of its own once its last job came; a shorter one is decoded by
+/// the caller, at once. Results are booked in order, and that of a frame that the caller decoded as soon as it is the
+/// oldest.
+///
+/// Behind each hit at most `beside` frames, of at most 131,072 octets together, have no booked result, besides the frame
+/// under way. Where one more is whole, it is begun, and then the caller waits for the oldest ones. As two of the longest
+/// frames have 131,070 octets, there are never more than three of the longest frames, the one under way among them.
+/// Where no other job is due, the caller decodes the frame that is whole then, and books all results.
 #[derive(Drop)]
 pub(crate) struct Gatherer<'a, R, B, D> {
     pub(crate) rt: &'a R,
     pub(crate) alloc: Global,
-    // How many frames are decoded at once.
-    pub(crate) at_once: u8,
+    // How many frames are decoded while hits are taken.
+    pub(crate) beside: u8,
     pub(crate) under_way: &'a mut OpenFrame,
-    pub(crate) whole: &'a mut Vec<WholeFrame>,
+    // The whole frames whose results aren't booked, in order.
+    pub(crate) queue: &'a mut VecDeque<Decoding>,
     pub(crate) book: &'a mut B,
-    // Decodes a frame that is alone.
+    // Decodes a frame in the caller's thread.
     pub(crate) decoder: &'a mut D,
 }
 
-// The octets of frames, all together.
-fn octets(whole: &[WholeFrame]) -> u32 {
-    let mut octets = 0u32;
-    for frame in whole {
-        octets = octets.saturating_add(u32::from(frame.octets()));
-    }
-    octets
-}
-
-// Whether the frames are decoded that wait.
-fn is_time(whole: &[WholeFrame], at_once: u8) -> bool {
-    match whole.last() {
-        Some(frame) => {
-            whole.len() >= usize::from(at_once) || frame.labels() < MANY || octets(whole) > MOST
-        }
-        None => false,
-    }
+// How many frames may be decoded on, where this number of jobs is due.
+fn room(beside: u8, due: usize) -> usize
+    ensures { due ≤ 1 → result ≡ 0 }
+{
+    if due > 1 { usize::from(beside) } else { 0 }
 }
 
 impl<'a, R: Threads, B: Book, D: Decoder> Account for Gatherer<'a, R, B, D> {
@@ -67,9 +57,9 @@ impl<'a, R: Threads, B: Book, D: Decoder> Account for Gatherer<'a, R, B, D> {
 
     ghost lent = { λ r. r.book.ghost_name ∷ B.lent r.book.now };
 
-    ghost pieces = { λ r jobs. flat_map B.booked (results_behind r.whole.now.items r.under_way.now jobs) };
+    ghost pieces = { λ r jobs. flat_map B.booked (results_behind r.queue.now.items r.under_way.now jobs) };
 
-    ghost waits = { λ r due. WaitForJobs r.whole.now.items due };
+    ghost waits = { λ r due. WaitForJobs r.queue.now.items due };
 
     fn take(
         &mut self,
@@ -77,14 +67,25 @@ impl<'a, R: Threads, B: Book, D: Decoder> Account for Gatherer<'a, R, B, D> {
         hit: &Hit,
         due: &HeapCircularBuffer<Headed>,
     ) -> Result<(), FeedFault> {
-        gather(self.alloc, self.under_way, self.whole, head, hit)?;
-        if due.len() > 1 && !is_time(self.whole, self.at_once) {
-            return Ok(());
+        let room = room(self.beside, due.len());
+        match gather(self.alloc, self.under_way, head, hit)? {
+            Some(frame) => {
+                decode(
+                    self.rt,
+                    self.alloc,
+                    self.queue,
+                    frame,
+                    room > 0,
+                    self.decoder,
+                )?;
+                finish(self.rt, room, self.queue, self.book)
+            }
+            None if room > 0 => Ok(()),
+            None => finish(self.rt, room, self.queue, self.book),
         }
-        flush(self.rt, self.alloc, self.whole, self.decoder, self.book)
     }
 
-    ghost more_due = { λ r. wait_on r.whole.now.items };
+    ghost more_due = { λ r. wait_on r.queue.now.items };
 
-    ghost none_due = { λ r. none_behind B.booked r.whole.now.items r.under_way.now };
+    ghost none_due = { λ r. none_behind B.booked r.queue.now.items r.under_way.now };
 }

@@ -4,7 +4,7 @@
 //! takes from a capture's reader, and hands it their hits in order, which it hands on to the account. What becomes of
 //! the hits is the account's alone: a [`Lister`] puts a line for each, those of a symbol together; a [`Receiver`] books
 //! the [`FrameResult`] of each frame in a [`Book`] once its last hit came, and an account like it, which serves a crew of
-//! workers, lets whole frames wait and decodes several at once. What an account puts in all is a function of
+//! workers, decodes whole frames in threads of their own while more hits come. What an account puts in all is a function of
 //! the jobs that come, so that one set of lemmas says for every account what a whole capture, a fault, a source that
 //! fails and a full memory come to (`specs/Telling.antt`, `specs/Outcomes.antt`).
 //!
@@ -32,6 +32,7 @@
 mod account;
 mod book;
 mod book_fault;
+mod decoding;
 mod desk;
 mod faults;
 mod feed;

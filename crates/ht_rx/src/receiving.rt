@@ -7,6 +7,7 @@ ghost use Rattle.ht_rx.specs.Outcomes.{StopsBy, TellsTo};
 use crate::book::Book;
 use crate::faults::{Ended, RxFault};
 use crate::gatherer::Gatherer;
+use crate::gathering::abandon;
 use crate::open_frame::OpenFrame;
 use crate::receiver::Receiver;
 use crate::telling::{tell, tell_alone};
@@ -14,6 +15,7 @@ use ht_crew::Gate;
 use ht_inverse::{Alone, Together};
 use ht_io::Source;
 use std::alloc::Global;
+use std::collections::VecDeque;
 use std::sync::Wait;
 use std::thread::Threads;
 
@@ -58,10 +60,12 @@ pub fn receive_alone<S: Source, B: Book, G: Gate>(
 /// Does as [`receive_alone`], and the jobs are run by 1 to 64 workers, of which the caller is one. The results are the
 /// same, in the same order.
 ///
-/// Frames that are whole wait with their labels until there are as many as workers, and are then decoded at once, each in
-/// a thread of its own. They are decoded earlier where they have more than 131,072 octets together, where no job is due any
-/// more, and where a frame comes that is too short to be worth a thread. So at most three of the longest frames are kept
-/// and decoded at once, whatever the workers. Of one that is alone the codewords of two encoders are decoded in two threads.
+/// A frame of 400 octets or more that is whole is decoded in a thread of its own, while the jobs behind it are read and
+/// run; a shorter one is decoded by the caller. Results are booked in order. While jobs are run, fewer frames than there
+/// are workers are being decoded, of at most 131,072 octets together, beside the frame under way; where one more is whole
+/// the caller waits for the oldest ones. So at most three of the longest frames are kept, whatever the workers. Where no
+/// job is due any more the caller waits for all of them. It decodes the frame that is whole then, and the codewords of
+/// two encoders in two threads. However it ends, no thread is left behind.
 pub fn receive<R: Threads + Wait + Sync, S: Source, B: Book, G: Gate + Sync>(
     rt: &R,
     alloc: Global,
@@ -88,16 +92,18 @@ pub fn receive<R: Threads + Wait + Sync, S: Source, B: Book, G: Gate + Sync>(
     ensures same { B.lent book.new ≡ B.lent book.old }
 {
     let mut under_way = OpenFrame::new(alloc);
-    let mut whole = Vec::new(alloc);
+    let mut queue = VecDeque::new(alloc);
     let mut decoder = Together::new(rt);
     let mut gatherer = Gatherer {
         rt,
         alloc,
-        at_once: workers,
+        beside: workers - 1,
         under_way: &mut under_way,
-        whole: &mut whole,
+        queue: &mut queue,
         book,
         decoder: &mut decoder,
     };
-    tell(rt, alloc, workers, window, source, &mut gatherer, gate)
+    let ended = tell(rt, alloc, workers, window, source, &mut gatherer, gate);
+    abandon(rt, queue);
+    ended
 }

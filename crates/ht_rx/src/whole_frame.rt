@@ -35,11 +35,6 @@ impl WholeFrame {
         WholeFrame { frame }
     }
 
-    /// The number of its labels.
-    pub(crate) fn labels(&self) -> usize {
-        self.frame.labels()
-    }
-
     /// The number of its octets.
     pub(crate) fn octets(&self) -> u16 {
         self.frame.octets()

@@ -14,7 +14,7 @@ returns-then-left-gt0 c = λ more.
     let t = c.if-left-gt0.true in
     let l = c.left.ensures in
     let some : 1 ≤ after.left = omega (arith, t, l) in
-    gathers_on c.args.whole.now.items before after h more goes (more_left after.left some)
+    gathers_on before after h more goes (more_left after.left some)
 
 pub returns : goal.returns
 returns c = λ more.
@@ -27,6 +27,5 @@ returns c = λ more.
     let l = c.left.ensures in
     let last : after.left ≤ 0 = omega (arith, f, l) in
     let idle : none.left ≡ 0 = search rules in
-    let waits : c.push.new.self.items ≡ c.args.whole.now.items ++ after ∷ [] = search rules in
-    gathers_one c.args.whole.now.items c.push.new.self.items before after none h more goes (none_left after.left last)
-    (none_left none.left (omega (arith, idle))) waits
+    let whole : c.new-2.result ≡ after = search rules in
+    gathers_one before after none c.new-2.result h more goes (none_left after.left last) (none_left none.left (omega (arith, idle))) whole
