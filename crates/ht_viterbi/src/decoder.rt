@@ -100,7 +100,9 @@ fn stretch(
     ensures length { length choices.new ≡ length choices.old }
 {
     let mut costs = behind;
-    for at in (from..to).rev() {
+    let mut at = to;
+    while at > from {
+        at -= 1;
         let row = rows[at];
         let (next, word) = step(costs, lanes_of(zeros, row), lanes_of(rises, row), free);
         choices[at] = word;

@@ -9,8 +9,7 @@ use crate::words::is_set;
 pub(crate) fn forwards(choices: &[u64], input: &mut Vec<bool>)
     requires room { length choices.now ≤ vec_capacity input.old }
     requires fresh { input.old.items ≡ [] }
-    ensures { (pairs : List StepPlaces) → length pairs ≡ length choices.now → AreChoices pairs choices.now
-        → input.new.items ≡ first_from pairs 0 }
+    ensures { (pairs : List StepPlaces) → length pairs ≡ length choices.now → AreChoices pairs choices.now → input.new.items ≡ first_from pairs 0 }
 {
     let mut state = 0usize;
     for word in choices {

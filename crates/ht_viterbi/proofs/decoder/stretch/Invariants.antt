@@ -11,3 +11,6 @@ invariant-loop-at l = record {
   costs : HasLanes l.costs (λ k. least_from (pairs_at l.rows l.at) k % 256);
   choices : AreChoices (pairs_at l.rows l.at) (drop l.at l.choices);
 }
+
+abbrev pub decreases-loop-at : goal.decreases-loop-at
+decreases-loop-at l = l.at
