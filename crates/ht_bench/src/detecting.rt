@@ -1,7 +1,7 @@
 //! Detection of random jobs, one after another.
 ghost use Rattle.std.specs.Prelude.{◌≡◌, ◌<◌};
 
-use crate::jobs::Kind;
+use crate::jobs::JobKind;
 use crate::sums::with_hit;
 use ht_metric::Job;
 use ht_pam::Steps;
@@ -14,7 +14,7 @@ use std::sync::ledger::{Blank, Ledger};
 #[derive(Drop)]
 pub struct Line {
     detector: Detector,
-    kind: Kind,
+    kind: JobKind,
     count: u32,
 }
 
@@ -40,7 +40,7 @@ impl Line {
         };
         Some(Line {
             detector,
-            kind: Kind::from_words(
+            kind: JobKind::from_words(
                 streams.as_str(),
                 modulation.as_str(),
                 noise.as_str(),

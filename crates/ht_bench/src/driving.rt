@@ -1,7 +1,7 @@
 //! The drive over random jobs, by one worker or more.
 ghost use Rattle.std.specs.Prelude.{◌≡◌, ◌≤◌};
 
-use crate::jobs::Kind;
+use crate::jobs::JobKind;
 use crate::rounds::Rounds;
 use ht_crew::{OpenGate, drive};
 use std::alloc::{AllocError, Global};
@@ -15,7 +15,7 @@ const WINDOW: u16 = 256;
 #[derive(Drop)]
 pub struct Line {
     workers: u8,
-    kind: Kind,
+    kind: JobKind,
     count: u32,
 }
 
@@ -30,7 +30,7 @@ impl Line {
         }
         Some(Line {
             workers: workers.as_str().parse().ok()?,
-            kind: Kind::from_words(
+            kind: JobKind::from_words(
                 streams.as_str(),
                 modulation.as_str(),
                 noise.as_str(),

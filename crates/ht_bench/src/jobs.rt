@@ -15,7 +15,7 @@ const NO_SAMPLE: Sample = Sample { re: 0, im: 0 };
 
 /// How many streams, which constellation, how much noise, and how large the channel is.
 #[derive(Clone, Copy)]
-pub struct Kind {
+pub struct JobKind {
     streams: u8,
     i_levels: u8,
     q_levels: u8,
@@ -40,14 +40,14 @@ struct Parts {
     y: [Sample; 4],
 }
 
-impl Kind {
+impl JobKind {
     /// The kind of jobs that the words choose.
     pub fn from_words(
         streams: &str,
         modulation: &str,
         noise: &str,
         diagonals: &str,
-    ) -> Option<Kind> {
+    ) -> Option<JobKind> {
         let (i_levels, q_levels) = match modulation {
             "bpsk" => (2, 1),
             "qpsk" => (2, 2),
@@ -60,7 +60,7 @@ impl Kind {
             "small" => Diagonals::Small,
             _ => return None,
         };
-        Some(Kind {
+        Some(JobKind {
             streams: streams.parse().ok()?,
             i_levels,
             q_levels,

@@ -18,14 +18,14 @@ abbrev pub IsCleanFront : List ℕ → Type 0
 IsCleanFront octets = IsClean captures octets (capture_of octets).items
 
 -- the octets are a capture or clean
-abbrev pub HasNoFault : List ℕ → Type 0
-HasNoFault octets = IsCapture octets ⊎ IsCleanFront octets
+abbrev pub IsFaultlessCapture : List ℕ → Type 0
+IsFaultlessCapture octets = IsCapture octets ⊎ IsCleanFront octets
 
 -- the lines of a list of octets, and its reference text; the source and the sink before a run and after it
 module _ (lines text : List ℕ → List ℕ) (source source' sink sink' : Device ℕ) where
   -- what a status says of such a run, in the form for all commands
-  abbrev pub Streams : Status → Type 0
-  Streams status = Answers (streaming captures text lines) source source' sink sink' status
+  abbrev pub StreamsAs : Status → Type 0
+  StreamsAs status = Answers (streaming captures text lines) source source' sink sink' status
 
   -- what was left of the source is a capture, all of it was taken, and its reference text was put
   pub record StreamsWhole : Type 0 where
@@ -42,7 +42,7 @@ module _ (lines text : List ℕ → List ℕ) (source source' sink sink' : Devic
     pub fault : FormatFault
     pub octets : Takes source source' taken
     pub refused : (capture_of taken).fault ≡ Some fault
-    pub ends : (n : ℕ) → n < length taken → HasNoFault (take n taken)
+    pub ends : (n : ℕ) → n < length taken → IsFaultlessCapture (take n taken)
     pub put : Grows sink sink' (text taken)
     pub no_capture : IfSome source.known (λ all. IsCapture all → ⊥)
     pub same_fault : IfSome source.known (λ all. (capture_of all).fault ≡ Some fault)
@@ -52,7 +52,7 @@ module _ (lines text : List ℕ → List ℕ) (source source' sink sink' : Devic
   pub record StreamsFront : Type 0 where
     pub taken : List ℕ
     pub octets : Takes source source' taken
-    pub front : HasNoFault taken
+    pub front : IsFaultlessCapture taken
     pub put : Grows sink sink' (lines taken)
 
   -- a part of the reference text was put

@@ -25,7 +25,7 @@ ghost use Rattle.ht_words.specs.Accepted.{IsAccepted};
 ghost use Rattle.ht_words.specs.Words.{asked};
 ghost use Rattle.ht_cli.specs.Commands.{MakesPart, MakesText};
 ghost use Rattle.ht_cli.specs.Converting.{SendsTo, UpgradesTo};
-ghost use Rattle.ht_cli.specs.Streaming.{IsCapture, Streams, StreamsFront, StreamsLines, StreamsPart, StreamsRefused, StreamsWhole};
+ghost use Rattle.ht_cli.specs.Streaming.{IsCapture, StreamsAs, StreamsFront, StreamsLines, StreamsPart, StreamsRefused, StreamsWhole};
 ghost use Rattle.ht_cli.specs.Exactly.{WritesExactly, sure_sink, sure_source};
 ghost use Rattle.ht_cli.specs.Tasks.{Answered, ReadsNothing, command_of, plan_of};
 
@@ -89,35 +89,35 @@ pub fn clauses_of_words()
 /// said of such a run is the same for both.
 pub fn clauses_of_streaming()
     ensures detect { (workers window : ℕ) (a b c d : Device ℕ) (status : Status)
-        → Answered (Some (Asked.Detect workers window)) a b c d status → Streams lines_of detect_text a b c d status }
+        → Answered (Some (Asked.Detect workers window)) a b c d status → StreamsAs lines_of detect_text a b c d status }
     ensures rx { (workers window : ℕ) (a b c d : Device ℕ) (status : Status)
-        → Answered (Some (Asked.Rx workers window)) a b c d status → Streams frame_lines_of rx_text a b c d status }
+        → Answered (Some (Asked.Rx workers window)) a b c d status → StreamsAs frame_lines_of rx_text a b c d status }
 
     // Done: what was left is a capture, and its text was put.
-    ensures done { (lines text : List ℕ → List ℕ) (a b c d : Device ℕ) → Streams lines text a b c d Status.Done → StreamsWhole lines text a b c d }
+    ensures done { (lines text : List ℕ → List ℕ) (a b c d : Device ℕ) → StreamsAs lines text a b c d Status.Done → StreamsWhole lines text a b c d }
 
     // Refused: what was left is no capture, and its text was put, which names its first fault.
-    ensures refused { (lines text : List ℕ → List ℕ) (a b c d : Device ℕ) → Streams lines text a b c d Status.Refused
+    ensures refused { (lines text : List ℕ → List ℕ) (a b c d : Device ℕ) → StreamsAs lines text a b c d Status.Refused
         → StreamsRefused lines text a b c d }
 
     // ReadFault: the lines of the symbols or frames read whole were put, all of them, so that no write failed.
-    ensures broken_off { (lines text : List ℕ → List ℕ) (a b c d : Device ℕ) → Streams lines text a b c d Status.ReadFault
+    ensures broken_off { (lines text : List ℕ → List ℕ) (a b c d : Device ℕ) → StreamsAs lines text a b c d Status.ReadFault
         → StreamsFront lines text a b c d }
 
     // WriteFault: a part of the text was put.
-    ensures part { (lines text : List ℕ → List ℕ) (a b c d : Device ℕ) → Streams lines text a b c d Status.WriteFault
+    ensures part { (lines text : List ℕ → List ℕ) (a b c d : Device ℕ) → StreamsAs lines text a b c d Status.WriteFault
         → StreamsPart lines text a b c d }
 
     // NoMemory: a part of the lines of the symbols or frames read whole was put.
-    ensures memory { (lines text : List ℕ → List ℕ) (a b c d : Device ℕ) → Streams lines text a b c d Status.NoMemory
+    ensures memory { (lines text : List ℕ → List ℕ) (a b c d : Device ℕ) → StreamsAs lines text a b c d Status.NoMemory
         → StreamsLines lines text a b c d }
 
     // Where all octets are known that the source had left, as those of a source in memory are: Done says that they are a
     // capture and Refused that they aren't, and either puts the text of them all.
     ensures known_done { (lines text : List ℕ → List ℕ) (all : List ℕ) (a b c d : Device ℕ) → a.known ≡ Some all
-        → Streams lines text a b c d Status.Done → IsCapture all × Grows c d (text all) × (b.known ≡ Some []) }
+        → StreamsAs lines text a b c d Status.Done → IsCapture all × Grows c d (text all) × (b.known ≡ Some []) }
     ensures known_refused { (lines text : List ℕ → List ℕ) (all : List ℕ) (a b c d : Device ℕ) → a.known ≡ Some all
-        → Streams lines text a b c d Status.Refused → (IsCapture all → ⊥) × Grows c d (text all) }
+        → StreamsAs lines text a b c d Status.Refused → (IsCapture all → ⊥) × Grows c d (text all) }
 {}
 
 /// What a status says of `upgrade`.

@@ -29,7 +29,7 @@ pub(crate) fn is_kept(tally: Tally, room: u16, pace: &Pace) -> bool
 
 // How many jobs the caller ran, and the one that came last and wasn't run. There is none where the feed has ended.
 #[derive(Drop)]
-struct Kept {
+struct QuickRun {
     ran: u64,
     next: Option<Job>,
 }
@@ -42,7 +42,7 @@ fn run_quick<F: Feed, G: Gate>(
     ahead: bool,
     pace: &mut Pace,
     feed: &mut F,
-) -> Result<Kept, F::Fault>
+) -> Result<QuickRun, F::Fault>
     requires none { (F.shown feed.old).due ≡ [] }
     requires running { (F.shown feed.old).ended ≡ false }
 
@@ -59,7 +59,7 @@ fn run_quick<F: Feed, G: Gate>(
     let mut ran = 0u64;
     while let Some(job) = next {
         if !pace.is_quick() {
-            return Ok(Kept {
+            return Ok(QuickRun {
                 ran,
                 next: Some(job),
             });
@@ -69,7 +69,7 @@ fn run_quick<F: Feed, G: Gate>(
         next = hand_back(ahead, hit, feed)?;
         ran += 1;
     }
-    Ok(Kept { ran, next: None })
+    Ok(QuickRun { ran, next: None })
 }
 
 /// Runs jobs of the feed, one after another, for as long as they're cheap and the feed goes on, and hands each hit back as
@@ -111,7 +111,7 @@ pub(crate) fn keep<F: Feed, G: Gate>(
     ensures leads { F.leads feed.old feed.new }
 {
     let _room = window.has_room();
-    let Kept { ran, next } = run_quick(work, helm.room() > 1, pace, feed)?;
+    let QuickRun { ran, next } = run_quick(work, helm.room() > 1, pace, feed)?;
     window.pass(ran);
     tally.issued += ran;
     tally.booked += ran;

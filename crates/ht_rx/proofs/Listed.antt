@@ -12,12 +12,12 @@ use Rattle.ht_rx.specs.Accounts.{pieces_of}
 use Rattle.ht_results.specs.Heads.{headed_jobs}
 use Rattle.ht_rx.specs.Heads.{jobs_alone}
 use Rattle.ht_rx.specs.Keeping.{waits_none}
-use Rattle.ht_rx.specs.Listing.{Waits}
+use Rattle.ht_rx.specs.Listing.{LinesWait}
 use Rattle.ht_rx.specs.Outcomes.{StopsBy, TellsTo}
 use Rattle.ht_rx.specs.Texts.{job_lines, jobs_of, lines_of}
 use Rattle.ht_rx.proofs.Heading.{jobs_of_octets}
 
-pub rests : (text : List ℕ) → text ≡ [] → Waits text []
+pub rests : (text : List ℕ) → text ≡ [] → LinesWait text []
 rests text none = waits_none text [] none
 
 lines_are : (text octets : List ℕ) → text ≡ [] → text ++ job_lines (jobs_alone (headed_jobs octets)) ≡ lines_of octets

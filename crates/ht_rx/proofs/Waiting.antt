@@ -12,7 +12,7 @@ use Rattle.ht_io.specs.Devices.{Device, GrowsByPart}
 use Rattle.ht_io.proofs.Calls.{grows_by_part-front}
 use Rattle.ht_rx.specs.Accounts.{PutsPartOfOne}
 use Rattle.ht_rx.specs.Heads.{jobs_alone}
-use Rattle.ht_rx.specs.Listing.{SharesSymbol, Waits, WaitsOn}
+use Rattle.ht_rx.specs.Listing.{SharesSymbol, LinesWait, WaitsOn}
 use Rattle.ht_rx.specs.Keeping.{waits_none}
 
 pub one_line : (text : List ℕ) (job : JobView) → text ++ job_lines (job ∷ []) ≡ text ++ job_line_of job
@@ -27,8 +27,8 @@ same_symbol : (job next other : JobView) → SharesSymbol next job → SharesSym
 same_symbol job next other a b = (b.0 ∙ a.0, b.1 ∙ a.1)
 
 -- the hit of the first job due was taken
-pub waits_taken : (text after : List ℕ) (due : List Headed) (job : Headed) → slice_get due 0 ≡ Some job → Waits text due → WaitsOn text after job.job due
-    → Waits after (drop 1 due)
+pub waits_taken : (text after : List ℕ) (due : List Headed) (job : Headed) → slice_get due 0 ≡ Some job → LinesWait text due → WaitsOn text after job.job due
+    → LinesWait after (drop 1 due)
 waits_taken text after due job first w (inl none) = waits_none after (drop 1 due) none
 waits_taken text after due job first w (inr on) =
     let next = on.1.0 in
@@ -55,6 +55,6 @@ line_part (Err fault) a b text h m = λ more.
     (grows_by_part-front a b (text ++ job_line_of h.job) (job_lines (jobs_alone more)) m)
 
 pub line_waits : (result : Result (Unit {0}) FeedFault) (text after : List ℕ) (due : List Headed) (h : Headed) → slice_get due 0 ≡ Some h
-    → OnOk result (WaitsOn text after h.job due) → OnOk result (Waits text due → Waits after (drop 1 due))
+    → OnOk result (WaitsOn text after h.job due) → OnOk result (LinesWait text due → LinesWait after (drop 1 due))
 line_waits (Ok x) text after due h first on = λ w. waits_taken text after due h first w on
 line_waits (Err fault) text after due h first on = tt

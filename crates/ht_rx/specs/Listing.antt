@@ -9,7 +9,7 @@ abbrev pub SharesSymbol : JobView → JobView → Type 0
 SharesSymbol job other = (other.place.frame ≡ job.place.frame) × (other.place.symbol ≡ job.place.symbol)
 
 -- the lines that wait are of jobs of one symbol, that of the first job due; where no job is due, none waits
-pub record Waits (text : List ℕ) (due : List Headed) : Type 0 where
+pub record LinesWait (text : List ℕ) (due : List Headed) : Type 0 where
   pub jobs : List JobView
   pub lines : text ≡ job_lines jobs
   pub symbol : (first : Headed) → slice_get due 0 ≡ Some first → All (SharesSymbol first.job) jobs

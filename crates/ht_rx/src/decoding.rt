@@ -12,23 +12,23 @@ use std::thread;
 use std::thread::{Promise, PromisedHandle, Threads};
 
 /// What a frame comes to; the only error is lack of memory.
-type Outcome = Result<FrameResult, AllocError>;
+type FrameOutcome = Result<FrameResult, AllocError>;
 
 /// What the thread of a frame promises: the frame's result.
 #[derive(Drop)]
 struct ResultOf(Snapshot<WholeFrame>);
 
-impl Promise<Outcome> for ResultOf {
+impl Promise<FrameOutcome> for ResultOf {
     ghost kept_by = { λ p outcome. IfOk outcome (λ r. r ≡ result_of p.0.value) };
 }
 
 /// Where the result of a frame comes from.
 #[derive(Drop)]
-enum Work {
+enum ResultSource {
     /// A thread of the frame's own.
-    Thread(PromisedHandle<Outcome, ResultOf>),
+    Thread(PromisedHandle<FrameOutcome, ResultOf>),
     /// It is there.
-    Done(Outcome),
+    Done(FrameOutcome),
 }
 
 /// A whole frame whose result is being worked out, or was.
@@ -36,7 +36,7 @@ enum Work {
 pub(crate) struct Decoding {
     frame: Snapshot<WholeFrame>,
     octets: u16,
-    work: Work,
+    work: ResultSource,
 }
 
 impl Model for Decoding {
@@ -62,12 +62,12 @@ impl Decoding {
         let work = match thread::spawn_with(
             rt,
             promise,
-            move || -> Outcome
+            move || -> FrameOutcome
                 ensures { IfOk result (λ r. r ≡ result_of frame) }
             { frame.result(alloc, &mut Alone::new()) },
         ) {
-            Ok(handle) => Work::Thread(handle),
-            Err(refused) => Work::Done((refused.value)()),
+            Ok(handle) => ResultSource::Thread(handle),
+            Err(refused) => ResultSource::Done((refused.value)()),
         };
         Decoding {
             frame: seen,
@@ -82,7 +82,7 @@ impl Decoding {
     {
         let octets = frame.octets();
         let seen = Snapshot::of(&frame);
-        let work = Work::Done(frame.result(alloc, decoder));
+        let work = ResultSource::Done(frame.result(alloc, decoder));
         Decoding {
             frame: seen,
             octets,
@@ -97,7 +97,7 @@ impl Decoding {
 
     /// Whether its result is there without a wait.
     pub(crate) fn is_done(&self) -> bool {
-        matches!(self.work, Work::Done(_))
+        matches!(self.work, ResultSource::Done(_))
     }
 
     /// Waits for its result. The only error is lack of memory.
@@ -110,8 +110,8 @@ impl Decoding {
             work,
         } = self;
         match work {
-            Work::Thread(handle) => handle.join(rt),
-            Work::Done(outcome) => outcome,
+            ResultSource::Thread(handle) => handle.join(rt),
+            ResultSource::Done(outcome) => outcome,
         }
     }
 }

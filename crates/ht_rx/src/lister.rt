@@ -2,7 +2,7 @@
 ghost use Rattle.std.specs.Prelude.{◌≡◌, ◌++◌, [], ◌∷◌, string_bytes, IfOk};
 ghost use Rattle.ht_rx.specs.Heads.{jobs_alone};
 ghost use Rattle.ht_rx.specs.Keeping.{nothing_waits, waits_given};
-ghost use Rattle.ht_rx.specs.Listing.{Waits};
+ghost use Rattle.ht_rx.specs.Listing.{LinesWait};
 ghost use Rattle.ht_rx.specs.Texts.{job_lines};
 
 use crate::account::Account;
@@ -53,7 +53,7 @@ impl<'a, K: Sink> Account for Lister<'a, K> {
 
     ghost pieces = { λ l jobs. string_bytes l.text.now ++ job_lines (jobs_alone jobs) };
 
-    ghost waits = { λ l due. Waits (string_bytes l.text.now) due };
+    ghost waits = { λ l due. LinesWait (string_bytes l.text.now) due };
 
     fn take(
         &mut self,

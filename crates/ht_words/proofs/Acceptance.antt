@@ -8,7 +8,7 @@ use Rattle.std.specs.List.{list_any}
 use Rattle.ht_words.specs.declared.asked.Asked.{Asked}
 use Rattle.ht_words.specs.declared.asked.Asked.TheVariants.{Channel, Detect, Rx, Tx, Upgrade}
 use Rattle.ht_words.specs.declared.setting.Setting.TheVariants.{Workers, Window, Seed, Noise}
-use Rattle.ht_words.specs.Accepted.{AreGiven, Entry, IsAccepted, Pair, commands, words_of}
+use Rattle.ht_words.specs.Accepted.{AreGiven, Entry, IsAccepted, GivenOption, commands, words_of}
 use Rattle.ht_words.proofs.Spelling.{accepted_given, given_accepted}
 use Rattle.ht_words.specs.Words.{are_accepted, asked_by, demo_in, for_channel, for_demo, for_workers, only_if, value_of}
 
@@ -97,7 +97,7 @@ pub refused : (words : List (List ℕ)) → is_accepted words ≡ false → IsAc
 refused words fails is = true≢false (sym (entry_by words is) ∙ fails)
 
 -- what accepted words ask for
-module _ (words : List (List ℕ)) (pairs : List Pair) where
+module _ (words : List (List ℕ)) (pairs : List GivenOption) where
   abbrev Ask : List ℕ → Asked → Type 0
   Ask command asked = words ≡ command ∷ words_of pairs → asked_by words ≡ Some asked
 

@@ -14,7 +14,7 @@ use Rattle.std.specs.Option.{option_map_or}
 use Rattle.std.specs.Str.Parse.{digits_value}
 use Rattle.ht_words.specs.declared.setting.Setting.{Setting}
 use Rattle.ht_words.specs.declared.setting.Setting.TheVariants.{Workers, Window, Seed, Noise, Frames, Mcs, Bandwidth, Length}
-use Rattle.ht_words.specs.Accepted.{AreAccepted, AreGiven, HasNumber, Pair, words_of}
+use Rattle.ht_words.specs.Accepted.{AreAccepted, AreGiven, HasNumber, GivenOption, words_of}
 use Rattle.ht_words.specs.Settings.{admits, default_of, name_of}
 use Rattle.ht_words.specs.Words.{are_accepted, for_demo, given, is_number, is_pair, is_plain, names_one, value_of}
 
@@ -48,57 +48,57 @@ other_name a b other = false_from_ne_true (bytes_eq (name_of a) (name_of b)) (λ
 own_name : (setting : Setting) → bytes_eq (name_of setting) (name_of setting) ≡ true
 own_name setting = (bytes_eq-Decides (name_of setting) (name_of setting)).1 refl
 
-abbrev Apart : Pair → Pair → Type 0
+abbrev Apart : GivenOption → GivenOption → Type 0
 Apart pair other = pair.setting ≢ other.setting
 
-apart_head : (pair : Pair) (pairs : List Pair) → AllPairs Apart (pair ∷ pairs) → All (Apart pair) pairs
+apart_head : (pair : GivenOption) (pairs : List GivenOption) → AllPairs Apart (pair ∷ pairs) → All (Apart pair) pairs
 apart_head pair pairs once = λ k d within. once 0 (suc k) d (omega arith) (omega (arith, within))
 
-apart_tail : (pair : Pair) (pairs : List Pair) → AllPairs Apart (pair ∷ pairs) → AllPairs Apart pairs
+apart_tail : (pair : GivenOption) (pairs : List GivenOption) → AllPairs Apart (pair ∷ pairs) → AllPairs Apart pairs
 apart_tail pair pairs once = λ i j d before within. once (suc i) (suc j) d (omega (arith, before)) (omega (arith, within))
 
 -- an option that no pair gives is given by no words of theirs
-pub not_given : (setting : Setting) (pairs : List Pair) → All (λ (pair : Pair). pair.setting ≢ setting) pairs → given (name_of setting) (words_of pairs) ≡ None
+pub not_given : (setting : Setting) (pairs : List GivenOption) → All (λ (pair : GivenOption). pair.setting ≢ setting) pairs → given (name_of setting) (words_of pairs) ≡ None
 not_given setting [] none = refl
 not_given setting (pair ∷ pairs) none =
-    let other = other_name pair.setting setting (All-head (λ (pair : Pair). pair.setting ≢ setting) pair pairs none) in
+    let other = other_name pair.setting setting (All-head (λ (pair : GivenOption). pair.setting ≢ setting) pair pairs none) in
     ap (λ (b : Bool). if b then Some pair.digits else given (name_of setting) (words_of pairs)) other
-    ∙ not_given setting pairs (All-tail (λ (pair : Pair). pair.setting ≢ setting) pair pairs none)
+    ∙ not_given setting pairs (All-tail (λ (pair : GivenOption). pair.setting ≢ setting) pair pairs none)
 
 -- an option that a pair gives has its digits
-given_at : (pairs : List Pair) (k : ℕ) (pair : Pair) → AllPairs Apart pairs → k < length pairs → get_or pairs k pair ≡ pair
+given_at : (pairs : List GivenOption) (k : ℕ) (pair : GivenOption) → AllPairs Apart pairs → k < length pairs → get_or pairs k pair ≡ pair
     → given (name_of pair.setting) (words_of pairs) ≡ Some pair.digits
 given_at [] k pair once within here = absurd (omega (arith, within))
 given_at (first ∷ pairs) zero pair once within here =
-    subst (λ (p : Pair). given (name_of p.setting) (words_of (first ∷ pairs)) ≡ Some p.digits) here
+    subst (λ (p : GivenOption). given (name_of p.setting) (words_of (first ∷ pairs)) ≡ Some p.digits) here
     (ap (λ (b : Bool). if b then Some first.digits else given (name_of first.setting) (words_of pairs)) (own_name first.setting))
 given_at (first ∷ pairs) (suc k) pair once within here =
     let apart : first.setting ≢ (get_or pairs k pair).setting = once 0 (suc k) pair (omega arith) within in
-    let other = other_name first.setting pair.setting (subst (λ (p : Pair). first.setting ≢ p.setting) here apart) in
+    let other = other_name first.setting pair.setting (subst (λ (p : GivenOption). first.setting ≢ p.setting) here apart) in
     ap (λ (b : Bool). if b then Some first.digits else given (name_of pair.setting) (words_of pairs)) other
     ∙ given_at pairs k pair (apart_tail first pairs once) (omega (arith, within)) here
 
-pub is_given : (pairs : List Pair) (pair : Pair) → AllPairs Apart pairs → Contains pairs pair → given (name_of pair.setting) (words_of pairs) ≡ Some pair.digits
+pub is_given : (pairs : List GivenOption) (pair : GivenOption) → AllPairs Apart pairs → Contains pairs pair → given (name_of pair.setting) (words_of pairs) ≡ Some pair.digits
 is_given pairs pair once here = given_at pairs here.0 pair once here.1 here.2
 
 -- the value of an option that a pair gives, and of one that none gives
-pub value_given : (pairs : List Pair) (pair : Pair) → AllPairs Apart pairs → Contains pairs pair
+pub value_given : (pairs : List GivenOption) (pair : GivenOption) → AllPairs Apart pairs → Contains pairs pair
     → value_of (words_of pairs) pair.setting ≡ digits_value 10 pair.digits
 value_given pairs pair once here = ap (λ o. option_map_or (digits_value 10) o (default_of pair.setting)) (is_given pairs pair once here)
 
-pub value_left : (pairs : List Pair) (setting : Setting) → All (λ (pair : Pair). pair.setting ≢ setting) pairs
+pub value_left : (pairs : List GivenOption) (setting : Setting) → All (λ (pair : GivenOption). pair.setting ≢ setting) pairs
     → value_of (words_of pairs) setting ≡ default_of setting
 value_left pairs setting none = ap (λ o. option_map_or (digits_value 10) o (default_of setting)) (not_given setting pairs none)
 
 -- words that no pair has given
-apart_from : (setting : Setting) (pairs : List Pair) → is_some (given (name_of setting) (words_of pairs)) ≡ false
-    → All (λ (other : Pair). setting ≢ other.setting) pairs
-apart_from setting [] free = All-nil (λ (other : Pair). setting ≢ other.setting)
+apart_from : (setting : Setting) (pairs : List GivenOption) → is_some (given (name_of setting) (words_of pairs)) ≡ false
+    → All (λ (other : GivenOption). setting ≢ other.setting) pairs
+apart_from setting [] free = All-nil (λ (other : GivenOption). setting ≢ other.setting)
 apart_from setting (pair ∷ pairs) free = go (bytes_eq (name_of pair.setting) (name_of setting)) refl (apart_from setting pairs)
   where
     go : (same : Bool) → bytes_eq (name_of pair.setting) (name_of setting) ≡ same
-        → (is_some (given (name_of setting) (words_of pairs)) ≡ false → All (λ (other : Pair). setting ≢ other.setting) pairs)
-        → All (λ (other : Pair). setting ≢ other.setting) (pair ∷ pairs)
+        → (is_some (given (name_of setting) (words_of pairs)) ≡ false → All (λ (other : GivenOption). setting ≢ other.setting) pairs)
+        → All (λ (other : GivenOption). setting ≢ other.setting) (pair ∷ pairs)
     go true is later =
         let told : true ≡ false =
         sym (ap (λ (b : Bool). is_some (if b then Some pair.digits else given (name_of setting) (words_of pairs))) is) ∙ free in
@@ -106,7 +106,7 @@ apart_from setting (pair ∷ pairs) free = go (bytes_eq (name_of pair.setting) (
     go false is later =
         let others : is_some (given (name_of setting) (words_of pairs)) ≡ false =
         sym (ap (λ (b : Bool). is_some (if b then Some pair.digits else given (name_of setting) (words_of pairs))) is) ∙ free in
-        All-cons (λ (other : Pair). setting ≢ other.setting) pair pairs
+        All-cons (λ (other : GivenOption). setting ≢ other.setting) pair pairs
         (λ same. both_ways _ is (subst (λ (s : Setting). bytes_eq (name_of s) (name_of setting) ≡ true) same (own_name setting)))
         (later others)
 
@@ -118,7 +118,7 @@ number_parts digits number =
     let second = and_parts (nat_le (length digits) 20) _ first.1 in
     (leb-true 1 (length digits) first.0, leb-true (length digits) 20 second.0, AllPass-from_list_all is_ascii_digit digits second.1)
 
-number_from : (pair : Pair) → HasNumber pair → is_number pair.digits ≡ true
+number_from : (pair : GivenOption) → HasNumber pair → is_number pair.digits ≡ true
 number_from pair has =
     and_from (nat_le 1 (length pair.digits)) _ (le-leb 1 (length pair.digits) has.some)
     (and_from (nat_le (length pair.digits) 20) _ (le-leb (length pair.digits) 20 has.few) (list_all-from_AllPass is_ascii_digit pair.digits has.decimal))
@@ -135,26 +135,26 @@ names options setting here =
     (subst (λ (s : Setting). bytes_eq (name_of setting) (name_of s) ≡ true) (sym here.2) (own_name setting))
 
 -- pairs whose numbers may be too large
-record ArePlain (options : List Setting) (pairs : List Pair) : Type 0 where
-  known : All (λ (pair : Pair). Contains options pair.setting) pairs
-  numbers : All (λ (pair : Pair). is_number pair.digits ≡ true) pairs
+record ArePlain (options : List Setting) (pairs : List GivenOption) : Type 0 where
+  known : All (λ (pair : GivenOption). Contains options pair.setting) pairs
+  numbers : All (λ (pair : GivenOption). is_number pair.digits ≡ true) pairs
   once : AllPairs Apart pairs
 
 abbrev Spelled : List Setting → List (List ℕ) → Type 0
-Spelled options words = (pairs : List Pair) × (words ≡ words_of pairs) × ArePlain options pairs
+Spelled options words = (pairs : List GivenOption) × (words ≡ words_of pairs) × ArePlain options pairs
 
 spelled_more : (options : List Setting) (word digits : List ℕ) (words : List (List ℕ))
     → (setting : Setting) × (word ≡ name_of setting) × Contains options setting → is_number digits ≡ true → is_some (given word words) ≡ false
     → Spelled options words → Spelled options (word ∷ digits ∷ words)
 spelled_more options word digits words one number free rest =
-    let pair : Pair = record { setting = one.0; digits = digits } in
+    let pair : GivenOption = record { setting = one.0; digits = digits } in
     let none : is_some (given (name_of one.0) (words_of rest.0)) ≡ false =
     ap₂ (λ (w : List ℕ) (ws : List (List ℕ)). is_some (given w ws)) (sym one.1) (sym rest.1) ∙ free in (
       pair ∷ rest.0,
       ap₂ (λ (w : List ℕ) (ws : List (List ℕ)). w ∷ digits ∷ ws) one.1 rest.1,
       record {
-        known = All-cons (λ (p : Pair). Contains options p.setting) pair rest.0 one.2 rest.2.known;
-        numbers = All-cons (λ (p : Pair). is_number p.digits ≡ true) pair rest.0 number rest.2.numbers;
+        known = All-cons (λ (p : GivenOption). Contains options p.setting) pair rest.0 one.2 rest.2.known;
+        numbers = All-cons (λ (p : GivenOption). is_number p.digits ≡ true) pair rest.0 number rest.2.numbers;
         once = AllPairs-cons Apart pair rest.0 (apart_from one.0 rest.0 none) rest.2.once;
       },
     )
@@ -164,8 +164,8 @@ spelled options [] plain = (
   [],
   refl,
   record {
-    known = All-nil (λ (p : Pair). Contains options p.setting);
-    numbers = All-nil (λ (p : Pair). is_number p.digits ≡ true);
+    known = All-nil (λ (p : GivenOption). Contains options p.setting);
+    numbers = All-nil (λ (p : GivenOption). is_number p.digits ≡ true);
     once = λ i j d before within. absurd (omega (arith, within));
   },
 )
@@ -187,7 +187,7 @@ accepted_given options words accepted = (way.0, way.1, record { known = way.2.kn
     way : Spelled options words
     way = spelled options words parts.0
 
-    admitted : (pair : Pair) → Contains options pair.setting → Contains way.0 pair → admits pair.setting (digits_value 10 pair.digits) ≡ true
+    admitted : (pair : GivenOption) → Contains options pair.setting → Contains way.0 pair → admits pair.setting (digits_value 10 pair.digits) ≡ true
     admitted pair known here =
         let each = AllPass-from_list_all (λ setting. admits setting (value_of words setting)) options parts.1 in
         let own : admits pair.setting (value_of words pair.setting) ≡ true =
@@ -216,28 +216,28 @@ default_admitted Mcs = refl
 default_admitted Bandwidth = refl
 default_admitted Length = refl
 
-plain_given : (options : List Setting) (pairs : List Pair) → AreGiven options pairs → is_plain options (words_of pairs) ≡ true
+plain_given : (options : List Setting) (pairs : List GivenOption) → AreGiven options pairs → is_plain options (words_of pairs) ≡ true
 plain_given options [] are = refl
 plain_given options (pair ∷ pairs) are =
     let free = not_given pair.setting pairs (λ k d within same. apart_head pair pairs are.once k d within (sym same)) in
     let rest : AreGiven options pairs =
     record {
-      known = All-tail (λ (p : Pair). Contains options p.setting) pair pairs are.known;
+      known = All-tail (λ (p : GivenOption). Contains options p.setting) pair pairs are.known;
       numbers = All-tail HasNumber pair pairs are.numbers;
       once = apart_tail pair pairs are.once;
     } in
     and_from (is_pair options (name_of pair.setting) pair.digits (words_of pairs)) _
     (and_from (names_one options (name_of pair.setting)) _
-    (names options pair.setting (All-head (λ (p : Pair). Contains options p.setting) pair pairs are.known))
+    (names options pair.setting (All-head (λ (p : GivenOption). Contains options p.setting) pair pairs are.known))
     (and_from (is_number pair.digits) _ (number_from pair (All-head HasNumber pair pairs are.numbers))
     (not_from_false (is_some (given (name_of pair.setting) (words_of pairs))) (ap is_some free))))
     (plain_given options pairs rest)
 
-admits_given : (options : List Setting) (pairs : List Pair) (setting : Setting) → AreGiven options pairs
+admits_given : (options : List Setting) (pairs : List GivenOption) (setting : Setting) → AreGiven options pairs
     → admits setting (value_of (words_of pairs) setting) ≡ true
 admits_given options pairs setting are = go (cases_Bool (list_any is_it pairs))
   where
-    is_it : Pair → Bool
+    is_it : GivenOption → Bool
     is_it pair = bytes_eq (name_of pair.setting) (name_of setting)
 
     go : (list_any is_it pairs ≡ true) ⊎ (list_any is_it pairs ≡ false) → admits setting (value_of (words_of pairs) setting) ≡ true
@@ -249,14 +249,14 @@ admits_given options pairs setting are = go (cases_Bool (list_any is_it pairs))
         ap (admits found.1.setting) value ∙ has.admitted in
         subst (λ (s : Setting). admits s (value_of (words_of pairs) s) ≡ true) (same_name found.1.setting setting found.4) own
     go (inr is) =
-        let none : All (λ (pair : Pair). pair.setting ≢ setting) pairs =
+        let none : All (λ (pair : GivenOption). pair.setting ≢ setting) pairs =
         λ k d within same. both_ways (list_any is_it pairs) is
         (list_any_at is_it pairs k d within
         (subst (λ (s : Setting). bytes_eq (name_of (get_or pairs k d).setting) (name_of s) ≡ true) same (own_name (get_or pairs k d).setting))) in
         ap (admits setting) (value_left pairs setting none) ∙ default_admitted setting
 
 -- the words that pairs give are accepted
-pub given_accepted : (options : List Setting) (pairs : List Pair) → AreGiven options pairs → are_accepted options (words_of pairs) ≡ true
+pub given_accepted : (options : List Setting) (pairs : List GivenOption) → AreGiven options pairs → are_accepted options (words_of pairs) ≡ true
 given_accepted options pairs are =
     and_from (is_plain options (words_of pairs)) _ (plain_given options pairs are)
     (list_all-from_AllPass (λ setting. admits setting (value_of (words_of pairs) setting)) options

@@ -2,7 +2,7 @@
 ghost use Rattle.std.specs.Prelude.{◌≡◌, ◌≢◌, true, List, [], ◌∷◌, String, Some, All, Contains, codes, is_some, map, string_bytes};
 ghost use Rattle.std.specs.Global.{Global};
 ghost use Rattle.std.specs.Str.Parse.{digits_value};
-ghost use Rattle.ht_words.specs.Accepted.{AreGiven, IsAccepted, Pair, words_of};
+ghost use Rattle.ht_words.specs.Accepted.{AreGiven, IsAccepted, GivenOption, words_of};
 ghost use Rattle.ht_words.specs.Settings.{default_of};
 ghost use Rattle.ht_words.specs.Words.{asked, demo_in, for_channel, for_demo, for_workers, value_of};
 ghost use Rattle.ht_words.specs.declared.asked.Asked.TheVariants.{Channel, Detect, Rx, Tx, Upgrade};
@@ -18,26 +18,26 @@ pub fn accepted()
 
 /// What accepted words ask for: their command, with a value for each of its options.
 pub fn commanded()
-    ensures detect { (words : List (String Global)) (pairs : List Pair) → AreGiven for_workers pairs
+    ensures detect { (words : List (String Global)) (pairs : List GivenOption) → AreGiven for_workers pairs
         → map string_bytes words ≡ codes "detect" ∷ words_of pairs
         → asked words ≡ Some (Detect (value_of (words_of pairs) Workers) (value_of (words_of pairs) Window)) }
-    ensures rx { (words : List (String Global)) (pairs : List Pair) → AreGiven for_workers pairs
+    ensures rx { (words : List (String Global)) (pairs : List GivenOption) → AreGiven for_workers pairs
         → map string_bytes words ≡ codes "rx" ∷ words_of pairs
         → asked words ≡ Some (Rx (value_of (words_of pairs) Workers) (value_of (words_of pairs) Window)) }
     ensures tx { (words : List (String Global)) → map string_bytes words ≡ codes "tx" ∷ [] → asked words ≡ Some Tx }
-    ensures channel { (words : List (String Global)) (pairs : List Pair) → AreGiven for_channel pairs
+    ensures channel { (words : List (String Global)) (pairs : List GivenOption) → AreGiven for_channel pairs
         → map string_bytes words ≡ codes "channel" ∷ words_of pairs
         → asked words ≡ Some (Channel (value_of (words_of pairs) Seed) (value_of (words_of pairs) Noise)) }
     ensures upgrade { (words : List (String Global)) → map string_bytes words ≡ codes "upgrade" ∷ [] → asked words ≡ Some Upgrade }
-    ensures demo { (words : List (String Global)) (pairs : List Pair) → AreGiven for_demo pairs
+    ensures demo { (words : List (String Global)) (pairs : List GivenOption) → AreGiven for_demo pairs
         → map string_bytes words ≡ codes "demo" ∷ words_of pairs → asked words ≡ Some (demo_in (words_of pairs)) }
 {}
 
 /// The value of an option is the number that its digits mean where it is given, and else its default.
 pub fn values()
-    ensures given { (options : List SettingValue) (pairs : List Pair) (pair : Pair) → AreGiven options pairs → Contains pairs pair
+    ensures given { (options : List SettingValue) (pairs : List GivenOption) (pair : GivenOption) → AreGiven options pairs → Contains pairs pair
         → value_of (words_of pairs) pair.setting ≡ digits_value 10 pair.digits }
-    ensures default { (pairs : List Pair) (setting : SettingValue) → All (λ pair. pair.setting ≢ setting) pairs
+    ensures default { (pairs : List GivenOption) (setting : SettingValue) → All (λ pair. pair.setting ≢ setting) pairs
         → value_of (words_of pairs) setting ≡ default_of setting }
 {}
 
