@@ -1,5 +1,5 @@
 -- The hit of one more job where the results of whole frames are still to be booked.
-use Rattle.std.proofs.Common.{◌≡◌, ℕ, ◌==◌, ◌≤◌, List, [], ◌∷◌, ◌++◌, Bool, true, false, if◌then◌else◌, Result, Ok, Err, MatchResult, OnErr, OnOk, map, arith}
+use Rattle.std.proofs.Common.{◌≡◌, ℕ, ◌==◌, ◌≤◌, List, [], ◌∷◌, ◌++◌, Bool, true, false, if◌then◌else◌, Result, Ok, Err, MatchResult, OnErr, OnOk, map}
 use Rattle.std.specs.Prelude.{Option, option_to_list}
 use Rattle.std.proofs.Common.{refl, sym, ap, ◌∙◌, subst, append-nil, append_assoc}
 use Rattle.std.proofs.lemmas.List.{map-append}
@@ -18,7 +18,7 @@ use Rattle.ht_rx.specs.Frames.{booked_of}
 use Rattle.ht_rx.specs.Outcomes.{StopsBy, TellsTo}
 use Rattle.ht_rx.proofs.Booking.{booked_part, frames_told}
 use Rattle.ht_rx.specs.Gathering.{BooksFirst, results_behind}
-use Rattle.ht_rx.proofs.Counting.{none_if, none_left, one_if}
+use Rattle.ht_rx.proofs.Counting.{none_if, one_if}
 
 -- behind the hit of a job the frame goes on
 pub gathers_on : (before after : FrameSoFar) (h : Headed) (more : List Headed) → after ≡ with_job h before → (after.left == 0) ≡ false
@@ -84,11 +84,13 @@ module _ {P : Type 0} (booked : FrameResult → List P) (a b c : Device P) (old 
   books_next books is grows = (
     books.0 ++ f ∷ [],
     books.1 ∙ (ap (λ (fs : List FrameSoFar). books.0 ++ fs) is ∙ sym (append_assoc books.0 (f ∷ []) new)),
-    subst (λ (ps : List P). Grows a c ps) (sym (results_next books.0)) (grows-append a b c (flat_map booked (map result_of books.0)) (booked (result_of f)) books.2 grows),
+    subst (λ (ps : List P). Grows a c ps) (sym (results_next books.0))
+        (grows-append a b c (flat_map booked (map result_of books.0)) (booked (result_of f)) books.2 grows),
   )
 
   -- a part of the next one was booked
-  pub books_next_part : BooksFirst booked a b old mid → mid ≡ f ∷ new → GrowsByPart b c (booked (result_of f)) → GrowsByPart a c (flat_map booked (map result_of old))
+  pub books_next_part : BooksFirst booked a b old mid → mid ≡ f ∷ new → GrowsByPart b c (booked (result_of f))
+      → GrowsByPart a c (flat_map booked (map result_of old))
   books_next_part books is part =
       let all : map result_of old ≡ map result_of books.0 ++ result_of f ∷ map result_of new =
       ap (map result_of) (books.1 ∙ ap (λ (fs : List FrameSoFar). books.0 ++ fs) is) ∙ map-append result_of books.0 (f ∷ new) in

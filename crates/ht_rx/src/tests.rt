@@ -94,15 +94,15 @@ fn frame(rt: HostRuntime) -> Result<(), Fail> {
     Ok(())
 }
 
-// Whether the result is that of the frame with this number and this many symbols: each of the 52 data jobs of a symbol
+// Whether this is the result of the frame with this number and this many symbols: each of the 52 data jobs of a symbol
 // and of its 4 pilot jobs is at 100.
-fn is_of(result: &FrameResult, frame: u16, symbols: u8) -> bool {
+fn is_of(found: &FrameResult, frame: u16, symbols: u8) -> bool {
     let jobs = u128::from(symbols) * 100;
-    result.frame == frame
-        && result.data_sum == jobs * 52
-        && result.pilot_sum == jobs * 4
-        && result.code == 0
-        && matches!(&result.outcome, Outcome::SeedZero)
+    found.frame == frame
+        && found.data_sum == jobs * 52
+        && found.pilot_sum == jobs * 4
+        && found.code == 0
+        && matches!(&found.outcome, Outcome::SeedZero)
 }
 
 // Two frames that are long enough for a thread of their own and a short one between them, by one to four workers.

@@ -15,7 +15,9 @@ use crossbeam_utils::Backoff;
 use crossbeam_utils::sync::Key;
 use std::sync::Wait;
 
-// Announces that the worker is about to sleep, where it has waited by turns for long enough.
+// Announces that the worker is about to sleep, where it has waited by turns for long enough. The caller pushes a task and
+// then wakes a worker that has announced itself; the worker announces itself and then looks for a task. So one of the two
+// sees the other, and at the end, which is announced and then wakes all, no worker stays asleep.
 fn prepare_sleep<'a, A: Drop>(shared: &'a Shared<A>, backoff: &Backoff) -> Option<Key<'a>> {
     if backoff.is_completed() {
         Some(shared.prepare_sleep())

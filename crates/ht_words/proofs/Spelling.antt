@@ -58,7 +58,8 @@ apart_tail : (pair : GivenOption) (pairs : List GivenOption) → AllPairs Apart 
 apart_tail pair pairs once = λ i j d before within. once (suc i) (suc j) d (omega (arith, before)) (omega (arith, within))
 
 -- an option that no pair gives is given by no words of theirs
-pub not_given : (setting : Setting) (pairs : List GivenOption) → All (λ (pair : GivenOption). pair.setting ≢ setting) pairs → given (name_of setting) (words_of pairs) ≡ None
+pub not_given : (setting : Setting) (pairs : List GivenOption) → All (λ (pair : GivenOption). pair.setting ≢ setting) pairs
+    → given (name_of setting) (words_of pairs) ≡ None
 not_given setting [] none = refl
 not_given setting (pair ∷ pairs) none =
     let other = other_name pair.setting setting (All-head (λ (pair : GivenOption). pair.setting ≢ setting) pair pairs none) in
@@ -78,7 +79,8 @@ given_at (first ∷ pairs) (suc k) pair once within here =
     ap (λ (b : Bool). if b then Some first.digits else given (name_of pair.setting) (words_of pairs)) other
     ∙ given_at pairs k pair (apart_tail first pairs once) (omega (arith, within)) here
 
-pub is_given : (pairs : List GivenOption) (pair : GivenOption) → AllPairs Apart pairs → Contains pairs pair → given (name_of pair.setting) (words_of pairs) ≡ Some pair.digits
+pub is_given : (pairs : List GivenOption) (pair : GivenOption) → AllPairs Apart pairs → Contains pairs pair
+    → given (name_of pair.setting) (words_of pairs) ≡ Some pair.digits
 is_given pairs pair once here = given_at pairs here.0 pair once here.1 here.2
 
 -- the value of an option that a pair gives, and of one that none gives

@@ -1,4 +1,4 @@
-use Rattle.std.proofs.Common.{rules, ◌≡◌, ◌≤◌, ◌<◌, ◌+◌, ◌∷◌, ◌++◌, List, length, map, arith, ap, refl, subst}
+use Rattle.std.proofs.Common.{rules, ◌≡◌, ◌∷◌, List, length, map, arith, ap, refl, subst}
 use Rattle.std.specs.List.{flat_map}
 use Rattle.ht_io.specs.Devices.{Grows, GrowsByPart}
 use Rattle.ht_io.proofs.Calls.{later-refl}

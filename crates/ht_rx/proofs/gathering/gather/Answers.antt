@@ -1,4 +1,4 @@
-use Rattle.std.proofs.Common.{rules, ◌≡◌, ◌≤◌, ◌∷◌, [], ◌++◌, arith}
+use Rattle.std.proofs.Common.{rules, ◌≡◌, ◌≤◌, arith}
 use Rattle.ht_results.specs.Heads.{headed_of}
 use Rattle.ht_rx.proofs.Booking.{goes_on}
 use Rattle.ht_rx.proofs.Counting.{more_left, none_left}
