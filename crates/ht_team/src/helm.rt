@@ -54,8 +54,8 @@ impl<'a, W: Work> Helm<'a, W> {
         self.post.room()
     }
 
-    /// Gives a task to the pool. It comes back where there is no memory for it, and then at least `room` tasks were
-    /// given before.
+    /// Gives a task to the pool, and then wakes a worker if any sleeps. The task comes back where there is no memory for it,
+    /// and then at least `room` tasks were given before.
     pub fn give(&mut self, task: W::Task) -> Result<(), W::Task>
         ensures given { OnOk result (self.new ≡ gave self.old task) }
         ensures refused { IfErr result (λ back. back ≡ task) }

@@ -15,9 +15,13 @@ use crossbeam_utils::Backoff;
 use crossbeam_utils::sync::Key;
 use std::sync::Wait;
 
-// Announces that the worker is about to sleep, where it has waited by turns for long enough. The caller pushes a task and
-// then wakes a worker that has announced itself; the worker announces itself and then looks for a task. So one of the two
-// sees the other, and at the end, which is announced and then wakes all, no worker stays asleep.
+// Announces that the worker is about to sleep, where it has waited by turns for long enough.
+//
+// No end is slept through, and no task while the caller waits for it. A worker announces its sleep first, and then looks
+// at the flag and at all deques; the caller pushes a task or sets the flag first, and then reads who has announced a
+// sleep. All threads see these steps in one order, so the worker finds what is new or the caller finds the worker, and
+// wakes it or ends its sleep before it begins. The end wakes all. A task whose wake went to a worker that came too late
+// for it is with another worker, who runs it, or still on a deque, from which the caller takes it back.
 fn prepare_sleep<'a, A: Drop>(shared: &'a Shared<A>, backoff: &Backoff) -> Option<Key<'a>> {
     if backoff.is_completed() {
         Some(shared.prepare_sleep())
@@ -26,7 +30,8 @@ fn prepare_sleep<'a, A: Drop>(shared: &'a Shared<A>, backoff: &Backoff) -> Optio
     }
 }
 
-// Waits before the next look: asleep where that was announced, and else by turns.
+// Waits before the next look: asleep where that was announced, until a task is given or none comes any more, and else by
+// turns.
 fn rest<R: Wait>(rt: &R, backoff: &Backoff, sleep: Option<Key<'_>>) {
     match sleep {
         Some(key) => {

@@ -49,13 +49,13 @@ impl<A: Drop> Shared<A> {
         }
     }
 
-    /// Wakes one worker, if any sleeps. To be called once a task was given.
+    /// Wakes one worker, if any sleeps or is about to. The caller has given a task before.
     pub(crate) fn wake_one(&self) {
         self.news.notify_one();
     }
 
-    /// Announces that a worker is about to sleep. It looks once more for a task and at the flag before it waits on the
-    /// key; where it finds something, it drops the key.
+    /// Announces that a worker is about to sleep. Before it waits on the key it looks once more at the flag and for a task,
+    /// and where it finds one of them it drops the key.
     pub(crate) fn prepare_sleep(&self) -> Key<'_> {
         self.news.prepare_wait()
     }
