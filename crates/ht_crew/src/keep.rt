@@ -5,13 +5,13 @@ ghost use Rattle.ht_crew.specs.Feeds.{GivesAsBefore};
 ghost use Rattle.ht_crew.specs.Driving.{CallFailed, Holds, IsUnderWay, IsInTurn, IsAlong, waiting};
 ghost use Rattle.ht_crew.specs.Accounts.{Tallies};
 
+use crate::caller::run;
 use crate::detect::Detect;
 use crate::feed::Feed;
 use crate::gate::Gate;
+use crate::job_helm::JobHelm;
 use crate::pace::Pace;
 use crate::tally::Tally;
-use ht_team::helm::Helm;
-use ht_team::work::Work;
 use ht_window::Window;
 
 /// Whether the caller keeps the next jobs for itself: where jobs are cheap, once the pool was given as many as it has room
@@ -49,7 +49,7 @@ fn run_first<F: Feed, G: Gate>(
     let Some(job) = window.withdraw() else {
         unreachable!()
     };
-    let hit = work.run(job);
+    let hit = run(work.gate, job);
     pace.see(&hit);
     feed.take(hit)
 }
@@ -59,7 +59,7 @@ fn run_first<F: Feed, G: Gate>(
 pub(crate) fn keep<F: Feed, G: Gate>(
     work: &Detect<'_, G>,
     window: &mut Window,
-    helm: &Helm<'_, Detect<'_, G>>,
+    helm: &JobHelm<'_, '_, G>,
     tally: &mut Tally,
     pace: &mut Pace,
     running: bool,
