@@ -66,6 +66,13 @@ pub record GetsBack (old new : JobHelm) (lot : List JobView) : Type 0 where
   pub full : new.room ≤ length new.given
   pub sources_are : sources new ≡ sources old
 
+-- the hits of one lot more have come
+pub record ComesBack (old new : LotHelm) (hits : List Hit) : Type 0 where
+  pub same : IsSameLots old new
+  pub given_are : new.given ≡ old.given
+  pub one : length new.taken + length new.answers ≡ length old.taken + length old.answers + 1
+  pub more : length (flat new.taken) + length (flat new.answers) ≡ length (flat old.taken) + length (flat old.answers) + length hits
+
 -- these hits have come
 pub record Receives (old new : JobHelm) (hits : List Hit) : Type 0 where
   pub same : IsSameHelm old new

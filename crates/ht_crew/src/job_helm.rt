@@ -1,7 +1,7 @@
 //! The caller's end of a pool that runs jobs in lots.
 ghost use Rattle.std.specs.Prelude.{◌≡◌, ◌+◌, ◌<◌, ◌≤◌, [], ◌∷◌, ◌++◌, length, true, IfSome, IfNone, IsTrue};
 ghost use Rattle.ht_team.specs.Helms.{IsSettled};
-ghost use Rattle.ht_crew.specs.Accounts.{Loads, Ships, GetsBack, Receives, Stores};
+ghost use Rattle.ht_crew.specs.Accounts.{ComesBack, Loads, Ships, GetsBack, Receives, Stores};
 
 use crate::detect::Detect;
 use crate::gate::Gate;
@@ -87,7 +87,7 @@ impl<'a, 'g, G: Gate> JobHelm<'a, 'g, G> {
     /// The helm of a pool to which nothing was given.
     pub(crate) fn new(helm: Helm<'a, Detect<'g, G>>, mut depot: Depot) -> JobHelm<'a, 'g, G>
         requires none { helm.given ≡ [] }
-        ensures helm { result.lots ≡ helm }
+        ensures helm { result.lots ≡ helm.entry }
         ensures none { result.loading ≡ [] }
     {
         let room = depot.take();
@@ -151,14 +151,9 @@ impl<'a, 'g, G: Gate> JobHelm<'a, 'g, G> {
         ensures some { IfSome result (Receives self.old self.new) }
         ensures none { IfNone result (self.new ≡ self.old) }
     {
-        let mut hits = self.helm.receive();
-        if hits.is_none() {
-            hits = self.helm.run_one();
-        }
-        if hits.is_some() {
-            self.out = self.out.saturating_sub(1);
-        }
-        hits
+        let hits = next_lot(&mut self.helm)?;
+        self.out = self.out.saturating_sub(1);
+        Some(hits)
     }
 
     /// Keeps the memory of a lot whose hits were booked.
@@ -181,8 +176,20 @@ impl<'a, 'g, G: Gate> JobHelm<'a, 'g, G> {
 
     /// The helm for lots.
     pub(crate) fn into_helm(self) -> Helm<'a, Detect<'g, G>>
-        ensures { result ≡ self.lots }
+        ensures { result ≡ self.entry.lots }
     {
         self.helm
     }
+}
+
+// The hits of a lot that have come, or those of a lot that no worker took.
+fn next_lot<G: Gate>(helm: &mut Helm<'_, Detect<'_, G>>) -> Option<LotHits>
+    ensures some { IfSome result (ComesBack helm.old helm.new) }
+    ensures none { IfNone result (helm.new ≡ helm.old) }
+{
+    let received = helm.receive();
+    if received.is_some() {
+        return received;
+    }
+    helm.run_one()
 }
