@@ -1,5 +1,6 @@
 -- A window whose first hits go to the feed.
-use Rattle.std.proofs.Common.{◌≡◌, ℕ, ◌+◌, ◌-◌, ◌≤◌, List, [], ◌∷◌, length, take, drop, Option, Some, ap, ◌∙◌, sym, arith, rules}
+use Rattle.std.proofs.Common.{◌≡◌, ℕ, ◌+◌, ◌-◌, ◌≤◌, List, [], ◌∷◌, length, take, drop}
+use Rattle.std.proofs.Common.{Option, Some, ap, ◌∙◌, sym, arith, rules}
 use Rattle.std.proofs.lemmas.List.{length-map, length-drop, length-take-le, drop-map, drop-drop}
 use Rattle.ht_metric.specs.Jobs.{JobView}
 use Rattle.ht_metric.specs.declared.hit.Hit.{Hit}

@@ -1,5 +1,6 @@
 -- Lists of jobs that are given one after the other.
-use Rattle.std.proofs.Common.{◌≡◌, ℕ, ◌+◌, ◌<◌, ◌≤◌, List, [], ◌∷◌, ◌++◌, length, map, take, drop, slice_get, get_or, Some, false, ap, ◌∙◌, sym, refl, arith}
+use Rattle.std.proofs.Common.{◌≡◌, ℕ, ◌+◌, ◌<◌, ◌≤◌, List, [], ◌∷◌, ◌++◌, length, map, take, drop}
+use Rattle.std.proofs.Common.{slice_get, get_or, Some, false, ap, ◌∙◌, sym, refl, arith}
 use Rattle.std.proofs.lemmas.List.{take_more, drop_more, drop-append-le, drop-take, drop-drop, get_or-drop}
 use Rattle.std.proofs.lemmas.List.{length-take, length-take-le, length-drop, length-append, map-append}
 use Rattle.std.proofs.lemmas.List.{get_or-take}

@@ -18,8 +18,9 @@ use Rattle.ht_crew.proofs.Filling.{issued, waiting_more}
 number_step : (n m k : ℕ) → k ≡ m → (if k == n then 1 else 0) + (if nat_lt n m then 1 else 0) ≤ (if nat_lt n (m + 1) then 1 else 0)
 number_step n m k e = grind (arith, nat_tests, e)
 
-pub below_more : (n m : ℕ) → (if nat_lt n m then 1 else 0) ≤ (if nat_lt n (m + 1) then 1 else 0)
-below_more n m = grind (arith, nat_tests)
+-- a number below a count is below each later one
+pub below_later : (n m more : ℕ) → (if nat_lt n m then 1 else 0) ≤ (if nat_lt n (m + more) then 1 else 0)
+below_later n m more = grind (arith, nat_tests)
 
 -- one job more has the next number
 numbers_more : (given : List JobView) (job : JobView) (count : ℕ) → job.number ≡ count → HaveNumbers count given → HaveNumbers (count + 1) (given ++ job ∷ [])

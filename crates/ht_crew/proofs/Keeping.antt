@@ -1,17 +1,14 @@
--- A job that the caller keeps: it is issued, run and taken at once.
-use Rattle.std.proofs.Common.{◌≡◌, ℕ, ◌+◌, ◌-◌, ◌<◌, ◌≤◌, ◌^◌, List, [], ◌∷◌, length, take, drop, true, false, Option, Some, None}
-use Rattle.std.proofs.Common.{ap, ◌∙◌, sym, refl, arith, rules}
+-- Jobs that the caller keeps.
+use Rattle.std.proofs.Common.{◌≡◌, ℕ, ◌+◌, ◌-◌, List, [], ◌∷◌, length}
+use Rattle.std.proofs.Common.{take, drop, slice_get, Option, Some, None, IfSome}
+use Rattle.std.proofs.Common.{ap, ◌∙◌, sym, subst, refl, arith, rules}
 use Rattle.ht_metric.specs.declared.hit.Hit.{Hit}
 use Rattle.ht_metric.specs.Jobs.{JobView}
-use Rattle.ht_window.specs.Windows.{WindowView, front_hit}
+use Rattle.ht_window.specs.Windows.{front_hit}
 use Rattle.ht_window.specs.declared.slot.Slot.{Slot}
-use Rattle.ht_crew.specs.Feeds.{FeedView, GivesJob, EndsJobs, GivesAsBefore}
-use Rattle.ht_crew.specs.Driving.{Holds, IsAlong, one_without, waiting}
-use Rattle.ht_crew.specs.Accounts.{JobHelm}
-use Rattle.ht_crew.specs.Supplying.{Supplying}
-use Rattle.ht_crew.specs.declared.tally.Tally.{Tally}
-use Rattle.ht_crew.proofs.Filling.{along_more, issued}
-use Rattle.ht_crew.proofs.Issuing.{below_more, one_own}
+use Rattle.ht_crew.specs.Feeds.{FeedView}
+use Rattle.ht_crew.specs.Driving.{IsAlong, RunsOn, as_list, one_without, waiting}
+use Rattle.ht_crew.proofs.Giving.{first_between}
 
 some_left : (hit : Option Hit) (n : ℕ) → hit ≡ None → one_without hit n ≡ 0 → ⊥
 some_left None n e none = omega (arith, none)
@@ -23,55 +20,15 @@ none_left [] none e = refl
 none_left (slot ∷ slots) none e = absurd (some_left slot.hit (waiting slots) e none)
 
 module _ {Fault : Type 0} where
-  pub keeps_one : (w0 w w' : WindowView) (h0 h : JobHelm) (f0 f f1 f' : FeedView Fault) (t : Tally) (job : JobView)
-      → Supplying w0 h0 f0 t w h f → w.slots ≡ [] → h.room ≤ length h.given → f.ended ≡ false
-      → GivesJob f f1 job → f.faults ≤ f1.faults → f1.count + f1.more < 2 ^ 64 - 1
-      → Holds w' f' → w'.capacity ≡ w.capacity → w'.slots ≡ [] → GivesAsBefore f1 f' → f'.failed ≡ f1.failed → f1.faults ≤ f'.faults
-      → ((all : List JobView) → IsAlong all f1 → IsAlong all f') → Supplying w0 h0 f0 (one_own t) w' h f'
-  keeps_one w0 w w' h0 h f0 f f1 f' t job was empty room running gives later bound holds capacity still same failed later' along =
-      let none : waiting w.slots ≡ 0 = ap (λ (slots : List Slot). waiting slots) empty in
-      let none' : waiting w'.slots ≡ 0 = ap (λ (slots : List Slot). waiting slots) still in
-      record {
-        holds = holds;
-        tallies = record {
-          booked = omega (arith, was.tallies.booked, none, none');
-          given = omega (arith, was.tallies.given);
-          sources = omega (arith, was.tallies.sources);
-          sure = λ some. room;
-          numbers = λ n. omega (arith, was.tallies.numbers n, below_more n t.issued);
-          few = omega (arith, was.issued, gives.count, bound);
-        };
-        issued = omega (arith, was.issued, gives.count, same.count);
-        capacity_is = capacity ∙ was.capacity_is;
-        same = was.same;
-        bound = omega (arith, bound, same.count);
-        later = omega (arith, later, later', was.later);
-        failed_is = failed ∙ (gives.failed ∙ was.failed_is);
-        told = was.told;
-        along = λ all start. along all (along_more all f f1 job (was.along all start) running gives);
-      }
-
-  -- the feed ended
-  along_end : (all : List JobView) (f f' : FeedView Fault) → IsAlong all f → EndsJobs f f' → IsAlong all f'
-  along_end all f f' along ends = record {
-    left = λ on. let wrong : true ≡ false = sym ends.ended ∙ on in search rules;
-    within = omega (arith, along.within, ends.count);
-    due = ends.due ∙ (along.due
-        ∙ (ap (λ (n : ℕ). drop (n - length f.due) (take n all)) (sym ends.count)
-        ∙ ap (λ (due : List JobView). drop (f'.count - length due) (take f'.count all)) (sym ends.due)));
-  }
-
-  pub keeps_none : (w0 w : WindowView) (h0 h : JobHelm) (f0 f f' : FeedView Fault) (t : Tally)
-      → Supplying w0 h0 f0 t w h f → EndsJobs f f' → f.faults ≤ f'.faults → Supplying w0 h0 f0 t w h f'
-  keeps_none w0 w h0 h f0 f f' t was ends later = record {
-    holds = record { due = was.holds.due ∙ sym ends.due; count = was.holds.count ∙ sym ends.count; room = was.holds.room };
-    tallies = was.tallies;
-    issued = was.issued ∙ sym ends.count;
-    capacity_is = was.capacity_is;
-    same = was.same;
-    bound = omega (arith, was.bound, ends.count);
-    later = omega (arith, was.later, later);
-    failed_is = ends.failed ∙ was.failed_is;
-    told = was.told;
-    along = λ all start. along_end all f f' (was.along all start) ends;
-  }
+  -- the job that came last has its number in the list of all
+  pub told_last : (all : List JobView) (f0 f : FeedView Fault) (ran : ℕ) (next : Option JobView) (job : JobView) → IsAlong all f0
+      → RunsOn f0 f ran next → next ≡ Some job → slice_get all job.number ≡ Some job
+  told_last all f0 f ran next job start runs is =
+      let along : IsAlong all f = runs.along all start in
+      let due : f.due ≡ job ∷ [] = runs.due ∙ ap (λ (last : Option JobView). as_list last) is in
+      let one : length f.due ≡ 1 = ap (λ (jobs : List JobView). length jobs) due in
+      let number : job.number + 1 ≡ f.count = subst (λ (last : Option JobView). IfSome last (λ given. given.number + 1 ≡ f.count)) is runs.number in
+      let at : f.count - length f.due ≡ job.number = omega (arith, one, number) in
+      let last : drop job.number (take f.count all) ≡ job ∷ [] =
+      ap (λ (n : ℕ). drop n (take f.count all)) (sym at) ∙ (sym along.due ∙ due) in
+      (first_between all job.number f.count job (ap (λ (jobs : List JobView). slice_get jobs 0) last)).1

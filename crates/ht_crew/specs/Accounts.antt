@@ -1,5 +1,6 @@
 -- What the counts of a caller have to do with its window and with its helm at the pool.
-use Rattle.std.specs.Prelude.{◌≡◌, ◌+◌, ◌<◌, ◌≤◌, ◌^◌, ℕ, List, [], ◌∷◌, ◌++◌, length, Bool, if◌then◌else◌, ◌==◌, nat_lt, slice_get, Some, vec_len, vec_capacity}
+use Rattle.std.specs.Prelude.{◌≡◌, ◌+◌, ◌<◌, ◌≤◌, ◌^◌, ℕ, List, [], ◌∷◌, ◌++◌, length}
+use Rattle.std.specs.Prelude.{Bool, if◌then◌else◌, ◌==◌, nat_lt, slice_get, Some, vec_len, vec_capacity}
 use Rattle.std.specs.List.{sum_by}
 use Rattle.ht_metric.specs.Jobs.{JobView}
 use Rattle.ht_metric.specs.declared.hit.Hit.{Hit}
@@ -41,6 +42,11 @@ pub record IsJobHelm (lots : LotHelm) (loaded : LotRoom) (out : ℕ) : Type 0 wh
   pub some : length lots.given ≤ length (flat lots.given)
   pub none : loaded.hits.items ≡ []
   pub places : vec_len loaded.jobs ≤ vec_capacity loaded.hits
+
+-- what there is room for and what was given is told by the lots
+pub record IsOfLots (helm : JobHelm) : Type 0 where
+  pub room_is : helm.room ≡ helm.lots.room
+  pub given_are : helm.given ≡ flat helm.lots.given ++ helm.loading
 
 -- it is the same helm, of the same pool
 pub record IsSameHelm (old new : JobHelm) : Type 0 where

@@ -1,5 +1,6 @@
 -- How the window of a drive and its feed stand to each other.
-use Rattle.std.specs.Prelude.{◌≡◌, ℕ, ◌+◌, ◌-◌, ◌<◌, ◌≤◌, List, [], ◌∷◌, length, take, drop, Bool, false, not, if◌then◌else◌, Option, Some, None, is_some}
+use Rattle.std.specs.Prelude.{◌≡◌, ℕ, ◌+◌, ◌-◌, ◌<◌, ◌≤◌, List, [], ◌∷◌, length, take, drop, Bool, false}
+use Rattle.std.specs.Prelude.{not, if◌then◌else◌, Option, Some, None, is_some, IfSome}
 use Rattle.ht_io.specs.Causes.{HasRisen}
 use Rattle.ht_metric.specs.Jobs.{JobView}
 use Rattle.ht_metric.specs.declared.hit.Hit.{Hit}
@@ -62,9 +63,20 @@ module _ {Fault : Type 0} where
   -- this job came, if one did, and is the only one due; else the feed has ended
   pub record ComesNext (old new : FeedView Fault) (job : Option JobView) : Type 0 where
     pub due : new.due ≡ as_list job
+    pub number : IfSome job (λ given. given.number + 1 ≡ new.count)
     pub count : new.count ≡ old.count + length new.due
     pub ended : new.ended ≡ not (is_some job)
     pub left : job ≡ None → IsLeft new.left []
     pub fewer : to_run job new < old.more + 1
+    pub failed : new.failed ≡ old.failed
+    pub along : (jobs : List JobView) → IsAlong jobs old → IsAlong jobs new
+
+  -- so many jobs were run and taken, and this one came last and is the only one due; without one the feed has ended
+  pub record RunsOn (old new : FeedView Fault) (ran : ℕ) (next : Option JobView) : Type 0 where
+    pub due : new.due ≡ as_list next
+    pub number : IfSome next (λ job. job.number + 1 ≡ new.count)
+    pub count : old.count + ran + length (as_list next) ≡ new.count
+    pub ended : new.ended ≡ not (is_some next)
+    pub left : next ≡ None → IsLeft new.left []
     pub failed : new.failed ≡ old.failed
     pub along : (jobs : List JobView) → IsAlong jobs old → IsAlong jobs new

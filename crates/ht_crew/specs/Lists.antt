@@ -1,5 +1,6 @@
 -- What is seen of a feed over a list of jobs.
-use Rattle.std.specs.Prelude.{◌≡◌, ℕ, ◌+◌, ◌-◌, ◌≤◌, List, [], ◌∷◌, ◌++◌, length, map, take, drop, slice_get, Option, Some, None, Bool, true, false}
+use Rattle.std.specs.Prelude.{◌≡◌, ℕ, ◌+◌, ◌-◌, ◌≤◌, List, [], ◌∷◌, ◌++◌, length, map, take}
+use Rattle.std.specs.Prelude.{drop, slice_get, Option, Some, None, Bool, true, false}
 use Rattle.ht_io.specs.Causes.{one_more}
 use Rattle.ht_metric.specs.Jobs.{JobView, Found, near}
 use Rattle.ht_metric.specs.declared.hit.Hit.{Hit}

@@ -1,5 +1,6 @@
 //! The drive without threads.
-ghost use Rattle.std.specs.Prelude.{◌≡◌, ◌-◌, ◌^◌, ◌<◌, ◌≤◌, [], ◌∷◌, length, true, false, Err, List, None, Some, IfOk, IfErr, OnOk};
+ghost use Rattle.std.specs.Prelude.{◌≡◌, ◌-◌, ◌^◌, ◌<◌, ◌≤◌, [], ◌∷◌, length, true, false, List};
+ghost use Rattle.std.specs.Prelude.{Err, None, Some, IfOk, IfErr, OnOk};
 ghost use Rattle.ht_metric.specs.Jobs.{JobView};
 ghost use Rattle.ht_crew.specs.Feeds.{IsFreshFeed, IsLeft};
 ghost use Rattle.ht_crew.specs.Driving.{CallFailed, IsInTurn, IsAlong, ComesNext, at_once};
@@ -78,8 +79,8 @@ fn run_all<F: Feed, G: Gate>(ahead: bool, gate: &G, feed: &mut F) -> Result<u64,
 
     ensures fault { IfErr result (CallFailed (F.shown feed.old) (F.shown feed.new)) }
 {
-    let mut ran = 0u64;
     let mut next = feed.next()?;
+    let mut ran = 0u64;
     while let Some(job) = next {
         next = hand_back(ahead, run(gate, job), feed)?;
         ran += 1;
@@ -87,9 +88,13 @@ fn run_all<F: Feed, G: Gate>(ahead: bool, gate: &G, feed: &mut F) -> Result<u64,
     Ok(ran)
 }
 
-// Gives the feed the hit of the one job due, and asks it for the next job; where two may be due it asks first, so that the
-// feed knows whether another job follows.
-fn hand_back<F: Feed>(ahead: bool, hit: Hit, feed: &mut F) -> Result<Option<Job>, F::Fault>
+/// Gives the feed the hit of the one job due, and asks it for the next job; where two may be due it asks first, so that the
+/// feed knows whether another job follows.
+pub(crate) fn hand_back<F: Feed>(
+    ahead: bool,
+    hit: Hit,
+    feed: &mut F,
+) -> Result<Option<Job>, F::Fault>
     requires alone { (F.shown feed.old).due ≡ hit.job ∷ [] }
     requires running { (F.shown feed.old).ended ≡ false }
 

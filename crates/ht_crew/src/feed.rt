@@ -1,5 +1,6 @@
 //! Where jobs come from and hits go.
-ghost use Rattle.std.specs.Prelude.{◌≡◌, ◌+◌, ◌-◌, ◌^◌, ◌<◌, ◌≤◌, length, false, Some, slice_get, IfOk, IfErr, IfSome, IfNone, OnOk};
+ghost use Rattle.std.specs.Prelude.{◌≡◌, ◌+◌, ◌-◌, ◌^◌, ◌<◌, ◌≤◌, length, false, Some};
+ghost use Rattle.std.specs.Prelude.{slice_get, IfOk, IfErr, IfSome, IfNone, OnOk};
 ghost use Rattle.ht_crew.specs.Feeds.{FeedView, GivesJob, EndsJobs, TakesHit, Fails, GivesAsBefore};
 
 use ht_metric::{Hit, Job};

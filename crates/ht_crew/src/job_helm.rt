@@ -1,7 +1,7 @@
 //! The caller's end of a pool that runs jobs in lots.
 ghost use Rattle.std.specs.Prelude.{◌≡◌, ◌+◌, ◌<◌, ◌≤◌, [], ◌∷◌, ◌++◌, length, true, IfSome, IfNone, IsTrue};
 ghost use Rattle.ht_team.specs.Helms.{IsSettled};
-ghost use Rattle.ht_crew.specs.Accounts.{ComesBack, Loads, Ships, GetsBack, Receives, Stores};
+ghost use Rattle.ht_crew.specs.Accounts.{IsOfLots, ComesBack, Loads, Ships, GetsBack, Receives, Stores};
 
 use crate::detect::Detect;
 use crate::gate::Gate;
@@ -88,6 +88,7 @@ impl<'a, 'g, G: Gate> JobHelm<'a, 'g, G> {
     pub(crate) fn new(helm: Helm<'a, Detect<'g, G>>, mut depot: Depot) -> JobHelm<'a, 'g, G>
         requires none { helm.given ≡ [] }
         ensures helm { result.lots ≡ helm.entry }
+        ensures told { IsOfLots result }
         ensures none { result.loading ≡ [] }
     {
         let room = depot.take();
@@ -176,7 +177,8 @@ impl<'a, 'g, G: Gate> JobHelm<'a, 'g, G> {
 
     /// The helm for lots.
     pub(crate) fn into_helm(self) -> Helm<'a, Detect<'g, G>>
-        ensures { result ≡ self.entry.lots }
+        ensures lots { result ≡ self.entry.lots }
+        ensures told { IsOfLots self.entry }
     {
         self.helm
     }

@@ -1,5 +1,6 @@
 //! The caller's part of a drive with threads.
-ghost use Rattle.std.specs.Prelude.{◌≡◌, ◌+◌, ◌-◌, ◌^◌, ◌<◌, ◌≤◌, [], length, not, true, false, List, None, Some, IfOk, IfErr, OnOk};
+ghost use Rattle.std.specs.Prelude.{◌≡◌, ◌+◌, ◌-◌, ◌^◌, ◌<◌, ◌≤◌, [], length, not, true, false, List};
+ghost use Rattle.std.specs.Prelude.{None, Some, IfOk, IfErr, OnOk};
 ghost use Rattle.ht_metric.specs.Jobs.{JobView};
 ghost use Rattle.ht_team.specs.Helms.{IsSettled};
 ghost use Rattle.ht_crew.specs.Feeds.{IsFreshFeed, IsLeft};
@@ -33,6 +34,7 @@ pub(crate) fn lead<R: Wait, F: Feed, G: Gate>(
     requires fresh { IsFreshFeed (F.shown feed.old) }
     requires untouched { IsUntouched helm.old }
     requires nothing { tally.old ≡ none_counted }
+    requires room { helm.old.room ≤ window.old.capacity }
 
     ensures leads { F.leads feed.old feed.new }
     ensures due { length (F.shown feed.new).due ≤ window.old.capacity }
@@ -62,8 +64,12 @@ pub(crate) fn lead<R: Wait, F: Feed, G: Gate>(
         if !running && tally.booked == tally.issued && helm.is_home() {
             return Ok(());
         }
-        if tally.booked == tally.issued && is_kept(*tally, helm.room(), &pace) {
-            running = keep(work, window, helm, tally, &mut pace, running, feed)?;
+        if running
+            && tally.booked == tally.issued
+            && helm.is_ready()
+            && is_kept(*tally, helm.room(), &pace)
+        {
+            running = keep(work, window, helm, tally, &mut pace, feed)?;
         } else {
             turn(window, helm, tally, &mut pace);
         }

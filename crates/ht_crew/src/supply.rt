@@ -14,8 +14,9 @@ use crate::tally::Tally;
 use crate::turn::{issue, ship};
 use ht_window::Window;
 
-/// Asks the feed for jobs and issues them until the window is full, all lots are out or the feed has ended; then what is loaded
-/// goes to the pool. Where the caller keeps the next jobs for itself, it asks for none. Answers whether the feed goes on.
+/// Asks the feed for jobs and issues them until the window is full, all lots are out or the feed has ended. Where the caller
+/// keeps the next jobs for itself, it asks for none. Where no more are to come, what is loaded goes to the pool. Answers
+/// whether the feed goes on.
 pub(crate) fn supply<F: Feed, G: Gate>(
     work: &Detect<'_, G>,
     window: &mut Window,
@@ -49,17 +50,16 @@ pub(crate) fn supply<F: Feed, G: Gate>(
     ensures later { (F.shown feed.old).faults ≤ (F.shown feed.new).faults }
     ensures leads { F.leads feed.old feed.new }
 {
-    if is_kept(*tally, helm.room(), pace) {
-        return Ok(running);
-    }
+    let kept = is_kept(*tally, helm.room(), pace);
     let mut running = running;
-    while running && window.has_room() && helm.is_ready() {
+    while running && !kept && window.has_room() && helm.is_ready() {
         match feed.next()? {
             Some(job) => issue(work, window, helm, tally, pace, job),
             None => running = false,
         }
     }
-    if !running {
+    let over = kept || !running;
+    if over {
         ship(work, window, helm, tally, pace);
     }
     Ok(running)

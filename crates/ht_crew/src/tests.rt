@@ -44,12 +44,12 @@ fn job(number: u64) -> Job
     Job::new(number, place, Grid::one(levels, Ladder::of(1, 1)), system)
 }
 
-// The jobs of two symbols.
-fn jobs(alloc: Global) -> Result<Vec<Job>, AllocError>
+// So many jobs: 112 are those of two symbols.
+fn jobs(alloc: Global, count: u64) -> Result<Vec<Job>, AllocError>
     ensures { IfOk result (λ jobs. AreNumbered jobs.items) }
 {
     let mut jobs = Vec::new(alloc);
-    for number in 0..112 {
+    for number in 0..count {
         jobs.push(job(number))?;
     }
     Ok(jobs)
@@ -105,7 +105,7 @@ impl Gate for Counts {
 fn all_jobs(rt: HostRuntime) -> Result<(), Fail> {
     for window in [1, 2, 256] {
         let gate = Counts::new();
-        let mut feed = ListFeed::new(rt.alloc(), jobs(rt.alloc())?, Vec::new(rt.alloc()))?;
+        let mut feed = ListFeed::new(rt.alloc(), jobs(rt.alloc(), 112)?, Vec::new(rt.alloc()))?;
         let Ok(report) = drive_alone(rt.alloc(), window, &gate, &mut feed) else {
             assert!(rt; false, "window {window}");
             return Ok(());
@@ -174,7 +174,7 @@ impl Gate for Held {
 fn threads_meet(rt: HostRuntime) -> Result<(), Fail> {
     for (workers, window, others, lots) in [(2, 15, 14, 112), (4, 256, 0, 7), (64, 256, 111, 112)] {
         let gate = Held::new(others);
-        let mut feed = ListFeed::new(rt.alloc(), jobs(rt.alloc())?, Vec::new(rt.alloc()))?;
+        let mut feed = ListFeed::new(rt.alloc(), jobs(rt.alloc(), 112)?, Vec::new(rt.alloc()))?;
         let Ok(report) = drive(&rt, rt.alloc(), workers, window, &gate, &mut feed) else {
             assert!(rt; false, "{workers} workers");
             return Ok(());
@@ -194,21 +194,48 @@ fn threads_meet(rt: HostRuntime) -> Result<(), Fail> {
     Ok(())
 }
 
-// With threads, too, each call of a run fails where it is to fail.
+// Two workers run 300 jobs. The caller has given the pool no more than the window beyond 192 when it has seen so many hits,
+// all of which are cheap, and then it keeps the others.
+#[test]
+fn cheap_jobs_are_kept(rt: HostRuntime) -> Result<(), Fail> {
+    for window in [1, 2] {
+        let mut feed = ListFeed::new(rt.alloc(), jobs(rt.alloc(), 300)?, Vec::new(rt.alloc()))?;
+        let Ok(report) = drive(&rt, rt.alloc(), 2, window, &OpenGate, &mut feed) else {
+            assert!(rt; false, "window {window}");
+            return Ok(());
+        };
+        assert_eq!(rt; report.jobs, 300);
+        assert!(rt; report.own >= 108 - u64::from(window), "window {window}");
+        assert_eq!(rt; feed.taken().len(), 300);
+        expect_first(&rt, feed.taken());
+    }
+    Ok(())
+}
+
+// How many hits were taken before this call, where one thread runs the jobs: calls of `next` and of `take` alternate, behind
+// a second job where two may be due.
+fn taken_before(call: u64, window: u16) -> u64 {
+    call.saturating_add(1)
+        .saturating_sub(u64::from(window.min(2)))
+        / 2
+}
+
+// With threads, too, a call fails where it is to fail. Answers how many hits were taken.
 fn expect_failing<R: Threads + Wait + Abort + Sync>(
     rt: &R,
     alloc: Global,
+    count: u64,
     workers: u8,
     window: u16,
     call: u64,
-) -> Result<(), AllocError>
+) -> Result<u64, AllocError>
     requires one { 1 ≤ workers }
     requires many { workers ≤ 64 }
     requires some { 1 ≤ window }
     requires few { window ≤ 4096 }
 {
     let failing = vec![in alloc; call]?;
-    let mut feed = ListFeed::new(alloc, jobs(alloc)?, failing)?;
+    let mut feed = ListFeed::new(alloc, jobs(alloc, count)?, failing)?;
     let fault = drive(rt, alloc, workers, window, &OpenGate, &mut feed).err();
     assert_eq!(rt;
         fault,
@@ -216,27 +243,42 @@ fn expect_failing<R: Threads + Wait + Abort + Sync>(
         "{workers} {window} {call}"
     );
     expect_first(rt, feed.taken());
-    Ok(())
+    Ok(feed.taken().len() as u64)
 }
 
-// A run has 113 calls of `next` and 112 of `take`. They alternate, behind a second job where two may be due.
+// A run has 113 calls of `next` and 112 of `take`.
 #[test]
 fn each_call_fails(rt: HostRuntime) -> Result<(), Fail> {
     for window in [1, 2, 256] {
         for call in 0..225u64 {
             let failing = vec![in rt.alloc(); call]?;
-            let mut feed = ListFeed::new(rt.alloc(), jobs(rt.alloc())?, failing)?;
+            let mut feed = ListFeed::new(rt.alloc(), jobs(rt.alloc(), 112)?, failing)?;
             let fault = drive_alone(rt.alloc(), window, &OpenGate, &mut feed).err();
-            let taken = (call + 1).saturating_sub(u64::from(window.min(2))) / 2;
             assert_eq!(rt;
                 fault,
                 Some(DriveFault::Feed(ListFault { call })),
                 "{window} {call}"
             );
-            assert_eq!(rt; feed.taken().len() as u64, taken, "{window} {call}");
+            assert_eq!(rt;
+                feed.taken().len() as u64,
+                taken_before(call, window),
+                "{window} {call}"
+            );
             expect_first(&rt, feed.taken());
-            expect_failing(&rt, rt.alloc(), 2, window, call)?;
-            expect_failing(&rt, rt.alloc(), 4, window, call)?;
+            expect_failing(&rt, rt.alloc(), 112, 2, window, call)?;
+            expect_failing(&rt, rt.alloc(), 112, 4, window, call)?;
+        }
+    }
+    Ok(())
+}
+
+// From job 194 on jobs are kept, and as many are due at a call as in one thread, up to the last call, that of number 600.
+#[test]
+fn calls_fail_where_jobs_are_kept(rt: HostRuntime) -> Result<(), Fail> {
+    for window in [1, 2] {
+        for call in [388, 389, 390, 391, 599, 600] {
+            let taken = expect_failing(&rt, rt.alloc(), 300, 2, window, call)?;
+            assert_eq!(rt; taken, taken_before(call, window), "{window} {call}");
         }
     }
     Ok(())

@@ -32,11 +32,6 @@ abbrev pub job_without : Option Hit → JobView → Option JobView → Option Jo
 job_without None job else_job = Some job
 job_without (Some hit) job else_job = else_job
 
--- the job of the first slot, where it waits for its hit
-abbrev pub front_job : List Slot → Option JobView
-front_job [] = None
-front_job (s ∷ rest) = job_without s.hit s.job None
-
 -- the first job without a hit
 abbrev pub first_unbooked : List Slot → Option JobView
 first_unbooked [] = None

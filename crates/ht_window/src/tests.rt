@@ -87,11 +87,11 @@ fn two_slots(rt: HostRuntime) -> Result<(), Fail> {
 }
 
 #[test]
-fn without_booking(rt: HostRuntime) -> Result<(), Fail> {
+fn without_slots(rt: HostRuntime) -> Result<(), Fail> {
     let mut window = Window::new(rt.alloc(), 1, 7)?;
-    window.issue(job(7, 3));
-    let first = window.withdraw().map(|job| job.number());
-    assert_eq!(rt; first, Some(7));
-    assert!(rt; window.withdraw().is_none());
+    window.pass(2);
+    window.issue(job(9, 3));
+    assert_eq!(rt; window.accept(hit(9, 3)), Accepted::Booked);
+    assert_eq!(rt; number_of(window.emit()), Some(9));
     Ok(())
 }

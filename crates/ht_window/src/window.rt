@@ -1,10 +1,11 @@
 //! The window.
-ghost use Rattle.std.specs.Prelude.{◌≡◌, ◌≢◌, ◌↔◌, ◌+◌, ◌-◌, ◌^◌, ◌<◌, ◌≤◌, [], ◌∷◌, ◌++◌, length, drop, slice_get, slice_set};
+ghost use Rattle.std.specs.Prelude.{◌≡◌, ◌≢◌, ◌↔◌, ◌+◌, ◌-◌, ◌^◌, ◌<◌, ◌≤◌, [], ◌∷◌};
+ghost use Rattle.std.specs.Prelude.{◌++◌, length, drop, slice_get, slice_set};
 ghost use Rattle.std.specs.Prelude.{Some, None, IfOk, IfSome, IfNone, nat_lt};
 ghost use Rattle.circular_buffer.specs.Buffer.{buffer};
 ghost use Rattle.ht_metric.specs.declared.hit.Hit.{Hit as HitValue};
 ghost use Rattle.ht_window.specs.declared.slot.Slot.{Slot as SlotValue};
-ghost use Rattle.ht_window.specs.Windows.{unbooked, booked, jobs, front_hit, front_job, first_unbooked, IsWindow};
+ghost use Rattle.ht_window.specs.Windows.{unbooked, booked, jobs, front_hit, first_unbooked, IsWindow};
 ghost use Rattle.ht_window.specs.Accepting.{IsUnbooked, IsBooked, IsStrange, Books};
 
 use crate::slot::Slot;
@@ -120,44 +121,23 @@ impl Window {
         if self.slots.front()?.hit.is_none() {
             return None;
         }
-        self.pop()?.hit
-    }
-
-    /// Takes out the first slot and gives its job, so that the front's number rises by one. So a caller that runs the job
-    /// at once needs no booking: its hit is the next one in order. `None` where there is no slot or the first one has its
-    /// hit; nothing changes then.
-    #[must_use]
-    pub fn withdraw(&mut self) -> Option<Job>
-        ensures job { result ≡ front_job self.old.slots }
-        ensures withdrawn { IfSome result (λ _. self.new ≡ record {
-          capacity = self.old.capacity;
-          front = self.old.front + 1;
-          slots = drop 1 self.old.slots;
-        }) }
-        ensures none { IfNone result (self.new ≡ self.old) }
-        ensures first { IfSome result (λ job. self.old.slots ≡ unbooked job ∷ self.new.slots) }
-        ensures window { IsWindow self.new }
-    {
-        if self.slots.front()?.hit.is_some() {
-            return None;
-        }
-        Some(self.pop()?.job)
-    }
-
-    // Takes out the first slot, so that the front's number rises by one.
-    fn pop(&mut self) -> Option<Slot>
-        ensures slot { result ≡ slice_get self.old.slots 0 }
-        ensures popped { IfSome result (λ _. self.new ≡ record {
-          capacity = self.old.capacity;
-          front = self.old.front + 1;
-          slots = drop 1 self.old.slots;
-        }) }
-        ensures none { IfNone result (self.new ≡ self.old) }
-        ensures window { IsWindow self.new }
-    {
         let slot = self.slots.pop_front()?;
         self.front += 1;
-        Some(slot)
+        slot.hit
+    }
+
+    /// Counts jobs that were run elsewhere, with no slot of theirs: the number of the front rises by `count`, to less than
+    /// 2^64. The window is empty before and after.
+    pub fn pass(&mut self, count: u64)
+        requires empty { self.old.slots ≡ [] }
+        requires last { self.old.front + count < 2 ^ 64 }
+        ensures passed { self.new ≡ record {
+          capacity = self.old.capacity;
+          front = self.old.front + count;
+          slots = [];
+        } }
+    {
+        self.front += count;
     }
 
     /// A copy of the first job without a hit. `None` where each slot has its hit, or where there is no slot.

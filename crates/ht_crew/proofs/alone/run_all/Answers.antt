@@ -1,23 +1,16 @@
-use Rattle.std.proofs.Common.{◌≡◌, ◌∙◌, List, Option, length, ap, arith}
-use Rattle.ht_metric.specs.Jobs.{JobView}
-use Rattle.ht_crew.specs.Driving.{as_list}
+use Rattle.std.proofs.Common.{arith}
+use Rattle.ht_crew.proofs.Coming.{runs_more}
 use Rattle.ht_crew.proofs.alone.run_all.Goals as goal
 
 pub loop-next-preserved : goal.loop-next-preserved
 loop-next-preserved g c =
+    let seen = g.F.Feed.shown in
     let before = c.loop-next.invariant in
-    let comes = c.in_ok-next-2.ensures.next in
-    let one : length (as_list c.loop-next.next) ≡ 1 = ap (λ (job : Option JobView). length (as_list job)) c.in-Some.is in
-    let due : length (g.F.Feed.shown c.hand_back.new.feed).due ≡ length (as_list c.in_ok-next-2.next) = ap (λ (jobs : List JobView). length jobs) comes.due in
     record {
-      due = comes.due;
-      ended = comes.ended;
-      left = comes.left;
-      ran = omega (arith, before.ran, one, due, comes.count);
+      runs = runs_more (seen c.args.feed.now) (seen c.loop-next.feed) (seen c.hand_back.new.feed) c.loop-next.ran c.loop-next.next c.in-Some.job
+          c.in_ok-next-2.next before.runs c.in-Some.is c.in_ok-next-2.ensures.next;
       bound = c.in_ok-next-2.ensures.bound;
       later = omega (arith, before.later, c.hand_back.ensures.later);
-      failed = comes.failed ∙ before.failed;
-      along = λ jobs told. comes.along jobs (before.along jobs told);
       leads = g.met.F.Feed.goes_on c.args.feed.now c.loop-next.feed c.hand_back.new.feed before.leads c.hand_back.ensures.leads;
     }
 

@@ -3,7 +3,7 @@ use Rattle.ht_crew.specs.Feeds.{GivesJob}
 use Rattle.ht_crew.proofs.Filling.{goes_on_more}
 use Rattle.ht_crew.proofs.Supplied.{supplying_more}
 use Rattle.ht_crew.specs.Accounts.{AreTold}
-use Rattle.ht_crew.proofs.supply.supply.Goals.{then-not-running, else-not-running}
+use Rattle.ht_crew.proofs.supply.supply.Goals.{then-over, else-over}
 use Rattle.ht_crew.proofs.supply.supply.Goals as goal
 
 pub loop-running-preserved-in-Some : goal.loop-running-preserved-in-Some
@@ -24,7 +24,7 @@ loop-running-preserved-in-Some g c =
 pub returns-clause-told : goal.returns-clause-told
 returns-clause-told g c = λ jobs along told.
     let before : AreTold jobs c.loop-running.helm.given = c.loop-running.invariant.supplying.told jobs along told in
-    elim c.if-not-running.branch [
-      then-not-running w ↦ rw (w.helm-is) (w.ship.ensures.turn.told jobs before)
-    | else-not-running w ↦ rw (w.helm-is) before
+    elim c.if-over.branch [
+      | then-over w ↦ rw (w.helm-is) (w.ship.ensures.turn.told jobs before)
+      | else-over w ↦ rw (w.helm-is) before
     ]

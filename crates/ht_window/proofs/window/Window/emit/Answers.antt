@@ -1,6 +1,6 @@
 use Rattle.std.proofs.Common.{◌<◌, length, rules}
 use Rattle.ht_window.proofs.Slots.{emitted}
-use Rattle.ht_window.proofs.window.Window.pop.Goals as goal
+use Rattle.ht_window.proofs.window.Window.emit.Goals as goal
 
 pub invariant_of-self-2 : goal.invariant_of-self-2
 invariant_of-self-2 c =
