@@ -5,11 +5,15 @@ use ht_metric::Hit;
 /// The credit from which on jobs count as cheap.
 const QUICK: u8 = 192;
 
-/// What a dear job lowers the credit by at least.
+/// What a dear job takes from the credit at least.
 const DEAR: u8 = 8;
 
-/// What a caller has seen of the cost of its jobs, as a credit from 0 to 255: each cheap job raises it by one, and each
-/// dear one lowers it, the dearer the more.
+/// What a caller has seen of the cost of its jobs, as a credit from 0 to 255: a cheap job adds one to it, and a dear one takes
+/// from it, the more the dearer it was.
+///
+/// A job is cheap where the distance of its hit is less than four times the square of the least diagonal: then few vectors
+/// beside that of successive rounding may be nearer, and the search looks at little more. A dear one takes as much as its
+/// distance has that measure in it, at least 8.
 #[derive(Clone, Copy, Debug)]
 pub(crate) struct Pace {
     credit: u8,
@@ -23,11 +27,12 @@ impl Pace {
 
     /// Sees the hit of a job.
     pub(crate) fn see(&mut self, hit: &Hit) {
-        let reach = reach(hit);
-        self.credit = if reach == 0 {
+        let distance = u64::try_from(hit.distance()).unwrap_or(u64::MAX);
+        let measure = measure(hit);
+        self.credit = if distance < measure {
             self.credit.saturating_add(1)
         } else {
-            self.credit.saturating_sub(reach.max(DEAR))
+            self.credit.saturating_sub(price(distance, measure))
         };
     }
 
@@ -37,20 +42,13 @@ impl Pace {
     }
 }
 
-// How far a hit is, 255 at most: how many times its distance has four times the square of the least diagonal. Where that is
-// none, few vectors beside that of successive rounding can be nearer, and the search looks at little more.
-fn reach(hit: &Hit) -> u8 {
+// Four times the square of the least diagonal of a hit's system.
+fn measure(hit: &Hit) -> u64 {
     let least = u64::from(least_diagonal(hit));
-    let unit = 4 * least * least;
-    let distance = hit.distance();
-    if distance < u128::from(unit) {
-        return 0;
-    }
-    let distance = u64::try_from(distance).unwrap_or(u64::MAX);
-    u8::try_from(distance / unit.max(1)).unwrap_or(u8::MAX)
+    4 * least * least
 }
 
-// The least diagonal of the system of a hit's job.
+// The least diagonal of a hit's system.
 fn least_diagonal(hit: &Hit) -> u16 {
     let system = hit.job().system();
     let mut least = u16::MAX;
@@ -58,4 +56,11 @@ fn least_diagonal(hit: &Hit) -> u16 {
         least = least.min(system.diagonal(row + 1));
     }
     least
+}
+
+// What a dear job takes from the credit: how often its distance has the measure in it, from 8 to 255.
+fn price(distance: u64, measure: u64) -> u8 {
+    u8::try_from(distance / measure.max(1))
+        .unwrap_or(u8::MAX)
+        .max(DEAR)
 }

@@ -3,8 +3,9 @@
 ghost use Rattle.std.specs.Prelude.{◌≡◌, ◌≤◌, IfOk, length};
 ghost use Rattle.ht_crew.specs.Lists.{AreNumbered};
 
+use crate::pace::Pace;
 use crate::{DriveFault, Gate, ListFault, ListFeed, OpenGate, drive, drive_alone};
-use ht_metric::{Hit, Job, Place, Sample, System, Tap, Triangle};
+use ht_metric::{Hit, Job, Place, Sample, System, Tap, Triangle, plain_nearest};
 use ht_pam::{Grid, Ladder, Point};
 use std::alloc::{AllocError, Global};
 use std::process::Abort;
@@ -209,6 +210,46 @@ fn cheap_jobs_are_kept(rt: HostRuntime) -> Result<(), Fail> {
         assert_eq!(rt; feed.taken().len(), 300);
         expect_first(&rt, feed.taken());
     }
+    Ok(())
+}
+
+// The hit of a BPSK job on one stream of this diagonal and this sample.
+fn hit(diagonal: u16, re: i32) -> Hit {
+    let triangle = Triangle::new(1, [diagonal, 0, 0, 0], [Tap { re: 0, im: 0 }; 6]);
+    let y = [Sample { re, im: 0 }, NO_SAMPLE, NO_SAMPLE, NO_SAMPLE];
+    let grid = Grid::one(Ladder::of(2, 3), Ladder::of(1, 1));
+    plain_nearest(&Job::new(0, Place::default(), grid, System::new(triangle, y)))
+}
+
+// 192 cheap hits in a row make a pace quick. A dear one, whose distance is twice the measure, takes eight of them back, and
+// one whose distance is 2,450 times the measure takes all.
+#[test]
+fn cheap_and_dear(rt: HostRuntime) -> Result<(), Fail> {
+    let cheap = hit(10, 29);
+    let mut pace = Pace::new();
+    for _ in 0..191 {
+        pace.see(&cheap);
+    }
+    assert!(rt; !pace.is_quick());
+    pace.see(&cheap);
+    assert!(rt; pace.is_quick());
+
+    pace.see(&hit(10, 40));
+    for _ in 0..7 {
+        pace.see(&cheap);
+    }
+    assert!(rt; !pace.is_quick());
+    pace.see(&cheap);
+    assert!(rt; pace.is_quick());
+
+    for _ in 0..300 {
+        pace.see(&cheap);
+    }
+    pace.see(&hit(1, 100));
+    for _ in 0..191 {
+        pace.see(&cheap);
+    }
+    assert!(rt; !pace.is_quick());
     Ok(())
 }
 

@@ -45,6 +45,10 @@ use std::thread::Threads;
 /// quarter of a worker, 1 to 32, and fewer only where the feed has ended. The gate is called before and after each job,
 /// by whoever runs it. With one worker it is [`drive_alone`].
 ///
+/// Where the hits show that jobs are cheap, the caller keeps them once it has given the pool `window` jobs and has all
+/// their hits: it runs them itself, in the order of the feed and as [`drive_alone`] does, so at most two are due, and only
+/// one where `window` is 1. The first job that it doesn't keep is given to the pool again.
+///
 /// It refuses with the feed's fault, or with `NoMemory`, and then before the first call of the feed. Threads that can't
 /// be started leave more to the caller.
 pub fn drive<R: Threads + Wait + Sync, F: Feed, G: Gate + Sync>(
