@@ -1,12 +1,13 @@
 -- A job is issued, and a lot of jobs is sent off.
-use Rattle.std.proofs.Common.{◌≡◌, ℕ, ◌+◌, ◌-◌, ◌<◌, ◌≤◌, ◌^◌, List, [], ◌∷◌, ◌++◌, length, map, sum_by, if◌then◌else◌, ◌==◌, nat_lt, slice_get}
+use Rattle.std.proofs.Common.{◌≡◌, ℕ, ◌+◌, ◌-◌, ◌<◌, ◌≤◌, ◌^◌, List, [], ◌∷◌, ◌++◌, length}
+use Rattle.std.proofs.Common.{if◌then◌else◌, ◌==◌, nat_lt, slice_get}
 use Rattle.std.proofs.Common.{Some, ap, ◌∙◌, sym, refl, arith, subst}
 use Rattle.std.proofs.lemmas.Bool.Decides.{nat_tests}
 use Rattle.std.proofs.lemmas.List.{length-append, length-map, map-append}
 use Rattle.std.proofs.lemmas.List.Sums.{sum_by_push, sum_by-append}
 use Rattle.ht_metric.specs.Jobs.{JobView}
 use Rattle.ht_metric.specs.declared.hit.Hit.{Hit}
-use Rattle.ht_window.specs.Windows.{WindowView, jobs, unbooked}
+use Rattle.ht_window.specs.Windows.{WindowView, unbooked}
 use Rattle.ht_window.specs.declared.slot.Slot.{Slot}
 use Rattle.ht_team.specs.Helms.{IsSameHelm as IsSameLots}
 use Rattle.ht_crew.specs.Lots.{LotHelm, asked, lot_of}
@@ -23,7 +24,8 @@ pub below_later : (n m more : ℕ) → (if nat_lt n m then 1 else 0) ≤ (if nat
 below_later n m more = grind (arith, nat_tests)
 
 -- one job more has the next number
-numbers_more : (given : List JobView) (job : JobView) (count : ℕ) → job.number ≡ count → HaveNumbers count given → HaveNumbers (count + 1) (given ++ job ∷ [])
+numbers_more : (given : List JobView) (job : JobView) (count : ℕ) → job.number ≡ count → HaveNumbers count given
+    → HaveNumbers (count + 1) (given ++ job ∷ [])
 numbers_more given job count e was n = omega (arith, was n, sum_by_push (is_number n) given job, number_step n count job.number e)
 
 told_more : (all given : List JobView) (job : JobView) → AreTold all given → slice_get all job.number ≡ Some job → AreTold all (given ++ job ∷ [])

@@ -1,13 +1,14 @@
 -- Lots that go to the pool and come back.
-use Rattle.std.proofs.Common.{◌≡◌, ℕ, ◌+◌, ◌<◌, ◌≤◌, List, [], ◌∷◌, ◌++◌, length, map, take, get_or, slice_get, Option, Some, None, IfSome, sum_by, ap, ◌∙◌, sym, refl, subst, arith, rules, vec_len, vec_capacity}
-use Rattle.std.proofs.lemmas.List.{append-nil, length-append, length-map, map-append, take_more}
+use Rattle.std.proofs.Common.{◌≡◌, ℕ, ◌+◌, ◌<◌, ◌≤◌, List, [], ◌∷◌, ◌++◌, length, Option, Some, None, IfSome}
+use Rattle.std.proofs.Common.{ap, ◌∙◌, sym, refl, subst, arith, rules}
+use Rattle.std.proofs.lemmas.List.{append-nil, length-append, length-map}
 use Rattle.std.proofs.lemmas.List.Concat.{flat_map-append, length-flat_map}
 use Rattle.ht_counts.specs.Counts.{SameCounts}
 use Rattle.ht_metric.specs.Jobs.{JobView}
 use Rattle.ht_metric.specs.declared.hit.Hit.{Hit}
 use Rattle.ht_team.specs.Helms.{gave, received, TakesBack, IsSameHelm as IsSameLots}
 use Rattle.ht_crew.specs.Lots.{LotHelm, asked, lot_of, flat}
-use Rattle.ht_crew.specs.Accounts.{IsJobHelm, IsSameHelm, Ships, GetsBack, Receives, ComesBack, job_helm, sources}
+use Rattle.ht_crew.specs.Accounts.{IsJobHelm, Ships, GetsBack, Receives, ComesBack, job_helm}
 use Rattle.ht_crew.specs.declared.lot.LotRoom.{LotRoom}
 
 -- one lot more at the end

@@ -1,5 +1,6 @@
 -- Where every job has its hit, the pool has run all that it was given.
-use Rattle.std.proofs.Common.{◌≡◌, ℕ, ◌+◌, ◌<◌, ◌≤◌, ◌++◌, List, [], ◌∷◌, length, map, sum, min, get_or, ap, ◌∙◌, sym, refl, arith, subst}
+use Rattle.std.proofs.Common.{◌≡◌, ℕ, ◌+◌, ◌<◌, ◌≤◌, ◌++◌, List, [], ◌∷◌, length, map, sum, min, get_or}
+use Rattle.std.proofs.Common.{ap, ◌∙◌, sym, refl, arith, subst}
 use Rattle.std.specs.List.{sum_by}
 use Rattle.std.proofs.lemmas.List.{append-nil, length-append, length-map, map-append}
 use Rattle.std.proofs.lemmas.List.Sums.{sum_by-append, sum_by-cons}
@@ -32,7 +33,9 @@ map_flat (lot ∷ lots) = map-append asked lot (flat lots) ∙ ap (λ (rest : Li
 -- counted over all lots
 sum_flat : {A : Type 0} (h : A → ℕ) (lots : List (List A)) → sum_by h (flat lots) ≡ sum_by (sum_by h) lots
 sum_flat h [] = refl
-sum_flat h (lot ∷ lots) = sum_by-append h lot (flat lots) ∙ (ap (λ (n : ℕ). sum_by h lot + n) (sum_flat h lots) ∙ sym (sum_by-cons (sum_by h) lot lots))
+sum_flat h (lot ∷ lots) =
+    sum_by-append h lot (flat lots)
+    ∙ (ap (λ (n : ℕ). sum_by h lot + n) (sum_flat h lots) ∙ sym (sum_by-cons (sum_by h) lot lots))
 
 -- all jobs were given in lots
 pub all_given : (h : JobHelm) → IsOfLots h → h.loading ≡ [] → h.given ≡ flat h.lots.given
@@ -50,7 +53,9 @@ module _ (t : Tally) (w : WindowView) (h : JobHelm) (members : List (Member (Lis
 
   answered : length h.lots.taken + length hits ≡ length h.lots.given
   answered =
-      let run_once : sum_by (λ (lot : List JobView). 1) (h.lots.taken ++ map lot_of hits) ≡ sum_by (λ (lot : List JobView). 1) h.lots.given = run.run (λ _. 1) in
+      let run_once : sum_by (λ (lot : List JobView). 1) (h.lots.taken ++ map lot_of hits)
+      ≡ sum_by (λ (lot : List JobView). 1) h.lots.given =
+      run.run (λ _. 1) in
       omega (
         arith,
         run_once,

@@ -1,6 +1,4 @@
-use Rattle.std.proofs.Common.{◌∙◌, List, arith, rules, subst, sym}
-use Rattle.ht_metric.specs.Jobs.{JobView}
-use Rattle.ht_crew.specs.Accounts.{AreTold}
+use Rattle.std.proofs.Common.{◌∙◌, arith, rules}
 use Rattle.ht_crew.proofs.Running.{goes_on_still}
 use Rattle.ht_crew.proofs.Issuing.{same_on}
 use Rattle.ht_crew.proofs.Leading.{holds_still}

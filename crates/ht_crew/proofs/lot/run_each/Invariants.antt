@@ -1,4 +1,4 @@
-use Rattle.std.proofs.Common.{◌≡◌, ◌≤◌, length, map, take, vec_len, vec_capacity}
+use Rattle.std.proofs.Common.{◌≡◌, ◌≤◌, map, take, vec_len, vec_capacity}
 use Rattle.ht_crew.specs.Lots.{asked}
 use Rattle.ht_crew.proofs.lot.run_each.Given as goal
 

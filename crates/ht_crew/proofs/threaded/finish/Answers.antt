@@ -1,7 +1,7 @@
-use Rattle.std.proofs.Common.{Some, refl, subst, rules}
+use Rattle.std.proofs.Common.{Some, refl, subst}
 use Rattle.ht_team.specs.Pools.{HasRun}
 use Rattle.ht_crew.specs.Lots.{LotHelm, lot_of}
-use Rattle.ht_crew.proofs.Settling.{all_given, has_run_in_pool, pushed}
+use Rattle.ht_crew.proofs.Settling.{all_given, has_run_in_pool}
 use Rattle.ht_crew.proofs.threaded.finish.Goals as goal
 
 pub returns-clause-ran : goal.returns-clause-ran

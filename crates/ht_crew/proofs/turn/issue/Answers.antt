@@ -1,5 +1,4 @@
 use Rattle.std.proofs.Common.{rules}
-use Rattle.ht_crew.specs.Accounts.{IssuesJob}
 use Rattle.ht_crew.proofs.Issuing.{issues_loaded, issues_shipped, one_issued}
 use Rattle.ht_crew.proofs.turn.issue.Goals as goal
 
