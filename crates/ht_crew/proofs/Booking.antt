@@ -1,13 +1,14 @@
 -- What becomes of a window where a hit is booked.
-use Rattle.std.proofs.Common.{◌≡◌, ◌++◌, ◌∷◌, [], List, length, slice_get, Some, true, false, ap, ◌∙◌, sym, refl, arith, subst}
+use Rattle.std.proofs.Common.{◌≡◌, List, length, ◌+◌, ◌≤◌, Bool, if◌then◌else◌, true, false, ap, ◌∙◌, sym, refl, arith, subst}
 use Rattle.ht_metric.specs.Jobs.{JobView}
 use Rattle.ht_metric.specs.declared.hit.Hit.{Hit}
-use Rattle.ht_window.specs.Windows.{WindowView, IsWindow, jobs, unbooked}
+use Rattle.ht_window.specs.Windows.{WindowView, IsWindow, jobs}
 use Rattle.ht_window.specs.Accepting.{IsUnbooked, Books}
 use Rattle.ht_window.specs.declared.slot.Slot.{Slot}
 use Rattle.ht_crew.specs.Accounts.{HasBooked}
+use Rattle.ht_crew.specs.declared.tally.Tally.{Tally}
+use Rattle.ht_crew.specs.Driving.{waiting}
 use Rattle.ht_crew.proofs.Running.{waiting_booked}
-use Rattle.ht_crew.proofs.Filling.{issued}
 use Rattle.ht_crew.proofs.Delivering.{length-jobs}
 
 same_length : (a b : List Slot) → jobs a ≡ jobs b → length a ≡ length b
@@ -29,10 +30,40 @@ books_none w w' same =
     subst (λ (v : WindowView). HasBooked false w v) (sym same)
     (record { capacity_is = refl; front_is = refl; jobs_are = refl; slots_are = refl; waits = omega arith })
 
-at_end : {A : Type 0} (xs : List A) (x : A) → slice_get (xs ++ x ∷ []) (length xs) ≡ Some x
-at_end [] x = refl
-at_end (y ∷ ys) x = at_end ys x
+-- what was booked so far, where these hits are left
+pub record Booking (all : List Hit) (t0 : Tally) (w0 : WindowView) (hits : List Hit) (t : Tally) (w : WindowView) : Type 0 where
+  pub issued : t.issued ≡ t0.issued
+  pub own : t.own ≡ t0.own
+  pub booked : t.booked + waiting w.slots ≡ t0.booked + waiting w0.slots
+  pub few : t.booked + length hits ≤ t0.booked + length all
+  pub capacity_is : w.capacity ≡ w0.capacity
+  pub front_is : w.front ≡ w0.front
+  pub jobs_are : jobs w.slots ≡ jobs w0.slots
+  pub slots_are : length w.slots ≡ length w0.slots
 
--- a job that was just issued waits
-pub waits_at_end : (w : WindowView) (job : JobView) → IsUnbooked (issued w job) job
-waits_at_end w job = (length w.slots, at_end w.slots (unbooked job))
+abbrev pub one_booked : Tally → Bool → Tally
+one_booked t booked = record { issued = t.issued; booked = t.booked + (if booked then 1 else 0); own = t.own }
+
+-- one hit more was booked or refused
+pub books_more : (all : List Hit) (t0 t : Tally) (w0 w w' : WindowView) (hits hits' : List Hit) (booked : Bool)
+    → Booking all t0 w0 hits t w → length hits' + 1 ≤ length hits → HasBooked booked w w' → Booking all t0 w0 hits' (one_booked t booked) w'
+books_more all t0 t w0 w w' hits hits' true was less has = record {
+  issued = was.issued;
+  own = was.own;
+  booked = omega (arith, was.booked, has.waits);
+  few = omega (arith, was.few, less);
+  capacity_is = has.capacity_is ∙ was.capacity_is;
+  front_is = has.front_is ∙ was.front_is;
+  jobs_are = has.jobs_are ∙ was.jobs_are;
+  slots_are = has.slots_are ∙ was.slots_are;
+}
+books_more all t0 t w0 w w' hits hits' false was less has = record {
+  issued = was.issued;
+  own = was.own;
+  booked = omega (arith, was.booked, has.waits);
+  few = omega (arith, was.few, less);
+  capacity_is = has.capacity_is ∙ was.capacity_is;
+  front_is = has.front_is ∙ was.front_is;
+  jobs_are = has.jobs_are ∙ was.jobs_are;
+  slots_are = has.slots_are ∙ was.slots_are;
+}

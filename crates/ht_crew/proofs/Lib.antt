@@ -1,3 +1,4 @@
+mod Lots
 mod Giving
 mod Filling
 mod Delivering

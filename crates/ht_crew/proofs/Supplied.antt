@@ -4,20 +4,13 @@ use Rattle.std.proofs.Common.{drop, slice_get, zero, suc, Option, Some, None, fa
 use Rattle.std.proofs.Common.{ap, ◌∙◌, sym, subst, arith}
 use Rattle.ht_metric.specs.Jobs.{JobView}
 use Rattle.ht_window.specs.Windows.{WindowView}
-use Rattle.ht_team.specs.Helms.{IsSameHelm}
 use Rattle.ht_crew.specs.Feeds.{FeedView, GivesJob, ComesFirst}
 use Rattle.ht_crew.specs.Driving.{IsAlong}
-use Rattle.ht_crew.specs.Accounts.{JobHelm, IssuesJob}
+use Rattle.ht_crew.specs.Accounts.{JobHelm, IssuesJob, TakesTurn}
 use Rattle.ht_crew.specs.Supplying.{Supplying}
 use Rattle.ht_crew.specs.declared.tally.Tally.{Tally}
 use Rattle.ht_crew.proofs.Filling.{along_more}
-
-pub same_on : (a b c : JobHelm) → IsSameHelm a b → IsSameHelm b c → IsSameHelm a c
-same_on a b c ab bc = record {
-  room_is = bc.room_is ∙ ab.room_is;
-  deques_are = bc.deques_are ∙ ab.deques_are;
-  queue_is = bc.queue_is ∙ ab.queue_is;
-}
+use Rattle.ht_crew.proofs.Issuing.{same_on}
 
 at_dropped : (n : ℕ) (xs : List JobView) (x : JobView) (rest : List JobView) → drop n xs ≡ x ∷ rest → slice_get xs n ≡ Some x
 at_dropped zero xs x rest e = ap (λ (ys : List JobView). slice_get ys 0) e
@@ -53,4 +46,24 @@ module _ {Fault : Type 0} where
     failed_is = gives.failed ∙ was.failed_is;
     told = λ all start before. issues.told all (was.told all start before) (job_at all f f' job (was.along all start) running gives);
     along = λ all start. along_more all f f' job (was.along all start) running gives;
+  }
+
+  -- and a lot was sent off
+  pub supplying_on : (w0 : WindowView) (h0 : JobHelm) (f0 : FeedView Fault) (t t' : Tally) (w w' : WindowView) (h h' : JobHelm) (f : FeedView Fault)
+      → Supplying w0 h0 f0 t w h f → TakesTurn t w h t' w' h' → Supplying w0 h0 f0 t' w' h' f
+  supplying_on w0 h0 f0 t t' w w' h h' f was turn = record {
+    holds = record {
+      due = turn.jobs_are ∙ was.holds.due;
+      count = omega (arith, turn.front_is, turn.slots_are, was.holds.count);
+      room = omega (arith, turn.slots_are, turn.capacity_is, was.holds.room);
+    };
+    tallies = turn.tallies;
+    issued = turn.issued ∙ was.issued;
+    capacity_is = turn.capacity_is ∙ was.capacity_is;
+    same = same_on h0 h h' was.same turn.same;
+    bound = was.bound;
+    later = was.later;
+    failed_is = was.failed_is;
+    told = λ all start before. turn.told all (was.told all start before);
+    along = was.along;
   }

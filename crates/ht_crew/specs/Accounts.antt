@@ -1,31 +1,101 @@
 -- What the counts of a caller have to do with its window and with its helm at the pool.
 use Rattle.std.specs.Prelude.{◌≡◌, ◌+◌, ◌<◌, ◌≤◌, ◌^◌, ℕ, List, [], ◌∷◌, ◌++◌, length}
-use Rattle.std.specs.Prelude.{Bool, if◌then◌else◌, ◌==◌, nat_lt, slice_get, Some}
+use Rattle.std.specs.Prelude.{Bool, if◌then◌else◌, ◌==◌, nat_lt, slice_get, Some, vec_len, vec_capacity}
 use Rattle.std.specs.List.{sum_by}
 use Rattle.ht_metric.specs.Jobs.{JobView}
 use Rattle.ht_metric.specs.declared.hit.Hit.{Hit}
 use Rattle.ht_window.specs.Windows.{WindowView, jobs}
-use Rattle.ht_team.specs.Helms.{HelmView, IsSameHelm}
+use Rattle.ht_team.specs.Helms.{IsSameHelm as IsSameLots}
+use Rattle.ht_crew.specs.Lots.{LotHelm, flat}
 use Rattle.ht_crew.specs.Driving.{waiting}
+use Rattle.ht_crew.specs.declared.lot.LotRoom.{LotRoom}
 use Rattle.ht_crew.specs.declared.tally.Tally.{Tally}
 
--- the caller's end of a pool that runs jobs
-abbrev pub JobHelm : Type 0
-JobHelm = HelmView JobView Hit
+-- what is seen of the caller's end of a pool that runs jobs
+pub record JobHelm : Type 0 where
+  -- this number of jobs can be given for sure
+  pub room : ℕ
+  -- the jobs that were given or are loaded, in order
+  pub given : List JobView
+  -- those that are loaded, and for how many there are places
+  pub loading : List JobView
+  pub places : ℕ
+  -- the lots that went to the pool, and what came back
+  pub lots : LotHelm
 
--- the job that a hit is of
-abbrev pub asked : Hit → JobView
-asked hit = hit.job
+abbrev pub job_helm : LotHelm → List JobView → ℕ → JobHelm
+job_helm lots loading places = record {
+  room = lots.room;
+  given = flat lots.given ++ loading;
+  loading = loading;
+  places = places;
+  lots = lots;
+}
 
--- how many hits the helm has had, of jobs that were received or taken back
+-- how many hits have come, of jobs whose lots were received or taken back
 abbrev pub sources : JobHelm → ℕ
-sources helm = length helm.taken + length helm.answers
+sources helm = length (flat helm.lots.taken) + length (flat helm.lots.answers)
+
+-- what holds at every helm: a lot that is not out has come back, no lot is empty, and there is room for the hits of the jobs that are loaded
+pub record IsJobHelm (lots : LotHelm) (loaded : LotRoom) (out : ℕ) : Type 0 where
+  pub back : length lots.given ≤ out + (length lots.taken + length lots.answers)
+  pub some : length lots.given ≤ length (flat lots.given)
+  pub none : loaded.hits.items ≡ []
+  pub places : vec_len loaded.jobs ≤ vec_capacity loaded.hits
+
+-- what there is room for and what was given is told by the lots
+pub record IsOfLots (helm : JobHelm) : Type 0 where
+  pub room_is : helm.room ≡ helm.lots.room
+  pub given_are : helm.given ≡ flat helm.lots.given ++ helm.loading
+
+-- it is the same helm, of the same pool
+pub record IsSameHelm (old new : JobHelm) : Type 0 where
+  pub room_is : new.room ≡ old.room
+  pub lots_are : IsSameLots old.lots new.lots
+
+-- a job was loaded
+pub record Loads (job : JobView) (old new : JobHelm) : Type 0 where
+  pub lots_are : new.lots ≡ old.lots
+  pub room_is : new.room ≡ old.room
+  pub given_are : new.given ≡ old.given ++ job ∷ []
+
+-- the jobs that were loaded went to the pool, if there were any
+pub record Ships (old new : JobHelm) : Type 0 where
+  pub same : IsSameHelm old new
+  pub given_are : new.given ≡ old.given
+  pub sources_are : sources new ≡ sources old
+
+-- the jobs that were loaded are these, and stay with the caller, since the pool has as many as there is room for
+pub record GetsBack (old new : JobHelm) (lot : List JobView) : Type 0 where
+  pub same : IsSameHelm old new
+  pub back : old.given ≡ new.given ++ lot
+  pub full : new.room ≤ length new.given
+  pub sources_are : sources new ≡ sources old
+
+-- the hits of one lot more have come
+pub record ComesBack (old new : LotHelm) (hits : List Hit) : Type 0 where
+  pub same : IsSameLots old new
+  pub given_are : new.given ≡ old.given
+  pub one : length new.taken + length new.answers ≡ length old.taken + length old.answers + 1
+  pub more : length (flat new.taken) + length (flat new.answers) ≡ length (flat old.taken) + length (flat old.answers) + length hits
+
+-- these hits have come
+pub record Receives (old new : JobHelm) (hits : List Hit) : Type 0 where
+  pub same : IsSameHelm old new
+  pub given_are : new.given ≡ old.given
+  pub more : sources new ≡ sources old + length hits
+
+-- memory was stored
+pub record Stores (old new : JobHelm) : Type 0 where
+  pub lots_are : new.lots ≡ old.lots
+  pub room_is : new.room ≡ old.room
+  pub given_are : new.given ≡ old.given
 
 -- nothing was given to the pool yet
 pub record IsUntouched (helm : JobHelm) : Type 0 where
   pub given : helm.given ≡ []
-  pub taken : helm.taken ≡ []
-  pub answers : helm.answers ≡ []
+  pub taken : helm.lots.taken ≡ []
+  pub answers : helm.lots.answers ≡ []
 
 abbrev pub none_counted : Tally
 none_counted = record { issued = 0; booked = 0; own = 0 }
@@ -79,12 +149,23 @@ pub record IssuesJob (job : JobView) (t : Tally) (w : WindowView) (h : JobHelm) 
   pub jobs_are : jobs w'.slots ≡ jobs w.slots ++ job ∷ []
   pub slots_are : length w'.slots ≡ length w.slots + 1
 
--- the caller took a turn: no job was issued
+-- the caller booked hits, or sent a lot off: no job was issued
 pub record TakesTurn (t : Tally) (w : WindowView) (h : JobHelm) (t' : Tally) (w' : WindowView) (h' : JobHelm) : Type 0 where
   pub tallies : Tallies t' w' h'
   pub issued : t'.issued ≡ t.issued
   pub same : IsSameHelm h h'
-  pub given : h'.given ≡ h.given
+  pub told : (all : List JobView) → AreTold all h.given → AreTold all h'.given
+  pub capacity_is : w'.capacity ≡ w.capacity
+  pub front_is : w'.front ≡ w.front
+  pub jobs_are : jobs w'.slots ≡ jobs w.slots
+  pub slots_are : length w'.slots ≡ length w.slots
+
+-- as many hits were booked as were counted, and no more than there were
+pub record BooksHits (hits : List Hit) (t : Tally) (w : WindowView) (t' : Tally) (w' : WindowView) : Type 0 where
+  pub issued : t'.issued ≡ t.issued
+  pub own : t'.own ≡ t.own
+  pub booked : t'.booked + waiting w'.slots ≡ t.booked + waiting w.slots
+  pub few : t'.booked ≤ t.booked + length hits
   pub capacity_is : w'.capacity ≡ w.capacity
   pub front_is : w'.front ≡ w.front
   pub jobs_are : jobs w'.slots ≡ jobs w.slots

@@ -1,5 +1,5 @@
 -- What the workers of a drive have run.
-use Rattle.std.specs.Prelude.{◌≡◌, ◌+◌, ◌≤◌, ◌++◌, ℕ, [], length, map, sum, min, None, get_or}
+use Rattle.std.specs.Prelude.{◌≡◌, ◌+◌, ◌≤◌, ◌++◌, ℕ, List, [], length, map, sum, min, None, get_or}
 use Rattle.std.specs.List.{All, sum_by}
 use Rattle.crossbeam_queue.specs.Passes.{view}
 use Rattle.ht_metric.specs.Jobs.{JobView}
@@ -8,16 +8,21 @@ use Rattle.ht_counts.specs.Counts.{SameCounts}
 use Rattle.ht_team.specs.Pools.{IsEmptied, taken_on, moved_on}
 use Rattle.ht_team.specs.Through.{first_of}
 use Rattle.ht_team.specs.declared.hand.Hand.{Hand}
-use Rattle.ht_crew.specs.Accounts.{HaveNumbers, asked}
+use Rattle.ht_crew.specs.Lots.{asked, flat}
+use Rattle.ht_crew.specs.Accounts.{HaveNumbers}
 use Rattle.ht_crew.specs.declared.report.Passes.{Passes}
 use Rattle.ht_crew.specs.declared.report.Report.{Report}
 
 -- what went through the caller's deque
-abbrev pub by_caller : Passes → Hand JobView
+abbrev pub by_caller : Passes → Hand (List JobView)
 by_caller passes = first_of passes.deques
 
--- what went through the queue of hits
-abbrev pub hits_of : Passes → Hand Hit
+-- the jobs of all lots that were pushed on it, in order
+abbrev pub jobs_pushed : Passes → List JobView
+jobs_pushed passes = flat (by_caller passes).pushed
+
+-- what went through the queue of the hits of lots
+abbrev pub hits_of : Passes → Hand (List Hit)
 hits_of passes = view passes.results
 
 -- one worker ran all jobs without a deque
@@ -30,22 +35,22 @@ pub record HasRunAlone (report : Report) : Type 0 where
 pub record HasRunInPool (workers room : ℕ) (report : Report) (passes : Passes) : Type 0 where
   -- there is a deque for each worker, the caller's first
   pub deques : length passes.deques ≡ workers
-  -- all jobs but the caller's own were pushed on the caller's deque
-  pub pushed : length (by_caller passes).pushed + report.own ≡ report.jobs
+  -- all jobs but the caller's own were pushed on the caller's deque, in lots
+  pub pushed : length (jobs_pushed passes) + report.own ≡ report.jobs
   -- and for sure the first of them, as many as there was room for
   pub sure : report.own + min report.jobs room ≤ report.jobs
   -- each of them has a number of its own below the number of jobs
-  pub numbers : HaveNumbers report.jobs (by_caller passes).pushed
-  -- on each deque what was taken is what was pushed, so nothing is left
+  pub numbers : HaveNumbers report.jobs (jobs_pushed passes)
+  -- on each deque the lots taken are those pushed, so nothing is left
   pub emptied : All IsEmptied passes.deques
-  -- the jobs run, which are those taken on all deques less those moved on, are those pushed on the caller's, each once
+  -- the lots run, which are those taken on all deques less those moved on, are those pushed on the caller's, each once
   pub run : SameCounts (taken_on passes.deques) ((by_caller passes).pushed ++ moved_on passes.deques)
-  -- by this number of workers, the caller first, each of whom counted
+  -- by this number of workers, the caller first, each of whom counted its lots
   pub each : length report.ran ≡ workers
   pub ran : sum report.ran ≡ length (by_caller passes).pushed
-  -- the hits pushed on the queue are as many as the jobs that the workers beside the caller ran
+  -- the hits of lots pushed on the queue are of as many lots as the workers beside the caller ran
   pub helped : length (hits_of passes).pushed + get_or report.ran 0 0 ≡ sum report.ran
   -- they are of jobs that were run, each as often at most
-  pub of_jobs : (h : JobView → ℕ) → sum_by h (map asked (hits_of passes).pushed) ≤ sum_by h (by_caller passes).pushed
-  -- and the caller received each of them once
+  pub of_jobs : (h : JobView → ℕ) → sum_by h (map asked (flat (hits_of passes).pushed)) ≤ sum_by h (jobs_pushed passes)
+  -- and the caller received those of each lot once
   pub received : SameCounts (hits_of passes).taken (hits_of passes).pushed

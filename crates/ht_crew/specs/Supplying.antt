@@ -2,10 +2,9 @@
 use Rattle.std.specs.Prelude.{◌≡◌, ◌-◌, ◌^◌, ◌<◌, ◌≤◌, List}
 use Rattle.ht_metric.specs.Jobs.{JobView}
 use Rattle.ht_window.specs.Windows.{WindowView}
-use Rattle.ht_team.specs.Helms.{IsSameHelm}
 use Rattle.ht_crew.specs.Feeds.{FeedView}
 use Rattle.ht_crew.specs.Driving.{Holds, IsAlong}
-use Rattle.ht_crew.specs.Accounts.{JobHelm, Tallies, AreTold}
+use Rattle.ht_crew.specs.Accounts.{JobHelm, IsSameHelm, Tallies, AreTold}
 use Rattle.ht_crew.specs.declared.tally.Tally.{Tally}
 
 -- since the window, the helm and the feed were these

@@ -1,25 +1,24 @@
 //! Detection as a kind of work.
-ghost use Rattle.std.specs.Prelude.{◌≡◌};
+ghost use Rattle.std.specs.Prelude.{◌≡◌, map};
 
-use crate::caller::run;
 use crate::gate::Gate;
-use ht_metric::{Hit, Job};
+use crate::lot::{Lot, LotHits};
 use ht_team::work::Work;
 
-/// A task is a job, and its answer is its hit. The gate is called before and after each job.
+/// A task is a lot of jobs, and its answer is their hits. The gate is called before and after each job.
 #[derive(Drop)]
 pub(crate) struct Detect<'a, G> {
     pub(crate) gate: &'a G,
 }
 
 impl<'a, G: Gate> Work for Detect<'a, G> {
-    type Task = Job;
+    type Task = Lot;
 
-    type Answer = Hit;
+    type Answer = LotHits;
 
-    ghost asked = { λ hit. hit.job };
+    ghost asked = { λ hits. map (λ hit. hit.job) hits };
 
-    fn run(&self, task: Job) -> Hit {
-        run(self.gate, task)
+    fn run(&self, task: Lot) -> LotHits {
+        task.run(self.gate)
     }
 }

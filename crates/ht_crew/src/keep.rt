@@ -2,20 +2,19 @@
 ghost use Rattle.std.specs.Prelude.{◌≡◌, ◌+◌, ◌-◌, ◌^◌, ◌<◌, ◌≤◌, [], length, false, List};
 ghost use Rattle.std.specs.Prelude.{Some, IsTrue, IfOk, IfErr, OnOk};
 ghost use Rattle.ht_metric.specs.Jobs.{JobView};
-ghost use Rattle.ht_team.specs.Helms.{IsSameHelm};
 ghost use Rattle.ht_crew.specs.Driving.{CallFailed, Holds, IsUnderWay, IsInTurn, IsAlong, RunsOn, at_once};
-ghost use Rattle.ht_crew.specs.Accounts.{Tallies, AreTold};
+ghost use Rattle.ht_crew.specs.Accounts.{IsSameHelm, Tallies, AreTold};
 
 use crate::alone::hand_back;
+use crate::caller::run;
 use crate::detect::Detect;
 use crate::feed::Feed;
 use crate::gate::Gate;
+use crate::job_helm::JobHelm;
 use crate::pace::Pace;
 use crate::tally::Tally;
 use crate::turn::issue;
 use ht_metric::Job;
-use ht_team::helm::Helm;
-use ht_team::work::Work;
 use ht_window::Window;
 
 /// Whether the caller keeps the next jobs for itself: where jobs are cheap, once the pool was given as many as it has room
@@ -64,7 +63,7 @@ fn run_quick<F: Feed, G: Gate>(
                 next: Some(job),
             });
         }
-        let hit = work.run(job);
+        let hit = run(work.gate, job);
         pace.see(&hit);
         next = hand_back(ahead, hit, feed)?;
         ran += 1;
@@ -78,7 +77,7 @@ fn run_quick<F: Feed, G: Gate>(
 pub(crate) fn keep<F: Feed, G: Gate>(
     work: &Detect<'_, G>,
     window: &mut Window,
-    helm: &mut Helm<'_, Detect<'_, G>>,
+    helm: &mut JobHelm<'_, '_, G>,
     tally: &mut Tally,
     pace: &mut Pace,
     feed: &mut F,
@@ -88,6 +87,7 @@ pub(crate) fn keep<F: Feed, G: Gate>(
     requires tallies { Tallies tally.old window.old helm.old }
     requires room { helm.old.room ≤ window.old.capacity }
     requires given { helm.old.room ≤ length helm.old.given }
+    requires place { length helm.old.loading < helm.old.places }
     requires issued { tally.old.issued ≡ (F.shown feed.old).count }
     requires running { (F.shown feed.old).ended ≡ false }
 

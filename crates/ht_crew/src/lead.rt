@@ -2,21 +2,21 @@
 ghost use Rattle.std.specs.Prelude.{◌≡◌, ◌+◌, ◌-◌, ◌^◌, ◌<◌, ◌≤◌, [], length, not, true, false, List};
 ghost use Rattle.std.specs.Prelude.{None, Some, IfOk, IfErr, OnOk};
 ghost use Rattle.ht_metric.specs.Jobs.{JobView};
-ghost use Rattle.ht_team.specs.Helms.{IsSameHelm, unused};
+ghost use Rattle.ht_team.specs.Helms.{IsSettled};
 ghost use Rattle.ht_crew.specs.Feeds.{IsFreshFeed, IsLeft};
 ghost use Rattle.ht_crew.specs.Driving.{CallFailed, IsInTurn};
-ghost use Rattle.ht_crew.specs.Accounts.{Tallies, AreTold, IsUntouched, none_counted};
+ghost use Rattle.ht_crew.specs.Accounts.{IsSameHelm, Tallies, AreTold, IsUntouched, none_counted};
 
 use crate::caller::deliver;
 use crate::detect::Detect;
 use crate::feed::Feed;
 use crate::gate::Gate;
+use crate::job_helm::JobHelm;
 use crate::keep::{is_kept, keep};
 use crate::pace::Pace;
 use crate::supply::supply;
 use crate::tally::Tally;
 use crate::turn::turn;
-use ht_team::helm::Helm;
 use ht_window::Window;
 use std::sync::Wait;
 
@@ -25,7 +25,7 @@ pub(crate) fn lead<R: Wait, F: Feed, G: Gate>(
     rt: &R,
     work: &Detect<'_, G>,
     window: &mut Window,
-    helm: &mut Helm<'_, Detect<'_, G>>,
+    helm: &mut JobHelm<'_, '_, G>,
     tally: &mut Tally,
     feed: &mut F,
 ) -> Result<(), F::Fault>
@@ -50,6 +50,8 @@ pub(crate) fn lead<R: Wait, F: Feed, G: Gate>(
     ensures jobs { OnOk result (tally.new.issued ≡ (F.shown feed.new).count) }
     ensures booked { OnOk result (tally.new.booked ≡ tally.new.issued) }
     ensures tallies { OnOk result (Tallies tally.new window.new helm.new) }
+    ensures settled { OnOk result (IsSettled helm.new.lots) }
+    ensures unloaded { OnOk result (helm.new.loading ≡ []) }
     ensures told { OnOk result ((jobs : List JobView) → (F.shown feed.old).left ≡ Some jobs → AreTold jobs helm.new.given) }
 
     ensures fault { IfErr result (CallFailed (F.shown feed.old) (F.shown feed.new)) }
@@ -59,10 +61,14 @@ pub(crate) fn lead<R: Wait, F: Feed, G: Gate>(
     for _ in rt.forever() {
         running = supply(work, window, helm, tally, &mut pace, running, feed)?;
         deliver(window, feed)?;
-        if !running && tally.booked == tally.issued {
+        if !running && tally.booked == tally.issued && helm.is_home() {
             return Ok(());
         }
-        if tally.booked == tally.issued && is_kept(*tally, helm.room(), &pace) {
+        if running
+            && tally.booked == tally.issued
+            && helm.is_ready()
+            && is_kept(*tally, helm.room(), &pace)
+        {
             running = keep(work, window, helm, tally, &mut pace, feed)?;
         } else {
             turn(window, helm, tally, &mut pace);

@@ -2,13 +2,13 @@
 ghost use Rattle.std.specs.Prelude.{◌≡◌, map};
 ghost use Rattle.ht_team.specs.Through.{through};
 
-use ht_metric::{Hit, Job};
+use crate::lot::{Lot, LotHits};
 use ht_team::ends::Ends;
 use ht_team::seat::{Owner, TaskPass};
 use ht_team::shared::AnswerPass;
 use std::marker::Model;
 
-/// A number of jobs for each worker.
+/// A number of lots for each worker.
 #[derive(Debug, Drop)]
 pub struct Ran {
     numbers: Vec<u64>,
@@ -47,18 +47,18 @@ impl Ran {
     }
 }
 
-/// The owner's end of a deque of jobs.
-pub type JobOwner = Owner<Job>;
+/// The owner's end of a deque of lots.
+pub type LotOwner = Owner<Lot>;
 
-/// A pass on a deque of jobs.
-pub type JobPass = TaskPass<Job>;
+/// A pass on a deque of lots.
+pub type LotPass = TaskPass<Lot>;
 
-/// A pass on the queue of hits.
-pub type HitPass = AnswerPass<Hit>;
+/// A pass on the queue of the hits of lots.
+pub type HitPass = AnswerPass<LotHits>;
 
-/// The ends of a deque of jobs: the owner's end, which shows all that was pushed and taken, and a pass that shows
+/// The ends of a deque of lots: the owner's end, which shows all that was pushed and taken, and a pass that shows
 /// nothing.
-pub type DequeEnds = Ends<Job>;
+pub type DequeEnds = Ends<Lot>;
 
 /// The ends of some deques. Contracts see what was pushed and taken with each.
 #[derive(Drop)]
@@ -72,7 +72,7 @@ impl Model for Deques {
     ghost use Rattle.ht_team.specs.Through.{through};
     ghost use Rattle.ht_team.specs.declared.hand.Hand.{Hand};
 
-    ghost Value = { List (Hand JobView) };
+    ghost Value = { List (Hand (List JobView)) };
 
     ghost view = { λ d. map through d.ends.items };
 }
@@ -108,7 +108,7 @@ impl Deques {
 pub struct Passes {
     /// The deques, the caller's first.
     pub deques: Deques,
-    /// All passes on the queue of hits, joined.
+    /// All passes on the queue of the hits of lots, joined.
     pub results: HitPass,
 }
 
@@ -119,7 +119,7 @@ pub struct Report {
     pub jobs: u64,
     /// How many jobs the caller ran without a deque.
     pub own: u64,
-    /// How many jobs each worker took from a deque and ran, the caller first; empty without threads.
+    /// How many lots of jobs each worker took from a deque and ran, the caller first; empty without threads.
     pub ran: Ran,
     /// What went through the deques and the queue; none without threads.
     pub passes: Option<Passes>,

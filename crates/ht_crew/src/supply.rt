@@ -1,26 +1,26 @@
 //! How a caller fills its window and gives jobs to its pool.
 ghost use Rattle.std.specs.Prelude.{◌≡◌, ◌+◌, ◌-◌, ◌^◌, ◌<◌, ◌≤◌, length, not, true, false, List, Some, IfOk, IfErr, OnOk};
 ghost use Rattle.ht_metric.specs.Jobs.{JobView};
-ghost use Rattle.ht_team.specs.Helms.{IsSameHelm};
 ghost use Rattle.ht_crew.specs.Driving.{CallFailed, Holds, IsUnderWay, IsInTurn, IsAlong};
-ghost use Rattle.ht_crew.specs.Accounts.{Tallies, AreTold};
+ghost use Rattle.ht_crew.specs.Accounts.{IsSameHelm, Tallies, AreTold};
 
 use crate::detect::Detect;
 use crate::feed::Feed;
 use crate::gate::Gate;
+use crate::job_helm::JobHelm;
 use crate::keep::is_kept;
 use crate::pace::Pace;
 use crate::tally::Tally;
-use crate::turn::issue;
-use ht_team::helm::Helm;
+use crate::turn::{issue, ship};
 use ht_window::Window;
 
-/// Asks the feed for jobs and issues them until the window is full or the feed has ended. Where the caller keeps the next
-/// jobs for itself, it asks for none. Answers whether the feed goes on.
+/// Asks the feed for jobs and issues them until the window is full, all lots are out or the feed has ended. Where the caller
+/// keeps the next jobs for itself, it asks for none. Where no more are to come, what is loaded goes to the pool. Answers
+/// whether the feed goes on.
 pub(crate) fn supply<F: Feed, G: Gate>(
     work: &Detect<'_, G>,
     window: &mut Window,
-    helm: &mut Helm<'_, Detect<'_, G>>,
+    helm: &mut JobHelm<'_, '_, G>,
     tally: &mut Tally,
     pace: &mut Pace,
     running: bool,
@@ -50,15 +50,17 @@ pub(crate) fn supply<F: Feed, G: Gate>(
     ensures later { (F.shown feed.old).faults ≤ (F.shown feed.new).faults }
     ensures leads { F.leads feed.old feed.new }
 {
-    if is_kept(*tally, helm.room(), pace) {
-        return Ok(running);
-    }
+    let kept = is_kept(*tally, helm.room(), pace);
     let mut running = running;
-    while running && window.has_room() {
+    while running && !kept && window.has_room() && helm.is_ready() {
         match feed.next()? {
             Some(job) => issue(work, window, helm, tally, pace, job),
             None => running = false,
         }
+    }
+    let over = kept || !running;
+    if over {
+        ship(work, window, helm, tally, pace);
     }
     Ok(running)
 }

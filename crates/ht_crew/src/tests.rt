@@ -127,17 +127,17 @@ fn all_jobs(rt: HostRuntime) -> Result<(), Fail> {
 // Holds some jobs until others have passed, and gives up after a million turns.
 #[derive(Drop)]
 struct Held {
-    // Job 0 is held until the 111 others have left; else each of the first four to enter until four have entered.
-    zero: bool,
+    // Job 0 is held until so many others have left; where that is 0, each of the first four to enter until four have entered.
+    others: u64,
     entered: AtomicU64,
     left: AtomicU64,
     strays: AtomicU64,
 }
 
 impl Held {
-    fn new(zero: bool) -> Held {
+    fn new(others: u64) -> Held {
         Held {
-            zero,
+            others,
             entered: AtomicU64::new(0),
             left: AtomicU64::new(0),
             strays: AtomicU64::new(0),
@@ -158,10 +158,10 @@ impl Held {
 impl Gate for Held {
     fn enter(&self, number: u64) {
         let before = self.entered.fetch_add(1, Ordering::SeqCst);
-        if self.zero && number == 0 {
-            self.hold(&self.left, 111);
+        if self.others > 0 && number == 0 {
+            self.hold(&self.left, self.others);
         }
-        if !self.zero && before < 4 {
+        if self.others == 0 && before < 4 {
             self.hold(&self.entered, 4);
         }
     }
@@ -173,10 +173,10 @@ impl Gate for Held {
 
 #[test]
 fn threads_meet(rt: HostRuntime) -> Result<(), Fail> {
-    for (workers, zero) in [(2, true), (4, false), (64, true)] {
-        let gate = Held::new(zero);
+    for (workers, window, others, lots) in [(2, 15, 14, 112), (4, 256, 0, 7), (64, 256, 111, 112)] {
+        let gate = Held::new(others);
         let mut feed = ListFeed::new(rt.alloc(), jobs(rt.alloc(), 112)?, Vec::new(rt.alloc()))?;
-        let Ok(report) = drive(&rt, rt.alloc(), workers, 256, &gate, &mut feed) else {
+        let Ok(report) = drive(&rt, rt.alloc(), workers, window, &gate, &mut feed) else {
             assert!(rt; false, "{workers} workers");
             return Ok(());
         };
@@ -187,7 +187,7 @@ fn threads_meet(rt: HostRuntime) -> Result<(), Fail> {
         assert_eq!(rt; report.own, 0);
         let ran = report.ran.as_slice();
         assert_eq!(rt; ran.len(), usize::from(workers));
-        assert_eq!(rt; ran.iter().fold(0u64, |a, n| a.wrapping_add(*n)), 112);
+        assert_eq!(rt; ran.iter().fold(0u64, |a, n| a.wrapping_add(*n)), lots);
         assert!(rt; workers > 4 || ran.iter().all(|n| *n > 0));
         assert_eq!(rt; feed.taken().len(), 112);
         expect_first(&rt, feed.taken());

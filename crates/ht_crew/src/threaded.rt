@@ -8,18 +8,20 @@ ghost use Rattle.ht_team.specs.Members.{HasYetToServe, HasServed, berth_of, bert
 ghost use Rattle.ht_team.specs.Pools.{IsOpened, IsVacant};
 ghost use Rattle.ht_crew.specs.Feeds.{IsFreshFeed, IsLeft};
 ghost use Rattle.ht_crew.specs.Driving.{CallFailed, IsInTurn};
-ghost use Rattle.ht_crew.specs.Accounts.{Tallies, AreTold, asked};
-ghost use Rattle.ht_crew.specs.Reports.{HasRunAlone, HasRunInPool, by_caller};
+ghost use Rattle.ht_crew.specs.Lots.{lot_of};
+ghost use Rattle.ht_crew.specs.Accounts.{Tallies, AreTold};
+ghost use Rattle.ht_crew.specs.Reports.{HasRunAlone, HasRunInPool, jobs_pushed};
 
 use crate::alone::drive_alone;
 use crate::detect::Detect;
 use crate::drive_fault::DriveFault;
 use crate::feed::Feed;
 use crate::gate::Gate;
+use crate::job_helm::{Depot, JobHelm};
 use crate::lead::lead;
+use crate::lot::{Lot, LotHits};
 use crate::report::{Deques, Passes, Ran, Report};
 use crate::tally::Tally;
-use ht_metric::{Hit, Job};
 use ht_team::close::close;
 use ht_team::closed::Closed;
 use ht_team::crew::beside;
@@ -38,9 +40,10 @@ use std::thread::Threads;
 /// jobs.
 ///
 /// The feed has given nothing yet. The caller asks it for jobs until `window` of them are due, 1 to 4096, or it has
-/// ended, and gives each to the pool, from which the other workers take them, each in a thread of its own. So whichever
-/// call of the feed fails, no more jobs than that are due. The gate is called before and after each job, by whoever
-/// runs it. With one worker it is [`drive_alone`].
+/// ended, and gives them in lots to the pool, from which the other workers take them, each in a thread of its own. So
+/// whichever call of the feed fails, no more jobs than that are due. A lot has as many jobs as a full window has for a
+/// quarter of a worker, 1 to 32, and fewer only where the feed has ended. The gate is called before and after each job,
+/// by whoever runs it. With one worker it is [`drive_alone`].
 ///
 /// Where the hits show that jobs are cheap, the caller keeps them once it has given the pool `window` jobs and has all
 /// their hits: it runs them itself, in the order of the feed and as [`drive_alone`] does, so at most two are due, and only
@@ -80,7 +83,7 @@ pub fn drive<R: Threads + Wait + Sync, F: Feed, G: Gate + Sync>(
     ensures passes { 2 ≤ workers → IfOk result (λ report. IsSome report.passes) }
     ensures ran { 2 ≤ workers → IfOk result (λ report. IfSome report.passes (HasRunInPool workers window report)) }
     ensures told { (jobs : List JobView) → (F.shown feed.old).left ≡ Some jobs
-        → IfOk result (λ report. IfSome report.passes (λ passes. AreTold jobs (by_caller passes).pushed)) }
+        → IfOk result (λ report. IfSome report.passes (λ passes. AreTold jobs (jobs_pushed passes))) }
 
     // What it refuses with.
     ensures fault { (fault : F.Fault) → result ≡ Err (DriveFault.Feed fault) → CallFailed (F.shown feed.old) (F.shown feed.new) fault }
@@ -92,10 +95,13 @@ pub fn drive<R: Threads + Wait + Sync, F: Feed, G: Gate + Sync>(
     let Ok(slots) = Window::new(alloc, window, 0) else {
         return Err(DriveFault::NoMemory);
     };
+    let Ok(depot) = Depot::new(alloc, workers, window) else {
+        return Err(DriveFault::NoMemory);
+    };
     let Ok(pool) = Pool::open(alloc, workers - 1, window) else {
         return Err(DriveFault::NoMemory);
     };
-    match in_pool(rt, pool, gate, slots, feed) {
+    match in_pool(rt, pool, depot, gate, slots, feed) {
         Ok(report) => Ok(report),
         Err(fault) => Err(DriveFault::Feed(fault)),
     }
@@ -104,7 +110,8 @@ pub fn drive<R: Threads + Wait + Sync, F: Feed, G: Gate + Sync>(
 // Runs all jobs of a feed in a pool that was opened, and through an empty window.
 fn in_pool<R: Threads + Wait + Sync, F: Feed, G: Gate + Sync>(
     rt: &R,
-    pool: Pool<Job, Hit>,
+    pool: Pool<Lot, LotHits>,
+    depot: Depot,
     gate: &G,
     window: Window,
     feed: &mut F,
@@ -128,7 +135,7 @@ fn in_pool<R: Threads + Wait + Sync, F: Feed, G: Gate + Sync>(
     ensures passes { IfOk result (λ report. IsSome report.passes) }
     ensures ran { IfOk result (λ report. IfSome report.passes (HasRunInPool (length pool.post.deques) window.capacity report)) }
     ensures told { (jobs : List JobView) → (F.shown feed.old).left ≡ Some jobs
-        → IfOk result (λ report. IfSome report.passes (λ passes. AreTold jobs (by_caller passes).pushed)) }
+        → IfOk result (λ report. IfSome report.passes (λ passes. AreTold jobs (jobs_pushed passes))) }
 
     ensures fault { IfErr result (CallFailed (F.shown feed.old) (F.shown feed.new)) }
 {
@@ -139,17 +146,20 @@ fn in_pool<R: Threads + Wait + Sync, F: Feed, G: Gate + Sync>(
         space,
     } = pool;
     let work = Detect { gate };
-    in_threads(rt, &work, &shared, post, members, space, window, feed)
+    in_threads(
+        rt, &work, &shared, post, members, space, depot, window, feed,
+    )
 }
 
 // Runs all jobs of a feed beside the workers of a pool.
 fn in_threads<R: Threads + Wait + Sync, F: Feed, G: Gate + Sync>(
     rt: &R,
     work: &Detect<'_, G>,
-    shared: &Shared<Hit>,
-    post: Post<Job, Hit>,
-    members: Vec<Member<Job, Hit>>,
-    space: Space<Job>,
+    shared: &Shared<LotHits>,
+    post: Post<Lot, LotHits>,
+    members: Vec<Member<Lot, LotHits>>,
+    space: Space<Lot>,
+    depot: Depot,
     mut window: Window,
     feed: &mut F,
 ) -> Result<Report, F::Fault>
@@ -176,11 +186,11 @@ fn in_threads<R: Threads + Wait + Sync, F: Feed, G: Gate + Sync>(
     ensures passes { IfOk result (λ report. IsSome report.passes) }
     ensures ran { IfOk result (λ report. IfSome report.passes (HasRunInPool (length post.deques) window.capacity report)) }
     ensures told { (jobs : List JobView) → (F.shown feed.old).left ≡ Some jobs
-        → IfOk result (λ report. IfSome report.passes (λ passes. AreTold jobs (by_caller passes).pushed)) }
+        → IfOk result (λ report. IfSome report.passes (λ passes. AreTold jobs (jobs_pushed passes))) }
 
     ensures fault { IfErr result (CallFailed (F.shown feed.old) (F.shown feed.new)) }
 {
-    let mut helm = Helm::new(post, shared, work);
+    let mut helm = JobHelm::new(Helm::new(post, shared, work), depot);
     let mut tally = Tally {
         issued: 0,
         booked: 0,
@@ -201,22 +211,24 @@ fn in_threads<R: Threads + Wait + Sync, F: Feed, G: Gate + Sync>(
 fn finish<G: Gate>(
     tally: Tally,
     window: &Window,
-    helm: Helm<'_, Detect<'_, G>>,
-    members: Vec<Member<Job, Hit>>,
-    space: Space<Job>,
+    helm: JobHelm<'_, '_, G>,
+    members: Vec<Member<Lot, LotHits>>,
+    space: Space<Lot>,
 ) -> Report
-    requires served { All (HasServed asked helm.queue) members.items }
-    requires berths { map berth_of members.items ≡ berths helm.deques }
-    requires space { IsVacant (length helm.deques) space }
+    requires served { All (HasServed lot_of helm.lots.queue) members.items }
+    requires berths { map berth_of members.items ≡ berths helm.lots.deques }
+    requires space { IsVacant (length helm.lots.deques) space }
+    requires settled { IsSettled helm.lots }
+    requires unloaded { helm.loading ≡ [] }
     requires tallies { Tallies tally window.now helm }
     requires booked { tally.booked ≡ tally.issued }
     ensures jobs { result.jobs ≡ tally.issued }
     ensures passes { IsSome result.passes }
-    ensures ran { IfSome result.passes (HasRunInPool (length helm.entry.deques) helm.entry.room result) }
-    ensures given { IfSome result.passes (λ passes. (by_caller passes).pushed ≡ helm.entry.given) }
+    ensures ran { IfSome result.passes (HasRunInPool (length helm.entry.lots.deques) helm.entry.room result) }
+    ensures given { IfSome result.passes (λ passes. jobs_pushed passes ≡ helm.entry.given) }
 {
     let _room = window.has_room();
-    let Closed { deques, pass, ran } = close(helm, members, space);
+    let Closed { deques, pass, ran } = close(helm.into_helm(), members, space);
     Report {
         jobs: tally.issued,
         own: tally.own,

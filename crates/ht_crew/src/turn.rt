@@ -1,15 +1,16 @@
-//! What a caller does with one job or one hit.
-ghost use Rattle.std.specs.Prelude.{◌≡◌, ◌+◌, ◌-◌, ◌<◌, ◌^◌, true, length, IfSome, IfNone};
+//! What a caller does with one job or with the hits of one lot.
+ghost use Rattle.std.specs.Prelude.{◌≡◌, ◌+◌, ◌-◌, ◌<◌, ◌≤◌, ◌^◌, true, length};
 ghost use Rattle.ht_window.specs.Accepting.{IsUnbooked};
-ghost use Rattle.ht_team.specs.Helms.{IsSameHelm};
-ghost use Rattle.ht_crew.specs.Accounts.{HasBooked, Tallies, IssuesJob, TakesTurn, sources};
+ghost use Rattle.ht_crew.specs.Driving.{waiting};
+ghost use Rattle.ht_crew.specs.Accounts.{HasBooked, BooksHits, Tallies, IssuesJob, TakesTurn, Stores};
 
 use crate::detect::Detect;
 use crate::gate::Gate;
+use crate::job_helm::JobHelm;
+use crate::lot::LotHits;
 use crate::pace::Pace;
 use crate::tally::Tally;
 use ht_metric::{Hit, Job};
-use ht_team::helm::Helm;
 use ht_team::work::Work;
 use ht_window::{Accepted, Window};
 use std::thread;
@@ -26,15 +27,65 @@ pub(crate) fn book(window: &mut Window, hit: Hit) -> bool
     }
 }
 
-/// Issues a job and gives it to the pool, or runs it where the pool has no memory for it.
+// Books those hits whose jobs wait for them, and takes all out of the vector.
+fn book_all(window: &mut Window, tally: &mut Tally, pace: &mut Pace, hits: &mut Vec<Hit>)
+    requires few { tally.old.booked + waiting window.old.slots < 2 ^ 64 }
+    ensures books { BooksHits hits.old.items tally.old window.old tally.new window.new }
+{
+    while let Some(hit) = hits.pop() {
+        pace.see(&hit);
+        if book(window, hit) {
+            tally.booked += 1;
+        }
+    }
+}
+
+// Books the hits of a lot, and keeps its memory.
+fn book_lot<G: Gate>(
+    window: &mut Window,
+    helm: &mut JobHelm<'_, '_, G>,
+    tally: &mut Tally,
+    pace: &mut Pace,
+    hits: LotHits,
+)
+    requires few { tally.old.booked + waiting window.old.slots < 2 ^ 64 }
+    ensures books { BooksHits hits tally.old window.old tally.new window.new }
+    ensures stores { Stores helm.old helm.new }
+{
+    let mut room = hits.into_room();
+    book_all(window, tally, pace, &mut room.hits);
+    helm.store(room);
+}
+
+/// Gives the jobs that are loaded to the pool, or runs them where the pool has no memory for them.
+pub(crate) fn ship<G: Gate>(
+    work: &Detect<'_, G>,
+    window: &mut Window,
+    helm: &mut JobHelm<'_, '_, G>,
+    tally: &mut Tally,
+    pace: &mut Pace,
+)
+    requires tallies { Tallies tally.old window.old helm.old }
+    ensures turn { TakesTurn tally.old window.old helm.old tally.new window.new helm.new }
+{
+    let Some(lot) = helm.ship() else {
+        return;
+    };
+    let hits = work.run(lot);
+    tally.own += hits.len() as u64;
+    book_lot(window, helm, tally, pace, hits);
+}
+
+/// Issues a job and loads it. Once there is a lot of jobs, it goes to the pool.
 pub(crate) fn issue<G: Gate>(
     work: &Detect<'_, G>,
     window: &mut Window,
-    helm: &mut Helm<'_, Detect<'_, G>>,
+    helm: &mut JobHelm<'_, '_, G>,
     tally: &mut Tally,
     pace: &mut Pace,
     job: Job,
 )
+    requires place { length helm.old.loading < helm.old.places }
     requires room { length window.old.slots < window.old.capacity }
     requires next { job.number ≡ window.old.front + length window.old.slots }
     requires last { job.number < 2 ^ 64 - 1 }
@@ -43,46 +94,26 @@ pub(crate) fn issue<G: Gate>(
     ensures issues { IssuesJob job tally.old window.old helm.old tally.new window.new helm.new }
 {
     window.issue(job.copy());
+    helm.load(job);
     tally.issued += 1;
-    if let Err(back) = helm.give(job) {
-        let hit = work.run(back);
-        pace.see(&hit);
-        book(window, hit);
-        tally.booked += 1;
-        tally.own += 1;
+    if helm.is_full() {
+        ship(work, window, helm, tally, pace);
     }
 }
 
-// A hit that has come, or that of a job that no worker took.
-fn next<G: Gate>(helm: &mut Helm<'_, Detect<'_, G>>) -> Option<Hit>
-    ensures same { IsSameHelm helm.old helm.new }
-    ensures given { helm.new.given ≡ helm.old.given }
-    ensures some { IfSome result (λ _. sources helm.new ≡ sources helm.old + 1) }
-    ensures none { IfNone result (helm.new ≡ helm.old) }
-{
-    let received = helm.receive();
-    if received.is_some() {
-        return received;
-    }
-    helm.run_one()
-}
-
-/// Books a hit that has come, or runs a job that no worker took. Where there is neither, another thread may go on.
+/// Books hits that have come, or runs a lot that no worker took. Where there is neither, another thread may go on.
 pub(crate) fn turn<G: Gate>(
     window: &mut Window,
-    helm: &mut Helm<'_, Detect<'_, G>>,
+    helm: &mut JobHelm<'_, '_, G>,
     tally: &mut Tally,
     pace: &mut Pace,
 )
     requires tallies { Tallies tally.old window.old helm.old }
     ensures turn { TakesTurn tally.old window.old helm.old tally.new window.new helm.new }
 {
-    let Some(hit) = next(helm) else {
+    let Some(hits) = helm.next() else {
         thread::yield_now();
         return;
     };
-    pace.see(&hit);
-    if book(window, hit) {
-        tally.booked += 1;
-    }
+    book_lot(window, helm, tally, pace, hits);
 }

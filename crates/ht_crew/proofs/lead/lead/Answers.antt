@@ -1,8 +1,6 @@
-use Rattle.std.proofs.Common.{◌∙◌, List, arith, rules, subst, sym}
-use Rattle.ht_metric.specs.Jobs.{JobView}
-use Rattle.ht_crew.specs.Accounts.{AreTold}
+use Rattle.std.proofs.Common.{◌∙◌, arith, rules}
 use Rattle.ht_crew.proofs.Running.{goes_on_still}
-use Rattle.ht_crew.proofs.Supplied.{same_on}
+use Rattle.ht_crew.proofs.Issuing.{same_on}
 use Rattle.ht_crew.proofs.Leading.{holds_still}
 use Rattle.ht_crew.proofs.lead.lead.Goals as goal
 
@@ -12,11 +10,15 @@ returns-in_err-deliver-clause-leads g c =
     go c.args.feed.now c.supply.new.feed c.deliver.new.feed
     (go c.args.feed.now c.loop.feed c.supply.new.feed c.loop.invariant.leads c.supply.ensures.leads) c.deliver.ensures.leads
 
-pub returns-then-tally-clause-leads : goal.returns-then-tally-clause-leads
-returns-then-tally-clause-leads g c =
+pub returns-then-is_home-clause-leads : goal.returns-then-is_home-clause-leads
+returns-then-is_home-clause-leads g c =
     let go = g.met.F.Feed.goes_on in
     go c.args.feed.now c.supply.new.feed c.deliver.new.feed
     (go c.args.feed.now c.loop.feed c.supply.new.feed c.loop.invariant.leads c.supply.ensures.leads) c.deliver.ensures.leads
+
+pub returns-then-is_home-clause-told : goal.returns-then-is_home-clause-told
+returns-then-is_home-clause-told g c = λ jobs told.
+    c.supply.ensures.told jobs (c.loop.invariant.along jobs told) (c.loop.invariant.told jobs told)
 
 pub loop-preserved : goal.loop-preserved
 loop-preserved g c =
@@ -39,8 +41,7 @@ loop-preserved g c =
       later = omega (arith, before.later, c.supply.ensures.later, c.deliver.ensures.later);
       failed = search rules;
       along = λ jobs told. c.deliver.ensures.along jobs (c.in_ok-running.ensures.along jobs (before.along jobs told));
-      told = λ jobs told. subst (λ (given : List JobView). AreTold jobs given) (sym turn.given)
-          (c.supply.ensures.told jobs (before.along jobs told) (before.told jobs told));
+      told = λ jobs told. turn.told jobs (c.supply.ensures.told jobs (before.along jobs told) (before.told jobs told));
       leads = go c.args.feed.now c.supply.new.feed c.deliver.new.feed supplied c.deliver.ensures.leads;
     }
 

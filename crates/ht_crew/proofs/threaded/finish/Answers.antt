@@ -1,10 +1,15 @@
-use Rattle.std.proofs.Common.{Some, refl}
-use Rattle.ht_crew.proofs.Settling.{has_run_in_pool}
+use Rattle.std.proofs.Common.{Some, refl, subst}
+use Rattle.ht_team.specs.Pools.{HasRun}
+use Rattle.ht_crew.specs.Lots.{LotHelm, lot_of}
+use Rattle.ht_crew.proofs.Settling.{all_given, has_run_in_pool}
 use Rattle.ht_crew.proofs.threaded.finish.Goals as goal
 
 pub returns-clause-ran : goal.returns-clause-ran
 returns-clause-ran g c =
-    has_run_in_pool c.args.tally c.args.window.now c.args.helm c.args.members.items c.close-deques.result c.requires.tallies c.close-deques.ensures
+    let helm = c.args.helm in
+    let all = all_given helm c.into_helm.ensures.told c.requires.unloaded in
+    let run = subst (λ (lots : LotHelm). HasRun lot_of lots c.args.members.items c.close-deques.result) c.into_helm.ensures.lots c.close-deques.ensures in
+    has_run_in_pool c.args.tally c.args.window.now helm c.args.members.items c.close-deques.result c.requires.tallies all run
     (record {
       jobs = c.args.tally.issued;
       own = c.args.tally.own;

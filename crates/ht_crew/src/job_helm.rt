@@ -1,0 +1,197 @@
+//! The caller's end of a pool that runs jobs in lots.
+ghost use Rattle.std.specs.Prelude.{◌≡◌, ◌+◌, ◌<◌, ◌≤◌, [], ◌∷◌, ◌++◌, length, true, IfSome, IfNone, IsTrue};
+ghost use Rattle.ht_team.specs.Helms.{IsSettled};
+ghost use Rattle.ht_crew.specs.Accounts.{IsOfLots, ComesBack, Loads, Ships, GetsBack, Receives, Stores};
+
+use crate::detect::Detect;
+use crate::gate::Gate;
+use crate::lot::{Lot, LotHits, LotRoom};
+use ht_metric::Job;
+use ht_team::helm::Helm;
+use std::alloc::{AllocError, Global};
+use std::marker::Model;
+use std::mem;
+
+/// The most jobs of a lot.
+const LARGEST: usize = 32;
+
+/// Memory for the lots of a drive, which go round between the caller and the workers.
+#[derive(Drop)]
+pub(crate) struct Depot {
+    spare: Vec<LotRoom>,
+    size: usize,
+    alloc: Global,
+}
+
+impl Depot {
+    /// The memory of a drive by 1 to 64 workers through a window of 1 to 4096 slots: for lots of so few jobs that there can
+    /// be four for each worker, and for as many lots as a full window has.
+    pub(crate) fn new(alloc: Global, workers: u8, window: u16) -> Result<Depot, AllocError>
+        requires some { 1 ≤ workers }
+    {
+        let window = usize::from(window);
+        let size = (window / (4 * usize::from(workers))).clamp(1, LARGEST);
+        let count = window / size + 1;
+        let mut spare = Vec::with_capacity(alloc, count)?;
+        for _ in 0..count {
+            spare.push(LotRoom::new(alloc, size)?)?;
+        }
+        Ok(Depot { spare, size, alloc })
+    }
+
+    // Room for a lot, empty; none if all are out.
+    fn take(&mut self) -> LotRoom
+        ensures jobs { result.jobs.items ≡ [] }
+        ensures hits { result.hits.items ≡ [] }
+    {
+        let Some(mut room) = self.spare.pop() else {
+            return LotRoom::none(self.alloc);
+        };
+        room.jobs.clear();
+        room.hits.clear();
+        room
+    }
+
+    // Keeps the room of a lot that came back.
+    fn keep(&mut self, room: LotRoom) {
+        if self.spare.len() < self.spare.capacity() {
+            self.spare.push_reserved(room);
+        }
+    }
+}
+
+/// Where a caller gives jobs to the pool and gets their hits. Jobs are loaded until there is a lot of them, which goes to the
+/// pool. Contracts see the jobs that it gave or loaded, in order, and the lots and hits that went to and fro.
+#[derive(Drop)]
+pub(crate) struct JobHelm<'a, 'g, G: Gate> {
+    helm: Helm<'a, Detect<'g, G>>,
+    room: LotRoom,
+    depot: Depot,
+    // A number of lots that has to come back before all have, and never too low.
+    out: u64,
+}
+
+impl<'a, 'g, G: Gate> Model for JobHelm<'a, 'g, G> {
+    ghost use Rattle.std.specs.Prelude.{◌++◌, min, vec_capacity};
+    ghost use Rattle.ht_crew.specs.Lots.{flat};
+    ghost use Rattle.ht_crew.specs.Accounts.{JobHelm, IsJobHelm, job_helm};
+
+    ghost Value = { JobHelm };
+
+    ghost view = { λ h. job_helm h.helm h.room.jobs.items (min (vec_capacity h.room.jobs) (vec_capacity h.room.hits)) };
+
+    ghost invariant = { λ h. IsJobHelm h.helm h.room h.out };
+}
+
+impl<'a, 'g, G: Gate> JobHelm<'a, 'g, G> {
+    /// The helm of a pool to which nothing was given.
+    pub(crate) fn new(helm: Helm<'a, Detect<'g, G>>, mut depot: Depot) -> JobHelm<'a, 'g, G>
+        requires none { helm.given ≡ [] }
+        ensures helm { result.lots ≡ helm.entry }
+        ensures told { IsOfLots result }
+        ensures none { result.loading ≡ [] }
+    {
+        let room = depot.take();
+        JobHelm {
+            helm,
+            room,
+            depot,
+            out: 0,
+        }
+    }
+
+    /// How many jobs can be given for sure.
+    pub(crate) fn room(&self) -> u16
+        ensures { result ≡ self.now.room }
+    {
+        self.helm.room()
+    }
+
+    /// Whether another job can be loaded.
+    pub(crate) fn is_ready(&self) -> bool
+        ensures { IsTrue result → length self.now.loading < self.now.places }
+    {
+        let loading = self.room.jobs.len();
+        loading < self.room.jobs.capacity() && loading < self.room.hits.capacity()
+    }
+
+    /// Loads a job. There is a place for it.
+    pub(crate) fn load(&mut self, job: Job)
+        requires place { length self.old.loading < self.old.places }
+        ensures { Loads job self.old self.new }
+    {
+        self.room.jobs.push_reserved(job);
+    }
+
+    /// Whether the jobs that are loaded make a lot.
+    pub(crate) fn is_full(&self) -> bool {
+        self.room.jobs.len() >= self.depot.size
+    }
+
+    /// Gives the jobs that are loaded to the pool as a lot, if there are any. They come back where there is no memory for
+    /// the lot, and then at least `room` jobs were given before.
+    pub(crate) fn ship(&mut self) -> Option<Lot>
+        ensures shipped { IfNone result (Ships self.old self.new) }
+        ensures refused { IfSome result (GetsBack self.old self.new) }
+    {
+        if self.room.jobs.is_empty() || self.out == u64::MAX {
+            return None;
+        }
+        let room = self.depot.take();
+        match self.helm.give(Lot::of(mem::replace(&mut self.room, room))) {
+            Ok(()) => {
+                self.out += 1;
+                None
+            }
+            Err(lot) => Some(lot),
+        }
+    }
+
+    /// The hits of a lot that have come, or those of a lot that no worker took.
+    pub(crate) fn next(&mut self) -> Option<LotHits>
+        ensures some { IfSome result (Receives self.old self.new) }
+        ensures none { IfNone result (self.new ≡ self.old) }
+    {
+        let hits = next_lot(&mut self.helm)?;
+        self.out = self.out.saturating_sub(1);
+        Some(hits)
+    }
+
+    /// Keeps the memory of a lot whose hits were booked.
+    pub(crate) fn store(&mut self, room: LotRoom)
+        ensures { Stores self.old self.new }
+    {
+        self.depot.keep(room);
+        if self.room.jobs.capacity() == 0 {
+            self.room = self.depot.take();
+        }
+    }
+
+    /// Whether nothing is loaded and all lots have come back.
+    pub(crate) fn is_home(&self) -> bool
+        ensures settled { IsTrue result → IsSettled self.now.lots }
+        ensures unloaded { IsTrue result → self.now.loading ≡ [] }
+    {
+        self.out == 0 && self.room.jobs.is_empty()
+    }
+
+    /// The helm for lots.
+    pub(crate) fn into_helm(self) -> Helm<'a, Detect<'g, G>>
+        ensures lots { result ≡ self.entry.lots }
+        ensures told { IsOfLots self.entry }
+    {
+        self.helm
+    }
+}
+
+// The hits of a lot that have come, or those of a lot that no worker took.
+fn next_lot<G: Gate>(helm: &mut Helm<'_, Detect<'_, G>>) -> Option<LotHits>
+    ensures some { IfSome result (ComesBack helm.old helm.new) }
+    ensures none { IfNone result (helm.new ≡ helm.old) }
+{
+    let received = helm.receive();
+    if received.is_some() {
+        return received;
+    }
+    helm.run_one()
+}
