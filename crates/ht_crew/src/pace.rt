@@ -5,15 +5,18 @@ use ht_metric::Hit;
 /// The credit from which on jobs count as cheap.
 const QUICK: u8 = 192;
 
+/// The streams of a cheap job, at most. Rounding alone takes more than a move in a lot where there are four.
+const FEW: u8 = 3;
+
 /// What a dear job takes from the credit at least.
 const DEAR: u8 = 8;
 
 /// What a caller has seen of the cost of its jobs, as a credit from 0 to 255: a cheap job adds one to it, and a dear one takes
 /// from it, the more the dearer it was.
 ///
-/// A job is cheap where the distance of its hit is less than four times the square of the least diagonal: then few vectors
-/// beside that of successive rounding may be nearer, and the search looks at little more. A dear one takes as much as its
-/// distance has that measure in it, at least 8.
+/// A job is cheap where it has at most three streams and the distance of its hit is less than four times the square of the
+/// least diagonal: then few vectors beside that of successive rounding may be nearer, and the search looks at little more.
+/// Any other takes as much as its distance has that measure in it, at least 8.
 #[derive(Clone, Copy, Debug)]
 pub(crate) struct Pace {
     credit: u8,
@@ -29,7 +32,7 @@ impl Pace {
     pub(crate) fn see(&mut self, hit: &Hit) {
         let distance = u64::try_from(hit.distance()).unwrap_or(u64::MAX);
         let measure = measure(hit);
-        self.credit = if distance < measure {
+        self.credit = if distance < measure && hit.job().system().streams() <= FEW {
             self.credit.saturating_add(1)
         } else {
             self.credit.saturating_sub(price(distance, measure))
