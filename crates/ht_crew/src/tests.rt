@@ -45,7 +45,7 @@ fn job(number: u64) -> Job
     Job::new(number, place, Grid::one(levels, Ladder::of(1, 1)), system)
 }
 
-// So many jobs: 112 are those of two symbols.
+// A number of jobs: 112 are those of two symbols.
 fn jobs(alloc: Global, count: u64) -> Result<Vec<Job>, AllocError>
     ensures { IfOk result (λ jobs. AreNumbered jobs.items) }
 {

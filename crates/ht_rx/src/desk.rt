@@ -60,7 +60,7 @@ impl Model for Desk {
 }
 
 impl Desk {
-    /// A desk in front of a capture of which nothing was read, with room for so many jobs that are due. Where more become
+    /// A desk in front of a capture of which nothing was read, with room for this many jobs that are due. Where more become
     /// due it takes more memory. The only error is lack of memory.
     pub fn new(alloc: Global, room: u16) -> Result<Desk, AllocError>
         ensures { IfOk result IsNewDesk }

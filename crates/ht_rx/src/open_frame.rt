@@ -192,11 +192,6 @@ impl OpenFrame {
         self.head.length
     }
 
-    /// The number of labels that are kept.
-    pub(crate) fn labels(&self) -> usize {
-        self.labels.len()
-    }
-
     // Begins a frame.
     fn begin(&mut self, head: &FrameHead) -> Result<(), AllocError>
         requires some { 1 ≤ head.now.length }
