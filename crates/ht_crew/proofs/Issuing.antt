@@ -9,9 +9,9 @@ use Rattle.ht_metric.specs.Jobs.{JobView}
 use Rattle.ht_metric.specs.declared.hit.Hit.{Hit}
 use Rattle.ht_window.specs.Windows.{WindowView, unbooked}
 use Rattle.ht_window.specs.declared.slot.Slot.{Slot}
-use Rattle.ht_team.specs.Helms.{IsSameHelm as IsSameLots}
+use Rattle.ht_team.specs.Helms.{IsSameHelm}
 use Rattle.ht_crew.specs.Lots.{LotHelm, asked, lot_of}
-use Rattle.ht_crew.specs.Accounts.{JobHelm, IsSameHelm, Loads, Ships, GetsBack, Receives, Stores, sources}
+use Rattle.ht_crew.specs.Accounts.{JobHelm, IsSameJobHelm, Loads, Ships, GetsBack, Receives, Stores, sources}
 use Rattle.ht_crew.specs.Accounts.{BooksHits, Tallies, IssuesJob, TakesTurn, AreTold, HaveNumbers, is_number}
 use Rattle.ht_crew.specs.declared.tally.Tally.{Tally}
 use Rattle.ht_crew.proofs.Filling.{issued, waiting_more}
@@ -49,13 +49,13 @@ one_own t = record { issued = t.issued + 1; booked = t.booked + 1; own = t.own +
 abbrev pub some_own : Tally → ℕ → Tally
 some_own t count = record { issued = t.issued; booked = t.booked; own = t.own + count }
 
-same_lots : (h : LotHelm) → IsSameLots h h
+same_lots : (h : LotHelm) → IsSameHelm h h
 same_lots h = record { room_is = refl; deques_are = refl; queue_is = refl }
 
-pub same_helm : (h : JobHelm) → IsSameHelm h h
+pub same_helm : (h : JobHelm) → IsSameJobHelm h h
 same_helm h = record { room_is = refl; lots_are = same_lots h.lots }
 
-pub same_on : (a b c : JobHelm) → IsSameHelm a b → IsSameHelm b c → IsSameHelm a c
+pub same_on : (a b c : JobHelm) → IsSameJobHelm a b → IsSameJobHelm b c → IsSameJobHelm a c
 same_on a b c ab bc = record {
   room_is = bc.room_is ∙ ab.room_is;
   lots_are = record {
@@ -65,10 +65,10 @@ same_on a b c ab bc = record {
   };
 }
 
-same_lots_on : (a b : JobHelm) → b.room ≡ a.room → b.lots ≡ a.lots → IsSameHelm a b
+same_lots_on : (a b : JobHelm) → b.room ≡ a.room → b.lots ≡ a.lots → IsSameJobHelm a b
 same_lots_on a b room lots = record {
   room_is = room;
-  lots_are = subst (λ (l : LotHelm). IsSameLots a.lots l) (sym lots) (same_lots a.lots);
+  lots_are = subst (λ (l : LotHelm). IsSameHelm a.lots l) (sym lots) (same_lots a.lots);
 }
 
 sources_same : (a b : JobHelm) → b.lots ≡ a.lots → sources b ≡ sources a

@@ -6,7 +6,7 @@ use Rattle.std.proofs.lemmas.List.Concat.{flat_map-append, length-flat_map}
 use Rattle.ht_counts.specs.Counts.{SameCounts}
 use Rattle.ht_metric.specs.Jobs.{JobView}
 use Rattle.ht_metric.specs.declared.hit.Hit.{Hit}
-use Rattle.ht_team.specs.Helms.{gave, received, TakesBack, IsSameHelm as IsSameLots}
+use Rattle.ht_team.specs.Helms.{gave, received, TakesBack, IsSameHelm}
 use Rattle.ht_crew.specs.Lots.{LotHelm, asked, lot_of, flat}
 use Rattle.ht_crew.specs.Accounts.{IsJobHelm, Ships, GetsBack, Receives, ComesBack, job_helm}
 use Rattle.ht_crew.specs.declared.lot.LotRoom.{LotRoom}
@@ -24,7 +24,7 @@ length_same : {A : Type 0} (a b : List (List A)) → SameCounts a b → length (
 length_same {A} a b same =
     length-flat_map (λ (x : List A). x) a ∙ (same (λ (x : List A). length x) ∙ sym (length-flat_map (λ (x : List A). x) b))
 
-same_lots : (h : LotHelm) → IsSameLots h h
+same_lots : (h : LotHelm) → IsSameHelm h h
 same_lots h = record { room_is = refl; deques_are = refl; queue_is = refl }
 
 -- the hits of a lot were received

@@ -5,7 +5,7 @@ use Rattle.std.specs.List.{sum_by}
 use Rattle.ht_metric.specs.Jobs.{JobView}
 use Rattle.ht_metric.specs.declared.hit.Hit.{Hit}
 use Rattle.ht_window.specs.Windows.{WindowView, jobs}
-use Rattle.ht_team.specs.Helms.{IsSameHelm as IsSameLots}
+use Rattle.ht_team.specs.Helms.{IsSameHelm}
 use Rattle.ht_crew.specs.Lots.{LotHelm, flat}
 use Rattle.ht_crew.specs.Driving.{waiting}
 use Rattle.ht_crew.specs.declared.lot.LotRoom.{LotRoom}
@@ -49,9 +49,9 @@ pub record IsOfLots (helm : JobHelm) : Type 0 where
   pub given_are : helm.given ≡ flat helm.lots.given ++ helm.loading
 
 -- it is the same helm, of the same pool
-pub record IsSameHelm (old new : JobHelm) : Type 0 where
+pub record IsSameJobHelm (old new : JobHelm) : Type 0 where
   pub room_is : new.room ≡ old.room
-  pub lots_are : IsSameLots old.lots new.lots
+  pub lots_are : IsSameHelm old.lots new.lots
 
 -- a job was loaded
 pub record Loads (job : JobView) (old new : JobHelm) : Type 0 where
@@ -61,27 +61,27 @@ pub record Loads (job : JobView) (old new : JobHelm) : Type 0 where
 
 -- the jobs that were loaded went to the pool, if there were any
 pub record Ships (old new : JobHelm) : Type 0 where
-  pub same : IsSameHelm old new
+  pub same : IsSameJobHelm old new
   pub given_are : new.given ≡ old.given
   pub sources_are : sources new ≡ sources old
 
 -- the jobs that were loaded are these, and stay with the caller, since the pool has as many as there is room for
 pub record GetsBack (old new : JobHelm) (lot : List JobView) : Type 0 where
-  pub same : IsSameHelm old new
+  pub same : IsSameJobHelm old new
   pub back : old.given ≡ new.given ++ lot
   pub full : new.room ≤ length new.given
   pub sources_are : sources new ≡ sources old
 
 -- the hits of one lot more have come
 pub record ComesBack (old new : LotHelm) (hits : List Hit) : Type 0 where
-  pub same : IsSameLots old new
+  pub same : IsSameHelm old new
   pub given_are : new.given ≡ old.given
   pub one : length new.taken + length new.answers ≡ length old.taken + length old.answers + 1
   pub more : length (flat new.taken) + length (flat new.answers) ≡ length (flat old.taken) + length (flat old.answers) + length hits
 
 -- these hits have come
 pub record Receives (old new : JobHelm) (hits : List Hit) : Type 0 where
-  pub same : IsSameHelm old new
+  pub same : IsSameJobHelm old new
   pub given_are : new.given ≡ old.given
   pub more : sources new ≡ sources old + length hits
 
@@ -143,7 +143,7 @@ pub record IssuesJob (job : JobView) (t : Tally) (w : WindowView) (h : JobHelm) 
   pub tallies : Tallies t' w' h'
   pub issued : t'.issued ≡ t.issued + 1
   pub told : (all : List JobView) → AreTold all h.given → slice_get all job.number ≡ Some job → AreTold all h'.given
-  pub same : IsSameHelm h h'
+  pub same : IsSameJobHelm h h'
   pub capacity_is : w'.capacity ≡ w.capacity
   pub front_is : w'.front ≡ w.front
   pub jobs_are : jobs w'.slots ≡ jobs w.slots ++ job ∷ []
@@ -153,7 +153,7 @@ pub record IssuesJob (job : JobView) (t : Tally) (w : WindowView) (h : JobHelm) 
 pub record TakesTurn (t : Tally) (w : WindowView) (h : JobHelm) (t' : Tally) (w' : WindowView) (h' : JobHelm) : Type 0 where
   pub tallies : Tallies t' w' h'
   pub issued : t'.issued ≡ t.issued
-  pub same : IsSameHelm h h'
+  pub same : IsSameJobHelm h h'
   pub told : (all : List JobView) → AreTold all h.given → AreTold all h'.given
   pub capacity_is : w'.capacity ≡ w.capacity
   pub front_is : w'.front ≡ w.front

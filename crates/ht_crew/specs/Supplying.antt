@@ -4,7 +4,7 @@ use Rattle.ht_metric.specs.Jobs.{JobView}
 use Rattle.ht_window.specs.Windows.{WindowView}
 use Rattle.ht_crew.specs.Feeds.{FeedView}
 use Rattle.ht_crew.specs.Driving.{Holds, IsAlong}
-use Rattle.ht_crew.specs.Accounts.{JobHelm, IsSameHelm, Tallies, AreTold}
+use Rattle.ht_crew.specs.Accounts.{JobHelm, IsSameJobHelm, Tallies, AreTold}
 use Rattle.ht_crew.specs.declared.tally.Tally.{Tally}
 
 -- since the window, the helm and the feed were these
@@ -14,7 +14,7 @@ pub record Supplying {Fault : Type 0} (w0 : WindowView) (h0 : JobHelm) (f0 : Fee
   pub tallies : Tallies t w h
   pub issued : t.issued ≡ f.count
   pub capacity_is : w.capacity ≡ w0.capacity
-  pub same : IsSameHelm h0 h
+  pub same : IsSameJobHelm h0 h
   pub bound : f.count < 2 ^ 64 - 1
   pub later : f0.faults ≤ f.faults
   pub failed_is : f.failed ≡ f0.failed

@@ -3,7 +3,7 @@ ghost use Rattle.std.specs.Prelude.{◌≡◌, ◌+◌, ◌-◌, ◌^◌, ◌<�
 ghost use Rattle.std.specs.Prelude.{Some, IsTrue, IfOk, IfErr, OnOk};
 ghost use Rattle.ht_metric.specs.Jobs.{JobView};
 ghost use Rattle.ht_crew.specs.Driving.{CallFailed, Holds, IsUnderWay, IsInTurn, IsAlong, RunsOn, at_once};
-ghost use Rattle.ht_crew.specs.Accounts.{IsSameHelm, Tallies, AreTold};
+ghost use Rattle.ht_crew.specs.Accounts.{IsSameJobHelm, Tallies, AreTold};
 
 use crate::alone::hand_back;
 use crate::caller::run;
@@ -97,7 +97,7 @@ pub(crate) fn keep<F: Feed, G: Gate>(
     ensures tallies { OnOk result (Tallies tally.new window.new helm.new) }
     ensures issued { OnOk result (tally.new.issued ≡ (F.shown feed.new).count) }
     ensures capacity { window.new.capacity ≡ window.old.capacity }
-    ensures same { IsSameHelm helm.old helm.new }
+    ensures same { IsSameJobHelm helm.old helm.new }
     ensures bound { OnOk result ((F.shown feed.new).count < 2 ^ 64 - 1) }
 
     ensures in_turn { (jobs : List JobView) → IsAlong jobs (F.shown feed.old) → IsInTurn (Some jobs) (F.shown feed.new) }

@@ -5,7 +5,7 @@ ghost use Rattle.ht_metric.specs.Jobs.{JobView};
 ghost use Rattle.ht_team.specs.Helms.{IsSettled};
 ghost use Rattle.ht_crew.specs.Feeds.{IsFreshFeed, IsLeft};
 ghost use Rattle.ht_crew.specs.Driving.{CallFailed, IsInTurn};
-ghost use Rattle.ht_crew.specs.Accounts.{IsSameHelm, Tallies, AreTold, IsUntouched, none_counted};
+ghost use Rattle.ht_crew.specs.Accounts.{IsSameJobHelm, Tallies, AreTold, IsUntouched, none_counted};
 
 use crate::caller::deliver;
 use crate::detect::Detect;
@@ -46,7 +46,7 @@ pub(crate) fn lead<R: Wait, F: Feed, G: Gate>(
     ensures left { OnOk result (IsLeft (F.shown feed.new).left []) }
     ensures unfailed { OnOk result ((F.shown feed.new).failed ≡ (F.shown feed.old).failed) }
 
-    ensures same { IsSameHelm helm.old helm.new }
+    ensures same { IsSameJobHelm helm.old helm.new }
     ensures jobs { OnOk result (tally.new.issued ≡ (F.shown feed.new).count) }
     ensures booked { OnOk result (tally.new.booked ≡ tally.new.issued) }
     ensures tallies { OnOk result (Tallies tally.new window.new helm.new) }

@@ -39,7 +39,7 @@ impl Pace {
         };
     }
 
-    /// Whether so many of the last jobs were cheap that moving the next one to another thread costs more than running it.
+    /// Whether enough of the last jobs were cheap that moving the next one to another thread costs more than running it.
     pub(crate) fn is_quick(&self) -> bool {
         self.credit >= QUICK
     }

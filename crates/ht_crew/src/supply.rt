@@ -2,7 +2,7 @@
 ghost use Rattle.std.specs.Prelude.{◌≡◌, ◌+◌, ◌-◌, ◌^◌, ◌<◌, ◌≤◌, length, not, true, false, List, Some, IfOk, IfErr, OnOk};
 ghost use Rattle.ht_metric.specs.Jobs.{JobView};
 ghost use Rattle.ht_crew.specs.Driving.{CallFailed, Holds, IsUnderWay, IsInTurn, IsAlong};
-ghost use Rattle.ht_crew.specs.Accounts.{IsSameHelm, Tallies, AreTold};
+ghost use Rattle.ht_crew.specs.Accounts.{IsSameJobHelm, Tallies, AreTold};
 
 use crate::detect::Detect;
 use crate::feed::Feed;
@@ -37,7 +37,7 @@ pub(crate) fn supply<F: Feed, G: Gate>(
     ensures tallies { Tallies tally.new window.new helm.new }
     ensures issued { tally.new.issued ≡ (F.shown feed.new).count }
     ensures capacity { window.new.capacity ≡ window.old.capacity }
-    ensures same { IsSameHelm helm.old helm.new }
+    ensures same { IsSameJobHelm helm.old helm.new }
     ensures bound { (F.shown feed.new).count < 2 ^ 64 - 1 }
 
     ensures in_turn { (jobs : List JobView) → IsAlong jobs (F.shown feed.old) → IsInTurn (Some jobs) (F.shown feed.new) }

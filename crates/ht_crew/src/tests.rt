@@ -127,7 +127,7 @@ fn all_jobs(rt: HostRuntime) -> Result<(), Fail> {
 // Holds some jobs until others have passed, and gives up after a million turns.
 #[derive(Drop)]
 struct Held {
-    // Job 0 is held until so many others have left; where that is 0, each of the first four to enter until four have entered.
+    // Job 0 is held until this number of others have left; where that is 0, each of the first four to enter until four have entered.
     others: u64,
     entered: AtomicU64,
     left: AtomicU64,
@@ -195,7 +195,7 @@ fn threads_meet(rt: HostRuntime) -> Result<(), Fail> {
     Ok(())
 }
 
-// Two workers run 300 jobs. The caller has given the pool no more than the window beyond 192 when it has seen so many hits,
+// Two workers run 300 jobs. The caller has given the pool no more than the window beyond 192 when it has seen as many hits,
 // all of which are cheap, and then it keeps the others.
 #[test]
 fn cheap_jobs_are_kept(rt: HostRuntime) -> Result<(), Fail> {

@@ -1,7 +1,7 @@
 use Rattle.std.proofs.Common.{◌≡◌, ◌-◌, ◌<◌, ◌≤◌, ◌^◌, List, Some}
 use Rattle.ht_metric.specs.Jobs.{JobView}
 use Rattle.ht_crew.specs.Driving.{Holds, IsUnderWay, IsAlong}
-use Rattle.ht_crew.specs.Accounts.{IsSameHelm, Tallies, AreTold}
+use Rattle.ht_crew.specs.Accounts.{IsSameJobHelm, Tallies, AreTold}
 use Rattle.ht_crew.proofs.lead.lead.Given as goal
 
 abbrev pub invariant-loop : goal.invariant-loop
@@ -11,7 +11,7 @@ invariant-loop g l = record {
   issued : l.tally.issued ≡ (g.F.Feed.shown l.feed).count;
   goes_on : IsUnderWay l.running (g.F.Feed.shown l.feed);
   capacity : l.window.capacity ≡ l.fn.window.capacity;
-  same : IsSameHelm l.fn.helm l.helm;
+  same : IsSameJobHelm l.fn.helm l.helm;
   bound : (g.F.Feed.shown l.feed).count < 2 ^ 64 - 1;
   later : (g.F.Feed.shown l.fn.feed).faults ≤ (g.F.Feed.shown l.feed).faults;
   failed : (g.F.Feed.shown l.feed).failed ≡ (g.F.Feed.shown l.fn.feed).failed;
