@@ -1,5 +1,6 @@
 //! Runs `detect` and `rx` with all numbers of workers and all windows, over and over, and checks that the text is always
-//! that of the vectors, and that of a larger capture of sample frames what was sent. `checks/stress` says how.
+//! that of the vectors, that of a larger capture of sample frames what was sent, and that of the longest frames the same
+//! with one worker and with many; and that no run holds too much memory. `checks/stress` says how.
 use checks::program::{self, Room};
 use checks::rates::Rate;
 use checks::walking::{Format, Walk};
@@ -38,6 +39,14 @@ const NOISE: u16 = 8;
 const SAMPLE_WORKERS: [u32; 4] = [1, 2, 7, 64];
 const SAMPLE_WINDOWS: [u32; 3] = [1, 2, 4096];
 
+/// The capture of the longest frames: a number of frames of 65,535 octets at 20 MHz, MCS 7, with the diagonal 10 and all samples 0. They
+/// are run with these workers and windows, and the text is that of the first.
+const LONGEST: u16 = 6;
+const LONGEST_PAIRS: [(u32, u32); 4] = [(1, 256), (4, 256), (64, 256), (64, 4096)];
+
+/// The most memory that a run may hold, in kilobytes.
+const MEMORY: u64 = 64 * 1024;
+
 /// What is run: a command on a capture has to write the text.
 struct Case {
     command: &'static str,
@@ -72,15 +81,35 @@ fn samples(room: &mut Room) -> Case {
     Case { command: "rx", capture: "sample frames", octets, text }
 }
 
+/// The capture of the longest frames, and what the command writes of it with the first workers and window.
+fn longest(room: &mut Room, command: &'static str) -> Case {
+    let length = u16::MAX;
+    let symbols = (16 + 8 * usize::from(length) + 6).div_ceil(260);
+    let mut octets = [b"HTCP\x01".as_slice(), &LONGEST.to_be_bytes()].concat();
+    for _ in 0..LONGEST {
+        octets.extend([0, 7]);
+        octets.extend(length.to_be_bytes());
+        octets.extend([0, 10].repeat(56));
+        octets.resize(octets.len() + symbols * 448, 0);
+    }
+    let (workers, window) = LONGEST_PAIRS[0];
+    let words = options::received(command, workers, window);
+    let text = room.run(&words, &octets).expect("the program can't be run").text;
+    Case { command, capture: "the longest frames", octets, text }
+}
+
 /// Runs a case, and says what is wrong.
 fn run(room: &mut Room, case: &Case, workers: u32, window: u32) -> Result<(), String> {
     let words = options::received(case.command, workers, window);
     let ran = room.run(&words, &case.octets).map_err(|error| error.to_string())?;
-    if ran.code() == Some(0) && ran.text == case.text && ran.said.is_empty() {
-        return Ok(());
+    let how = format!("`{}` on {} with {workers} workers and a window of {window}", case.command, case.capture);
+    if ran.code() != Some(0) || ran.text != case.text || !ran.said.is_empty() {
+        return Err(format!("{how}: {} and another text", ran.ended()));
     }
-    let how = format!("{workers} workers and a window of {window}");
-    Err(format!("`{}` on {} with {how}: {} and another text", case.command, case.capture, ran.ended()))
+    if ran.memory > MEMORY {
+        return Err(format!("{how}: {} kB of memory", ran.memory));
+    }
+    Ok(())
 }
 
 fn main() {
@@ -88,10 +117,13 @@ fn main() {
     let mut room = Room::new(&program::path(), &std::env::temp_dir(), "checks-samples", &slot)
         .expect("the files of a room can't be made");
     let samples = samples(&mut room);
+    let long = ["rx", "detect"].map(|command| longest(&mut room, command));
     let pairs = SAMPLE_WORKERS.into_iter().flat_map(|workers| SAMPLE_WINDOWS.map(|window| (workers, window)));
+    let larger =
+        pairs.map(|pair| (&samples, pair)).chain(long.iter().flat_map(|case| LONGEST_PAIRS.map(|pair| (case, pair))));
     let (mut received, mut wrong) = (0, Vec::new());
-    for (place, (workers, window)) in pairs.enumerate() {
-        match run(&mut room, &samples, workers, window) {
+    for (place, (case, (workers, window))) in larger.enumerate() {
+        match run(&mut room, case, workers, window) {
             Ok(()) => received += 1,
             Err(what) => wrong.push((place as u64, what)),
         }
