@@ -15,6 +15,10 @@ use crossbeam_utils::Backoff;
 use crossbeam_utils::sync::Key;
 use std::sync::Wait;
 
+// How many looks without a task a worker takes before it sleeps. That is some hundred microseconds: to wake a worker costs
+// the caller a call of the system, so nobody sleeps where tasks come all the time, if not fast enough for all.
+const PATIENCE: u32 = 256;
+
 // Announces that the worker is about to sleep, where it has waited by turns for long enough.
 //
 // No end is slept through, and no task while the caller waits for it. A worker announces its sleep first, and then looks
@@ -22,8 +26,8 @@ use std::sync::Wait;
 // sleep. All threads see these steps in one order, so the worker finds what is new or the caller finds the worker, and
 // wakes it or ends its sleep before it begins. The end wakes all. A task whose wake went to a worker that came too late
 // for it is with another worker, who runs it, or still on a deque, from which the caller takes it back.
-fn prepare_sleep<'a, A: Drop>(shared: &'a Shared<A>, backoff: &Backoff) -> Option<Key<'a>> {
-    if backoff.is_completed() {
+fn prepare_sleep<A: Drop>(shared: &Shared<A>, looks: u32) -> Option<Key<'_>> {
+    if looks >= PATIENCE {
         Some(shared.prepare_sleep())
     } else {
         None
@@ -31,14 +35,18 @@ fn prepare_sleep<'a, A: Drop>(shared: &'a Shared<A>, backoff: &Backoff) -> Optio
 }
 
 // Waits before the next look: asleep where that was announced, until a task is given or none comes any more, and else by
-// turns.
-fn rest<R: Wait>(rt: &R, backoff: &Backoff, sleep: Option<Key<'_>>) {
+// turns. Answers how many looks there were without a task since the worker ran one or slept.
+fn rest<R: Wait>(rt: &R, backoff: &Backoff, sleep: Option<Key<'_>>, looks: u32) -> u32 {
     match sleep {
         Some(key) => {
             key.wait(rt);
             backoff.reset();
+            0
         }
-        None => backoff.snooze(),
+        None => {
+            backoff.snooze();
+            looks.saturating_add(1)
+        }
     }
 }
 
@@ -67,25 +75,27 @@ fn run_tasks<W: Work, R: Wait>(
     ensures ran { result.1 ≡ length (answer_view result.0).pushed }
 {
     let mut ran = 0u64;
+    let mut looks = 0u32;
     let backoff = Backoff::new();
     for _ in rt.forever() {
         if ran == u64::MAX {
             return (pass, ran);
         }
-        let sleep = prepare_sleep(shared, &backoff);
+        let sleep = prepare_sleep(shared, looks);
         let last = shared.is_finished();
         match next_task(seats, place, own) {
             Some(task) => {
                 drop(sleep);
                 pass = shared.deliver(rt, pass, work.run(task));
                 ran += 1;
+                looks = 0;
                 backoff.reset();
             }
             None => {
                 if last {
                     return (pass, ran);
                 }
-                rest(rt, &backoff, sleep);
+                looks = rest(rt, &backoff, sleep, looks);
             }
         }
     }
