@@ -94,7 +94,8 @@ pub fn clauses_of_streaming()
         → Answered (Some (Asked.Rx workers window)) a b c d status → StreamsAs frame_lines_of rx_text a b c d status }
 
     // Done: what was left is a capture, and its text was put.
-    ensures done { (lines text : List ℕ → List ℕ) (a b c d : Device ℕ) → StreamsAs lines text a b c d Status.Done → StreamsWhole lines text a b c d }
+    ensures done { (lines text : List ℕ → List ℕ) (a b c d : Device ℕ) → StreamsAs lines text a b c d Status.Done
+        → StreamsWhole lines text a b c d }
 
     // Refused: what was left is no capture, and its text was put, which names its first fault.
     ensures refused { (lines text : List ℕ → List ℕ) (a b c d : Device ℕ) → StreamsAs lines text a b c d Status.Refused

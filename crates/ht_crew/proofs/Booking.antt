@@ -44,24 +44,18 @@ pub record Booking (all : List Hit) (t0 : Tally) (w0 : WindowView) (hits : List 
 abbrev pub one_booked : Tally → Bool → Tally
 one_booked t booked = record { issued = t.issued; booked = t.booked + (if booked then 1 else 0); own = t.own }
 
+at_most_one : (booked : Bool) → (if booked then 1 else 0) ≤ 1
+at_most_one true = omega arith
+at_most_one false = omega arith
+
 -- one hit more was booked or refused
 pub books_more : (all : List Hit) (t0 t : Tally) (w0 w w' : WindowView) (hits hits' : List Hit) (booked : Bool)
     → Booking all t0 w0 hits t w → length hits' + 1 ≤ length hits → HasBooked booked w w' → Booking all t0 w0 hits' (one_booked t booked) w'
-books_more all t0 t w0 w w' hits hits' true was less has = record {
+books_more all t0 t w0 w w' hits hits' booked was less has = record {
   issued = was.issued;
   own = was.own;
   booked = omega (arith, was.booked, has.waits);
-  few = omega (arith, was.few, less);
-  capacity_is = has.capacity_is ∙ was.capacity_is;
-  front_is = has.front_is ∙ was.front_is;
-  jobs_are = has.jobs_are ∙ was.jobs_are;
-  slots_are = has.slots_are ∙ was.slots_are;
-}
-books_more all t0 t w0 w w' hits hits' false was less has = record {
-  issued = was.issued;
-  own = was.own;
-  booked = omega (arith, was.booked, has.waits);
-  few = omega (arith, was.few, less);
+  few = omega (arith, was.few, less, at_most_one booked);
   capacity_is = has.capacity_is ∙ was.capacity_is;
   front_is = has.front_is ∙ was.front_is;
   jobs_are = has.jobs_are ∙ was.jobs_are;

@@ -11,7 +11,7 @@ use Rattle.ht_window.specs.Windows.{WindowView, unbooked}
 use Rattle.ht_window.specs.declared.slot.Slot.{Slot}
 use Rattle.ht_team.specs.Helms.{IsSameHelm}
 use Rattle.ht_crew.specs.Lots.{LotHelm, asked, lot_of}
-use Rattle.ht_crew.specs.Accounts.{JobHelm, IsSameJobHelm, Loads, Ships, GetsBack, Receives, Stores, sources}
+use Rattle.ht_crew.specs.Accounts.{JobHelmView, IsSameJobHelm, Loads, Ships, GetsBack, Receives, Stores, sources}
 use Rattle.ht_crew.specs.Accounts.{BooksHits, Tallies, IssuesJob, TakesTurn, AreTold, HaveNumbers, is_number}
 use Rattle.ht_crew.specs.declared.tally.Tally.{Tally}
 use Rattle.ht_crew.proofs.Filling.{issued, waiting_more}
@@ -52,10 +52,10 @@ some_own t count = record { issued = t.issued; booked = t.booked; own = t.own + 
 same_lots : (h : LotHelm) → IsSameHelm h h
 same_lots h = record { room_is = refl; deques_are = refl; queue_is = refl }
 
-pub same_helm : (h : JobHelm) → IsSameJobHelm h h
+pub same_helm : (h : JobHelmView) → IsSameJobHelm h h
 same_helm h = record { room_is = refl; lots_are = same_lots h.lots }
 
-pub same_on : (a b c : JobHelm) → IsSameJobHelm a b → IsSameJobHelm b c → IsSameJobHelm a c
+pub same_on : (a b c : JobHelmView) → IsSameJobHelm a b → IsSameJobHelm b c → IsSameJobHelm a c
 same_on a b c ab bc = record {
   room_is = bc.room_is ∙ ab.room_is;
   lots_are = record {
@@ -65,13 +65,13 @@ same_on a b c ab bc = record {
   };
 }
 
-same_lots_on : (a b : JobHelm) → b.room ≡ a.room → b.lots ≡ a.lots → IsSameJobHelm a b
+same_lots_on : (a b : JobHelmView) → b.room ≡ a.room → b.lots ≡ a.lots → IsSameJobHelm a b
 same_lots_on a b room lots = record {
   room_is = room;
   lots_are = subst (λ (l : LotHelm). IsSameHelm a.lots l) (sym lots) (same_lots a.lots);
 }
 
-sources_same : (a b : JobHelm) → b.lots ≡ a.lots → sources b ≡ sources a
+sources_same : (a b : JobHelmView) → b.lots ≡ a.lots → sources b ≡ sources a
 sources_same a b e = ap (λ (l : LotHelm). sources (record { room = 0; given = []; loading = []; places = 0; lots = l })) e
 
 -- as many hits as jobs of their lot
@@ -79,7 +79,7 @@ pub as_many : (hits : List Hit) (lot : List JobView) → lot_of hits ≡ lot →
 as_many hits lot is = sym (length-map hits asked) ∙ ap (λ (jobs : List JobView). length jobs) is
 
 -- a job was loaded
-pub issues_loaded : (t : Tally) (w w' : WindowView) (h h' : JobHelm) (job : JobView) → Tallies t w h → t.issued ≡ job.number
+pub issues_loaded : (t : Tally) (w w' : WindowView) (h h' : JobHelmView) (job : JobView) → Tallies t w h → t.issued ≡ job.number
     → job.number < 2 ^ 64 - 1 → w' ≡ issued w job → Loads job h h' → IssuesJob job t w h (one_issued t) w' h'
 issues_loaded t w w' h h' job tallies number last wi loads =
     let long : length h'.given ≡ length h.given + 1 = ap (λ (xs : List JobView). length xs) loads.given_are ∙ length-append h.given (job ∷ []) in
@@ -104,7 +104,7 @@ issues_loaded t w w' h h' job tallies number last wi loads =
     subst (λ (v : WindowView). IssuesJob job t w h (one_issued t) v h') (sym wi) here
 
 -- and then a lot was sent off
-pub issues_shipped : (t t1 t' : Tally) (w w1 w' : WindowView) (h h1 h' : JobHelm) (job : JobView)
+pub issues_shipped : (t t1 t' : Tally) (w w1 w' : WindowView) (h h1 h' : JobHelmView) (job : JobView)
     → IssuesJob job t w h t1 w1 h1 → TakesTurn t1 w1 h1 t' w' h' → IssuesJob job t w h t' w' h'
 issues_shipped t t1 t' w w1 w' h h1 h' job issues turn = record {
   tallies = turn.tallies;
@@ -117,9 +117,9 @@ issues_shipped t t1 t' w w1 w' h h1 h' job issues turn = record {
   slots_are = turn.slots_are ∙ issues.slots_are;
 }
 
-module _ (t : Tally) (w : WindowView) (h : JobHelm) (tallies : Tallies t w h) where
+module _ (t : Tally) (w : WindowView) (h : JobHelmView) (tallies : Tallies t w h) where
   -- the jobs that were loaded went to the pool, if there were any
-  pub turns_shipped : (h' : JobHelm) → Ships h h' → TakesTurn t w h t w h'
+  pub turns_shipped : (h' : JobHelmView) → Ships h h' → TakesTurn t w h t w h'
   turns_shipped h' ships = record {
     tallies = record {
       booked = tallies.booked;
@@ -139,13 +139,13 @@ module _ (t : Tally) (w : WindowView) (h : JobHelm) (tallies : Tallies t w h) wh
   }
 
   -- they stay with the caller
-  own_fits : (h' : JobHelm) (lot : List JobView) → GetsBack h h' lot → length h.given ≡ length h'.given + length lot
+  own_fits : (h' : JobHelmView) (lot : List JobView) → GetsBack h h' lot → length h.given ≡ length h'.given + length lot
   own_fits h' lot back = ap (λ (xs : List JobView). length xs) back.back ∙ length-append h'.given lot
 
-  pub few_own : (h' : JobHelm) (lot : List JobView) (hits : List Hit) → GetsBack h h' lot → lot_of hits ≡ lot → t.own + length hits < 2 ^ 64
+  pub few_own : (h' : JobHelmView) (lot : List JobView) (hits : List Hit) → GetsBack h h' lot → lot_of hits ≡ lot → t.own + length hits < 2 ^ 64
   few_own h' lot hits back is = omega (arith, tallies.given, tallies.few, own_fits h' lot back, as_many hits lot is)
 
-  pub turns_own : (t' : Tally) (w' : WindowView) (h1 h' : JobHelm) (lot : List JobView) (hits : List Hit) → GetsBack h h1 lot → lot_of hits ≡ lot
+  pub turns_own : (t' : Tally) (w' : WindowView) (h1 h' : JobHelmView) (lot : List JobView) (hits : List Hit) → GetsBack h h1 lot → lot_of hits ≡ lot
       → BooksHits hits (some_own t (length hits)) w t' w' → Stores h1 h' → TakesTurn t w h t' w' h'
   turns_own t' w' h1 h' lot hits back is books stores =
       let long : length h.given ≡ length h'.given + length lot =
@@ -173,7 +173,7 @@ module _ (t : Tally) (w : WindowView) (h : JobHelm) (tallies : Tallies t w h) wh
       }
 
   -- the hits of a lot have come
-  pub turns_received : (t' : Tally) (w' : WindowView) (h1 h' : JobHelm) (hits : List Hit) → Receives h h1 hits
+  pub turns_received : (t' : Tally) (w' : WindowView) (h1 h' : JobHelmView) (hits : List Hit) → Receives h h1 hits
       → BooksHits hits t w t' w' → Stores h1 h' → TakesTurn t w h t' w' h'
   turns_received t' w' h1 h' hits came books stores =
       let given : h'.given ≡ h.given = stores.given_are ∙ came.given_are in

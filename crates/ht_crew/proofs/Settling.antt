@@ -15,7 +15,7 @@ use Rattle.ht_team.specs.declared.closed.Closed.{Closed}
 use Rattle.ht_team.specs.declared.member.Member.{Member}
 use Rattle.ht_team.proofs.Backs.{ones}
 use Rattle.ht_crew.specs.Lots.{asked, lot_of, flat}
-use Rattle.ht_crew.specs.Accounts.{JobHelm, IsOfLots, Tallies, HaveNumbers}
+use Rattle.ht_crew.specs.Accounts.{JobHelmView, IsOfLots, Tallies, HaveNumbers}
 use Rattle.ht_crew.specs.Reports.{HasRunInPool, jobs_pushed, hits_of}
 use Rattle.ht_crew.specs.declared.tally.Tally.{Tally}
 use Rattle.ht_crew.specs.declared.report.Passes.{Passes}
@@ -38,11 +38,11 @@ sum_flat h (lot ∷ lots) =
     ∙ (ap (λ (n : ℕ). sum_by h lot + n) (sum_flat h lots) ∙ sym (sum_by-cons (sum_by h) lot lots))
 
 -- all jobs were given in lots
-pub all_given : (h : JobHelm) → IsOfLots h → h.loading ≡ [] → h.given ≡ flat h.lots.given
+pub all_given : (h : JobHelmView) → IsOfLots h → h.loading ≡ [] → h.given ≡ flat h.lots.given
 all_given h told none =
     told.given_are ∙ (ap (λ (loading : List JobView). flat h.lots.given ++ loading) none ∙ append-nil (flat h.lots.given))
 
-module _ (t : Tally) (w : WindowView) (h : JobHelm) (members : List (Member (List JobView) (List Hit)))
+module _ (t : Tally) (w : WindowView) (h : JobHelmView) (members : List (Member (List JobView) (List Hit)))
     (c : Closed (List JobView) (List Hit)) (tallies : Tallies t w h) (given : h.given ≡ flat h.lots.given)
     (run : HasRun lot_of h.lots members c) where
   abbrev passes_of : Passes

@@ -6,7 +6,7 @@ use Rattle.ht_metric.specs.Jobs.{JobView}
 use Rattle.ht_window.specs.Windows.{WindowView}
 use Rattle.ht_crew.specs.Feeds.{FeedView, GivesJob, ComesFirst}
 use Rattle.ht_crew.specs.Driving.{IsAlong}
-use Rattle.ht_crew.specs.Accounts.{JobHelm, IssuesJob, TakesTurn}
+use Rattle.ht_crew.specs.Accounts.{JobHelmView, IssuesJob, TakesTurn}
 use Rattle.ht_crew.specs.Supplying.{Supplying}
 use Rattle.ht_crew.specs.declared.tally.Tally.{Tally}
 use Rattle.ht_crew.proofs.Filling.{along_more}
@@ -28,7 +28,7 @@ module _ {Fault : Type 0} where
       rest None e = absurd e
       rest (Some after) e = ap (λ (n : ℕ). slice_get all n) gives.number ∙ at_dropped f.count all job after e
 
-  pub supplying_more : (w0 : WindowView) (h0 : JobHelm) (f0 : FeedView Fault) (t t' : Tally) (w w' : WindowView) (h h' : JobHelm) (f f' : FeedView Fault)
+  pub supplying_more : (w0 : WindowView) (h0 : JobHelmView) (f0 : FeedView Fault) (t t' : Tally) (w w' : WindowView) (h h' : JobHelmView) (f f' : FeedView Fault)
       (job : JobView) → Supplying w0 h0 f0 t w h f → length w.slots < w.capacity → f.ended ≡ false → GivesJob f f' job → f.faults ≤ f'.faults
       → f'.count + f'.more < 2 ^ 64 - 1 → IssuesJob job t w h t' w' h' → Supplying w0 h0 f0 t' w' h' f'
   supplying_more w0 h0 f0 t t' w w' h h' f f' job was room running gives later bound issues = record {
@@ -49,7 +49,7 @@ module _ {Fault : Type 0} where
   }
 
   -- and a lot was sent off
-  pub supplying_on : (w0 : WindowView) (h0 : JobHelm) (f0 : FeedView Fault) (t t' : Tally) (w w' : WindowView) (h h' : JobHelm) (f : FeedView Fault)
+  pub supplying_on : (w0 : WindowView) (h0 : JobHelmView) (f0 : FeedView Fault) (t t' : Tally) (w w' : WindowView) (h h' : JobHelmView) (f : FeedView Fault)
       → Supplying w0 h0 f0 t w h f → TakesTurn t w h t' w' h' → Supplying w0 h0 f0 t' w' h' f
   supplying_on w0 h0 f0 t t' w w' h h' f was turn = record {
     holds = record {

@@ -12,7 +12,7 @@ use Rattle.ht_crew.specs.declared.lot.LotRoom.{LotRoom}
 use Rattle.ht_crew.specs.declared.tally.Tally.{Tally}
 
 -- what is seen of the caller's end of a pool that runs jobs
-pub record JobHelm : Type 0 where
+pub record JobHelmView : Type 0 where
   -- this number of jobs can be given for sure
   pub room : ℕ
   -- the jobs that were given or are loaded, in order
@@ -23,7 +23,7 @@ pub record JobHelm : Type 0 where
   -- the lots that went to the pool, and what came back
   pub lots : LotHelm
 
-abbrev pub job_helm : LotHelm → List JobView → ℕ → JobHelm
+abbrev pub job_helm : LotHelm → List JobView → ℕ → JobHelmView
 job_helm lots loading places = record {
   room = lots.room;
   given = flat lots.given ++ loading;
@@ -33,7 +33,7 @@ job_helm lots loading places = record {
 }
 
 -- how many hits have come, of jobs whose lots were received or taken back
-abbrev pub sources : JobHelm → ℕ
+abbrev pub sources : JobHelmView → ℕ
 sources helm = length (flat helm.lots.taken) + length (flat helm.lots.answers)
 
 -- what holds at every helm: a lot that is not out has come back, no lot is empty, and there is room for the hits of the jobs that are loaded
@@ -44,29 +44,29 @@ pub record IsJobHelm (lots : LotHelm) (loaded : LotRoom) (out : ℕ) : Type 0 wh
   pub places : vec_len loaded.jobs ≤ vec_capacity loaded.hits
 
 -- what there is room for and what was given is told by the lots
-pub record IsOfLots (helm : JobHelm) : Type 0 where
+pub record IsOfLots (helm : JobHelmView) : Type 0 where
   pub room_is : helm.room ≡ helm.lots.room
   pub given_are : helm.given ≡ flat helm.lots.given ++ helm.loading
 
 -- it is the same helm, of the same pool
-pub record IsSameJobHelm (old new : JobHelm) : Type 0 where
+pub record IsSameJobHelm (old new : JobHelmView) : Type 0 where
   pub room_is : new.room ≡ old.room
   pub lots_are : IsSameHelm old.lots new.lots
 
 -- a job was loaded
-pub record Loads (job : JobView) (old new : JobHelm) : Type 0 where
+pub record Loads (job : JobView) (old new : JobHelmView) : Type 0 where
   pub lots_are : new.lots ≡ old.lots
   pub room_is : new.room ≡ old.room
   pub given_are : new.given ≡ old.given ++ job ∷ []
 
 -- the jobs that were loaded went to the pool, if there were any
-pub record Ships (old new : JobHelm) : Type 0 where
+pub record Ships (old new : JobHelmView) : Type 0 where
   pub same : IsSameJobHelm old new
   pub given_are : new.given ≡ old.given
   pub sources_are : sources new ≡ sources old
 
 -- the jobs that were loaded are these, and stay with the caller, since the pool has as many as there is room for
-pub record GetsBack (old new : JobHelm) (lot : List JobView) : Type 0 where
+pub record GetsBack (old new : JobHelmView) (lot : List JobView) : Type 0 where
   pub same : IsSameJobHelm old new
   pub back : old.given ≡ new.given ++ lot
   pub full : new.room ≤ length new.given
@@ -80,19 +80,19 @@ pub record ComesBack (old new : LotHelm) (hits : List Hit) : Type 0 where
   pub more : length (flat new.taken) + length (flat new.answers) ≡ length (flat old.taken) + length (flat old.answers) + length hits
 
 -- these hits have come
-pub record Receives (old new : JobHelm) (hits : List Hit) : Type 0 where
+pub record Receives (old new : JobHelmView) (hits : List Hit) : Type 0 where
   pub same : IsSameJobHelm old new
   pub given_are : new.given ≡ old.given
   pub more : sources new ≡ sources old + length hits
 
 -- memory was stored
-pub record Stores (old new : JobHelm) : Type 0 where
+pub record Stores (old new : JobHelmView) : Type 0 where
   pub lots_are : new.lots ≡ old.lots
   pub room_is : new.room ≡ old.room
   pub given_are : new.given ≡ old.given
 
 -- nothing was given to the pool yet
-pub record IsUntouched (helm : JobHelm) : Type 0 where
+pub record IsUntouched (helm : JobHelmView) : Type 0 where
   pub given : helm.given ≡ []
   pub taken : helm.lots.taken ≡ []
   pub answers : helm.lots.answers ≡ []
@@ -126,7 +126,7 @@ AreTold all [] = Unit {0}
 AreTold all (job ∷ jobs) = (slice_get all job.number ≡ Some job) × AreTold all jobs
 
 -- the counts fit the window and the helm
-pub record Tallies (t : Tally) (w : WindowView) (h : JobHelm) : Type 0 where
+pub record Tallies (t : Tally) (w : WindowView) (h : JobHelmView) : Type 0 where
   -- a job that was issued has its hit or waits for it
   pub booked : t.booked + waiting w.slots ≡ t.issued
   -- it was given to the pool, or the caller ran it
@@ -139,7 +139,7 @@ pub record Tallies (t : Tally) (w : WindowView) (h : JobHelm) : Type 0 where
   pub few : t.issued < 2 ^ 64
 
 -- a job was issued
-pub record IssuesJob (job : JobView) (t : Tally) (w : WindowView) (h : JobHelm) (t' : Tally) (w' : WindowView) (h' : JobHelm) : Type 0 where
+pub record IssuesJob (job : JobView) (t : Tally) (w : WindowView) (h : JobHelmView) (t' : Tally) (w' : WindowView) (h' : JobHelmView) : Type 0 where
   pub tallies : Tallies t' w' h'
   pub issued : t'.issued ≡ t.issued + 1
   pub told : (all : List JobView) → AreTold all h.given → slice_get all job.number ≡ Some job → AreTold all h'.given
@@ -150,7 +150,7 @@ pub record IssuesJob (job : JobView) (t : Tally) (w : WindowView) (h : JobHelm) 
   pub slots_are : length w'.slots ≡ length w.slots + 1
 
 -- the caller booked hits, or sent a lot off: no job was issued
-pub record TakesTurn (t : Tally) (w : WindowView) (h : JobHelm) (t' : Tally) (w' : WindowView) (h' : JobHelm) : Type 0 where
+pub record TakesTurn (t : Tally) (w : WindowView) (h : JobHelmView) (t' : Tally) (w' : WindowView) (h' : JobHelmView) : Type 0 where
   pub tallies : Tallies t' w' h'
   pub issued : t'.issued ≡ t.issued
   pub same : IsSameJobHelm h h'

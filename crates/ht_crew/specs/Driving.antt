@@ -71,7 +71,7 @@ module _ {Fault : Type 0} where
     pub failed : new.failed ≡ old.failed
     pub along : (jobs : List JobView) → IsAlong jobs old → IsAlong jobs new
 
-  -- so many jobs were run and taken, and this one came last and is the only one due; without one the feed has ended
+  -- this number of jobs were run and taken, and this one came last and is the only one due; without one the feed has ended
   pub record RunsOn (old new : FeedView Fault) (ran : ℕ) (next : Option JobView) : Type 0 where
     pub due : new.due ≡ as_list next
     pub number : IfSome next (λ job. job.number + 1 ≡ new.count)

@@ -48,9 +48,9 @@ pub record HasRunInPool (workers room : ℕ) (report : Report) (passes : Passes)
   -- by this number of workers, the caller first, each of whom counted its lots
   pub each : length report.ran ≡ workers
   pub ran : sum report.ran ≡ length (by_caller passes).pushed
-  -- the hits of lots pushed on the queue are of as many lots as the workers beside the caller ran
+  -- each lot that a worker beside the caller ran was answered on the queue, by the hits of its jobs
   pub helped : length (hits_of passes).pushed + get_or report.ran 0 0 ≡ sum report.ran
-  -- they are of jobs that were run, each as often at most
+  -- those hits are of jobs that were pushed, each as often as it was pushed, or less often
   pub of_jobs : (h : JobView → ℕ) → sum_by h (map asked (flat (hits_of passes).pushed)) ≤ sum_by h (jobs_pushed passes)
-  -- and the caller received those of each lot once
+  -- and what the caller took from the queue is what was pushed on it, each lot's hits once
   pub received : SameCounts (hits_of passes).taken (hits_of passes).pushed

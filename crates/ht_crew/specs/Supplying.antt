@@ -4,11 +4,11 @@ use Rattle.ht_metric.specs.Jobs.{JobView}
 use Rattle.ht_window.specs.Windows.{WindowView}
 use Rattle.ht_crew.specs.Feeds.{FeedView}
 use Rattle.ht_crew.specs.Driving.{Holds, IsAlong}
-use Rattle.ht_crew.specs.Accounts.{JobHelm, IsSameJobHelm, Tallies, AreTold}
+use Rattle.ht_crew.specs.Accounts.{JobHelmView, IsSameJobHelm, Tallies, AreTold}
 use Rattle.ht_crew.specs.declared.tally.Tally.{Tally}
 
 -- since the window, the helm and the feed were these
-pub record Supplying {Fault : Type 0} (w0 : WindowView) (h0 : JobHelm) (f0 : FeedView Fault) (t : Tally) (w : WindowView) (h : JobHelm)
+pub record Supplying {Fault : Type 0} (w0 : WindowView) (h0 : JobHelmView) (f0 : FeedView Fault) (t : Tally) (w : WindowView) (h : JobHelmView)
     (f : FeedView Fault) : Type 0 where
   pub holds : Holds w f
   pub tallies : Tallies t w h

@@ -74,9 +74,9 @@ pub(crate) struct JobHelm<'a, 'g, G: Gate> {
 impl<'a, 'g, G: Gate> Model for JobHelm<'a, 'g, G> {
     ghost use Rattle.std.specs.Prelude.{◌++◌, min, vec_capacity};
     ghost use Rattle.ht_crew.specs.Lots.{flat};
-    ghost use Rattle.ht_crew.specs.Accounts.{JobHelm, IsJobHelm, job_helm};
+    ghost use Rattle.ht_crew.specs.Accounts.{JobHelmView, IsJobHelm, job_helm};
 
-    ghost Value = { JobHelm };
+    ghost Value = { JobHelmView };
 
     ghost view = { λ h. job_helm h.helm h.room.jobs.items (min (vec_capacity h.room.jobs) (vec_capacity h.room.hits)) };
 

@@ -1,4 +1,4 @@
-//! How dear jobs are.
+//! How costly jobs are.
 
 use ht_metric::Hit;
 
@@ -8,11 +8,11 @@ const QUICK: u8 = 192;
 /// The streams of a cheap job, at most. Rounding alone takes more than a move in a lot where there are four.
 const FEW: u8 = 3;
 
-/// What a dear job takes from the credit at least.
-const DEAR: u8 = 8;
+/// What a costly job takes from the credit at least.
+const LEAST_PRICE: u8 = 8;
 
-/// What a caller has seen of the cost of its jobs, as a credit from 0 to 255: a cheap job adds one to it, and a dear one takes
-/// from it, the more the dearer it was.
+/// What a caller has seen of the cost of its jobs, as a credit from 0 to 255: a cheap job adds one to it, and a costly one
+/// takes from it, the more the costlier it was.
 ///
 /// A job is cheap where it has at most three streams and the distance of its hit is less than four times the square of the
 /// least diagonal: then few vectors beside that of successive rounding may be nearer, and the search looks at little more.
@@ -61,9 +61,9 @@ fn least_diagonal(hit: &Hit) -> u16 {
     least
 }
 
-// What a dear job takes from the credit: how often its distance has the measure in it, from 8 to 255.
+// What a costly job takes from the credit: how often its distance has the measure in it, from 8 to 255.
 fn price(distance: u64, measure: u64) -> u8 {
     u8::try_from(distance / measure.max(1))
         .unwrap_or(u8::MAX)
-        .max(DEAR)
+        .max(LEAST_PRICE)
 }

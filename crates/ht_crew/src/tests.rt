@@ -221,10 +221,10 @@ fn hit(diagonal: u16, re: i32) -> Hit {
     plain_nearest(&Job::new(0, Place::default(), grid, System::new(triangle, y)))
 }
 
-// 192 cheap hits in a row make a pace quick. A dear one, whose distance is twice the measure, takes eight of them back, and
+// 192 cheap hits in a row make a pace quick. A costly one, whose distance is twice the measure, takes eight of them back, and
 // one whose distance is 2,450 times the measure takes all.
 #[test]
-fn cheap_and_dear(rt: HostRuntime) -> Result<(), Fail> {
+fn cheap_and_costly(rt: HostRuntime) -> Result<(), Fail> {
     let cheap = hit(10, 29);
     let mut pace = Pace::new();
     for _ in 0..191 {

@@ -12,7 +12,8 @@ use Rattle.ht_rx.specs.Listing.{SharesSymbol, LinesWait}
 pub waits_none : (text : List ℕ) (due : List Headed) → text ≡ [] → LinesWait text due
 waits_none text due none = record { jobs = []; lines = none; symbol = λ first is. All-nil (SharesSymbol first.job); none = λ is. none }
 
-some_due : {X : Type 0} (x : X) (xs : List X) → x ∷ xs ≡ [] → ⊥
+-- where a job is due, some are
+pub some_due : {X : Type 0} (x : X) (xs : List X) → x ∷ xs ≡ [] → ⊥
 some_due {X = X} x xs is = none-some x (sym (ap (λ (ys : List X). slice_get ys 0) is))
 
 -- one more job is due
