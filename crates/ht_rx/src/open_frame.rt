@@ -192,20 +192,24 @@ impl OpenFrame {
         self.head.length
     }
 
-    // Begins a frame.
+    // Begins the frame with this head, of one octet at least. It is called once a frame, and kept out of line.
+    #[inline(never)]
     fn begin(&mut self, head: &FrameHead) -> Result<(), AllocError>
-        requires some { 1 ≤ head.now.length }
-        ensures begun { OnOk result (self.new ≡ frame_begun head.now) }
+        ensures begun { OnOk result (self.new ≡ frame_begun (with_octets head.now)) }
         ensures ready { OnOk result (IsOpenFrame self.new) }
     {
+        let head = FrameHead {
+            length: head.length.max(1),
+            ..*head
+        };
         self.left = 0;
         self.labels.clear();
-        self.labels.resize(labels_in(head), 0)?;
-        self.head = *head;
+        self.labels.resize(labels_in(&head), 0)?;
+        self.head = head;
         note_carriers(&mut self.carriers, &head.rate);
         self.data_sum = 0;
         self.pilot_sum = 0;
-        self.left = jobs_in(head);
+        self.left = jobs_in(&head);
         Ok(())
     }
 
@@ -214,15 +218,10 @@ impl OpenFrame {
         ensures entered { OnOk result (self.new ≡ frame_of head.now self.old) }
         ensures ready { OnOk result (IsOpenFrame self.new) }
     {
-        if self.left == 0 {
-            let head = FrameHead {
-                length: head.length.max(1),
-                ..*head
-            };
-            self.begin(&head)
-        } else {
-            Ok(())
+        if self.left > 0 {
+            return Ok(());
         }
+        self.begin(head)
     }
 
     /// Takes the hit of a job of the frame that is under way.
