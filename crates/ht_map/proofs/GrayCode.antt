@@ -1,7 +1,7 @@
--- The Gray code's arithmetic gives the tables, by computation over all levels of an octet.
+-- The Gray code's arithmetic gives the tables of levels and bits, by computation over all of them.
 use Rattle.std.proofs.Common.{◌≡◌, ℕ, ◌+◌, ◌-◌, ◌*◌, ◌/◌, ◌%◌, ◌^◌, ◌<◌, ◌≤◌, ℤ, pos, ◌+ℤ◌, ◌-ℤ◌, FitsSigned, Bool, true, false, nat_lt, nat_eq, cond}
-use Rattle.std.proofs.Common.{inl, inr, Option, None, Some, refl, arith, ap, ◌∙◌, sym}
-use Rattle.std.proofs.lemmas.Bool.{agree_below, agree_below_at, eqb-true}
+use Rattle.std.proofs.Common.{inl, inr, Option, None, Some, refl, arith, ap, ◌∙◌, sym, subst}
+use Rattle.std.proofs.lemmas.Bool.{agree_below, agree_below_at}
 use Rattle.std.proofs.lemmas.Bool.Decides.{Decides-int_eq, nat_tests}
 use Rattle.std.proofs.lemmas.Int.{to_z-of_z}
 use Rattle.std.proofs.Math.Facts.{Fits-of_z}
@@ -11,13 +11,13 @@ use Rattle.std.specs.Option.{option_eq}
 use Rattle.std.specs.Ordering.{int_eq}
 use Rattle.ht_map.specs.Gray.{level_at, bits_at}
 use Rattle.ht_map.specs.Axes.{IsSize, axis_of, index_of}
-use Rattle.ht_map.proofs.AxisFacts.{sound, bits_at-level}
+use Rattle.ht_map.proofs.AxisFacts.{same_option, sound, bits_at-level}
 
-same_option : (a b : Option ℕ) → option_eq nat_eq a b ≡ true → a ≡ b
-same_option None None e = refl
-same_option None (Some m) e = cc
-same_option (Some n) None e = cc
-same_option (Some n) (Some m) e = ap Some (eqb-true n m e)
+by_size : (P : ℕ → Type 0) → P 1 → P 2 → P 4 → P 8 → (size : ℕ) → IsSize size → P size
+by_size P one two four eight size (inl e) = subst P (sym e) one
+by_size P one two four eight size (inr (inl e)) = subst P (sym e) two
+by_size P one two four eight size (inr (inr (inl e))) = subst P (sym e) four
+by_size P one two four eight size (inr (inr (inr e))) = subst P (sym e) eight
 
 -- what the code answers at an index
 abbrev answer : ℕ → ℕ → Option ℕ
@@ -29,7 +29,7 @@ answer-on size n lt = grind (arith, nat_tests)
 answer-off : (size n : ℕ) → size ≤ n → answer size n ≡ None
 answer-off size n le = grind (arith, nat_tests)
 
--- the index of a level that is written as an octet
+-- the index of a level, written as an octet, as the code finds it
 abbrev pub index_at : ℕ → ℕ → ℕ
 index_at size octet = rotate_right w8 ((octet + (size - 1)) % 2 ^ 8) 1
 
@@ -39,10 +39,7 @@ agrees size octet = option_eq nat_eq (answer size (index_at size octet)) (bits_a
 
 all_agree : (size : ℕ) → IsSize size → agree_below (agrees size) (λ _. true) 256 ≡ true
 unfolding agrees bits_at axis_of
-all_agree size (inl e) = rw e refl
-all_agree size (inr (inl e)) = rw e refl
-all_agree size (inr (inr (inl e))) = rw e refl
-all_agree size (inr (inr (inr e))) = rw e refl
+all_agree = by_size (λ size. agree_below (agrees size) (λ _. true) 256 ≡ true) refl refl refl refl
 
 answer-bits_at : (size : ℕ) (x : ℤ) → IsSize size → FitsSigned w8 x
     → answer size (index_at size (cast_unsigned w8 x)) ≡ bits_at (axis_of size) x
@@ -65,10 +62,7 @@ bits-off size n x ok fits e le = sym (answer-off size n le) ∙ (ap (answer size
 
 sound_axis : (size : ℕ) → IsSize size → sound 8 (axis_of size) ≡ true
 unfolding axis_of
-sound_axis size (inl e) = rw e refl
-sound_axis size (inr (inl e)) = rw e refl
-sound_axis size (inr (inr (inl e))) = rw e refl
-sound_axis size (inr (inr (inr e))) = rw e refl
+sound_axis = by_size (λ size. sound 8 (axis_of size) ≡ true) refl refl refl refl
 
 -- three bits at most name a level
 pub bits-bound : (size b : ℕ) (x : ℤ) → IsSize size → Some b ≡ bits_at (axis_of size) x → b < 8
@@ -92,10 +86,7 @@ level_agrees size b = int_eq (level_of_index size (index_of b)) (level_at (axis_
 
 levels_agree : (size : ℕ) → IsSize size → agree_below (level_agrees size) (λ _. true) size ≡ true
 unfolding level_agrees level_at axis_of
-levels_agree size (inl e) = rw e refl
-levels_agree size (inr (inl e)) = rw e refl
-levels_agree size (inr (inr (inl e))) = rw e refl
-levels_agree size (inr (inr (inr e))) = rw e refl
+levels_agree = by_size (λ size. agree_below (level_agrees size) (λ _. true) size ≡ true) refl refl refl refl
 
 pub level-of-bits : (size b n : ℕ) → IsSize size → b < size → n ≡ index_of b → level_of_index size n ≡ level_at (axis_of size) b
 unfolding level_agrees

@@ -5,14 +5,14 @@ ghost use Rattle.ht_map.specs.Axes.{IsSize, axis_of};
 ghost use Rattle.ht_map.specs.Constellation.{IsOff};
 ghost use Rattle.ht_map.specs.Gray.{i_axis, joined, label_of, point_of, q_axis, q_levels};
 
-use crate::axis::{level_of, named_by};
+use crate::axis::{bits_naming, level_of};
 use ht_pam::Point;
 use ht_rate::Modulation;
 
 /// The constellation point of a label (clause 20.3.11.9).
 ///
 /// `label` has N_BPSCS bits, the first one the most significant. In 64-QAM label 100000 is I = 7 and Q = -7.
-#[tactic(auto, unfolding(crate::specs::Gray::point_of, crate::specs::Gray::level_at))]
+#[tactic(auto, unfolding(crate::specs::Gray::point_of))]
 pub fn point(modulation: Modulation, label: u8) -> Point
     requires { label < 2 ^ bits_of modulation }
     ensures { result ≡ point_of modulation label }
@@ -35,8 +35,8 @@ pub fn label(modulation: Modulation, point: Point) -> Option<u8>
     ensures off { IsNone result ↔ IsOff modulation point }
 {
     let levels = q_levels_of(modulation);
-    let i = named_by(point.i, i_levels_of(modulation));
-    let q = named_by(point.q, levels);
+    let i = bits_naming(point.i, i_levels_of(modulation));
+    let q = bits_naming(point.q, levels);
     join(i, q, levels)
 }
 
