@@ -28,11 +28,7 @@ pub(crate) fn bits_naming(level: i8, size: u8) -> Option<u8>
     // The level is 2n above the lowest one. Where its distance is odd the rotation sets the top bit, and a level below
     // the lowest one wraps to a large distance: either way n is no index of the axis.
     let n = level.cast_unsigned().wrapping_add(size - 1).rotate_right(1);
-    if n < size {
-        Some(n ^ (n >> 1))
-    } else {
-        None
-    }
+    if n < size { Some(n ^ (n >> 1)) } else { None }
 }
 
 // The index of the level that some bits name: it has these bits as its Gray code.
