@@ -1,11 +1,19 @@
 -- The levels of an axis and the bits that name them are one to one.
 use Rattle.std.proofs.Common.{◌≡◌, ℕ, ◌<◌, ℤ, [], ◌∷◌, Bool, true, false, not, nat_lt, nat_eq, ◌&&◌}
-use Rattle.std.proofs.Common.{◌||◌, ◌⊎◌, inl, inr, Option, Some, refl, arith, cond, map, is_some}
-use Rattle.std.proofs.lemmas.Bool.{and_parts}
+use Rattle.std.proofs.Common.{◌||◌, ◌⊎◌, inl, inr, Option, None, Some, refl, arith, ap, cond, map, is_some}
+use Rattle.std.proofs.lemmas.Bool.{and_parts, eqb-true}
 use Rattle.std.proofs.lemmas.Bool.Decides.{Decides-int_eq, nat_tests}
 use Rattle.std.specs.List.{list_any}
+use Rattle.std.specs.Option.{option_eq}
 use Rattle.std.specs.Ordering.{int_eq}
 use Rattle.ht_map.specs.Gray.{Axis, level_at, bits_at}
+
+-- what the test of two answers tells
+pub same_option : (a b : Option ℕ) → option_eq nat_eq a b ≡ true → a ≡ b
+same_option None None e = refl
+same_option None (Some m) e = cc
+same_option (Some n) None e = cc
+same_option (Some n) (Some m) e = ap Some (eqb-true n m e)
 
 -- no level is named by these bits
 abbrev pub fresh : ℕ → Axis → Bool

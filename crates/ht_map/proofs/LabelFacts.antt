@@ -1,7 +1,8 @@
 -- Labels and points are one to one.
 use Rattle.std.proofs.Common.{◌≡◌, ℕ, ◌+◌, ◌*◌, ◌/◌, ◌%◌, ◌^◌, ◌<◌, ℤ, Bool, true, false, nat_eq, Option, None, Some}
 use Rattle.std.proofs.Common.{refl, arith, ap, ◌∙◌, sym, subst, is_some, ◌&&◌, true≢false, ◌↔◌, IfSome, IsNone}
-use Rattle.std.proofs.lemmas.Bool.{agree_below, agree_below_at, eqb-true}
+use Rattle.std.proofs.lemmas.Bool.{agree_below, agree_below_at}
+use Rattle.std.specs.Option.{option_eq}
 use Rattle.ht_rate.specs.declared.kinds.Modulation.{Modulation}
 use Rattle.ht_rate.specs.declared.kinds.Modulation.TheVariants.{Bpsk, Qpsk, Qam16, Qam64}
 use Rattle.ht_rate.specs.Schemes.{bits_of}
@@ -9,23 +10,13 @@ use Rattle.ht_pam.specs.declared.point.Point.{Point}
 use Rattle.ht_pam.specs.Ladders.{has}
 use Rattle.ht_map.specs.Gray.{Axis, i_axis, q_axis, q_levels, level_at, bits_at, joined, point_of, label_of}
 use Rattle.ht_map.specs.Constellation.{IsOff, axes_of}
-use Rattle.ht_map.proofs.AxisFacts.{sound, bits_at-level, is_some-bits_at}
-
--- whether there is a number, and it is this one
-unfoldable pub is_this : ℕ → Option ℕ → Bool
-is_this n None = false
-is_this n (Some m) = nat_eq n m
-
-is_this-some : (n : ℕ) (o : Option ℕ) → is_this n o ≡ true → o ≡ Some n
-unfolding is_this
-is_this-some n None e = cc
-is_this-some n (Some m) e = ap Some (sym (eqb-true n m e))
+use Rattle.ht_map.proofs.AxisFacts.{same_option, sound, bits_at-level, is_some-bits_at}
 
 unfoldable pub comes_back : Modulation → ℕ → Bool
-comes_back m label = is_this label (label_of m (point_of m label))
+comes_back m label = option_eq nat_eq (label_of m (point_of m label)) (Some label)
 
 come_back : (m : Modulation) → agree_below (comes_back m) (λ _. true) (2 ^ bits_of m) ≡ true
-unfolding comes_back is_this label_of point_of level_at bits_at
+unfolding comes_back label_of point_of level_at bits_at
 come_back Bpsk = refl
 come_back Qpsk = refl
 come_back Qam16 = refl
@@ -34,7 +25,7 @@ come_back Qam64 = refl
 -- the label of a label's point is the label
 pub label_of-point_of : (m : Modulation) (label : ℕ) → label < 2 ^ bits_of m → label_of m (point_of m label) ≡ Some label
 unfolding comes_back
-label_of-point_of m label lt = is_this-some label _ (agree_below_at (comes_back m) (λ _. true) (2 ^ bits_of m) label (come_back m) lt)
+label_of-point_of m label lt = same_option _ _ (agree_below_at (comes_back m) (λ _. true) (2 ^ bits_of m) label (come_back m) lt)
 
 joined-some : (levels : ℕ) (a b : Option ℕ) (label : ℕ) → joined levels a b ≡ Some label
     → (i : ℕ) × ((q : ℕ) × ((a ≡ Some i) × (b ≡ Some q) × (i * levels + q ≡ label)))

@@ -1,3 +1,4 @@
 mod AxisFacts
+pub mod GrayCode
 pub mod LabelFacts
 mod Values

@@ -1,2 +1,3 @@
 pub mod Gray
+pub mod Axes
 pub mod Constellation

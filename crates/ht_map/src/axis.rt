@@ -1,106 +1,42 @@
 //! One axis of a constellation: its levels, and the bits that name them.
+//!
+//! An axis has 1, 2, 4 or 8 levels. The one of index n, counted from the lowest, is 2n + 1 - size, and the bits that
+//! name it are the Gray code of its index, n ^ (n >> 1): those of neighbouring levels differ in one bit (clause
+//! 20.3.11.9, with tables 18-8 to 18-11 of clause 18.3.5.8). So no table is looked up, and no branch hangs on a level
+//! but whether it is on the axis.
 ghost use Rattle.std.specs.Prelude.{◌≡◌, ◌<◌, IfSome};
-ghost use Rattle.ht_map.specs.Gray.{bits_at, level_at, no_bits, one_bit, two_bits, three_bits};
+ghost use Rattle.ht_map.specs.Axes.{IsSize, axis_of, index_of};
+ghost use Rattle.ht_map.specs.Gray.{bits_at, level_at};
 
-/// The level of one bit.
-#[tactic(auto, unfolding(crate::specs::Gray::level_at))]
-pub(crate) fn level_of_one(bits: u8) -> i8
-    requires { bits < 2 }
-    ensures { result ≡ level_at one_bit bits }
+/// The level that some bits name on an axis of `size` levels.
+#[tactic(auto, using(crate::proofs::GrayCode::gray_code))]
+pub(crate) fn level_of(bits: u8, size: u8) -> i8
+    requires size { IsSize size }
+    requires bits { bits < size }
+    ensures { result ≡ level_at (axis_of size) bits }
 {
-    match bits {
-        0 => -1,
-        _ => 1,
-    }
+    (2 * index_named(bits) + 1) as i8 - size as i8
 }
 
-/// The level of two bits.
-#[tactic(auto, unfolding(crate::specs::Gray::level_at))]
-pub(crate) fn level_of_two(bits: u8) -> i8
-    requires { bits < 4 }
-    ensures { result ≡ level_at two_bits bits }
+/// The bits that name a level on an axis of `size` levels, or `None` where the level is off the axis.
+#[tactic(auto, using(crate::proofs::GrayCode::gray_code))]
+pub(crate) fn bits_naming(level: i8, size: u8) -> Option<u8>
+    requires { IsSize size }
+    ensures value { result ≡ bits_at (axis_of size) level }
+    ensures bound { IfSome result (λ bits. bits < 8) }
 {
-    match bits {
-        0b00 => -3,
-        0b01 => -1,
-        0b11 => 1,
-        _ => 3,
-    }
+    // The level is 2n above the lowest one. Where its distance is odd the rotation sets the top bit, and a level below
+    // the lowest one wraps to a large distance: either way n is no index of the axis.
+    let n = level.cast_unsigned().wrapping_add(size - 1).rotate_right(1);
+    if n < size { Some(n ^ (n >> 1)) } else { None }
 }
 
-/// The level of three bits.
-#[tactic(auto, unfolding(crate::specs::Gray::level_at))]
-pub(crate) fn level_of_three(bits: u8) -> i8
+// The index of the level that some bits name: it has these bits as its Gray code.
+#[tactic(auto, using(crate::proofs::GrayCode::gray_code))]
+fn index_named(bits: u8) -> u8
     requires { bits < 8 }
-    ensures { result ≡ level_at three_bits bits }
+    ensures value { result ≡ index_of bits }
+    ensures bound { result < 8 }
 {
-    match bits {
-        0b000 => -7,
-        0b001 => -5,
-        0b011 => -3,
-        0b010 => -1,
-        0b110 => 1,
-        0b111 => 3,
-        0b101 => 5,
-        _ => 7,
-    }
-}
-
-/// No bit, named 0, of the level 0.
-#[tactic(auto, unfolding(crate::specs::Gray::bits_at))]
-pub(crate) fn no_bits_of(level: i8) -> Option<u8>
-    ensures value { result ≡ bits_at no_bits level }
-    ensures bound { IfSome result (λ bits. bits < 8) }
-{
-    match level {
-        0 => Some(0),
-        _ => None,
-    }
-}
-
-/// The one bit of a level.
-#[tactic(auto, unfolding(crate::specs::Gray::bits_at))]
-pub(crate) fn one_bit_of(level: i8) -> Option<u8>
-    ensures value { result ≡ bits_at one_bit level }
-    ensures bound { IfSome result (λ bits. bits < 8) }
-{
-    match level {
-        -1 => Some(0),
-        1 => Some(1),
-        _ => None,
-    }
-}
-
-/// The two bits of a level.
-#[tactic(auto, unfolding(crate::specs::Gray::bits_at))]
-pub(crate) fn two_bits_of(level: i8) -> Option<u8>
-    ensures value { result ≡ bits_at two_bits level }
-    ensures bound { IfSome result (λ bits. bits < 8) }
-{
-    match level {
-        -3 => Some(0b00),
-        -1 => Some(0b01),
-        1 => Some(0b11),
-        3 => Some(0b10),
-        _ => None,
-    }
-}
-
-/// The three bits of a level.
-#[tactic(auto, unfolding(crate::specs::Gray::bits_at))]
-pub(crate) fn three_bits_of(level: i8) -> Option<u8>
-    ensures value { result ≡ bits_at three_bits level }
-    ensures bound { IfSome result (λ bits. bits < 8) }
-{
-    match level {
-        -7 => Some(0b000),
-        -5 => Some(0b001),
-        -3 => Some(0b011),
-        -1 => Some(0b010),
-        1 => Some(0b110),
-        3 => Some(0b111),
-        5 => Some(0b101),
-        7 => Some(0b100),
-        _ => None,
-    }
+    bits ^ (bits >> 1) ^ (bits >> 2)
 }

@@ -1,40 +1,26 @@
 //! From labels to points and back.
-ghost use Rattle.std.specs.Prelude.{◌≡◌, ◌<◌, ◌≤◌, ◌^◌, ◌↔◌, IfSome, IsNone};
+ghost use Rattle.std.specs.Prelude.{◌≡◌, ◌/◌, ◌<◌, ◌≤◌, ◌^◌, ◌↔◌, IfSome, IsNone};
 ghost use Rattle.ht_rate.specs.Schemes.{bits_of};
+ghost use Rattle.ht_map.specs.Axes.{IsSize, axis_of};
 ghost use Rattle.ht_map.specs.Constellation.{IsOff};
-ghost use Rattle.ht_map.specs.Gray.{bits_at, i_axis, joined, label_of, point_of, q_axis, q_levels};
+ghost use Rattle.ht_map.specs.Gray.{i_axis, joined, label_of, point_of, q_axis, q_levels};
 
-use crate::axis::{
-    level_of_one, level_of_three, level_of_two, no_bits_of, one_bit_of, three_bits_of, two_bits_of,
-};
+use crate::axis::{bits_naming, level_of};
 use ht_pam::Point;
 use ht_rate::Modulation;
 
 /// The constellation point of a label (clause 20.3.11.9).
 ///
 /// `label` has N_BPSCS bits, the first one the most significant. In 64-QAM label 100000 is I = 7 and Q = -7.
-#[tactic(auto, unfolding(crate::specs::Gray::point_of, crate::specs::Gray::level_at))]
+#[tactic(auto, unfolding(crate::specs::Gray::point_of))]
 pub fn point(modulation: Modulation, label: u8) -> Point
     requires { label < 2 ^ bits_of modulation }
     ensures { result ≡ point_of modulation label }
 {
-    match modulation {
-        Modulation::Bpsk => Point {
-            i: level_of_one(label),
-            q: 0,
-        },
-        Modulation::Qpsk => Point {
-            i: level_of_one(label / 2),
-            q: level_of_one(label % 2),
-        },
-        Modulation::Qam16 => Point {
-            i: level_of_two(label / 4),
-            q: level_of_two(label % 4),
-        },
-        Modulation::Qam64 => Point {
-            i: level_of_three(label / 8),
-            q: level_of_three(label % 8),
-        },
+    let levels = q_levels_of(modulation);
+    Point {
+        i: level_of(label / levels, i_levels_of(modulation)),
+        q: level_of(label % levels, levels),
     }
 }
 
@@ -48,35 +34,38 @@ pub fn label(modulation: Modulation, point: Point) -> Option<u8>
         (label < 2 ^ bits_of modulation) × (point_of modulation label ≡ point)) }
     ensures off { IsNone result ↔ IsOff modulation point }
 {
-    let (i, q) = bits(modulation, point);
-    join(i, q, q_levels_of(modulation))
+    let levels = q_levels_of(modulation);
+    let i = bits_naming(point.i, i_levels_of(modulation));
+    let q = bits_naming(point.q, levels);
+    join(i, q, levels)
+}
+
+// The number of levels of I.
+#[tactic(auto, unfolding(crate::specs::Axes::axis_of))]
+fn i_levels_of(modulation: Modulation) -> u8
+    ensures value { result ≡ 2 ^ bits_of modulation / q_levels modulation }
+    ensures size { IsSize result }
+    ensures axis { axis_of result ≡ i_axis modulation }
+{
+    match modulation {
+        Modulation::Bpsk | Modulation::Qpsk => 2,
+        Modulation::Qam16 => 4,
+        Modulation::Qam64 => 8,
+    }
 }
 
 // The number of levels of Q.
+#[tactic(auto, unfolding(crate::specs::Axes::axis_of))]
 fn q_levels_of(modulation: Modulation) -> u8
     ensures value { result ≡ q_levels modulation }
-    ensures bound { result ≤ 8 }
+    ensures size { IsSize result }
+    ensures axis { axis_of result ≡ q_axis modulation }
 {
     match modulation {
         Modulation::Bpsk => 1,
         Modulation::Qpsk => 2,
         Modulation::Qam16 => 4,
         Modulation::Qam64 => 8,
-    }
-}
-
-// The bits that name I and those that name Q.
-fn bits(modulation: Modulation, point: Point) -> (Option<u8>, Option<u8>)
-    ensures i { result.0 ≡ bits_at (i_axis modulation) point.i }
-    ensures q { result.1 ≡ bits_at (q_axis modulation) point.q }
-    ensures i_bound { IfSome result.0 (λ bits. bits < 8) }
-    ensures q_bound { IfSome result.1 (λ bits. bits < 8) }
-{
-    match modulation {
-        Modulation::Bpsk => (one_bit_of(point.i), no_bits_of(point.q)),
-        Modulation::Qpsk => (one_bit_of(point.i), one_bit_of(point.q)),
-        Modulation::Qam16 => (two_bits_of(point.i), two_bits_of(point.q)),
-        Modulation::Qam64 => (three_bits_of(point.i), three_bits_of(point.q)),
     }
 }
 
