@@ -24,15 +24,14 @@ pub none_due : (due : List Headed) (job : JobView) → slice_get due 0 ≡ None 
 none_due [] job none some = none-some job some
 none_due (h ∷ hs) job none some = none-some h (sym none)
 
--- the job of the first one due
-pub first_headed : (due : List Headed) (h : Headed) (job : JobView) → slice_get due 0 ≡ Some h → slice_get (jobs_alone due) 0 ≡ Some job
-    → slice_get due 0 ≡ Some (headed_of h.head job)
-first_headed [] h job is some = absurd (none-some job some)
-first_headed (x ∷ xs) h job is some =
-    let same : x ≡ h = same_Some x h is in
+-- the first one due has this head and this job
+pub first_headed : (due : List Headed) (h : Headed) (head : FrameHead) (job : JobView) → slice_get due 0 ≡ Some h → head ≡ h.head
+    → slice_get (jobs_alone due) 0 ≡ Some job → slice_get due 0 ≡ Some (headed_of head job)
+first_headed [] h head job is at_head some = absurd (none-some job some)
+first_headed (x ∷ xs) h head job is at_head some =
+    let heads : x.head ≡ head = ap (λ (y : Headed). y.head) (same_Some x h is) ∙ sym at_head in
     let jobs : x.job ≡ job = same_Some x.job job some in
-    let at : FrameHead → JobView → Headed = λ head j. headed_of head j in
-    ap (λ (y : Headed). Some (at y.head x.job)) same ∙ ap (λ (j : JobView). Some (at h.head j)) jobs
+    ap (λ (i : FrameHead). Some (headed_of i x.job)) heads ∙ ap (λ (j : JobView). Some (headed_of head j)) jobs
 
 pub jobs_alone-drop : (due : List Headed) → jobs_alone (drop 1 due) ≡ drop 1 (jobs_alone due)
 jobs_alone-drop [] = refl

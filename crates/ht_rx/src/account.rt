@@ -5,11 +5,11 @@ ghost use Rattle.ht_results.specs.declared.headed.Headed.{Headed as HeadedValue}
 ghost use Rattle.ht_rx.specs.Accounts.{PutsOne, PutsPartOfOne};
 ghost use Rattle.ht_results.specs.Heads.{headed_of};
 
+use crate::due_job::DueJob;
 use crate::faults::FeedFault;
 use circular_buffer::HeapCircularBuffer;
 use ht_capture::FrameHead;
 use ht_metric::Hit;
-use ht_results::Headed;
 
 /// What becomes of the hits of a capture: pieces, such as lines of text, which an account puts into its device.
 ///
@@ -32,13 +32,14 @@ pub trait Account {
     /// What is kept back is of jobs in front of these, which are due; where none is due, nothing is kept back.
     ghost waits: { Self → List HeadedValue → Type 0 };
 
-    /// Takes the hit of the first job due, whose frame has this head. Behind a refusal nothing is said of the pieces
-    /// still to come, and nothing of the ones that were kept back.
+    /// Takes the hit of the first job due, whose frame has this head. In `due` are all jobs that are due, in order, this
+    /// one first, each as its place and the head of its frame. Behind a refusal nothing is said of the pieces still to
+    /// come, and nothing of the ones that were kept back.
     fn take(
         &mut self,
         head: &FrameHead,
         hit: &Hit,
-        due: &HeapCircularBuffer<Headed>,
+        due: &HeapCircularBuffer<DueJob>,
     ) -> Result<(), FeedFault>
         requires first { slice_get due.now.items 0 ≡ Some (headed_of head.now hit.now.job) }
 

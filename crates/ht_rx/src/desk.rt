@@ -14,6 +14,7 @@ ghost use Rattle.ht_rx.specs.Heads.{jobs_alone};
 ghost use Rattle.ht_rx.specs.Telling.{ReadsMore, Tells, TellsPart, seen_by};
 
 use crate::account::Account;
+use crate::due_job::DueJob;
 use crate::faults::FeedFault;
 use crate::headed::no_head;
 use crate::reading::next_job;
@@ -22,7 +23,6 @@ use circular_buffer::HeapCircularBuffer;
 use ht_capture::{FrameHead, Reader};
 use ht_io::Source;
 use ht_metric::{Hit, Job};
-use ht_results::Headed;
 use std::alloc::{AllocError, Global};
 use std::marker::Model;
 
@@ -40,7 +40,7 @@ pub struct Desk {
     // The number of frames that began.
     frames: u16,
     // The jobs given whose hits weren't taken yet, in order, each with the head of its frame.
-    due: HeapCircularBuffer<Headed>,
+    due: HeapCircularBuffer<DueJob>,
     // The number of jobs given.
     count: u64,
     // The number of calls that failed.
@@ -187,8 +187,7 @@ impl Desk {
         let Some(first) = self.due.get(0) else {
             unreachable!();
         };
-        let head = first.head;
-        match account.take(&head, &hit, &self.due) {
+        match account.take(first.head(), &hit, &self.due) {
             Ok(()) => {
                 let _ = self.due.pop_front();
                 Ok(())
@@ -202,14 +201,14 @@ impl Desk {
 }
 
 // Whether there is room for one more job that is due.
-fn has_room(due: &HeapCircularBuffer<Headed>) -> bool
+fn has_room(due: &HeapCircularBuffer<DueJob>) -> bool
     ensures { IsTrue result ↔ (length due.now.items < due.now.capacity) }
 {
     due.len() < due.capacity()
 }
 
 // Makes room for one more job that is due, of which there are fewer than may be.
-fn make_room(due: &mut HeapCircularBuffer<Headed>) -> Result<(), AllocError>
+fn make_room(due: &mut HeapCircularBuffer<DueJob>) -> Result<(), AllocError>
     requires { length due.old.items < 4096 }
     ensures items { due.new.items ≡ due.old.items }
     ensures room { OnOk result (length due.new.items < due.new.capacity) }
@@ -220,18 +219,12 @@ fn make_room(due: &mut HeapCircularBuffer<Headed>) -> Result<(), AllocError>
     due.resize(DUE)
 }
 
-// Keeps a job that is due behind the others, with the head of its frame. It is kept out of line, so that the job is copied
-// from where it stands.
-#[inline(never)]
-fn keep(due: &mut HeapCircularBuffer<Headed>, head: &FrameHead, job: &Job)
+// Keeps a job that is due behind the others, with the head of its frame.
+fn keep(due: &mut HeapCircularBuffer<DueJob>, head: &FrameHead, job: &Job)
     requires { length due.old.items < due.old.capacity }
     ensures { due.new ≡ buffer (due.old.items ++ headed_of head.now job.now ∷ []) due.old.capacity }
 {
-    let headed = Headed {
-        head: *head,
-        job: job.copy(),
-    };
-    let Ok(()) = due.try_push_back(headed) else {
+    let Ok(()) = due.try_push_back(DueJob::of(head, job)) else {
         unreachable!();
     };
 }

@@ -6,6 +6,7 @@ ghost use Rattle.ht_rx.specs.Gathering.{WaitForJobs, none_behind, results_behind
 use crate::account::Account;
 use crate::book::Book;
 use crate::decoding::Decoding;
+use crate::due_job::DueJob;
 use crate::faults::FeedFault;
 use crate::gathering::{decode, finish, gather};
 use crate::open_frame::OpenFrame;
@@ -13,7 +14,6 @@ use circular_buffer::HeapCircularBuffer;
 use ht_capture::FrameHead;
 use ht_inverse::Decoder;
 use ht_metric::Hit;
-use ht_results::Headed;
 use std::alloc::Global;
 use std::collections::VecDeque;
 use std::thread::Threads;
@@ -65,7 +65,7 @@ impl<'a, R: Threads, B: Book, D: Decoder> Account for Gatherer<'a, R, B, D> {
         &mut self,
         head: &FrameHead,
         hit: &Hit,
-        due: &HeapCircularBuffer<Headed>,
+        due: &HeapCircularBuffer<DueJob>,
     ) -> Result<(), FeedFault> {
         let room = room(self.beside, due.len());
         match gather(self.alloc, self.under_way, head, hit)? {

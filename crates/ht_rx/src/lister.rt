@@ -6,13 +6,13 @@ ghost use Rattle.ht_rx.specs.Listing.{LinesWait};
 ghost use Rattle.ht_rx.specs.Texts.{job_lines};
 
 use crate::account::Account;
+use crate::due_job::DueJob;
 use crate::faults::FeedFault;
 use crate::writing::write;
 use circular_buffer::HeapCircularBuffer;
 use ht_capture::FrameHead;
 use ht_io::Sink;
 use ht_metric::Hit;
-use ht_results::Headed;
 use std::alloc::{AllocError, Global};
 
 /// Room for the lines of a symbol: 114 lines of at most 105 octets.
@@ -59,7 +59,7 @@ impl<'a, K: Sink> Account for Lister<'a, K> {
         &mut self,
         _: &FrameHead,
         hit: &Hit,
-        due: &HeapCircularBuffer<Headed>,
+        due: &HeapCircularBuffer<DueJob>,
     ) -> Result<(), FeedFault> {
         write(self.text, hit, due, self.sink)
     }

@@ -6,13 +6,13 @@ ghost use Rattle.ht_results.specs.Folding.{results_from};
 
 use crate::account::Account;
 use crate::book::Book;
+use crate::due_job::DueJob;
 use crate::faults::FeedFault;
 use crate::open_frame::OpenFrame;
 use circular_buffer::HeapCircularBuffer;
 use ht_capture::FrameHead;
 use ht_inverse::Decoder;
 use ht_metric::Hit;
-use ht_results::Headed;
 use std::alloc::Global;
 
 /// Books the result of each frame in a book, once the hit of its last job was taken.
@@ -63,7 +63,7 @@ impl<'a, B: Book, D: Decoder> Account for Receiver<'a, B, D> {
         &mut self,
         head: &FrameHead,
         hit: &Hit,
-        _: &HeapCircularBuffer<Headed>,
+        _: &HeapCircularBuffer<DueJob>,
     ) -> Result<(), FeedFault> {
         self.under_way.enter(head)?;
         self.under_way.add(hit);

@@ -5,12 +5,12 @@ ghost use Rattle.ht_results.specs.declared.headed.Headed.{Headed as HeadedValue}
 ghost use Rattle.ht_rx.specs.Texts.{job_line_of};
 ghost use Rattle.ht_rx.specs.Listing.{WaitsOn};
 
+use crate::due_job::DueJob;
 use crate::faults::FeedFault;
 use crate::lines::push_line;
 use circular_buffer::HeapCircularBuffer;
 use ht_io::Sink;
 use ht_metric::{Hit, Place};
-use ht_results::Headed;
 
 // Puts the lines that wait.
 fn put<K: Sink>(text: &mut String, sink: &mut K) -> Result<(), FeedFault>
@@ -28,13 +28,13 @@ fn put<K: Sink>(text: &mut String, sink: &mut K) -> Result<(), FeedFault>
 }
 
 // Whether no job of the symbol at this place is due behind the first job.
-fn ends_symbol(due: &HeapCircularBuffer<Headed>, place: Place) -> bool
+fn ends_symbol(due: &HeapCircularBuffer<DueJob>, place: Place) -> bool
     ensures goes_on { result ≡ false → (next : HeadedValue) × (slice_get due.now.items 1 ≡ Some next)
         × (next.job.place.frame ≡ place.frame) × (next.job.place.symbol ≡ place.symbol) }
 {
     match due.get(1) {
-        Some(headed) => {
-            let next = headed.job.place();
+        Some(job) => {
+            let next = job.place();
             next.frame != place.frame || next.symbol != place.symbol
         }
         None => true,
@@ -45,7 +45,7 @@ fn ends_symbol(due: &HeapCircularBuffer<Headed>, place: Place) -> bool
 pub(crate) fn write<K: Sink>(
     text: &mut String,
     hit: &Hit,
-    due: &HeapCircularBuffer<Headed>,
+    due: &HeapCircularBuffer<DueJob>,
     sink: &mut K,
 ) -> Result<(), FeedFault>
     ensures lines { OnOk result ((put : List ℕ) × Grows (K.shown sink.old) (K.shown sink.new) put
