@@ -5,7 +5,8 @@ use Rattle.std.proofs.lemmas.List.{take_more, drop_more, drop-append-le, drop-ta
 use Rattle.std.proofs.lemmas.List.{length-take, length-take-le, length-drop, length-append, map-append}
 use Rattle.std.proofs.lemmas.List.{get_or-take}
 use Rattle.std.proofs.lemmas.Option.{slice_get_within, slice_get-get_or, get_or_from_slice_get}
-use Rattle.ht_metric.specs.Jobs.{JobView, Found, found_at}
+use Rattle.ht_metric.specs.Jobs.{JobView, found_at}
+use Rattle.ht_metric.specs.declared.found.Found.{Found}
 use Rattle.ht_metric.specs.declared.hit.Hit.{Hit}
 use Rattle.ht_metric.proofs.Finding.{near_is}
 use Rattle.ht_crew.specs.Feeds.{GivesJob, TakesHit}

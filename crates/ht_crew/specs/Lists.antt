@@ -2,7 +2,8 @@
 use Rattle.std.specs.Prelude.{◌≡◌, ℕ, ◌+◌, ◌-◌, ◌≤◌, List, [], ◌∷◌, ◌++◌, length, map, take}
 use Rattle.std.specs.Prelude.{drop, slice_get, Option, Some, None, Bool, true, false}
 use Rattle.ht_io.specs.Causes.{one_more}
-use Rattle.ht_metric.specs.Jobs.{JobView, Found, near}
+use Rattle.ht_metric.specs.Jobs.{JobView, near}
+use Rattle.ht_metric.specs.declared.found.Found.{Found}
 use Rattle.ht_metric.specs.declared.hit.Hit.{Hit}
 use Rattle.ht_crew.specs.Feeds.{FeedView}
 use Rattle.ht_crew.specs.declared.list_fault.ListFault.{ListFault}
