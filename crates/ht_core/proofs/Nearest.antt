@@ -1,7 +1,8 @@
 -- The emitted hits answer the first issued jobs.
 use Rattle.std.proofs.Common.{◌≡◌, ℕ, List, [], ◌∷◌, map, take, length, refl, sym, ap, ◌∙◌}
 use Rattle.ht_metric.specs.declared.hit.Hit.{Hit}
-use Rattle.ht_metric.specs.Jobs.{JobView, Found, near}
+use Rattle.ht_metric.specs.Jobs.{JobView, near}
+use Rattle.ht_metric.specs.declared.found.Found.{Found}
 use Rattle.ht_metric.proofs.Finding.{near_is}
 use Rattle.ht_core.specs.Machine.{CoreView}
 use Rattle.ht_core.specs.Facts.{IsCore, jobs_of, answer_of}

@@ -3,7 +3,8 @@ use Rattle.std.specs.Prelude.{◌≡◌, ◌+◌, ◌<◌, ◌≤◌, ◌==◌, 
 use Rattle.std.specs.List.{All, sum_by, count_by, flat_map}
 use Rattle.std.specs.Option.{option_to_list}
 use Rattle.ht_counts.specs.Counts.{SameCounts}
-use Rattle.ht_metric.specs.Jobs.{JobView, Found}
+use Rattle.ht_metric.specs.Jobs.{JobView}
+use Rattle.ht_metric.specs.declared.found.Found.{Found}
 use Rattle.ht_metric.specs.declared.hit.Hit.{Hit}
 use Rattle.ht_core.specs.declared.event.Event.{Event}
 use Rattle.ht_core.specs.declared.event.Event.TheVariants.{Issue, Push, Pop, Steal, Finish, Accept, Emit}

@@ -14,7 +14,10 @@ use Rattle.ht_pam.proofs.Tables.{levels_some}
 use Rattle.ht_metric.specs.Rows.{Row}
 use Rattle.ht_metric.specs.Distance.{distance_of}
 use Rattle.ht_metric.specs.Vectors.{before, is_in, points, vectors}
-use Rattle.ht_metric.specs.Jobs.{JobView, IsNear, Found, found_at, near}
+use Rattle.ht_metric.specs.Jobs.{JobView, IsNear, found_at, near}
+use Rattle.ht_metric.specs.declared.found.Found.{Found}
+use Rattle.ht_metric.specs.declared.hit.Hit.{Hit}
+use Rattle.ht_metric.specs.Hits.{found_of}
 use Rattle.ht_metric.specs.Trying.{ends_of}
 use Rattle.ht_metric.proofs.Order.{vector_order}
 use Rattle.ht_metric.proofs.Enumerating.{vectors_enumerate}
@@ -64,6 +67,12 @@ pub near_is : (job : JobView) (x : List Point) → IsNear job x → near job ≡
 near_is job x is =
     ap (λ (o : Option (List Point)). found_at job (unwrap_or o []))
     (bests.finds (is_in job.grid) (distance_of job.system) before (vector_order (is_in job.grid)) (vectors job.grid) x (vectors_enumerate job.grid) is)
+
+-- what a hit says was found
+pub found_near : (hit : Hit) → found_of hit ≡ near hit.job
+found_near hit =
+    let with_distance : ℕ → Found = λ d. record { vector = hit.vector; distance = d } in
+    ap with_distance hit.far ∙ sym (near_is hit.job hit.vector hit.near)
 
 answered : (job : JobView) (o : Option (List Point)) → IsGrid job.grid
     → first_nearest (distance_of job.system) before (vectors job.grid) ≡ o → IsNear job (unwrap_or o [])

@@ -11,7 +11,8 @@ use Rattle.ht_pam.specs.declared.point.Point.{Point}
 use Rattle.ht_metric.specs.declared.complex.Complex.{Complex}
 use Rattle.ht_metric.specs.Rows.{Row}
 use Rattle.ht_metric.specs.Distance.{combined, distance_of, residual, scaled, square, squared_length}
-use Rattle.ht_metric.specs.Jobs.{JobView, IsNear, Found, near}
+use Rattle.ht_metric.specs.Jobs.{JobView, IsNear, near}
+use Rattle.ht_metric.specs.declared.found.Found.{Found}
 use Rattle.ht_metric.specs.Noiseless.{IsNoiseless, IsRegular}
 use Rattle.ht_metric.specs.Vectors.{before, is_in}
 use Rattle.ht_metric.proofs.Order.{same_points, vector_order}

@@ -5,6 +5,7 @@ use Rattle.ht_pam.specs.Grids.{IsGrid}
 use Rattle.ht_pam.specs.declared.axes.Axes.{Axes}
 use Rattle.ht_pam.specs.declared.point.Point.{Point}
 use Rattle.ht_metric.specs.declared.place.Place.{Place}
+use Rattle.ht_metric.specs.declared.found.Found.{Found}
 use Rattle.ht_metric.specs.Rows.{Row}
 use Rattle.ht_metric.specs.Distance.{distance_of}
 use Rattle.ht_metric.specs.Vectors.{is_in, before, vectors}
@@ -25,11 +26,7 @@ pub record IsJob (job : JobView) : Type 0 where
 abbrev pub IsNear : JobView → List Point → Type 0
 IsNear job vector = IsFirstNearest (is_in job.grid) (distance_of job.system) before vector
 
--- a vector with its distance
-pub record Found : Type 0 where
-  pub vector : List Point
-  pub distance : ℕ
-
+-- a vector with its distance in the job's system
 abbrev pub found_at : JobView → List Point → Found
 found_at job vector = record { vector = vector; distance = distance_of job.system vector }
 

@@ -3,6 +3,7 @@ pub mod Distance
 pub mod Vectors
 pub mod Trying
 pub mod Jobs
+pub mod Hits
 pub mod Noiseless
 pub mod Arrays
 pub mod Shown

@@ -2,18 +2,18 @@
 use Rattle.std.specs.Prelude.{◌≡◌, ◌^◌, ◌<◌, List, ◌++◌, length, map, drop, Option, Some, None}
 use Rattle.ht_pam.specs.declared.axes.Axes.{Axes}
 use Rattle.ht_pam.specs.declared.point.Point.{Point}
-use Rattle.ht_metric.specs.declared.best.Best.{Best}
+use Rattle.ht_metric.specs.declared.found.Found.{Found}
 use Rattle.ht_metric.specs.Rows.{Row}
 use Rattle.ht_metric.specs.Distance.{distance_of}
 use Rattle.ht_metric.specs.Vectors.{points, choices}
 
 -- it has a point for each stream, and the distance is its own
-pub record IsMeasured (system : List Row) (best : Best) : Type 0 where
+pub record IsMeasured (system : List Row) (best : Found) : Type 0 where
   pub streams : length best.vector ≡ length system
   pub distance : best.distance ≡ distance_of system best.vector
   pub below : best.distance < 2 ^ 66
 
-abbrev pub vector_of : Option Best → Option (List Point)
+abbrev pub vector_of : Option Found → Option (List Point)
 vector_of None = None
 vector_of (Some best) = Some best.vector
 

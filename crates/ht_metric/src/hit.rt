@@ -1,8 +1,9 @@
 //! What a detector answers.
 ghost use Rattle.std.specs.Prelude.{◌≡◌, ◌^◌, ◌<◌};
 ghost use Rattle.ht_metric.specs.Distance.{distance_of};
-ghost use Rattle.ht_metric.specs.Jobs.{IsNear};
+ghost use Rattle.ht_metric.specs.Jobs.{IsNear, near};
 
+use crate::found::Found;
 use crate::job::Job;
 use crate::metric;
 use crate::vector::Vector;
@@ -37,11 +38,32 @@ impl Hit {
         }
     }
 
+    /// The hit of a job with what was found for it.
+    pub fn join(job: Job, found: Found) -> Hit
+        requires found { found ≡ near job }
+        ensures job { result.job ≡ job }
+        ensures vector { result.vector ≡ found.vector }
+        ensures distance { result.distance ≡ found.distance }
+    {
+        let _grid = job.grid();
+        Hit::of(job, found.vector, found.distance)
+    }
+
     /// The job that was run.
     pub fn job(&self) -> &Job
         ensures { result.now ≡ self.now.job }
     {
         &self.job
+    }
+
+    /// What was found for the job.
+    pub fn found(&self) -> Found
+        ensures { result ≡ near self.now.job }
+    {
+        Found {
+            vector: self.vector,
+            distance: self.distance,
+        }
     }
 
     /// The first nearest vector of the job's grid.

@@ -17,8 +17,8 @@
 //! was sent, at distance 0, where no diagonal is 0.
 #![tactic(auto)]
 
-mod best;
 mod complex;
+mod found;
 mod grid_points;
 mod hit;
 mod job;
@@ -34,6 +34,7 @@ mod triangle;
 mod vector;
 
 pub use complex::Complex;
+pub use found::Found;
 pub use hit::Hit;
 pub use job::Job;
 pub use metric::distance;

@@ -7,7 +7,7 @@ ghost use Rattle.ht_metric.specs.Vectors.{before};
 ghost use Rattle.ht_metric.specs.Jobs.{near};
 ghost use Rattle.ht_metric.specs.Trying.{IsMeasured, vector_of, ends_of};
 
-use crate::best::Best;
+use crate::found::Found;
 use crate::grid_points::points_of;
 use crate::hit::Hit;
 use crate::job::Job;
@@ -30,7 +30,7 @@ pub fn plain_nearest(job: &Job) -> Hit
 }
 
 // The best of the best so far and all vectors that begin with these points.
-fn try_ends(system: &System, grid: &Grid, front: Vector, best: Option<Best>) -> Option<Best>
+fn try_ends(system: &System, grid: &Grid, front: Vector, best: Option<Found>) -> Option<Found>
     requires streams { length grid.now ≡ length system.now }
     requires front { length front ≤ length grid.now }
     requires levels { All IsInRange front }
@@ -52,7 +52,7 @@ fn try_ends(system: &System, grid: &Grid, front: Vector, best: Option<Best>) -> 
 }
 
 // The better of the best so far and one more vector.
-fn better(system: &System, best: Option<Best>, vector: Vector) -> Best
+fn better(system: &System, best: Option<Found>, vector: Vector) -> Found
     requires streams { length vector ≡ length system.now }
     requires levels { All IsInRange vector }
     requires best { IfSome best (IsMeasured system.now) }
@@ -62,12 +62,12 @@ fn better(system: &System, best: Option<Best>, vector: Vector) -> Best
     let distance = distance(system, &vector);
     match best {
         Some(old) if !is_better(distance, &vector, &old) => old,
-        _ => Best { vector, distance },
+        _ => Found { vector, distance },
     }
 }
 
 // Whether a vector is nearer than another, or as near and before it.
-fn is_better(distance: u128, vector: &Vector, old: &Best) -> bool
+fn is_better(distance: u128, vector: &Vector, old: &Found) -> bool
     requires { length vector.now ≡ length old.now.vector }
     ensures { result ≡ (nat_lt distance old.now.distance || (not (nat_lt old.now.distance distance) && before vector.now old.now.vector)) }
 {

@@ -11,7 +11,8 @@ use Rattle.ht_rate.proofs.RateFacts.{carriers_of-range}
 use Rattle.ht_scramble.specs.Sequence.{IsSeed}
 use Rattle.ht_metric.specs.declared.sample.Sample.{Sample}
 use Rattle.ht_metric.specs.Distance.{received}
-use Rattle.ht_metric.specs.Jobs.{Found, JobView, near}
+use Rattle.ht_metric.specs.Jobs.{JobView, near}
+use Rattle.ht_metric.specs.declared.found.Found.{Found}
 use Rattle.ht_metric.specs.Rows.{Leg}
 use Rattle.ht_capture.specs.declared.frames.CaptureFrame.{CaptureFrame}
 use Rattle.ht_capture.specs.declared.places.Present.{Present}

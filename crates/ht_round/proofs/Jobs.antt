@@ -11,7 +11,8 @@ use Rattle.ht_metric.specs.declared.place.Place.{Place}
 use Rattle.ht_metric.specs.declared.sample.Sample.{Sample}
 use Rattle.ht_metric.specs.Arrays.{length-rows_of}
 use Rattle.ht_metric.specs.Distance.{received}
-use Rattle.ht_metric.specs.Jobs.{Found, JobView, near}
+use Rattle.ht_metric.specs.Jobs.{JobView, near}
+use Rattle.ht_metric.specs.declared.found.Found.{Found}
 use Rattle.ht_metric.specs.Rows.{Leg}
 use Rattle.ht_metric.specs.Vectors.{is_in}
 use Rattle.ht_metric.proofs.Noiseless.{noiseless_found}

@@ -18,7 +18,8 @@ use Rattle.ht_pam.specs.declared.point.Point.{Point}
 use Rattle.ht_map.specs.Gray.{label_of}
 use Rattle.ht_map.proofs.LabelFacts.{label_of-point_of}
 use Rattle.ht_metric.specs.declared.place.Place.{Place}
-use Rattle.ht_metric.specs.Jobs.{Found, JobView, near}
+use Rattle.ht_metric.specs.Jobs.{JobView, near}
+use Rattle.ht_metric.specs.declared.found.Found.{Found}
 use Rattle.ht_metric.specs.Vectors.{no_point}
 use Rattle.ht_capture.specs.declared.items.FrameHead.{FrameHead}
 use Rattle.ht_capture.specs.Files.{is_erased}

@@ -6,7 +6,8 @@ use Rattle.std.proofs.Math.ListN.{length-set}
 use Rattle.ht_pam.specs.declared.point.Point.{Point}
 use Rattle.ht_metric.specs.declared.place.Place.{Place}
 use Rattle.ht_metric.specs.Distance.{distance_of}
-use Rattle.ht_metric.specs.Jobs.{JobView, Found, IsNear, near}
+use Rattle.ht_metric.specs.Jobs.{JobView, IsNear, near}
+use Rattle.ht_metric.specs.declared.found.Found.{Found}
 use Rattle.ht_metric.proofs.Finding.{near_is}
 use Rattle.ht_text.specs.Lines.{job_text}
 use Rattle.ht_rx.specs.Texts.{job_line_of, levels_of}

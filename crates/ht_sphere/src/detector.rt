@@ -1,7 +1,6 @@
 //! The sphere detector.
 ghost use Rattle.std.specs.Prelude.{◌≡◌, ◌<◌, ◌≤◌, ◌+◌, ◌*◌, ◌^◌, [], length, unsigned_abs};
 ghost use Rattle.std.specs.List.{All};
-ghost use Rattle.ht_metric.specs.Distance.{distance_of};
 ghost use Rattle.ht_metric.specs.Jobs.{near, IsNear};
 ghost use Rattle.ht_sphere.specs.Coordinates.{from_last, points_from};
 ghost use Rattle.ht_sphere.specs.Tree.{rounding, inside, inside_of};
@@ -10,7 +9,7 @@ ghost use Rattle.ht_sphere.specs.Searching.{leaves, IsBestOf};
 use crate::round::round;
 use crate::search::search;
 use crate::vectors::vector_of;
-use ht_metric::{Hit, Job, Vector};
+use ht_metric::{Found, Hit, Job};
 use ht_pam::Steps;
 use std::sync::ledger::Ledger;
 
@@ -28,7 +27,7 @@ pub fn nearest<L: Ledger>(job: &Job, steps: &mut Steps<L>) -> Hit
 {
     let mut levels = [0i8; 8];
     let levels = &mut levels[..2 * usize::from(job.system().streams())];
-    let distance = find(job, levels, steps);
+    let distance = best_levels(job, levels, steps);
     let vector = vector_of(levels);
     Hit {
         job: job.copy(),
@@ -43,33 +42,23 @@ pub fn into_hit<L: Ledger>(job: Job, steps: &mut Steps<L>) -> Hit
     ensures near { near job ≡ record { vector = result.vector; distance = result.distance } }
     ensures steps { steps.new ≤ steps.old + 2 * inside_of job }
 {
-    let NearestFound { vector, distance } = answer(&job, steps);
-    Hit {
-        job,
-        vector,
-        distance,
-    }
+    let found = find(&job, steps);
+    Hit::join(job, found)
 }
 
-// What is found for a job.
-#[derive(Clone, Copy)]
-struct NearestFound {
-    vector: Vector,
-    distance: u128,
-}
-
-// The first nearest vector of a job, and its distance. It is kept out of line, so that the job stays where it is.
+/// The first nearest vector of a job and its distance, below 2^66, as [`nearest`] finds them, without the job.
+// It is kept out of line, so that the job stays where it is.
 #[inline(never)]
-fn answer<L: Ledger>(job: &Job, steps: &mut Steps<L>) -> NearestFound
+pub fn find<L: Ledger>(job: &Job, steps: &mut Steps<L>) -> Found
+    ensures found { result ≡ near job.now }
     ensures near { IsNear job.now result.vector }
-    ensures distance { result.distance ≡ distance_of job.now.system result.vector }
     ensures bound { result.distance < 2 ^ 66 }
     ensures steps { steps.new ≤ steps.old + 2 * inside_of job.now }
 {
     let mut levels = [0i8; 8];
     let levels = &mut levels[..2 * usize::from(job.system().streams())];
-    let distance = find(job, levels, steps);
-    NearestFound {
+    let distance = best_levels(job, levels, steps);
+    Found {
         vector: vector_of(levels),
         distance,
     }
@@ -78,7 +67,7 @@ fn answer<L: Ledger>(job: &Job, steps: &mut Steps<L>) -> NearestFound
 // The levels of the best vector, and its distance. Successive rounding comes first, and ends the search where no other
 // vector can be as near. Each caller has a copy of it, without a call.
 #[inline(always)]
-fn find<L: Ledger>(job: &Job, levels: &mut [i8], steps: &mut Steps<L>) -> u128
+fn best_levels<L: Ledger>(job: &Job, levels: &mut [i8], steps: &mut Steps<L>) -> u128
     requires room { length levels.old ≡ 2 * length job.now.system }
     requires levels { All (λ x. unsigned_abs x ≤ 7) levels.old }
     ensures room { length levels.new ≡ length levels.old }

@@ -22,4 +22,4 @@ mod search;
 mod tests;
 mod vectors;
 
-pub use detector::{into_hit, nearest};
+pub use detector::{find, into_hit, nearest};

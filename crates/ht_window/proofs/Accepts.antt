@@ -3,8 +3,8 @@ use Rattle.std.proofs.Common.{◌≡◌, ◌≢◌, ◌↔◌, ℕ, suc, ◌-◌
 use Rattle.std.proofs.Common.{false, refl, sym, ap, ◌∙◌, subst, arith}
 use Rattle.std.proofs.lemmas.Bool.{false≢true}
 use Rattle.std.specs.Prelude.{slice_get, slice_set, Option, Some, None, is_some}
-use Rattle.ht_metric.specs.Jobs.{JobView}
-use Rattle.ht_metric.specs.declared.hit.Hit.{Hit}
+use Rattle.ht_metric.specs.Jobs.{JobView, near}
+use Rattle.ht_metric.specs.declared.found.Found.{Found}
 use Rattle.ht_window.specs.declared.slot.Slot.{Slot}
 use Rattle.ht_window.specs.Windows.{WindowView, IsWindow, unbooked, booked, jobs, first_unbooked, job_without}
 use Rattle.std.proofs.lemmas.Option.{none-some, same_Some}
@@ -31,11 +31,13 @@ unbooked_where w at job A ok is cases = (
 )
 
 pub booked_where : (w : WindowView) (at : ℕ) (job : JobView) (A : Type 0) → IsWindow w → at ≡ job.number - w.front
-    → (A ↔ ((other : Hit) × (slice_get w.slots at ≡ Some (record { job = job; hit = Some other })))) → A ↔ IsBooked w job
+    → (A ↔ ((other : Found) × (slice_get w.slots at ≡ Some (record { job = job; found = Some other })))) → A ↔ IsBooked w job
 booked_where w at job A ok is cases = (
-  λ a. let p = cases.0 a in (at, p.0, p.1),
-  λ p. let s : Slot = record { job = job; hit = Some p.1 } in
-      cases.1 (p.1, subst (λ (k : ℕ). slice_get w.slots k ≡ Some s) (at_number w p.0 at s job ok is p.2 refl) p.2),
+  λ a. let p = cases.0 a in
+      let with_found : Found → Slot = λ f. record { job = job; found = Some f } in
+      (at, p.1 ∙ ap (λ (f : Found). Some (with_found f)) (ok.own at (with_found p.0) p.0 p.1 refl)),
+  λ p. cases.1
+      (near job, subst (λ (k : ℕ). slice_get w.slots k ≡ Some (booked job)) (at_number w p.0 at (booked job) job ok is p.1 refl) p.1),
 )
 
 pub strange_where : (w : WindowView) (at : ℕ) (job : JobView) (A : Type 0) → IsWindow w → at ≡ job.number - w.front
@@ -45,32 +47,32 @@ strange_where w at job A ok is cases = (
   λ all. cases.1 (λ s e same. all at s e same),
 )
 
--- a slot with a hit
-has_hit_of : (slots : List Slot) (at : ℕ) (s : Slot) (hit : Option Hit) (job : JobView)
-    → slice_get slots at ≡ Some s → s.job ≡ job → s.hit ≡ hit → is_some hit ≡ true
-    → (other : Hit) × (slice_get slots at ≡ Some (record { job = job; hit = Some other }))
-has_hit_of slots at s None job e same is some = absurd (false≢true some)
-has_hit_of slots at s (Some other) job e same is some =
-    let with_job : Slot → JobView → Slot = λ t j. record { job = j; hit = t.hit } in
-    let with_hit : Option Hit → Slot = λ h. record { job = job; hit = h } in
-    (other, e ∙ ap (λ (j : JobView). Some (with_job s j)) same ∙ ap (λ (h : Option Hit). Some (with_hit h)) is)
+-- a slot that doesn't wait
+has_found_of : (slots : List Slot) (at : ℕ) (s : Slot) (found : Option Found) (job : JobView)
+    → slice_get slots at ≡ Some s → s.job ≡ job → s.found ≡ found → is_some found ≡ true
+    → (other : Found) × (slice_get slots at ≡ Some (record { job = job; found = Some other }))
+has_found_of slots at s None job e same is some = absurd (false≢true some)
+has_found_of slots at s (Some other) job e same is some =
+    let with_job : Slot → JobView → Slot = λ t j. record { job = j; found = t.found } in
+    let with_found : Option Found → Slot = λ f. record { job = job; found = f } in
+    (other, e ∙ ap (λ (j : JobView). Some (with_job s j)) same ∙ ap (λ (f : Option Found). Some (with_found f)) is)
 
-pub has_hit : (slots : List Slot) (at : ℕ) (s : Slot) (job : JobView) → slice_get slots at ≡ Some s → s.job ≡ job → is_some s.hit ≡ true
-    → (other : Hit) × (slice_get slots at ≡ Some (record { job = job; hit = Some other }))
-has_hit slots at s job e same some = has_hit_of slots at s s.hit job e same refl some
+pub has_found : (slots : List Slot) (at : ℕ) (s : Slot) (job : JobView) → slice_get slots at ≡ Some s → s.job ≡ job → is_some s.found ≡ true
+    → (other : Found) × (slice_get slots at ≡ Some (record { job = job; found = Some other }))
+has_found slots at s job e same some = has_found_of slots at s s.found job e same refl some
 
--- the first job without a hit stands in a slot
-first_unbooked_from : (s : Slot) (rest : List Slot) (job : JobView) (hit : Option Hit) → s.hit ≡ hit
-    → (first_unbooked rest ≡ Some job → (k : ℕ) × (slice_get rest k ≡ Some (unbooked job))) → job_without hit s.job (first_unbooked rest) ≡ Some job
+-- the first job that waits stands in a slot
+first_unbooked_from : (s : Slot) (rest : List Slot) (job : JobView) (found : Option Found) → s.found ≡ found
+    → (first_unbooked rest ≡ Some job → (k : ℕ) × (slice_get rest k ≡ Some (unbooked job))) → job_without found s.job (first_unbooked rest) ≡ Some job
     → (k : ℕ) × (slice_get (s ∷ rest) k ≡ Some (unbooked job))
 first_unbooked_from s rest job None is later e =
-    let with_hit : Option Hit → Slot = λ h. record { job = s.job; hit = h } in
-    (0, ap (λ (h : Option Hit). Some (with_hit h)) is ∙ ap (λ (j : JobView). Some (unbooked j)) (same_Some s.job job e))
-first_unbooked_from s rest job (Some hit) is later e = let p = later e in (suc p.0, p.1)
+    let with_found : Option Found → Slot = λ f. record { job = s.job; found = f } in
+    (0, ap (λ (f : Option Found). Some (with_found f)) is ∙ ap (λ (j : JobView). Some (unbooked j)) (same_Some s.job job e))
+first_unbooked_from s rest job (Some found) is later e = let p = later e in (suc p.0, p.1)
 
 pub first_unbooked_where : (slots : List Slot) (job : JobView) → first_unbooked slots ≡ Some job → (k : ℕ) × (slice_get slots k ≡ Some (unbooked job))
 first_unbooked_where [] job e = absurd (none-some job e)
-first_unbooked_where (s ∷ rest) job e = first_unbooked_from s rest job s.hit refl (first_unbooked_where rest job) e
+first_unbooked_where (s ∷ rest) job e = first_unbooked_from s rest job s.found refl (first_unbooked_where rest job) e
 
 abbrev is_it : Accepted → Bool
 is_it Booked = true
@@ -78,24 +80,24 @@ is_it Twice = false
 is_it Stranger = false
 
 -- what the three answers leave is a window, and has the same jobs
-pub kept : (front at : ℕ) (old new : Buffer Slot) (hit : Hit) (answer : Accepted)
+pub kept : (front at : ℕ) (old new : Buffer Slot) (job : JobView) (answer : Accepted)
     → IsWindow (record { capacity = old.capacity; front = front; slots = old.items })
-    → (answer ≡ Booked → slice_get old.items at ≡ Some (unbooked hit.job))
-    → (answer ≡ Booked → new ≡ buffer (slice_set old.items at (booked hit)) old.capacity) → (answer ≢ Booked → new ≡ old)
+    → (answer ≡ Booked → slice_get old.items at ≡ Some (unbooked job))
+    → (answer ≡ Booked → new ≡ buffer (slice_set old.items at (booked job)) old.capacity) → (answer ≢ Booked → new ≡ old)
     → IsWindow (record { capacity = new.capacity; front = front; slots = new.items }) × (jobs new.items ≡ jobs old.items)
-kept front at old new hit Booked w is books refused =
+kept front at old new job Booked w is books refused =
     let e = books refl in
     let here = is refl in (
       subst (λ (b : Buffer Slot). IsWindow (record { capacity = b.capacity; front = front; slots = b.items }))
-          (sym e) (accepted old.capacity front at old.items hit w here),
-      ap (λ (b : Buffer Slot). jobs b.items) e ∙ jobs_put old.items at (unbooked hit.job) (booked hit) here refl,
+          (sym e) (accepted old.capacity front at old.items job w here),
+      ap (λ (b : Buffer Slot). jobs b.items) e ∙ jobs_put old.items at (unbooked job) (booked job) here refl,
     )
-kept front at old new hit Twice w is books refused =
+kept front at old new job Twice w is books refused =
     let e = refused (λ q. false≢true (ap is_it q)) in (
       subst (λ (b : Buffer Slot). IsWindow (record { capacity = b.capacity; front = front; slots = b.items })) (sym e) w,
       ap (λ (b : Buffer Slot). jobs b.items) e,
     )
-kept front at old new hit Stranger w is books refused =
+kept front at old new job Stranger w is books refused =
     let e = refused (λ q. false≢true (ap is_it q)) in (
       subst (λ (b : Buffer Slot). IsWindow (record { capacity = b.capacity; front = front; slots = b.items })) (sym e) w,
       ap (λ (b : Buffer Slot). jobs b.items) e,

@@ -5,8 +5,8 @@ use Rattle.std.proofs.lemmas.List.{length-append}
 use Rattle.std.proofs.lemmas.Option.{none-some, same_Some}
 use Rattle.std.specs.Prelude.{slice_get, slice_set, Some}
 use Rattle.circular_buffer.specs.Buffer.{keep_last}
-use Rattle.ht_metric.specs.Jobs.{JobView}
-use Rattle.ht_metric.specs.declared.hit.Hit.{Hit}
+use Rattle.ht_metric.specs.Jobs.{JobView, near}
+use Rattle.ht_metric.specs.declared.found.Found.{Found}
 use Rattle.ht_window.specs.declared.slot.Slot.{Slot}
 use Rattle.ht_window.specs.Windows.{IsWindow, unbooked, booked, jobs}
 
@@ -58,8 +58,8 @@ issued capacity front slots job w room next last = record {
   room = omega (arith, room, length-append slots (unbooked job ∷ []));
   last = omega (arith, next, last, length-append slots (unbooked job ∷ []));
   numbered = λ k s e. slice_get-more slots (unbooked job) k s (λ i t. t.job.number ≡ front + i) w.numbered next e;
-  own = λ k s hit e h. slice_get-more slots (unbooked job) k s (λ i t. (other : Hit) → t.hit ≡ Some other → other.job ≡ t.job)
-      (λ i t p other q. w.own i t other p q) (λ other q. absurd (none-some other q)) e hit h;
+  own = λ k s found e f. slice_get-more slots (unbooked job) k s (λ i t. (other : Found) → t.found ≡ Some other → other ≡ near t.job)
+      (λ i t p other q. w.own i t other p q) (λ other q. absurd (none-some other q)) e found f;
 }
 
 -- the first slot is out
@@ -72,21 +72,21 @@ emitted capacity front (x ∷ xs) w some = record {
   room = let room = w.room in omega (arith, room);
   last = let last = w.last in omega (arith, last);
   numbered = λ k s e. let is = w.numbered (suc k) s e in omega (arith, is);
-  own = λ k s hit e h. w.own (suc k) s hit e h;
+  own = λ k s found e f. w.own (suc k) s found e f;
 }
 
--- a hit is in the slot of its job
-pub accepted : (capacity front at : ℕ) (slots : List Slot) (hit : Hit) → IsWindow (record { capacity = capacity; front = front; slots = slots })
-    → slice_get slots at ≡ Some (unbooked hit.job)
-    → IsWindow (record { capacity = capacity; front = front; slots = slice_set slots at (booked hit) })
-accepted capacity front at slots hit w is = record {
+-- what was found is in the slot of its job
+pub accepted : (capacity front at : ℕ) (slots : List Slot) (job : JobView) → IsWindow (record { capacity = capacity; front = front; slots = slots })
+    → slice_get slots at ≡ Some (unbooked job)
+    → IsWindow (record { capacity = capacity; front = front; slots = slice_set slots at (booked job) })
+accepted capacity front at slots job w is = record {
   some = w.some;
   few = w.few;
-  room = let room = w.room in omega (arith, room, length_put slots at (booked hit));
-  last = let last = w.last in omega (arith, last, length_put slots at (booked hit));
-  numbered = λ k s e. slice_get-put slots at (booked hit) k s (λ i t. t.job.number ≡ front + i) w.numbered (w.numbered at (unbooked hit.job) is) e;
-  own = λ k s other e h. slice_get-put slots at (booked hit) k s (λ i t. (h : Hit) → t.hit ≡ Some h → h.job ≡ t.job)
-      (λ i t p h q. w.own i t h p q) (λ h q. ap (λ (x : Hit). x.job) (sym (same_Some hit h q))) e other h;
+  room = let room = w.room in omega (arith, room, length_put slots at (booked job));
+  last = let last = w.last in omega (arith, last, length_put slots at (booked job));
+  numbered = λ k s e. slice_get-put slots at (booked job) k s (λ i t. t.job.number ≡ front + i) w.numbered (w.numbered at (unbooked job) is) e;
+  own = λ k s found e f. slice_get-put slots at (booked job) k s (λ i t. (other : Found) → t.found ≡ Some other → other ≡ near t.job)
+      (λ i t p other q. w.own i t other p q) (λ other q. sym (same_Some (near job) other q)) e found f;
 }
 
 pub keep_all : (n : ℕ) (xs : List Slot) → length xs ≤ n → keep_last n xs ≡ xs

@@ -1,10 +1,10 @@
 //! What a window keeps of a job.
 
-use ht_metric::{Hit, Job};
+use ht_metric::{Found, Job};
 
-/// A job that was issued, with its hit once that has come.
+/// A job that was issued, with what was found for it once that has come.
 #[derive(Debug, Drop)]
 pub struct Slot {
     pub job: Job,
-    pub hit: Option<Hit>,
+    pub found: Option<Found>,
 }

@@ -1,31 +1,33 @@
 //! The window.
 ghost use Rattle.std.specs.Prelude.{◌≡◌, ◌≢◌, ◌↔◌, ◌+◌, ◌-◌, ◌^◌, ◌<◌, ◌≤◌, [], ◌∷◌};
 ghost use Rattle.std.specs.Prelude.{◌++◌, length, drop, slice_get, slice_set};
-ghost use Rattle.std.specs.Prelude.{Some, None, IfOk, IfSome, IfNone, nat_lt};
+ghost use Rattle.std.specs.Prelude.{Some, None, IfOk, IfSome, IfNone, nat_lt, option_map};
 ghost use Rattle.circular_buffer.specs.Buffer.{buffer};
-ghost use Rattle.ht_metric.specs.declared.hit.Hit.{Hit as HitValue};
+ghost use Rattle.ht_metric.specs.declared.found.Found.{Found as FoundValue};
+ghost use Rattle.ht_metric.specs.Hits.{parts_of};
+ghost use Rattle.ht_metric.specs.Jobs.{near};
 ghost use Rattle.ht_window.specs.declared.slot.Slot.{Slot as SlotValue};
 ghost use Rattle.ht_window.specs.Windows.{unbooked, booked, jobs, front_hit, first_unbooked, IsWindow};
 ghost use Rattle.ht_window.specs.Accepting.{IsUnbooked, IsBooked, IsStrange, Books};
 
 use crate::slot::Slot;
 use circular_buffer::HeapCircularBuffer;
-use ht_metric::{Hit, Job};
+use ht_metric::{Found, Hit, Job};
 use std::alloc::{AllocError, Global};
 use std::marker::Model;
 
-/// What a window did with a hit.
+/// What a window did with what was found for a job.
 #[derive(Clone, Copy, Debug, PartialEq, Eq)]
 pub enum Accepted {
-    /// The hit is now in the slot of its job.
+    /// It is now in the slot of its job.
     Booked,
-    /// The slot of its job had a hit before.
+    /// The slot of its job was booked before.
     Twice,
     /// No slot holds its job.
     Stranger,
 }
 
-/// The jobs that were issued and whose hits were not yet given out, in order, with those hits that have come.
+/// The jobs that were issued and whose hits were not yet given out, in order, with what was found for them so far.
 ///
 /// There are at most as many slots as the capacity. The jobs are numbered from the front on, one after another.
 #[derive(Drop)]
@@ -67,7 +69,7 @@ impl Window {
         !self.slots.is_full()
     }
 
-    /// Issues a job: it gets a new last slot, without a hit. There is room, and the job's number is the next one, below
+    /// Issues a job: it gets a new last slot, which waits for its answer. There is room, and the job's number is the next one, below
     /// 2^64 - 1.
     pub fn issue(&mut self, job: Job)
         requires room { length self.old.slots < self.old.capacity }
@@ -79,36 +81,38 @@ impl Window {
           slots = self.old.slots ++ unbooked job ∷ [];
         } }
     {
-        self.slots.push_back(Slot { job, hit: None });
+        self.slots.push_back(Slot { job, found: None });
     }
 
-    /// Puts a hit into the slot of its job, if a slot holds that very job and has no hit yet. Else nothing changes and
-    /// the hit is dropped: `Twice` where the slot of its job has a hit, `Stranger` where no slot holds its job, as
-    /// where a slot holds another job of the same number.
-    pub fn accept(&mut self, hit: Hit) -> Accepted
+    /// Puts what was found for a job into its slot, if a slot holds that very job and waits. Else nothing changes:
+    /// `Twice` where the slot of the job was booked before, `Stranger` where no slot holds the job, as where a slot
+    /// holds another job of the same number.
+    pub fn accept(&mut self, job: &Job, found: Found) -> Accepted
+        requires found { found ≡ near job.now }
+
         // When each answer comes.
-        ensures booked { result ≡ Accepted.Booked ↔ IsUnbooked self.old hit.job }
-        ensures twice { result ≡ Accepted.Twice ↔ IsBooked self.old hit.job }
-        ensures stranger { result ≡ Accepted.Stranger ↔ IsStrange self.old hit.job }
+        ensures booked { result ≡ Accepted.Booked ↔ IsUnbooked self.old job.now }
+        ensures twice { result ≡ Accepted.Twice ↔ IsBooked self.old job.now }
+        ensures stranger { result ≡ Accepted.Stranger ↔ IsStrange self.old job.now }
 
         // What it leaves.
-        ensures books { result ≡ Accepted.Booked → Books self.old hit self.new }
+        ensures books { result ≡ Accepted.Booked → Books self.old job.now self.new }
         ensures refused { result ≢ Accepted.Booked → self.new ≡ self.old }
         ensures jobs { jobs self.new.slots ≡ jobs self.old.slots }
         ensures window { IsWindow self.new }
     {
-        let number = hit.job().number();
+        let number = job.number();
         if number < self.front {
             return Accepted::Stranger;
         }
-        book(&mut self.slots, number - self.front, hit)
+        book(&mut self.slots, number - self.front, job, found)
     }
 
-    /// Takes out the first slot and gives its hit, so that the front's number rises by one. `None` where there is
-    /// no slot or the first one has no hit; nothing changes then.
+    /// Takes out the first slot and gives the hit of its job, so that the front's number rises by one. `None` where
+    /// there is no slot or the first one waits; nothing changes then.
     #[must_use]
     pub fn emit(&mut self) -> Option<Hit>
-        ensures hit { result ≡ front_hit self.old.slots }
+        ensures hit { option_map parts_of result ≡ front_hit self.old.slots }
         ensures emitted { IfSome result (λ _. self.new ≡ record {
           capacity = self.old.capacity;
           front = self.old.front + 1;
@@ -118,12 +122,10 @@ impl Window {
         ensures job { IfSome result (λ hit. jobs self.old.slots ≡ hit.job ∷ jobs self.new.slots) }
         ensures window { IsWindow self.new }
     {
-        if self.slots.front()?.hit.is_none() {
-            return None;
-        }
+        let found = self.slots.front()?.found?;
         let slot = self.slots.pop_front()?;
         self.front += 1;
-        slot.hit
+        Some(Hit::join(slot.job, found))
     }
 
     /// Counts jobs that were run elsewhere, with no slot of theirs: the number of the front rises by `count`, to less than
@@ -140,7 +142,7 @@ impl Window {
         self.front += count;
     }
 
-    /// A copy of the first job without a hit. `None` where each slot has its hit, or where there is no slot.
+    /// A copy of the first job that waits for its answer. `None` where no slot waits, or where there is none.
     #[must_use]
     pub fn first_unbooked(&self) -> Option<Job>
         ensures first { result ≡ first_unbooked self.now.slots }
@@ -148,7 +150,7 @@ impl Window {
         ensures window { IsWindow self.now }
     {
         for slot in self.slots.iter() {
-            if slot.hit.is_none() {
+            if slot.found.is_none() {
                 return Some(slot.job.copy());
             }
         }
@@ -156,23 +158,24 @@ impl Window {
     }
 }
 
-/// Puts a hit into slot `at`, if it is there, holds the hit's job and has no hit yet.
-fn book(slots: &mut HeapCircularBuffer<Slot>, at: u64, hit: Hit) -> Accepted
-    ensures booked { result ≡ Accepted.Booked ↔ (slice_get slots.old.items at ≡ Some (unbooked hit.job)) }
-    ensures twice { result ≡ Accepted.Twice ↔ ((other : HitValue) × (slice_get slots.old.items at ≡ Some (record { job = hit.job; hit = Some other }))) }
-    ensures stranger { result ≡ Accepted.Stranger ↔ ((s : SlotValue) → slice_get slots.old.items at ≡ Some s → s.job ≢ hit.job) }
-    ensures books { result ≡ Accepted.Booked → slots.new ≡ buffer (slice_set slots.old.items at (booked hit)) slots.old.capacity }
+/// Puts what was found for a job into slot `at`, if that is there, holds the job and waits.
+fn book(slots: &mut HeapCircularBuffer<Slot>, at: u64, job: &Job, found: Found) -> Accepted
+    requires found { found ≡ near job.now }
+    ensures booked { result ≡ Accepted.Booked ↔ (slice_get slots.old.items at ≡ Some (unbooked job.now)) }
+    ensures twice { result ≡ Accepted.Twice ↔ ((other : FoundValue) × (slice_get slots.old.items at ≡ Some (record { job = job.now; found = Some other }))) }
+    ensures stranger { result ≡ Accepted.Stranger ↔ ((s : SlotValue) → slice_get slots.old.items at ≡ Some s → s.job ≢ job.now) }
+    ensures books { result ≡ Accepted.Booked → slots.new ≡ buffer (slice_set slots.old.items at (booked job.now)) slots.old.capacity }
     ensures refused { result ≢ Accepted.Booked → slots.new ≡ slots.old }
 {
     let Some(slot) = slots.get_mut(at as usize) else {
         return Accepted::Stranger;
     };
-    if !slot.job.same(hit.job()) {
+    if !slot.job.same(job) {
         return Accepted::Stranger;
     }
-    if slot.hit.is_some() {
+    if slot.found.is_some() {
         return Accepted::Twice;
     }
-    slot.hit = Some(hit);
+    slot.found = Some(found);
     Accepted::Booked
 }

@@ -1,5 +1,5 @@
 use Rattle.std.proofs.Common.{ap, sym, ◌∙◌}
-use Rattle.ht_metric.specs.Jobs.{Found}
+use Rattle.ht_metric.specs.declared.found.Found.{Found}
 use Rattle.ht_metric.proofs.Finding.{near_is}
 use Rattle.ht_rx.proofs.open_frame.nearest.Goals as goal
 

@@ -1,54 +1,21 @@
-use Rattle.std.proofs.Common.{◌≡◌, [], ◌+◌, ◌*◌, ◌≤◌, ℤ, List, length, drop, arith, ap, sym, subst}
-use Rattle.ht_sphere.specs.Coordinates.{Real, from_last, down}
-use Rattle.ht_sphere.specs.Tree.{Reached, rounding, inside}
-use Rattle.ht_sphere.specs.Searching.{leaves, IsBestOf}
-use Rattle.ht_sphere.proofs.Down.{down_system, none_left, found_all}
-use Rattle.ht_sphere.proofs.Others.{OthersFrom, alone, inside_some}
+use Rattle.std.proofs.Common.{refl, ◌∙◌, sym}
+use Rattle.ht_metric.proofs.Finding.{near_is, found_same}
+use Rattle.ht_sphere.specs.Coordinates.{from_last}
+use Rattle.ht_sphere.proofs.Finding.{answered}
 use Rattle.ht_sphere.proofs.detector.find.Goals as goal
 
-pub returns-then-distance-others-clause-best : goal.returns-then-distance-others-clause-best
-returns-then-distance-others-clause-best g c =
-    let rows = c.args.job.now.system in
-    let grid = c.args.job.now.grid in
-    let k = c.streams.result in
-    let w : Reached = (c.round.new.levels, c.round.new.distance) in
-    let all = down_system c.args.job.now c.system.result.now k c.system.ensures.job c.system.ensures.system c.streams.ensures.number in
-    let none = none_left c.args.levels.now k (omega (arith, c.requires.room, c.streams.ensures.number, ap length c.system.ensures.system)) in
-    let found : rounding (from_last rows grid) [] 0 ≡ w =
-    found_all (down rows grid k) (from_last rows grid) (drop (2 * k) c.args.levels.now) w all none c.round.ensures.found in
-    let others : OthersFrom (from_last rows grid) [] 0 w c.round.new.others =
-    subst (λ (cs : List Real). OthersFrom cs [] 0 w c.round.new.others) all
-    (subst (λ (s : List ℤ). OthersFrom (down rows grid k) s 0 w c.round.new.others) none c.round.ensures.others) in
-    subst (λ (f : Reached). IsBestOf f (leaves (from_last rows grid) [] 0) w) (sym found)
-    (alone (from_last rows grid) [] 0 c.round.new.others w others c.if-distance-others.true)
+pub returns-clause-found : goal.returns-clause-found
+returns-clause-found g c =
+    let job = c.args.job.now in
+    let x = c.vector_of.result in
+    let d = c.best_levels-distance.result in
+    let a = answered job (from_last job.system job.grid) c.best_levels-distance.new.levels d
+    x c.system.ensures.job refl c.best_levels-distance.ensures.best c.vector_of.ensures in
+    sym (near_is job x a.0 ∙ found_same job x x d d job.system refl refl a.1 refl)
 
-pub returns-then-distance-others-clause-steps : goal.returns-then-distance-others-clause-steps
-returns-then-distance-others-clause-steps g c =
-    let cs = from_last c.args.job.now.system c.args.job.now.grid in
-    let some = inside_some (rounding cs [] 0).1 cs in
-    omega (arith, some)
-
-pub returns-clause-best : goal.returns-clause-best
-returns-clause-best g c =
-    let rows = c.args.job.now.system in
-    let grid = c.args.job.now.grid in
-    let k = c.streams.result in
-    let w : Reached = (c.round.new.levels, c.round.new.distance) in
-    let all = down_system c.args.job.now c.system.result.now k c.system.ensures.job c.system.ensures.system c.streams.ensures.number in
-    let none = none_left c.args.levels.now k (omega (arith, c.requires.room, c.streams.ensures.number, ap length c.system.ensures.system)) in
-    let found : rounding (from_last rows grid) [] 0 ≡ w =
-    found_all (down rows grid k) (from_last rows grid) (drop (2 * k) c.args.levels.now) w all none c.round.ensures.found in
-    subst (λ (f : Reached). IsBestOf f (leaves (from_last rows grid) [] 0) (c.better.new.best, c.better.result)) (sym found) c.better.ensures.best
-
-pub returns-clause-steps : goal.returns-clause-steps
-returns-clause-steps g c =
-    let rows = c.args.job.now.system in
-    let grid = c.args.job.now.grid in
-    let cs = from_last rows grid in
-    let k = c.streams.result in
-    let w : Reached = (c.round.new.levels, c.round.new.distance) in
-    let all = down_system c.args.job.now c.system.result.now k c.system.ensures.job c.system.ensures.system c.streams.ensures.number in
-    let none = none_left c.args.levels.now k (omega (arith, c.requires.room, c.streams.ensures.number, ap length c.system.ensures.system)) in
-    let found : rounding (from_last rows grid) [] 0 ≡ w =
-    found_all (down rows grid k) (from_last rows grid) (drop (2 * k) c.args.levels.now) w all none c.round.ensures.found in
-    subst (λ (f : Reached). c.better.new.steps + 1 ≤ c.args.steps.now + 2 * inside f.1 cs [] 0) (sym found) c.better.ensures.steps
+pub returns-clause-near : goal.returns-clause-near
+returns-clause-near g c =
+    let job = c.args.job.now in
+    let a = answered job (from_last job.system job.grid) c.best_levels-distance.new.levels c.best_levels-distance.result
+    c.vector_of.result c.system.ensures.job refl c.best_levels-distance.ensures.best c.vector_of.ensures in
+    a.0
