@@ -5,11 +5,9 @@ use Rattle.ht_metric.specs.declared.hit.Hit.{Hit}
 use Rattle.ht_window.specs.Windows.{WindowView, IsWindow, jobs}
 use Rattle.ht_window.specs.Accepting.{IsUnbooked, Books}
 use Rattle.ht_window.specs.declared.slot.Slot.{Slot}
-use Rattle.ht_crew.specs.Accounts.{HasBooked, BooksHits}
-use Rattle.ht_crew.specs.Lots.{lot_of}
+use Rattle.ht_crew.specs.Accounts.{HasBooked}
 use Rattle.ht_crew.specs.declared.tally.Tally.{Tally}
 use Rattle.ht_crew.specs.Driving.{waiting}
-use Rattle.ht_crew.proofs.Answering.{as_many}
 use Rattle.ht_crew.proofs.Running.{waiting_booked}
 use Rattle.ht_crew.proofs.Delivering.{length-jobs}
 
@@ -62,18 +60,4 @@ books_more t0 t w0 w w' seen booked was has = record {
   front_is = has.front_is ∙ was.front_is;
   jobs_are = has.jobs_are ∙ was.jobs_are;
   slots_are = has.slots_are ∙ was.slots_are;
-}
-
--- all hits of these jobs were booked or refused
-pub books_all : (hits : List Hit) (jobs : List JobView) (t0 t : Tally) (w0 w : WindowView) (seen : ℕ) → Booking t0 w0 seen t w
-    → seen ≡ length jobs → lot_of hits ≡ jobs → BooksHits hits t0 w0 t w
-books_all hits jobs t0 t w0 w seen was all are = record {
-  issued = was.issued;
-  own = was.own;
-  booked = was.booked;
-  few = omega (arith, was.few, all, as_many hits jobs are);
-  capacity_is = was.capacity_is;
-  front_is = was.front_is;
-  jobs_are = was.jobs_are;
-  slots_are = was.slots_are;
 }

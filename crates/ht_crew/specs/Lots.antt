@@ -31,13 +31,17 @@ hit_of job has = record {
 }
 
 -- each of these jobs has a hit
-abbrev pub HaveHits : List JobView → Type 0
-HaveHits jobs = (k : ℕ) (job : JobView) → slice_get jobs k ≡ Some job → HasHit job
+pub record HaveHits (jobs : List JobView) : Type 0 where
+  pub each : (k : ℕ) (job : JobView) → slice_get jobs k ≡ Some job → HasHit job
+
+-- so each but the first has
+abbrev pub rest_have : (job : JobView) (jobs : List JobView) → HaveHits (job ∷ jobs) → HaveHits jobs
+rest_have job jobs have = record { each = λ k later at. have.each (suc k) later at }
 
 -- their hits, in order
 abbrev pub each_hit : (jobs : List JobView) → HaveHits jobs → List Hit
 each_hit [] have = []
-each_hit (job ∷ jobs) have = hit_of job (have zero job refl) ∷ each_hit jobs (λ k later at. have (suc k) later at)
+each_hit (job ∷ jobs) have = hit_of job (have.each zero job refl) ∷ each_hit jobs (rest_have job jobs have)
 
 -- all members of all lots, in order
 abbrev pub flat : {A : Type 0} → List (List A) → List A
