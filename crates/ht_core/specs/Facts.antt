@@ -1,10 +1,9 @@
 -- What holds of the machine after every legal list of events.
 use Rattle.std.specs.Prelude.{◌≡◌, ◌+◌, ◌<◌, ◌≤◌, ◌==◌, ℕ, List, ◌++◌, length, map, take, slice_get, IfSome, Some, Bool, true, false}
-use Rattle.std.specs.List.{All, sum_by, count_by, flat_map}
+use Rattle.std.specs.List.{All, count_by, flat_map}
 use Rattle.std.specs.Option.{option_to_list}
 use Rattle.ht_counts.specs.Counts.{SameCounts}
 use Rattle.ht_metric.specs.Jobs.{JobView}
-use Rattle.ht_metric.specs.declared.found.Found.{Found}
 use Rattle.ht_metric.specs.declared.hit.Hit.{Hit}
 use Rattle.ht_core.specs.declared.event.Event.{Event}
 use Rattle.ht_core.specs.declared.event.Event.TheVariants.{Issue, Push, Pop, Steal, Finish, Accept, Emit}
@@ -14,10 +13,6 @@ use Rattle.ht_core.specs.Machine.{CoreView, IsEnabled, hand, deque}
 
 abbrev pub jobs_of : List Hit → List JobView
 jobs_of hits = map (λ hit. hit.job) hits
-
--- what a hit answers
-abbrev pub answer_of : Hit → Found
-answer_of hit = record { vector = hit.vector; distance = hit.distance }
 
 -- the jobs in all places
 abbrev pub places : CoreView → List JobView

@@ -2,9 +2,10 @@
 ghost use Rattle.std.specs.Prelude.{◌≡◌, ◌≢◌, ◌<◌, ◌≤◌, ℕ, List, length, map, take};
 ghost use Rattle.ht_core.specs.declared.event.Event.{Event as EventValue};
 ghost use Rattle.ht_core.specs.declared.event.Spot.{Spot as SpotValue};
+ghost use Rattle.ht_metric.specs.Hits.{found_of};
 ghost use Rattle.ht_metric.specs.Jobs.{near};
 ghost use Rattle.ht_core.specs.Machine.{CoreView, run, empty, IsLegal};
-ghost use Rattle.ht_core.specs.Facts.{IsCore, CanGoOn, answer_of, jobs_at, numbered};
+ghost use Rattle.ht_core.specs.Facts.{IsCore, CanGoOn, jobs_at, numbered};
 
 /// What holds after every list of events, begun with the empty core, of which each is enabled in its turn.
 pub fn after_legal_events()
@@ -20,7 +21,7 @@ pub fn after_legal_events()
 
 /// The emitted hits have the first nearest vectors of the first issued jobs, in order.
 pub fn emitted_are_near()
-    ensures { (c : CoreView) → IsCore c → map answer_of c.emitted ≡ map near (take (length c.emitted) c.issued) }
+    ensures { (c : CoreView) → IsCore c → map found_of c.emitted ≡ map near (take (length c.emitted) c.issued) }
 {}
 
 /// A place that has a job of some number has it once, the number is issued, and no other place has it.

@@ -4,17 +4,20 @@ use Rattle.std.proofs.Common.{drop, take, map, Bool, true, false, refl, sym, ap,
 use Rattle.std.proofs.lemmas.List.{length-append, length-drop, length-take}
 use Rattle.std.proofs.lemmas.Option.{slice_get_within}
 use Rattle.std.proofs.lemmas.Bool.{false≢true}
-use Rattle.std.specs.Prelude.{slice_get, slice_set, Option, Some, None, is_some, IfSome}
+use Rattle.std.specs.Prelude.{slice_get, slice_set, Option, Some, None, is_some, option_map, IfSome}
 use Rattle.std.specs.Option.{option_to_list}
 use Rattle.std.specs.List.{sum_by}
-use Rattle.ht_metric.specs.Jobs.{JobView}
+use Rattle.ht_metric.specs.Jobs.{JobView, near}
+use Rattle.ht_metric.specs.Hits.{found_of, parts_of}
+use Rattle.ht_metric.specs.declared.found.Found.{Found}
 use Rattle.ht_metric.specs.declared.hit.Hit.{Hit}
+use Rattle.ht_metric.proofs.Finding.{found_near}
 use Rattle.ht_core.specs.declared.event.Event.TheVariants.{Issue, Emit}
 use Rattle.ht_core.specs.declared.event.Spot.{Spot}
 use Rattle.ht_core.specs.declared.event.Spot.TheVariants.{Hand, Deque, Results, Booked, Emitted}
 use Rattle.ht_core.specs.Machine.{CoreView, IsEnabled, hit_of, without}
 use Rattle.ht_core.specs.Facts.{IsCore, IsIssued, jobs_of, numbered, jobs_at}
-use Rattle.std.proofs.lemmas.Option.{same_Some}
+use Rattle.std.proofs.lemmas.Option.{none-some, same_Some}
 use Rattle.ht_core.proofs.Lists.{some_is, found_number, all_hit_of}
 use Rattle.ht_core.proofs.Numbers.{one_of, IsFrom, present, hit_counts}
 use Rattle.ht_core.proofs.Kept.{emitted_few}
@@ -50,6 +53,13 @@ own_hit c w k j hit at e =
     let same : hit.job.number ≡ length c.emitted + k = found_number j.number c.booked hit e ∙ number in
     same_Some hit.job j (sym issued ∙ ap (λ (i : ℕ). slice_get c.issued i) same ∙ there)
 
+-- what is in the slot of a job is the first nearest vector of the job
+own_found : (c : CoreView) → IsCore c → (k : ℕ) (j : JobView) (found : Found) (o : Option Hit)
+    → slice_get (left c) k ≡ Some j → hit_of j.number c.booked ≡ o → option_map found_of o ≡ Some found → found ≡ near j
+own_found c w k j found None at is e = absurd (none-some found e)
+own_found c w k j found (Some hit) at is e =
+    sym (same_Some (found_of hit) found e) ∙ found_near hit ∙ ap (λ (job : JobView). near job) (own_hit c w k j hit at is)
+
 pub window_is : (c : CoreView) → IsCore c → length c.issued < 2 ^ 64 → IsWindow (window_of c)
 window_is c w few =
     let before = emitted_few c w in
@@ -64,9 +74,10 @@ window_is c w few =
       numbered = λ k s e. (
           let p = slot_at c.booked (left c) k s e in
           ap (λ (t : Slot). t.job.number) p.2 ∙ left_from c w k p.0 p.1);
-      own = λ k s hit e h. (
+      own = λ k s found e f. (
           let p = slot_at c.booked (left c) k s e in
-          own_hit c w k p.0 hit p.1 (ap (λ (t : Slot). t.hit) (sym p.2) ∙ h) ∙ ap (λ (t : Slot). t.job) (sym p.2));
+          own_found c w k p.0 found (hit_of p.0.number c.booked) p.1 refl (ap (λ (t : Slot). t.found) (sym p.2) ∙ f)
+          ∙ ap (λ (t : Slot). near t.job) (sym p.2));
     }
 
 slots_long : (c : CoreView) → length (window_of c).slots ≡ length c.issued - length c.emitted
@@ -89,7 +100,7 @@ pub issue_shown : (c : CoreView) (job : JobView) → IsCore c → IsEnabled c (I
     → map (slot_of c.booked) (drop (length c.emitted) (c.issued ++ job ∷ [])) ≡ map (slot_of c.booked) (left c) ++ unbooked job ∷ []
 issue_shown c job w on =
     let number = on.2 in
-    let with_hit : Option Hit → Slot = λ o. record { job = job; hit = o } in
+    let with_hit : Option Hit → Slot = λ o. record { job = job; found = option_map found_of o } in
     let none = not_booked_from c w job.number (hit_of job.number c.booked) refl (omega (arith, number)) in
     ap (λ (js : List JobView). map (slot_of c.booked) js) (drop_more (length c.emitted) c.issued job (emitted_few c w))
     ∙ slots_append c.booked (left c) (job ∷ [])
@@ -145,7 +156,7 @@ waits c n hit w e =
 pub accept_unbooked : (c : CoreView) (n : ℕ) (hit : Hit) → IsCore c → hit_of n c.results ≡ Some hit → IsUnbooked (window_of c) hit.job
 accept_unbooked c n hit w e =
     let p = waits c n hit w e in
-    let slot : Option Hit → Slot = λ o. record { job = hit.job; hit = o } in (
+    let slot : Option Hit → Slot = λ o. record { job = hit.job; found = option_map found_of o } in (
       n - length c.emitted,
       slot_there c.booked (left c) (n - length c.emitted) hit.job p.there
           ∙ ap (λ (i : ℕ). Some (slot (hit_of i c.booked))) p.number ∙ ap (λ (o : Option Hit). Some (slot o)) p.none,
@@ -153,7 +164,7 @@ accept_unbooked c n hit w e =
 
 pub accept_shown : (c : CoreView) (n : ℕ) (hit : Hit) → IsCore c → hit_of n c.results ≡ Some hit
     → map (slot_of (c.booked ++ option_to_list (hit_of n c.results))) (left c)
-    ≡ slice_set (map (slot_of c.booked) (left c)) (hit.job.number - length c.emitted) (booked hit)
+    ≡ slice_set (map (slot_of c.booked) (left c)) (hit.job.number - length c.emitted) (booked hit.job)
 accept_shown c n hit w e =
     let p = waits c n hit w e in
     let number = p.number in
@@ -164,19 +175,34 @@ accept_shown c n hit w e =
     ∙ slots_booked (length c.emitted) (hit.job.number - length c.emitted) (left c) c.booked hit (left_from c w) (omega (arith, number, behind)) there
     (ap (λ (i : ℕ). hit_of i c.booked) number ∙ p.none)
 
+-- what the hit of the first job says is that job and what was found for it
+own_parts : (c : CoreView) → IsCore c → (j : JobView) (o : Option Hit) → slice_get (left c) 0 ≡ Some j → hit_of j.number c.booked ≡ o
+    → option_map parts_of o ≡ option_map (λ found. (j, found)) (option_map found_of o)
+own_parts c w j None first is = refl
+own_parts c w j (Some hit) first is =
+    let with_job : JobView → Option (JobView × Found) = λ job. Some (job, found_of hit) in
+    ap with_job (own_hit c w 0 j hit first is)
+
 -- the first slot is that of the lowest number that isn't emitted
-front_from : (c : CoreView) → IsCore c → (jobs : List JobView) → left c ≡ jobs → hit_of (length c.emitted) c.booked ≡ front_hit (map (slot_of c.booked) jobs)
+front_from : (c : CoreView) → IsCore c → (jobs : List JobView) → left c ≡ jobs
+    → option_map parts_of (hit_of (length c.emitted) c.booked) ≡ front_hit (map (slot_of c.booked) jobs)
 front_from c w [] e =
     let rest = length-drop (length c.emitted) c.issued in
     let none : length (left c) ≡ 0 = ap (λ (js : List JobView). length js) e in
-    not_booked_from c w (length c.emitted) (hit_of (length c.emitted) c.booked) refl (omega (arith, rest, none))
+    ap (λ (o : Option Hit). option_map parts_of o)
+    (not_booked_from c w (length c.emitted) (hit_of (length c.emitted) c.booked) refl (omega (arith, rest, none)))
 front_from c w (j ∷ jobs) e =
-    let is = left_from c w 0 j (ap (λ (js : List JobView). slice_get js 0) e) in
+    let first : slice_get (left c) 0 ≡ Some j = ap (λ (js : List JobView). slice_get js 0) e in
+    let is = left_from c w 0 j first in
     let number : length c.emitted ≡ j.number = omega (arith, is) in
-    ap (λ (i : ℕ). hit_of i c.booked) number
+    ap (λ (i : ℕ). option_map parts_of (hit_of i c.booked)) number ∙ own_parts c w j (hit_of j.number c.booked) first refl
 
-pub front_is : (c : CoreView) → IsCore c → hit_of (length c.emitted) c.booked ≡ front_hit (window_of c).slots
+pub front_is : (c : CoreView) → IsCore c → option_map parts_of (hit_of (length c.emitted) c.booked) ≡ front_hit (window_of c).slots
 front_is c w = front_from c w (left c) refl
+
+pub some_parts : (o : Option Hit) → is_some (option_map parts_of o) ≡ is_some o
+some_parts None = refl
+some_parts (Some hit) = refl
 
 drop_slots : (n : ℕ) (hits : List Hit) (jobs : List JobView) → map (slot_of hits) (drop (suc n) jobs) ≡ drop 1 (map (slot_of hits) (drop n jobs))
 drop_slots zero hits [] = refl

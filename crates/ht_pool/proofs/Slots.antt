@@ -1,9 +1,12 @@
 -- Slots of jobs, as hits are booked and emitted.
 use Rattle.std.proofs.Common.{◌≡◌, ◌≢◌, ℕ, zero, suc, ◌+◌, ◌<◌, ◌≤◌, List, [], ◌∷◌, ◌++◌, length, drop, map, Bool, true, false, cond, refl, sym, ap, ◌∙◌, arith}
 use Rattle.std.proofs.lemmas.Bool.{false≢true}
-use Rattle.std.specs.Prelude.{slice_get, slice_set, Option, Some, None}
+use Rattle.std.specs.Prelude.{slice_get, slice_set, Option, Some, None, option_map}
 use Rattle.ht_metric.specs.Jobs.{JobView}
+use Rattle.ht_metric.specs.Hits.{found_of}
+use Rattle.ht_metric.specs.declared.found.Found.{Found}
 use Rattle.ht_metric.specs.declared.hit.Hit.{Hit}
+use Rattle.ht_metric.proofs.Finding.{found_near}
 use Rattle.ht_core.specs.Machine.{has_number, hit_of, without}
 use Rattle.std.proofs.lemmas.Option.{none-some, same_Some}
 use Rattle.ht_core.proofs.Numbers.{IsFrom}
@@ -56,7 +59,7 @@ pub slots_more : (off n : ℕ) (jobs : List JobView) (hits : List Hit) (hit : Hi
     → map (slot_of (hits ++ hit ∷ [])) jobs ≡ map (slot_of hits) jobs
 slots_more off n [] hits hit from lt same = refl
 slots_more off n (j ∷ jobs) hits hit from lt same =
-    let with_hit : Option Hit → Slot = λ o. record { job = j; hit = o } in
+    let with_hit : Option Hit → Slot = λ o. record { job = j; found = option_map found_of o } in
     let is = from 0 j refl in
     let other : hit.job.number ≢ j.number = omega (arith, is, lt, same) in
     let next : IsFrom (suc off) jobs = λ k i e. (let at = from (suc k) i e in omega (arith, at)) in
@@ -66,29 +69,31 @@ slots_more off n (j ∷ jobs) hits hit from lt same =
 pub slots_less : (off n : ℕ) (jobs : List JobView) (hits : List Hit) → IsFrom off jobs → n < off → map (slot_of (without n hits)) jobs ≡ map (slot_of hits) jobs
 slots_less off n [] hits from lt = refl
 slots_less off n (j ∷ jobs) hits from lt =
-    let with_hit : Option Hit → Slot = λ o. record { job = j; hit = o } in
+    let with_hit : Option Hit → Slot = λ o. record { job = j; found = option_map found_of o } in
     let is = from 0 j refl in
     let other : j.number ≢ n = omega (arith, is, lt) in
     let next : IsFrom (suc off) jobs = λ k i e. (let at = from (suc k) i e in omega (arith, at)) in
     ap (λ (s : Slot). s ∷ map (slot_of (without n hits)) jobs) (ap with_hit (hit_of_less j.number n hits other))
     ∙ ap (λ (ss : List Slot). slot_of hits j ∷ ss) (slots_less (suc off) n jobs hits next (omega (arith, lt)))
 
--- a hit that is booked stands in the slot of its job
+-- what a booked hit says was found stands in the slot of its job
 pub slots_booked : (off d : ℕ) (jobs : List JobView) (hits : List Hit) (hit : Hit)
     → IsFrom off jobs → hit.job.number ≡ off + d → slice_get jobs d ≡ Some hit.job
     → hit_of hit.job.number hits ≡ None
-    → map (slot_of (hits ++ hit ∷ [])) jobs ≡ slice_set (map (slot_of hits) jobs) d (booked hit)
+    → map (slot_of (hits ++ hit ∷ [])) jobs ≡ slice_set (map (slot_of hits) jobs) d (booked hit.job)
 slots_booked off d [] hits hit from is here none = refl
 slots_booked off zero (j ∷ jobs) hits hit from is here none =
     let same : j ≡ hit.job = same_Some j hit.job here in
-    let slot : JobView → Option Hit → Slot = λ i o. record { job = i; hit = o } in
-    let now : slot_of (hits ++ hit ∷ []) j ≡ booked hit =
-    ap (λ (i : JobView). slot_of (hits ++ hit ∷ []) i) same ∙ ap (λ (o : Option Hit). slot hit.job o) (hit_of_new hit.job.number hits hit refl none) in
+    let slot : Option Found → Slot = λ f. record { job = hit.job; found = f } in
+    let now : slot_of (hits ++ hit ∷ []) j ≡ booked hit.job =
+    ap (λ (i : JobView). slot_of (hits ++ hit ∷ []) i) same
+    ∙ ap (λ (o : Option Hit). slot (option_map found_of o)) (hit_of_new hit.job.number hits hit refl none)
+    ∙ ap (λ (f : Found). slot (Some f)) (found_near hit) in
     let next : IsFrom (suc off) jobs = λ k i e. (let at = from (suc k) i e in omega (arith, at)) in
     ap (λ (s : Slot). s ∷ map (slot_of (hits ++ hit ∷ [])) jobs) now
-    ∙ ap (λ (ss : List Slot). booked hit ∷ ss) (slots_more (suc off) hit.job.number jobs hits hit next (omega (arith, is)) refl)
+    ∙ ap (λ (ss : List Slot). booked hit.job ∷ ss) (slots_more (suc off) hit.job.number jobs hits hit next (omega (arith, is)) refl)
 slots_booked off (suc d) (j ∷ jobs) hits hit from is here none =
-    let with_hit : Option Hit → Slot = λ o. record { job = j; hit = o } in
+    let with_hit : Option Hit → Slot = λ o. record { job = j; found = option_map found_of o } in
     let at = from 0 j refl in
     let other : hit.job.number ≢ j.number = omega (arith, is, at) in
     let next : IsFrom (suc off) jobs = λ k i e. (let at = from (suc k) i e in omega (arith, at)) in

@@ -1,4 +1,4 @@
-//! Windows of two and three slots, as hits come in other orders than their jobs, with strangers between.
+//! Windows of two and three slots, as answers come in other orders than their jobs, with strangers between.
 ghost use Rattle.std.specs.Prelude.{◌≡◌};
 
 use crate::{Accepted, Window};
@@ -18,8 +18,10 @@ fn job(number: u64, re: i32) -> Job
     Job::new(number, Place::default(), grid, System::new(triangle, y))
 }
 
-fn hit(number: u64, re: i32) -> Hit {
-    plain_nearest(&job(number, re))
+// What the window says to the answer to such a job.
+fn accept(window: &mut Window, number: u64, re: i32) -> Accepted {
+    let hit = plain_nearest(&job(number, re));
+    window.accept(hit.job(), hit.found())
 }
 
 fn number_of(hit: Option<Hit>) -> Option<u64> {
@@ -35,7 +37,7 @@ fn in_order(rt: HostRuntime) -> Result<(), Fail> {
     window.issue(job(7, 3));
     assert!(rt; !window.has_room());
 
-    // The hits as they come: the number, the sample, what the window says, and the first job it still waits for.
+    // The answers as they come: the number, the sample, what the window says, and the first job it still waits for.
     let cases = [
         (8, 3, Accepted::Stranger, Some(5)),
         (6, 4, Accepted::Stranger, Some(5)),
@@ -47,7 +49,7 @@ fn in_order(rt: HostRuntime) -> Result<(), Fail> {
     ];
     for (number, re, accepted, left) in cases {
         assert_eq!(rt;
-            window.accept(hit(number, re)),
+            accept(&mut window, number, re),
             accepted,
             "{number} of {re}"
         );
@@ -72,14 +74,14 @@ fn two_slots(rt: HostRuntime) -> Result<(), Fail> {
     window.issue(job(1, 3));
     assert!(rt; !window.has_room());
 
-    assert_eq!(rt; window.accept(hit(1, 3)), Accepted::Booked);
+    assert_eq!(rt; accept(&mut window, 1, 3), Accepted::Booked);
     assert!(rt; window.emit().is_none());
-    assert_eq!(rt; window.accept(hit(1, 3)), Accepted::Twice);
-    assert_eq!(rt; window.accept(hit(0, 4)), Accepted::Stranger);
+    assert_eq!(rt; accept(&mut window, 1, 3), Accepted::Twice);
+    assert_eq!(rt; accept(&mut window, 0, 4), Accepted::Stranger);
     let first = window.first_unbooked().map(|job| job.number());
     assert_eq!(rt; first, Some(0));
 
-    assert_eq!(rt; window.accept(hit(0, 3)), Accepted::Booked);
+    assert_eq!(rt; accept(&mut window, 0, 3), Accepted::Booked);
     for number in [Some(0), Some(1), None] {
         assert_eq!(rt; number_of(window.emit()), number);
     }
@@ -91,7 +93,7 @@ fn without_slots(rt: HostRuntime) -> Result<(), Fail> {
     let mut window = Window::new(rt.alloc(), 1, 7)?;
     window.pass(2);
     window.issue(job(9, 3));
-    assert_eq!(rt; window.accept(hit(9, 3)), Accepted::Booked);
+    assert_eq!(rt; accept(&mut window, 9, 3), Accepted::Booked);
     assert_eq!(rt; number_of(window.emit()), Some(9));
     Ok(())
 }

@@ -1,18 +1,21 @@
-use Rattle.std.proofs.Common.{◌≡◌, ◌+◌, ◌++◌, ◌∙◌, ℕ, List, drop, map, ap, sym, subst, arith, true}
+use Rattle.std.proofs.Common.{◌≡◌, ◌+◌, ◌++◌, ◌∙◌, ℕ, List, drop, map, ap, sym, arith}
 use Rattle.std.specs.Prelude.{length, Option, is_some}
 use Rattle.std.specs.Option.{option_to_list}
-use Rattle.ht_metric.specs.declared.hit.Hit.{Hit}
+use Rattle.ht_metric.specs.Jobs.{JobView}
+use Rattle.ht_metric.specs.declared.found.Found.{Found}
 use Rattle.ht_core.specs.Machine.{hit_of, without}
 use Rattle.ht_window.specs.declared.slot.Slot.{Slot}
-use Rattle.ht_window.specs.Windows.{WindowView}
-use Rattle.ht_pool.specs.Shown.{slot_of}
-use Rattle.ht_pool.proofs.Shows.{front_is, emit_long, emit_shown}
+use Rattle.ht_window.specs.Windows.{WindowView, front_hit}
+use Rattle.ht_pool.specs.Shown.{slot_of, window_of}
+use Rattle.ht_pool.proofs.Shows.{front_is, some_parts, emit_long, emit_shown}
 use Rattle.ht_pool.proofs.laws.emit.Goals as goal
 
 pub returns-clause-enabled : goal.returns-clause-enabled
 returns-clause-enabled c = λ core w.
-    let e = front_is core w in
-    (λ on. subst (λ (o : Option Hit). is_some o ≡ true) e on, λ some. subst (λ (o : Option Hit). is_some o ≡ true) (sym e) some)
+    let hit = hit_of (length core.emitted) core.booked in
+    let e : is_some hit ≡ is_some (front_hit (window_of core).slots) =
+    sym (some_parts hit) ∙ ap (λ (o : Option (JobView × Found)). is_some o) (front_is core w) in
+    (λ on. sym e ∙ on, λ some. e ∙ some)
 
 pub returns-clause-hit : goal.returns-clause-hit
 returns-clause-hit c = front_is
