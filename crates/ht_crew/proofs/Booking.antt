@@ -1,7 +1,6 @@
 -- What becomes of a window where a hit is booked.
 use Rattle.std.proofs.Common.{◌≡◌, ℕ, List, length, ◌+◌, ◌≤◌, Bool, if◌then◌else◌, true, false, ap, ◌∙◌, sym, refl, arith, subst}
 use Rattle.ht_metric.specs.Jobs.{JobView}
-use Rattle.ht_metric.specs.declared.hit.Hit.{Hit}
 use Rattle.ht_window.specs.Windows.{WindowView, IsWindow, jobs}
 use Rattle.ht_window.specs.Accepting.{IsUnbooked, Books}
 use Rattle.ht_window.specs.declared.slot.Slot.{Slot}

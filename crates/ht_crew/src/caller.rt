@@ -1,10 +1,10 @@
 //! The caller's part of a drive.
 ghost use Rattle.std.specs.Prelude.{◌≡◌, ◌<◌, ◌≤◌, length, List, None, IfErr, OnOk};
+ghost use Rattle.ht_metric.specs.Jobs.{JobView, near};
 ghost use Rattle.ht_window.specs.Windows.{front_hit};
 ghost use Rattle.ht_crew.specs.Feeds.{GivesAsBefore};
 ghost use Rattle.ht_crew.specs.Driving.{CallFailed, Holds, IsAlong, waiting};
 ghost use Rattle.ht_crew.specs.Lots.{HasHit};
-ghost use Rattle.ht_metric.specs.Jobs.{JobView, near};
 
 use crate::feed::Feed;
 use crate::gate::Gate;

@@ -32,13 +32,7 @@ pub(crate) fn book(window: &mut Window, job: &Job, found: Found) -> bool
 }
 
 // Books what was found for those of the jobs that wait for it.
-fn book_all(
-    window: &mut Window,
-    tally: &mut Tally,
-    pace: &mut Pace,
-    jobs: &[Job],
-    found: &[Found],
-)
+fn book_all(window: &mut Window, tally: &mut Tally, pace: &mut Pace, jobs: &[Job], found: &[Found])
     requires few { tally.old.booked + waiting window.old.slots < 2 ^ 64 }
     requires found { found.now ≡ map near jobs.now }
     ensures books { (hits : List HitValue) → lot_of hits ≡ jobs.now → BooksHits hits tally.old window.old tally.new window.new }

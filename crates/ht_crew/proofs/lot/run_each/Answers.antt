@@ -1,6 +1,5 @@
-use Rattle.std.proofs.Common.{◌≡◌, ◌∙◌, ◌<◌, ◌++◌, ◌∷◌, [], List, length, slice_get, Some, ap, refl, rules}
+use Rattle.std.proofs.Common.{◌≡◌, ◌∙◌, ◌<◌, length, slice_get, Some, refl, rules}
 use Rattle.std.proofs.lemmas.Option.{slice_get_read}
-use Rattle.ht_metric.specs.declared.found.Found.{Found}
 use Rattle.ht_crew.proofs.Answering.{have_next, near_next}
 use Rattle.ht_crew.proofs.lot.run_each.Goals as goal
 
