@@ -1,8 +1,10 @@
 -- A window whose first hits go to the feed.
 use Rattle.std.proofs.Common.{◌≡◌, ℕ, ◌+◌, ◌-◌, ◌≤◌, List, [], ◌∷◌, length, take, drop}
-use Rattle.std.proofs.Common.{Option, Some, ap, ◌∙◌, sym, arith, rules}
+use Rattle.std.proofs.Common.{Option, Some, None, option_map, ap, ◌∙◌, sym, refl, arith, rules}
 use Rattle.std.proofs.lemmas.List.{length-map, length-drop, length-take-le, drop-map, drop-drop}
 use Rattle.ht_metric.specs.Jobs.{JobView}
+use Rattle.ht_metric.specs.Hits.{parts_of}
+use Rattle.ht_metric.specs.declared.found.Found.{Found}
 use Rattle.ht_metric.specs.declared.hit.Hit.{Hit}
 use Rattle.ht_window.specs.Windows.{WindowView, jobs, front_hit}
 use Rattle.ht_window.specs.declared.slot.Slot.{Slot}
@@ -13,10 +15,16 @@ use Rattle.ht_crew.specs.Driving.{Holds, IsAlong, one_without, waiting}
 abbrev pub emitted : WindowView → WindowView
 emitted window = record { capacity = window.capacity; front = window.front + 1; slots = drop 1 window.slots }
 
+-- a job with a hit doesn't wait
+one_with : (job : JobView) (found : Option Found) (hit : JobView × Found) (count : ℕ) → option_map (λ (f : Found). (job, f)) found ≡ Some hit
+    → one_without found count ≡ count
+one_with job None hit count e = search rules
+one_with job (Some found) hit count e = refl
+
 -- as many wait as before
-pub waiting_less : (slots : List Slot) (hit : Hit) → front_hit slots ≡ Some hit → waiting (drop 1 slots) ≡ waiting slots
+pub waiting_less : (slots : List Slot) (hit : JobView × Found) → front_hit slots ≡ Some hit → waiting (drop 1 slots) ≡ waiting slots
 waiting_less [] hit e = search rules
-waiting_less (slot ∷ slots) hit e = sym (ap (λ (h : Option Hit). one_without h (waiting slots)) e)
+waiting_less (slot ∷ slots) hit e = sym (one_with slot.job slot.found hit (waiting slots) e)
 
 -- there are as many jobs as slots
 pub length-jobs : (slots : List Slot) → length (jobs slots) ≡ length slots
@@ -75,12 +83,12 @@ module _ {Fault : Type 0} where
   }
 
   pub delivering_more : (w0 : WindowView) (f0 : FeedView Fault) (w : WindowView) (f f' : FeedView Fault) (hit : Hit) (rest : List JobView)
-      → Delivering w0 f0 w f → front_hit w.slots ≡ Some hit → jobs w.slots ≡ hit.job ∷ rest
+      → Delivering w0 f0 w f → front_hit w.slots ≡ Some (parts_of hit) → jobs w.slots ≡ hit.job ∷ rest
       → TakesHit f f' → GivesAsBefore f f' → f.faults ≤ f'.faults → Delivering w0 f0 (emitted w) f'
   delivering_more w0 f0 w f f' hit rest so_far front e takes as_before later = record {
     holds = holds_less w f f' hit.job rest so_far.holds e takes as_before.count;
     capacity = so_far.capacity;
-    ran = waiting_less w.slots hit front ∙ so_far.ran;
+    ran = waiting_less w.slots (parts_of hit) front ∙ so_far.ran;
     as_before = as_before_on f0 f f' so_far.as_before as_before;
     later = omega (arith, so_far.later, later);
     failed = takes.failed ∙ so_far.failed;

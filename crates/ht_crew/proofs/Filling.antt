@@ -4,7 +4,7 @@ use Rattle.std.proofs.Common.{true, false, Option, Some, None, ap, ◌∙◌, sy
 use Rattle.std.proofs.lemmas.List.{length-append, length-drop, length-take-le, drop-drop, drop-append-le}
 use Rattle.std.proofs.Math.Seq.{take-add}
 use Rattle.ht_metric.specs.Jobs.{JobView}
-use Rattle.ht_metric.specs.declared.hit.Hit.{Hit}
+use Rattle.ht_metric.specs.declared.found.Found.{Found}
 use Rattle.ht_window.specs.Windows.{WindowView, unbooked}
 use Rattle.ht_window.specs.declared.slot.Slot.{Slot}
 use Rattle.ht_crew.specs.Feeds.{FeedView, GivesJob, ComesFirst}
@@ -14,15 +14,15 @@ use Rattle.ht_crew.specs.Driving.{IsUnderWay, IsAlong, one_without, waiting}
 abbrev pub issued : WindowView → JobView → WindowView
 issued window job = record { capacity = window.capacity; front = window.front; slots = window.slots ++ unbooked job ∷ [] }
 
--- one more behind one that has a hit or has none
-pub one_more : (hit : Option Hit) (a b : ℕ) → a ≡ b + 1 → one_without hit a ≡ one_without hit b + 1
+-- one more behind one for which a vector was found or wasn't
+pub one_more : (found : Option Found) (a b : ℕ) → a ≡ b + 1 → one_without found a ≡ one_without found b + 1
 one_more None a b e = ap (λ (n : ℕ). n + 1) e
-one_more (Some hit) a b e = e
+one_more (Some found) a b e = e
 
 -- one more slot waits
 pub waiting_more : (slots : List Slot) (job : JobView) → waiting (slots ++ unbooked job ∷ []) ≡ waiting slots + 1
 waiting_more [] job = refl
-waiting_more (slot ∷ slots) job = one_more slot.hit (waiting (slots ++ unbooked job ∷ [])) (waiting slots) (waiting_more slots job)
+waiting_more (slot ∷ slots) job = one_more slot.found (waiting (slots ++ unbooked job ∷ [])) (waiting slots) (waiting_more slots job)
 
 module _ {Fault : Type 0} where
   -- a job of the list more was given

@@ -5,10 +5,10 @@ use Rattle.std.proofs.lemmas.List.{take_more, drop_more, drop-append-le, drop-ta
 use Rattle.std.proofs.lemmas.List.{length-take, length-take-le, length-drop, length-append, map-append}
 use Rattle.std.proofs.lemmas.List.{get_or-take}
 use Rattle.std.proofs.lemmas.Option.{slice_get_within, slice_get-get_or, get_or_from_slice_get}
-use Rattle.ht_metric.specs.Jobs.{JobView, found_at}
+use Rattle.ht_metric.specs.Jobs.{JobView}
 use Rattle.ht_metric.specs.declared.found.Found.{Found}
 use Rattle.ht_metric.specs.declared.hit.Hit.{Hit}
-use Rattle.ht_metric.proofs.Finding.{near_is}
+use Rattle.ht_metric.proofs.Finding.{found_near}
 use Rattle.ht_crew.specs.Feeds.{GivesJob, TakesHit}
 use Rattle.ht_crew.specs.Lists.{JobAnswer, answer, answer_of, Listed, IsListed, called, gave, took, shown, TakesInTurn}
 
@@ -60,10 +60,7 @@ first_between {A} xs n m x e =
 
 -- a hit says its job's first nearest vector
 pub hit_answers : (hit : Hit) → answer_of hit ≡ answer hit.job
-hit_answers hit =
-    let found : Found = record { vector = hit.vector; distance = hit.distance } in
-    let far : found ≡ found_at hit.job hit.vector = ap (λ (d : ℕ). let f : Found = record { vector = hit.vector; distance = d } in f) hit.far in
-    ap (λ (f : Found). let a : JobAnswer = record { job = hit.job; found = f } in a) (far ∙ sym (near_is hit.job hit.vector hit.near))
+hit_answers hit = ap (λ (found : Found). let a : JobAnswer = record { job = hit.job; found = found } in a) (found_near hit)
 
 -- one more hit
 pub length_more : {A : Type 0} (xs : List A) (x : A) → length (xs ++ x ∷ []) ≡ length xs + 1

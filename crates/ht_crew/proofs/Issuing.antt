@@ -3,17 +3,18 @@ use Rattle.std.proofs.Common.{◌≡◌, ℕ, ◌+◌, ◌-◌, ◌<◌, ◌≤�
 use Rattle.std.proofs.Common.{if◌then◌else◌, ◌==◌, nat_lt, slice_get}
 use Rattle.std.proofs.Common.{Some, ap, ◌∙◌, sym, refl, arith, subst}
 use Rattle.std.proofs.lemmas.Bool.Decides.{nat_tests}
-use Rattle.std.proofs.lemmas.List.{length-append, length-map, map-append}
+use Rattle.std.proofs.lemmas.List.{length-append, map-append}
 use Rattle.std.proofs.lemmas.List.Sums.{sum_by_push, sum_by-append}
 use Rattle.ht_metric.specs.Jobs.{JobView}
 use Rattle.ht_metric.specs.declared.hit.Hit.{Hit}
 use Rattle.ht_window.specs.Windows.{WindowView, unbooked}
 use Rattle.ht_window.specs.declared.slot.Slot.{Slot}
 use Rattle.ht_team.specs.Helms.{IsSameHelm}
-use Rattle.ht_crew.specs.Lots.{LotHelm, asked, lot_of}
+use Rattle.ht_crew.specs.Lots.{LotHelm, lot_of}
 use Rattle.ht_crew.specs.Accounts.{JobHelmView, IsSameJobHelm, Loads, Ships, GetsBack, Receives, Stores, sources}
 use Rattle.ht_crew.specs.Accounts.{BooksHits, Tallies, IssuesJob, TakesTurn, AreTold, HaveNumbers, is_number}
 use Rattle.ht_crew.specs.declared.tally.Tally.{Tally}
+use Rattle.ht_crew.proofs.Answering.{as_many}
 use Rattle.ht_crew.proofs.Filling.{issued, waiting_more}
 
 number_step : (n m k : ℕ) → k ≡ m → (if k == n then 1 else 0) + (if nat_lt n m then 1 else 0) ≤ (if nat_lt n (m + 1) then 1 else 0)
@@ -73,10 +74,6 @@ same_lots_on a b room lots = record {
 
 sources_same : (a b : JobHelmView) → b.lots ≡ a.lots → sources b ≡ sources a
 sources_same a b e = ap (λ (l : LotHelm). sources (record { room = 0; given = []; loading = []; places = 0; lots = l })) e
-
--- as many hits as jobs of their lot
-pub as_many : (hits : List Hit) (lot : List JobView) → lot_of hits ≡ lot → length hits ≡ length lot
-as_many hits lot is = sym (length-map hits asked) ∙ ap (λ (jobs : List JobView). length jobs) is
 
 -- a job was loaded
 pub issues_loaded : (t : Tally) (w w' : WindowView) (h h' : JobHelmView) (job : JobView) → Tallies t w h → t.issued ≡ job.number

@@ -1,8 +1,8 @@
 -- Jobs that the caller keeps.
 use Rattle.std.proofs.Common.{◌≡◌, ℕ, ◌+◌, ◌-◌, List, [], ◌∷◌, length}
-use Rattle.std.proofs.Common.{take, drop, slice_get, Option, Some, None, IfSome}
+use Rattle.std.proofs.Common.{take, drop, slice_get, Option, Some, None, IfSome, option_map}
 use Rattle.std.proofs.Common.{ap, ◌∙◌, sym, subst, refl, arith, rules}
-use Rattle.ht_metric.specs.declared.hit.Hit.{Hit}
+use Rattle.ht_metric.specs.declared.found.Found.{Found}
 use Rattle.ht_metric.specs.Jobs.{JobView}
 use Rattle.ht_window.specs.Windows.{front_hit}
 use Rattle.ht_window.specs.declared.slot.Slot.{Slot}
@@ -10,14 +10,14 @@ use Rattle.ht_crew.specs.Feeds.{FeedView}
 use Rattle.ht_crew.specs.Driving.{IsAlong, RunsOn, as_list, one_without, waiting}
 use Rattle.ht_crew.proofs.Giving.{first_between}
 
-some_left : (hit : Option Hit) (n : ℕ) → hit ≡ None → one_without hit n ≡ 0 → ⊥
-some_left None n e none = omega (arith, none)
-some_left (Some hit) n e none = search rules
+some_left : (job : JobView) (found : Option Found) (n : ℕ) → option_map {U = JobView × Found} (λ f. (job, f)) found ≡ None → one_without found n ≡ 0 → ⊥
+some_left job None n e none = omega (arith, none)
+some_left job (Some found) n e none = search rules
 
 -- where no job waits and the first has no hit, there is none
 pub none_left : (slots : List Slot) → waiting slots ≡ 0 → front_hit slots ≡ None → slots ≡ []
 none_left [] none e = refl
-none_left (slot ∷ slots) none e = absurd (some_left slot.hit (waiting slots) e none)
+none_left (slot ∷ slots) none e = absurd (some_left slot.job slot.found (waiting slots) e none)
 
 module _ {Fault : Type 0} where
   -- the job that came last has its number in the list of all

@@ -1,5 +1,6 @@
 mod Lots
 mod Giving
+mod Answering
 mod Filling
 mod Delivering
 mod Coming

@@ -112,7 +112,7 @@ gets_back old new loading places places' is full some =
 
 -- one lot more is out, which isn't empty
 pub one_out : (old new : LotHelm) (room room' : LotRoom) (out : ℕ) (lot : List JobView) → new ≡ gave old lot → 0 < length lot → IsJobHelm old room out
-    → room'.hits.items ≡ [] → room'.jobs.items ≡ [] → IsJobHelm new room' (out + 1)
+    → room'.found.items ≡ [] → room'.jobs.items ≡ [] → IsJobHelm new room' (out + 1)
 one_out old new room room' out lot is some helm none empty = record {
   back = omega (
     arith,

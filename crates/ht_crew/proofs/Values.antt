@@ -50,7 +50,7 @@ module _ (a b c : JobView) (hit : Hit) where
   first_came = refl
 
   -- two of three slots wait
-  two_wait : waiting (unbooked a ∷ booked hit ∷ unbooked c ∷ []) ≡ 2
+  two_wait : waiting (unbooked a ∷ booked b ∷ unbooked c ∷ []) ≡ 2
   two_wait = refl
 
   -- while a job is next, as many are to be run as may still come, and it; else none

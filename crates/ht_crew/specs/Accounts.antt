@@ -36,12 +36,12 @@ job_helm lots loading places = record {
 abbrev pub sources : JobHelmView → ℕ
 sources helm = length (flat helm.lots.taken) + length (flat helm.lots.answers)
 
--- what holds at every helm: a lot that is not out has come back, no lot is empty, and there is room for the hits of the jobs that are loaded
+-- what holds at every helm: a lot that is not out has come back, no lot is empty, and there is room for what is found for the jobs that are loaded
 pub record IsJobHelm (lots : LotHelm) (loaded : LotRoom) (out : ℕ) : Type 0 where
   pub back : length lots.given ≤ out + (length lots.taken + length lots.answers)
   pub some : length lots.given ≤ length (flat lots.given)
-  pub none : loaded.hits.items ≡ []
-  pub places : vec_len loaded.jobs ≤ vec_capacity loaded.hits
+  pub none : loaded.found.items ≡ []
+  pub places : vec_len loaded.jobs ≤ vec_capacity loaded.found
 
 -- what there is room for and what was given is told by the lots
 pub record IsOfLots (helm : JobHelmView) : Type 0 where

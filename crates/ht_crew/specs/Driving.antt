@@ -3,20 +3,20 @@ use Rattle.std.specs.Prelude.{◌≡◌, ℕ, ◌+◌, ◌-◌, ◌<◌, ◌≤�
 use Rattle.std.specs.Prelude.{not, if◌then◌else◌, Option, Some, None, is_some, IfSome}
 use Rattle.ht_io.specs.Causes.{HasRisen}
 use Rattle.ht_metric.specs.Jobs.{JobView}
-use Rattle.ht_metric.specs.declared.hit.Hit.{Hit}
+use Rattle.ht_metric.specs.declared.found.Found.{Found}
 use Rattle.ht_window.specs.Windows.{WindowView, jobs}
 use Rattle.ht_window.specs.declared.slot.Slot.{Slot}
 use Rattle.ht_crew.specs.Feeds.{FeedView, IsLeft}
 
--- one more where there is no hit
-abbrev pub one_without : Option Hit → ℕ → ℕ
+-- one more where nothing was found
+abbrev pub one_without : Option Found → ℕ → ℕ
 one_without None count = count + 1
-one_without (Some hit) count = count
+one_without (Some found) count = count
 
 -- how many slots have no hit
 abbrev pub waiting : List Slot → ℕ
 waiting [] = 0
-waiting (slot ∷ slots) = one_without slot.hit (waiting slots)
+waiting (slot ∷ slots) = one_without slot.found (waiting slots)
 
 -- how many jobs may be due at a time in one thread: two where it asks for the next one ahead
 abbrev pub at_once : Bool → ℕ

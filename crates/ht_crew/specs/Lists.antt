@@ -3,6 +3,7 @@ use Rattle.std.specs.Prelude.{◌≡◌, ℕ, ◌+◌, ◌-◌, ◌≤◌, List,
 use Rattle.std.specs.Prelude.{drop, slice_get, Option, Some, None, Bool, true, false}
 use Rattle.ht_io.specs.Causes.{one_more}
 use Rattle.ht_metric.specs.Jobs.{JobView, near}
+use Rattle.ht_metric.specs.Hits.{found_of}
 use Rattle.ht_metric.specs.declared.found.Found.{Found}
 use Rattle.ht_metric.specs.declared.hit.Hit.{Hit}
 use Rattle.ht_crew.specs.Feeds.{FeedView}
@@ -15,7 +16,7 @@ pub record JobAnswer : Type 0 where
 
 -- what a hit says
 abbrev pub answer_of : Hit → JobAnswer
-answer_of hit = record { job = hit.job; found = record { vector = hit.vector; distance = hit.distance } }
+answer_of hit = record { job = hit.job; found = found_of hit }
 
 -- a job and its first nearest vector
 abbrev pub answer : JobView → JobAnswer

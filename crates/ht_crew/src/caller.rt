@@ -1,39 +1,50 @@
 //! The caller's part of a drive.
 ghost use Rattle.std.specs.Prelude.{◌≡◌, ◌<◌, ◌≤◌, length, List, None, IfErr, OnOk};
+ghost use Rattle.ht_metric.specs.Jobs.{JobView, near};
 ghost use Rattle.ht_window.specs.Windows.{front_hit};
 ghost use Rattle.ht_crew.specs.Feeds.{GivesAsBefore};
 ghost use Rattle.ht_crew.specs.Driving.{CallFailed, Holds, IsAlong, waiting};
-ghost use Rattle.ht_metric.specs.Jobs.{JobView};
+ghost use Rattle.ht_crew.specs.Lots.{HasHit};
 
 use crate::feed::Feed;
 use crate::gate::Gate;
-use ht_metric::{Hit, Job};
+use ht_metric::{Found, Hit, Job};
 use ht_pam::Steps;
-use ht_sphere::into_hit;
+use ht_sphere::find;
 use ht_window::Window;
 use std::marker::Brand;
 use std::sync::ledger::{Blank, Ledger};
 
-// The hit of a job, with the steps of a counter of its own.
-fn detect<L: Ledger>(job: Job, blank: Blank) -> Hit
+// What is found for a job, with the steps of a counter of its own.
+fn detect<L: Ledger>(job: &Job, blank: Blank) -> Found
     requires name { blank.name ≡ L.name }
     requires parts { blank.parts ≡ L.parts }
     requires some { 0 < blank.parts }
-    ensures { result.job ≡ job }
+    ensures found { result ≡ near job.now }
+    ensures known { HasHit job.now }
 {
     let mut steps = Steps::<L>::new(blank);
-    into_hit(job, &mut steps)
+    find(job, &mut steps)
 }
 
-/// Runs a job, between the two calls of the gate.
-pub(crate) fn run<G: Gate>(gate: &G, job: Job) -> Hit
-    ensures { result.job ≡ job }
+/// Runs a job where it is, between the two calls of the gate.
+pub(crate) fn answer<G: Gate>(gate: &G, job: &Job) -> Found
+    ensures found { result ≡ near job.now }
+    ensures known { HasHit job.now }
 {
     let number = job.number();
     gate.enter(number);
-    let hit = detect::<Brand>(job, Blank::new(1));
+    let found = detect::<Brand>(job, Blank::new(1));
     gate.leave(number);
-    hit
+    found
+}
+
+/// Runs a job, which goes into its hit.
+pub(crate) fn run<G: Gate>(gate: &G, job: Job) -> Hit
+    ensures { result.job ≡ job }
+{
+    let found = answer(gate, &job);
+    Hit::join(job, found)
 }
 
 /// Gives the feed the hits of the first jobs due, as far as they have come.

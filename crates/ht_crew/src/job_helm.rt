@@ -42,13 +42,13 @@ impl Depot {
     // Room for a lot, empty; none if all are out.
     fn take(&mut self) -> LotRoom
         ensures jobs { result.jobs.items ≡ [] }
-        ensures hits { result.hits.items ≡ [] }
+        ensures found { result.found.items ≡ [] }
     {
         let Some(mut room) = self.spare.pop() else {
             return LotRoom::none(self.alloc);
         };
         room.jobs.clear();
-        room.hits.clear();
+        room.found.clear();
         room
     }
 
@@ -78,7 +78,7 @@ impl<'a, 'g, G: Gate> Model for JobHelm<'a, 'g, G> {
 
     ghost Value = { JobHelmView };
 
-    ghost view = { λ h. job_helm h.helm h.room.jobs.items (min (vec_capacity h.room.jobs) (vec_capacity h.room.hits)) };
+    ghost view = { λ h. job_helm h.helm h.room.jobs.items (min (vec_capacity h.room.jobs) (vec_capacity h.room.found)) };
 
     ghost invariant = { λ h. IsJobHelm h.helm h.room h.out };
 }
@@ -112,7 +112,7 @@ impl<'a, 'g, G: Gate> JobHelm<'a, 'g, G> {
         ensures { IsTrue result → length self.now.loading < self.now.places }
     {
         let loading = self.room.jobs.len();
-        loading < self.room.jobs.capacity() && loading < self.room.hits.capacity()
+        loading < self.room.jobs.capacity() && loading < self.room.found.capacity()
     }
 
     /// Loads a job. There is a place for it.

@@ -64,7 +64,7 @@ fn run_quick<F: Feed, G: Gate>(
             });
         }
         let hit = run(work.gate, job);
-        pace.see(&hit);
+        pace.see(hit.job(), hit.distance());
         next = hand_back(ahead, hit, feed)?;
         ran += 1;
     }

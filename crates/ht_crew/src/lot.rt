@@ -1,29 +1,30 @@
 //! Jobs that move between threads together.
-ghost use Rattle.std.specs.Prelude.{◌≡◌, ◌+◌, ◌≤◌, [], length, map, take, vec_len, vec_capacity};
-ghost use Rattle.ht_crew.specs.Lots.{asked};
+ghost use Rattle.std.specs.Prelude.{◌≡◌, ◌≤◌, [], length, map, vec_len, vec_capacity};
+ghost use Rattle.ht_metric.specs.Jobs.{near};
+ghost use Rattle.ht_crew.specs.Lots.{asked, lot_of, HaveHits};
 
-use crate::caller::run;
+use crate::caller::answer;
 use crate::gate::Gate;
-use ht_metric::{Hit, Job};
+use ht_metric::{Found, Job};
 use std::alloc::{AllocError, Global};
 use std::marker::Model;
 
-/// The memory of a lot: room for some jobs and for their hits.
+/// The memory of a lot: room for some jobs and for what is found for them.
 #[derive(Drop)]
 pub(crate) struct LotRoom {
     pub(crate) jobs: Vec<Job>,
-    pub(crate) hits: Vec<Hit>,
+    pub(crate) found: Vec<Found>,
 }
 
 impl LotRoom {
     /// Room for none. Takes no memory.
     pub(crate) fn none(alloc: Global) -> LotRoom
         ensures jobs { result.jobs.items ≡ [] }
-        ensures hits { result.hits.items ≡ [] }
+        ensures found { result.found.items ≡ [] }
     {
         LotRoom {
             jobs: Vec::new(alloc),
-            hits: Vec::new(alloc),
+            found: Vec::new(alloc),
         }
     }
 
@@ -31,16 +32,16 @@ impl LotRoom {
     pub(crate) fn new(alloc: Global, size: usize) -> Result<LotRoom, AllocError> {
         Ok(LotRoom {
             jobs: Vec::with_capacity(alloc, size)?,
-            hits: Vec::with_capacity(alloc, size)?,
+            found: Vec::with_capacity(alloc, size)?,
         })
     }
 }
 
-/// Jobs of a feed that follow one another, and room for their hits. Contracts see the jobs, in order.
+/// Jobs of a feed that follow one another, and room for what is found for them. Contracts see the jobs, in order.
 #[derive(Drop)]
 pub struct Lot {
     jobs: Vec<Job>,
-    hits: Vec<Hit>,
+    found: Vec<Found>,
 }
 
 impl Model for Lot {
@@ -51,19 +52,19 @@ impl Model for Lot {
 
     ghost view = { λ l. l.jobs.items };
 
-    ghost invariant = { λ l. (l.hits.items ≡ []) × (vec_len l.jobs ≤ vec_capacity l.hits) };
+    ghost invariant = { λ l. (l.found.items ≡ []) × (vec_len l.jobs ≤ vec_capacity l.found) };
 }
 
 impl Lot {
-    /// The lot of these jobs, with room for their hits.
+    /// The lot of these jobs, with room for what is found for them.
     pub(crate) fn of(room: LotRoom) -> Lot
-        requires none { room.hits.items ≡ [] }
-        requires room { vec_len room.jobs ≤ vec_capacity room.hits }
+        requires none { room.found.items ≡ [] }
+        requires room { vec_len room.jobs ≤ vec_capacity room.found }
         ensures { result ≡ room.jobs.items }
     {
         Lot {
             jobs: room.jobs,
-            hits: room.hits,
+            found: room.found,
         }
     }
 
@@ -71,37 +72,43 @@ impl Lot {
     pub(crate) fn run<G: Gate>(self, gate: &G) -> LotHits
         ensures { map asked result ≡ self }
     {
-        let Lot { jobs, mut hits } = self;
-        run_each(gate, jobs.as_slice(), &mut hits);
-        LotHits { hits, jobs }
+        let Lot { jobs, mut found } = self;
+        run_each(gate, jobs.as_slice(), &mut found);
+        LotHits { jobs, found }
     }
 }
 
-// Puts the hits of all jobs behind one another into an empty vector that has room for them.
-fn run_each<G: Gate>(gate: &G, jobs: &[Job], hits: &mut Vec<Hit>)
-    requires none { hits.old.items ≡ [] }
-    requires room { length jobs.now ≤ vec_capacity hits.old }
-    ensures { map asked hits.new.items ≡ jobs.now }
+// Puts what is found for all jobs behind one another into an empty vector that has room for it.
+fn run_each<G: Gate>(gate: &G, jobs: &[Job], found: &mut Vec<Found>)
+    requires none { found.old.items ≡ [] }
+    requires room { length jobs.now ≤ vec_capacity found.old }
+    ensures found { found.new.items ≡ map near jobs.now }
+    ensures known { HaveHits jobs.now }
 {
     for at in 0..jobs.len() {
-        hits.push_reserved(run(gate, jobs[at].copy()));
+        found.push_reserved(answer(gate, &jobs[at]));
     }
 }
 
-/// The hits of a lot, in the order of its jobs. Contracts see the hits.
+/// The jobs of a lot, in order, with what was found for each. Contracts see their hits.
 #[derive(Drop)]
 pub struct LotHits {
-    hits: Vec<Hit>,
     jobs: Vec<Job>,
+    found: Vec<Found>,
+    ghost known: { HaveHits jobs.items },
 }
 
 impl Model for LotHits {
-    ghost use Rattle.std.specs.Prelude.{List};
+    ghost use Rattle.std.specs.Prelude.{◌≡◌, List, map};
+    ghost use Rattle.ht_metric.specs.Jobs.{near};
     ghost use Rattle.ht_metric.specs.declared.hit.Hit.{Hit};
+    ghost use Rattle.ht_crew.specs.Lots.{each_hit};
 
     ghost Value = { List Hit };
 
-    ghost view = { λ l. l.hits.items };
+    ghost view = { λ l. each_hit l.jobs.items l.known };
+
+    ghost invariant = { λ l. l.found.items ≡ map near l.jobs.items };
 }
 
 impl LotHits {
@@ -109,16 +116,17 @@ impl LotHits {
     pub(crate) fn len(&self) -> usize
         ensures { result ≡ length self.now }
     {
-        self.hits.len()
+        self.jobs.len()
     }
 
-    /// The hits, and the memory of the lot.
+    /// The jobs with what was found for them, which is the memory of the lot.
     pub(crate) fn into_room(self) -> LotRoom
-        ensures { result.hits.items ≡ self }
+        ensures jobs { result.jobs.items ≡ lot_of self }
+        ensures found { result.found.items ≡ map near (lot_of self) }
     {
         LotRoom {
             jobs: self.jobs,
-            hits: self.hits,
+            found: self.found,
         }
     }
 }

@@ -1,6 +1,6 @@
 //! How costly jobs are.
 
-use ht_metric::Hit;
+use ht_metric::Job;
 
 /// The credit from which on jobs count as cheap.
 const QUICK: u8 = 192;
@@ -28,11 +28,11 @@ impl Pace {
         Pace { credit: 0 }
     }
 
-    /// Sees the hit of a job.
-    pub(crate) fn see(&mut self, hit: &Hit) {
-        let distance = u64::try_from(hit.distance()).unwrap_or(u64::MAX);
-        let measure = measure(hit);
-        self.credit = if distance < measure && hit.job().system().streams() <= FEW {
+    /// Sees a job and the distance of its hit.
+    pub(crate) fn see(&mut self, job: &Job, distance: u128) {
+        let distance = u64::try_from(distance).unwrap_or(u64::MAX);
+        let measure = measure(job);
+        self.credit = if distance < measure && job.system().streams() <= FEW {
             self.credit.saturating_add(1)
         } else {
             self.credit.saturating_sub(price(distance, measure))
@@ -45,15 +45,15 @@ impl Pace {
     }
 }
 
-// Four times the square of the least diagonal of a hit's system.
-fn measure(hit: &Hit) -> u64 {
-    let least = u64::from(least_diagonal(hit));
+// Four times the square of the least diagonal of a job's system.
+fn measure(job: &Job) -> u64 {
+    let least = u64::from(least_diagonal(job));
     4 * least * least
 }
 
-// The least diagonal of a hit's system.
-fn least_diagonal(hit: &Hit) -> u16 {
-    let system = hit.job().system();
+// The least diagonal of a job's system.
+fn least_diagonal(job: &Job) -> u16 {
+    let system = job.system();
     let mut least = u16::MAX;
     for row in 0..system.streams() {
         least = least.min(system.diagonal(row + 1));

@@ -221,6 +221,10 @@ fn hit(diagonal: u16, re: i32) -> Hit {
     plain_nearest(&Job::new(0, Place::default(), grid, System::new(triangle, y)))
 }
 
+fn see(pace: &mut Pace, hit: &Hit) {
+    pace.see(hit.job(), hit.distance());
+}
+
 // 192 cheap hits in a row make a pace quick. A costly one, whose distance is twice the measure, takes eight of them back, and
 // one whose distance is 2,450 times the measure takes all.
 #[test]
@@ -228,26 +232,26 @@ fn cheap_and_costly(rt: HostRuntime) -> Result<(), Fail> {
     let cheap = hit(10, 29);
     let mut pace = Pace::new();
     for _ in 0..191 {
-        pace.see(&cheap);
+        see(&mut pace, &cheap);
     }
     assert!(rt; !pace.is_quick());
-    pace.see(&cheap);
+    see(&mut pace, &cheap);
     assert!(rt; pace.is_quick());
 
-    pace.see(&hit(10, 40));
+    see(&mut pace, &hit(10, 40));
     for _ in 0..7 {
-        pace.see(&cheap);
+        see(&mut pace, &cheap);
     }
     assert!(rt; !pace.is_quick());
-    pace.see(&cheap);
+    see(&mut pace, &cheap);
     assert!(rt; pace.is_quick());
 
     for _ in 0..300 {
-        pace.see(&cheap);
+        see(&mut pace, &cheap);
     }
-    pace.see(&hit(1, 100));
+    see(&mut pace, &hit(1, 100));
     for _ in 0..191 {
-        pace.see(&cheap);
+        see(&mut pace, &cheap);
     }
     assert!(rt; !pace.is_quick());
     Ok(())

@@ -1,7 +1,10 @@
 //! What a caller does with one job or with the hits of one lot.
-ghost use Rattle.std.specs.Prelude.{◌≡◌, ◌+◌, ◌-◌, ◌<◌, ◌≤◌, ◌^◌, true, length};
+ghost use Rattle.std.specs.Prelude.{◌≡◌, ◌+◌, ◌-◌, ◌<◌, ◌≤◌, ◌^◌, true, length, map, List};
+ghost use Rattle.ht_metric.specs.Jobs.{near};
+ghost use Rattle.ht_metric.specs.declared.hit.Hit.{Hit as HitValue};
 ghost use Rattle.ht_window.specs.Accepting.{IsUnbooked};
 ghost use Rattle.ht_crew.specs.Driving.{waiting};
+ghost use Rattle.ht_crew.specs.Lots.{lot_of};
 ghost use Rattle.ht_crew.specs.Accounts.{HasBooked, BooksHits, Tallies, IssuesJob, TakesTurn, Stores};
 
 use crate::detect::Detect;
@@ -10,31 +13,34 @@ use crate::job_helm::JobHelm;
 use crate::lot::LotHits;
 use crate::pace::Pace;
 use crate::tally::Tally;
-use ht_metric::{Hit, Job};
+use ht_metric::{Found, Job};
 use ht_team::work::Work;
 use ht_window::{Accepted, Window};
 use std::thread;
 
-/// Books a hit if its job waits for it. Answers whether it did.
-pub(crate) fn book(window: &mut Window, hit: Hit) -> bool
+/// Books what was found for a job if the job waits for it. Answers whether it did.
+pub(crate) fn book(window: &mut Window, job: &Job, found: Found) -> bool
+    requires found { found ≡ near job.now }
     ensures booked { HasBooked result window.old window.new }
-    ensures sure { IsUnbooked window.old hit.job → result ≡ true }
+    ensures sure { IsUnbooked window.old job.now → result ≡ true }
 {
     let _room = window.has_room();
-    match window.accept(hit) {
+    match window.accept(job, found) {
         Accepted::Booked => true,
         Accepted::Twice | Accepted::Stranger => false,
     }
 }
 
-// Books those hits whose jobs wait for them, and takes all out of the vector.
-fn book_all(window: &mut Window, tally: &mut Tally, pace: &mut Pace, hits: &mut Vec<Hit>)
+// Books what was found for those of the jobs that wait for it.
+fn book_all(window: &mut Window, tally: &mut Tally, pace: &mut Pace, jobs: &[Job], found: &[Found])
     requires few { tally.old.booked + waiting window.old.slots < 2 ^ 64 }
-    ensures books { BooksHits hits.old.items tally.old window.old tally.new window.new }
+    requires found { found.now ≡ map near jobs.now }
+    ensures books { (hits : List HitValue) → lot_of hits ≡ jobs.now → BooksHits hits tally.old window.old tally.new window.new }
 {
-    while let Some(hit) = hits.pop() {
-        pace.see(&hit);
-        if book(window, hit) {
+    for at in 0..jobs.len() {
+        let job = &jobs[at];
+        pace.see(job, found[at].distance);
+        if book(window, job, found[at]) {
             tally.booked += 1;
         }
     }
@@ -52,8 +58,14 @@ fn book_lot<G: Gate>(
     ensures books { BooksHits hits tally.old window.old tally.new window.new }
     ensures stores { Stores helm.old helm.new }
 {
-    let mut room = hits.into_room();
-    book_all(window, tally, pace, &mut room.hits);
+    let room = hits.into_room();
+    book_all(
+        window,
+        tally,
+        pace,
+        room.jobs.as_slice(),
+        room.found.as_slice(),
+    );
     helm.store(room);
 }
 

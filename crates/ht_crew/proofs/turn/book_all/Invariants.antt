@@ -1,11 +1,9 @@
-use Rattle.std.proofs.Common.{length}
+use Rattle.std.proofs.Common.{◌≤◌}
 use Rattle.ht_crew.proofs.Booking.{Booking}
 use Rattle.ht_crew.proofs.turn.book_all.Given as goal
 
-abbrev pub invariant-loop-hit : goal.invariant-loop-hit
-invariant-loop-hit l = record {
-  so_far : Booking l.fn.hits.items l.fn.tally l.fn.window l.hits.items l.tally l.window;
+abbrev pub invariant-loop-at : goal.invariant-loop-at
+invariant-loop-at l = record {
+  within : l.at ≤ l.at-end;
+  so_far : Booking l.fn.tally l.fn.window l.at l.tally l.window;
 }
-
-abbrev pub decreases-loop-hit : goal.decreases-loop-hit
-decreases-loop-hit l = length l.hits.items
