@@ -168,9 +168,9 @@ impl Desk {
     }
 
     // Hands the hit of the first job due to an account.
-    pub(crate) fn take<A: Account>(&mut self, hit: Hit, account: &mut A) -> Result<(), FeedFault>
+    pub(crate) fn take<A: Account>(&mut self, hit: &Hit, account: &mut A) -> Result<(), FeedFault>
         requires well { self.old.failed ≡ None }
-        requires first { slice_get (jobs_alone self.old.due) 0 ≡ Some hit.job }
+        requires first { slice_get (jobs_alone self.old.due) 0 ≡ Some hit.now.job }
         ensures tells { (source : Device ℕ) → MatchResult result
             (λ _. Tells (seen_by self.old source (told_by A.shown A.pieces A.waits account.old))
             (seen_by self.new source (told_by A.shown A.pieces A.waits account.new)))
@@ -187,7 +187,7 @@ impl Desk {
         let Some(first) = self.due.get(0) else {
             unreachable!();
         };
-        match account.take(first.head(), &hit, &self.due) {
+        match account.take(first.head(), hit, &self.due) {
             Ok(()) => {
                 let _ = self.due.pop_front();
                 Ok(())

@@ -60,7 +60,7 @@ impl<'a, S: Source, A: Account> Feed for CaptureFeed<'a, S, A> {
         if let Some(fault) = self.desk.failed() {
             return Err(self.desk.fail(fault));
         }
-        self.desk.take(hit, self.account)
+        self.desk.take(&hit, self.account)
     }
 
     ghost stays = { feeds_on-none S.shown A.lent (told_by A.shown A.pieces A.waits) };
