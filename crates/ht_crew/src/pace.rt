@@ -30,9 +30,13 @@ impl Pace {
 
     /// Sees a job and the distance of its hit.
     pub(crate) fn see(&mut self, job: &Job, distance: u128) {
+        let few = job.system().streams() <= FEW;
+        if !few && self.credit == 0 {
+            return;
+        }
         let distance = u64::try_from(distance).unwrap_or(u64::MAX);
         let measure = measure(job);
-        self.credit = if distance < measure && job.system().streams() <= FEW {
+        self.credit = if few && distance < measure {
             self.credit.saturating_add(1)
         } else {
             self.credit.saturating_sub(price(distance, measure))

@@ -25,7 +25,7 @@ pub(crate) fn book(window: &mut Window, job: &Job, found: Found) -> bool
     ensures sure { IsUnbooked window.old job.now → result ≡ true }
 {
     let _room = window.has_room();
-    match window.accept(job, found) {
+    match window.accept_found(job, found) {
         Accepted::Booked => true,
         Accepted::Twice | Accepted::Stranger => false,
     }

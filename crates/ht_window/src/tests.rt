@@ -18,10 +18,9 @@ fn job(number: u64, re: i32) -> Job
     Job::new(number, Place::default(), grid, System::new(triangle, y))
 }
 
-// What the window says to the answer to such a job.
+// What the window says to the hit of such a job.
 fn accept(window: &mut Window, number: u64, re: i32) -> Accepted {
-    let hit = plain_nearest(&job(number, re));
-    window.accept(hit.job(), hit.found())
+    window.accept(plain_nearest(&job(number, re)))
 }
 
 fn number_of(hit: Option<Hit>) -> Option<u64> {

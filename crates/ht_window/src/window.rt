@@ -84,10 +84,27 @@ impl Window {
         self.slots.push_back(Slot { job, found: None });
     }
 
+    /// Puts a hit into the slot of its job, as [`accept_found`](Window::accept_found) does what was found for a job. A hit
+    /// that isn't booked is dropped.
+    pub fn accept(&mut self, hit: Hit) -> Accepted
+        // When each answer comes.
+        ensures booked { result ≡ Accepted.Booked ↔ IsUnbooked self.old hit.job }
+        ensures twice { result ≡ Accepted.Twice ↔ IsBooked self.old hit.job }
+        ensures stranger { result ≡ Accepted.Stranger ↔ IsStrange self.old hit.job }
+
+        // What it leaves.
+        ensures books { result ≡ Accepted.Booked → Books self.old hit.job self.new }
+        ensures refused { result ≢ Accepted.Booked → self.new ≡ self.old }
+        ensures jobs { jobs self.new.slots ≡ jobs self.old.slots }
+        ensures window { IsWindow self.new }
+    {
+        self.accept_found(hit.job(), hit.found())
+    }
+
     /// Puts what was found for a job into its slot, if a slot holds that very job and waits. Else nothing changes:
     /// `Twice` where the slot of the job was booked before, `Stranger` where no slot holds the job, as where a slot
     /// holds another job of the same number.
-    pub fn accept(&mut self, job: &Job, found: Found) -> Accepted
+    pub fn accept_found(&mut self, job: &Job, found: Found) -> Accepted
         requires found { found ≡ near job.now }
 
         // When each answer comes.
