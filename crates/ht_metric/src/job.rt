@@ -11,6 +11,12 @@ use std::marker::Model;
 /// One vector to be detected: the system of a subcarrier in one symbol, and the grid of the vectors that may have been sent.
 #[derive(Debug, PartialEq, Eq, Drop)]
 pub struct Job {
+    parts: Parts,
+}
+
+// What a job consists of, which is copied in one piece.
+#[derive(Clone, Copy, Debug, PartialEq, Eq)]
+struct Parts {
     number: u64,
     place: Place,
     system: System,
@@ -22,11 +28,11 @@ impl Model for Job {
 
     ghost Value = { JobView };
 
-    ghost view = { λ j. record { number = j.number; place = j.place; grid = j.grid; system = j.system } };
+    ghost view = { λ j. let p = j.parts in record { number = p.number; place = p.place; grid = p.grid; system = p.system } };
 
-    ghost invariant = { λ j. IsJob (record { number = j.number; place = j.place; grid = j.grid; system = j.system }) };
+    ghost invariant = { λ j. let p = j.parts in IsJob (record { number = p.number; place = p.place; grid = p.grid; system = p.system }) };
 
-    ghost inverse = { λ v. record { number = v.number; place = v.place; grid = v.grid; system = v.system } };
+    ghost inverse = { λ v. record { parts = record { number = v.number; place = v.place; grid = v.grid; system = v.system } } };
 }
 
 impl Job {
@@ -36,10 +42,12 @@ impl Job {
         ensures { result ≡ record { number = number; place = place; grid = grid; system = system } }
     {
         Job {
-            number,
-            place,
-            system,
-            grid,
+            parts: Parts {
+                number,
+                place,
+                system,
+                grid,
+            },
         }
     }
 
@@ -47,14 +55,14 @@ impl Job {
     pub fn number(&self) -> u64
         ensures { result ≡ self.now.number }
     {
-        self.number
+        self.parts.number
     }
 
     /// Where in the capture the job comes from.
     pub fn place(&self) -> Place
         ensures { result ≡ self.now.place }
     {
-        self.place
+        self.parts.place
     }
 
     /// The vectors that may have been sent.
@@ -62,7 +70,7 @@ impl Job {
         ensures grid { result.now ≡ self.now.grid }
         ensures job { IsJob self.now }
     {
-        &self.grid
+        &self.parts.grid
     }
 
     /// The channel and what was received.
@@ -70,27 +78,23 @@ impl Job {
         ensures system { result.now ≡ self.now.system }
         ensures job { IsJob self.now }
     {
-        &self.system
+        &self.parts.system
     }
 
     /// Whether both jobs have the same number, place, grid and system, as `==` says too.
     pub fn same(&self, other: &Job) -> bool
         ensures { IsTrue result ↔ (self.now ≡ other.now) }
     {
-        let same = self.number == other.number && self.place == other.place;
-        same && self.grid.same(&other.grid) && self.system.same(&other.system)
+        let (a, b) = (&self.parts, &other.parts);
+        let same = a.number == b.number && a.place == b.place;
+        same && a.grid.same(&b.grid) && a.system.same(&b.system)
     }
 
     /// A copy of the job.
     pub fn copy(&self) -> Job
         ensures { result ≡ self.now }
     {
-        Job {
-            number: self.number,
-            place: self.place,
-            system: self.system,
-            grid: self.grid,
-        }
+        Job { parts: self.parts }
     }
 }
 
