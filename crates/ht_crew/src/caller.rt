@@ -24,7 +24,9 @@ fn detect<L: Ledger>(job: &Job, blank: Blank) -> Found
     ensures known { HasHit job.now }
 {
     let mut steps = Steps::<L>::new(blank);
-    find(job, &mut steps)
+    // Moved field by field: a wide move would have to wait until the detector's narrow writes have left the processor.
+    let Found { vector, distance } = find(job, &mut steps);
+    Found { vector, distance }
 }
 
 /// Runs a job where it is, between the two calls of the gate.
