@@ -87,7 +87,11 @@ impl System {
     pub(crate) fn same(&self, other: &System) -> bool
         ensures { IsTrue result ↔ (self.now ≡ other.now) }
     {
-        self.triangle.same(&other.triangle) && self.y == other.y
+        let mut same = self.triangle.same(&other.triangle);
+        for k in 0..4 {
+            same = same & self.y[k].same(&other.y[k]);
+        }
+        same
     }
 
     // The sum of the squared lengths of the rows.

@@ -1,5 +1,5 @@
 //! An entry of a triangle.
-ghost use Rattle.std.specs.Prelude.{◌≡◌, ◌≤◌, ◌*ℤ◌, unsigned_abs};
+ghost use Rattle.std.specs.Prelude.{◌≡◌, ◌≤◌, ◌*ℤ◌, unsigned_abs, IsTrue, ◌↔◌};
 ghost use Rattle.ht_metric.specs.Distance.{times, IsInRange};
 
 use crate::complex::Complex;
@@ -25,6 +25,13 @@ impl Tap {
             re: multiplied(self.re, point.i) - multiplied(self.im, point.q),
             im: multiplied(self.re, point.q) + multiplied(self.im, point.i),
         }
+    }
+
+    // Whether both entries have the same parts.
+    pub(crate) fn same(&self, other: &Tap) -> bool
+        ensures { IsTrue result ↔ (self.now ≡ other.now) }
+    {
+        (self.re == other.re) & (self.im == other.im)
     }
 }
 

@@ -89,8 +89,14 @@ impl Triangle {
     pub(crate) fn same(&self, other: &Triangle) -> bool
         ensures { IsTrue result ↔ (self.now ≡ other.now) }
     {
-        let same = self.streams == other.streams && self.diagonal == other.diagonal;
-        same && self.above == other.above
+        let mut same = self.streams == other.streams;
+        for k in 0..4 {
+            same = same & (self.diagonal[k] == other.diagonal[k]);
+        }
+        for j in 0..6 {
+            same = same & self.above[j].same(&other.above[j]);
+        }
+        same
     }
 
     // The sum of the squared lengths of the rows, with what was received on them.

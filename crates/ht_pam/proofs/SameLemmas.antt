@@ -1,49 +1,50 @@
 -- Tests of equality.
-use Rattle.std.proofs.Common.{◌≡◌, ℕ, ◌-◌, Bool, ◌&&◌, List, length, take, replicate, refl, sym, ap, subst, ◌∙◌}
-use Rattle.std.specs.Prelude.{◌==◌}
-use Rattle.std.specs.Cmp.Lexicographic.{pointwise}
+use Rattle.std.proofs.Common.{◌≡◌, ℕ, ◌+◌, ◌<◌, ◌≤◌, Bool, ◌&&◌, List, length, take, get_or, sym, ap, ◌∙◌, arith, refl}
 use Rattle.std.specs.Bool.{Decides}
-use Rattle.std.proofs.Math.Seq.{take-append_seam}
-use Rattle.std.proofs.lemmas.Bool.Decides.{Decides-eqb, Decides-and, Decides-like}
-use Rattle.std.proofs.lemmas.Slice.Eq.{slice_eq-Decides}
-use Rattle.ht_pam.specs.Grids.{no_axes}
-use Rattle.ht_pam.specs.Ladders.{Rungs}
-use Rattle.ht_pam.specs.Shown.{grid_fields}
+use Rattle.std.proofs.lemmas.Bool.Decides.{Decides-and, Decides-like}
+use Rattle.std.proofs.lemmas.List.{get_or-take, get_or_default, take-take, take_all, take_more_same}
+use Rattle.ht_pam.specs.Grids.{IsGrid, IsPaddedGrid}
+use Rattle.ht_pam.specs.Shown.{grid_fields, grid_fields-shown}
 use Rattle.ht_pam.specs.declared.axes.Axes.{Axes}
-use Rattle.ht_pam.specs.contracts.axes.AxesPartialEq.TheImpl as axes_eq
+use Rattle.ht_pam.specs.declared.grid.Grid.TheInside.{Inside as GridFields}
 
-same_rungs : (a b : Rungs) → a.size ≡ b.size → a.mask ≡ b.mask → a ≡ b
-same_rungs a b p q =
-    let at : ℕ → ℕ → Rungs = λ s m. record { size = s; mask = m } in
-    ap (λ s. at s a.mask) p ∙ ap (λ m. at b.size m) q
+-- lists whose first items are the same, up to one further
+module _ {X : Type 0} (xs ys : List X) (i : ℕ) (same : take (i + 1) xs ≡ take (i + 1) ys) where
+  earlier : take i xs ≡ take i ys
+  earlier = sym (take-take i (i + 1) xs (omega arith)) ∙ ap (λ (zs : List X). take i zs) same ∙ take-take i (i + 1) ys (omega arith)
 
-same_axes : (a b : Axes) → a.i ≡ b.i → a.q ≡ b.q → a ≡ b
-same_axes a b p q =
-    let at : Rungs → Rungs → Axes = λ i q. record { i = i; q = q } in
-    ap (λ i. at i a.q) p ∙ ap (λ r. at b.i r) q
+  last : (d : X) → get_or xs i d ≡ get_or ys i d
+  last d =
+      sym (get_or-take (i + 1) xs i d (omega arith)) ∙ ap (λ (zs : List X). get_or zs i d) same ∙ get_or-take (i + 1) ys i d (omega arith)
 
--- `==` of a stream's ladders
-pub axes_decides : (a b : Axes) → Decides (axes_eq.eq-value.it a b) (a ≡ b)
-axes_decides a b =
+-- a test of the first items of two lists, behind another test: the next item is tested too
+pub more_same : {X P : Type 0} (xs ys : List X) (i : ℕ) (d e : X) (same r : Bool) → i < length xs → i < length ys
+    → Decides same (P × (take i xs ≡ take i ys)) → Decides r (get_or xs i d ≡ get_or ys i e)
+    → Decides (same && r) (P × (take (i + 1) xs ≡ take (i + 1) ys))
+more_same xs ys i d e same r lt under first next =
+    let at : get_or ys i e ≡ get_or ys i d = get_or_default ys i e d under in
     Decides-like _
-    (λ h. same_axes a b (same_rungs a.i b.i h.0.0 h.0.1) (same_rungs a.q b.q h.1.0 h.1.1))
-    (λ e. ((ap (λ (c : Axes). c.i.size) e, ap (λ (c : Axes). c.i.mask) e), (ap (λ (c : Axes). c.q.size) e, ap (λ (c : Axes). c.q.mask) e)))
-    (Decides-and _ _ (Decides-and _ _ (Decides-eqb a.i.size b.i.size) (Decides-eqb a.i.mask b.i.mask))
-    (Decides-and _ _ (Decides-eqb a.q.size b.q.size) (Decides-eqb a.q.mask b.q.mask)))
+    (λ h. (h.0.0, take_more_same xs ys i d lt under h.0.1 (h.1 ∙ at)))
+    (λ h. ((h.0, earlier xs ys i h.1), last xs ys i h.1 d ∙ sym at))
+    (Decides-and _ _ first next)
 
--- a grid is what stands in its fields
-unfilled : (g : List Axes) → take (length g) (grid_fields g).axes ≡ g
-unfilled g = take-append_seam g (replicate (4 - length g) no_axes)
+-- and where no items are left, the lists are tested
+pub all_same : {X P : Type 0} (xs ys : List X) (n : ℕ) (same : Bool) → length xs ≤ n → length ys ≤ n
+    → Decides same (P × (take n xs ≡ take n ys)) → Decides same (P × (xs ≡ ys))
+all_same xs ys n same few less =
+    Decides-like _ (λ h. (h.0, sym (take_all n xs few) ∙ h.1 ∙ take_all n ys less)) (λ h. (h.0, ap (λ zs. take n zs) h.1))
 
-same_grids : (g h : List Axes) → length g ≡ length h → (grid_fields g).axes ≡ (grid_fields h).axes → g ≡ h
-same_grids g h p q =
-    sym (unfilled g) ∙ ap (λ (n : ℕ). take n (grid_fields g).axes) p ∙ ap (λ (axes : List Axes). take (length h) axes) q ∙ unfilled h
+-- before the first item, no more than the other test is asked
+pub none_same : {X P : Type 0} (xs ys : List X) (same : Bool) → Decides same P → Decides same (P × (take 0 xs ≡ take 0 ys))
+none_same xs ys same = Decides-like _ (λ p. (p, refl)) (λ h. h.0)
 
--- `==` of grids
-pub grids_decide : (g h : List Axes) (r : Bool)
-    → r ≡ (length g == length h && pointwise axes_eq.eq-value.it (grid_fields g).axes (grid_fields h).axes) → Decides r (g ≡ h)
-grids_decide g h r is =
-    let axes = slice_eq-Decides axes_decides (grid_fields g).axes (grid_fields h).axes _ refl in
-    let fields = Decides-and _ _ (Decides-eqb (length g) (length h)) axes in
-    subst (λ (b : Bool). Decides b (g ≡ h)) (sym is)
-    (Decides-like _ (λ e. same_grids g h e.0 e.1) (λ e. (ap length e, ap (λ (k : List Axes). (grid_fields k).axes) e)) fields)
+-- grids with the same streams have the same fields
+pub grids_decide : (s u : GridFields) (g h : List Axes) (same : Bool)
+    → IsPaddedGrid s.streams s.axes × IsGrid (take s.streams s.axes) → IsPaddedGrid u.streams u.axes × IsGrid (take u.streams u.axes)
+    → take s.streams s.axes ≡ g → take u.streams u.axes ≡ h
+    → Decides same ((s.streams ≡ u.streams) × (s.axes ≡ u.axes)) → Decides same (g ≡ h)
+grids_decide s u g h same p q e f =
+    let back : g ≡ h → s ≡ u = λ is. sym (grid_fields-shown s p) ∙ ap grid_fields (e ∙ is ∙ sym f) ∙ grid_fields-shown u q in
+    Decides-like _
+    (λ is. sym e ∙ ap (λ (n : ℕ). take n s.axes) is.0 ∙ ap (λ (axes : List Axes). take u.streams axes) is.1 ∙ f)
+    (λ is. (ap (λ (v : GridFields). v.streams) (back is), ap (λ (v : GridFields). v.axes) (back is)))

@@ -1,4 +1,5 @@
 //! The two coordinates of one stream.
+ghost use Rattle.std.specs.Prelude.{◌≡◌, IsTrue, ◌↔◌};
 
 use crate::ladder::Ladder;
 
@@ -7,4 +8,13 @@ use crate::ladder::Ladder;
 pub struct Axes {
     pub i: Ladder,
     pub q: Ladder,
+}
+
+impl Axes {
+    // Whether both have the same ladders.
+    pub(crate) fn same(&self, other: &Axes) -> bool
+        ensures { IsTrue result ↔ (self.now ≡ other.now) }
+    {
+        self.i.same(&other.i) & self.q.same(&other.q)
+    }
 }

@@ -1,5 +1,5 @@
 //! The levels of one coordinate.
-ghost use Rattle.std.specs.Prelude.{◌≡◌, ◌⊎◌, ◌<◌, ◌≤◌, ◌^◌, ◌==◌, ◌&&◌, unsigned_abs};
+ghost use Rattle.std.specs.Prelude.{◌≡◌, ◌⊎◌, ◌<◌, ◌≤◌, ◌^◌, ◌==◌, ◌&&◌, unsigned_abs, IsTrue, ◌↔◌};
 ghost use Rattle.ht_pam.specs.Ladders.{IsLadder, level as level_of, has};
 ghost use Rattle.std.specs.Int.{bit_at};
 ghost use Rattle.std.specs.Ordering.{int_eq};
@@ -51,6 +51,13 @@ impl Ladder {
             }
         }
         false
+    }
+
+    // Whether both ladders have the same levels, and allow the same ones.
+    pub(crate) fn same(&self, other: &Ladder) -> bool
+        ensures { IsTrue result ↔ (self.now ≡ other.now) }
+    {
+        (self.size == other.size) & (self.mask == other.mask)
     }
 
     // How many levels there are, and the mask of the allowed ones.

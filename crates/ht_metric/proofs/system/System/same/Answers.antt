@@ -1,27 +1,24 @@
-use Rattle.std.proofs.Common.{◌≡◌, ap}
-use Rattle.std.proofs.lemmas.Bool.{both_ways}
-use Rattle.std.proofs.lemmas.Slice.Eq.{slice_eq-Decides}
-use Rattle.ht_metric.specs.declared.system.System.TheInside.{Inside as SystemFields}
-use Rattle.ht_metric.proofs.SameLemmas.{samples_decide, same_systems, same_rows}
+use Rattle.std.proofs.Common.{◌<◌, ◌≤◌, length, arith}
+use Rattle.ht_pam.proofs.SameLemmas.{none_same, more_same, all_same}
+use Rattle.ht_metric.proofs.SameLemmas.{systems_decide}
 use Rattle.ht_metric.proofs.system.System.same.Goals as goal
 
-pub returns-then-same : goal.returns-then-same
-returns-then-same c =
-    let s = c.self.inside in
-    let u = c.other.inside in
-    let samples = slice_eq-Decides samples_decide s.y u.y c.eq.result c.eq.ensures in
-    let back : c.args.self.now ≡ c.args.other.now → s ≡ u =
-    λ e. same_systems s u c.args.self.now c.args.other.now c.self.invariant c.other.invariant c.self.view_is c.other.view_is e in (
-      (λ h. same_rows s u c.args.self.now c.args.other.now c.self.view_is c.other.view_is (c.same.ensures.0 c.if-same.true) (samples.0 h)),
-      (λ e. samples.1 (ap (λ (v : SystemFields). v.y) (back e))),
-    )
+pub loop-k-init : goal.loop-k-init
+loop-k-init c = none_same c.self.inside.y c.other.inside.y _ c.same-same.ensures
 
-pub returns-else-same : goal.returns-else-same
-returns-else-same c =
+pub loop-k-preserved : goal.loop-k-preserved
+loop-k-preserved c =
     let s = c.self.inside in
     let u = c.other.inside in
-    let back : c.args.self.now ≡ c.args.other.now → s ≡ u =
-    λ e. same_systems s u c.args.self.now c.args.other.now c.self.invariant c.other.invariant c.self.view_is c.other.view_is e in (
-      (λ h. absurd (both_ways c.same.result c.if-same.false h)),
-      (λ e. c.same.ensures.1 (ap (λ (v : SystemFields). v.triangle) (back e))),
-    )
+    let lt : c.loop-k.k < length s.y = omega (arith, c.loop-k-test.true, c.self.invariant.samples) in
+    let under : c.loop-k.k < length u.y = omega (arith, c.loop-k-test.true, c.other.invariant.samples) in
+    more_same s.y u.y c.loop-k.k _ _ _ _ lt under c.loop-k.invariant c.same-same-in-loop-k.ensures
+
+pub returns : goal.returns
+returns c =
+    let s = c.self.inside in
+    let u = c.other.inside in
+    let few : length s.y ≤ c.loop-k.k = omega (arith, c.loop-k-test.false, c.self.invariant.samples) in
+    let less : length u.y ≤ c.loop-k.k = omega (arith, c.loop-k-test.false, c.other.invariant.samples) in
+    systems_decide s u c.args.self.now c.args.other.now _ c.self.invariant c.other.invariant c.self.view_is c.other.view_is
+    (all_same s.y u.y c.loop-k.k _ few less c.loop-k.invariant)

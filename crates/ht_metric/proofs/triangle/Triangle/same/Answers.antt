@@ -1,41 +1,42 @@
-use Rattle.std.proofs.Common.{◌≡◌, ap, sym, ◌∙◌}
-use Rattle.std.proofs.lemmas.Bool.{both_ways, ne_eqb}
+use Rattle.std.proofs.Common.{◌<◌, ◌≤◌, length, get_or, arith}
 use Rattle.std.proofs.lemmas.Bool.Decides.{Decides-eqb}
-use Rattle.std.proofs.lemmas.Slice.Eq.{slice_eq-Decides}
-use Rattle.ht_metric.specs.declared.triangle.Triangle.TheInside.{Inside as TriangleFields}
-use Rattle.ht_metric.proofs.SameLemmas.{taps_decide, same_triangles, same_legs}
+use Rattle.ht_pam.proofs.SameLemmas.{none_same, more_same, all_same}
+use Rattle.ht_metric.proofs.SameLemmas.{triangles_decide}
 use Rattle.ht_metric.proofs.triangle.Triangle.same.Goals as goal
-use Rattle.ht_metric.proofs.triangle.Triangle.same.Goals.{then-self-other, else-self-other}
 
-pub returns-then-same : goal.returns-then-same
-returns-then-same c =
+pub loop-k-init : goal.loop-k-init
+loop-k-init c = none_same c.self.inside.diagonal c.other.inside.diagonal _ (Decides-eqb c.self.inside.streams c.other.inside.streams)
+
+pub loop-k-preserved : goal.loop-k-preserved
+loop-k-preserved c =
     let t = c.self.inside in
     let u = c.other.inside in
-    let above = slice_eq-Decides taps_decide t.above u.above c.eq.result c.eq.ensures in
-    let back : c.args.self.now ≡ c.args.other.now → t.above ≡ u.above =
-    λ e. ap (λ (v : TriangleFields). v.above)
-    (same_triangles t u c.args.self.now c.args.other.now c.self.invariant c.other.invariant c.self.view_is c.other.view_is e) in
-    elim c.if-self-other.branch [
-      | then-self-other w ↦
-          let diagonal = slice_eq-Decides Decides-eqb t.diagonal u.diagonal w.eq-same.result w.eq-same.ensures in (
-            (λ h. same_legs t u c.args.self.now c.args.other.now c.self.view_is c.other.view_is w.if-self-other.true
-                (diagonal.0 (sym w.same-is ∙ c.if-same.true)) (above.0 h)),
-            (λ e. above.1 (back e)),
-          )
-      | else-self-other w ↦ absurd (both_ways c.if-self-other.same (w.same-is ∙ ne_eqb t.streams u.streams w.if-self-other.false) c.if-same.true)
-    ]
+    let lt : c.loop-k.k < length t.diagonal = omega (arith, c.loop-k-test.true, c.self.invariant.diagonals) in
+    let under : c.loop-k.k < length u.diagonal = omega (arith, c.loop-k-test.true, c.other.invariant.diagonals) in
+    more_same t.diagonal u.diagonal c.loop-k.k 0 0 _ _ lt under c.loop-k.invariant
+    (Decides-eqb (get_or t.diagonal c.loop-k.k 0) (get_or u.diagonal c.loop-k.k 0))
 
-pub returns-else-same : goal.returns-else-same
-returns-else-same c =
+pub loop-j-init : goal.loop-j-init
+loop-j-init c =
     let t = c.self.inside in
     let u = c.other.inside in
-    let back : c.args.self.now ≡ c.args.other.now → t ≡ u =
-    λ e. same_triangles t u c.args.self.now c.args.other.now c.self.invariant c.other.invariant c.self.view_is c.other.view_is e in (
-      (λ h. absurd (both_ways c.if-self-other.same c.if-same.false h)),
-      (λ e. elim c.if-self-other.branch [
-        | then-self-other w ↦
-            let diagonal = slice_eq-Decides Decides-eqb t.diagonal u.diagonal w.eq-same.result w.eq-same.ensures in
-            w.same-is ∙ diagonal.1 (ap (λ (v : TriangleFields). v.diagonal) (back e))
-        | else-self-other w ↦ absurd (w.if-self-other.false (ap (λ (v : TriangleFields). v.streams) (back e)))
-      ]),
-    )
+    let few : length t.diagonal ≤ c.loop-k.k = omega (arith, c.loop-k-test.false, c.self.invariant.diagonals) in
+    let less : length u.diagonal ≤ c.loop-k.k = omega (arith, c.loop-k-test.false, c.other.invariant.diagonals) in
+    none_same t.above u.above _ (all_same t.diagonal u.diagonal c.loop-k.k _ few less c.loop-k.invariant)
+
+pub loop-j-preserved : goal.loop-j-preserved
+loop-j-preserved c =
+    let t = c.self.inside in
+    let u = c.other.inside in
+    let lt : c.loop-j.j < length t.above = omega (arith, c.loop-j-test.true, c.self.invariant.entries) in
+    let under : c.loop-j.j < length u.above = omega (arith, c.loop-j-test.true, c.other.invariant.entries) in
+    more_same t.above u.above c.loop-j.j _ _ _ _ lt under c.loop-j.invariant c.same-same.ensures
+
+pub returns : goal.returns
+returns c =
+    let t = c.self.inside in
+    let u = c.other.inside in
+    let few : length t.above ≤ c.loop-j.j = omega (arith, c.loop-j-test.false, c.self.invariant.entries) in
+    let less : length u.above ≤ c.loop-j.j = omega (arith, c.loop-j-test.false, c.other.invariant.entries) in
+    triangles_decide t u c.args.self.now c.args.other.now _ c.self.invariant c.other.invariant c.self.view_is c.other.view_is
+    (all_same t.above u.above c.loop-j.j _ few less c.loop-j.invariant)
