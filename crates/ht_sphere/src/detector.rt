@@ -42,8 +42,12 @@ pub fn into_hit<L: Ledger>(job: Job, steps: &mut Steps<L>) -> Hit
     ensures near { near job ≡ record { vector = result.vector; distance = result.distance } }
     ensures steps { steps.new ≤ steps.old + 2 * inside_of job }
 {
-    let found = find(&job, steps);
-    Hit::join(job, found)
+    let Found { vector, distance } = find(&job, steps);
+    Hit {
+        job,
+        vector,
+        distance,
+    }
 }
 
 /// The first nearest vector of a job and its distance, below 2^66, as [`nearest`] finds them, without the job.
