@@ -33,8 +33,8 @@ pub trait Account {
     ghost waits: { Self → List HeadedValue → Type 0 };
 
     /// Takes the hit of the first job due, whose frame has this head. In `due` are all jobs that are due, in order, this
-    /// one first, each as its place and the head of its frame. Behind a refusal nothing is said of the pieces still to
-    /// come, and nothing of the ones that were kept back.
+    /// one first, each with the head of its frame. Behind a refusal nothing is said of the pieces still to come, and
+    /// nothing of the ones that were kept back.
     fn take(
         &mut self,
         head: &FrameHead,

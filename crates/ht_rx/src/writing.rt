@@ -33,10 +33,7 @@ fn ends_symbol(due: &HeapCircularBuffer<DueJob>, place: Place) -> bool
         × (next.job.place.frame ≡ place.frame) × (next.job.place.symbol ≡ place.symbol) }
 {
     match due.get(1) {
-        Some(job) => {
-            let next = job.place();
-            next.frame != place.frame || next.symbol != place.symbol
-        }
+        Some(next) => !next.is_of_symbol(place),
         None => true,
     }
 }
