@@ -11,12 +11,6 @@ use std::marker::Model;
 /// One vector to be detected: the system of a subcarrier in one symbol, and the grid of the vectors that may have been sent.
 #[derive(Debug, PartialEq, Eq, Drop)]
 pub struct Job {
-    parts: Parts,
-}
-
-// What a job consists of, which is copied in one piece.
-#[derive(Clone, Copy, Debug, PartialEq, Eq)]
-struct Parts {
     number: u64,
     place: Place,
     system: System,
@@ -28,11 +22,11 @@ impl Model for Job {
 
     ghost Value = { JobView };
 
-    ghost view = { λ j. let p = j.parts in record { number = p.number; place = p.place; grid = p.grid; system = p.system } };
+    ghost view = { λ j. record { number = j.number; place = j.place; grid = j.grid; system = j.system } };
 
-    ghost invariant = { λ j. let p = j.parts in IsJob (record { number = p.number; place = p.place; grid = p.grid; system = p.system }) };
+    ghost invariant = { λ j. IsJob (record { number = j.number; place = j.place; grid = j.grid; system = j.system }) };
 
-    ghost inverse = { λ v. record { parts = record { number = v.number; place = v.place; grid = v.grid; system = v.system } } };
+    ghost inverse = { λ v. record { number = v.number; place = v.place; grid = v.grid; system = v.system } };
 }
 
 impl Job {
@@ -42,12 +36,10 @@ impl Job {
         ensures { result ≡ record { number = number; place = place; grid = grid; system = system } }
     {
         Job {
-            parts: Parts {
-                number,
-                place,
-                system,
-                grid,
-            },
+            number,
+            place,
+            system,
+            grid,
         }
     }
 
@@ -55,14 +47,14 @@ impl Job {
     pub fn number(&self) -> u64
         ensures { result ≡ self.now.number }
     {
-        self.parts.number
+        self.number
     }
 
     /// Where in the capture the job comes from.
     pub fn place(&self) -> Place
         ensures { result ≡ self.now.place }
     {
-        self.parts.place
+        self.place
     }
 
     /// The vectors that may have been sent.
@@ -70,7 +62,7 @@ impl Job {
         ensures grid { result.now ≡ self.now.grid }
         ensures job { IsJob self.now }
     {
-        &self.parts.grid
+        &self.grid
     }
 
     /// The channel and what was received.
@@ -78,23 +70,27 @@ impl Job {
         ensures system { result.now ≡ self.now.system }
         ensures job { IsJob self.now }
     {
-        &self.parts.system
+        &self.system
     }
 
     /// Whether both jobs have the same number, place, grid and system, as `==` says too.
     pub fn same(&self, other: &Job) -> bool
         ensures { IsTrue result ↔ (self.now ≡ other.now) }
     {
-        let (a, b) = (&self.parts, &other.parts);
-        let same = a.number == b.number && a.place == b.place;
-        same && a.grid.same(&b.grid) && a.system.same(&b.system)
+        let same = self.number == other.number && self.place == other.place;
+        same && self.grid.same(&other.grid) && self.system.same(&other.system)
     }
 
     /// A copy of the job.
     pub fn copy(&self) -> Job
         ensures { result ≡ self.now }
     {
-        Job { parts: self.parts }
+        Job {
+            number: self.number,
+            place: self.place,
+            system: self.system,
+            grid: self.grid,
+        }
     }
 }
 
