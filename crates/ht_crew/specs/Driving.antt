@@ -13,7 +13,7 @@ abbrev pub one_without : Option Found → ℕ → ℕ
 one_without None count = count + 1
 one_without (Some found) count = count
 
--- how many slots have no hit
+-- how many slots wait
 abbrev pub waiting : List Slot → ℕ
 waiting [] = 0
 waiting (slot ∷ slots) = one_without slot.found (waiting slots)

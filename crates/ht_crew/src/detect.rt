@@ -5,7 +5,8 @@ use crate::gate::Gate;
 use crate::lot::{Lot, LotHits};
 use ht_team::work::Work;
 
-/// A task is a lot of jobs, and its answer is their hits. The gate is called before and after each job.
+/// A task is a lot of jobs, and its answer is the same jobs with what was found for each, which contracts see as their
+/// hits. The gate is called before and after each job.
 #[derive(Drop)]
 pub(crate) struct Detect<'a, G> {
     pub(crate) gate: &'a G,

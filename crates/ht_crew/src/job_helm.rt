@@ -60,7 +60,7 @@ impl Depot {
     }
 }
 
-/// Where a caller gives jobs to the pool and gets their hits. Jobs are loaded until there is a lot of them, which goes to the
+/// Where a caller gives jobs to the pool and gets what was found for them. Jobs are loaded until there is a lot of them, which goes to the
 /// pool. Contracts see the jobs that it gave or loaded, in order, and the lots and hits that went to and fro.
 #[derive(Drop)]
 pub(crate) struct JobHelm<'a, 'g, G: Gate> {

@@ -46,7 +46,7 @@ fn book_all(window: &mut Window, tally: &mut Tally, pace: &mut Pace, jobs: &[Job
     }
 }
 
-// Books the hits of a lot, and keeps its memory.
+// Books what was found for the jobs of a lot, and keeps its memory.
 fn book_lot<G: Gate>(
     window: &mut Window,
     helm: &mut JobHelm<'_, '_, G>,
@@ -113,7 +113,7 @@ pub(crate) fn issue<G: Gate>(
     }
 }
 
-/// Books hits that have come, or runs a lot that no worker took. Where there is neither, another thread may go on.
+/// Books a lot that has come back, or runs one that no worker took. Where there is neither, another thread may go on.
 pub(crate) fn turn<G: Gate>(
     window: &mut Window,
     helm: &mut JobHelm<'_, '_, G>,

@@ -65,7 +65,7 @@ impl Grid {
     pub fn same(&self, other: &Grid) -> bool
         ensures { IsTrue result ↔ (self.now ≡ other.now) }
     {
-        // Nothing is skipped behind a difference: without jumps the arrays are compared in few instructions.
+        // Nothing is skipped once a difference is found: without jumps the arrays are compared in few instructions.
         let mut same = self.streams == other.streams;
         for k in 0..4 {
             same = same & self.axes[k].same(&other.axes[k]);

@@ -2,7 +2,7 @@
 use ht_capture::FrameHead;
 use ht_metric::Job;
 
-/// A job of a capture, with the head of its frame.
+/// A job of a capture, with the head of its frame, as contracts see it.
 #[derive(Debug, Drop)]
 pub struct Headed {
     pub head: FrameHead,

@@ -7,14 +7,14 @@ use ht_metric::{Job, Place};
 use std::marker::Model;
 use std::snapshot::Snapshot;
 
-/// A job that is due, as a feed keeps it: the head of its frame, and of its place the frame and the symbol. Contracts see
-/// the whole job.
+/// A job that is due, as a feed keeps it: the head of its frame, and of its place the frame and the symbol. Contracts
+/// see the whole job.
 #[derive(Drop)]
 pub struct DueJob {
     head: FrameHead,
     frame: u16,
     symbol: u32,
-    // The job; it has no bytes.
+    // The job; it has no octets.
     job: Snapshot<Job>,
 }
 

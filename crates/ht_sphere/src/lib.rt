@@ -3,7 +3,8 @@
 //! A job (crate `ht_metric`) has a triangular system of one to four rows and a grid of points per stream
 //! (IEEE Std 802.11-2012, 20.3.11). The real and the imaginary part of a row are real rows of their own, so
 //! n streams have the 2n coordinates I_1, Q_1, I_2, Q_2 and so on. [`nearest`] walks them from Q_n down to
-//! I_1. A level's cost is the square of what it leaves of the sample once the levels behind it are taken
+//! I_1; [`find`] does the same and answers the vector and its distance alone, and [`into_hit`] moves the job into
+//! its hit. A level's cost is the square of what it leaves of the sample once the levels behind it are taken
 //! away; the costs so far are the partial distance, which never falls. Each coordinate's levels come nearest
 //! first, so a level that is too far ends its coordinate: all later ones are too far as well.
 //!

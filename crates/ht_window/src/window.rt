@@ -69,8 +69,8 @@ impl Window {
         !self.slots.is_full()
     }
 
-    /// Issues a job: it gets a new last slot, which waits for its answer. There is room, and the job's number is the next one, below
-    /// 2^64 - 1.
+    /// Issues a job: it gets a new last slot, which waits for its answer. There is room, and the job's number is the next
+    /// one, below 2^64 - 1.
     pub fn issue(&mut self, job: Job)
         requires room { length self.old.slots < self.old.capacity }
         requires next { job.number ≡ self.old.front + length self.old.slots }
@@ -84,8 +84,8 @@ impl Window {
         self.slots.push_back(Slot { job, found: None });
     }
 
-    /// Puts a hit into the slot of its job, as [`accept_found`](Window::accept_found) does what was found for a job. A hit
-    /// that isn't booked is dropped.
+    /// Puts what a hit says into the slot of its job, as [`accept_found`](Window::accept_found) does. The hit is dropped
+    /// then.
     pub fn accept(&mut self, hit: Hit) -> Accepted
         // When each answer comes.
         ensures booked { result ≡ Accepted.Booked ↔ IsUnbooked self.old hit.job }
@@ -159,7 +159,7 @@ impl Window {
         self.front += count;
     }
 
-    /// A copy of the first job that waits for its answer. `None` where no slot waits, or where there is none.
+    /// A copy of the first job that waits for its answer. `None` where no slot waits.
     #[must_use]
     pub fn first_unbooked(&self) -> Option<Job>
         ensures first { result ≡ first_unbooked self.now.slots }
