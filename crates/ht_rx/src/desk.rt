@@ -219,9 +219,7 @@ fn make_room(due: &mut HeapCircularBuffer<DueJob>) -> Result<(), AllocError>
     due.resize(DUE)
 }
 
-// Keeps a job that is due behind the others, with the head of its frame. It is kept out of line, so that the job stays in
-// one piece where it stands.
-#[inline(never)]
+// Keeps a job that is due behind the others, with the head of its frame.
 fn keep(due: &mut HeapCircularBuffer<DueJob>, head: &FrameHead, job: &Job)
     requires { length due.old.items < due.old.capacity }
     ensures { due.new ≡ buffer (due.old.items ++ headed_of head.now job.now ∷ []) due.old.capacity }

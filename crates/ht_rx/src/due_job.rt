@@ -1,5 +1,5 @@
 //! A job that is due, as a feed keeps it.
-ghost use Rattle.std.specs.Prelude.{◌≡◌, ◌↔◌, IsTrue};
+ghost use Rattle.std.specs.Prelude.{◌≡◌};
 ghost use Rattle.ht_results.specs.Heads.{headed_of};
 
 use ht_capture::FrameHead;
@@ -7,13 +7,11 @@ use ht_metric::{Job, Place};
 use std::marker::Model;
 use std::snapshot::Snapshot;
 
-/// A job that is due, as a feed keeps it: the head of its frame, and of its place the frame and the symbol. Contracts
-/// see the whole job.
+/// A job that is due, as a feed keeps it: the head of its frame and its place. Contracts see the whole job.
 #[derive(Drop)]
 pub struct DueJob {
     head: FrameHead,
-    frame: u16,
-    symbol: u32,
+    place: Place,
     // The job; it has no octets.
     job: Snapshot<Job>,
 }
@@ -26,7 +24,7 @@ impl Model for DueJob {
 
     ghost view = { λ d. record { head = d.head; job = d.job.value } };
 
-    ghost invariant = { λ d. (d.frame ≡ d.job.value.place.frame) × (d.symbol ≡ d.job.value.place.symbol) };
+    ghost invariant = { λ d. d.place ≡ d.job.value.place };
 }
 
 impl DueJob {
@@ -34,11 +32,9 @@ impl DueJob {
     pub fn of(head: &FrameHead, job: &Job) -> DueJob
         ensures { result ≡ headed_of head.now job.now }
     {
-        let place = job.place();
         DueJob {
             head: *head,
-            frame: place.frame,
-            symbol: place.symbol,
+            place: job.place(),
             job: Snapshot::of(job),
         }
     }
@@ -50,10 +46,10 @@ impl DueJob {
         &self.head
     }
 
-    /// Whether the job is of the symbol of this place.
-    pub fn is_of_symbol(&self, place: Place) -> bool
-        ensures { IsTrue result ↔ (self.now.job.place.frame ≡ place.frame) × (self.now.job.place.symbol ≡ place.symbol) }
+    /// Where in the capture the job comes from.
+    pub fn place(&self) -> Place
+        ensures { result ≡ self.now.job.place }
     {
-        self.frame == place.frame && self.symbol == place.symbol
+        self.place
     }
 }

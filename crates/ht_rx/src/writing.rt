@@ -33,7 +33,10 @@ fn ends_symbol(due: &HeapCircularBuffer<DueJob>, place: Place) -> bool
         × (next.job.place.frame ≡ place.frame) × (next.job.place.symbol ≡ place.symbol) }
 {
     match due.get(1) {
-        Some(next) => !next.is_of_symbol(place),
+        Some(job) => {
+            let next = job.place();
+            next.frame != place.frame || next.symbol != place.symbol
+        }
         None => true,
     }
 }
