@@ -3,6 +3,7 @@
 
 mod certificate;
 mod check_fault;
+pub mod laws;
 mod marks;
 
 pub use certificate::Certificate;
