@@ -69,7 +69,7 @@ i_more c d e m n row a u v t p r s f g is next =
     (more_i m row.right)
     ∙ ap (λ (k : ℕ). in_phase k row a) (sym next)
 
-length-from_last : (rows : List Row) (grid : List Axes) → length grid ≡ length rows → length (from_last rows grid) ≡ 2 * length rows
+pub length-from_last : (rows : List Row) (grid : List Axes) → length grid ≡ length rows → length (from_last rows grid) ≡ 2 * length rows
 length-from_last [] grid e = refl
 length-from_last (row ∷ rows) [] e = absurd (omega arith)
 length-from_last (row ∷ rows) (a ∷ grid) e =

@@ -16,7 +16,7 @@
 #![tactic(auto)]
 
 mod detector;
-mod remainder;
+pub mod remainder;
 mod round;
 mod search;
 #[cfg(test)]

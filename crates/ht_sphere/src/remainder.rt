@@ -9,16 +9,18 @@ ghost use Rattle.ht_sphere.specs.Coordinates.{i_at, q_at, left_i, left_q, target
 use ht_metric::{Complex, Job, System};
 use ht_pam::{Point, Zigzag};
 
-// What the levels of the streams behind a row leave of its sample, and its diagonal.
+/// What the levels of the streams behind a row leave of its sample, and its diagonal. The real part is the target of I of
+/// the row's own stream, the imaginary part that of Q.
 #[derive(Clone, Copy)]
-pub(crate) struct Remainder {
-    pub(crate) re: i64,
-    pub(crate) im: i64,
-    pub(crate) d: u16,
+pub struct Remainder {
+    pub re: i64,
+    pub im: i64,
+    pub d: u16,
 }
 
-// What is left of row k, where the levels of the streams behind it are chosen.
-pub(crate) fn remainder_of(job: &Job, k: u8, levels: &[i8]) -> Remainder
+/// What is left of row `k`, counted from 1, where the levels of the streams behind it are chosen. They stand in the order
+/// I_1, Q_1, I_2 and so on.
+pub fn remainder_of(job: &Job, k: u8, levels: &[i8]) -> Remainder
     requires first { 1 ≤ k }
     requires last { k ≤ length job.now.system }
     requires room { length levels.now ≡ 2 * length job.now.system }
@@ -119,8 +121,8 @@ fn left_of(system: &System, k: u8, levels: &[i8]) -> Complex
     Complex { re, im }
 }
 
-// The square of what a level, times the diagonal, leaves of the target.
-pub(crate) fn cost(d: u16, target: i64, level: i8) -> u64
+/// The square of what a level, times the diagonal, leaves of the target.
+pub fn cost(d: u16, target: i64, level: i8) -> u64
     requires target { unsigned_abs target ≤ 2 ^ 31 + 2 ^ 21 }
     requires level { unsigned_abs level ≤ 7 }
     ensures value { result ≡ square (target -ℤ (pos d *ℤ level)) }

@@ -1,0 +1,11 @@
+//! Certificates of detection: what lets somebody check a detected vector without trust in the search.
+#![tactic(auto)]
+
+mod certificate;
+mod check_fault;
+pub mod laws;
+mod marks;
+
+pub use certificate::Certificate;
+pub use check_fault::CheckFault;
+pub use marks::Marks;
