@@ -1,0 +1,48 @@
+-- The walk of a certificate through the tree of suffixes, mark by mark.
+use Rattle.std.specs.Prelude.{◌≡◌, ⊤, ℕ, suc, ◌+◌, ◌<◌, ℤ, List, [], ◌∷◌, ◌++◌, map, Bool, true, false, nat_lt, if◌then◌else◌, Option, Some, None}
+use Rattle.ht_pam.specs.Ladders.{levels as allowed}
+use Rattle.ht_sphere.specs.Coordinates.{Real, cost}
+use Rattle.ht_sphere.specs.Tree.{Reached}
+use Rattle.ht_sphere.specs.Searching.{better}
+use Rattle.ht_witness.specs.declared.check_fault.CheckFault.{CheckFault}
+use Rattle.ht_witness.specs.declared.check_fault.CheckFault.TheVariants.{Early, Better, Short, Long}
+
+-- a suffix: the coordinates in front of it, the next one first, its levels, and its partial distance
+pub record Suffix : Type 0 where
+  pub ahead : List Real
+  pub levels : List ℤ
+  pub partial : ℕ
+
+-- a suffix with one level more
+abbrev pub longer : Real → List Real → List ℤ → ℕ → ℤ → Suffix
+longer c ahead levels partial x = record { ahead = ahead; levels = x ∷ levels; partial = partial + cost c levels x }
+
+-- those with each allowed level of the next coordinate, ascending; a whole vector has none
+abbrev pub below : List Real → List ℤ → ℕ → List Suffix
+below [] levels partial = []
+below (c ∷ ahead) levels partial = map (longer c ahead levels partial) (allowed c.ladder)
+
+-- a whole vector is nearer than the claimed one, or as near and before it
+abbrev pub beats : Reached → List Real → List ℤ → ℕ → Bool
+beats claim [] levels partial = better (levels, partial) claim
+beats claim (c ∷ ahead) levels partial = false
+
+-- the marks are those of a walk that goes through these suffixes in turn. A suffix that is cut is farther than the claimed
+-- vector. One that is open doesn't beat it, and what is below it is walked before the rest
+abbrev pub IsWalk : Reached → List Suffix → List Bool → Type 0
+IsWalk claim [] [] = ⊤
+IsWalk claim [] (mark ∷ marks) = ⊥
+IsWalk claim (s ∷ rest) [] = ⊥
+IsWalk claim (s ∷ rest) (false ∷ marks) = (claim.1 < s.partial) × IsWalk claim rest marks
+IsWalk claim (s ∷ rest) (true ∷ marks) =
+    (beats claim s.ahead s.levels s.partial ≡ false) × IsWalk claim (below s.ahead s.levels s.partial ++ rest) marks
+
+-- the first fault of marks that aren't, where the first of them is the one of this index
+abbrev pub walk_fault : Reached → List Suffix → ℕ → List Bool → Option CheckFault
+walk_fault claim [] at [] = None
+walk_fault claim [] at (mark ∷ marks) = Some (Long at)
+walk_fault claim (s ∷ rest) at [] = Some (Short at)
+walk_fault claim (s ∷ rest) at (false ∷ marks) = if nat_lt claim.1 s.partial then walk_fault claim rest (suc at) marks else Some (Early at)
+walk_fault claim (s ∷ rest) at (true ∷ marks) =
+    if beats claim s.ahead s.levels s.partial then Some (Better at)
+    else walk_fault claim (below s.ahead s.levels s.partial ++ rest) (suc at) marks
