@@ -1,2 +1,4 @@
 pub mod Leading
 pub mod Taking
+pub mod Counts
+pub mod Started

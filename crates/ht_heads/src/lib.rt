@@ -10,12 +10,18 @@
 //!
 //! `magic` and `head` read these from any source or say at which field they stopped; `start_of` and `head_of` are the
 //! octets to be written.
+//!
+//! Other formats begin with a magic, the version 1 and a count of one to eight octets between two limits, as
+//! `48 54 43 54 01` and eight octets for a count of at most 2^37. `start` reads these for any such format, and the specs
+//! have what is due there.
 #![tactic(auto)]
 
 mod reading;
+mod starting;
 #[cfg(test)]
 mod tests;
 mod writing;
 
 pub use reading::{head, magic};
+pub use starting::{Limits, count, start};
 pub use writing::{head_of, start_of};
