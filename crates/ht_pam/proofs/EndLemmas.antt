@@ -1,5 +1,5 @@
 -- A walk whose two ends move apart.
-use Rattle.std.proofs.Common.{refl, ◌≡◌, ◌⊎◌, ℕ, zero, suc, ◌+◌, ◌-◌, ◌/◌, ◌^◌, ◌<◌, ◌≤◌, ℤ, pos, ◌+ℤ◌, ◌-ℤ◌, ◌*ℤ◌, List, []}
+use Rattle.std.proofs.Common.{refl, ◌≡◌, ◌⊎◌, ℕ, zero, suc, ◌+◌, ◌-◌, ◌*◌, ◌/◌, ◌^◌, ◌<◌, ◌≤◌, ℤ, pos, ◌+ℤ◌, ◌-ℤ◌, ◌*ℤ◌, List, []}
 use Rattle.std.proofs.Common.{◌∷◌, ◌++◌, length, get_or, append_assoc, true, unsigned_abs, sym, arith, inl, inr, ap, ◌∙◌, subst}
 use Rattle.std.specs.Prelude.{◌==◌}
 use Rattle.std.specs.Int.{bit_at}
@@ -279,8 +279,54 @@ halves w is many = elim is [
   ]
 ]
 
-pub halved : (at w : ℕ) → w / 2 + w / 2 ≡ w → at + w ≡ at + w / 2 + w / 2
-halved at w e = omega arith
+-- part `at` begins where its lower half does
+twice : (at w : ℕ) → (w ≡ 1) ⊎ (w ≡ 2) ⊎ (w ≡ 4) ⊎ (w ≡ 8) → 1 < w → 2 * at * (w / 2) ≡ at * w
+twice at w is many = elim is [
+  | inl e ↦ absurd (omega arith)
+  | inr rest ↦ elim rest [
+    | inl e ↦ subst (λ (n : ℕ). 2 * at * (n / 2) ≡ at * n) (sym e) (omega arith)
+    | inr more ↦ elim more [
+      | inl e ↦ subst (λ (n : ℕ). 2 * at * (n / 2) ≡ at * n) (sym e) (omega arith)
+      | inr e ↦ subst (λ (n : ℕ). 2 * at * (n / 2) ≡ at * n) (sym e) (omega arith)
+    ]
+  ]
+]
+
+one_more : (n h : ℕ) → (n + 1) * h ≡ n * h + h
+one_more n h = grind arith
+
+-- the target is above the middle between a place and the one below it, or at most there
+abbrev pub Over : ℤ → ℕ → ℕ → ℕ → Type 0
+Over t d size n = (pos d *ℤ (level size n -ℤ pos 1)) <ℤ t
+
+abbrev pub Upto : ℤ → ℕ → ℕ → ℕ → Type 0
+Upto t d size n = t ≤ℤ (pos d *ℤ (level size n -ℤ pos 1))
+
+-- of two halves the one that has the nearest level, by the middle between them
+pub half_step : (t : ℤ) (d size at w r : ℕ) → (w ≡ 1) ⊎ (w ≡ 2) ⊎ (w ≡ 4) ⊎ (w ≡ 8) → 1 < w → at * w + w ≤ size
+    → (0 < at * w → Over t d size (at * w)) → (at * w + w < size → Upto t d size (at * w + w)) → (r ≡ 2 * at) ⊎ (r ≡ 2 * at + 1)
+    → (r ≡ 2 * at + 1 → Over t d size (2 * at * (w / 2) + w / 2)) → (r ≡ 2 * at → Upto t d size (2 * at * (w / 2) + w / 2))
+    → (r * (w / 2) + w / 2 ≤ size) × (0 < r * (w / 2) → Over t d size (r * (w / 2))) × (r * (w / 2) + w / 2 < size → Upto t d size (r * (w / 2) + w / 2))
+half_step t d size at w r is many within below above either over upto =
+    let h = w / 2 in
+    let half : h + h ≡ w = (halves w is many).1 in
+    let double : 2 * at * h ≡ at * w = twice at w is many in
+    elim either [
+      | inl e ↦
+          let same : r * h ≡ at * w = ap (λ (n : ℕ). n * h) e ∙ double in
+          let next : r * h + h ≡ 2 * at * h + h = ap (λ (n : ℕ). n * h + h) e in (
+            omega (arith, same, half, within),
+            λ some. subst (λ (n : ℕ). Over t d size n) (sym same) (below (omega (arith, same, some))),
+            λ more. subst (λ (n : ℕ). Upto t d size n) (sym next) (upto e),
+          )
+      | inr e ↦
+          let same : r * h ≡ 2 * at * h + h = ap (λ (n : ℕ). n * h) e ∙ one_more (2 * at) h in
+          let next : r * h + h ≡ at * w + w = omega (arith, same, double, half) in (
+            omega (arith, next, within),
+            λ some. subst (λ (n : ℕ). Over t d size n) (sym same) (over e),
+            λ more. subst (λ (n : ℕ). Upto t d size n) (sym next) (above (omega (arith, next, more))),
+          )
+    ]
 
 pub shown_first : {now was rest : List ℤ} {x : ℤ} → was ≡ now → was ≡ x ∷ rest → x ≡ get_or now 0 (pos 0)
 shown_first e f = sym (ap (λ (l : List ℤ). get_or l 0 (pos 0)) (sym e ∙ f))

@@ -196,15 +196,30 @@ fn nearest(size: u32, target: i64, d: u32) -> u32
     ensures below { 0 < result → (pos d *ℤ (level size result -ℤ pos 1)) <ℤ target }
     ensures above { result + 1 < size → target ≤ℤ (pos d *ℤ (level size result +ℤ pos 1)) }
 {
+    // `at` counts halves of this width, and the comparison is added to it as a number: a jump on it would be guessed wrong
+    // in half of all random samples.
     let mut at = 0u32;
     let mut width = size;
     while width > 1 {
         width /= 2;
-        if middle(size, at + width, d) < target {
-            at += width;
-        }
+        at = halved(size, at, width, target, d);
     }
     at
+}
+
+// The lower or the upper half of part `at` of the levels, whichever has the nearest one. Halves have `width` levels, and
+// are counted from 0.
+#[inline(always)]
+fn halved(size: u32, at: u32, width: u32, target: i64, d: u32) -> u32
+    requires size { size ≤ 8 }
+    requires width { (width ≡ 1) ⊎ (width ≡ 2) ⊎ (width ≡ 4) }
+    requires within { 2 * at * width + 2 * width ≤ size }
+    requires diagonal { d ≤ 65535 }
+    ensures either { (result ≡ 2 * at) ⊎ (result ≡ 2 * at + 1) }
+    ensures below { result ≡ 2 * at + 1 → (pos d *ℤ (level size (2 * at * width + width) -ℤ pos 1)) <ℤ target }
+    ensures above { result ≡ 2 * at → target ≤ℤ (pos d *ℤ (level size (2 * at * width + width) -ℤ pos 1)) }
+{
+    2 * at + u32::from(middle(size, 2 * at * width + width, d) < target)
 }
 
 // The middle of a level and the one below it, times the diagonal.

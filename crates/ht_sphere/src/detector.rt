@@ -80,15 +80,15 @@ fn best_levels<L: Ledger>(job: &Job, levels: &mut [i8], steps: &mut Steps<L>) ->
     ensures steps { steps.new + 1 ≤ steps.old + 2 * inside_of job.now }
 {
     let mut distance = 0u128;
-    let mut others = u128::MAX;
+    let mut spare = u64::MAX;
     round(
         job,
         job.system().streams(),
         levels,
         &mut distance,
-        &mut others,
+        &mut spare,
     );
-    if distance < others {
+    if spare > 0 {
         return distance;
     }
     better(job, levels, distance, steps)

@@ -1,18 +1,11 @@
-use Rattle.std.proofs.Common.{rules, ℕ, pos, ◌-ℤ◌, ◌*ℤ◌, arith, subst, w64, to_z, of_z}
-use Rattle.std.specs.Int.Signed.{◌≤ℤ◌}
-use Rattle.ht_pam.specs.Ladders.{level}
-use Rattle.ht_pam.proofs.EndLemmas.{halves, halved}
+use Rattle.std.proofs.Common.{w64, to_z, of_z}
+use Rattle.ht_pam.proofs.EndLemmas.{halves, half_step}
 use Rattle.ht_pam.proofs.zigzag.nearest.Goals as goal
 
-pub loop-width-preserved-then-middle-target : goal.loop-width-preserved-then-middle-target
-loop-width-preserved-then-middle-target c =
-    let w = c.loop-width.width in
-    let at = c.loop-width.at in
-    let half = halves w c.loop-width.invariant.width (omega arith) in
-    record {
-      width = half.0;
-      within = omega (arith, half.1, c.loop-width.invariant.within);
-      below = λ some. search (rules, c.middle.ensures, c.if-middle-target.true);
-      above = λ more. subst (λ (n : ℕ). to_z w64 (of_z w64 c.args.target) ≤ℤ (pos c.args.d *ℤ (level c.args.size n -ℤ pos 1)))
-          (halved at w half.1) (c.loop-width.invariant.above (omega (arith, half.1)));
-    }
+pub loop-width-preserved : goal.loop-width-preserved
+loop-width-preserved c =
+    let i = c.loop-width.invariant in
+    let e = c.halved-at.ensures in
+    let s = half_step (to_z w64 (of_z w64 c.args.target)) c.args.d c.args.size c.loop-width.at c.loop-width.width c.halved-at.result
+    i.width c.loop-width-test.true i.within i.below i.above e.either e.below e.above in
+    record { width = (halves c.loop-width.width i.width c.loop-width-test.true).0; within = s.0; below = s.1; above = s.2 }

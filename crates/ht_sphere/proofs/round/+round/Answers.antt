@@ -1,4 +1,4 @@
-use Rattle.std.proofs.Common.{rules, ◌≡◌, ◌∷◌, ◌+◌, ◌-◌, ◌*◌, ◌≤◌, ℤ, List, drop, set, get_or, pos, w8}
+use Rattle.std.proofs.Common.{rules, ◌≡◌, ◌∷◌, ◌+◌, ◌-◌, ◌*◌, ◌<◌, ◌≤◌, ℤ, List, drop, set, get_or, pos, w8}
 use Rattle.std.proofs.Common.{w64, SFits, to_z, of_z, to_z-of_z, unsigned_abs, ap, sym, ◌∙◌, subst, arith}
 use Rattle.std.proofs.lemmas.List.Elements.{All-set}
 use Rattle.std.proofs.Math.ListN.{length-set}
@@ -76,7 +76,7 @@ returns-clause-found t c =
     (ap (λ (l : List ℤ). rounding (down rows grid j) l c.chosen-i.result.partial) (sym list) ∙ c.round.ensures.found)
 
 pub returns-clause-others : goal.returns-clause-others
-returns-clause-others t c =
+returns-clause-others t c some =
     let rows = c.args.job.now.system in
     let grid = c.args.job.now.grid in
     let k = c.args.k in
@@ -95,7 +95,7 @@ returns-clause-others t c =
     let b = to_z-of_z b_fits in
     let x = c.nearest_q-level.result in
     let y = c.nearest_i-level.result in
-    let off = c.round.new.others in
+    let off = c.round.new.distance + c.round.new.spare in
     let w : Reached = (c.round.new.levels, c.round.new.distance) in
     let x_is : to_z w8 (of_z w8 c.chosen-q.result.level) ≡ x = to_z-of_z x_fits ∙ c.chosen-q.ensures.level ∙ a in
     let y_is : to_z w8 (of_z w8 c.chosen-i.result.level) ≡ y = to_z-of_z y_fits ∙ c.chosen-i.ensures.level ∙ b in
@@ -108,12 +108,16 @@ returns-clause-others t c =
     let sum_i : c.chosen-i.result.partial ≡ c.chosen-q.result.partial + cost i (x ∷ s) y =
     c.chosen-i.ensures.partial ∙ ap (λ n. c.chosen-q.result.partial + n) (cost_is i (x ∷ s) _ _ y _ c.remainder_of-left.ensures.d v b) in
     let list = two_set ls k (2 * c.from.result - 2) _ _ x y (omega (arith, c.from.ensures)) (omega (arith, c.requires.room, c.requires.last)) x_is y_is in
-    let far_q = others_is q s _ _ x _ c.args.distance.now _ c.remainder_of-left.ensures.d u a c.chosen-q.ensures.others in
-    let far_i = others_is i (x ∷ s) _ _ y _ c.chosen-q.result.partial _ c.remainder_of-left.ensures.d v b c.chosen-i.ensures.others in
+    let r_less = c.round.ensures.less some in
+    let i_some : 0 < c.chosen-i.result.spare = omega (arith, r_less, c.round.ensures.more, some) in
+    let i_less = c.chosen-i.ensures.less i_some in
+    let q_some : 0 < c.chosen-q.result.spare = omega (arith, i_less, c.chosen-i.ensures.partial, i_some) in
+    let far_q = others_is q s _ _ x _ c.args.distance.now (c.chosen-q.result.partial + c.chosen-q.result.spare) c.remainder_of-left.ensures.d u a (c.chosen-q.ensures.others q_some) in
+    let far_i = others_is i (x ∷ s) _ _ y _ c.chosen-q.result.partial (c.chosen-i.result.partial + c.chosen-i.result.spare) c.remainder_of-left.ensures.d v b (c.chosen-i.ensures.others i_some) in
     let rest : OthersFrom (down rows grid j) (y ∷ x ∷ s) c.chosen-i.result.partial w off =
-    subst (λ (l : List ℤ). OthersFrom (down rows grid j) l c.chosen-i.result.partial w off) list c.round.ensures.others in
+    subst (λ (l : List ℤ). OthersFrom (down rows grid j) l c.chosen-i.result.partial w off) list (c.round.ensures.others some) in
     let all : OthersFrom (from_q rows grid j) s c.args.distance.now w off =
     others_two q i (down rows grid j) s c.args.distance.now c.chosen-q.result.partial c.chosen-i.result.partial off x y w
     (first_is q s x c.nearest_q-level.ensures.ladder first_q) sum_q (first_is i (x ∷ s) y c.nearest_i-level.ensures.ladder first_i) sum_i
-    (omega (arith, far_q, c.round.ensures.less, c.chosen-i.ensures.less)) (omega (arith, far_i, c.round.ensures.less)) rest in
+    (omega (arith, far_q, r_less, i_less)) (omega (arith, far_i, r_less)) rest in
     subst (λ (cs : List Real). OthersFrom cs s c.args.distance.now w off) (sym (down_more rows grid k (omega arith))) all
