@@ -4,7 +4,7 @@ ghost use Rattle.std.specs.Prelude.{codes, decimal, length, string_bytes, string
 ghost use Rattle.std.specs.Option.{option_copied};
 ghost use Rattle.ht_text.specs.Lines.{frame_text, hex, hex_digit, sums_text};
 
-use crate::room::{push, push_number};
+use crate::room::{push, push_ascii, push_number};
 use crate::sums::{LONGEST as SUMS, push_sums};
 use std::alloc::{AllocError, Global};
 
@@ -110,10 +110,7 @@ fn push_digit(text: &mut String, half: u8)
     ensures len { string_len text.new ≡ string_len text.old + 1 }
     ensures capacity { string_capacity text.old ≤ string_capacity text.new }
 {
-    match text.push(digit(half)) {
-        Ok(()) => {}
-        Err(_) => unreachable!(),
-    }
+    push_ascii(text, digit(half));
 }
 
 // The lower-case digit of half an octet.

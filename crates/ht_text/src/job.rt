@@ -1,8 +1,9 @@
 //! The line of a detection job.
-ghost use Rattle.std.specs.Prelude.{◌≡◌, ◌+◌, ◌*◌, ◌≤◌, ◌++◌, [], ◌∷◌, length, IfOk, OnErr, OnOk, string_bytes, string_len, string_capacity};
+ghost use Rattle.std.specs.Prelude.{◌≡◌, ◌+◌, ◌*◌, ◌≤◌, ◌++◌, [], ◌∷◌, length, codes, IfOk, OnErr, OnOk, string_bytes, string_len, string_capacity};
+ghost use Rattle.std.specs.Prelude.{◌<ℤ◌, ◌≤ℤ◌, pos};
 ghost use Rattle.ht_text.specs.Lines.{job_text, spaced};
 
-use crate::room::{push, push_number};
+use crate::room::{push, push_ascii, push_number};
 use std::alloc::{AllocError, Global};
 
 /// Room for the line of a job of no streams with the largest numbers.
@@ -83,26 +84,29 @@ fn push_points(text: &mut String, points: &[i8])
     }
 }
 
-// Appends a space and the number. Those that are levels of constellations are put in one piece.
+// Appends a space and the number. One of a single digit, as the level of a constellation is, is put without a choice among
+// pieces: a jump on random levels is mostly guessed wrong.
 #[tactic(auto, unfolding(crate::specs::Lines::spaced))]
 fn push_level(text: &mut String, level: i8)
     requires room { string_len text.old + 5 ≤ string_capacity text.old }
     ensures bytes { string_bytes text.new ≡ string_bytes text.old ++ spaced (level ∷ []) }
     ensures room { string_len text.new + string_capacity text.old ≤ string_len text.old + 5 + string_capacity text.new }
 {
-    match level {
-        -7 => push(text, " -7"),
-        -5 => push(text, " -5"),
-        -3 => push(text, " -3"),
-        -1 => push(text, " -1"),
-        0 => push(text, " 0"),
-        1 => push(text, " 1"),
-        3 => push(text, " 3"),
-        5 => push(text, " 5"),
-        7 => push(text, " 7"),
-        _ => {
-            push(text, " ");
-            push_number(text, level);
-        }
+    let size = level.unsigned_abs();
+    if size > 9 {
+        push(text, " ");
+        push_number(text, level);
+        return;
     }
+    push(text, before_digits(level));
+    push_ascii(text, char::from(b'0' + size));
+}
+
+// The space before a number, and the minus of a negative one.
+fn before_digits(level: i8) -> &'static str
+    ensures negative { level <ℤ pos 0 → result.now ≡ codes " -" }
+    ensures other { pos 0 ≤ℤ level → result.now ≡ codes " " }
+    ensures length { length result.now ≤ 2 }
+{
+    if level < 0 { " -" } else { " " }
 }

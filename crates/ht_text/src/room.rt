@@ -1,5 +1,5 @@
 //! Pieces of a line, put into a text that has room for them.
-ghost use Rattle.std.specs.Prelude.{◌≡◌, ◌+◌, ◌≤◌, ◌++◌, length, string_bytes, string_len, string_capacity};
+ghost use Rattle.std.specs.Prelude.{◌≡◌, ◌+◌, ◌<◌, ◌≤◌, ◌++◌, [], ◌∷◌, length, string_bytes, string_len, string_capacity};
 
 use itoa::{Buffer, Integer};
 
@@ -11,6 +11,20 @@ pub(crate) fn push(text: &mut String, piece: &str)
     ensures capacity { string_capacity text.old ≤ string_capacity text.new }
 {
     match text.push_str(piece) {
+        Ok(()) => {}
+        Err(_) => unreachable!(),
+    }
+}
+
+/// Appends a character of one octet, for which the text has room.
+pub(crate) fn push_ascii(text: &mut String, character: char)
+    requires ascii { character < 128 }
+    requires room { string_len text.old + 1 ≤ string_capacity text.old }
+    ensures bytes { string_bytes text.new ≡ string_bytes text.old ++ character ∷ [] }
+    ensures len { string_len text.new ≡ string_len text.old + 1 }
+    ensures capacity { string_capacity text.old ≤ string_capacity text.new }
+{
+    match text.push(character) {
         Ok(()) => {}
         Err(_) => unreachable!(),
     }
