@@ -1,12 +1,11 @@
 -- Accepted words give each option a value in its range.
-use Rattle.std.proofs.Common.{◌≡◌, ◌≤◌, ℕ, Bool, true, false, List, [], ◌∷◌, Option, IfSome, refl, codes}
+use Rattle.std.proofs.Common.{◌≡◌, ◌≤◌, ℕ, Bool, true, false, List, [], ◌∷◌, Option, IfSome, refl}
 use Rattle.std.proofs.lemmas.Bool.{and_parts, leb-true}
 use Rattle.std.specs.Prelude.{bytes_eq, nat_le, if◌then◌else◌}
 use Rattle.ht_words.specs.declared.asked.Asked.{Asked}
-use Rattle.ht_words.specs.declared.asked.Asked.TheVariants.{Detect, Rx, Tx, Channel, Upgrade}
 use Rattle.ht_words.specs.declared.setting.Setting.TheVariants.{Workers, Window, Seed, Noise, Frames, Mcs, Bandwidth, Length}
 use Rattle.ht_words.specs.Settings.{admits, is_within}
-use Rattle.ht_words.specs.Words.{IsForWorkers, IsWithinRanges, are_accepted, asked_by, demo_in, for_channel, for_demo, for_workers, is_plain, only_if, value_of}
+use Rattle.ht_words.specs.Words.{IsForWorkers, IsWithinRanges, Row, are_accepted, asked_by, asked_of, commands, demo_in, for_demo, for_workers, is_plain, only_if, value_of}
 
 within : (least most value : ℕ) → is_within least most value ≡ true → (least ≤ value) × (value ≤ most)
 within least most value inside =
@@ -43,18 +42,29 @@ only : (accepted : Bool) (asked : Asked) → (accepted ≡ true → IsWithinRang
 only true asked holds = holds refl
 only false asked holds = tt
 
+-- what the command asks for is in range, whatever accepted words give its options
+abbrev AsksInRange : Row → Type 0
+AsksInRange row = (words : List (List ℕ)) → are_accepted row.options words ≡ true → IsWithinRanges (row.asks words)
+
 either : (test : Bool) (this that : Option Asked) → IfSome this IsWithinRanges → IfSome that IsWithinRanges
     → IfSome (if test then this else that) IsWithinRanges
 either true this that first second = first
 either false this that first second = second
 
+abbrev AreInRange : List Row → Type 0
+AreInRange [] = Unit {0}
+AreInRange (row ∷ rows) = AsksInRange row × AreInRange rows
+
+rows_in_range : (rows : List Row) (command : List ℕ) (words : List (List ℕ)) → AreInRange rows → IfSome (asked_of rows command words) IsWithinRanges
+rows_in_range [] command words are = tt
+rows_in_range (row ∷ rows) command words are =
+    let this : Option Asked = only_if (are_accepted row.options words) (row.asks words) in
+    either (bytes_eq command row.name) this (asked_of rows command words)
+    (only (are_accepted row.options words) (row.asks words) (are.0 words)) (rows_in_range rows command words are.1)
+
 -- what accepted words ask for is in range
 pub asked-in_range : (words : List (List ℕ)) → IfSome (asked_by words) IsWithinRanges
 asked-in_range [] = tt
 asked-in_range (command ∷ words) =
-    either (bytes_eq command (codes "detect")) _ _ (only _ (Detect (value_of words Workers) (value_of words Window)) (for_workers_within words))
-    (either (bytes_eq command (codes "rx")) _ _ (only _ (Rx (value_of words Workers) (value_of words Window)) (for_workers_within words))
-    (either (bytes_eq command (codes "tx")) _ _ (only (are_accepted [] words) Tx (λ _. tt))
-    (either (bytes_eq command (codes "channel")) _ _ (only (are_accepted for_channel words) (Channel (value_of words Seed) (value_of words Noise)) (λ _. tt))
-    (either (bytes_eq command (codes "upgrade")) _ _ (only (are_accepted [] words) Upgrade (λ _. tt))
-    (either (bytes_eq command (codes "demo")) _ _ (only (are_accepted for_demo words) (demo_in words) (demo_within words)) tt)))))
+    let all : AreInRange commands = (for_workers_within, (for_workers_within, ((λ _ _. tt), ((λ _ _. tt), ((λ _ _. tt), (demo_within, tt)))))) in
+    rows_in_range commands command words all

@@ -1,26 +1,10 @@
 -- Which words are accepted. Words come without the program's name, each as its octets.
-use Rattle.std.specs.Prelude.{ℕ, ◌≡◌, ◌≢◌, ◌≤◌, true, List, [], ◌∷◌, length, All, AllPairs, Contains, flat_map, codes}
+use Rattle.std.specs.Prelude.{ℕ, ◌≡◌, ◌≢◌, ◌≤◌, true, List, [], ◌∷◌, length, All, AllPairs, Contains, flat_map}
 use Rattle.std.specs.Char.{is_ascii_digit}
 use Rattle.std.specs.Str.Parse.{digits_value}
 use Rattle.ht_words.specs.declared.setting.Setting.{Setting}
 use Rattle.ht_words.specs.Settings.{admits, name_of}
-use Rattle.ht_words.specs.Words.{for_channel, for_demo, for_workers}
-
--- a command: its name and its options
-pub record Entry : Type 0 where
-  pub name : List ℕ
-  pub options : List Setting
-
--- all commands
-abbrev pub commands : List Entry
-commands =
-    record { name = codes "detect"; options = for_workers }
-    ∷ record { name = codes "rx"; options = for_workers }
-    ∷ record { name = codes "tx"; options = [] }
-    ∷ record { name = codes "channel"; options = for_channel }
-    ∷ record { name = codes "upgrade"; options = [] }
-    ∷ record { name = codes "demo"; options = for_demo }
-    ∷ []
+use Rattle.ht_words.specs.Words.{Row, commands}
 
 -- an option that is given, with the digits of its number
 pub record GivenOption : Type 0 where
@@ -51,4 +35,4 @@ AreAccepted options words = (pairs : List GivenOption) × (words ≡ words_of pa
 -- the first word is the name of a command, and the others give some of its options
 abbrev pub IsAccepted : List (List ℕ) → Type 0
 IsAccepted words =
-    (entry : Entry) × (others : List (List ℕ)) × Contains commands entry × (words ≡ entry.name ∷ others) × AreAccepted entry.options others
+    (row : Row) × (others : List (List ℕ)) × Contains commands row × (words ≡ row.name ∷ others) × AreAccepted row.options others

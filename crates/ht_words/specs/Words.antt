@@ -106,21 +106,37 @@ abbrev pub demo_in : List (List ℕ) → Asked
 demo_in words = Demo (value_of words Seed) (value_of words Noise) (value_of words Frames) (rate_in words) (value_of words Length)
     (value_of words Workers) (value_of words Window)
 
+-- a command: its name, its options, and what it asks for where words give it these
+pub record Row : Type 0 where
+  pub name : List ℕ
+  pub options : List Setting
+  pub asks : List (List ℕ) → Asked
+
+-- all commands, a row each
+abbrev pub commands : List Row
+commands =
+    record { name = codes "detect"; options = for_workers; asks = λ words. Detect (value_of words Workers) (value_of words Window) }
+    ∷ record { name = codes "rx"; options = for_workers; asks = λ words. Rx (value_of words Workers) (value_of words Window) }
+    ∷ record { name = codes "tx"; options = []; asks = λ words. Tx }
+    ∷ record { name = codes "channel"; options = for_channel; asks = λ words. Channel (value_of words Seed) (value_of words Noise) }
+    ∷ record { name = codes "upgrade"; options = []; asks = λ words. Upgrade }
+    ∷ record { name = codes "demo"; options = for_demo; asks = demo_in }
+    ∷ []
+
 -- what is asked, where the words are accepted
 abbrev pub only_if : Bool → Asked → Option Asked
 only_if accepted asked = if accepted then Some asked else None
 
+-- what the command of these that has this name asks for, where the words give some of its options
+abbrev pub asked_of : List Row → List ℕ → List (List ℕ) → Option Asked
+asked_of [] command words = None
+asked_of (row ∷ rows) command words =
+    if bytes_eq command row.name then only_if (are_accepted row.options words) (row.asks words) else asked_of rows command words
+
 -- the first word is a command, and the others give its options
 abbrev pub asked_by : List (List ℕ) → Option Asked
 asked_by [] = None
-asked_by (command ∷ words) =
-    if bytes_eq command (codes "detect") then only_if (are_accepted for_workers words) (Detect (value_of words Workers) (value_of words Window))
-    else if bytes_eq command (codes "rx") then only_if (are_accepted for_workers words) (Rx (value_of words Workers) (value_of words Window))
-    else if bytes_eq command (codes "tx") then only_if (are_accepted [] words) Tx
-    else if bytes_eq command (codes "channel") then only_if (are_accepted for_channel words) (Channel (value_of words Seed) (value_of words Noise))
-    else if bytes_eq command (codes "upgrade") then only_if (are_accepted [] words) Upgrade
-    else if bytes_eq command (codes "demo") then only_if (are_accepted for_demo words) (demo_in words)
-    else None
+asked_by (command ∷ words) = asked_of commands command words
 
 -- what the words ask for, or none where they aren't accepted
 abbrev pub asked : List (String Global) → Option Asked

@@ -4,10 +4,8 @@ ghost use Rattle.std.specs.Global.{Global};
 ghost use Rattle.std.specs.Str.Parse.{digits_value};
 ghost use Rattle.ht_words.specs.Accepted.{AreGiven, IsAccepted, GivenOption, words_of};
 ghost use Rattle.ht_words.specs.Settings.{default_of};
-ghost use Rattle.ht_words.specs.Words.{asked, demo_in, for_channel, for_demo, for_workers, value_of};
-ghost use Rattle.ht_words.specs.declared.asked.Asked.TheVariants.{Channel, Detect, Rx, Tx, Upgrade};
+ghost use Rattle.ht_words.specs.Words.{Row, asked, commands, value_of};
 ghost use Rattle.ht_words.specs.declared.setting.Setting.{Setting as SettingValue};
-ghost use Rattle.ht_words.specs.declared.setting.Setting.TheVariants.{Noise, Seed, Window, Workers};
 
 /// Words ask for something exactly where they are accepted: the name of a command, and behind it some of its options, none
 /// of them twice, each with a number that it may have. So it is for every list of words, of whatever octets each word.
@@ -16,21 +14,10 @@ pub fn accepted()
     ensures only { (words : List (String Global)) → is_some (asked words) ≡ true → IsAccepted (map string_bytes words) }
 {}
 
-/// What accepted words ask for: their command, with a value for each of its options.
+/// What accepted words ask for: what the row of their command says, by the values of its options.
 pub fn commanded()
-    ensures detect { (words : List (String Global)) (pairs : List GivenOption) → AreGiven for_workers pairs
-        → map string_bytes words ≡ codes "detect" ∷ words_of pairs
-        → asked words ≡ Some (Detect (value_of (words_of pairs) Workers) (value_of (words_of pairs) Window)) }
-    ensures rx { (words : List (String Global)) (pairs : List GivenOption) → AreGiven for_workers pairs
-        → map string_bytes words ≡ codes "rx" ∷ words_of pairs
-        → asked words ≡ Some (Rx (value_of (words_of pairs) Workers) (value_of (words_of pairs) Window)) }
-    ensures tx { (words : List (String Global)) → map string_bytes words ≡ codes "tx" ∷ [] → asked words ≡ Some Tx }
-    ensures channel { (words : List (String Global)) (pairs : List GivenOption) → AreGiven for_channel pairs
-        → map string_bytes words ≡ codes "channel" ∷ words_of pairs
-        → asked words ≡ Some (Channel (value_of (words_of pairs) Seed) (value_of (words_of pairs) Noise)) }
-    ensures upgrade { (words : List (String Global)) → map string_bytes words ≡ codes "upgrade" ∷ [] → asked words ≡ Some Upgrade }
-    ensures demo { (words : List (String Global)) (pairs : List GivenOption) → AreGiven for_demo pairs
-        → map string_bytes words ≡ codes "demo" ∷ words_of pairs → asked words ≡ Some (demo_in (words_of pairs)) }
+    ensures { (words : List (String Global)) (row : Row) (pairs : List GivenOption) → Contains commands row → AreGiven row.options pairs
+        → map string_bytes words ≡ row.name ∷ words_of pairs → asked words ≡ Some (row.asks (words_of pairs)) }
 {}
 
 /// The value of an option is the number that its digits mean where it is given, and else its default.

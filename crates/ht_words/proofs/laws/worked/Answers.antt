@@ -1,12 +1,12 @@
 use Rattle.std.proofs.Common.{[], ◌∷◌, codes, refl}
-use Rattle.ht_words.proofs.Acceptance.{by_entry, refused}
+use Rattle.ht_words.proofs.Acceptance.{accepted_by, refused}
 use Rattle.ht_words.proofs.laws.worked.Goals as goal
 
 pub returns-clause-alone : goal.returns-clause-alone
-returns-clause-alone c = by_entry (codes "rx" ∷ []) refl
+returns-clause-alone c = accepted_by (codes "rx" ∷ []) refl
 
 pub returns-clause-zeros : goal.returns-clause-zeros
-returns-clause-zeros c = by_entry (codes "rx" ∷ codes "--window" ∷ codes "00000000000000000007" ∷ codes "--workers" ∷ codes "64" ∷ []) refl
+returns-clause-zeros c = accepted_by (codes "rx" ∷ codes "--window" ∷ codes "00000000000000000007" ∷ codes "--workers" ∷ codes "64" ∷ []) refl
 
 pub returns-clause-twice : goal.returns-clause-twice
 returns-clause-twice c = refused (codes "rx" ∷ codes "--window" ∷ codes "7" ∷ codes "--window" ∷ codes "7" ∷ []) refl
