@@ -1,1 +1,5 @@
+pub mod Converting
 pub mod Fronts
+pub mod Known
+pub mod Outcomes
+pub mod Streaming
