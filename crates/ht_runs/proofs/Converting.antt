@@ -1,8 +1,8 @@
 -- What a call comes to that reads a whole file, and then puts its output.
-use Rattle.std.specs.Prelude.{◌≡◌, ℕ, List, [], Option, Some, None, IfSome}
+use Rattle.std.specs.Prelude.{◌≡◌, ℕ, List, [], Some}
 use Rattle.std.proofs.lemmas.Option.{IfSome_then}
 use Rattle.std.proofs.Common.{refl, ap, ◌∙◌, sym, inl, inr, append-nil}
-use Rattle.ht_io.specs.Devices.{Device, Takes, TakesAll, Grows, GrowsByPart, Rose}
+use Rattle.ht_io.specs.Devices.{Device, TakesAll, Grows, GrowsByPart}
 use Rattle.ht_io.specs.declared.faults.FormatFault.{FormatFault}
 use Rattle.ht_io.specs.declared.faults.InFault.{InFault}
 use Rattle.ht_io.specs.declared.faults.InFault.TheVariants.{Format, Read, NoMemory as ReadMemory}
@@ -13,11 +13,10 @@ use Rattle.ht_fields.specs.Readers.{reader_in}
 use Rattle.ht_fields.specs.WholeFiles.{EndsEarly, HasFirstFault}
 use Rattle.ht_fields.proofs.Answered.{file_found, met}
 use Rattle.ht_fields.proofs.Joins.{early_text}
-use Rattle.ht_runs.specs.Converted.{ConversionFails, Converted, FindsFault, LacksMemory, PutsOutput, PutsPartOfOutput}
+use Rattle.ht_runs.specs.Converted.{ConversionFails, FindsFault, LacksMemory, PutsOutput, PutsPartOfOutput}
 use Rattle.ht_runs.specs.Faults.{fault_of_reading}
 use Rattle.ht_runs.specs.Filters.{BeforeOutput, MemoryUse, WithinOutput}
 use Rattle.ht_runs.specs.Formats.{IsWhole, conversion}
-use Rattle.ht_runs.specs.declared.faults.RunFault.TheVariants.{NoMemory, Write}
 use Rattle.ht_runs.proofs.Known.{known, known_all, takes_of}
 use Rattle.ht_runs.proofs.Streaming.{no_file}
 

@@ -1,9 +1,9 @@
 -- What is said of octets that are known, and of a part of a text.
 use Rattle.std.specs.Prelude.{◌≡◌, ℕ, List, [], ◌++◌, Option, Some, None, IfSome}
-use Rattle.std.proofs.Common.{refl, ap, ◌∙◌, sym, subst, append-nil}
+use Rattle.std.proofs.Common.{ap, ◌∙◌, sym, subst, append-nil}
 use Rattle.ht_io.specs.Devices.{Device, Takes, TakesAll, Grows, GrowsByPart}
 use Rattle.ht_io.specs.Pieces.{KnownTaken, KnownAllTaken}
-use Rattle.ht_io.proofs.Calls.{grows_by_part-append, grows_by_part-none, takes_all-known}
+use Rattle.ht_io.proofs.Calls.{grows_by_part-append, grows_by_part-none}
 
 -- where what is left is known, the whole of it is said of
 pub known : (left after : Option (List ℕ)) (taken : List ℕ) (P : List ℕ → Type 0)

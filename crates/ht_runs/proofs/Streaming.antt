@@ -1,5 +1,5 @@
 -- What a call comes to that reads a file, puts lines while it reads, and then the line that ends them.
-use Rattle.std.specs.Prelude.{◌≡◌, ℕ, ◌+◌, List, [], ◌++◌, length, take, Option, Some, None, Result, Ok, Err, IfSome}
+use Rattle.std.specs.Prelude.{◌≡◌, ℕ, ◌+◌, List, ◌++◌, length, take, Option, Some, None, IfSome}
 use Rattle.std.proofs.Common.{refl, ap, ◌∙◌, sym, subst, arith}
 use Rattle.std.proofs.lemmas.Option.{IfSome_then, none-some}
 use Rattle.ht_io.specs.Devices.{Device, Takes, TakesAll, Grows, GrowsByPart, Rose}
@@ -11,12 +11,11 @@ use Rattle.ht_fields.specs.Meanings.{Meaning, meaning}
 use Rattle.ht_fields.specs.Readers.{IsEarly}
 use Rattle.ht_fields.proofs.Answered.{file_found, met}
 use Rattle.ht_fields.proofs.Joins.{early_text}
-use Rattle.ht_runs.specs.Filters.{Filter, unrefused, where_faulty}
+use Rattle.ht_runs.specs.Filters.{unrefused, where_faulty}
 use Rattle.ht_runs.specs.Formats.{IsFaultless, IsLined, IsWhole, filter, last_text, lines_by, text_by}
 use Rattle.ht_runs.specs.Outcomes.{IsFrontOf, TellsWhole, TellsRefused, TellsBroken, TellsPieces}
-use Rattle.ht_runs.specs.Streamed.{BreaksOff, EndsWithItsFault, FinishesRun, PutsPart, StopsAtFault, StreamFails, Streamed, line_of_fault}
-use Rattle.ht_runs.specs.declared.faults.RunFault.{RunFault}
-use Rattle.ht_runs.specs.declared.faults.RunFault.TheVariants.{Read, Write, NoMemory}
+use Rattle.ht_runs.specs.Streamed.{BreaksOff, EndsWithItsFault, FinishesRun, PutsPart, StopsAtFault, StreamFails}
+use Rattle.ht_runs.specs.declared.faults.RunFault.TheVariants.{Write, NoMemory}
 use Rattle.ht_runs.proofs.Known.{by_part, known_all, takes_of}
 
 -- what has a fault is no file
@@ -72,35 +71,34 @@ module _ {S I : Type 0} (f : Grammar S I) (text lines : List ℕ → List ℕ) (
     all_same : (text_of : List ℕ → List ℕ) (taken : List ℕ) → TakesAll source source' taken → IfSome source.known (λ all. text_of all ≡ text_of taken)
     all_same text_of taken octets = known_all source.known source'.known taken (λ all. text_of all ≡ text_of taken) octets refl
 
-    -- the lines of a file and then its end, or a part of that, or none of it
-    pub ended : (mid sink' : Device ℕ) (Says : List ℕ → Type 0) → TellsWhole f lines source source' sink mid Says
-        → ((octets : List ℕ) → Says octets → (end : List ℕ) → end ≡ end_of (meaning f f.start 0 octets).items → Grows mid sink' end)
-        → (run : FinishesRun (filter f text lines) source source' sink sink') × Says run.taken
-    ended mid sink' Says l last = (
-      record {
-        taken = l.taken;
-        octets = l.octets;
-        input = file_found f l.taken l.whole;
-        text = subst (Grows sink sink') (text_where l.taken None l.whole)
-            (grows-append sink mid sink' (lines l.taken) (end_of (meaning f f.start 0 l.taken).items) l.put
-            (last l.taken l.says (end_of (meaning f f.start 0 l.taken).items) refl));
-      },
-      l.says,
-    )
+    -- the lines of a file, of which this is said, and then its end, or a part of that, or none of it
+    module _ (mid sink' : Device ℕ) (Says : List ℕ → Type 0) (end : List ℕ)
+        (are : (octets : List ℕ) → Says octets → end ≡ end_of (meaning f f.start 0 octets).items) where
+      whole_text : (l : TellsWhole f lines source source' sink mid Says) → lines l.taken ++ end ≡ text l.taken
+      whole_text l = ap (λ (xs : List ℕ). lines l.taken ++ xs) (are l.taken l.says) ∙ text_where l.taken None l.whole
 
-    pub ended_by_part : (mid sink' : Device ℕ) (Says : List ℕ → Type 0) → TellsWhole f lines source source' sink mid Says
-        → ((octets : List ℕ) → Says octets → (end : List ℕ) → end ≡ end_of (meaning f f.start 0 octets).items → GrowsByPart mid sink' end)
-        → Rose sink sink' → StreamFails (filter f text lines) source source' sink sink' Write
-    ended_by_part mid sink' Says l last rose =
-        let put = grows_by_part-append sink mid sink' (lines l.taken) (end_of (meaning f f.start 0 l.taken).items) l.put
-        (last l.taken l.says (end_of (meaning f f.start 0 l.taken).items) refl) in
-        let whole : text l.taken ≡ own_text l.taken =
-        ap (λ (e : Option FormatFault). where_faulty e (lines l.taken) (text l.taken)) (sym l.whole) in
-        (
-          part own_text sink' l.taken (takes_of source source' l.taken l.octets)
-              (subst (GrowsByPart sink sink') (text_where l.taken None l.whole ∙ whole) put) (all_same own_text l.taken l.octets),
-          rose,
-        )
+      pub ended : TellsWhole f lines source source' sink mid Says → Grows mid sink' end
+          → (run : FinishesRun (filter f text lines) source source' sink sink') × Says run.taken
+      ended l last = (
+        record {
+          taken = l.taken;
+          octets = l.octets;
+          input = file_found f l.taken l.whole;
+          text = subst (Grows sink sink') (whole_text l) (grows-append sink mid sink' (lines l.taken) end l.put last);
+        },
+        l.says,
+      )
+
+      pub ended_in_part : TellsWhole f lines source source' sink mid Says → GrowsByPart mid sink' end → Rose sink sink'
+          → StreamFails (filter f text lines) source source' sink sink' Write
+      ended_in_part l last rose =
+          let put = grows_by_part-append sink mid sink' (lines l.taken) end l.put last in
+          let whole : text l.taken ≡ own_text l.taken =
+          ap (λ (e : Option FormatFault). where_faulty e (lines l.taken) (text l.taken)) (sym l.whole) in (
+            part own_text sink' l.taken (takes_of source source' l.taken l.octets)
+                (subst (GrowsByPart sink sink') (whole_text l ∙ whole) put) (all_same own_text l.taken l.octets),
+            rose,
+          )
 
     pub ended_without : (sink' : Device ℕ) (Says : List ℕ → Type 0) → TellsWhole f lines source source' sink sink' Says
         → StreamFails (filter f text lines) source source' sink sink' NoMemory

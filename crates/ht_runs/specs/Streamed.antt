@@ -1,5 +1,5 @@
 -- What a call over one source and one sink promises that puts text while it reads, all of its text but a refused line.
-use Rattle.std.specs.Prelude.{◌≡◌, ℕ, ◌<◌, List, ◌++◌, length, take, Option, Some, IfSome, Result, Ok, Err}
+use Rattle.std.specs.Prelude.{◌≡◌, ℕ, ◌<◌, List, ◌++◌, length, take, Some, IfSome, Result, Ok, Err}
 use Rattle.ht_io.specs.Devices.{Device, Takes, TakesAll, Grows, GrowsByPart, Rose}
 use Rattle.ht_io.specs.Kinds.{name_of}
 use Rattle.ht_io.specs.declared.faults.FormatFault.{FormatFault}

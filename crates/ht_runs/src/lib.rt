@@ -14,5 +14,6 @@
 #![tactic(auto)]
 
 pub mod faults;
+pub mod laws;
 
 pub use faults::{RunFault, StopFault};
