@@ -15,7 +15,7 @@ use Rattle.ht_fields.proofs.Answered.{file_found, met}
 use Rattle.ht_fields.proofs.Joins.{early_text}
 use Rattle.ht_runs.specs.Converted.{ConversionFails, FindsFault, LacksMemory, PutsOutput, PutsPartOfOutput}
 use Rattle.ht_runs.specs.Faults.{fault_of_reading}
-use Rattle.ht_runs.specs.Filters.{BeforeOutput, MemoryUse, WithinOutput}
+use Rattle.ht_runs.specs.Filters.{Conversion, BeforeOutput, MemoryUse, WithinOutput}
 use Rattle.ht_runs.specs.Formats.{IsWhole, conversion}
 use Rattle.ht_runs.proofs.Known.{known, known_all, takes_of}
 use Rattle.ht_runs.proofs.Streaming.{no_file}
@@ -25,10 +25,9 @@ pub whole_from : {S I : Type 0} (f : Grammar S I) (octets : List ℕ) (items : L
 whole_from {I = I} f octets items file = file_found f octets (ap (λ (m : Meaning I). m.fault) (met f octets items File file))
 
 -- where memory ran out nothing was put
-pub lacks_memory : {S I : Type 0} (f : Grammar S I) (memory : MemoryUse) (comes_to : List ℕ → List ℕ → Type 0) (source source' sink : Device ℕ)
-    → LacksMemory (conversion f memory comes_to) source source' sink sink memory
-lacks_memory f BeforeOutput comes_to source source' sink = refl
-lacks_memory f WithinOutput comes_to source source' sink = inl refl
+pub nothing_put : (f : Conversion) (memory : MemoryUse) (source source' sink : Device ℕ) → LacksMemory f source source' sink sink memory
+nothing_put f BeforeOutput source source' sink = refl
+nothing_put f WithinOutput source source' sink = inl refl
 
 -- a format and what its files come to; the source before and after, and the sink before
 module _ {S I : Type 0} (f : Grammar S I) (memory : MemoryUse) (comes_to : List ℕ → List ℕ → Type 0) (source source' sink : Device ℕ) where
@@ -61,7 +60,7 @@ module _ {S I : Type 0} (f : Grammar S I) (memory : MemoryUse) (comes_to : List 
       → ConversionFails (conversion f memory comes_to) source source' sink sink (fault_of_reading fault)
   not_read (Format fault) ends = first_fault fault ends
   not_read Read (rose, (taken, octets, early)) = record { taken = taken; octets = octets; front = early_text f taken early; cause = rose; nothing = refl }
-  not_read ReadMemory ends = lacks_memory f memory comes_to source source' sink
+  not_read ReadMemory ends = nothing_put (conversion f memory comes_to) memory source source' sink
 
   -- all that was left is a file with these items; the sink after
   module _ (taken output : List ℕ) (items : List I) (octets : TakesAll source source' taken) (file : IsFile f taken items)

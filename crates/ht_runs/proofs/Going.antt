@@ -99,8 +99,8 @@ module _ {S I : Type 0} (f : Grammar S I) (lines_of : List I → List ℕ) (sour
       (finishes : Finishes reader source') where
     whole_told : TellsWhole f lines source source' sink mid (λ octets. (meaning f f.start 0 octets).items ≡ items)
     whole_told =
-        told_whole f source source' lines sink mid items (lines_of items) (lines_are items) reader
-        (λ octets. (meaning f f.start 0 octets).items ≡ items) goes.gives finishes (λ octets is. is) goes.put
+        told_whole f source source' lines sink mid items (lines_of items) (lines_are items) reader []
+        (λ octets. (meaning f f.start 0 octets).items ≡ items) goes.gives finishes.octets finishes.means (λ octets is. is) goes.put
 
     end_is : (octets : List ℕ) → (meaning f f.start 0 octets).items ≡ items → end_of items ≡ end_of (meaning f f.start 0 octets).items
     end_is octets is = ap end_of (sym is)

@@ -5,8 +5,8 @@ use Rattle.ht_io.specs.Devices.{Device, Takes, TakesAll, Grows, GrowsByPart}
 use Rattle.ht_io.proofs.Calls.{takes-append, takes-all, takes-none, grows_by_part-none}
 use Rattle.ht_io.specs.declared.faults.FormatFault.{FormatFault}
 use Rattle.ht_fields.specs.Grammar.{Grammar}
-use Rattle.ht_fields.specs.Meanings.{Meaning, before, meaning}
-use Rattle.ht_fields.specs.Readers.{ReaderView, Gives, Refuses, RunsOut, Finishes, Breaks, IsEarly, reader_in}
+use Rattle.ht_fields.specs.Meanings.{Meaning, before, ended, meaning}
+use Rattle.ht_fields.specs.Readers.{ReaderView, Gives, Refuses, RunsOut, Breaks, IsEarly, reader_in}
 use Rattle.ht_fields.proofs.Answered.{alone}
 use Rattle.ht_fields.proofs.Joins.{gives_broke, ends_behind}
 use Rattle.ht_runs.specs.Outcomes.{IsFrontOf, TellsWhole, TellsRefused, TellsBroken, TellsPieces}
@@ -43,17 +43,17 @@ module _ {S I : Type 0} (f : Grammar S I) (source : Device ℕ) where
     puts_all octets is grows = subst (λ (ps : List P). Grows device device' ps) (are octets is) grows
 
     -- all that was left gives these items and no fault, and their pieces were put
-    pub told_whole : (mid : ReaderView I) (Says : List ℕ → Type 0) → Gives start mid items → Finishes mid source'
-        → ((octets : List ℕ) → (means octets).items ≡ items → Says octets) → Grows device device' put
+    pub told_whole : (mid : ReaderView I) (rest : List ℕ) (Says : List ℕ → Type 0) → Gives start mid items → TakesAll mid.source source' rest
+        → mid.means rest ≡ ended → ((octets : List ℕ) → (means octets).items ≡ items → Says octets) → Grows device device' put
         → TellsWhole f pieces source source' device device' Says
-    told_whole mid Says g c says grows =
-        let taken = g.taken ++ [] in
-        let is_meant : means taken ≡ record { items = items; fault = None } = g.means [] ∙ (ap (before items) c.means ∙ alone items None) in
-        let is = items_of taken items None is_meant in
+    told_whole mid rest Says g octets none says grows =
+        let taken = g.taken ++ rest in
+        let here : means taken ≡ record { items = items; fault = None } = g.means rest ∙ (ap (before items) none ∙ alone items None) in
+        let is = items_of taken items None here in
         record {
           taken = taken;
-          octets = takes-all source mid.source source' g.taken [] g.octets c.octets;
-          whole = fault_is taken items None is_meant;
+          octets = takes-all source mid.source source' g.taken rest g.octets octets;
+          whole = fault_is taken items None here;
           says = says taken is;
           put = puts_all taken is grows;
         }
