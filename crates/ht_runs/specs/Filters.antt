@@ -12,10 +12,9 @@ pub record Filter : Type 1 where
   pub fault : List ℕ → Option FormatFault
   -- the reference text: all that is written of the octets
   pub text : List ℕ → List ℕ
-  -- the text of octets whose end isn't known, and of octets with a fault before the line of their fault
+  -- the text of octets whose end isn't known, and of octets with a fault before the line of their fault; of it a part
+  -- stands where memory ran out
   pub front : List ℕ → List ℕ
-  -- the text of which a part stands where memory ran out
-  pub most : List ℕ → List ℕ
 
 -- when memory can run out: only before the output is put, or also while it is put
 pub data MemoryUse : Type 0 where

@@ -24,7 +24,6 @@ filter f text lines = record {
   fault = λ octets. (meaning f f.start 0 octets).fault;
   text = text;
   front = lines;
-  most = lines;
 }
 
 -- a file of the format, what it comes to, and the line of the first fault of what is none

@@ -50,7 +50,7 @@ module _ (f : Filter) (source source' sink sink' : Device ℕ) where
   StreamFails (Format fault) = StopsAtFault fault
   StreamFails Read = BreaksOff
   StreamFails Write = PutsPart (unrefused f) source source' sink sink' × Rose sink sink'
-  StreamFails NoMemory = PutsPart f.most source source' sink sink'
+  StreamFails NoMemory = PutsPart f.front source source' sink sink'
 
   -- what such a call answers; a good answer says this of the octets, all of which were taken
   abbrev pub Streamed : {A : Type 0} → (A → List ℕ → Type 0) → Result A RunFault → Type 0
