@@ -1,3 +1,4 @@
 pub mod Kinds
 pub mod Walks
 pub mod Certificates
+pub mod Walking
