@@ -3,12 +3,19 @@
 
 mod ascending;
 mod certificate;
+mod certifying;
 mod check_fault;
+mod checking;
 pub mod laws;
+mod levels;
+mod marking;
 mod marks;
+mod off_grid;
 mod stop;
 mod walk;
 
 pub use certificate::Certificate;
+pub use certifying::certify;
 pub use check_fault::CheckFault;
+pub use checking::check;
 pub use marks::Marks;

@@ -12,6 +12,7 @@ use ht_metric::Job;
 use ht_sphere::remainder::{cost, remainder_of};
 
 // A claim about a job, and the marks that are to show it.
+#[derive(Drop)]
 pub(crate) struct Walk<'a> {
     pub(crate) job: &'a Job,
     pub(crate) claimed: &'a [i8],
