@@ -38,7 +38,7 @@ pub in_order : (f : ℤ → ℕ) (xs : List ℤ) (v : ℤ) → bests.Among (near
 in_order f [] v h = h
 in_order f (x ∷ xs) v h = elim (in_put f x (nearest_first f xs) v h) [ inl e ↦ inl e | inr rest ↦ inr (in_order f xs v rest) ]
 
-among_order : (f : ℤ → ℕ) (xs : List ℤ) (v : ℤ) → bests.Among xs v → bests.Among (nearest_first f xs) v
+pub among_order : (f : ℤ → ℕ) (xs : List ℤ) (v : ℤ) → bests.Among xs v → bests.Among (nearest_first f xs) v
 among_order f [] v h = h
 among_order f (x ∷ xs) v h = among_put f x (nearest_first f xs) v (elim h [ inl e ↦ inl e | inr rest ↦ inr (among_order f xs v rest) ])
 

@@ -17,7 +17,7 @@ use Rattle.ht_witness.specs.declared.check_fault.CheckFault.TheVariants.{OffGrid
 use Rattle.ht_witness.specs.Walks.{Suffix, below, beats, IsWalk, walk_fault}
 use Rattle.ht_witness.specs.Certificates.{Checked, claim_of, roots, first_off, fault_from, fault_of}
 
-less_from : (m n : ℕ) → nat_lt m n ≡ true → m < n
+pub less_from : (m n : ℕ) → nat_lt m n ≡ true → m < n
 less_from m n h = grind (arith, nat_tests)
 
 less_is : (m n : ℕ) → m < n → nat_lt m n ≡ true
@@ -29,7 +29,7 @@ same_from m n h = grind (arith, nat_tests)
 same_is : (m n : ℕ) → m ≡ n → (m == n) ≡ true
 same_is m n h = grind (arith, nat_tests)
 
-none_of : {A B : Type 0} (a : A) → Some a ≡ None → B
+pub none_of : {A B : Type 0} (a : A) → Some a ≡ None → B
 none_of a e = cc
 
 -- a walk without fault is one

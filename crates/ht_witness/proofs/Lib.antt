@@ -1,2 +1,5 @@
 pub mod Trusting
 pub mod Faults
+pub mod Walking
+pub mod Stages
+pub mod Accepting

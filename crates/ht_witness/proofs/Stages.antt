@@ -1,0 +1,57 @@
+-- The check of a certificate, step by step.
+use Rattle.std.proofs.Common.{◌≡◌, ℕ, suc, ◌+◌, ◌-◌, ◌*◌, ◌<◌, ◌≤◌, ℤ, pos, List, [], ◌∷◌, ◌++◌, length, drop, take, set, get_or, Bool, true, false, ◌&&◌}
+use Rattle.std.proofs.Common.{Option, Some, None, append_assoc, append-nil, refl, ap, sym, ◌∙◌, arith}
+use Rattle.std.proofs.lemmas.Bool.{cond-true, cond-false}
+use Rattle.std.proofs.lemmas.List.{drop_all, length-take}
+use Rattle.std.proofs.Math.ListN.{length-set}
+use Rattle.std.proofs.Math.Seq.{drop-cons}
+use Rattle.ht_pam.specs.Ladders.{has}
+use Rattle.ht_pam.specs.Grids.{no_axes}
+use Rattle.ht_pam.specs.declared.axes.Axes.{Axes}
+use Rattle.ht_pam.specs.declared.point.Point.{Point}
+use Rattle.ht_metric.specs.Jobs.{JobView, IsJob}
+use Rattle.ht_metric.specs.Vectors.{levels_of, no_point}
+use Rattle.ht_sphere.specs.Coordinates.{Real, from_last, from_q}
+use Rattle.ht_sphere.specs.Tree.{Reached}
+use Rattle.ht_sphere.proofs.Down.{down_more, down_system}
+use Rattle.ht_witness.specs.declared.check_fault.CheckFault.{CheckFault}
+use Rattle.ht_witness.specs.declared.check_fault.CheckFault.TheVariants.{Long}
+use Rattle.ht_witness.specs.Walks.{Suffix, below, walk_fault}
+use Rattle.ht_witness.specs.Walking.{fault_here}
+use Rattle.ht_witness.specs.Certificates.{first_off, roots}
+
+-- where a walk begins
+pub started : (claim : Reached) (marks : List Bool) (job : JobView) (n : ℕ) (s : List ℤ) → IsJob job → n ≡ length job.system → s ≡ []
+    → fault_here claim marks (below (from_q job.system job.grid (n - 1)) s 0 ++ []) 0 ≡ walk_fault claim (roots job) 0 marks
+started claim marks job n s is same none =
+    let some = is.grid.some in
+    let equal = is.streams in
+    let all : from_q job.system job.grid (n - 1) ≡ from_last job.system job.grid =
+    sym (down_more job.system job.grid n (omega arith)) ∙ down_system job job.system n is refl same in
+    ap (λ (todo : List Suffix). walk_fault claim todo 0 marks) (append-nil (below (from_q job.system job.grid (n - 1)) s 0)
+    ∙ ap (λ (cs : List Real). below cs s 0) all ∙ ap (λ (t : List ℤ). below (from_last job.system job.grid) t 0) none)
+
+-- and where it ends
+pub all_taken : (claim : Reached) (marks : List Bool) (at : ℕ) → length marks ≤ at → fault_here claim marks [] at ≡ None
+all_taken claim marks at out = ap (walk_fault claim [] at) (drop_all at marks out)
+
+pub one_left : (claim : Reached) (marks : List Bool) (at : ℕ) → at < length marks → fault_here claim marks [] at ≡ Some (Long at)
+one_left claim marks at there = ap (walk_fault claim [] at) (drop-cons marks at false there)
+
+-- the fault that a walk comes to
+pub walk_ends : (claim mine : Reached) (marks these : List Bool) (job : JobView) (n : ℕ) (s : List ℤ) (o : Option CheckFault) → IsJob job
+    → n ≡ length job.system → s ≡ [] → mine ≡ claim → these ≡ marks
+    → fault_here mine these (below (from_q job.system job.grid (n - 1)) s 0 ++ []) 0 ≡ o → o ≡ walk_fault claim (roots job) 0 marks
+walk_ends claim mine marks these job n s o is same none e f h =
+    sym h ∙ started mine these job n s is same none ∙ ap (λ (c : Reached). walk_fault c (roots job) 0 these) e ∙ ap (walk_fault claim (roots job) 0) f
+
+abbrev pub zeros : List ℤ
+zeros = pos 0 ∷ pos 0 ∷ pos 0 ∷ pos 0 ∷ pos 0 ∷ pos 0 ∷ pos 0 ∷ pos 0 ∷ []
+
+-- no level is chosen yet
+pub no_levels : (n k : ℕ) → n ≡ k → drop (2 * k) (take (2 * n) zeros) ≡ []
+no_levels n k e = drop_all (2 * k) (take (2 * n) zeros) (omega (arith, length-take (2 * n) zeros))
+
+pub claim_is : (x : List Point) (xs : List ℤ) (n d : ℕ) → n ≡ length x → take (2 * length x) xs ≡ levels_of x
+    → (let mine : Reached = (take (2 * n) xs, d) in let claim : Reached = (levels_of x, d) in mine ≡ claim)
+claim_is x xs n d e h = ap (λ (l : List ℤ). let r : Reached = (l, d) in r) (ap (λ (m : ℕ). take (2 * m) xs) e ∙ h)
