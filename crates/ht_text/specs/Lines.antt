@@ -48,6 +48,18 @@ frame_text frame data_sum pilot_sum code outcome =
     codes "frame " ++ decimal frame ++ sums_text data_sum pilot_sum code ++ outcome_text outcome
     ++ line_feed
 
+-- `job N yes`: the certificate with this number holds
+unfoldable pub yes_text : ℕ → List ℕ
+yes_text number = codes "job " ++ decimal number ++ codes " yes" ++ line_feed
+
+-- `job N no NAME at M`: it doesn't, by what is wrong with it, and the number that goes with that
+unfoldable pub no_text : ℕ → List ℕ → ℕ → List ℕ
+no_text number name at = codes "job " ++ decimal number ++ codes " no " ++ name ++ codes " at " ++ decimal at ++ line_feed
+
+-- `end J jobs yes Y`: a whole file of J certificates was checked, of which Y hold
+unfoldable pub checked_text : ℕ → ℕ → List ℕ
+checked_text jobs yes = codes "end " ++ decimal jobs ++ codes " jobs yes " ++ decimal yes ++ line_feed
+
 -- `end N frames`: the whole capture was received
 unfoldable pub end_text : ℕ → List ℕ
 end_text frames = codes "end " ++ decimal frames ++ codes " frames" ++ line_feed
