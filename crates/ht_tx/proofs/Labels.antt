@@ -29,11 +29,10 @@ pub below_more : (k label : ℕ) (bit : Bool) → label < 2 ^ k → 2 * label + 
 below_more k label false h = omega (arith, pow_more 2 k)
 below_more k label true h = omega (arith, pow_more 2 k)
 
-pub bits_more : (coded : List Bool) (sources : List ℕ) (k label next : ℕ) (bit : Bool) → next ≡ 2 * label + from_bool bit
-    → bit ≡ get_or coded (get_or sources k 0) false
-    → ((e : ℕ) → e < k → (bit_at label (k - 1 - e) == 1) ≡ get_or coded (get_or sources e 0) false)
-    → (e : ℕ) → e < k + 1 → (bit_at next (k + 1 - 1 - e) == 1) ≡ get_or coded (get_or sources e 0) false
-bits_more coded sources k label next bit is_next is_bit before e lt = elim (cases_lt e k) [
+pub bits_more : (bits : ℕ → Bool) (k label next : ℕ) (bit : Bool) → next ≡ 2 * label + from_bool bit → bit ≡ bits k
+    → ((e : ℕ) → e < k → (bit_at label (k - 1 - e) == 1) ≡ bits e)
+    → (e : ℕ) → e < k + 1 → (bit_at next (k + 1 - 1 - e) == 1) ≡ bits e
+bits_more bits k label next bit is_next is_bit before e lt = elim (cases_lt e k) [
   | inl earlier ↦
       let place : k + 1 - 1 - e ≡ suc (k - 1 - e) = omega arith in
       ap (λ (n : ℕ). bit_at next n == 1) place
@@ -48,5 +47,5 @@ bits_more coded sources k label next bit is_next is_bit before e lt = elim (case
       ∙ ap (λ (n : ℕ). n % 2 == 1) is_next
       ∙ lowest bit label
       ∙ is_bit
-      ∙ ap (λ (n : ℕ). get_or coded (get_or sources n 0) false) (sym same)
+      ∙ ap bits (sym same)
 ]

@@ -1,6 +1,6 @@
 //! What holds of what is sent.
-ghost use Rattle.std.specs.Prelude.{◌≡◌, List};
-ghost use Rattle.ht_tx.specs.Frames.{FrameView};
+ghost use Rattle.std.specs.Prelude.{◌≡◌, List, All};
+ghost use Rattle.ht_tx.specs.Frames.{FrameView, IsPsdu};
 ghost use Rattle.ht_tx.specs.Symbols.{IsSymbols, SymbolsView};
 ghost use Rattle.ht_tx.specs.Transmitted.{AreTransmitted, IsTransmitted};
 
@@ -12,4 +12,13 @@ pub fn one_transmission()
         → sent ≡ other }
     ensures all { (frames : List FrameView) (sent others : List SymbolsView)
         → AreTransmitted frames sent → AreTransmitted frames others → sent ≡ others }
+{}
+
+/// For a frame of 1 to 65535 octets there is such a list of symbols, at every rate and by every seed, and for such frames
+/// there are such lists. With [`one_transmission`] it is one list.
+pub fn some_transmission()
+    ensures each { (f : FrameView) → IsPsdu f.octets
+        → (sent : SymbolsView) × IsTransmitted f sent × IsSymbols sent.rate sent.length sent.points }
+    ensures all { (frames : List FrameView) → All (λ f. IsPsdu f.octets) frames
+        → (sent : List SymbolsView) × AreTransmitted frames sent }
 {}

@@ -1,4 +1,4 @@
-use Rattle.std.proofs.Common.{◌+◌, ◌^◌, ◌<◌, sym, subst, arith, refl}
+use Rattle.std.proofs.Common.{◌+◌, ◌^◌, ◌<◌, sym, subst, arith, refl, get_or, false}
 use Rattle.ht_tx.proofs.Labels.{small, below_more, bits_more}
 use Rattle.ht_tx.proofs.mapper.label.Goals as goal
 
@@ -14,6 +14,6 @@ loop-source-preserved c = record {
       subst (λ n. n < 2 ^ (c.loop-source.source-index + 1)) (sym c.with_bit-label.ensures)
       (below_more c.loop-source.source-index c.loop-source.label _ c.loop-source.invariant.below);
   bits =
-      bits_more c.args.coded.now c.args.sources.now c.loop-source.source-index c.loop-source.label
+      bits_more (λ e. get_or c.args.coded.now (get_or c.args.sources.now e 0) false) c.loop-source.source-index c.loop-source.label
       c.with_bit-label.result _ c.with_bit-label.ensures refl c.loop-source.invariant.bits;
 }
