@@ -58,7 +58,7 @@ no_text number name at = codes "job " ++ decimal number ++ codes " no " ++ name 
 
 -- `end J jobs yes Y`: a whole file of J certificates was checked, of which Y hold
 unfoldable pub checked_text : ℕ → ℕ → List ℕ
-checked_text jobs yes = codes "end " ++ decimal jobs ++ codes " jobs yes " ++ decimal yes ++ line_feed
+checked_text jobs right = codes "end " ++ decimal jobs ++ codes " jobs yes " ++ decimal right ++ line_feed
 
 -- `end N frames`: the whole capture was received
 unfoldable pub end_text : ℕ → List ℕ

@@ -49,5 +49,11 @@ fn vectors(rt: HostRuntime) -> Result<(), Fail> {
     for (line, want) in &lines {
         assert_eq!(rt; line.as_slice(), want.as_bytes(), "{want}");
     }
+    let mut text = String::new(alloc);
+    push_yes_line(&mut text, 0)?;
+    push_no_line(&mut text, 1, "WrongDistance", 65)?;
+    push_checked_line(&mut text, 2, 1)?;
+    let want = "job 0 yes\njob 1 no WrongDistance at 65\nend 2 jobs yes 1\n";
+    assert_eq!(rt; text.as_str(), want);
     Ok(())
 }

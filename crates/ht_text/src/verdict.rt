@@ -57,15 +57,15 @@ fn room_for(name: &str) -> Result<usize, AllocError>
 ///
 /// Only memory can fail; `text` is then as it was.
 #[tactic(auto, unfolding(crate::specs::Lines::checked_text))]
-pub fn push_checked_line(text: &mut String, jobs: u64, yes: u64) -> Result<(), AllocError>
-    ensures ok { OnOk result (string_bytes text.new ≡ string_bytes text.old ++ checked_text jobs yes) }
+pub fn push_checked_line(text: &mut String, jobs: u64, right: u64) -> Result<(), AllocError>
+    ensures ok { OnOk result (string_bytes text.new ≡ string_bytes text.old ++ checked_text jobs right) }
     ensures err { OnErr result (string_bytes text.new ≡ string_bytes text.old) }
 {
     text.reserve(LONGEST)?;
     push(text, "end ");
     push_number(text, jobs);
     push(text, " jobs yes ");
-    push_number(text, yes);
+    push_number(text, right);
     push(text, "\n");
     Ok(())
 }
