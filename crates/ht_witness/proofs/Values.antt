@@ -94,3 +94,29 @@ later_of_a_tie = refl
 -- an equal distance is no reason to cut
 cut_at_a_tie : fault_of tie (claim minus 100 (true ∷ true ∷ false ∷ [])) ≡ Some (Early 2)
 cut_at_a_tie = refl
+
+-- QPSK on two streams: d = 10 and 1, r_12 = (10, 0), y_1 = (-20, 0), y_2 = (1, 0). (-1, -1), (-1, 1) is at 5, and so is
+-- (-1, 1), (-1, -1), which comes later
+abbrev qpsk : Axes
+qpsk = record { i = two; q = two }
+
+abbrev slanted : JobView
+slanted = job (qpsk ∷ qpsk ∷ []) (record { diagonal = 10; right = record { re = pos 10; im = pos 0 } ∷ []; sample = record { re = negsuc 19; im = pos 0 } }
+    ∷ record { diagonal = 1; right = []; sample = record { re = pos 1; im = pos 0 } } ∷ [])
+
+abbrev slanted_marks : List Bool
+slanted_marks = true ∷ true ∷ false ∷ true ∷ true ∷ false ∷ true ∷ false ∷ true ∷ false ∷ false
+    ∷ true ∷ true ∷ true ∷ true ∷ false ∷ false ∷ true ∷ true ∷ false ∷ false ∷ false ∷ []
+
+abbrev pair : Point → Point → Certificate
+pair x y = record { vector = x ∷ y ∷ []; distance = 5; marks = slanted_marks }
+
+slanted_made : marks_of 5 (from_last slanted.system slanted.grid) [] 0 ≡ slanted_marks
+slanted_made = refl
+
+slanted_holds : fault_of slanted (pair record { i = negsuc 0; q = negsuc 0 } record { i = negsuc 0; q = pos 1 }) ≡ None
+slanted_holds = refl
+
+-- the mark of I = -1 behind Q_2 = 1, I_2 = -1 and Q_1 = -1
+slanted_later : fault_of slanted (pair record { i = negsuc 0; q = pos 1 } record { i = negsuc 0; q = negsuc 0 }) ≡ Some (Better 14)
+slanted_later = refl
