@@ -50,11 +50,11 @@ module _ (claim : Reached) (c : Real) (cs : List Real) (s : List ℤ) (p : ℕ)
       let on : IsWalk claim todo (marks_left xs ++ more) = marked_by xs (λ y there. none y (inr there)) in
       let goal : List Bool → Type 0 = λ m. IsWalk claim (longer c cs s p x ∷ todo) ((m ++ marks_left xs) ++ more) in
       elim (cases_Bool far) [
-        | inl yes ↦ subst goal (sym (cond-true far shut wide yes)) (less_from claim.1 q yes, on)
-        | inr no ↦
+        | inl above ↦ subst goal (sym (cond-true far shut wide above)) (less_from claim.1 q above, on)
+        | inr within ↦
             let mine = none x (inl refl) in
             let deep = under (x ∷ s) q todo (marks_left xs ++ more) mine on in
-            subst goal (sym (cond-false far shut wide no)) (
+            subst goal (sym (cond-false far shut wide within)) (
               unbeaten claim cs (x ∷ s) q mine,
               subst (λ (m : List Bool). IsWalk claim (below cs (x ∷ s) q ++ todo) m) (sym (append_assoc (marks_of claim.1 cs (x ∷ s) q) (marks_left xs) more)) deep,
             )
@@ -123,7 +123,7 @@ module _ (d : ℕ) (c : Real) (cs : List Real) (s : List ℤ) (p : ℕ) where
       let test : nat_lt d q ≡ true = grind (arith, nat_tests) in
       let shut : List Bool = false ∷ [] in
       ap (λ (m : List Bool). m ++ left_marks xs) added ∙ append_assoc before shut (left_marks xs)
-      ∙ ap (λ (m : List Bool). before ++ m ++ left_marks xs) (sym (cond-true (nat_lt d q) shut (true ∷ under_marks (x ∷ s) q) test))
+      ∙ ap (λ (m : List Bool). before ++ (m ++ left_marks xs)) (sym (cond-true (nat_lt d q) shut (true ∷ under_marks (x ∷ s) q) test))
       ∙ ap (λ (l : List ℤ). before ++ left_marks l) (sym e) ∙ h
 
   pub open_more : (before next after under all : List Bool) (walk xs : List ℤ) (x : ℤ) → walk ≡ x ∷ xs → p + cost c s x ≤ d
@@ -138,5 +138,5 @@ module _ (d : ℕ) (c : Real) (cs : List Real) (s : List ℤ) (p : ℕ) where
       ap (λ (m : List Bool). m ++ left_marks xs) (more ∙ ap (λ (m : List Bool). m ++ under) added ∙ ap (λ (m : List Bool). (before ++ one) ++ m) is
       ∙ append_assoc before one deep)
       ∙ append_assoc before (true ∷ deep) (left_marks xs)
-      ∙ ap (λ (m : List Bool). before ++ m ++ left_marks xs) (sym (cond-false (nat_lt d q) shut (true ∷ deep) test))
+      ∙ ap (λ (m : List Bool). before ++ (m ++ left_marks xs)) (sym (cond-false (nat_lt d q) shut (true ∷ deep) test))
       ∙ ap (λ (l : List ℤ). before ++ left_marks l) (sym e) ∙ h

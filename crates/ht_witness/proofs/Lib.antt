@@ -3,3 +3,4 @@ pub mod Faults
 pub mod Walking
 pub mod Stages
 pub mod Accepting
+pub mod Values

@@ -18,18 +18,21 @@ use Rattle.ht_witness.specs.declared.check_fault.CheckFault.{CheckFault}
 use Rattle.ht_witness.specs.declared.check_fault.CheckFault.TheVariants.{Long}
 use Rattle.ht_witness.specs.Walks.{Suffix, below, walk_fault}
 use Rattle.ht_witness.specs.Walking.{fault_here}
+use Rattle.ht_witness.specs.Marking.{marks_of}
 use Rattle.ht_witness.specs.Certificates.{first_off, roots}
 
--- where a walk begins
-pub started : (claim : Reached) (marks : List Bool) (job : JobView) (n : ℕ) (s : List ℤ) → IsJob job → n ≡ length job.system → s ≡ []
-    → fault_here claim marks (below (from_q job.system job.grid (n - 1)) s 0 ++ []) 0 ≡ walk_fault claim (roots job) 0 marks
-started claim marks job n s is same none =
+-- the walk begins with all coordinates
+pub all_ahead : (job : JobView) (n : ℕ) → IsJob job → n ≡ length job.system → from_q job.system job.grid (n - 1) ≡ from_last job.system job.grid
+all_ahead job n is same =
     let some = is.grid.some in
     let equal = is.streams in
-    let all : from_q job.system job.grid (n - 1) ≡ from_last job.system job.grid =
-    sym (down_more job.system job.grid n (omega arith)) ∙ down_system job job.system n is refl same in
+    sym (down_more job.system job.grid n (omega arith)) ∙ down_system job job.system n is refl same
+
+started : (claim : Reached) (marks : List Bool) (job : JobView) (n : ℕ) (s : List ℤ) → IsJob job → n ≡ length job.system → s ≡ []
+    → fault_here claim marks (below (from_q job.system job.grid (n - 1)) s 0 ++ []) 0 ≡ walk_fault claim (roots job) 0 marks
+started claim marks job n s is same none =
     ap (λ (todo : List Suffix). walk_fault claim todo 0 marks) (append-nil (below (from_q job.system job.grid (n - 1)) s 0)
-    ∙ ap (λ (cs : List Real). below cs s 0) all ∙ ap (λ (t : List ℤ). below (from_last job.system job.grid) t 0) none)
+    ∙ ap (λ (cs : List Real). below cs s 0) (all_ahead job n is same) ∙ ap (λ (t : List ℤ). below (from_last job.system job.grid) t 0) none)
 
 -- and where it ends
 pub all_taken : (claim : Reached) (marks : List Bool) (at : ℕ) → length marks ≤ at → fault_here claim marks [] at ≡ None
@@ -55,3 +58,11 @@ no_levels n k e = drop_all (2 * k) (take (2 * n) zeros) (omega (arith, length-ta
 pub claim_is : (x : List Point) (xs : List ℤ) (n d : ℕ) → n ≡ length x → take (2 * length x) xs ≡ levels_of x
     → (let mine : Reached = (take (2 * n) xs, d) in let claim : Reached = (levels_of x, d) in mine ≡ claim)
 claim_is x xs n d e h = ap (λ (l : List ℤ). let r : Reached = (l, d) in r) (ap (λ (m : ℕ). take (2 * m) xs) e ∙ h)
+
+-- all marks, where none stood before
+pub all_marks : (job : JobView) (n d : ℕ) (s : List ℤ) (before after : List Bool) → IsJob job → n ≡ length job.system → s ≡ []
+    → before ≡ [] → after ≡ before ++ marks_of d (from_q job.system job.grid (n - 1)) s 0 → after ≡ marks_of d (from_last job.system job.grid) [] 0
+all_marks job n d s before after is same none empty h =
+    h ∙ ap (λ (m : List Bool). m ++ marks_of d (from_q job.system job.grid (n - 1)) s 0) empty
+    ∙ ap (λ (cs : List Real). marks_of d cs s 0) (all_ahead job n is same)
+    ∙ ap (λ (t : List ℤ). marks_of d (from_last job.system job.grid) t 0) none

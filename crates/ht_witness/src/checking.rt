@@ -1,8 +1,7 @@
 //! The check of a certificate.
-ghost use Rattle.std.specs.Prelude.{◌≡◌, None, Some, MatchResult, OnOk, OnErr, IsTrue, length};
+ghost use Rattle.std.specs.Prelude.{◌≡◌, None, Some, MatchResult, OnOk, OnErr, length};
 ghost use Rattle.ht_metric.specs.Distance.{distance_of};
 ghost use Rattle.ht_metric.specs.Jobs.{IsJob, IsNear};
-ghost use Rattle.ht_metric.specs.Vectors.{is_in};
 ghost use Rattle.ht_witness.specs.Walks.{walk_fault};
 ghost use Rattle.ht_witness.specs.Walking.{fault_at};
 ghost use Rattle.ht_witness.specs.Certificates.{Checked, claim_of, fault_of, roots};
