@@ -2,13 +2,15 @@
 use Rattle.std.proofs.Common.{◌≡◌, ℕ, ◌+◌, ◌<◌, ◌≤◌, List, [], ◌∷◌, ◌++◌, length, Option, Some, None, IfSome}
 use Rattle.std.proofs.Common.{ap, ◌∙◌, sym, refl, subst, arith, rules}
 use Rattle.std.proofs.lemmas.List.{append-nil, length-append, length-map}
+use Rattle.std.specs.List.{All, AllByRecursion}
 use Rattle.std.proofs.lemmas.List.Concat.{flat_map-append, length-flat_map}
+use Rattle.std.proofs.lemmas.List.Elements.{All-push, recursion_from_All}
 use Rattle.ht_counts.specs.Counts.{SameCounts}
 use Rattle.ht_metric.specs.Jobs.{JobView}
 use Rattle.ht_metric.specs.declared.hit.Hit.{Hit}
 use Rattle.ht_team.specs.Helms.{gave, received, TakesBack, IsSameHelm}
-use Rattle.ht_crew.specs.Lots.{LotHelm, asked, lot_of, flat}
-use Rattle.ht_crew.specs.Accounts.{IsJobHelm, Ships, GetsBack, Receives, ComesBack, job_helm}
+use Rattle.ht_crew.specs.Lots.{LotHelm, IsFilled, asked, lot_of, flat}
+use Rattle.ht_crew.specs.Accounts.{JobHelmView, IsJobHelm, Ships, GetsBack, Receives, ComesBack, job_helm, places_of}
 use Rattle.ht_crew.specs.declared.lot.LotRoom.{LotRoom}
 
 -- one lot more at the end
@@ -73,9 +75,10 @@ pub still_back : (old new : LotHelm) (room : LotRoom) (out out' : ℕ) (hits : L
     → out ≤ out' + 1 → IsJobHelm new room out'
 still_back old new room out out' hits came is less = record {
   back = omega (arith, is.back, less, came.one, ap (λ (lots : List (List JobView)). length lots) came.given_are);
-  some = subst (λ (lots : List (List JobView)). length lots ≤ length (flat lots)) (sym came.given_are) is.some;
+  filled = subst (λ (lots : List (List JobView)). All IsFilled lots) (sym came.given_are) is.filled;
   none = is.none;
   places = is.places;
+  few = is.few;
 }
 
 -- the jobs that were loaded went to the pool
@@ -97,18 +100,33 @@ ships_none h loading places = record {
   sources_are = refl;
 }
 
+-- where no lot is empty, there are no more lots than jobs
+filled_count : (lots : List (List JobView)) → AllByRecursion IsFilled lots → length lots ≤ length (flat lots)
+filled_count [] all = omega arith
+filled_count (lot ∷ lots) all = omega (arith, all.0, filled_count lots all.1, length-append lot (flat lots))
+
 -- they stay with the caller
 pub gets_back : (old new : LotHelm) (loading : List JobView) (places places' : ℕ) → new ≡ old → old.room ≤ length old.given
-    → length old.given ≤ length (flat old.given) → GetsBack (job_helm old loading places) (job_helm new [] places') loading
-gets_back old new loading places places' is full some =
+    → All IsFilled old.given → GetsBack (job_helm old loading places) (job_helm new [] places') loading
+gets_back old new loading places places' is full filled =
     let all = append-nil (flat old.given) in
     let here : GetsBack (job_helm old loading places) (job_helm old [] places') loading = record {
       same = record { room_is = refl; lots_are = same_lots old };
       back = ap (λ (given : List JobView). given ++ loading) (sym all);
-      full = omega (arith, full, some, ap (λ (given : List JobView). length given) all);
+      full = omega (arith, full, filled_count old.given (recursion_from_All IsFilled old.given filled), ap (λ (given : List JobView). length given) all);
       sources_are = refl;
     } in
     subst (λ (h : LotHelm). GetsBack (job_helm old loading places) (job_helm h [] places') loading) (sym is) here
+
+-- also where these are what the helm shows, and where another room is empty
+pub gets_back_as : (old new : LotHelm) (shown : JobHelmView) (room room' : LotRoom) (places : ℕ) (lot : List JobView)
+    → job_helm old room.jobs.items places ≡ shown → new ≡ old → old.room ≤ length old.given → All IsFilled old.given
+    → room'.jobs.items ≡ [] → lot ≡ room.jobs.items → GetsBack shown (job_helm new room'.jobs.items (places_of room')) lot
+gets_back_as old new shown room room' places lot sees is full filled none same =
+    subst (λ (now : JobHelmView). GetsBack now (job_helm new room'.jobs.items (places_of room')) lot) sees
+    (subst (λ (loading : List JobView). GetsBack (job_helm old room.jobs.items places) (job_helm new loading (places_of room')) lot) (sym none)
+    (subst (λ (jobs : List JobView). GetsBack (job_helm old room.jobs.items places) (job_helm new [] (places_of room')) jobs) (sym same)
+    (gets_back old new room.jobs.items places (places_of room') is full filled)))
 
 -- one lot more is out, which isn't empty
 pub one_out : (old new : LotHelm) (room room' : LotRoom) (out : ℕ) (lot : List JobView) → new ≡ gave old lot → 0 < length lot → IsJobHelm old room out
@@ -122,15 +140,8 @@ one_out old new room room' out lot is some helm none empty = record {
     ap (λ (h : LotHelm). length h.answers) is,
     length-append old.given (lot ∷ []),
   );
-  some = omega (
-    arith,
-    helm.some,
-    some,
-    ap (λ (h : LotHelm). length h.given) is,
-    ap (λ (h : LotHelm). length (flat h.given)) is,
-    length-append old.given (lot ∷ []),
-    length_push old.given lot,
-  );
+  filled = subst (λ (h : LotHelm). All IsFilled h.given) (sym is) (All-push IsFilled old.given lot helm.filled some);
   none = none;
   places = search rules;
+  few = search rules;
 }

@@ -1,12 +1,12 @@
 -- What the counts of a caller have to do with its window and with its helm at the pool.
 use Rattle.std.specs.Prelude.{◌≡◌, ◌+◌, ◌<◌, ◌≤◌, ◌^◌, ℕ, List, [], ◌∷◌, ◌++◌, length}
-use Rattle.std.specs.Prelude.{Bool, if◌then◌else◌, ◌==◌, nat_lt, slice_get, Some, vec_len, vec_capacity}
-use Rattle.std.specs.List.{sum_by}
+use Rattle.std.specs.Prelude.{Bool, if◌then◌else◌, ◌==◌, nat_lt, min, slice_get, Some, vec_len, vec_capacity}
+use Rattle.std.specs.List.{All, sum_by}
 use Rattle.ht_metric.specs.Jobs.{JobView}
 use Rattle.ht_metric.specs.declared.hit.Hit.{Hit}
 use Rattle.ht_window.specs.Windows.{WindowView, jobs}
 use Rattle.ht_team.specs.Helms.{IsSameHelm}
-use Rattle.ht_crew.specs.Lots.{LotHelm, flat}
+use Rattle.ht_crew.specs.Lots.{LotHelm, IsFilled, flat}
 use Rattle.ht_crew.specs.Driving.{waiting}
 use Rattle.ht_crew.specs.declared.lot.LotRoom.{LotRoom}
 use Rattle.ht_crew.specs.declared.tally.Tally.{Tally}
@@ -36,17 +36,23 @@ job_helm lots loading places = record {
 abbrev pub sources : JobHelmView → ℕ
 sources helm = length (flat helm.lots.taken) + length (flat helm.lots.answers)
 
+-- for how many jobs there are places, with what is found for them: at most 32
+abbrev pub places_of : LotRoom → ℕ
+places_of room = min (min (vec_capacity room.jobs) (vec_capacity room.found)) 32
+
 -- what holds at every helm: a lot that is not out has come back, no lot is empty, and there is room for what is found for the jobs that are loaded
 pub record IsJobHelm (lots : LotHelm) (loaded : LotRoom) (out : ℕ) : Type 0 where
   pub back : length lots.given ≤ out + (length lots.taken + length lots.answers)
-  pub some : length lots.given ≤ length (flat lots.given)
+  pub filled : All IsFilled lots.given
   pub none : loaded.found.items ≡ []
   pub places : vec_len loaded.jobs ≤ vec_capacity loaded.found
+  pub few : vec_len loaded.jobs ≤ 32
 
--- what there is room for and what was given is told by the lots
+-- what there is room for and what was given is told by the lots, none of which is empty
 pub record IsOfLots (helm : JobHelmView) : Type 0 where
   pub room_is : helm.room ≡ helm.lots.room
   pub given_are : helm.given ≡ flat helm.lots.given ++ helm.loading
+  pub filled : All IsFilled helm.lots.given
 
 -- it is the same helm, of the same pool
 pub record IsSameJobHelm (old new : JobHelmView) : Type 0 where

@@ -1,5 +1,5 @@
 -- Jobs and hits in lots.
-use Rattle.std.specs.Prelude.{◌≡◌, ℕ, ◌<◌, ◌^◌, suc, zero, List, [], ◌∷◌, map, slice_get, Some}
+use Rattle.std.specs.Prelude.{◌≡◌, ℕ, ◌<◌, ◌^◌, suc, zero, List, [], ◌∷◌, length, map, slice_get, Some}
 use Rattle.std.specs.List.{flat_map}
 use Rattle.std.proofs.Common.{refl}
 use Rattle.ht_metric.specs.Jobs.{JobView, IsNear, near}
@@ -46,6 +46,14 @@ each_hit (job ∷ jobs) have = hit_of job (have.each zero job refl) ∷ each_hit
 -- all members of all lots, in order
 abbrev pub flat : {A : Type 0} → List (List A) → List A
 flat {A} lots = flat_map (λ (lot : List A). lot) lots
+
+-- how many jobs are in a lot
+abbrev pub jobs_in : List JobView → ℕ
+jobs_in lot = length lot
+
+-- a lot isn't empty
+abbrev pub IsFilled : List JobView → Type 0
+IsFilled lot = 0 < jobs_in lot
 
 -- the caller's end of a pool that runs lots
 abbrev pub LotHelm : Type 0

@@ -1,12 +1,12 @@
 //! Detection as a kind of work.
-ghost use Rattle.std.specs.Prelude.{◌≡◌, map};
+ghost use Rattle.std.specs.Prelude.{◌≡◌, length, map};
 
 use crate::gate::Gate;
 use crate::lot::{Lot, LotHits};
 use ht_team::work::Work;
 
 /// A task is a lot of jobs, and its answer is the same jobs with what was found for each, which contracts see as their
-/// hits. The gate is called before and after each job.
+/// hits. A lot counts as many as it has jobs. The gate is called before and after each job.
 #[derive(Drop)]
 pub(crate) struct Detect<'a, G> {
     pub(crate) gate: &'a G,
@@ -18,6 +18,12 @@ impl<'a, G: Gate> Work for Detect<'a, G> {
     type Answer = LotHits;
 
     ghost asked = { λ hits. map (λ hit. hit.job) hits };
+
+    ghost weight = { λ lot. length lot };
+
+    fn weigh(&self, task: &Lot) -> u32 {
+        task.len()
+    }
 
     fn run(&self, task: Lot) -> LotHits {
         task.run(self.gate)

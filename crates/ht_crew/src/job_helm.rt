@@ -5,15 +5,12 @@ ghost use Rattle.ht_crew.specs.Accounts.{IsOfLots, ComesBack, Loads, Ships, Gets
 
 use crate::detect::Detect;
 use crate::gate::Gate;
-use crate::lot::{Lot, LotHits, LotRoom};
+use crate::lot::{LARGEST, Lot, LotHits, LotRoom};
 use ht_metric::Job;
 use ht_team::helm::Helm;
 use std::alloc::{AllocError, Global};
 use std::marker::Model;
 use std::mem;
-
-/// The most jobs of a lot.
-const LARGEST: usize = 32;
 
 /// Memory for the lots of a drive, which go round between the caller and the workers.
 #[derive(Drop)]
@@ -72,13 +69,13 @@ pub(crate) struct JobHelm<'a, 'g, G: Gate> {
 }
 
 impl<'a, 'g, G: Gate> Model for JobHelm<'a, 'g, G> {
-    ghost use Rattle.std.specs.Prelude.{◌++◌, min, vec_capacity};
+    ghost use Rattle.std.specs.Prelude.{◌++◌};
     ghost use Rattle.ht_crew.specs.Lots.{flat};
-    ghost use Rattle.ht_crew.specs.Accounts.{JobHelmView, IsJobHelm, job_helm};
+    ghost use Rattle.ht_crew.specs.Accounts.{JobHelmView, IsJobHelm, job_helm, places_of};
 
     ghost Value = { JobHelmView };
 
-    ghost view = { λ h. job_helm h.helm h.room.jobs.items (min (vec_capacity h.room.jobs) (vec_capacity h.room.found)) };
+    ghost view = { λ h. job_helm h.helm h.room.jobs.items (places_of h.room) };
 
     ghost invariant = { λ h. IsJobHelm h.helm h.room h.out };
 }
@@ -112,7 +109,9 @@ impl<'a, 'g, G: Gate> JobHelm<'a, 'g, G> {
         ensures { IsTrue result → length self.now.loading < self.now.places }
     {
         let loading = self.room.jobs.len();
-        loading < self.room.jobs.capacity() && loading < self.room.found.capacity()
+        loading < LARGEST
+            && loading < self.room.jobs.capacity()
+            && loading < self.room.found.capacity()
     }
 
     /// Loads a job. There is a place for it.

@@ -9,6 +9,9 @@ use ht_metric::{Found, Job};
 use std::alloc::{AllocError, Global};
 use std::marker::Model;
 
+/// The most jobs of a lot.
+pub(crate) const LARGEST: usize = 32;
+
 /// The memory of a lot: room for some jobs and for what is found for them.
 #[derive(Drop)]
 pub(crate) struct LotRoom {
@@ -37,7 +40,7 @@ impl LotRoom {
     }
 }
 
-/// Jobs of a feed that follow one another, and room for what is found for them. Contracts see the jobs, in order.
+/// At most 32 jobs of a feed that follow one another, and room for what is found for them. Contracts see the jobs, in order.
 #[derive(Drop)]
 pub struct Lot {
     jobs: Vec<Job>,
@@ -52,7 +55,7 @@ impl Model for Lot {
 
     ghost view = { λ l. l.jobs.items };
 
-    ghost invariant = { λ l. (l.found.items ≡ []) × (vec_len l.jobs ≤ vec_capacity l.found) };
+    ghost invariant = { λ l. (l.found.items ≡ []) × (vec_len l.jobs ≤ vec_capacity l.found) × (vec_len l.jobs ≤ 32) };
 }
 
 impl Lot {
@@ -60,12 +63,20 @@ impl Lot {
     pub(crate) fn of(room: LotRoom) -> Lot
         requires none { room.found.items ≡ [] }
         requires room { vec_len room.jobs ≤ vec_capacity room.found }
+        requires few { vec_len room.jobs ≤ 32 }
         ensures { result ≡ room.jobs.items }
     {
         Lot {
             jobs: room.jobs,
             found: room.found,
         }
+    }
+
+    /// How many jobs there are.
+    pub(crate) fn len(&self) -> u32
+        ensures { result ≡ length self.now }
+    {
+        self.jobs.len() as u32
     }
 
     /// Runs the jobs, one after another, each between the two calls of the gate. Takes no memory.

@@ -8,7 +8,7 @@ use ht_team::seat::{Owner, TaskPass};
 use ht_team::shared::AnswerPass;
 use std::marker::Model;
 
-/// A number of lots for each worker.
+/// A number of jobs for each worker.
 #[derive(Debug, Drop)]
 pub struct Ran {
     numbers: Vec<u64>,
@@ -119,7 +119,8 @@ pub struct Report {
     pub jobs: u64,
     /// How many jobs the caller ran without a deque.
     pub own: u64,
-    /// How many lots of jobs each worker took from a deque and ran, the caller first; empty without threads.
+    /// How many jobs each worker ran of lots that it took from a deque, the caller first; empty without threads. The others delivered the
+    /// hits of as many.
     pub ran: Ran,
     /// What went through the deques and the queue; none without threads.
     pub passes: Option<Passes>,

@@ -8,7 +8,7 @@ ghost use Rattle.ht_team.specs.Members.{HasYetToServe, HasServed, berth_of, bert
 ghost use Rattle.ht_team.specs.Pools.{IsOpened, IsVacant};
 ghost use Rattle.ht_crew.specs.Feeds.{IsFreshFeed, IsLeft};
 ghost use Rattle.ht_crew.specs.Driving.{CallFailed, IsInTurn};
-ghost use Rattle.ht_crew.specs.Lots.{lot_of};
+ghost use Rattle.ht_crew.specs.Lots.{jobs_in, lot_of};
 ghost use Rattle.ht_crew.specs.Accounts.{Tallies, AreTold};
 ghost use Rattle.ht_crew.specs.Reports.{HasRunAlone, HasRunInPool, jobs_pushed};
 
@@ -216,7 +216,7 @@ fn finish<G: Gate>(
     members: Vec<Member<Lot, LotHits>>,
     space: Space<Lot>,
 ) -> Report
-    requires served { All (HasServed lot_of helm.lots.queue) members.items }
+    requires served { All (HasServed lot_of jobs_in helm.lots.queue) members.items }
     requires berths { map berth_of members.items ≡ berths helm.lots.deques }
     requires space { IsVacant (length helm.lots.deques) space }
     requires settled { IsSettled helm.lots }

@@ -10,7 +10,7 @@ use Rattle.atomic_table.specs.Seated.{TableId}
 use Rattle.ht_team.specs.Hands.{hand, AddsUp}
 use Rattle.ht_team.specs.Seats.{DequeId, SeatView, OwnView, deques_at, taken_at}
 use Rattle.ht_team.specs.Through.{through, first_of}
-use Rattle.ht_team.specs.Members.{Berth, berth, berths, berth_of, answers_of, tasks_of, HasServed}
+use Rattle.ht_team.specs.Members.{Berth, berth, berths, berth_of, answers_of, answered_weight, tasks_of, HasServed}
 use Rattle.ht_team.specs.Helms.{HelmView, IsSettled, helm_view}
 use Rattle.ht_team.specs.Gathering.{Collects, IsAccounted, answered_by, ended, joined_row, joined_rows}
 use Rattle.ht_team.specs.Pools.{HasRun, IsEmptied, taken_on, moved_on, through_deques, through_queue}
@@ -104,7 +104,7 @@ module _ {T : Type 0} where
   hands-whole [] all = tt
   hands-whole (e ∷ ends) all = (all.0, hands-whole ends all.1)
 
-module _ {T A : Type 0} (asked : A → T) (queue : TableId) where
+module _ {T A : Type 0} (asked : A → T) (weight : T → ℕ) (queue : TableId) where
   abbrev owns : List (Member T A) → List (OwnView T)
   owns members = map (λ (m : Member T A). m.own) members
 
@@ -115,7 +115,7 @@ module _ {T A : Type 0} (asked : A → T) (queue : TableId) where
   taken_at_all rows = flat_map (λ (seats : List (SeatView T)). taken_at seats) rows
 
   -- the shares of all workers together balance
-  shares : (h : T → ℕ) (members : List (Member T A)) → AllByRecursion (HasServed asked queue) members
+  shares : (h : T → ℕ) (members : List (Member T A)) → AllByRecursion (HasServed asked weight queue) members
       → sum_by h (taken_by (owns members)) + sum_by h (taken_at_all (seats_of members))
       ≡ sum_by h (pushed_by (owns members)) + sum_by h (map asked (answered_by members))
   shares h [] all = omega arith
@@ -135,17 +135,27 @@ module _ {T A : Type 0} (asked : A → T) (queue : TableId) where
         sum_by-append h (taken_at m.seats.items) (taken_at_all (seats_of members)),
       )
 
+  -- their numbers are of what they answered
+  counted : (members : List (Member T A)) → AllByRecursion (HasServed asked weight queue) members
+      → map (λ (m : Member T A). m.ran) members ≡ map (answered_weight asked weight) members
+  counted [] all = refl
+  counted (m ∷ members) all =
+      ap (λ (n : ℕ). n ∷ map (λ (x : Member T A). x.ran) members) all.0.ran
+      ∙ ap (λ (ns : List ℕ). answered_weight asked weight m ∷ ns) (counted members all.1)
+
   -- so do their numbers add up
-  numbers : (members : List (Member T A)) → AllByRecursion (HasServed asked queue) members
-      → sum (map (λ (m : Member T A). m.ran) members) ≡ length (answered_by members)
-  numbers [] all = refl
-  numbers (m ∷ members) all = omega (
-    arith,
-    all.0.ran,
-    numbers members all.1,
-    sum_by-cons (λ (n : ℕ). n) m.ran (map (λ (x : Member T A). x.ran) members),
-    length-append (answers_of m).pushed (answered_by members),
-  )
+  numbers : (members : List (Member T A)) → sum (map (answered_weight asked weight) members) ≡ sum_by weight (map asked (answered_by members))
+  numbers [] = refl
+  numbers (m ∷ members) =
+      let asks : map asked (answered_by (m ∷ members)) ≡ map asked (answers_of m).pushed ++ map asked (answered_by members) =
+      map-append asked (answers_of m).pushed (answered_by members) in
+      omega (
+        arith,
+        numbers members,
+        sum_by-cons (λ (n : ℕ). n) (answered_weight asked weight m) (map (answered_weight asked weight) members),
+        ap (sum_by weight) asks,
+        sum_by-append weight (map asked (answers_of m).pushed) (map asked (answered_by members)),
+      )
 
   own-ids : (ids xs : List DequeId) (members : List (Member T A)) → map berth_of members ≡ map (berth ids) xs → own_deques (owns members) ≡ xs
   own-ids ids [] [] e = refl
@@ -181,7 +191,7 @@ module _ {T A : Type 0} (asked : A → T) (queue : TableId) where
   module _ (helm : HelmView T A) (own : OwnView T) (seats : List (SeatView T)) (before : Hand A) (members : List (Member T A))
       (seen : helm_view own seats queue before.taken ≡ helm) (few : length seats ≤ 64) (first : deques_at seats ≡ own.deque ∷ drop 1 (deques_at seats))
       (own_parts : own.parts + length seats ≡ 1024) (answer_parts : before.parts + length seats ≡ 1025) (none_pushed : before.pushed ≡ [])
-      (served : All (HasServed asked queue) members) (berths_are : map berth_of members ≡ berths helm.deques) where
+      (served : All (HasServed asked weight queue) members) (berths_are : map berth_of members ≡ berths helm.deques) where
     abbrev ids : List DequeId
     ids = deques_at seats
 
@@ -194,8 +204,8 @@ module _ {T A : Type 0} (asked : A → T) (queue : TableId) where
     abbrev pub joined : List (OwnView T)
     joined = joined_rows owners rows
 
-    by_recursion : AllByRecursion (HasServed asked queue) members
-    by_recursion = recursion_from_All (HasServed asked queue) members served
+    by_recursion : AllByRecursion (HasServed asked weight queue) members
+    by_recursion = recursion_from_All (HasServed asked weight queue) members served
 
     ids_are : ids ≡ helm.deques
     ids_are = ap (λ (v : HelmView T A). v.deques) seen
@@ -336,54 +346,54 @@ module _ {T A : Type 0} (asked : A → T) (queue : TableId) where
         first_pushed = ap (λ vs. (first_of vs).pushed) hands_are ∙ (first-kept own (owns members) rows ∙ given)
 
         pub has_run : (closed : Closed T A) → through_deques closed ≡ hands → through_queue closed ≡ after
-            → closed.ran.items ≡ length helm.taken ∷ map (λ (m : Member T A). m.ran) members → HasRun asked helm members closed
-        has_run closed of of' numbers_are = record {
-          deques = omega (
-            arith,
-            length-map closed.deques.items through,
-            ap length of,
-            ap length hands_are,
-            length-map joined ended,
-            joined_long,
-          );
-          pushed = ap (λ vs. (first_of vs).pushed) of ∙ first_pushed;
-          emptied = All-from_recursion IsEmptied (through_deques closed)
-              (subst (λ (vs : List (Hand T)). AllByRecursion IsEmptied vs) (sym of) emptied);
-          taken = subst (λ (vs : List (Hand T)). SameCounts (taken_on vs) (helm.given ++ moved_on vs)) (sym of) (λ h. omega (
-            arith,
-            emptied-same h hands emptied,
-            first-apart h hands,
-            ap (sum_by h) first_pushed,
-            sum_by-append h helm.given (moved_on hands),
-          ));
-          run = subst (λ (v : Hand A). SameCounts (helm.taken ++ map asked v.pushed) helm.given) (sym of') run;
-          received = ap (λ (v : Hand A). v.taken) of' ∙ answers;
-          answers = subst (λ (v : Hand A). SameCounts v.taken v.pushed) (sym of') (λ h. omega (
-            arith,
-            accounted h,
-            sum_by-none h waiting none_waits,
-          ));
-          each = omega (
-            arith,
-            ap length numbers_are,
-            length-map members (λ (m : Member T A). m.ran),
-            members_long,
-            long,
-            ids_long,
-            ap length ids_are,
-          );
-          numbers = numbers_are;
-          ran = omega (
-            arith,
-            ap sum numbers_are,
-            sum_by-cons (λ (n : ℕ). n) (length helm.taken) (map (λ (m : Member T A). m.ran) members),
-            numbers members by_recursion,
-            ap length answered,
-            run (λ (x : T). 1),
-            sum_by-append (λ (x : T). 1) helm.taken (map asked after.pushed),
-            ones helm.taken,
-            ones helm.given,
-            ones (map asked after.pushed),
-            length-map after.pushed asked,
-          );
-        }
+            → closed.ran.items ≡ sum_by weight helm.taken ∷ map (λ (m : Member T A). m.ran) members → HasRun asked weight helm members closed
+        has_run closed of of' numbers_are =
+            let answered_are : closed.ran.items ≡ sum_by weight helm.taken ∷ map (answered_weight asked weight) members =
+            numbers_are ∙ ap (λ (ns : List ℕ). sum_by weight helm.taken ∷ ns) (counted members by_recursion) in
+            record {
+              deques = omega (
+                arith,
+                length-map closed.deques.items through,
+                ap length of,
+                ap length hands_are,
+                length-map joined ended,
+                joined_long,
+              );
+              pushed = ap (λ vs. (first_of vs).pushed) of ∙ first_pushed;
+              emptied = All-from_recursion IsEmptied (through_deques closed)
+                  (subst (λ (vs : List (Hand T)). AllByRecursion IsEmptied vs) (sym of) emptied);
+              taken = subst (λ (vs : List (Hand T)). SameCounts (taken_on vs) (helm.given ++ moved_on vs)) (sym of) (λ h. omega (
+                arith,
+                emptied-same h hands emptied,
+                first-apart h hands,
+                ap (sum_by h) first_pushed,
+                sum_by-append h helm.given (moved_on hands),
+              ));
+              run = subst (λ (v : Hand A). SameCounts (helm.taken ++ map asked v.pushed) helm.given) (sym of') run;
+              delivered = ap (λ (v : Hand A). v.pushed) of' ∙ answered;
+              received = ap (λ (v : Hand A). v.taken) of' ∙ answers;
+              answers = subst (λ (v : Hand A). SameCounts v.taken v.pushed) (sym of') (λ h. omega (
+                arith,
+                accounted h,
+                sum_by-none h waiting none_waits,
+              ));
+              each = omega (
+                arith,
+                ap length numbers_are,
+                length-map members (λ (m : Member T A). m.ran),
+                members_long,
+                long,
+                ids_long,
+                ap length ids_are,
+              );
+              numbers = answered_are;
+              ran = omega (
+                arith,
+                ap sum answered_are,
+                sum_by-cons (λ (n : ℕ). n) (sum_by weight helm.taken) (map (answered_weight asked weight) members),
+                numbers members,
+                ap (λ xs. sum_by weight (map asked xs)) answered,
+                run weight,
+                sum_by-append weight helm.taken (map asked after.pushed),
+              );
+            }

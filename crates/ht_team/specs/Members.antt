@@ -1,6 +1,6 @@
 -- What is known of a worker before its thread begins, and once it has ended.
 use Rattle.std.specs.Prelude.{◌≡◌, ◌++◌, ◌-◌, ◌≤◌, ℕ, List, [], ◌∷◌, length, map, drop, Option}
-use Rattle.std.specs.List.{All}
+use Rattle.std.specs.List.{All, sum_by}
 use Rattle.atomic_table.specs.Seated.{TableId}
 use Rattle.crossbeam_queue.specs.Passes.{Pass, view as answer_view}
 use Rattle.crossbeam_queue.specs.declared.array_queue.Doing.{Doing}
@@ -62,13 +62,17 @@ module _ {T A : Type 0} where
     pub none_given : (answers_of m).pushed ≡ []
     pub few : length m.seats.items ≤ 64
 
-  -- a worker that has ended, which has counted its answers
-  pub record HasServed (asked : A → T) (queue : TableId) (m : Member T A) : Type 0 where
+  -- how much is in the tasks that a worker has answered
+  abbrev pub answered_weight : (A → T) → (T → ℕ) → Member T A → ℕ
+  answered_weight asked weight m = sum_by weight (map asked (answers_of m).pushed)
+
+  -- a worker that has ended, which has counted what it answered
+  pub record HasServed (asked : A → T) (weight : T → ℕ) (queue : TableId) (m : Member T A) : Type 0 where
     pub answers : AnswersTo queue m
     pub balanced : Balances asked m.seats.items m.own (answers_of m).pushed
-    pub ran : m.ran ≡ length (answers_of m).pushed
+    pub ran : m.ran ≡ answered_weight asked weight m
 
   -- the workers have ended, each at its own berth
-  pub record HaveServed (asked : A → T) (queue : TableId) (before after : List (Member T A)) : Type 0 where
-    pub served : All (HasServed asked queue) after
+  pub record HaveServed (asked : A → T) (weight : T → ℕ) (queue : TableId) (before after : List (Member T A)) : Type 0 where
+    pub served : All (HasServed asked weight queue) after
     pub berths_are : map berth_of after ≡ map berth_of before

@@ -1,10 +1,11 @@
 -- A pool before its threads begin, and what it has done once they have ended.
 use Rattle.std.specs.Prelude.{◌≡◌, ◌≤◌, ℕ, List, [], ◌∷◌, ◌++◌, length, map, sum, drop, vec_len, vec_capacity}
-use Rattle.std.specs.List.{All, flat_map}
+use Rattle.std.specs.List.{All, flat_map, sum_by}
 use Rattle.crossbeam_queue.specs.Passes.{view as answer_view}
 use Rattle.ht_counts.specs.Counts.{SameCounts}
 use Rattle.ht_team.specs.Through.{through, first_of}
-use Rattle.ht_team.specs.Members.{Berth, berth_of, berths, HasYetToServe}
+use Rattle.ht_team.specs.Members.{Berth, berth_of, berths, answered_weight, HasYetToServe}
+use Rattle.ht_team.specs.Gathering.{answered_by}
 use Rattle.ht_team.specs.Helms.{HelmView, unused}
 use Rattle.ht_team.specs.declared.hand.Hand.{Hand}
 use Rattle.ht_team.specs.declared.member.Member.{Member}
@@ -49,7 +50,7 @@ module _ {T A : Type 0} where
   through_queue c = answer_view c.pass
 
   -- what was done, where the helm is as the caller left it
-  pub record HasRun (asked : A → T) (helm : HelmView T A) (helpers : List (Member T A)) (c : Closed T A) : Type 0 where
+  pub record HasRun (asked : A → T) (weight : T → ℕ) (helm : HelmView T A) (helpers : List (Member T A)) (c : Closed T A) : Type 0 where
     -- there is a deque for each worker
     pub deques : length c.deques.items ≡ length helm.deques
     -- the tasks that were pushed on the caller's are those that were given
@@ -60,10 +61,11 @@ module _ {T A : Type 0} where
     pub taken : SameCounts (taken_on (through_deques c)) (helm.given ++ moved_on (through_deques c))
     -- each was run by the caller or by a worker, who pushed its answer
     pub run : SameCounts (helm.taken ++ map asked (through_queue c).pushed) helm.given
+    pub delivered : (through_queue c).pushed ≡ answered_by helpers
     -- all answers were received
     pub received : (through_queue c).taken ≡ helm.answers
     pub answers : SameCounts (through_queue c).taken (through_queue c).pushed
-    -- how many each has run, the caller first
+    -- how much was in the tasks that each has run and, beside the caller, answered; the caller first
     pub each : length c.ran.items ≡ length helm.deques
-    pub numbers : c.ran.items ≡ length helm.taken ∷ map (λ (m : Member T A). m.ran) helpers
-    pub ran : sum c.ran.items ≡ length helm.given
+    pub numbers : c.ran.items ≡ sum_by weight helm.taken ∷ map (answered_weight asked weight) helpers
+    pub ran : sum c.ran.items ≡ sum_by weight helm.given

@@ -32,7 +32,7 @@ fn take_apart<W: Work>(
     owners: &mut Vec<OwnDeque<W::Task>>,
     rows: &mut Vec<Vec<Seat<W::Task>>>,
 )
-    requires served { All (HasServed W.asked shared.now) members.items }
+    requires served { All (HasServed W.asked W.weight shared.now) members.items }
     requires queue { IsOnQueue shared.now pass.old }
     requires some { 0 < (view pass.old).parts }
     requires numbers { length ran.old.items + length members.items ≤ vec_capacity ran.old }
@@ -109,11 +109,11 @@ pub fn close<W: Work>(
     members: Vec<Member<W::Task, W::Answer>>,
     space: Space<W::Task>,
 ) -> Closed<W::Task, W::Answer>
-    requires served { All (HasServed W.asked helm.queue) members.items }
+    requires served { All (HasServed W.asked W.weight helm.queue) members.items }
     requires berths { map berth_of members.items ≡ berths helm.deques }
     requires settled { IsSettled helm }
     requires space { IsVacant (length helm.deques) space }
-    ensures { HasRun W.asked helm.entry members.items result }
+    ensures { HasRun W.asked W.weight helm.entry members.items result }
 {
     let Helm {
         post,

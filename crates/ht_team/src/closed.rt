@@ -10,6 +10,6 @@ pub struct Closed<T: Drop, A: Drop> {
     pub deques: Vec<Ends<T>>,
     /// The joined pass of the queue of answers.
     pub pass: AnswerPass<A>,
-    /// The number of tasks that each has run, the caller first.
+    /// How much was in the tasks that each has run, the caller first.
     pub ran: Vec<u64>,
 }

@@ -21,7 +21,7 @@ fn crew<W: Work + Sync, R: Threads + Wait + Sync>(
 ) -> Vec<Member<W::Task, W::Answer>>
     requires fresh { All (HasYetToServe shared.now) members.items }
     requires room { vec_len members ≤ vec_capacity members }
-    ensures served { HaveServed W.asked shared.now members.items result.items }
+    ensures served { HaveServed W.asked W.weight shared.now members.items result.items }
     ensures count { vec_len result ≡ vec_len members }
     ensures room { vec_capacity members ≤ vec_capacity result }
 {
@@ -32,12 +32,12 @@ fn crew<W: Work + Sync, R: Threads + Wait + Sync>(
         rt,
         move || -> Member<W::Task, W::Answer>
             requires { IsSync R.row × HasYetToServe shared.now mine }
-            ensures served { HasServed W.asked shared.entry.now result }
+            ensures served { HasServed W.asked W.weight shared.entry.now result }
             ensures berth { berth_of result ≡ berth_of mine }
         { serve(rt, work, shared, mine) },
         move || -> Vec<Member<W::Task, W::Answer>>
             requires { IsSync R.row × (vec_len members ≤ vec_capacity members) × All (HasYetToServe shared.now) members.items }
-            ensures served { HaveServed W.asked shared.entry.now members.items result.items }
+            ensures served { HaveServed W.asked W.weight shared.entry.now members.items result.items }
             ensures count { vec_len result ≡ vec_len members }
             ensures room { vec_capacity members ≤ vec_capacity result }
         { crew(rt, work, shared, members) },
@@ -54,7 +54,7 @@ fn run_crew<W: Work + Sync, R: Threads + Wait + Sync>(
     members: &mut Option<Vec<Member<W::Task, W::Answer>>>,
 )
     requires { IfSome members.old (λ before. All (HasYetToServe shared.now) before.items × (vec_len before ≤ vec_capacity before)) }
-    ensures served { IfSome members.new (λ after. IfSome members.old (λ before. HaveServed W.asked shared.now before.items after.items)) }
+    ensures served { IfSome members.new (λ after. IfSome members.old (λ before. HaveServed W.asked W.weight shared.now before.items after.items)) }
     ensures count { IfSome members.new (λ after. IfSome members.old (λ before. vec_len after ≡ vec_len before)) }
     ensures some { IsSome members.old → IsSome members.new }
 {
@@ -75,7 +75,7 @@ pub fn beside<W: Work + Sync, R: Threads + Wait + Sync, C: FnMut() -> B, B>(
     requires fresh { All (HasYetToServe shared.now) members.items }
     requires room { vec_len members ≤ vec_capacity members }
     requires caller { C.pre caller.old }
-    ensures served { HaveServed W.asked shared.now members.items result.0.items }
+    ensures served { HaveServed W.asked W.weight shared.now members.items result.0.items }
     ensures count { vec_len result.0 ≡ vec_len members }
     ensures called { C.step caller.old result.1 caller.new }
 {

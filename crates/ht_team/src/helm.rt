@@ -4,7 +4,7 @@ ghost use Rattle.ht_team.specs.Helms.{gave, received, TakesBack};
 
 use crate::post::Post;
 use crate::shared::Shared;
-use crate::work::Work;
+use crate::work::{FULL, Work};
 use std::marker::Model;
 
 /// Where a caller gives tasks to the pool and gets answers. Contracts see the tasks that it gave, in order, those that it
@@ -18,14 +18,15 @@ pub struct Helm<'a, W: Work> {
 }
 
 impl<'a, W: Work> Model for Helm<'a, W> {
-    ghost use Rattle.std.specs.Prelude.{◌≡◌, length};
+    ghost use Rattle.std.specs.Prelude.{◌≡◌};
+    ghost use Rattle.std.specs.List.{sum_by};
     ghost use Rattle.ht_team.specs.Helms.{HelmView};
 
     ghost Value = { HelmView W.Task W.Answer };
 
     ghost view = { λ d. d.post };
 
-    ghost invariant = { λ d. (d.shared.now ≡ d.post.queue) × (d.ran ≡ length d.post.taken) };
+    ghost invariant = { λ d. (d.shared.now ≡ d.post.queue) × (d.ran ≡ sum_by W.weight d.post.taken) };
 }
 
 impl<'a, W: Work> Helm<'a, W> {
@@ -74,11 +75,11 @@ impl<'a, W: Work> Helm<'a, W> {
         ensures ran { IfSome result (λ answer. TakesBack self.old self.new (W.asked answer)) }
         ensures none { IfNone result (self.new ≡ self.old) }
     {
-        if self.ran == u64::MAX {
+        if self.ran > FULL {
             return None;
         }
         let task = self.post.take()?;
-        self.ran += 1;
+        self.ran += u64::from(self.work.weigh(&task));
         Some(self.work.run(task))
     }
 

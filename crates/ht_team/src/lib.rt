@@ -1,6 +1,6 @@
 //! A pool of workers that steal, for any kind of work.
 //!
-//! A [`Work`](work::Work) says what a task is, what an answer is, and which task an answer is of. [`Pool::open`](pool::Pool::open) takes
+//! A [`Work`](work::Work) says what a task is, what an answer is, which task an answer is of, and how much is in a task. [`Pool::open`](pool::Pool::open) takes
 //! all the memory that a pool needs. Its parts are what the threads share, the post of the caller, and the workers. At a
 //! [`Helm`](helm::Helm) the caller gives tasks to the pool, takes tasks back that no worker took and runs them, and
 //! receives answers. [`beside`](crew::beside) runs the workers, each in a thread of its own, while the caller works at
@@ -10,9 +10,10 @@
 //! another's deque to its own. Answers go through a queue with a bound (`crossbeam_queue`). Each thread has a seat at every
 //! deque and a pass on the queue, which remember in proofs what was pushed and taken with them. So
 //! [`close`](close::close) can say what the threads did, in whatever order they ran: each task that was given was run once,
-//! by the caller or by a worker, no task is left, and every answer was received.
+//! by the caller or by a worker, no task is left, and every answer was received. Beside that it says how much was in the tasks
+//! that each thread has run, by the weight that the work gives a task.
 //!
-//! With three workers beside the caller and the tasks 0 to 9 to square, the numbers of tasks run may come out as
+//! With three workers beside the caller and the tasks 0 to 9 to square, each of weight 1, what was run may come out as
 //! 4, 2, 3 and 1, the caller's first: they add up to 10, and so do those of any other run.
 #![tactic(auto)]
 

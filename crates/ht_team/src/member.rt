@@ -15,6 +15,6 @@ pub struct Member<T: Drop, A: Drop> {
     pub place: u8,
     /// Its pass on the queue of answers.
     pub pass: AnswerPass<A>,
-    /// The number of tasks that it has run.
+    /// How much was in the tasks that it has run.
     pub ran: u64,
 }

@@ -1,5 +1,6 @@
 //! What a worker does.
-ghost use Rattle.std.specs.Prelude.{◌≡◌, ◌≤◌, [], length};
+ghost use Rattle.std.specs.Prelude.{◌≡◌, ◌≤◌, [], length, map};
+ghost use Rattle.std.specs.List.{sum_by};
 ghost use Rattle.crossbeam_queue.specs.Passes.{view as answer_view};
 ghost use Rattle.ht_team.specs.Hands.{hand};
 ghost use Rattle.ht_team.specs.Seats.{deques_at};
@@ -10,7 +11,7 @@ use crate::member::Member;
 use crate::own::OwnDeque;
 use crate::seat::Seat;
 use crate::shared::{AnswerPass, Shared};
-use crate::work::Work;
+use crate::work::{FULL, Work};
 use crossbeam_utils::Backoff;
 use crossbeam_utils::sync::Key;
 use std::sync::Wait;
@@ -50,8 +51,8 @@ fn rest<R: Wait>(rt: &R, backoff: &Backoff, sleep: Option<Key<'_>>, looks: u32) 
     }
 }
 
-// Runs tasks and puts their answers on the queue, until no task comes any more and none is left. Answers how many it
-// ran.
+// Runs tasks and puts their answers on the queue, until no task comes any more and none is left. Answers how much was in
+// them.
 fn run_tasks<W: Work, R: Wait>(
     rt: &R,
     work: &W,
@@ -72,13 +73,13 @@ fn run_tasks<W: Work, R: Wait>(
     ensures part { (answer_view result.0).parts ≡ 1 }
     ensures none_received { (answer_view result.0).taken ≡ [] }
     ensures balanced { Balances W.asked seats.new own.new (answer_view result.0).pushed }
-    ensures ran { result.1 ≡ length (answer_view result.0).pushed }
+    ensures ran { result.1 ≡ sum_by W.weight (map W.asked (answer_view result.0).pushed) }
 {
     let mut ran = 0u64;
     let mut looks = 0u32;
     let backoff = Backoff::new();
     for _ in rt.forever() {
-        if ran == u64::MAX {
+        if ran > FULL {
             return (pass, ran);
         }
         let sleep = prepare_sleep(shared, looks);
@@ -86,8 +87,9 @@ fn run_tasks<W: Work, R: Wait>(
         match next_task(seats, place, own) {
             Some(task) => {
                 drop(sleep);
+                let weight = work.weigh(&task);
                 pass = shared.deliver(rt, pass, work.run(task));
-                ran += 1;
+                ran += u64::from(weight);
                 looks = 0;
                 backoff.reset();
             }
@@ -110,7 +112,7 @@ pub(crate) fn serve<W: Work, R: Wait>(
     member: Member<W::Task, W::Answer>,
 ) -> Member<W::Task, W::Answer>
     requires fresh { HasYetToServe shared.now member }
-    ensures served { HasServed W.asked shared.now result }
+    ensures served { HasServed W.asked W.weight shared.now result }
     ensures berth { berth_of result ≡ berth_of member }
 {
     let Member {

@@ -66,6 +66,12 @@ impl Work for Squares {
 
     ghost asked = { λ squared. squared.number };
 
+    ghost weight = { λ number. 1 };
+
+    fn weigh(&self, _task: &u32) -> u32 {
+        1
+    }
+
     fn run(&self, task: u32) -> Squared {
         self.enter();
         let wide = u64::from(task);

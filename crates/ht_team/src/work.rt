@@ -1,5 +1,8 @@
 //! What a pool does.
-ghost use Rattle.std.specs.Prelude.{◌≡◌};
+ghost use Rattle.std.specs.Prelude.{◌≡◌, ℕ};
+
+/// The count above which a worker runs no task more, so that every count fits 64 bits.
+pub(crate) const FULL: u64 = 0xffff_ffff_0000_0000;
 
 /// A kind of work. All threads of a pool share its value.
 pub trait Work {
@@ -11,6 +14,13 @@ pub trait Work {
 
     /// The task that an answer is of.
     ghost asked: { Self.Answer → Self.Task };
+
+    /// How much is in a task. A pool counts by it what each worker has run.
+    ghost weight: { Self.Task → ℕ };
+
+    /// How much is in a task.
+    fn weigh(&self, task: &Self::Task) -> u32
+        ensures { result ≡ weight task.now };
 
     /// Does a task. The answer is one of this very task.
     fn run(&self, task: Self::Task) -> Self::Answer

@@ -1,5 +1,7 @@
-use Rattle.std.proofs.Common.{rules, ◌≡◌, ◌++◌, ◌∷◌, [], List, Option, Some, None, length, ap, ◌∙◌, subst, arith}
-use Rattle.std.proofs.lemmas.List.{length-append}
+use Rattle.std.proofs.Common.{rules, ◌≡◌, ◌++◌, ◌∷◌, [], List, Option, Some, None, map, ap, ◌∙◌, subst, arith}
+use Rattle.std.specs.List.{sum_by}
+use Rattle.std.proofs.lemmas.List.{map-append}
+use Rattle.std.proofs.lemmas.List.Sums.{sum_by-append}
 use Rattle.crossbeam_queue.specs.Passes.{view as answer_view}
 use Rattle.ht_team.specs.declared.hand.Hand.{Hand}
 use Rattle.ht_team.specs.Seats.{Gets}
@@ -24,7 +26,15 @@ loop-preserved-in-Some-next_task g c =
       none_received = ap (λ (v : Hand g.row.W-Answer.Denot). v.taken) gave ∙ was.none_received;
       balanced = balances-ran g.W.Work.asked c.loop.seats c.next_task.new.seats c.loop.own c.next_task.new.own (answer_view c.loop.pass).pushed
           (answer_view c.deliver-pass.result).pushed c.in-Some-next_task.task c.run.result gets c.run.ensures more was.balanced;
-      ran = omega (arith, was.ran, ap length more, length-append (answer_view c.loop.pass).pushed (c.run.result ∷ []));
+      ran = omega (
+        arith,
+        was.ran,
+        ap (λ (xs : List g.row.W-Answer.Denot). sum_by g.W.Work.weight (map g.W.Work.asked xs)) more,
+        ap (sum_by g.W.Work.weight) (map-append g.W.Work.asked (answer_view c.loop.pass).pushed (c.run.result ∷ [])),
+        sum_by-append g.W.Work.weight (map g.W.Work.asked (answer_view c.loop.pass).pushed) (g.W.Work.asked c.run.result ∷ []),
+        ap g.W.Work.weight c.run.ensures,
+        c.weigh-weight.ensures,
+      );
     }
 
 pub loop-preserved : goal.loop-preserved

@@ -1,4 +1,5 @@
-use Rattle.std.proofs.Common.{◌≡◌, ◌≤◌, [], length}
+use Rattle.std.proofs.Common.{◌≡◌, ◌≤◌, [], length, map}
+use Rattle.std.specs.List.{sum_by}
 use Rattle.crossbeam_queue.specs.Passes.{view as answer_view}
 use Rattle.ht_team.specs.Members.{Balances, IsOnQueue}
 use Rattle.ht_team.specs.Seats.{deques_at}
@@ -14,5 +15,5 @@ invariant-loop g l = record {
   part : (answer_view l.pass).parts ≡ 1;
   none_received : (answer_view l.pass).taken ≡ [];
   balanced : Balances g.W.Work.asked l.seats l.own (answer_view l.pass).pushed;
-  ran : l.ran ≡ length (answer_view l.pass).pushed;
+  ran : l.ran ≡ sum_by g.W.Work.weight (map g.W.Work.asked (answer_view l.pass).pushed);
 }
