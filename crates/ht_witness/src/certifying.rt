@@ -23,6 +23,7 @@ pub fn certify(job: &Job, alloc: Global) -> Result<Certificate, AllocError>
     ensures marks { IfOk result (λ certificate. certificate.marks
         ≡ marks_of certificate.distance (from_last job.now.system job.now.grid) [] 0) }
     ensures checked { IfOk result (λ certificate. Checked job.now certificate) }
+    ensures streams { IfOk result (λ certificate. length certificate.vector ≡ length job.now.system) }
 {
     let Found { vector, distance } = find::<Brand>(job, Blank::new(1));
     let streams = job.system().streams();

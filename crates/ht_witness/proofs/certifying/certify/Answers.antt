@@ -1,6 +1,7 @@
 use Rattle.std.proofs.Common.{◌≡◌, ◌∙◌, ◌*◌, [], length, take, drop, ap}
 use Rattle.ht_metric.specs.Distance.{distance_of}
 use Rattle.ht_metric.specs.declared.found.Found.{Found}
+use Rattle.ht_metric.proofs.Allowed.{long_as_grid}
 use Rattle.ht_metric.proofs.Finding.{near_is}
 use Rattle.ht_sphere.specs.Coordinates.{from_last}
 use Rattle.ht_witness.specs.Marking.{marks_of}
@@ -28,3 +29,9 @@ returns-clause-checked c =
     same (no_levels c.from.result n c.from.ensures) c.new-marks.ensures.items (c.from-2.ensures ∙ c.in_ok-quadrature.ensures.marks) in
     let far : d ≡ distance_of job.system x = ap (λ (f : Found). f.distance) (c.find-vector.ensures.found ∙ near_is job x c.find-vector.ensures.near) in
     accepted job record { vector = x; distance = d; marks = c.from-2.result } c.system.ensures.job c.find-vector.ensures.near far marks
+
+pub returns-clause-streams : goal.returns-clause-streams
+returns-clause-streams c =
+    let job = c.args.job.now in
+    let is = c.system.ensures.job in
+    long_as_grid job.grid c.find-vector.result.vector c.find-vector.ensures.near.within ∙ is.streams
