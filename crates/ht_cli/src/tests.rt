@@ -587,7 +587,7 @@ fn sure(rt: HostRuntime) -> Result<(), Fail> {
     Ok(())
 }
 
-/// Holds job 0 until 14 others have left, and gives up after a million turns.
+/// Holds job 0 until 111 others have left, and gives up after a million turns.
 #[derive(Drop)]
 struct Held {
     entered: AtomicU64,
@@ -612,7 +612,7 @@ impl Gate for Held {
             return;
         }
         for _ in 0..1_000_000u64 {
-            if self.left.load(Ordering::SeqCst) >= 14 {
+            if self.left.load(Ordering::SeqCst) >= 111 {
                 return;
             }
             thread::yield_now();
@@ -641,17 +641,17 @@ fn ran_by<R: Threads + Wait + Sync, G: Gate + Sync>(
     Ok((status, held))
 }
 
-// Two workers meet at a gate that one alone can't pass. In so small a window each job moves by itself.
+// Two workers meet at a gate that one alone can't pass: job 0 is held until the 111 others have left.
 #[test]
 fn threads_meet(rt: HostRuntime) -> Result<(), Fail> {
     let alloc = rt.alloc();
     let cases = [
         (
-            "detect --workers 2 --window 15",
+            "detect --workers 2",
             zero_lines(alloc, 2, "end 1 frames\n")?,
         ),
         (
-            "rx --workers 2 --window 15",
+            "rx --workers 2",
             zero_frames(alloc, 1, "end 1 frames\n")?,
         ),
     ];

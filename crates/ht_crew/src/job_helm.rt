@@ -15,33 +15,66 @@ use std::mem;
 /// Memory for the lots of a drive, which go round between the caller and the workers.
 #[derive(Drop)]
 pub(crate) struct Depot {
+    singles: Vec<LotRoom>,
     spare: Vec<LotRoom>,
-    size: usize,
+    most: usize,
     alloc: Global,
 }
 
+// Memory for a number of lots of at most this number of jobs.
+fn rooms(alloc: Global, count: usize, size: usize) -> Result<Vec<LotRoom>, AllocError> {
+    let mut rooms = Vec::with_capacity(alloc, count)?;
+    for _ in 0..count {
+        rooms.push(LotRoom::new(alloc, size)?)?;
+    }
+    Ok(rooms)
+}
+
+// One of the first rooms, or of the others where there is none.
+fn pop_either(first: &mut Vec<LotRoom>, others: &mut Vec<LotRoom>) -> Option<LotRoom> {
+    let room = first.pop();
+    if room.is_some() {
+        return room;
+    }
+    others.pop()
+}
+
+// Puts a room to the others, where there is a place for it.
+fn put_back(rooms: &mut Vec<LotRoom>, room: LotRoom) {
+    if rooms.len() < rooms.capacity() {
+        rooms.push_reserved(room);
+    }
+}
+
 impl Depot {
-    /// The memory of a drive by 1 to 64 workers through a window of 1 to 4096 slots: for lots of so few jobs that there can
-    /// be four for each worker, and for as many lots as a full window has.
+    /// The memory of a drive by 1 to 64 workers through a window of 1 to 4096 slots: for as many lots of one job as the window
+    /// has slots, and for one lot more than a full window has, where lots are as large as they may be. They have so few jobs
+    /// then that there can be four for each worker.
     pub(crate) fn new(alloc: Global, workers: u8, window: u16) -> Result<Depot, AllocError>
         requires some { 1 ≤ workers }
     {
         let window = usize::from(window);
-        let size = (window / (4 * usize::from(workers))).clamp(1, LARGEST);
-        let count = window / size + 1;
-        let mut spare = Vec::with_capacity(alloc, count)?;
-        for _ in 0..count {
-            spare.push(LotRoom::new(alloc, size)?)?;
-        }
-        Ok(Depot { spare, size, alloc })
+        let most = (window / (4 * usize::from(workers))).clamp(1, LARGEST);
+        let singles = if most > 1 { window } else { 0 };
+        Ok(Depot {
+            singles: rooms(alloc, singles, 1)?,
+            spare: rooms(alloc, window / most + 1, most)?,
+            most,
+            alloc,
+        })
     }
 
-    // Room for a lot, empty; none if all are out.
-    fn take(&mut self) -> LotRoom
+    // Room for a lot of this number of jobs or of fewer, empty; none if all are out.
+    fn take(&mut self, size: usize) -> LotRoom
         ensures jobs { result.jobs.items ≡ [] }
         ensures found { result.found.items ≡ [] }
     {
-        let Some(mut room) = self.spare.pop() else {
+        let taken = if size > 1 {
+            pop_either(&mut self.spare, &mut self.singles)
+        } else {
+            pop_either(&mut self.singles, &mut self.spare)
+        };
+        let Some(mut room) = taken else {
             return LotRoom::none(self.alloc);
         };
         room.jobs.clear();
@@ -51,8 +84,10 @@ impl Depot {
 
     // Keeps the room of a lot that came back.
     fn keep(&mut self, room: LotRoom) {
-        if self.spare.len() < self.spare.capacity() {
-            self.spare.push_reserved(room);
+        if room.jobs.capacity() < self.most {
+            put_back(&mut self.singles, room);
+        } else {
+            put_back(&mut self.spare, room);
         }
     }
 }
@@ -88,7 +123,7 @@ impl<'a, 'g, G: Gate> JobHelm<'a, 'g, G> {
         ensures told { IsOfLots result }
         ensures none { result.loading ≡ [] }
     {
-        let room = depot.take();
+        let room = depot.take(1);
         JobHelm {
             helm,
             room,
@@ -122,21 +157,21 @@ impl<'a, 'g, G: Gate> JobHelm<'a, 'g, G> {
         self.room.jobs.push_reserved(job);
     }
 
-    /// Whether the jobs that are loaded make a lot.
-    pub(crate) fn is_full(&self) -> bool {
-        self.room.jobs.len() >= self.depot.size
+    /// Whether the jobs that are loaded make a lot of this number of jobs, or of as many as a lot may have.
+    pub(crate) fn is_full(&self, size: usize) -> bool {
+        self.room.jobs.len() >= size.min(self.depot.most) || !self.is_ready()
     }
 
     /// Gives the jobs that are loaded to the pool as a lot, if there are any. They come back where there is no memory for
-    /// the lot, and then at least `room` jobs were given before.
-    pub(crate) fn ship(&mut self) -> Option<Lot>
+    /// the lot, and then at least `room` jobs were given before. The next lot is to have this number of jobs.
+    pub(crate) fn ship(&mut self, size: usize) -> Option<Lot>
         ensures shipped { IfNone result (Ships self.old self.new) }
         ensures refused { IfSome result (GetsBack self.old self.new) }
     {
         if self.room.jobs.is_empty() || self.out == u64::MAX {
             return None;
         }
-        let room = self.depot.take();
+        let room = self.depot.take(size);
         match self.helm.give(Lot::of(mem::replace(&mut self.room, room))) {
             Ok(()) => {
                 self.out += 1;
@@ -156,13 +191,13 @@ impl<'a, 'g, G: Gate> JobHelm<'a, 'g, G> {
         Some(hits)
     }
 
-    /// Keeps the memory of a lot whose hits were booked.
-    pub(crate) fn store(&mut self, room: LotRoom)
+    /// Keeps the memory of a lot whose hits were booked. The next lot is to have this number of jobs.
+    pub(crate) fn store(&mut self, room: LotRoom, size: usize)
         ensures { Stores self.old self.new }
     {
         self.depot.keep(room);
         if self.room.jobs.capacity() == 0 {
-            self.room = self.depot.take();
+            self.room = self.depot.take(size);
         }
     }
 

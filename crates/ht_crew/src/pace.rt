@@ -1,6 +1,7 @@
 //! How costly jobs are.
 
-use ht_metric::Job;
+use crate::lot::LARGEST;
+use ht_metric::{Found, Job};
 
 /// The credit from which on jobs count as cheap.
 const QUICK: u8 = 192;
@@ -11,8 +12,11 @@ const FEW: u8 = 3;
 /// What a costly job takes from the credit at least.
 const LEAST_PRICE: u8 = 8;
 
+/// How often the distance of a hard job has its measure in it, at least.
+const FAR: u64 = 64;
+
 /// What a caller has seen of the cost of its jobs, as a credit from 0 to 255: a cheap job adds one to it, and a costly one
-/// takes from it, the more the costlier it was.
+/// takes from it, the more the costlier it was. Beside it stands how many jobs the next lot is to have.
 ///
 /// A job is cheap where it has at most three streams and the distance of its hit is less than four times the square of the
 /// least diagonal: then few vectors beside that of successive rounding may be nearer, and the search looks at little more.
@@ -20,12 +24,13 @@ const LEAST_PRICE: u8 = 8;
 #[derive(Clone, Copy, Debug)]
 pub(crate) struct Pace {
     credit: u8,
+    lot: usize,
 }
 
 impl Pace {
     /// Nothing was seen yet.
     pub(crate) fn new() -> Pace {
-        Pace { credit: 0 }
+        Pace { credit: 0, lot: 1 }
     }
 
     /// Sees a job and the distance of its hit.
@@ -43,10 +48,37 @@ impl Pace {
         };
     }
 
+    /// Sees the jobs of a lot that came back, of which the last one speaks for all: where that was hard, the next lot is to be a
+    /// single job, and else to have twice as many jobs as the one before.
+    pub(crate) fn see_lot(&mut self, jobs: &[Job], found: &[Found]) {
+        if let (Some(job), Some(found)) = (jobs.last(), found.last()) {
+            self.lot = if is_hard(job, found.distance) {
+                1
+            } else {
+                self.lot.saturating_mul(2).min(LARGEST)
+            };
+        }
+    }
+
+    /// How many jobs the next lot is to have: one at first, and at most 32.
+    pub(crate) fn lot(&self) -> usize {
+        self.lot
+    }
+
     /// Whether enough of the last jobs were cheap that moving the next one to another thread costs more than running it.
     pub(crate) fn is_quick(&self) -> bool {
         self.credit >= QUICK
     }
+}
+
+// Whether a search may have looked at thousands of vectors: many are in the grid, and the one that was found is far.
+fn is_hard(job: &Job, distance: u128) -> bool {
+    let grid = job.grid();
+    if grid.streams() < FEW || !grid.i_ladder(1).has(3) {
+        return false;
+    }
+    let measure = measure(job);
+    u64::try_from(distance).unwrap_or(u64::MAX) / measure.max(1) >= FAR
 }
 
 // Four times the square of the least diagonal of a job's system.

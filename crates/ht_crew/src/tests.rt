@@ -5,7 +5,7 @@ ghost use Rattle.ht_crew.specs.Lists.{AreNumbered};
 
 use crate::pace::Pace;
 use crate::{DriveFault, Gate, ListFault, ListFeed, OpenGate, drive, drive_alone};
-use ht_metric::{Hit, Job, Place, Sample, System, Tap, Triangle, plain_nearest};
+use ht_metric::{Found, Hit, Job, Place, Sample, System, Tap, Triangle, Vector, plain_nearest};
 use ht_pam::{Grid, Ladder, Point};
 use std::alloc::{AllocError, Global};
 use std::process::Abort;
@@ -173,10 +173,10 @@ impl Gate for Held {
 
 #[test]
 fn threads_meet(rt: HostRuntime) -> Result<(), Fail> {
-    for (workers, window, others, lots) in [(2, 15, 14, 112), (4, 256, 0, 7), (64, 256, 111, 112)] {
+    for (workers, others) in [(2, 111), (4, 0), (64, 111)] {
         let gate = Held::new(others);
         let mut feed = ListFeed::new(rt.alloc(), jobs(rt.alloc(), 112)?, Vec::new(rt.alloc()))?;
-        let Ok(report) = drive(&rt, rt.alloc(), workers, window, &gate, &mut feed) else {
+        let Ok(report) = drive(&rt, rt.alloc(), workers, 256, &gate, &mut feed) else {
             assert!(rt; false, "{workers} workers");
             return Ok(());
         };
@@ -187,7 +187,7 @@ fn threads_meet(rt: HostRuntime) -> Result<(), Fail> {
         assert_eq!(rt; report.own, 0);
         let ran = report.ran.as_slice();
         assert_eq!(rt; ran.len(), usize::from(workers));
-        assert_eq!(rt; ran.iter().fold(0u64, |a, n| a.wrapping_add(*n)), lots);
+        assert_eq!(rt; ran.iter().fold(0u64, |a, n| a.wrapping_add(*n)), 112);
         assert!(rt; workers > 4 || ran.iter().all(|n| *n > 0));
         assert_eq!(rt; feed.taken().len(), 112);
         expect_first(&rt, feed.taken());
@@ -254,6 +254,42 @@ fn cheap_and_costly(rt: HostRuntime) -> Result<(), Fail> {
         see(&mut pace, &cheap);
     }
     assert!(rt; !pace.is_quick());
+    Ok(())
+}
+
+// What was found for a job, as far as a pace looks at it.
+fn found(distance: u128) -> Found {
+    Found {
+        vector: Vector::new(),
+        distance,
+    }
+}
+
+// A job of 16-QAM on three streams whose diagonals are 10.
+fn wide() -> Job {
+    let axis = Ladder::of(4, 15);
+    let grid = Grid::one(axis, axis).and(axis, axis).and(axis, axis);
+    let triangle = Triangle::new(3, [10, 10, 10, 0], [Tap { re: 0, im: 0 }; 6]);
+    Job::new(
+        0,
+        Place::default(),
+        grid,
+        System::new(triangle, [NO_SAMPLE; 4]),
+    )
+}
+
+// Each lot that comes back doubles the next one, up to 32 jobs; behind one whose last job was hard, at 64 times the measure,
+// single jobs come again.
+#[test]
+fn lots_grow(rt: HostRuntime) -> Result<(), Fail> {
+    let jobs = [wide()];
+    let mut pace = Pace::new();
+    for size in [1, 2, 4, 8, 16, 32, 32] {
+        assert_eq!(rt; pace.lot(), size);
+        pace.see_lot(&jobs, &[found(25_599)]);
+    }
+    pace.see_lot(&jobs, &[found(25_600)]);
+    assert_eq!(rt; pace.lot(), 1);
     Ok(())
 }
 

@@ -41,10 +41,10 @@ use std::thread::Threads;
 ///
 /// The feed has given nothing yet. The caller asks it for jobs until `window` of them are due, 1 to 4096, or it has
 /// ended, and gives them in lots to the pool, from which the other workers take them, each in a thread of its own. So
-/// whichever call of the feed fails, no more jobs than that are due. A lot has a quarter of a worker's share of a full
-/// window, `window / (4 * workers)` jobs, at least 1 and at most 32, and fewer only where the feed has ended or the
-/// caller keeps the next jobs. The gate is called before and after each job, by whoever runs it. With one worker it is
-/// [`drive_alone`].
+/// whichever call of the feed fails, no more jobs than that are due. Lots begin with single jobs and grow with each one that
+/// comes back, up to a quarter of a worker's share of a full window, `window / (4 * workers)` jobs, at least 1 and at most
+/// 32; where jobs take long they are single jobs again. The gate is called before and after each job, by whoever runs it.
+/// With one worker it is [`drive_alone`].
 ///
 /// Where the hits show that jobs are cheap, the caller keeps them once it has given the pool `window` jobs and has all
 /// their hits: it runs them itself, in the order of the feed and as [`drive_alone`] does, so at most two are due, and only

@@ -66,7 +66,8 @@ fn book_lot<G: Gate>(
         room.jobs.as_slice(),
         room.found.as_slice(),
     );
-    helm.store(room);
+    pace.see_lot(room.jobs.as_slice(), room.found.as_slice());
+    helm.store(room, pace.lot());
 }
 
 /// Gives the jobs that are loaded to the pool, or runs them where the pool has no memory for them.
@@ -80,7 +81,7 @@ pub(crate) fn ship<G: Gate>(
     requires tallies { Tallies tally.old window.old helm.old }
     ensures turn { TakesTurn tally.old window.old helm.old tally.new window.new helm.new }
 {
-    let Some(lot) = helm.ship() else {
+    let Some(lot) = helm.ship(pace.lot()) else {
         return;
     };
     let hits = work.run(lot);
@@ -108,7 +109,7 @@ pub(crate) fn issue<G: Gate>(
     window.issue(job.copy());
     helm.load(job);
     tally.issued += 1;
-    if helm.is_full() {
+    if helm.is_full(pace.lot()) {
         ship(work, window, helm, tally, pace);
     }
 }
