@@ -1,0 +1,5 @@
+pub mod Back
+pub mod Ends
+pub mod FrameFiles
+pub mod Passing
+pub mod SymbolFiles
