@@ -2,7 +2,11 @@
 use Rattle.std.specs.Prelude.{◌≡◌, ℕ, List, ◌++◌, Some, map}
 use Rattle.std.proofs.Common.{refl, ap, ◌∙◌, sym, subst, inr}
 use Rattle.ht_io.specs.Devices.{Device, Grows, GrowsByPart, Rose, TakesAll}
-use Rattle.ht_fields.specs.Cases.{File}
+use Rattle.ht_fields.specs.Cases.{File, IsFile}
+use Rattle.ht_runs.specs.Converted.{PutsOutput, PutsPartOfOutput}
+use Rattle.ht_runs.specs.Filters.{BeforeOutput}
+use Rattle.ht_runs.specs.Formats.{conversion}
+use Rattle.ht_runs.proofs.Converting.{put_all, put_in_part}
 use Rattle.ht_fields.specs.Meanings.{Meaning}
 use Rattle.ht_fields.proofs.Answered.{met}
 use Rattle.ht_capture.specs.declared.frames.CaptureFrame.{CaptureFrame}
@@ -18,28 +22,26 @@ use Rattle.ht_results.specs.Results.{frame_result, results_of}
 use Rattle.ht_results.specs.Texts.{frame_lines_of, frames_of, last_line, last_of, result_lines, rx_text}
 use Rattle.ht_capture_laws.specs.Items.{whole_frames}
 use Rattle.ht_rx.specs.Texts.{detect_text, job_lines, jobs_of, lines_of}
-use Rattle.ht_cli.specs.declared.status.Status.TheVariants.{Done, WriteFault}
+use Rattle.ht_cli.specs.declared.status.Status.TheVariants.{Done}
 use Rattle.ht_words.specs.declared.asked.Asked.TheVariants.{Upgrade}
-use Rattle.ht_cli.specs.Commands.{Answers}
 use Rattle.ht_cli.specs.Converting.{UpgradesTo}
-use Rattle.ht_cli.specs.Filters.{whole}
 use Rattle.ht_cli.specs.Tasks.{Answered}
-use Rattle.ht_cli.proofs.Converting.{converts, converts_part}
 
 -- the frames that were read were written
-pub upgrade_done : (a b c d : Device ℕ) (frames written : List CaptureFrame) → ReadsCaptures a b frames → written ≡ frames
-    → Grows c d (capture_file_of 2 written) → Answers (whole captures UpgradesTo) a b c d Done
-upgrade_done a b c d frames written (version, ((isv, fits, typed), all)) same put =
-    converts captures UpgradesTo a b c d (capture_file_of version frames) (capture_file_of 2 frames) (items_of frames) all
-    (file_written version frames fits typed isv) (version, frames, isv, fits, typed, refl, refl)
-    (subst (λ (fs : List CaptureFrame). Grows c d (capture_file_of 2 fs)) same put)
+module _ (a b c d : Device ℕ) (frames written : List CaptureFrame) (read : ReadsCaptures a b frames) (same : written ≡ frames) where
+  comes : UpgradesTo (capture_file_of read.0 frames) (capture_file_of 2 written)
+  comes = (read.0, frames, read.1.0.0, read.1.0.1, read.1.0.2, refl, ap (λ (fs : List CaptureFrame). capture_file_of 2 fs) same)
 
-pub upgrade_part : (a b c d : Device ℕ) (frames written : List CaptureFrame) → ReadsCaptures a b frames → written ≡ frames
-    → GrowsByPart c d (capture_file_of 2 written) → Rose c d → Answers (whole captures UpgradesTo) a b c d WriteFault
-upgrade_part a b c d frames written (version, ((isv, fits, typed), all)) same put rose =
-    converts_part captures UpgradesTo a b c d (capture_file_of version frames) (capture_file_of 2 frames) (items_of frames) all
-    (file_written version frames fits typed isv) (version, frames, isv, fits, typed, refl, refl)
-    (subst (λ (fs : List CaptureFrame). GrowsByPart c d (capture_file_of 2 fs)) same put) rose
+  file : IsFile captures (capture_file_of read.0 frames) (items_of frames)
+  file = file_written read.0 frames read.1.0.1 read.1.0.2 read.1.0.0
+
+  pub upgrades : Grows c d (capture_file_of 2 written) → PutsOutput (conversion captures BeforeOutput UpgradesTo) a b c d
+  upgrades grown =
+      put_all captures BeforeOutput UpgradesTo a b c (capture_file_of read.0 frames) (capture_file_of 2 written) (items_of frames) read.1.1 file comes d grown
+
+  pub upgrades_in_part : GrowsByPart c d (capture_file_of 2 written) → PutsPartOfOutput (conversion captures BeforeOutput UpgradesTo) a b c d
+  upgrades_in_part part =
+      put_in_part captures BeforeOutput UpgradesTo a b c (capture_file_of read.0 frames) (capture_file_of 2 written) (items_of frames) read.1.1 file comes d part
 
 pub upgraded_done : (a b c d : Device ℕ) → Answered (Some Upgrade) a b c d Done
     → (taken : List ℕ) × (output : List ℕ) × TakesAll a b taken × UpgradesTo taken output × Grows c d output

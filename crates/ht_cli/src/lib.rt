@@ -33,12 +33,11 @@ mod status;
 mod tests;
 
 use ht_crew::Gate;
-use ht_demo::{Plan, demo, demo_alone};
+use ht_demo::Plan;
 use ht_io::{Sink, Source};
 use ht_rate::Rate;
-use ht_rx::{list, list_alone, receive_text, receive_text_alone};
 pub use ht_words::Asked;
-use lines::{put_last, put_line, put_usage};
+use lines::put_usage;
 pub use status::Status;
 use std::alloc::Global;
 use std::sync::Wait;
@@ -81,12 +80,10 @@ pub fn run<R: Threads + Wait + Sync, S: Source, K: Sink, G: Gate + Sync>(
     };
     match asked {
         Some(Asked::Detect { workers, window }) if workers > 1 => {
-            let heard = list(rt, alloc, workers, window, source, sink, gate);
-            put_last(alloc, heard, sink)
+            commands::detect::run(rt, alloc, workers, window, source, sink, gate)
         }
         Some(Asked::Rx { workers, window }) if workers > 1 => {
-            let heard = receive_text(rt, alloc, workers, window, source, sink, gate);
-            put_last(alloc, heard, sink)
+            commands::rx::run(rt, alloc, workers, window, source, sink, gate)
         }
         Some(
             Asked::Demo {
@@ -100,8 +97,7 @@ pub fn run<R: Threads + Wait + Sync, S: Source, K: Sink, G: Gate + Sync>(
             },
         ) if workers > 1 => {
             let plan = planned(seed, noise, frames, rate, length);
-            let line = demo(rt, alloc, workers, window, &plan, gate);
-            put_line(line, Status::Done, sink)
+            commands::demonstrate::run(rt, alloc, workers, window, &plan, sink, gate)
         }
         _ => carry_out(alloc, asked, source, sink, gate),
     }
@@ -149,12 +145,10 @@ fn carry_out<S: Source, K: Sink, G: Gate>(
 {
     match asked {
         Some(Asked::Detect { window, .. }) => {
-            let heard = list_alone(alloc, window, source, sink, gate);
-            put_last(alloc, heard, sink)
+            commands::detect::run_alone(alloc, window, source, sink, gate)
         }
         Some(Asked::Rx { window, .. }) => {
-            let heard = receive_text_alone(alloc, window, source, sink, gate);
-            put_last(alloc, heard, sink)
+            commands::rx::run_alone(alloc, window, source, sink, gate)
         }
         Some(Asked::Tx) => commands::tx::run(alloc, source, sink),
         Some(Asked::Channel { seed, noise }) => {
@@ -173,8 +167,7 @@ fn carry_out<S: Source, K: Sink, G: Gate>(
             },
         ) => {
             let plan = planned(seed, noise, frames, rate, length);
-            let line = demo_alone(alloc, window, &plan, gate);
-            put_line(line, Status::Done, sink)
+            commands::demonstrate::run_alone(alloc, window, &plan, sink, gate)
         }
         None => put_usage(alloc, sink),
     }

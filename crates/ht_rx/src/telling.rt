@@ -8,8 +8,9 @@ ghost use Rattle.ht_rx.specs.Stops.{ended_by};
 ghost use Rattle.ht_rx.specs.Telling.{Tells, TellsPart, seen_by};
 
 use crate::account::Account;
+use crate::book_fault::BookFault;
 use crate::desk::Desk;
-use crate::faults::{Ended, FeedFault, RxFault};
+use crate::faults::{Ended, RxFault};
 use crate::feed::CaptureFeed;
 use crate::stop::Stop;
 use ht_crew::{DriveFault, Gate, Report, drive, drive_alone};
@@ -22,7 +23,7 @@ use std::thread::Threads;
 const DUE_ALONE: u16 = 2;
 
 // How the reading of a capture ended whose drive answered this.
-fn end_of(desk: &Desk, driven: Result<Report, DriveFault<FeedFault>>) -> Result<Ended, RxFault>
+fn end_of(desk: &Desk, driven: Result<Report, DriveFault<BookFault>>) -> Result<Ended, RxFault>
     requires stopped { OnOk driven (is_some desk.now.stop ≡ true) }
     ensures { result ≡ ended_by desk.now.stop desk.now.frames driven }
 {
