@@ -1,7 +1,7 @@
 -- What sending the frames of a file comes to.
 use Rattle.std.specs.Prelude.{◌≡◌, ◌≤◌, ℕ, List, length}
 use Rattle.std.proofs.Common.{refl, ap, subst, arith}
-use Rattle.ht_io.specs.Devices.{Device, Grows, GrowsByPart}
+use Rattle.ht_io.specs.Devices.{Device}
 use Rattle.ht_fields.specs.WholeFiles.{ReadsWhole}
 use Rattle.ht_tx.specs.Frames.{FrameView}
 use Rattle.ht_tx.specs.Symbols.{SymbolsView}
@@ -11,15 +11,10 @@ use Rattle.ht_files.specs.Files.{AreFrames, frames_file_of}
 use Rattle.ht_files.specs.Frames.{frames as frames_format}
 use Rattle.ht_files.specs.SymbolFiles.{symbols_file_of}
 use Rattle.ht_files.proofs.FrameRoutes.{frames_written}
-use Rattle.ht_runs.specs.Converted.{PutsOutput, PutsPartOfOutput}
-use Rattle.ht_runs.specs.Filters.{BeforeOutput, Conversion}
-use Rattle.ht_runs.specs.Formats.{conversion}
-use Rattle.ht_runs.proofs.Converting.{put_all, put_in_part}
-use Rattle.ht_cli.specs.Converting.{SendsTo}
-
--- a file of frames is read, and put are the symbols that are sent for them
-abbrev sending : Conversion
-sending = conversion frames_format BeforeOutput SendsTo
+use Rattle.ht_runs.specs.Converted.{TakesWhole}
+use Rattle.ht_runs.specs.Filters.{BeforeOutput}
+use Rattle.ht_runs.proofs.Converting.{takes_whole}
+use Rattle.ht_cli.specs.Converting.{SendsTo, sending}
 
 -- the frames that were read, and the symbols that were sent for them
 module _ (a b c d : Device ℕ) (frames held : List FrameView) (sent written : List SymbolsView)
@@ -34,15 +29,11 @@ module _ (a b c d : Device ℕ) (frames held : List FrameView) (sent written : L
     ap (λ (ss : List SymbolsView). symbols_file_of ss) put,
   )
 
-  pub sends : Grows c d (symbols_file_of written) → PutsOutput sending a b c d
-  sends grown =
-      put_all frames_format BeforeOutput SendsTo a b c (frames_file_of frames) (symbols_file_of written) frames read.1
-      (frames_written frames read.0) comes d grown
-
-  pub sends_in_part : GrowsByPart c d (symbols_file_of written) → PutsPartOfOutput sending a b c d
-  sends_in_part part =
-      put_in_part frames_format BeforeOutput SendsTo a b c (frames_file_of frames) (symbols_file_of written) frames read.1
-      (frames_written frames read.0) comes d part
+  -- of the file of their symbols this was put
+  pub sends : (Puts : List ℕ → Type 0) → Puts (symbols_file_of written) → TakesWhole sending a b c d Puts
+  sends Puts put_so =
+      takes_whole frames_format BeforeOutput SendsTo a b c (frames_file_of frames) (symbols_file_of written) frames read.1
+      (frames_written frames read.0) comes d Puts put_so
 
   -- at most as many as a file holds
   pub few_sent : length written ≤ 65535

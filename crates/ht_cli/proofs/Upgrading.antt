@@ -1,12 +1,11 @@
 -- What upgrading a capture comes to.
 use Rattle.std.specs.Prelude.{◌≡◌, ℕ, List, ◌++◌, Some, map}
 use Rattle.std.proofs.Common.{refl, ap, ◌∙◌, sym, subst, inr}
-use Rattle.ht_io.specs.Devices.{Device, Grows, GrowsByPart, Rose, TakesAll}
+use Rattle.ht_io.specs.Devices.{Device, Grows, TakesAll}
 use Rattle.ht_fields.specs.Cases.{File, IsFile}
-use Rattle.ht_runs.specs.Converted.{PutsOutput, PutsPartOfOutput}
+use Rattle.ht_runs.specs.Converted.{TakesWhole}
 use Rattle.ht_runs.specs.Filters.{BeforeOutput}
-use Rattle.ht_runs.specs.Formats.{conversion}
-use Rattle.ht_runs.proofs.Converting.{put_all, put_in_part}
+use Rattle.ht_runs.proofs.Converting.{takes_whole}
 use Rattle.ht_fields.specs.Meanings.{Meaning}
 use Rattle.ht_fields.proofs.Answered.{met}
 use Rattle.ht_capture.specs.declared.frames.CaptureFrame.{CaptureFrame}
@@ -24,7 +23,7 @@ use Rattle.ht_capture_laws.specs.Items.{whole_frames}
 use Rattle.ht_rx.specs.Texts.{detect_text, job_lines, jobs_of, lines_of}
 use Rattle.ht_cli.specs.declared.status.Status.TheVariants.{Done}
 use Rattle.ht_words.specs.declared.asked.Asked.TheVariants.{Upgrade}
-use Rattle.ht_cli.specs.Converting.{UpgradesTo}
+use Rattle.ht_cli.specs.Converting.{UpgradesTo, upgrading}
 use Rattle.ht_cli.specs.Tasks.{Answered}
 
 -- the frames that were read were written
@@ -35,13 +34,11 @@ module _ (a b c d : Device ℕ) (frames written : List CaptureFrame) (read : Rea
   file : IsFile captures (capture_file_of read.0 frames) (items_of frames)
   file = file_written read.0 frames read.1.0.1 read.1.0.2 read.1.0.0
 
-  pub upgrades : Grows c d (capture_file_of 2 written) → PutsOutput (conversion captures BeforeOutput UpgradesTo) a b c d
-  upgrades grown =
-      put_all captures BeforeOutput UpgradesTo a b c (capture_file_of read.0 frames) (capture_file_of 2 written) (items_of frames) read.1.1 file comes d grown
-
-  pub upgrades_in_part : GrowsByPart c d (capture_file_of 2 written) → PutsPartOfOutput (conversion captures BeforeOutput UpgradesTo) a b c d
-  upgrades_in_part part =
-      put_in_part captures BeforeOutput UpgradesTo a b c (capture_file_of read.0 frames) (capture_file_of 2 written) (items_of frames) read.1.1 file comes d part
+  -- of the capture of version 2 this was put
+  pub upgrades : (Puts : List ℕ → Type 0) → Puts (capture_file_of 2 written) → TakesWhole upgrading a b c d Puts
+  upgrades Puts put_so =
+      takes_whole captures BeforeOutput UpgradesTo a b c (capture_file_of read.0 frames) (capture_file_of 2 written) (items_of frames) read.1.1 file
+      comes d Puts put_so
 
 pub upgraded_done : (a b c d : Device ℕ) → Answered (Some Upgrade) a b c d Done
     → (taken : List ℕ) × (output : List ℕ) × TakesAll a b taken × UpgradesTo taken output × Grows c d output

@@ -1,7 +1,6 @@
-//! The commands, each in a file of its own: what it reads, what it puts, and how it ends.
-pub mod channel;
-pub mod demonstrate;
-pub mod detect;
-pub mod rx;
-pub mod tx;
-pub mod upgrade;
+//! What commands do that read their whole input first, each in a file of its own.
+mod tx;
+mod upgrade;
+
+pub use tx::send;
+pub use upgrade::upgrade;

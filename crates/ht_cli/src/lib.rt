@@ -32,12 +32,15 @@ mod status;
 #[cfg(test)]
 mod tests;
 
+use commands::{send, upgrade};
 use ht_crew::Gate;
-use ht_demo::Plan;
+use ht_demo::{Plan, demo, demo_alone};
 use ht_io::{Sink, Source};
 use ht_rate::Rate;
+use ht_rx::{list, list_alone, receive_text, receive_text_alone};
+use ht_sim::channel;
 pub use ht_words::Asked;
-use lines::put_usage;
+use lines::{put_end, put_line, put_usage, settle};
 pub use status::Status;
 use std::alloc::Global;
 use std::sync::Wait;
@@ -80,10 +83,14 @@ pub fn run<R: Threads + Wait + Sync, S: Source, K: Sink, G: Gate + Sync>(
     };
     match asked {
         Some(Asked::Detect { workers, window }) if workers > 1 => {
-            commands::detect::run(rt, alloc, workers, window, source, sink, gate)
+            let heard = list(rt, alloc, workers, window, source, sink, gate);
+            let listed = put_end(alloc, heard, sink);
+            settle(alloc, listed, sink)
         }
         Some(Asked::Rx { workers, window }) if workers > 1 => {
-            commands::rx::run(rt, alloc, workers, window, source, sink, gate)
+            let heard = receive_text(rt, alloc, workers, window, source, sink, gate);
+            let received = put_end(alloc, heard, sink);
+            settle(alloc, received, sink)
         }
         Some(
             Asked::Demo {
@@ -97,7 +104,8 @@ pub fn run<R: Threads + Wait + Sync, S: Source, K: Sink, G: Gate + Sync>(
             },
         ) if workers > 1 => {
             let plan = planned(seed, noise, frames, rate, length);
-            commands::demonstrate::run(rt, alloc, workers, window, &plan, sink, gate)
+            let line = demo(rt, alloc, workers, window, &plan, gate);
+            put_line(line, Status::Done, sink)
         }
         _ => carry_out(alloc, asked, source, sink, gate),
     }
@@ -145,16 +153,27 @@ fn carry_out<S: Source, K: Sink, G: Gate>(
 {
     match asked {
         Some(Asked::Detect { window, .. }) => {
-            commands::detect::run_alone(alloc, window, source, sink, gate)
+            let heard = list_alone(alloc, window, source, sink, gate);
+            let listed = put_end(alloc, heard, sink);
+            settle(alloc, listed, sink)
         }
         Some(Asked::Rx { window, .. }) => {
-            commands::rx::run_alone(alloc, window, source, sink, gate)
+            let heard = receive_text_alone(alloc, window, source, sink, gate);
+            let received = put_end(alloc, heard, sink);
+            settle(alloc, received, sink)
         }
-        Some(Asked::Tx) => commands::tx::run(alloc, source, sink),
+        Some(Asked::Tx) => {
+            let sent = send(alloc, source, sink);
+            settle(alloc, sent, sink)
+        }
         Some(Asked::Channel { seed, noise }) => {
-            commands::channel::run(alloc, seed, noise, source, sink)
+            let passed = channel(alloc, seed, noise, source, sink);
+            settle(alloc, passed, sink)
         }
-        Some(Asked::Upgrade) => commands::upgrade::run(alloc, source, sink),
+        Some(Asked::Upgrade) => {
+            let upgraded = upgrade(alloc, source, sink);
+            settle(alloc, upgraded, sink)
+        }
         Some(
             Asked::Demo {
                 seed,
@@ -167,7 +186,8 @@ fn carry_out<S: Source, K: Sink, G: Gate>(
             },
         ) => {
             let plan = planned(seed, noise, frames, rate, length);
-            commands::demonstrate::run_alone(alloc, window, &plan, sink, gate)
+            let line = demo_alone(alloc, window, &plan, gate);
+            put_line(line, Status::Done, sink)
         }
         None => put_usage(alloc, sink),
     }
