@@ -6,6 +6,7 @@ ghost use Rattle.ht_rx.specs.Desks.{IsNewDesk};
 ghost use Rattle.ht_rx.specs.Outcomes.{StopsBy, TellsTo};
 ghost use Rattle.ht_rx.specs.Stops.{ended_by};
 ghost use Rattle.ht_rx.specs.Telling.{Tells, TellsPart, seen_by};
+ghost use Rattle.ht_runs.specs.declared.faults.StopFault.TheVariants.{Write};
 
 use crate::account::Account;
 use crate::book_fault::BookFault;
@@ -60,7 +61,7 @@ pub(crate) fn tell_alone<S: Source, A: Account, G: Gate>(
     ensures tells { MatchResult result
         (TellsTo (pieces_of (A.pieces account.old)) (S.shown source.old) (S.shown source.new) (A.shown account.old) (A.shown account.new))
         (StopsBy (pieces_of (A.pieces account.old)) (S.shown source.old) (S.shown source.new) (A.shown account.old) (A.shown account.new)) }
-    ensures writes { result ≢ Err RxFault.Write → (A.shown account.new).faults ≡ (A.shown account.old).faults }
+    ensures writes { result ≢ Err Write → (A.shown account.new).faults ≡ (A.shown account.old).faults }
     ensures reads_later { IsLater (S.shown source.old) (S.shown source.new) }
     ensures puts_later { IsLater (A.shown account.old) (A.shown account.new) }
     ensures same { A.lent account.new ≡ A.lent account.old }
@@ -89,7 +90,7 @@ pub(crate) fn tell<R: Threads + Wait + Sync, S: Source, A: Account, G: Gate + Sy
     ensures tells { MatchResult result
         (TellsTo (pieces_of (A.pieces account.old)) (S.shown source.old) (S.shown source.new) (A.shown account.old) (A.shown account.new))
         (StopsBy (pieces_of (A.pieces account.old)) (S.shown source.old) (S.shown source.new) (A.shown account.old) (A.shown account.new)) }
-    ensures writes { result ≢ Err RxFault.Write → (A.shown account.new).faults ≡ (A.shown account.old).faults }
+    ensures writes { result ≢ Err Write → (A.shown account.new).faults ≡ (A.shown account.old).faults }
     ensures reads_later { IsLater (S.shown source.old) (S.shown source.new) }
     ensures puts_later { IsLater (A.shown account.old) (A.shown account.new) }
     ensures same { A.lent account.new ≡ A.lent account.old }

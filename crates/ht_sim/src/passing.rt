@@ -2,6 +2,7 @@
 ghost use Rattle.std.specs.Prelude.{◌≡◌, ◌≢◌, Err};
 ghost use Rattle.ht_runs.specs.Converted.{Converted};
 ghost use Rattle.ht_runs.specs.Filters.{SaysNothing};
+ghost use Rattle.ht_runs.specs.declared.faults.RunFault.TheVariants.{Write};
 ghost use Rattle.ht_sim.specs.Passing.{passing};
 
 use crate::captures::pass;
@@ -24,7 +25,7 @@ pub fn channel<S: Source, K: Sink>(
     sink: &mut K,
 ) -> Result<(), SimFault>
     ensures converts { Converted (passing seed noise) (S.shown source.old) (S.shown source.new) (K.shown sink.old) (K.shown sink.new) SaysNothing result }
-    ensures writes { result ≢ Err SimFault.Write → (K.shown sink.new).faults ≡ (K.shown sink.old).faults }
+    ensures writes { result ≢ Err Write → (K.shown sink.new).faults ≡ (K.shown sink.old).faults }
 {
     let frames = read_symbols(alloc, source)?;
     let captured = pass(alloc, seed, noise, &frames)?;
