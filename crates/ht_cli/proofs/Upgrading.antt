@@ -2,7 +2,7 @@
 use Rattle.std.specs.Prelude.{◌≡◌, ℕ, List, ◌++◌, Some, map}
 use Rattle.std.proofs.Common.{refl, ap, ◌∙◌, sym, subst, inr}
 use Rattle.ht_io.specs.Devices.{Device, Grows, TakesAll}
-use Rattle.ht_fields.specs.Cases.{File, IsFile}
+use Rattle.ht_fields.specs.Cases.{File}
 use Rattle.ht_runs.specs.Converted.{TakesWhole}
 use Rattle.ht_runs.specs.Filters.{BeforeOutput}
 use Rattle.ht_runs.proofs.Converting.{takes_whole}
@@ -26,19 +26,13 @@ use Rattle.ht_words.specs.declared.asked.Asked.TheVariants.{Upgrade}
 use Rattle.ht_cli.specs.Converting.{UpgradesTo, upgrading}
 use Rattle.ht_cli.specs.Tasks.{Answered}
 
--- the frames that were read were written
-module _ (a b c d : Device ℕ) (frames written : List CaptureFrame) (read : ReadsCaptures a b frames) (same : written ≡ frames) where
-  comes : UpgradesTo (capture_file_of read.0 frames) (capture_file_of 2 written)
-  comes = (read.0, frames, read.1.0.0, read.1.0.1, read.1.0.2, refl, ap (λ (fs : List CaptureFrame). capture_file_of 2 fs) same)
-
-  file : IsFile captures (capture_file_of read.0 frames) (items_of frames)
-  file = file_written read.0 frames read.1.0.1 read.1.0.2 read.1.0.0
-
-  -- of the capture of version 2 this was put
-  pub upgrades : (Puts : List ℕ → Type 0) → Puts (capture_file_of 2 written) → TakesWhole upgrading a b c d Puts
-  upgrades Puts put_so =
-      takes_whole captures BeforeOutput UpgradesTo a b c (capture_file_of read.0 frames) (capture_file_of 2 written) (items_of frames) read.1.1 file
-      comes d Puts put_so
+-- the frames that were read were written: of the capture of version 2 this was put
+pub upgrades : (a b c d : Device ℕ) (frames written : List CaptureFrame) → ReadsCaptures a b frames → written ≡ frames → (Puts : List ℕ → Type 0)
+    → Puts (capture_file_of 2 written) → TakesWhole upgrading a b c d Puts
+upgrades a b c d frames written (version, ((isv, fits, typed), all)) same Puts put =
+    takes_whole captures BeforeOutput UpgradesTo a b c (capture_file_of version frames) (capture_file_of 2 written) (items_of frames) all
+    (file_written version frames fits typed isv)
+    (version, frames, isv, fits, typed, refl, ap (λ (fs : List CaptureFrame). capture_file_of 2 fs) same) d Puts put
 
 pub upgraded_done : (a b c d : Device ℕ) → Answered (Some Upgrade) a b c d Done
     → (taken : List ℕ) × (output : List ℕ) × TakesAll a b taken × UpgradesTo taken output × Grows c d output
