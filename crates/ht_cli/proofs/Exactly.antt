@@ -8,23 +8,13 @@ use Rattle.ht_io.proofs.Calls.{takes_all-known}
 use Rattle.ht_words.specs.declared.asked.Asked.{Asked}
 use Rattle.ht_cli.specs.declared.status.Status.{Status}
 use Rattle.ht_cli.specs.declared.status.Status.TheVariants.{Done, Refused, Usage, ReadFault, WriteFault, NoMemory}
-use Rattle.ht_cli.specs.Commands.{
-  Command,
-  Answers,
-  Conversion,
-  Converted,
-  Converts,
-  Filter,
-  FinishesRun,
-  IsWritten,
-  Makes,
-  NotConverted,
-  Reads,
-  RefusesRun,
-}
+use Rattle.ht_cli.specs.Commands.{Command, Answers, Converts, IsWritten, Makes, NotConverted, Reads, RefusesRun}
+use Rattle.ht_runs.specs.Converted.{PutsOutput}
+use Rattle.ht_runs.specs.Filters.{Conversion, Filter}
+use Rattle.ht_runs.specs.Streamed.{FinishesRun}
+use Rattle.ht_runs.proofs.Known.{known_has}
 use Rattle.ht_cli.specs.Exactly.{WritesExactly, sure_sink, sure_source}
 use Rattle.ht_cli.specs.Tasks.{Answered, command_of}
-use Rattle.ht_cli.proofs.Spelled.{known_has}
 
 -- all octets are known, and no device failed
 module _ (all : List ℕ) (a b c d : Device ℕ) (is : a.known ≡ Some all) where
@@ -39,7 +29,7 @@ module _ (all : List ℕ) (a b c d : Device ℕ) (is : a.known ≡ Some all) whe
     subst (λ (xs : List ℕ). Grows c d xs) (sym (known_has all a.known (λ octets. f.text octets ≡ f.text run.taken) is run.same_text)) run.text,
   )
 
-  converts_exactly : (f : Conversion) → Converted f a b c d → WritesExactly (Converts f) all c d Done
+  converts_exactly : (f : Conversion) → PutsOutput f a b c d → WritesExactly (Converts f) all c d Done
   converts_exactly f run =
       let same = (takes_all-known a b all run.taken run.octets is).1 in
       let input = subst f.IsInput (sym same) run.input in

@@ -1,10 +1,10 @@
 pub mod Accepted
-pub mod Converting
+pub mod Answering
 pub mod Exactly
+pub mod Heard
 pub mod Making
 pub mod Nothing
 pub mod Returning
-pub mod Streaming
 pub mod Texts
 pub mod Spelled
 pub mod Transmitting

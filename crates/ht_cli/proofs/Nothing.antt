@@ -3,6 +3,7 @@ use Rattle.std.specs.Prelude.{ℕ, List, [], Option, Some, None, IfSome}
 use Rattle.std.proofs.Common.{refl}
 use Rattle.ht_io.specs.Devices.{Device, GrowsByPart}
 use Rattle.ht_io.proofs.Calls.{takes-none, grows_by_part-none}
+use Rattle.ht_runs.proofs.Converting.{nothing_put}
 use Rattle.ht_words.specs.declared.asked.Asked.{Asked}
 use Rattle.ht_cli.specs.declared.status.Status.TheVariants.{NoMemory}
 use Rattle.ht_cli.specs.Commands.{Command, Answers, Reads, Converts, Makes}
@@ -16,10 +17,10 @@ nothing_of : (command : Command) (source sink : Device ℕ) → Answers command 
 nothing_of (Reads f) source sink = record {
   taken = [];
   octets = takes-none source;
-  text = grows_by_part-none sink (f.most []);
-  of_all = none_of_all source.known f.most sink;
+  text = grows_by_part-none sink (f.front []);
+  of_all = none_of_all source.known f.front sink;
 }
-nothing_of (Converts f) source sink = refl
+nothing_of (Converts f) source sink = nothing_put f f.memory source source sink
 nothing_of (Makes IsText) source sink = refl
 
 pub nothing_done : (asked : Option Asked) (source sink : Device ℕ) → Answered asked source source sink sink NoMemory

@@ -3,12 +3,9 @@ use Rattle.std.specs.Prelude.{◌≡◌, ℕ, List, [], Option, Some, IfSome}
 use Rattle.std.proofs.Common.{sym, subst}
 use Rattle.ht_io.specs.Devices.{Device, Grows}
 use Rattle.ht_io.proofs.Calls.{takes_all-known}
+use Rattle.ht_runs.proofs.Known.{known_has}
 use Rattle.ht_cli.specs.declared.status.Status.TheVariants.{Done, Refused, ReadFault, WriteFault, NoMemory}
 use Rattle.ht_cli.specs.Streaming.{IsCapture, StreamsAs, StreamsFront, StreamsLines, StreamsPart, StreamsRefused, StreamsWhole}
-
--- what holds of known octets
-pub known_has : (all : List ℕ) (known : Option (List ℕ)) (P : List ℕ → Type 0) → known ≡ Some all → IfSome known P → P all
-known_has all known P is holds = subst (λ (o : Option (List ℕ)). IfSome o P) is holds
 
 module _ (lines text : List ℕ → List ℕ) (a b k l : Device ℕ) where
   pub finishes : StreamsAs lines text a b k l Done → StreamsWhole lines text a b k l

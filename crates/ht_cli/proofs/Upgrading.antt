@@ -1,8 +1,11 @@
 -- What upgrading a capture comes to.
 use Rattle.std.specs.Prelude.{◌≡◌, ℕ, List, ◌++◌, Some, map}
 use Rattle.std.proofs.Common.{refl, ap, ◌∙◌, sym, subst, inr}
-use Rattle.ht_io.specs.Devices.{Device, Grows, GrowsByPart, Rose, TakesAll}
+use Rattle.ht_io.specs.Devices.{Device, Grows, TakesAll}
 use Rattle.ht_fields.specs.Cases.{File}
+use Rattle.ht_runs.specs.Converted.{TakesWhole}
+use Rattle.ht_runs.specs.Filters.{BeforeOutput}
+use Rattle.ht_runs.proofs.Converting.{takes_whole}
 use Rattle.ht_fields.specs.Meanings.{Meaning}
 use Rattle.ht_fields.proofs.Answered.{met}
 use Rattle.ht_capture.specs.declared.frames.CaptureFrame.{CaptureFrame}
@@ -18,28 +21,18 @@ use Rattle.ht_results.specs.Results.{frame_result, results_of}
 use Rattle.ht_results.specs.Texts.{frame_lines_of, frames_of, last_line, last_of, result_lines, rx_text}
 use Rattle.ht_capture_laws.specs.Items.{whole_frames}
 use Rattle.ht_rx.specs.Texts.{detect_text, job_lines, jobs_of, lines_of}
-use Rattle.ht_cli.specs.declared.status.Status.TheVariants.{Done, WriteFault}
+use Rattle.ht_cli.specs.declared.status.Status.TheVariants.{Done}
 use Rattle.ht_words.specs.declared.asked.Asked.TheVariants.{Upgrade}
-use Rattle.ht_cli.specs.Commands.{Answers}
-use Rattle.ht_cli.specs.Converting.{UpgradesTo}
-use Rattle.ht_cli.specs.Filters.{whole}
+use Rattle.ht_cli.specs.Converting.{UpgradesTo, upgrading}
 use Rattle.ht_cli.specs.Tasks.{Answered}
-use Rattle.ht_cli.proofs.Converting.{converts, converts_part}
 
--- the frames that were read were written
-pub upgrade_done : (a b c d : Device ℕ) (frames written : List CaptureFrame) → ReadsCaptures a b frames → written ≡ frames
-    → Grows c d (capture_file_of 2 written) → Answers (whole captures UpgradesTo) a b c d Done
-upgrade_done a b c d frames written (version, ((isv, fits, typed), all)) same put =
-    converts captures UpgradesTo a b c d (capture_file_of version frames) (capture_file_of 2 frames) (items_of frames) all
-    (file_written version frames fits typed isv) (version, frames, isv, fits, typed, refl, refl)
-    (subst (λ (fs : List CaptureFrame). Grows c d (capture_file_of 2 fs)) same put)
-
-pub upgrade_part : (a b c d : Device ℕ) (frames written : List CaptureFrame) → ReadsCaptures a b frames → written ≡ frames
-    → GrowsByPart c d (capture_file_of 2 written) → Rose c d → Answers (whole captures UpgradesTo) a b c d WriteFault
-upgrade_part a b c d frames written (version, ((isv, fits, typed), all)) same put rose =
-    converts_part captures UpgradesTo a b c d (capture_file_of version frames) (capture_file_of 2 frames) (items_of frames) all
-    (file_written version frames fits typed isv) (version, frames, isv, fits, typed, refl, refl)
-    (subst (λ (fs : List CaptureFrame). GrowsByPart c d (capture_file_of 2 fs)) same put) rose
+-- the frames that were read were written: of the capture of version 2 this was put
+pub upgrades : (a b c d : Device ℕ) (frames written : List CaptureFrame) → ReadsCaptures a b frames → written ≡ frames → (Puts : List ℕ → Type 0)
+    → Puts (capture_file_of 2 written) → TakesWhole upgrading a b c d Puts
+upgrades a b c d frames written (version, ((isv, fits, typed), all)) same Puts put =
+    takes_whole captures BeforeOutput UpgradesTo a b c (capture_file_of version frames) (capture_file_of 2 written) (items_of frames) all
+    (file_written version frames fits typed isv)
+    (version, frames, isv, fits, typed, refl, ap (λ (fs : List CaptureFrame). capture_file_of 2 fs) same) d Puts put
 
 pub upgraded_done : (a b c d : Device ℕ) → Answered (Some Upgrade) a b c d Done
     → (taken : List ℕ) × (output : List ℕ) × TakesAll a b taken × UpgradesTo taken output × Grows c d output

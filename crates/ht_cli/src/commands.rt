@@ -1,4 +1,6 @@
-//! The commands that read their whole input first, each in a file of its own.
-pub mod channel;
-pub mod tx;
-pub mod upgrade;
+//! What commands do that read their whole input first, each in a file of its own.
+mod tx;
+mod upgrade;
+
+pub use tx::send;
+pub use upgrade::upgrade;

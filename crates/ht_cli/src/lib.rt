@@ -32,13 +32,15 @@ mod status;
 #[cfg(test)]
 mod tests;
 
+use commands::{send, upgrade};
 use ht_crew::Gate;
 use ht_demo::{Plan, demo, demo_alone};
 use ht_io::{Sink, Source};
 use ht_rate::Rate;
 use ht_rx::{list, list_alone, receive_text, receive_text_alone};
+use ht_sim::channel;
 pub use ht_words::Asked;
-use lines::{put_last, put_line, put_usage};
+use lines::{put_end, put_line, put_usage, settle};
 pub use status::Status;
 use std::alloc::Global;
 use std::sync::Wait;
@@ -82,11 +84,13 @@ pub fn run<R: Threads + Wait + Sync, S: Source, K: Sink, G: Gate + Sync>(
     match asked {
         Some(Asked::Detect { workers, window }) if workers > 1 => {
             let heard = list(rt, alloc, workers, window, source, sink, gate);
-            put_last(alloc, heard, sink)
+            let listed = put_end(alloc, heard, sink);
+            settle(alloc, listed, sink)
         }
         Some(Asked::Rx { workers, window }) if workers > 1 => {
             let heard = receive_text(rt, alloc, workers, window, source, sink, gate);
-            put_last(alloc, heard, sink)
+            let received = put_end(alloc, heard, sink);
+            settle(alloc, received, sink)
         }
         Some(
             Asked::Demo {
@@ -150,17 +154,26 @@ fn carry_out<S: Source, K: Sink, G: Gate>(
     match asked {
         Some(Asked::Detect { window, .. }) => {
             let heard = list_alone(alloc, window, source, sink, gate);
-            put_last(alloc, heard, sink)
+            let listed = put_end(alloc, heard, sink);
+            settle(alloc, listed, sink)
         }
         Some(Asked::Rx { window, .. }) => {
             let heard = receive_text_alone(alloc, window, source, sink, gate);
-            put_last(alloc, heard, sink)
+            let received = put_end(alloc, heard, sink);
+            settle(alloc, received, sink)
         }
-        Some(Asked::Tx) => commands::tx::run(alloc, source, sink),
+        Some(Asked::Tx) => {
+            let sent = send(alloc, source, sink);
+            settle(alloc, sent, sink)
+        }
         Some(Asked::Channel { seed, noise }) => {
-            commands::channel::run(alloc, seed, noise, source, sink)
+            let passed = channel(alloc, seed, noise, source, sink);
+            settle(alloc, passed, sink)
         }
-        Some(Asked::Upgrade) => commands::upgrade::run(alloc, source, sink),
+        Some(Asked::Upgrade) => {
+            let upgraded = upgrade(alloc, source, sink);
+            settle(alloc, upgraded, sink)
+        }
         Some(
             Asked::Demo {
                 seed,

@@ -9,7 +9,7 @@ use Rattle.ht_metric.specs.Jobs.{JobView}
 use Rattle.ht_metric.specs.declared.hit.Hit.{Hit}
 use Rattle.ht_window.specs.Windows.{WindowView, unbooked}
 use Rattle.ht_window.specs.declared.slot.Slot.{Slot}
-use Rattle.ht_team.specs.Helms.{IsSameHelm}
+use Rattle.ht_pool.specs.Helms.{IsSameHelm}
 use Rattle.ht_crew.specs.Lots.{LotHelm, lot_of}
 use Rattle.ht_crew.specs.Accounts.{JobHelmView, IsSameJobHelm, Loads, Ships, GetsBack, Receives, Stores, sources}
 use Rattle.ht_crew.specs.Accounts.{BooksHits, Tallies, IssuesJob, TakesTurn, AreTold, HaveNumbers, is_number}

@@ -8,7 +8,7 @@ use Rattle.std.proofs.lemmas.List.Elements.{All-push, recursion_from_All}
 use Rattle.ht_counts.specs.Counts.{SameCounts}
 use Rattle.ht_metric.specs.Jobs.{JobView}
 use Rattle.ht_metric.specs.declared.hit.Hit.{Hit}
-use Rattle.ht_team.specs.Helms.{gave, received, TakesBack, IsSameHelm}
+use Rattle.ht_pool.specs.Helms.{gave, received, TakesBack, IsSameHelm}
 use Rattle.ht_crew.specs.Lots.{LotHelm, IsFilled, asked, lot_of, flat}
 use Rattle.ht_crew.specs.Accounts.{JobHelmView, IsJobHelm, Ships, GetsBack, Receives, ComesBack, job_helm, places_of}
 use Rattle.ht_crew.specs.declared.lot.LotRoom.{LotRoom}

@@ -9,13 +9,13 @@ use Rattle.ht_counts.specs.Counts.{SameCounts}
 use Rattle.ht_metric.specs.Jobs.{JobView}
 use Rattle.ht_metric.specs.declared.hit.Hit.{Hit}
 use Rattle.ht_window.specs.Windows.{WindowView}
-use Rattle.ht_team.specs.Pools.{HasRun, moved_on, taken_on}
-use Rattle.ht_team.specs.Through.{through}
-use Rattle.ht_team.specs.declared.hand.Hand.{Hand}
-use Rattle.ht_team.specs.declared.closed.Closed.{Closed}
-use Rattle.ht_team.specs.declared.member.Member.{Member}
-use Rattle.ht_team.specs.Members.{answers_of, answered_weight}
-use Rattle.ht_team.specs.Gathering.{answered_by}
+use Rattle.ht_pool.specs.Pools.{HasRun, moved_on, taken_on}
+use Rattle.ht_pool.specs.Through.{through}
+use Rattle.ht_pool.specs.declared.hand.Hand.{Hand}
+use Rattle.ht_pool.specs.declared.closed.Closed.{Closed}
+use Rattle.ht_pool.specs.declared.member.Member.{Member}
+use Rattle.ht_pool.specs.Members.{answers_of, answered_weight}
+use Rattle.ht_pool.specs.Gathering.{answered_by}
 use Rattle.ht_crew.specs.Lots.{IsFilled, asked, lot_of, jobs_in, flat}
 use Rattle.ht_crew.specs.Accounts.{JobHelmView, IsOfLots, Tallies, HaveNumbers}
 use Rattle.ht_crew.specs.Reports.{HasRunInPool, IsShared, jobs_pushed, hits_of}

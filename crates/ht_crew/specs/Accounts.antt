@@ -5,7 +5,7 @@ use Rattle.std.specs.List.{All, sum_by}
 use Rattle.ht_metric.specs.Jobs.{JobView}
 use Rattle.ht_metric.specs.declared.hit.Hit.{Hit}
 use Rattle.ht_window.specs.Windows.{WindowView, jobs}
-use Rattle.ht_team.specs.Helms.{IsSameHelm}
+use Rattle.ht_pool.specs.Helms.{IsSameHelm}
 use Rattle.ht_crew.specs.Lots.{LotHelm, IsFilled, flat}
 use Rattle.ht_crew.specs.Driving.{waiting}
 use Rattle.ht_crew.specs.declared.lot.LotRoom.{LotRoom}

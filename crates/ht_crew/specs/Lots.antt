@@ -4,7 +4,7 @@ use Rattle.std.specs.List.{flat_map}
 use Rattle.std.proofs.Common.{refl}
 use Rattle.ht_metric.specs.Jobs.{JobView, IsNear, near}
 use Rattle.ht_metric.specs.declared.hit.Hit.{Hit}
-use Rattle.ht_team.specs.Helms.{HelmView}
+use Rattle.ht_pool.specs.Helms.{HelmView}
 
 -- the job that a hit is of
 abbrev pub asked : Hit → JobView

@@ -5,9 +5,9 @@ use Rattle.crossbeam_queue.specs.Passes.{view}
 use Rattle.ht_metric.specs.Jobs.{JobView}
 use Rattle.ht_metric.specs.declared.hit.Hit.{Hit}
 use Rattle.ht_counts.specs.Counts.{SameCounts}
-use Rattle.ht_team.specs.Pools.{IsEmptied, taken_on, moved_on}
-use Rattle.ht_team.specs.Through.{first_of}
-use Rattle.ht_team.specs.declared.hand.Hand.{Hand}
+use Rattle.ht_pool.specs.Pools.{IsEmptied, taken_on, moved_on}
+use Rattle.ht_pool.specs.Through.{first_of}
+use Rattle.ht_pool.specs.declared.hand.Hand.{Hand}
 use Rattle.ht_crew.specs.Lots.{IsFilled, asked, flat, lot_of}
 use Rattle.ht_crew.specs.Accounts.{HaveNumbers}
 use Rattle.ht_crew.specs.declared.report.Passes.{Passes}

@@ -3,7 +3,7 @@ ghost use Rattle.std.specs.Prelude.{◌≡◌, length, map};
 
 use crate::gate::Gate;
 use crate::lot::{Lot, LotHits};
-use ht_team::work::Work;
+use ht_pool::work::Work;
 
 /// A task is a lot of jobs, and its answer is the same jobs with what was found for each, which contracts see as their
 /// hits. A lot counts as many as it has jobs. The gate is called before and after each job.

@@ -1,13 +1,13 @@
 //! The caller's end of a pool that runs jobs in lots.
 ghost use Rattle.std.specs.Prelude.{◌≡◌, ◌+◌, ◌<◌, ◌≤◌, [], ◌∷◌, ◌++◌, length, true, IfSome, IfNone, IsTrue};
-ghost use Rattle.ht_team.specs.Helms.{IsSettled};
+ghost use Rattle.ht_pool.specs.Helms.{IsSettled};
 ghost use Rattle.ht_crew.specs.Accounts.{IsOfLots, ComesBack, Loads, Ships, GetsBack, Receives, Stores};
 
 use crate::detect::Detect;
 use crate::gate::Gate;
 use crate::lot::{LARGEST, Lot, LotHits, LotRoom};
 use ht_metric::Job;
-use ht_team::helm::Helm;
+use ht_pool::helm::Helm;
 use std::alloc::{AllocError, Global};
 use std::marker::Model;
 use std::mem;

@@ -2,7 +2,7 @@
 ghost use Rattle.std.specs.Prelude.{◌≡◌, ◌+◌, ◌-◌, ◌^◌, ◌<◌, ◌≤◌, [], length, not, true, false, List};
 ghost use Rattle.std.specs.Prelude.{None, Some, IfOk, IfErr, OnOk};
 ghost use Rattle.ht_metric.specs.Jobs.{JobView};
-ghost use Rattle.ht_team.specs.Helms.{IsSettled};
+ghost use Rattle.ht_pool.specs.Helms.{IsSettled};
 ghost use Rattle.ht_crew.specs.Feeds.{IsFreshFeed, IsLeft};
 ghost use Rattle.ht_crew.specs.Driving.{CallFailed, IsInTurn};
 ghost use Rattle.ht_crew.specs.Accounts.{IsSameJobHelm, Tallies, AreTold, IsUntouched, none_counted};

@@ -3,7 +3,7 @@
 //! A [`Feed`] gives detection jobs (crate `ht_metric`) numbered from 0, and takes each job's hit back, its first
 //! nearest vector. [`drive_alone`] runs them in the caller's thread by the sphere search (`ht_sphere`), one after another,
 //! and asks for the next job before it hands a hit back. [`drive`] does the same with workers in threads of their own
-//! (`ht_team`), books what they found in a window (`ht_window`) and gives the feed what can be given in order. It promises the
+//! (`ht_pool`), books what they found in a window (`ht_window`) and gives the feed what can be given in order. It promises the
 //! same of the feed. A [`Gate`] is called before and after each job.
 //!
 //! Over a [`ListFeed`] of three jobs and a window of two, the calls of the feed are: `next`, `next`, `take` of 0,

@@ -1,11 +1,11 @@
 //! What a drive says of its run.
 ghost use Rattle.std.specs.Prelude.{◌≡◌, map};
-ghost use Rattle.ht_team.specs.Through.{through};
+ghost use Rattle.ht_pool.specs.Through.{through};
 
 use crate::lot::{Lot, LotHits};
-use ht_team::ends::Ends;
-use ht_team::seat::{Owner, TaskPass};
-use ht_team::shared::AnswerPass;
+use ht_pool::ends::Ends;
+use ht_pool::seat::{Owner, TaskPass};
+use ht_pool::shared::AnswerPass;
 use std::marker::Model;
 
 /// A number of jobs for each worker.
@@ -69,8 +69,8 @@ pub struct Deques {
 impl Model for Deques {
     ghost use Rattle.std.specs.Prelude.{List, map};
     ghost use Rattle.ht_metric.specs.Jobs.{JobView};
-    ghost use Rattle.ht_team.specs.Through.{through};
-    ghost use Rattle.ht_team.specs.declared.hand.Hand.{Hand};
+    ghost use Rattle.ht_pool.specs.Through.{through};
+    ghost use Rattle.ht_pool.specs.declared.hand.Hand.{Hand};
 
     ghost Value = { List (Hand (List JobView)) };
 

@@ -14,7 +14,7 @@ use crate::lot::LotHits;
 use crate::pace::Pace;
 use crate::tally::Tally;
 use ht_metric::{Found, Job};
-use ht_team::work::Work;
+use ht_pool::work::Work;
 use ht_window::{Accepted, Window};
 use std::thread;
 

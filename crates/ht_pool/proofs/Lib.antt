@@ -1,2 +1,11 @@
-mod Slots
-mod Shows
+pub mod Sums
+pub mod Counting
+pub mod Steps
+pub mod Lists
+pub mod Looking
+pub mod Serving
+pub mod Crews
+pub mod Backs
+pub mod Joining
+pub mod Settling
+pub mod Opens

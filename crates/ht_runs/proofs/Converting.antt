@@ -2,7 +2,7 @@
 use Rattle.std.specs.Prelude.{◌≡◌, ℕ, List, [], Some}
 use Rattle.std.proofs.lemmas.Option.{IfSome_then}
 use Rattle.std.proofs.Common.{refl, ap, ◌∙◌, sym, inl, inr, append-nil}
-use Rattle.ht_io.specs.Devices.{Device, TakesAll, Grows, GrowsByPart}
+use Rattle.ht_io.specs.Devices.{Device, TakesAll}
 use Rattle.ht_io.specs.declared.faults.FormatFault.{FormatFault}
 use Rattle.ht_io.specs.declared.faults.InFault.{InFault}
 use Rattle.ht_io.specs.declared.faults.InFault.TheVariants.{Format, Read, NoMemory as ReadMemory}
@@ -13,7 +13,7 @@ use Rattle.ht_fields.specs.Readers.{reader_in}
 use Rattle.ht_fields.specs.WholeFiles.{EndsEarly, HasFirstFault}
 use Rattle.ht_fields.proofs.Answered.{file_found, met}
 use Rattle.ht_fields.proofs.Joins.{early_text}
-use Rattle.ht_runs.specs.Converted.{ConversionFails, FindsFault, LacksMemory, PutsOutput, PutsPartOfOutput}
+use Rattle.ht_runs.specs.Converted.{ConversionFails, FindsFault, LacksMemory, TakesWhole}
 use Rattle.ht_runs.specs.Faults.{fault_of_reading}
 use Rattle.ht_runs.specs.Filters.{Conversion, BeforeOutput, MemoryUse, WithinOutput}
 use Rattle.ht_runs.specs.Formats.{IsWhole, conversion}
@@ -65,10 +65,7 @@ module _ {S I : Type 0} (f : Grammar S I) (memory : MemoryUse) (comes_to : List 
   -- all that was left is a file with these items; the sink after
   module _ (taken output : List ℕ) (items : List I) (octets : TakesAll source source' taken) (file : IsFile f taken items)
       (comes : comes_to taken output) (sink' : Device ℕ) where
-    -- its output was put
-    pub put_all : Grows sink sink' output → PutsOutput (conversion f memory comes_to) source source' sink sink'
-    put_all put = record { taken = taken; output = output; octets = octets; input = whole_from f taken items file; comes = comes; put = put }
-
-    -- a part of it was put
-    pub put_in_part : GrowsByPart sink sink' output → PutsPartOfOutput (conversion f memory comes_to) source source' sink sink'
-    put_in_part put = record { taken = taken; output = output; octets = octets; input = whole_from f taken items file; comes = comes; put = put }
+    -- this was put of its output: all of it, or a part
+    pub takes_whole : (Puts : List ℕ → Type 0) → Puts output → TakesWhole (conversion f memory comes_to) source source' sink sink' Puts
+    takes_whole Puts put =
+        record { taken = taken; output = output; octets = octets; input = whole_from f taken items file; comes = comes; put = put }

@@ -8,23 +8,21 @@ use Rattle.ht_runs.specs.Filters.{Conversion, MemoryUse, BeforeOutput, WithinOut
 
 -- a run that converts so: the source and the sink before it and after it
 module _ (f : Conversion) (source source' sink sink' : Device ℕ) where
-  -- what was left of the source is its whole input, all of it was taken, and its output was put
-  pub record PutsOutput : Type 0 where
+  -- what was left of the source is its whole input, all of it was taken, and of its output this was put
+  pub record TakesWhole (Puts : List ℕ → Type 0) : Type 0 where
     pub taken : List ℕ
     pub output : List ℕ
     pub octets : TakesAll source source' taken
     pub input : f.IsInput taken
     pub comes : f.ComesTo taken output
-    pub put : Grows sink sink' output
+    pub put : Puts output
 
-  -- the same, and of its output a part was put
-  pub record PutsPartOfOutput : Type 0 where
-    pub taken : List ℕ
-    pub output : List ℕ
-    pub octets : TakesAll source source' taken
-    pub input : f.IsInput taken
-    pub comes : f.ComesTo taken output
-    pub put : GrowsByPart sink sink' output
+  -- all of it was put, or a part
+  abbrev pub PutsOutput : Type 0
+  PutsOutput = TakesWhole (Grows sink sink')
+
+  abbrev pub PutsPartOfOutput : Type 0
+  PutsPartOfOutput = TakesWhole (GrowsByPart sink sink')
 
   -- what was left is no such input, and nothing was put
   pub record FindsFault (fault : FormatFault) : Type 0 where

@@ -11,7 +11,7 @@ use Rattle.ht_capture.specs.declared.items.FrameHead.{FrameHead}
 use Rattle.ht_inverse.specs.declared.decoded.Decoded.{Decoded}
 use Rattle.ht_inverse.specs.Decoding.{decoded_frame}
 use Rattle.ht_rx.specs.declared.faults.Ended.{Ended}
-use Rattle.ht_rx.specs.declared.faults.RxFault.{RxFault}
+use Rattle.ht_runs.specs.declared.faults.StopFault.{StopFault}
 use Rattle.ht_results.specs.declared.frame_result.FrameResult.{FrameResult}
 use Rattle.ht_results.specs.declared.headed.Headed.{Headed}
 use Rattle.ht_rx.specs.Accounts.{PutsFirst, PutsPartOf, PutsPartOfOne, pieces_of}
@@ -85,7 +85,7 @@ module _ {P : Type 0} (booked : FrameResult → List P) where
       subst (λ (rs : List FrameResult). GrowsByPart a c (flat_map booked rs)) (sym is)
       (subst (λ (ps : List P). GrowsByPart a c ps) (sym (flat_map-append booked xs (r ∷ rest))) both)
 
-pub frames_told : {P : Type 0} (booked : FrameResult → List P) (f : FrameSoFar) (result : Result Ended RxFault)
+pub frames_told : {P : Type 0} (booked : FrameResult → List P) (f : FrameSoFar) (result : Result Ended StopFault)
     (source source' : Device ℕ) (book book' : Device P)
     → f.left ≤ 0
     → MatchResult result (TellsTo (pieces_of (all_booked booked f)) source source' book book')
@@ -101,7 +101,7 @@ lines_booked : booked_of result_line ≡ frame_lines_of
 unfolding frame_lines_of
 lines_booked = refl
 
-pub lines_told : (result : Result Ended RxFault) (source source' sink sink' : Device ℕ)
+pub lines_told : (result : Result Ended StopFault) (source source' sink sink' : Device ℕ)
     → MatchResult result (TellsTo (booked_of result_line) source source' sink sink') (StopsBy (booked_of result_line) source source' sink sink')
     → MatchResult result (TellsTo frame_lines_of source source' sink sink') (StopsBy frame_lines_of source source' sink sink')
 lines_told result source source' sink sink' told =

@@ -14,9 +14,9 @@ use Rattle.ht_crew.specs.declared.drive_fault.DriveFault.TheVariants.{Feed, NoMe
 use Rattle.ht_crew.specs.declared.report.Report.{Report}
 use Rattle.ht_rx.specs.declared.stop.Stop.{Stop}
 use Rattle.ht_rx.specs.declared.stop.Stop.TheVariants.{Whole, Refused, Broken}
-use Rattle.ht_rx.specs.declared.faults.FeedFault.{FeedFault}
-use Rattle.ht_rx.specs.declared.faults.FeedFault.TheVariants.{Write, NoMemory}
-use Rattle.ht_rx.specs.declared.faults.RxFault.{RxFault}
+use Rattle.ht_rx.specs.declared.book_fault.BookFault.{BookFault}
+use Rattle.ht_rx.specs.declared.book_fault.BookFault.TheVariants.{Failed, NoMemory}
+use Rattle.ht_runs.specs.declared.faults.StopFault.{StopFault}
 use Rattle.ht_rx.specs.declared.faults.Ended.{Ended}
 use Rattle.ht_rx.specs.Accounts.{Telling, PutsFirst, pieces_of}
 use Rattle.ht_results.specs.Heads.{headed}
@@ -28,8 +28,11 @@ use Rattle.ht_rx.specs.Desks.{DeskView, IsNewDesk, feed_of}
 use Rattle.ht_rx.specs.Heads.{jobs_alone}
 use Rattle.ht_rx.specs.Telling.{Seen, Tells, TellsBy, TellsPart, seen_by}
 use Rattle.ht_rx.proofs.Giving.{none_alone}
-use Rattle.ht_rx.specs.Outcomes.{TellsBroken, TellsPieces, TellsTo, StopsBy}
-use Rattle.ht_rx.proofs.Outcomes.{start, part, whole, refused, broken, known}
+use Rattle.ht_runs.specs.Outcomes.{TellsBroken, TellsPieces}
+use Rattle.ht_runs.proofs.Outcomes.{told_nothing}
+use Rattle.ht_capture.specs.Fields.{captures}
+use Rattle.ht_rx.specs.Outcomes.{TellsTo, StopsBy}
+use Rattle.ht_rx.proofs.Outcomes.{start, part, whole, refused, broken}
 
 -- all items were read, and all pieces of their jobs were put
 record Finished {P : Type 0} (pieces : List Headed → List P) (head : FrameHead) (source source' : Device ℕ)
@@ -82,9 +85,9 @@ module _ {P : Type 0} where
   -- the source failed behind all items, whose pieces were put
   read_failed : (pieces : List Headed → List P) (head : FrameHead) (source source' : Device ℕ) (device device' : Device P) (frames jobs : ℕ)
       → Finished pieces head source source' device device' frames jobs Broken
-      → TellsBroken (pieces_of pieces) source source' device device' × Rose source source'
+      → TellsBroken captures (pieces_of pieces) source source' device device' × Rose source source'
   read_failed pieces head source source' device device' frames jobs f = (
-    broken pieces head source source' device device' f.between f.items f.gives f.closes.0 f.put,
+    broken pieces head source source' device device' f.between f.items f.gives f.put f.closes.0,
     failed-later source f.between.source source' f.later f.closes.1,
   )
 
@@ -94,9 +97,9 @@ module _ {P : Type 0} where
       → MatchResult (ended_at (Some stop) frames jobs) (TellsTo (pieces_of pieces) source source' device device')
       (StopsBy (pieces_of pieces) source source' device device')
   ends pieces head source source' device device' frames jobs Whole f =
-      whole pieces head source source' device device' f.between f.items frames jobs f.gives f.closes f.frames_are f.jobs_are f.put
+      whole pieces head source source' device device' f.between f.items f.gives f.put frames jobs f.closes f.frames_are f.jobs_are
   ends pieces head source source' device device' frames jobs (Refused fault) f =
-      refused pieces head source source' device device' f.between f.items fault f.gives f.closes f.put
+      refused pieces head source source' device device' f.between f.items f.gives f.put fault f.closes
   ends pieces head source source' device device' frames jobs Broken f = read_failed pieces head source source' device device' frames jobs f
 
   -- the drive of a feed over a new desk gave all hits, and the desk says how its reading ended
@@ -110,51 +113,44 @@ module _ {P : Type 0} where
       ends a.pieces old.head source source' a.device b.device new.frames jobs stop
       (finished old new source source' a b jobs stop fresh tells is due rests nothing count)
 
-  part_told : (old new : DeskView) (source source' : Device ℕ) (a b : Telling P) (fault : FeedFault)
-      → IsNewDesk old → TellsPart (seen_by old source a) (seen_by new source' b) fault → TellsPieces (pieces_of a.pieces) source source' a.device b.device
+  part_told : (old new : DeskView) (source source' : Device ℕ) (a b : Telling P) (fault : BookFault)
+      → IsNewDesk old → TellsPart (seen_by old source a) (seen_by new source' b) fault → TellsPieces captures (pieces_of a.pieces) source source' a.device b.device
   part_told old new source source' a b fault fresh breaks =
       let jobs = ap (λ (xs : List Headed). xs ++ headed old.head breaks.items) (sym fresh.due) ∙ breaks.jobs in
       part a.pieces old.head a.device b.device source (seen_by old source a).standing
       (seen_by new source' b).standing breaks.items breaks.taken breaks.rest (fresh.first source) fresh.stop breaks.reads jobs breaks.part
 
-  stops_as : (old new : DeskView) (source source' : Device ℕ) (a b : Telling P) (fault : FeedFault)
+  stops_as : (old new : DeskView) (source source' : Device ℕ) (a b : Telling P) (fault : BookFault)
       → IsNewDesk old → TellsPart (seen_by old source a) (seen_by new source' b) fault
       → StopsBy (pieces_of a.pieces) source source' a.device b.device (fault_of fault)
-  stops_as old new source source' a b Write fresh breaks = (part_told old new source source' a b Write fresh breaks, breaks.cause refl)
+  stops_as old new source source' a b Failed fresh breaks = (part_told old new source source' a b Failed fresh breaks, breaks.cause refl)
   stops_as old new source source' a b NoMemory fresh breaks = part_told old new source source' a b NoMemory fresh breaks
 
   -- nothing was taken and nothing put
-  pub part_none : (pieces : List ℕ → List P) (source : Device ℕ) (device : Device P) → TellsPieces pieces source source device device
-  part_none pieces source device =
-      record {
-        taken = [];
-        octets = takes-none source;
-        put = grows_by_part-none device (pieces []);
-        of_all = known source.known source.known [] (λ all. GrowsByPart device device (pieces all))
-            (takes-none source) (λ rest. grows_by_part-none device (pieces rest));
-      }
+  pub part_none : (pieces : List ℕ → List P) (source : Device ℕ) (device : Device P) → TellsPieces captures pieces source source device device
+  part_none pieces source device = told_nothing captures source pieces device
 
   -- what a drive says of a feed over a new desk
-  pub record Heard (old new : DeskView) (source source' : Device ℕ) (a b : Telling P) (driven : Result Report (DriveFault FeedFault)) : Type 0 where
+  pub record Heard (old new : DeskView) (source source' : Device ℕ) (a b : Telling P) (driven : Result Report (DriveFault BookFault)) : Type 0 where
     pub fresh : IsNewDesk old
     pub leads : TellsBy old.failed new.failed (seen_by old source a) (seen_by new source' b)
     pub ended : OnOk driven (is_some new.stop ≡ true)
     pub taken : OnOk driven (jobs_alone new.due ≡ [])
     pub unfailed : OnOk driven (new.failed ≡ old.failed)
     pub jobs : IfOk driven (λ report. report.jobs ≡ new.count)
-    pub fault : (fault : FeedFault) → driven ≡ Err (Feed fault) → CallFailed (feed_of old) (feed_of new) fault
+    pub fault : (fault : BookFault) → driven ≡ Err (Feed fault) → CallFailed (feed_of old) (feed_of new) fault
     pub source_rests : driven ≡ Err DriveMemory → source' ≡ source
     pub device_rests : driven ≡ Err DriveMemory → b.device ≡ a.device
 
-  well : (x y : Option FeedFault) (old new : Seen P) → x ≡ None → y ≡ x → TellsBy x y old new → Tells old new
+  well : (x y : Option BookFault) (old new : Seen P) → x ≡ None → y ≡ x → TellsBy x y old new → Tells old new
   well x y old new none same told =
-      subst (λ (f : Option FeedFault). TellsBy f None old new) none (subst (λ (f : Option FeedFault). TellsBy x f old new) (same ∙ none) told)
+      subst (λ (f : Option BookFault). TellsBy f None old new) none (subst (λ (f : Option BookFault). TellsBy x f old new) (same ∙ none) told)
 
-  ill : (x y : Option FeedFault) (old new : Seen P) (fault : FeedFault) → x ≡ None → y ≡ Some fault → TellsBy x y old new → TellsPart old new fault
+  ill : (x y : Option BookFault) (old new : Seen P) (fault : BookFault) → x ≡ None → y ≡ Some fault → TellsBy x y old new → TellsPart old new fault
   ill x y old new fault none is told =
-      subst (λ (f : Option FeedFault). TellsBy f (Some fault) old new) none (subst (λ (f : Option FeedFault). TellsBy x f old new) is told)
+      subst (λ (f : Option BookFault). TellsBy f (Some fault) old new) none (subst (λ (f : Option BookFault). TellsBy x f old new) is told)
 
-  heard_by : (old new : DeskView) (source source' : Device ℕ) (a b : Telling P) (driven : Result Report (DriveFault FeedFault))
+  heard_by : (old new : DeskView) (source source' : Device ℕ) (a b : Telling P) (driven : Result Report (DriveFault BookFault))
       → Heard old new source source' a b driven → a.Waits [] → (b.Waits [] → b.pieces [] ≡ [])
       → MatchResult (ended_by new.stop new.frames driven) (TellsTo (pieces_of a.pieces) source source' a.device b.device)
       (StopsBy (pieces_of a.pieces) source source' a.device b.device)
@@ -166,20 +162,20 @@ module _ {P : Type 0} where
       stops_as old new source source' a b fault h.fresh
       (ill old.failed new.failed (seen_by old source a) (seen_by new source' b) fault h.fresh.failed failed h.leads)
   heard_by old new source source' a b (Err DriveMemory) h rests nothing =
-      subst (λ (s : Device ℕ). TellsPieces (pieces_of a.pieces) source s a.device b.device) (sym (h.source_rests refl))
-      (subst (λ (d : Device P). TellsPieces (pieces_of a.pieces) source source a.device d) (sym (h.device_rests refl))
+      subst (λ (s : Device ℕ). TellsPieces captures (pieces_of a.pieces) source s a.device b.device) (sym (h.source_rests refl))
+      (subst (λ (d : Device P). TellsPieces captures (pieces_of a.pieces) source source a.device d) (sym (h.device_rests refl))
       (part_none (pieces_of a.pieces) source a.device))
 
   -- the end of the reading of a capture, as its drive and its desk tell it
-  pub heard : (old new : DeskView) (source source' : Device ℕ) (a b : Telling P) (driven : Result Report (DriveFault FeedFault)) (result : Result Ended RxFault)
+  pub heard : (old new : DeskView) (source source' : Device ℕ) (a b : Telling P) (driven : Result Report (DriveFault BookFault)) (result : Result Ended StopFault)
       → Heard old new source source' a b driven → a.Waits [] → (b.Waits [] → b.pieces [] ≡ []) → result ≡ ended_by new.stop new.frames driven
       → MatchResult result (TellsTo (pieces_of a.pieces) source source' a.device b.device) (StopsBy (pieces_of a.pieces) source source' a.device b.device)
   heard old new source source' a b driven result h rests nothing is =
-      subst (λ (r : Result Ended RxFault). MatchResult r (TellsTo (pieces_of a.pieces) source source' a.device b.device)
+      subst (λ (r : Result Ended StopFault). MatchResult r (TellsTo (pieces_of a.pieces) source source' a.device b.device)
       (StopsBy (pieces_of a.pieces) source source' a.device b.device)) (sym is) (heard_by old new source source' a b driven h rests nothing)
 
 -- an answer that is a fault of this kind
-pub stops_with : (result : Result Ended RxFault) (P : Ended → Type 0) (R Q : RxFault → Type 0) → IsErr result → IsErrAnd result Q → ((e : RxFault) → Q e → R e)
+pub stops_with : (result : Result Ended StopFault) (P : Ended → Type 0) (R Q : StopFault → Type 0) → IsErr result → IsErrAnd result Q → ((e : StopFault) → Q e → R e)
     → MatchResult result P R
 stops_with (Ok x) P R Q is and so = absurd (false≢true is)
 stops_with (Err e) P R Q is and so = so e and

@@ -12,7 +12,7 @@ use Rattle.ht_results.specs.declared.frame_result.FrameResult.{FrameResult}
 use Rattle.ht_results.specs.declared.headed.Headed.{Headed}
 use Rattle.ht_results.specs.Folding.{FrameSoFar, frame_begun, frame_of, result_if, result_of, results_from, with_job, with_kind, with_octets}
 use Rattle.ht_rx.specs.declared.faults.Ended.{Ended}
-use Rattle.ht_rx.specs.declared.faults.RxFault.{RxFault}
+use Rattle.ht_runs.specs.declared.faults.StopFault.{StopFault}
 use Rattle.ht_rx.specs.Accounts.{PutsOne, PutsPartOfOne, pieces_of}
 use Rattle.ht_rx.specs.Frames.{booked_of}
 use Rattle.ht_rx.specs.Outcomes.{StopsBy, TellsTo}
@@ -145,7 +145,7 @@ module _ {P : Type 0} (booked : FrameResult → List P) (a b : Device P) (whole 
       (grows_by_part-front a b (flat_map booked (map result_of whole')) (flat_map booked (results_from after more)) part)
 
 -- where no frame waits and none is under way, the results are those of the octets
-pub gathered_told : {P : Type 0} (booked : FrameResult → List P) (whole : List FrameSoFar) (f : FrameSoFar) (result : Result Ended RxFault)
+pub gathered_told : {P : Type 0} (booked : FrameResult → List P) (whole : List FrameSoFar) (f : FrameSoFar) (result : Result Ended StopFault)
     (source source' : Device ℕ) (book book' : Device P) → whole ≡ [] → f.left ≤ 0
     → MatchResult result (TellsTo (pieces_of (booked_behind booked whole f)) source source' book book')
     (StopsBy (pieces_of (booked_behind booked whole f)) source source' book book')

@@ -10,8 +10,8 @@ use Rattle.ht_capture.specs.declared.items.FrameHead.{FrameHead}
 use Rattle.ht_capture.specs.declared.items.Item.{Item}
 use Rattle.ht_capture.specs.declared.items.Item.TheVariants.{Frame, Job, Done}
 use Rattle.ht_results.specs.declared.headed.Headed.{Headed}
-use Rattle.ht_rx.specs.declared.faults.FeedFault.{FeedFault}
-use Rattle.ht_rx.specs.declared.faults.FeedFault.TheVariants.{Write, NoMemory}
+use Rattle.ht_rx.specs.declared.book_fault.BookFault.{BookFault}
+use Rattle.ht_rx.specs.declared.book_fault.BookFault.TheVariants.{Failed, NoMemory}
 use Rattle.ht_rx.specs.Leading.{reads_none}
 use Rattle.ht_rx.specs.Reading.{standing}
 use Rattle.ht_rx.specs.Accounts.{Telling}
@@ -90,7 +90,7 @@ leads_lacking old new source after account faults is same before =
       cause = λ write. cc;
       steady = λ memory. refl;
     } in
-    subst (λ (f : Option FeedFault). TellsBy f new.failed (seen_by old source account) (seen_by new after account)) (sym before)
+    subst (λ (f : Option BookFault). TellsBy f new.failed (seen_by old source account) (seen_by new after account)) (sym before)
     (subst (λ (d : DeskView). TellsBy None d.failed (seen_by old source account) (seen_by d after account)) (sym is)
     (subst (λ (s : Device ℕ). TellsPart (seen_by old source account) (seen_by failed s account) NoMemory) (sym same) part))
 

@@ -6,7 +6,6 @@ pub mod Finding
 pub mod Giving
 pub mod Sound
 pub mod Leads
-pub mod Fronts
 pub mod Outcomes
 pub mod Finishing
 pub mod Listed

@@ -6,7 +6,7 @@ use Rattle.ht_capture.specs.declared.items.FrameHead.{FrameHead}
 use Rattle.ht_metric.specs.Jobs.{JobView}
 use Rattle.ht_capture.specs.Captures.{capture_of}
 use Rattle.ht_rx.specs.declared.faults.Ended.{Ended}
-use Rattle.ht_rx.specs.declared.faults.RxFault.{RxFault}
+use Rattle.ht_runs.specs.declared.faults.StopFault.{StopFault}
 use Rattle.ht_results.specs.declared.headed.Headed.{Headed}
 use Rattle.ht_rx.specs.Accounts.{pieces_of}
 use Rattle.ht_results.specs.Heads.{headed_jobs}
@@ -25,7 +25,7 @@ unfolding lines_of
 lines_are text octets none =
     ap (λ (xs : List ℕ). xs ++ job_lines (jobs_alone (headed_jobs octets))) none ∙ ap job_lines (jobs_of_octets octets)
 
-pub lines_told : (result : Result Ended RxFault) (text : List ℕ) (source source' sink sink' : Device ℕ) → text ≡ []
+pub lines_told : (result : Result Ended StopFault) (text : List ℕ) (source source' sink sink' : Device ℕ) → text ≡ []
     → MatchResult result (TellsTo (pieces_of (λ jobs. text ++ job_lines (jobs_alone jobs))) source source' sink sink')
     (StopsBy (pieces_of (λ jobs. text ++ job_lines (jobs_alone jobs))) source source' sink sink')
     → MatchResult result (TellsTo lines_of source source' sink sink') (StopsBy lines_of source source' sink sink')

@@ -6,8 +6,8 @@ use Rattle.ht_io.specs.Devices.{Device, Rose, IsLater}
 use Rattle.ht_io.proofs.Calls.{later-refl}
 use Rattle.ht_metric.specs.Jobs.{JobView}
 use Rattle.ht_capture.specs.declared.items.FrameHead.{FrameHead}
-use Rattle.ht_rx.specs.declared.faults.FeedFault.{FeedFault}
-use Rattle.ht_rx.specs.declared.faults.FeedFault.TheVariants.{Write, NoMemory}
+use Rattle.ht_rx.specs.declared.book_fault.BookFault.{BookFault}
+use Rattle.ht_rx.specs.declared.book_fault.BookFault.TheVariants.{Failed, NoMemory}
 use Rattle.ht_results.specs.declared.headed.Headed.{Headed}
 use Rattle.ht_rx.specs.Accounts.{Telling, PutsOne, PutsPartOfOne}
 use Rattle.ht_results.specs.Heads.{headed_of}
@@ -61,8 +61,8 @@ takes_one desk due source a b h first is puts waits le steady =
     }
 
 -- the pieces of a job could not be put, or not made
-pub takes_none : {P : Type 0} (desk : DeskView) (faults : ℕ) (failed : Option FeedFault) (source : Device ℕ) (a b : Telling P) (h : Headed) (fault : FeedFault)
-    → slice_get desk.due 0 ≡ Some h → PutsPartOfOne a.device b.device a.pieces h → IsLater a.device b.device → (fault ≡ Write → Rose a.device b.device)
+pub takes_none : {P : Type 0} (desk : DeskView) (faults : ℕ) (failed : Option BookFault) (source : Device ℕ) (a b : Telling P) (h : Headed) (fault : BookFault)
+    → slice_get desk.due 0 ≡ Some h → PutsPartOfOne a.device b.device a.pieces h → IsLater a.device b.device → (fault ≡ Failed → Rose a.device b.device)
     → (fault ≡ NoMemory → b.device.faults ≡ a.device.faults)
     → TellsPart (seen_by desk source a) (seen_by (record desk { faults = faults; failed = failed }) source b) fault
 takes_none desk faults failed source a b h fault first part le cause steady =

@@ -7,7 +7,7 @@ use Rattle.ht_metric.specs.Jobs.{JobView}
 use Rattle.ht_rx.specs.Texts.{job_line_of, job_lines}
 use Rattle.ht_rx.specs.Leading.{job_lines-append}
 use Rattle.ht_results.specs.declared.headed.Headed.{Headed}
-use Rattle.ht_rx.specs.declared.faults.FeedFault.{FeedFault}
+use Rattle.ht_rx.specs.declared.book_fault.BookFault.{BookFault}
 use Rattle.ht_io.specs.Devices.{Device, GrowsByPart}
 use Rattle.ht_io.proofs.Calls.{grows_by_part-front}
 use Rattle.ht_rx.specs.Accounts.{PutsPartOfOne}
@@ -46,7 +46,7 @@ waits_taken text after due job first w (inr on) =
     }
 
 -- a part of the line of a job, or of the lines that waited before it, is a part of all lines
-pub line_part : (result : Result (Unit {0}) FeedFault) (a b : Device ℕ) (text : List ℕ) (h : Headed)
+pub line_part : (result : Result (Unit {0}) BookFault) (a b : Device ℕ) (text : List ℕ) (h : Headed)
     → OnErr result (GrowsByPart a b (text ++ job_line_of h.job))
     → OnErr result (PutsPartOfOne a b (λ jobs. text ++ job_lines (jobs_alone jobs)) h)
 line_part (Ok x) a b text h m = tt
@@ -54,7 +54,7 @@ line_part (Err fault) a b text h m = λ more.
     subst (λ (xs : List ℕ). GrowsByPart a b xs) (append_assoc text (job_line_of h.job) (job_lines (jobs_alone more)))
     (grows_by_part-front a b (text ++ job_line_of h.job) (job_lines (jobs_alone more)) m)
 
-pub line_waits : (result : Result (Unit {0}) FeedFault) (text after : List ℕ) (due : List Headed) (h : Headed) → slice_get due 0 ≡ Some h
+pub line_waits : (result : Result (Unit {0}) BookFault) (text after : List ℕ) (due : List Headed) (h : Headed) → slice_get due 0 ≡ Some h
     → OnOk result (WaitsOn text after h.job due) → OnOk result (LinesWait text due → LinesWait after (drop 1 due))
 line_waits (Ok x) text after due h first on = λ w. waits_taken text after due h first w on
 line_waits (Err fault) text after due h first on = tt

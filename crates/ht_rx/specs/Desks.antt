@@ -6,7 +6,7 @@ use Rattle.ht_capture.specs.Fields.{captures}
 use Rattle.ht_capture.specs.Reading.{here}
 use Rattle.ht_capture.specs.Readers.{Progress, counted, counts, finished, more, shown_by}
 use Rattle.ht_crew.specs.Feeds.{FeedView}
-use Rattle.ht_rx.specs.declared.faults.FeedFault.{FeedFault}
+use Rattle.ht_rx.specs.declared.book_fault.BookFault.{BookFault}
 use Rattle.ht_results.specs.declared.headed.Headed.{Headed}
 use Rattle.ht_rx.specs.declared.stop.Stop.{Stop}
 use Rattle.ht_rx.specs.Heads.{jobs_alone}
@@ -21,9 +21,9 @@ pub record DeskView : Type 0 where
   pub due : List Headed
   pub count : ℕ
   pub faults : ℕ
-  pub failed : Option FeedFault
+  pub failed : Option BookFault
 
-abbrev pub desk_view : Progress → Option Stop → FrameHead → ℕ → List Headed → ℕ → ℕ → Option FeedFault → DeskView
+abbrev pub desk_view : Progress → Option Stop → FrameHead → ℕ → List Headed → ℕ → ℕ → Option BookFault → DeskView
 desk_view reader stop head frames due count faults failed = record {
   reader = reader;
   stop = stop;
@@ -36,7 +36,7 @@ desk_view reader stop head frames due count faults failed = record {
 }
 
 -- the desk as a feed
-abbrev pub feed_of : DeskView → FeedView FeedFault
+abbrev pub feed_of : DeskView → FeedView BookFault
 feed_of desk = record {
   count = desk.count;
   due = jobs_alone desk.due;

@@ -11,7 +11,7 @@ use Rattle.ht_capture.specs.declared.items.Item.{Item}
 use Rattle.ht_capture.specs.declared.items.Item.TheVariants.{Frame, Job, Done}
 use Rattle.ht_results.specs.declared.headed.Headed.{Headed}
 use Rattle.ht_rx.specs.declared.stop.Stop.{Stop}
-use Rattle.ht_rx.specs.declared.faults.FeedFault.{FeedFault}
+use Rattle.ht_rx.specs.declared.book_fault.BookFault.{BookFault}
 use Rattle.ht_rx.specs.Accounts.{PutsFirst, PutsPartOf}
 use Rattle.ht_results.specs.Heads.{headed, headed_of}
 use Rattle.ht_rx.specs.Heads.{last_head}
@@ -157,7 +157,7 @@ module _ {P : Type 0} where
         puts_later = later-later old.account.device mid.account.device new.account.device a.puts_later b.puts_later;
       }
 
-  pub tells-fails : (old mid new : Seen P) (fault : FeedFault) → Tells old mid → TellsPart mid new fault → TellsPart old new fault
+  pub tells-fails : (old mid new : Seen P) (fault : BookFault) → Tells old mid → TellsPart mid new fault → TellsPart old new fault
   tells-fails old mid new fault a b =
       record {
         items = a.items ++ b.items;
@@ -174,7 +174,7 @@ module _ {P : Type 0} where
         steady = λ is. b.steady is ∙ a.steady;
       }
 
-  fails-rests : (old mid new : Seen P) (fault other : FeedFault) → fault ≡ other → TellsPart old mid fault → RestsThen mid new → TellsPart old new other
+  fails-rests : (old mid new : Seen P) (fault other : BookFault) → fault ≡ other → TellsPart old mid fault → RestsThen mid new → TellsPart old new other
   fails-rests old mid new fault other is a b =
       record {
         items = a.items;
@@ -195,11 +195,11 @@ module _ {P : Type 0} where
   rests-on : (old mid new : Seen P) → RestsThen old mid → RestsThen mid new → RestsThen old new
   rests-on old mid new a b = record { standing = a.standing ∙ b.standing; device = a.device ∙ b.device }
 
-  pub tells_by-none : (failed : Option FeedFault) (seen : Seen P) → TellsBy failed failed seen seen
+  pub tells_by-none : (failed : Option BookFault) (seen : Seen P) → TellsBy failed failed seen seen
   tells_by-none None seen = tells-none seen
   tells_by-none (Some fault) seen = (refl, rests-none seen)
 
-  pub tells_by-on : (a b c : Option FeedFault) (old mid new : Seen P) → TellsBy a b old mid → TellsBy b c mid new → TellsBy a c old new
+  pub tells_by-on : (a b c : Option BookFault) (old mid new : Seen P) → TellsBy a b old mid → TellsBy b c mid new → TellsBy a c old new
   tells_by-on None None None old mid new first later = tells-on old mid new first later
   tells_by-on None None (Some fault) old mid new first later = tells-fails old mid new fault first later
   tells_by-on None (Some fault) None old mid new first later = absurd later

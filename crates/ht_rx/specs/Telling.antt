@@ -3,8 +3,8 @@ use Rattle.std.specs.Prelude.{◌≡◌, ℕ, ◌+◌, List, ◌++◌, Option, N
 use Rattle.ht_io.specs.Devices.{Device, Grows, Rose, IsLater}
 use Rattle.ht_capture.specs.declared.items.FrameHead.{FrameHead}
 use Rattle.ht_capture.specs.declared.items.Item.{Item}
-use Rattle.ht_rx.specs.declared.faults.FeedFault.{FeedFault}
-use Rattle.ht_rx.specs.declared.faults.FeedFault.TheVariants.{Write, NoMemory}
+use Rattle.ht_rx.specs.declared.book_fault.BookFault.{BookFault}
+use Rattle.ht_rx.specs.declared.book_fault.BookFault.TheVariants.{Failed, NoMemory}
 use Rattle.ht_results.specs.declared.headed.Headed.{Headed}
 use Rattle.ht_rx.specs.Accounts.{PutsFirst, PutsPartOf, Telling}
 use Rattle.ht_results.specs.Heads.{headed}
@@ -23,7 +23,7 @@ pub record Seen (P : Type 0) : Type 1 where
   pub due : List Headed
   pub count : ℕ
   pub account : Telling P
-  pub failed : Option FeedFault
+  pub failed : Option BookFault
 
 -- a desk between its source and its account
 abbrev pub seen_by : {P : Type 0} → DeskView → Device ℕ → Telling P → Seen P
@@ -64,7 +64,7 @@ pub record Tells {P : Type 0} (old new : Seen P) : Type 0 where
 
 -- items were read, and a part of the pieces of some of their jobs was put; the account's device has counted it exactly
 -- where it failed
-pub record TellsPart {P : Type 0} (old new : Seen P) (fault : FeedFault) : Type 0 where
+pub record TellsPart {P : Type 0} (old new : Seen P) (fault : BookFault) : Type 0 where
   pub items : List Item
   pub taken : List Headed
   pub rest : List Headed
@@ -73,7 +73,7 @@ pub record TellsPart {P : Type 0} (old new : Seen P) (fault : FeedFault) : Type 
   pub part : PutsPartOf old.account.device new.account.device old.account.pieces taken
   pub reads_later : IsLater old.standing.reader.source new.standing.reader.source
   pub puts_later : IsLater old.account.device new.account.device
-  pub cause : fault ≡ Write → Rose old.account.device new.account.device
+  pub cause : fault ≡ Failed → Rose old.account.device new.account.device
   pub steady : fault ≡ NoMemory → new.account.device.faults ≡ old.account.device.faults
 
 -- nothing was read or put
@@ -82,7 +82,7 @@ pub record RestsThen {P : Type 0} (old new : Seen P) : Type 0 where
   pub device : old.account.device ≡ new.account.device
 
 -- a feed that has failed rests
-abbrev pub TellsBy : {P : Type 0} → Option FeedFault → Option FeedFault → Seen P → Seen P → Type 0
+abbrev pub TellsBy : {P : Type 0} → Option BookFault → Option BookFault → Seen P → Seen P → Type 0
 TellsBy None None old new = Tells old new
 TellsBy None (Some fault) old new = TellsPart old new fault
 TellsBy (Some fault) None old new = ⊥

@@ -5,8 +5,8 @@ ghost use Rattle.ht_results.specs.declared.headed.Headed.{Headed as HeadedValue}
 ghost use Rattle.ht_rx.specs.Accounts.{PutsOne, PutsPartOfOne};
 ghost use Rattle.ht_results.specs.Heads.{headed_of};
 
+use crate::book_fault::BookFault;
 use crate::due_job::DueJob;
-use crate::faults::FeedFault;
 use circular_buffer::HeapCircularBuffer;
 use ht_capture::FrameHead;
 use ht_metric::Hit;
@@ -40,7 +40,7 @@ pub trait Account {
         head: &FrameHead,
         hit: &Hit,
         due: &HeapCircularBuffer<DueJob>,
-    ) -> Result<(), FeedFault>
+    ) -> Result<(), BookFault>
         requires first { slice_get due.now.items 0 ≡ Some (headed_of head.now hit.now.job) }
 
         // What was put, and what is left to put.
@@ -49,9 +49,9 @@ pub trait Account {
         ensures waits { OnOk result (waits self.old due.now.items → waits self.new (drop 1 due.now.items)) }
 
         // The device has counted a fault exactly where the answer is Write.
-        ensures cause { IfErr result (λ fault. fault ≡ FeedFault.Write → Rose (shown self.old) (shown self.new)) }
+        ensures cause { IfErr result (λ fault. fault ≡ BookFault.Failed → Rose (shown self.old) (shown self.new)) }
         ensures steady { OnOk result ((shown self.new).faults ≡ (shown self.old).faults) }
-        ensures unfailed { IfErr result (λ fault. fault ≡ FeedFault.NoMemory → (shown self.new).faults ≡ (shown self.old).faults) }
+        ensures unfailed { IfErr result (λ fault. fault ≡ BookFault.NoMemory → (shown self.new).faults ≡ (shown self.old).faults) }
         ensures later { IsLater (shown self.old) (shown self.new) }
         ensures same { lent self.new ≡ lent self.old };
 

@@ -1,15 +1,15 @@
-//! Why a result can't be booked.
+//! Why a result can't be booked, and why a hit can't be taken.
 ghost use Rattle.std.specs.Prelude.{◌≡◌};
 
-use crate::faults::FeedFault;
 use ht_io::Failed;
+use ht_runs::StopFault;
 use std::alloc::AllocError;
 use thiserror::Error;
 
-/// Why a result can't be booked.
+/// Why a result can't be booked, or an account of hits or its feed can't go on.
 #[derive(Clone, Copy, Debug, PartialEq, Eq, Error)]
 pub enum BookFault {
-    /// The book's device failed.
+    /// The device that is put into failed.
     #[error("the result can't be booked")]
     Failed,
     /// Out of memory.
@@ -37,15 +37,15 @@ impl From<Failed> for BookFault {
     }
 }
 
-impl From<BookFault> for FeedFault {
-    ghost use Rattle.ht_rx.specs.Stops.{fault_of_book};
+impl From<BookFault> for StopFault {
+    ghost use Rattle.ht_rx.specs.Stops.{fault_of};
 
-    ghost from_gives = { λ fault e. e ≡ fault_of_book fault };
+    ghost from_gives = { λ fault stop. stop ≡ fault_of fault };
 
-    fn from(fault: BookFault) -> FeedFault {
+    fn from(fault: BookFault) -> StopFault {
         match fault {
-            BookFault::Failed => FeedFault::Write,
-            BookFault::NoMemory => FeedFault::NoMemory,
+            BookFault::Failed => StopFault::Write,
+            BookFault::NoMemory => StopFault::NoMemory,
         }
     }
 }

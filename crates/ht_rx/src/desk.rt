@@ -14,8 +14,8 @@ ghost use Rattle.ht_rx.specs.Heads.{jobs_alone};
 ghost use Rattle.ht_rx.specs.Telling.{ReadsMore, Tells, TellsPart, seen_by};
 
 use crate::account::Account;
+use crate::book_fault::BookFault;
 use crate::due_job::DueJob;
-use crate::faults::FeedFault;
 use crate::headed::no_head;
 use crate::reading::next_job;
 use crate::stop::Stop;
@@ -46,7 +46,7 @@ pub struct Desk {
     // The number of calls that failed.
     faults: u64,
     // What a call that failed answered; all later calls answer it as well.
-    failed: Option<FeedFault>,
+    failed: Option<BookFault>,
 }
 
 impl Model for Desk {
@@ -96,14 +96,14 @@ impl Desk {
     }
 
     // What a call that failed answered.
-    pub(crate) fn failed(&self) -> Option<FeedFault>
+    pub(crate) fn failed(&self) -> Option<BookFault>
         ensures { result ≡ self.now.failed }
     {
         self.failed
     }
 
     // Counts a call that fails, and keeps its answer.
-    pub(crate) fn fail(&mut self, fault: FeedFault) -> FeedFault
+    pub(crate) fn fail(&mut self, fault: BookFault) -> BookFault
         ensures same { result ≡ fault }
         ensures noted { self.new ≡ record self.old { faults = one_more self.old.faults; failed = Some fault } }
         ensures later { self.old.faults ≤ self.new.faults }
@@ -168,7 +168,7 @@ impl Desk {
     }
 
     // Hands the hit of the first job due to an account.
-    pub(crate) fn take<A: Account>(&mut self, hit: &Hit, account: &mut A) -> Result<(), FeedFault>
+    pub(crate) fn take<A: Account>(&mut self, hit: &Hit, account: &mut A) -> Result<(), BookFault>
         requires well { self.old.failed ≡ None }
         requires first { slice_get (jobs_alone self.old.due) 0 ≡ Some hit.now.job }
         ensures tells { (source : Device ℕ) → MatchResult result
@@ -230,7 +230,7 @@ fn keep(due: &mut HeapCircularBuffer<DueJob>, head: &FrameHead, job: &Job)
 }
 
 // Counts a fault, and keeps it.
-fn note(faults: &mut u64, failed: &mut Option<FeedFault>, fault: FeedFault)
+fn note(faults: &mut u64, failed: &mut Option<BookFault>, fault: BookFault)
     ensures counted { faults.new ≡ one_more faults.old }
     ensures kept { failed.new ≡ Some fault }
 {

@@ -5,8 +5,8 @@ ghost use Rattle.ht_rx.specs.Desks.{feed_of};
 ghost use Rattle.ht_rx.specs.Feeding.{FeedsOn, feeds_on-more, feeds_on-none, names, names_of};
 
 use crate::account::Account;
+use crate::book_fault::BookFault;
 use crate::desk::Desk;
-use crate::faults::FeedFault;
 use ht_crew::Feed;
 use ht_io::Source;
 use ht_metric::{Hit, Job};
@@ -40,23 +40,23 @@ impl<'a, S: Source, A: Account> CaptureFeed<'a, S, A> {
 }
 
 impl<'a, S: Source, A: Account> Feed for CaptureFeed<'a, S, A> {
-    type Fault = FeedFault;
+    type Fault = BookFault;
 
     ghost shown = { λ f. feed_of f.desk.now };
 
     ghost leads = { FeedsOn S.shown A.lent (told_by A.shown A.pieces A.waits) };
 
-    fn next(&mut self) -> Result<Option<Job>, FeedFault> {
+    fn next(&mut self) -> Result<Option<Job>, BookFault> {
         if let Some(fault) = self.desk.failed() {
             return Err(self.desk.fail(fault));
         }
         match self.desk.next(self.source) {
             Ok(given) => Ok(given),
-            Err(_) => Err(self.desk.fail(FeedFault::NoMemory)),
+            Err(_) => Err(self.desk.fail(BookFault::NoMemory)),
         }
     }
 
-    fn take(&mut self, hit: Hit) -> Result<(), FeedFault> {
+    fn take(&mut self, hit: Hit) -> Result<(), BookFault> {
         if let Some(fault) = self.desk.failed() {
             return Err(self.desk.fail(fault));
         }

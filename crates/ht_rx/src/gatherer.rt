@@ -5,9 +5,9 @@ ghost use Rattle.ht_rx.specs.Gathering.{WaitForJobs, none_behind, results_behind
 
 use crate::account::Account;
 use crate::book::Book;
+use crate::book_fault::BookFault;
 use crate::decoding::Decoding;
 use crate::due_job::DueJob;
-use crate::faults::FeedFault;
 use crate::gathering::{decode, finish, gather};
 use crate::open_frame::OpenFrame;
 use circular_buffer::HeapCircularBuffer;
@@ -66,7 +66,7 @@ impl<'a, R: Threads, B: Book, D: Decoder> Account for Gatherer<'a, R, B, D> {
         head: &FrameHead,
         hit: &Hit,
         due: &HeapCircularBuffer<DueJob>,
-    ) -> Result<(), FeedFault> {
+    ) -> Result<(), BookFault> {
         let room = room(self.beside, due.len());
         match gather(self.alloc, self.under_way, head, hit)? {
             Some(frame) => {

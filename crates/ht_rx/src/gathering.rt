@@ -8,8 +8,8 @@ ghost use Rattle.ht_results.specs.Heads.{headed_of};
 ghost use Rattle.ht_rx.specs.Gathering.{BooksFirst, results_behind};
 
 use crate::book::Book;
+use crate::book_fault::BookFault;
 use crate::decoding::Decoding;
-use crate::faults::FeedFault;
 use crate::open_frame::OpenFrame;
 use crate::whole_frame::WholeFrame;
 use ht_capture::FrameHead;
@@ -113,12 +113,12 @@ fn take_oldest(queue: &mut VecDeque<Decoding>, room: usize) -> Option<Decoding>
 }
 
 // Waits for the result of a frame, and books it.
-fn book_one<R: Threads, B: Book>(rt: &R, frame: Decoding, book: &mut B) -> Result<(), FeedFault>
+fn book_one<R: Threads, B: Book>(rt: &R, frame: Decoding, book: &mut B) -> Result<(), BookFault>
     ensures put { OnOk result (Grows (B.shown book.old) (B.shown book.new) (B.booked (result_of frame))) }
     ensures part { OnErr result (GrowsByPart (B.shown book.old) (B.shown book.new) (B.booked (result_of frame))) }
     ensures steady { OnOk result ((B.shown book.new).faults ≡ (B.shown book.old).faults) }
-    ensures cause { IfErr result (λ fault. fault ≡ FeedFault.Write → Rose (B.shown book.old) (B.shown book.new)) }
-    ensures unfailed { IfErr result (λ fault. fault ≡ FeedFault.NoMemory → (B.shown book.new).faults ≡ (B.shown book.old).faults) }
+    ensures cause { IfErr result (λ fault. fault ≡ BookFault.Failed → Rose (B.shown book.old) (B.shown book.new)) }
+    ensures unfailed { IfErr result (λ fault. fault ≡ BookFault.NoMemory → (B.shown book.new).faults ≡ (B.shown book.old).faults) }
     ensures later { IsLater (B.shown book.old) (B.shown book.new) }
     ensures same { B.lent book.new ≡ B.lent book.old }
 {
@@ -134,13 +134,13 @@ pub(crate) fn finish<R: Threads, B: Book>(
     room: usize,
     queue: &mut VecDeque<Decoding>,
     book: &mut B,
-) -> Result<(), FeedFault>
+) -> Result<(), BookFault>
     ensures put { OnOk result (BooksFirst B.booked (B.shown book.old) (B.shown book.new) queue.old.items queue.new.items) }
     ensures few { OnOk result (length queue.new.items ≤ room) }
     ensures part { OnErr result (GrowsByPart (B.shown book.old) (B.shown book.new) (flat_map B.booked (map result_of queue.old.items))) }
     ensures steady { OnOk result ((B.shown book.new).faults ≡ (B.shown book.old).faults) }
-    ensures cause { IfErr result (λ fault. fault ≡ FeedFault.Write → Rose (B.shown book.old) (B.shown book.new)) }
-    ensures unfailed { IfErr result (λ fault. fault ≡ FeedFault.NoMemory → (B.shown book.new).faults ≡ (B.shown book.old).faults) }
+    ensures cause { IfErr result (λ fault. fault ≡ BookFault.Failed → Rose (B.shown book.old) (B.shown book.new)) }
+    ensures unfailed { IfErr result (λ fault. fault ≡ BookFault.NoMemory → (B.shown book.new).faults ≡ (B.shown book.old).faults) }
     ensures later { IsLater (B.shown book.old) (B.shown book.new) }
     ensures same { B.lent book.new ≡ B.lent book.old }
 {

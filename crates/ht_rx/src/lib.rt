@@ -62,7 +62,7 @@ pub use book::Book;
 pub use book_fault::BookFault;
 pub use desk::Desk;
 pub use due_job::DueJob;
-pub use faults::{Ended, FeedFault, RxFault};
+pub use faults::{Ended, RxFault};
 pub use feed::CaptureFeed;
 pub use ht_results::FrameResult;
 pub use list_book::ListBook;

@@ -6,8 +6,8 @@ ghost use Rattle.ht_rx.specs.Listing.{LinesWait};
 ghost use Rattle.ht_rx.specs.Texts.{job_lines};
 
 use crate::account::Account;
+use crate::book_fault::BookFault;
 use crate::due_job::DueJob;
-use crate::faults::FeedFault;
 use crate::writing::write;
 use circular_buffer::HeapCircularBuffer;
 use ht_capture::FrameHead;
@@ -60,7 +60,7 @@ impl<'a, K: Sink> Account for Lister<'a, K> {
         _: &FrameHead,
         hit: &Hit,
         due: &HeapCircularBuffer<DueJob>,
-    ) -> Result<(), FeedFault> {
+    ) -> Result<(), BookFault> {
         write(self.text, hit, due, self.sink)
     }
 

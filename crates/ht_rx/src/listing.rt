@@ -3,6 +3,7 @@ ghost use Rattle.std.specs.Prelude.{◌≡◌, ◌≢◌, ◌≤◌, Err, MatchR
 ghost use Rattle.ht_io.specs.Devices.{IsLater};
 ghost use Rattle.ht_rx.specs.Outcomes.{StopsBy, TellsTo};
 ghost use Rattle.ht_rx.specs.Texts.{lines_of};
+ghost use Rattle.ht_runs.specs.declared.faults.StopFault.TheVariants.{Write};
 
 use crate::faults::{Ended, RxFault};
 use crate::lister::{Lister, room};
@@ -37,7 +38,7 @@ pub fn list_alone<S: Source, K: Sink, G: Gate>(
         (StopsBy lines_of (S.shown source.old) (S.shown source.new) (K.shown sink.old) (K.shown sink.new)) }
 
     // Where the sink failed the answer is `Write`, whatever else failed.
-    ensures writes { result ≢ Err RxFault.Write → (K.shown sink.new).faults ≡ (K.shown sink.old).faults }
+    ensures writes { result ≢ Err Write → (K.shown sink.new).faults ≡ (K.shown sink.old).faults }
 
     // However it ends, the devices are the same, and take back no fault.
     ensures reads_later { IsLater (S.shown source.old) (S.shown source.new) }
@@ -68,7 +69,7 @@ pub fn list<R: Threads + Wait + Sync, S: Source, K: Sink, G: Gate + Sync>(
         (StopsBy lines_of (S.shown source.old) (S.shown source.new) (K.shown sink.old) (K.shown sink.new)) }
 
     // Where the sink failed the answer is `Write`, whatever else failed.
-    ensures writes { result ≢ Err RxFault.Write → (K.shown sink.new).faults ≡ (K.shown sink.old).faults }
+    ensures writes { result ≢ Err Write → (K.shown sink.new).faults ≡ (K.shown sink.old).faults }
 
     // However it ends, the devices are the same, and take back no fault.
     ensures reads_later { IsLater (S.shown source.old) (S.shown source.new) }

@@ -6,8 +6,8 @@ ghost use Rattle.ht_results.specs.Folding.{results_from};
 
 use crate::account::Account;
 use crate::book::Book;
+use crate::book_fault::BookFault;
 use crate::due_job::DueJob;
-use crate::faults::FeedFault;
 use crate::open_frame::OpenFrame;
 use circular_buffer::HeapCircularBuffer;
 use ht_capture::FrameHead;
@@ -64,7 +64,7 @@ impl<'a, B: Book, D: Decoder> Account for Receiver<'a, B, D> {
         head: &FrameHead,
         hit: &Hit,
         _: &HeapCircularBuffer<DueJob>,
-    ) -> Result<(), FeedFault> {
+    ) -> Result<(), BookFault> {
         self.under_way.enter(head)?;
         self.under_way.add(hit);
         if self.under_way.left() > 0 {

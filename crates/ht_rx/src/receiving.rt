@@ -3,6 +3,7 @@ ghost use Rattle.std.specs.Prelude.{◌≡◌, ◌≢◌, ◌≤◌, Err, MatchR
 ghost use Rattle.ht_io.specs.Devices.{IsLater};
 ghost use Rattle.ht_rx.specs.Frames.{booked_of};
 ghost use Rattle.ht_rx.specs.Outcomes.{StopsBy, TellsTo};
+ghost use Rattle.ht_runs.specs.declared.faults.StopFault.TheVariants.{Write};
 
 use crate::book::Book;
 use crate::faults::{Ended, RxFault};
@@ -44,7 +45,7 @@ pub fn receive_alone<S: Source, B: Book, G: Gate>(
         (StopsBy (booked_of B.booked) (S.shown source.old) (S.shown source.new) (B.shown book.old) (B.shown book.new)) }
 
     // Where the book failed the answer is `Write`, whatever else failed.
-    ensures writes { result ≢ Err RxFault.Write → (B.shown book.new).faults ≡ (B.shown book.old).faults }
+    ensures writes { result ≢ Err Write → (B.shown book.new).faults ≡ (B.shown book.old).faults }
 
     // However it ends, the devices are the same, and take back no fault.
     ensures reads_later { IsLater (S.shown source.old) (S.shown source.new) }
@@ -84,7 +85,7 @@ pub fn receive<R: Threads + Wait + Sync, S: Source, B: Book, G: Gate + Sync>(
         (StopsBy (booked_of B.booked) (S.shown source.old) (S.shown source.new) (B.shown book.old) (B.shown book.new)) }
 
     // Where the book failed the answer is `Write`, whatever else failed.
-    ensures writes { result ≢ Err RxFault.Write → (B.shown book.new).faults ≡ (B.shown book.old).faults }
+    ensures writes { result ≢ Err Write → (B.shown book.new).faults ≡ (B.shown book.old).faults }
 
     // However it ends, the devices are the same, and take back no fault.
     ensures reads_later { IsLater (S.shown source.old) (S.shown source.new) }

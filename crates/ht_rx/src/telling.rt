@@ -6,10 +6,12 @@ ghost use Rattle.ht_rx.specs.Desks.{IsNewDesk};
 ghost use Rattle.ht_rx.specs.Outcomes.{StopsBy, TellsTo};
 ghost use Rattle.ht_rx.specs.Stops.{ended_by};
 ghost use Rattle.ht_rx.specs.Telling.{Tells, TellsPart, seen_by};
+ghost use Rattle.ht_runs.specs.declared.faults.StopFault.TheVariants.{Write};
 
 use crate::account::Account;
+use crate::book_fault::BookFault;
 use crate::desk::Desk;
-use crate::faults::{Ended, FeedFault, RxFault};
+use crate::faults::{Ended, RxFault};
 use crate::feed::CaptureFeed;
 use crate::stop::Stop;
 use ht_crew::{DriveFault, Gate, Report, drive, drive_alone};
@@ -22,7 +24,7 @@ use std::thread::Threads;
 const DUE_ALONE: u16 = 2;
 
 // How the reading of a capture ended whose drive answered this.
-fn end_of(desk: &Desk, driven: Result<Report, DriveFault<FeedFault>>) -> Result<Ended, RxFault>
+fn end_of(desk: &Desk, driven: Result<Report, DriveFault<BookFault>>) -> Result<Ended, RxFault>
     requires stopped { OnOk driven (is_some desk.now.stop ≡ true) }
     ensures { result ≡ ended_by desk.now.stop desk.now.frames driven }
 {
@@ -59,7 +61,7 @@ pub(crate) fn tell_alone<S: Source, A: Account, G: Gate>(
     ensures tells { MatchResult result
         (TellsTo (pieces_of (A.pieces account.old)) (S.shown source.old) (S.shown source.new) (A.shown account.old) (A.shown account.new))
         (StopsBy (pieces_of (A.pieces account.old)) (S.shown source.old) (S.shown source.new) (A.shown account.old) (A.shown account.new)) }
-    ensures writes { result ≢ Err RxFault.Write → (A.shown account.new).faults ≡ (A.shown account.old).faults }
+    ensures writes { result ≢ Err Write → (A.shown account.new).faults ≡ (A.shown account.old).faults }
     ensures reads_later { IsLater (S.shown source.old) (S.shown source.new) }
     ensures puts_later { IsLater (A.shown account.old) (A.shown account.new) }
     ensures same { A.lent account.new ≡ A.lent account.old }
@@ -88,7 +90,7 @@ pub(crate) fn tell<R: Threads + Wait + Sync, S: Source, A: Account, G: Gate + Sy
     ensures tells { MatchResult result
         (TellsTo (pieces_of (A.pieces account.old)) (S.shown source.old) (S.shown source.new) (A.shown account.old) (A.shown account.new))
         (StopsBy (pieces_of (A.pieces account.old)) (S.shown source.old) (S.shown source.new) (A.shown account.old) (A.shown account.new)) }
-    ensures writes { result ≢ Err RxFault.Write → (A.shown account.new).faults ≡ (A.shown account.old).faults }
+    ensures writes { result ≢ Err Write → (A.shown account.new).faults ≡ (A.shown account.old).faults }
     ensures reads_later { IsLater (S.shown source.old) (S.shown source.new) }
     ensures puts_later { IsLater (A.shown account.old) (A.shown account.new) }
     ensures same { A.lent account.new ≡ A.lent account.old }

@@ -5,19 +5,19 @@ ghost use Rattle.ht_results.specs.declared.headed.Headed.{Headed as HeadedValue}
 ghost use Rattle.ht_rx.specs.Texts.{job_line_of};
 ghost use Rattle.ht_rx.specs.Listing.{WaitsOn};
 
+use crate::book_fault::BookFault;
 use crate::due_job::DueJob;
-use crate::faults::FeedFault;
 use crate::lines::push_line;
 use circular_buffer::HeapCircularBuffer;
 use ht_io::Sink;
 use ht_metric::{Hit, Place};
 
 // Puts the lines that wait.
-fn put<K: Sink>(text: &mut String, sink: &mut K) -> Result<(), FeedFault>
+fn put<K: Sink>(text: &mut String, sink: &mut K) -> Result<(), BookFault>
     ensures put { OnOk result (Grows (K.shown sink.old) (K.shown sink.new) (string_bytes text.old)) }
     ensures none { OnOk result (string_bytes text.new ≡ []) }
     ensures steady { OnOk result ((K.shown sink.new).faults ≡ (K.shown sink.old).faults) }
-    ensures fault { IfErr result (λ fault. fault ≡ FeedFault.Write) }
+    ensures fault { IfErr result (λ fault. fault ≡ BookFault.Failed) }
     ensures part { OnErr result (GrowsByPart (K.shown sink.old) (K.shown sink.new) (string_bytes text.old)) }
     ensures cause { OnErr result (Rose (K.shown sink.old) (K.shown sink.new)) }
     ensures later { IsLater (K.shown sink.old) (K.shown sink.new) }
@@ -47,14 +47,14 @@ pub(crate) fn write<K: Sink>(
     hit: &Hit,
     due: &HeapCircularBuffer<DueJob>,
     sink: &mut K,
-) -> Result<(), FeedFault>
+) -> Result<(), BookFault>
     ensures lines { OnOk result ((put : List ℕ) × Grows (K.shown sink.old) (K.shown sink.new) put
         × (string_bytes text.old ++ job_line_of hit.now.job ≡ put ++ string_bytes text.new)) }
     ensures part { OnErr result (GrowsByPart (K.shown sink.old) (K.shown sink.new) (string_bytes text.old ++ job_line_of hit.now.job)) }
     ensures waits { OnOk result (WaitsOn (string_bytes text.old) (string_bytes text.new) hit.now.job due.now.items) }
-    ensures cause { IfErr result (λ fault. fault ≡ FeedFault.Write → Rose (K.shown sink.old) (K.shown sink.new)) }
+    ensures cause { IfErr result (λ fault. fault ≡ BookFault.Failed → Rose (K.shown sink.old) (K.shown sink.new)) }
     ensures steady { OnOk result ((K.shown sink.new).faults ≡ (K.shown sink.old).faults) }
-    ensures unfailed { IfErr result (λ fault. fault ≡ FeedFault.NoMemory → (K.shown sink.new).faults ≡ (K.shown sink.old).faults) }
+    ensures unfailed { IfErr result (λ fault. fault ≡ BookFault.NoMemory → (K.shown sink.new).faults ≡ (K.shown sink.old).faults) }
     ensures later { IsLater (K.shown sink.old) (K.shown sink.new) }
 {
     push_line(text, hit)?;

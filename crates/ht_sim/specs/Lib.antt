@@ -2,5 +2,4 @@ pub mod Words
 pub mod Draws
 pub mod Channel
 pub mod Samples
-pub mod Failing
 pub mod Passing

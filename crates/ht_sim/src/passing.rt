@@ -1,10 +1,12 @@
 //! Files of symbols that pass the channel.
-ghost use Rattle.std.specs.Prelude.{◌≡◌, ℕ, List, IfErr, OnOk};
-ghost use Rattle.ht_io.specs.Devices.{Grows};
-ghost use Rattle.ht_sim.specs.Passing.{FailsToPass, TakesAndPasses};
+ghost use Rattle.std.specs.Prelude.{◌≡◌, ◌≢◌, Err};
+ghost use Rattle.ht_runs.specs.Converted.{Converted};
+ghost use Rattle.ht_runs.specs.Filters.{SaysNothing};
+ghost use Rattle.ht_runs.specs.declared.faults.RunFault.TheVariants.{Write};
+ghost use Rattle.ht_sim.specs.Passing.{passing};
 
 use crate::captures::pass;
-use crate::faults::{SimFault, from_reading};
+use crate::faults::SimFault;
 use ht_capture::write_captures;
 use ht_files::read_symbols;
 use ht_io::{Sink, Source};
@@ -22,21 +24,11 @@ pub fn channel<S: Source, K: Sink>(
     source: &mut S,
     sink: &mut K,
 ) -> Result<(), SimFault>
-    ensures done { OnOk result ((output : List ℕ) × TakesAndPasses seed noise (S.shown source.old) (S.shown source.new) output
-        × Grows (K.shown sink.old) (K.shown sink.new) output) }
-    ensures steady { OnOk result ((K.shown sink.new).faults ≡ (K.shown sink.old).faults) }
-    ensures failed { IfErr result (FailsToPass seed noise (S.shown source.old) (S.shown source.new) (K.shown sink.old) (K.shown sink.new)) }
+    ensures converts { Converted (passing seed noise) (S.shown source.old) (S.shown source.new) (K.shown sink.old) (K.shown sink.new) SaysNothing result }
+    ensures writes { result ≢ Err Write → (K.shown sink.new).faults ≡ (K.shown sink.old).faults }
 {
-    let frames = match read_symbols(alloc, source) {
-        Ok(frames) => frames,
-        Err(fault) => return Err(from_reading(fault)),
-    };
-    let captured = match pass(alloc, seed, noise, &frames) {
-        Ok(captured) => captured,
-        Err(_) => return Err(SimFault::NoMemory),
-    };
-    match write_captures(&captured, sink) {
-        Ok(()) => Ok(()),
-        Err(_) => Err(SimFault::Write),
-    }
+    let frames = read_symbols(alloc, source)?;
+    let captured = pass(alloc, seed, noise, &frames)?;
+    write_captures(&captured, sink)?;
+    Ok(())
 }

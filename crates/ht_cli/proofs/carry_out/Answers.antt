@@ -1,26 +1,52 @@
 use Rattle.std.specs.Prelude.{ℕ, Vec}
 use Rattle.std.specs.Global.{Global}
-use Rattle.std.proofs.Common.{ap, rules}
+use Rattle.std.proofs.Common.{ap, refl, rules}
+use Rattle.ht_io.proofs.Calls.{later-later}
 use Rattle.ht_rx.specs.Texts.{detect_text, lines_of}
 use Rattle.ht_results.specs.Texts.{frame_lines_of, rx_text}
 use Rattle.ht_demo.specs.Demos.{IsDemoLine}
+use Rattle.ht_runs.specs.Filters.{SaysNothing}
+use Rattle.ht_sim.specs.Passing.{passing}
+use Rattle.ht_cli.specs.Converting.{sending, upgrading}
 use Rattle.ht_cli.specs.Tasks.{plan_of}
+use Rattle.ht_cli.proofs.Answering.{converts}
+use Rattle.ht_cli.proofs.Heard.{ends}
 use Rattle.ht_cli.proofs.Making.{done_is_not, makes}
 use Rattle.ht_cli.proofs.Texts.{detects, receives}
-use Rattle.ht_cli.proofs.Streaming.{ends}
 use Rattle.ht_cli.proofs.carry_out.Goals as goal
 
 pub returns-in-Some-Detect-clause-answered : goal.returns-in-Some-Detect-clause-answered
 returns-in-Some-Detect-clause-answered g c =
     let asked = c.in-Some-Detect.field-0-is in
-    let run = (ends lines_of detect_text detects _ _ _ _ _ c.list_alone-heard.result c.put_last.result c.list_alone-heard.ensures.lists
-    c.list_alone-heard.ensures.puts_later c.put_last.ensures.puts) in search rules
+    let run = ends detect_text lines_of detects _ _ _ c.list_alone-heard.result _ _ _ c.put_end-listed.result c.settle.result
+    c.list_alone-heard.ensures.lists c.list_alone-heard.ensures.puts_later c.put_end-listed.ensures.puts
+    (later-later _ _ _ c.list_alone-heard.ensures.puts_later c.put_end-listed.ensures.later) c.settle.ensures.settles in search rules
 
 pub returns-in-Some-Rx-clause-answered : goal.returns-in-Some-Rx-clause-answered
 returns-in-Some-Rx-clause-answered g c =
     let asked = c.in-Some-Rx.field-0-is in
-    let run = (ends frame_lines_of rx_text receives _ _ _ _ _ c.receive_text_alone-heard.result c.put_last-in-Some-Rx.result
-    c.receive_text_alone-heard.ensures.receives c.receive_text_alone-heard.ensures.puts_later c.put_last-in-Some-Rx.ensures.puts) in search rules
+    let run = ends rx_text frame_lines_of receives _ _ _ c.receive_text_alone-heard.result _ _ _ c.put_end-received.result
+    c.settle-in-Some-Rx.result c.receive_text_alone-heard.ensures.receives c.receive_text_alone-heard.ensures.puts_later
+    c.put_end-received.ensures.puts (later-later _ _ _ c.receive_text_alone-heard.ensures.puts_later c.put_end-received.ensures.later)
+    c.settle-in-Some-Rx.ensures.settles in search rules
+
+pub returns-in-Some-Tx-clause-answered : goal.returns-in-Some-Tx-clause-answered
+returns-in-Some-Tx-clause-answered g c =
+    let asked = c.in-Some-Tx.field-0-is in
+    let run = converts sending (λ fault. refl) _ _ _ SaysNothing c.send-sent.result _ _ c.settle-in-Some-Tx.result c.send-sent.ensures.converts
+    c.settle-in-Some-Tx.ensures.settles in search rules
+
+pub returns-in-Some-Channel-clause-answered : goal.returns-in-Some-Channel-clause-answered
+returns-in-Some-Channel-clause-answered g c =
+    let asked = c.in-Some-Channel.field-0-is in
+    let run = converts (passing c.in-Some-Channel.seed c.in-Some-Channel.noise) (λ fault. refl) _ _ _ SaysNothing c.channel-passed.result _ _
+    c.settle-in-Some-Channel.result c.channel-passed.ensures.converts c.settle-in-Some-Channel.ensures.settles in search rules
+
+pub returns-in-Some-Upgrade-clause-answered : goal.returns-in-Some-Upgrade-clause-answered
+returns-in-Some-Upgrade-clause-answered g c =
+    let asked = c.in-Some-Upgrade.field-0-is in
+    let run = converts upgrading (λ fault. refl) _ _ _ SaysNothing c.upgrade-upgraded.result _ _ c.settle-in-Some-Upgrade.result
+    c.upgrade-upgraded.ensures.converts c.settle-in-Some-Upgrade.ensures.settles in search rules
 
 pub returns-in-Some-Demo-clause-answered : goal.returns-in-Some-Demo-clause-answered
 returns-in-Some-Demo-clause-answered g c =

@@ -1,14 +1,15 @@
 use Rattle.std.specs.Prelude.{ℕ, Vec}
 use Rattle.std.specs.Global.{Global}
 use Rattle.std.proofs.Common.{ap, rules}
+use Rattle.ht_io.proofs.Calls.{later-later}
 use Rattle.ht_rx.specs.Texts.{detect_text, lines_of}
 use Rattle.ht_results.specs.Texts.{frame_lines_of, rx_text}
 use Rattle.ht_words.specs.Words.{asked}
 use Rattle.ht_demo.specs.Demos.{IsDemoLine}
 use Rattle.ht_cli.specs.Tasks.{plan_of}
+use Rattle.ht_cli.proofs.Heard.{ends}
 use Rattle.ht_cli.proofs.Making.{done_is_not, makes}
 use Rattle.ht_cli.proofs.Nothing.{nothing_done}
-use Rattle.ht_cli.proofs.Streaming.{ends}
 use Rattle.ht_cli.proofs.Texts.{detects, receives}
 use Rattle.ht_cli.proofs.run.Goals as goal
 
@@ -18,14 +19,16 @@ returns-in-Err-clause-answered g c =
 
 pub returns-in-Some-Detect-clause-answered : goal.returns-in-Some-Detect-clause-answered
 returns-in-Some-Detect-clause-answered g c =
-    let run = (ends lines_of detect_text detects _ _ _ _ _ c.list-heard.result c.put_last.result c.list-heard.ensures.lists
-    c.list-heard.ensures.puts_later c.put_last.ensures.puts) in
+    let run = ends detect_text lines_of detects _ _ _ c.list-heard.result _ _ _ c.put_end-listed.result c.settle.result c.list-heard.ensures.lists
+    c.list-heard.ensures.puts_later c.put_end-listed.ensures.puts (later-later _ _ _ c.list-heard.ensures.puts_later c.put_end-listed.ensures.later)
+    c.settle.ensures.settles in
     let words = c.in-Ok.ensures.value in search rules
 
 pub returns-in-Some-Rx-clause-answered : goal.returns-in-Some-Rx-clause-answered
 returns-in-Some-Rx-clause-answered g c =
-    let run = (ends frame_lines_of rx_text receives _ _ _ _ _ c.receive_text-heard.result c.put_last-in-Some-Rx.result
-    c.receive_text-heard.ensures.receives c.receive_text-heard.ensures.puts_later c.put_last-in-Some-Rx.ensures.puts) in
+    let run = ends rx_text frame_lines_of receives _ _ _ c.receive_text-heard.result _ _ _ c.put_end-received.result c.settle-in-Some-Rx.result
+    c.receive_text-heard.ensures.receives c.receive_text-heard.ensures.puts_later c.put_end-received.ensures.puts
+    (later-later _ _ _ c.receive_text-heard.ensures.puts_later c.put_end-received.ensures.later) c.settle-in-Some-Rx.ensures.settles in
     let words = c.in-Ok.ensures.value in search rules
 
 pub returns-in-Some-Demo-clause-answered : goal.returns-in-Some-Demo-clause-answered

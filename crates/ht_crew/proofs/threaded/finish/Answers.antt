@@ -1,5 +1,5 @@
 use Rattle.std.proofs.Common.{Some, refl, subst}
-use Rattle.ht_team.specs.Pools.{HasRun}
+use Rattle.ht_pool.specs.Pools.{HasRun}
 use Rattle.ht_crew.specs.Lots.{LotHelm, jobs_in, lot_of}
 use Rattle.ht_crew.proofs.Settling.{all_given, has_run_in_pool}
 use Rattle.ht_crew.proofs.threaded.finish.Goals as goal

@@ -1,6 +1,6 @@
 use Rattle.std.proofs.Common.{rules, ◌≡◌, string_bytes, sym, subst}
-use Rattle.ht_rx.specs.declared.faults.RxFault.{RxFault}
-use Rattle.ht_rx.specs.declared.faults.RxFault.TheVariants.{NoMemory}
+use Rattle.ht_runs.specs.declared.faults.StopFault.{StopFault}
+use Rattle.ht_runs.specs.declared.faults.StopFault.TheVariants.{NoMemory}
 use Rattle.ht_rx.specs.Outcomes.{StopsBy, TellsTo}
 use Rattle.ht_rx.specs.Texts.{lines_of}
 use Rattle.ht_rx.proofs.Finishing.{part_none, stops_with}
@@ -13,7 +13,7 @@ returns-in_err-text-clause-lists g c =
     let sink = g.K.Sink.shown c.args.sink.now in
     let e = c.from_residual.ensures in
     stops_with c.from_residual.result (TellsTo lines_of source source sink sink) (StopsBy lines_of source source sink sink) (λ r. r ≡ NoMemory) e.0 e.1
-    (λ r is. subst (λ (x : RxFault). StopsBy lines_of source source sink sink x) (sym is) (part_none lines_of source sink))
+    (λ r is. subst (λ (x : StopFault). StopsBy lines_of source source sink sink x) (sym is) (part_none lines_of source sink))
 
 pub returns-clause-lists : goal.returns-clause-lists
 returns-clause-lists g c =

@@ -1,7 +1,7 @@
 use Rattle.std.proofs.Common.{rules, ◌≡◌, MatchResult, subst, sym}
 use Rattle.ht_io.specs.Devices.{Device}
-use Rattle.ht_rx.specs.declared.faults.RxFault.{RxFault}
-use Rattle.ht_rx.specs.declared.faults.RxFault.TheVariants.{NoMemory}
+use Rattle.ht_runs.specs.declared.faults.StopFault.{StopFault}
+use Rattle.ht_runs.specs.declared.faults.StopFault.TheVariants.{NoMemory}
 use Rattle.ht_rx.specs.Accounts.{pieces_of, told_by}
 use Rattle.ht_rx.specs.Outcomes.{TellsTo, StopsBy}
 use Rattle.ht_rx.proofs.Finishing.{Heard, heard, stops_with, part_none}
@@ -14,7 +14,7 @@ returns-in_err-desk-clause-tells g c =
     let pieces = pieces_of (g.A.Account.pieces c.args.account.now) in
     let e = c.from_residual.ensures in
     stops_with c.from_residual.result (TellsTo pieces source source device device) (StopsBy pieces source source device device) (λ r. r ≡ NoMemory) e.0 e.1
-    (λ r is. subst (λ (x : RxFault). StopsBy pieces source source device device x) (sym is) (part_none pieces source device))
+    (λ r is. subst (λ (x : StopFault). StopsBy pieces source source device device x) (sym is) (part_none pieces source device))
 
 pub returns-clause-tells : goal.returns-clause-tells
 returns-clause-tells g c =

@@ -1,6 +1,6 @@
 use Rattle.std.proofs.Common.{◌<◌, Some, refl, sym, ap, ◌∙◌, subst}
 use Rattle.ht_io.specs.Causes.{one_more}
-use Rattle.ht_rx.specs.declared.faults.FeedFault.TheVariants.{NoMemory}
+use Rattle.ht_rx.specs.declared.book_fault.BookFault.TheVariants.{NoMemory}
 use Rattle.ht_rx.specs.Desks.{DeskView}
 use Rattle.ht_rx.specs.Accounts.{told_by}
 use Rattle.ht_rx.proofs.Giving.{leads_given, leads_lacking, length-jobs_alone}

@@ -1,5 +1,0 @@
-use Rattle.ht_core.proofs.Nearest.{emitted_are_near}
-use Rattle.ht_core.proofs.laws.emitted_are_near.Goals as goal
-
-pub returns : goal.returns
-returns c = emitted_are_near

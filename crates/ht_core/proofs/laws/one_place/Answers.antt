@@ -1,5 +1,0 @@
-use Rattle.ht_core.proofs.Places.{one_place}
-use Rattle.ht_core.proofs.laws.one_place.Goals as goal
-
-pub returns : goal.returns
-returns c = λ core number spot w some. one_place core w number spot some

@@ -1,6 +1,0 @@
-use Rattle.std.proofs.Common.{◌≡◌, replicate}
-use Rattle.std.specs.Prelude.{None}
-use Rattle.ht_core.proofs.machine.hands.Given as goal
-
-abbrev pub invariant-loop : goal.invariant-loop
-invariant-loop l = l.hands.items ≡ replicate l.counter None

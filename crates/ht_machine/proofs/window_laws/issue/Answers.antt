@@ -1,0 +1,17 @@
+use Rattle.std.proofs.Common.{List, ap}
+use Rattle.ht_window.specs.declared.slot.Slot.{Slot}
+use Rattle.ht_window.specs.Windows.{WindowView}
+use Rattle.std.specs.Prelude.{length}
+use Rattle.ht_machine.proofs.Shows.{issue_room, issue_next, issue_shown}
+use Rattle.ht_machine.proofs.window_laws.issue.Goals as goal
+
+pub returns-clause-room : goal.returns-clause-room
+returns-clause-room c = issue_room
+
+pub returns-clause-next : goal.returns-clause-next
+returns-clause-next c = issue_next
+
+pub returns-clause-issued : goal.returns-clause-issued
+returns-clause-issued c = λ core job w on.
+    let with_slots : List Slot → WindowView = λ slots. record { capacity = core.window; front = length core.emitted; slots = slots } in
+    ap with_slots (issue_shown core job w on)

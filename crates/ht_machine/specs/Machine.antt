@@ -1,0 +1,144 @@
+-- The machine: its state, its events, which of them are enabled, and what each does.
+use Rattle.std.specs.Prelude.{◌≡◌, ◌≢◌, ◌+◌, ◌<◌, ◌==◌, ℕ, List, [], ◌∷◌, ◌++◌, length, drop, replicate, slice_get, slice_index_or, slice_set}
+use Rattle.std.specs.Prelude.{if◌then◌else◌, Option, Some, None, IsSome, Bool, ⊤}
+use Rattle.std.specs.List.{find}
+use Rattle.std.specs.Option.{option_to_list}
+use Rattle.ht_metric.specs.Jobs.{JobView}
+use Rattle.ht_metric.specs.declared.hit.Hit.{Hit}
+use Rattle.ht_machine.specs.declared.event.Event.{Event}
+use Rattle.ht_machine.specs.declared.event.Event.TheVariants.{Issue, Push, Pop, Steal, Finish, Accept, Emit}
+
+-- the jobs issued so far, in order; what each actor has in hand; each actor's deque, from its front on; the hits that
+-- were finished, those that were booked, and those that were emitted, in order
+pub record CoreView : Type 0 where
+  pub workers : ℕ
+  pub window : ℕ
+  pub issued : List JobView
+  pub hands : List (Option JobView)
+  pub deques : List (List JobView)
+  pub results : List Hit
+  pub booked : List Hit
+  pub emitted : List Hit
+
+-- what an actor has in hand, and its deque
+abbrev pub hand : CoreView → ℕ → Option JobView
+hand c a = slice_index_or c.hands a None
+
+abbrev pub deque : CoreView → ℕ → List JobView
+deque c a = slice_index_or c.deques a []
+
+-- the hit of the job of this number, and the hits without it
+abbrev pub has_number : ℕ → Hit → Bool
+has_number n hit = hit.job.number == n
+
+abbrev pub hit_of : ℕ → List Hit → Option Hit
+hit_of n hits = find (has_number n) hits
+
+abbrev pub without : ℕ → List Hit → List Hit
+without n [] = []
+without n (hit ∷ hits) = if has_number n hit then hits else hit ∷ without n hits
+
+-- whether an event may come
+abbrev pub IsEnabled : CoreView → Event → Type 0
+IsEnabled c (Issue job) = (hand c 0 ≡ None) × (length c.issued < length c.emitted + c.window) × (job.number ≡ length c.issued)
+IsEnabled c (Push a) = (a < c.workers) × IsSome (hand c a)
+IsEnabled c (Pop a) = (a < c.workers) × (hand c a ≡ None) × (0 < length (deque c a))
+IsEnabled c (Steal thief owner) = (thief < c.workers) × (owner < c.workers) × (thief ≢ owner) × (hand c thief ≡ None) × (0 < length (deque c owner))
+IsEnabled c (Finish a hit) = (a < c.workers) × (hand c a ≡ Some hit.job)
+IsEnabled c (Accept n) = IsSome (hit_of n c.results)
+IsEnabled c Emit = IsSome (hit_of (length c.emitted) c.booked)
+
+-- the front of a deque goes into a hand
+abbrev pub taken : CoreView → ℕ → ℕ → CoreView
+taken c a owner = record {
+  workers = c.workers;
+  window = c.window;
+  issued = c.issued;
+  hands = slice_set c.hands a (slice_get (deque c owner) 0);
+  deques = slice_set c.deques owner (drop 1 (deque c owner));
+  results = c.results;
+  booked = c.booked;
+  emitted = c.emitted;
+}
+
+-- the state after an event
+abbrev pub after : CoreView → Event → CoreView
+-- the job is in the caller's hand
+after c (Issue job) = record {
+  workers = c.workers;
+  window = c.window;
+  issued = c.issued ++ job ∷ [];
+  hands = slice_set c.hands 0 (Some job);
+  deques = c.deques;
+  results = c.results;
+  booked = c.booked;
+  emitted = c.emitted;
+}
+-- the job in the hand is the last of the actor's deque
+after c (Push a) = record {
+  workers = c.workers;
+  window = c.window;
+  issued = c.issued;
+  hands = slice_set c.hands a None;
+  deques = slice_set c.deques a (deque c a ++ option_to_list (hand c a));
+  results = c.results;
+  booked = c.booked;
+  emitted = c.emitted;
+}
+after c (Pop a) = taken c a a
+after c (Steal thief owner) = taken c thief owner
+-- the hit is among the results, and the hand is empty
+after c (Finish a hit) = record {
+  workers = c.workers;
+  window = c.window;
+  issued = c.issued;
+  hands = slice_set c.hands a None;
+  deques = c.deques;
+  results = c.results ++ hit ∷ [];
+  booked = c.booked;
+  emitted = c.emitted;
+}
+-- the result of this number is booked
+after c (Accept n) = record {
+  workers = c.workers;
+  window = c.window;
+  issued = c.issued;
+  hands = c.hands;
+  deques = c.deques;
+  results = without n c.results;
+  booked = c.booked ++ option_to_list (hit_of n c.results);
+  emitted = c.emitted;
+}
+-- the booked hit of the lowest number that is not emitted is the last one emitted
+after c Emit = record {
+  workers = c.workers;
+  window = c.window;
+  issued = c.issued;
+  hands = c.hands;
+  deques = c.deques;
+  results = c.results;
+  booked = without (length c.emitted) c.booked;
+  emitted = c.emitted ++ option_to_list (hit_of (length c.emitted) c.booked);
+}
+
+-- nothing is issued yet
+abbrev pub empty : ℕ → ℕ → CoreView
+empty workers window = record {
+  workers = workers;
+  window = window;
+  issued = [];
+  hands = replicate workers None;
+  deques = replicate workers [];
+  results = [];
+  booked = [];
+  emitted = [];
+}
+
+-- the state after these events, and whether each is enabled in its turn
+abbrev pub run : CoreView → List Event → CoreView
+run c [] = c
+run c (e ∷ es) = run (after c e) es
+
+abbrev pub IsLegal : CoreView → List Event → Type 0
+IsLegal c [] = ⊤
+IsLegal c (e ∷ es) = IsEnabled c e × IsLegal (after c e) es

@@ -1,0 +1,151 @@
+-- Deques and seats that are just made.
+use Rattle.std.proofs.Common.{◌≡◌, ℕ, zero, suc, ◌+◌, ◌-◌, ◌<◌, ◌≤◌, List, [], ◌∷◌, ◌++◌, length, map, set, get_or, take, drop, Some, ap, ◌∙◌, sym, refl}
+use Rattle.std.proofs.Common.{subst, arith}
+use Rattle.std.specs.List.{All, AllByRecursion}
+use Rattle.std.specs.Global.{Vec}
+use Rattle.std.proofs.lemmas.List.{length-append, length-map, map-append}
+use Rattle.std.proofs.lemmas.List.Elements.{All-from_recursion, recursion_from_All, All-pop, All-push, All-same}
+use Rattle.atomic_table.specs.Seated.{TableId}
+use Rattle.ht_pool.specs.Seats.{DequeId, SeatView, OwnView, fresh_seat, fresh_own, deques_at, taken_at}
+use Rattle.ht_pool.specs.Opening.{AreReady, own_deques, lent}
+use Rattle.ht_pool.specs.Members.{Berth, AnswersTo, HasYetToServe, berth, berth_of, answers_of, tasks_of}
+use Rattle.ht_pool.specs.declared.member.Member.{Member}
+use Rattle.ht_pool.proofs.Lists.{all_first}
+
+fresh-parts : (T : Type 0) (room : ℕ) (ids : List DequeId) → AllByRecursion (λ (o : OwnView T). o.parts ≡ 1024) (map (fresh_own 1024 room) ids)
+fresh-parts T room [] = tt
+fresh-parts T room (id ∷ ids) = (refl, fresh-parts T room ids)
+
+fresh-lent : (T : Type 0) (room n : ℕ) (ids : List DequeId)
+    → AllByRecursion (λ (o : OwnView T). o ≡ fresh_own (1024 - n) o.room o.deque) (lent n (map (fresh_own 1024 room) ids))
+fresh-lent T room n [] = tt
+fresh-lent T room n (id ∷ ids) = (refl, fresh-lent T room n ids)
+
+rooms-lent : (T : Type 0) (room n : ℕ) (ids : List DequeId) → AllByRecursion (λ (o : OwnView T). o.room ≡ room) (lent n (map (fresh_own 1024 room) ids))
+rooms-lent T room n [] = tt
+rooms-lent T room n (id ∷ ids) = (refl, rooms-lent T room n ids)
+
+pub deques-fresh : (T : Type 0) (ids : List DequeId) → deques_at (map (fresh_seat {T = T}) ids) ≡ ids
+deques-fresh T [] = refl
+deques-fresh T (id ∷ ids) = ap (λ (xs : List DequeId). id ∷ xs) (deques-fresh T ids)
+
+module _ {T : Type 0} where
+  abbrev pub less : ℕ → OwnView T → OwnView T
+  less seats own = record own { parts = own.parts - seats }
+
+  at_next : (os : List (OwnView T)) (k : ℕ) (d : OwnView T) → k < length os → get_or (lent 1 (take k os) ++ drop k os) k d ≡ get_or os k d
+  at_next [] k d lt = absurd (omega (arith, lt))
+  at_next (o ∷ os) zero d lt = refl
+  at_next (o ∷ os) (suc k) d lt = at_next os k d (omega (arith, lt))
+
+  lent-more : (os : List (OwnView T)) (k : ℕ) (d : OwnView T) → k < length os
+      → set (lent 1 (take k os) ++ drop k os) k (less 1 (get_or os k d)) ≡ lent 1 (take (suc k) os) ++ drop (suc k) os
+  lent-more [] k d lt = absurd (omega (arith, lt))
+  lent-more (o ∷ os) zero d lt = refl
+  lent-more (o ∷ os) (suc k) d lt = ap (λ (xs : List (OwnView T)). less 1 o ∷ xs) (lent-more os k d (omega (arith, lt)))
+
+  seats-more : (os : List (OwnView T)) (k : ℕ) (d : OwnView T) → k < length os
+      → map (fresh_seat {T = T}) (own_deques (take k os)) ++ fresh_seat (get_or os k d).deque ∷ [] ≡ map fresh_seat (own_deques (take (suc k) os))
+  seats-more [] k d lt = absurd (omega (arith, lt))
+  seats-more (o ∷ os) zero d lt = refl
+  seats-more (o ∷ os) (suc k) d lt = ap (λ (xs : List (SeatView T)). fresh_seat o.deque ∷ xs) (seats-more os k d (omega (arith, lt)))
+
+  -- one more deque gives a seat
+  pub row-more : (os l : List (OwnView T)) (k : ℕ) (d new : OwnView T) (ss ss' : List (SeatView T)) (seat : SeatView T) → k < length os
+      → l ≡ lent 1 (take k os) ++ drop k os → new ≡ less 1 (get_or l k d) → seat ≡ fresh_seat (get_or l k d).deque
+      → ss ≡ map fresh_seat (own_deques (take k os)) → ss' ≡ ss ++ seat ∷ []
+      → (set l k new ≡ lent 1 (take (k + 1) os) ++ drop (k + 1) os) × (ss' ≡ map fresh_seat (own_deques (take (k + 1) os)))
+  row-more os l k d new ss ss' seat lt l_is new_is seat_is ss_are more =
+      let next : suc k ≡ k + 1 = omega arith in
+      let there : get_or l k d ≡ get_or os k d = ap (λ (xs : List (OwnView T)). get_or xs k d) l_is ∙ at_next os k d lt in
+      let new' : new ≡ less 1 (get_or os k d) = new_is ∙ ap (less 1) there in
+      let seat' : seat ≡ fresh_seat (get_or os k d).deque = seat_is ∙ ap (λ (o : OwnView T). fresh_seat o.deque) there in
+      let owners : set l k new ≡ lent 1 (take (suc k) os) ++ drop (suc k) os =
+      ap (λ (o : OwnView T). set l k o) new' ∙ (ap (λ (xs : List (OwnView T)). set xs k (less 1 (get_or os k d))) l_is ∙ lent-more os k d lt) in
+      let seats : ss' ≡ map fresh_seat (own_deques (take (suc k) os)) =
+      more ∙ (ap (λ (xs : List (SeatView T)). xs ++ seat ∷ []) ss_are
+      ∙ (ap (λ (s : SeatView T). map fresh_seat (own_deques (take k os)) ++ s ∷ []) seat' ∙ seats-more os k d lt)) in
+      subst (λ (n : ℕ). (set l k new ≡ lent 1 (take n os) ++ drop n os) × (ss' ≡ map fresh_seat (own_deques (take n os)))) next (owners, seats)
+
+  pub lent-none : (os : List (OwnView T)) → os ≡ lent 0 os
+  lent-none [] = refl
+  lent-none (o ∷ os) =
+      let same : o.parts ≡ o.parts - 0 = omega arith in
+      ap (λ (n : ℕ). record o { parts = n } ∷ os) same ∙ ap (λ (xs : List (OwnView T)). less 0 o ∷ xs) (lent-none os)
+
+  pub lent-next : (k : ℕ) (os : List (OwnView T)) → lent 1 (lent k os) ≡ lent (k + 1) os
+  lent-next k [] = refl
+  lent-next k (o ∷ os) =
+      let same : o.parts - k - 1 ≡ o.parts - (k + 1) = omega arith in
+      ap (λ (n : ℕ). record o { parts = n } ∷ lent 1 (lent k os)) same ∙ ap (λ (xs : List (OwnView T)). less (k + 1) o ∷ xs) (lent-next k os)
+
+  some-left : (k : ℕ) (os : List (OwnView T)) → k < 64 → AllByRecursion (λ (o : OwnView T). o.parts ≡ 1024) os
+      → AllByRecursion (λ (o : OwnView T). 1 < o.parts) (lent k os)
+  some-left k [] few all = tt
+  some-left k (o ∷ os) few all = (omega (arith, few, all.0), some-left k os few all.1)
+
+  pub some_left : (k : ℕ) (os : List (OwnView T)) → k < 64 → All (λ (o : OwnView T). o.parts ≡ 1024) os → All (λ (o : OwnView T). 1 < o.parts) (lent k os)
+  some_left k os few all = All-from_recursion (λ (o : OwnView T). 1 < o.parts) (lent k os)
+      (some-left k os few (recursion_from_All (λ (o : OwnView T). o.parts ≡ 1024) os all))
+
+  pub same-deques : (k : ℕ) (os : List (OwnView T)) → own_deques (lent k os) ≡ own_deques os
+  same-deques k [] = refl
+  same-deques k (o ∷ os) = ap (λ (ids : List DequeId). o.deque ∷ ids) (same-deques k os)
+
+  pub all_fresh : (room : ℕ) (os : List (OwnView T)) → os ≡ map (fresh_own 1024 room) (own_deques os) → All (λ (o : OwnView T). o.parts ≡ 1024) os
+  all_fresh room os fresh = subst (λ (xs : List (OwnView T)). All (λ (o : OwnView T). o.parts ≡ 1024) xs) (sym fresh)
+      (All-from_recursion (λ (o : OwnView T). o.parts ≡ 1024) (map (fresh_own 1024 room) (own_deques os)) (fresh-parts T room (own_deques os)))
+
+  pub all_ready : (room n : ℕ) (os made : List (OwnView T)) (rows : List (Vec (SeatView T))) → os ≡ map (fresh_own 1024 room) (own_deques os)
+      → length os ≡ n → n ≤ 64 → made ≡ lent n os → All (λ (ss : Vec (SeatView T)). ss.items ≡ map fresh_seat (own_deques os)) rows
+      → AreReady (own_deques made) made rows × All (λ (o : OwnView T). o.room ≡ room) made
+  all_ready room n os made rows fresh count few made_are rows_are =
+      let ids : List DequeId = own_deques os in
+      let made' : made ≡ lent n (map (fresh_own 1024 room) ids) = made_are ∙ ap (lent n) fresh in
+      let deques : own_deques made ≡ ids = ap (λ (xs : List (OwnView T)). own_deques xs) made_are ∙ same-deques n os in
+      let long : n ≡ length (own_deques made) =
+      sym (ap (λ (xs : List DequeId). length xs) deques ∙ (length-map os (λ (o : OwnView T). o.deque) ∙ count)) in
+      let owners = subst (λ (xs : List (OwnView T)). All (λ (o : OwnView T). o ≡ fresh_own (1024 - n) o.room o.deque) xs) (sym made')
+      (All-from_recursion (λ (o : OwnView T). o ≡ fresh_own (1024 - n) o.room o.deque) (lent n (map (fresh_own 1024 room) ids)) (fresh-lent T room n ids)) in
+      let rooms = subst (λ (xs : List (OwnView T)). All (λ (o : OwnView T). o.room ≡ room) xs) (sym made')
+      (All-from_recursion (λ (o : OwnView T). o.room ≡ room) (lent n (map (fresh_own 1024 room) ids)) (rooms-lent T room n ids)) in (
+        record {
+          owners_are = subst (λ (k : ℕ). All (λ (o : OwnView T). o ≡ fresh_own (1024 - k) o.room o.deque) made) long owners;
+          rows_are = subst (λ (xs : List DequeId). All (λ (ss : Vec (SeatView T)). ss.items ≡ map fresh_seat xs) rows) (sym deques) rows_are;
+          few = omega (arith, few, long);
+        },
+        rooms,
+      )
+
+  taken-fresh : (ids : List DequeId) → taken_at (map (fresh_seat {T = T}) ids) ≡ []
+  taken-fresh [] = refl
+  taken-fresh (id ∷ ids) = taken-fresh ids
+
+  -- the first owner and the last row go to one thread
+  pub ready-less : (ids : List DequeId) (owners rest : List (OwnView T)) (rows others : List (Vec (SeatView T))) (own : OwnView T) (seats : Vec (SeatView T))
+      → owners ≡ own ∷ rest → rows ≡ others ++ seats ∷ [] → AreReady ids owners rows
+      → AreReady ids rest others × (own ≡ fresh_own (1024 - length ids) own.room own.deque) × (seats.items ≡ map fresh_seat ids)
+  ready-less ids owners rest rows others own seats first last ready =
+      let o = all_first (λ (o : OwnView T). o ≡ fresh_own (1024 - length ids) o.room o.deque) owners rest own first ready.owners_are in
+      let r = All-pop (λ (ss : Vec (SeatView T)). ss.items ≡ map fresh_seat ids) rows others (Some seats) last ready.rows_are in
+      (record { owners_are = o.1; rows_are = r.0; few = ready.few }, o.0, r.1)
+
+  module _ {A : Type 0} where
+    -- a new worker
+    pub member_new : (queue : TableId) (ids : List DequeId) (m : Member T A) → m.own ≡ fresh_own (1024 - length ids) m.own.room m.own.deque
+        → m.seats.items ≡ map fresh_seat ids → length ids ≤ 64 → AnswersTo queue m → (answers_of m).pushed ≡ []
+        → HasYetToServe queue m × (berth_of m ≡ berth ids m.own.deque)
+    member_new queue ids m own_is seats_are few answers none =
+        let at : deques_at m.seats.items ≡ ids = ap (λ (ss : List (SeatView T)). deques_at ss) seats_are ∙ deques-fresh T ids in
+        let taken : taken_at m.seats.items ≡ [] = ap (λ (ss : List (SeatView T)). taken_at ss) seats_are ∙ taken-fresh ids in
+        let parts : m.own.parts ≡ 1024 - length ids = ap (λ (o : OwnView T). o.parts) own_is in (
+          record {
+            answers = answers;
+            none_moved = ap (λ (o : OwnView T). o.pushed) own_is;
+            none_taken = ap (λ (o : OwnView T). o.taken ++ taken_at m.seats.items) own_is ∙ taken;
+            none_given = none;
+            few = omega (arith, few, ap length at, length-map m.seats.items (λ (s : SeatView T). s.at));
+          },
+          ap (λ (n : ℕ). record { deque = m.own.deque; parts = n; at = deques_at m.seats.items }) parts
+              ∙ ap (λ (xs : List DequeId). record { deque = m.own.deque; parts = 1024 - length ids; at = xs }) at,
+        )

@@ -1,0 +1,82 @@
+use Rattle.std.proofs.Common.{◌≡◌, ◌∙◌, ◌+◌, ◌-◌, ◌++◌, ◌∷◌, [], ℕ, List, length, map, drop, ap, sym, subst, rules, arith}
+use Rattle.std.proofs.lemmas.List.{length-append, length-map}
+use Rattle.crossbeam_queue.specs.Passes.{view as answer_view}
+use Rattle.ht_pool.specs.Hands.{hand}
+use Rattle.ht_pool.specs.Seats.{DequeId, SeatView, OwnView, fresh_seat, fresh_own, deques_at}
+use Rattle.ht_pool.specs.Members.{berth, berths}
+use Rattle.ht_pool.specs.Helms.{HelmView, unused}
+use Rattle.ht_pool.specs.Pools.{IsVacant}
+use Rattle.ht_pool.specs.Opening.{own_deques}
+use Rattle.ht_pool.proofs.Lists.{all_first}
+use Rattle.ht_pool.proofs.Opens.{ready-less, deques-fresh}
+use Rattle.ht_pool.proofs.pool.Pool.open.Goals as goal
+
+pub new-post-requires-clause-seats : goal.new-post-requires-clause-seats
+new-post-requires-clause-seats g c =
+    let ready = ready-less (own_deques c.in_ok-owners.owners.items) c.in_ok-owners.owners.items c.take_first.new.all.items c.in_ok-owners.rows.items
+    c.pop.new.self.items c.in-Some.own c.in-Some-pop.seats c.in-Some.ensures.items c.in-Some-pop.ensures.items c.in_ok-owners.ensures.ready in
+    let ids : List DequeId = own_deques c.in_ok-owners.owners.items in
+    let at : deques_at c.in-Some-pop.seats.items ≡ ids =
+    ap (λ (ss : List (SeatView g.row.T.Denot)). deques_at ss) ready.2 ∙ deques-fresh g.row.T.Denot ids in
+    ready.2 ∙ ap (map fresh_seat) (sym at)
+
+pub new-post-requires-clause-own : goal.new-post-requires-clause-own
+new-post-requires-clause-own g c =
+    let ready = ready-less (own_deques c.in_ok-owners.owners.items) c.in_ok-owners.owners.items c.take_first.new.all.items c.in_ok-owners.rows.items
+    c.pop.new.self.items c.in-Some.own c.in-Some-pop.seats c.in-Some.ensures.items c.in-Some-pop.ensures.items c.in_ok-owners.ensures.ready in
+    let ids : List DequeId = own_deques c.in_ok-owners.owners.items in
+    let long : length c.in-Some-pop.seats.items ≡ length ids =
+    ap (λ (ss : List (SeatView g.row.T.Denot)). length ss) ready.2 ∙ length-map ids (fresh_seat {T = g.row.T.Denot}) in
+    ready.1 ∙ ap (λ (n : ℕ). fresh_own (1024 - n) c.in-Some.own.room c.in-Some.own.deque) (sym long)
+
+pub new-post-requires-clause-answers : goal.new-post-requires-clause-answers
+new-post-requires-clause-answers g c =
+    let ready = ready-less (own_deques c.in_ok-owners.owners.items) c.in_ok-owners.owners.items c.take_first.new.all.items c.in_ok-owners.rows.items
+    c.pop.new.self.items c.in-Some.own c.in-Some-pop.seats c.in-Some.ensures.items c.in-Some-pop.ensures.items c.in_ok-owners.ensures.ready in
+    let ids : List DequeId = own_deques c.in_ok-owners.owners.items in
+    let long : length c.in-Some-pop.seats.items ≡ length ids =
+    ap (λ (ss : List (SeatView g.row.T.Denot)). length ss) ready.2 ∙ length-map ids (fresh_seat {T = g.row.T.Denot}) in
+    let all : length ids ≡ length c.in_ok-owners.owners.items = length-map c.in_ok-owners.owners.items (λ (o : OwnView g.row.T.Denot). o.deque) in
+    let one : length c.in_ok-owners.owners.items ≡ length c.take_first.new.all.items + 1 =
+    ap (λ (os : List (OwnView g.row.T.Denot)). length os) c.in-Some.ensures.items ∙ omega arith in
+    let parts : 1024 - length c.take_first.new.all.items ≡ 1025 - length c.in-Some-pop.seats.items = omega (arith, long, all, one) in
+    c.seat_all.ensures.pass ∙ ap (λ (n : ℕ). hand n [] []) parts
+
+pub returns-clause-workers : goal.returns-clause-workers
+returns-clause-workers g c =
+    let ids : List DequeId = own_deques c.in_ok-owners.owners.items in
+    let ready = ready-less ids c.in_ok-owners.owners.items c.take_first.new.all.items c.in_ok-owners.rows.items
+    c.pop.new.self.items c.in-Some.own c.in-Some-pop.seats c.in-Some.ensures.items c.in-Some-pop.ensures.items c.in_ok-owners.ensures.ready in
+    let at : deques_at c.in-Some-pop.seats.items ≡ ids =
+    ap (λ (ss : List (SeatView g.row.T.Denot)). deques_at ss) ready.2 ∙ deques-fresh g.row.T.Denot ids in
+    ap (λ (v : HelmView g.row.T.Denot g.row.A.Denot). length v.deques) c.new-post.ensures ∙ (ap (λ (xs : List DequeId). length xs) at
+    ∙ (length-map c.in_ok-owners.owners.items (λ (o : OwnView g.row.T.Denot). o.deque) ∙ search rules))
+
+pub returns-clause-opened : goal.returns-clause-opened
+returns-clause-opened g c =
+    let ids : List DequeId = own_deques c.in_ok-owners.owners.items in
+    let ready = ready-less ids c.in_ok-owners.owners.items c.take_first.new.all.items c.in_ok-owners.rows.items
+    c.pop.new.self.items c.in-Some.own c.in-Some-pop.seats c.in-Some.ensures.items c.in-Some-pop.ensures.items c.in_ok-owners.ensures.ready in
+    let rooms = all_first (λ (o : OwnView g.row.T.Denot). o.room ≡ c.args.room) c.in_ok-owners.owners.items c.take_first.new.all.items c.in-Some.own
+    c.in-Some.ensures.items c.in_ok-owners.ensures.rooms in
+    let at : deques_at c.in-Some-pop.seats.items ≡ ids =
+    ap (λ (ss : List (SeatView g.row.T.Denot)). deques_at ss) ready.2 ∙ deques-fresh g.row.T.Denot ids in
+    let post = c.new-post.ensures in
+    let deques : c.new-post.result.deques ≡ ids = ap (λ (v : HelmView g.row.T.Denot g.row.A.Denot). v.deques) post ∙ at in
+    let queue : c.seat_all.new.pass.table_id ≡ c.new-shared.result = c.seat_all.ensures.queue.0 in
+    let workers : length c.new-post.result.deques ≡ c.args.helpers + 1 = ap (λ (xs : List DequeId). length xs) deques
+    ∙ (length-map c.in_ok-owners.owners.items (λ (o : OwnView g.row.T.Denot). o.deque) ∙ search rules) in
+    let rest : drop 1 ids ≡ own_deques c.take_first.new.all.items =
+    ap (λ (os : List (OwnView g.row.T.Denot)). drop 1 (own_deques os)) c.in-Some.ensures.items in
+    record {
+      post = post ∙ (ap (λ (n : ℕ). unused n (deques_at c.in-Some-pop.seats.items) c.seat_all.new.pass.table_id) rooms.0
+          ∙ (ap (λ (xs : List DequeId). unused c.args.room xs c.seat_all.new.pass.table_id) (at ∙ sym deques)
+          ∙ ap (unused c.args.room c.new-post.result.deques) queue));
+      fresh = c.seat_all.ensures.fresh ids ready.0;
+      berths_are = c.seat_all.ensures.berths ids ready.0
+          ∙ (ap (λ (xs : List DequeId). map (berth ids) xs) (sym rest) ∙ ap (λ (xs : List DequeId). berths xs) (sym deques));
+      seats = search rules;
+      space = subst (λ (n : ℕ).
+          IsVacant n (record { ran = c.in_ok-ran.ran; owners = c.seat_all.new.owners; rows = c.seat_all.new.rows; deques = c.in_ok-deques.deques }))
+          (sym workers) (record { ran = search rules; owners = search rules; rows = search rules; deques = search rules });
+    }

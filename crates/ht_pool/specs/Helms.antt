@@ -1,0 +1,60 @@
+-- What is seen of the caller's end of a pool.
+use Rattle.std.specs.Prelude.{◌≡◌, ◌+◌, ◌≤◌, ℕ, List, [], ◌∷◌, ◌++◌, length}
+use Rattle.atomic_table.specs.Seated.{TableId}
+use Rattle.ht_counts.specs.Counts.{SameCounts}
+use Rattle.ht_pool.specs.Seats.{DequeId, SeatView, OwnView, deques_at, taken_at}
+
+pub record HelmView (T A : Type 0) : Type 0 where
+  -- this number of tasks can be given for sure
+  pub room : ℕ
+  -- a deque for each worker, the caller's first, and the queue of answers
+  pub deques : List DequeId
+  pub queue : TableId
+  -- the tasks that were given, in order
+  pub given : List T
+  -- the tasks that were taken back and run
+  pub taken : List T
+  -- the answers that were received, in order
+  pub answers : List A
+
+module _ {T A : Type 0} where
+  -- a caller with this end of its own deque and these seats, who received these answers
+  abbrev pub helm_view : OwnView T → List (SeatView T) → TableId → List A → HelmView T A
+  helm_view own seats queue answers = record {
+    room = own.room;
+    deques = deques_at seats;
+    queue = queue;
+    given = own.pushed;
+    taken = own.taken ++ taken_at seats;
+    answers = answers;
+  }
+
+  -- nothing was given yet
+  abbrev pub unused : ℕ → List DequeId → TableId → HelmView T A
+  unused room deques queue = record { room = room; deques = deques; queue = queue; given = []; taken = []; answers = [] }
+
+  -- one more task was given
+  abbrev pub gave : HelmView T A → T → HelmView T A
+  gave helm task = record helm { given = helm.given ++ task ∷ [] }
+
+  -- one more answer was received
+  abbrev pub received : HelmView T A → A → HelmView T A
+  received helm answer = record helm { answers = helm.answers ++ answer ∷ [] }
+
+  -- as many tasks were taken back or answered as were given
+  abbrev pub IsSettled : HelmView T A → Type 0
+  IsSettled helm = length helm.given ≤ length helm.taken + length helm.answers
+
+  -- it is the same helm, of the same pool
+  pub record IsSameHelm (old new : HelmView T A) : Type 0 where
+    pub room_is : new.room ≡ old.room
+    pub deques_are : new.deques ≡ old.deques
+    pub queue_is : new.queue ≡ old.queue
+
+  -- one more task was taken back
+  pub record TakesBack (old new : HelmView T A) (task : T) : Type 0 where
+    pub same : IsSameHelm old new
+    pub given_is : new.given ≡ old.given
+    pub took : SameCounts new.taken (old.taken ++ task ∷ [])
+    pub longer : length new.taken ≡ length old.taken + 1
+    pub answers_are : new.answers ≡ old.answers

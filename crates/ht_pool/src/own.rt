@@ -1,0 +1,108 @@
+//! A deque of tasks in the hands of its owner.
+ghost use Rattle.std.specs.Prelude.{◌≡◌, ◌-◌, ◌<◌, ◌≤◌, List, length, IfOk, IfErr, IfSome, IfNone, OnOk};
+ghost use Rattle.ht_pool.specs.Hands.{hand, AddsUp};
+ghost use Rattle.ht_pool.specs.Seats.{fresh_seat, fresh_own, pushed_on, popped_from, took_in};
+ghost use Rattle.ht_pool.specs.Through.{through};
+
+use crate::ends::Ends;
+use crate::rule::{Cut, Push, Take, Whole};
+use crate::seat::{Owner, Seat};
+use std::alloc::{AllocError, Global};
+use std::marker::Model;
+
+/// The owner's end of a deque. Contracts see which deque it is, for how many tasks it has room for sure, what its owner
+/// pushed and took, in order, and how much of the right to know the whole deque the owner has.
+#[derive(Drop)]
+pub struct OwnDeque<T: Drop> {
+    owner: Owner<T>,
+    room: u16,
+}
+
+impl<T: Drop> Model for OwnDeque<T> {
+    ghost use Rattle.std.specs.Prelude.{◌≡◌, ◌<◌, ◌≤◌, length};
+    ghost use Rattle.crossbeam_deque.specs.Handles.{worker_deque, worker_view, worker_flavor, worker_index, worker_capacity};
+    ghost use Rattle.ht_pool.specs.Seats.{OwnView};
+
+    ghost Value = { OwnView T };
+
+    ghost view = { λ d. record {
+      deque = worker_deque d.owner;
+      room = d.room;
+      parts = (worker_view d.owner).parts;
+      pushed = (worker_view d.owner).pushed;
+      taken = (worker_view d.owner).taken;
+    } };
+
+    ghost invariant = { λ d.
+        (worker_flavor d.owner ≡ 0)
+        × (0 < (worker_view d.owner).parts)
+        × (worker_index d.owner ≤ length (worker_view d.owner).pushed)
+        × (d.room ≤ worker_capacity d.owner) };
+}
+
+impl<T: Drop> OwnDeque<T> {
+    /// A new deque with room for a number of tasks.
+    pub(crate) fn open(alloc: Global, room: u16) -> Result<OwnDeque<T>, AllocError>
+        ensures { IfOk result (λ own. own ≡ fresh_own 1024 room own.deque) }
+    {
+        let owner: Owner<T> = Owner::fifo_as(alloc, usize::from(room))?;
+        Ok(OwnDeque { owner, room })
+    }
+
+    /// For how many tasks there is room for sure.
+    pub(crate) fn room(&self) -> u16
+        ensures { result ≡ self.now.room }
+    {
+        self.room
+    }
+
+    /// A new seat at the deque.
+    pub(crate) fn seat(&mut self) -> Result<Seat<T>, AllocError>
+        requires some { 1 < self.old.parts }
+        ensures own { OnOk result (self.new ≡ record self.old { parts = self.old.parts - 1 }) }
+        ensures seat { IfOk result (λ seat. seat ≡ fresh_seat self.old.deque) }
+    {
+        let pass = self.owner.another::<Cut>();
+        let thief = self.owner.stealer()?;
+        Ok(Seat::new(thief, pass))
+    }
+
+    /// Pushes a task at the back. It comes back where there is no memory for it, and then at least `room` tasks were
+    /// pushed before.
+    pub(crate) fn push(&mut self, task: T) -> Result<(), T>
+        ensures pushed { OnOk result (self.new ≡ pushed_on self.old task) }
+        ensures refused { IfErr result (λ back. back ≡ task) }
+        ensures same { IfErr result (λ _. self.new ≡ self.old) }
+        ensures room { IfErr result (λ _. self.old.room ≤ length self.old.pushed) }
+    {
+        self.owner.push_as::<Push>(task)
+    }
+
+    /// Takes the first task, if there is one.
+    pub(crate) fn pop(&mut self) -> Option<T>
+        ensures popped { IfSome result (λ task. self.new ≡ popped_from self.old task) }
+        ensures none { IfNone result (self.new ≡ self.old) }
+    {
+        self.owner.pop_as::<Take>()
+    }
+
+    /// Joins a seat at the deque into the owner's end.
+    pub(crate) fn absorb(&mut self, seat: Seat<T>)
+        requires at { seat.at ≡ self.old.deque }
+        ensures { self.new ≡ took_in self.old seat }
+    {
+        self.owner.absorb::<Cut>(seat.into_pass());
+    }
+
+    /// The ends of the deque, once all seats at it are joined. What was pushed is what was taken and what is held.
+    pub(crate) fn close(self) -> Ends<T>
+        requires all { self.parts ≡ 1024 }
+        ensures through { through result ≡ hand 1023 self.pushed self.taken }
+        ensures whole { (held : List T) × AddsUp (through result) held }
+    {
+        let mut owner = self.owner;
+        owner.len_as::<Whole>();
+        let pass = owner.another::<Cut>();
+        Ends::new(owner, pass)
+    }
+}

@@ -1,0 +1,113 @@
+//! A pool before its threads begin.
+ghost use Rattle.std.specs.Prelude.{◌≡◌, ◌+◌, ◌-◌, ◌<◌, ◌≤◌, [], List, length, map, IfOk, OnOk, vec_capacity};
+ghost use Rattle.std.specs.List.{All};
+ghost use Rattle.crossbeam_queue.specs.Passes.{view as answer_view};
+ghost use Rattle.ht_pool.specs.Hands.{hand};
+ghost use Rattle.ht_pool.specs.Seats.{DequeId, OwnView, fresh_own};
+ghost use Rattle.ht_pool.specs.Members.{HasYetToServe, IsOnQueue, berth, berth_of};
+ghost use Rattle.ht_pool.specs.Opening.{AreReady, own_deques};
+ghost use Rattle.ht_pool.specs.Pools.{IsOpened};
+
+use crate::first::take_first;
+use crate::member::Member;
+use crate::own::OwnDeque;
+use crate::post::Post;
+use crate::seat::Seat;
+use crate::seating::open_seated;
+use crate::shared::{AnswerPass, AnswerQueue, Shared};
+use crate::space::Space;
+use std::alloc::{AllocError, Global};
+
+/// All that a pool needs: what its threads share, the caller's post, and its workers.
+#[derive(Drop)]
+pub struct Pool<T: Drop, A: Drop> {
+    /// What its threads share.
+    pub shared: Shared<A>,
+    /// The caller's post.
+    pub post: Post<T, A>,
+    /// The workers beside the caller.
+    pub members: Vec<Member<T, A>>,
+    /// Room for what is left of the pool.
+    pub space: Space<T>,
+}
+
+impl<T: Drop + Send, A: Drop + Send> Pool<T, A> {
+    /// A pool of the caller and `helpers` workers, at most 63. Each deque can hold `room` tasks, and the queue as many
+    /// answers at least. It takes all the memory for these now, and that for the end of the pool.
+    pub fn open(alloc: Global, helpers: u8, room: u16) -> Result<Pool<T, A>, AllocError>
+        requires few { helpers ≤ 63 }
+        requires some { 1 ≤ room }
+        ensures opened { IfOk result (IsOpened room) }
+        ensures workers { IfOk result (λ pool. length pool.post.deques ≡ helpers + 1) }
+    {
+        let workers = usize::from(helpers) + 1;
+        let (answers, mut pass): (AnswerQueue<A>, AnswerPass<A>) = AnswerQueue::ruled(
+            alloc,
+            usize::from(room),
+        )?;
+        let shared = Shared::new(answers);
+        let mut members = Vec::with_capacity(alloc, usize::from(helpers))?;
+        let ran = Vec::with_capacity(alloc, workers)?;
+        let deques = Vec::with_capacity(alloc, workers)?;
+        let (mut owners, mut rows) = open_seated(alloc, workers, room)?;
+        let Some(own) = take_first(&mut owners) else {
+            unreachable!()
+        };
+        let Some(seats) = rows.pop() else {
+            unreachable!()
+        };
+        seat_all(&shared, &mut pass, &mut owners, &mut rows, &mut members);
+        let post = Post::new(own, seats, pass);
+        Ok(Pool {
+            shared,
+            post,
+            members,
+            space: Space {
+                ran,
+                owners,
+                rows,
+                deques,
+            },
+        })
+    }
+}
+
+// Makes the workers of their deques and seats, and cuts their passes on the queue off.
+fn seat_all<T: Drop, A: Drop>(
+    shared: &Shared<A>,
+    pass: &mut AnswerPass<A>,
+    owners: &mut Vec<OwnDeque<T>>,
+    rows: &mut Vec<Vec<Seat<T>>>,
+    members: &mut Vec<Member<T, A>>,
+)
+    requires few { length owners.old.items ≤ 63 }
+    requires rows { length rows.old.items ≡ length owners.old.items }
+    requires none { members.old.items ≡ [] }
+    requires room { length owners.old.items ≤ vec_capacity members.old }
+    requires queue { IsOnQueue shared.now pass.old }
+    requires pass { answer_view pass.old ≡ hand 1024 [] [] }
+    ensures fresh { (deques : List DequeId) → AreReady deques owners.old.items rows.old.items → All (HasYetToServe shared.now) members.new.items }
+    ensures berths { (deques : List DequeId) → AreReady deques owners.old.items rows.old.items
+        → map berth_of members.new.items ≡ map (berth deques) (own_deques owners.old.items) }
+    ensures count { length members.new.items ≡ length owners.old.items }
+    ensures room { vec_capacity members.new ≡ vec_capacity members.old }
+    ensures owners { (owners.new.items ≡ []) × (vec_capacity owners.new ≡ vec_capacity owners.old) }
+    ensures rows { (rows.new.items ≡ []) × (vec_capacity rows.new ≡ vec_capacity rows.old) }
+    ensures queue { IsOnQueue shared.now pass.new }
+    ensures pass { answer_view pass.new ≡ hand (1024 - length owners.old.items) [] [] }
+{
+    let mut place = 0u8;
+    while let Some(own) = take_first(owners) {
+        let Some(seats) = rows.pop() else {
+            unreachable!()
+        };
+        place += 1;
+        members.push_reserved(Member {
+            own,
+            seats,
+            place,
+            pass: shared.another(pass),
+            ran: 0,
+        });
+    }
+}

@@ -1,0 +1,93 @@
+//! What the caller of a pool owns.
+ghost use Rattle.std.specs.Prelude.{◌≡◌, ◌+◌, ◌-◌, ◌≤◌, ◌∷◌, [], length, drop, map, IfErr, IfSome, IfNone, OnOk};
+ghost use Rattle.crossbeam_queue.specs.Passes.{view as answer_view};
+ghost use Rattle.ht_pool.specs.Hands.{hand};
+ghost use Rattle.ht_pool.specs.Seats.{fresh_seat, fresh_own, deques_at};
+ghost use Rattle.ht_pool.specs.Helms.{unused, gave, received, TakesBack};
+ghost use Rattle.ht_pool.specs.Members.{IsOnQueue};
+
+use crate::lookout::steal_one;
+use crate::own::OwnDeque;
+use crate::seat::Seat;
+use crate::shared::{AnswerPass, Shared};
+use std::marker::Model;
+
+/// The caller's own deque, its seats at all deques, and its pass on the queue of answers.
+#[derive(Drop)]
+pub struct Post<T: Drop, A: Drop> {
+    pub(crate) own: OwnDeque<T>,
+    pub(crate) seats: Vec<Seat<T>>,
+    pub(crate) pass: AnswerPass<A>,
+}
+
+impl<T: Drop, A: Drop> Model for Post<T, A> {
+    ghost use Rattle.std.specs.Prelude.{◌≡◌, ◌+◌, ◌≤◌, ◌∷◌, [], length, drop};
+    ghost use Rattle.crossbeam_queue.specs.Passes.{view as answer_view};
+    ghost use Rattle.ht_pool.specs.Seats.{deques_at};
+    ghost use Rattle.ht_pool.specs.Helms.{HelmView, helm_view};
+
+    ghost Value = { HelmView T A };
+
+    ghost view = { λ p. helm_view p.own p.seats.items p.pass.table_id (answer_view p.pass).taken };
+
+    ghost invariant = { λ p.
+        (length p.seats.items ≤ 64)
+        × (deques_at p.seats.items ≡ p.own.deque ∷ drop 1 (deques_at p.seats.items))
+        × (p.own.parts + length p.seats.items ≡ 1024)
+        × ((answer_view p.pass).parts + length p.seats.items ≡ 1025)
+        × ((answer_view p.pass).pushed ≡ [])
+        × (p.pass.me.1 ≡ []) };
+}
+
+impl<T: Drop, A: Drop> Post<T, A> {
+    /// The post of a caller who has given nothing yet, and who has a seat at each deque, of which its own is the first.
+    pub(crate) fn new(own: OwnDeque<T>, seats: Vec<Seat<T>>, pass: AnswerPass<A>) -> Post<T, A>
+        requires few { length seats.items ≤ 64 }
+        requires first { deques_at seats.items ≡ own.deque ∷ drop 1 (deques_at seats.items) }
+        requires seats { seats.items ≡ map fresh_seat (deques_at seats.items) }
+        requires own { own ≡ fresh_own (1024 - length seats.items) own.room own.deque }
+        requires idle { pass.me.1 ≡ [] }
+        requires answers { answer_view pass ≡ hand (1025 - length seats.items) [] [] }
+        ensures { result ≡ unused own.room (deques_at seats.items) pass.table_id }
+    {
+        let _seats = seats.len();
+        Post { own, seats, pass }
+    }
+
+    /// How many tasks can be given for sure.
+    pub(crate) fn room(&self) -> u16
+        ensures { result ≡ self.now.room }
+    {
+        self.own.room()
+    }
+
+    /// Gives a task to the pool. It comes back where there is no memory for it.
+    pub(crate) fn give(&mut self, task: T) -> Result<(), T>
+        ensures given { OnOk result (self.new ≡ gave self.old task) }
+        ensures refused { IfErr result (λ back. back ≡ task) }
+        ensures same { IfErr result (λ _. self.new ≡ self.old) }
+        ensures room { IfErr result (λ _. self.old.room ≤ length self.old.given) }
+    {
+        self.own.push(task)
+    }
+
+    /// Takes the first task back that no worker took, or else one from a worker's deque.
+    pub(crate) fn take(&mut self) -> Option<T>
+        ensures took { IfSome result (TakesBack self.old self.new) }
+        ensures none { IfNone result (self.new ≡ self.old) }
+    {
+        if let Some(task) = self.own.pop() {
+            return Some(task);
+        }
+        steal_one(self.seats.as_mut_slice(), 0)
+    }
+
+    /// Receives an answer, if there is one.
+    pub(crate) fn receive(&mut self, shared: &Shared<A>) -> Option<A>
+        requires queue { shared.now ≡ self.old.queue }
+        ensures received { IfSome result (λ answer. self.new ≡ received self.old answer) }
+        ensures none { IfNone result (self.new ≡ self.old) }
+    {
+        shared.receive(&mut self.pass)
+    }
+}

@@ -1,8 +1,0 @@
-use Rattle.std.proofs.Common.{◌*◌, ◌+◌, vec_len}
-use Rattle.ht_team.proofs.crew.+crew+fn-crew-join+arg3.Given as goal
-
-abbrev pub decreases-crew : goal.decreases-crew
-decreases-crew g l = 2 * vec_len l.members
-
-abbrev pub decreases-join+arg3 : goal.decreases-join+arg3
-decreases-join+arg3 g l = 2 * vec_len l.members + 1

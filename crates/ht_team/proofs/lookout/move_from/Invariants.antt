@@ -1,6 +1,0 @@
-use Rattle.std.proofs.Common.{◌∷◌, [], None}
-use Rattle.ht_team.specs.Seats.{Gets}
-use Rattle.ht_team.proofs.lookout.move_from.Given as goal
-
-abbrev pub invariant-loop : goal.invariant-loop
-invariant-loop g l = Gets (l.fn.seat ∷ []) l.fn.own (l.seat ∷ []) l.own None

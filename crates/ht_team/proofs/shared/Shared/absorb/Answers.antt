@@ -1,5 +1,0 @@
-use Rattle.ht_team.proofs.Steps.{queue_merges}
-use Rattle.ht_team.proofs.shared.Shared.absorb.Goals as goal
-
-pub absorb-requires-clause-rule : goal.absorb-requires-clause-rule
-absorb-requires-clause-rule g c = queue_merges _ _ _ _ c.requires.some

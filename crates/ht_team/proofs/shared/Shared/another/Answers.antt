@@ -1,5 +1,0 @@
-use Rattle.ht_team.proofs.Steps.{queue_forks}
-use Rattle.ht_team.proofs.shared.Shared.another.Goals as goal
-
-pub another-requires-clause-rule : goal.another-requires-clause-rule
-another-requires-clause-rule g c = queue_forks _ _ c.requires.some

@@ -1,5 +1,0 @@
-use Rattle.ht_team.proofs.Steps.{queue_learns}
-use Rattle.ht_team.proofs.shared.Shared.learn.Goals as goal
-
-pub learn_as-requires-clause-rule : goal.learn_as-requires-clause-rule
-learn_as-requires-clause-rule g c = queue_learns _ _ c.requires.all
