@@ -1,8 +1,8 @@
 -- A certificate holds exactly where it has no fault.
-use Rattle.std.proofs.Common.{◌≡◌, ℕ, suc, ◌+◌, ◌<◌, ◌≤◌, List, [], ◌∷◌, ◌++◌, length, Bool, true, false, ◌&&◌, Option, Some, None}
+use Rattle.std.proofs.Common.{◌≡◌, ℕ, suc, ◌<◌, List, [], ◌∷◌, ◌++◌, length, Bool, true, false, ◌&&◌, Option, Some, None}
 use Rattle.std.proofs.Common.{nat_lt, arith, inl, inr, refl, sym, ap, ◌∙◌}
-use Rattle.std.specs.Prelude.{◌==◌, if◌then◌else◌}
-use Rattle.std.proofs.lemmas.Bool.{cases_Bool, cond-true, cond-false, and_from, and_parts, both_ways}
+use Rattle.std.specs.Prelude.{◌==◌}
+use Rattle.std.proofs.lemmas.Bool.{cases_Bool, cond-true, cond-false, and_from, and_parts}
 use Rattle.std.proofs.lemmas.Bool.Decides.{nat_tests}
 use Rattle.ht_pam.specs.Ladders.{has}
 use Rattle.ht_pam.specs.declared.axes.Axes.{Axes}
@@ -12,7 +12,6 @@ use Rattle.ht_metric.specs.Jobs.{JobView}
 use Rattle.ht_metric.specs.Vectors.{is_in}
 use Rattle.ht_sphere.specs.Tree.{Reached}
 use Rattle.ht_witness.specs.declared.certificate.Certificate.{Certificate}
-use Rattle.ht_witness.specs.declared.check_fault.CheckFault.{CheckFault}
 use Rattle.ht_witness.specs.declared.check_fault.CheckFault.TheVariants.{OffGrid, WrongDistance, Early, Better}
 use Rattle.ht_witness.specs.Walks.{Suffix, below, beats, IsWalk, walk_fault}
 use Rattle.ht_witness.specs.Certificates.{Checked, claim_of, roots, first_off, fault_from, fault_of}

@@ -1,16 +1,11 @@
 -- The check of a certificate, step by step.
-use Rattle.std.proofs.Common.{◌≡◌, ℕ, suc, ◌+◌, ◌-◌, ◌*◌, ◌<◌, ◌≤◌, ℤ, pos, List, [], ◌∷◌, ◌++◌, length, drop, take, set, get_or, Bool, true, false, ◌&&◌}
-use Rattle.std.proofs.Common.{Option, Some, None, append_assoc, append-nil, refl, ap, sym, ◌∙◌, arith}
-use Rattle.std.proofs.lemmas.Bool.{cond-true, cond-false}
+use Rattle.std.proofs.Common.{◌≡◌, ℕ, ◌-◌, ◌*◌, ◌<◌, ◌≤◌, ℤ, pos, List, [], ◌∷◌, ◌++◌, length, drop, take, Bool, false}
+use Rattle.std.proofs.Common.{Option, Some, None, append-nil, refl, ap, sym, ◌∙◌, arith}
 use Rattle.std.proofs.lemmas.List.{drop_all, length-take}
-use Rattle.std.proofs.Math.ListN.{length-set}
 use Rattle.std.proofs.Math.Seq.{drop-cons}
-use Rattle.ht_pam.specs.Ladders.{has}
-use Rattle.ht_pam.specs.Grids.{no_axes}
-use Rattle.ht_pam.specs.declared.axes.Axes.{Axes}
 use Rattle.ht_pam.specs.declared.point.Point.{Point}
 use Rattle.ht_metric.specs.Jobs.{JobView, IsJob}
-use Rattle.ht_metric.specs.Vectors.{levels_of, no_point}
+use Rattle.ht_metric.specs.Vectors.{levels_of}
 use Rattle.ht_sphere.specs.Coordinates.{Real, from_last, from_q}
 use Rattle.ht_sphere.specs.Tree.{Reached}
 use Rattle.ht_sphere.proofs.Down.{down_more, down_system}
@@ -19,7 +14,7 @@ use Rattle.ht_witness.specs.declared.check_fault.CheckFault.TheVariants.{Long}
 use Rattle.ht_witness.specs.Walks.{Suffix, below, walk_fault}
 use Rattle.ht_witness.specs.Walking.{fault_here}
 use Rattle.ht_witness.specs.Marking.{marks_of}
-use Rattle.ht_witness.specs.Certificates.{first_off, roots}
+use Rattle.ht_witness.specs.Certificates.{roots}
 
 -- the walk begins with all coordinates
 pub all_ahead : (job : JobView) (n : ℕ) → IsJob job → n ≡ length job.system → from_q job.system job.grid (n - 1) ≡ from_last job.system job.grid

@@ -1,13 +1,12 @@
 -- What a walk goes through has nothing better than the claim.
-use Rattle.std.proofs.Common.{◌≡◌, ℕ, ◌+◌, ◌*◌, ◌<◌, ℤ, List, [], ◌∷◌, ◌++◌, map, length, Bool, true, false, arith, inl, inr, refl, ap, sym, ◌∙◌, subst}
+use Rattle.std.proofs.Common.{◌≡◌, ℕ, ◌+◌, ◌<◌, ℤ, List, [], ◌∷◌, ◌++◌, map, length, Bool, true, false, arith, inl, inr, refl, sym, subst}
 use Rattle.ht_nearest.proofs.Bests as bests
 use Rattle.ht_pam.specs.Ladders.{levels as allowed}
 use Rattle.ht_pam.specs.Zigzags.{gap}
-use Rattle.ht_pam.specs.declared.point.Point.{Point}
 use Rattle.ht_metric.specs.Distance.{distance_of}
 use Rattle.ht_metric.specs.Jobs.{JobView, IsJob, IsNear}
 use Rattle.ht_metric.specs.Vectors.{levels_of}
-use Rattle.ht_sphere.specs.Coordinates.{Real, target, cost, from_last, points_from}
+use Rattle.ht_sphere.specs.Coordinates.{Real, target, cost, from_last}
 use Rattle.ht_sphere.specs.Tree.{Reached, rounding}
 use Rattle.ht_sphere.specs.Searching.{leaves, better, Among, IsBestOf}
 use Rattle.ht_sphere.proofs.Bests.{farther, leaves-le}

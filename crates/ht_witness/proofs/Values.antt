@@ -8,9 +8,8 @@ use Rattle.ht_metric.specs.Rows.{Row}
 use Rattle.ht_metric.specs.Jobs.{JobView}
 use Rattle.ht_sphere.specs.Coordinates.{from_last}
 use Rattle.ht_witness.specs.declared.certificate.Certificate.{Certificate}
-use Rattle.ht_witness.specs.declared.check_fault.CheckFault.{CheckFault}
 use Rattle.ht_witness.specs.declared.check_fault.CheckFault.TheVariants.{OffGrid, WrongDistance, Early, Better, Short, Long}
-use Rattle.ht_witness.specs.Certificates.{Checked, claim_of, fault_of, roots}
+use Rattle.ht_witness.specs.Certificates.{Checked, fault_of}
 use Rattle.ht_witness.specs.Marking.{marks_of}
 
 abbrev two : Rungs

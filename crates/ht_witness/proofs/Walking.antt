@@ -1,8 +1,7 @@
 -- The walk of a certificate, step by step.
 use Rattle.std.proofs.Math.IntN.{zero-*ℤ}
-use Rattle.std.proofs.Common.{◌≡◌, ℕ, zero, suc, ◌+◌, ◌-◌, ◌*◌, ◌<◌, ◌≤◌, ℤ, pos, ◌-ℤ◌, ◌*ℤ◌, List, [], ◌∷◌, ◌++◌, map, length, drop, get_or, Bool}
-use Rattle.std.proofs.Common.{true, false, nat_lt, Option, Some, Result, Ok, Err, unsigned_abs, refl, ap, sym, ◌∙◌, subst, arith}
-use Rattle.std.specs.Prelude.{if◌then◌else◌}
+use Rattle.std.proofs.Common.{◌≡◌, ℕ, zero, suc, ◌+◌, ◌*◌, ◌<◌, ◌≤◌, ℤ, pos, ◌-ℤ◌, List, [], ◌∷◌, ◌++◌, map, length, drop, get_or, Bool}
+use Rattle.std.proofs.Common.{true, false, nat_lt, Some, Result, Ok, unsigned_abs, refl, ap, sym, ◌∙◌, subst, arith}
 use Rattle.std.proofs.lemmas.Bool.{cond-true, cond-false}
 use Rattle.std.proofs.lemmas.Bool.Decides.{nat_tests}
 use Rattle.std.proofs.lemmas.List.{drop_all}
@@ -14,7 +13,6 @@ use Rattle.ht_metric.specs.Rows.{Row}
 use Rattle.ht_sphere.specs.Coordinates.{Real, cost, down}
 use Rattle.ht_sphere.specs.Tree.{Reached}
 use Rattle.ht_sphere.specs.Searching.{better}
-use Rattle.ht_witness.specs.declared.check_fault.CheckFault.{CheckFault}
 use Rattle.ht_witness.specs.declared.check_fault.CheckFault.TheVariants.{Early, Better, Short}
 use Rattle.ht_witness.specs.declared.stop.Stop.{Stop}
 use Rattle.ht_witness.specs.Walks.{Suffix, longer, below, walk_fault}

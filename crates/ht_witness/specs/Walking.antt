@@ -1,5 +1,5 @@
 -- What is left of a walk.
-use Rattle.std.specs.Prelude.{◌≡◌, ℕ, suc, ◌++◌, ◌∷◌, List, Bool, true, false, drop, if◌then◌else◌, Option, Some, None, Result, Ok, Err}
+use Rattle.std.specs.Prelude.{◌≡◌, ℕ, suc, ◌++◌, ◌∷◌, List, Bool, true, false, drop, if◌then◌else◌, Option, Some, Result, Ok, Err}
 use Rattle.ht_sphere.specs.Tree.{Reached}
 use Rattle.ht_witness.specs.declared.check_fault.CheckFault.{CheckFault}
 use Rattle.ht_witness.specs.declared.check_fault.CheckFault.TheVariants.{Early, Better, Short}

@@ -1,5 +1,4 @@
-use Rattle.std.proofs.Common.{◌≡◌, ◌∙◌, None, length, sym}
-use Rattle.ht_witness.specs.Certificates.{Checked, fault_of}
+use Rattle.std.proofs.Common.{◌∙◌, sym}
 use Rattle.ht_witness.proofs.Faults.{holds, no_fault, none_of}
 use Rattle.ht_witness.proofs.Trusting.{checked_near}
 use Rattle.ht_witness.proofs.checking.check.Goals as goal

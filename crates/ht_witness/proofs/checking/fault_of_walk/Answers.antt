@@ -1,4 +1,4 @@
-use Rattle.std.proofs.Common.{◌≡◌, ◌∙◌, ◌*◌, [], List, ℤ, Bool, Some, None, length, take, drop, arith, ap, sym}
+use Rattle.std.proofs.Common.{◌≡◌, ◌∙◌, ◌*◌, [], Some, None, length, take, drop, arith, ap, sym}
 use Rattle.ht_sphere.specs.Tree.{Reached}
 use Rattle.ht_witness.specs.declared.check_fault.CheckFault.{CheckFault}
 use Rattle.ht_witness.specs.declared.check_fault.CheckFault.TheVariants.{Long}

@@ -1,4 +1,4 @@
-use Rattle.std.proofs.Common.{rules, ◌≡◌, [], ◌∷◌, ◌++◌, ◌+◌, ◌-◌, ◌*◌, ◌^◌, ◌<◌, ◌≤◌, ℤ, ℕ, List, Bool, length, drop, get_or, slice_set}
+use Rattle.std.proofs.Common.{rules, ◌≡◌, ◌∷◌, ◌++◌, ◌+◌, ◌-◌, ◌*◌, ◌^◌, ◌<◌, ◌≤◌, ℤ, ℕ, List, Bool, length, drop, get_or, slice_set}
 use Rattle.std.proofs.Common.{w8, w64, SFits, to_z, of_z, to_z-of_z, unsigned_abs, ap, sym, ◌∙◌, subst, arith, refl}
 use Rattle.std.proofs.lemmas.List.Elements.{All-set}
 use Rattle.std.proofs.Math.ListN.{length-set}

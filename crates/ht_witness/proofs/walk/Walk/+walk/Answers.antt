@@ -1,15 +1,15 @@
-use Rattle.std.proofs.Common.{rules, ◌≡◌, [], ◌∷◌, ◌++◌, ◌+◌, ◌-◌, ◌*◌, ◌^◌, ◌<◌, ◌≤◌, ℤ, ℕ, List, Bool, Option, map, length, drop, slice_set, suc}
+use Rattle.std.proofs.Common.{rules, ◌≡◌, ◌∷◌, ◌++◌, ◌+◌, ◌-◌, ◌*◌, ◌^◌, ◌<◌, ◌≤◌, ℤ, ℕ, List, Option, map, length, drop, slice_set}
 use Rattle.std.proofs.Common.{w8, w64, SFits, to_z, of_z, to_z-of_z, unsigned_abs, ap, sym, ◌∙◌, subst, arith, refl}
 use Rattle.std.proofs.lemmas.List.Elements.{All-set}
 use Rattle.std.proofs.Math.ListN.{length-set}
-use Rattle.ht_sphere.specs.Coordinates.{Real, cost, target, q_at, i_at, from_q, from_i, down}
+use Rattle.ht_sphere.specs.Coordinates.{cost, target, q_at, i_at, from_i, down}
 use Rattle.ht_sphere.specs.Tree.{Reached}
 use Rattle.ht_sphere.proofs.Bests.{still_at}
 use Rattle.ht_sphere.proofs.Down.{down_more}
 use Rattle.ht_sphere.proofs.Steps.{cost_is, one_set}
 use Rattle.ht_witness.specs.declared.check_fault.CheckFault.{CheckFault}
-use Rattle.ht_witness.specs.Walks.{Suffix, longer, below}
-use Rattle.ht_witness.specs.Walking.{fault_here, opened, Goes}
+use Rattle.ht_witness.specs.Walks.{Suffix, longer}
+use Rattle.ht_witness.specs.Walking.{fault_here, Goes}
 use Rattle.ht_witness.proofs.Walking.{whole, onward, opened_same, next_level, opened_by, cut_by}
 use Rattle.ht_witness.proofs.walk.Walk.+walk.Goals as goal
 
