@@ -1,1 +1,9 @@
 pub mod Grids
+pub mod Routes
+pub mod Reading
+pub mod Ends
+pub mod Decoded
+pub mod Filed
+pub mod Encoded
+pub mod Back
+pub mod Written

@@ -3,6 +3,7 @@ use Rattle.std.specs.Prelude.{◌≡◌, ℕ, ◌+◌, ◌≤◌, ◌<◌, ◌^�
 use Rattle.std.specs.Int.{cast_unsigned, w8}
 use Rattle.byteorder.specs.Endian.{big_bytes}
 use Rattle.ht_pam.specs.declared.point.Point.{Point}
+use Rattle.ht_metric.specs.Rows.{Leg, Row}
 use Rattle.ht_metric.specs.Arrays.{legs, samples}
 use Rattle.ht_capture.specs.Files.{legs_octets, sample_octets}
 use Rattle.ht_capture.specs.Contents.{AreLegs, AreSamples}
@@ -10,6 +11,10 @@ use Rattle.ht_heads.specs.Starts.{started_octets}
 use Rattle.ht_cert.specs.declared.record.Record.{Record}
 use Rattle.ht_cert.specs.Records.{code_of, full_grid, no_place}
 use Rattle.ht_cert.specs.Formats.{certificates_magic}
+
+-- a row of the triangle of a system
+abbrev pub leg_of : Row → Leg
+leg_of row = record { diagonal = row.diagonal; right = row.right }
 
 abbrev pub point_octets : Point → List ℕ
 point_octets p = cast_unsigned w8 p.i ∷ cast_unsigned w8 p.q ∷ []
@@ -21,12 +26,12 @@ mark_octet false = 0
 -- the triangle and the samples of the job, and the claimed points and distance
 unfoldable pub claim_octets : Record → List ℕ
 claim_octets r =
-    legs_octets (legs r.job.system) ++ flat_map sample_octets (samples r.job.system)
-    ++ flat_map point_octets r.certificate.vector ++ big_bytes 16 r.certificate.distance
+    legs_octets (legs r.job.system) ++ (flat_map sample_octets (samples r.job.system)
+    ++ (flat_map point_octets r.certificate.vector ++ big_bytes 16 r.certificate.distance))
 
 -- what stands in front of the marks: the modulation, the number of streams, these numbers, and the number of marks
 unfoldable pub front_octets : Record → List ℕ
-front_octets r = (code_of r.modulation ∷ length r.job.system ∷ []) ++ claim_octets r ++ big_bytes 4 (length r.certificate.marks)
+front_octets r = code_of r.modulation ∷ length r.job.system ∷ (claim_octets r ++ big_bytes 4 (length r.certificate.marks))
 
 unfoldable pub record_octets : Record → List ℕ
 record_octets r = front_octets r ++ map mark_octet r.certificate.marks

@@ -1,6 +1,6 @@
 -- What a reader of certificates still gives.
-use Rattle.std.specs.Prelude.{◌≡◌, ⊤, ℕ, ◌+◌, ◌*◌, ◌<◌, ◌≤◌, List, [], ◌∷◌, Option, Some, None, Result, Ok, Err}
-use Rattle.ht_io.specs.Devices.{Device, TakesAll}
+use Rattle.std.specs.Prelude.{◌≡◌, ⊤, ℕ, ◌+◌, ◌*◌, ◌<◌, ◌≤◌, List, [], ◌∷◌, length, Option, Some, None, Result, Ok, Err}
+use Rattle.ht_io.specs.Devices.{Device, Takes, TakesAll}
 use Rattle.ht_io.specs.declared.faults.InFault.{InFault}
 use Rattle.ht_io.specs.declared.faults.InFault.TheVariants.{Format, Read, NoMemory}
 use Rattle.ht_fields.specs.Meanings.{Meaning, ended, refused, meaning}
@@ -13,7 +13,9 @@ use Rattle.ht_cert.specs.declared.reader.Came.TheVariants.{Whole, End}
 use Rattle.ht_cert.specs.declared.turn.Turn.{Turn}
 use Rattle.ht_cert.specs.declared.turn.Stage.{Stage}
 use Rattle.ht_cert.specs.declared.turn.Stage.TheVariants.{Begin, Next, Ended, Stopped}
+use Rattle.ht_rate.specs.declared.kinds.Modulation.{Modulation}
 use Rattle.ht_cert.specs.Formats.{RecordState, certificates, records_due}
+use Rattle.ht_cert.specs.Records.{claim_width, claimed}
 
 -- a reader in a state, at an offset, over this source
 abbrev pub here : StartState RecordState → ℕ → Device ℕ → ReaderView Record
@@ -22,6 +24,11 @@ here state at source = reader_in certificates state at source
 -- the octets of the meaning of a file of certificates
 abbrev pub certificates_in : List ℕ → Meaning Record
 certificates_in octets = meaning certificates certificates.start 0 octets
+
+-- triangle, samples, points and distance were taken, and the record has what they say, and no marks
+abbrev pub ReadsClaim : ℕ → Modulation → ℕ → Record → Device ℕ → Device ℕ → Type 0
+ReadsClaim number modulation streams r before after =
+    (octets : List ℕ) × (length octets ≡ claim_width streams) × (r ≡ claimed number modulation streams octets) × Takes before after octets
 
 -- a reader stopped: at the first fault of the file, where its source failed, or for lack of memory
 abbrev pub Fails : ReaderView Record → Device ℕ → InFault → Type 0

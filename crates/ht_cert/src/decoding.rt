@@ -1,7 +1,7 @@
 //! The parts of a record from their octets.
 ghost use Rattle.std.specs.Prelude.{◌≡◌, ◌+◌, ◌*◌, ◌≤◌, [], length};
 ghost use Rattle.ht_capture.specs.Systems.{triangle_octets};
-ghost use Rattle.ht_cert.specs.Records.{claim_width, claimed, full_grid, modulation_at, point_at, points_at};
+ghost use Rattle.ht_cert.specs.Records.{claim_width as claim_width_of, claimed, code_of, full_grid, modulation_at, point_at, points_at};
 ghost use Rattle.ht_cert.specs.Schemes.{scheme_of};
 
 use crate::record::Record;
@@ -17,7 +17,8 @@ use std::alloc::Global;
 /// The modulation of a code, 0 to 3.
 pub fn modulation_of(code: u8) -> Modulation
     requires { code ≤ 3 }
-    ensures { result ≡ modulation_at code }
+    ensures value { result ≡ modulation_at code }
+    ensures back { code_of result ≡ code }
 {
     match code {
         0 => Modulation::Bpsk,
@@ -78,8 +79,8 @@ fn points(streams: u8, octets: &[u8], at: usize) -> Vector
     points
 }
 
-/// The octets of the triangle of one to four streams.
-pub fn triangle_width(streams: u8) -> usize
+// The octets of the triangle of one to four streams.
+fn triangle_width(streams: u8) -> usize
     requires some { 1 ≤ streams }
     requires few { streams ≤ 4 }
     ensures value { result ≡ triangle_octets streams }
@@ -91,6 +92,16 @@ pub fn triangle_width(streams: u8) -> usize
         3 => 18,
         _ => 32,
     }
+}
+
+/// The octets of triangle, samples, points and distance of one to four streams.
+pub fn claim_width(streams: u8) -> usize
+    requires some { 1 ≤ streams }
+    requires few { streams ≤ 4 }
+    ensures value { result ≡ claim_width_of streams }
+    ensures high { result ≤ 88 }
+{
+    triangle_width(streams) + 10 * usize::from(streams) + 16
 }
 
 /// Fills a record with the job and the claim of these octets, and leaves it without marks.
@@ -105,7 +116,7 @@ pub fn fill_record(
 )
     requires some { 1 ≤ streams }
     requires few { streams ≤ 4 }
-    requires whole { length octets.now ≡ claim_width streams }
+    requires whole { length octets.now ≡ claim_width_of streams }
     ensures { into.new ≡ claimed number modulation streams octets.now }
 {
     let samples_at = triangle_width(streams);

@@ -1,19 +1,19 @@
 //! The fields of a record, each read whole and judged.
-ghost use Rattle.std.specs.Prelude.{◌≡◌, ◌<◌, ◌≤◌, ◌+◌, ◌-◌, ◌^◌, [], ◌∷◌, MatchResult, IfOk};
-ghost use Rattle.ht_io.specs.Devices.{IsLater};
-ghost use Rattle.ht_io.specs.declared.faults.InFault.TheVariants.{NoMemory};
+ghost use Rattle.std.specs.Prelude.{◌≡◌, ◌<◌, ◌≤◌, ◌+◌, ◌^◌, ◌||◌, nat_eq, nat_lt, [], ◌∷◌, MatchResult, IfOk, IfErr};
+ghost use Rattle.ht_io.specs.Devices.{Takes, IsLater};
+ghost use Rattle.ht_io.specs.declared.faults.Kind.TheVariants.{BadModulation, BadStreams, BadMark};
+ghost use Rattle.ht_fields.specs.Lacking.{FailsField, LacksField};
 ghost use Rattle.ht_fields.specs.Readers.{Gives};
+ghost use Rattle.ht_fields.specs.Tests.{is_above};
 ghost use Rattle.ht_fields.specs.WholeFiles.{Halts};
 ghost use Rattle.ht_heads.specs.Starts.{Body};
-ghost use Rattle.ht_rate.specs.declared.kinds.Modulation.{Modulation as ModulationValue};
-ghost use Rattle.ht_cert.specs.declared.record.Record.{Record as RecordValue};
-ghost use Rattle.ht_cert.specs.declared.turn.Turn.{Turn as TurnValue};
-ghost use Rattle.ht_cert.specs.Formats.{Claim, Mark, Marks as MarksState, Modulated, Streams, certificates, marks_due, marks_given, next_turn, records_due};
+ghost use Rattle.ht_cert.specs.Formats.{Marks as MarksState, certificates, is_no_streams, next_turn, records_due};
 ghost use Rattle.ht_cert.specs.Formats.{mark_limits as mark_limits_of, record_limits as record_limits_of};
-ghost use Rattle.ht_cert.specs.Records.{with_marks};
-ghost use Rattle.ht_cert.specs.Readers.{Fails, here};
+ghost use Rattle.ht_cert.specs.Files.{mark_octet};
+ghost use Rattle.ht_cert.specs.Records.{claim_width as claim_width_of, code_of};
+ghost use Rattle.ht_cert.specs.Readers.{Fails, ReadsClaim, here};
 
-use crate::decoding::{fill_record, modulation_of, triangle_width};
+use crate::decoding::{claim_width, fill_record, modulation_of};
 use crate::record::Record;
 use crate::turn::Turn;
 use ht_fields::{bad, fill, octet};
@@ -69,43 +69,40 @@ pub fn start<S: Source>(source: &mut S) -> Result<Turn, InFault>
 // Reads the modulation of a record.
 fn modulation<S: Source>(source: &mut S, at: u64) -> Result<Modulation, InFault>
     requires room { at + 1 < 2 ^ 64 }
-    ensures told { (turn : TurnValue) → MatchResult result
-        (λ modulation. Gives (here (Body (Modulated turn)) at (S.shown source.old)) (here (Body (Streams turn modulation)) (at + 1) (S.shown source.new)) [])
-        (Halts (here (Body (Modulated turn)) at (S.shown source.old)) (S.shown source.new)) }
+    ensures whole { IfOk result (λ modulation. Takes (S.shown source.old) (S.shown source.new) (code_of modulation ∷ [])) }
+    ensures failed { IfErr result (FailsField 1 BadModulation (is_above 3) at (S.shown source.old) (S.shown source.new)) }
     ensures later { IsLater (S.shown source.old) (S.shown source.new) }
 {
-    match octet(source, at) {
-        Ok(code) => {
-            if code > 3 {
-                Err(bad(Kind::BadModulation, at))
-            } else {
-                Ok(modulation_of(code))
-            }
-        }
-        Err(fault) => Err(fault),
+    let code = octet(source, at)?;
+    if code > 3 {
+        Err(bad(Kind::BadModulation, at))
+    } else {
+        Ok(modulation_of(code))
     }
 }
 
 // Reads the number of streams of a record.
 fn streams<S: Source>(source: &mut S, at: u64) -> Result<u8, InFault>
     requires room { at + 1 < 2 ^ 64 }
-    ensures told { (turn : TurnValue) (modulation : ModulationValue) → MatchResult result
-        (λ streams. Gives (here (Body (Streams turn modulation)) at (S.shown source.old)) (here (Body (Claim turn modulation streams)) (at + 1) (S.shown source.new)) [])
-        (Halts (here (Body (Streams turn modulation)) at (S.shown source.old)) (S.shown source.new)) }
+    ensures whole { IfOk result (λ streams. Takes (S.shown source.old) (S.shown source.new) (streams ∷ [])) }
     ensures some { IfOk result (λ streams. 1 ≤ streams) }
     ensures few { IfOk result (λ streams. streams ≤ 4) }
+    ensures failed { IfErr result (FailsField 1 BadStreams is_no_streams at (S.shown source.old) (S.shown source.new)) }
     ensures later { IsLater (S.shown source.old) (S.shown source.new) }
 {
-    match octet(source, at) {
-        Ok(streams) => {
-            if streams == 0 || streams > 4 {
-                Err(bad(Kind::BadStreams, at))
-            } else {
-                Ok(streams)
-            }
-        }
-        Err(fault) => Err(fault),
+    let streams = octet(source, at)?;
+    if is_refused(streams) {
+        Err(bad(Kind::BadStreams, at))
+    } else {
+        Ok(streams)
     }
+}
+
+// Whether a record can't have this number of streams.
+fn is_refused(streams: u8) -> bool
+    ensures { result ≡ (nat_eq streams 0 || nat_lt 4 streams) }
+{
+    streams == 0 || streams > 4
 }
 
 // Reads triangle, samples, points and distance into a record, and leaves it without marks.
@@ -113,7 +110,7 @@ fn claim<S: Source>(
     alloc: Global,
     source: &mut S,
     at: u64,
-    turn: &Turn,
+    number: u64,
     modulation: Modulation,
     streams: u8,
     into: &mut Record,
@@ -121,19 +118,16 @@ fn claim<S: Source>(
     requires room { at + 88 < 2 ^ 64 }
     requires some { 1 ≤ streams }
     requires few { streams ≤ 4 }
-    ensures told { MatchResult result
-        (λ behind. Gives (here (Body (Claim turn.now modulation streams)) at (S.shown source.old)) (here (Body (MarksState turn.now into.new)) behind (S.shown source.new)) [])
-        (Halts (here (Body (Claim turn.now modulation streams)) at (S.shown source.old)) (S.shown source.new)) }
-    ensures number { IfOk result (λ _. into.new.job.number ≡ turn.now.number) }
-    ensures none { IfOk result (λ _. into.new.certificate.marks ≡ []) }
-    ensures place { IfOk result (λ behind. behind ≤ at + 88) }
+    ensures whole { IfOk result (λ behind. ReadsClaim number modulation streams into.new (S.shown source.old) (S.shown source.new)) }
+    ensures place { IfOk result (λ behind. behind ≡ at + claim_width_of streams) }
+    ensures failed { IfErr result (LacksField (claim_width_of streams) at (S.shown source.old) (S.shown source.new)) }
     ensures later { IsLater (S.shown source.old) (S.shown source.new) }
 {
     let mut octets = [0u8; CLAIM];
-    let width = triangle_width(streams) + 10 * usize::from(streams) + 16;
+    let width = claim_width(streams);
     match fill(source, at, &mut octets[..width]) {
         Ok(()) => {
-            fill_record(alloc, into, turn.number, modulation, streams, &octets[..width]);
+            fill_record(alloc, into, number, modulation, streams, &octets[..width]);
             Ok(at + width as u64)
         }
         Err(fault) => Err(fault),
@@ -143,22 +137,15 @@ fn claim<S: Source>(
 // Reads a mark: whether its level is open.
 fn mark<S: Source>(source: &mut S, at: u64) -> Result<bool, InFault>
     requires room { at + 1 < 2 ^ 64 }
-    ensures told { (turn : TurnValue) (r : RecordValue) (left : ℕ) → MatchResult result
-        (λ open. Gives (here (Body (Mark turn r left)) at (S.shown source.old))
-        (here (marks_due turn (with_marks r (open ∷ [])) (left - 1)) (at + 1) (S.shown source.new))
-        (marks_given (with_marks r (open ∷ [])) (left - 1)))
-        (Halts (here (Body (Mark turn r left)) at (S.shown source.old)) (S.shown source.new)) }
+    ensures whole { IfOk result (λ is_open. Takes (S.shown source.old) (S.shown source.new) (mark_octet is_open ∷ [])) }
+    ensures failed { IfErr result (FailsField 1 BadMark (is_above 1) at (S.shown source.old) (S.shown source.new)) }
     ensures later { IsLater (S.shown source.old) (S.shown source.new) }
 {
-    match octet(source, at) {
-        Ok(mark) => {
-            if mark > 1 {
-                Err(bad(Kind::BadMark, at))
-            } else {
-                Ok(mark == 1)
-            }
-        }
-        Err(fault) => Err(fault),
+    let mark = octet(source, at)?;
+    if mark > 1 {
+        Err(bad(Kind::BadMark, at))
+    } else {
+        Ok(mark == 1)
     }
 }
 
@@ -187,7 +174,7 @@ fn marks<S: Source>(
     let mut marks = mem::replace(&mut into.certificate.marks, Marks::from(Vec::new(alloc))).into_vec();
     for k in 0..count {
         match mark(source, at + 4 + k) {
-            Ok(open) => match marks.push(open) {
+            Ok(is_open) => match marks.push(is_open) {
                 Ok(()) => {}
                 Err(_) => return Err(InFault::NoMemory),
             },
@@ -224,7 +211,7 @@ pub fn record<S: Source>(
         Ok(streams) => streams,
         Err(fault) => return Err(fault),
     };
-    let behind = match claim(alloc, source, at + 2, turn, modulation, streams, into) {
+    let behind = match claim(alloc, source, at + 2, turn.number, modulation, streams, into) {
         Ok(behind) => behind,
         Err(fault) => return Err(fault),
     };

@@ -22,6 +22,8 @@ pub mod laws;
 mod reader;
 mod record;
 mod turn;
+mod writing;
 
 pub use reader::{Came, RecordReader};
 pub use record::Record;
+pub use writing::{write_record, write_start};

@@ -48,7 +48,7 @@ route_version h =
     (route_field (started h) Version Count (1 ∷ []) [] (refl, checked_good BadVersion (differs 1) good_version (1 ∷ []) _ refl refl))
 
 -- a count between the limits passes
-inside : (limits : Limits) (octets : List ℕ) (count : ℕ) → big_number limits.width octets ≡ count
+pub inside : (limits : Limits) (octets : List ℕ) (count : ℕ) → big_number limits.width octets ≡ count
     → limits.least ≤ count → count ≤ limits.most → is_outside limits octets ≡ false
 unfolding is_outside
 inside limits octets count is least most =
