@@ -7,3 +7,4 @@ pub mod Filed
 pub mod Encoded
 pub mod Back
 pub mod Written
+pub mod Starting

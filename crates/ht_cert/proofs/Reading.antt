@@ -2,24 +2,26 @@
 use Rattle.std.proofs.Common.{◌≡◌, ℕ, ◌+◌, ◌-◌, ◌<◌, ◌≤◌, List, [], ◌∷◌, ◌++◌, length, Bool, refl, sym, ap, subst, ◌∙◌, append_assoc, arith}
 use Rattle.std.proofs.lemmas.List.{append-nil}
 use Rattle.byteorder.specs.Endian.{big_bytes}
-use Rattle.ht_io.specs.Devices.{Device, Takes, IsLater}
+use Rattle.ht_io.specs.Devices.{Device, Takes, TakesAll, IsLater}
 use Rattle.ht_io.proofs.Calls.{later-later}
 use Rattle.ht_io.specs.declared.faults.InFault.{InFault}
 use Rattle.ht_io.specs.declared.faults.Kind.TheVariants.{BadLength, BadModulation, BadStreams, BadMark}
-use Rattle.ht_fields.specs.Lacking.{FailsField, LacksField}
+use Rattle.ht_fields.specs.Lacking.{FailsField, GoesFurther, LacksField}
+use Rattle.ht_fields.proofs.Halting.{further_halts}
+use Rattle.ht_fields.proofs.Steps.{whole_file}
 use Rattle.ht_fields.specs.Readers.{ReaderView, Gives}
 use Rattle.ht_fields.specs.Tests.{is_above}
 use Rattle.ht_fields.proofs.Joins.{gives_more}
 use Rattle.ht_fields.proofs.Routes.{route_gives}
-use Rattle.ht_heads.specs.Starts.{StartState, Body, is_outside}
+use Rattle.ht_heads.specs.Starts.{StartState, Body, Over, is_outside}
 use Rattle.ht_rate.specs.declared.kinds.Modulation.{Modulation}
 use Rattle.ht_cert.specs.declared.record.Record.{Record}
 use Rattle.ht_cert.specs.declared.turn.Turn.{Turn}
 use Rattle.ht_cert.specs.Records.{claim_width, claimed, code_of, with_marks}
 use Rattle.ht_cert.specs.Formats.{RecordState, Modulated, Streams, Claim, Marks, Mark, certificates, is_no_streams, mark_limits, marks_due, marks_given, next_turn, records_due}
 use Rattle.ht_cert.specs.Files.{mark_octet}
-use Rattle.ht_cert.specs.Readers.{Fails, ReadsClaim, here}
-use Rattle.ht_cert.proofs.Routes.{claim_halts, gives_fails, halts_fails, mark_halts, mark_is, marks_halts, modulation_halts, none_given, one_given, one_mark, record_is}
+use Rattle.ht_cert.specs.Readers.{Completes, Fails, ReadsClaim, here}
+use Rattle.ht_cert.proofs.Routes.{claim_halts, gives_fails, halts_fails, mark_halts, mark_is, marks_halts, modulation_halts, none_given, one_given, one_mark, over_is, record_is}
 use Rattle.ht_cert.proofs.Routes.{route_claim, route_mark, route_marks, route_modulation, route_streams, streams_halts, whole_is}
 
 pub no_marks_more : (r : Record) → with_marks r [] ≡ r
@@ -161,3 +163,33 @@ claim_failed turn m streams at a b c after fault left some few x later y later-c
     gives_fails (here (records_due turn) at a) (here (Body (Claim turn m streams)) (at + 2) c) after fault
     (streams_read turn m streams at a b c left some few x y) (later-later a b c later later-c)
     (halts_fails _ after fault (claim_halts turn m streams (at + 2) c after fault lacks))
+
+-- and were kept in the record
+pub marks_whole_as : (old : ReaderView Record) (turn : Turn) (r new : Record) (kept marks : List Bool) (count k at : ℕ) (source : Device ℕ)
+    → k ≡ count → kept ≡ marks → r.certificate.marks ≡ []
+    → new ≡ record { modulation = r.modulation; job = r.job; certificate = record { vector = r.certificate.vector; distance = r.certificate.distance; marks = kept } }
+    → GivesMarks old turn (with_marks r marks) (count - k) (at + k) source → Gives old (here (records_due (next_turn turn)) (at + count) source) (new ∷ [])
+marks_whole_as old turn r new kept marks count k at source end same none is g =
+    let all : new ≡ with_marks r marks = marks_set r new kept none is ∙ ap (with_marks r) same in
+    subst (λ n. Gives old (here (records_due (next_turn turn)) (at + n) source) (new ∷ [])) end
+    (marks_whole old turn (with_marks r marks) new (count - k) (at + k) source (omega (arith, end)) all g)
+
+-- a record whose claim was read has its number, and no marks yet
+pub claim_none : (number : ℕ) (m : Modulation) (streams : ℕ) (r : Record) (a b : Device ℕ) → ReadsClaim number m streams r a b → r.certificate.marks ≡ []
+unfolding claimed
+claim_none number m streams r a b (octets, wide, is, taken) = ap (λ (z : Record). z.certificate.marks) is
+
+pub claim_number : (number : ℕ) (m : Modulation) (streams : ℕ) (r : Record) (a b : Device ℕ) → ReadsClaim number m streams r a b → r.job.number ≡ number
+unfolding claimed
+claim_number number m streams r a b (octets, wide, is, taken) = ap (λ (z : Record). z.job.number) is
+
+-- behind the last record the file ends
+pub file_ends : (turn : Turn) (at : ℕ) (a b : Device ℕ) → turn.left ≡ 0 → TakesAll a b [] → Completes (here (records_due turn) at a) b
+file_ends turn at a b none all =
+    subst (λ (s : StartState RecordState). Completes (here s at a) b) (sym (over_is turn none))
+    (record { taken = []; octets = all; means = whole_file certificates Over at tt })
+
+pub file_goes_on : (turn : Turn) (at : ℕ) (a b : Device ℕ) (fault : InFault) → turn.left ≡ 0 → GoesFurther at a b fault → Fails (here (records_due turn) at a) b fault
+file_goes_on turn at a b fault none further =
+    subst (λ (s : StartState RecordState). Fails (here s at a) b fault) (sym (over_is turn none))
+    (halts_fails (here Over at a) b fault (further_halts certificates Over at a b fault tt further))

@@ -1,5 +1,5 @@
 //! The fields of a record, each read whole and judged.
-ghost use Rattle.std.specs.Prelude.{◌≡◌, ◌<◌, ◌≤◌, ◌+◌, ◌^◌, ◌||◌, nat_eq, nat_lt, [], ◌∷◌, MatchResult, IfOk, IfErr};
+ghost use Rattle.std.specs.Prelude.{◌≡◌, ◌<◌, ◌≤◌, ◌+◌, ◌^◌, ◌||◌, nat_eq, nat_lt, [], ◌∷◌, length, MatchResult, IfOk, IfErr};
 ghost use Rattle.ht_io.specs.Devices.{Takes, IsLater};
 ghost use Rattle.ht_io.specs.declared.faults.Kind.TheVariants.{BadModulation, BadStreams, BadMark};
 ghost use Rattle.ht_fields.specs.Lacking.{FailsField, LacksField};
@@ -105,6 +105,13 @@ fn is_refused(streams: u8) -> bool
     streams == 0 || streams > 4
 }
 
+// Room for these numbers of a record.
+fn no_claim() -> [u8; CLAIM]
+    ensures { length result ≡ 88 }
+{
+    [0u8; CLAIM]
+}
+
 // Reads triangle, samples, points and distance into a record, and leaves it without marks.
 fn claim<S: Source>(
     alloc: Global,
@@ -123,7 +130,7 @@ fn claim<S: Source>(
     ensures failed { IfErr result (LacksField (claim_width_of streams) at (S.shown source.old) (S.shown source.new)) }
     ensures later { IsLater (S.shown source.old) (S.shown source.new) }
 {
-    let mut octets = [0u8; CLAIM];
+    let mut octets = no_claim();
     let width = claim_width(streams);
     match fill(source, at, &mut octets[..width]) {
         Ok(()) => {
