@@ -1,5 +1,5 @@
 -- From every state of a file of certificates good fields lead to its end.
-use Rattle.std.proofs.Common.{◌≡◌, ℕ, zero, suc, ◌+◌, ◌-◌, ◌<◌, ◌≤◌, List, [], ◌∷◌, ◌++◌, replicate, refl, sym, subst, arith}
+use Rattle.std.proofs.Common.{◌≡◌, ℕ, zero, suc, ◌+◌, ◌-◌, ◌<◌, ◌≤◌, List, [], ◌∷◌, ◌++◌, replicate, refl, sym, ap, subst, arith}
 use Rattle.std.proofs.lemmas.List.{length-replicate}
 use Rattle.byteorder.specs.Endian.{big_bytes}
 use Rattle.ht_fields.specs.Grammar.{Good}
@@ -13,7 +13,7 @@ use Rattle.ht_rate.specs.declared.kinds.Modulation.{Modulation}
 use Rattle.ht_cert.specs.declared.record.Record.{Record}
 use Rattle.ht_cert.specs.declared.turn.Turn.{Turn}
 use Rattle.ht_cert.specs.Formats.{RecordState, Modulated, Streams, Claim, Marks, Mark, certificates, is_no_streams, mark_limits, record_limits, recorded}
-use Rattle.ht_cert.specs.Formats.{first_due, good_claim, good_mark, good_marks, good_modulation, good_streams, marks_due, next_turn, records_due}
+use Rattle.ht_cert.specs.Formats.{first_due, good_claim, good_mark, good_marks, good_modulation, good_streams, marked, marks_due, marks_given, next_turn, records_due}
 use Rattle.ht_cert.specs.Records.{claim_width}
 use Rattle.ht_cert.proofs.Routes.{mark_is, over_is, record_is, whole_is}
 
@@ -35,20 +35,24 @@ same_as s t is e = subst HasAnEnd (sym is) e
 abbrev RestEnds : Turn → Type 0
 RestEnds turn = (t : Turn) → t.left ≡ turn.left - 1 → HasAnEnd (records_due t)
 
+-- a mark, and then the others
+mark_first : (left : ℕ) (turn : Turn) (r : Record) → ((q : Record) → HasAnEnd (marks_due turn q (left - 1))) → HasAnEnd (Body (Mark turn r left))
+unfolding good_mark
+mark_first left turn r rest =
+    field_first (Body (Mark turn r left)) (marks_due turn (marked r (0 ∷ [])) (left - 1)) (0 ∷ []) (marks_given (marked r (0 ∷ [])) (left - 1))
+    (refl, checked_good BadMark (is_above 1) (good_mark turn r left) (0 ∷ []) _ (not_above 0 1 (omega arith)) refl) (rest (marked r (0 ∷ [])))
+
 -- the marks that are left
 marks_end : (left : ℕ) (turn : Turn) (r : Record) → RestEnds turn → HasAnEnd (marks_due turn r left)
-unfolding good_mark next_turn
-marks_end zero turn r rest = same_as _ _ (whole_is turn r 0 refl) (rest (next_turn turn) refl)
+unfolding next_turn
+marks_end zero turn r rest = same_as (marks_due turn r 0) (records_due (next_turn turn)) (whole_is turn r 0 refl) (rest (next_turn turn) refl)
 marks_end (suc n) turn r rest =
-    same_as _ _ (mark_is turn r (suc n) (omega arith))
-    (field_first (Body (Mark turn r (suc n))) _ (0 ∷ []) _
-    (refl, checked_good BadMark (is_above 1) (good_mark turn r (suc n)) (0 ∷ []) _ (not_above 0 1 (omega arith)) refl) (marks_end n turn _ rest))
+    let less : suc n - 1 ≡ n = omega arith in
+    same_as (marks_due turn r (suc n)) (Body (Mark turn r (suc n))) (mark_is turn r (suc n) (omega arith))
+    (mark_first (suc n) turn r (λ q. same_as (marks_due turn q (suc n - 1)) (marks_due turn q n) (ap (marks_due turn q) less) (marks_end n turn q rest)))
 
 mark_ends : (left : ℕ) (turn : Turn) (r : Record) → RestEnds turn → HasAnEnd (Body (Mark turn r left))
-unfolding good_mark
-mark_ends left turn r rest =
-    field_first (Body (Mark turn r left)) _ (0 ∷ []) _
-    (refl, checked_good BadMark (is_above 1) (good_mark turn r left) (0 ∷ []) _ (not_above 0 1 (omega arith)) refl) (marks_end (left - 1) turn _ rest)
+mark_ends left turn r rest = mark_first left turn r (λ q. marks_end (left - 1) turn q rest)
 
 number_ends : (turn : Turn) (r : Record) → RestEnds turn → HasAnEnd (Body (Marks turn r))
 unfolding good_marks is_outside

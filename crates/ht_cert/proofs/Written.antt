@@ -4,6 +4,8 @@ use Rattle.std.proofs.lemmas.List.{append-nil, drop_all, length-drop, length-map
 use Rattle.std.proofs.Math.Seq.{drop-cons}
 use Rattle.byteorder.specs.Endian.{big_bytes}
 use Rattle.ht_pam.specs.declared.point.Point.{Point}
+use Rattle.ht_metric.specs.declared.sample.Sample.{Sample}
+use Rattle.std.specs.Int.{cast_unsigned, w32}
 use Rattle.ht_metric.specs.Arrays.{legs, samples}
 use Rattle.ht_metric.specs.Rows.{Leg, Row, no_row}
 use Rattle.ht_capture.specs.Files.{leg_octets, legs_octets, sample_octets}
@@ -63,3 +65,17 @@ front_made r a b t s p d c ea et es ep ed ec =
 -- marks in two parts
 pub marks_split : (marks : List Bool) (k : ℕ) → map mark_octet (take k marks) ++ map mark_octet (drop k marks) ≡ map mark_octet marks
 marks_split marks k = sym (map-append mark_octet (take k marks) (drop k marks)) ∙ ap (λ (m : List Bool). map mark_octet m) (take-append-drop k marks)
+
+-- a sample more
+pub sample_put : (chunk mid next old : List ℕ) (rows : List Row) (s : Sample) (k : ℕ) → k < length rows → s ≡ (slice_index_or rows k no_row).sample
+    → mid ≡ chunk ++ big_bytes 4 (cast_unsigned w32 s.re) → next ≡ mid ++ big_bytes 4 (cast_unsigned w32 s.im)
+    → chunk ++ flat_map sample_octets (samples (drop k rows)) ≡ old ++ flat_map sample_octets (samples rows)
+    → next ++ flat_map sample_octets (samples (drop (k + 1) rows)) ≡ old ++ flat_map sample_octets (samples rows)
+sample_put chunk mid next old rows s k lt is first second eq =
+    let re = big_bytes 4 (cast_unsigned w32 s.re) in
+    let im = big_bytes 4 (cast_unsigned w32 s.im) in
+    let rest = flat_map sample_octets (samples (drop (k + 1) rows)) in
+    let both : next ≡ chunk ++ (re ++ im) = second ∙ (ap (λ z. z ++ im) first ∙ append_assoc chunk re im) in
+    let here : flat_map sample_octets (samples (drop k rows)) ≡ (re ++ im) ++ rest =
+    samples_next rows k lt ∙ ap (λ (x : Sample). sample_octets x ++ rest) (sym is) in
+    ap (λ z. z ++ rest) both ∙ (append_assoc chunk (re ++ im) rest ∙ (ap (λ z. chunk ++ z) (sym here) ∙ eq))

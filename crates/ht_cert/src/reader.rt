@@ -103,6 +103,7 @@ impl RecordReader {
     }
 
     // Reads the next record, or sees that the input ends.
+    #[tactic(auto, unfolding(crate::specs::Formats::next_turn))]
     fn go_on<S: Source>(&mut self, alloc: Global, source: &mut S, turn: Turn, into: &mut Record) -> Result<Came, InFault>
         requires few { turn.number + turn.left ≤ 137438953472 }
         requires place { self.old.at ≤ 13 + 33554526 * turn.number }
