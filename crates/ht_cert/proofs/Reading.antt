@@ -3,7 +3,7 @@ use Rattle.std.proofs.Common.{◌≡◌, ℕ, ◌+◌, ◌-◌, ◌<◌, ◌≤�
 use Rattle.std.proofs.lemmas.List.{append-nil}
 use Rattle.byteorder.specs.Endian.{big_bytes}
 use Rattle.ht_io.specs.Devices.{Device, Takes, TakesAll, IsLater}
-use Rattle.ht_io.proofs.Calls.{later-later}
+use Rattle.ht_io.proofs.Calls.{later-later, takes-all}
 use Rattle.ht_io.specs.declared.faults.InFault.{InFault}
 use Rattle.ht_io.specs.declared.faults.Kind.TheVariants.{BadLength, BadModulation, BadStreams, BadMark}
 use Rattle.ht_fields.specs.Lacking.{FailsField, GoesFurther, LacksField}
@@ -20,7 +20,12 @@ use Rattle.ht_cert.specs.declared.turn.Turn.{Turn}
 use Rattle.ht_cert.specs.Records.{claim_width, claimed, code_of, with_marks}
 use Rattle.ht_cert.specs.Formats.{RecordState, Modulated, Streams, Claim, Marks, Mark, certificates, is_no_streams, mark_limits, marks_due, marks_given, next_turn, records_due}
 use Rattle.ht_cert.specs.Files.{mark_octet}
-use Rattle.ht_cert.specs.Readers.{Completes, Fails, ReadsClaim, here}
+use Rattle.ht_cert.specs.Readers.{Completes, Fails, GivesRecord, ReadsClaim, here}
+use Rattle.ht_cert.specs.declared.reader.Came.{Came}
+use Rattle.ht_cert.specs.declared.reader.Came.TheVariants.{Whole, End}
+use Rattle.std.specs.Prelude.{MatchResult}
+use Rattle.std.proofs.Common.{Result, Ok, Err}
+use Rattle.ht_fields.specs.Meanings.{before}
 use Rattle.ht_cert.proofs.Routes.{claim_halts, gives_fails, halts_fails, mark_halts, mark_is, marks_halts, modulation_halts, none_given, one_given, one_mark, over_is, record_is}
 use Rattle.ht_cert.proofs.Routes.{route_claim, route_mark, route_marks, route_modulation, route_streams, streams_halts, whole_is}
 
@@ -193,3 +198,15 @@ pub file_goes_on : (turn : Turn) (at : ℕ) (a b : Device ℕ) (fault : InFault)
 file_goes_on turn at a b fault none further =
     subst (λ (s : StartState RecordState). Fails (here s at a) b fault) (sym (over_is turn none))
     (halts_fails (here Over at a) b fault (further_halts certificates Over at a b fault tt further))
+
+-- what came of a reader behind good fields
+pub answer_behind : (old mid new : ReaderView Record) (r : Record) (answer : Result Came InFault) → Gives old mid [] → IsLater old.source mid.source
+    → MatchResult answer (λ came. GivesRecord mid new came r) (Fails mid new.source)
+    → MatchResult answer (λ came. GivesRecord old new came r) (Fails old new.source)
+answer_behind old mid new r (Ok Whole) g later m = gives_more old mid new [] (r ∷ []) g m
+answer_behind old mid new r (Ok End) g later m = record {
+  taken = g.taken ++ m.taken;
+  octets = takes-all old.source mid.source new.source g.taken m.taken g.octets m.octets;
+  means = g.means m.taken ∙ ap (before []) m.means;
+}
+answer_behind old mid new r (Err fault) g later m = gives_fails old mid new.source fault g later m

@@ -5,13 +5,15 @@ use Rattle.std.proofs.Math.Seq.{drop-cons}
 use Rattle.byteorder.specs.Endian.{big_bytes}
 use Rattle.ht_pam.specs.declared.point.Point.{Point}
 use Rattle.ht_metric.specs.declared.sample.Sample.{Sample}
-use Rattle.std.specs.Int.{cast_unsigned, w32}
 use Rattle.ht_metric.specs.Arrays.{legs, samples}
 use Rattle.ht_metric.specs.Rows.{Leg, Row, no_row}
 use Rattle.ht_capture.specs.Files.{leg_octets, legs_octets, sample_octets}
 use Rattle.ht_cert.specs.declared.record.Record.{Record}
 use Rattle.ht_cert.specs.Records.{code_of}
-use Rattle.ht_cert.specs.Files.{claim_octets, front_octets, leg_of, mark_octet, point_octets}
+use Rattle.ht_io.specs.Pieces.{KnownGrown, KnownGrownByPart}
+use Rattle.ht_fields.proofs.Putting.{part_next}
+use Rattle.std.proofs.Common.{Option}
+use Rattle.ht_cert.specs.Files.{claim_octets, front_octets, leg_of, mark_octet, point_octets, record_octets}
 
 
 -- the rows from one on
@@ -42,12 +44,12 @@ samples_done chunk old rows k over eq =
     sym (append-nil chunk) ∙ (ap (λ (r : List Row). chunk ++ flat_map sample_octets (samples r)) (sym (drop_all k rows over)) ∙ eq)
 
 -- what stands in front of the marks
-pub front_made : (r : Record) (a b t s p d c : List ℕ) → a ≡ code_of r.modulation ∷ length r.job.system ∷ []
+pub front_made : (r : Record) (a t s p d c : List ℕ) → a ≡ code_of r.modulation ∷ length r.job.system ∷ []
     → t ≡ a ++ legs_octets (legs r.job.system) → s ≡ t ++ flat_map sample_octets (samples r.job.system)
     → p ≡ s ++ flat_map point_octets r.certificate.vector → d ≡ p ++ big_bytes 16 r.certificate.distance
     → c ≡ d ++ big_bytes 4 (length r.certificate.marks) → c ≡ front_octets r
 unfolding front_octets claim_octets
-front_made r a b t s p d c ea et es ep ed ec =
+front_made r a t s p d c ea et es ep ed ec =
     let head : List ℕ = code_of r.modulation ∷ length r.job.system ∷ [] in
     let x1 = legs_octets (legs r.job.system) in
     let x2 = flat_map sample_octets (samples r.job.system) in
@@ -67,15 +69,22 @@ pub marks_split : (marks : List Bool) (k : ℕ) → map mark_octet (take k marks
 marks_split marks k = sym (map-append mark_octet (take k marks) (drop k marks)) ∙ ap (λ (m : List Bool). map mark_octet m) (take-append-drop k marks)
 
 -- a sample more
-pub sample_put : (chunk mid next old : List ℕ) (rows : List Row) (s : Sample) (k : ℕ) → k < length rows → s ≡ (slice_index_or rows k no_row).sample
-    → mid ≡ chunk ++ big_bytes 4 (cast_unsigned w32 s.re) → next ≡ mid ++ big_bytes 4 (cast_unsigned w32 s.im)
-    → chunk ++ flat_map sample_octets (samples (drop k rows)) ≡ old ++ flat_map sample_octets (samples rows)
+pub sample_put : (chunk next old : List ℕ) (rows : List Row) (s : Sample) (k : ℕ) → k < length rows → s ≡ (slice_index_or rows k no_row).sample
+    → next ≡ chunk ++ sample_octets s → chunk ++ flat_map sample_octets (samples (drop k rows)) ≡ old ++ flat_map sample_octets (samples rows)
     → next ++ flat_map sample_octets (samples (drop (k + 1) rows)) ≡ old ++ flat_map sample_octets (samples rows)
-sample_put chunk mid next old rows s k lt is first second eq =
-    let re = big_bytes 4 (cast_unsigned w32 s.re) in
-    let im = big_bytes 4 (cast_unsigned w32 s.im) in
+sample_put chunk next old rows s k lt is put eq =
     let rest = flat_map sample_octets (samples (drop (k + 1) rows)) in
-    let both : next ≡ chunk ++ (re ++ im) = second ∙ (ap (λ z. z ++ im) first ∙ append_assoc chunk re im) in
-    let here : flat_map sample_octets (samples (drop k rows)) ≡ (re ++ im) ++ rest =
+    let here : flat_map sample_octets (samples (drop k rows)) ≡ sample_octets s ++ rest =
     samples_next rows k lt ∙ ap (λ (x : Sample). sample_octets x ++ rest) (sym is) in
-    ap (λ z. z ++ rest) both ∙ (append_assoc chunk (re ++ im) rest ∙ (ap (λ z. chunk ++ z) (sym here) ∙ eq))
+    ap (λ z. z ++ rest) put ∙ (append_assoc chunk (sample_octets s) rest ∙ (ap (λ z. chunk ++ z) (sym here) ∙ eq))
+
+-- a part of what is put behind the first marks
+pub part_record : (r : Record) (held mid new : Option (List ℕ)) (front put : List ℕ) (marks : List Bool) (k : ℕ)
+    → front ≡ front_octets r → marks ≡ r.certificate.marks → put ≡ front ++ map mark_octet (take k marks)
+    → KnownGrown held mid put → KnownGrownByPart mid new (map mark_octet (drop k marks)) → KnownGrownByPart held new (record_octets r)
+unfolding record_octets
+part_record r held mid new front put marks k is same all a b =
+    part_next held mid new put (map mark_octet (drop k marks)) _
+    (ap (λ z. z ++ map mark_octet (drop k marks)) all
+    ∙ (append_assoc front (map mark_octet (take k marks)) (map mark_octet (drop k marks))
+    ∙ (ap (λ z. front ++ z) (marks_split marks k) ∙ (ap (λ z. z ++ map mark_octet marks) is ∙ ap (λ (m : List Bool). front_octets r ++ map mark_octet m) same)))) a b

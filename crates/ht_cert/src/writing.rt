@@ -10,7 +10,7 @@ ghost use Rattle.ht_cert.specs.Files.{front_octets, leg_of, mark_octet, point_oc
 use crate::record::Record;
 use ht_fields::Chunk;
 use ht_io::{Failed, Sink};
-use ht_metric::{System, Tap, Vector};
+use ht_metric::{Sample, System, Tap, Vector};
 use ht_rate::Modulation;
 
 /// The number of marks that are put at once: as many as fill a chunk.
@@ -65,6 +65,15 @@ fn add_triangle(chunk: &mut Chunk, system: &System)
     }
 }
 
+// Adds a sample.
+fn add_sample(chunk: &mut Chunk, sample: Sample)
+    requires { length chunk.old + 8 ≤ 4096 }
+    ensures { chunk.new ≡ chunk.old ++ sample_octets sample }
+{
+    chunk.add(&sample.re.to_be_bytes());
+    chunk.add(&sample.im.to_be_bytes());
+}
+
 // Adds what was received.
 fn add_samples(chunk: &mut Chunk, system: &System)
     requires room { length chunk.old ≤ 4000 }
@@ -72,9 +81,7 @@ fn add_samples(chunk: &mut Chunk, system: &System)
     ensures size { length chunk.new ≤ length chunk.old + 32 }
 {
     for row in 0..system.streams() {
-        let sample = system.sample(row + 1);
-        chunk.add(&sample.re.to_be_bytes());
-        chunk.add(&sample.im.to_be_bytes());
+        add_sample(chunk, system.sample(row + 1));
     }
 }
 
