@@ -8,3 +8,4 @@ pub mod Encoded
 pub mod Back
 pub mod Written
 pub mod Starting
+mod Worked

@@ -9,7 +9,7 @@
 //! `48 54 43 54 01 00 00 00 00 00 00 00 01` begins a file of one record. `00 01 00 0a 00 00 00 03 ff ff ff fc` is a job
 //! in BPSK on one stream, with the diagonal 10 and the sample 3 - 4j; `01 00` claims the point (1, 0), 15 octets 0 and
 //! `41` the distance 65, and `00 00 00 03 01 00 01` has the marks open, cut and open. With a 2 as the last octet the
-//! file is BadMark there, at 47, and with an octet more it is Trailing at 48.
+//! file is BadMark there, at 49, and with an octet more it is Trailing at 50.
 //!
 //! `RecordReader` gives the records one by one, and keeps the memory of one. A number of marks takes no memory: each is
 //! kept as it comes. `write_start` and `write_record` put a file and take none. What was written is a file of these
