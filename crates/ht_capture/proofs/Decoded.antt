@@ -92,7 +92,7 @@ leg_read n leg octets rest at is small len typed =
     leg_made leg _ _ (ap (big_number 2) first ∙ big_number-reads_back 2 leg.diagonal (taps_octets n leg.right ++ rest) small)
     (ap (λ k. taps_at k octets (at + 2)) (sym len) ∙ taps_read leg.right octets rest (at + 2) next typed)
 
-legs_read : (legs : List Leg) (octets rest : List ℕ) (at : ℕ)
+pub legs_read : (legs : List Leg) (octets rest : List ℕ) (at : ℕ)
     → drop at octets ≡ legs_octets legs ++ rest → AreLegs legs → legs_at (length legs) octets at ≡ legs
 legs_read [] octets rest at is typed = refl
 legs_read (leg ∷ legs) octets rest at is typed =

@@ -88,7 +88,7 @@ taps_back (suc n) octets at enough bytes =
           ∙ (ap (λ (z : List ℕ). first ++ z) (ap (λ k. taps_octets n (taps_at n octets (at + 4)) ++ drop k octets) e ∙ ts.2) ∙ t.2),
     )
 
-legs_back : (n : ℕ) (octets : List ℕ) (at : ℕ) → at + 2 * (n * n) ≤ length octets → AreBytes octets
+pub legs_back : (n : ℕ) (octets : List ℕ) (at : ℕ) → at + 2 * (n * n) ≤ length octets → AreBytes octets
     → AreLegs (legs_at n octets at) × (legs_octets (legs_at n octets at) ++ drop (at + 2 * (n * n)) octets ≡ drop at octets)
 legs_back zero octets at enough bytes = let e : at + 2 * (0 * 0) ≡ at = omega arith in (tt, ap (λ n. drop n octets) e)
 legs_back (suc n) octets at enough bytes =

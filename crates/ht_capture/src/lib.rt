@@ -26,7 +26,7 @@ mod heads;
 mod items;
 mod jobs;
 pub mod laws;
-mod numbers;
+pub mod numbers;
 mod parts;
 mod places;
 mod reader;

@@ -1,0 +1,128 @@
+-- The octets of a record that was read are those that are written of it.
+use Rattle.std.proofs.Common.{◌≡◌, ℕ, zero, suc, ℤ, ◌+◌, ◌*◌, ◌-◌, ◌<◌, ◌≤◌, ◌^◌, List, [], ◌∷◌, ◌++◌, length, drop, take, flat_map, get_or, slice_index}
+use Rattle.std.proofs.Common.{refl, sym, ap, subst, ◌∙◌, append_assoc, length-append, arith, w8, FitsSigned}
+use Rattle.std.proofs.lemmas.Int.{of_z-to_z, ints}
+use Rattle.std.proofs.lemmas.List.{append-nil, drop_more, get_or-drop, length-drop, take_all}
+use Rattle.std.specs.Int.{cast_signed, cast_unsigned}
+use Rattle.byteorder.specs.Endian.{big_number, big_bytes}
+use Rattle.byteorder.specs.Numbers.{big_from-lt}
+use Rattle.ht_fields.specs.Tests.{AreBytes}
+use Rattle.ht_heads.proofs.Counts.{bytes_back_as}
+use Rattle.ht_rate.specs.declared.kinds.Modulation.{Modulation}
+use Rattle.ht_pam.specs.declared.point.Point.{Point}
+use Rattle.ht_metric.specs.declared.sample.Sample.{Sample}
+use Rattle.ht_metric.specs.Rows.{Leg, rows_of}
+use Rattle.ht_metric.specs.Arrays.{legs, samples, legs-rows_of, length-rows_of, samples-rows_of}
+use Rattle.ht_capture.specs.Numbers.{sample_at}
+use Rattle.ht_capture.specs.Systems.{legs_at, samples_at, triangle_of, triangle_octets}
+use Rattle.ht_capture.specs.Files.{legs_octets, sample_octets}
+use Rattle.ht_capture.specs.Contents.{AreLegs, AreSamples}
+use Rattle.ht_capture.proofs.Encoded.{legs_back, sample_back}
+use Rattle.ht_capture.proofs.Grids.{length-legs_at}
+use Rattle.ht_cert.specs.declared.record.Record.{Record}
+use Rattle.ht_cert.specs.Records.{claim_width, claimed, distance_begins, full_grid, point_at, points_at, points_begin, samples_begin}
+use Rattle.ht_cert.specs.Files.{ArePoints, IsRecord, claim_octets, point_octets}
+
+length-samples_at : (n : ℕ) (octets : List ℕ) (at : ℕ) → length (samples_at n octets at) ≡ n
+length-samples_at zero octets at = refl
+length-samples_at (suc n) octets at = ap suc (length-samples_at n octets (at + 8))
+
+samples_back : (n : ℕ) (octets : List ℕ) (at : ℕ) → at + 8 * n ≤ length octets → AreBytes octets
+    → AreSamples (samples_at n octets at) × (flat_map sample_octets (samples_at n octets at) ++ drop (at + 8 * n) octets ≡ drop at octets)
+samples_back zero octets at enough bytes = let e : at + 8 * 0 ≡ at = omega arith in (tt, ap (λ k. drop k octets) e)
+samples_back (suc n) octets at enough bytes =
+    let s = sample_back octets at (omega (arith, enough)) bytes in
+    let rest = samples_back n octets (at + 8) (omega (arith, enough)) bytes in
+    let e : at + 8 * suc n ≡ at + 8 + 8 * n = omega arith in
+    let first : List ℕ = sample_octets (sample_at octets at) in
+    let more : List ℕ = flat_map sample_octets (samples_at n octets (at + 8)) in (
+      (s.0, s.1, rest.0),
+      append_assoc first more (drop (at + 8 * suc n) octets)
+          ∙ (ap (λ (z : List ℕ). first ++ z) (ap (λ k. more ++ drop k octets) e ∙ rest.1) ∙ s.2),
+    )
+
+-- points
+small_fits : (n : ℕ) → n < 2 ^ 8 → FitsSigned w8 (cast_signed w8 n)
+small_fits n small = omega (arith, ints, small)
+
+point_back : (octets : List ℕ) (at : ℕ) → at + 2 ≤ length octets → AreBytes octets
+    → FitsSigned w8 (point_at octets at).i × FitsSigned w8 (point_at octets at).q × (point_octets (point_at octets at) ++ drop (at + 2) octets ≡ drop at octets)
+unfolding point_at
+point_back octets at enough bytes =
+    let a = slice_index octets at in
+    let b = slice_index octets (at + 1) in
+    let e : at + 1 + 1 ≡ at + 2 = omega arith in
+    let two : drop at octets ≡ a ∷ b ∷ drop (at + 2) octets =
+    drop_more octets at 0 (omega (arith, enough))
+    ∙ ap (λ (xs : List ℕ). a ∷ xs) (drop_more octets (at + 1) 0 (omega (arith, enough)) ∙ ap (λ n. b ∷ drop n octets) e) in (
+      small_fits a (bytes at),
+      small_fits b (bytes (at + 1)),
+      ap (λ x. x ∷ cast_unsigned w8 (cast_signed w8 b) ∷ drop (at + 2) octets) (of_z-to_z w8 a (bytes at))
+          ∙ (ap (λ x. a ∷ x ∷ drop (at + 2) octets) (of_z-to_z w8 b (bytes (at + 1))) ∙ sym two),
+    )
+
+length-points_at : (n : ℕ) (octets : List ℕ) (at : ℕ) → length (points_at n octets at) ≡ n
+length-points_at zero octets at = refl
+length-points_at (suc n) octets at = ap suc (length-points_at n octets (at + 2))
+
+points_back : (n : ℕ) (octets : List ℕ) (at : ℕ) → at + 2 * n ≤ length octets → AreBytes octets
+    → ArePoints (points_at n octets at) × (flat_map point_octets (points_at n octets at) ++ drop (at + 2 * n) octets ≡ drop at octets)
+points_back zero octets at enough bytes = let e : at + 2 * 0 ≡ at = omega arith in (tt, ap (λ k. drop k octets) e)
+points_back (suc n) octets at enough bytes =
+    let p = point_back octets at (omega (arith, enough)) bytes in
+    let rest = points_back n octets (at + 2) (omega (arith, enough)) bytes in
+    let e : at + 2 * suc n ≡ at + 2 + 2 * n = omega arith in
+    let first : List ℕ = point_octets (point_at octets at) in
+    let more : List ℕ = flat_map point_octets (points_at n octets (at + 2)) in (
+      (p.0, p.1, rest.0),
+      append_assoc first more (drop (at + 2 * suc n) octets)
+          ∙ (ap (λ (z : List ℕ). first ++ z) (ap (λ k. more ++ drop k octets) e ∙ rest.1) ∙ p.2),
+    )
+
+bytes_drop : (n : ℕ) (octets : List ℕ) → AreBytes octets → AreBytes (drop n octets)
+bytes_drop n octets bytes i = subst (λ x. x < 256) (sym (get_or-drop n octets i 0)) (bytes (n + i))
+
+-- what was read of such octets is a record, and has these octets
+pub claim_encoded : (number : ℕ) (m : Modulation) (streams : ℕ) (x : List ℕ) → 1 ≤ streams → streams ≤ 4 → length x ≡ claim_width streams → AreBytes x
+    → IsRecord number (claimed number m streams x) × (length (claimed number m streams x).job.system ≡ streams) × (claim_octets (claimed number m streams x) ≡ x)
+unfolding claimed claim_octets triangle_of
+claim_encoded number m streams x some few wide bytes =
+    let t = triangle_of streams x in
+    let s = samples_at streams x (samples_begin streams) in
+    let rows = rows_of t s in
+    let p = points_at streams x (points_begin streams) in
+    let rest = drop (distance_begins streams) x in
+    let d = big_number 16 rest in
+    let t_n : length t ≡ streams = length-legs_at streams x 0 in
+    let s_n : length s ≡ streams = length-samples_at streams x (samples_begin streams) in
+    let n_is : length rows ≡ streams = length-rows_of t s ∙ t_n in
+    let t_is : legs rows ≡ t = legs-rows_of t s in
+    let s_is : samples rows ≡ s =
+    samples-rows_of t s (omega (arith, t_n, s_n)) ∙ take_all (length t) s (omega (arith, t_n, s_n)) in
+    let t_back = legs_back streams x 0 (omega (arith, wide)) bytes in
+    let s_back = samples_back streams x (samples_begin streams) (omega (arith, wide)) bytes in
+    let p_back = points_back streams x (points_begin streams) (omega (arith, wide)) bytes in
+    let left : length rest ≡ 16 = omega (arith, length-drop (distance_begins streams) x, wide) in
+    let d_back : big_bytes 16 d ≡ rest = bytes_back_as rest 16 d left refl (bytes_drop (distance_begins streams) x bytes) in
+    let begin : 0 + 2 * (streams * streams) ≡ samples_begin streams = omega arith in (
+      record {
+        number_is = refl;
+        place = refl;
+        grid = ap (λ n. full_grid m n) (sym n_is);
+        some = omega (arith, n_is, some);
+        few = omega (arith, n_is, few);
+        legs_are = subst AreLegs (sym t_is) t_back.0;
+        samples_are = subst AreSamples (sym s_is) s_back.0;
+        points = length-points_at streams x (points_begin streams) ∙ sym n_is;
+        points_are = p_back.0;
+        distance = big_from-lt 0 16 rest (bytes_drop (distance_begins streams) x bytes);
+        marks = omega arith;
+      },
+      n_is,
+      ap (λ (z : List Leg). legs_octets z ++ (flat_map sample_octets (samples rows) ++ (flat_map point_octets p ++ big_bytes 16 d))) t_is
+          ∙ (ap (λ (z : List Sample). legs_octets t ++ (flat_map sample_octets z ++ (flat_map point_octets p ++ big_bytes 16 d))) s_is
+          ∙ (ap (λ (z : List ℕ). legs_octets t ++ (flat_map sample_octets s ++ (flat_map point_octets p ++ z))) d_back
+          ∙ (ap (λ (z : List ℕ). legs_octets t ++ (flat_map sample_octets s ++ z)) p_back.1
+          ∙ (ap (λ (z : List ℕ). legs_octets t ++ z) s_back.1
+          ∙ (ap (λ k. legs_octets t ++ drop k x) (sym begin) ∙ t_back.1))))),
+    )

@@ -1,0 +1,11 @@
+pub mod Grids
+pub mod Routes
+pub mod Reading
+pub mod Ends
+pub mod Decoded
+pub mod Filed
+pub mod Encoded
+pub mod Back
+pub mod Written
+pub mod Starting
+mod Worked

@@ -1,0 +1,16 @@
+use Rattle.std.proofs.Common.{◌-◌, ◌+◌}
+use Rattle.ht_io.specs.Devices.{IsLater}
+use Rattle.ht_heads.specs.Starts.{Body}
+use Rattle.ht_cert.specs.Formats.{Marks}
+use Rattle.ht_cert.specs.Records.{with_marks}
+use Rattle.ht_cert.specs.Readers.{here}
+use Rattle.ht_cert.proofs.Reading.{GivesMarks}
+use Rattle.ht_cert.proofs.fields.marks.Given as goal
+
+-- this number of marks was read
+abbrev pub invariant-loop-k : goal.invariant-loop-k
+invariant-loop-k g l = record {
+  told : GivesMarks (here (Body (Marks l.turn l.fn.into)) l.at (g.S.Source.shown l.fn.source)) l.turn
+      (with_marks l.fn.into l.marks.items) (l.count - l.k) (l.at + 4 + l.k) (g.S.Source.shown l.source);
+  later : IsLater (g.S.Source.shown l.fn.source) (g.S.Source.shown l.source);
+}

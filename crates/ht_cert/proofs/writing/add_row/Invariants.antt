@@ -1,0 +1,13 @@
+use Rattle.std.proofs.Common.{◌≡◌, ◌+◌, ◌*◌, ◌-◌, ◌++◌, length, drop, slice_index_or}
+use Rattle.ht_metric.specs.Rows.{no_row}
+use Rattle.ht_capture.specs.Files.{leg_octets, taps_octets}
+use Rattle.ht_cert.specs.Files.{leg_of}
+use Rattle.ht_cert.proofs.writing.add_row.Given as goal
+
+-- this number of entries is there, and the others complete the row
+abbrev pub invariant-loop-entry : goal.invariant-loop-entry
+invariant-loop-entry l = record {
+  put : l.chunk ++ taps_octets (l.below - l.entry) (drop l.entry (slice_index_or l.system l.row no_row).right)
+      ≡ l.fn.chunk ++ leg_octets l.below (leg_of (slice_index_or l.system l.row no_row));
+  size : length l.chunk ≡ length l.fn.chunk + 2 + 4 * l.entry;
+}

@@ -1,0 +1,111 @@
+-- What a reader of certificates still gives.
+use Rattle.std.specs.Prelude.{◌≡◌, ⊤, ℕ, ◌+◌, ◌*◌, ◌<◌, ◌≤◌, List, [], ◌∷◌, length, Option, Some, None, Result, Ok, Err}
+use Rattle.ht_io.specs.Devices.{Device, Takes, TakesAll}
+use Rattle.ht_io.specs.declared.faults.InFault.{InFault}
+use Rattle.ht_io.specs.declared.faults.InFault.TheVariants.{Format, Read, NoMemory}
+use Rattle.ht_fields.specs.Meanings.{Meaning, ended, refused, meaning}
+use Rattle.ht_fields.specs.Readers.{ReaderView, reader_in, Gives}
+use Rattle.ht_fields.specs.WholeFiles.{Halts}
+use Rattle.ht_heads.specs.Starts.{StartState}
+use Rattle.ht_cert.specs.declared.record.Record.{Record}
+use Rattle.ht_cert.specs.declared.reader.Came.{Came}
+use Rattle.ht_cert.specs.declared.reader.Came.TheVariants.{Whole, End}
+use Rattle.ht_cert.specs.declared.turn.Turn.{Turn}
+use Rattle.ht_cert.specs.declared.turn.Stage.{Stage}
+use Rattle.ht_cert.specs.declared.turn.Stage.TheVariants.{Begin, Next, Ended, Stopped}
+use Rattle.ht_rate.specs.declared.kinds.Modulation.{Modulation}
+use Rattle.ht_cert.specs.Formats.{RecordState, certificates, records_due}
+use Rattle.ht_cert.specs.Records.{claim_width, claimed}
+
+-- a reader in a state, at an offset, over this source
+abbrev pub here : StartState RecordState → ℕ → Device ℕ → ReaderView Record
+here state at source = reader_in certificates state at source
+
+-- the octets of the meaning of a file of certificates
+abbrev pub certificates_in : List ℕ → Meaning Record
+certificates_in octets = meaning certificates certificates.start 0 octets
+
+-- triangle, samples, points and distance were taken, and the record has what they say, and no marks
+abbrev pub ReadsClaim : ℕ → Modulation → ℕ → Record → Device ℕ → Device ℕ → Type 0
+ReadsClaim number modulation streams r before after =
+    (octets : List ℕ) × (length octets ≡ claim_width streams) × (r ≡ claimed number modulation streams octets) × Takes before after octets
+
+-- a reader stopped: at the first fault of the file, where its source failed, or for lack of memory
+abbrev pub Fails : ReaderView Record → Device ℕ → InFault → Type 0
+Fails old after (Format fault) = Halts old after (Format fault)
+Fails old after Read = Halts old after Read
+Fails old after NoMemory = ⊤
+
+-- a reader that stopped gives its fault again, and no record
+abbrev pub stopped_means : InFault → List ℕ → Meaning Record
+stopped_means (Format fault) rest = refused fault.kind fault.offset
+stopped_means Read rest = ended
+stopped_means NoMemory rest = ended
+
+-- what a reader means in a stage, if exactly these octets are left
+abbrev pub stage_means : Stage → ℕ → List ℕ → Meaning Record
+stage_means Begin at = meaning certificates certificates.start at
+stage_means (Next turn) at = meaning certificates (records_due turn) at
+stage_means Ended at = λ rest. ended
+stage_means (Stopped fault) at = stopped_means fault
+
+-- how far a reader is: its stage, and the octets that it read
+pub record Progress : Type 0 where
+  pub stage : Stage
+  pub at : ℕ
+
+abbrev pub shown_by : Progress → Device ℕ → ReaderView Record
+shown_by reader source = record { means = stage_means reader.stage reader.at; at = reader.at; source = source }
+
+-- the octets taken were all that was left: the reader meant no record more, and no fault
+pub record Completes (old : ReaderView Record) (after : Device ℕ) : Type 0 where
+  pub taken : List ℕ
+  pub octets : TakesAll old.source after taken
+  pub means : old.means taken ≡ ended
+
+-- a record was read, or the file ended
+abbrev pub GivesRecord : ReaderView Record → ReaderView Record → Came → Record → Type 0
+GivesRecord old new Whole r = Gives old new (r ∷ [])
+GivesRecord old new End r = Completes old new.source
+
+-- the answer that a reader gives again and again
+abbrev pub finished_stage : Stage → Option (Result Came InFault)
+finished_stage Begin = None
+finished_stage (Next turn) = None
+finished_stage Ended = Some (Ok End)
+finished_stage (Stopped fault) = Some (Err fault)
+
+abbrev pub finished : Progress → Option (Result Came InFault)
+finished reader = finished_stage reader.stage
+
+-- how many records may still come
+abbrev pub more_at : Stage → ℕ
+more_at Begin = 137438953472
+more_at (Next turn) = turn.left
+more_at Ended = 0
+more_at (Stopped fault) = 0
+
+abbrev pub more : Progress → ℕ
+more reader = more_at reader.stage
+
+-- the number of the next record
+abbrev pub number_at : Stage → ℕ
+number_at Begin = 0
+number_at (Next turn) = turn.number
+number_at Ended = 0
+number_at (Stopped fault) = 0
+
+abbrev pub number : Progress → ℕ
+number reader = number_at reader.stage
+
+-- behind each record the bound is less, and the number one more
+abbrev pub Passes : Progress → Progress → Came → Record → Type 0
+Passes old new Whole r = (more new < more old) × (r.job.number ≡ number old) × (number new ≡ number old + 1) × (finished new ≡ None)
+Passes old new End r = more new ≤ more old
+
+-- the offset stays far below the end of its type: a record has at most 33,554,526 octets
+abbrev pub StageFits : Stage → ℕ → Type 0
+StageFits Begin at = at ≡ 0
+StageFits (Next turn) at = (turn.number + turn.left ≤ 137438953472) × (at ≤ 13 + 33554526 * turn.number)
+StageFits Ended at = ⊤
+StageFits (Stopped fault) at = ⊤

@@ -1,0 +1,183 @@
+//! Files of certificates as they are written.
+ghost use Rattle.std.specs.Prelude.{◌≡◌, ◌≤◌, ◌<◌, ◌+◌, ◌*◌, ◌-◌, ◌++◌, length, map, flat_map, slice_index_or, OnOk, OnErr};
+ghost use Rattle.ht_io.specs.Devices.{Grows, GrowsByPart, Rose, IsLater};
+ghost use Rattle.ht_metric.specs.Arrays.{legs, samples};
+ghost use Rattle.ht_metric.specs.Rows.{no_row};
+ghost use Rattle.ht_capture.specs.Files.{leg_octets, legs_octets, sample_octets, tap_octets};
+ghost use Rattle.ht_cert.specs.Records.{code_of};
+ghost use Rattle.ht_cert.specs.Files.{front_octets, leg_of, mark_octet, point_octets, record_octets, records_start};
+
+use crate::record::Record;
+use ht_fields::Chunk;
+use ht_io::{Failed, Sink};
+use ht_metric::{Sample, System, Tap, Vector};
+use ht_rate::Modulation;
+
+/// The number of marks that are put at once: as many as fill a chunk.
+const MARKS: usize = 4096;
+
+/// The number of marks that are put with what stands in front of them.
+const FIRST_MARKS: usize = 3978;
+
+// The code of a modulation.
+fn code(modulation: Modulation) -> u8
+    ensures { result ≡ code_of modulation }
+{
+    match modulation {
+        Modulation::Bpsk => 0,
+        Modulation::Qpsk => 1,
+        Modulation::Qam16 => 2,
+        Modulation::Qam64 => 3,
+    }
+}
+
+// Adds an entry of a triangle.
+fn add_tap(chunk: &mut Chunk, tap: Tap)
+    requires { length chunk.old + 4 ≤ 4096 }
+    ensures { chunk.new ≡ chunk.old ++ tap_octets tap }
+{
+    chunk.add(&tap.re.to_be_bytes());
+    chunk.add(&tap.im.to_be_bytes());
+}
+
+// Adds the diagonal of a row and the entries to its right.
+fn add_row(chunk: &mut Chunk, system: &System, row: u8)
+    requires row { row < length system.now }
+    requires room { length chunk.old + 14 ≤ 4096 }
+    ensures put { chunk.new ≡ chunk.old ++ leg_octets (length system.now - row - 1) (leg_of (slice_index_or system.now row no_row)) }
+    ensures size { length chunk.new ≤ length chunk.old + 14 }
+{
+    let below = system.streams() - row - 1;
+    chunk.add(&system.diagonal(row + 1).to_be_bytes());
+    for entry in 0..below {
+        add_tap(chunk, system.above(row + 1, row + 2 + entry));
+    }
+}
+
+// Adds the triangle of a system.
+fn add_triangle(chunk: &mut Chunk, system: &System)
+    requires room { length chunk.old ≤ 4000 }
+    ensures put { chunk.new ≡ chunk.old ++ legs_octets (legs system.now) }
+    ensures size { length chunk.new ≤ length chunk.old + 56 }
+{
+    for row in 0..system.streams() {
+        add_row(chunk, system, row);
+    }
+}
+
+// Adds a sample.
+fn add_sample(chunk: &mut Chunk, sample: Sample)
+    requires { length chunk.old + 8 ≤ 4096 }
+    ensures { chunk.new ≡ chunk.old ++ sample_octets sample }
+{
+    chunk.add(&sample.re.to_be_bytes());
+    chunk.add(&sample.im.to_be_bytes());
+}
+
+// Adds what was received.
+fn add_samples(chunk: &mut Chunk, system: &System)
+    requires room { length chunk.old ≤ 4000 }
+    ensures put { chunk.new ≡ chunk.old ++ flat_map sample_octets (samples system.now) }
+    ensures size { length chunk.new ≤ length chunk.old + 32 }
+{
+    for row in 0..system.streams() {
+        add_sample(chunk, system.sample(row + 1));
+    }
+}
+
+// Adds the claimed points.
+fn add_points(chunk: &mut Chunk, vector: &Vector)
+    requires room { length chunk.old ≤ 4000 }
+    ensures put { chunk.new ≡ chunk.old ++ flat_map point_octets vector.now }
+    ensures size { length chunk.new ≤ length chunk.old + 8 }
+{
+    for stream in 0..vector.len() {
+        let point = vector.point(stream + 1);
+        chunk.add(&point.i.to_be_bytes());
+        chunk.add(&point.q.to_be_bytes());
+    }
+}
+
+// Fills the chunk with what stands in front of the marks of a record.
+fn front(chunk: &mut Chunk, recorded: &Record)
+    requires { length recorded.now.certificate.marks ≤ 33554432 }
+    ensures put { chunk.new ≡ front_octets recorded.now }
+    ensures size { length chunk.new ≤ 118 }
+{
+    let system = recorded.job.system();
+    let marks = recorded.certificate.marks.as_slice().len() as u32;
+    chunk.clear();
+    chunk.add(&[code(recorded.modulation), system.streams()]);
+    add_triangle(chunk, system);
+    add_samples(chunk, system);
+    add_points(chunk, &recorded.certificate.vector);
+    chunk.add(&recorded.certificate.distance.to_be_bytes());
+    chunk.add(&marks.to_be_bytes());
+}
+
+// Adds marks.
+fn add_marks(chunk: &mut Chunk, marks: &[bool])
+    requires few { length chunk.old + length marks.now ≤ 4096 }
+    ensures { chunk.new ≡ chunk.old ++ map mark_octet marks.now }
+{
+    for mark in marks {
+        chunk.add(&[u8::from(*mark)]);
+    }
+}
+
+// Puts marks, as many at once as fill the chunk.
+fn put_marks<K: Sink>(marks: &[bool], chunk: &mut Chunk, sink: &mut K) -> Result<(), Failed>
+    ensures grown { OnOk result (Grows (K.shown sink.old) (K.shown sink.new) (map mark_octet marks.now)) }
+    ensures steady { OnOk result ((K.shown sink.new).faults ≡ (K.shown sink.old).faults) }
+    ensures part { OnErr result (GrowsByPart (K.shown sink.old) (K.shown sink.new) (map mark_octet marks.now)) }
+    ensures cause { OnErr result (Rose (K.shown sink.old) (K.shown sink.new)) }
+    ensures later { IsLater (K.shown sink.old) (K.shown sink.new) }
+{
+    let mut rest = marks;
+    while !rest.is_empty() {
+        let (now, later) = rest.split_at(rest.len().min(MARKS));
+        chunk.clear();
+        add_marks(chunk, now);
+        sink.put(chunk.as_slice())?;
+        rest = later;
+    }
+    Ok(())
+}
+
+/// Puts what stands in front of this number of records.
+///
+/// Where the sink fails, a part of it from its front was put.
+#[tactic(auto, unfolding(ht_heads::specs::Starts::started_octets))]
+pub fn write_start<K: Sink>(count: u64, sink: &mut K) -> Result<(), Failed>
+    ensures grown { OnOk result (Grows (K.shown sink.old) (K.shown sink.new) (records_start count)) }
+    ensures steady { OnOk result ((K.shown sink.new).faults ≡ (K.shown sink.old).faults) }
+    ensures part { OnErr result (GrowsByPart (K.shown sink.old) (K.shown sink.new) (records_start count)) }
+    ensures cause { OnErr result (Rose (K.shown sink.old) (K.shown sink.new)) }
+    ensures later { IsLater (K.shown sink.old) (K.shown sink.new) }
+{
+    let n = count.to_be_bytes();
+    sink.put(&[
+        b'H', b'T', b'C', b'T', 1, n[0], n[1], n[2], n[3], n[4], n[5], n[6], n[7],
+    ])
+}
+
+/// Puts a record, which has at most 2^25 marks. It takes no memory.
+///
+/// Where the sink fails, a part of the record from its front was put.
+#[tactic(auto, unfolding(crate::specs::Files::record_octets))]
+pub fn write_record<K: Sink>(recorded: &Record, sink: &mut K) -> Result<(), Failed>
+    requires marks { length recorded.now.certificate.marks ≤ 33554432 }
+    ensures grown { OnOk result (Grows (K.shown sink.old) (K.shown sink.new) (record_octets recorded.now)) }
+    ensures steady { OnOk result ((K.shown sink.new).faults ≡ (K.shown sink.old).faults) }
+    ensures part { OnErr result (GrowsByPart (K.shown sink.old) (K.shown sink.new) (record_octets recorded.now)) }
+    ensures cause { OnErr result (Rose (K.shown sink.old) (K.shown sink.new)) }
+    ensures later { IsLater (K.shown sink.old) (K.shown sink.new) }
+{
+    let mut chunk = Chunk::new();
+    front(&mut chunk, recorded);
+    let marks = recorded.certificate.marks.as_slice();
+    let (first, rest) = marks.split_at(marks.len().min(FIRST_MARKS));
+    add_marks(&mut chunk, first);
+    sink.put(chunk.as_slice())?;
+    put_marks(rest, &mut chunk, sink)
+}
