@@ -4,7 +4,8 @@ import numpy as np
 import pytest
 from conftest import octets_of, random_frame, vectors
 
-from mizgaure import CaptureFrame, InputError, Proportion, Rate, SymbolsFrame, error_rates, evm, read_answers, read_htcp, read_htsy
+from mizgaure import (CaptureFrame, FrameProportion, InputError, Proportion, Rate, SymbolsFrame, error_rates, evm, read_answers, read_htcp,
+                      read_htsy)
 from mizgaure.answers import Jobs
 from mizgaure.distances import distances, places, zero_forcing
 from mizgaure.measures import octet_errors
@@ -16,7 +17,59 @@ from mizgaure.rates import labels_of
 ])
 def test_intervals_of_wilson(events, trials, low, high):
     """Values of tables; the last row is the example 81 of 263 that Newcombe (1998) gives as 0.2553 to 0.3662."""
+    pytest.importorskip("scipy")
     assert Proportion(events, trials).interval == pytest.approx((low, high), abs=2e-5)
+
+
+def frames_of(errors, trials):
+    """A rate over frames with these errors, each of so many trials."""
+    return sum((FrameProportion.of(int(count), trials) for count in errors), FrameProportion())
+
+
+def test_rates_over_frames_add_up():
+    rate = frames_of([3, 0, 3], 10) + FrameProportion.of(1, 5) + FrameProportion.of(0, 0)
+    assert (rate.events, rate.trials, rate.count, rate.value) == (7, 35, 4, 0.2)
+    assert rate.rows() == [[0, 10, 1], [1, 5, 1], [3, 10, 2]] and FrameProportion.from_rows(rate.rows()) == rate
+    for rows in ([[1, 0, 1]], [[3, 2, 1]], [[0, 1, 0]], [[0, 1]], [[0.0, 1, 1]], [[True, 1, 1]]):
+        with pytest.raises(ValueError):
+            FrameProportion.from_rows(rows)
+
+
+def test_an_interval_over_frames_by_hand():
+    """Two frames of 100 trials with 10 and 30 errors: p = 0.2 and a standard error of 0.1, so 0.1 / 0.16 on the scale of odds."""
+    stats = pytest.importorskip("scipy.stats")
+    low, high = frames_of([10, 30], 100).interval
+    half = stats.t.ppf(0.975, 1) * 0.1 / 0.16
+    assert np.log([low / (1 - low), high / (1 - high)]) == pytest.approx(np.log(0.25) + np.array([-half, half]))
+    assert FrameProportion().interval == FrameProportion.of(3, 10).interval == (0, 1)  # nothing is known of a spread
+    assert str(FrameProportion.of(3, 10)) == "3 of 10 = 0.3 (one frame gives no interval)" and str(FrameProportion()) == "none"
+    assert frames_of([0] * 50, 1000).interval == (0, pytest.approx(1 - 0.025 ** (1 / 50)))
+    assert frames_of([1000] * 50, 1000).interval == (pytest.approx(0.025 ** (1 / 50)), 1)
+    # Frames that agree more than independent trials would: the interval is that of independent trials.
+    low, high = frames_of([10] * 200, 100).interval
+    assert (low, high) == pytest.approx(Proportion(2000, 20000).interval, rel=0.005)
+
+
+@pytest.mark.parametrize("frames, ratio", [(50, 0.0), (50, 5.0), (50, 10.0), (50, 15.0), (200, 10.0), (200, 20.0), (50, None)])
+def test_intervals_hold_the_truth(frames, ratio):
+    """200 sweeps of BPSK over a flat Rayleigh channel, one channel a frame: the symbol error rate is known in a closed form.
+
+    At a ratio of None the frames share a channel that doesn't fade.
+    """
+    special = pytest.importorskip("scipy.special")
+    random = np.random.default_rng(4)
+    if ratio is None:
+        truth = rates = np.full((200, frames), 0.01)
+        truth = 0.01
+    else:
+        power = 10 ** (ratio / 10)
+        truth = (1 - np.sqrt(power / (1 + power))) / 2
+        rates = special.erfc(np.sqrt(power * random.exponential(1, (200, frames)))) / 2
+    held = 0
+    for errors in random.binomial(1040, rates):
+        low, high = frames_of(errors, 1040).interval
+        held += low <= truth <= high
+    assert 180 <= held <= 198
 
 
 def noisy(rate, length, errors, diagonal=1000):
@@ -76,7 +129,7 @@ def test_rates_against_planted_errors():
     wrong = sum(bin(int(a) ^ int(b)).count("1") for a, b in zip(*labels))
     jobs = Jobs(0, symbol, carrier, np.zeros(symbol.size, int), points[symbol, carrier])
     found = error_rates([SymbolsFrame(rate, 60, sent)], [jobs])
-    assert found.symbols == Proportion(2, sent.shape[0] * 52 * 2) and found.bits == Proportion(wrong, sent.shape[0] * 52 * 2 * 4)
+    assert found.symbols == FrameProportion.of(2, sent.shape[0] * 52 * 2) and found.bits == FrameProportion.of(wrong, sent.shape[0] * 52 * 2 * 4)
     with pytest.raises(InputError, match="answer to frame 0, and 0 frames were sent"):
         error_rates([], [jobs])
     with pytest.raises(InputError, match="aren't to a frame of 20 MHz, MCS 0"):
@@ -90,9 +143,9 @@ def test_no_error_in_the_vectors_without_noise():
 
 
 def test_octets():
-    assert octet_errors(b"\x0f\x00", b"\x0e\x80").octet_bits == Proportion(2, 16)
+    assert octet_errors(b"\x0f\x00", b"\x0e\x80").octet_bits == FrameProportion.of(2, 16)
     assert octet_errors(b"ab", b"ab").frames == Proportion(0, 1)
-    assert octet_errors(b"abc", None).octet_bits == Proportion(12, 24) and octet_errors(b"abc", None).frames == Proportion(1, 1)
+    assert octet_errors(b"abc", None).octet_bits == FrameProportion.of(12, 24) and octet_errors(b"abc", None).frames == Proportion(1, 1)
     with pytest.raises(InputError):
         octet_errors(b"ab", b"a")
 

@@ -27,7 +27,7 @@ from .answers import Answers, End, FrameAnswer, Jobs, Refused, read_answers
 from .errors import FitError, FormatError, InputError, LineError, MizgaureError, ProgramError
 from .formats import CaptureFrame, SentFrame, SymbolsFrame, read_htcp, read_htsy, read_httx, write_htcp, write_htsy, write_httx
 from .judge import judge
-from .measures import Proportion, error_rates, evm
+from .measures import FrameProportion, Proportion, error_rates, evm
 from .program import Radio
 from .quantise import Capture, MeasuredFrame, capture
 from .rates import Rate
@@ -42,6 +42,7 @@ __all__ = [
     "FitError",
     "FormatError",
     "FrameAnswer",
+    "FrameProportion",
     "InputError",
     "Jobs",
     "LineError",

@@ -12,13 +12,16 @@ sums it is not dominated by faded subcarriers, and a row whose diagonal is 0 add
 are wrong the residual is shorter than the true error, so the magnitude is too small then, as with every measure that takes
 decided points.
 
-**Error rates** are proportions with Wilson's interval, which holds for few and for no errors too.
+**Error rates** are proportions with intervals at 95 %. Frames are independent of one another, so a frame error rate has
+Wilson's interval (`Proportion`). Points and bits of one frame share its channel and aren't, so their rates keep how many
+frames had how many errors, and their interval comes from the spread over frames (`FrameProportion`).
 """
 
 from __future__ import annotations
 
-from dataclasses import dataclass
-from typing import Dict, Iterable, Optional, Tuple, Union
+from collections import Counter
+from dataclasses import dataclass, field
+from typing import Dict, Iterable, List, Mapping, Optional, Sequence, Tuple, Union
 
 import numpy as np
 
@@ -28,12 +31,21 @@ from .errors import InputError
 from .formats import CaptureFrame, SymbolsFrame
 from .rates import labels_of
 
-QUANTILE_95 = 1.959963984540054  # of the normal distribution, at 0.975
+CONFIDENCE = 0.95
+
+
+def _statistics():
+    """The module of scipy, which takes a while to load and is needed only where an interval is asked for."""
+    try:
+        from scipy import stats
+    except ImportError:
+        raise InputError("intervals need scipy; on Debian: apt install python3-scipy") from None
+    return stats
 
 
 @dataclass(frozen=True)
 class Proportion:
-    """A number of events in a number of trials.
+    """A number of events in a number of independent trials.
 
     Parameters
     ----------
@@ -53,24 +65,118 @@ class Proportion:
         """Wilson's interval at 95 %; from 0 to 1 where nothing was tried."""
         if not self.trials:
             return 0.0, 1.0
-        n, p, z2 = self.trials, self.value, QUANTILE_95**2
-        middle = (p + z2 / (2 * n)) / (1 + z2 / n)
-        half = QUANTILE_95 / (1 + z2 / n) * (p * (1 - p) / n + z2 / (4 * n * n)) ** 0.5
-        low = 0.0 if self.events == 0 else max(0.0, middle - half)
-        high = 1.0 if self.events == n else min(1.0, middle + half)
-        return low, high
+        low, high = _statistics().binomtest(self.events, self.trials).proportion_ci(CONFIDENCE, method="wilson")
+        return (0.0 if self.events == 0 else float(low)), (1.0 if self.events == self.trials else float(high))
 
     def __add__(self, other: "Proportion") -> "Proportion":
         return Proportion(self.events + other.events, self.trials + other.trials)
 
     def __str__(self) -> str:
-        if not self.trials:
-            return "none"
-        low, high = self.interval
-        return f"{self.events} of {self.trials} = {self.value:.3g} (95 %: {low:.3g} to {high:.3g})"
+        return _rate_in_words(self.events, self.trials, "" if not self.trials else _interval_in_words(self.interval))
 
 
-NOTHING = Proportion(0, 0)
+@dataclass(frozen=True)
+class FrameProportion:
+    """A number of events in trials that come by frames; trials of one frame needn't be independent.
+
+    Parameters
+    ----------
+    frames : mapping from (events, trials) to int
+        How many frames had this number of events in this number of trials.
+    """
+
+    frames: Mapping[Tuple[int, int], int] = field(default_factory=dict)
+
+    @classmethod
+    def of(cls, events: int, trials: int) -> "FrameProportion":
+        """That of one frame; of none where nothing was tried."""
+        return cls({(events, trials): 1} if trials else {})
+
+    @classmethod
+    def from_rows(cls, rows: Sequence[Sequence[int]]) -> "FrameProportion":
+        """From what `rows` gives.
+
+        Raises
+        ------
+        ValueError
+            If a row isn't three whole numbers, of at least 0 and no more events than trials, with a frame at least.
+        """
+        frames: Counter = Counter()
+        for events, trials, count in rows:
+            if not all(type(number) is int for number in (events, trials, count)) or not 0 <= events <= trials or trials < 1 or count < 1:
+                raise ValueError("no row of events, trials and frames")
+            frames[events, trials] += count
+        return cls(dict(frames))
+
+    def rows(self) -> List[List[int]]:
+        """Events, trials and the number of frames that had them, ascending: as it stands in a file."""
+        return [[events, trials, count] for (events, trials), count in sorted(self.frames.items())]
+
+    @property
+    def events(self) -> int:
+        """The number of events in all frames."""
+        return sum(events * count for (events, _), count in self.frames.items())
+
+    @property
+    def trials(self) -> int:
+        """The number of trials in all frames."""
+        return sum(trials * count for (_, trials), count in self.frames.items())
+
+    @property
+    def count(self) -> int:
+        """The number of frames."""
+        return sum(self.frames.values())
+
+    @property
+    def value(self) -> float:
+        """The proportion, NaN where nothing was tried."""
+        trials = self.trials
+        return self.events / trials if trials else float("nan")
+
+    @property
+    def interval(self) -> Tuple[float, float]:
+        """An interval at 95 % from the spread over frames; from 0 to 1 where there are fewer than two frames.
+
+        With e_i events in the n_i trials of frame i of m, p the proportion and N the trials in all, the variance of p is
+        m / (m - 1) times the sum of (e_i - p n_i)**2 / N**2, and no less than p (1 - p) / N. The interval is symmetric
+        about the logarithm of the odds p / (1 - p), with the quantile of Student's distribution. Its degrees of freedom are
+        Satterthwaite's, 2 m / (kurtosis - 1) by the kurtosis of the e_i - p n_i and m - 1 at most: where few frames have
+        nearly all events, the variance itself is badly known. Without an event the upper end is that of the proportion of
+        frames that have one, by Clopper and Pearson.
+        """
+        count, events, trials = self.count, self.events, self.trials
+        if count < 2:
+            return 0.0, 1.0
+        unseen = float(1 - ((1 - CONFIDENCE) / 2) ** (1 / count))
+        if events in (0, trials):
+            return (0.0, unseen) if events == 0 else (1 - unseen, 1.0)
+        p = events / trials
+        table = np.array([(e, n, number) for (e, n), number in self.frames.items()], float)
+        squares = (table[:, 0] - p * table[:, 1]) ** 2
+        spread, fourth = (float(np.sum(table[:, 2] * squares**power)) for power in (1, 2))
+        freedom = count - 1.0
+        if spread > 0 and count * fourth > spread**2:
+            freedom = min(freedom, max(1.0, 2 * count / (count * fourth / spread**2 - 1)))
+        variance = max(count / (count - 1) * spread / trials**2, p * (1 - p) / trials)
+        half = _statistics().t.ppf((1 + CONFIDENCE) / 2, freedom) * variance**0.5 / (p * (1 - p))
+        odds = np.log(p / (1 - p)) + np.array([-half, half])
+        low, high = 1 / (1 + np.exp(-np.clip(odds, -700, 700)))
+        return float(low), float(high)
+
+    def __add__(self, other: "FrameProportion") -> "FrameProportion":
+        return FrameProportion(dict(Counter(self.frames) + Counter(other.frames)))
+
+    def __str__(self) -> str:
+        said = "" if not self.count else "one frame gives no interval" if self.count == 1 else _interval_in_words(self.interval)
+        return _rate_in_words(self.events, self.trials, said)
+
+
+def _interval_in_words(interval: Tuple[float, float]) -> str:
+    return "95 %: {:.3g} to {:.3g}".format(*interval)
+
+
+def _rate_in_words(events: int, trials: int, interval: str) -> str:
+    return f"{events} of {trials} = {events / trials:.3g} ({interval})" if trials else "none"
 
 
 @dataclass(eq=False)
@@ -167,20 +273,20 @@ class ErrorRates:
 
     Parameters
     ----------
-    bits : Proportion
+    bits : FrameProportion
         Bits of labels on data subcarriers, before the decoder.
-    symbols : Proportion
+    symbols : FrameProportion
         Points on data subcarriers: one for each OFDM symbol, data subcarrier and stream.
-    octet_bits : Proportion
+    octet_bits : FrameProportion
         Bits of the PSDU, behind the decoder. A frame without octets has half of its bits wrong, rounded up.
     frames : Proportion
         Frames whose octets aren't those sent.
     """
 
-    bits: Proportion = NOTHING
-    symbols: Proportion = NOTHING
-    octet_bits: Proportion = NOTHING
-    frames: Proportion = NOTHING
+    bits: FrameProportion = FrameProportion()
+    symbols: FrameProportion = FrameProportion()
+    octet_bits: FrameProportion = FrameProportion()
+    frames: Proportion = Proportion(0, 0)
 
     def __add__(self, other: "ErrorRates") -> "ErrorRates":
         return ErrorRates(self.bits + other.bits, self.symbols + other.symbols, self.octet_bits + other.octet_bits,
@@ -226,8 +332,8 @@ def point_errors(sent: SymbolsFrame, jobs: Jobs) -> ErrorRates:
     meant = labels_of(sent.points[jobs.symbol[data], jobs.carrier[data]], rate)
     found = labels_of(jobs.points[data], rate)
     wrong_bits = np.unpackbits((meant ^ found).astype(np.uint8)[..., None], axis=-1).sum()
-    return ErrorRates(Proportion(int(wrong_bits), meant.size * rate.bits_per_point),
-                      Proportion(int(np.count_nonzero(meant != found)), meant.size))
+    return ErrorRates(FrameProportion.of(int(wrong_bits), meant.size * rate.bits_per_point),
+                      FrameProportion.of(int(np.count_nonzero(meant != found)), meant.size))
 
 
 def octet_errors(sent: bytes, received: Optional[bytes]) -> ErrorRates:
@@ -252,10 +358,10 @@ def octet_errors(sent: bytes, received: Optional[bytes]) -> ErrorRates:
         raise InputError(f"{len(received)} octets were received of a frame of {len(sent)}")
     else:
         wrong = int(np.unpackbits(np.frombuffer(sent, np.uint8) ^ np.frombuffer(received, np.uint8)).sum())
-    return ErrorRates(octet_bits=Proportion(wrong, bits), frames=Proportion(int(received != sent), 1))
+    return ErrorRates(octet_bits=FrameProportion.of(wrong, bits), frames=Proportion(int(received != sent), 1))
 
 
-def rates_by_name(rates: ErrorRates) -> Dict[str, Proportion]:
+def rates_by_name(rates: ErrorRates) -> Dict[str, Union[Proportion, FrameProportion]]:
     """The rates that were measured, by the names that the command prints."""
     names = {"bit error rate before the decoder": rates.bits, "symbol error rate": rates.symbols,
              "bit error rate of octets": rates.octet_bits, "frame error rate": rates.frames}

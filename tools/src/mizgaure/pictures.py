@@ -7,7 +7,7 @@ kinds of lines differ as well, so that a picture can be read in grey.
 from __future__ import annotations
 
 import os
-from typing import TYPE_CHECKING, List, Sequence, Tuple
+from typing import TYPE_CHECKING, List, Sequence, Tuple, Union
 
 import numpy as np
 
@@ -16,7 +16,7 @@ from .distances import residuals
 from .errors import InputError
 from .files import Target, writing
 from .formats import CaptureFrame
-from .measures import Proportion, check_jobs, evm
+from .measures import FrameProportion, Proportion, check_jobs, evm
 from .rates import Rate
 from .sweep import Sweep
 
@@ -229,7 +229,7 @@ def distance_histogram(frame: CaptureFrame, jobs: Jobs, name: str = "") -> "Figu
 
 
 def error_curves(sweep: Sweep, name: str = "") -> "Figure":
-    """Symbol and frame error rates over the signal-to-noise ratio, with Wilson's intervals at 95 %.
+    """Symbol and frame error rates over the signal-to-noise ratio, with their intervals at 95 %.
 
     Parameters
     ----------
@@ -239,7 +239,7 @@ def error_curves(sweep: Sweep, name: str = "") -> "Figure":
     """
     matplotlib, Figure = _matplotlib()
     setting = sweep.setting
-    curves: List[Tuple[str, Sequence[Proportion], str, str, str]] = [
+    curves: List[Tuple[str, Sequence[Union[Proportion, FrameProportion]], str, str, str]] = [
         ("SER, before the decoder", [rates.symbols for rates in sweep.rates], BLUE, "o", "-")]
     if sweep.coded:
         curves.insert(0, ("PER, behind the decoder", [rates.frames for rates in sweep.rates], ORANGE, "s", "--"))
@@ -264,7 +264,7 @@ def error_curves(sweep: Sweep, name: str = "") -> "Figure":
     return figure
 
 
-def _curve(panel, snr: Sequence[float], rates: Sequence[Proportion], colour: str, marker: str, line: str, label: str) -> float:
+def _curve(panel, snr: Sequence[float], rates: Sequence[Union[Proportion, FrameProportion]], colour: str, marker: str, line: str, label: str) -> float:
     """Draw a curve, and say where the lowest thing drawn is. Rates of 0 are drawn as what they are at most."""
     order = np.argsort(snr)
     x = np.asarray(snr, float)[order]
