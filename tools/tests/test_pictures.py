@@ -13,7 +13,8 @@ pictures = pytest.importorskip("mizgaure.pictures")
 
 KINDS = {
     "constellation": (pictures.constellation, "I (levels)", "Q (levels)"),
-    "evm": (pictures.evm_over_subcarriers, "subcarrier number, in ascending frequency", "error vector magnitude (%)"),
+    "evm": (pictures.evm_over_subcarriers, "subcarrier number, in ascending frequency", "error vector magnitude (dB)"),
+    "residual": (pictures.residual_over_subcarriers, "subcarrier number, in ascending frequency", "residual ratio (%)"),
     "distances": (pictures.distance_histogram, "least distance (squared whole units of the capture)", "share of the jobs (% a bin)"),
 }
 

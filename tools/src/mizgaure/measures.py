@@ -1,16 +1,25 @@
-"""Error vector magnitude and error rates.
+"""Error vector magnitude, the detector's residuals, and error rates.
 
-**Error vector magnitude.** On a subcarrier with the triangle R, row k of a detected vector x has the residual
-``r_k = y_k - d_k x_k - (sum over l > k of r_kl x_l)``; the distance is the sum of their squared lengths. The magnitude of
-any set of rows is
+**Error vector magnitude** (`evm`) is the standard's relative constellation error, by the test of clause 20.3.20.7.4: each
+symbol is turned back by the phase that its pilots have in common, each subcarrier is equalised by the inverse of its
+channel, and each value of a data subcarrier is compared with the point of the constellation nearest to it. With e the
+differences and P the mean squared length of the points, the magnitude of any set of values is
+
+    sqrt( mean of |e|**2 / P )
+
+so every subcarrier and symbol weighs the same, and what the inverse does to noise on a faded subcarrier is in it.
+
+**The residual ratio** (`residual_ratio`) is what the detector leaves. On a subcarrier with the triangle R, row k of a
+detected vector x has the residual ``r_k = y_k - d_k x_k - (sum over l > k of r_kl x_l)``; the distance is the sum of their
+squared lengths. The ratio of any set of rows is
 
     sqrt( sum of |r_k|**2 / sum of d_k**2 P )
 
-where P is the mean squared length of the constellation's points (1 on a pilot): the error's energy beside that of the
-stream's own part of the row. It is the ratio of clause 18.3.9.7.4, taken behind the detector's rotation. Being a ratio of
-sums it is not dominated by faded subcarriers, and a row whose diagonal is 0 adds no reference energy. Where points
-are wrong the residual is shorter than the true error, so the magnitude is too small then, as with every measure that takes
-decided points.
+with P = 1 on a pilot: the error's energy beside that of the stream's own part of the row. Being a ratio of sums it isn't
+dominated by faded subcarriers, and a row whose diagonal is 0 adds no reference energy. No phase is tracked.
+
+In both, where points are wrong the difference is shorter than the true error, so the magnitude is too small then, as with
+every measure that takes decided points.
 
 **Error rates** are proportions with intervals at 95 %. Frames are independent of one another, so a frame error rate has
 Wilson's interval (`Proportion`). Points and bits of one frame share its channel and aren't, so their rates keep how many
@@ -26,10 +35,10 @@ from typing import Dict, Iterable, List, Mapping, Optional, Sequence, Tuple, Uni
 import numpy as np
 
 from .answers import Jobs
-from .distances import residuals
+from .distances import nearest_points, residuals
 from .errors import InputError
 from .formats import CaptureFrame, SymbolsFrame
-from .rates import labels_of
+from .rates import Rate, labels_of
 
 CONFIDENCE = 0.95
 
@@ -180,8 +189,8 @@ def _rate_in_words(events: int, trials: int, interval: str) -> str:
 
 
 @dataclass(eq=False)
-class Evm:
-    """Error vector magnitudes of a frame, each as a ratio; NaN where nothing was received.
+class Magnitudes:
+    """Magnitudes of errors in a frame, each as a ratio; NaN where nothing was received.
 
     Parameters
     ----------
@@ -200,6 +209,22 @@ class Evm:
     subcarriers: np.ndarray
     cells: np.ndarray
 
+    @classmethod
+    def of(cls, rate: Rate, error: np.ndarray, reference: np.ndarray) -> "Magnitudes":
+        """From the energies of the errors and of what they are beside, each of shape (subcarriers, streams)."""
+        data = ~rate.is_pilot
+        return cls(
+            float(_ratio(error[data].sum(), reference[data].sum())),
+            _ratio(error[data].sum(axis=0), reference[data].sum(axis=0)),
+            _ratio(error.sum(axis=1), reference.sum(axis=1)),
+            _ratio(error, reference),
+        )
+
+
+def _ratio(error: np.ndarray, reference: np.ndarray) -> np.ndarray:
+    with np.errstate(divide="ignore", invalid="ignore"):
+        return np.sqrt(np.where(reference > 0, error / reference, np.nan))
+
 
 def decibels(ratio: Union[float, np.ndarray]) -> np.ndarray:
     """A ratio of amplitudes in dB: 20 log10, and minus infinity for 0."""
@@ -207,8 +232,52 @@ def decibels(ratio: Union[float, np.ndarray]) -> np.ndarray:
         return 20 * np.log10(ratio)
 
 
-def evm(frame: CaptureFrame, jobs: Jobs) -> Evm:
-    """The error vector magnitudes of a frame.
+def evm(frame: CaptureFrame, tracked: bool = True) -> Magnitudes:
+    """The error vector magnitudes of a frame, by the standard.
+
+    Parameters
+    ----------
+    frame : CaptureFrame
+        Erased subcarriers count for nothing, and neither do those where a diagonal is 0, which have no inverse.
+    tracked : bool
+        Whether the phase of each symbol is taken from its pilots. It has to be left where it is if the frame was sent with
+        pilots other than this project's (docs/CAPTURES.md).
+
+    Returns
+    -------
+    Magnitudes
+    """
+    rate = frame.rate
+    symbols = frame.samples.shape[0]
+    diagonal = np.einsum("cii->ci", frame.triangles).real
+    heard = ~frame.erased & (diagonal > 0).all(axis=1)
+    inverses = np.linalg.inv(np.where(heard[:, None, None], frame.triangles, np.eye(rate.streams)))
+    values = np.einsum("ckl,scl->sck", inverses, frame.samples, optimize=True)
+    if tracked:
+        values *= np.exp(-1j * common_phases(frame))[:, None, None]
+    meant = nearest_points(rate, values)
+    meant[:, rate.is_pilot] = rate.pilot_signs(symbols)
+    error = values - meant
+    energy = np.where(heard[:, None], (error.real**2 + error.imag**2).sum(axis=0), 0)
+    power = np.where(rate.is_pilot, 1, rate.power)
+    return Magnitudes.of(rate, energy, (symbols * power * heard)[:, None] * np.ones(rate.streams))
+
+
+def common_phases(frame: CaptureFrame) -> np.ndarray:
+    """The phase by which the pilots of each symbol are turned, in radians: float64, shape (symbols,).
+
+    It is the one with which what the pilots are seen as through the channel fits best what was received, by least squares;
+    0 where no pilot was received.
+    """
+    rate = frame.rate
+    pilots = rate.is_pilot
+    seen = np.einsum("ckl,scl->sck", frame.triangles[pilots], rate.pilot_signs(frame.samples.shape[0]))
+    heard = ~frame.erased[pilots]
+    return np.angle((seen.conj() * frame.samples[:, pilots])[:, heard].sum(axis=(1, 2)))
+
+
+def residual_ratio(frame: CaptureFrame, jobs: Jobs) -> Magnitudes:
+    """The detector's residuals in a frame, beside the streams' own parts of the rows.
 
     Parameters
     ----------
@@ -218,7 +287,7 @@ def evm(frame: CaptureFrame, jobs: Jobs) -> Evm:
 
     Returns
     -------
-    Evm
+    Magnitudes
 
     Raises
     ------
@@ -233,19 +302,67 @@ def evm(frame: CaptureFrame, jobs: Jobs) -> Evm:
     answered = np.bincount(jobs.carrier, minlength=rate.subcarriers)
     diagonal = np.einsum("cii->ci", frame.triangles).real
     power = np.where(rate.is_pilot, 1, rate.power)
-    reference = answered[:, None] * diagonal**2 * power[:, None]
-    data = ~rate.is_pilot
-    return Evm(
-        float(_ratio(error[data].sum(), reference[data].sum())),
-        _ratio(error[data].sum(axis=0), reference[data].sum(axis=0)),
-        _ratio(error.sum(axis=1), reference.sum(axis=1)),
-        _ratio(error, reference),
-    )
+    return Magnitudes.of(rate, error, answered[:, None] * diagonal**2 * power[:, None])
 
 
-def _ratio(error: np.ndarray, reference: np.ndarray) -> np.ndarray:
-    with np.errstate(divide="ignore", invalid="ignore"):
-        return np.sqrt(np.where(reference > 0, error / reference, np.nan))
+FRAMES_ASKED, SYMBOLS_ASKED = 20, 16  # clause 20.3.20.7.4
+
+
+@dataclass(frozen=True)
+class ConstellationTest:
+    """The verdict of the standard's test on frames of one rate: the mean of their magnitudes beside the limit.
+
+    Parameters
+    ----------
+    rate : Rate
+    frames : int
+        The number of frames.
+    mean : float
+        The mean of their magnitudes, NaN where nothing was received in one.
+    shortest : int
+        The fewest symbols of a frame.
+    """
+
+    rate: Rate
+    frames: int
+    mean: float
+    shortest: int
+
+    @property
+    def is_within(self) -> bool:
+        """Whether the mean is no more than the limit."""
+        return bool(decibels(self.mean) <= self.rate.error_limit)
+
+    @property
+    def is_full(self) -> bool:
+        """Whether there are as many frames, and as long ones, as the test asks for."""
+        return self.frames >= FRAMES_ASKED and self.shortest >= SYMBOLS_ASKED
+
+    def __str__(self) -> str:
+        count = "1 frame" if self.frames == 1 else f"{self.frames} frames"
+        verdict = "within" if self.is_within else "above"
+        asked = "" if self.is_full else f" (the test asks for {FRAMES_ASKED} frames of {SYMBOLS_ASKED} symbols)"
+        return f"EVM of {count} at {self.rate}: {percent(self.mean)}, {verdict} the limit of {self.rate.error_limit} dB{asked}"
+
+
+def constellation_tests(magnitudes: Iterable[Tuple[Rate, int, float]]) -> List[ConstellationTest]:
+    """The verdicts on frames, rate by rate in the order in which the rates first come.
+
+    Parameters
+    ----------
+    magnitudes : iterable of (Rate, int, float)
+        Of each frame its rate, its number of symbols and its magnitude by `evm`.
+    """
+    by_rate: Dict[Rate, List[Tuple[int, float]]] = {}
+    for rate, symbols, magnitude in magnitudes:
+        by_rate.setdefault(rate, []).append((symbols, magnitude))
+    return [ConstellationTest(rate, len(parts), float(np.mean([magnitude for _, magnitude in parts])), min(symbols for symbols, _ in parts))
+            for rate, parts in by_rate.items()]
+
+
+def percent(ratio: float) -> str:
+    """A magnitude in words, as 14.67 % (-16.7 dB)."""
+    return f"{100 * ratio:.2f} % ({decibels(ratio):.1f} dB)"
 
 
 def check_jobs(frame: CaptureFrame, jobs: Jobs) -> None:
