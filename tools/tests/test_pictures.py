@@ -4,7 +4,7 @@ import numpy as np
 import pytest
 from conftest import octets_of, random_frame
 
-from mizgaure import InputError, Rate
+from mizgaure import InputError, Jobs, Rate
 from mizgaure.measures import ErrorRates, FrameProportion, Proportion
 from mizgaure.sweep import Setting, Sweep
 
@@ -45,6 +45,22 @@ def test_pictures_of_a_frame(kind, rate, radio, tmp_path):
         pictures.save(figure, tmp_path / "picture.png")
     with pytest.raises(InputError, match="a picture's name ends in"):
         pictures.save(figure, tmp_path / "picture.jpg")
+
+
+def test_points_of_the_constellation_by_hand():
+    """Two streams over the triangle (10, 20 + 30i; 40) with the decided points 1 - i and -1 + i: what was received stands beside them.
+
+    The rows are the triangle's of the points, and 2 + i and -8i more, so the values are 0.2 + 0.1i and -0.2i beside the points.
+    """
+    rate = Rate(20, 9)
+    frame = random_frame(rate, 1, seed=1)
+    frame.triangles[3] = [[10, 20 + 30j], [0, 40]]
+    points = np.array([[1 - 1j, -1 + 1j]])
+    frame.samples[0, 3] = frame.triangles[3] @ points[0] + [2 + 1j, -8j]
+    jobs = Jobs(0, np.array([0]), np.array([3]), np.array([69]), points)
+    assert pictures.rotated_points(frame, jobs) == pytest.approx(np.array([[1.2 - 0.9j, -1 + 0.8j]]))
+    frame.triangles[3, 1, 1] = 0
+    assert np.isnan(pictures.rotated_points(frame, jobs)[0, 1])
 
 
 def drawn(path):

@@ -587,12 +587,17 @@ def _judge_jobs(frame: CaptureFrame, number: int, theirs: TheirJobs, reference: 
     if nearer.any():
         n = others[int(np.argmax(nearer))]
         raise InputError(f"the reference isn't that of this capture: job {number} {theirs.symbol[n]} {theirs.carrier[n]} has a nearer vector")
-    verdict[others] = np.where(distance == least[others], TIE, WORSE)
+    verdict[others] = compared(distance, least[others])
     if distance.dtype != reached.dtype:
         reached = reached.astype(object)
     reached[others] = distance
     misstated = (theirs.stated >= 0) & (theirs.stated != reached)
     return JobVerdicts(number, theirs.symbol, theirs.carrier, verdict, reached, least, points, nearest, misstated.astype(bool))
+
+
+def compared(distance: np.ndarray, least: np.ndarray) -> np.ndarray:
+    """The verdicts on vectors of the grid that aren't the reference's, by their distances and the least ones: ``tie`` or ``worse``."""
+    return np.where(distance == least, TIE, WORSE)
 
 
 def _judge_octets(frame: CaptureFrame, octets: Optional[bytes], answer: FrameAnswer, reference: Optional[Jobs]) -> FrameVerdict:
