@@ -7,11 +7,12 @@ last, and the tests say what is missing.
 
 from typing import Tuple
 
-from . import answers, capture, example, judge, measure, picture, show, sweep, zero_forcing
+from . import answers, capture, check, example, judge, measure, picture, show, sweep, zero_forcing
 from .base import Command
 
 MODULES = (
     judge,
+    check,
     capture,
     example,
     show,
