@@ -6,6 +6,7 @@ import argparse
 import os
 import signal
 import sys
+import traceback
 from typing import Optional, Sequence
 
 from . import __version__
@@ -51,6 +52,16 @@ def main(words: Optional[Sequence[str]] = None) -> int:
     except KeyboardInterrupt:
         print("mizgaure: interrupted", file=sys.stderr)
         return INTERRUPTED_STATUS
+    except Exception as error:  # no status but 2 says that something went wrong
+        return _said(f"a mistake of mizgaure, please report it: {_in_words(error)}")
+
+
+def _in_words(error: Exception) -> str:
+    """A mistake of these tools in a line: what, and where it was raised. With MIZGAURE_TRACEBACK set, the whole of it stands before."""
+    if os.environ.get("MIZGAURE_TRACEBACK"):
+        traceback.print_exc()
+    place = traceback.extract_tb(error.__traceback__)[-1]
+    return f"{type(error).__name__}: {' '.join(str(error).split())} ({os.path.basename(place.filename)}, line {place.lineno})"
 
 
 def _said(sentence: str) -> int:
