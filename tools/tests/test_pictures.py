@@ -5,6 +5,7 @@ import pytest
 from conftest import octets_of, random_frame
 
 from mizgaure import InputError, Jobs, Rate
+from mizgaure.distances import zero_forcing
 from mizgaure.measures import ErrorRates, FrameProportion, Proportion
 from mizgaure.sweep import Setting, Sweep
 
@@ -87,6 +88,33 @@ def test_curves_with_intervals(tmp_path):
     assert drawn(tmp_path / "curves.png") > 0.01
     without = pictures.error_curves(Sweep(setting, False, [ErrorRates(symbols=r.symbols) for r in rates]))
     assert len(without.axes[0].get_legend_handles_labels()[1]) == 1 and "points without a code" in texts(without)[0]
+
+
+def crowded():
+    """Pictures whose legends have more to say than fits into a line."""
+    setting = Setting(snr=(0.0, 10.0, 20.0), frames=40)
+    none = ErrorRates(symbols=FrameProportion({(0, 100): 40}), frames=Proportion(0, 40))
+    some = ErrorRates(symbols=FrameProportion({(9, 100): 40}), frames=Proportion(9, 40))
+    yield pictures.error_curves(Sweep(setting, True, [some, none, none]), "some.json")
+    frame = random_frame(Rate(20, 24), 4, seed=1)
+    frame.erased[3] = True
+    jobs = zero_forcing(frame)
+    yield pictures.evm_over_subcarriers(frame, jobs, "some.htcp")
+    yield pictures.residual_over_subcarriers(frame, jobs, "some.htcp")
+    yield pictures.constellation(frame, jobs, "some.htcp")
+
+
+def test_legends_are_inside_their_pictures():
+    from matplotlib.backends.backend_agg import FigureCanvasAgg
+
+    for figure in crowded():
+        canvas = FigureCanvasAgg(figure)
+        canvas.draw()
+        (legend,) = figure.legends
+        box, whole = legend.get_window_extent(canvas.get_renderer()), figure.bbox
+        assert box.x0 >= whole.x0 and box.x1 <= whole.x1 and box.y0 >= whole.y0
+        for panel in figure.axes:
+            assert not panel.get_visible() or box.y1 < panel.get_tightbbox(canvas.get_renderer()).y0 + 1
 
 
 def test_streams_can_be_told_apart_in_grey():

@@ -93,6 +93,14 @@ def test_a_bad_sweep_is_named(text, tmp_path, monkeypatch, capsys):
     assert capsys.readouterr().err.startswith("mizgaure: sweep.json: this isn't the output of a sweep")
 
 
+@pytest.mark.parametrize("words, snr", [(["--snr", "-2:10:4"], (-2, 2, 6, 10)), (["--snr=-2:10:4"], (-2, 2, 6, 10)), (["--snr", "-3,-.5,7"], (-3, -0.5, 7)),
+                                        (["--snr", "-1"], (-1,)), (["--snr", "-.5:.5:.5"], (-0.5, 0, 0.5))])
+def test_ratios_may_be_negative(words, snr):
+    given = cli.parser().parse_args(cli._with_negative_values(["sweep", *words, "--frames", "3"]))
+    assert given.snr == snr and given.frames == 3
+    assert cli._with_negative_values(["picture", "evm", "-", "-1.png"]) == ["picture", "evm", "-", "-1.png"]
+
+
 @pytest.mark.parametrize("words", [["check"], ["judge", "x"], ["capture", "x"], ["sweep", "--snr", "1:2"], ["sweep", "--snr"], ["measure"], [], ["judge", "--list", "-1", "x", "y"]])
 def test_bad_words_are_usage(words, capsys):
     with pytest.raises(SystemExit) as caught:

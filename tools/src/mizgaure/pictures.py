@@ -35,6 +35,7 @@ STYLE = {
 }
 # Room round the panels, in inches.
 LEFT, RIGHT, HEAD, FOOT, GAP = 0.75, 0.2, 1.0, 0.95, 0.75
+LEGEND_LINE = 0.22
 
 
 def _matplotlib():
@@ -98,8 +99,30 @@ def _titled(figure: "Figure", what: str, rate: Rate, name: str) -> None:
 
 
 def _legend(figure: "Figure", handles: Sequence, labels: Sequence[str]) -> None:
-    """A legend in one line at the foot."""
-    figure.legend(handles, labels, loc="lower center", bbox_to_anchor=(0.5, 0.04 / figure.get_figheight()), ncol=len(labels))
+    """A legend at the foot, in as few lines as the figure is wide enough for; the figure grows by the further ones."""
+    from matplotlib.backends.backend_agg import FigureCanvasAgg
+
+    renderer = FigureCanvasAgg(figure).get_renderer()
+    columns = len(labels)
+    while True:
+        legend = figure.legend(handles, labels, loc="lower center", bbox_to_anchor=(0.5, 0.04 / figure.get_figheight()), ncol=columns)
+        if columns == 1 or legend.get_window_extent(renderer).width <= 0.98 * figure.bbox.width:
+            break
+        legend.remove()
+        columns -= 1
+    lines = -(-len(labels) // columns)
+    if lines > 1:
+        legend.remove()
+        _grow(figure, (lines - 1) * LEGEND_LINE)
+        figure.legend(handles, labels, loc="lower center", bbox_to_anchor=(0.5, 0.04 / figure.get_figheight()), ncol=columns)
+
+
+def _grow(figure: "Figure", inches: float) -> None:
+    """Make a figure higher, with the room at its foot; its panels stay as large as they are."""
+    across, down = figure.get_size_inches()
+    foot, head = figure.subplotpars.bottom * down + inches, (1 - figure.subplotpars.top) * down
+    figure.set_size_inches(across, down + inches)
+    figure.subplots_adjust(bottom=foot / (down + inches), top=1 - head / (down + inches))
 
 
 def rotated_points(frame: CaptureFrame, jobs: Jobs) -> np.ndarray:
@@ -299,7 +322,8 @@ def _curve(panel, snr: Sequence[float], rates: Sequence[Union[Proportion, FrameP
                    linestyle=line, markersize=6, linewidth=1.5, elinewidth=1.1, capsize=3.5, label=label)
     none = ~seen
     if none.any():
-        panel.plot(x[none], high[none], color=colour, marker="v", linestyle="none", markersize=7, markerfacecolor="white",
+        # One larger than the other, since both may be at the same place.
+        panel.plot(x[none], high[none], color=colour, marker="v", linestyle="none", markersize=11 if marker == "s" else 6, markerfacecolor="white",
                    label=f"{label[:3]} at most, no error seen")
     drawn = np.concatenate((low[seen], high[none] / 2))
     return float(drawn[drawn > 0].min()) if (drawn > 0).any() else 1.0
