@@ -22,6 +22,7 @@ PILOT_INDEXES = {20: (7, 21, 34, 48), 40: (5, 33, 47, 66, 80, 108)}
 SUBCARRIER_SPAN = {20: (1, 28), 40: (2, 58)}
 TWO_ENCODERS = frozenset((21, 22, 23, 28, 29, 30, 31))
 LONGEST = 65535
+MIDDLE = 112  # the place of 0 in a table of labels
 
 # The levels of one axis by its label, the label's bits read as a number with the first bit as the most significant.
 AXIS_LEVELS = {1: (-1, 1), 2: (-3, -1, 3, 1), 3: (-7, -5, -1, -3, 7, 5, 1, 3)}
@@ -260,15 +261,15 @@ def labels_of(points: np.ndarray, rate: Rate) -> np.ndarray:
     points = np.asarray(points, complex)
     real, imag = points.real, points.imag
     whole = (np.rint(real) == real) & (np.rint(imag) == imag) & (abs(real) <= 7) & (abs(imag) <= 7)
-    place = np.where(whole, 15 * real + imag + 112, 0).astype(np.intp)
-    return _label_table(rate.bits_per_point).take(place)
+    place = np.where(whole, 15 * real + imag, 0).astype(np.intp)  # 0 is no point
+    return _label_table(rate.bits_per_point).take(place + MIDDLE)
 
 
 @lru_cache(maxsize=None)
 def _label_table(bits: int) -> np.ndarray:
-    """The label of I + iQ at 15 I + Q + 112, for levels from -7 to 7, and -1 where there is no such point: int8, shape (225,)."""
-    table = np.full(225, -1, np.int8)
+    """The label of I + iQ at 15 I + Q + MIDDLE, for levels from -7 to 7, and -1 where there is no such point: int8, shape (225,)."""
+    table = np.full(2 * MIDDLE + 1, -1, np.int8)
     points = _points(bits)
-    table[(15 * points.real + points.imag + 112).astype(int)] = np.arange(points.size)
+    table[(15 * points.real + points.imag).astype(int) + MIDDLE] = np.arange(points.size)
     table.setflags(write=False)
     return table
