@@ -109,7 +109,8 @@ def test_the_order_of_lines_makes_no_difference():
     with pytest.raises(LineError, match=f"line {len(lines) + 1} answers job 0 0 3 a second time"):
         judge(octets, Pieces(b"".join(lines) + lines[3]), reference=reference)
     # A further answer among new ones, at once or late.
-    for text in (lines[:9] + [lines[4]] + lines[9:20], lines[:20] + [lines[560 - 1]] + lines[20:30] + [lines[4]], lines[:20] + [lines[559], lines[30], lines[30]]):
+    for text in (lines[:9] + [lines[4]] + lines[9:20], lines[:20] + [lines[559]] + lines[20:30] + [lines[4]],
+                 lines[:20] + [lines[559], lines[30], lines[30]]):
         with pytest.raises(LineError, match="a second time"):
             judge(octets, Pieces(b"".join(text), 60), reference=reference)
     with pytest.raises(InputError, match="there is an answer to frame 5, and the capture has 5 frames"):

@@ -28,7 +28,8 @@ def test_values_as_other_programs_read_them():
 def test_the_columns_of_a_rate():
     pytest.importorskip("scipy")
     found = rate_columns("per", Proportion(1, 10))
-    assert list(found) == ["per_errors", "per_trials", "per", "per_low", "per_high"] and found["per"] == 0.1 and found["per_low"] == pytest.approx(0.01788, abs=1e-5)
+    assert list(found) == ["per_errors", "per_trials", "per", "per_low", "per_high"]
+    assert found["per"] == 0.1 and found["per_low"] == pytest.approx(0.01788, abs=1e-5)
     assert rate_columns("ser", FrameProportion({(1, 10): 1}))["ser_high"] == 1
 
 
@@ -51,7 +52,8 @@ def test_measures_of_many_captures(command, tmp_path):
     assert [line["file"] for line in lines[:2]] == [str(ONE), str(TWO)] and len(lines[0]["evm_cells"]) == 56 and len(lines[1]["residual_cells"][0]) == 3
     assert [line["test"].split(" (")[0] for line in lines[2:4]] == ["20 MHz, MCS 9", "40 MHz, MCS 17"] and not lines[2]["full"]
     assert [line["rate"] for line in lines[4:]] == ["bit error rate before the decoder", "symbol error rate", "bit error rate of octets", "frame error rate"]
-    for words, told in (((ONE, TWO, "--sent", ONE), "--sent is given 1 times, and there are 2 captures"), (("-", "-"), "only one capture can be standard input")):
+    for words, told in (((ONE, TWO, "--sent", ONE), "--sent is given 1 times, and there are 2 captures"),
+                        (("-", "-"), "only one capture can be standard input")):
         done = command("measure", *words)
         assert done.returncode == 2 and done.stderr.decode() == f"mizgaure: {told}\n"
 
