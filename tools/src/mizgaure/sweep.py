@@ -21,20 +21,21 @@ from __future__ import annotations
 
 import io
 import json
-import multiprocessing
 import os
 import signal
+from concurrent.futures import ProcessPoolExecutor
+from concurrent.futures.process import BrokenProcessPool
 from dataclasses import asdict, dataclass, field
-from typing import Any, Callable, Dict, List, Optional, Sequence, Tuple
+from typing import Any, Callable, Dict, Iterator, List, NamedTuple, Optional, Sequence, Tuple
 
 import numpy as np
 
 from . import measures
 from .answers import FrameAnswer, Jobs
-from .errors import InputError
+from .errors import InputError, ProgramError
 from .files import Source, reading
 from .formats import SentFrame, SymbolsFrame, read_htsy, write_htcp, write_httx
-from .measures import ErrorRates, Proportion
+from .measures import ErrorRates, FrameProportion, Proportion
 from .program import Radio
 from .quantise import MeasuredFrame, capture
 from .rates import Rate, check_length
@@ -42,6 +43,7 @@ from .rates import Rate, check_length
 TRAINING = np.array([[1, -1, 1, 1], [1, 1, -1, 1], [1, 1, 1, -1], [-1, 1, 1, 1]])
 ESTIMATES = ("perfect", "ls")
 CHUNK = 10  # frames of one run of the program
+BY_FRAME = ("bits", "symbols", "octet_bits")  # the rates that are kept with how many frames had how many errors
 
 
 @dataclass(frozen=True)
@@ -121,7 +123,8 @@ class Sweep:
         """The sweep as text, which `read_sweep` reads."""
         points: List[Dict[str, Any]] = []
         for snr, rates in zip(self.setting.snr, self.rates):
-            points.append({"snr": snr, **{name: [rate.events, rate.trials] for name, rate in vars(rates).items()}})
+            by_frame = {name: getattr(rates, name).rows() for name in BY_FRAME}
+            points.append({"snr": snr, **by_frame, "frames": [rates.frames.events, rates.frames.trials]})
         return json.dumps({"sweep": asdict(self.setting), "coded": self.coded, "points": points}, indent=1) + "\n"
 
     def table(self) -> str:
@@ -150,7 +153,8 @@ def read_sweep(source: Source) -> Sweep:
         given: Dict[str, Any] = dict(read["sweep"])
         given["snr"] = tuple(float(snr) for snr in given["snr"])
         setting = Setting(**given)
-        rates = [ErrorRates(**{name: Proportion(*map(int, point[name])) for name in vars(ErrorRates())}) for point in read["points"]]
+        rates = [ErrorRates(**{name: FrameProportion.from_rows(point[name]) for name in BY_FRAME}, frames=Proportion(*map(int, point["frames"])))
+                 for point in read["points"]]
         setting.check()
         if len(rates) != len(setting.snr):
             raise InputError("this isn't the output of a sweep: its points aren't as many as its ratios")
@@ -187,26 +191,40 @@ def sweep(setting: Setting, radio: Optional[Radio] = None, processes: Optional[i
     radio = radio or Radio()
     coded = radio.knows("tx") and radio.knows("rx")
     done = Sweep(setting, coded, [ErrorRates() for _ in setting.snr])
-    tasks = [(setting, coded, radio.path, point, first, min(CHUNK, setting.frames - first))
+    tasks = [Task(setting, coded, radio.path, point, first, min(CHUNK, setting.frames - first))
              for point in range(len(setting.snr)) for first in range(0, setting.frames, CHUNK)]
-    count = max(1, min(processes or os.cpu_count() or 1, len(tasks)))
     finished, total = 0, setting.frames * len(setting.snr)
-
-    def add(task: tuple, rates: ErrorRates) -> None:
-        nonlocal finished
-        done.rates[task[3]] += rates
-        finished += task[5]
+    for task, rates in zip(tasks, _mapped(tasks, max(1, min(processes or os.cpu_count() or 1, len(tasks))))):
+        done.rates[task.point] += rates
+        finished += task.count
         if progress is not None:
             progress(finished, total)
-
-    if count == 1:
-        for task in tasks:
-            add(task, _chunk(task))
-    else:
-        with multiprocessing.Pool(count, _leave_signals) as pool:
-            for task, rates in zip(tasks, pool.imap(_chunk, tasks)):
-                add(task, rates)
     return done
+
+
+class Task(NamedTuple):
+    """Some frames of one point of a sweep: those from ``first`` on, so many as ``count`` says."""
+
+    setting: Setting
+    coded: bool
+    program: str
+    point: int
+    first: int
+    count: int
+
+
+def _mapped(tasks: Sequence[Task], processes: int) -> Iterator[ErrorRates]:
+    """The errors of each task, in their order."""
+    if processes == 1:
+        yield from map(errors_of, tasks)
+        return
+    pool = ProcessPoolExecutor(processes, initializer=_leave_signals)
+    try:
+        yield from pool.map(errors_of, tasks)
+    except BrokenProcessPool:
+        raise ProgramError("a process of the sweep was ended from outside") from None
+    finally:
+        pool.shutdown(cancel_futures=True)
 
 
 def _leave_signals() -> None:
@@ -215,20 +233,23 @@ def _leave_signals() -> None:
     signal.signal(signal.SIGTERM, signal.SIG_DFL)
 
 
-def _chunk(task: tuple) -> ErrorRates:
-    """The errors of some frames at one point."""
-    setting, coded, path, point, first, count = task
-    radio = Radio(path, progress=False)
-    generators = [np.random.default_rng([setting.seed, point, number]) for number in range(first, first + count)]
-    octets, symbols = _sent(setting, coded, radio, generators)
-    measured = [received_frame(setting, setting.snr[point], frame, generator) for frame, generator in zip(symbols, generators)]
+def errors_of(task: Task) -> ErrorRates:
+    """The errors in the frames of a task.
+
+    The program is run with one worker of its own, since the tasks share the processors.
+    """
+    setting = task.setting
+    radio = Radio(task.program, progress=False, workers=1)
+    generators = [np.random.default_rng([setting.seed, task.point, number]) for number in range(task.first, task.first + task.count)]
+    octets, symbols = _sent(setting, task.coded, radio, generators)
+    measured = [received_frame(setting, setting.snr[task.point], frame, generator) for frame, generator in zip(symbols, generators)]
     made = io.BytesIO()
     write_htcp(made, capture(measured).frames)
     total = ErrorRates()
     for jobs in radio.detect(made.getvalue()):
         assert isinstance(jobs, Jobs)
         total += measures.point_errors(symbols[jobs.frame], jobs)
-    if coded:
+    if task.coded:
         for answer in radio.rx(made.getvalue()):
             assert isinstance(answer, FrameAnswer)
             total += measures.octet_errors(octets[answer.frame], answer.octets)
