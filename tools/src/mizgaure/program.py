@@ -88,6 +88,17 @@ class Progress:
                 self.percent = percent
                 print(f"\r{self.label}: {percent} %", end="", file=sys.stderr, flush=True)
 
+    def say(self, line: str) -> None:
+        """Print a line on standard output, above the bar where there is one."""
+        if self.bar is not None:
+            self.bar.write(line)
+        else:
+            if self.percent >= 0:
+                self.close()
+                self.percent = -1
+            print(line)
+        sys.stdout.flush()
+
     def close(self) -> None:
         """Take the bar away."""
         if self.bar is not None:
@@ -105,11 +116,14 @@ class Radio:
         Its path; see the head of this module for where it is looked for.
     progress : bool, optional
         Whether a bar shows on standard error how far an input was read. By default where that is a terminal.
+    workers : int, optional
+        The threads of ``detect`` and ``rx``; as many as the program takes by itself where it isn't said.
     """
 
-    def __init__(self, path: Optional[str] = None, progress: Optional[bool] = None) -> None:
+    def __init__(self, path: Optional[str] = None, progress: Optional[bool] = None, workers: Optional[int] = None) -> None:
         self.path = find_radio(path)
         self.progress = progress
+        self.workers = workers
         self._known: Dict[str, bool] = {}
 
     def knows(self, word: str) -> bool:
@@ -161,8 +175,9 @@ class Radio:
         with reading(source) as stream:
             # The program reads standard input itself: a thread that waits there couldn't be ended.
             own = stream is getattr(sys.stdin, "buffer", None)
+            threads = ["--workers", str(self.workers)] if self.workers and word in ("detect", "rx") else []
             try:
-                child = subprocess.Popen([self.path, word], stdin=None if own else subprocess.PIPE, stdout=subprocess.PIPE)
+                child = subprocess.Popen([self.path, word, *threads], stdin=None if own else subprocess.PIPE, stdout=subprocess.PIPE)
             except OSError as error:
                 raise ProgramError(f"{self.path} can't be run: {error.strerror}") from error
             assert child.stdout is not None

@@ -7,7 +7,7 @@ last, and the tests say what is missing.
 
 from typing import Tuple
 
-from . import answers, capture, example, judge, measure, picture, show, sweep, zero_forcing
+from . import answers, capture, example, judge, measure, merge, picture, show, sweep, zero_forcing
 from .base import Command
 
 MODULES = (
@@ -18,6 +18,7 @@ MODULES = (
     answers,
     measure,
     sweep,
+    merge,
     picture,
     zero_forcing,
 )
