@@ -9,6 +9,7 @@ last shard; only its offset is put right. The shards look at no field that the p
 
 from __future__ import annotations
 
+import io
 from dataclasses import dataclass
 from typing import BinaryIO, Iterator, List, Optional, Tuple
 
@@ -97,6 +98,15 @@ def shards(source: Source, size: int = SHARD, part: Tuple[int, int] = (1, 1)) ->
             yield Shard(first, len(frames), start, _capture(head, len(frames), [*frames, _take(stream, 1)]), total)
         elif frames:
             yield Shard(first, len(frames), start, _capture(head, len(frames), frames))
+
+
+def rates_of(source: Source) -> Iterator[Rate]:
+    """The rates of the whole frames of a capture, up to its first fault."""
+    for shard in shards(source):
+        stream = io.BytesIO(shard.octets[HEAD:])
+        for _ in range(shard.count):
+            octets, _ = _frame(stream, shard.octets[4])
+            yield Rate((20, 40)[octets[0]], octets[1])
 
 
 def _capture(head: bytes, count: int, pieces: List[bytes]) -> bytes:

@@ -7,7 +7,7 @@ last, and the tests say what is missing.
 
 from typing import Tuple
 
-from . import answers, capture, example, judge, measure, merge, picture, show, sweep, zero_forcing
+from . import answers, capture, example, frames, judge, measure, merge, packets, picture, show, sweep, zero_forcing
 from .base import Command
 
 MODULES = (
@@ -17,6 +17,8 @@ MODULES = (
     show,
     answers,
     measure,
+    packets,
+    frames,
     sweep,
     merge,
     picture,

@@ -55,6 +55,14 @@ def whole(word: str) -> int:
     return int(word)
 
 
+def positive_whole(word: str) -> int:
+    """A whole number above 0."""
+    number = whole(word)
+    if number == 0:
+        raise argparse.ArgumentTypeError("it has to be above 0")
+    return number
+
+
 def not_negative(word: str) -> float:
     """A number of at least 0."""
     try:
