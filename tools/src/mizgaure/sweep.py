@@ -20,7 +20,7 @@ from __future__ import annotations
 import io
 import json
 import os
-from dataclasses import asdict, astuple, dataclass, field, fields
+from dataclasses import asdict, dataclass, field, fields
 from functools import partial
 from typing import Any, BinaryIO, Callable, Dict, Iterable, Iterator, List, Optional, Sequence, Set, Tuple
 
@@ -33,10 +33,11 @@ from .detectors import REFERENCE, Detector, decided
 from .errors import InputError, ProgramError
 from .files import Source, reading, refuse_overwriting
 from .formats import CaptureFrame, SentFrame, SymbolsFrame, read_htsy, write_htcp, write_httx
-from .measures import ErrorRates, Proportion, rates_by_name
+from .measures import ErrorRates, FrameProportion, Proportion
 from .program import Radio
 from .quantise import MeasuredFrame, capture
 from .rates import Rate, check_length
+from .tables import rate_columns
 from .workers import Workers
 
 __all__ = ["CHUNK", "ESTIMATES", "Chunk", "Journal", "Setting", "Sweep", "gaussian", "least_squares", "merged", "random_symbols", "rayleigh",
@@ -45,6 +46,9 @@ __all__ = ["CHUNK", "ESTIMATES", "Chunk", "Journal", "Setting", "Sweep", "gaussi
 TRAINING = np.array([[1, -1, 1, 1], [1, 1, -1, 1], [1, 1, 1, -1], [-1, 1, 1, 1]])
 ESTIMATES = ("perfect", "ls")
 CHUNK = 10  # frames of one run of the program
+BY_FRAME = ("bits", "symbols", "octet_bits")  # the rates that are kept with how many frames had how many errors
+NAMES = {"ser": "symbols", "ber": "bits", "octet_ber": "octet_bits", "per": "frames"}  # of rates in tables
+COLUMNS = ("detector", "snr", *(f"{name}{end}" for name in NAMES for end in ("", "_low", "_high", "_errors", "_trials")))
 
 
 @dataclass(frozen=True)
@@ -134,13 +138,15 @@ class Chunk:
 
     def to_line(self) -> str:
         """The chunk as a line of a kept sweep, without its end."""
-        rates = {name: {each.name: list(astuple(getattr(rates, each.name))) for each in fields(rates)} for name, rates in self.rates.items()}
+        rates = {name: {**{each: getattr(rates, each).rows() for each in BY_FRAME}, "frames": [rates.frames.events, rates.frames.trials]}
+                 for name, rates in self.rates.items()}
         return json.dumps({"point": self.point, "first": self.first, "frames": self.frames, "rates": rates})
 
     @classmethod
     def of(cls, read: Dict[str, Any]) -> "Chunk":
         """A chunk from what its line holds."""
-        rates = {name: ErrorRates(**{each: Proportion(*numbers) for each, numbers in kept.items()}) for name, kept in read["rates"].items()}
+        rates = {name: ErrorRates(**{each: FrameProportion.from_rows(kept[each]) for each in BY_FRAME}, frames=Proportion(*map(int, kept["frames"])))
+                 for name, kept in read["rates"].items()}
         return cls(int(read["point"]), int(read["first"]), int(read["frames"]), rates)
 
 
@@ -228,13 +234,14 @@ class Sweep:
         return "\n".join(lines)
 
     def records(self) -> Iterator[Dict[str, Any]]:
-        """The rates as records of one form: ratio, detector, what is counted, events, trials, rate and interval."""
+        """The rates as rows of a table, one for each detector and ratio, with the columns `COLUMNS`."""
         for name in self.names:
             for snr, rates in zip(self.setting.snr, self.rates_of(name)):
-                for what, rate in rates_by_name(rates).items():
-                    low, high = rate.interval
-                    yield {"snr": snr, "detector": name, "measure": what, "events": rate.events, "trials": rate.trials, "rate": rate.value,
-                           "low": low, "high": high}
+                row: Dict[str, Any] = {"detector": name, "snr": snr}
+                for column, kept in NAMES.items():
+                    if getattr(rates, kept).trials:
+                        row.update(rate_columns(column, getattr(rates, kept)))
+                yield row
 
 
 def read_sweep(source: Source) -> Sweep:

@@ -1,4 +1,4 @@
-"""Records as CSV, with a line of names, and as JSON lines."""
+"""Records for other programs: JSON lines, and CSV with a head line."""
 
 from __future__ import annotations
 
@@ -6,51 +6,66 @@ import csv
 import io
 import json
 import math
-from typing import Any, Dict, Iterable, List
+from typing import Any, Dict, Iterable, Mapping, Sequence
+
+import numpy as np
 
 from .files import Target, writing
 
-Record = Dict[str, Any]
+
+def plain(value: Any) -> Any:
+    """A value as JSON has it: arrays as lists, numbers of numpy as Python's, and None for what isn't finite."""
+    if isinstance(value, np.ndarray):
+        return [plain(part) for part in value]
+    if isinstance(value, np.generic):
+        value = value.item()
+    if isinstance(value, float) and not math.isfinite(value):
+        return None
+    return value
 
 
-def write_csv(target: Target, records: Iterable[Record], force: bool = False) -> None:
-    """Write records as CSV (RFC 4180 but for the ends of lines). The columns are the names of all records, in the order in which they come.
+def write_json_lines(target: Target, records: Iterable[Mapping[str, Any]], force: bool = False) -> None:
+    """Write records, one a line, as JSON.
 
     Parameters
     ----------
     target : path, ``"-"`` or binary stream
-    records : iterable of dict
-        What a record doesn't have is empty, and so are None and NaN.
+    records : iterable of mappings
+        Values may be arrays; numbers that aren't finite stand as null.
     force : bool
         Whether a file that is there already is replaced.
-
-    Raises
-    ------
-    InputError
-        If the file is there already or can't be written.
     """
-    held = list(records)
-    names = list(dict.fromkeys(name for record in held for name in record))
+    with writing(target, force) as stream:
+        for record in records:
+            stream.write(json.dumps({name: plain(value) for name, value in record.items()}).encode() + b"\n")
+
+
+def write_csv(target: Target, rows: Sequence[Mapping[str, Any]], columns: Sequence[str], force: bool = False) -> None:
+    """Write rows as CSV (RFC 4180 with line feeds) under a line with the names of the columns.
+
+    Parameters
+    ----------
+    target, force
+        As in `write_json_lines`.
+    rows : sequence of mappings
+        What a row lacks, None, and numbers that aren't finite stand as nothing; true and false as they are.
+    columns : sequence of str
+    """
     text = io.StringIO()
-    table = csv.writer(text, lineterminator="\n")
-    table.writerow(names)
-    table.writerows([_cell(record.get(name)) for name in names] for record in held)
+    table = csv.DictWriter(text, columns, restval="", lineterminator="\n")
+    table.writeheader()
+    for row in rows:
+        table.writerow({name: _cell(value) for name, value in row.items()})
     with writing(target, force) as stream:
         stream.write(text.getvalue().encode())
 
 
 def _cell(value: Any) -> Any:
-    if isinstance(value, bool):
-        return int(value)
-    return "" if _is_nan(value) else value
+    value = plain(value)
+    return {None: "", True: "true", False: "false"}[value] if value is None or isinstance(value, bool) else value
 
 
-def _is_nan(value: Any) -> bool:
-    return isinstance(value, float) and math.isnan(value)
-
-
-def write_json(target: Target, records: Iterable[Record], force: bool = False) -> None:
-    """Write records as JSON, one a line, NaN as null; parameters and errors as in `write_csv`."""
-    lines: List[str] = [json.dumps({name: None if _is_nan(value) else value for name, value in record.items()}) for record in records]
-    with writing(target, force) as stream:
-        stream.write("".join(f"{line}\n" for line in lines).encode())
+def rate_columns(name: str, rate: Any) -> Dict[str, Any]:
+    """A rate as columns: its events, its trials, its value and the ends of its interval."""
+    low, high = rate.interval
+    return {f"{name}_errors": rate.events, f"{name}_trials": rate.trials, name: rate.value, f"{name}_low": low, f"{name}_high": high}

@@ -5,7 +5,7 @@ from __future__ import annotations
 import argparse
 from dataclasses import dataclass
 from pathlib import Path
-from typing import Callable, Iterable, Iterator, List, Optional, Tuple
+from typing import Any, Callable, Dict, Iterable, Iterator, List, Optional, Sequence, Tuple
 
 import numpy as np
 
@@ -13,9 +13,10 @@ from ..answers import FrameAnswer, Jobs, Refused, read_answers
 from ..errors import InputError
 from ..files import Source, naming, reading, refuse_overwriting
 from ..formats import CaptureFrame, read_htcp
-from ..channels import NAMES as CHANNELS, profile_of
+from ..channels import NAMES as CHANNELS
+from ..channels import profile_of
 from ..sweep import ESTIMATES, Setting
-from ..tables import Record, write_csv, write_json
+from ..tables import write_csv, write_json_lines
 
 
 @dataclass(frozen=True)
@@ -155,14 +156,13 @@ def refuse_tables(given: argparse.Namespace) -> None:
             refuse_overwriting(path, given.force)
 
 
-def write_tables(given: argparse.Namespace, records: Iterable[Record]) -> None:
+def write_tables(given: argparse.Namespace, records: Iterable[Dict[str, Any]], columns: Sequence[str]) -> None:
     """Write the tables that are asked for."""
-    if given.csv or given.json:
-        held = list(records)
-        if given.csv:
-            write_csv(given.csv, held, given.force)
-        if given.json:
-            write_json(given.json, held, given.force)
+    held = list(records)
+    if given.csv:
+        write_csv(given.csv, held, columns, given.force)
+    if given.json:
+        write_json_lines(given.json, held, given.force)
 
 
 def setting_of(given: argparse.Namespace, frames: int) -> Setting:

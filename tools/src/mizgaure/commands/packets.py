@@ -16,6 +16,8 @@ from ..rates import Rate
 from ..shards import rates_of
 from .base import Command, add_tables, held, refuse_tables, write_tables
 
+ROLES = ("RA", "TA", "DA", "SA", "BSSID")
+COLUMNS = ("frame", "bandwidth", "mcs", "aggregated", "mpdu", "offset", "octets", "fcs", "type", "sequence", *ROLES)
 STEP = 1000  # nanoseconds from one frame to the next, since a capture has no clock
 
 
@@ -60,7 +62,7 @@ def run(given: argparse.Namespace) -> None:
     print(f"{frames}, {seen} MPDU{'' if seen == 1 else 's'}: {good} with a good FCS" + (f"; {empty} without octets" if empty else ""))
     if given.output:
         write_pcap(given.output, packets, given.force)
-    write_tables(given, records)
+    write_tables(given, records, COLUMNS)
 
 
 def _say(frame: int, psdu: Psdu) -> None:
@@ -77,7 +79,7 @@ def _record(frame: int, rate: Optional[Rate], psdu: Optional[Psdu] = None, numbe
     header = None if mpdu is None else mpdu.header
     record.update(offset=mpdu and mpdu.offset, octets=mpdu and len(mpdu.octets), fcs=mpdu and ("good" if mpdu.good else "bad"))
     record.update(type=header and header.name, sequence=header.sequence[0] if header and header.sequence else None)
-    record.update({role: header and header.address(role) for role in ("RA", "TA", "DA", "SA", "BSSID")})
+    record.update({role: header and header.address(role) for role in ROLES})
     return record
 
 

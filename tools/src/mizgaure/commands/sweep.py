@@ -11,8 +11,8 @@ from ..detectors import Detector
 from ..errors import InputError
 from ..files import refuse_overwriting, writing
 from ..program import Progress, Radio
-from ..sweep import Journal, Setting, Sweep, sweep
-from .base import (Command, add_part, add_setting, add_tables, add_workers, name_of, part, ratios, refuse_tables, setting_of, whole, write_tables)
+from ..sweep import COLUMNS, Journal, Setting, Sweep, sweep
+from .base import Command, add_part, add_setting, add_tables, add_workers, name_of, ratios, refuse_tables, setting_of, whole, write_tables
 
 
 def words(command: argparse.ArgumentParser) -> None:
@@ -80,7 +80,7 @@ def _journal(given: argparse.Namespace) -> Optional[Journal]:
 
 def finish(given: argparse.Namespace, found: Sweep, name: Optional[str]) -> None:
     """Write the tables and the picture of a sweep that are asked for."""
-    write_tables(given, found.records())
+    write_tables(given, found.records(), COLUMNS)
     if given.picture:
         pictures.save(pictures.error_curves(found, name_of(name)), given.picture, given.force)
 
