@@ -37,7 +37,14 @@ STYLE = {
 LEFT, RIGHT, HEAD, FOOT, GAP, LEGEND_LINE = 0.75, 0.2, 1.0, 0.95, 0.75, 0.2
 
 
-def _matplotlib():
+def matplotlib_of():
+    """The module matplotlib and its Figure.
+
+    Raises
+    ------
+    InputError
+        If it isn't installed.
+    """
     try:
         import matplotlib
     except ImportError:
@@ -64,7 +71,7 @@ def save(figure: "Figure", target: Target, force: bool = False) -> None:
         If the ending is another one, or the file is there already.
     """
     ending = check_ending(target)
-    matplotlib, _ = _matplotlib()
+    matplotlib, _ = matplotlib_of()
     undated = {"png": {}, "svg": {"Date": None}, "pdf": {"CreationDate": None}}[ending]
     with writing(target, force) as stream, matplotlib.rc_context(STYLE):
         figure.savefig(stream, format=ending, metadata=undated, facecolor="white")
@@ -136,7 +143,7 @@ def constellation(frame: CaptureFrame, jobs: Jobs, name: str = "") -> "Figure":
     -------
     matplotlib.figure.Figure
     """
-    matplotlib, Figure = _matplotlib()
+    matplotlib, Figure = matplotlib_of()
     rate = frame.rate
     data = ~rate.is_pilot[jobs.carrier]
     values = rotated_points(frame, jobs)[data]
@@ -154,6 +161,13 @@ def constellation(frame: CaptureFrame, jobs: Jobs, name: str = "") -> "Figure":
         _legend(figure, handles, ["received, after the rotation", "decided on"])
         _titled(figure, "Received vectors and the points decided on", rate, name)
     return figure
+
+
+def constellation_panel(panel, frame: CaptureFrame, jobs: Jobs, stream: int) -> None:
+    """Draw the constellation of one stream, counted from 0, in a panel of matplotlib."""
+    data = ~frame.rate.is_pilot[jobs.carrier]
+    values = rotated_points(frame, jobs)[data][:, stream]
+    _constellation_panel(panel, values, np.unique(jobs.points[data][:, stream]), frame.rate, stream)
 
 
 def _constellation_panel(panel, values: np.ndarray, decided: np.ndarray, rate: Rate, stream: int) -> None:
@@ -180,13 +194,13 @@ def evm_over_subcarriers(frame: CaptureFrame, jobs: Jobs, name: str = "") -> "Fi
 
     Parameters as in `constellation`; the answers aren't looked at, since the magnitude is that of equalised points.
     """
-    matplotlib, Figure = _matplotlib()
+    matplotlib, Figure = matplotlib_of()
     rate = frame.rate
     found = evm(frame)
     verdict = "within" if decibels(found.frame) <= rate.error_limit else "above"
     with matplotlib.rc_context(STYLE):
         figure, (panel,) = _drawn(Figure, 1, 1, 7.6, 3.2)
-        _draw_over_subcarriers(panel, frame, decibels(found.cells), [f"{decibels(value):.1f} dB" for value in found.streams])
+        over_subcarriers_panel(panel, frame, decibels(found.cells), [f"{decibels(value):.1f} dB" for value in found.streams])
         panel.axhline(rate.error_limit, color=INK, linewidth=1.2, linestyle=(0, (6, 2)), label=f"limit of {rate.error_limit} dB")
         panel.set_ylabel("error vector magnitude (dB)")
         panel.set_title(f"over all: {percent(found.frame)}, {verdict} the limit", loc="right", fontsize=9, color="#555555")
@@ -197,18 +211,18 @@ def evm_over_subcarriers(frame: CaptureFrame, jobs: Jobs, name: str = "") -> "Fi
 
 def residual_over_subcarriers(frame: CaptureFrame, jobs: Jobs, name: str = "") -> "Figure":
     """The detector's residuals beside each stream's own part, over the subcarriers, in percent; parameters as in `constellation`."""
-    matplotlib, Figure = _matplotlib()
+    matplotlib, Figure = matplotlib_of()
     found = residual_ratio(frame, jobs)
     with matplotlib.rc_context(STYLE):
         figure, (panel,) = _drawn(Figure, 1, 1, 7.6, 3.2)
-        _draw_over_subcarriers(panel, frame, 100 * found.cells, [f"{100 * value:.1f} %" for value in found.streams])
+        over_subcarriers_panel(panel, frame, 100 * found.cells, [f"{100 * value:.1f} %" for value in found.streams])
         panel.set(ylabel="residual ratio (%)", ylim=(0, None))
         _legend(figure, *panel.get_legend_handles_labels())
         _titled(figure, "Residuals behind the detector", frame.rate, name)
     return figure
 
 
-def _draw_over_subcarriers(panel, frame: CaptureFrame, values: np.ndarray, sums: Sequence[str]) -> None:
+def over_subcarriers_panel(panel, frame: CaptureFrame, values: np.ndarray, sums: Sequence[str]) -> None:
     """A curve for each stream, and the places of pilots and erased subcarriers."""
     rate, frequencies = frame.rate, frame.rate.frequencies
     for stream in range(rate.streams):
@@ -227,7 +241,7 @@ def _draw_over_subcarriers(panel, frame: CaptureFrame, values: np.ndarray, sums:
 
 def distance_histogram(frame: CaptureFrame, jobs: Jobs, name: str = "") -> "Figure":
     """The least distances of a frame as a histogram, data and pilots apart; parameters as in `constellation`."""
-    matplotlib, Figure = _matplotlib()
+    matplotlib, Figure = matplotlib_of()
     check_jobs(frame, jobs)
     rate = frame.rate
     values = jobs.distance.astype(float)
@@ -262,7 +276,7 @@ def error_curves(sweep: Sweep, name: str = "") -> "Figure":
     name : str
         For the title, as the name of the file.
     """
-    matplotlib, Figure = _matplotlib()
+    matplotlib, Figure = matplotlib_of()
     setting = sweep.setting
     curves: List[Tuple[str, Sequence[Union[Proportion, FrameProportion]], str, str, str]] = []
     for number, detector in enumerate(sweep.names):

@@ -7,7 +7,7 @@ last, and the tests say what is missing.
 
 from typing import Tuple
 
-from . import answers, capture, example, frames, judge, measure, merge, packets, picture, show, sweep, zero_forcing
+from . import answers, capture, example, frames, judge, measure, merge, packets, picture, report, show, sweep, zero_forcing
 from .base import Command
 
 MODULES = (
@@ -22,6 +22,7 @@ MODULES = (
     sweep,
     merge,
     picture,
+    report,
     zero_forcing,
 )
 COMMANDS: Tuple[Command, ...] = tuple(module.COMMAND for module in MODULES)
