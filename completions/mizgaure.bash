@@ -2,7 +2,7 @@
 _mizgaure() {
   local word=${COMP_WORDS[COMP_CWORD]} before=${COMP_WORDS[COMP_CWORD-1]} words=''
   if [ "$COMP_CWORD" -eq 1 ]; then
-    words='judge capture example show answers measure sweep picture zero-forcing --help --version'
+    words='judge check capture example show answers measure sweep picture zero-forcing --help --version'
   else
     case ${COMP_WORDS[1]}:$before in
       judge:--radio | judge:--reference | judge:--json | judge:--list) ;;
@@ -23,6 +23,7 @@ _mizgaure() {
         if [[ $word == -* ]]; then
           case ${COMP_WORDS[1]} in
             judge) words='--radio --force --reference --json --list --complete --help' ;;
+            check) words='--help' ;;
             capture) words='--force --output --gain --format --help' ;;
             example) words='--force --bandwidth --mcs --length --antennas --decay --estimate --seed --snr --output --sent --help' ;;
             show) words='--help' ;;
