@@ -91,6 +91,17 @@ class Progress:
                 self.percent = percent
                 print(f"\r{self.label}: {percent} %", end="", file=sys.stderr, flush=True)
 
+    def say(self, line: str) -> None:
+        """Print a line on standard output, above the bar where there is one."""
+        if self.bar is not None:
+            self.bar.write(line)
+        else:
+            if self.percent >= 0:
+                self.close()
+                self.percent = -1
+            print(line)
+        sys.stdout.flush()
+
     def close(self) -> None:
         """Take the bar away."""
         if self.bar is not None:

@@ -7,7 +7,7 @@ last, and the tests say what is missing.
 
 from typing import Tuple
 
-from . import answers, capture, check, example, judge, measure, picture, show, sweep, zero_forcing
+from . import answers, capture, check, example, frames, judge, measure, merge, packets, picture, report, show, sweep, zero_forcing
 from .base import Command
 
 MODULES = (
@@ -18,8 +18,12 @@ MODULES = (
     show,
     answers,
     measure,
+    packets,
+    frames,
     sweep,
+    merge,
     picture,
+    report,
     zero_forcing,
 )
 COMMANDS: Tuple[Command, ...] = tuple(module.COMMAND for module in MODULES)
