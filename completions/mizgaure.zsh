@@ -1,25 +1,17 @@
 #compdef mizgaure
-# Completion of mizgaure for zsh.
-local -a commands setting running writing
+# Completion of mizgaure for zsh, written by completions/make.
+local -a commands
 commands=(
-  "judge:judge another receiver's answers to a capture"
-  'capture:make a capture from floating point'
-  'example:make a frame behind a random channel'
-  'show:say what a file holds, or where it is at fault'
-  'answers:run radio on a capture and keep its answers'
+  'judge:judge another receiver'\''s answers to a capture'
+  'capture:make a capture from channels and received vectors in floating point'
+  'example:make a frame behind a random channel, to try capture on'
+  'show:say what a file (HTCP, HTTX, HTSY) holds, or where it is at fault'
+  'answers:run radio on a capture, with a progress bar, and keep its answers'
   'measure:measure error vector magnitude and error rates'
-  'sweep:find error rates over the signal-to-noise ratio'
+  'sweep:find error rates over the signal-to-noise ratio, over random channels'
   'picture:draw a frame of a capture, or a sweep'
-  'zero-forcing:answer a capture by a zero-forcing detector'
+  'zero-forcing:answer a capture by a zero-forcing detector, as an example of another receiver'
 )
-setting=(
-  '--bandwidth[in MHz]:bandwidth:(20 40)' '--mcs[0 to 31]:MCS:' '--length[octets of a frame]:length:' '--snr[in dB]:ratios:'
-  '--antennas[receive antennas]:antennas:' '--decay[of the taps, in samples]:samples:'
-  '--estimate[what is known of the channel]:estimate:(perfect ls)' '--seed[of the random numbers]:seed:'
-)
-running=('--radio[the program radio]:program:_files')
-writing=('--force[overwrite a file that is there already]')
-
 if (( CURRENT == 2 )); then
   _describe command commands
   _arguments '--help[say more]' '--version[say the version]'
@@ -30,21 +22,89 @@ shift words
 (( CURRENT-- ))
 case $command in
   judge)
-    _arguments $running $writing '--reference[kept lines of radio]:lines:_files' '--json[write all verdicts]:file:_files' \
-      '--list[how many of the worst jobs]:number:' '--complete[ask for all answers]' '1:capture:_files' '2:answers:_files' ;;
+    _arguments \
+      '--radio[the program radio]:program:_files' \
+      '--force[overwrite a file that is there already]' \
+      '--reference[kept lines of radio detect and radio rx, in place of running it]:lines:_files' \
+      '--json[write all verdicts as JSON lines]:file:_files' \
+      '--list[print at most N of the worst jobs]:n:' \
+      '--complete[end with status 1 also where a job has no answer]' \
+      '--help[say more]' \
+      '1:capture:_files' \
+      '2:answers:_files' ;;
   capture)
-    _arguments $writing {-o,--output}'[the capture]:file:_files' '--gain[before rounding]:gain:' '--format[version]:version:(1 2)' '*:frame:_files' ;;
-  example) _arguments $writing $setting {-o,--output}'[the frame]:file:_files' '--sent[what was sent]:file:_files' ;;
-  show) _arguments '1:file:_files' ;;
-  answers) _arguments $running $writing '--command[what radio does]:command:(detect rx)' {-o,--output}'[where to write]:file:_files' '1:capture:_files' ;;
+    _arguments \
+      '--force[overwrite a file that is there already]' \
+      {-o,--output}'[the capture (HTCP) to write; - is standard output]:file:_files' \
+      '--gain[what to multiply with before rounding]:gain:' \
+      '--format[the version of the capture]:format:(1 2)' \
+      '--help[say more]' \
+      '*:frame:_files' ;;
+  example)
+    _arguments \
+      '--force[overwrite a file that is there already]' \
+      '--bandwidth[in MHz]:bandwidth:(20 40)' \
+      '--mcs[0 to 31]:mcs:' \
+      '--length[octets of a frame]:length:' \
+      '--antennas[receive antennas]:antennas:' \
+      '--decay[samples by which the taps'\'' power falls by e]:decay:' \
+      '--estimate[what the receiver knows of the channel]:estimate:(perfect ls)' \
+      '--seed[of the random numbers]:seed:' \
+      '--snr[in dB]:snr:' \
+      {-o,--output}'[the frame to write, as capture reads it]:frame:_files' \
+      '--sent[write what was sent as a file of symbols (HTSY)]:file:_files' \
+      '--help[say more]' ;;
+  show)
+    _arguments \
+      '--help[say more]' \
+      '1:file:_files' ;;
+  answers)
+    _arguments \
+      '--radio[the program radio]:program:_files' \
+      '--force[overwrite a file that is there already]' \
+      '--command[what radio does]:command:(detect rx)' \
+      {-o,--output}'[where to write; arrays where it ends in .npz, lines otherwise]:file:_files' \
+      '--help[say more]' \
+      '1:capture:_files' ;;
   measure)
-    _arguments $running $writing '--answers[kept lines of radio]:lines:_files' '--sent[frames or symbols]:file:_files' \
-      '--octets[octets of all frames]:file:_files' '--json[write the measures]:file:_files' '1:capture:_files' ;;
+    _arguments \
+      '--radio[the program radio]:program:_files' \
+      '--force[overwrite a file that is there already]' \
+      '--answers[kept lines of radio detect and radio rx, in place of running it]:lines:_files' \
+      '--sent[what was sent\: a file of frames (HTTX) or of symbols (HTSY)]:file:_files' \
+      '--octets[what was sent\: the octets of all frames, one behind the other]:file:_files' \
+      '--json[write the measures as JSON lines]:file:_files' \
+      '--help[say more]' \
+      '1:capture:_files' ;;
   sweep)
-    _arguments $running $writing $setting '--frames[of each point]:frames:' '--processes[how many]:processes:' \
-      {-o,--output}'[the outcome]:file:_files' '--picture[draw it]:file:_files' ;;
+    _arguments \
+      '--radio[the program radio]:program:_files' \
+      '--force[overwrite a file that is there already]' \
+      '--bandwidth[in MHz]:bandwidth:(20 40)' \
+      '--mcs[0 to 31]:mcs:' \
+      '--length[octets of a frame]:length:' \
+      '--antennas[receive antennas]:antennas:' \
+      '--decay[samples by which the taps'\'' power falls by e]:decay:' \
+      '--estimate[what the receiver knows of the channel]:estimate:(perfect ls)' \
+      '--seed[of the random numbers]:seed:' \
+      '--snr[in dB, as 0\:20\:5 or 3,7.5,12]:snr:' \
+      '--frames[frames of each point]:frames:' \
+      '--processes[how many share the work]:processes:' \
+      {-o,--output}'[keep the outcome as JSON]:file:_files' \
+      '--picture[draw it]:file:_files' \
+      '--help[say more]' ;;
   picture)
-    _arguments $running $writing '--frame[the frame to draw]:frame:' '--answers[kept lines of radio]:lines:_files' \
-      '1:kind:(constellation evm distances sweep)' '2:file:_files' '3:picture:_files' ;;
-  zero-forcing) _arguments '1:capture:_files' ;;
+    _arguments \
+      '--radio[the program radio]:program:_files' \
+      '--force[overwrite a file that is there already]' \
+      '--frame[the frame to draw]:frame:' \
+      '--answers[kept lines of radio detect, in place of running it]:lines:_files' \
+      '--help[say more]' \
+      '1:kind:(constellation evm distances sweep)' \
+      '2:file:_files' \
+      '3:picture:_files' ;;
+  zero-forcing)
+    _arguments \
+      '--help[say more]' \
+      '1:capture:_files' ;;
 esac

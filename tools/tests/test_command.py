@@ -152,16 +152,20 @@ def options():
     return {name: {word for action in made._actions for word in action.option_strings if word.startswith("--")} for name, made in commands.items()}
 
 
-def test_pages_and_completions_know_every_command_and_option():
+def test_pages_know_every_command_and_option():
     page = (TOP / "man" / "mizgaure.1").read_text().replace("\\-", "-")
-    shells = {ending: (TOP / "completions" / f"mizgaure.{ending}").read_text() for ending in ("bash", "zsh", "fish")}
+    table = (TOP / "tools" / "README.md").read_text()
+    known = {"--help", "--version"}
     for name, words in options().items():
-        for text in (page, *shells.values(), (TOP / "tools" / "README.md").read_text()):
-            assert name in text
-        for word in words:
-            assert word in page and word in shells["bash"]
-            assert word in shells["zsh"] or word == "--help"
-            assert f"-l {word[2:]}" in shells["fish"]
+        assert f"`{name} " in table or f"`{name}`" in table
+        assert name in page and words <= set(re.findall(r"--[a-z]+(?:-[a-z]+)*", page))
+        known |= words
+    assert set(re.findall(r"--[a-z]+(?:-[a-z]+)*", page)) <= known
+
+
+def test_completions_are_those_of_the_words():
+    done = subprocess.run([sys.executable, str(TOP / "completions" / "make"), "--check"], capture_output=True, text=True, check=False)
+    assert (done.returncode, done.stdout) == (0, "")
 
 
 @pytest.mark.skipif(not shutil.which("man"), reason="there is no man")

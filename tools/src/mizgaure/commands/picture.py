@@ -1,0 +1,59 @@
+"""``mizgaure picture``: a frame of a capture, or a sweep, drawn."""
+
+from __future__ import annotations
+
+import argparse
+from typing import Sequence, Tuple
+
+from .. import pictures
+from ..answers import Jobs
+from ..errors import InputError
+from ..files import naming, refuse_overwriting
+from ..formats import CaptureFrame
+from ..program import Radio
+from ..sweep import Sweep, read_sweep
+from .base import Command, frames_of, held, kept_answers, name_of, whole
+
+KINDS = {"constellation": pictures.constellation, "evm": pictures.evm_over_subcarriers, "distances": pictures.distance_histogram}
+
+
+def words(command: argparse.ArgumentParser) -> None:
+    command.add_argument("kind", metavar="KIND", choices=(*KINDS, "sweep"), help="constellation, evm, distances or sweep")
+    command.add_argument("file", metavar="FILE", help="a capture, or for sweep what mizgaure sweep kept")
+    command.add_argument("output", metavar="PICTURE", help="ending in .png, .svg or .pdf")
+    command.add_argument("--frame", type=whole, default=0, help="the frame to draw (default 0)")
+    command.add_argument("--answers", metavar="LINES", help="kept lines of radio detect, in place of running it")
+
+
+def run(given: argparse.Namespace) -> None:
+    pictures.check_ending(given.output)
+    refuse_overwriting(given.output, given.force)
+    if given.kind == "sweep":
+        with naming(given.file):
+            kept: Sweep = read_sweep(given.file)
+        pictures.save(pictures.error_curves(kept, name_of(given.file)), given.output, given.force)
+        return
+    frame, jobs = _one_frame(given)
+    name = name_of(given.file) + (f", frame {given.frame}" if given.frame else "")
+    pictures.save(KINDS[given.kind](frame, jobs, name), given.output, given.force)
+
+
+def _one_frame(given: argparse.Namespace) -> Tuple[CaptureFrame, Jobs]:
+    source = held(given.file)
+    count, frame = 0, None
+    for count, read in enumerate(frames_of(source, given.file), 1):
+        if count - 1 == given.frame:
+            frame = read
+    if frame is None:
+        raise InputError(f"{given.file} has {count} frames, and no frame {given.frame}")
+    if given.answers:
+        records: Sequence = kept_answers(given.answers)[0]
+    else:
+        records = Radio(given.radio).detect(source)
+    for jobs in records:
+        if isinstance(jobs, Jobs) and jobs.frame == given.frame:
+            return frame, jobs
+    raise InputError(f"there are no answers to frame {given.frame} of {given.file}")
+
+
+COMMAND = Command("picture", "draw a frame of a capture, or a sweep", words, run, radio=True, writes=True)
