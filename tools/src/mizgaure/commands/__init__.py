@@ -7,7 +7,7 @@ last, and the tests say what is missing.
 
 from typing import Tuple
 
-from . import answers, capture, example, judge, measure, picture, show, sweep, zero_forcing
+from . import answers, capture, example, judge, measure, picture, receive, record, show, sweep, waveform, zero_forcing
 from .base import Command
 
 MODULES = (
@@ -20,6 +20,9 @@ MODULES = (
     sweep,
     picture,
     zero_forcing,
+    waveform,
+    record,
+    receive,
 )
 COMMANDS: Tuple[Command, ...] = tuple(module.COMMAND for module in MODULES)
 
