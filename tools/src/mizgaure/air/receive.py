@@ -321,10 +321,12 @@ class _Reception:
         shifts = standard.shifted(standard.stream_shifts(streams), rate.bandwidth)[:, carriers].T  # subcarrier, stream
         signs = standard.TRAINING_SIGNS[:streams, :count] / count
         plain = np.einsum("nka,sn,k,ks->ask", heard, signs, known.conj(), shifts.conj())
-        links = plain.reshape(-1, len(carriers))
+        links, noise = plain.reshape(-1, len(carriers)), np.full(len(carriers), 1 / count)
+        if streams == 1:
+            links, noise = self._with_legacy(links, noise, part)
         if signal.smoothing:
             delays = np.arange(-6 * self.over, 24 * self.over + 1)
-            links = smoothed(links, part.numbers, 1 / count, delays, self.length)
+            links = smoothed(links, part.numbers, noise, delays, self.length)
         guard = SHORT_GUARD if signal.short_guard else LONG_GUARD
         delays = np.arange(-24 * self.over, 40 * self.over)
         energies = profile(links, part.numbers, delays - self.early, self.length)
@@ -333,6 +335,24 @@ class _Reception:
         channel = moved.reshape(-1, streams, len(carriers)).transpose(2, 0, 1)
         channel = channel * (standard.rotation(rate.bandwidth)[carriers, None] * shifts)[:, None, :]
         return (channel if np.isfinite(channel).all() and channel.any() else None), early
+
+    def _with_legacy(self, links: np.ndarray, noise: np.ndarray, part: "_Part") -> Tuple[np.ndarray, np.ndarray]:
+        """The channel of one stream, for which the long training is taken, too, where it went the same way.
+
+        A transmitter may send one stream by several chains, in front of the HT part with other shifts; then it is another way.
+        """
+        legacy, there = np.zeros_like(links), np.zeros(links.shape[1], bool)
+        for number, middle in enumerate(self.training.middles):
+            turn = standard.rotation(part.rate.bandwidth)[standard.ht_subcarriers(part.rate.bandwidth)]
+            places = np.searchsorted(part.numbers, np.delete(np.arange(-26, 27), 26) + middle - part.middle)
+            legacy[:, places] = np.delete(self._expected(number), 26, axis=1) * self.weights[:, None] / turn[places]
+            there[places] = True
+        legacy *= np.sqrt(np.mean(there))  # its power is shared by fewer subcarriers
+        legacy *= np.exp(1j * np.angle(np.vdot(legacy[:, there], links[:, there])))
+        apart = np.mean(np.abs(links[:, there] - legacy[:, there]) ** 2) / 1.5  # their noise has the powers 1 and 1/2
+        if apart > 1 + 4 / np.sqrt(links[:, there].size):
+            return links, noise
+        return np.where(there, (links + 2 * legacy) / 3, links), np.where(there, noise / 3, noise)
 
     def _vectors(self, begins: np.ndarray, part: "_Part") -> Optional[np.ndarray]:
         """The received vectors of symbols, for noise of mean power 1: (symbols, subcarriers, antennas)."""

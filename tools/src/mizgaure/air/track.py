@@ -93,7 +93,7 @@ def _around(values: np.ndarray, half: int) -> np.ndarray:
     return sums[np.minimum(places + half + 1, values.size)] - sums[np.maximum(places - half, 0)]
 
 
-def smoothed(channel: np.ndarray, numbers: np.ndarray, noise: float, delays: np.ndarray, length: int) -> np.ndarray:
+def smoothed(channel: np.ndarray, numbers: np.ndarray, noise: np.ndarray, delays: np.ndarray, length: int) -> np.ndarray:
     """A channel's likeliest values where its impulse response has independent taps of unknown powers at given delays.
 
     The powers are found from all links together by expectation and maximisation; then this is Wiener's filter for them.
@@ -103,7 +103,7 @@ def smoothed(channel: np.ndarray, numbers: np.ndarray, noise: float, delays: np.
     channel : ndarray of complex128, shape (links, subcarriers)
         With noise on each value.
     numbers : ndarray of int64, shape (subcarriers,)
-    noise : float
+    noise : ndarray of float64, shape (subcarriers,)
         Its mean power.
     delays : ndarray of int64
         In samples.
@@ -111,14 +111,15 @@ def smoothed(channel: np.ndarray, numbers: np.ndarray, noise: float, delays: np.
         Of the transform.
     """
     waves = np.exp(-2j * np.pi * np.outer(numbers, delays) / length)
+    weighed = waves.conj().T / noise
+    gram, heard = weighed @ waves, weighed @ channel.T
     powers = np.full(len(delays), max(float(np.mean(np.abs(channel) ** 2)) / len(delays), 1e-30))
-    taps = np.zeros((len(delays), len(channel)), complex)
+    taps = heard
     for _ in range(ROUNDS):
-        spread = waves * powers
-        weighing = np.linalg.solve(spread @ waves.conj().T + noise * np.eye(len(numbers)), np.hstack((channel.T, waves)))
-        taps = spread.conj().T @ weighing[:, : len(channel)]
-        left = np.einsum("kd,kd->d", waves.conj(), weighing[:, len(channel) :]).real
-        powers = np.maximum(np.mean(np.abs(taps) ** 2, axis=1) + powers - powers**2 * left, 1e-30)
+        roots = np.sqrt(powers)
+        inverse = np.linalg.inv(roots[:, None] * gram * roots + np.eye(len(delays)))
+        taps = roots[:, None] * (inverse @ (roots[:, None] * heard))
+        powers = np.maximum(np.mean(np.abs(taps) ** 2, axis=1) + powers * np.diagonal(inverse).real, 1e-30)
     return (waves @ taps).T
 
 
