@@ -24,7 +24,8 @@ from .track import drift_of, phases_of, profile, shifts_of, smoothed, window_of
 NO_LEGACY, BAD_CRC, CUT_OFF, CLAUSE_18, VHT = "bad L-SIG", "bad HT-SIG CRC", "cut off", "clause 18", "VHT"
 GREENFIELD, LDPC, STBC, EXTENSION = "greenfield", "LDPC", "STBC", "extension streams"
 UNEQUAL, DUPLICATE, RESERVED, SOUNDING = "unequal modulation", "MCS 32", "reserved MCS", "no data"
-TOO_WIDE, TOO_FEW, TOO_LONG, NO_CHANNEL = "40 MHz", "fewer antennas than streams", "longer than L-SIG says", "no channel"
+TOO_WIDE, TOO_FEW, TOO_LONG = "40 MHz", "fewer antennas than streams", "longer than L-SIG says"
+NO_CHANNEL, NOT_FINITE = "no channel", "samples that aren't finite"
 
 # Samples at 20 MHz: from a packet's beginning to its first long symbol, and from there to the HT-LTFs.
 FRONT, TRAINING_BEGIN = 192, 448
@@ -260,6 +261,9 @@ class _Reception:
             packet.left_out = CUT_OFF
             return
         self._read(-(-(packet.end - self.training.begin) // self.over) + SYMBOL)
+        if self.recording.not_finite:
+            packet.left_out = NOT_FINITE
+            return
         part = _Part(rate, 0 if signal.wide else self.training.middles[0])
         channel, early = self._channel(part, signal)
         if channel is None:

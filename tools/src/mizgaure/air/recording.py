@@ -29,6 +29,7 @@ TYPES: Dict[str, Tuple[str, float, float]] = {
 }
 WRITTEN = ("cf32_le", "ci16_le")
 PLAUSIBLE_RATE = 1e12
+LARGEST = 1e15  # of a part in floating point
 
 
 @dataclass(frozen=True)
@@ -87,6 +88,10 @@ class Recording:
         The number of instants.
     rest : int
         Octets behind the last whole one.
+    not_finite : bool
+        Whether the samples that were read last had parts that aren't finite numbers.
+    ever_not_finite : bool
+        Whether any that were read had.
     """
 
     def __init__(self, name: str, stream: BinaryIO, layout: Layout, frequency: Optional[float] = None) -> None:
@@ -95,12 +100,12 @@ class Recording:
         self._stream = stream
         size = stream.seek(0, os.SEEK_END)
         self.length, self.rest = divmod(size, layout.octets)
-        self.not_finite = 0
+        self.not_finite = self.ever_not_finite = False
 
     def read(self, first: int, count: int) -> np.ndarray:
         """Samples from instant ``first`` on, fewer than ``count`` where the recording ends.
 
-        Parts that aren't finite are given as 0.
+        Parts that aren't finite, or above 10**15, are given as 0.
 
         Returns
         -------
@@ -116,11 +121,13 @@ class Recording:
         made = np.empty((self.layout.channels, count, 2), np.float32)
         with np.errstate(invalid="ignore", over="ignore"):
             made[...] = parts.transpose(1, 0, 2)
+        self.not_finite = False
         if scale != 1:
             made -= np.float32(zero)
             made /= np.float32(scale)
-        elif not np.isfinite(made.sum()):
-            made[~(np.abs(made) < 1e15)] = 0
+        elif made.size and not np.abs(made).max() < LARGEST:
+            made[~(np.abs(made) < LARGEST)] = 0
+            self.not_finite = self.ever_not_finite = True
         return made.view(np.complex64)[..., 0]
 
     def close(self) -> None:

@@ -83,7 +83,8 @@ def periodicity(samples: np.ndarray, lag: int, window: int) -> np.ndarray:
     """
     if samples.shape[1] < lag + window:
         return np.zeros(0)
-    samples = samples - samples.mean(axis=1, keepdims=True)
+    samples = samples.astype(complex)
+    samples -= samples.mean(axis=1, keepdims=True)
     products = _running(np.einsum("an,an->n", samples[:, lag:], samples[:, :-lag].conj()), window)
     energy = _running(np.einsum("an,an->n", samples, samples.conj()).real, window)
     energies = energy[:-lag] * energy[lag:]

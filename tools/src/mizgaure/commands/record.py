@@ -38,8 +38,8 @@ def warn(recording: Recording) -> None:
     if recording.rest:
         count = "1 octet" if recording.rest == 1 else f"{recording.rest} octets"
         print(f"mizgaure: {recording.name}: the last {count} are no whole sample, and were left out", file=sys.stderr)
-    if recording.not_finite:
-        print(f"mizgaure: {recording.name}: {recording.not_finite} parts aren't finite, and were taken as 0", file=sys.stderr)
+    if recording.ever_not_finite:
+        print(f"mizgaure: {recording.name}: parts of samples aren't finite or are above 1e15, and were taken as 0", file=sys.stderr)
 
 
 def nothing_found(recording: Recording) -> InputError:
