@@ -13,11 +13,11 @@ _mizgaure() {
       example:--mcs | example:--length | example:--antennas | example:--decay | example:--seed | example:--snr | example:-o | example:--output | example:--sent) ;;
       answers:--command) words='detect rx' ;;
       answers:--radio | answers:-o | answers:--output) ;;
-      measure:--radio | measure:--answers | measure:--sent | measure:--octets | measure:--json) ;;
+      measure:--radio | measure:--answers | measure:--sent | measure:--octets | measure:--json | measure:--csv) ;;
       sweep:--bandwidth) words='20 40' ;;
       sweep:--estimate) words='perfect ls' ;;
-      sweep:--radio | sweep:--mcs | sweep:--length | sweep:--antennas | sweep:--decay | sweep:--seed | sweep:--snr | sweep:--frames | sweep:--processes | sweep:-o | sweep:--output | sweep:--picture) ;;
-      picture:picture) words='constellation evm distances sweep' ;;
+      sweep:--radio | sweep:--mcs | sweep:--length | sweep:--antennas | sweep:--decay | sweep:--seed | sweep:--snr | sweep:--frames | sweep:--processes | sweep:-o | sweep:--output | sweep:--csv | sweep:--picture) ;;
+      picture:picture) words='constellation evm residual distances sweep' ;;
       picture:--radio | picture:--frame | picture:--answers) ;;
       *)
         if [[ $word == -* ]]; then
@@ -27,8 +27,8 @@ _mizgaure() {
             example) words='--force --bandwidth --mcs --length --antennas --decay --estimate --seed --snr --output --sent --help' ;;
             show) words='--help' ;;
             answers) words='--radio --force --command --output --help' ;;
-            measure) words='--radio --force --answers --sent --octets --json --help' ;;
-            sweep) words='--radio --force --bandwidth --mcs --length --antennas --decay --estimate --seed --snr --frames --processes --output --picture --help' ;;
+            measure) words='--radio --force --answers --sent --octets --untracked --json --csv --help' ;;
+            sweep) words='--radio --force --bandwidth --mcs --length --antennas --decay --estimate --seed --snr --frames --processes --output --csv --picture --help' ;;
             picture) words='--radio --force --frame --answers --help' ;;
             zero-forcing) words='--help' ;;
           esac

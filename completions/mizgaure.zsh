@@ -70,12 +70,14 @@ case $command in
     _arguments \
       '--radio[the program radio]:program:_files' \
       '--force[overwrite a file that is there already]' \
-      '--answers[kept lines of radio detect and radio rx, in place of running it]:lines:_files' \
-      '--sent[what was sent\: a file of frames (HTTX) or of symbols (HTSY)]:file:_files' \
-      '--octets[what was sent\: the octets of all frames, one behind the other]:file:_files' \
+      '--answers[kept lines of radio detect and radio rx, in place of running it; once for each capture]:lines:_files' \
+      '--sent[what was sent\: a file of frames (HTTX) or of symbols (HTSY); once for each capture]:file:_files' \
+      '--octets[what was sent\: the octets of all frames, one behind the other; once for each capture]:file:_files' \
+      '--untracked[leave the phase of each symbol where it is, where pilots have other signs]' \
       '--json[write the measures as JSON lines]:file:_files' \
+      '--csv[write the measures as a table, a row a frame]:file:_files' \
       '--help[say more]' \
-      '1:capture:_files' ;;
+      '*:capture:_files' ;;
   sweep)
     _arguments \
       '--radio[the program radio]:program:_files' \
@@ -91,6 +93,7 @@ case $command in
       '--frames[frames of each point]:frames:' \
       '--processes[how many share the work]:processes:' \
       {-o,--output}'[keep the outcome as JSON]:file:_files' \
+      '--csv[keep the outcome as a table, a row a point]:file:_files' \
       '--picture[draw it]:file:_files' \
       '--help[say more]' ;;
   picture)
@@ -100,7 +103,7 @@ case $command in
       '--frame[the frame to draw]:frame:' \
       '--answers[kept lines of radio detect, in place of running it]:lines:_files' \
       '--help[say more]' \
-      '1:kind:(constellation evm distances sweep)' \
+      '1:kind:(constellation evm residual distances sweep)' \
       '2:file:_files' \
       '3:picture:_files' ;;
   zero-forcing)

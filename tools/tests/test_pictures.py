@@ -5,7 +5,7 @@ import pytest
 from conftest import octets_of, random_frame
 
 from mizgaure import InputError, Rate
-from mizgaure.measures import ErrorRates, Proportion
+from mizgaure.measures import ErrorRates, FrameProportion, Proportion
 from mizgaure.sweep import Setting, Sweep
 
 pytest.importorskip("matplotlib")
@@ -13,7 +13,8 @@ pictures = pytest.importorskip("mizgaure.pictures")
 
 KINDS = {
     "constellation": (pictures.constellation, "I (levels)", "Q (levels)"),
-    "evm": (pictures.evm_over_subcarriers, "subcarrier number, in ascending frequency", "error vector magnitude (%)"),
+    "evm": (pictures.evm_over_subcarriers, "subcarrier number, in ascending frequency", "error vector magnitude (dB)"),
+    "residual": (pictures.residual_over_subcarriers, "subcarrier number, in ascending frequency", "residual ratio (%)"),
     "distances": (pictures.distance_histogram, "least distance (squared whole units of the capture)", "share of the jobs (% a bin)"),
 }
 
@@ -55,7 +56,8 @@ def drawn(path):
 
 def test_curves_with_intervals(tmp_path):
     setting = Setting(snr=(0.0, 10.0, 20.0), frames=40)
-    rates = [ErrorRates(symbols=Proportion(n, 4000), frames=Proportion(f, 40)) for n, f in ((900, 40), (60, 7), (2, 0))]
+    spread = [{(22, 100): 20, (23, 100): 20}, {(0, 100): 20, (3, 100): 20}, {(0, 100): 38, (1, 100): 2}]
+    rates = [ErrorRates(symbols=FrameProportion(by_frame), frames=Proportion(f, 40)) for by_frame, f in zip(spread, (40, 7, 0))]
     figure = pictures.error_curves(Sweep(setting, True, rates), "some.json")
     (panel,) = figure.axes
     assert panel.get_yscale() == "log" and panel.get_xlabel() == "signal-to-noise ratio of one receive antenna (dB)" and panel.get_ylabel() == "error rate"

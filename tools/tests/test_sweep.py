@@ -4,7 +4,7 @@ import numpy as np
 import pytest
 from conftest import vectors
 
-from mizgaure import InputError, ProgramError, read_htsy
+from mizgaure import InputError, ProgramError, Radio, read_htsy
 from mizgaure.sweep import Setting, least_squares, rayleigh, read_sweep, sweep
 
 
@@ -20,6 +20,19 @@ def test_a_sweep_is_the_same_in_one_process_and_in_two(radio):
     assert (kept.setting, kept.coded, kept.rates) == (one.setting, one.coded, one.rates)
     assert one.coded == (radio.knows("tx") and radio.knows("rx"))
     assert one.coded == (one.rates[0].frames.trials == 12)
+
+
+def test_a_sweep_runs_the_program_three_times_for_ten_frames(radio, tmp_path):
+    """No call but those for work, two that ask for the commands left out; and the tasks share the processors, so one worker is enough."""
+    counting = tmp_path / "radio"
+    counting.write_text(f'#!/bin/sh\necho "$*" >>"{tmp_path}/calls"\nexec "{radio.path}" "$@"\n')
+    counting.chmod(0o755)
+    found = sweep(Setting(mcs=0, length=5, snr=(20.0,), frames=20), Radio(str(counting), progress=False), processes=1)
+    assert found.rates[0].symbols.count == 20
+    calls = (tmp_path / "calls").read_text().splitlines()
+    for word in ("tx", "rx"):
+        calls.remove(word)
+    assert calls == ["tx", "detect --workers 1", "rx --workers 1"] * 2 if found.coded else ["detect --workers 1"] * 2
 
 
 def test_least_squares_are_off_by_the_noise():

@@ -7,7 +7,7 @@ kinds of lines differ as well, so that a picture can be read in grey.
 from __future__ import annotations
 
 import os
-from typing import TYPE_CHECKING, List, Sequence, Tuple
+from typing import TYPE_CHECKING, List, Sequence, Tuple, Union
 
 import numpy as np
 
@@ -16,7 +16,7 @@ from .distances import residuals
 from .errors import InputError
 from .files import Target, writing
 from .formats import CaptureFrame
-from .measures import Proportion, check_jobs, evm
+from .measures import FrameProportion, Proportion, check_jobs, decibels, evm, percent, residual_ratio
 from .rates import Rate
 from .sweep import Sweep
 
@@ -175,29 +175,53 @@ def _constellation_panel(panel, values: np.ndarray, decided: np.ndarray, rate: R
 
 
 def evm_over_subcarriers(frame: CaptureFrame, jobs: Jobs, name: str = "") -> "Figure":
-    """The error vector magnitude of each stream over the subcarriers, in percent; parameters as in `constellation`."""
+    """The error vector magnitude of each stream over the subcarriers, in dB, with the standard's limit.
+
+    Parameters as in `constellation`; the answers aren't looked at, since the magnitude is that of equalised points.
+    """
     matplotlib, Figure = _matplotlib()
     rate = frame.rate
-    found = evm(frame, jobs)
+    found = evm(frame)
+    verdict = "within" if decibels(found.frame) <= rate.error_limit else "above"
     with matplotlib.rc_context(STYLE):
         figure, (panel,) = _drawn(Figure, 1, 1, 7.6, 3.2)
-        frequencies = rate.frequencies
-        for stream in range(rate.streams):
-            colour, marker, line = STREAM_STYLES[stream]
-            cells = np.where(rate.is_pilot, np.nan, 100 * found.cells[:, stream])
-            label = f"stream {stream + 1} ({100 * found.streams[stream]:.1f} %)"
-            for half in (frequencies < 0, frequencies > 0):
-                panel.plot(frequencies[half], cells[half], color=colour, marker=marker, linestyle=line, markersize=4, linewidth=1.2,
-                           label=label if half[0] else None)
-        for n, pilot in enumerate(frequencies[rate.is_pilot]):
-            panel.axvline(pilot, color=PALE, linewidth=3.5, alpha=0.45, zorder=0, label="pilot" if n == 0 else None)
-        for n, erased in enumerate(frequencies[frame.erased]):
-            panel.axvline(erased, color=INK, linewidth=0.8, linestyle=(0, (1, 2)), zorder=0, label="erased" if n == 0 else None)
-        panel.set(xlabel="subcarrier number, in ascending frequency", ylabel="error vector magnitude (%)", ylim=(0, None))
-        panel.margins(x=0.02)
+        _draw_over_subcarriers(panel, frame, decibels(found.cells), [f"{decibels(value):.1f} dB" for value in found.streams])
+        panel.axhline(rate.error_limit, color=INK, linewidth=1.2, linestyle=(0, (6, 2)), label=f"limit of {rate.error_limit} dB")
+        panel.set_ylabel("error vector magnitude (dB)")
+        panel.set_title(f"over all: {percent(found.frame)}, {verdict} the limit", loc="right", fontsize=9, color="#555555")
         _legend(figure, *panel.get_legend_handles_labels())
-        _titled(figure, "Error vector magnitude over subcarriers", rate, name)
+        _titled(figure, "Error vector magnitude of equalised points", rate, name)
     return figure
+
+
+def residual_over_subcarriers(frame: CaptureFrame, jobs: Jobs, name: str = "") -> "Figure":
+    """The detector's residuals beside each stream's own part, over the subcarriers, in percent; parameters as in `constellation`."""
+    matplotlib, Figure = _matplotlib()
+    found = residual_ratio(frame, jobs)
+    with matplotlib.rc_context(STYLE):
+        figure, (panel,) = _drawn(Figure, 1, 1, 7.6, 3.2)
+        _draw_over_subcarriers(panel, frame, 100 * found.cells, [f"{100 * value:.1f} %" for value in found.streams])
+        panel.set(ylabel="residual ratio (%)", ylim=(0, None))
+        _legend(figure, *panel.get_legend_handles_labels())
+        _titled(figure, "Residuals behind the detector", frame.rate, name)
+    return figure
+
+
+def _draw_over_subcarriers(panel, frame: CaptureFrame, values: np.ndarray, sums: Sequence[str]) -> None:
+    """A curve for each stream, and the places of pilots and erased subcarriers."""
+    rate, frequencies = frame.rate, frame.rate.frequencies
+    for stream in range(rate.streams):
+        colour, marker, line = STREAM_STYLES[stream]
+        cells = np.where(rate.is_pilot | ~np.isfinite(values[:, stream]), np.nan, values[:, stream])
+        for half in (frequencies < 0, frequencies > 0):
+            panel.plot(frequencies[half], cells[half], color=colour, marker=marker, linestyle=line, markersize=4, linewidth=1.2,
+                       label=f"stream {stream + 1} ({sums[stream]})" if half[0] else None)
+    for n, pilot in enumerate(frequencies[rate.is_pilot]):
+        panel.axvline(pilot, color=PALE, linewidth=3.5, alpha=0.45, zorder=0, label="pilot" if n == 0 else None)
+    for n, erased in enumerate(frequencies[frame.erased]):
+        panel.axvline(erased, color=INK, linewidth=0.8, linestyle=(0, (1, 2)), zorder=0, label="erased" if n == 0 else None)
+    panel.set(xlabel="subcarrier number, in ascending frequency")
+    panel.margins(x=0.02)
 
 
 def distance_histogram(frame: CaptureFrame, jobs: Jobs, name: str = "") -> "Figure":
@@ -229,7 +253,7 @@ def distance_histogram(frame: CaptureFrame, jobs: Jobs, name: str = "") -> "Figu
 
 
 def error_curves(sweep: Sweep, name: str = "") -> "Figure":
-    """Symbol and frame error rates over the signal-to-noise ratio, with Wilson's intervals at 95 %.
+    """Symbol and frame error rates over the signal-to-noise ratio, with their intervals at 95 %.
 
     Parameters
     ----------
@@ -239,7 +263,7 @@ def error_curves(sweep: Sweep, name: str = "") -> "Figure":
     """
     matplotlib, Figure = _matplotlib()
     setting = sweep.setting
-    curves: List[Tuple[str, Sequence[Proportion], str, str, str]] = [
+    curves: List[Tuple[str, Sequence[Union[Proportion, FrameProportion]], str, str, str]] = [
         ("SER, before the decoder", [rates.symbols for rates in sweep.rates], BLUE, "o", "-")]
     if sweep.coded:
         curves.insert(0, ("PER, behind the decoder", [rates.frames for rates in sweep.rates], ORANGE, "s", "--"))
@@ -264,7 +288,7 @@ def error_curves(sweep: Sweep, name: str = "") -> "Figure":
     return figure
 
 
-def _curve(panel, snr: Sequence[float], rates: Sequence[Proportion], colour: str, marker: str, line: str, label: str) -> float:
+def _curve(panel, snr: Sequence[float], rates: Sequence[Union[Proportion, FrameProportion]], colour: str, marker: str, line: str, label: str) -> float:
     """Draw a curve, and say where the lowest thing drawn is. Rates of 0 are drawn as what they are at most."""
     order = np.argsort(snr)
     x = np.asarray(snr, float)[order]

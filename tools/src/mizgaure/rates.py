@@ -17,6 +17,7 @@ from .errors import InputError
 MODULATIONS = ("BPSK", "QPSK", "QPSK", "16-QAM", "16-QAM", "64-QAM", "64-QAM", "64-QAM")
 CODING_RATES = tuple(Fraction(*pair) for pair in ((1, 2), (1, 2), (3, 4), (1, 2), (3, 4), (2, 3), (3, 4), (5, 6)))
 BITS_PER_POINT = (1, 2, 2, 4, 4, 6, 6, 6)
+ERROR_LIMITS = (-5, -10, -13, -16, -19, -22, -25, -28)
 PILOT_INDEXES = {20: (7, 21, 34, 48), 40: (5, 33, 47, 66, 80, 108)}
 SUBCARRIER_SPAN = {20: (1, 28), 40: (2, 58)}
 TWO_ENCODERS = frozenset((21, 22, 23, 28, 29, 30, 31))
@@ -153,6 +154,14 @@ class Rate:
     def power(self) -> int:
         """The mean squared length of the points: 1, 2, 10 or 42. The normalising factor K_MOD is its inverse square root."""
         return {1: 1, 2: 2, 4: 10, 6: 42}[self.bits_per_point]
+
+    @property
+    def error_limit(self) -> int:
+        """The relative constellation error that a transmitter may have, in dB (clause 20.3.20.7.3).
+
+        Editions differ in that of 64-QAM at 5/6, -28 or -27; the stricter one is taken.
+        """
+        return ERROR_LIMITS[self.mcs % 8]
 
     @property
     def normalising_factor(self) -> float:

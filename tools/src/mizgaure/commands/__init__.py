@@ -7,7 +7,8 @@ last, and the tests say what is missing.
 
 from typing import Tuple
 
-from . import answers, capture, example, judge, measure, picture, receive, record, show, sweep, waveform, zero_forcing
+from . import (answers, capture, example, frames, judge, measure, merge, packets, picture, receive, record, show, sweep, waveform,
+               zero_forcing)
 from .base import Command
 
 MODULES = (
@@ -17,7 +18,10 @@ MODULES = (
     show,
     answers,
     measure,
+    packets,
+    frames,
     sweep,
+    merge,
     picture,
     zero_forcing,
     waveform,

@@ -5,15 +5,18 @@ from __future__ import annotations
 import argparse
 from dataclasses import dataclass
 from pathlib import Path
-from typing import Callable, Iterator, List, Optional, Tuple
+from typing import Any, Callable, Dict, Iterable, Iterator, List, Optional, Sequence, Tuple
 
 import numpy as np
 
 from ..answers import FrameAnswer, Jobs, Refused, read_answers
 from ..errors import InputError
-from ..files import Source, naming, reading
+from ..files import Source, naming, reading, refuse_overwriting
 from ..formats import CaptureFrame, read_htcp
+from ..channels import NAMES as CHANNELS
+from ..channels import profile_of
 from ..sweep import ESTIMATES, Setting
+from ..tables import write_csv, write_json_lines
 
 
 @dataclass(frozen=True)
@@ -53,6 +56,14 @@ def whole(word: str) -> int:
     return int(word)
 
 
+def positive_whole(word: str) -> int:
+    """A whole number above 0."""
+    number = whole(word)
+    if number == 0:
+        raise argparse.ArgumentTypeError("it has to be above 0")
+    return number
+
+
 def not_negative(word: str) -> float:
     """A number of at least 0."""
     try:
@@ -90,6 +101,22 @@ def ratios(text: str) -> Tuple[float, ...]:
     return tuple(found)
 
 
+def profile(text: str) -> Tuple[Tuple[float, float], ...]:
+    """A delay profile, as 0:0,50:-3 in ns and dB."""
+    try:
+        return profile_of(text)
+    except InputError as error:
+        raise argparse.ArgumentTypeError(str(error)) from None
+
+
+def part(text: str) -> Tuple[int, int]:
+    """Part K of N, as K/N."""
+    number, slash, count = text.partition("/")
+    if not (slash and 1 <= whole(number) <= whole(count)):
+        raise argparse.ArgumentTypeError(f"{text} is no part as K/N, with K from 1 to N")
+    return int(number), int(count)
+
+
 def add_setting(command: argparse.ArgumentParser) -> None:
     """The options that a sweep and an example have in common."""
     setting = Setting()
@@ -98,13 +125,50 @@ def add_setting(command: argparse.ArgumentParser) -> None:
     command.add_argument("--length", type=whole, default=setting.length, help="octets of a frame (default 100)")
     command.add_argument("--antennas", type=whole, default=setting.antennas, help="receive antennas (default: as many as streams)")
     command.add_argument("--decay", type=not_negative, default=setting.decay, help="samples by which the taps' power falls by e (default 2)")
+    command.add_argument("--channel", metavar="CHANNEL", default=setting.channel,
+                         help=f"{', '.join(CHANNELS)}, or a function as FILE.py:NAME (default {setting.channel})")
+    command.add_argument("--profile", metavar="NS:DB,..", type=profile, default=setting.profile, help="of the channel tapped, as 0:0,50:-3,110:-7.5")
     command.add_argument("--estimate", choices=ESTIMATES, default=setting.estimate, help="what the receiver knows of the channel (default perfect)")
     command.add_argument("--seed", type=whole, default=setting.seed, help="of the random numbers (default 1)")
 
 
+def add_workers(command: argparse.ArgumentParser) -> None:
+    """The options that say who does the work."""
+    command.add_argument("--processes", metavar="N", type=whole, default=0, help="how many share the work (default: one for each processor)")
+    command.add_argument("--scheduler", metavar="ADDRESS", help="let the workers of this scheduler of dask.distributed do it, as tcp://HOST:8786")
+
+
+def add_part(command: argparse.ArgumentParser, what: str) -> None:
+    """The option that asks for a part."""
+    command.add_argument("--part", metavar="K/N", type=part, default=(1, 1), help=f"do part K of N alone: {what}")
+
+
+def add_tables(command: argparse.ArgumentParser) -> None:
+    """The options that write records."""
+    command.add_argument("--csv", metavar="FILE", help="write a table as CSV")
+    command.add_argument("--json", metavar="FILE", help="write the same records as JSON lines")
+
+
+def refuse_tables(given: argparse.Namespace) -> None:
+    """Refuse tables that are there already, before work is done for them."""
+    for path in (given.csv, given.json):
+        if path:
+            refuse_overwriting(path, given.force)
+
+
+def write_tables(given: argparse.Namespace, records: Iterable[Dict[str, Any]], columns: Sequence[str]) -> None:
+    """Write the tables that are asked for."""
+    held = list(records)
+    if given.csv:
+        write_csv(given.csv, held, columns, given.force)
+    if given.json:
+        write_json_lines(given.json, held, given.force)
+
+
 def setting_of(given: argparse.Namespace, frames: int) -> Setting:
     """The setting that these options give."""
-    setting = Setting(given.bandwidth, given.mcs, given.length, given.snr, frames, given.antennas, given.decay, given.estimate, given.seed)
+    setting = Setting(given.bandwidth, given.mcs, given.length, given.snr, frames, given.antennas, given.decay, given.estimate, given.seed,
+                      given.channel, given.profile, getattr(given, "errors", 0))
     setting.check()
     return setting
 

@@ -14,11 +14,12 @@ from ..program import Radio
 from ..sweep import Sweep, read_sweep
 from .base import Command, frames_of, held, kept_answers, name_of, whole
 
-KINDS = {"constellation": pictures.constellation, "evm": pictures.evm_over_subcarriers, "distances": pictures.distance_histogram}
+KINDS = {"constellation": pictures.constellation, "evm": pictures.evm_over_subcarriers, "residual": pictures.residual_over_subcarriers,
+         "distances": pictures.distance_histogram}
 
 
 def words(command: argparse.ArgumentParser) -> None:
-    command.add_argument("kind", metavar="KIND", choices=(*KINDS, "sweep"), help="constellation, evm, distances or sweep")
+    command.add_argument("kind", metavar="KIND", choices=(*KINDS, "sweep"), help="constellation, evm, residual, distances or sweep")
     command.add_argument("file", metavar="FILE", help="a capture, or for sweep what mizgaure sweep kept")
     command.add_argument("output", metavar="PICTURE", help="ending in .png, .svg or .pdf")
     command.add_argument("--frame", type=whole, default=0, help="the frame to draw (default 0)")
