@@ -8,8 +8,6 @@ import tempfile
 from dataclasses import dataclass
 from typing import Any, BinaryIO, Dict, Iterator, Optional, cast
 
-import numpy as np
-
 from ..errors import InputError
 from ..files import Target, writing
 from ..formats import MAGIC, MOST_FRAMES, CaptureFrame, write_htcp
@@ -21,6 +19,8 @@ from .synchronise import Finder
 
 RATES = {20e6: 1, 40e6: 2}
 FULL = "the capture is full"
+COLUMNS = ("packet", "sample", "time", "bandwidth", "mcs", "length", "guard", "aggregated", "legacy_rate", "legacy_length", "offset", "noise",
+           "clipped", "left_out", "frame")
 IN_MEMORY = 1 << 24  # octets of a capture that are kept in memory before a file is taken
 HEAD = 7  # octets of a capture in front of its frames
 CLIPPED = 1e-3  # the share of parts as large as the largest one from which on a packet is said to be clipped
@@ -106,26 +106,24 @@ class Line:
         return f"{self.heard}; " + (f"frame {self.frame}" if self.left_out is None else f"left out: {self.left_out}")
 
     def record(self) -> Dict[str, Any]:
-        """The same as a record of JSON."""
+        """The same as a record for a table, by the names of `COLUMNS`."""
         return {"packet": self.number, "sample": self.sample, "time": self.time, **self.header, "offset": self.offset,
-                "noise": self.noise if np.isfinite(self.noise) else None, "clipped": self.clipped, "left_out": self.left_out,
-                "frame": self.frame}
+                "noise": self.noise, "clipped": self.clipped, "left_out": self.left_out, "frame": self.frame}
 
 
-def line_of(packet: Packet, number: int, rate: float, frame: Optional[int], left_out: Optional[str]) -> Line:
+def line_of(packet: Packet, number: int, recording: Recording, frame: Optional[int], left_out: Optional[str]) -> Line:
     """What is said of a packet.
 
     Parameters
     ----------
     packet : Packet
     number : int
-    rate : float
-        The recording's samples a second.
+    recording : Recording
     frame : int or None
         The number of its frame in the capture.
     left_out : str or None
     """
-    return Line(number, packet.sample, packet.sample / rate, _in_words(packet), packet.offset, packet.noise, left_out, frame,
+    return Line(number, packet.sample, recording.seconds(packet.sample), _in_words(packet), packet.offset, packet.noise, left_out, frame,
                 _header(packet), packet.clipped)
 
 
@@ -146,7 +144,7 @@ def _header(packet: Packet) -> Dict[str, Any]:
     signal, legacy = packet.signal, packet.legacy
     said: Dict[str, Any] = {}
     if legacy is not None:
-        said["legacy"] = {"rate": legacy.rate, "length": legacy.length}
+        said.update(legacy_rate=legacy.rate, legacy_length=legacy.length)
     if signal is not None:
         said.update(bandwidth=40 if signal.wide else 20, mcs=signal.mcs, length=signal.length,
                     guard=400 if signal.short_guard else 800, aggregated=signal.aggregated)
@@ -210,4 +208,4 @@ def spooled(recording: Recording, spool: Spool) -> Iterator[Line]:
             frame = spool.frames
             if spool.add(packet) is None:
                 left_out, frame = FULL, None
-        yield line_of(packet, number, recording.layout.rate, frame, left_out)
+        yield line_of(packet, number, recording, frame, left_out)

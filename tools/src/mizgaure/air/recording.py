@@ -130,6 +130,10 @@ class Recording:
             self.not_finite = self.ever_not_finite = True
         return made.view(np.complex64)[..., 0]
 
+    def seconds(self, samples: float) -> float:
+        """How long so many instants last."""
+        return samples / self.layout.rate
+
     def close(self) -> None:
         """Close the file."""
         self._stream.close()

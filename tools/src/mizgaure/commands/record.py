@@ -3,16 +3,15 @@
 from __future__ import annotations
 
 import argparse
-import json
 import sys
 from collections import Counter
 from typing import Optional
 
-from ..air.record import Spool, spooled
+from ..air.record import COLUMNS, Spool, spooled
 from ..air.recording import TYPES, Layout, Recording, open_recording
 from ..errors import InputError
-from ..files import refuse_overwriting, writing
-from .base import Command, positive, whole
+from ..files import refuse_overwriting
+from .base import Command, add_tables, octets, positive, refuse_tables, whole, write_tables
 
 
 def add_recording(command: argparse.ArgumentParser) -> None:
@@ -33,18 +32,14 @@ def opened(given: argparse.Namespace) -> Recording:
     return open_recording(given.recording, raw)
 
 
-def warn(recording: Recording) -> None:
-    """Say what isn't right in a recording that was read."""
+def check_found(recording: Recording, packets: int) -> None:
+    """Say what isn't right in a recording that was read, and refuse one without a packet."""
     if recording.rest:
-        count = "1 octet" if recording.rest == 1 else f"{recording.rest} octets"
-        print(f"mizgaure: {recording.name}: the last {count} are no whole sample, and were left out", file=sys.stderr)
+        print(f"mizgaure: {recording.name}: {octets(recording.rest)} at its end are no whole sample, and were left out", file=sys.stderr)
     if recording.ever_not_finite:
         print(f"mizgaure: {recording.name}: parts of samples aren't finite or are above 1e15, and were taken as 0", file=sys.stderr)
-
-
-def nothing_found(recording: Recording) -> InputError:
-    """What is said of a recording without a packet."""
-    return InputError(f"{recording.name}: no packet was found in {recording.length} samples, {recording.length / recording.layout.rate:.6f} s")
+    if not packets:
+        raise InputError(f"{recording.name}: no packet was found in {recording.length} samples, {recording.seconds(recording.length):.6f} s")
 
 
 def summary(fates: Counter, what: str) -> str:
@@ -57,13 +52,12 @@ def summary(fates: Counter, what: str) -> str:
 def words(command: argparse.ArgumentParser) -> None:
     add_recording(command)
     command.add_argument("-o", "--output", metavar="FILE", required=True, help="the capture (HTCP) to write; - is standard output")
-    command.add_argument("--json", metavar="FILE", help="write what is said of packets as JSON lines")
+    add_tables(command)
 
 
 def run(given: argparse.Namespace) -> None:
-    for path in (given.output, given.json):
-        if path:
-            refuse_overwriting(path, given.force)
+    refuse_overwriting(given.output, given.force)
+    refuse_tables(given)
     lines = sys.stderr if given.output == "-" else sys.stdout
     fates: Counter = Counter()
     records = []
@@ -71,16 +65,12 @@ def run(given: argparse.Namespace) -> None:
         for line in spooled(recording, spool):
             print(line, file=lines, flush=True)
             fates[line.left_out] += 1
-            if given.json:
-                records.append(json.dumps(line.record()))
-        warn(recording)
-        if not fates:
-            raise nothing_found(recording)
+            if given.csv or given.json:
+                records.append(line.record())
+        check_found(recording, sum(fates.values()))
         spool.write(given.output, given.force)
-        print(summary(fates, "in the capture"), file=lines)
-    if given.json:
-        with writing(given.json, given.force) as stream:
-            stream.write("".join(f"{record}\n" for record in records).encode())
+    write_tables(given, records, COLUMNS)
+    print(summary(fates, "in the capture"), file=lines)
 
 
 COMMAND = Command("record", "make a capture of the packets of a recording", words, run, writes=True)
