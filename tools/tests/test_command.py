@@ -177,7 +177,7 @@ def test_manual_pages_are_in_good_style(page):
     lines = (TOP / "man" / f"{page}.1").read_bytes().split(b"\n")
     assert lines.pop() == b"" and lines[0].startswith(b".TH ")
     for number, line in enumerate(lines, 1):
-        assert 0 < len(line) <= 80 and line == line.rstrip() and line.isascii(), (number, line)
+        assert line and (line.startswith(b".") or len(line) <= 80) and line == line.rstrip() and line.isascii(), (number, line)
     macros = [line.split()[0] for line in lines if line.startswith(b".")]
     assert macros.count(b".RS") == macros.count(b".RE") and macros.count(b".EX") == macros.count(b".EE")
     sections = [line for line in lines if line.startswith(b".SH")]

@@ -6,7 +6,7 @@ from conftest import octets_of, random_frame
 
 from mizgaure import InputError, Rate
 from mizgaure.measures import ErrorRates, FrameProportion, Proportion
-from mizgaure.sweep import Setting, Sweep
+from mizgaure.sweep import Chunk, Setting, Sweep
 
 pytest.importorskip("matplotlib")
 pictures = pytest.importorskip("mizgaure.pictures")
@@ -58,18 +58,20 @@ def test_curves_with_intervals(tmp_path):
     setting = Setting(snr=(0.0, 10.0, 20.0), frames=40)
     spread = [{(22, 100): 20, (23, 100): 20}, {(0, 100): 20, (3, 100): 20}, {(0, 100): 38, (1, 100): 2}]
     rates = [ErrorRates(symbols=FrameProportion(by_frame), frames=Proportion(f, 40)) for by_frame, f in zip(spread, (40, 7, 0))]
-    figure = pictures.error_curves(Sweep(setting, True, rates), "some.json")
+    chunks = [Chunk(point, 0, 40, {"reference": each}) for point, each in enumerate(rates)]
+    figure = pictures.error_curves(Sweep(setting, True, chunks=chunks), "some.json")
     (panel,) = figure.axes
     assert panel.get_yscale() == "log" and panel.get_xlabel() == "signal-to-noise ratio of one receive antenna (dB)" and panel.get_ylabel() == "error rate"
     labels = panel.get_legend_handles_labels()[1]
-    assert sorted(labels) == ["PER at most, no error seen", "PER, behind the decoder", "SER, before the decoder"]
+    assert sorted(labels) == ["PER, behind the decoder", "SER, before the decoder", "at most, no error seen"]
     low, high = panel.get_ylim()
     assert low <= rates[-1].symbols.interval[0] * 1.01 and high >= 1
     lines = [line for line in panel.lines if len(line.get_xdata()) == 3 and line.get_linestyle() == "-"]
     assert any(np.allclose(line.get_ydata(), [0.225, 0.015, 0.0005]) for line in lines)
     pictures.save(figure, tmp_path / "curves.png")
     assert drawn(tmp_path / "curves.png") > 0.01
-    without = pictures.error_curves(Sweep(setting, False, [ErrorRates(symbols=r.symbols) for r in rates]))
+    chunks = [Chunk(point, 0, 40, {"reference": ErrorRates(symbols=each.symbols)}) for point, each in enumerate(rates)]
+    without = pictures.error_curves(Sweep(setting, False, chunks=chunks[1:]))
     assert len(without.axes[0].get_legend_handles_labels()[1]) == 1 and "points without a code" in texts(without)[0]
 
 

@@ -17,6 +17,7 @@ Values needn't be points: each is taken for the nearest point.
 
 from __future__ import annotations
 
+import io
 import shlex
 import subprocess
 from dataclasses import dataclass
@@ -30,7 +31,7 @@ from .distances import nearest_points, zero_forcing
 from .errors import InputError, ProgramError
 from .files import naming
 from .formats import CaptureFrame
-from .judge import read_theirs
+from .judge import TheirLines
 
 ZERO_FORCING = "zero-forcing"
 REFERENCE = "reference"
@@ -124,12 +125,16 @@ class Detector:
             raise ProgramError(f"the detector {self.name} ended with status {done.returncode}")
         values = [np.zeros(frame.samples.shape, complex) for frame in frames]
         with naming(f"the detector {self.name}"):
-            for number, jobs in read_theirs(done.stdout)[0].items():
-                shape = frames[number].samples.shape if number < len(frames) else (0, 0, 0)
-                fits = (jobs.symbol < shape[0]) & (jobs.carrier < shape[1])
-                if not fits.all() or jobs.points.shape[1] != shape[2]:
-                    raise InputError(f"it answers a job of frame {number} that its capture doesn't have")
-                values[number][jobs.symbol, jobs.carrier] = jobs.points
+            lines = TheirLines(io.BytesIO(done.stdout))
+            for number, (frame, value) in enumerate(zip(frames, values)):
+                jobs = lines.jobs_of(number, frame)
+                if jobs is not None:
+                    symbols, carriers, streams = value.shape
+                    if jobs.streams != streams or (jobs.symbol >= symbols).any() or (jobs.carrier >= carriers).any():
+                        raise InputError(f"it answers a job of frame {number} that its capture doesn't have")
+                    value[jobs.symbol, jobs.carrier] = jobs.levels[:, ::2] + 1j * jobs.levels[:, 1::2]
+            if any(number >= len(frames) for number in lines.left()):
+                raise InputError("it answers a job of a frame that its capture doesn't have")
         return values
 
 

@@ -34,10 +34,17 @@ STYLE = {
     "figure.dpi": 100, "savefig.dpi": 160, "svg.hashsalt": "mizgaure",
 }
 # Room round the panels, in inches.
-LEFT, RIGHT, HEAD, FOOT, GAP = 0.75, 0.2, 1.0, 0.95, 0.75
+LEFT, RIGHT, HEAD, FOOT, GAP, LEGEND_LINE = 0.75, 0.2, 1.0, 0.95, 0.75, 0.2
 
 
-def _matplotlib():
+def matplotlib_of():
+    """The module matplotlib and its Figure.
+
+    Raises
+    ------
+    InputError
+        If it isn't installed.
+    """
     try:
         import matplotlib
     except ImportError:
@@ -64,7 +71,7 @@ def save(figure: "Figure", target: Target, force: bool = False) -> None:
         If the ending is another one, or the file is there already.
     """
     ending = check_ending(target)
-    matplotlib, _ = _matplotlib()
+    matplotlib, _ = matplotlib_of()
     undated = {"png": {}, "svg": {"Date": None}, "pdf": {"CreationDate": None}}[ending]
     with writing(target, force) as stream, matplotlib.rc_context(STYLE):
         figure.savefig(stream, format=ending, metadata=undated, facecolor="white")
@@ -79,13 +86,14 @@ def check_ending(target: Target) -> str:
     return ending[1:]
 
 
-def _drawn(Figure, rows: int, columns: int, width: float, height: float):
-    """A figure with panels of a given size in inches, and room for its title and its legend."""
+def _drawn(Figure, rows: int, columns: int, width: float, height: float, lines: int = 1):
+    """A figure with panels of a given size in inches, and room for its title and a legend of some lines."""
+    foot = FOOT + (lines - 1) * LEGEND_LINE
     across = LEFT + columns * width + (columns - 1) * GAP + RIGHT
-    down = HEAD + rows * height + (rows - 1) * GAP + FOOT
+    down = HEAD + rows * height + (rows - 1) * GAP + foot
     figure = Figure(figsize=(across, down))
     panels = figure.subplots(rows, columns, squeeze=False).reshape(-1)
-    figure.subplots_adjust(left=LEFT / across, right=1 - RIGHT / across, top=1 - HEAD / down, bottom=FOOT / down,
+    figure.subplots_adjust(left=LEFT / across, right=1 - RIGHT / across, top=1 - HEAD / down, bottom=foot / down,
                            wspace=GAP / width, hspace=GAP / height)
     return figure, panels
 
@@ -97,9 +105,9 @@ def _titled(figure: "Figure", what: str, rate: Rate, name: str) -> None:
     figure.text(0.15 / across, 1 - 0.44 / down, f"{rate}{' · ' + name if name else ''}", ha="left", va="top", fontsize=9.5, color="#555555")
 
 
-def _legend(figure: "Figure", handles: Sequence, labels: Sequence[str]) -> None:
-    """A legend in one line at the foot."""
-    figure.legend(handles, labels, loc="lower center", bbox_to_anchor=(0.5, 0.04 / figure.get_figheight()), ncol=len(labels))
+def _legend(figure: "Figure", handles: Sequence, labels: Sequence[str], lines: int = 1) -> None:
+    """A legend in some lines at the foot."""
+    figure.legend(handles, labels, loc="lower center", bbox_to_anchor=(0.5, 0.04 / figure.get_figheight()), ncol=-(-len(labels) // lines))
 
 
 def rotated_points(frame: CaptureFrame, jobs: Jobs) -> np.ndarray:
@@ -135,7 +143,7 @@ def constellation(frame: CaptureFrame, jobs: Jobs, name: str = "") -> "Figure":
     -------
     matplotlib.figure.Figure
     """
-    matplotlib, Figure = _matplotlib()
+    matplotlib, Figure = matplotlib_of()
     rate = frame.rate
     data = ~rate.is_pilot[jobs.carrier]
     values = rotated_points(frame, jobs)[data]
@@ -153,6 +161,13 @@ def constellation(frame: CaptureFrame, jobs: Jobs, name: str = "") -> "Figure":
         _legend(figure, handles, ["received, after the rotation", "decided on"])
         _titled(figure, "Received vectors and the points decided on", rate, name)
     return figure
+
+
+def constellation_panel(panel, frame: CaptureFrame, jobs: Jobs, stream: int) -> None:
+    """Draw the constellation of one stream, counted from 0, in a panel of matplotlib."""
+    data = ~frame.rate.is_pilot[jobs.carrier]
+    values = rotated_points(frame, jobs)[data][:, stream]
+    _constellation_panel(panel, values, np.unique(jobs.points[data][:, stream]), frame.rate, stream)
 
 
 def _constellation_panel(panel, values: np.ndarray, decided: np.ndarray, rate: Rate, stream: int) -> None:
@@ -179,13 +194,13 @@ def evm_over_subcarriers(frame: CaptureFrame, jobs: Jobs, name: str = "") -> "Fi
 
     Parameters as in `constellation`; the answers aren't looked at, since the magnitude is that of equalised points.
     """
-    matplotlib, Figure = _matplotlib()
+    matplotlib, Figure = matplotlib_of()
     rate = frame.rate
     found = evm(frame)
     verdict = "within" if decibels(found.frame) <= rate.error_limit else "above"
     with matplotlib.rc_context(STYLE):
         figure, (panel,) = _drawn(Figure, 1, 1, 7.6, 3.2)
-        _draw_over_subcarriers(panel, frame, decibels(found.cells), [f"{decibels(value):.1f} dB" for value in found.streams])
+        over_subcarriers_panel(panel, frame, decibels(found.cells), [f"{decibels(value):.1f} dB" for value in found.streams])
         panel.axhline(rate.error_limit, color=INK, linewidth=1.2, linestyle=(0, (6, 2)), label=f"limit of {rate.error_limit} dB")
         panel.set_ylabel("error vector magnitude (dB)")
         panel.set_title(f"over all: {percent(found.frame)}, {verdict} the limit", loc="right", fontsize=9, color="#555555")
@@ -196,18 +211,18 @@ def evm_over_subcarriers(frame: CaptureFrame, jobs: Jobs, name: str = "") -> "Fi
 
 def residual_over_subcarriers(frame: CaptureFrame, jobs: Jobs, name: str = "") -> "Figure":
     """The detector's residuals beside each stream's own part, over the subcarriers, in percent; parameters as in `constellation`."""
-    matplotlib, Figure = _matplotlib()
+    matplotlib, Figure = matplotlib_of()
     found = residual_ratio(frame, jobs)
     with matplotlib.rc_context(STYLE):
         figure, (panel,) = _drawn(Figure, 1, 1, 7.6, 3.2)
-        _draw_over_subcarriers(panel, frame, 100 * found.cells, [f"{100 * value:.1f} %" for value in found.streams])
+        over_subcarriers_panel(panel, frame, 100 * found.cells, [f"{100 * value:.1f} %" for value in found.streams])
         panel.set(ylabel="residual ratio (%)", ylim=(0, None))
         _legend(figure, *panel.get_legend_handles_labels())
         _titled(figure, "Residuals behind the detector", frame.rate, name)
     return figure
 
 
-def _draw_over_subcarriers(panel, frame: CaptureFrame, values: np.ndarray, sums: Sequence[str]) -> None:
+def over_subcarriers_panel(panel, frame: CaptureFrame, values: np.ndarray, sums: Sequence[str]) -> None:
     """A curve for each stream, and the places of pilots and erased subcarriers."""
     rate, frequencies = frame.rate, frame.rate.frequencies
     for stream in range(rate.streams):
@@ -226,7 +241,7 @@ def _draw_over_subcarriers(panel, frame: CaptureFrame, values: np.ndarray, sums:
 
 def distance_histogram(frame: CaptureFrame, jobs: Jobs, name: str = "") -> "Figure":
     """The least distances of a frame as a histogram, data and pilots apart; parameters as in `constellation`."""
-    matplotlib, Figure = _matplotlib()
+    matplotlib, Figure = matplotlib_of()
     check_jobs(frame, jobs)
     rate = frame.rate
     values = jobs.distance.astype(float)
@@ -261,27 +276,34 @@ def error_curves(sweep: Sweep, name: str = "") -> "Figure":
     name : str
         For the title, as the name of the file.
     """
-    matplotlib, Figure = _matplotlib()
+    matplotlib, Figure = matplotlib_of()
     setting = sweep.setting
-    curves: List[Tuple[str, Sequence[Union[Proportion, FrameProportion]], str, str, str]] = [
-        ("SER, before the decoder", [rates.symbols for rates in sweep.rates], BLUE, "o", "-")]
-    if sweep.coded:
-        curves.insert(0, ("PER, behind the decoder", [rates.frames for rates in sweep.rates], ORANGE, "s", "--"))
+    curves: List[Tuple[str, Sequence[Union[Proportion, FrameProportion]], str, str, str]] = []
+    for number, detector in enumerate(sweep.names):
+        rates = sweep.rates_of(detector)
+        front = f"{detector}: " if len(sweep.names) > 1 else ""
+        colours = ((ORANGE, BLUE), (GREEN, GREEN), (PURPLE, PURPLE), (INK, INK), (PALE, PALE))[number % 5]
+        marker = "s^DPX"[number % 5]
+        if sweep.coded:
+            curves.append((f"{front}PER, behind the decoder", [each.frames for each in rates], colours[0], marker, "--"))
+        curves.append((f"{front}SER, before the decoder", [each.symbols for each in rates], colours[1], "o" if number == 0 else marker, "-"))
     with matplotlib.rc_context(STYLE):
-        figure, (panel,) = _drawn(Figure, 1, 1, 7.0, 3.7)
+        legend_lines = -(-(len(curves) + 1) // 3) if len(curves) > 2 else 1
+        figure, (panel,) = _drawn(Figure, 1, 1, 7.0, 3.7, legend_lines)
         floor = 1.0
-        for label, rates, colour, marker, line in curves:
-            floor = min(floor, _curve(panel, setting.snr, rates, colour, marker, line, label))
+        for label, shown, colour, marker, line in curves:
+            floor = min(floor, _curve(panel, setting.snr, shown, colour, marker, line, label))
         panel.set_yscale("log")
         panel.set(xlabel="signal-to-noise ratio of one receive antenna (dB)", ylabel="error rate", ylim=(10 ** np.floor(np.log10(floor)), 1.3))
         panel.grid(True, which="minor", color="#F1F1F1", linewidth=0.5)
         if len(setting.snr) <= 16:
             panel.set_xticks(sorted(setting.snr))
-        pairs = sorted(zip(*panel.get_legend_handles_labels()), key=lambda pair: pair[1])
-        _legend(figure, *zip(*pairs))
+        handles, labels = panel.get_legend_handles_labels()
+        _legend(figure, handles, labels, legend_lines)
         antennas = setting.antennas or setting.rate.streams
         known = {"perfect": "channel known", "ls": "channel estimated by least squares"}[setting.estimate]
-        detail = f"{setting.frames} frames of {setting.length} octets a point, {antennas} antennas, decay {setting.decay:g} samples, {known}"
+        channel = f"decay {setting.decay:g} samples" if setting.channel == "exponential" else f"channel {setting.channel}"
+        detail = f"{setting.frames} frames of {setting.length} octets a point, {antennas} antennas, {channel}, {known}"
         panel.set_title(detail, fontsize=9, color="#555555")
         what = "Error rates over the signal-to-noise ratio" + ("" if sweep.coded else ", points without a code")
         _titled(figure, what, setting.rate, name)
@@ -290,7 +312,9 @@ def error_curves(sweep: Sweep, name: str = "") -> "Figure":
 
 def _curve(panel, snr: Sequence[float], rates: Sequence[Union[Proportion, FrameProportion]], colour: str, marker: str, line: str, label: str) -> float:
     """Draw a curve, and say where the lowest thing drawn is. Rates of 0 are drawn as what they are at most."""
-    order = np.argsort(snr)
+    order = [n for n in np.argsort(snr) if rates[n].trials]
+    if not order:
+        return 1.0
     x = np.asarray(snr, float)[order]
     values = np.array([rates[n].value for n in order])
     low, high = np.array([rates[n].interval for n in order]).T
@@ -299,7 +323,8 @@ def _curve(panel, snr: Sequence[float], rates: Sequence[Union[Proportion, FrameP
                    linestyle=line, markersize=6, linewidth=1.5, elinewidth=1.1, capsize=3.5, label=label)
     none = ~seen
     if none.any():
+        text = "at most, no error seen"
         panel.plot(x[none], high[none], color=colour, marker="v", linestyle="none", markersize=7, markerfacecolor="white",
-                   label=f"{label[:3]} at most, no error seen")
+                   label=None if text in panel.get_legend_handles_labels()[1] else text)
     drawn = np.concatenate((low[seen], high[none] / 2))
     return float(drawn[drawn > 0].min()) if (drawn > 0).any() else 1.0

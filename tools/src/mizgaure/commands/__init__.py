@@ -7,8 +7,8 @@ last, and the tests say what is missing.
 
 from typing import Tuple
 
-from . import (answers, capture, example, frames, judge, measure, merge, packets, picture, receive, record, show, sweep, waveform,
-               zero_forcing)
+from . import answers, capture, example, frames, judge, measure, merge, packets, picture, report, show, sweep, zero_forcing
+from . import receive, record, waveform
 from .base import Command
 
 MODULES = (
@@ -23,6 +23,7 @@ MODULES = (
     sweep,
     merge,
     picture,
+    report,
     zero_forcing,
     waveform,
     record,

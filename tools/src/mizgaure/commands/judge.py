@@ -3,11 +3,13 @@
 from __future__ import annotations
 
 import argparse
-from typing import Dict
+import json
+from contextlib import ExitStack
+from typing import Dict, List
 
 from ..errors import InputError
 from ..files import refuse_overwriting, writing
-from ..judge import judge
+from ..judge import Counts, FrameVerdict, judged, write_verdict
 from ..program import Radio
 from .base import Command, whole
 
@@ -29,27 +31,32 @@ def run(given: argparse.Namespace) -> int:
     if given.json:
         refuse_overwriting(given.json, given.force)
     radio = None if given.reference else Radio(given.radio)
-    found = judge(given.capture, given.answers, reference=given.reference, radio=radio)
-    for record in found.worst(given.list):
+    counts = Counts(given.list)
+    lines: List[str] = []
+    with ExitStack() as stack:
+        stream = stack.enter_context(writing(given.json, given.force)) if given.json else None
+        for verdict in judged(given.capture, given.answers, counts, reference=given.reference, radio=radio):
+            if stream is not None:
+                write_verdict(stream, verdict)
+            if isinstance(verdict, FrameVerdict) and verdict.verdict != "same":
+                code = "" if verdict.code is None else f", at Hamming distance {verdict.code}, and {verdict.least} is the least"
+                lines.append(f"{verdict.verdict}: frame {verdict.frame} has other octets{code}")
+        if stream is not None:
+            stream.write(json.dumps(counts.record()).encode() + b"\n")
+    for record in counts.worst:
         frame, symbol, carrier = record["job"]
         what = ("outside its grid" if record["verdict"] == "outside"
                 else f"{record['distance'] - record['least']} farther: {record['distance']}, and {record['least']} is the least")
         print(f"{record['verdict']}: job {frame} {symbol} {carrier} is {what}")
-    for verdict in found.frames:
-        if verdict.verdict != "same":
-            code = "" if verdict.code is None else f", at Hamming distance {verdict.code}, and {verdict.least} is the least"
-            print(f"{verdict.verdict}: frame {verdict.frame} has other octets{code}")
-    if found.jobs:
-        jobs = found.job_counts
-        print(f"jobs {sum(jobs.values())}: {_listed(jobs)}; {found.unanswered} without an answer"
-              + (f"; {found.misstated} with another distance than stated" if found.misstated else ""))
-    if found.frames:
-        frames = found.frame_counts
+    for line in lines:
+        print(line)
+    jobs, frames = counts.job_counts, counts.frame_counts
+    if any(jobs.values()):
+        print(f"jobs {sum(jobs.values())}: {_listed(jobs)}; {counts.unanswered} without an answer"
+              + (f"; {counts.misstated} with another distance than stated" if counts.misstated else ""))
+    if any(frames.values()):
         print(f"frames {sum(frames.values())}: {_listed(frames)}")
-    if given.json:
-        with writing(given.json, given.force) as stream:
-            found.write(stream)
-    clean = found.is_clean and not (given.complete and found.unanswered)
+    clean = counts.is_clean and not (given.complete and counts.unanswered)
     return 0 if clean else WORSE_STATUS
 
 
