@@ -2,7 +2,7 @@
 _mizgaure() {
   local word=${COMP_WORDS[COMP_CWORD]} before=${COMP_WORDS[COMP_CWORD-1]} words=''
   if [ "$COMP_CWORD" -eq 1 ]; then
-    words='judge capture example show answers measure packets frames sweep merge picture zero-forcing waveform record receive --help --version'
+    words='judge capture example show answers measure packets frames sweep merge picture report zero-forcing waveform record receive --help --version'
   else
     case ${COMP_WORDS[1]}:$before in
       judge:--radio | judge:--reference | judge:--json | judge:--list) ;;
@@ -25,6 +25,7 @@ _mizgaure() {
       merge:-o | merge:--output | merge:--picture | merge:--csv | merge:--json) ;;
       picture:picture) words='constellation evm residual distances sweep spectrum preamble tracking' ;;
       picture:--radio | picture:--frame | picture:--answers) ;;
+      report:--radio | report:-o | report:--output | report:--theirs | report:--pictures | report:--title) ;;
       waveform:--datatype) words='cf32_le ci16_le' ;;
       waveform:--guard) words='long short' ;;
       waveform:-o | waveform:--output | waveform:--antennas | waveform:--spread | waveform:--offset | waveform:--frequency | waveform:--snr | waveform:--gap | waveform:--seed) ;;
@@ -46,6 +47,7 @@ _mizgaure() {
             sweep) words='--radio --force --bandwidth --mcs --length --antennas --decay --channel --profile --estimate --seed --snr --frames --errors --detector --processes --scheduler --part --output --resume --picture --csv --json --help' ;;
             merge) words='--force --output --picture --csv --json --help' ;;
             picture) words='--radio --force --frame --answers --help' ;;
+            report) words='--radio --force --output --theirs --pictures --title --help' ;;
             zero-forcing) words='--help' ;;
             waveform) words='--force --output --datatype --raw --guard --aggregated --antennas --spread --offset --frequency --snr --gap --seed --help' ;;
             record) words='--force --datatype --sample-rate --channels --output --csv --json --help' ;;

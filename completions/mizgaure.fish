@@ -1,5 +1,5 @@
 # Completion of mizgaure for fish, written by completions/make.
-set -l commands judge capture example show answers measure packets frames sweep merge picture zero-forcing waveform record receive
+set -l commands judge capture example show answers measure packets frames sweep merge picture report zero-forcing waveform record receive
 set -l none "not __fish_seen_subcommand_from $commands"
 complete -c mizgaure -n $none -f -a judge -d 'judge another receiver\'s answers to a capture'
 complete -c mizgaure -n $none -f -a capture -d 'make a capture from channels and received vectors in floating point'
@@ -12,6 +12,7 @@ complete -c mizgaure -n $none -f -a frames -d 'make a file of frames (HTTX) from
 complete -c mizgaure -n $none -f -a sweep -d 'find error rates over the signal-to-noise ratio, over random channels'
 complete -c mizgaure -n $none -f -a merge -d 'put the parts of a sweep together'
 complete -c mizgaure -n $none -f -a picture -d 'draw a frame of a capture, a sweep, or a recording'
+complete -c mizgaure -n $none -f -a report -d 'write a page on captures: frames, packets, measures, pictures'
 complete -c mizgaure -n $none -f -a zero-forcing -d 'answer a capture by a zero-forcing detector, as an example of another receiver'
 complete -c mizgaure -n $none -f -a waveform -d 'write the packets of a file of symbols as a recording of complex samples'
 complete -c mizgaure -n $none -f -a record -d 'make a capture of the packets of a recording'
@@ -103,6 +104,12 @@ complete -c mizgaure -n '__fish_seen_subcommand_from picture' -l force -d 'overw
 complete -c mizgaure -n '__fish_seen_subcommand_from picture; and not __fish_seen_subcommand_from constellation evm residual distances sweep spectrum preamble tracking' -a 'constellation evm residual distances sweep spectrum preamble tracking'
 complete -c mizgaure -n '__fish_seen_subcommand_from picture' -l frame -x -d 'the frame to draw'
 complete -c mizgaure -n '__fish_seen_subcommand_from picture' -l answers -r -d 'kept lines of radio detect, in place of running it'
+complete -c mizgaure -n '__fish_seen_subcommand_from report' -l radio -r -d 'the program radio'
+complete -c mizgaure -n '__fish_seen_subcommand_from report' -l force -d 'overwrite a file that is there already'
+complete -c mizgaure -n '__fish_seen_subcommand_from report' -s o -l output -r -d 'the page (HTML) to write; it has its pictures inside'
+complete -c mizgaure -n '__fish_seen_subcommand_from report' -l theirs -r -d 'another receiver\'s answers, as judge reads them; once for each capture'
+complete -c mizgaure -n '__fish_seen_subcommand_from report' -l pictures -x -d 'draw the first N frames of each capture'
+complete -c mizgaure -n '__fish_seen_subcommand_from report' -l title -x -d 'the page\'s title'
 complete -c mizgaure -n '__fish_seen_subcommand_from waveform' -l force -d 'overwrite a file that is there already'
 complete -c mizgaure -n '__fish_seen_subcommand_from waveform' -s o -l output -r -d 'the name of a SigMF recording (a .sigmf-meta and a .sigmf-data), or with --raw of a file of samples'
 complete -c mizgaure -n '__fish_seen_subcommand_from waveform' -l datatype -x -a 'cf32_le ci16_le' -d 'of the samples'

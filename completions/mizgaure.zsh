@@ -13,6 +13,7 @@ commands=(
   'sweep:find error rates over the signal-to-noise ratio, over random channels'
   'merge:put the parts of a sweep together'
   'picture:draw a frame of a capture, a sweep, or a recording'
+  'report:write a page on captures: frames, packets, measures, pictures'
   'zero-forcing:answer a capture by a zero-forcing detector, as an example of another receiver'
   'waveform:write the packets of a file of symbols as a recording of complex samples'
   'record:make a capture of the packets of a recording'
@@ -156,6 +157,16 @@ case $command in
       '1:kind:(constellation evm residual distances sweep spectrum preamble tracking)' \
       '2:file:_files' \
       '3:picture:_files' ;;
+  report)
+    _arguments \
+      '--radio[the program radio]:program:_files' \
+      '--force[overwrite a file that is there already]' \
+      {-o,--output}'[the page (HTML) to write; it has its pictures inside]:file:_files' \
+      '--theirs[another receiver'\''s answers, as judge reads them; once for each capture]:lines:_files' \
+      '--pictures[draw the first N frames of each capture]:n:' \
+      '--title[the page'\''s title]:text:' \
+      '--help[say more]' \
+      '*:capture:_files' ;;
   zero-forcing)
     _arguments \
       '--help[say more]' \

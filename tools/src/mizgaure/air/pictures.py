@@ -7,9 +7,8 @@ from typing import TYPE_CHECKING, List, Tuple
 import numpy as np
 
 from ..errors import InputError
-from ..pictures import BLUE, INK, ORANGE, PALE, STREAM_STYLES, STYLE, _drawn, _legend, _matplotlib, _titled
+from ..pictures import BLUE, INK, ORANGE, PALE, STREAM_STYLES, STYLE, _drawn, _legend, _titled, matplotlib_of
 from ..rates import Rate
-from . import standard
 from .receive import Packet
 from .record import oversampling_of, packets_in
 from .recording import Recording
@@ -57,7 +56,7 @@ def spectrum(recording: Recording, number: int, name: str = "") -> "Figure":
     -------
     matplotlib.figure.Figure
     """
-    matplotlib, Figure = _matplotlib()
+    matplotlib, Figure = matplotlib_of()
     powers = np.zeros((recording.layout.channels, BINS))
     taper = np.hanning(BINS)
     for first in range(0, min(recording.length, SHOWN), 1 << 16):
@@ -85,7 +84,7 @@ def preamble(recording: Recording, number: int, name: str = "") -> "Figure":
 
     ``number`` counts packets that can be in a capture.
     """
-    matplotlib, Figure = _matplotlib()
+    matplotlib, Figure = matplotlib_of()
     packet = frame_of(recording, number)
     assert packet.frame is not None
     rate, over = packet.frame.rate, oversampling_of(recording)
@@ -139,7 +138,7 @@ def tracking(recording: Recording, number: int, name: str = "") -> "Figure":
 
     The channel is taken off by its pseudo-inverse.
     """
-    matplotlib, Figure = _matplotlib()
+    matplotlib, Figure = matplotlib_of()
     packet = frame_of(recording, number)
     frame = packet.frame
     assert frame is not None and packet.untracked is not None
@@ -166,4 +165,3 @@ def tracking(recording: Recording, number: int, name: str = "") -> "Figure":
 
 
 KINDS = {"spectrum": spectrum, "preamble": preamble, "tracking": tracking}
-__all__ = ["KINDS", "preamble", "spectrum", "standard", "tracking"]
