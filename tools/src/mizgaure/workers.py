@@ -84,7 +84,7 @@ def _in_order(fresh: Callable[[], Executor], count: int, function: Callable, tas
     lost = 0
     while True:
         for task in tasks:
-            waiting.append((task, executor.submit(function, task)))
+            waiting.append((task, _submitted(executor, function, task)))
             if len(waiting) >= AHEAD * count:
                 break
         if not waiting:
@@ -97,7 +97,7 @@ def _in_order(fresh: Callable[[], Executor], count: int, function: Callable, tas
             if lost == TRIES:
                 raise ProgramError(f"processes that did the work were ended {TRIES} times") from None
             executor = fresh()
-            waiting = deque((task, future if _is_done(future) else executor.submit(function, task)) for task, future in waiting)
+            waiting = deque((task, future if _is_done(future) else _submitted(executor, function, task)) for task, future in waiting)
             continue
         except CancelledError:
             raise ProgramError("the scheduler dropped the work, or the connection to it was lost") from None
@@ -106,6 +106,16 @@ def _in_order(fresh: Callable[[], Executor], count: int, function: Callable, tas
         lost = 0
         waiting.popleft()
         yield task, outcome
+
+
+def _submitted(executor: Executor, function: Callable, task: Any) -> Future:
+    """The future of a task; where the executor broke meanwhile, one that says so."""
+    try:
+        return executor.submit(function, task)
+    except BrokenProcessPool as error:
+        future: Future = Future()
+        future.set_exception(error)
+        return future
 
 
 def _is_done(future: Future) -> bool:
