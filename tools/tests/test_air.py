@@ -10,7 +10,7 @@ import numpy as np
 import pytest
 from conftest import TOP, VECTORS
 
-from mizgaure import CaptureFrame, Rate, capture, read_htcp, read_htsy, read_httx, write_htsy
+from mizgaure import CaptureFrame, Rate, SentFrame, capture, cli, read_htcp, read_htsy, read_httx, write_htsy, write_httx
 from mizgaure.air import standard, track
 from mizgaure.air.receive import refusal
 from mizgaure.air.record import FULL, Spool, packets_in, spooled
@@ -307,9 +307,25 @@ def test_a_recording_is_read_in_pieces(monkeypatch):
 # files and commands
 
 @pytest.fixture
-def sent(tmp_path, radio):
+def here(tmp_path, monkeypatch, capsysbinary):
+    """The command mizgaure in this process, in a folder of its own: words to its status and what it wrote."""
+    monkeypatch.chdir(tmp_path)
+
+    def run(*words: object) -> subprocess.CompletedProcess:
+        capsysbinary.readouterr()
+        try:
+            status = cli.main([str(word) for word in words])
+        except SystemExit as end:
+            status = end.code
+        return subprocess.CompletedProcess(words, status, *capsysbinary.readouterr())
+
+    return run
+
+
+@pytest.fixture
+def sent(tmp_path, radio, monkeypatch):
     """Three frames whose octets are MPDUs, and their symbols as a file."""
-    from mizgaure import SentFrame, write_httx
+    monkeypatch.setenv("MIZGAURE_RADIO", radio.path)
     random = np.random.default_rng(8)
     header = bytes.fromhex("8802" "3000" "0102030405060a0b0c0d0e0f020202020202" "1000" "0000")
     octets = [with_fcs(header + random.bytes(count)) for count in (30, 300, 5)]
@@ -323,17 +339,17 @@ LINE = (r"packet (\d) at sample \d+, 0\.\d{6} s: 20 MHz, MCS (2|7|15) \([^)]*\),
         r"offset [+-]\d+\.\d\d kHz, noise -\d\d\.\d dB")
 
 
-def test_from_symbols_to_wireshark(command, sent, tmp_path):
-    made = command("waveform", "sent.htsy", "-o", "air", "--guard", "short", "--spread", 50, "--antennas", 3, "--offset", -17)
+def test_from_symbols_to_wireshark(here, command, sent, tmp_path):
+    made = here("waveform", "sent.htsy", "-o", "air", "--guard", "short", "--spread", 50, "--antennas", 3, "--offset", -17)
     assert made.returncode == 0, made.stderr
     assert re.fullmatch(rb"3 packets, 3 channels of \d+ samples at 20 million a second, cf32_le\n", made.stderr)
-    done = command("record", "air.sigmf-meta", "-o", "air.htcp", "--csv", "air.csv", "--json", "air.jsonl")
+    done = here("record", "air.sigmf-meta", "-o", "air.htcp", "--csv", "air.csv", "--json", "air.jsonl")
     lines = done.stdout.decode().splitlines()
     assert done.returncode == 0 and done.stderr == b"" and lines[3] == "3 packets: 3 in the capture"
     assert all(re.fullmatch(LINE + rf"; frame {n}", line) for n, line in enumerate(lines[:3]))
     assert [json.loads(line)["mcs"] for line in (tmp_path / "air.jsonl").read_text().splitlines()] == [2, 15, 7]
     assert (tmp_path / "air.csv").read_text().count("\n") == 4 and len(list(read_htcp(tmp_path / "air.htcp"))) == 3
-    measured = command("measure", "air.htcp", "--sent", "sent.httx").stdout
+    measured = here("measure", "air.htcp", "--sent", "sent.httx").stdout
     assert b"frame error rate 0 of 3" in measured
     done = command("receive", "air", "-o", "air.pcap")
     lines = done.stdout.decode().splitlines()
@@ -342,7 +358,7 @@ def test_from_symbols_to_wireshark(command, sent, tmp_path):
     packets = list(read_pcap(tmp_path / "air.pcap"))
     assert [packet.octets for packet in packets] == sent and [packet.radiotap.mcs for packet in packets] == [2, 15, 7]
     assert all(packet.radiotap.short_guard and packet.radiotap.frequency == 5180 and not packet.radiotap.bad_fcs for packet in packets)
-    assert command("receive", "air").stdout == done.stdout
+    assert here("receive", "air").stdout == done.stdout
     if shutil.which("tshark"):
         fields = [word for name in ("wlan.fc.type_subtype", "wlan.fcs.status", "radiotap.mcs.index") for word in ("-e", name)]
         shown = subprocess.run(["tshark", "-r", tmp_path / "air.pcap", "-o", "wlan.check_checksum:TRUE", "-T", "fields", *fields],
@@ -352,11 +368,11 @@ def test_from_symbols_to_wireshark(command, sent, tmp_path):
         assert all(row[1] in ("1", "Good") for row in rows)
 
 
-def test_raw_and_whole_numbers(command, sent, tmp_path):
+def test_raw_and_whole_numbers(here, sent, tmp_path):
     for words, ending in ((["--datatype", "ci16_le"], ""), (["--datatype", "ci16_le", "--raw"], ".raw"), (["--raw"], ".cf32")):
-        assert command("waveform", "sent.htsy", "-o", f"x{ending}", "--snr", "none", *words, "--force").returncode == 0
-    same = [command("record", "x", "-o", "a.htcp"), command("record", "x.raw", "--datatype", "ci16_le", "--channels", 2, "-o", "b.htcp"),
-            command("record", "x.cf32", "--datatype", "cf32_le", "--channels", 2, "--sample-rate", 20e6, "-o", "-")]
+        assert here("waveform", "sent.htsy", "-o", f"x{ending}", "--snr", "none", *words, "--force").returncode == 0
+    same = [here("record", "x", "-o", "a.htcp"), here("record", "x.raw", "--datatype", "ci16_le", "--channels", 2, "-o", "b.htcp"),
+            here("record", "x.cf32", "--datatype", "cf32_le", "--channels", 2, "--sample-rate", 20e6, "-o", "-")]
     assert [done.returncode for done in same] == [0, 0, 0], [done.stderr for done in same]
     assert (tmp_path / "a.htcp").read_bytes() == (tmp_path / "b.htcp").read_bytes()
     assert same[2].stdout.startswith(b"HTCP\1\0\3") and same[2].stderr.endswith(b"3 packets: 3 in the capture\n")
@@ -385,7 +401,8 @@ def bad_recordings(folder):
     yield "list", octets, [], "{}.sigmf-meta has no object global, which the metadata of SigMF have"
 
 
-def test_bad_recordings_get_one_sentence(command, tmp_path):
+def test_bad_recordings_get_one_sentence(here, radio, monkeypatch, tmp_path):
+    monkeypatch.setenv("MIZGAURE_RADIO", radio.path)
     cases = list(bad_recordings(tmp_path))
     for name, octets, said, _ in cases:
         (tmp_path / f"{name}.sigmf-data").write_bytes(octets)
@@ -394,14 +411,14 @@ def test_bad_recordings_get_one_sentence(command, tmp_path):
     before = sorted(tmp_path.iterdir())
     cases += [("missing", b"", None, "{}.sigmf-meta can't be read: No such file or directory")]
     for number, (name, _, _, said) in enumerate(cases):
-        done = command("record" if number % 2 else "receive", name, "-o", "out")
+        done = here("record" if number % 2 else "receive", name, "-o", "out")
         assert (done.returncode, done.stderr.decode()) == (2, f"mizgaure: {said.format(name)}\n")
-    done = command("record", "list.sigmf-data", "--sample-rate", "20e6", "-o", "out")
+    done = here("record", "list.sigmf-data", "--sample-rate", "20e6", "-o", "out")
     assert done.stderr == b"mizgaure: --sample-rate and --channels are said of a file of samples, whose --datatype is said, too\n"
     assert sorted(tmp_path.iterdir()) == before
 
 
-def test_bad_waveforms_get_one_sentence(command, tmp_path):
+def test_bad_waveforms_get_one_sentence(here, tmp_path):
     write_htsy(tmp_path / "long.htsy", [random_symbols(Rate(20, 0), 5000, np.random.default_rng(1))])
     write_htsy(tmp_path / "good.htsy", frames_of(20, [0]))
     write_htsy(tmp_path / "none.htsy", [])
@@ -412,20 +429,20 @@ def test_bad_waveforms_get_one_sentence(command, tmp_path):
              (["good.htsy", "--spread", "3000"], "the delay spread is 3000 ns, and has to be 0 to 2000"),
              (["good.htsy", "--antennas", "65"], "a recording has up to 64 antennas, and a seed of 0 or more")]
     for words, said in cases:
-        done = command("waveform", *words, "-o", "out")
+        done = here("waveform", *words, "-o", "out")
         assert (done.returncode, done.stderr.decode()) == (2, f"mizgaure: {said}\n")
     assert sorted(tmp_path.iterdir()) == before
 
 
 @pytest.mark.parametrize("kind", ["spectrum", "preamble", "tracking"])
-def test_pictures_of_recordings(command, tmp_path, kind):
+def test_pictures_of_recordings(here, tmp_path, kind):
     pytest.importorskip("matplotlib")
     write_htsy(tmp_path / "sent.htsy", frames_of(40, [3, 12]))
-    assert command("waveform", "sent.htsy", "-o", "air").returncode == 0
-    done = command("picture", kind, "air", "it.png", "--frame", 1)
+    assert here("waveform", "sent.htsy", "-o", "air").returncode == 0
+    done = here("picture", kind, "air", "it.png", "--frame", 1)
     assert done.returncode == 0 and (tmp_path / "it.png").stat().st_size > 10000, done.stderr
     if kind != "spectrum":
-        assert command("picture", kind, "air", "no.png", "--frame", 2).stderr == \
+        assert here("picture", kind, "air", "no.png", "--frame", 2).stderr == \
             b"mizgaure: air.sigmf-data has 2 packets for a capture, and no packet 2 of them\n"
 
 
