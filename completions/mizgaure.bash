@@ -2,7 +2,7 @@
 _mizgaure() {
   local word=${COMP_WORDS[COMP_CWORD]} before=${COMP_WORDS[COMP_CWORD-1]} words=''
   if [ "$COMP_CWORD" -eq 1 ]; then
-    words='judge capture example show answers measure packets frames sweep merge picture report zero-forcing waveform record receive --help --version'
+    words='judge check capture example show answers measure packets frames sweep merge picture report zero-forcing waveform record receive --help --version'
   else
     case ${COMP_WORDS[1]}:$before in
       judge:--radio | judge:--reference | judge:--json | judge:--list) ;;
@@ -37,6 +37,7 @@ _mizgaure() {
         if [[ $word == -* ]]; then
           case ${COMP_WORDS[1]} in
             judge) words='--radio --force --reference --json --list --complete --help' ;;
+            check) words='--help' ;;
             capture) words='--force --output --gain --format --help' ;;
             example) words='--force --bandwidth --mcs --length --antennas --decay --channel --profile --estimate --seed --snr --output --sent --help' ;;
             show) words='--help' ;;

@@ -1,7 +1,8 @@
 # Completion of mizgaure for fish, written by completions/make.
-set -l commands judge capture example show answers measure packets frames sweep merge picture report zero-forcing waveform record receive
+set -l commands judge check capture example show answers measure packets frames sweep merge picture report zero-forcing waveform record receive
 set -l none "not __fish_seen_subcommand_from $commands"
 complete -c mizgaure -n $none -f -a judge -d 'judge another receiver\'s answers to a capture'
+complete -c mizgaure -n $none -f -a check -d 'judge certificates of detection, by a checker that shares nothing with radio'
 complete -c mizgaure -n $none -f -a capture -d 'make a capture from channels and received vectors in floating point'
 complete -c mizgaure -n $none -f -a example -d 'make a frame behind a random channel, to try capture on'
 complete -c mizgaure -n $none -f -a show -d 'say what a file (HTCP, HTTX, HTSY) holds, or where it is at fault'

@@ -3,6 +3,7 @@
 local -a commands
 commands=(
   'judge:judge another receiver'\''s answers to a capture'
+  'check:judge certificates of detection, by a checker that shares nothing with radio'
   'capture:make a capture from channels and received vectors in floating point'
   'example:make a frame behind a random channel, to try capture on'
   'show:say what a file (HTCP, HTTX, HTSY) holds, or where it is at fault'
@@ -39,6 +40,10 @@ case $command in
       '--help[say more]' \
       '1:capture:_files' \
       '2:answers:_files' ;;
+  check)
+    _arguments \
+      '--help[say more]' \
+      '1:file:_files' ;;
   capture)
     _arguments \
       '--force[overwrite a file that is there already]' \

@@ -66,6 +66,29 @@ def test_show_and_answers(command, tmp_path):
         assert arrays["distance0"].tolist() == [100] * 112 and arrays["points0"].shape == (112, 1)
 
 
+def test_arrays_of_an_rx_are_numbers(command, tmp_path):
+    path = VECTORS / "rates" / "bw0-mcs09.htcp"
+    assert command("answers", path, "--command", "rx", "-o", "answers.npz").returncode == 0
+    line = path.with_suffix(".rx").read_text().split()
+    with np.load(tmp_path / "answers.npz") as arrays:
+        for name, word in (("data", line[3]), ("pilot", line[5]), ("code", line[7])):
+            assert arrays[name].dtype == np.int64 and arrays[name].tolist() == [int(word)]
+        assert arrays["octets"].tolist() == [line[9]]
+
+
+def test_a_picture_of_one_frame_detects_one_frame(radio, tmp_path):
+    """The program gets a capture of the frame alone, and nothing behind the frame is read."""
+    pytest.importorskip("matplotlib")
+    octets = octets_of([random_frame(Rate(20, mcs), 10, seed=mcs) for mcs in (0, 9, 1)])
+    (tmp_path / "some.htcp").write_bytes(octets[:-500])
+    counting = tmp_path / "radio"
+    counting.write_text(f'#!/bin/sh\ntee "{tmp_path}/input" | "{radio.path}" "$@"\n')
+    counting.chmod(0o755)
+    assert cli.main(["picture", "evm", str(tmp_path / "some.htcp"), str(tmp_path / "a.svg"), "--frame", "1", "--radio", str(counting)]) == 0
+    assert (tmp_path / "input").read_bytes() == octets_of([random_frame(Rate(20, 9), 10, seed=9)])
+    assert b"MCS 9" in (tmp_path / "a.svg").read_bytes() or (tmp_path / "a.svg").stat().st_size > 10000
+
+
 def test_measures_from_kept_lines_and_from_a_pipe(command, tmp_path):
     path = VECTORS / "jobs" / "small-mcs09.htcp"
     (tmp_path / "lines").write_bytes(path.with_suffix(".detect").read_bytes() + path.with_suffix(".rx").read_bytes())
@@ -93,7 +116,7 @@ def bad_inputs():
     yield ["capture", "missing.npz", "-o", "x"], b"", "missing.npz can't be read: No such file or directory"
     yield ["capture", Z, "-o", "x"], b"", f"{Z} is no archive of arrays (.npz)"
     yield ["picture", "evm", Z, "x.gif"], b"", "x.gif: a picture's name ends in .png, .svg, .pdf"
-    yield ["picture", "evm", Z, "x.png", "--frame", "1"], b"", f"{Z} has 1 frames, and no frame 1"
+    yield ["picture", "evm", Z, "x.png", "--frame", "1"], b"", f"{Z}: there are 1 frames, and no frame 1"
     yield ["picture", "sweep", Z, "x.png"], b"", None
     yield ["sweep", "--mcs", "32"], b"", "the MCS is 32, and only 0 to 31 are known"
     yield ["sweep", "--snr", "a"], b"", None
@@ -213,7 +236,15 @@ def test_installed_and_removed(radio, tmp_path):
     run = subprocess.run([str(prefix / "bin" / "mizgaure"), "answers", str(Z)], env={**environment, "MIZGAURE_PYTHON": sys.executable},
                          capture_output=True, check=False)
     assert run.returncode == 0 and run.stdout.endswith(b"end 1 frames\n")
-    assert {path.name for path in prefix.rglob("*.1")} == {"radio.1", "mizgaure.1"} and len(list(prefix.rglob("*radio*"))) == 5
+    assert {path.name for path in prefix.rglob("*.1")} == {"radio.1", "mizgaure.1"} and len(list(prefix.rglob("*radio*"))) == 6
+    installed = str(prefix / "bin" / "radio")
+    done = subprocess.run([installed, "detect"], stdin=Z.open("rb"), env=environment, capture_output=True, check=False)
+    assert done.returncode == 0 and done.stdout.endswith(b"end 1 frames\n")
+    asked, whole = (subprocess.run([program, "--help"], env=environment, capture_output=True, text=True, check=True).stdout
+                    for program in (installed, str(TOP / "radio")))
+    assert whole.startswith(asked) and asked.count("\n") > 50 and "The first call" in whole[len(asked) :] and "The first call" not in asked
+    said = [subprocess.run([program, "--version"], env=environment, capture_output=True, check=True).stdout for program in (installed, str(TOP / "radio"))]
+    assert said[0] == said[1] and said[0].startswith(b"mizgaure ")
     (prefix / "bin" / "other").write_text("not ours")
     assert subprocess.run([*install, "--remove"], env=environment, capture_output=True, check=False).returncode == 0
     assert [path.relative_to(prefix).as_posix() for path in prefix.rglob("*")] == ["bin", "bin/other"]

@@ -1,5 +1,6 @@
 """The judge: planted ties and errors are found, and nothing else is."""
 
+import io
 import json
 
 import numpy as np
@@ -10,6 +11,7 @@ from mizgaure import InputError, LineError, Rate, judge, read_answers, read_htcp
 from mizgaure.answers import FrameAnswer
 from mizgaure.chain import encode, symbol_landing
 from mizgaure.distances import distances, on_grid, zero_forcing
+from mizgaure.judge import compared
 from mizgaure.rates import scrambling_sequence
 
 SMALL = VECTORS / "jobs" / "small-mcs09.htcp"
@@ -77,6 +79,51 @@ def test_ties_alone_are_clean():
     jobs.symbol, jobs.carrier, jobs.points = jobs.symbol[ties], jobs.carrier[ties], jobs.points[ties]
     found = judge(SMALL, lines_of(jobs), reference=reference)
     assert found.is_clean and found.job_counts["tie"] == ties.sum() > 0 and found.unanswered == 56 - ties.sum()
+
+
+def test_nothing_but_the_same_distance_is_a_tie():
+    """Distances of a job differ by multiples of 4, so one above the least never comes; it would be worse all the same."""
+    least = np.array([0, 10, 2**62, 2**70], object)
+    assert compared(least, least).tolist() == ["tie"] * 4
+    for more in (1, 4, 2**33):
+        assert compared(least + more, least).tolist() == ["worse"] * 4
+    assert compared(np.array([5, 6, 9]), np.array([5, 5, 5])).tolist() == ["tie", "worse", "worse"]
+
+
+def test_the_order_of_lines_makes_no_difference():
+    """Also where answers to a frame come behind those of later ones, for which the capture is gone through a second time."""
+    frames = [random_frame(Rate(20, 9), 20, seed=seed, noise=250) for seed in range(5)]
+    answers = [zero_forcing(frame, number) for number, frame in enumerate(frames)]
+    reference = b"".join(line for jobs in answers for line in stated_lines(jobs))
+    lines = [line for number, jobs in enumerate(answers) for line in lines_of(jobs, number).splitlines(keepends=True)]
+    octets, random = octets_of(frames), np.random.default_rng(1)
+    ascending = judge(octets, b"".join(lines), reference=reference)
+    assert ascending.job_counts["same"] == len(lines) and ascending.unanswered == 0 and len(ascending.jobs) == 5
+    for shuffled in (lines[::-1], lines[1000:] + lines[:1000], random.permutation(lines).tolist()):
+        # Small blocks, so that the lines of a frame come late.
+        found = judge(octets, Pieces(b"".join(shuffled)), reference=reference)
+        assert found.job_counts == ascending.job_counts and found.unanswered == 0
+    assert len(found.jobs) > 5  # some came late
+    with pytest.raises(LineError, match=f"line {len(lines) + 1} answers job 0 0 3 a second time"):
+        judge(octets, Pieces(b"".join(lines) + lines[3]), reference=reference)
+    with pytest.raises(InputError, match="there is an answer to frame 5, and the capture has 5 frames"):
+        judge(octets, Pieces(b"job 5 0 0 1 1 1 1\n" + b"".join(lines)), reference=reference)
+
+
+def stated_lines(jobs):
+    for line, distance in zip(lines_of(jobs, jobs.frame).splitlines(), jobs.distance.tolist()):
+        words = line.split()
+        yield b" ".join([*words[:4], b"%d" % distance, *words[4:]]) + b"\n"
+
+
+class Pieces(io.RawIOBase):
+    """A stream that gives 10,000 octets at a time."""
+
+    def __init__(self, octets):
+        self.octets = io.BytesIO(octets)
+
+    def read(self, count):
+        return self.octets.read(10000)
 
 
 @pytest.mark.parametrize("rate, noise", [(Rate(20, 9), 300), (Rate(40, 18), 150), (Rate(20, 24), 300), (Rate(20, 3), 500)])

@@ -4,15 +4,18 @@ from __future__ import annotations
 
 import argparse
 import os
+import re
 import signal
 import sys
-from typing import Optional, Sequence
+import traceback
+from typing import List, Optional, Sequence
 
 from . import __version__
 from .commands import COMMANDS
 from .errors import MizgaureError
 
 ERROR_STATUS, INTERRUPTED_STATUS = 2, 130
+NEGATIVE, OPTION = re.compile(r"-\.?[0-9]"), re.compile(r"--[a-z-]+")
 NOT_PROVED = "These tools stand beside the proved program radio. They are tested and not proved."
 
 
@@ -30,7 +33,7 @@ def main(words: Optional[Sequence[str]] = None) -> int:
         0 where all is done, 1 where `judge` finds something worse, 2 where words or an input can't be used or the program
         fails, 130 where it was interrupted.
     """
-    given = parser().parse_args(words)
+    given = parser().parse_args(_with_negative_values(sys.argv[1:] if words is None else words))
     try:
         signal.signal(signal.SIGTERM, _ended)
     except ValueError:
@@ -51,6 +54,27 @@ def main(words: Optional[Sequence[str]] = None) -> int:
     except KeyboardInterrupt:
         print("mizgaure: interrupted", file=sys.stderr)
         return INTERRUPTED_STATUS
+    except Exception as error:  # no status but 2 says that something went wrong
+        return _said(f"a mistake of mizgaure, please report it: {_in_words(error)}")
+
+
+def _with_negative_values(words: Sequence[str]) -> List[str]:
+    """The words, with what begins as a negative number joined to the option before it, since it would be read as an option."""
+    joined: List[str] = []
+    for word in words:
+        if joined and NEGATIVE.match(word) and OPTION.fullmatch(joined[-1]):
+            joined[-1] += f"={word}"
+        else:
+            joined.append(word)
+    return joined
+
+
+def _in_words(error: Exception) -> str:
+    """A mistake of these tools in a line: what, and where it was raised. With MIZGAURE_TRACEBACK set, the whole of it stands before."""
+    if os.environ.get("MIZGAURE_TRACEBACK"):
+        traceback.print_exc()
+    place = traceback.extract_tb(error.__traceback__)[-1]
+    return f"{type(error).__name__}: {' '.join(str(error).split())} ({os.path.basename(place.filename)}, line {place.lineno})"
 
 
 def _said(sentence: str) -> int:

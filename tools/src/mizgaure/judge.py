@@ -6,10 +6,11 @@ The other receiver writes one line for each job that it answers, and one for eac
     frame N octets HEX
     frame N seed zero
 
-The program's own lines, with their distances, are accepted as well, and so is its end line. A distance that is stated
-is compared with that of the vector. The reference is what the proved program says of the same capture; it is run, or its
-lines are given. The distances of the other receiver's vectors are computed here, exactly, and that of each reference
-vector is computed too and has to be the one that the program says.
+The program's own lines, with their distances, are accepted as well, and so is its end line. Or it writes a file of
+certificates (HTCT), whose records are the data jobs of the capture in their order; its marks aren't looked at here, but by
+`certificates.check`. A distance that is stated is compared with that of the vector. The reference is what the proved
+program says of the same capture; it is run, or its lines are given. The distances of the other receiver's vectors are
+computed here, exactly, and that of each reference vector is computed too and has to be the one that the program says.
 
 Frames are judged one at a time, as the answers come. Answers to a frame that was judged already are kept until the end,
 and then the capture and the reference are gone through once more; so it is cheapest where frames ascend.
@@ -29,15 +30,17 @@ from typing import BinaryIO, Dict, Iterator, List, Optional, Protocol, Set, Tupl
 import numpy as np
 
 from .answers import NUMBER, PLACE, Answers, FrameAnswer, Jobs, Refused, blocks, exact, job_table, points_of, read_answers, shortened, width_of
+from .certificates import MAGIC, Certificate, read_htct
 from .chain import least_hamming, received_bits
 from .distances import distances, on_grid, places
 from .errors import InputError, LineError, ProgramError
-from .files import Source, naming, reading
+from .files import Source, fronted, naming, reading
 from .formats import CaptureFrame, read_htcp
 from .program import Radio
 
 SAME, TIE, WORSE, OUTSIDE, WRONG = "same", "tie", "worse", "outside", "wrong"
 VERDICTS = (SAME, TIE, WORSE, OUTSIDE)
+MODULATION_NUMBERS = {1: 0, 2: 1, 4: 2, 6: 3}  # of a record, by the bits of a point
 WHOLE = rb"-?[0-9]{1,6}"
 THEIR_JOB = re.compile(rb"job(?: " + PLACE + rb"){3}(?: " + NUMBER + rb")??(?: " + WHOLE + rb" " + WHOLE + rb"){1,4}")
 THEIR_FRAME = re.compile(rb"frame (" + PLACE + rb")(?: data " + NUMBER + rb" pilot " + NUMBER + rb" code " + NUMBER
@@ -356,6 +359,58 @@ class TheirLines:
         self._highest = max(self._highest, frame)
 
 
+class TheirCertificates:
+    """The certificates of another receiver, of which the claimed vectors and distances are taken.
+
+    Raises
+    ------
+    FormatError
+        Where it is read, at its first fault.
+    InputError
+        Where it is read, if a record is of another job than that whose turn it is, or if there are more than the capture has.
+    """
+
+    def __init__(self, stream: BinaryIO) -> None:
+        self._records = read_htct(stream)
+        self._count = 0
+
+    def jobs_of(self, number: int, frame: CaptureFrame) -> Optional[TheirJobs]:
+        symbols, carriers = places(frame)
+        data = ~frame.rate.is_pilot[carriers]
+        taken: List[Certificate] = []
+        for symbol, carrier in zip(symbols[data].tolist(), carriers[data].tolist()):
+            record = next(self._records, None)
+            if record is None:
+                break
+            if not _is_of(record, frame, symbol, carrier):
+                raise InputError(f"record {self._count + len(taken)} is of another job than job {number} {symbol} {carrier} of the capture")
+            taken.append(record)
+        first, self._count = self._count, self._count + len(taken)
+        if not taken:
+            return None
+        count = len(taken)
+        levels = np.array([[part for point in record.vector for part in point] for record in taken], np.int8)
+        return TheirJobs(symbols[data][:count], carriers[data][:count], levels, exact(record.distance for record in taken),
+                         np.arange(first + 1, self._count + 1))
+
+    def octets_of(self, number: int) -> List[Optional[bytes]]:
+        return []
+
+    def left(self) -> List[int]:
+        more = sum(1 for _ in self._records)
+        if more:
+            raise InputError(f"there are {self._count + more} records, and the capture has {self._count} data jobs")
+        return []
+
+
+def _is_of(record: Certificate, frame: CaptureFrame, symbol: int, carrier: int) -> bool:
+    """Whether a record's job is that of a place of a frame."""
+    rate, triangle = frame.rate, frame.triangles[carrier]
+    return (MODULATION_NUMBERS[rate.bits_per_point] == record.modulation and record.streams == rate.streams
+            and record.samples == [(value.real, value.imag) for value in frame.samples[symbol, carrier].tolist()]
+            and record.triangle == [[(value.real, value.imag) for value in triangle[row, row:].tolist()] for row in range(rate.streams)])
+
+
 def judge(capture: Source, answers: Source, *, reference: Optional[Source] = None, radio: Optional[Radio] = None) -> Judgement:
     """Judge another receiver's answers, and keep all verdicts.
 
@@ -363,7 +418,7 @@ def judge(capture: Source, answers: Source, *, reference: Optional[Source] = Non
     ----------
     capture : path, ``"-"``, bytes or binary stream
     answers : path, ``"-"``, bytes or binary stream
-        The other receiver's lines.
+        The other receiver's lines, or its certificates (HTCT).
     reference : path, bytes or binary stream, optional
         Lines of ``radio detect`` and ``radio rx`` on the capture, one behind the other, where they are kept. Otherwise
         the program is run.
@@ -409,7 +464,8 @@ def judged(capture: Source, answers: Source, counts: Counts, *, reference: Optio
             capture = stream.read()
     with ExitStack() as stack:
         with naming(answers):
-            theirs = TheirLines(stack.enter_context(reading(answers)))
+            front, stream = stack.enter_context(fronted(answers, len(MAGIC)))
+            theirs: Theirs = TheirCertificates(stream) if front == MAGIC else TheirLines(stream)
         kept = None if reference is None else _Kept(reference)
         bench = _Bench(theirs, answers, counts)
         first = True
@@ -587,12 +643,17 @@ def _judge_jobs(frame: CaptureFrame, number: int, theirs: TheirJobs, reference: 
     if nearer.any():
         n = others[int(np.argmax(nearer))]
         raise InputError(f"the reference isn't that of this capture: job {number} {theirs.symbol[n]} {theirs.carrier[n]} has a nearer vector")
-    verdict[others] = np.where(distance == least[others], TIE, WORSE)
+    verdict[others] = compared(distance, least[others])
     if distance.dtype != reached.dtype:
         reached = reached.astype(object)
     reached[others] = distance
     misstated = (theirs.stated >= 0) & (theirs.stated != reached)
     return JobVerdicts(number, theirs.symbol, theirs.carrier, verdict, reached, least, points, nearest, misstated.astype(bool))
+
+
+def compared(distance: np.ndarray, least: np.ndarray) -> np.ndarray:
+    """The verdicts on vectors of the grid that aren't the reference's, by their distances and the least ones: ``tie`` or ``worse``."""
+    return np.where(distance == least, TIE, WORSE)
 
 
 def _judge_octets(frame: CaptureFrame, octets: Optional[bytes], answer: FrameAnswer, reference: Optional[Jobs]) -> FrameVerdict:

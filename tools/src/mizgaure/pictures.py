@@ -34,7 +34,8 @@ STYLE = {
     "figure.dpi": 100, "savefig.dpi": 160, "svg.hashsalt": "mizgaure",
 }
 # Room round the panels, in inches.
-LEFT, RIGHT, HEAD, FOOT, GAP, LEGEND_LINE = 0.75, 0.2, 1.0, 0.95, 0.75, 0.2
+LEFT, RIGHT, HEAD, FOOT, GAP = 0.75, 0.2, 1.0, 0.95, 0.75
+LEGEND_LINE = 0.22
 
 
 def matplotlib_of():
@@ -86,14 +87,13 @@ def check_ending(target: Target) -> str:
     return ending[1:]
 
 
-def _drawn(Figure, rows: int, columns: int, width: float, height: float, lines: int = 1):
-    """A figure with panels of a given size in inches, and room for its title and a legend of some lines."""
-    foot = FOOT + (lines - 1) * LEGEND_LINE
+def _drawn(Figure, rows: int, columns: int, width: float, height: float):
+    """A figure with panels of a given size in inches, and room for its title and its legend."""
     across = LEFT + columns * width + (columns - 1) * GAP + RIGHT
-    down = HEAD + rows * height + (rows - 1) * GAP + foot
+    down = HEAD + rows * height + (rows - 1) * GAP + FOOT
     figure = Figure(figsize=(across, down))
     panels = figure.subplots(rows, columns, squeeze=False).reshape(-1)
-    figure.subplots_adjust(left=LEFT / across, right=1 - RIGHT / across, top=1 - HEAD / down, bottom=foot / down,
+    figure.subplots_adjust(left=LEFT / across, right=1 - RIGHT / across, top=1 - HEAD / down, bottom=FOOT / down,
                            wspace=GAP / width, hspace=GAP / height)
     return figure, panels
 
@@ -105,9 +105,31 @@ def _titled(figure: "Figure", what: str, rate: Rate, name: str) -> None:
     figure.text(0.15 / across, 1 - 0.44 / down, f"{rate}{' · ' + name if name else ''}", ha="left", va="top", fontsize=9.5, color="#555555")
 
 
-def _legend(figure: "Figure", handles: Sequence, labels: Sequence[str], lines: int = 1) -> None:
-    """A legend in some lines at the foot."""
-    figure.legend(handles, labels, loc="lower center", bbox_to_anchor=(0.5, 0.04 / figure.get_figheight()), ncol=-(-len(labels) // lines))
+def _legend(figure: "Figure", handles: Sequence, labels: Sequence[str]) -> None:
+    """A legend at the foot, in as few lines as the figure is wide enough for; the figure grows by the further ones."""
+    from matplotlib.backends.backend_agg import FigureCanvasAgg
+
+    renderer = FigureCanvasAgg(figure).get_renderer()
+    columns = len(labels)
+    while True:
+        legend = figure.legend(handles, labels, loc="lower center", bbox_to_anchor=(0.5, 0.04 / figure.get_figheight()), ncol=columns)
+        if columns == 1 or legend.get_window_extent(renderer).width <= 0.98 * figure.bbox.width:
+            break
+        legend.remove()
+        columns -= 1
+    lines = -(-len(labels) // columns)
+    if lines > 1:
+        legend.remove()
+        _grow(figure, (lines - 1) * LEGEND_LINE)
+        figure.legend(handles, labels, loc="lower center", bbox_to_anchor=(0.5, 0.04 / figure.get_figheight()), ncol=columns)
+
+
+def _grow(figure: "Figure", inches: float) -> None:
+    """Make a figure higher, with the room at its foot; its panels stay as large as they are."""
+    across, down = figure.get_size_inches()
+    foot, head = figure.subplotpars.bottom * down + inches, (1 - figure.subplotpars.top) * down
+    figure.set_size_inches(across, down + inches)
+    figure.subplots_adjust(bottom=foot / (down + inches), top=1 - head / (down + inches))
 
 
 def rotated_points(frame: CaptureFrame, jobs: Jobs) -> np.ndarray:
@@ -288,8 +310,7 @@ def error_curves(sweep: Sweep, name: str = "") -> "Figure":
             curves.append((f"{front}PER, behind the decoder", [each.frames for each in rates], colours[0], marker, "--"))
         curves.append((f"{front}SER, before the decoder", [each.symbols for each in rates], colours[1], "o" if number == 0 else marker, "-"))
     with matplotlib.rc_context(STYLE):
-        legend_lines = -(-(len(curves) + 1) // 3) if len(curves) > 2 else 1
-        figure, (panel,) = _drawn(Figure, 1, 1, 7.0, 3.7, legend_lines)
+        figure, (panel,) = _drawn(Figure, 1, 1, 7.0, 3.7)
         floor = 1.0
         for label, shown, colour, marker, line in curves:
             floor = min(floor, _curve(panel, setting.snr, shown, colour, marker, line, label))
@@ -298,8 +319,7 @@ def error_curves(sweep: Sweep, name: str = "") -> "Figure":
         panel.grid(True, which="minor", color="#F1F1F1", linewidth=0.5)
         if len(setting.snr) <= 16:
             panel.set_xticks(sorted(setting.snr))
-        handles, labels = panel.get_legend_handles_labels()
-        _legend(figure, handles, labels, legend_lines)
+        _legend(figure, *panel.get_legend_handles_labels())
         antennas = setting.antennas or setting.rate.streams
         known = {"perfect": "channel known", "ls": "channel estimated by least squares"}[setting.estimate]
         channel = f"decay {setting.decay:g} samples" if setting.channel == "exponential" else f"channel {setting.channel}"
@@ -323,8 +343,8 @@ def _curve(panel, snr: Sequence[float], rates: Sequence[Union[Proportion, FrameP
                    linestyle=line, markersize=6, linewidth=1.5, elinewidth=1.1, capsize=3.5, label=label)
     none = ~seen
     if none.any():
-        text = "at most, no error seen"
-        panel.plot(x[none], high[none], color=colour, marker="v", linestyle="none", markersize=7, markerfacecolor="white",
-                   label=None if text in panel.get_legend_handles_labels()[1] else text)
+        # One larger than the other, since both may be at the same place.
+        panel.plot(x[none], high[none], color=colour, marker="v", linestyle="none", markersize=11 if marker == "s" else 6, markerfacecolor="white",
+                   label=f"{label.split(',')[0]} at most, no error seen")
     drawn = np.concatenate((low[seen], high[none] / 2))
     return float(drawn[drawn > 0].min()) if (drawn > 0).any() else 1.0

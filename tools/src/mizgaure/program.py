@@ -1,12 +1,14 @@
 """Running the program ``radio``.
 
-The program is, in this order: the path that is given, the environment variable ``MIZGAURE_RADIO``, and the script
-``radio`` of the clone that this package stands in. That script builds the program at its first call.
+The program is, in this order: the path that is given, the environment variable ``MIZGAURE_RADIO``, the script ``radio`` of
+the clone that this package stands in, and the first ``radio`` on the PATH. That script builds the program at its first
+call.
 """
 
 from __future__ import annotations
 
 import os
+import shutil
 import subprocess
 import sys
 import threading
@@ -44,9 +46,9 @@ def find_radio(given: Optional[str] = None) -> str:
     path = given or os.environ.get(VARIABLE)
     if not path:
         clone = Path(__file__).resolve().parents[3]
-        path = str(clone / "radio")
-        if not os.path.isfile(path):
-            raise ProgramError(f"the program radio wasn't found: set {VARIABLE} to its path")
+        path = str(clone / "radio") if (clone / "crates").is_dir() else shutil.which("radio")
+        if not path:
+            raise ProgramError(f"the program radio wasn't found: it is on no folder of PATH, and {VARIABLE} isn't set")
     if not (os.path.isfile(path) and os.access(path, os.X_OK)):
         raise ProgramError(f"{path} is no program that can be run")
     return path

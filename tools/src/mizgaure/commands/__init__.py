@@ -7,12 +7,13 @@ last, and the tests say what is missing.
 
 from typing import Tuple
 
-from . import answers, capture, example, frames, judge, measure, merge, packets, picture, report, show, sweep, zero_forcing
+from . import answers, capture, check, example, frames, judge, measure, merge, packets, picture, report, show, sweep, zero_forcing
 from . import receive, record, waveform
 from .base import Command
 
 MODULES = (
     judge,
+    check,
     capture,
     example,
     show,

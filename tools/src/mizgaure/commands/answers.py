@@ -9,7 +9,7 @@ from typing import BinaryIO, Dict, Iterator, Sequence, cast
 
 import numpy as np
 
-from ..answers import Answers, FrameAnswer, Jobs, Refused
+from ..answers import Answers, FrameAnswer, Jobs, Refused, exact
 from ..errors import FormatError, InputError, ProgramError
 from ..files import naming, reading, refuse_overwriting, writing
 from ..program import Progress, Radio
@@ -113,14 +113,18 @@ def _arrays(records: Sequence) -> Dict[str, np.ndarray]:
     decoded = [record for record in records if isinstance(record, FrameAnswer)]
     for jobs in records:
         if isinstance(jobs, Jobs):
-            distance = jobs.distance if jobs.distance.dtype != object else np.array([str(d) for d in jobs.distance])
-            arrays.update({f"symbol{jobs.frame}": jobs.symbol, f"carrier{jobs.frame}": jobs.carrier, f"distance{jobs.frame}": distance,
-                           f"points{jobs.frame}": jobs.points})
+            arrays.update({f"symbol{jobs.frame}": jobs.symbol, f"carrier{jobs.frame}": jobs.carrier,
+                           f"distance{jobs.frame}": _numbers(jobs.distance), f"points{jobs.frame}": jobs.points})
     if decoded:
         for name in ("data", "pilot", "code"):
-            arrays[name] = np.array([str(getattr(record, name)) for record in decoded])
+            arrays[name] = _numbers(exact(getattr(record, name) for record in decoded))
         arrays["octets"] = np.array(["" if record.octets is None else record.octets.hex() for record in decoded])
     return arrays
+
+
+def _numbers(exact_numbers: np.ndarray) -> np.ndarray:
+    """Whole numbers as an archive can hold them: int64, or their digits where one is 2**63 or more."""
+    return exact_numbers if exact_numbers.dtype != object else np.array([str(number) for number in exact_numbers])
 
 
 COMMAND = Command("answers", "run radio on a capture, with a progress bar, and keep its answers", words, run, radio=True, writes=True)

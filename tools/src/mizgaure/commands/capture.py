@@ -3,13 +3,14 @@
 from __future__ import annotations
 
 import argparse
+import io
 import sys
-import zipfile
+from typing import Dict
 
 import numpy as np
 
 from ..errors import InputError
-from ..files import refuse_overwriting
+from ..files import naming, reading, refuse_overwriting
 from ..formats import write_htcp
 from ..quantise import MeasuredFrame, capture
 from .base import Command, octets, positive
@@ -25,30 +26,45 @@ def words(command: argparse.ArgumentParser) -> None:
 
 def run(given: argparse.Namespace) -> None:
     refuse_overwriting(given.output, given.force)
-    frames = [measured(path) for path in given.frames]
-    made = capture(frames, given.gain)
-    write_htcp(given.output, made.frames, version=given.format, force=given.force)
-    for path, frame, gain, bound in zip(given.frames, made.frames, made.gains, made.bounds):
-        print(f"{path}: {frame.rate}, {octets(frame.length)}, gain {gain:.6g}, "
-              f"the root of a distance is off by at most {bound:.3g}", file=sys.stderr)
+    made = []
+    for number, path in enumerate(given.frames):
+        with naming(path):
+            made.append(capture([measured(path)], given.gain, first=number))
+    frames = [frame for part in made for frame in part.frames]
+    write_htcp(given.output, frames, version=given.format, force=given.force)
+    for path, frame, part in zip(given.frames, frames, made):
+        print(f"{path}: {frame.rate}, {octets(frame.length)}, gain {part.gains[0]:.6g}, "
+              f"the root of a distance is off by at most {part.bounds[0]:.3g}", file=sys.stderr)
+
+
+ASKED = ("channel", "received", "bandwidth", "mcs", "length")
 
 
 def measured(path: str) -> MeasuredFrame:
     """The frame that an archive of arrays holds."""
-    try:
-        with np.load(path, allow_pickle=False) as arrays:
-            if not hasattr(arrays, "files"):
+    arrays = _arrays(path)
+    missing = [name for name in ASKED if name not in arrays]
+    if missing:
+        raise InputError(f"{path} has no array {missing[0]}")
+    whole = (_whole(path, name, arrays[name]) for name in ("bandwidth", "mcs", "length"))
+    return MeasuredFrame(*whole, arrays["channel"], arrays["received"], arrays.get("erased"))
+
+
+def _arrays(path: str) -> Dict[str, np.ndarray]:
+    """The arrays of an archive that are asked for, by name."""
+    with reading(path) as stream:
+        try:
+            loaded = np.load(io.BytesIO(stream.read()) if path == "-" else stream, allow_pickle=False)
+            if isinstance(loaded, np.ndarray):
                 raise InputError(f"{path} is one array, and an archive of arrays (.npz) is asked for")
-            missing = [name for name in ("channel", "received", "bandwidth", "mcs", "length") if name not in arrays.files]
-            if missing:
-                raise InputError(f"{path} has no array {missing[0]}")
-            erased = arrays["erased"] if "erased" in arrays.files else None
-            bandwidth, mcs, length = (_whole(path, name, arrays[name]) for name in ("bandwidth", "mcs", "length"))
-            return MeasuredFrame(bandwidth, mcs, length, arrays["channel"], arrays["received"], erased)
-    except OSError as error:
-        raise InputError(f"{path} can't be read: {error.strerror or error}") from error
-    except (ValueError, EOFError, zipfile.BadZipFile) as error:
-        raise InputError(f"{path} is no archive of arrays (.npz)") from error
+            found = {name: loaded[name] for name in (*ASKED, "erased") if name in loaded.files}
+        except (InputError, MemoryError):
+            raise
+        except Exception as error:  # what numpy and zipfile raise at files that are none is no closed list
+            raise InputError(f"{path} is no archive of arrays (.npz)") from error
+    if not all(isinstance(array, np.ndarray) for array in found.values()):
+        raise InputError(f"{path} is no archive of arrays (.npz)")
+    return found
 
 
 def _whole(path: str, name: str, array: np.ndarray) -> int:

@@ -7,7 +7,7 @@ from contextlib import contextmanager
 from typing import Any, Dict, Iterator, List, Optional, Tuple
 
 from ..answers import Answers, FrameAnswer, Jobs, Refused, read_answers
-from ..errors import FormatError, InputError, ProgramError
+from ..errors import FormatError, InputError
 from ..files import Source, naming, reading, refuse_overwriting
 from ..formats import MAGIC
 from ..packets import Mpdu, Packet, Psdu, Radiotap, packets_of, take_apart, write_pcap
@@ -57,7 +57,7 @@ def run(given: argparse.Namespace) -> None:
         if isinstance(answers.last, Refused):
             raise FormatError(answers.last.kind, answers.last.offset)
         if answers.last is None:
-            raise ProgramError("radio rx wrote no last line")
+            raise InputError("the lines of radio rx have no end")
     frames = "1 frame" if answers.last.frames == 1 else f"{answers.last.frames} frames"
     print(f"{frames}, {seen} MPDU{'' if seen == 1 else 's'}: {good} with a good FCS" + (f"; {empty} without octets" if empty else ""))
     if given.output:

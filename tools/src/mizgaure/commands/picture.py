@@ -3,7 +3,10 @@
 from __future__ import annotations
 
 import argparse
-from typing import Sequence, Tuple
+import io
+from dataclasses import replace
+from itertools import islice
+from typing import Tuple
 
 from .. import pictures
 from ..air import pictures as air_pictures
@@ -12,10 +15,10 @@ from ..air.recording import open_recording
 from ..answers import Jobs
 from ..errors import InputError
 from ..files import naming, refuse_overwriting
-from ..formats import CaptureFrame
+from ..formats import CaptureFrame, read_htcp, write_htcp
 from ..program import Radio
 from ..sweep import Sweep, read_sweep
-from .base import Command, frames_of, held, kept_answers, name_of, whole
+from .base import Command, kept_answers, name_of, whole
 
 KINDS = {"constellation": pictures.constellation, "evm": pictures.evm_over_subcarriers, "residual": pictures.residual_over_subcarriers,
          "distances": pictures.distance_histogram}
@@ -49,21 +52,20 @@ def run(given: argparse.Namespace) -> None:
 
 
 def _one_frame(given: argparse.Namespace) -> Tuple[CaptureFrame, Jobs]:
-    source = held(given.file)
-    count, frame = 0, None
-    for count, read in enumerate(frames_of(source, given.file), 1):
-        if count - 1 == given.frame:
-            frame = read
-    if frame is None:
-        raise InputError(f"{given.file} has {count} frames, and no frame {given.frame}")
+    """The frame that is asked for and its answers; the program is given a capture of it alone."""
+    with naming(given.file), read_htcp(given.file) as frames:
+        if given.frame >= frames.frames:
+            raise InputError(f"there are {frames.frames} frames, and no frame {given.frame}")
+        frame = next(islice(frames, given.frame, None))
     if given.answers:
-        records: Sequence = kept_answers(given.answers)[0]
-    else:
-        records = Radio(given.radio).detect(source)
-    for jobs in records:
-        if isinstance(jobs, Jobs) and jobs.frame == given.frame:
-            return frame, jobs
-    raise InputError(f"there are no answers to frame {given.frame} of {given.file}")
+        for jobs in kept_answers(given.answers)[0]:
+            if jobs.frame == given.frame:
+                return frame, jobs
+        raise InputError(f"{given.answers}: there are no answers to frame {given.frame}")
+    alone = io.BytesIO()
+    write_htcp(alone, [frame])
+    (jobs,) = Radio(given.radio).detect(alone.getvalue())
+    return frame, replace(jobs, frame=given.frame)
 
 
 COMMAND = Command("picture", "draw a frame of a capture, a sweep, or a recording", words, run, radio=True, writes=True)
