@@ -12,7 +12,7 @@ from conftest import TOP, VECTORS
 
 from mizgaure import CaptureFrame, Rate, SentFrame, capture, cli, read_htcp, read_htsy, read_httx, write_htsy, write_httx
 from mizgaure.air import standard, track
-from mizgaure.air.receive import refusal
+from mizgaure.air.headers import refusal
 from mizgaure.air.record import FULL, Spool, packets_in, spooled
 from mizgaure.air.recording import Layout, open_recording
 from mizgaure.air.signal import LONGEST_LEGACY, HtSignal, LegacySignal, coded, crc, decode, points_of, read_ht, read_legacy
@@ -238,7 +238,7 @@ def test_why_a_packet_is_left_out():
     assert [line.frame for line in lines if line.frame is not None] == [0, 1]
     with air.heard(packets) as recording, Spool(most=1) as spool:
         assert list(spooled(recording, spool))[-1].left_out == FULL and spool.frames == 1
-    assert refusal(HtSignal(15, True, 10), 2, 2, 2) is None
+    assert refusal(HtSignal(15, True, 10), 2, 2) is None
 
 
 # spoiled recordings
@@ -353,7 +353,7 @@ def test_from_symbols_to_wireshark(here, command, sent, tmp_path):
     assert b"frame error rate 0 of 3" in measured
     done = command("receive", "air", "-o", "air.pcap")
     lines = done.stdout.decode().splitlines()
-    assert done.returncode == 0 and lines[3] == "3 packets: 3 received"
+    assert done.returncode == 0 and lines[3] == "3 packets: 3 received, 3 of 3 MPDUs with a good FCS"
     assert all(re.fullmatch(LINE + r"; EVM \d\.\d\d % \(-\d\d\.\d dB\); MPDU of \d+ octets, FCS good, .*", line) for line in lines[:3])
     packets = list(read_pcap(tmp_path / "air.pcap"))
     assert [packet.octets for packet in packets] == sent and [packet.radiotap.mcs for packet in packets] == [2, 15, 7]
@@ -395,7 +395,7 @@ def bad_recordings(folder):
     yield "type", octets, {**said, "core:datatype": "ri8"}, "{}.sigmf-meta: the samples are ri8, and only " \
         "cf32_le, cf32_be, ci16_le, ci16_be, ci8, cu8 are known"
     yield "rate", octets, {**said, "core:sample_rate": None}, "{}.sigmf-meta doesn't say how many samples there are in a second (core:sample_rate)"
-    yield "channels", octets, {**said, "core:num_channels": 0}, "{}.sigmf-meta: a recording has 1 to 64 channels, and not 0"
+    yield "channels", octets, {**said, "core:num_channels": 0}, "{}.sigmf-meta: a recording has 1 to 16 channels, and not 0"
     yield "negative", octets, {**said, "core:sample_rate": -1}, "{}.sigmf-meta: -1 samples a second mean nothing"
     yield "text", octets, None, "{}.sigmf-meta isn't JSON"
     yield "list", octets, [], "{}.sigmf-meta has no object global, which the metadata of SigMF have"
@@ -427,7 +427,7 @@ def test_bad_waveforms_get_one_sentence(here, tmp_path):
              (["none.htsy"], "none.htsy: there is no frame in it"), (["missing"], "missing can't be read: No such file or directory"),
              (["good.htsy", "--offset", "300"], "the offset is 300 ppm, and has to be -200 to 200"),
              (["good.htsy", "--spread", "3000"], "the delay spread is 3000 ns, and has to be 0 to 2000"),
-             (["good.htsy", "--antennas", "65"], "a recording has up to 64 antennas, and a seed of 0 or more")]
+             (["good.htsy", "--antennas", "17"], "a recording has up to 16 antennas, and not 17")]
     for words, said in cases:
         done = here("waveform", *words, "-o", "out")
         assert (done.returncode, done.stderr.decode()) == (2, f"mizgaure: {said}\n")

@@ -29,6 +29,7 @@ TYPES: Dict[str, Tuple[str, float, float]] = {
 }
 WRITTEN = ("cf32_le", "ci16_le")
 PLAUSIBLE_RATE = 1e12
+MOST_CHANNELS = 16
 LARGEST = 1e15  # of a part in floating point
 
 
@@ -61,8 +62,8 @@ class Layout:
             raise InputError(f"{name}: the samples are {self.datatype}, and only {', '.join(TYPES)} are known")
         if not (np.isfinite(self.rate) and 0 < self.rate < PLAUSIBLE_RATE):
             raise InputError(f"{name}: {self.rate:g} samples a second mean nothing")
-        if not 1 <= self.channels <= 64:
-            raise InputError(f"{name}: a recording has 1 to 64 channels, and not {self.channels}")
+        if not 1 <= self.channels <= MOST_CHANNELS:
+            raise InputError(f"{name}: a recording has 1 to {MOST_CHANNELS} channels, and not {self.channels}")
 
     @property
     def octets(self) -> int:

@@ -18,7 +18,7 @@ import numpy as np
 
 from ..errors import InputError
 from ..formats import SymbolsFrame
-from .recording import Writer
+from .recording import MOST_CHANNELS, Writer
 from .waveform import Clock, packet
 
 LEVEL = 0.1  # the mean amplitude of a packet beside full scale
@@ -64,8 +64,8 @@ class Scene:
         ------
         InputError
         """
-        if not 0 <= self.antennas <= 64 or self.seed < 0:
-            raise InputError("a recording has up to 64 antennas, and a seed of 0 or more")
+        if not 0 <= self.antennas <= MOST_CHANNELS:
+            raise InputError(f"a recording has up to {MOST_CHANNELS} antennas, and not {self.antennas}")
         if not 0 <= self.spread <= 2000:
             raise InputError(f"the delay spread is {self.spread:g} ns, and has to be 0 to 2000")
         if not abs(self.offset) <= 200:
@@ -146,16 +146,14 @@ class _Mixer:
 
     def silence(self) -> None:
         left = int(round(self.scene.gap * 20 * self.over))
-        while left:
-            count = min(left, PIECE)
-            self._write(np.zeros((self.antennas, count), complex))
-            left -= count
+        self._write(np.broadcast_to(np.zeros(1, complex), (self.antennas, left)))
 
     def _write(self, samples: np.ndarray) -> None:
-        if not samples.shape[1]:
-            return
-        turned = samples * (LEVEL * np.exp(2j * np.pi * self.turn * (self.writer.length + np.arange(samples.shape[1]))))
-        if self.noise:
-            parts = self.generator.standard_normal((*samples.shape, 2)) * (self.noise / np.sqrt(2))
-            turned += parts[..., 0] + 1j * parts[..., 1]
-        self.writer.write(turned)
+        """Write what antennas hear, in pieces: with the carrier's offset and noise."""
+        for first in range(0, samples.shape[1], PIECE):
+            part = samples[:, first : first + PIECE]
+            turned = part * (LEVEL * np.exp(2j * np.pi * self.turn * (self.writer.length + np.arange(part.shape[1]))))
+            if self.noise:
+                parts = self.generator.standard_normal((*part.shape, 2)) * (self.noise / np.sqrt(2))
+                turned += parts[..., 0] + 1j * parts[..., 1]
+            self.writer.write(turned)

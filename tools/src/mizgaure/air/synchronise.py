@@ -17,13 +17,14 @@ from . import standard
 from .recording import Recording
 from .standard import LONG_GUARD, SHORT_LAG, TRANSFORM
 
-PIECE = 1 << 17  # samples read at once
+PIECE = 1 << 17  # samples at 20 MHz that are read at once, fewer where there are more than three channels
 WINDOW = 6 * SHORT_LAG  # samples at 20 MHz over which the short training is correlated
 ABOVE, RUN = 0.35, 20  # the correlation's share of the energy, and for how many samples at 20 MHz it has to last
 OVERLAP = 512  # samples at 20 MHz that two pieces have in common
 LONG_PERIOD = 0.15  # the least share of the energy that repeats after 3.2 microseconds in the long training
 COHERENCE = 0.35  # the least agreement of neighbouring subcarriers of the long training
 WEAKER_HALF = 0.05  # of the stronger half's energy, where a packet is in both halves of 40 MHz
+LEAST_NOISE = 1e-4  # of the noise of the antenna with the most, which every antenna is taken to have
 EARLY = 8  # samples at 20 MHz by which the long training is looked at earlier than at its peak
 
 
@@ -62,7 +63,7 @@ class Finder:
         return None
 
     def _load(self, position: int) -> None:
-        samples = self.recording.read(position, PIECE * self.over)
+        samples = self.recording.read(position, PIECE * self.over // max(1, self.recording.layout.channels // 2))
         share = periodicity(samples, SHORT_LAG * self.over, WINDOW * self.over)
         self.first, end = position, position + samples.shape[1]
         self.stop = end if end == self.recording.length else end - OVERLAP * self.over
@@ -113,7 +114,7 @@ class Training:
     channel : ndarray of complex128, shape (parts, antennas, 53)
         As seen by a transform that begins `EARLY` samples before the symbol does; 0 on subcarrier 0.
     noise : ndarray of float64, shape (antennas,)
-        The noise's mean power on a subcarrier.
+        The noise's mean power on a subcarrier, above 0.
     signal : ndarray of float64, shape (antennas,)
         The signal's, over the subcarriers in use.
     """
@@ -124,6 +125,11 @@ class Training:
     channel: np.ndarray
     noise: np.ndarray
     signal: np.ndarray
+
+    @property
+    def noise_ratio(self) -> float:
+        """The noise beside the signal, over all antennas, in dB."""
+        return float(10 * np.log10(self.noise.sum() / max(float(self.signal.sum()), 1e-300)))
 
 
 def find_training(recording: Recording, run: Run, oversampling: int) -> Optional[Training]:
@@ -162,7 +168,9 @@ def find_training(recording: Recording, run: Run, oversampling: int) -> Optional
     used = known[2:-2] != 0
     noise = np.mean(np.abs(difference[..., used]) ** 2, axis=(0, 2)) / 2
     signal = np.maximum(np.mean(np.abs(channel[..., used]) ** 2, axis=(0, 2)) - noise / 2, 0)
-    floor = 1e-12 * float(signal.max())
+    if not signal.any():
+        return None
+    floor = max(LEAST_NOISE * float(noise.max()), 1e-12 * float(signal.max()))
     return Training(first + begin, offset + fine, middles, channel, np.maximum(noise, floor), signal)
 
 

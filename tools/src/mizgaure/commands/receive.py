@@ -60,12 +60,15 @@ def run(given: argparse.Namespace) -> None:
     radio = Radio(given.radio, progress=False)
     radio.need("rx")
     fates: Counter = Counter()
+    mpdus: Counter = Counter()
 
     def told(recording: Recording) -> Iterator[Packet]:
         """The records of a pcap file, while lines are printed."""
         for packet in received(recording, radio):
             print(packet, file=lines, flush=True)
             fates[packet.line.left_out] += 1
+            if packet.psdu is not None:
+                mpdus.update(mpdu.good for mpdu in packet.psdu.mpdus)
             yield from records(packet, recording)
         check_found(recording, sum(fates.values()))
 
@@ -75,7 +78,7 @@ def run(given: argparse.Namespace) -> None:
         else:
             for _ in told(recording):
                 pass
-    print(summary(fates, "received"), file=lines)
+    print(summary(fates, f"received, {mpdus[True]} of {sum(mpdus.values())} MPDUs with a good FCS"), file=lines)
 
 
 def received(recording: Recording, radio: Radio) -> Iterator[Received]:
