@@ -86,10 +86,10 @@ def _joined(values: np.ndarray, guards: np.ndarray, symbols: int) -> np.ndarray:
     return sampled(pieces, 0.0, Clock(1))[1]
 
 
-def heard(packets: Sequence[np.ndarray], snr: float = 30.0, gap: int = 300) -> Recording:
-    """One antenna's recording of packets in noise."""
-    silence = np.zeros((1, gap), complex)
+def heard(packets: Sequence[np.ndarray], snr: float = 30.0, gap: int = 300, oversampling: int = 1) -> Recording:
+    """A recording of packets in noise, each of the same number of antennas."""
+    silence = np.zeros((len(packets[0]), gap * oversampling), complex)
     whole = LEVEL * np.concatenate([part for packet in packets for part in (silence, packet)] + [silence], axis=1)
     random = np.random.default_rng(3)
     noise = random.standard_normal((2, *whole.shape)) * LEVEL * 10 ** (-snr / 20) / np.sqrt(2)
-    return recording_of(octets_in(whole + noise[0] + 1j * noise[1]), Layout("cf32_le", 20e6))
+    return recording_of(octets_in(whole + noise[0] + 1j * noise[1]), Layout("cf32_le", 20e6 * oversampling, len(whole)))

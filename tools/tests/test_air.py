@@ -167,6 +167,17 @@ def test_bandwidths_side_by_side():
         assert points_wrong(capture([packet_found.frame]).frames[0], frame) == 0
 
 
+@pytest.mark.parametrize("middle", [-32, 0, 32])
+def test_a_packet_of_20_mhz_anywhere_in_40(middle):
+    frame = random_symbols(Rate(20, 12), 100, np.random.default_rng(1))
+    _, samples = packet(frame, Clock(2, 1e-5, middle))
+    turned = samples * np.exp(2j * np.pi * 1e-5 * 5.18e9 / 40e6 * np.arange(samples.shape[1]))
+    with air.heard([turned], oversampling=2) as recording:
+        (found,) = packets_in(recording)
+    assert found.left_out is None and points_wrong(capture([found.frame]).frames[0], frame) == 0
+    assert found.offset == pytest.approx(51800 + middle * 3.125, abs=100)
+
+
 def test_a_long_packet_is_tracked():
     """The clocks are 40 ppm apart: from beginning to end by four samples."""
     rate = Rate(20, 7)
