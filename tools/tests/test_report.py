@@ -1,26 +1,46 @@
 """Packets, frames, the report and merged sweeps as a user meets them."""
 
 import html.parser
+import io
 import json
 import re
 import shutil
 import subprocess
+import sys
 
 import pytest
 from conftest import TOP, VECTORS
 
-from mizgaure import read_httx, read_htsy
+from mizgaure import cli, read_htsy, read_httx
 from mizgaure.packets import aggregate, take_apart, with_fcs
 
 MPDUS = ["88010000020000000001020000000002020000000003100000006869", "b400000002000000000102:00:00:00:00:02"]
 
 
 @pytest.fixture
-def sent(command, tmp_path):
+def here(radio, tmp_path, monkeypatch, capsysbinary):
+    """The command in this process, which is faster than one of its own: words to the finished run."""
+
+    def run(*words: object, given: bytes = b"") -> subprocess.CompletedProcess:
+        capsysbinary.readouterr()
+        monkeypatch.setattr(sys, "stdin", io.TextIOWrapper(io.BytesIO(given)))
+        try:
+            status = cli.main([str(word) for word in words])
+        except SystemExit as ended:
+            status = ended.code
+        return subprocess.CompletedProcess(words, status, *capsysbinary.readouterr())
+
+    monkeypatch.chdir(tmp_path)
+    monkeypatch.setenv("MIZGAURE_RADIO", radio.path)
+    return run
+
+
+@pytest.fixture
+def sent(here, tmp_path):
     """A capture of MPDUs, one of which is spoiled by its channel, and an A-MPDU of both."""
     (tmp_path / "mpdus").write_text("# two MPDUs\n" + "\n".join(MPDUS) + "\n")
-    assert command("frames", "mpdus", "-o", "single.httx", "--mcs", 9).returncode == 0
-    assert command("frames", "mpdus", "-o", "both.httx", "--aggregate", 2, "--mcs", 4, "--bandwidth", 40, "--seed", 93).returncode == 0
+    assert here("frames", "mpdus", "-o", "single.httx", "--mcs", 9).returncode == 0
+    assert here("frames", "mpdus", "-o", "both.httx", "--aggregate", 2, "--mcs", 4, "--bandwidth", 40, "--seed", 93).returncode == 0
     return tmp_path
 
 
@@ -40,12 +60,12 @@ def test_frames_are_made_of_lines(sent):
     assert both[0].octets == aggregate(octets) and (both[0].seed, both[0].rate.mcs, both[0].rate.bandwidth, len(both)) == (93, 4, 40, 1)
 
 
-def test_packets_of_a_capture(sent, command, radio, tmp_path):
+def test_packets_of_a_capture(sent, here, radio, tmp_path):
     if not radio.knows("channel"):
         pytest.skip("the program has no command channel")
     octets = (tmp_path / "single.httx").read_bytes()
     (tmp_path / "one.htcp").write_bytes(receive(radio, octets))
-    done = command("packets", "one.htcp", "-o", "one.pcap", "--csv", "one.csv", "--json", "one.json")
+    done = here("packets", "one.htcp", "-o", "one.pcap", "--csv", "one.csv", "--json", "one.json")
     assert done.stderr == b"" and done.stdout.decode().splitlines() == [
         "frame 0: MPDU of 32 octets, FCS good, QoS Data, BSSID 02:00:00:00:00:01, SA 02:00:00:00:00:02, DA 02:00:00:00:00:03, sequence 1",
         "frame 1: MPDU of 20 octets, FCS good, RTS, RA 02:00:00:00:00:01, TA 02:00:00:00:00:02",
@@ -55,30 +75,30 @@ def test_packets_of_a_capture(sent, command, radio, tmp_path):
     records = [json.loads(line) for line in (tmp_path / "one.json").read_text().splitlines()]
     assert records[0]["sequence"] == 1 and records[1]["RA"] == "02:00:00:00:00:01" and records[1]["DA"] is None
     # What is in the pcap file is sent as it was.
-    assert command("frames", "one.pcap", "-o", "again.httx").returncode == 0 and (tmp_path / "again.httx").read_bytes() == octets
+    assert here("frames", "one.pcap", "-o", "again.httx").returncode == 0 and (tmp_path / "again.httx").read_bytes() == octets
     # Kept lines do, with the capture and without.
-    lines = command("answers", "one.htcp", "--command", "rx").stdout
+    lines = here("answers", "one.htcp", "--command", "rx").stdout
     (tmp_path / "lines").write_bytes(lines)
-    assert command("packets", "one.htcp", "--answers", "lines").stdout == done.stdout == command("packets", "lines").stdout
-    assert command("packets", "-", given=lines).stdout == done.stdout
+    assert here("packets", "one.htcp", "--answers", "lines").stdout == done.stdout == here("packets", "lines").stdout
+    assert here("packets", "-", given=lines).stdout == done.stdout
 
 
-def test_packets_of_an_a_mpdu(sent, command, radio, tmp_path):
+def test_packets_of_an_a_mpdu(sent, here, radio, tmp_path):
     octets = (tmp_path / "both.httx").read_bytes()
     psdu = next(iter(read_httx(octets))).octets
     spoiled = bytearray(psdu)
     spoiled[20] ^= 1
     lines = b"".join(b"frame %d data 0 pilot 0 code 0 octets %b\n" % (n, each.hex().encode()) for n, each in enumerate((psdu, bytes(spoiled))))
     lines += b"frame 2 data 0 pilot 0 code 0 seed zero\nend 3 frames\n"
-    done = command("packets", "-", "-o", "both.pcap", given=lines)
+    done = here("packets", "-", "-o", "both.pcap", given=lines)
     said = done.stdout.decode().splitlines()
     assert said[0] == "frame 0: A-MPDU of 60 octets, 2 MPDUs, 2 with a good FCS" and said[3].endswith("2 MPDUs, 1 with a good FCS")
     assert said[4].startswith("frame 1 MPDU 0: 32 octets, FCS bad, QoS Data") and said[6] == "frame 2: no octets, since the scrambler's seed is zero"
     assert said[7] == "3 frames, 4 MPDUs: 3 with a good FCS; 1 without octets"
-    assert command("frames", "both.pcap", "-o", "again.httx").returncode == 0
+    assert here("frames", "both.pcap", "-o", "again.httx").returncode == 0
     again = list(read_httx(tmp_path / "again.httx"))
     assert [frame.octets for frame in again] == [psdu, aggregate([part.octets for part in take_apart(bytes(spoiled)).mpdus])]
-    forced = command("packets", "-", "--aggregated", "no", given=lines).stdout.decode().splitlines()
+    forced = here("packets", "-", "--aggregated", "no", given=lines).stdout.decode().splitlines()
     assert forced[0].startswith("frame 0: MPDU of 60 octets, FCS bad")
     if shutil.which("tshark"):
         told = subprocess.run(["tshark", "-r", str(tmp_path / "both.pcap"), "-T", "fields", "-e", "radiotap.ampdu.reference", "-e", "radiotap.flags.badfcs"],
@@ -105,8 +125,8 @@ def bad_words():
 
 
 @pytest.mark.parametrize("words, given, said", [pytest.param(*case, id=f"{n}-{case[0][0]}") for n, case in enumerate(bad_words())])
-def test_bad_input_gets_one_sentence(command, words, given, said, tmp_path):
-    done = command(*words, given=given)
+def test_bad_input_gets_one_sentence(here, words, given, said, tmp_path):
+    done = here(*words, given=given)
     text = done.stderr.decode()
     assert done.returncode == 2 and "Traceback" not in text and (said is None or text == f"mizgaure: {said}\n")
     assert [path.name for path in tmp_path.iterdir()] == []
@@ -134,14 +154,14 @@ class Page(html.parser.HTMLParser):
         self.text += data
 
 
-def test_a_report_is_one_page_that_needs_no_net(command, tmp_path):
+def test_a_report_is_one_page_that_needs_no_net(here, tmp_path):
     pytest.importorskip("matplotlib")
     path = VECTORS / "jobs" / "small-mcs09.htcp"
     (tmp_path / "<&.htcp").write_bytes(path.read_bytes())
-    (tmp_path / "theirs").write_bytes(command("zero-forcing", path).stdout)
-    done = command("report", "<&.htcp", TOP / "examples" / "z.htcp", "-o", "made.html", "--theirs", "theirs", "--theirs", "theirs")
+    (tmp_path / "theirs").write_bytes(here("zero-forcing", path).stdout)
+    done = here("report", "<&.htcp", TOP / "examples" / "z.htcp", "-o", "made.html", "--theirs", "theirs", "--theirs", "theirs")
     assert done.returncode == 2 and done.stderr.decode().startswith("mizgaure: theirs: ")  # the second capture has other jobs
-    done = command("report", "<&.htcp", "-o", "made.html", "--theirs", "theirs", "--title", "Ours & theirs")
+    done = here("report", "<&.htcp", "-o", "made.html", "--theirs", "theirs", "--title", "Ours & theirs")
     assert done.returncode == 0 and done.stdout == done.stderr == b""
     made = (tmp_path / "made.html").read_text()
     page = Page()
@@ -150,34 +170,34 @@ def test_a_report_is_one_page_that_needs_no_net(command, tmp_path):
     assert page.open == [] and page.images == 4 and all(source.startswith("data:image/png;base64,") for source in page.sources)
     assert "url(" not in made and "<script" not in made and "@import" not in made
     assert "Ours & theirs" in page.text and "<&.htcp" in page.text and "14 same, 1 tie, 41 worse" in page.text and "tested and not proved" in page.text
-    assert command("report", "<&.htcp", "-o", "made.html").returncode == 2
-    assert command("report", "<&.htcp", "-o", "made.html", "--force", "--pictures", 0).returncode == 0
+    assert here("report", "<&.htcp", "-o", "made.html").returncode == 2
+    assert here("report", "<&.htcp", "-o", "made.html", "--force", "--pictures", 0).returncode == 0
     assert "<img" not in (tmp_path / "made.html").read_text()
 
 
-def test_a_sweep_in_parts_as_a_cluster_does_it(command, tmp_path):
+def test_a_sweep_in_parts_as_a_cluster_does_it(here, tmp_path):
     words = ["sweep", "--mcs", 0, "--length", 5, "--snr", "2,8", "--frames", 34, "--channel", "awgn", "--processes", 1, "--detector", "zf=zero-forcing"]
-    whole = command(*words, "-o", "whole.json", "--csv", "whole.csv")
+    whole = here(*words, "-o", "whole.json", "--csv", "whole.csv")
     assert whole.returncode == 0 and whole.stdout.count(b"zf: SER") == 2
     for part in (1, 2):
-        assert command(*words, "--part", f"{part}/2", "-o", f"part{part}.json").returncode == 0
-    done = command("merge", "part1.json", "part2.json", "-o", "merged.json", "--csv", "merged.csv")
+        assert here(*words, "--part", f"{part}/2", "-o", f"part{part}.json").returncode == 0
+    done = here("merge", "part1.json", "part2.json", "-o", "merged.json", "--csv", "merged.csv")
     assert done.stdout == whole.stdout and (tmp_path / "merged.csv").read_text() == (tmp_path / "whole.csv").read_text()
     assert (tmp_path / "merged.json").read_text() == (tmp_path / "whole.json").read_text()
-    assert b"34 of 68 frames are missing" in command("merge", "part1.json").stdout or b"frames are missing" in command("merge", "part1.json").stdout
+    assert b"34 of 68 frames are missing" in here("merge", "part1.json").stdout or b"frames are missing" in here("merge", "part1.json").stdout
     # What is missing is done, and nothing else.
     (tmp_path / "some.json").write_text("".join((tmp_path / "whole.json").read_text().splitlines(keepends=True)[:4]))
-    assert command(*words, "-o", "some.json", "--resume").stdout == whole.stdout
+    assert here(*words, "-o", "some.json", "--resume").stdout == whole.stdout
     assert (tmp_path / "some.json").read_text() == (tmp_path / "whole.json").read_text()
-    assert re.match(rb"mizgaure: some.json is there already", command(*words, "-o", "some.json").stderr)
+    assert re.match(rb"mizgaure: some.json is there already", here(*words, "-o", "some.json").stderr)
 
 
-def test_answers_in_parts_and_by_processes(command, tmp_path):
+def test_answers_in_parts_and_by_processes(here, command):
     path = VECTORS / "rates" / "bw0-mcs00.htcp"
-    whole = command("answers", path).stdout
+    whole = here("answers", path).stdout
     assert whole == path.with_suffix(".detect").read_bytes()
-    assert command("answers", path, "--processes", 2).stdout == whole
-    assert b"".join(command("answers", path, "--part", f"{part}/3").stdout for part in (1, 2, 3)) == whole
+    assert here("answers", path, "--processes", 2).stdout == whole
+    assert b"".join(here("answers", path, "--part", f"{part}/3").stdout for part in (1, 2, 3)) == whole
     assert command("answers", "-", given=path.read_bytes()).stdout == whole
-    assert command("answers", path, "--part", "1/2", "-o", "x.npz").stderr == b"mizgaure: a part has lines and no arrays: join the parts first\n"
+    assert here("answers", path, "--part", "1/2", "-o", "x.npz").stderr == b"mizgaure: a part has lines and no arrays: join the parts first\n"
     assert [frame.length for frame in read_htsy(path.with_suffix(".htsy"))]
