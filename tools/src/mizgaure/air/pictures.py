@@ -13,7 +13,7 @@ from .receive import Packet
 from .record import oversampling_of, packets_in
 from .recording import Recording
 from .standard import SHORT_LAG, TRAINING_FIELDS, TRANSFORM
-from .synchronise import ABOVE, WINDOW, long_symbols, periodicity
+from .synchronise import ABOVE, WINDOW, long_correlation, periodicity
 
 if TYPE_CHECKING:
     from matplotlib.figure import Figure
@@ -95,8 +95,9 @@ def preamble(recording: Recording, number: int, name: str = "") -> "Figure":
     samples = recording.read(first, count + 2 * TRANSFORM * over).astype(complex)
     times = (np.arange(count) + first - packet.sample) / (20 * over)
     short = periodicity(samples, SHORT_LAG * over, WINDOW * over)[:count]
-    time = np.arange(samples.shape[1])
-    long = _long_correlation(samples * np.exp(-2j * np.pi * packet.offset / recording.layout.rate * time), over)[:count]
+    straight = samples * np.exp(-2j * np.pi * packet.offset / recording.layout.rate * np.arange(samples.shape[1]))
+    energy = np.convolve(np.sum(np.abs(straight) ** 2, axis=0), np.ones(TRANSFORM * over), "valid")
+    long = (long_correlation(straight, over).max(axis=0) / np.maximum(energy, 1e-300))[:count]
     with matplotlib.rc_context(STYLE):
         figure, panels = _drawn(Figure, 2, 1, 7.6, 2.0)
         panels[0].plot(times, np.abs(samples[0, :count]) / np.abs(samples[0, :count]).max(), color=BLUE, linewidth=0.8)
@@ -119,18 +120,6 @@ def _fields(rate: Rate) -> List[Tuple[str, float, float]]:
     for n in range(TRAINING_FIELDS[rate.streams - 1]):
         fields.append((f"HT-LTF{n + 1}", 32 + 4 * n, 36 + 4 * n))
     return [*fields, ("data", fields[-1][2], fields[-1][2] + 4)]
-
-
-def _long_correlation(samples: np.ndarray, over: int) -> np.ndarray:
-    """What share of the energy of 3.2 microseconds from an instant on is a long training symbol's, the best place taken."""
-    length = TRANSFORM * over
-    windows = np.lib.stride_tricks.sliding_window_view(samples, length, axis=-1)
-    symbols = long_symbols(over)[1]
-    symbols = symbols / np.sqrt(np.sum(np.abs(symbols) ** 2, axis=-1, keepdims=True))
-    found = np.sum(np.abs(windows @ symbols.conj().T) ** 2, axis=0)
-    energy = np.sum(np.abs(windows) ** 2, axis=(0, 2))
-    both = found[:, 0] + found[:, 1] if over == 2 else found[:, 0]
-    return np.maximum(both, found[:, -1]) / np.maximum(energy, 1e-300)
 
 
 def tracking(recording: Recording, number: int, name: str = "") -> "Figure":

@@ -198,14 +198,30 @@ def long_symbols(over: int) -> Tuple[Tuple[int, ...], np.ndarray]:
     return middles, np.fft.ifft(spectra, axis=-1)
 
 
+def long_correlation(samples: np.ndarray, over: int) -> np.ndarray:
+    """How much of the energy from each instant on is a long training symbol's, by the place in the band.
+
+    Parameters
+    ----------
+    samples : ndarray of complex, shape (antennas, instants)
+    over : int
+
+    Returns
+    -------
+    ndarray of float64, shape (places, instants)
+        In the unit of the samples' energy; the halves of 40 MHz are one place together, the middle is another one.
+    """
+    places, symbols = long_symbols(over)
+    symbols = symbols / np.sqrt(np.sum(np.abs(symbols) ** 2, axis=-1, keepdims=True))
+    found = np.array([sum(np.abs(np.correlate(row, symbol, "valid")) ** 2 for row in samples) for symbol in symbols])
+    return found if len(places) == 1 else np.stack((found[0] + found[1], found[2]))
+
+
 def _strongest(samples: np.ndarray, over: int) -> Optional[int]:
     """Where the first long symbol begins: the correlation of two symbols one behind the other is largest."""
     length = TRANSFORM * over
-    windows = np.lib.stride_tricks.sliding_window_view(samples, length, axis=-1)
-    energy = np.sum(np.abs(windows @ long_symbols(over)[1].conj().T) ** 2, axis=0)  # instant, place
-    if over == 2:
-        energy = np.stack((energy[:, 0] + energy[:, 1], energy[:, 2]), axis=-1)
-    both = (energy[:-length] + energy[length:]).max(axis=-1)
+    energy = long_correlation(samples, over)
+    both = (energy[:, :-length] + energy[:, length:]).max(axis=0)
     low, high = 100 * over, min(320 * over, both.size)
     if high <= low:
         return None
