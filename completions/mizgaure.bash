@@ -21,7 +21,7 @@ _mizgaure() {
       frames:-o | frames:--output | frames:--mcs | frames:--seed | frames:--aggregate) ;;
       sweep:--bandwidth) words='20 40' ;;
       sweep:--estimate) words='perfect ls' ;;
-      sweep:--radio | sweep:--mcs | sweep:--length | sweep:--antennas | sweep:--decay | sweep:--channel | sweep:--profile | sweep:--seed | sweep:--snr | sweep:--frames | sweep:--errors | sweep:--detector | sweep:--processes | sweep:--scheduler | sweep:--part | sweep:-o | sweep:--output | sweep:--picture | sweep:--csv | sweep:--json) ;;
+      sweep:--radio | sweep:--mcs | sweep:--length | sweep:--antennas | sweep:--decay | sweep:--channel | sweep:--profile | sweep:--seed | sweep:--snr | sweep:--frames | sweep:--errors | sweep:--chunk | sweep:--detector | sweep:--processes | sweep:--scheduler | sweep:--part | sweep:-o | sweep:--output | sweep:--picture | sweep:--csv | sweep:--json) ;;
       merge:-o | merge:--output | merge:--picture | merge:--csv | merge:--json) ;;
       picture:picture) words='constellation evm residual distances sweep spectrum preamble tracking' ;;
       picture:--radio | picture:--frame | picture:--answers) ;;
@@ -45,7 +45,7 @@ _mizgaure() {
             measure) words='--radio --force --answers --sent --octets --untracked --json --csv --help' ;;
             packets) words='--radio --force --answers --aggregated --output --csv --json --help' ;;
             frames) words='--force --output --bandwidth --mcs --seed --aggregate --fcs --help' ;;
-            sweep) words='--radio --force --bandwidth --mcs --length --antennas --decay --channel --profile --estimate --seed --snr --frames --errors --detector --processes --scheduler --part --output --resume --picture --csv --json --help' ;;
+            sweep) words='--radio --force --bandwidth --mcs --length --antennas --decay --channel --profile --estimate --seed --snr --frames --errors --chunk --detector --processes --scheduler --part --output --resume --picture --csv --json --help' ;;
             merge) words='--force --output --picture --csv --json --help' ;;
             picture) words='--radio --force --frame --answers --help' ;;
             report) words='--radio --force --output --theirs --pictures --title --help' ;;

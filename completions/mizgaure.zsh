@@ -133,10 +133,11 @@ case $command in
       '--snr[in dB, as 0\:20\:5 or 3,7.5,12]:snr:' \
       '--frames[frames of each point]:frames:' \
       '--errors[end a point once so many of its frames are in error]:errors:' \
+      '--chunk[frames that are done in one go]:n:' \
       '--detector[one more detector\: zero-forcing, a function as FILE.py\:NAME, or a command; may come again]:name=words:' \
       '--processes[how many share the work]:n:' \
       '--scheduler[let the workers of this scheduler of dask.distributed do it, as tcp\://HOST\:8786]:address:' \
-      '--part[do part K of N alone\: every N-th chunk of ten frames from the K-th on]:k/n:' \
+      '--part[do part K of N alone\: every N-th chunk from the K-th on]:k/n:' \
       {-o,--output}'[keep the outcome as JSON lines, as it comes]:file:_files' \
       '--resume[go on with what the output has of this sweep already]' \
       '--picture[draw it]:file:_files' \

@@ -106,6 +106,10 @@ def test_the_order_of_lines_makes_no_difference():
     assert len(found.jobs) > 5  # some came late
     with pytest.raises(LineError, match=f"line {len(lines) + 1} answers job 0 0 3 a second time"):
         judge(octets, Pieces(b"".join(lines) + lines[3]), reference=reference)
+    # A further answer among new ones, at once or late.
+    for text in (lines[:9] + [lines[4]] + lines[9:20], lines[:20] + [lines[560 - 1]] + lines[20:30] + [lines[4]], lines[:20] + [lines[559], lines[30], lines[30]]):
+        with pytest.raises(LineError, match="a second time"):
+            judge(octets, Pieces(b"".join(text), 60), reference=reference)
     with pytest.raises(InputError, match="there is an answer to frame 5, and the capture has 5 frames"):
         judge(octets, Pieces(b"job 5 0 0 1 1 1 1\n" + b"".join(lines)), reference=reference)
 
@@ -117,13 +121,13 @@ def stated_lines(jobs):
 
 
 class Pieces(io.RawIOBase):
-    """A stream that gives 10,000 octets at a time."""
+    """A stream that gives some octets at a time."""
 
-    def __init__(self, octets):
-        self.octets = io.BytesIO(octets)
+    def __init__(self, octets, size=10000):
+        self.octets, self.size = io.BytesIO(octets), size
 
     def read(self, count):
-        return self.octets.read(10000)
+        return self.octets.read(self.size)
 
 
 @pytest.mark.parametrize("rate, noise", [(Rate(20, 9), 300), (Rate(40, 18), 150), (Rate(20, 24), 300), (Rate(20, 3), 500)])
@@ -175,10 +179,12 @@ def test_octets_same_and_wrong():
         assert found.frames[0].verdict == "wrong" and found.frames[0].code is None and not found.is_clean
 
 
-def test_octets_as_near_are_a_tie():
-    """What is received lies half way between two codewords that one data bit sets apart.
+@pytest.mark.parametrize("flipped, verdict", [(5, "tie"), (4, "wrong")])
+def test_octets_as_near_are_a_tie(flipped, verdict):
+    """What is received lies half way between two codewords that one data bit sets apart, or a place nearer to the one sent.
 
-    Such codewords differ at ten places, the free distance of the code, so both are at distance 5 and none is nearer.
+    Such codewords differ at ten places, the free distance of the code, so both are at distance 5 and none is nearer, or
+    they are at 4 and 6, and no codeword is at a distance between, since all weights of the code are even.
     """
     rate, sent = Rate(20, 0), bytes.fromhex("123456")
     data = np.concatenate((np.zeros(16, np.uint8), np.unpackbits(np.frombuffer(sent, np.uint8), bitorder="little")))
@@ -186,7 +192,7 @@ def test_octets_as_near_are_a_tie():
     coded, other = encode(rate, inputs), encode(rate, inputs ^ (np.arange(46) == 16 + 9))
     apart = np.flatnonzero(coded != other)
     assert apart.size == 10
-    coded[apart[:5]] ^= 1
+    coded[apart[:flipped]] ^= 1
     carrier, _, _ = symbol_landing(rate)
     symbols = rate.symbols(3)
     labels = np.zeros((symbols, 52), int)
@@ -197,11 +203,11 @@ def test_octets_as_near_are_a_tie():
     frame.samples[:, ~rate.is_pilot, 0] = 10 * (2 * labels - 1)
     frame.samples[:, rate.is_pilot] = 10 * rate.pilot_signs(symbols)
     detected = b"".join(b"job 0 %d %d 0 %d 0\n" % (s, c, frame.samples[s, c, 0].real / 10) for s in range(symbols) for c in range(56))
-    reference = detected + b"frame 0 data 0 pilot 0 code 5 octets 123456\nend 1 frames\n"
+    reference = detected + b"frame 0 data 0 pilot 0 code %d octets 123456\nend 1 frames\n" % flipped
     verdicts = {octets: judge(octets_of([frame]), b"frame 0 octets " + octets, reference=reference).frames[0]
                 for octets in (b"123456", b"123656", b"123457")}
-    assert [v.verdict for v in verdicts.values()] == ["same", "tie", "wrong"]
-    assert verdicts[b"123656"].code == 5 and verdicts[b"123457"].code > 5
+    assert [v.verdict for v in verdicts.values()] == ["same", verdict, "wrong"]
+    assert verdicts[b"123656"].code == 10 - flipped and verdicts[b"123457"].code > 5
 
 
 @pytest.mark.parametrize("text, said", [

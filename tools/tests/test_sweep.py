@@ -8,7 +8,7 @@ from conftest import vectors
 
 from mizgaure import InputError, ProgramError, Radio, read_htsy
 from mizgaure.detectors import Detector
-from mizgaure.sweep import CHUNK, Journal, Setting, least_squares, merged, rayleigh, read_sweep, sweep
+from mizgaure.sweep import Journal, Setting, least_squares, merged, rayleigh, read_sweep, sweep
 
 SMALL = Setting(mcs=0, length=5, snr=(2.0, 8.0), frames=34, channel="awgn")
 
@@ -120,9 +120,9 @@ def test_a_point_ends_with_its_errors(radio):
     setting = Setting(mcs=7, length=20, snr=(0.0, 40.0), frames=40, channel="awgn", errors=12)
     one, two = sweep(setting, radio, 1), sweep(setting, radio, 3)
     assert one == two and one.missing() == 0
-    assert [one.frames(point) for point in (0, 1)] == [2 * CHUNK, 40] and [rates.frames.events for rates in one.rates] == [20, 0]
+    assert [one.frames(point) for point in (0, 1)] == [20, 40] and [rates.frames.events for rates in one.rates] == [20, 0]
     part = sweep(setting, radio, 1, part=(1, 2))  # its share is 6 errors
-    assert [part.frames(point) for point in (0, 1)] == [CHUNK, 20]
+    assert [part.frames(point) for point in (0, 1)] == [10, 20]
 
 
 def test_a_detector_beside_the_reference(radio):
@@ -159,7 +159,7 @@ def test_least_squares_are_off_by_the_noise():
         assert np.mean(errors) == pytest.approx(0.09 / count, rel=0.1)
 
 
-@pytest.mark.parametrize("changes", [{"frames": 0}, {"snr": ()}, {"length": 0}, {"mcs": 32}, {"estimate": "best"}, {"decay": -1.0}, {"errors": -1},
+@pytest.mark.parametrize("changes", [{"frames": 0}, {"snr": ()}, {"length": 0}, {"mcs": 32}, {"estimate": "best"}, {"decay": -1.0}, {"errors": -1}, {"chunk": 0},
                                      {"channel": "none"}, {"channel": "tapped"}])
 def test_settings_that_mean_nothing(changes, radio):
     with pytest.raises(InputError):

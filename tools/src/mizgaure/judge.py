@@ -531,9 +531,9 @@ class _Bench:
         size = frame.samples.shape[0] * carriers
         keys = jobs.symbol.astype(np.int64) * carriers + jobs.carrier
         seen = np.unpackbits(self.seen[number], count=size).astype(bool) if number in self.seen else np.zeros(size, bool)
-        again = seen[keys]
+        before, again = np.count_nonzero(seen), seen[keys]
         seen[keys] = True
-        if again.any() or np.count_nonzero(seen) < np.count_nonzero(again) + keys.size:
+        if np.count_nonzero(seen) - before < keys.size:
             again[np.setdiff1d(np.arange(keys.size), np.unique(keys, return_index=True)[1])] = True
             n = int(np.argmax(again))
             raise LineError(int(jobs.lines[n]), f"answers job {number} {jobs.symbol[n]} {jobs.carrier[n]} a second time")

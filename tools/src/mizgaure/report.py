@@ -198,6 +198,7 @@ th, td { padding: .35rem .7rem; text-align: left; border-bottom: 1px solid #eee;
 th { background: #f6f6f6; font-weight: 600; }
 tr:last-child td { border-bottom: 0; }
 td.number, th.number { text-align: right; }
+td.number { white-space: nowrap; }
 .good::before { content: "\\2713\\00a0"; } .good { color: #00664b; }
 .bad::before { content: "\\2717\\00a0"; } .bad { color: #a63c00; font-weight: 600; }
 .pictures { display: flex; flex-wrap: wrap; gap: .75rem; align-items: flex-start; }

@@ -40,12 +40,11 @@ from .rates import Rate, check_length
 from .tables import rate_columns
 from .workers import Workers
 
-__all__ = ["CHUNK", "ESTIMATES", "Chunk", "Journal", "Setting", "Sweep", "gaussian", "least_squares", "merged", "random_symbols", "rayleigh",
+__all__ = ["ESTIMATES", "Chunk", "Journal", "Setting", "Sweep", "gaussian", "least_squares", "merged", "random_symbols", "rayleigh",
            "read_sweep", "received_frame", "sweep"]
 
 TRAINING = np.array([[1, -1, 1, 1], [1, 1, -1, 1], [1, 1, 1, -1], [-1, 1, 1, 1]])
 ESTIMATES = ("perfect", "ls")
-CHUNK = 10  # frames of one run of the program
 BY_FRAME = ("bits", "symbols", "octet_bits")  # the rates that are kept with how many frames had how many errors
 NAMES = {"ser": "symbols", "ber": "bits", "octet_ber": "octet_bits", "per": "frames"}  # of rates in tables
 COLUMNS = ("detector", "snr", *(f"{name}{end}" for name in NAMES for end in ("", "_low", "_high", "_errors", "_trials")))
@@ -76,6 +75,8 @@ class Setting:
         The delays in ns and powers in dB of the channel ``tapped``.
     errors : int
         A point ends behind the chunk that brings its frames with errors to this number; 0 is never.
+    chunk : int
+        The frames that are done in one go: of one run of the program, one task of a worker, and one line of what is kept.
     """
 
     bandwidth: int = 20
@@ -90,6 +91,7 @@ class Setting:
     channel: str = "exponential"
     profile: Profile = ()
     errors: int = 0
+    chunk: int = 10
 
     def check(self) -> None:
         """Refuse a setting that means nothing.
@@ -104,6 +106,8 @@ class Setting:
             raise InputError("a sweep needs a signal-to-noise ratio")
         if self.frames < 1:
             raise InputError(f"a sweep needs a frame at each point, and not {self.frames}")
+        if self.chunk < 1:
+            raise InputError(f"a chunk has a frame at least, and not {self.chunk}")
         if self.antennas < 0 or not (np.isfinite(self.decay) and self.decay >= 0) or self.seed < 0 or self.errors < 0:
             raise InputError("the antennas, the decay, the seed and the errors of a sweep are 0 or more")
         check_channel(self.channel, self.profile)
@@ -458,8 +462,8 @@ class _Run:
                  point_done: Optional[Callable[[Sweep, int], None]]) -> None:
         self.done, self.path, self.texts, self.journal, self.progress, self.point_done = done, path, texts, journal, progress, point_done
         number, count = done.part
-        snr, frames = range(len(done.setting.snr)), done.setting.frames
-        chunks = [(point, first, min(CHUNK, frames - first)) for point in snr for first in range(0, frames, CHUNK)][number - 1 :: count]
+        snr, frames, size = range(len(done.setting.snr)), done.setting.frames, done.setting.chunk
+        chunks = [(point, first, min(size, frames - first)) for point in snr for first in range(0, frames, size)][number - 1 :: count]
         known = {(chunk.point, chunk.first) for chunk in done.chunks}
         self.left = [chunk for chunk in chunks if chunk[:2] not in known]
         self.total = sum(size for _, _, size in chunks)

@@ -168,7 +168,7 @@ def write_tables(given: argparse.Namespace, records: Iterable[Dict[str, Any]], c
 def setting_of(given: argparse.Namespace, frames: int) -> Setting:
     """The setting that these options give."""
     setting = Setting(given.bandwidth, given.mcs, given.length, given.snr, frames, given.antennas, given.decay, given.estimate, given.seed,
-                      given.channel, given.profile, getattr(given, "errors", 0))
+                      given.channel, given.profile, getattr(given, "errors", 0), getattr(given, "chunk", 1))
     setting.check()
     return setting
 

@@ -21,10 +21,11 @@ def words(command: argparse.ArgumentParser) -> None:
     command.add_argument("--snr", type=ratios, default=setting.snr, help="in dB, as 0:20:5 or 3,7.5,12 (default 0:20:5)")
     command.add_argument("--frames", type=whole, default=setting.frames, help="frames of each point (default 50)")
     command.add_argument("--errors", type=whole, default=setting.errors, help="end a point once so many of its frames are in error (default: never)")
+    command.add_argument("--chunk", metavar="N", type=whole, default=setting.chunk, help="frames that are done in one go (default 10)")
     command.add_argument("--detector", metavar="NAME=WORDS", action="append", default=[],
                          help="one more detector: zero-forcing, a function as FILE.py:NAME, or a command; may come again")
     add_workers(command)
-    add_part(command, "every N-th chunk of ten frames from the K-th on")
+    add_part(command, "every N-th chunk from the K-th on")
     command.add_argument("-o", "--output", metavar="FILE", help="keep the outcome as JSON lines, as it comes")
     command.add_argument("--resume", action="store_true", help="go on with what the output has of this sweep already")
     command.add_argument("--picture", metavar="FILE", help="draw it (.png, .svg, .pdf)")
