@@ -2,7 +2,7 @@
 _mizgaure() {
   local word=${COMP_WORDS[COMP_CWORD]} before=${COMP_WORDS[COMP_CWORD-1]} words=''
   if [ "$COMP_CWORD" -eq 1 ]; then
-    words='judge check capture example show answers measure packets frames sweep merge picture report zero-forcing --help --version'
+    words='judge check capture example show answers measure packets frames sweep merge picture report zero-forcing waveform record receive --help --version'
   else
     case ${COMP_WORDS[1]}:$before in
       judge:--radio | judge:--reference | judge:--json | judge:--list) ;;
@@ -23,9 +23,16 @@ _mizgaure() {
       sweep:--estimate) words='perfect ls' ;;
       sweep:--radio | sweep:--mcs | sweep:--length | sweep:--antennas | sweep:--decay | sweep:--channel | sweep:--profile | sweep:--seed | sweep:--snr | sweep:--frames | sweep:--errors | sweep:--chunk | sweep:--detector | sweep:--processes | sweep:--scheduler | sweep:--part | sweep:-o | sweep:--output | sweep:--picture | sweep:--csv | sweep:--json) ;;
       merge:-o | merge:--output | merge:--picture | merge:--csv | merge:--json) ;;
-      picture:picture) words='constellation evm residual distances sweep' ;;
+      picture:picture) words='constellation evm residual distances sweep spectrum preamble tracking' ;;
       picture:--radio | picture:--frame | picture:--answers) ;;
       report:--radio | report:-o | report:--output | report:--theirs | report:--pictures | report:--title) ;;
+      waveform:--datatype) words='cf32_le ci16_le' ;;
+      waveform:--guard) words='long short' ;;
+      waveform:-o | waveform:--output | waveform:--antennas | waveform:--spread | waveform:--offset | waveform:--frequency | waveform:--snr | waveform:--gap | waveform:--seed) ;;
+      record:--datatype) words='cf32_be cf32_le ci16_be ci16_le ci8 cu8' ;;
+      record:--sample-rate | record:--channels | record:-o | record:--output | record:--csv | record:--json) ;;
+      receive:--datatype) words='cf32_be cf32_le ci16_be ci16_le ci8 cu8' ;;
+      receive:--radio | receive:--sample-rate | receive:--channels | receive:-o | receive:--output) ;;
       *)
         if [[ $word == -* ]]; then
           case ${COMP_WORDS[1]} in
@@ -43,6 +50,9 @@ _mizgaure() {
             picture) words='--radio --force --frame --answers --help' ;;
             report) words='--radio --force --output --theirs --pictures --title --help' ;;
             zero-forcing) words='--help' ;;
+            waveform) words='--force --output --datatype --raw --guard --aggregated --antennas --spread --offset --frequency --snr --gap --seed --help' ;;
+            record) words='--force --datatype --sample-rate --channels --output --csv --json --help' ;;
+            receive) words='--radio --force --datatype --sample-rate --channels --output --help' ;;
           esac
         fi
         ;;

@@ -13,9 +13,12 @@ commands=(
   'frames:make a file of frames (HTTX) from MPDUs, as hexadecimal lines or a pcap file'
   'sweep:find error rates over the signal-to-noise ratio, over random channels'
   'merge:put the parts of a sweep together'
-  'picture:draw a frame of a capture, or a sweep'
+  'picture:draw a frame of a capture, a sweep, or a recording'
   'report:write a page on captures: frames, packets, measures, pictures'
   'zero-forcing:answer a capture by a zero-forcing detector, as an example of another receiver'
+  'waveform:write the packets of a file of symbols as a recording of complex samples'
+  'record:make a capture of the packets of a recording'
+  'receive:receive the packets of a recording to their octets'
 )
 if (( CURRENT == 2 )); then
   _describe command commands
@@ -157,7 +160,7 @@ case $command in
       '--frame[the frame to draw]:frame:' \
       '--answers[kept lines of radio detect, in place of running it]:lines:_files' \
       '--help[say more]' \
-      '1:kind:(constellation evm residual distances sweep)' \
+      '1:kind:(constellation evm residual distances sweep spectrum preamble tracking)' \
       '2:file:_files' \
       '3:picture:_files' ;;
   report)
@@ -174,4 +177,42 @@ case $command in
     _arguments \
       '--help[say more]' \
       '1:capture:_files' ;;
+  waveform)
+    _arguments \
+      '--force[overwrite a file that is there already]' \
+      {-o,--output}'[the name of a SigMF recording (a .sigmf-meta and a .sigmf-data), or with --raw of a file of samples]:recording:_files' \
+      '--datatype[of the samples]:datatype:(cf32_le ci16_le)' \
+      '--raw[write the samples alone]' \
+      '--guard[the guard interval of data symbols]:guard:(long short)' \
+      '--aggregated[say in HT-SIG that the octets are an A-MPDU]' \
+      '--antennas[receive antennas]:antennas:' \
+      '--spread[the delay spread in nanoseconds; 0, the default, wires antennas to streams]:ns:' \
+      '--offset[of the oscillators, in parts per million]:ppm:' \
+      '--frequency[of the carrier]:hz:' \
+      '--snr[in dB, or none for no noise]:snr:' \
+      '--gap[the silence between packets in microseconds]:us:' \
+      '--seed[of the random numbers]:seed:' \
+      '--help[say more]' \
+      '1:symbols:_files' ;;
+  record)
+    _arguments \
+      '--force[overwrite a file that is there already]' \
+      '--datatype[the file has samples of this type alone, and isn'\''t SigMF]:datatype:(cf32_be cf32_le ci16_be ci16_le ci8 cu8)' \
+      '--sample-rate[samples a second of a file of samples]:rate:' \
+      '--channels[antennas of a file of samples]:channels:' \
+      {-o,--output}'[the capture (HTCP) to write; - is standard output]:file:_files' \
+      '--csv[write a table as CSV]:file:_files' \
+      '--json[write the same records as JSON lines]:file:_files' \
+      '--help[say more]' \
+      '1:recording:_files' ;;
+  receive)
+    _arguments \
+      '--radio[the program radio]:program:_files' \
+      '--force[overwrite a file that is there already]' \
+      '--datatype[the file has samples of this type alone, and isn'\''t SigMF]:datatype:(cf32_be cf32_le ci16_be ci16_le ci8 cu8)' \
+      '--sample-rate[samples a second of a file of samples]:rate:' \
+      '--channels[antennas of a file of samples]:channels:' \
+      {-o,--output}'[write the MPDUs with radiotap headers (pcap), as Wireshark reads them]:file:_files' \
+      '--help[say more]' \
+      '1:recording:_files' ;;
 esac

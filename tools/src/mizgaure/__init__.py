@@ -17,6 +17,7 @@ What is here:
 ``chain``          from octets to coded bits and where they land, to tell a tie of frames from an error
 ``judge``          another receiver's answers beside the reference
 ``sweep``          error rates against the signal-to-noise ratio, over random channels
+``air``            packets as complex samples: waveforms, and packets of recordings, in a package of its own
 ``packets``        MPDUs, A-MPDUs, MAC headers, and pcap files for Wireshark
 ``pictures``       all of this drawn; needs matplotlib
 =================  =====================================================================================

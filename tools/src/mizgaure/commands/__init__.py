@@ -8,6 +8,7 @@ last, and the tests say what is missing.
 from typing import Tuple
 
 from . import answers, capture, check, example, frames, judge, measure, merge, packets, picture, report, show, sweep, zero_forcing
+from . import receive, record, waveform
 from .base import Command
 
 MODULES = (
@@ -25,6 +26,9 @@ MODULES = (
     picture,
     report,
     zero_forcing,
+    waveform,
+    record,
+    receive,
 )
 COMMANDS: Tuple[Command, ...] = tuple(module.COMMAND for module in MODULES)
 

@@ -1,4 +1,4 @@
-"""``mizgaure picture``: a frame of a capture, or a sweep, drawn."""
+"""``mizgaure picture``: a frame of a capture, a sweep, or a recording, drawn."""
 
 from __future__ import annotations
 
@@ -9,6 +9,9 @@ from itertools import islice
 from typing import Tuple
 
 from .. import pictures
+from ..air import pictures as air_pictures
+from ..air.recording import name_of as name_of_recording
+from ..air.recording import open_recording
 from ..answers import Jobs
 from ..errors import InputError
 from ..files import naming, refuse_overwriting
@@ -22,8 +25,9 @@ KINDS = {"constellation": pictures.constellation, "evm": pictures.evm_over_subca
 
 
 def words(command: argparse.ArgumentParser) -> None:
-    command.add_argument("kind", metavar="KIND", choices=(*KINDS, "sweep"), help="constellation, evm, residual, distances or sweep")
-    command.add_argument("file", metavar="FILE", help="a capture, or for sweep what mizgaure sweep kept")
+    command.add_argument("kind", metavar="KIND", choices=(*KINDS, "sweep", *air_pictures.KINDS),
+                         help="constellation, evm, residual, distances, sweep, spectrum, preamble or tracking")
+    command.add_argument("file", metavar="FILE", help="a capture, for sweep what mizgaure sweep kept, for the last three a recording")
     command.add_argument("output", metavar="PICTURE", help="ending in .png, .svg or .pdf")
     command.add_argument("--frame", type=whole, default=0, help="the frame to draw (default 0)")
     command.add_argument("--answers", metavar="LINES", help="kept lines of radio detect, in place of running it")
@@ -36,6 +40,11 @@ def run(given: argparse.Namespace) -> None:
         with naming(given.file):
             kept: Sweep = read_sweep(given.file)
         pictures.save(pictures.error_curves(kept, name_of(given.file)), given.output, given.force)
+        return
+    if given.kind in air_pictures.KINDS:
+        with open_recording(given.file) as recording:
+            drawn = air_pictures.KINDS[given.kind](recording, given.frame, name_of_recording(given.file))
+        pictures.save(drawn, given.output, given.force)
         return
     frame, jobs = _one_frame(given)
     name = name_of(given.file) + (f", frame {given.frame}" if given.frame else "")
@@ -59,4 +68,4 @@ def _one_frame(given: argparse.Namespace) -> Tuple[CaptureFrame, Jobs]:
     return frame, replace(jobs, frame=given.frame)
 
 
-COMMAND = Command("picture", "draw a frame of a capture, or a sweep", words, run, radio=True, writes=True)
+COMMAND = Command("picture", "draw a frame of a capture, a sweep, or a recording", words, run, radio=True, writes=True)
