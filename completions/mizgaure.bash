@@ -1,32 +1,60 @@
-# Completion of mizgaure for bash.
+# Completion of mizgaure for bash, written by completions/make.
 _mizgaure() {
   local word=${COMP_WORDS[COMP_CWORD]} before=${COMP_WORDS[COMP_CWORD-1]} words=''
-  local setting='--bandwidth --mcs --length --snr --antennas --decay --estimate --seed'
   if [ "$COMP_CWORD" -eq 1 ]; then
-    words='judge capture example show answers measure sweep picture zero-forcing --help --version'
+    words='judge check capture example show answers measure packets frames sweep merge picture report zero-forcing waveform record receive --help --version'
   else
-    case $before in
-      --estimate) words='perfect ls' ;;
-      --bandwidth) words='20 40' ;;
-      --format) words='1 2' ;;
-      --command) words='detect rx' ;;
-      picture) words='constellation evm distances sweep' ;;
-      --output | -o | --reference | --json | --sent | --octets | --answers | --picture | --radio) ;;
+    case ${COMP_WORDS[1]}:$before in
+      judge:--radio | judge:--reference | judge:--json | judge:--list) ;;
+      capture:--format) words='1 2' ;;
+      capture:-o | capture:--output | capture:--gain) ;;
+      example:--bandwidth) words='20 40' ;;
+      example:--estimate) words='perfect ls' ;;
+      example:--mcs | example:--length | example:--antennas | example:--decay | example:--channel | example:--profile | example:--seed | example:--snr | example:-o | example:--output | example:--sent) ;;
+      answers:--command) words='detect rx' ;;
+      answers:--radio | answers:-o | answers:--output | answers:--processes | answers:--scheduler | answers:--part) ;;
+      measure:--radio | measure:--answers | measure:--sent | measure:--octets | measure:--json | measure:--csv) ;;
+      packets:--aggregated) words='yes no guess' ;;
+      packets:--radio | packets:--answers | packets:-o | packets:--output | packets:--csv | packets:--json) ;;
+      frames:--bandwidth) words='20 40' ;;
+      frames:--fcs) words='add there keep' ;;
+      frames:-o | frames:--output | frames:--mcs | frames:--seed | frames:--aggregate) ;;
+      sweep:--bandwidth) words='20 40' ;;
+      sweep:--estimate) words='perfect ls' ;;
+      sweep:--radio | sweep:--mcs | sweep:--length | sweep:--antennas | sweep:--decay | sweep:--channel | sweep:--profile | sweep:--seed | sweep:--snr | sweep:--frames | sweep:--errors | sweep:--chunk | sweep:--detector | sweep:--processes | sweep:--scheduler | sweep:--part | sweep:-o | sweep:--output | sweep:--picture | sweep:--csv | sweep:--json) ;;
+      merge:-o | merge:--output | merge:--picture | merge:--csv | merge:--json) ;;
+      picture:picture) words='constellation evm residual distances sweep spectrum preamble tracking' ;;
+      picture:--radio | picture:--frame | picture:--answers) ;;
+      report:--radio | report:-o | report:--output | report:--theirs | report:--pictures | report:--title) ;;
+      waveform:--datatype) words='cf32_le ci16_le' ;;
+      waveform:--guard) words='long short' ;;
+      waveform:-o | waveform:--output | waveform:--antennas | waveform:--spread | waveform:--offset | waveform:--frequency | waveform:--snr | waveform:--gap | waveform:--seed) ;;
+      record:--datatype) words='cf32_be cf32_le ci16_be ci16_le ci8 cu8' ;;
+      record:--sample-rate | record:--channels | record:-o | record:--output | record:--csv | record:--json) ;;
+      receive:--datatype) words='cf32_be cf32_le ci16_be ci16_le ci8 cu8' ;;
+      receive:--radio | receive:--sample-rate | receive:--channels | receive:-o | receive:--output) ;;
       *)
-        case $word in
-          -*)
-            case ${COMP_WORDS[1]} in
-              judge) words='--radio --force --reference --json --list --complete' ;;
-              capture) words='--force --output --gain --format' ;;
-              example) words="--force $setting --output --sent" ;;
-              answers) words='--radio --force --command --output' ;;
-              measure) words='--radio --force --answers --sent --octets --json' ;;
-              sweep) words="--radio --force $setting --frames --processes --output --picture" ;;
-              picture) words='--radio --force --frame --answers' ;;
-            esac
-            words="$words --help"
-            ;;
-        esac
+        if [[ $word == -* ]]; then
+          case ${COMP_WORDS[1]} in
+            judge) words='--radio --force --reference --json --list --complete --help' ;;
+            check) words='--help' ;;
+            capture) words='--force --output --gain --format --help' ;;
+            example) words='--force --bandwidth --mcs --length --antennas --decay --channel --profile --estimate --seed --snr --output --sent --help' ;;
+            show) words='--help' ;;
+            answers) words='--radio --force --command --output --processes --scheduler --part --help' ;;
+            measure) words='--radio --force --answers --sent --octets --untracked --json --csv --help' ;;
+            packets) words='--radio --force --answers --aggregated --output --csv --json --help' ;;
+            frames) words='--force --output --bandwidth --mcs --seed --aggregate --fcs --help' ;;
+            sweep) words='--radio --force --bandwidth --mcs --length --antennas --decay --channel --profile --estimate --seed --snr --frames --errors --chunk --detector --processes --scheduler --part --output --resume --picture --csv --json --help' ;;
+            merge) words='--force --output --picture --csv --json --help' ;;
+            picture) words='--radio --force --frame --answers --help' ;;
+            report) words='--radio --force --output --theirs --pictures --title --help' ;;
+            zero-forcing) words='--help' ;;
+            waveform) words='--force --output --datatype --raw --guard --aggregated --antennas --spread --offset --frequency --snr --gap --seed --help' ;;
+            record) words='--force --datatype --sample-rate --channels --output --csv --json --help' ;;
+            receive) words='--radio --force --datatype --sample-rate --channels --output --help' ;;
+          esac
+        fi
         ;;
     esac
   fi

@@ -1,25 +1,25 @@
 #compdef mizgaure
-# Completion of mizgaure for zsh.
-local -a commands setting running writing
+# Completion of mizgaure for zsh, written by completions/make.
+local -a commands
 commands=(
-  "judge:judge another receiver's answers to a capture"
-  'capture:make a capture from floating point'
-  'example:make a frame behind a random channel'
-  'show:say what a file holds, or where it is at fault'
-  'answers:run radio on a capture and keep its answers'
+  'judge:judge another receiver'\''s answers to a capture'
+  'check:judge certificates of detection, by a checker that shares nothing with radio'
+  'capture:make a capture from channels and received vectors in floating point'
+  'example:make a frame behind a random channel, to try capture on'
+  'show:say what a file (HTCP, HTTX, HTSY) holds, or where it is at fault'
+  'answers:run radio on a capture, with a progress bar, and keep its answers'
   'measure:measure error vector magnitude and error rates'
-  'sweep:find error rates over the signal-to-noise ratio'
-  'picture:draw a frame of a capture, or a sweep'
-  'zero-forcing:answer a capture by a zero-forcing detector'
+  'packets:say what MPDUs the frames of a capture carry, and write them for Wireshark'
+  'frames:make a file of frames (HTTX) from MPDUs, as hexadecimal lines or a pcap file'
+  'sweep:find error rates over the signal-to-noise ratio, over random channels'
+  'merge:put the parts of a sweep together'
+  'picture:draw a frame of a capture, a sweep, or a recording'
+  'report:write a page on captures: frames, packets, measures, pictures'
+  'zero-forcing:answer a capture by a zero-forcing detector, as an example of another receiver'
+  'waveform:write the packets of a file of symbols as a recording of complex samples'
+  'record:make a capture of the packets of a recording'
+  'receive:receive the packets of a recording to their octets'
 )
-setting=(
-  '--bandwidth[in MHz]:bandwidth:(20 40)' '--mcs[0 to 31]:MCS:' '--length[octets of a frame]:length:' '--snr[in dB]:ratios:'
-  '--antennas[receive antennas]:antennas:' '--decay[of the taps, in samples]:samples:'
-  '--estimate[what is known of the channel]:estimate:(perfect ls)' '--seed[of the random numbers]:seed:'
-)
-running=('--radio[the program radio]:program:_files')
-writing=('--force[overwrite a file that is there already]')
-
 if (( CURRENT == 2 )); then
   _describe command commands
   _arguments '--help[say more]' '--version[say the version]'
@@ -30,21 +30,189 @@ shift words
 (( CURRENT-- ))
 case $command in
   judge)
-    _arguments $running $writing '--reference[kept lines of radio]:lines:_files' '--json[write all verdicts]:file:_files' \
-      '--list[how many of the worst jobs]:number:' '--complete[ask for all answers]' '1:capture:_files' '2:answers:_files' ;;
+    _arguments \
+      '--radio[the program radio]:program:_files' \
+      '--force[overwrite a file that is there already]' \
+      '--reference[kept lines of radio detect and radio rx, in place of running it]:lines:_files' \
+      '--json[write all verdicts as JSON lines]:file:_files' \
+      '--list[print at most N of the worst jobs]:n:' \
+      '--complete[end with status 1 also where a job has no answer]' \
+      '--help[say more]' \
+      '1:capture:_files' \
+      '2:answers:_files' ;;
+  check)
+    _arguments \
+      '--help[say more]' \
+      '1:file:_files' ;;
   capture)
-    _arguments $writing {-o,--output}'[the capture]:file:_files' '--gain[before rounding]:gain:' '--format[version]:version:(1 2)' '*:frame:_files' ;;
-  example) _arguments $writing $setting {-o,--output}'[the frame]:file:_files' '--sent[what was sent]:file:_files' ;;
-  show) _arguments '1:file:_files' ;;
-  answers) _arguments $running $writing '--command[what radio does]:command:(detect rx)' {-o,--output}'[where to write]:file:_files' '1:capture:_files' ;;
+    _arguments \
+      '--force[overwrite a file that is there already]' \
+      {-o,--output}'[the capture (HTCP) to write; - is standard output]:file:_files' \
+      '--gain[what to multiply with before rounding]:gain:' \
+      '--format[the version of the capture]:format:(1 2)' \
+      '--help[say more]' \
+      '*:frame:_files' ;;
+  example)
+    _arguments \
+      '--force[overwrite a file that is there already]' \
+      '--bandwidth[in MHz]:bandwidth:(20 40)' \
+      '--mcs[0 to 31]:mcs:' \
+      '--length[octets of a frame]:length:' \
+      '--antennas[receive antennas]:antennas:' \
+      '--decay[samples by which the taps'\'' power falls by e]:decay:' \
+      '--channel[exponential, flat, tapped, tgn-b, tgn-d, awgn, or a function as FILE.py\:NAME]:channel:' \
+      '--profile[of the channel tapped, as 0\:0,50\:-3,110\:-7.5]:ns:db,:' \
+      '--estimate[what the receiver knows of the channel]:estimate:(perfect ls)' \
+      '--seed[of the random numbers]:seed:' \
+      '--snr[in dB]:snr:' \
+      {-o,--output}'[the frame to write, as capture reads it]:frame:_files' \
+      '--sent[write what was sent as a file of symbols (HTSY)]:file:_files' \
+      '--help[say more]' ;;
+  show)
+    _arguments \
+      '--help[say more]' \
+      '1:file:_files' ;;
+  answers)
+    _arguments \
+      '--radio[the program radio]:program:_files' \
+      '--force[overwrite a file that is there already]' \
+      '--command[what radio does]:command:(detect rx)' \
+      {-o,--output}'[where to write; arrays where it ends in .npz, lines otherwise]:file:_files' \
+      '--processes[how many share the work]:n:' \
+      '--scheduler[let the workers of this scheduler of dask.distributed do it, as tcp\://HOST\:8786]:address:' \
+      '--part[do part K of N alone\: of the frames, in a row; the parts'\'' lines one behind the other are those of all]:k/n:' \
+      '--help[say more]' \
+      '1:capture:_files' ;;
   measure)
-    _arguments $running $writing '--answers[kept lines of radio]:lines:_files' '--sent[frames or symbols]:file:_files' \
-      '--octets[octets of all frames]:file:_files' '--json[write the measures]:file:_files' '1:capture:_files' ;;
+    _arguments \
+      '--radio[the program radio]:program:_files' \
+      '--force[overwrite a file that is there already]' \
+      '--answers[kept lines of radio detect and radio rx, in place of running it; once for each capture]:lines:_files' \
+      '--sent[what was sent\: a file of frames (HTTX) or of symbols (HTSY); once for each capture]:file:_files' \
+      '--octets[what was sent\: the octets of all frames, one behind the other; once for each capture]:file:_files' \
+      '--untracked[leave the phase of each symbol where it is, where pilots have other signs]' \
+      '--json[write the measures as JSON lines]:file:_files' \
+      '--csv[write the measures as a table, a row a frame]:file:_files' \
+      '--help[say more]' \
+      '*:capture:_files' ;;
+  packets)
+    _arguments \
+      '--radio[the program radio]:program:_files' \
+      '--force[overwrite a file that is there already]' \
+      '--answers[kept lines of radio rx, in place of running it]:lines:_files' \
+      '--aggregated[whether the frames are A-MPDUs]:aggregated:(yes no guess)' \
+      {-o,--output}'[write the MPDUs with radiotap headers, as Wireshark reads them]:file:_files' \
+      '--csv[write a table as CSV]:file:_files' \
+      '--json[write the same records as JSON lines]:file:_files' \
+      '--help[say more]' \
+      '1:capture:_files' ;;
+  frames)
+    _arguments \
+      '--force[overwrite a file that is there already]' \
+      {-o,--output}'[the file of frames (HTTX) to write; - is standard output]:file:_files' \
+      '--bandwidth[in MHz]:bandwidth:(20 40)' \
+      '--mcs[0 to 31]:mcs:' \
+      '--seed[of the scrambler, 1 to 127]:seed:' \
+      '--aggregate[put N MPDUs in a row into an A-MPDU]:n:' \
+      '--fcs[of hexadecimal lines\: add it, see that it is there and right, or keep what is there]:fcs:(add there keep)' \
+      '--help[say more]' \
+      '1:file:_files' ;;
   sweep)
-    _arguments $running $writing $setting '--frames[of each point]:frames:' '--processes[how many]:processes:' \
-      {-o,--output}'[the outcome]:file:_files' '--picture[draw it]:file:_files' ;;
+    _arguments \
+      '--radio[the program radio]:program:_files' \
+      '--force[overwrite a file that is there already]' \
+      '--bandwidth[in MHz]:bandwidth:(20 40)' \
+      '--mcs[0 to 31]:mcs:' \
+      '--length[octets of a frame]:length:' \
+      '--antennas[receive antennas]:antennas:' \
+      '--decay[samples by which the taps'\'' power falls by e]:decay:' \
+      '--channel[exponential, flat, tapped, tgn-b, tgn-d, awgn, or a function as FILE.py\:NAME]:channel:' \
+      '--profile[of the channel tapped, as 0\:0,50\:-3,110\:-7.5]:ns:db,:' \
+      '--estimate[what the receiver knows of the channel]:estimate:(perfect ls)' \
+      '--seed[of the random numbers]:seed:' \
+      '--snr[in dB, as 0\:20\:5 or 3,7.5,12]:snr:' \
+      '--frames[frames of each point]:frames:' \
+      '--errors[end a point once so many of its frames are in error]:errors:' \
+      '--chunk[frames that are done in one go]:n:' \
+      '--detector[one more detector\: zero-forcing, a function as FILE.py\:NAME, or a command; may come again]:name=words:' \
+      '--processes[how many share the work]:n:' \
+      '--scheduler[let the workers of this scheduler of dask.distributed do it, as tcp\://HOST\:8786]:address:' \
+      '--part[do part K of N alone\: every N-th chunk from the K-th on]:k/n:' \
+      {-o,--output}'[keep the outcome as JSON lines, as it comes]:file:_files' \
+      '--resume[go on with what the output has of this sweep already]' \
+      '--picture[draw it]:file:_files' \
+      '--csv[write a table as CSV]:file:_files' \
+      '--json[write the same records as JSON lines]:file:_files' \
+      '--help[say more]' ;;
+  merge)
+    _arguments \
+      '--force[overwrite a file that is there already]' \
+      {-o,--output}'[keep the whole as JSON lines]:file:_files' \
+      '--picture[draw it]:file:_files' \
+      '--csv[write a table as CSV]:file:_files' \
+      '--json[write the same records as JSON lines]:file:_files' \
+      '--help[say more]' \
+      '*:file:_files' ;;
   picture)
-    _arguments $running $writing '--frame[the frame to draw]:frame:' '--answers[kept lines of radio]:lines:_files' \
-      '1:kind:(constellation evm distances sweep)' '2:file:_files' '3:picture:_files' ;;
-  zero-forcing) _arguments '1:capture:_files' ;;
+    _arguments \
+      '--radio[the program radio]:program:_files' \
+      '--force[overwrite a file that is there already]' \
+      '--frame[the frame to draw]:frame:' \
+      '--answers[kept lines of radio detect, in place of running it]:lines:_files' \
+      '--help[say more]' \
+      '1:kind:(constellation evm residual distances sweep spectrum preamble tracking)' \
+      '2:file:_files' \
+      '3:picture:_files' ;;
+  report)
+    _arguments \
+      '--radio[the program radio]:program:_files' \
+      '--force[overwrite a file that is there already]' \
+      {-o,--output}'[the page (HTML) to write; it has its pictures inside]:file:_files' \
+      '--theirs[another receiver'\''s answers, as judge reads them; once for each capture]:lines:_files' \
+      '--pictures[draw the first N frames of each capture]:n:' \
+      '--title[the page'\''s title]:text:' \
+      '--help[say more]' \
+      '*:capture:_files' ;;
+  zero-forcing)
+    _arguments \
+      '--help[say more]' \
+      '1:capture:_files' ;;
+  waveform)
+    _arguments \
+      '--force[overwrite a file that is there already]' \
+      {-o,--output}'[the name of a SigMF recording (a .sigmf-meta and a .sigmf-data), or with --raw of a file of samples]:recording:_files' \
+      '--datatype[of the samples]:datatype:(cf32_le ci16_le)' \
+      '--raw[write the samples alone]' \
+      '--guard[the guard interval of data symbols]:guard:(long short)' \
+      '--aggregated[say in HT-SIG that the octets are an A-MPDU]' \
+      '--antennas[receive antennas]:antennas:' \
+      '--spread[the delay spread in nanoseconds; 0, the default, wires antennas to streams]:ns:' \
+      '--offset[of the oscillators, in parts per million]:ppm:' \
+      '--frequency[of the carrier]:hz:' \
+      '--snr[in dB, or none for no noise]:snr:' \
+      '--gap[the silence between packets in microseconds]:us:' \
+      '--seed[of the random numbers]:seed:' \
+      '--help[say more]' \
+      '1:symbols:_files' ;;
+  record)
+    _arguments \
+      '--force[overwrite a file that is there already]' \
+      '--datatype[the file has samples of this type alone, and isn'\''t SigMF]:datatype:(cf32_be cf32_le ci16_be ci16_le ci8 cu8)' \
+      '--sample-rate[samples a second of a file of samples]:rate:' \
+      '--channels[antennas of a file of samples]:channels:' \
+      {-o,--output}'[the capture (HTCP) to write; - is standard output]:file:_files' \
+      '--csv[write a table as CSV]:file:_files' \
+      '--json[write the same records as JSON lines]:file:_files' \
+      '--help[say more]' \
+      '1:recording:_files' ;;
+  receive)
+    _arguments \
+      '--radio[the program radio]:program:_files' \
+      '--force[overwrite a file that is there already]' \
+      '--datatype[the file has samples of this type alone, and isn'\''t SigMF]:datatype:(cf32_be cf32_le ci16_be ci16_le ci8 cu8)' \
+      '--sample-rate[samples a second of a file of samples]:rate:' \
+      '--channels[antennas of a file of samples]:channels:' \
+      {-o,--output}'[write the MPDUs with radiotap headers (pcap), as Wireshark reads them]:file:_files' \
+      '--help[say more]' \
+      '1:recording:_files' ;;
 esac

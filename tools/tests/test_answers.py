@@ -66,7 +66,7 @@ def test_a_line_that_is_none(line):
 
 
 def test_the_program_is_run(radio):
-    path = vectors(".htcp")[0].values[0]
+    path = vectors(".detect")[0].values[0].with_suffix(".htcp")
     (jobs,) = radio.detect(path)
     (kept,) = read_answers(path.with_suffix(".detect"))
     assert np.array_equal(jobs.points, kept.points) and np.array_equal(jobs.distance, kept.distance)

@@ -30,7 +30,8 @@ def test_the_python_of_the_page_runs_as_it_stands(radio, tmp_path, monkeypatch, 
     monkeypatch.setenv("MIZGAURE_RADIO", radio.path)
     exec(block, {"H": frame.channel, "Y": frame.received})
     assert (tmp_path / "made.png").stat().st_size > 10000 and (tmp_path / "made.htcp").exists()
-    assert re.fullmatch(r"gain \d+, roots of distances off by at most 7\.6\nerror vector magnitude [3-7]\.\d %\n", capsys.readouterr().out)
+    said = capsys.readouterr().out
+    assert re.fullmatch(r"gain \d+, roots of distances off by at most 7\.6\nerror vector magnitude \d\d\.\d %, residuals [3-7]\.\d %\n", said)
 
 
 def test_the_shell_of_the_pages(command):
@@ -41,12 +42,14 @@ def test_the_shell_of_the_pages(command):
     assert re.fullmatch(r"frame\.npz: 20 MHz, MCS 11 \(16-QAM 1/2, 2 streams\), 700 octets, gain [\d.]+, "
                         r"the root of a distance is off by at most 7\.62\n", made.stderr.decode())
     measured = command("measure", "made.htcp", "--sent", "sent.htsy", "--json", "measures.jsonl").stdout.decode()
-    assert re.search(r"EVM \d\.\d\d % \(-\d\d\.\d dB\); stream 1", measured) and "symbol error rate" in measured
+    assert re.search(r"EVM 14\.67 % \(-16\.7 dB\), within -16 dB; stream 1 17\.05 %, stream 2 11\.81 %; residual 6\.60 % \(-23\.6 dB\); stream 1", measured)
+    assert "EVM of 1 frame at 20 MHz, MCS 11 (16-QAM 1/2, 2 streams): 14.67 % (-16.7 dB), within the limit of -16 dB" in measured
+    assert "symbol error rate" in measured
     answers = command("zero-forcing", "made.htcp")
     verdict = command("judge", "made.htcp", "-", given=answers.stdout)
     assert verdict.returncode == 1 and re.search(rb"jobs 1568: \d+ same, 0 tie, \d+ worse, 0 outside; 0 without an answer", verdict.stdout)
     pytest.importorskip("matplotlib")
-    for kind in ("constellation", "evm", "distances"):
+    for kind in ("constellation", "evm", "residual", "distances"):
         assert command("picture", kind, "made.htcp", f"{kind}.svg").returncode == 0
     assert command("sweep", "--length", 20, "--snr", "5,15", "--frames", 3, "--processes", 2, "-o", "sweep.json", "--picture", "a.png").returncode == 0
     assert command("picture", "sweep", "sweep.json", "b.pdf").returncode == 0
@@ -63,11 +66,34 @@ def test_show_and_answers(command, tmp_path):
         assert arrays["distance0"].tolist() == [100] * 112 and arrays["points0"].shape == (112, 1)
 
 
+def test_arrays_of_an_rx_are_numbers(command, tmp_path):
+    path = VECTORS / "rates" / "bw0-mcs09.htcp"
+    assert command("answers", path, "--command", "rx", "-o", "answers.npz").returncode == 0
+    line = path.with_suffix(".rx").read_text().split()
+    with np.load(tmp_path / "answers.npz") as arrays:
+        for name, word in (("data", line[3]), ("pilot", line[5]), ("code", line[7])):
+            assert arrays[name].dtype == np.int64 and arrays[name].tolist() == [int(word)]
+        assert arrays["octets"].tolist() == [line[9]]
+
+
+def test_a_picture_of_one_frame_detects_one_frame(radio, tmp_path):
+    """The program gets a capture of the frame alone, and nothing behind the frame is read."""
+    pytest.importorskip("matplotlib")
+    octets = octets_of([random_frame(Rate(20, mcs), 10, seed=mcs) for mcs in (0, 9, 1)])
+    (tmp_path / "some.htcp").write_bytes(octets[:-500])
+    counting = tmp_path / "radio"
+    counting.write_text(f'#!/bin/sh\ntee "{tmp_path}/input" | "{radio.path}" "$@"\n')
+    counting.chmod(0o755)
+    assert cli.main(["picture", "evm", str(tmp_path / "some.htcp"), str(tmp_path / "a.svg"), "--frame", "1", "--radio", str(counting)]) == 0
+    assert (tmp_path / "input").read_bytes() == octets_of([random_frame(Rate(20, 9), 10, seed=9)])
+    assert b"MCS 9" in (tmp_path / "a.svg").read_bytes() or (tmp_path / "a.svg").stat().st_size > 10000
+
+
 def test_measures_from_kept_lines_and_from_a_pipe(command, tmp_path):
     path = VECTORS / "jobs" / "small-mcs09.htcp"
     (tmp_path / "lines").write_bytes(path.with_suffix(".detect").read_bytes() + path.with_suffix(".rx").read_bytes())
     (tmp_path / "sent").write_bytes(b"x")
-    rates = b"bit error rate of octets 6 of 8 = 0.75 (95 %: 0.409 to 0.929)\nframe error rate 1 of 1 = 1 (95 %: 0.207 to 1)\n"
+    rates = b"bit error rate of octets 6 of 8 = 0.75 (one frame gives no interval)\nframe error rate 1 of 1 = 1 (95 %: 0.207 to 1)\n"
     kept = command("measure", path, "--answers", "lines", "--octets", "sent")
     assert kept.returncode == 0 and kept.stdout.endswith(rates)
     assert command("measure", "-", "--answers", "lines", "--octets", "sent", given=path.read_bytes()).stdout == kept.stdout
@@ -90,7 +116,7 @@ def bad_inputs():
     yield ["capture", "missing.npz", "-o", "x"], b"", "missing.npz can't be read: No such file or directory"
     yield ["capture", Z, "-o", "x"], b"", f"{Z} is no archive of arrays (.npz)"
     yield ["picture", "evm", Z, "x.gif"], b"", "x.gif: a picture's name ends in .png, .svg, .pdf"
-    yield ["picture", "evm", Z, "x.png", "--frame", "1"], b"", f"{Z} has 1 frames, and no frame 1"
+    yield ["picture", "evm", Z, "x.png", "--frame", "1"], b"", f"{Z}: there are 1 frames, and no frame 1"
     yield ["picture", "sweep", Z, "x.png"], b"", None
     yield ["sweep", "--mcs", "32"], b"", "the MCS is 32, and only 0 to 31 are known"
     yield ["sweep", "--snr", "a"], b"", None
@@ -134,7 +160,7 @@ def test_an_interrupted_run_leaves_no_half_file(radio, tmp_path, tmp_path_factor
                                  cwd=tmp_path, env=environment)
     child.stdin.write(octets_of([random_frame(Rate(20, 9), 400, seed=1)])[:-1])
     child.stdin.flush()
-    for _ in range(60):
+    for _ in range(400):
         if any(path.stat().st_size for path in tmp_path.iterdir()):
             break
         time.sleep(0.05)
@@ -152,25 +178,43 @@ def options():
     return {name: {word for action in made._actions for word in action.option_strings if word.startswith("--")} for name, made in commands.items()}
 
 
-def test_pages_and_completions_know_every_command_and_option():
+def test_pages_know_every_command_and_option():
     page = (TOP / "man" / "mizgaure.1").read_text().replace("\\-", "-")
-    shells = {ending: (TOP / "completions" / f"mizgaure.{ending}").read_text() for ending in ("bash", "zsh", "fish")}
+    table = (TOP / "tools" / "README.md").read_text()
+    known = {"--help", "--version"}
     for name, words in options().items():
-        for text in (page, *shells.values(), (TOP / "tools" / "README.md").read_text()):
-            assert name in text
-        for word in words:
-            assert word in page and word in shells["bash"]
-            assert word in shells["zsh"] or word == "--help"
-            assert f"-l {word[2:]}" in shells["fish"]
+        assert f"`{name} " in table or f"`{name}`" in table
+        assert name in page and words <= set(re.findall(r"--[a-z]+(?:-[a-z]+)*", page))
+        known |= words
+    assert set(re.findall(r"--[a-z]+(?:-[a-z]+)*", page)) <= known
 
 
-@pytest.mark.skipif(not shutil.which("man"), reason="there is no man")
+def test_completions_are_those_of_the_words():
+    done = subprocess.run([sys.executable, str(TOP / "completions" / "make"), "--check"], capture_output=True, text=True, check=False)
+    assert (done.returncode, done.stdout) == (0, "")
+
+
+@pytest.mark.parametrize("page", ["radio", "mizgaure"])
+def test_manual_pages_are_in_good_style(page):
+    """What the programs that read them complain of most often; this asks for none of them."""
+    lines = (TOP / "man" / f"{page}.1").read_bytes().split(b"\n")
+    assert lines.pop() == b"" and lines[0].startswith(b".TH ")
+    for number, line in enumerate(lines, 1):
+        assert line and (line.startswith(b".") or len(line) <= 80) and line == line.rstrip() and line.isascii(), (number, line)
+    macros = [line.split()[0] for line in lines if line.startswith(b".")]
+    assert macros.count(b".RS") == macros.count(b".RE") and macros.count(b".EX") == macros.count(b".EE")
+    sections = [line for line in lines if line.startswith(b".SH")]
+    assert sections[:3] == [b".SH NAME", b".SH SYNOPSIS", b".SH DESCRIPTION"] and len(set(sections)) == len(sections)
+
+
+@pytest.mark.skipif("MIZGAURE_LINT" not in os.environ, reason="MIZGAURE_LINT isn't set: other versions of man and mandoc may find more")
 @pytest.mark.parametrize("page", ["radio", "mizgaure"])
 def test_manual_pages_have_no_warning(page):
-    done = subprocess.run(["man", "--warnings", "-E", "UTF-8", "-l", "-Tutf8", "-Z", str(TOP / "man" / f"{page}.1")], capture_output=True, check=False)
-    assert done.returncode == 0 and done.stderr == b""
-    if shutil.which("mandoc"):
-        assert subprocess.run(["mandoc", "-T", "lint", str(TOP / "man" / f"{page}.1")], capture_output=True, check=False).stdout == b""
+    path = str(TOP / "man" / f"{page}.1")
+    for words in (["man", "--warnings", "-E", "UTF-8", "-l", "-Tutf8", "-Z", path], ["mandoc", "-T", "lint", path]):
+        done = subprocess.run(words, stdout=subprocess.PIPE, stderr=subprocess.PIPE, check=False)
+        said = done.stdout if words[0] == "mandoc" else b""
+        assert (done.returncode, said, done.stderr) == (0, b"", b"")
 
 
 @pytest.mark.parametrize("shell, ending", [("bash", "bash"), ("zsh", "zsh"), ("fish", "fish")])
@@ -192,7 +236,15 @@ def test_installed_and_removed(radio, tmp_path):
     run = subprocess.run([str(prefix / "bin" / "mizgaure"), "answers", str(Z)], env={**environment, "MIZGAURE_PYTHON": sys.executable},
                          capture_output=True, check=False)
     assert run.returncode == 0 and run.stdout.endswith(b"end 1 frames\n")
-    assert {path.name for path in prefix.rglob("*.1")} == {"radio.1", "mizgaure.1"} and len(list(prefix.rglob("*radio*"))) == 5
+    assert {path.name for path in prefix.rglob("*.1")} == {"radio.1", "mizgaure.1"} and len(list(prefix.rglob("*radio*"))) == 6
+    installed = str(prefix / "bin" / "radio")
+    done = subprocess.run([installed, "detect"], stdin=Z.open("rb"), env=environment, capture_output=True, check=False)
+    assert done.returncode == 0 and done.stdout.endswith(b"end 1 frames\n")
+    asked, whole = (subprocess.run([program, "--help"], env=environment, capture_output=True, text=True, check=True).stdout
+                    for program in (installed, str(TOP / "radio")))
+    assert whole.startswith(asked) and asked.count("\n") > 50 and "The first call" in whole[len(asked) :] and "The first call" not in asked
+    said = [subprocess.run([program, "--version"], env=environment, capture_output=True, check=True).stdout for program in (installed, str(TOP / "radio"))]
+    assert said[0] == said[1] and said[0].startswith(b"mizgaure ")
     (prefix / "bin" / "other").write_text("not ours")
     assert subprocess.run([*install, "--remove"], env=environment, capture_output=True, check=False).returncode == 0
     assert [path.relative_to(prefix).as_posix() for path in prefix.rglob("*")] == ["bin", "bin/other"]

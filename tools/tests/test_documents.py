@@ -1,6 +1,7 @@
 """The numbers that the pages say, computed."""
 
 import re
+import runpy
 
 import numpy as np
 import pytest
@@ -52,6 +53,16 @@ def test_the_judges_lines_of_the_first_page(command):
     assert judge(path, theirs, reference=path.with_suffix(".detect").read_bytes()).job_counts["tie"] == 1
     made = command("example", "--mcs", 11, "--length", 700, "-o", "frame.npz"), command("capture", "frame.npz", "-o", "made.htcp")
     assert made[1].stderr.decode().strip() in page
+
+
+def test_the_planted_mistakes_are_those_of_the_page():
+    """tools/README.md has a row for each, and what is mistaken stands once in its module."""
+    page = (TOP / "tools" / "README.md").read_text()
+    for name, module, old, new, tests in runpy.run_path(str(TOP / "tools" / "plant"))["MISTAKES"]:
+        assert f"| {name} | `{module}` | {', '.join(tests.split())} |" in page
+        text = (TOP / "tools" / "src" / "mizgaure" / module).read_text()
+        assert text.count(old) == 1 and new != old
+        assert all((TOP / "tools" / "tests" / f"test_{test}.py").exists() for test in tests.split())
 
 
 def test_the_pictures_stand():

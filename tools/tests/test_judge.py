@@ -1,6 +1,9 @@
 """The judge: planted ties and errors are found, and nothing else is."""
 
+import io
 import json
+import tracemalloc
+from contextlib import contextmanager
 
 import numpy as np
 import pytest
@@ -10,6 +13,7 @@ from mizgaure import InputError, LineError, Rate, judge, read_answers, read_htcp
 from mizgaure.answers import FrameAnswer
 from mizgaure.chain import encode, symbol_landing
 from mizgaure.distances import distances, on_grid, zero_forcing
+from mizgaure.judge import Counts, compared, judged
 from mizgaure.rates import scrambling_sequence
 
 SMALL = VECTORS / "jobs" / "small-mcs09.htcp"
@@ -79,6 +83,56 @@ def test_ties_alone_are_clean():
     assert found.is_clean and found.job_counts["tie"] == ties.sum() > 0 and found.unanswered == 56 - ties.sum()
 
 
+def test_nothing_but_the_same_distance_is_a_tie():
+    """Distances of a job differ by multiples of 4, so one above the least never comes; it would be worse all the same."""
+    least = np.array([0, 10, 2**62, 2**70], object)
+    assert compared(least, least).tolist() == ["tie"] * 4
+    for more in (1, 4, 2**33):
+        assert compared(least + more, least).tolist() == ["worse"] * 4
+    assert compared(np.array([5, 6, 9]), np.array([5, 5, 5])).tolist() == ["tie", "worse", "worse"]
+
+
+def test_the_order_of_lines_makes_no_difference():
+    """Also where answers to a frame come behind those of later ones, for which the capture is gone through a second time."""
+    frames = [random_frame(Rate(20, 9), 20, seed=seed, noise=250) for seed in range(5)]
+    answers = [zero_forcing(frame, number) for number, frame in enumerate(frames)]
+    reference = b"".join(line for jobs in answers for line in stated_lines(jobs))
+    lines = [line for number, jobs in enumerate(answers) for line in lines_of(jobs, number).splitlines(keepends=True)]
+    octets, random = octets_of(frames), np.random.default_rng(1)
+    ascending = judge(octets, b"".join(lines), reference=reference)
+    assert ascending.job_counts["same"] == len(lines) and ascending.unanswered == 0 and len(ascending.jobs) == 5
+    for shuffled in (lines[::-1], lines[1000:] + lines[:1000], random.permutation(lines).tolist()):
+        # Small blocks, so that the lines of a frame come late.
+        found = judge(octets, Pieces(b"".join(shuffled)), reference=reference)
+        assert found.job_counts == ascending.job_counts and found.unanswered == 0
+    assert len(found.jobs) > 5  # some came late
+    with pytest.raises(LineError, match=f"line {len(lines) + 1} answers job 0 0 3 a second time"):
+        judge(octets, Pieces(b"".join(lines) + lines[3]), reference=reference)
+    # A further answer among new ones, at once or late.
+    for text in (lines[:9] + [lines[4]] + lines[9:20], lines[:20] + [lines[559]] + lines[20:30] + [lines[4]],
+                 lines[:20] + [lines[559], lines[30], lines[30]]):
+        with pytest.raises(LineError, match="a second time"):
+            judge(octets, Pieces(b"".join(text), 60), reference=reference)
+    with pytest.raises(InputError, match="there is an answer to frame 5, and the capture has 5 frames"):
+        judge(octets, Pieces(b"job 5 0 0 1 1 1 1\n" + b"".join(lines)), reference=reference)
+
+
+def stated_lines(jobs):
+    for line, distance in zip(lines_of(jobs, jobs.frame).splitlines(), jobs.distance.tolist()):
+        words = line.split()
+        yield b" ".join([*words[:4], b"%d" % distance, *words[4:]]) + b"\n"
+
+
+class Pieces(io.RawIOBase):
+    """A stream that gives some octets at a time."""
+
+    def __init__(self, octets, size=10000):
+        self.octets, self.size = io.BytesIO(octets), size
+
+    def read(self, count):
+        return self.octets.read(self.size)
+
+
 @pytest.mark.parametrize("rate, noise", [(Rate(20, 9), 300), (Rate(40, 18), 150), (Rate(20, 24), 300), (Rate(20, 3), 500)])
 def test_zero_forcing_is_worse_exactly_where_it_is(rate, noise, radio):
     """The verdicts are those of comparing distances that are computed apart, in Python's whole numbers."""
@@ -128,10 +182,12 @@ def test_octets_same_and_wrong():
         assert found.frames[0].verdict == "wrong" and found.frames[0].code is None and not found.is_clean
 
 
-def test_octets_as_near_are_a_tie():
-    """What is received lies half way between two codewords that one data bit sets apart.
+@pytest.mark.parametrize("flipped, verdict", [(5, "tie"), (4, "wrong")])
+def test_octets_as_near_are_a_tie(flipped, verdict):
+    """What is received lies half way between two codewords that one data bit sets apart, or a place nearer to the one sent.
 
-    Such codewords differ at ten places, the free distance of the code, so both are at distance 5 and none is nearer.
+    Such codewords differ at ten places, the free distance of the code, so both are at distance 5 and none is nearer, or
+    they are at 4 and 6, and no codeword is at a distance between, since all weights of the code are even.
     """
     rate, sent = Rate(20, 0), bytes.fromhex("123456")
     data = np.concatenate((np.zeros(16, np.uint8), np.unpackbits(np.frombuffer(sent, np.uint8), bitorder="little")))
@@ -139,7 +195,7 @@ def test_octets_as_near_are_a_tie():
     coded, other = encode(rate, inputs), encode(rate, inputs ^ (np.arange(46) == 16 + 9))
     apart = np.flatnonzero(coded != other)
     assert apart.size == 10
-    coded[apart[:5]] ^= 1
+    coded[apart[:flipped]] ^= 1
     carrier, _, _ = symbol_landing(rate)
     symbols = rate.symbols(3)
     labels = np.zeros((symbols, 52), int)
@@ -150,11 +206,11 @@ def test_octets_as_near_are_a_tie():
     frame.samples[:, ~rate.is_pilot, 0] = 10 * (2 * labels - 1)
     frame.samples[:, rate.is_pilot] = 10 * rate.pilot_signs(symbols)
     detected = b"".join(b"job 0 %d %d 0 %d 0\n" % (s, c, frame.samples[s, c, 0].real / 10) for s in range(symbols) for c in range(56))
-    reference = detected + b"frame 0 data 0 pilot 0 code 5 octets 123456\nend 1 frames\n"
+    reference = detected + b"frame 0 data 0 pilot 0 code %d octets 123456\nend 1 frames\n" % flipped
     verdicts = {octets: judge(octets_of([frame]), b"frame 0 octets " + octets, reference=reference).frames[0]
                 for octets in (b"123456", b"123656", b"123457")}
-    assert [v.verdict for v in verdicts.values()] == ["same", "tie", "wrong"]
-    assert verdicts[b"123656"].code == 5 and verdicts[b"123457"].code > 5
+    assert [v.verdict for v in verdicts.values()] == ["same", verdict, "wrong"]
+    assert verdicts[b"123656"].code == 10 - flipped and verdicts[b"123457"].code > 5
 
 
 @pytest.mark.parametrize("text, said", [
@@ -166,6 +222,11 @@ def test_octets_as_near_are_a_tie():
     (b"job 0 0 56 1 1 1 1\n", "line 1 answers job 0 0 56, which the capture doesn't have"),
     (b"job 0 9 0 1 1 1 1\n", "line 1 answers job 0 9 0, which the capture doesn't have"),
     (b"job 1 0 0 1 1 1 1\n", "there is an answer to frame 1, and the capture has 1 frames"),
+    (b"job 65536 0 0 1 1 1 1\n", "there is an answer to frame 65536, and the capture has 1 frames"),
+    (b"job 4294967296 0 0 1 1 1 1\n", "there is an answer to frame 4294967296, and the capture has 1 frames"),
+    (b"job 0 65536 0 1 1 1 1\n", "line 1 answers job 0 65536 0, which the capture doesn't have"),
+    (b"job 0 0 65536 1 1 1 1\r\n", "line 1 answers job 0 0 65536, which the capture doesn't have"),
+    (b"job 0 0 1 1 1 1 1\n\njob 0 0 0 1 1\njob 0 0 2 1 1 1 1\n", "line 3 has another number of streams than the lines of frame 0 before it"),
     (b"job 0 0 0 1 1 1\n", None),
     (b"nonsense\n", "line 1 is no answer to a job or a frame: 'nonsense'"),
     (b"frame 0 octets a\n", "line 1 is no answer to a job or a frame: 'frame 0 octets a'"),
@@ -176,6 +237,51 @@ def test_answers_that_are_none(text, said):
         judge(SMALL, text, reference=reference)
     assert said is None or str(caught.value) == said
     assert isinstance(caught.value, (LineError, InputError))
+
+
+def test_lines_may_end_as_on_other_systems():
+    reference, jobs = kept(SMALL)
+    text = lines_of(jobs)
+    assert judge(SMALL, text.replace(b"\n", b"\r\n"), reference=reference).job_counts["same"] == len(jobs)
+
+
+def test_little_is_held_where_frames_ascend():
+    """Of 40 frames no more than a few are in memory, and where none ascends no more than their answers in small types."""
+    frames = [random_frame(Rate(40, 25), 400, seed=seed, noise=0) for seed in range(40)]
+    octets, size = octets_of(frames), 0
+    reference, lines = [], []
+    for number, frame in enumerate(frames):
+        jobs = zero_forcing(frame, number)
+        reference += stated_lines(jobs)
+        lines += lines_of(jobs, number).splitlines(keepends=True)
+        size += len(jobs)
+    path_like = io.BytesIO(b"".join(reference))
+
+    def peak(text):
+        path_like.seek(0)
+        tracemalloc.start()
+        counts = Counts()
+        for _ in judged(octets, text, counts, radio=Shown(path_like)):
+            pass
+        held = tracemalloc.get_traced_memory()[1]
+        tracemalloc.stop()
+        assert counts.job_counts["same"] == size
+        return held
+
+    assert size == 40 * 114 * 8 and peak(b"".join(lines)) < 12e6
+    assert peak(b"".join(np.random.default_rng(1).permutation(lines).tolist())) < 12e6 + 150 * size
+
+
+class Shown:
+    """A program whose detect says what it is given, frame by frame."""
+
+    def __init__(self, text):
+        self.text = text
+
+    @contextmanager
+    def answers(self, word, source):
+        self.text.seek(0)
+        yield read_answers(self.text)
 
 
 def test_a_reference_of_another_capture_is_refused():

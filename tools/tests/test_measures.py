@@ -4,11 +4,14 @@ import numpy as np
 import pytest
 from conftest import octets_of, random_frame, vectors
 
-from mizgaure import CaptureFrame, InputError, Proportion, Rate, SymbolsFrame, error_rates, evm, read_answers, read_htcp, read_htsy
+from mizgaure import (CaptureFrame, FrameProportion, InputError, Proportion, Rate, SymbolsFrame, error_rates, evm, read_answers, read_htcp,
+                      read_htsy, residual_ratio)
 from mizgaure.answers import Jobs
 from mizgaure.distances import distances, places, zero_forcing
-from mizgaure.measures import octet_errors
+from mizgaure.measures import common_phases, constellation_tests, decibels, octet_errors
+from mizgaure.quantise import MeasuredFrame, capture
 from mizgaure.rates import labels_of
+from mizgaure.sweep import Setting, random_symbols, received_frame
 
 
 @pytest.mark.parametrize("events, trials, low, high", [
@@ -16,7 +19,59 @@ from mizgaure.rates import labels_of
 ])
 def test_intervals_of_wilson(events, trials, low, high):
     """Values of tables; the last row is the example 81 of 263 that Newcombe (1998) gives as 0.2553 to 0.3662."""
+    pytest.importorskip("scipy")
     assert Proportion(events, trials).interval == pytest.approx((low, high), abs=2e-5)
+
+
+def frames_of(errors, trials):
+    """A rate over frames with these errors, each of so many trials."""
+    return sum((FrameProportion.of(int(count), trials) for count in errors), FrameProportion())
+
+
+def test_rates_over_frames_add_up():
+    rate = frames_of([3, 0, 3], 10) + FrameProportion.of(1, 5) + FrameProportion.of(0, 0)
+    assert (rate.events, rate.trials, rate.count, rate.value) == (7, 35, 4, 0.2)
+    assert rate.rows() == [[0, 10, 1], [1, 5, 1], [3, 10, 2]] and FrameProportion.from_rows(rate.rows()) == rate
+    for rows in ([[1, 0, 1]], [[3, 2, 1]], [[0, 1, 0]], [[0, 1]], [[0.0, 1, 1]], [[True, 1, 1]]):
+        with pytest.raises(ValueError):
+            FrameProportion.from_rows(rows)
+
+
+def test_an_interval_over_frames_by_hand():
+    """Two frames of 100 trials with 10 and 30 errors: p = 0.2 and a standard error of 0.1, so 0.1 / 0.16 on the scale of odds."""
+    stats = pytest.importorskip("scipy.stats")
+    low, high = frames_of([10, 30], 100).interval
+    half = stats.t.ppf(0.975, 1) * 0.1 / 0.16
+    assert np.log([low / (1 - low), high / (1 - high)]) == pytest.approx(np.log(0.25) + np.array([-half, half]))
+    assert FrameProportion().interval == FrameProportion.of(3, 10).interval == (0, 1)  # nothing is known of a spread
+    assert str(FrameProportion.of(3, 10)) == "3 of 10 = 0.3 (one frame gives no interval)" and str(FrameProportion()) == "none"
+    assert frames_of([0] * 50, 1000).interval == (0, pytest.approx(1 - 0.025 ** (1 / 50)))
+    assert frames_of([1000] * 50, 1000).interval == (pytest.approx(0.025 ** (1 / 50)), 1)
+    # Frames that agree more than independent trials would: the interval is that of independent trials.
+    low, high = frames_of([10] * 200, 100).interval
+    assert (low, high) == pytest.approx(Proportion(2000, 20000).interval, rel=0.005)
+
+
+@pytest.mark.parametrize("frames, ratio", [(50, 0.0), (50, 5.0), (50, 10.0), (50, 15.0), (200, 10.0), (200, 20.0), (50, None)])
+def test_intervals_hold_the_truth(frames, ratio):
+    """200 sweeps of BPSK over a flat Rayleigh channel, one channel a frame: the symbol error rate is known in a closed form.
+
+    At a ratio of None the frames share a channel that doesn't fade.
+    """
+    special = pytest.importorskip("scipy.special")
+    random = np.random.default_rng(4)
+    if ratio is None:
+        truth = rates = np.full((200, frames), 0.01)
+        truth = 0.01
+    else:
+        power = 10 ** (ratio / 10)
+        truth = (1 - np.sqrt(power / (1 + power))) / 2
+        rates = special.erfc(np.sqrt(power * random.exponential(1, (200, frames)))) / 2
+    held = 0
+    for errors in random.binomial(1040, rates):
+        low, high = frames_of(errors, 1040).interval
+        held += low <= truth <= high
+    assert 180 <= held <= 198
 
 
 def noisy(rate, length, errors, diagonal=1000):
@@ -32,35 +87,93 @@ def noisy(rate, length, errors, diagonal=1000):
     return frame, Jobs(0, symbol, carrier, distances(frame, symbol, carrier, vectors_), vectors_)
 
 
-def test_magnitude_by_hand():
+def test_magnitudes_by_hand():
     """Errors of 100 and 200 beside points of mean length sqrt(10) at a diagonal of 1000."""
     frame, jobs = noisy(Rate(20, 11), 20, np.array([100, 200j]))
-    found = evm(frame, jobs)
     each = np.array([0.1, 0.2]) / np.sqrt(10)
-    assert found.streams == pytest.approx(each)
-    assert found.frame == pytest.approx(np.sqrt((each**2).mean()))
-    assert found.cells[0] == pytest.approx(each) and found.cells[7] == pytest.approx([0.1, 0.2])  # 7 is a pilot
-    assert found.subcarriers[0] == pytest.approx(np.sqrt((each**2).mean()))
+    for found in (evm(frame, tracked=False), residual_ratio(frame, jobs)):
+        assert found.streams == pytest.approx(each)
+        assert found.frame == pytest.approx(np.sqrt((each**2).mean()))
+        assert found.cells[0] == pytest.approx(each) and found.cells[7] == pytest.approx([0.1, 0.2])  # 7 is a pilot
+        assert found.subcarriers[0] == pytest.approx(np.sqrt((each**2).mean()))
 
 
-def test_the_frames_magnitude_is_that_of_its_distances():
+def example(mcs=11, length=700, snr=25.0, seed=1):
+    """The example of tools/README.md in floating point, before it is rounded."""
+    setting = Setting(mcs=mcs, length=length)
+    random = np.random.default_rng(seed)
+    return received_frame(setting, snr, random_symbols(setting.rate, length, random), random)
+
+
+def by_the_standard(measured, pilots_seen):
+    """Clause 20.3.20.7.4 step by step in floating point, with phases and inverses of its own: the root of the mean over all."""
+    rate = measured.rate
+    errors = []
+    for symbol, received in enumerate(measured.received):
+        signs = rate.pilot_signs(1, symbol)[0]
+        pilots = np.flatnonzero(rate.is_pilot)
+        along = sum(np.vdot(measured.channel[carrier] @ signs[n], received[carrier]) for n, carrier in enumerate(pilots))
+        received = received * np.exp(-1j * np.angle(along)) if pilots_seen else received
+        for carrier in np.flatnonzero(~rate.is_pilot):
+            values = np.linalg.pinv(measured.channel[carrier]) @ received[carrier]
+            points = rate.points * rate.normalising_factor
+            errors.extend(np.abs(points[:, None] - values).min(axis=0) ** 2)
+    return np.sqrt(np.mean(errors))
+
+
+@pytest.mark.parametrize("mcs", [0, 3, 11, 20, 30])
+def test_the_magnitude_is_the_standards(mcs):
+    """Points behind zero forcing, weighed equally: what a computation apart from the rotation and the rounding gives."""
+    measured = example(mcs, 60, 30.0)
+    (frame,) = capture([measured]).frames
+    for tracked in (True, False):
+        assert evm(frame, tracked).frame == pytest.approx(by_the_standard(measured, tracked), rel=1e-3)
+
+
+def test_a_drift_of_the_phase_is_tracked():
+    """A phase that grows by 2 degrees a symbol changes nothing of the magnitude, but much where it isn't tracked."""
+    measured = example()
+    turned = np.exp(1j * np.pi / 90 * np.arange(measured.received.shape[0]))
+    drifting = MeasuredFrame(20, 11, 700, measured.channel, measured.received * turned[:, None, None])
+    (frame,), (other,) = capture([measured]).frames, capture([drifting]).frames
+    assert evm(frame).frame == pytest.approx(0.1467, abs=5e-5) and evm(other).frame == pytest.approx(evm(frame).frame, rel=1e-4)
+    assert evm(other, tracked=False).frame > 1.8 * evm(frame).frame
+    assert np.unwrap(common_phases(other) - common_phases(frame)) == pytest.approx(np.angle(turned), abs=1e-4)
+
+
+def test_the_verdict_of_the_standard():
+    """The mean of the frames' magnitudes beside the limit of their constellation and coding rate."""
+    limits = [Rate(20, mcs).error_limit for mcs in range(8)]
+    assert limits == [-5, -10, -13, -16, -19, -22, -25, -28] and Rate(40, 29).error_limit == -22
+    at_the_limit = 10 ** (-16 / 20)
+    rows = [(Rate(20, 3), 16, at_the_limit * factor) for factor in [0.5, 1.4999] * 10] + [(Rate(20, 4), 15, 0.5)]
+    within, above = constellation_tests(rows)
+    assert within.frames == 20 and within.is_within and within.is_full and decibels(within.mean) == pytest.approx(-16, abs=0.01)
+    assert not above.is_within and not above.is_full
+    assert str(above) == ("EVM of 1 frame at 20 MHz, MCS 4 (16-QAM 3/4, 1 stream): 50.00 % (-6.0 dB), above the limit of -19 dB "
+                          "(the test asks for 20 frames of 16 symbols)")
+
+
+def test_the_frames_ratio_is_that_of_its_distances():
     path = next(p.values[0] for p in vectors(".detect") if p.values[0].stem == "bw1-mcs13")
     (frame,), (jobs,) = read_htcp(path.with_suffix(".htcp")), read_answers(path)
     data = ~frame.rate.is_pilot
     diagonal = (np.einsum("cii->ci", frame.triangles[data]).real ** 2).sum() * frame.samples.shape[0] * 42
-    assert evm(frame, jobs).frame == pytest.approx(np.sqrt(jobs.distance[data[jobs.carrier]].sum() / diagonal))
+    assert residual_ratio(frame, jobs).frame == pytest.approx(np.sqrt(jobs.distance[data[jobs.carrier]].sum() / diagonal))
 
 
 def test_erased_and_unheard_are_left_out():
     frame, jobs = noisy(Rate(20, 9), 20, np.array([100, 100]))
-    frame.erased[4] = True
+    frame.erased[[4, 7, 21, 34, 48]] = True
     frame.triangles[5] = 0
-    kept = jobs.carrier != 4
+    kept = ~frame.erased[jobs.carrier]
     part = Jobs(0, jobs.symbol[kept], jobs.carrier[kept], jobs.distance[kept], jobs.points[kept])
-    found = evm(frame, part)
-    assert np.isnan(found.subcarriers[[4, 5]]).all() and np.isfinite(np.delete(found.subcarriers, [4, 5])).all()
+    assert (common_phases(frame) == 0).all()  # no pilot was received
+    for found in (evm(frame), residual_ratio(frame, part)):
+        left_out = np.isnan(found.subcarriers)
+        assert np.flatnonzero(left_out).tolist() == [4, 5, 7, 21, 34, 48] and np.isfinite(found.frame)
     with pytest.raises(InputError, match="frame 0: subcarrier 4 is erased and has no job"):
-        evm(frame, jobs)
+        residual_ratio(frame, jobs)
 
 
 def test_rates_against_planted_errors():
@@ -76,7 +189,7 @@ def test_rates_against_planted_errors():
     wrong = sum(bin(int(a) ^ int(b)).count("1") for a, b in zip(*labels))
     jobs = Jobs(0, symbol, carrier, np.zeros(symbol.size, int), points[symbol, carrier])
     found = error_rates([SymbolsFrame(rate, 60, sent)], [jobs])
-    assert found.symbols == Proportion(2, sent.shape[0] * 52 * 2) and found.bits == Proportion(wrong, sent.shape[0] * 52 * 2 * 4)
+    assert found.symbols == FrameProportion.of(2, sent.shape[0] * 52 * 2) and found.bits == FrameProportion.of(wrong, sent.shape[0] * 52 * 2 * 4)
     with pytest.raises(InputError, match="answer to frame 0, and 0 frames were sent"):
         error_rates([], [jobs])
     with pytest.raises(InputError, match="aren't to a frame of 20 MHz, MCS 0"):
@@ -90,9 +203,9 @@ def test_no_error_in_the_vectors_without_noise():
 
 
 def test_octets():
-    assert octet_errors(b"\x0f\x00", b"\x0e\x80").octet_bits == Proportion(2, 16)
+    assert octet_errors(b"\x0f\x00", b"\x0e\x80").octet_bits == FrameProportion.of(2, 16)
     assert octet_errors(b"ab", b"ab").frames == Proportion(0, 1)
-    assert octet_errors(b"abc", None).octet_bits == Proportion(12, 24) and octet_errors(b"abc", None).frames == Proportion(1, 1)
+    assert octet_errors(b"abc", None).octet_bits == FrameProportion.of(12, 24) and octet_errors(b"abc", None).frames == Proportion(1, 1)
     with pytest.raises(InputError):
         octet_errors(b"ab", b"a")
 

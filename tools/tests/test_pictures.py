@@ -4,16 +4,19 @@ import numpy as np
 import pytest
 from conftest import octets_of, random_frame
 
-from mizgaure import InputError, Rate
-from mizgaure.measures import ErrorRates, Proportion
-from mizgaure.sweep import Setting, Sweep
+from mizgaure import InputError, Jobs, Rate
+from mizgaure.detectors import Detector
+from mizgaure.distances import zero_forcing
+from mizgaure.measures import ErrorRates, FrameProportion, Proportion
+from mizgaure.sweep import Chunk, Setting, Sweep
 
 pytest.importorskip("matplotlib")
 pictures = pytest.importorskip("mizgaure.pictures")
 
 KINDS = {
     "constellation": (pictures.constellation, "I (levels)", "Q (levels)"),
-    "evm": (pictures.evm_over_subcarriers, "subcarrier number, in ascending frequency", "error vector magnitude (%)"),
+    "evm": (pictures.evm_over_subcarriers, "subcarrier number, in ascending frequency", "error vector magnitude (dB)"),
+    "residual": (pictures.residual_over_subcarriers, "subcarrier number, in ascending frequency", "residual ratio (%)"),
     "distances": (pictures.distance_histogram, "least distance (squared whole units of the capture)", "share of the jobs (% a bin)"),
 }
 
@@ -46,6 +49,22 @@ def test_pictures_of_a_frame(kind, rate, radio, tmp_path):
         pictures.save(figure, tmp_path / "picture.jpg")
 
 
+def test_points_of_the_constellation_by_hand():
+    """Two streams over the triangle (10, 20 + 30i; 40) with the decided points 1 - i and -1 + i: what was received stands beside them.
+
+    The rows are the triangle's of the points, and 2 + i and -8i more, so the values are 0.2 + 0.1i and -0.2i beside the points.
+    """
+    rate = Rate(20, 9)
+    frame = random_frame(rate, 1, seed=1)
+    frame.triangles[3] = [[10, 20 + 30j], [0, 40]]
+    points = np.array([[1 - 1j, -1 + 1j]])
+    frame.samples[0, 3] = frame.triangles[3] @ points[0] + [2 + 1j, -8j]
+    jobs = Jobs(0, np.array([0]), np.array([3]), np.array([69]), points)
+    assert pictures.rotated_points(frame, jobs) == pytest.approx(np.array([[1.2 - 0.9j, -1 + 0.8j]]))
+    frame.triangles[3, 1, 1] = 0
+    assert np.isnan(pictures.rotated_points(frame, jobs)[0, 1])
+
+
 def drawn(path):
     """The share of a picture that isn't white."""
     from matplotlib.image import imread
@@ -55,8 +74,10 @@ def drawn(path):
 
 def test_curves_with_intervals(tmp_path):
     setting = Setting(snr=(0.0, 10.0, 20.0), frames=40)
-    rates = [ErrorRates(symbols=Proportion(n, 4000), frames=Proportion(f, 40)) for n, f in ((900, 40), (60, 7), (2, 0))]
-    figure = pictures.error_curves(Sweep(setting, True, rates), "some.json")
+    spread = [{(22, 100): 20, (23, 100): 20}, {(0, 100): 20, (3, 100): 20}, {(0, 100): 38, (1, 100): 2}]
+    rates = [ErrorRates(symbols=FrameProportion(by_frame), frames=Proportion(f, 40)) for by_frame, f in zip(spread, (40, 7, 0))]
+    chunks = [Chunk(point, 0, 40, {"reference": each}) for point, each in enumerate(rates)]
+    figure = pictures.error_curves(Sweep(setting, True, chunks=chunks), "some.json")
     (panel,) = figure.axes
     assert panel.get_yscale() == "log" and panel.get_xlabel() == "signal-to-noise ratio of one receive antenna (dB)" and panel.get_ylabel() == "error rate"
     labels = panel.get_legend_handles_labels()[1]
@@ -67,8 +88,40 @@ def test_curves_with_intervals(tmp_path):
     assert any(np.allclose(line.get_ydata(), [0.225, 0.015, 0.0005]) for line in lines)
     pictures.save(figure, tmp_path / "curves.png")
     assert drawn(tmp_path / "curves.png") > 0.01
-    without = pictures.error_curves(Sweep(setting, False, [ErrorRates(symbols=r.symbols) for r in rates]))
+    chunks = [Chunk(point, 0, 40, {"reference": ErrorRates(symbols=each.symbols)}) for point, each in enumerate(rates)]
+    without = pictures.error_curves(Sweep(setting, False, chunks=chunks[1:]))
     assert len(without.axes[0].get_legend_handles_labels()[1]) == 1 and "points without a code" in texts(without)[0]
+
+
+def crowded():
+    """Pictures whose legends have more to say than fits into a line."""
+    setting = Setting(snr=(0.0, 10.0, 20.0), frames=40)
+    none = ErrorRates(symbols=FrameProportion({(0, 100): 40}), frames=Proportion(0, 40))
+    some = ErrorRates(symbols=FrameProportion({(9, 100): 40}), frames=Proportion(9, 40))
+    names = ("reference", "zero-forcing", "mine")
+    detectors = tuple(Detector(name, "zero-forcing") for name in names[1:])
+    for kept in ((), detectors):
+        chunks = [Chunk(point, 0, 40, dict.fromkeys(names[: 1 + len(kept)], rates)) for point, rates in enumerate((some, none, none))]
+        yield pictures.error_curves(Sweep(setting, True, kept, chunks=chunks), "some.json")
+    frame = random_frame(Rate(20, 24), 4, seed=1)
+    frame.erased[3] = True
+    jobs = zero_forcing(frame)
+    yield pictures.evm_over_subcarriers(frame, jobs, "some.htcp")
+    yield pictures.residual_over_subcarriers(frame, jobs, "some.htcp")
+    yield pictures.constellation(frame, jobs, "some.htcp")
+
+
+def test_legends_are_inside_their_pictures():
+    from matplotlib.backends.backend_agg import FigureCanvasAgg
+
+    for figure in crowded():
+        canvas = FigureCanvasAgg(figure)
+        canvas.draw()
+        (legend,) = figure.legends
+        box, whole = legend.get_window_extent(canvas.get_renderer()), figure.bbox
+        assert box.x0 >= whole.x0 and box.x1 <= whole.x1 and box.y0 >= whole.y0
+        for panel in figure.axes:
+            assert not panel.get_visible() or box.y1 < panel.get_tightbbox(canvas.get_renderer()).y0 + 1
 
 
 def test_streams_can_be_told_apart_in_grey():

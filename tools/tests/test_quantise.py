@@ -146,6 +146,21 @@ def put(place, value):
     (with_(erased=lambda _: range(56)), None, "frame 1: all subcarriers are erased, and a frame has a present one"),
     (with_(), -1.0, "frame 1: the gain is -1.0, and has to be above 0"),
     (with_(mcs=lambda _: 32), None, "frame 1: the MCS is 32, and only 0 to 31 are known"),
+    (with_(bandwidth=lambda _: "20"), None, "frame 1: the bandwidth is '20', and has to be a whole number"),
+    (with_(mcs=lambda _: 9.0), None, "frame 1: the MCS is 9.0, and has to be a whole number"),
+    (with_(length=lambda _: 60.5), None, "frame 1: the length is 60.5, and has to be a whole number"),
+    (with_(channel=lambda h: h.astype(str)), None, "frame 1: channel isn't an array of numbers, but of <U64"),
+    (with_(channel=lambda h: [[1], [1, 2]]), None, "frame 1: channel isn't an array of numbers"),
+    (with_(received=lambda y: None), None, "frame 1: received isn't an array of numbers, but of object"),
+    (with_(erased=lambda _: "all"), None, "frame 1: erased isn't an array of numbers, but of <U3"),
+    (with_(erased=lambda _: [np.nan]), None, "frame 1: subcarrier nan is erased, and the subcarriers are 0 to 55"),
+    (with_(erased=lambda _: [1.5]), None, "frame 1: subcarrier 1.5 is erased, and the subcarriers are 0 to 55"),
+    (with_(channel=lambda h: h * 0 + 1e-310 * np.eye(2), received=lambda y: y * 0), None,
+     "frame 1: the parts of the channel and of what was received are too large or too small to be scaled"),
+    (with_(channel=lambda h: 1e-306 * h, received=lambda y: 1e-306 * y), None,
+     "frame 1: the parts of the channel and of what was received are too large or too small to be scaled"),
+    (with_(channel=lambda h: h * 0 + 1e308), None,
+     "frame 1: the parts of the channel and of what was received are too large or too small to be scaled"),
 ])
 def test_what_does_not_fit(frame, gain, said):
     with pytest.raises(InputError) as caught:

@@ -1,7 +1,7 @@
 -- Each file of certificates is the one that is written of its records: what was read up to any field.
 use Rattle.std.specs.Prelude.{⊤}
 use Rattle.std.proofs.Common.{◌≡◌, inl, inr, ℕ, zero, suc, ◌+◌, ◌-◌, ◌<◌, ◌≤◌, List, [], ◌∷◌, ◌++◌, length, map, flat_map, Bool, true, false, nat_eq, nat_lt, ◌||◌}
-use Rattle.std.proofs.Common.{if◌then◌else◌, refl, sym, ap, subst, ◌∙◌, append_assoc, length-append, arith, get_or}
+use Rattle.std.proofs.Common.{if◌then◌else◌, refl, sym, ap, subst, ◌∙◌, append_assoc, length-append, arith}
 use Rattle.std.proofs.lemmas.Bool.{cases_Bool}
 use Rattle.std.proofs.lemmas.Bool.Decides.{nat_tests}
 use Rattle.std.proofs.lemmas.List.{append-nil, map-append}
@@ -19,7 +19,7 @@ use Rattle.ht_rate.specs.declared.kinds.Modulation.{Modulation}
 use Rattle.ht_cert.specs.declared.record.Record.{Record}
 use Rattle.ht_cert.specs.declared.turn.Turn.{Turn}
 use Rattle.ht_cert.specs.Records.{claim_width, claimed, code_of, modulation_at, with_marks}
-use Rattle.ht_cert.specs.Formats.{RecordState, Modulated, Streams, Claim, Marks, Mark, certificates, certificates_magic, first_due, is_no_streams, mark_limits, marked}
+use Rattle.ht_cert.specs.Formats.{RecordState, Modulated, Streams, Claim, Marks, Mark, certificates, certificates_magic, first_due, is_no_streams, mark_limits}
 use Rattle.ht_cert.specs.Formats.{good_claim, good_mark, good_marks, good_modulation, good_streams, marks_due, marks_given, next_turn, record_limits, recorded, records_due}
 use Rattle.ht_cert.specs.Files.{AreNumbered, AreRecords, IsRecord, certificates_file_of, claim_octets, front_octets, mark_octet, record_octets, records_start}
 use Rattle.ht_cert.proofs.Encoded.{claim_encoded}
@@ -130,15 +130,15 @@ in_next : (turn : Turn) (octets : List ℕ) (records : List Record) (r : Record)
 unfolding next_turn
 in_next turn octets records r left fits i =
     let size : 0 + length records ≡ turn.number = omega (arith, i.size) in record {
-  count = i.count;
-  few = i.few;
-  size = omega (arith, i.size, length-append records (r ∷ []));
-  all = omega (arith, i.all, left);
-  numbered = numbered_more 0 records r i.numbered (subst (λ k. IsRecord k r) (sym size) fits);
-  is = i.is ∙ (append_assoc (records_start i.count) (flat_map record_octets records) (record_octets r)
-      ∙ (ap (λ z. records_start i.count ++ z) (ap (λ z. flat_map record_octets records ++ z) (sym (append-nil (record_octets r))) ∙ sym (flat_map-append record_octets records (r ∷ [])))
-      ∙ sym (append-nil (records_start i.count ++ flat_map record_octets (records ++ r ∷ [])))));
-}
+      count = i.count;
+      few = i.few;
+      size = omega (arith, i.size, length-append records (r ∷ []));
+      all = omega (arith, i.all, left);
+      numbered = numbered_more 0 records r i.numbered (subst (λ k. IsRecord k r) (sym size) fits);
+      is = i.is ∙ (append_assoc (records_start i.count) (flat_map record_octets records) (record_octets r)
+          ∙ (ap (λ z. records_start i.count ++ z) (ap (λ z. flat_map record_octets records ++ z) (sym (append-nil (record_octets r))) ∙ sym (flat_map-append record_octets records (r ∷ [])))
+          ∙ sym (append-nil (records_start i.count ++ flat_map record_octets (records ++ r ∷ [])))));
+    }
 
 -- behind the number of marks, or a mark
 came_marks : (turn : Turn) (r : Record) (left : ℕ) (octets : List ℕ) (records : List Record) → 0 < turn.left → IsRecord turn.number r

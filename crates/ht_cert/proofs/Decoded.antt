@@ -1,6 +1,6 @@
 -- What the octets of a record that was written are read as.
-use Rattle.std.proofs.Common.{◌≡◌, ℕ, ℤ, pos, negsuc, ◌+◌, ◌*◌, ◌<◌, ◌≤◌, ◌^◌, List, [], ◌∷◌, ◌++◌, length, drop, map, flat_map, slice_index, get_or}
-use Rattle.std.proofs.Common.{refl, sym, ap, subst, ◌∙◌, append_assoc, length-append, arith, w8, FitsSigned, Bool}
+use Rattle.std.proofs.Common.{◌≡◌, ℕ, ℤ, ◌+◌, ◌*◌, ◌≤◌, List, [], ◌∷◌, ◌++◌, length, drop, flat_map, slice_index, get_or}
+use Rattle.std.proofs.Common.{refl, sym, ap, ◌∙◌, append_assoc, length-append, arith, w8, FitsSigned}
 use Rattle.std.proofs.lemmas.Int.{to_z-of_z}
 use Rattle.std.proofs.lemmas.List.{append-nil, get_or-drop, length-map}
 use Rattle.std.specs.Int.{cast_signed, cast_unsigned}
@@ -13,8 +13,7 @@ use Rattle.ht_metric.specs.declared.place.Place.{Place}
 use Rattle.ht_metric.specs.Rows.{Leg, Row, rows_of}
 use Rattle.ht_metric.specs.Arrays.{legs, samples}
 use Rattle.ht_capture.specs.Files.{legs_octets, sample_octets}
-use Rattle.ht_capture.specs.Contents.{AreLegs, AreSamples}
-use Rattle.ht_capture.specs.Systems.{triangle_of, triangle_octets, samples_at}
+use Rattle.ht_capture.specs.Systems.{triangle_of, samples_at}
 use Rattle.ht_capture.proofs.Decoded.{behind_front, behind_more, legs_read, length-samples, rows_read}
 use Rattle.ht_capture.proofs.Written.{length-legs}
 use Rattle.ht_cert.specs.declared.record.Record.{Record}

@@ -1,25 +1,23 @@
 -- The octets of a record that was read are those that are written of it.
-use Rattle.std.proofs.Common.{◌≡◌, ℕ, zero, suc, ℤ, ◌+◌, ◌*◌, ◌-◌, ◌<◌, ◌≤◌, ◌^◌, List, [], ◌∷◌, ◌++◌, length, drop, take, flat_map, get_or, slice_index}
-use Rattle.std.proofs.Common.{refl, sym, ap, subst, ◌∙◌, append_assoc, length-append, arith, w8, FitsSigned}
+use Rattle.std.proofs.Common.{◌≡◌, ℕ, zero, suc, ◌+◌, ◌*◌, ◌<◌, ◌≤◌, ◌^◌, List, ◌∷◌, ◌++◌, length, drop, flat_map, slice_index}
+use Rattle.std.proofs.Common.{refl, sym, ap, subst, ◌∙◌, append_assoc, arith, w8, FitsSigned}
 use Rattle.std.proofs.lemmas.Int.{of_z-to_z, ints}
-use Rattle.std.proofs.lemmas.List.{append-nil, drop_more, get_or-drop, length-drop, take_all}
+use Rattle.std.proofs.lemmas.List.{drop_more, get_or-drop, length-drop, take_all}
 use Rattle.std.specs.Int.{cast_signed, cast_unsigned}
 use Rattle.byteorder.specs.Endian.{big_number, big_bytes}
 use Rattle.byteorder.specs.Numbers.{big_from-lt}
 use Rattle.ht_fields.specs.Tests.{AreBytes}
 use Rattle.ht_heads.proofs.Counts.{bytes_back_as}
 use Rattle.ht_rate.specs.declared.kinds.Modulation.{Modulation}
-use Rattle.ht_pam.specs.declared.point.Point.{Point}
 use Rattle.ht_metric.specs.declared.sample.Sample.{Sample}
 use Rattle.ht_metric.specs.Rows.{Leg, rows_of}
 use Rattle.ht_metric.specs.Arrays.{legs, samples, legs-rows_of, length-rows_of, samples-rows_of}
 use Rattle.ht_capture.specs.Numbers.{sample_at}
-use Rattle.ht_capture.specs.Systems.{legs_at, samples_at, triangle_of, triangle_octets}
+use Rattle.ht_capture.specs.Systems.{samples_at, triangle_of}
 use Rattle.ht_capture.specs.Files.{legs_octets, sample_octets}
 use Rattle.ht_capture.specs.Contents.{AreLegs, AreSamples}
 use Rattle.ht_capture.proofs.Encoded.{legs_back, sample_back}
 use Rattle.ht_capture.proofs.Grids.{length-legs_at}
-use Rattle.ht_cert.specs.declared.record.Record.{Record}
 use Rattle.ht_cert.specs.Records.{claim_width, claimed, distance_begins, full_grid, point_at, points_at, points_begin, samples_begin}
 use Rattle.ht_cert.specs.Files.{ArePoints, IsRecord, claim_octets, point_octets}
 

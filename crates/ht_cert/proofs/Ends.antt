@@ -1,7 +1,6 @@
 -- From every state of a file of certificates good fields lead to its end.
-use Rattle.std.proofs.Common.{◌≡◌, ℕ, zero, suc, ◌+◌, ◌-◌, ◌<◌, ◌≤◌, List, [], ◌∷◌, ◌++◌, replicate, refl, sym, ap, subst, arith}
+use Rattle.std.proofs.Common.{◌≡◌, ℕ, zero, suc, ◌+◌, ◌-◌, List, [], ◌∷◌, ◌++◌, replicate, refl, sym, ap, subst, arith}
 use Rattle.std.proofs.lemmas.List.{length-replicate}
-use Rattle.byteorder.specs.Endian.{big_bytes}
 use Rattle.ht_fields.specs.Grammar.{Good}
 use Rattle.ht_fields.specs.Cases.{IsEnd, IsField, Leads, CanEnd}
 use Rattle.ht_fields.proofs.Choices.{checked_good}
@@ -13,7 +12,7 @@ use Rattle.ht_rate.specs.declared.kinds.Modulation.{Modulation}
 use Rattle.ht_cert.specs.declared.record.Record.{Record}
 use Rattle.ht_cert.specs.declared.turn.Turn.{Turn}
 use Rattle.ht_cert.specs.Formats.{RecordState, Modulated, Streams, Claim, Marks, Mark, certificates, is_no_streams, mark_limits, record_limits, recorded}
-use Rattle.ht_cert.specs.Formats.{first_due, good_claim, good_mark, good_marks, good_modulation, good_streams, marked, marks_due, marks_given, next_turn, records_due}
+use Rattle.ht_cert.specs.Formats.{good_claim, good_mark, good_marks, good_modulation, good_streams, marked, marks_due, marks_given, next_turn, records_due}
 use Rattle.ht_cert.specs.Records.{claim_width}
 use Rattle.ht_cert.proofs.Routes.{mark_is, over_is, record_is, whole_is}
 

@@ -1,14 +1,14 @@
 -- The file of records as a file of certificates.
-use Rattle.std.proofs.Common.{◌≡◌, ℕ, zero, suc, ◌+◌, ◌-◌, ◌^◌, ◌<◌, ◌≤◌, List, [], ◌∷◌, ◌++◌, length, map, flat_map, Bool, refl, sym, ap, subst, ◌∙◌, append_assoc, arith}
+use Rattle.std.proofs.Common.{◌≡◌, suc, ◌-◌, ◌^◌, ◌<◌, List, [], ◌∷◌, ◌++◌, length, map, flat_map, Bool, refl, sym, ap, subst, ◌∙◌, arith}
 use Rattle.byteorder.specs.Endian.{big_bytes}
 use Rattle.ht_fields.specs.Cases.{IsFile}
-use Rattle.ht_fields.proofs.Routes.{Route, route_as, route_file, route_from, route_none, route_then, route_to}
-use Rattle.ht_heads.specs.Starts.{StartState, Body, Over}
+use Rattle.ht_fields.proofs.Routes.{Route, route_file, route_from, route_none, route_then}
+use Rattle.ht_heads.specs.Starts.{Body, Over}
 use Rattle.ht_heads.proofs.Started.{route_started}
 use Rattle.ht_cert.specs.declared.record.Record.{Record}
 use Rattle.ht_cert.specs.declared.turn.Turn.{Turn}
 use Rattle.ht_cert.specs.Records.{claimed, code_of, with_marks}
-use Rattle.ht_cert.specs.Formats.{RecordState, Modulated, Streams, Claim, Marks, Mark, certificates, first_due, marks_due, marks_given, next_turn, recorded, records_due}
+use Rattle.ht_cert.specs.Formats.{Modulated, Streams, Claim, Marks, Mark, certificates, first_due, marks_due, marks_given, next_turn, recorded, records_due}
 use Rattle.ht_cert.specs.Files.{AreNumbered, AreRecords, IsRecord, certificates_file_of, claim_octets, front_octets, mark_octet, record_octets, records_start}
 use Rattle.ht_cert.proofs.Decoded.{bare, claim_back, claim_size}
 use Rattle.ht_cert.proofs.Reading.{marks_then, no_marks_more}

@@ -5,7 +5,7 @@ use Rattle.byteorder.specs.Endian.{big_bytes}
 use Rattle.ht_io.specs.Devices.{Device, Takes, TakesAll, IsLater}
 use Rattle.ht_io.proofs.Calls.{later-later, takes-all}
 use Rattle.ht_io.specs.declared.faults.InFault.{InFault}
-use Rattle.ht_io.specs.declared.faults.Kind.TheVariants.{BadLength, BadModulation, BadStreams, BadMark}
+use Rattle.ht_io.specs.declared.faults.Kind.TheVariants.{BadModulation, BadStreams, BadMark}
 use Rattle.ht_fields.specs.Lacking.{FailsField, GoesFurther, LacksField}
 use Rattle.ht_fields.proofs.Halting.{further_halts}
 use Rattle.ht_fields.proofs.Steps.{whole_file}
@@ -13,12 +13,12 @@ use Rattle.ht_fields.specs.Readers.{ReaderView, Gives}
 use Rattle.ht_fields.specs.Tests.{is_above}
 use Rattle.ht_fields.proofs.Joins.{gives_more}
 use Rattle.ht_fields.proofs.Routes.{route_gives}
-use Rattle.ht_heads.specs.Starts.{StartState, Body, Over, is_outside}
+use Rattle.ht_heads.specs.Starts.{StartState, Body, Over}
 use Rattle.ht_rate.specs.declared.kinds.Modulation.{Modulation}
 use Rattle.ht_cert.specs.declared.record.Record.{Record}
 use Rattle.ht_cert.specs.declared.turn.Turn.{Turn}
 use Rattle.ht_cert.specs.Records.{claim_width, claimed, code_of, with_marks}
-use Rattle.ht_cert.specs.Formats.{RecordState, Modulated, Streams, Claim, Marks, Mark, certificates, is_no_streams, mark_limits, marks_due, marks_given, next_turn, records_due}
+use Rattle.ht_cert.specs.Formats.{RecordState, Modulated, Streams, Claim, Marks, Mark, certificates, is_no_streams, marks_due, marks_given, next_turn, records_due}
 use Rattle.ht_cert.specs.Files.{mark_octet}
 use Rattle.ht_cert.specs.Readers.{Completes, Fails, GivesRecord, ReadsClaim, here}
 use Rattle.ht_cert.specs.declared.reader.Came.{Came}
@@ -26,7 +26,7 @@ use Rattle.ht_cert.specs.declared.reader.Came.TheVariants.{Whole, End}
 use Rattle.std.specs.Prelude.{MatchResult}
 use Rattle.std.proofs.Common.{Result, Ok, Err}
 use Rattle.ht_fields.specs.Meanings.{before}
-use Rattle.ht_cert.proofs.Routes.{claim_halts, gives_fails, halts_fails, mark_halts, mark_is, marks_halts, modulation_halts, none_given, one_given, one_mark, over_is, record_is}
+use Rattle.ht_cert.proofs.Routes.{claim_halts, gives_fails, halts_fails, mark_halts, mark_is, modulation_halts, none_given, one_given, one_mark, over_is, record_is}
 use Rattle.ht_cert.proofs.Routes.{route_claim, route_mark, route_marks, route_modulation, route_streams, streams_halts, whole_is}
 
 pub no_marks_more : (r : Record) → with_marks r [] ≡ r

@@ -1,11 +1,10 @@
 -- How the octets of a record lead through the fields of a file, and why they don't.
-use Rattle.std.proofs.Common.{◌≡◌, inl, inr, ℕ, zero, suc, ◌+◌, ◌-◌, ◌^◌, ◌<◌, ◌≤◌, List, [], ◌∷◌, ◌++◌, length, map, Bool, true, false, nat_eq, nat_lt, ◌||◌}
-use Rattle.std.proofs.Common.{refl, sym, ap, subst, ◌∙◌, append_assoc, arith, if◌then◌else◌}
+use Rattle.std.proofs.Common.{◌≡◌, ℕ, ◌-◌, ◌^◌, ◌<◌, ◌≤◌, List, [], ◌∷◌, length, Bool, true, false, nat_eq, nat_lt, ◌||◌}
+use Rattle.std.proofs.Common.{refl, sym, ap, subst, ◌∙◌, arith}
 use Rattle.std.proofs.lemmas.Bool.Decides.{nat_tests}
-use Rattle.std.proofs.lemmas.List.{append-nil}
 use Rattle.byteorder.specs.Endian.{big_bytes, big_number}
 use Rattle.byteorder.specs.Numbers.{big_number-reads_back}
-use Rattle.ht_io.specs.Devices.{Device, Takes, IsLater}
+use Rattle.ht_io.specs.Devices.{Device, IsLater}
 use Rattle.ht_io.specs.declared.faults.InFault.{InFault}
 use Rattle.ht_io.specs.declared.faults.InFault.TheVariants.{Format, Read, NoMemory}
 use Rattle.ht_io.specs.declared.faults.Kind.TheVariants.{BadLength, BadModulation, BadStreams, BadMark}
@@ -26,7 +25,7 @@ use Rattle.ht_rate.specs.declared.kinds.Modulation.TheVariants.{Bpsk, Qpsk, Qam1
 use Rattle.ht_cert.specs.declared.record.Record.{Record}
 use Rattle.ht_cert.specs.declared.turn.Turn.{Turn}
 use Rattle.ht_cert.specs.Records.{claim_width, claimed, code_of, modulation_at, with_marks}
-use Rattle.ht_cert.specs.Formats.{RecordState, Modulated, Streams, Claim, Marks, Mark, certificates, is_no_streams, mark_limits, marked}
+use Rattle.ht_cert.specs.Formats.{RecordState, Modulated, Streams, Claim, Marks, Mark, certificates, is_no_streams, mark_limits}
 use Rattle.ht_cert.specs.Formats.{good_claim, good_mark, good_marks, good_modulation, good_streams, marks_due, marks_given, next_turn, records_due}
 use Rattle.ht_cert.specs.Files.{mark_octet}
 use Rattle.ht_cert.specs.Readers.{Fails, here}

@@ -1,5 +1,5 @@
 -- Octets of files of certificates, by computation.
-use Rattle.std.specs.Prelude.{◌≡◌, ℕ, pos, negsuc, List, [], ◌∷◌, refl}
+use Rattle.std.specs.Prelude.{◌≡◌, pos, negsuc, [], ◌∷◌, refl}
 use Rattle.ht_heads.specs.Starts.{started_octets}
 use Rattle.ht_cert.specs.Files.{point_octets}
 use Rattle.ht_cert.specs.Records.{claim_width}

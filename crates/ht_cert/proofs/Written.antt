@@ -1,12 +1,11 @@
 -- Records that are put piece by piece.
-use Rattle.std.proofs.Common.{◌≡◌, ℕ, suc, ◌+◌, ◌-◌, ◌<◌, ◌≤◌, List, [], ◌∷◌, ◌++◌, length, drop, take, map, flat_map, slice_index_or, refl, sym, ap, subst, ◌∙◌, append_assoc, arith, Bool}
+use Rattle.std.proofs.Common.{◌≡◌, ℕ, suc, ◌+◌, ◌-◌, ◌<◌, ◌≤◌, List, [], ◌∷◌, ◌++◌, length, drop, take, map, flat_map, slice_index_or, sym, ap, ◌∙◌, append_assoc, arith, Bool}
 use Rattle.std.proofs.lemmas.List.{append-nil, drop_all, length-drop, length-map, map-append, take-append-drop}
 use Rattle.std.proofs.Math.Seq.{drop-cons}
 use Rattle.byteorder.specs.Endian.{big_bytes}
-use Rattle.ht_pam.specs.declared.point.Point.{Point}
 use Rattle.ht_metric.specs.declared.sample.Sample.{Sample}
 use Rattle.ht_metric.specs.Arrays.{legs, samples}
-use Rattle.ht_metric.specs.Rows.{Leg, Row, no_row}
+use Rattle.ht_metric.specs.Rows.{Row, no_row}
 use Rattle.ht_capture.specs.Files.{leg_octets, legs_octets, sample_octets}
 use Rattle.ht_cert.specs.declared.record.Record.{Record}
 use Rattle.ht_cert.specs.Records.{code_of}
@@ -14,7 +13,6 @@ use Rattle.ht_io.specs.Pieces.{KnownGrown, KnownGrownByPart}
 use Rattle.ht_fields.proofs.Putting.{part_next}
 use Rattle.std.proofs.Common.{Option}
 use Rattle.ht_cert.specs.Files.{claim_octets, front_octets, leg_of, mark_octet, point_octets, record_octets}
-
 
 -- the rows from one on
 pub rows_next : (rows : List Row) (k : ℕ) → k < length rows

@@ -10,7 +10,6 @@ use Rattle.ht_heads.specs.Starts.{StartState}
 use Rattle.ht_cert.specs.declared.record.Record.{Record}
 use Rattle.ht_cert.specs.declared.reader.Came.{Came}
 use Rattle.ht_cert.specs.declared.reader.Came.TheVariants.{Whole, End}
-use Rattle.ht_cert.specs.declared.turn.Turn.{Turn}
 use Rattle.ht_cert.specs.declared.turn.Stage.{Stage}
 use Rattle.ht_cert.specs.declared.turn.Stage.TheVariants.{Begin, Next, Ended, Stopped}
 use Rattle.ht_rate.specs.declared.kinds.Modulation.{Modulation}

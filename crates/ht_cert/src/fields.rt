@@ -178,7 +178,10 @@ fn marks<S: Source>(
         Ok(count) => count,
         Err(fault) => return Err(fault),
     };
-    let mut marks = mem::replace(&mut into.certificate.marks, Marks::from(Vec::new(alloc))).into_vec();
+    let mut marks = mem::replace(
+        &mut into.certificate.marks,
+        Marks::from(Vec::new(alloc)),
+    ).into_vec();
     for k in 0..count {
         match mark(source, at + 4 + k) {
             Ok(is_open) => match marks.push(is_open) {
@@ -218,7 +221,15 @@ pub fn record<S: Source>(
         Ok(streams) => streams,
         Err(fault) => return Err(fault),
     };
-    let behind = match claim(alloc, source, at + 2, turn.number, modulation, streams, into) {
+    let behind = match claim(
+        alloc,
+        source,
+        at + 2,
+        turn.number,
+        modulation,
+        streams,
+        into,
+    ) {
         Ok(behind) => behind,
         Err(fault) => return Err(fault),
     };

@@ -11,7 +11,7 @@
 //! `41` the distance 65, and `00 00 00 03 01 00 01` has the marks open, cut and open. With a 2 as the last octet the
 //! file is BadMark there, at 49, and with an octet more it is Trailing at 50.
 //!
-//! `RecordReader` gives the records one by one, and keeps the memory of one. A number of marks takes no memory: each is
+//! `RecordReader` reads the records one by one into a record of the caller's. A number of marks takes no memory: each is
 //! kept as it comes. `write_start` and `write_record` put a file and take none. What was written is a file of these
 //! records, each file is the one that is written of its records, and no file is a prefix of another.
 #![tactic(auto)]

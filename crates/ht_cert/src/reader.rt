@@ -58,7 +58,12 @@ impl RecordReader {
     /// `Format` comes at the first fault of the file, behind all records before it, and the octets taken end with the
     /// field at fault. `Read` comes where the source failed, and `NoMemory` where a mark found no room. Behind these
     /// and `End` each further call answers the same, and takes nothing.
-    pub fn next<S: Source>(&mut self, alloc: Global, source: &mut S, into: &mut Record) -> Result<Came, InFault>
+    pub fn next<S: Source>(
+        &mut self,
+        alloc: Global,
+        source: &mut S,
+        into: &mut Record,
+    ) -> Result<Came, InFault>
         // What the octets that this call took mean.
         ensures told { finished self.old ≡ None → MatchResult result
             (λ came. GivesRecord (shown_by self.old (S.shown source.old)) (shown_by self.new (S.shown source.new)) came into.new)
@@ -83,7 +88,12 @@ impl RecordReader {
     }
 
     // Reads what stands in front of the records, and then as `go_on` does.
-    fn begin<S: Source>(&mut self, alloc: Global, source: &mut S, into: &mut Record) -> Result<Came, InFault>
+    fn begin<S: Source>(
+        &mut self,
+        alloc: Global,
+        source: &mut S,
+        into: &mut Record,
+    ) -> Result<Came, InFault>
         ensures told { MatchResult result
             (λ came. GivesRecord (here certificates.start 0 (S.shown source.old)) (shown_by self.new (S.shown source.new)) came into.new)
             (Fails (here certificates.start 0 (S.shown source.old)) (S.shown source.new)) }
@@ -104,7 +114,13 @@ impl RecordReader {
 
     // Reads the next record, or sees that the input ends.
     #[tactic(auto, unfolding(crate::specs::Formats::next_turn))]
-    fn go_on<S: Source>(&mut self, alloc: Global, source: &mut S, turn: Turn, into: &mut Record) -> Result<Came, InFault>
+    fn go_on<S: Source>(
+        &mut self,
+        alloc: Global,
+        source: &mut S,
+        turn: Turn,
+        into: &mut Record,
+    ) -> Result<Came, InFault>
         requires few { turn.number + turn.left ≤ 137438953472 }
         requires place { self.old.at ≤ 13 + 33554526 * turn.number }
         ensures told { MatchResult result

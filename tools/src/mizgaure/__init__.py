@@ -12,10 +12,13 @@ What is here:
 ``answers``        the lines of ``radio detect`` and ``radio rx`` as arrays and records
 ``program``        running the program
 ``distances``      exact distances of vectors, and the zero-forcing detector
-``measures``       error vector magnitude, error rates with intervals
+``measures``       error vector magnitude, residuals, error rates with intervals
+``tables``         records as JSON lines and as CSV
 ``chain``          from octets to coded bits and where they land, to tell a tie of frames from an error
 ``judge``          another receiver's answers beside the reference
 ``sweep``          error rates against the signal-to-noise ratio, over random channels
+``air``            packets as complex samples: waveforms, and packets of recordings, in a package of its own
+``packets``        MPDUs, A-MPDUs, MAC headers, and pcap files for Wireshark
 ``pictures``       all of this drawn; needs matplotlib
 =================  =====================================================================================
 
@@ -27,7 +30,7 @@ from .answers import Answers, End, FrameAnswer, Jobs, Refused, read_answers
 from .errors import FitError, FormatError, InputError, LineError, MizgaureError, ProgramError
 from .formats import CaptureFrame, SentFrame, SymbolsFrame, read_htcp, read_htsy, read_httx, write_htcp, write_htsy, write_httx
 from .judge import judge
-from .measures import Proportion, error_rates, evm
+from .measures import FrameProportion, Proportion, error_rates, evm, residual_ratio
 from .program import Radio
 from .quantise import Capture, MeasuredFrame, capture
 from .rates import Rate
@@ -42,6 +45,7 @@ __all__ = [
     "FitError",
     "FormatError",
     "FrameAnswer",
+    "FrameProportion",
     "InputError",
     "Jobs",
     "LineError",
@@ -62,6 +66,7 @@ __all__ = [
     "read_htcp",
     "read_htsy",
     "read_httx",
+    "residual_ratio",
     "write_htcp",
     "write_htsy",
     "write_httx",

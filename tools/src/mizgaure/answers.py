@@ -25,11 +25,10 @@ NUMBER = rb"(?:0|[1-9][0-9]*)"
 PLACE = rb"(?:0|[1-9][0-9]{0,4})"
 LEVEL = rb"(?:0|-?[1-7])"
 JOB = re.compile(rb"job(?: " + PLACE + rb"){3} " + NUMBER + rb"(?: " + LEVEL + rb" " + LEVEL + rb"){1,4}")
-JOBS = re.compile(rb"(?:" + JOB.pattern + rb"\n)+")
 FRAME = re.compile(rb"frame (%b) data (%b) pilot (%b) code (%b) (?:octets ((?:[0-9a-f]{2})+)|seed zero)" % ((NUMBER,) * 4))
 END = re.compile(rb"end (%b) frames" % NUMBER)
 REFUSED = re.compile(rb"refused ([A-Za-z]+) at (%b)" % NUMBER)
-BLOCK = 1 << 20
+BLOCK = 1 << 18
 
 
 @dataclass(eq=False)
@@ -178,7 +177,9 @@ def read_line(line: bytes, number: int = 1) -> Record:
         With ``number``, if it isn't one of the program's lines.
     """
     if JOB.fullmatch(line):
-        return next(_jobs_of([line]))
+        _, frame, symbol, carrier, distance, *levels = line.split()
+        place = np.array([[int(symbol)], [int(carrier)]], np.int64)
+        return Jobs(int(frame), *place, exact([int(distance)]), points_of(np.array([levels]).astype(np.int64)))
     if match := FRAME.fullmatch(line):
         frame, data, pilot, code = (int(word) for word in match.groups()[:4])
         octets = None if match.group(5) is None else bytes.fromhex(match.group(5).decode())
@@ -199,25 +200,95 @@ def shortened(line: bytes) -> str:
 def _records(source: Source) -> Iterator[Record]:
     """The records of a text; lines of jobs that follow one another come together, by frame."""
     number = 1
-    for block in _blocks(source):
-        if JOBS.fullmatch(block):
-            lines = block.splitlines()
-            yield from _jobs_of(lines)
-            number += len(lines)
+    for block in blocks(source):
+        count = block.count(b"\n")
+        table = job_table(block)
+        if table is not None and table.shape[1] % 2 == 0:
+            yield from _jobs_of_table(table)
+        else:
+            yield from _records_of_lines(block.split(b"\n")[:-1], number)
+        number += count
+
+
+def _records_of_lines(lines: List[bytes], number: int) -> Iterator[Record]:
+    """The records of lines, the first of which has a number; jobs that follow one another and are as wide come together."""
+    for width, group in groupby(enumerate(lines, number), key=lambda pair: width_of(pair[1])):
+        run = list(group)
+        table = job_table(b"".join(line + b"\n" for _, line in run)) if width % 2 else None
+        if table is not None:
+            yield from _jobs_of_table(table)
             continue
-        jobs: List[bytes] = []
-        for line in block.split(b"\n")[:-1]:
-            if JOB.fullmatch(line):
-                jobs.append(line)
-            else:
-                yield from _jobs_of(jobs)
-                jobs = []
-                yield read_line(line, number)
-            number += 1
-        yield from _jobs_of(jobs)
+        for place, line in run:
+            yield read_line(line, place)
 
 
-def _blocks(source: Source) -> Iterator[bytes]:
+def width_of(line: bytes) -> int:
+    """The number of words of a line, where it begins as that of a job does; 0 of others."""
+    return line.count(b" ") + 1 if line.startswith(b"job ") else 0
+
+
+PLACES = 3  # frame, symbol, carrier
+LONGEST_NUMBER = 18  # digits that an int64 holds, whatever they are
+
+
+def job_table(text: bytes) -> Optional[np.ndarray]:
+    """The numbers of lines of jobs that are all as wide, by whole arrays.
+
+    Parameters
+    ----------
+    text : bytes
+        Lines ``job FRAME SYMBOL CARRIER I Q ..``, each with or each without a distance in front of I, and each with its
+        line feed.
+
+    Returns
+    -------
+    ndarray of int64, shape (lines, words), or None
+        The words behind ``job``: an even number of them with a distance, an odd one without. None where the text is anything
+        else, and also where a number has more than one way to be read: places and distances with a leading zero or of more
+        than 18 digits, levels of more than one digit.
+    """
+    octets = np.frombuffer(text, np.uint8)
+    lines, ends = text.count(b"\n"), np.flatnonzero(octets <= 32)
+    width = ends.size // max(lines, 1)
+    if not text.endswith(b"\n") or ends.size != lines * width or not 6 <= width <= 13:
+        return None
+    # Where each word ends and starts, word by word, and what stands there.
+    ends = np.ascontiguousarray(ends.reshape(lines, width).T)
+    starts = np.empty_like(ends)
+    starts[0, 0], starts[0, 1:], starts[1:] = 0, ends[-1, :-1] + 1, ends[:-1] + 1
+    sizes, first, behind = ends - starts, octets.take(starts), octets.take(ends)
+    levels = 1 + PLACES + width % 2  # the first word of the levels
+    minus = first[levels:] == ord("-")
+    counted = sizes[1:levels]
+    digits = np.count_nonzero(octets - ord("0") < 10)
+    if ((behind[:-1] != ord(" ")).any() or (behind[-1] != ord("\n")).any()
+            or (sizes[0] != 3).any() or any((octets.take(starts[0] + n) != letter).any() for n, letter in enumerate(b"job"))
+            or digits + np.count_nonzero(minus) + 3 * lines + ends.size != octets.size  # nothing but digits, signs, "job" and ends
+            or (sizes[levels:] != 1 + minus).any() or counted.min() < 1 or counted.max() > LONGEST_NUMBER
+            or ((first[1:levels] == ord("0")) & (counted > 1)).any()):
+        return None
+    table = np.empty((width - 1, lines), np.int64)
+    for word in range(1, levels):
+        table[word - 1] = _numbers(octets, ends[word], sizes[word])
+    unsigned = _digits(octets, ends[levels:] - 1)
+    table[levels - 1 :] = np.where(minus, -unsigned, unsigned)
+    return table.T
+
+
+def _digits(octets: np.ndarray, places: np.ndarray) -> np.ndarray:
+    return octets.take(places).astype(np.int64) - ord("0")
+
+
+def _numbers(octets: np.ndarray, ends: np.ndarray, sizes: np.ndarray) -> np.ndarray:
+    """Numbers in digits, by where each ends and how many it has."""
+    value = _digits(octets, ends - 1)
+    for place in range(1, int(sizes.max())):
+        longer = np.flatnonzero(sizes > place)
+        value[longer] += _digits(octets, ends[longer] - 1 - place) * 10**place
+    return value
+
+
+def blocks(source: Source) -> Iterator[bytes]:
     """The text in blocks of whole lines, as they come. A last line without a line feed gets one."""
     with reading(source) as stream:
         take = getattr(stream, "read1", stream.read)
@@ -233,22 +304,16 @@ def _blocks(source: Source) -> Iterator[bytes]:
             yield rest + b"\n"
 
 
-def _jobs_of(lines: List[bytes]) -> Iterator[Jobs]:
-    """The jobs of lines that are known to be jobs, those of one frame and one number of streams together."""
-    for spaces, group in groupby(lines, key=lambda line: line.count(b" ")):
-        table = np.array(b" ".join(group).split()).reshape(-1, spaces + 1)
-        frame = table[:, 1]
-        starts = np.flatnonzero(frame[1:] != frame[:-1]) + 1
-        for part in np.split(table, starts):
-            yield _jobs_of_table(part)
+def _jobs_of_table(table: np.ndarray) -> Iterator[Jobs]:
+    """The jobs of a table with distances, frame by frame."""
+    starts = np.flatnonzero(table[1:, 0] != table[:-1, 0]) + 1
+    for part in np.split(table, starts):
+        yield Jobs(int(part[0, 0]), part[:, 1], part[:, 2], part[:, 3], points_of(part[:, 4:]))
 
 
-def _jobs_of_table(table: np.ndarray) -> Jobs:
-    """The jobs of one frame, from the words of their lines: bytes, shape (jobs, words)."""
-    places, levels = table[:, 2:4].astype(np.int64), table[:, 5:].astype(np.int64).reshape(len(table), -1, 2)
-    fits = table.dtype.itemsize <= 18  # digits that an int64 holds, whatever they are
-    distance = table[:, 4].astype(np.int64) if fits else exact(int(word) for word in table[:, 4].tolist())
-    return Jobs(int(table[0, 1]), places[:, 0], places[:, 1], distance, levels[..., 0] + 1j * levels[..., 1])
+def points_of(levels: np.ndarray) -> np.ndarray:
+    """Points from their levels, I before Q: shape (jobs, 2 * streams) to complex128 of shape (jobs, streams)."""
+    return levels[:, 0::2] + 1j * levels[:, 1::2]
 
 
 def _joined(parts: List[Jobs]) -> Jobs:

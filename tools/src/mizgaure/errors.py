@@ -2,6 +2,8 @@
 
 from __future__ import annotations
 
+import operator
+
 
 class MizgaureError(Exception):
     """Anything that these tools refuse or fail at."""
@@ -59,3 +61,16 @@ class LineError(InputError):
 
 class ProgramError(MizgaureError):
     """The program ``radio`` wasn't found, doesn't know a command, or ended with a status that tells of no answer."""
+
+
+def whole_number(name: str, value: object) -> int:
+    """A value as a whole number, refused under its name where it is of another kind, as 11.0 and "11" are.
+
+    Raises
+    ------
+    InputError
+    """
+    try:
+        return operator.index(value)  # type: ignore[arg-type]
+    except TypeError:
+        raise InputError(f"the {name} is {value!r}, and has to be a whole number") from None

@@ -9,7 +9,7 @@ import sys
 import tempfile
 from contextlib import contextmanager
 from pathlib import Path
-from typing import BinaryIO, Iterator, Type, Union, cast
+from typing import BinaryIO, Iterator, Tuple, Type, Union, cast
 
 from .errors import InputError
 
@@ -45,6 +45,45 @@ def reading(source: Source) -> Iterator[BinaryIO]:
             raise InputError(f"{path} can't be read: {error.strerror}") from error
         with stream:
             yield stream
+
+
+class _Rejoined(io.RawIOBase):
+    """A stream with the octets in front that were taken from it."""
+
+    def __init__(self, front: bytes, stream: BinaryIO) -> None:
+        super().__init__()
+        self._front, self._stream = front, stream
+
+    def readable(self) -> bool:
+        return True
+
+    def read(self, count: int = -1) -> bytes:
+        if self._front:
+            piece, self._front = (self._front, b"") if count < 0 else (self._front[:count], self._front[count:])
+            return piece + (self._stream.read() if count < 0 else b"")
+        return self._stream.read(count)
+
+    def read1(self, count: int = -1) -> bytes:
+        """As `read`, from what is there already."""
+        return self.read(count) if self._front else getattr(self._stream, "read1", self._stream.read)(count)
+
+
+@contextmanager
+def fronted(source: Source, count: int) -> Iterator[Tuple[bytes, BinaryIO]]:
+    """Open octets for reading as `reading` does, and look at the first ones.
+
+    Yields
+    ------
+    front : bytes
+        So many octets, or fewer where there aren't more.
+    stream : binary stream
+        From the first octet on.
+    """
+    with reading(source) as stream:
+        front = b""
+        while len(front) < count and (piece := stream.read(count - len(front))):
+            front += piece
+        yield front, cast(BinaryIO, _Rejoined(front, stream))
 
 
 @contextmanager

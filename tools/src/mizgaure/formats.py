@@ -13,12 +13,12 @@ from __future__ import annotations
 import os
 from collections.abc import Sequence
 from dataclasses import dataclass, field
-from typing import BinaryIO, ContextManager, Iterable, Iterator, Optional, Tuple, cast
+from typing import BinaryIO, ContextManager, Iterable, Iterator, Optional, Tuple
 
 import numpy as np
 
 from .errors import FormatError, InputError
-from .files import Source, Target, reading, writing
+from .files import Source, Target, fronted, reading, writing
 from .rates import Rate, check_length, labels_of
 
 MAGIC = {"htcp": b"HTCP", "httx": b"HTTX", "htsy": b"HTSY"}
@@ -172,7 +172,7 @@ def check_shape(number: int, name: str, array: np.ndarray, shape: Tuple[int, ...
         raise InputError(f"frame {number}: {name} has the shape {np.shape(array)}, and {shape} is asked for")
 
 
-class _Fields:
+class Fields:
     """Octets taken from the front, field by field, with the offset reached."""
 
     def __init__(self, stream: BinaryIO) -> None:
@@ -205,6 +205,10 @@ class _Fields:
             raise FormatError(kind, self.offset - width)
         return value
 
+    def signed(self, width: int) -> int:
+        """A number of ``width`` octets in two's complement."""
+        return int.from_bytes(self.octets(width), "big", signed=True)
+
     def magic(self, magic: bytes) -> None:
         for octet in magic:
             self.number(1, "BadMagic", range(octet, octet + 1))
@@ -229,7 +233,7 @@ class _Reader:
 
     def __init__(self, source: Source) -> None:
         self._opened: Optional[ContextManager[BinaryIO]] = reading(source)
-        self._fields = _Fields(self._opened.__enter__())
+        self._fields = Fields(self._opened.__enter__())
         try:
             self._fields.magic(self.magic)
             self.version = self._fields.number(1, "BadVersion", self.versions)
@@ -422,25 +426,10 @@ def read_any(source: Source) -> Tuple[str, _Reader]:
         ``"htcp"``, ``"httx"`` or ``"htsy"``. Octets with another magic are read as a capture, and so refused.
     frames : iterator
     """
-    with reading(source) as stream:
-        front = stream.read(4)
-        if isinstance(source, (str, os.PathLike, bytes)) and source != "-":
-            again: Source = source
-        else:
-            again = cast(BinaryIO, _Rejoined(front, stream))
+    with fronted(source, 4) as (front, stream):
         name = next((name for name, magic in MAGIC.items() if front == magic), "htcp")
-        return name, {"htcp": read_htcp, "httx": read_httx, "htsy": read_htsy}[name](again)
-
-
-class _Rejoined:
-    """A stream with the octets in front that were taken from it."""
-
-    def __init__(self, front: bytes, stream: BinaryIO) -> None:
-        self._front, self._stream = front, stream
-
-    def read(self, count: int) -> bytes:
-        piece, self._front = self._front[:count], self._front[count:]
-        return piece or self._stream.read(count)
+        path = isinstance(source, (str, os.PathLike, bytes)) and source != "-"
+        return name, {"htcp": read_htcp, "httx": read_httx, "htsy": read_htsy}[name](source if path else stream)
 
 
 def write_htcp(target: Target, frames: Iterable[CaptureFrame], *, version: Optional[int] = None, count: Optional[int] = None,

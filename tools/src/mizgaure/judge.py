@@ -6,32 +6,41 @@ The other receiver writes one line for each job that it answers, and one for eac
     frame N octets HEX
     frame N seed zero
 
-The program's own lines, with their distances, are accepted as well, and so is its end line. A distance that is stated
-is compared with that of the vector. The reference is what the proved program says of the same capture; it is run, or its
-lines are given. The distances of the other receiver's vectors are computed here, exactly, and that of each reference
-vector is computed too and has to be the one that the program says.
+The program's own lines, with their distances, are accepted as well, and so is its end line. Or it writes a file of
+certificates (HTCT), whose records are the data jobs of the capture in their order; its marks aren't looked at here, but by
+`certificates.check`. A distance that is stated is compared with that of the vector. The reference is what the proved
+program says of the same capture; it is run, or its lines are given. The distances of the other receiver's vectors are
+computed here, exactly, and that of each reference vector is computed too and has to be the one that the program says.
+
+Frames are judged one at a time, as the answers come. Answers to a frame that was judged already are kept until the end,
+and then the capture and the reference are gone through once more; so it is cheapest where frames ascend.
 """
 
 from __future__ import annotations
 
+import heapq
 import json
 import re
 from collections import Counter
 from contextlib import ExitStack
 from dataclasses import dataclass, field
-from typing import BinaryIO, Dict, Iterator, List, Optional, Tuple
+from itertools import groupby
+from typing import BinaryIO, Dict, Iterator, List, Optional, Protocol, Set, Tuple, Union
 
 import numpy as np
 
-from .answers import NUMBER, PLACE, Answers, FrameAnswer, Jobs, Refused, exact, read_answers, shortened
+from .answers import NUMBER, PLACE, Answers, FrameAnswer, Jobs, Refused, blocks, exact, job_table, points_of, read_answers, shortened, width_of
+from .certificates import MAGIC, Certificate, read_htct
 from .chain import least_hamming, received_bits
-from .distances import distances, on_grid
+from .distances import distances, on_grid, places
 from .errors import InputError, LineError, ProgramError
-from .files import Source, naming, reading
-from .formats import CaptureFrame, read_htcp
+from .files import Source, fronted, naming, reading
+from .formats import MOST_FRAMES, CaptureFrame, read_htcp
 from .program import Radio
 
 SAME, TIE, WORSE, OUTSIDE, WRONG = "same", "tie", "worse", "outside", "wrong"
+VERDICTS = (SAME, TIE, WORSE, OUTSIDE)
+MODULATION_NUMBERS = {1: 0, 2: 1, 4: 2, 6: 3}  # of a record, by the bits of a point
 WHOLE = rb"-?[0-9]{1,6}"
 THEIR_JOB = re.compile(rb"job(?: " + PLACE + rb"){3}(?: " + NUMBER + rb")??(?: " + WHOLE + rb" " + WHOLE + rb"){1,4}")
 THEIR_FRAME = re.compile(rb"frame (" + PLACE + rb")(?: data " + NUMBER + rb" pilot " + NUMBER + rb" code " + NUMBER
@@ -45,19 +54,36 @@ class TheirJobs:
 
     Parameters
     ----------
-    symbol, carrier : ndarray of int64, shape (jobs,)
-    points : ndarray of complex128, shape (jobs, streams)
-    stated : ndarray of object, shape (jobs,)
-        The distance that it states, or None.
+    symbol, carrier : ndarray of int, shape (jobs,)
+    levels : ndarray of int, shape (jobs, 2 * streams)
+        Its vectors, I before Q.
+    stated : ndarray of int64 or of Python's whole numbers, shape (jobs,)
+        The distance that it states, -1 where it states none.
     lines : ndarray of int64, shape (jobs,)
         The number of each answer's line.
     """
 
     symbol: np.ndarray
     carrier: np.ndarray
-    points: np.ndarray
+    levels: np.ndarray
     stated: np.ndarray
     lines: np.ndarray
+
+    @property
+    def streams(self) -> int:
+        """The number of streams of its vectors."""
+        return self.levels.shape[1] // 2
+
+    def rows(self, which: Union[slice, np.ndarray]) -> "TheirJobs":
+        """Some of the answers."""
+        return TheirJobs(self.symbol[which], self.carrier[which], self.levels[which], self.stated[which], self.lines[which])
+
+    @classmethod
+    def joined(cls, parts: List["TheirJobs"]) -> "TheirJobs":
+        """Answers of as many streams in one."""
+        if len(parts) == 1:
+            return parts[0]
+        return cls(*(np.concatenate([getattr(part, name) for part in parts]) for name in ("symbol", "carrier", "levels", "stated", "lines")))
 
 
 @dataclass(eq=False)
@@ -67,7 +93,7 @@ class JobVerdicts:
     Parameters
     ----------
     frame : int
-    symbol, carrier : ndarray of int64
+    symbol, carrier : ndarray of int
     verdict : ndarray of str
         ``same``: the reference's vector. ``tie``: another one at the same distance. ``worse``: one that is farther.
         ``outside``: not a vector of the job's grid.
@@ -91,19 +117,33 @@ class JobVerdicts:
     nearest: np.ndarray
     misstated: np.ndarray
 
+    def record(self, n: int) -> dict:
+        """The verdict on one job, as it stands in a file of verdicts."""
+        verdict = str(self.verdict[n])
+        record: Dict[str, object] = {"job": [self.frame, int(self.symbol[n]), int(self.carrier[n])], "verdict": verdict}
+        if verdict != OUTSIDE:
+            record["distance"] = int(self.distance[n])
+        record["least"] = int(self.least[n])
+        if verdict != SAME:
+            record["points"] = _pairs(self.points[n])
+            record["nearest"] = _pairs(self.nearest[n])
+        if self.misstated[n]:
+            record["misstated"] = True
+        return record
+
     def records(self) -> Iterator[dict]:
-        """One record for each job, as they stand in a file of verdicts."""
-        for n, verdict in enumerate(self.verdict):
-            record: Dict[str, object] = {"job": [self.frame, int(self.symbol[n]), int(self.carrier[n])], "verdict": str(verdict)}
-            if verdict != OUTSIDE:
-                record["distance"] = int(self.distance[n])
-            record["least"] = int(self.least[n])
-            if verdict != SAME:
-                record["points"] = _pairs(self.points[n])
-                record["nearest"] = _pairs(self.nearest[n])
-            if self.misstated[n]:
-                record["misstated"] = True
-            yield record
+        """One record for each job."""
+        return map(self.record, range(self.verdict.size))
+
+    def worst(self, count: int) -> List[Tuple[int, int]]:
+        """At most this number of jobs that are outside or worse, the worst first: what they are sorted by, and their place."""
+        found = [(-(2**70), int(n)) for n in np.flatnonzero(self.verdict == OUTSIDE)]
+        found += [(int(self.least[n]) - int(self.distance[n]), int(n)) for n in np.flatnonzero(self.verdict == WORSE)]
+        return heapq.nsmallest(count, found)
+
+
+def _pairs(points: np.ndarray) -> List[List[int]]:
+    return [[int(point.real), int(point.imag)] for point in points]
 
 
 @dataclass(frozen=True)
@@ -132,130 +172,302 @@ class FrameVerdict:
         return {"frame": self.frame, "verdict": self.verdict, "code": self.code, "least": self.least}
 
 
+Verdict = Union[JobVerdicts, FrameVerdict]
+
+
 @dataclass
-class Judgement:
-    """All verdicts on a text.
+class Counts:
+    """What the verdicts on a text add up to.
 
     Parameters
     ----------
-    jobs : list of JobVerdicts
-        One for each frame of which jobs were answered.
-    frames : list of FrameVerdict
+    listed : int
+        How many of the worst jobs are kept.
     unanswered : int
         The jobs without an answer, in a text that answers jobs at all.
+    misstated : int
+        The answers that state a distance that isn't their vector's.
     """
 
-    jobs: List[JobVerdicts] = field(default_factory=list)
-    frames: List[FrameVerdict] = field(default_factory=list)
+    listed: int = 10
     unanswered: int = 0
+    misstated: int = 0
+    _jobs: Counter = field(default_factory=Counter)
+    _frames: Counter = field(default_factory=Counter)
+    _worst: List[Tuple[int, int, dict]] = field(default_factory=list)
+
+    def add(self, verdict: Verdict) -> None:
+        """One more verdict on a frame, or on jobs of one."""
+        if isinstance(verdict, FrameVerdict):
+            self._frames[verdict.verdict] += 1
+            return
+        before = sum(self._jobs.values())
+        self._jobs.update({name: int(np.count_nonzero(verdict.verdict == name)) for name in VERDICTS})
+        self.misstated += int(np.count_nonzero(verdict.misstated))
+        if self.listed:
+            found = [(key, before + n, verdict.record(n)) for key, n in verdict.worst(self.listed)]
+            self._worst = heapq.nsmallest(self.listed, self._worst + found, key=lambda row: row[:2])
 
     @property
     def job_counts(self) -> Dict[str, int]:
         """How many jobs have each verdict."""
-        found = Counter(str(verdict) for part in self.jobs for verdict in part.verdict)
-        return {verdict: found[verdict] for verdict in (SAME, TIE, WORSE, OUTSIDE)}
+        return {verdict: self._jobs[verdict] for verdict in VERDICTS}
 
     @property
     def frame_counts(self) -> Dict[str, int]:
         """How many frames have each verdict."""
-        found = Counter(part.verdict for part in self.frames)
-        return {verdict: found[verdict] for verdict in (SAME, TIE, WRONG)}
-
-    @property
-    def misstated(self) -> int:
-        """How many answers state a distance that isn't their vector's."""
-        return sum(int(np.count_nonzero(part.misstated)) for part in self.jobs)
+        return {verdict: self._frames[verdict] for verdict in (SAME, TIE, WRONG)}
 
     @property
     def is_clean(self) -> bool:
         """Whether nothing is worse, outside its grid or wrong."""
-        jobs, frames = self.job_counts, self.frame_counts
-        return not (jobs[WORSE] or jobs[OUTSIDE] or frames[WRONG])
+        return not (self._jobs[WORSE] or self._jobs[OUTSIDE] or self._frames[WRONG])
 
-    def worst(self, count: int) -> List[dict]:
-        """The records of at most this number of jobs that are outside or worse, the farthest first."""
-        records = [record for part in self.jobs for record in part.records() if record["verdict"] in (WORSE, OUTSIDE)]
-        records.sort(key=lambda record: record["least"] - record["distance"] if record["verdict"] == WORSE else -(2**70))
-        return records[:count]
+    @property
+    def worst(self) -> List[dict]:
+        """The records of the worst jobs, as many as are kept: those outside first, then the farthest."""
+        return [record for _, _, record in self._worst]
 
-    def write(self, stream: BinaryIO) -> None:
-        """Write all verdicts as JSON lines: one for each job and each frame, and then one with the counts."""
-        for part in self.jobs:
-            for record in part.records():
-                stream.write(json.dumps(record).encode() + b"\n")
-        for frame in self.frames:
-            stream.write(json.dumps(frame.record()).encode() + b"\n")
-        counts = {"jobs": self.job_counts, "frames": self.frame_counts, "unanswered": self.unanswered, "misstated": self.misstated}
-        stream.write(json.dumps({"counts": counts}).encode() + b"\n")
+    def record(self) -> dict:
+        """The counts as they stand behind the verdicts in a file."""
+        return {"counts": {"jobs": self.job_counts, "frames": self.frame_counts, "unanswered": self.unanswered, "misstated": self.misstated}}
 
 
-def _pairs(points: np.ndarray) -> List[List[int]]:
-    return [[int(point.real), int(point.imag)] for point in points]
+@dataclass
+class Judgement(Counts):
+    """All verdicts on a text, kept.
+
+    Parameters
+    ----------
+    jobs : list of JobVerdicts
+        One for each frame of which jobs were answered, and a further one where some of its answers came late.
+    frames : list of FrameVerdict
+    """
+
+    jobs: List[JobVerdicts] = field(default_factory=list)
+    frames: List[FrameVerdict] = field(default_factory=list)
+
+    def add(self, verdict: Verdict) -> None:
+        """One more verdict."""
+        super().add(verdict)
+        (self.frames if isinstance(verdict, FrameVerdict) else self.jobs).append(verdict)  # type: ignore[arg-type]
 
 
-def read_theirs(source: Source) -> Tuple[Dict[int, TheirJobs], Dict[int, Optional[bytes]]]:
-    """Read the lines of another receiver.
+def write_verdict(stream: BinaryIO, verdict: Verdict) -> None:
+    """Write a verdict as JSON lines: one for each job, or one for a frame."""
+    records = [verdict.record()] if isinstance(verdict, FrameVerdict) else verdict.records()
+    stream.write("".join(json.dumps(record) + "\n" for record in records).encode())
 
-    Returns
-    -------
-    jobs : dict from frame to TheirJobs
-    frames : dict from frame to bytes or None
-        The octets that it decoded, None where it says that the seed is zero.
+
+class Theirs(Protocol):
+    """Another receiver's answers, taken as far as they are needed."""
+
+    def jobs_of(self, number: int, frame: CaptureFrame) -> Optional[TheirJobs]:
+        """Its answers to jobs of a frame that weren't taken before, None where there are none yet."""
+
+    def octets_of(self, number: int) -> List[Optional[bytes]]:
+        """Its octets of a frame, if they weren't taken before, None standing for a seed of zero."""
+
+    def left(self) -> List[int]:
+        """The frames to which there are answers that weren't taken; all of the text is read then."""
+
+
+class TheirLines:
+    """The lines of another receiver, read as far as a frame needs it: up to the first answer to a later one.
+
+    Answers to frames that come later wait, in blocks that are sorted by frame; answers to frames that were asked for before
+    are late, and wait for the second time.
 
     Raises
     ------
     LineError
-        If a line is neither kind, if a job or a frame has two answers, or if the answers of a frame differ in the number
-        of streams.
+        Where it is read, if a line is neither kind, if a frame has two answers, or if the answers to its jobs differ in the
+        number of streams.
     InputError
-        If there is no answer at all.
+        From `left`, if there is no answer at all.
     """
-    words: Dict[bytes, List[Tuple[int, List[bytes]]]] = {}
-    frames: Dict[int, Optional[bytes]] = {}
-    with reading(source) as stream:
-        for number, line in enumerate(stream, 1):
-            line = line.rstrip(b"\r\n")
+
+    def __init__(self, stream: BinaryIO) -> None:
+        self._blocks = blocks(stream)
+        self._line, self._highest, self._turn, self._ended = 1, -1, 0, False
+        self._waiting: List[_Sorted] = []
+        self._late: List[_Sorted] = []
+        self._octets: Dict[int, Optional[bytes]] = {}
+        self._decoded: Set[int] = set()
+
+    def jobs_of(self, number: int, frame: CaptureFrame) -> Optional[TheirJobs]:
+        self._turn = number
+        while not self._ended and self._highest <= number:
+            self._read_block()
+        parts = sorted((part for part in (block.of(number) for block in self._waiting) if part is not None), key=lambda part: part.lines[0])
+        self._waiting = [block for block in self._waiting if block.frames[-1] > number]
+        if not parts:
+            return None
+        for part in parts[1:]:
+            if part.streams != parts[0].streams:
+                raise LineError(int(part.lines[0]), f"has another number of streams than the lines of frame {number} before it")
+        return TheirJobs.joined(parts)
+
+    def octets_of(self, number: int) -> List[Optional[bytes]]:
+        return [self._octets.pop(number)] if number in self._octets else []
+
+    def left(self) -> List[int]:
+        self._turn = MOST_FRAMES + 1
+        while not self._ended:
+            self._read_block()
+        if self._highest < 0:
+            raise InputError("there is no answer to a job or a frame")
+        waiting = self._waiting + self._late
+        self._waiting, self._late = [], []
+        for kind in {block.kind for block in waiting}:
+            alike = [block for block in waiting if block.kind == kind]
+            self._waiting.append(_Sorted.by_frame(np.concatenate([block.frames for block in alike]), TheirJobs.joined([block.jobs for block in alike])))
+        return sorted({*self._octets}.union(*(block.frames.tolist() for block in self._waiting)))
+
+    def _read_block(self) -> None:
+        block = next(self._blocks, None)
+        if block is None:
+            self._ended = True
+            return
+        lines = np.arange(self._line, self._line + block.count(b"\n"))
+        self._line += lines.size
+        block = block.replace(b"\r\n", b"\n")
+        table = job_table(block)
+        if table is not None:
+            self._add_table(table, lines)
+            return
+        for width, group in groupby(zip(lines.tolist(), block.split(b"\n")), key=lambda pair: width_of(pair[1])):
+            run = list(group)
+            table = job_table(b"".join(line + b"\n" for _, line in run)) if width else None
+            if table is not None:
+                self._add_table(table, np.array([number for number, _ in run]))
+            else:
+                self._add_lines(run)
+
+    def _add_table(self, table: np.ndarray, lines: np.ndarray) -> None:
+        levels = 3 if table.shape[1] % 2 else 4
+        stated = table[:, 3] if levels == 4 else np.full(len(table), -1)
+        places_ = table[:, :3]
+        if (places_ <= MOST_FRAMES).all():
+            places_ = places_.astype(np.uint16)  # since they may wait
+        self._add(places_[:, 0], TheirJobs(places_[:, 1], places_[:, 2], table[:, levels:].astype(np.int8), stated, lines))
+
+    def _add_lines(self, run: List[Tuple[int, bytes]]) -> None:
+        """Lines that are as wide, one by one, with their numbers."""
+        rows: List[Tuple[int, List[bytes]]] = []
+        for number, line in run:
             if THEIR_JOB.fullmatch(line):
-                split = line.split()
-                words.setdefault(split[1], []).append((number, split))
+                rows.append((number, line.split()[1:]))
             elif match := THEIR_FRAME.fullmatch(line):
                 frame = int(match.group(1))
-                if frame in frames:
+                if frame in self._decoded:
                     raise LineError(number, f"answers frame {frame} a second time")
-                frames[frame] = None if match.group(2) is None else bytes.fromhex(match.group(2).decode())
+                self._decoded.add(frame)
+                self._octets[frame] = None if match.group(2) is None else bytes.fromhex(match.group(2).decode())
+                self._highest = max(self._highest, frame)
             elif line and not THEIR_END.fullmatch(line):
                 raise LineError(number, f"is no answer to a job or a frame: {shortened(line)}")
-    if not words and not frames:
-        raise InputError("there is no answer to a job or a frame")
-    return {int(frame): _their_jobs(int(frame), lines) for frame, lines in words.items()}, frames
+        if rows:
+            levels = 3 if len(rows[0][1]) % 2 else 4
+            stated = exact(int(words[3]) if levels == 4 else -1 for _, words in rows)
+            frames, symbol, carrier = np.array([words[:3] for _, words in rows]).astype(np.int64).T
+            self._add(frames, TheirJobs(symbol, carrier, np.array([words[levels:] for _, words in rows]).astype(np.int32), stated,
+                                        np.array([number for number, _ in rows])))
+
+    def _add(self, frames: np.ndarray, jobs: TheirJobs) -> None:
+        self._highest = max(self._highest, int(frames.max()))
+        block = _Sorted.by_frame(frames, jobs)
+        late = int(np.searchsorted(block.frames, self._turn))
+        for part, kept in ((slice(late), self._late), (slice(late, None), self._waiting)):
+            if block.frames[part].size:
+                kept.append(_Sorted(block.frames[part], block.jobs.rows(part)))
 
 
-def _their_jobs(frame: int, lines: List[Tuple[int, List[bytes]]]) -> TheirJobs:
-    width = len(lines[0][1]) // 2
-    for number, split in lines:
-        if len(split) // 2 != width:
-            raise LineError(number, f"has another number of streams than the lines of frame {frame} before it")
-    places = np.array([[int(split[2]), int(split[3])] for _, split in lines], np.int64)
-    stated = [int(split[4]) if len(split) % 2 else None for _, split in lines]
-    levels = np.array([split[4 + len(split) % 2 :] for _, split in lines]).astype(np.int64).reshape(len(lines), -1, 2)
-    numbers = np.array([number for number, _ in lines], np.int64)
-    keys = places[:, 0] * 100000 + places[:, 1]
-    _, first = np.unique(keys, return_index=True)
-    if first.size < keys.size:
-        again = np.setdiff1d(np.arange(keys.size), first)[0]
-        symbol, carrier = places[again]
-        raise LineError(int(numbers[again]), f"answers job {frame} {symbol} {carrier} a second time")
-    return TheirJobs(places[:, 0], places[:, 1], levels[..., 0] + 1j * levels[..., 1], np.array(stated, object), numbers)
+@dataclass(eq=False)
+class _Sorted:
+    """Answers to jobs of several frames, by ascending frame, and in the order of their lines in each."""
+
+    frames: np.ndarray
+    jobs: TheirJobs
+
+    @classmethod
+    def by_frame(cls, frames: np.ndarray, jobs: TheirJobs) -> "_Sorted":
+        if (frames[1:] >= frames[:-1]).all():
+            return cls(frames, jobs)
+        order = np.argsort(frames, kind="stable")
+        return cls(frames[order], jobs.rows(order))
+
+    @property
+    def kind(self) -> Tuple[int, str, str]:
+        """What blocks have in common that can be put into one."""
+        return self.jobs.streams, self.jobs.levels.dtype.str, self.jobs.stated.dtype.str
+
+    def of(self, frame: int) -> Optional[TheirJobs]:
+        """The answers to jobs of a frame, where there are any."""
+        low, high = np.searchsorted(self.frames, (frame, frame + 1))
+        return self.jobs.rows(slice(low, high)) if high > low else None
+
+
+class TheirCertificates:
+    """The certificates of another receiver, of which the claimed vectors and distances are taken.
+
+    Raises
+    ------
+    FormatError
+        Where it is read, at its first fault.
+    InputError
+        Where it is read, if a record is of another job than that whose turn it is, or if there are more than the capture has.
+    """
+
+    def __init__(self, stream: BinaryIO) -> None:
+        self._records = read_htct(stream)
+        self._count = 0
+
+    def jobs_of(self, number: int, frame: CaptureFrame) -> Optional[TheirJobs]:
+        symbols, carriers = places(frame)
+        data = ~frame.rate.is_pilot[carriers]
+        taken: List[Certificate] = []
+        for symbol, carrier in zip(symbols[data].tolist(), carriers[data].tolist()):
+            record = next(self._records, None)
+            if record is None:
+                break
+            if not _is_of(record, frame, symbol, carrier):
+                raise InputError(f"record {self._count + len(taken)} is of another job than job {number} {symbol} {carrier} of the capture")
+            taken.append(record)
+        first, self._count = self._count, self._count + len(taken)
+        if not taken:
+            return None
+        count = len(taken)
+        levels = np.array([[part for point in record.vector for part in point] for record in taken], np.int8)
+        return TheirJobs(symbols[data][:count], carriers[data][:count], levels, exact(record.distance for record in taken),
+                         np.arange(first + 1, self._count + 1))
+
+    def octets_of(self, number: int) -> List[Optional[bytes]]:
+        return []
+
+    def left(self) -> List[int]:
+        more = sum(1 for _ in self._records)
+        if more:
+            raise InputError(f"there are {self._count + more} records, and the capture has {self._count} data jobs")
+        return []
+
+
+def _is_of(record: Certificate, frame: CaptureFrame, symbol: int, carrier: int) -> bool:
+    """Whether a record's job is that of a place of a frame."""
+    rate, triangle = frame.rate, frame.triangles[carrier]
+    return (MODULATION_NUMBERS[rate.bits_per_point] == record.modulation and record.streams == rate.streams
+            and record.samples == [(value.real, value.imag) for value in frame.samples[symbol, carrier].tolist()]
+            and record.triangle == [[(value.real, value.imag) for value in triangle[row, row:].tolist()] for row in range(rate.streams)])
 
 
 def judge(capture: Source, answers: Source, *, reference: Optional[Source] = None, radio: Optional[Radio] = None) -> Judgement:
-    """Judge another receiver's answers.
+    """Judge another receiver's answers, and keep all verdicts.
 
     Parameters
     ----------
     capture : path, ``"-"``, bytes or binary stream
     answers : path, ``"-"``, bytes or binary stream
-        The other receiver's lines.
+        The other receiver's lines, or its certificates (HTCT).
     reference : path, bytes or binary stream, optional
         Lines of ``radio detect`` and ``radio rx`` on the capture, one behind the other, where they are kept. Otherwise
         the program is run.
@@ -276,23 +488,106 @@ def judge(capture: Source, answers: Source, *, reference: Optional[Source] = Non
     ProgramError
         If the program isn't there or fails, or if frames are to be judged and it has no command ``rx``.
     """
-    with naming(answers):
-        jobs, frames = read_theirs(answers)
+    made = Judgement()
+    for _ in judged(capture, answers, made, reference=reference, radio=radio):
+        pass
+    return made
+
+
+def judged(capture: Source, answers: Source, counts: Counts, *, reference: Optional[Source] = None,
+           radio: Optional[Radio] = None) -> Iterator[Verdict]:
+    """Judge another receiver's answers frame by frame; other parameters and errors as in `judge`.
+
+    Parameters
+    ----------
+    counts : Counts
+        Each verdict is added to it, and in the end the number of the jobs without an answer.
+
+    Yields
+    ------
+    JobVerdicts or FrameVerdict
+        In the order of frames, and behind them those on answers that came late.
+    """
     if not isinstance(capture, (str, bytes)) and hasattr(capture, "read") or capture == "-":
         with reading(capture) as stream:
             capture = stream.read()
     with ExitStack() as stack:
-        known = _Kept(reference) if reference is not None else _Run(stack, radio or Radio(), capture, bool(frames))
-        made = Judgement()
+        with naming(answers):
+            front, stream = stack.enter_context(fronted(answers, len(MAGIC)))
+            theirs: Theirs = TheirCertificates(stream) if front == MAGIC else TheirLines(stream)
+        kept = None if reference is None else _Kept(reference)
+        bench = _Bench(theirs, answers, counts)
+        first = True
+        while first or bench.late:
+            with ExitStack() as running:
+                yield from bench.passed(capture, kept or _Run(running, radio or Radio(), capture), first)
+            first = False
+    if bench.answered:
+        counts.unanswered += bench.present - bench.answered
+
+
+class _Bench:
+    """What is judged in one way through a capture, and in a second one where answers came too late for the first."""
+
+    def __init__(self, theirs: Theirs, answers: Source, counts: Counts) -> None:
+        self.theirs, self.answers, self.counts = theirs, answers, counts
+        self.present = self.answered = 0  # jobs of the capture, and those that are answered
+        self.seen: Dict[int, np.ndarray] = {}  # which jobs of a frame are answered, as bits
+        self.late: List[int] = []
+
+    def passed(self, capture: Source, known: "Reference", first: bool) -> Iterator[Verdict]:
+        """Judge what there is of each frame."""
         number = -1
         for number, frame in enumerate(_frames(capture)):
-            with naming(answers, LineError):
-                _judge_frame(made, frame, number, jobs, frames, known)
-        beyond = [frame for frame in (*jobs, *frames) if frame > number]
-        if beyond:
-            with naming(answers):
-                raise InputError(f"there is an answer to frame {min(beyond)}, and the capture has {number + 1} frames")
-    return made
+            if first:
+                self.present += frame.samples.shape[0] * int(np.count_nonzero(~frame.erased))
+            elif number not in self.late:
+                continue
+            for verdict in self._frame(number, frame, known):
+                self.counts.add(verdict)
+                yield verdict
+        with naming(self.answers):
+            self.late = self.theirs.left() if first else []
+            if self.late and self.late[-1] > number:
+                beyond = next(frame for frame in self.late if frame > number)
+                raise InputError(f"there is an answer to frame {beyond}, and the capture has {number + 1} frames")
+
+    def _frame(self, number: int, frame: CaptureFrame, known: "Reference") -> Iterator[Verdict]:
+        with naming(self.answers):
+            jobs = self.theirs.jobs_of(number, frame)
+            octets = self.theirs.octets_of(number)
+        if jobs is None and not octets:
+            return
+        reference = known.jobs(number)
+        if reference is not None:
+            _check_reference(frame, number, reference)
+        if jobs is not None:
+            if reference is None:
+                raise InputError(f"the reference has no jobs of frame {number}")
+            with naming(self.answers, LineError):
+                verdicts = _judge_jobs(frame, number, jobs, reference)
+                self._note(number, frame, jobs)
+            yield verdicts
+        for decoded in octets:
+            answer = known.frame(number)
+            if answer is None:
+                raise InputError(f"the reference has no line of frame {number}")
+            yield _judge_octets(frame, decoded, answer, reference)
+
+    def _note(self, number: int, frame: CaptureFrame, jobs: TheirJobs) -> None:
+        """Keep which jobs are answered, and refuse a second answer to one."""
+        carriers = frame.rate.subcarriers
+        size = frame.samples.shape[0] * carriers
+        keys = jobs.symbol.astype(np.int64) * carriers + jobs.carrier
+        seen = np.unpackbits(self.seen[number], count=size).astype(bool) if number in self.seen else np.zeros(size, bool)
+        before, again = np.count_nonzero(seen), seen[keys]
+        seen[keys] = True
+        if np.count_nonzero(seen) - before < keys.size:
+            again[np.setdiff1d(np.arange(keys.size), np.unique(keys, return_index=True)[1])] = True
+            n = int(np.argmax(again))
+            raise LineError(int(jobs.lines[n]), f"answers job {number} {jobs.symbol[n]} {jobs.carrier[n]} a second time")
+        self.seen[number] = np.packbits(seen)
+        self.answered += keys.size
 
 
 def _frames(capture: Source) -> Iterator[CaptureFrame]:
@@ -308,28 +603,41 @@ def _frames(capture: Source) -> Iterator[CaptureFrame]:
             yield frame
 
 
-class _Run:
-    """The reference by running the program, frame by frame."""
+class Reference(Protocol):
+    """What the proved program says of a capture; frames are asked for in ascending order."""
 
-    def __init__(self, stack: ExitStack, radio: Radio, capture: Source, decoded: bool) -> None:
-        self._jobs = stack.enter_context(radio.answers("detect", capture))
-        self._frames: Optional[Answers] = None
-        if decoded:
-            radio.need("rx")
-            self._frames = stack.enter_context(radio.answers("rx", capture))
+    def jobs(self, number: int) -> Optional[Jobs]:
+        """Its answers to the jobs of a frame."""
+
+    def frame(self, number: int) -> Optional[FrameAnswer]:
+        """Its line of a frame."""
+
+
+class _Run:
+    """The reference by running the program, frame by frame, each command from when it is first asked for."""
+
+    def __init__(self, stack: ExitStack, radio: Radio, capture: Source) -> None:
+        self._stack, self._radio, self._capture = stack, radio, capture
+        self._running: Dict[str, Answers] = {}
 
     def jobs(self, number: int) -> Jobs:
-        record = next(self._jobs, None)
+        record = self._next("detect", number)
         if not isinstance(record, Jobs):
             raise ProgramError(f"the program's detect wrote no jobs of frame {number}")
         return record
 
-    def frame(self, number: int) -> Optional[FrameAnswer]:
-        if self._frames is None:
-            return None
-        record = next(self._frames, None)
+    def frame(self, number: int) -> FrameAnswer:
+        record = self._next("rx", number)
         if not isinstance(record, FrameAnswer):
             raise ProgramError(f"the program's rx wrote no line of frame {number}")
+        return record
+
+    def _next(self, word: str, number: int) -> Optional[Union[Jobs, FrameAnswer]]:
+        if word not in self._running:
+            self._running[word] = self._stack.enter_context(self._radio.answers(word, self._capture))
+        record = next((record for record in self._running[word] if record.frame >= number), None)
+        if record is None:
+            self._stack.close()  # where the program failed, this says why
         return record
 
 
@@ -353,34 +661,10 @@ class _Kept:
         return self._frames.get(number)
 
 
-def _judge_frame(made: Judgement, frame: CaptureFrame, number: int, jobs: Dict[int, TheirJobs],
-                 frames: Dict[int, Optional[bytes]], known) -> None:
-    reference = known.jobs(number)
-    answer = known.frame(number)
-    if reference is not None:
-        _check_reference(frame, number, reference)
-    present = frame.samples.shape[0] * int(np.count_nonzero(~frame.erased))
-    if number in jobs:
-        if reference is None:
-            raise InputError(f"the reference has no jobs of frame {number}")
-        made.jobs.append(_judge_jobs(frame, number, jobs[number], reference))
-        made.unanswered += present - jobs[number].symbol.size
-    elif jobs:
-        made.unanswered += present
-    if number in frames:
-        if answer is None:
-            raise InputError(f"the reference has no line of frame {number}")
-        made.frames.append(_judge_octets(frame, frames[number], answer, reference))
-
-
 def _check_reference(frame: CaptureFrame, number: int, reference: Jobs) -> None:
-    present = int(np.count_nonzero(~frame.erased))
-    symbols = frame.samples.shape[0]
-    fits = reference.frame == number and reference.streams == frame.rate.streams and len(reference) == symbols * present
-    if fits:
-        fits = bool(np.array_equal(reference.symbol, np.repeat(np.arange(symbols), present))
-                    and np.array_equal(reference.carrier, np.tile(np.flatnonzero(~frame.erased), symbols))
-                    and np.all(distances(frame, reference.symbol, reference.carrier, reference.points) == reference.distance))
+    symbol, carrier = places(frame)
+    fits = (reference.frame == number and reference.streams == frame.rate.streams and np.array_equal(reference.symbol, symbol)
+            and np.array_equal(reference.carrier, carrier) and bool(np.all(distances(frame, symbol, carrier, reference.points) == reference.distance)))
     if not fits:
         raise InputError(f"the reference isn't that of this capture: its jobs of frame {number} are others")
 
@@ -394,19 +678,31 @@ def _judge_jobs(frame: CaptureFrame, number: int, theirs: TheirJobs, reference: 
     if (found < 0).any():
         n = int(np.argmax(found < 0))
         raise LineError(int(theirs.lines[n]), f"answers job {number} {theirs.symbol[n]} {theirs.carrier[n]}, which the capture doesn't have")
-    if theirs.points.shape[1] != frame.rate.streams:
-        raise LineError(int(theirs.lines[0]), f"has {theirs.points.shape[1]} streams, and frame {number} has {frame.rate.streams}")
-    nearest, least = reference.points[found], reference.distance[found]
-    good = on_grid(frame.rate, theirs.symbol, theirs.carrier, theirs.points)
-    reached = distances(frame, theirs.symbol, theirs.carrier, np.where(good[:, None], theirs.points, nearest))
-    if (reached < least).any():
-        n = int(np.argmax(reached < least))
+    if theirs.streams != frame.rate.streams:
+        raise LineError(int(theirs.lines[0]), f"has {theirs.streams} streams, and frame {number} has {frame.rate.streams}")
+    points, nearest, least = points_of(theirs.levels), reference.points[found], reference.distance[found]
+    # The distances of the reference's vectors are known, so only the others are looked at.
+    verdict, reached = np.full(found.size, SAME, "U7"), least.copy()
+    others = np.flatnonzero((points != nearest).any(axis=1))
+    good = on_grid(frame.rate, theirs.symbol[others], theirs.carrier[others], points[others])
+    verdict[others[~good]], reached[others[~good]] = OUTSIDE, -1
+    others = others[good]
+    distance = distances(frame, theirs.symbol[others], theirs.carrier[others], points[others])
+    nearer = distance < least[others]
+    if nearer.any():
+        n = others[int(np.argmax(nearer))]
         raise InputError(f"the reference isn't that of this capture: job {number} {theirs.symbol[n]} {theirs.carrier[n]} has a nearer vector")
-    verdict = np.where((theirs.points == nearest).all(axis=1), SAME, np.where(reached == least, TIE, WORSE)).astype("U7")
-    verdict[~good] = OUTSIDE
-    reached = exact(np.where(good, reached, -1).tolist())
-    misstated = np.array([said is not None and said != d for said, d in zip(theirs.stated, reached.tolist())], bool)
-    return JobVerdicts(number, theirs.symbol, theirs.carrier, verdict, reached, least, theirs.points, nearest, misstated)
+    verdict[others] = compared(distance, least[others])
+    if distance.dtype != reached.dtype:
+        reached = reached.astype(object)
+    reached[others] = distance
+    misstated = (theirs.stated >= 0) & (theirs.stated != reached)
+    return JobVerdicts(number, theirs.symbol, theirs.carrier, verdict, reached, least, points, nearest, misstated.astype(bool))
+
+
+def compared(distance: np.ndarray, least: np.ndarray) -> np.ndarray:
+    """The verdicts on vectors of the grid that aren't the reference's, by their distances and the least ones: ``tie`` or ``worse``."""
+    return np.where(distance == least, TIE, WORSE)
 
 
 def _judge_octets(frame: CaptureFrame, octets: Optional[bytes], answer: FrameAnswer, reference: Optional[Jobs]) -> FrameVerdict:

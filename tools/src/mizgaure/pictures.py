@@ -7,7 +7,7 @@ kinds of lines differ as well, so that a picture can be read in grey.
 from __future__ import annotations
 
 import os
-from typing import TYPE_CHECKING, List, Sequence, Tuple
+from typing import TYPE_CHECKING, List, Sequence, Tuple, Union
 
 import numpy as np
 
@@ -16,7 +16,7 @@ from .distances import residuals
 from .errors import InputError
 from .files import Target, writing
 from .formats import CaptureFrame
-from .measures import Proportion, check_jobs, evm
+from .measures import FrameProportion, Proportion, check_jobs, decibels, evm, percent, residual_ratio
 from .rates import Rate
 from .sweep import Sweep
 
@@ -35,9 +35,17 @@ STYLE = {
 }
 # Room round the panels, in inches.
 LEFT, RIGHT, HEAD, FOOT, GAP = 0.75, 0.2, 1.0, 0.95, 0.75
+LEGEND_LINE = 0.22
 
 
-def _matplotlib():
+def matplotlib_of():
+    """The module matplotlib and its Figure.
+
+    Raises
+    ------
+    InputError
+        If it isn't installed.
+    """
     try:
         import matplotlib
     except ImportError:
@@ -64,7 +72,7 @@ def save(figure: "Figure", target: Target, force: bool = False) -> None:
         If the ending is another one, or the file is there already.
     """
     ending = check_ending(target)
-    matplotlib, _ = _matplotlib()
+    matplotlib, _ = matplotlib_of()
     undated = {"png": {}, "svg": {"Date": None}, "pdf": {"CreationDate": None}}[ending]
     with writing(target, force) as stream, matplotlib.rc_context(STYLE):
         figure.savefig(stream, format=ending, metadata=undated, facecolor="white")
@@ -98,8 +106,30 @@ def _titled(figure: "Figure", what: str, rate: Rate, name: str) -> None:
 
 
 def _legend(figure: "Figure", handles: Sequence, labels: Sequence[str]) -> None:
-    """A legend in one line at the foot."""
-    figure.legend(handles, labels, loc="lower center", bbox_to_anchor=(0.5, 0.04 / figure.get_figheight()), ncol=len(labels))
+    """A legend at the foot, in as few lines as the figure is wide enough for; the figure grows by the further ones."""
+    from matplotlib.backends.backend_agg import FigureCanvasAgg
+
+    renderer = FigureCanvasAgg(figure).get_renderer()
+    columns = len(labels)
+    while True:
+        legend = figure.legend(handles, labels, loc="lower center", bbox_to_anchor=(0.5, 0.04 / figure.get_figheight()), ncol=columns)
+        if columns == 1 or legend.get_window_extent(renderer).width <= 0.98 * figure.bbox.width:
+            break
+        legend.remove()
+        columns -= 1
+    lines = -(-len(labels) // columns)
+    if lines > 1:
+        legend.remove()
+        _grow(figure, (lines - 1) * LEGEND_LINE)
+        figure.legend(handles, labels, loc="lower center", bbox_to_anchor=(0.5, 0.04 / figure.get_figheight()), ncol=columns)
+
+
+def _grow(figure: "Figure", inches: float) -> None:
+    """Make a figure higher, with the room at its foot; its panels stay as large as they are."""
+    across, down = figure.get_size_inches()
+    foot, head = figure.subplotpars.bottom * down + inches, (1 - figure.subplotpars.top) * down
+    figure.set_size_inches(across, down + inches)
+    figure.subplots_adjust(bottom=foot / (down + inches), top=1 - head / (down + inches))
 
 
 def rotated_points(frame: CaptureFrame, jobs: Jobs) -> np.ndarray:
@@ -135,7 +165,7 @@ def constellation(frame: CaptureFrame, jobs: Jobs, name: str = "") -> "Figure":
     -------
     matplotlib.figure.Figure
     """
-    matplotlib, Figure = _matplotlib()
+    matplotlib, Figure = matplotlib_of()
     rate = frame.rate
     data = ~rate.is_pilot[jobs.carrier]
     values = rotated_points(frame, jobs)[data]
@@ -153,6 +183,13 @@ def constellation(frame: CaptureFrame, jobs: Jobs, name: str = "") -> "Figure":
         _legend(figure, handles, ["received, after the rotation", "decided on"])
         _titled(figure, "Received vectors and the points decided on", rate, name)
     return figure
+
+
+def constellation_panel(panel, frame: CaptureFrame, jobs: Jobs, stream: int) -> None:
+    """Draw the constellation of one stream, counted from 0, in a panel of matplotlib."""
+    data = ~frame.rate.is_pilot[jobs.carrier]
+    values = rotated_points(frame, jobs)[data][:, stream]
+    _constellation_panel(panel, values, np.unique(jobs.points[data][:, stream]), frame.rate, stream)
 
 
 def _constellation_panel(panel, values: np.ndarray, decided: np.ndarray, rate: Rate, stream: int) -> None:
@@ -175,34 +212,58 @@ def _constellation_panel(panel, values: np.ndarray, decided: np.ndarray, rate: R
 
 
 def evm_over_subcarriers(frame: CaptureFrame, jobs: Jobs, name: str = "") -> "Figure":
-    """The error vector magnitude of each stream over the subcarriers, in percent; parameters as in `constellation`."""
-    matplotlib, Figure = _matplotlib()
+    """The error vector magnitude of each stream over the subcarriers, in dB, with the standard's limit.
+
+    Parameters as in `constellation`; the answers aren't looked at, since the magnitude is that of equalised points.
+    """
+    matplotlib, Figure = matplotlib_of()
     rate = frame.rate
-    found = evm(frame, jobs)
+    found = evm(frame)
+    verdict = "within" if decibels(found.frame) <= rate.error_limit else "above"
     with matplotlib.rc_context(STYLE):
         figure, (panel,) = _drawn(Figure, 1, 1, 7.6, 3.2)
-        frequencies = rate.frequencies
-        for stream in range(rate.streams):
-            colour, marker, line = STREAM_STYLES[stream]
-            cells = np.where(rate.is_pilot, np.nan, 100 * found.cells[:, stream])
-            label = f"stream {stream + 1} ({100 * found.streams[stream]:.1f} %)"
-            for half in (frequencies < 0, frequencies > 0):
-                panel.plot(frequencies[half], cells[half], color=colour, marker=marker, linestyle=line, markersize=4, linewidth=1.2,
-                           label=label if half[0] else None)
-        for n, pilot in enumerate(frequencies[rate.is_pilot]):
-            panel.axvline(pilot, color=PALE, linewidth=3.5, alpha=0.45, zorder=0, label="pilot" if n == 0 else None)
-        for n, erased in enumerate(frequencies[frame.erased]):
-            panel.axvline(erased, color=INK, linewidth=0.8, linestyle=(0, (1, 2)), zorder=0, label="erased" if n == 0 else None)
-        panel.set(xlabel="subcarrier number, in ascending frequency", ylabel="error vector magnitude (%)", ylim=(0, None))
-        panel.margins(x=0.02)
+        over_subcarriers_panel(panel, frame, decibels(found.cells), [f"{decibels(value):.1f} dB" for value in found.streams])
+        panel.axhline(rate.error_limit, color=INK, linewidth=1.2, linestyle=(0, (6, 2)), label=f"limit of {rate.error_limit} dB")
+        panel.set_ylabel("error vector magnitude (dB)")
+        panel.set_title(f"over all: {percent(found.frame)}, {verdict} the limit", loc="right", fontsize=9, color="#555555")
         _legend(figure, *panel.get_legend_handles_labels())
-        _titled(figure, "Error vector magnitude over subcarriers", rate, name)
+        _titled(figure, "Error vector magnitude of equalised points", rate, name)
     return figure
+
+
+def residual_over_subcarriers(frame: CaptureFrame, jobs: Jobs, name: str = "") -> "Figure":
+    """The detector's residuals beside each stream's own part, over the subcarriers, in percent; parameters as in `constellation`."""
+    matplotlib, Figure = matplotlib_of()
+    found = residual_ratio(frame, jobs)
+    with matplotlib.rc_context(STYLE):
+        figure, (panel,) = _drawn(Figure, 1, 1, 7.6, 3.2)
+        over_subcarriers_panel(panel, frame, 100 * found.cells, [f"{100 * value:.1f} %" for value in found.streams])
+        panel.set(ylabel="residual ratio (%)", ylim=(0, None))
+        _legend(figure, *panel.get_legend_handles_labels())
+        _titled(figure, "Residuals behind the detector", frame.rate, name)
+    return figure
+
+
+def over_subcarriers_panel(panel, frame: CaptureFrame, values: np.ndarray, sums: Sequence[str]) -> None:
+    """A curve for each stream, and the places of pilots and erased subcarriers."""
+    rate, frequencies = frame.rate, frame.rate.frequencies
+    for stream in range(rate.streams):
+        colour, marker, line = STREAM_STYLES[stream]
+        cells = np.where(rate.is_pilot | ~np.isfinite(values[:, stream]), np.nan, values[:, stream])
+        for half in (frequencies < 0, frequencies > 0):
+            panel.plot(frequencies[half], cells[half], color=colour, marker=marker, linestyle=line, markersize=4, linewidth=1.2,
+                       label=f"stream {stream + 1} ({sums[stream]})" if half[0] else None)
+    for n, pilot in enumerate(frequencies[rate.is_pilot]):
+        panel.axvline(pilot, color=PALE, linewidth=3.5, alpha=0.45, zorder=0, label="pilot" if n == 0 else None)
+    for n, erased in enumerate(frequencies[frame.erased]):
+        panel.axvline(erased, color=INK, linewidth=0.8, linestyle=(0, (1, 2)), zorder=0, label="erased" if n == 0 else None)
+    panel.set(xlabel="subcarrier number, in ascending frequency")
+    panel.margins(x=0.02)
 
 
 def distance_histogram(frame: CaptureFrame, jobs: Jobs, name: str = "") -> "Figure":
     """The least distances of a frame as a histogram, data and pilots apart; parameters as in `constellation`."""
-    matplotlib, Figure = _matplotlib()
+    matplotlib, Figure = matplotlib_of()
     check_jobs(frame, jobs)
     rate = frame.rate
     values = jobs.distance.astype(float)
@@ -229,7 +290,7 @@ def distance_histogram(frame: CaptureFrame, jobs: Jobs, name: str = "") -> "Figu
 
 
 def error_curves(sweep: Sweep, name: str = "") -> "Figure":
-    """Symbol and frame error rates over the signal-to-noise ratio, with Wilson's intervals at 95 %.
+    """Symbol and frame error rates over the signal-to-noise ratio, with their intervals at 95 %.
 
     Parameters
     ----------
@@ -237,36 +298,43 @@ def error_curves(sweep: Sweep, name: str = "") -> "Figure":
     name : str
         For the title, as the name of the file.
     """
-    matplotlib, Figure = _matplotlib()
+    matplotlib, Figure = matplotlib_of()
     setting = sweep.setting
-    curves: List[Tuple[str, Sequence[Proportion], str, str, str]] = [
-        ("SER, before the decoder", [rates.symbols for rates in sweep.rates], BLUE, "o", "-")]
-    if sweep.coded:
-        curves.insert(0, ("PER, behind the decoder", [rates.frames for rates in sweep.rates], ORANGE, "s", "--"))
+    curves: List[Tuple[str, Sequence[Union[Proportion, FrameProportion]], str, str, str]] = []
+    for number, detector in enumerate(sweep.names):
+        rates = sweep.rates_of(detector)
+        front = f"{detector}: " if len(sweep.names) > 1 else ""
+        colours = ((ORANGE, BLUE), (GREEN, GREEN), (PURPLE, PURPLE), (INK, INK), (PALE, PALE))[number % 5]
+        marker = "s^DPX"[number % 5]
+        if sweep.coded:
+            curves.append((f"{front}PER, behind the decoder", [each.frames for each in rates], colours[0], marker, "--"))
+        curves.append((f"{front}SER, before the decoder", [each.symbols for each in rates], colours[1], "o" if number == 0 else marker, "-"))
     with matplotlib.rc_context(STYLE):
         figure, (panel,) = _drawn(Figure, 1, 1, 7.0, 3.7)
         floor = 1.0
-        for label, rates, colour, marker, line in curves:
-            floor = min(floor, _curve(panel, setting.snr, rates, colour, marker, line, label))
+        for label, shown, colour, marker, line in curves:
+            floor = min(floor, _curve(panel, setting.snr, shown, colour, marker, line, label))
         panel.set_yscale("log")
         panel.set(xlabel="signal-to-noise ratio of one receive antenna (dB)", ylabel="error rate", ylim=(10 ** np.floor(np.log10(floor)), 1.3))
         panel.grid(True, which="minor", color="#F1F1F1", linewidth=0.5)
         if len(setting.snr) <= 16:
             panel.set_xticks(sorted(setting.snr))
-        pairs = sorted(zip(*panel.get_legend_handles_labels()), key=lambda pair: pair[1])
-        _legend(figure, *zip(*pairs))
+        _legend(figure, *panel.get_legend_handles_labels())
         antennas = setting.antennas or setting.rate.streams
         known = {"perfect": "channel known", "ls": "channel estimated by least squares"}[setting.estimate]
-        detail = f"{setting.frames} frames of {setting.length} octets a point, {antennas} antennas, decay {setting.decay:g} samples, {known}"
+        channel = f"decay {setting.decay:g} samples" if setting.channel == "exponential" else f"channel {setting.channel}"
+        detail = f"{setting.frames} frames of {setting.length} octets a point, {antennas} antennas, {channel}, {known}"
         panel.set_title(detail, fontsize=9, color="#555555")
         what = "Error rates over the signal-to-noise ratio" + ("" if sweep.coded else ", points without a code")
         _titled(figure, what, setting.rate, name)
     return figure
 
 
-def _curve(panel, snr: Sequence[float], rates: Sequence[Proportion], colour: str, marker: str, line: str, label: str) -> float:
+def _curve(panel, snr: Sequence[float], rates: Sequence[Union[Proportion, FrameProportion]], colour: str, marker: str, line: str, label: str) -> float:
     """Draw a curve, and say where the lowest thing drawn is. Rates of 0 are drawn as what they are at most."""
-    order = np.argsort(snr)
+    order = [n for n in np.argsort(snr) if rates[n].trials]
+    if not order:
+        return 1.0
     x = np.asarray(snr, float)[order]
     values = np.array([rates[n].value for n in order])
     low, high = np.array([rates[n].interval for n in order]).T
@@ -275,7 +343,8 @@ def _curve(panel, snr: Sequence[float], rates: Sequence[Proportion], colour: str
                    linestyle=line, markersize=6, linewidth=1.5, elinewidth=1.1, capsize=3.5, label=label)
     none = ~seen
     if none.any():
-        panel.plot(x[none], high[none], color=colour, marker="v", linestyle="none", markersize=7, markerfacecolor="white",
-                   label=f"{label[:3]} at most, no error seen")
+        # One larger than the other, since both may be at the same place.
+        panel.plot(x[none], high[none], color=colour, marker="v", linestyle="none", markersize=11 if marker == "s" else 6, markerfacecolor="white",
+                   label=f"{label.split(',')[0]} at most, no error seen")
     drawn = np.concatenate((low[seen], high[none] / 2))
     return float(drawn[drawn > 0].min()) if (drawn > 0).any() else 1.0

@@ -1,12 +1,14 @@
 """Running the program ``radio``.
 
-The program is, in this order: the path that is given, the environment variable ``MIZGAURE_RADIO``, and the script
-``radio`` of the clone that this package stands in. That script builds the program at its first call.
+The program is, in this order: the path that is given, the environment variable ``MIZGAURE_RADIO``, the script ``radio`` of
+the clone that this package stands in, and the first ``radio`` on the PATH. That script builds the program at its first
+call.
 """
 
 from __future__ import annotations
 
 import os
+import shutil
 import subprocess
 import sys
 import threading
@@ -23,6 +25,7 @@ VARIABLE = "MIZGAURE_RADIO"
 STATUSES = {3: "it couldn't read its input", 4: "it couldn't write its output", 5: "it ran out of memory",
             6: "a word of the call isn't UTF-8", 125: "it couldn't be built"}
 USAGE = 2
+THREADED = ("detect", "rx")
 PIECE = 1 << 16
 JOIN_SECONDS = 2  # what feeds a program that has ended may still wait for its source
 
@@ -43,9 +46,9 @@ def find_radio(given: Optional[str] = None) -> str:
     path = given or os.environ.get(VARIABLE)
     if not path:
         clone = Path(__file__).resolve().parents[3]
-        path = str(clone / "radio")
-        if not os.path.isfile(path):
-            raise ProgramError(f"the program radio wasn't found: set {VARIABLE} to its path")
+        path = str(clone / "radio") if (clone / "crates").is_dir() else shutil.which("radio")
+        if not path:
+            raise ProgramError(f"the program radio wasn't found: it is on no folder of PATH, and {VARIABLE} isn't set")
     if not (os.path.isfile(path) and os.access(path, os.X_OK)):
         raise ProgramError(f"{path} is no program that can be run")
     return path
@@ -88,6 +91,17 @@ class Progress:
                 self.percent = percent
                 print(f"\r{self.label}: {percent} %", end="", file=sys.stderr, flush=True)
 
+    def say(self, line: str) -> None:
+        """Print a line on standard output, above the bar where there is one."""
+        if self.bar is not None:
+            self.bar.write(line)
+        else:
+            if self.percent >= 0:
+                self.close()
+                self.percent = -1
+            print(line)
+        sys.stdout.flush()
+
     def close(self) -> None:
         """Take the bar away."""
         if self.bar is not None:
@@ -105,11 +119,14 @@ class Radio:
         Its path; see the head of this module for where it is looked for.
     progress : bool, optional
         Whether a bar shows on standard error how far an input was read. By default where that is a terminal.
+    workers : int, optional
+        The threads with which ``detect`` and ``rx`` run; by default the program's own number.
     """
 
-    def __init__(self, path: Optional[str] = None, progress: Optional[bool] = None) -> None:
+    def __init__(self, path: Optional[str] = None, progress: Optional[bool] = None, workers: Optional[int] = None) -> None:
         self.path = find_radio(path)
         self.progress = progress
+        self.workers = workers
         self._known: Dict[str, bool] = {}
 
     def knows(self, word: str) -> bool:
@@ -162,7 +179,7 @@ class Radio:
             # The program reads standard input itself: a thread that waits there couldn't be ended.
             own = stream is getattr(sys.stdin, "buffer", None)
             try:
-                child = subprocess.Popen([self.path, word], stdin=None if own else subprocess.PIPE, stdout=subprocess.PIPE)
+                child = subprocess.Popen(self._call(word), stdin=None if own else subprocess.PIPE, stdout=subprocess.PIPE)
             except OSError as error:
                 raise ProgramError(f"{self.path} can't be run: {error.strerror}") from error
             assert child.stdout is not None
@@ -185,6 +202,10 @@ class Radio:
                 raise InputError(f"the input can't be read: {failed[0].strerror}")
             if not cut and status not in (0, 1):
                 raise ProgramError(self._told(word, status))
+
+    def _call(self, word: str) -> List[str]:
+        workers = [] if self.workers is None or word not in THREADED else ["--workers", str(self.workers)]
+        return [self.path, word, *workers]
 
     def _feed(self, word: str, stream: BinaryIO, sink: BinaryIO, failed: List[OSError]) -> None:
         bar = Progress(_size(stream), f"radio {word}", self.progress)
@@ -241,7 +262,6 @@ class Radio:
 
     def rx(self, source: Source) -> list:
         """All answers of ``radio rx``: a list of `FrameAnswer`. Raises as `detect`, and where there is no such command."""
-        self.need("rx")
         return self._all("rx", source)
 
     def _all(self, word: str, source: Source) -> list:
@@ -263,7 +283,6 @@ class Radio:
         ProgramError
             If the program has no command ``tx``.
         """
-        self.need("tx")
         with self.text("tx", octets) as output:
             made = output.read()
         if made.startswith(b"refused "):

@@ -58,14 +58,14 @@ class MeasuredFrame:
     def erased_mask(self) -> np.ndarray:
         """Which subcarriers are erased: bool, shape (subcarriers,)."""
         carriers = self.rate.subcarriers
-        given = np.asarray([] if self.erased is None else self.erased)
+        given = _numbers("erased", [] if self.erased is None else self.erased, "biuf")
         if given.dtype == bool:
             if given.shape != (carriers,):
                 raise InputError(f"erased has the shape {given.shape}, and {(carriers,)} is asked for")
             return given.copy()
         mask = np.zeros(carriers, bool)
         for index in given.reshape(-1):
-            if index != int(index) or not 0 <= index < carriers:
+            if not 0 <= index < carriers or index != int(index):
                 raise InputError(f"subcarrier {index} is erased, and the subcarriers are 0 to {carriers - 1}")
             mask[int(index)] = True
         return mask
@@ -107,7 +107,7 @@ class Capture:
         return bound * (2 * np.sqrt(np.asarray(distance, float)) + bound)
 
 
-def capture(frames: Iterable[MeasuredFrame], gain: Optional[Union[float, Sequence[float]]] = None) -> Capture:
+def capture(frames: Iterable[MeasuredFrame], gain: Optional[Union[float, Sequence[float]]] = None, *, first: int = 0) -> Capture:
     """Make a capture of frames in floating point.
 
     Parameters
@@ -116,6 +116,8 @@ def capture(frames: Iterable[MeasuredFrame], gain: Optional[Union[float, Sequenc
     gain : float or sequence of float, optional
         What each frame is multiplied with before it is rounded, one number for all frames or one for each. By default the
         largest with which nothing of the frame leaves its field.
+    first : int
+        The number of the first frame, for messages.
 
     Returns
     -------
@@ -137,7 +139,7 @@ def capture(frames: Iterable[MeasuredFrame], gain: Optional[Union[float, Sequenc
         gains = list(gain)  # type: ignore[arg-type]
         if len(gains) != len(frames):
             raise InputError(f"{len(gains)} gains are given for {len(frames)} frames")
-    made = [_quantised(number, frame, asked) for number, (frame, asked) in enumerate(zip(frames, gains))]
+    made = [_quantised(number, frame, asked) for number, (frame, asked) in enumerate(zip(frames, gains), first)]
     used = np.array([scale for _, scale in made], float)
     return Capture([frame for frame, _ in made], used, np.array([rounding_bound(frame.rate) for frame, _ in made], float))
 
@@ -158,13 +160,24 @@ def rounding_bound(rate: Rate) -> float:
     return float(np.sqrt(np.sum(real**2) + np.sum(imag**2)))
 
 
+def _numbers(name: str, given: object, kinds: str) -> np.ndarray:
+    """An array of numbers of some kinds, refused under its name where it is anything else."""
+    try:
+        array = np.asarray(given)
+    except ValueError:
+        raise InputError(f"{name} isn't an array of numbers") from None
+    if array.size and array.dtype.kind not in kinds:
+        raise InputError(f"{name} isn't an array of numbers, but of {array.dtype}")
+    return array
+
+
 def _quantised(number: int, frame: MeasuredFrame, gain: Optional[float]):
     try:
         rate, erased = frame.rate, frame.erased_mask()
         symbols = rate.symbols(frame.length)
+        channel, received = (_numbers(name, getattr(frame, name), "biufc").astype(complex) for name in ("channel", "received"))
     except InputError as error:
         raise InputError(f"frame {number}: {error}") from error
-    channel, received = np.asarray(frame.channel, complex), np.asarray(frame.received, complex)
     antennas = channel.shape[1] if channel.ndim == 3 else 0
     if antennas == 0:
         raise InputError(f"frame {number}: channel has the shape {channel.shape}, and (subcarriers, antennas, streams) is asked for")
@@ -173,12 +186,15 @@ def _quantised(number: int, frame: MeasuredFrame, gain: Optional[float]):
     if erased.all():
         raise InputError(f"frame {number}: all subcarriers are erased, and a frame has a present one")
     _check_finite(number, channel, received, erased)
-    triangles, samples = rotate(rate, channel, received, erased)
-    if gain is None:
-        gain = _largest_gain(triangles, samples)
-    elif not (np.isfinite(gain) and gain > 0):
-        raise InputError(f"frame {number}: the gain is {gain}, and has to be above 0")
-    triangles, samples = _rounded(triangles * gain), _rounded(samples * gain)
+    with np.errstate(all="ignore"):
+        triangles, samples = rotate(rate, channel, received, erased)
+        if gain is None:
+            gain = _largest_gain(triangles, samples)
+        elif not (np.isfinite(gain) and gain > 0):
+            raise InputError(f"frame {number}: the gain is {gain}, and has to be above 0")
+        if not all(np.isfinite(part).all() for part in (triangles, samples, gain)):
+            raise FitError(f"frame {number}: the parts of the channel and of what was received are too large or too small to be scaled")
+        triangles, samples = _rounded(triangles * gain), _rounded(samples * gain)
     _check_fit(number, triangles, samples, gain)
     return CaptureFrame(rate, frame.length, triangles, samples, erased), float(gain)
 
@@ -207,8 +223,7 @@ def rotate(rate: Rate, channel: np.ndarray, received: np.ndarray, erased: np.nda
     if missing > 0:  # antennas that hear nothing, so that there is a row for each stream
         scaled = np.pad(scaled, ((0, 0), (0, missing), (0, 0)))
         vectors = np.pad(vectors, ((0, 0), (0, 0), (0, missing)))
-    parts = [np.linalg.qr(matrix) for matrix in scaled]
-    rotation, triangles = (np.stack(part) for part in zip(*parts))
+    rotation, triangles = np.linalg.qr(scaled)
     diagonal = np.einsum("cii->ci", triangles)
     size = np.abs(diagonal)
     phases = np.where(size > 0, diagonal / np.where(size > 0, size, 1), 1)

@@ -12,15 +12,17 @@ from functools import lru_cache
 
 import numpy as np
 
-from .errors import InputError
+from .errors import InputError, whole_number
 
 MODULATIONS = ("BPSK", "QPSK", "QPSK", "16-QAM", "16-QAM", "64-QAM", "64-QAM", "64-QAM")
 CODING_RATES = tuple(Fraction(*pair) for pair in ((1, 2), (1, 2), (3, 4), (1, 2), (3, 4), (2, 3), (3, 4), (5, 6)))
 BITS_PER_POINT = (1, 2, 2, 4, 4, 6, 6, 6)
+ERROR_LIMITS = (-5, -10, -13, -16, -19, -22, -25, -28)
 PILOT_INDEXES = {20: (7, 21, 34, 48), 40: (5, 33, 47, 66, 80, 108)}
 SUBCARRIER_SPAN = {20: (1, 28), 40: (2, 58)}
 TWO_ENCODERS = frozenset((21, 22, 23, 28, 29, 30, 31))
 LONGEST = 65535
+MIDDLE = 112  # the place of 0 in a table of labels
 
 # The levels of one axis by its label, the label's bits read as a number with the first bit as the most significant.
 AXIS_LEVELS = {1: (-1, 1), 2: (-3, -1, 3, 1), 3: (-7, -5, -1, -3, 7, 5, 1, 3)}
@@ -47,6 +49,8 @@ class Rate:
     mcs: int
 
     def __post_init__(self) -> None:
+        for name, label in (("bandwidth", "bandwidth"), ("mcs", "MCS")):
+            object.__setattr__(self, name, whole_number(label, getattr(self, name)))
         if self.bandwidth not in (20, 40):
             raise InputError(f"the bandwidth is {self.bandwidth} MHz, and only 20 and 40 are known")
         if not 0 <= self.mcs <= 31:
@@ -155,6 +159,14 @@ class Rate:
         return {1: 1, 2: 2, 4: 10, 6: 42}[self.bits_per_point]
 
     @property
+    def error_limit(self) -> int:
+        """The relative constellation error that a transmitter may have, in dB (clause 20.3.20.7.3).
+
+        Editions differ in that of 64-QAM at 5/6, -28 or -27; the stricter one is taken.
+        """
+        return ERROR_LIMITS[self.mcs % 8]
+
+    @property
     def normalising_factor(self) -> float:
         """K_MOD of clause 18.3.5.8: 1, 1/sqrt(2), 1/sqrt(10) or 1/sqrt(42)."""
         return float(self.power) ** -0.5
@@ -180,7 +192,7 @@ def check_length(length: int) -> None:
     InputError
         If it isn't 1 to 65535.
     """
-    if not 1 <= length <= LONGEST:
+    if not 1 <= whole_number("length", length) <= LONGEST:
         raise InputError(f"a frame has 1 to {LONGEST} octets, and not {length}")
 
 
@@ -246,12 +258,18 @@ def labels_of(points: np.ndarray, rate: Rate) -> np.ndarray:
     ndarray of int8, of the same shape
         The label, or -1 where the point isn't one of the constellation.
     """
-    table = np.full((15, 15), -1, np.int8)
-    known = rate.points
-    table[known.real.astype(int) + 7, known.imag.astype(int) + 7] = np.arange(known.size)
     points = np.asarray(points, complex)
     real, imag = points.real, points.imag
     whole = (np.rint(real) == real) & (np.rint(imag) == imag) & (abs(real) <= 7) & (abs(imag) <= 7)
-    i = np.where(whole, real, 0).astype(int) + 7
-    q = np.where(whole, imag, 0).astype(int) + 7
-    return np.where(whole, table[i, q], np.int8(-1))
+    place = np.where(whole, 15 * real + imag, 0).astype(np.intp)  # 0 is no point
+    return _label_table(rate.bits_per_point).take(place + MIDDLE)
+
+
+@lru_cache(maxsize=None)
+def _label_table(bits: int) -> np.ndarray:
+    """The label of I + iQ at 15 I + Q + MIDDLE, for levels from -7 to 7, and -1 where there is no such point: int8, shape (225,)."""
+    table = np.full(2 * MIDDLE + 1, -1, np.int8)
+    points = _points(bits)
+    table[(15 * points.real + points.imag).astype(int) + MIDDLE] = np.arange(points.size)
+    table.setflags(write=False)
+    return table

@@ -1,4 +1,4 @@
-use Rattle.std.proofs.Common.{◌≡◌, ◌+◌, ◌*◌, ◌-◌, List, length, sym, ap, ◌∙◌, arith}
+use Rattle.std.proofs.Common.{List, length, sym, ap, ◌∙◌, arith}
 use Rattle.std.proofs.lemmas.List.{length-replicate}
 use Rattle.ht_pam.specs.declared.axes.Axes.{Axes}
 use Rattle.ht_metric.specs.Arrays.{length-rows_of}

@@ -1,4 +1,4 @@
-use Rattle.std.proofs.Common.{◌≡◌, ◌+◌, [], ◌∷◌, ◌∙◌, arith}
+use Rattle.std.proofs.Common.{[], ◌∷◌, ◌∙◌}
 use Rattle.ht_io.proofs.Calls.{later-later}
 use Rattle.ht_fields.proofs.Joins.{gives_more}
 use Rattle.ht_heads.specs.Starts.{Body}

@@ -1,4 +1,4 @@
-use Rattle.std.proofs.Common.{◌≡◌, List, ℕ, Bool, [], ◌∷◌, ◌++◌, length, flat_map, ap, ◌∙◌}
+use Rattle.std.proofs.Common.{◌≡◌, List, Bool, [], ◌∷◌, ◌++◌, length, flat_map, ap, ◌∙◌}
 use Rattle.byteorder.specs.Endian.{big_bytes}
 use Rattle.ht_metric.specs.Arrays.{legs, samples}
 use Rattle.ht_metric.specs.Rows.{Row}

@@ -1,6 +1,6 @@
-use Rattle.std.proofs.Common.{◌≡◌, ◌++◌, List, Bool, map, take, drop, ap, subst, sym, ◌∙◌}
+use Rattle.std.proofs.Common.{◌≡◌, ◌++◌, List, Bool, map, take, ap, subst, ◌∙◌}
 use Rattle.ht_fields.proofs.Putting.{on_err_then}
-use Rattle.ht_cert.specs.Files.{front_octets, mark_octet, record_octets}
+use Rattle.ht_cert.specs.Files.{mark_octet, record_octets}
 use Rattle.ht_io.specs.Pieces.{KnownGrownByPart}
 use Rattle.ht_cert.proofs.Written.{part_record}
 use Rattle.ht_cert.proofs.writing.write_record.Goals as goal

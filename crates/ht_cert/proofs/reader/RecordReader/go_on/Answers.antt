@@ -1,6 +1,6 @@
-use Rattle.std.proofs.Common.{◌≡◌, subst, sym}
+use Rattle.std.proofs.Common.{subst, sym}
 use Rattle.ht_io.specs.declared.faults.InFault.{InFault}
-use Rattle.ht_cert.specs.Formats.{next_turn, records_due}
+use Rattle.ht_cert.specs.Formats.{records_due}
 use Rattle.ht_cert.specs.Readers.{Fails, here}
 use Rattle.ht_cert.proofs.Reading.{file_ends, file_goes_on}
 use Rattle.ht_cert.proofs.reader.RecordReader.go_on.Goals as goal

@@ -1,0 +1,76 @@
+"""``mizgaure capture``: a capture from channels and received vectors in floating point."""
+
+from __future__ import annotations
+
+import argparse
+import io
+import sys
+from typing import Dict
+
+import numpy as np
+
+from ..errors import InputError
+from ..files import naming, reading, refuse_overwriting
+from ..formats import write_htcp
+from ..quantise import MeasuredFrame, capture
+from .base import Command, octets, positive
+
+
+def words(command: argparse.ArgumentParser) -> None:
+    command.add_argument("frames", metavar="FRAME.npz", nargs="+",
+                         help="a frame each: the arrays channel, received, bandwidth, mcs, length and, if any, erased")
+    command.add_argument("-o", "--output", metavar="FILE", required=True, help="the capture (HTCP) to write; - is standard output")
+    command.add_argument("--gain", type=positive, help="what to multiply with before rounding (default: for each frame the largest that fits)")
+    command.add_argument("--format", type=int, choices=(1, 2), help="the version of the capture (default 1, and 2 where a subcarrier is erased)")
+
+
+def run(given: argparse.Namespace) -> None:
+    refuse_overwriting(given.output, given.force)
+    made = []
+    for number, path in enumerate(given.frames):
+        with naming(path):
+            made.append(capture([measured(path)], given.gain, first=number))
+    frames = [frame for part in made for frame in part.frames]
+    write_htcp(given.output, frames, version=given.format, force=given.force)
+    for path, frame, part in zip(given.frames, frames, made):
+        print(f"{path}: {frame.rate}, {octets(frame.length)}, gain {part.gains[0]:.6g}, "
+              f"the root of a distance is off by at most {part.bounds[0]:.3g}", file=sys.stderr)
+
+
+ASKED = ("channel", "received", "bandwidth", "mcs", "length")
+
+
+def measured(path: str) -> MeasuredFrame:
+    """The frame that an archive of arrays holds."""
+    arrays = _arrays(path)
+    missing = [name for name in ASKED if name not in arrays]
+    if missing:
+        raise InputError(f"{path} has no array {missing[0]}")
+    whole = (_whole(path, name, arrays[name]) for name in ("bandwidth", "mcs", "length"))
+    return MeasuredFrame(*whole, arrays["channel"], arrays["received"], arrays.get("erased"))
+
+
+def _arrays(path: str) -> Dict[str, np.ndarray]:
+    """The arrays of an archive that are asked for, by name."""
+    with reading(path) as stream:
+        try:
+            loaded = np.load(io.BytesIO(stream.read()) if path == "-" else stream, allow_pickle=False)
+            if isinstance(loaded, np.ndarray):
+                raise InputError(f"{path} is one array, and an archive of arrays (.npz) is asked for")
+            found = {name: loaded[name] for name in (*ASKED, "erased") if name in loaded.files}
+        except (InputError, MemoryError):
+            raise
+        except Exception as error:  # what numpy and zipfile raise at files that are none is no closed list
+            raise InputError(f"{path} is no archive of arrays (.npz)") from error
+    if not all(isinstance(array, np.ndarray) for array in found.values()):
+        raise InputError(f"{path} is no archive of arrays (.npz)")
+    return found
+
+
+def _whole(path: str, name: str, array: np.ndarray) -> int:
+    if array.size != 1 or array.dtype.kind not in "iu":
+        raise InputError(f"{path}: {name} has to be one whole number")
+    return int(array.reshape(-1)[0])
+
+
+COMMAND = Command("capture", "make a capture from channels and received vectors in floating point", words, run, writes=True)

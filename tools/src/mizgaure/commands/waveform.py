@@ -1,0 +1,80 @@
+"""``mizgaure waveform``: packets of a file of symbols as a recording of complex samples."""
+
+from __future__ import annotations
+
+import argparse
+import sys
+from typing import Optional
+
+from ..air.recording import WRITTEN, Layout, write_recording
+from ..air.simulate import Scene, record_packets
+from ..errors import InputError
+from ..files import naming
+from ..formats import read_htsy
+from .base import Command, held, not_negative, positive, whole
+
+
+def ratio(word: str) -> Optional[float]:
+    """A ratio in dB, or the word none."""
+    if word == "none":
+        return None
+    try:
+        number = float(word)
+    except ValueError:
+        number = float("nan")
+    if not abs(number) <= 300:
+        raise argparse.ArgumentTypeError(f"{word} is neither a ratio from -300 to 300 dB nor none")
+    return number
+
+
+def parts_per_million(word: str) -> float:
+    """A number, below 0 or above."""
+    try:
+        return float(word)
+    except ValueError:
+        raise argparse.ArgumentTypeError(f"{word} is no number") from None
+
+
+def words(command: argparse.ArgumentParser) -> None:
+    scene = Scene()
+    command.add_argument("symbols", metavar="SYMBOLS", help="a file of symbols (HTSY), as radio tx writes it; - is standard input")
+    command.add_argument("-o", "--output", metavar="RECORDING", required=True,
+                         help="the name of a SigMF recording (a .sigmf-meta and a .sigmf-data), or with --raw of a file of samples")
+    command.add_argument("--datatype", choices=WRITTEN, default=WRITTEN[0], help="of the samples (default cf32_le)")
+    command.add_argument("--raw", action="store_true", help="write the samples alone")
+    command.add_argument("--guard", choices=("long", "short"), default="long", help="the guard interval of data symbols (default long)")
+    command.add_argument("--aggregated", action="store_true", help="say in HT-SIG that the octets are an A-MPDU")
+    command.add_argument("--antennas", type=whole, default=scene.antennas, help="receive antennas (default: as many as streams)")
+    command.add_argument("--spread", metavar="NS", type=not_negative, default=scene.spread,
+                         help="the delay spread in nanoseconds; 0, the default, wires antennas to streams")
+    command.add_argument("--offset", metavar="PPM", type=parts_per_million, default=scene.offset,
+                         help="of the oscillators, in parts per million (default 0)")
+    command.add_argument("--frequency", metavar="HZ", type=positive, default=scene.frequency, help="of the carrier (default 5.18e9)")
+    command.add_argument("--snr", type=ratio, default=scene.snr, help="in dB, or none for no noise (default 35)")
+    command.add_argument("--gap", metavar="US", type=not_negative, default=scene.gap,
+                         help="the silence between packets in microseconds (default 20)")
+    command.add_argument("--seed", type=whole, default=scene.seed, help="of the random numbers (default 1)")
+
+
+def run(given: argparse.Namespace) -> None:
+    scene = Scene(given.antennas, given.spread, given.offset, given.frequency, given.snr, given.gap, given.guard == "short",
+                  given.aggregated, given.seed)
+    scene.check()
+    source = held(given.symbols)
+    with naming(given.symbols):
+        rates = [frame.rate for frame in read_htsy(source)]
+        if not rates:
+            raise InputError("there is no frame in it")
+    oversampling = max(rate.bandwidth for rate in rates) // 20
+    antennas = scene.antennas or max(rate.streams for rate in rates)
+    layout = Layout(given.datatype, 20e6 * oversampling, antennas)
+    writer = write_recording(given.output, layout, lambda writer: record_packets(read_htsy(source), scene, antennas, oversampling, writer),
+                             raw=given.raw, frequency=scene.frequency, description="Packets of IEEE 802.11n in HT-mixed format",
+                             force=given.force)
+    clipped = f", {writer.clipped} parts clipped" if writer.clipped else ""
+    packets = "1 packet" if len(rates) == 1 else f"{len(rates)} packets"
+    channels = "1 channel" if antennas == 1 else f"{antennas} channels"
+    print(f"{packets}, {channels} of {writer.length} samples at {20 * oversampling} million a second, {given.datatype}{clipped}", file=sys.stderr)
+
+
+COMMAND = Command("waveform", "write the packets of a file of symbols as a recording of complex samples", words, run, writes=True)

@@ -1,0 +1,350 @@
+"""One page on captures, in HTML: a file that asks no net for anything, with its pictures inside. It needs matplotlib.
+
+The pictures are drawn small and stand beside one another where there is room, so that the page is read on a screen of any
+width.
+"""
+
+from __future__ import annotations
+
+import base64
+import hashlib
+import html
+import io
+from contextlib import ExitStack
+from dataclasses import dataclass, field
+from typing import Dict, Iterable, Iterator, List, Optional, Sequence, Tuple
+
+import numpy as np
+
+from .answers import FrameAnswer, Jobs
+from .errors import ProgramError
+from .files import naming, reading
+from .formats import CaptureFrame, read_htcp
+from .judge import Judgement, judge
+from .measures import Magnitudes, constellation_tests, decibels, evm, percent, residual_ratio
+from .packets import Psdu, take_apart
+from .pictures import BLUE, INK, ORANGE, STYLE, constellation_panel, matplotlib_of, over_subcarriers_panel
+from .program import Radio
+from .rates import Rate
+
+DOTS_PER_INCH = 170
+
+
+@dataclass(eq=False)
+class FrameReport:
+    """What the page says of a frame.
+
+    Parameters
+    ----------
+    number : int
+    rate : Rate
+    length, symbols, erased : int
+        Octets, symbols, and subcarriers that weren't received.
+    standard, residual : Magnitudes
+        The error vector magnitude and the detector's residuals.
+    answer : FrameAnswer or None
+    psdu : Psdu or None
+        What its octets carry.
+    pictures : list of (str, str)
+        Each with what it shows, as PNG in base64.
+    """
+
+    number: int
+    rate: Rate
+    length: int
+    symbols: int
+    erased: int
+    standard: Magnitudes
+    residual: Magnitudes
+    answer: Optional[FrameAnswer] = None
+    psdu: Optional[Psdu] = None
+    pictures: List[Tuple[str, str]] = field(default_factory=list)
+
+
+@dataclass(eq=False)
+class CaptureReport:
+    """What the page says of a capture.
+
+    Parameters
+    ----------
+    name : str
+    octets : int
+    digest : str
+        SHA-256.
+    frames : list of FrameReport
+    theirs : str
+        The name of another receiver's answers, empty where there are none.
+    judgement : Judgement or None
+        On these.
+    """
+
+    name: str
+    octets: int
+    digest: str
+    frames: List[FrameReport] = field(default_factory=list)
+    theirs: str = ""
+    judgement: Optional[Judgement] = None
+
+
+def examine(path: str, radio: Radio, theirs: Optional[str] = None, pictured: int = 2) -> CaptureReport:
+    """Detect, decode, measure and draw a capture.
+
+    Parameters
+    ----------
+    path : str
+        A capture.
+    radio : Radio
+    theirs : str, optional
+        Another receiver's answers, as `judge` reads them.
+    pictured : int
+        How many frames have pictures, from the first on.
+
+    Returns
+    -------
+    CaptureReport
+
+    Raises
+    ------
+    FormatError, InputError
+        If the capture or the answers can't be used.
+    ProgramError
+        If the program fails.
+    """
+    with reading(path) as stream:
+        digest, octets = hashlib.sha256(), 0
+        while piece := stream.read(1 << 20):
+            digest.update(piece)
+            octets += len(piece)
+    made = CaptureReport(path, octets, digest.hexdigest())
+    with naming(path), ExitStack() as stack:
+        detected = stack.enter_context(radio.answers("detect", path))
+        decoded = stack.enter_context(radio.answers("rx", path))
+        for number, frame in enumerate(read_htcp(path)):
+            jobs, answer = next(detected, None), next(decoded, None)
+            if not isinstance(jobs, Jobs) or not isinstance(answer, FrameAnswer):
+                raise ProgramError(f"{radio.path} gave no answers to frame {number}")
+            report = FrameReport(number, frame.rate, frame.length, frame.samples.shape[0], int(frame.erased.sum()), evm(frame),
+                                 residual_ratio(frame, jobs), answer, None if answer.octets is None else take_apart(answer.octets))
+            if number < pictured:
+                report.pictures = list(_pictures(frame, jobs, report.standard))
+            made.frames.append(report)
+    if theirs is not None:
+        made.theirs, made.judgement = theirs, judge(path, theirs, radio=radio)
+    return made
+
+
+# pictures
+
+def _pictures(frame: CaptureFrame, jobs: Jobs, standard: Magnitudes) -> Iterator[Tuple[str, str]]:
+    """What each picture shows, and the picture."""
+    matplotlib, Figure = matplotlib_of()
+    with matplotlib.rc_context({**STYLE, "font.size": 9, "axes.titlesize": 10, "axes.labelsize": 9}):
+        for stream in range(frame.rate.streams):
+            figure = Figure(figsize=(3.6, 3.7), layout="constrained")
+            constellation_panel(figure.subplots(), frame, jobs, stream)
+            yield f"stream {stream + 1}: received, after the rotation, and the points decided on", _png(figure)
+        figure = Figure(figsize=(4.6, 3.7), layout="constrained")
+        _magnitude_panel(figure.subplots(), frame, standard)
+        yield "error vector magnitude over the subcarriers", _png(figure)
+        figure = Figure(figsize=(4.6, 3.7), layout="constrained")
+        _distance_panel(figure.subplots(), frame, jobs)
+        yield "least distances", _png(figure)
+
+
+def _magnitude_panel(panel, frame: CaptureFrame, standard: Magnitudes) -> None:
+    limit = frame.rate.error_limit
+    over_subcarriers_panel(panel, frame, decibels(standard.cells), [f"{decibels(value):.1f} dB" for value in standard.streams])
+    panel.axhline(limit, color=INK, linewidth=1, linestyle=(0, (5, 2)), label=f"limit {limit} dB")
+    panel.set(xlabel="subcarrier number", ylabel="error vector magnitude (dB)", title="error vector magnitude")
+    panel.legend(loc="upper center", bbox_to_anchor=(0.5, -0.16), ncol=2, fontsize=8)
+
+
+def _distance_panel(panel, frame: CaptureFrame, jobs: Jobs) -> None:
+    values, pilot = jobs.distance.astype(float), frame.rate.is_pilot[jobs.carrier]
+    top = float(np.quantile(values, 0.995)) if values.size else 1.0
+    bins = np.linspace(0, top if top > 0 else 1.0, 41)
+    for part, colour, line, label in ((values[~pilot], BLUE, "-", "data"), (values[pilot], ORANGE, "--", "pilots")):
+        if part.size:
+            panel.hist(part, bins=bins, weights=np.full(part.size, 100 / part.size), histtype="step", color=colour, linewidth=1.4, linestyle=line,
+                       label=f"{label}, {part.size} jobs")
+    panel.set(xlabel="least distance (squared units of the capture)", ylabel="share of the jobs (% a bin)", title="distances of the nearest vectors")
+    panel.ticklabel_format(axis="x", style="sci", scilimits=(-3, 4), useMathText=True)
+    panel.legend(loc="upper right", fontsize=8)
+
+
+def _png(figure) -> str:
+    made = io.BytesIO()
+    figure.savefig(made, format="png", dpi=DOTS_PER_INCH, metadata={"Software": None}, facecolor="white")
+    return base64.b64encode(made.getvalue()).decode()
+
+
+# the page
+
+STYLES = """
+:root { color-scheme: light; }
+* { box-sizing: border-box; }
+body { margin: 0 auto; max-width: 78rem; padding: 1rem 1.25rem 3rem; font: 15px/1.5 system-ui, "DejaVu Sans", sans-serif; color: #222; background: #fff; }
+h1 { font-size: 1.5rem; line-height: 1.25; margin: .5rem 0 .25rem; }
+h2 { font-size: 1.15rem; margin: 2.25rem 0 .5rem; padding-top: .75rem; border-top: 1px solid #ddd; overflow-wrap: anywhere; }
+h3 { font-size: 1rem; margin: 1.5rem 0 .5rem; }
+p, dl { margin: .4rem 0; }
+.quiet { color: #555; }
+.facts { display: grid; grid-template-columns: max-content 1fr; gap: .15rem 1rem; }
+.facts dt { color: #555; }
+.facts dd { margin: 0; overflow-wrap: anywhere; }
+.wide { overflow-x: auto; border: 1px solid #ddd; border-radius: 4px; }
+table { border-collapse: collapse; width: 100%; font-variant-numeric: tabular-nums; }
+th, td { padding: .35rem .7rem; text-align: left; border-bottom: 1px solid #eee; vertical-align: top; }
+th { background: #f6f6f6; font-weight: 600; }
+tr:last-child td { border-bottom: 0; }
+td.number, th.number { text-align: right; }
+td.number { white-space: nowrap; }
+.good::before { content: "\\2713\\00a0"; } .good { color: #00664b; }
+.bad::before { content: "\\2717\\00a0"; } .bad { color: #a63c00; font-weight: 600; }
+.pictures { display: flex; flex-wrap: wrap; gap: .75rem; align-items: flex-start; }
+figure { margin: 0; border: 1px solid #ddd; border-radius: 4px; padding: .25rem; max-width: 100%; }
+figure img { display: block; max-width: 100%; height: auto; }
+@media (max-width: 45rem) {
+  .facts { grid-template-columns: 1fr; gap: 0; }
+  .facts dd { margin-bottom: .35rem; }
+  thead { display: none; }
+  tr { display: block; padding: .4rem .7rem; border-bottom: 1px solid #ddd; }
+  td, td.number { display: grid; grid-template-columns: 8rem 1fr; padding: .1rem 0; border: 0; text-align: left; overflow-wrap: anywhere; }
+  td::before { content: attr(data-name); color: #555; }
+}
+@media print { .wide { overflow: visible; } figure { break-inside: avoid; } }
+"""
+
+
+def page(captures: Sequence[CaptureReport], title: str = "Captures, measured") -> str:
+    """The page.
+
+    Parameters
+    ----------
+    captures : sequence of CaptureReport
+    title : str
+
+    Returns
+    -------
+    str
+        A whole document of HTML.
+    """
+    parts = ["<!DOCTYPE html>", '<html lang="en">', "<head>", '<meta charset="utf-8">',
+             '<meta name="viewport" content="width=device-width, initial-scale=1">', f"<title>{_text(title)}</title>", f"<style>{STYLES}</style>",
+             "</head>", "<body>", f"<h1>{_text(title)}</h1>",
+             '<p class="quiet">Nearest vectors and octets are those that Mizgaure\'s program radio found. The program is proved; '
+             "this page and its measures are tested and not proved.</p>"]
+    if len(captures) > 1:
+        parts += _table(("capture", "#frames", "MPDUs with a good FCS", "EVM"), (_overview(each) for each in captures))
+    for each in captures:
+        parts += _capture_parts(each)
+    return "\n".join([*parts, "</body>", "</html>", ""])
+
+
+def _text(text: object) -> str:
+    return html.escape(str(text))
+
+
+def _verdict(good: bool, text: object) -> str:
+    return f'<span class="{"good" if good else "bad"}">{_text(text)}</span>'
+
+
+def _table(names: Sequence[str], rows: Iterable[Sequence[str]]) -> List[str]:
+    """A table; names that begin with # are of numbers, and cells are HTML."""
+    kinds = [' class="number"' if name.startswith("#") else "" for name in names]
+    head = "".join(f"<th{kind}>{_text(name.lstrip('#'))}</th>" for kind, name in zip(kinds, names))
+    told = [_text(name.lstrip("#")) for name in names]
+    lines = ["<tr>" + "".join(f'<td{kind} data-name="{name}"><span>{cell}</span></td>' for kind, name, cell in zip(kinds, told, row)) + "</tr>"
+             for row in rows]
+    return ['<div class="wide"><table>', f"<thead><tr>{head}</tr></thead>", "<tbody>", *lines, "</tbody>", "</table></div>"]
+
+
+def _mpdus(capture: CaptureReport) -> Tuple[int, int]:
+    psdus = [frame.psdu for frame in capture.frames if frame.psdu is not None]
+    return sum(psdu.good for psdu in psdus), sum(len(psdu.mpdus) for psdu in psdus)
+
+
+def _overview(capture: CaptureReport) -> Sequence[str]:
+    good, count = _mpdus(capture)
+    return _text(capture.name), str(len(capture.frames)), _verdict(good == count, f"{good} of {count}"), "<br>".join(_tests(capture)) or "none"
+
+
+def _tests(capture: CaptureReport) -> List[str]:
+    tests = constellation_tests((frame.rate, frame.symbols, frame.standard.frame) for frame in capture.frames)
+    return [_verdict(test.is_within, test) for test in tests]
+
+
+def _capture_parts(capture: CaptureReport) -> List[str]:
+    good, count = _mpdus(capture)
+    facts = [("octets", f"{capture.octets:,}"), ("SHA-256", f"<code>{capture.digest}</code>"), ("frames", str(len(capture.frames))),
+             ("MPDUs", _verdict(good == count, f"{good} of {count} with a good FCS")), ("EVM", "<br>".join(_tests(capture)) or "none")]
+    if capture.judgement is not None:
+        jobs, frames = capture.judgement.job_counts, capture.judgement.frame_counts
+        said = "; ".join(f"{what}: " + ", ".join(f"{number} {verdict}" for verdict, number in counts.items())
+                         for what, counts in (("jobs", jobs), ("frames", frames)) if any(counts.values()))
+        facts.append(("the other receiver", f"<code>{_text(capture.theirs)}</code><br>{_verdict(capture.judgement.is_clean, said)}, "
+                                            f"{capture.judgement.unanswered} without an answer"))
+    parts = [f"<h2>{_text(capture.name)}</h2>", '<dl class="facts">', *(f"<dt>{_text(name)}</dt><dd>{what}</dd>" for name, what in facts), "</dl>"]
+    names = ["#frame", "rate", "#octets", "#symbols", "EVM", "#limit", "residual ratio", "#code distance", "MPDUs"]
+    theirs = _theirs(capture.judgement)
+    names += ["the other receiver"] if theirs is not None else []
+    parts += ["<h3>Frames</h3>", *_table(names, (_row(frame, theirs) for frame in capture.frames))]
+    parts += ["<h3>What they carry</h3>", *_table(("#frame", "#MPDU", "#octets", "FCS", "MAC header"), (row for frame in capture.frames for row in _mpdu_rows(frame)))]
+    for frame in capture.frames:
+        if frame.pictures:
+            parts += [f"<h3>Frame {frame.number}</h3>", '<div class="pictures">']
+            for what, picture in frame.pictures:
+                name = _text(f"frame {frame.number}, {what}")
+                parts.append(f'<figure><img alt="{name}" title="{name}" src="data:image/png;base64,{picture}" width="{_width(picture)}"></figure>')
+            parts.append("</div>")
+    return parts
+
+
+def _width(picture: str) -> int:
+    """The width of a PNG on the page, in CSS pixels of 1/96 inch."""
+    across = int.from_bytes(base64.b64decode(picture[:32])[16:20], "big")
+    return round(across * 96 / DOTS_PER_INCH)
+
+
+def _row(frame: FrameReport, theirs: Optional[Dict[int, str]]) -> List[str]:
+    limit = frame.rate.error_limit
+    erased = f", {frame.erased} subcarriers erased" if frame.erased else ""
+    magnitude = _verdict(bool(decibels(frame.standard.frame) <= limit), percent(frame.standard.frame))
+    psdu = frame.psdu
+    if psdu is None:
+        carries = _verdict(False, "no octets")
+    else:
+        count = len(psdu.mpdus)
+        what = "A-MPDU" if psdu.aggregated else "MPDU"
+        carries = _verdict(psdu.good == count > 0, f"{what}, {psdu.good} of {count} good")
+    code = "" if frame.answer is None else str(frame.answer.code)
+    cells = [str(frame.number), _text(f"{frame.rate}{erased}"), str(frame.length), str(frame.symbols), magnitude, f"{limit} dB",
+             _text(percent(frame.residual.frame)), code, carries]
+    return cells + ([theirs.get(frame.number, "no answer")] if theirs is not None else [])
+
+
+def _mpdu_rows(frame: FrameReport) -> Iterator[List[str]]:
+    if frame.psdu is None:
+        yield [str(frame.number), "", "", "", _verdict(False, "no octets: the scrambler's seed is zero")]
+        return
+    for number, mpdu in enumerate(frame.psdu.mpdus):
+        header = "none" if mpdu.header is None else str(mpdu.header)
+        yield [str(frame.number), str(number), str(len(mpdu.octets)), _verdict(mpdu.good, "good" if mpdu.good else "bad"), _text(header)]
+    if frame.psdu.lost:
+        yield [str(frame.number), "", str(frame.psdu.lost), "", _verdict(False, "without a delimiter")]
+
+
+def _theirs(judgement: Optional[Judgement]) -> Optional[Dict[int, str]]:
+    """What is said of another receiver's answers to each frame, in HTML."""
+    if judgement is None:
+        return None
+    counts: Dict[int, Dict[str, int]] = {}
+    for part in judgement.jobs:
+        for verdict, number in zip(*np.unique(part.verdict, return_counts=True)):
+            of_frame = counts.setdefault(part.frame, {})
+            of_frame[str(verdict)] = of_frame.get(str(verdict), 0) + int(number)
+    said: Dict[int, List[str]] = {frame: [_verdict(not {"worse", "outside"} & set(found), "jobs: " + ", ".join(f"{n} {v}" for v, n in found.items()))]
+                                  for frame, found in counts.items()}
+    for verdict in judgement.frames:
+        said.setdefault(verdict.frame, []).append(_verdict(verdict.verdict != "wrong", f"octets: {verdict.verdict}"))
+    return {frame: "<br>".join(lines) for frame, lines in said.items()}

@@ -1,0 +1,147 @@
+"""Channels of a sweep, and functions and commands of the user's own."""
+
+import shlex
+import sys
+
+import numpy as np
+import pytest
+from conftest import TOP, octets_of, random_frame
+
+from mizgaure import InputError, ProgramError, Rate, plugs
+from mizgaure.channels import TGN, awgn, check_channel, delay_spread, draw, profile_of, tapped, tgn, tgn_profile
+from mizgaure.detectors import Detector, decided
+from mizgaure.distances import zero_forcing
+from mizgaure.sweep import Setting, random_symbols, received_frame
+
+PROFILE = ((0.0, 0.0), (100.0, -3.0), (250.0, -9.0))
+
+
+def test_the_delay_spreads_of_task_group_n():
+    """Document 11-03/940r4 gives 15 ns for model B and 50 ns for model D, rounded, and 9 and 18 taps."""
+    assert round(delay_spread(tgn_profile("tgn-b"))) in (15, 16) and round(delay_spread(tgn_profile("tgn-d"))) == 50
+    assert [len(tgn_profile(name)) for name in ("tgn-b", "tgn-d")] == [9, 18]
+    assert [tgn_profile(name)[-1][0] for name in ("tgn-b", "tgn-d")] == [80, 390]
+    assert all(tgn_profile(name)[0] == (0.0, 0.0) for name in TGN)
+
+
+@pytest.mark.parametrize("name", ["exponential", "flat", "tapped", "tgn-b", "tgn-d", "awgn"])
+@pytest.mark.parametrize("mcs, antennas", [(0, 2), (16, 3), (24, 4), (24, 2)])
+def test_each_antenna_receives_power_one(name, mcs, antennas):
+    rate, random = Rate(40, mcs), np.random.default_rng(3)
+    power = np.mean([(abs(draw(name, rate, antennas, 2.0, PROFILE, random)) ** 2).sum(axis=2).mean(axis=0) for _ in range(300)], axis=0)
+    assert power.shape == (antennas,) and power == pytest.approx(np.ones(antennas), abs=0.25 if name != "awgn" else 1e-12)
+
+
+def test_taps_are_seen_on_subcarriers_by_their_delays():
+    """The correlation of the subcarriers f and f + 16 is the sum of the powers turned by 2 pi 16 312.5 kHz tau."""
+    rate, random = Rate(20, 0), np.random.default_rng(5)
+    drawn = np.array([tapped(rate, 1, PROFILE, random)[:, 0, 0] for _ in range(6000)])
+    powers = 10 ** (np.array([0.0, -3.0, -9.0]) / 10)
+    turned = np.exp(2j * np.pi * 16 * 312.5e3 * np.array([0.0, 100e-9, 250e-9]))
+    first = int(np.flatnonzero(rate.frequencies == 1)[0])
+    assert np.mean(drawn[:, first].conj() * drawn[:, first + 16]) == pytest.approx((powers * turned.conj()).sum() / powers.sum(), abs=0.05)
+
+
+def test_a_narrow_cluster_correlates_antennas():
+    """Model B's first tap is its first cluster's alone, 14.4 degrees wide, so antennas half a wave apart fade together."""
+    rate, random = Rate(20, 24), np.random.default_rng(6)
+    drawn = np.array([tgn(rate, 4, "tgn-b", random)[30] for _ in range(2000)])
+
+    def likeness(one, two):
+        return abs(np.mean(one * two.conj())) / np.sqrt(np.mean(abs(one) ** 2) * np.mean(abs(two) ** 2))
+
+    next_to, three_off = likeness(drawn[:, 0, 0], drawn[:, 0, 1]), likeness(drawn[:, 0, 0], drawn[:, 0, 3])
+    assert 0.5 < next_to < 0.9 and three_off < next_to
+    assert np.allclose(awgn(rate, 4)[7], np.eye(4))
+
+
+@pytest.mark.parametrize("text", ["", "0", "0:0,50", "a:b", "-1:0", "0:201", "0:nan"])
+def test_texts_that_are_no_profile(text):
+    with pytest.raises(InputError):
+        profile_of(text)
+    assert profile_of("0:0,50:-3.5") == ((0.0, 0.0), (50.0, -3.5))
+
+
+def test_channels_that_are_none():
+    for channel, profile in (("tgn-z", ()), ("tapped", ()), ("file.txt:f", ())):
+        with pytest.raises(InputError):
+            check_channel(channel, profile)
+
+
+@pytest.fixture
+def own(tmp_path):
+    """A file with functions of the user's own, some of them bad."""
+    path = tmp_path / "own.py"
+    path.write_text("import numpy as np\n"
+                    "def channel(rate, antennas, generator):\n"
+                    "    return np.full((rate.subcarriers, antennas, rate.streams), 2j)\n"
+                    "def detect(frame, noise):\n"
+                    "    return np.linalg.solve(frame.triangles, frame.samples[..., None])[..., 0]\n"
+                    "def short(*words): return np.zeros(3)\n"
+                    "def text(*words): return 'text'\n"
+                    "def infinite(frame, noise): return frame.samples + np.inf\n"
+                    "def fails(*words): raise ValueError('not today')\n"
+                    "number = 3\n")
+    return path
+
+
+def test_functions_of_the_users_own(own):
+    rate, random = Rate(20, 8), np.random.default_rng(1)
+    assert (draw(f"{own}:channel", rate, 2, 0.0, (), random) == 2j).all()
+    for name, said in (("short", "gave an array of shape (3,), and (56, 2, 2) is asked for"), ("text", "gave no array of numbers"),
+                       ("fails", ": ValueError: not today"), ("missing", "has no function missing"), ("number", "has no function number")):
+        with pytest.raises(InputError, match=said.replace("(", r"\(").replace(")", r"\)")):
+            draw(f"{own}:{name}", rate, 2, 0.0, (), random)
+    with pytest.raises(InputError, match="can't be read: No such file"):
+        plugs.load(f"{own.parent}/none.py:f")
+    (own.parent / "bad.py").write_text("def f(:\n")
+    with pytest.raises(InputError, match="bad.py: SyntaxError"):
+        plugs.load(f"{own.parent}/bad.py:f")
+    plugs.keep({"elsewhere.py:f": "def f(): return 5\n"})
+    assert plugs.load("elsewhere.py:f")() == 5 and plugs.digest("elsewhere.py:f") == plugs.digest("elsewhere.py:f")
+
+
+def test_detectors_decide(own, radio):
+    """A function, a command and what is built in give the same where they are the same detector."""
+    setting, random = Setting(mcs=11, length=60), np.random.default_rng(2)
+    measured = received_frame(setting, 20.0, random_symbols(setting.rate, 60, random), random)
+    from mizgaure import capture
+
+    frames = capture([measured] * 2).frames
+    octets = octets_of(frames)
+    command = f"{shlex.quote(sys.executable)} -m mizgaure zero-forcing -"
+    with pytest.MonkeyPatch.context() as patch:
+        patch.setenv("PYTHONPATH", str(TOP / "tools" / "src"))
+        decisions = [Detector.of(f"zf={words}").decide(frames, octets, [1.0, 1.0]) for words in ("zero-forcing", f"{own}:detect", command)]
+    data = ~setting.rate.is_pilot
+    wanted = zero_forcing(frames[0]).points.reshape(frames[0].samples.shape)
+    for found in decisions:
+        assert len(found) == 2 and (found[0][:, data] == wanted[:, data]).all() and (found[1] == found[0]).all()
+    # What was decided is what the program finds in a capture made of it.
+    again = radio.detect(octets_of([decided(frames[0], wanted)]))[0]
+    assert (again.points.reshape(wanted.shape) == wanted).all() and (again.distance == 0).all()
+
+
+@pytest.mark.parametrize("text, error, said", [
+    ("zero-forcing", InputError, "a detector is given as NAME=FILE.py:FUNCTION or NAME=COMMAND, and not as zero-forcing"),
+    ("=x", InputError, "a detector is given as"),
+    ("reference=x", InputError, "reference is the name of the program's own detector"),
+    ("a='x", InputError, "the command of the detector a can't be read: No closing quotation"),
+    ("a=/nowhere/none", ProgramError, "the detector a: /nowhere/none can't be run: No such file or directory"),
+    ("a=false", ProgramError, "the detector a ended with status 1"),
+    ("a=echo job 0 0 0 1 0 1 0", InputError, "the detector a: it answers a job of frame 0 that its capture doesn't have"),
+    ("a=echo job 1 0 0 1 0", InputError, "the detector a: it answers a job of a frame that its capture doesn't have"),
+    ("a=echo what", InputError, "the detector a: line 1 is no answer to a job or a frame: 'what'"),
+    ("a={own}:infinite", InputError, "gave numbers that aren't finite"),
+])
+def test_detectors_that_fail(own, text, error, said):
+    frame = random_frame(Rate(20, 0), 1, seed=1)
+    with pytest.raises(error) as raised:
+        Detector.of(text.format(own=own)).decide([frame], octets_of([frame]), [1.0])
+    assert said in str(raised.value)
+
+
+def test_an_unanswered_job_counts_as_a_received_zero():
+    frame = random_frame(Rate(20, 0), 1, seed=1)
+    (points,) = Detector.of("a=echo job 0 0 3 1 0").decide([frame], octets_of([frame]), [1.0])
+    assert points[0, 3, 0] == 1 and (np.delete(points.reshape(-1), 3) == -1).all()

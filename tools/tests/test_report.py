@@ -1,0 +1,203 @@
+"""Packets, frames, the report and merged sweeps as a user meets them."""
+
+import html.parser
+import io
+import json
+import re
+import shutil
+import subprocess
+import sys
+
+import pytest
+from conftest import TOP, VECTORS
+
+from mizgaure import cli, read_htsy, read_httx
+from mizgaure.packets import aggregate, take_apart, with_fcs
+
+MPDUS = ["88010000020000000001020000000002020000000003100000006869", "b400000002000000000102:00:00:00:00:02"]
+
+
+@pytest.fixture
+def here(radio, tmp_path, monkeypatch, capsysbinary):
+    """The command in this process, which is faster than one of its own: words to the finished run."""
+
+    def run(*words: object, given: bytes = b"") -> subprocess.CompletedProcess:
+        capsysbinary.readouterr()
+        monkeypatch.setattr(sys, "stdin", io.TextIOWrapper(io.BytesIO(given)))
+        try:
+            status = cli.main([str(word) for word in words])
+        except SystemExit as ended:
+            status = ended.code
+        return subprocess.CompletedProcess(words, status, *capsysbinary.readouterr())
+
+    monkeypatch.chdir(tmp_path)
+    monkeypatch.setenv("MIZGAURE_RADIO", radio.path)
+    return run
+
+
+@pytest.fixture
+def sent(here, tmp_path):
+    """A capture of MPDUs, one of which is spoiled by its channel, and an A-MPDU of both."""
+    (tmp_path / "mpdus").write_text("# two MPDUs\n" + "\n".join(MPDUS) + "\n")
+    assert here("frames", "mpdus", "-o", "single.httx", "--mcs", 9).returncode == 0
+    assert here("frames", "mpdus", "-o", "both.httx", "--aggregate", 2, "--mcs", 4, "--bandwidth", 40, "--seed", 93).returncode == 0
+    return tmp_path
+
+
+def receive(radio, octets: bytes) -> bytes:
+    """Symbols through the program's own channel without noise."""
+    with radio.text("tx", octets) as symbols:
+        made = symbols.read()
+    with radio.text("channel", made) as capture:
+        return capture.read()
+
+
+def test_frames_are_made_of_lines(sent):
+    octets = [with_fcs(bytes.fromhex(line.replace(":", ""))) for line in MPDUS]
+    single, both = list(read_httx(sent / "single.httx")), list(read_httx(sent / "both.httx"))
+    assert [frame.octets for frame in single] == octets and [frame.seed for frame in single] == [1, 2]
+    assert [str(frame.rate)[:13] for frame in single] == ["20 MHz, MCS 9"] * 2
+    assert both[0].octets == aggregate(octets) and (both[0].seed, both[0].rate.mcs, both[0].rate.bandwidth, len(both)) == (93, 4, 40, 1)
+
+
+def test_packets_of_a_capture(sent, here, radio, tmp_path):
+    if not radio.knows("channel"):
+        pytest.skip("the program has no command channel")
+    octets = (tmp_path / "single.httx").read_bytes()
+    (tmp_path / "one.htcp").write_bytes(receive(radio, octets))
+    done = here("packets", "one.htcp", "-o", "one.pcap", "--csv", "one.csv", "--json", "one.json")
+    assert done.stderr == b"" and done.stdout.decode().splitlines() == [
+        "frame 0: MPDU of 32 octets, FCS good, QoS Data, BSSID 02:00:00:00:00:01, SA 02:00:00:00:00:02, DA 02:00:00:00:00:03, sequence 1",
+        "frame 1: MPDU of 20 octets, FCS good, RTS, RA 02:00:00:00:00:01, TA 02:00:00:00:00:02",
+        "2 frames, 2 MPDUs: 2 with a good FCS"]
+    rows = (tmp_path / "one.csv").read_text().splitlines()
+    assert rows[0].startswith("frame,bandwidth,mcs,aggregated,mpdu,offset,octets,fcs,type,sequence,RA,TA") and rows[2].startswith("1,20,9,false,0,0,20,good,RTS,,02:")
+    records = [json.loads(line) for line in (tmp_path / "one.json").read_text().splitlines()]
+    assert records[0]["sequence"] == 1 and records[1]["RA"] == "02:00:00:00:00:01" and records[1]["DA"] is None
+    # What is in the pcap file is sent as it was.
+    assert here("frames", "one.pcap", "-o", "again.httx").returncode == 0 and (tmp_path / "again.httx").read_bytes() == octets
+    # Kept lines do, with the capture and without.
+    lines = here("answers", "one.htcp", "--command", "rx").stdout
+    (tmp_path / "lines").write_bytes(lines)
+    assert here("packets", "one.htcp", "--answers", "lines").stdout == done.stdout == here("packets", "lines").stdout
+    assert here("packets", "-", given=lines).stdout == done.stdout
+
+
+def test_packets_of_an_a_mpdu(sent, here, radio, tmp_path):
+    octets = (tmp_path / "both.httx").read_bytes()
+    psdu = next(iter(read_httx(octets))).octets
+    spoiled = bytearray(psdu)
+    spoiled[20] ^= 1
+    lines = b"".join(b"frame %d data 0 pilot 0 code 0 octets %b\n" % (n, each.hex().encode()) for n, each in enumerate((psdu, bytes(spoiled))))
+    lines += b"frame 2 data 0 pilot 0 code 0 seed zero\nend 3 frames\n"
+    done = here("packets", "-", "-o", "both.pcap", given=lines)
+    said = done.stdout.decode().splitlines()
+    assert said[0] == "frame 0: A-MPDU of 60 octets, 2 MPDUs, 2 with a good FCS" and said[3].endswith("2 MPDUs, 1 with a good FCS")
+    assert said[4].startswith("frame 1 MPDU 0: 32 octets, FCS bad, QoS Data") and said[6] == "frame 2: no octets, since the scrambler's seed is zero"
+    assert said[7] == "3 frames, 4 MPDUs: 3 with a good FCS; 1 without octets"
+    assert here("frames", "both.pcap", "-o", "again.httx").returncode == 0
+    again = list(read_httx(tmp_path / "again.httx"))
+    assert [frame.octets for frame in again] == [psdu, aggregate([part.octets for part in take_apart(bytes(spoiled)).mpdus])]
+    forced = here("packets", "-", "--aggregated", "no", given=lines).stdout.decode().splitlines()
+    assert forced[0].startswith("frame 0: MPDU of 60 octets, FCS bad")
+    if shutil.which("tshark"):
+        told = subprocess.run(["tshark", "-r", str(tmp_path / "both.pcap"), "-T", "fields", "-e", "radiotap.ampdu.reference", "-e", "radiotap.flags.badfcs"],
+                              capture_output=True, text=True, check=True).stdout.splitlines()
+        assert told == ["0\t0", "0\t0", "1\t1", "1\t0"]
+
+
+def bad_words():
+    """Words and the one sentence that they get."""
+    yield ["frames", "-", "-o", "x"], b"12 34\nxyz\n", "standard input: line 2 isn't hexadecimal digits, two for each octet"
+    yield ["frames", "-", "-o", "x", "--fcs", "there"], b"00112233445566\n", "standard input: line 1 doesn't end with its FCS"
+    yield ["frames", "-", "-o", "x", "--seed", "128"], b"00\n", "the seed is 128, and only 1 to 127 are known"
+    yield ["frames", "-", "-o", "x", "--mcs", "32"], b"00\n", "standard input: the MCS is 32, and only 0 to 31 are known"
+    yield ["frames", "-", "-o", "x", "--aggregate", "1"], b"00" * 4092 + b"\n", "standard input: an MPDU has 4096 octets, and in an A-MPDU it has at most 4095"
+    yield ["packets", "-"], b"something", "standard input: refused BadMagic at 0"
+    yield ["packets", "-"], b"job 0 0 0 1 1 0\nend 1 frames\n", "standard input: these are lines of radio detect, and those of radio rx are asked for"
+    yield ["packets", "-"], b"frame 0 data 0 pilot 0 code 0 octets 00\n", "standard input: the lines of radio rx have no end"
+    yield ["merge", VECTORS / "README.md"], b"", f"{VECTORS / 'README.md'}: this isn't the output of a sweep (JSONDecodeError)"
+    yield ["report", "-", "-o", "x"], b"", "a report reads its captures twice, and so not from standard input"
+    yield ["answers", "-", "--part", "2/1"], b"", None
+    yield ["sweep", "--resume"], b"", "--resume goes on with a file, which --output names"
+    yield ["sweep", "--channel", "none"], b"", "the channel is one of exponential, flat, tapped, tgn-b, tgn-d, awgn or a function as FILE.py:NAME, and not none"
+    yield ["sweep", "--detector", "zf"], b"", "a detector is given as NAME=FILE.py:FUNCTION or NAME=COMMAND, and not as zf"
+
+
+@pytest.mark.parametrize("words, given, said", [pytest.param(*case, id=f"{n}-{case[0][0]}") for n, case in enumerate(bad_words())])
+def test_bad_input_gets_one_sentence(here, words, given, said, tmp_path):
+    done = here(*words, given=given)
+    text = done.stderr.decode()
+    assert done.returncode == 2 and "Traceback" not in text and (said is None or text == f"mizgaure: {said}\n")
+    assert [path.name for path in tmp_path.iterdir()] == []
+
+
+class Page(html.parser.HTMLParser):
+    """The tags of a page that are open, what it refers to, and its text."""
+
+    def __init__(self):
+        super().__init__()
+        self.open, self.sources, self.text, self.images = [], [], "", 0
+
+    def handle_starttag(self, tag, attributes):
+        found = dict(attributes)
+        self.sources += [value for name, value in attributes if name in ("src", "href", "srcset", "action")]
+        self.images += tag == "img"
+        assert tag != "img" or found["alt"]
+        if tag not in ("meta", "img", "br"):
+            self.open.append(tag)
+
+    def handle_endtag(self, tag):
+        assert self.open.pop() == tag
+
+    def handle_data(self, data):
+        self.text += data
+
+
+def test_a_report_is_one_page_that_needs_no_net(here, tmp_path):
+    pytest.importorskip("matplotlib")
+    path = VECTORS / "jobs" / "small-mcs09.htcp"
+    (tmp_path / "<&.htcp").write_bytes(path.read_bytes())
+    (tmp_path / "theirs").write_bytes(here("zero-forcing", path).stdout)
+    done = here("report", "<&.htcp", TOP / "examples" / "z.htcp", "-o", "made.html", "--theirs", "theirs", "--theirs", "theirs")
+    assert done.returncode == 2 and done.stderr.decode().startswith("mizgaure: theirs: ")  # the second capture has other jobs
+    done = here("report", "<&.htcp", "-o", "made.html", "--theirs", "theirs", "--title", "Ours & theirs")
+    assert done.returncode == 0 and done.stdout == done.stderr == b""
+    made = (tmp_path / "made.html").read_text()
+    page = Page()
+    page.feed(made)
+    page.close()
+    assert page.open == [] and page.images == 4 and all(source.startswith("data:image/png;base64,") for source in page.sources)
+    assert "url(" not in made and "<script" not in made and "@import" not in made
+    assert "Ours & theirs" in page.text and "<&.htcp" in page.text and "14 same, 1 tie, 41 worse" in page.text and "tested and not proved" in page.text
+    assert here("report", "<&.htcp", "-o", "made.html").returncode == 2
+    assert here("report", "<&.htcp", "-o", "made.html", "--force", "--pictures", 0).returncode == 0
+    assert "<img" not in (tmp_path / "made.html").read_text()
+
+
+def test_a_sweep_in_parts_as_a_cluster_does_it(here, tmp_path):
+    words = ["sweep", "--mcs", 0, "--length", 5, "--snr", "2,8", "--frames", 34, "--channel", "awgn", "--processes", 1, "--detector", "zf=zero-forcing"]
+    whole = here(*words, "-o", "whole.json", "--csv", "whole.csv")
+    assert whole.returncode == 0 and whole.stdout.count(b"zf: SER") == 2
+    for part in (1, 2):
+        assert here(*words, "--part", f"{part}/2", "-o", f"part{part}.json").returncode == 0
+    done = here("merge", "part1.json", "part2.json", "-o", "merged.json", "--csv", "merged.csv")
+    assert done.stdout == whole.stdout and (tmp_path / "merged.csv").read_text() == (tmp_path / "whole.csv").read_text()
+    assert (tmp_path / "merged.json").read_text() == (tmp_path / "whole.json").read_text()
+    assert b"34 of 68 frames are missing" in here("merge", "part1.json").stdout or b"frames are missing" in here("merge", "part1.json").stdout
+    # What is missing is done, and nothing else.
+    (tmp_path / "some.json").write_text("".join((tmp_path / "whole.json").read_text().splitlines(keepends=True)[:4]))
+    assert here(*words, "-o", "some.json", "--resume").stdout == whole.stdout
+    assert (tmp_path / "some.json").read_text() == (tmp_path / "whole.json").read_text()
+    assert re.match(rb"mizgaure: some.json is there already", here(*words, "-o", "some.json").stderr)
+
+
+def test_answers_in_parts_and_by_processes(here, command):
+    path = VECTORS / "rates" / "bw0-mcs00.htcp"
+    whole = here("answers", path).stdout
+    assert whole == path.with_suffix(".detect").read_bytes()
+    assert here("answers", path, "--processes", 2).stdout == whole
+    assert b"".join(here("answers", path, "--part", f"{part}/3").stdout for part in (1, 2, 3)) == whole
+    assert command("answers", "-", given=path.read_bytes()).stdout == whole
+    assert here("answers", path, "--part", "1/2", "-o", "x.npz").stderr == b"mizgaure: a part has lines and no arrays: join the parts first\n"
+    assert [frame.length for frame in read_htsy(path.with_suffix(".htsy"))]
