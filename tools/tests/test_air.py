@@ -3,6 +3,7 @@
 import json
 import re
 import shutil
+import signal
 import subprocess
 
 import air
@@ -327,6 +328,7 @@ def test_a_recording_is_read_in_pieces(monkeypatch):
 def here(tmp_path, monkeypatch, capsysbinary):
     """The command mizgaure in this process, in a folder of its own: words to its status and what it wrote."""
     monkeypatch.chdir(tmp_path)
+    handler = signal.getsignal(signal.SIGTERM)
 
     def run(*words: object) -> subprocess.CompletedProcess:
         capsysbinary.readouterr()
@@ -336,7 +338,8 @@ def here(tmp_path, monkeypatch, capsysbinary):
             status = end.code
         return subprocess.CompletedProcess(words, status, *capsysbinary.readouterr())
 
-    return run
+    yield run
+    signal.signal(signal.SIGTERM, handler)
 
 
 @pytest.fixture
