@@ -3,6 +3,7 @@
 import json
 import re
 import shutil
+import signal
 import subprocess
 
 import air
@@ -85,6 +86,7 @@ def test_pilots_and_training_have_the_standards_form():
     for bandwidth, used in ((20, 56), (40, 114)):
         training = standard.ht_long_training(bandwidth)
         assert np.count_nonzero(training) == used and (np.flatnonzero(training) == standard.ht_subcarriers(bandwidth)).all()
+    assert set(standard.rotation(20)) == {1} and (standard.rotation(40) == np.where(np.arange(-58, 59) > 0, 1j, 1)).all()
     signs = standard.TRAINING_SIGNS
     assert (signs @ signs.T == 4 * np.eye(4)).all()
 
@@ -214,13 +216,16 @@ def test_what_the_estimates_cost(bandwidth, mcs, snr):
 
 def test_pilots_keep_what_is_left_of_them():
     """Behind the channel a pilot's residual is the noise of its subcarrier, and its point the one of this project."""
-    rate = Rate(20, 25)
+    rate = Rate(20, 9)
     frame = random_symbols(rate, 400, np.random.default_rng(3))
-    (found,) = packets_in(air.recording_of(air.recorded([frame], Scene(snr=30.0), 4), Layout("cf32_le", 20e6, 4)))
+    (found,) = packets_in(air.recording_of(air.recorded([frame], Scene(snr=30.0), 2), Layout("cf32_le", 20e6, 2)))
     received, channel = np.asarray(found.frame.received), np.asarray(found.frame.channel)
     pilots = rate.is_pilot
     rest = received[:, pilots] - np.einsum("pas,nps->npa", channel[pilots], rate.pilot_signs(len(received)))
     assert np.mean(np.abs(rest) ** 2) == pytest.approx(1, rel=0.5)  # the noise, which is scaled to 1
+    same = [(bandwidth, streams) for bandwidth in (20, 40) for streams in (1, 2, 3, 4)
+            if (standard.pilots(Rate(bandwidth, 8 * streams - 8), 200) == Rate(bandwidth, 8 * streams - 8).pilot_signs(200)).all()]
+    assert same == [(20, 1), (20, 4)]  # as docs/RECORDINGS.md says
 
 
 def test_timing_finds_the_middle_of_a_channel():
@@ -273,11 +278,13 @@ def test_a_recording_that_is_cut_anywhere():
         assert len(fates) == 0 if cut < begins[0] + 100 else True
 
 
-@pytest.mark.parametrize("kind", ["noise", "zeros", "level", "tone", "period", "octets", "short"])
+@pytest.mark.parametrize("kind", ["noise", "zeros", "level", "tone", "period", "burst", "octets", "short"])
 def test_nothing_is_invented(kind):
     random = np.random.default_rng(5)
     count = np.arange(60000)
-    samples = {"noise": random.standard_normal(count.size) + 1j * random.standard_normal(count.size), "zeros": 0 * count,
+    noise = random.standard_normal(count.size) + 1j * random.standard_normal(count.size)
+    burst = np.tile(random.standard_normal(16) + 1j * random.standard_normal(16), count.size // 16) * ((count > 5000) & (count < 5500))
+    samples = {"noise": noise, "zeros": 0 * count, "burst": 10 * burst + 0.01 * noise,
                "level": 0.3 + 0.1j + 0 * count, "tone": np.exp(0.1j * count), "period": np.exp(2j * np.pi * count / 16),
                "short": np.ones(3)}.get(kind)
     octets = random.bytes(400000) if kind == "octets" else air.octets_in(np.asarray(samples, complex)[None])
@@ -321,6 +328,7 @@ def test_a_recording_is_read_in_pieces(monkeypatch):
 def here(tmp_path, monkeypatch, capsysbinary):
     """The command mizgaure in this process, in a folder of its own: words to its status and what it wrote."""
     monkeypatch.chdir(tmp_path)
+    handler = signal.getsignal(signal.SIGTERM)
 
     def run(*words: object) -> subprocess.CompletedProcess:
         capsysbinary.readouterr()
@@ -330,7 +338,8 @@ def here(tmp_path, monkeypatch, capsysbinary):
             status = end.code
         return subprocess.CompletedProcess(words, status, *capsysbinary.readouterr())
 
-    return run
+    yield run
+    signal.signal(signal.SIGTERM, handler)
 
 
 @pytest.fixture
@@ -455,6 +464,16 @@ def test_pictures_of_recordings(here, tmp_path, kind):
     if kind != "spectrum":
         assert here("picture", kind, "air", "no.png", "--frame", 2).stderr == \
             b"mizgaure: air.sigmf-data has 2 packets for a capture, and no packet 2 of them\n"
+
+
+def test_the_table_of_rates():
+    """Of the page: one packet in ten may be wrong at the standard's least sensitivity, and the loss is at most 2 dB."""
+    row = r"^\| (20|40) MHz \| (\d+) \| [^|]+ \| (\d) \| [\d.]+ \| (\d+) % \| ([\d.]+) \| ([\d.]+) \| ([\d.]+) \|$"
+    rows = re.findall(row, (TOP / "docs" / "RECORDINGS.md").read_text(), re.MULTILINE)
+    assert [int(mcs) for bandwidth, mcs, *_ in rows if bandwidth == "20"] == list(range(32)) and len(rows) == 36
+    for _, mcs, streams, wrong, recorded, known, loss in rows:
+        assert int(streams) == int(mcs) // 8 + 1 and int(wrong) <= 10
+        assert float(loss) <= 2 and float(recorded) - float(known) == pytest.approx(float(loss), abs=0.11)
 
 
 def test_the_page_of_recordings():

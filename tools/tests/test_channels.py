@@ -35,23 +35,27 @@ def test_each_antenna_receives_power_one(name, mcs, antennas):
 def test_taps_are_seen_on_subcarriers_by_their_delays():
     """The correlation of the subcarriers f and f + 16 is the sum of the powers turned by 2 pi 16 312.5 kHz tau."""
     rate, random = Rate(20, 0), np.random.default_rng(5)
-    drawn = np.array([tapped(rate, 1, PROFILE, random)[:, 0, 0] for _ in range(6000)])
+    drawn = np.array([tapped(rate, 1, PROFILE, random)[:, 0, 0] for _ in range(4000)])
     powers = 10 ** (np.array([0.0, -3.0, -9.0]) / 10)
     turned = np.exp(2j * np.pi * 16 * 312.5e3 * np.array([0.0, 100e-9, 250e-9]))
     first = int(np.flatnonzero(rate.frequencies == 1)[0])
     assert np.mean(drawn[:, first].conj() * drawn[:, first + 16]) == pytest.approx((powers * turned.conj()).sum() / powers.sum(), abs=0.05)
 
 
-def test_a_narrow_cluster_correlates_antennas():
-    """Model B's first tap is its first cluster's alone, 14.4 degrees wide, so antennas half a wave apart fade together."""
+@pytest.mark.parametrize("name", ["tgn-b", "tgn-d"])
+def test_antennas_are_correlated_by_the_clusters_angles(name):
+    """Drawn angles give the correlation of receive antennas half a wave apart: exp(i pi sin(angle)), clusters weighted with their powers."""
     rate, random = Rate(20, 24), np.random.default_rng(6)
-    drawn = np.array([tgn(rate, 4, "tgn-b", random)[30] for _ in range(2000)])
-
-    def likeness(one, two):
-        return abs(np.mean(one * two.conj())) / np.sqrt(np.mean(abs(one) ** 2) * np.mean(abs(two) ** 2))
-
-    next_to, three_off = likeness(drawn[:, 0, 0], drawn[:, 0, 1]), likeness(drawn[:, 0, 0], drawn[:, 0, 3])
-    assert 0.5 < next_to < 0.9 and three_off < next_to
+    drawn = np.array([tgn(rate, 4, name, random)[30] for _ in range(1500)])
+    wanted = total = 0.0
+    for cluster in TGN[name]:
+        mean, spread = np.radians(cluster.arrival)
+        off = random.laplace(0, spread / np.sqrt(2), 200000)
+        power = sum(10 ** (decibels / 10) for _, decibels in cluster.taps)
+        wanted += power * np.mean(np.exp(1j * np.pi * np.sin(mean + off[abs(off) < np.pi])))
+        total += power
+    one, two = drawn[:, :3], drawn[:, 1:]
+    assert np.mean(two * one.conj()) / np.mean(abs(one) ** 2) == pytest.approx(wanted / total, abs=0.05)
     assert np.allclose(awgn(rate, 4)[7], np.eye(4))
 
 

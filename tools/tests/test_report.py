@@ -71,7 +71,8 @@ def test_packets_of_a_capture(sent, here, radio, tmp_path):
         "frame 1: MPDU of 20 octets, FCS good, RTS, RA 02:00:00:00:00:01, TA 02:00:00:00:00:02",
         "2 frames, 2 MPDUs: 2 with a good FCS"]
     rows = (tmp_path / "one.csv").read_text().splitlines()
-    assert rows[0].startswith("frame,bandwidth,mcs,aggregated,mpdu,offset,octets,fcs,type,sequence,RA,TA") and rows[2].startswith("1,20,9,false,0,0,20,good,RTS,,02:")
+    assert rows[0].startswith("frame,bandwidth,mcs,aggregated,mpdu,offset,octets,fcs,type,sequence,RA,TA")
+    assert rows[2].startswith("1,20,9,false,0,0,20,good,RTS,,02:")
     records = [json.loads(line) for line in (tmp_path / "one.json").read_text().splitlines()]
     assert records[0]["sequence"] == 1 and records[1]["RA"] == "02:00:00:00:00:01" and records[1]["DA"] is None
     # What is in the pcap file is sent as it was.

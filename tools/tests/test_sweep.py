@@ -159,8 +159,8 @@ def test_least_squares_are_off_by_the_noise():
         assert np.mean(errors) == pytest.approx(0.09 / count, rel=0.1)
 
 
-@pytest.mark.parametrize("changes", [{"frames": 0}, {"snr": ()}, {"length": 0}, {"mcs": 32}, {"estimate": "best"}, {"decay": -1.0}, {"errors": -1}, {"chunk": 0},
-                                     {"channel": "none"}, {"channel": "tapped"}])
+@pytest.mark.parametrize("changes", [{"frames": 0}, {"snr": ()}, {"length": 0}, {"mcs": 32}, {"estimate": "best"}, {"decay": -1.0},
+                                     {"errors": -1}, {"chunk": 0}, {"channel": "none"}, {"channel": "tapped"}])
 def test_settings_that_mean_nothing(changes, radio):
     with pytest.raises(InputError):
         sweep(Setting(**changes), radio, 1)

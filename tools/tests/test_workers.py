@@ -62,8 +62,11 @@ def test_no_more_tasks_are_taken_than_are_needed():
             yield n
 
     run = Workers(2).run(squared, tasks())
-    assert next(run) == (0, 0) and len(taken) <= 9
-    run.close()
+    assert next(run) == (0, 0) and len(taken) == 8
+    other = Workers(2).run(squared, range(50))
+    assert next(other) == (0, 0)
+    run.close()  # ends its own processes, and those of nobody else
+    assert list(other) == [(n, n * n) for n in range(1, 50)]
 
 
 def test_there_has_to_be_a_scheduler(monkeypatch):
@@ -146,7 +149,7 @@ def test_a_schedulers_workers_give_the_same_also_when_one_is_killed(radio, monke
     setting = Setting(mcs=0, length=10, snr=(5.0, 15.0), frames=20)
     detectors = (Detector("zf", "zero-forcing"),)
     alone = sweep(setting, radio, 1, detectors=detectors)
-    with distributed.LocalCluster(n_workers=2, threads_per_worker=1, dashboard_address=None, local_directory=str(tmp_path), silence_logs=50) as cluster:
+    with distributed.LocalCluster(n_workers=2, threads_per_worker=1, dashboard_address=":0", local_directory=str(tmp_path), silence_logs=50) as cluster:
         address = cluster.scheduler_address
         workers = [worker.process.pid for worker in cluster.workers.values()]
         pieces = []

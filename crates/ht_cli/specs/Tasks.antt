@@ -1,5 +1,5 @@
 -- The command that the words ask for, and what its run promises.
-use Rattle.std.specs.Prelude.{ℕ, Option, Some, None}
+use Rattle.std.specs.Prelude.{◌≡◌, ℕ, List, Option, Some, None}
 use Rattle.ht_io.specs.Devices.{Device}
 use Rattle.ht_capture.specs.Fields.{captures}
 use Rattle.ht_text.specs.Lines.{usage_text}
@@ -16,11 +16,15 @@ use Rattle.ht_files.specs.Points.{symbols}
 use Rattle.ht_sim.specs.Passing.{PassesTo}
 use Rattle.ht_rate.specs.declared.rates.Rate.{Rate}
 use Rattle.ht_demo.specs.declared.plan.Plan.{Plan}
-use Rattle.ht_demo.specs.Demos.{IsDemoLine}
+use Rattle.ht_demo.specs.Demos.{IsDemoLine, returned_line}
 
 -- what a demonstration is to do
 abbrev pub plan_of : ℕ → ℕ → ℕ → Rate → ℕ → Plan
 plan_of seed noise count rate length = record { seed = seed; noise = noise; frames = count; rate = rate; length = length }
+
+-- the line of a demonstration; without noise it says that every frame came back, with sums of 0
+abbrev pub IsPlanLine : Plan → List ℕ → Type 0
+IsPlanLine plan line = IsDemoLine plan line × (plan.noise ≡ 0 → line ≡ returned_line plan)
 
 -- What each command reads and writes. How many workers there are, and how large their window is, changes nothing of it.
 abbrev pub command_of : Asked → Command
@@ -29,7 +33,7 @@ command_of (Rx workers window) = streaming captures rx_text frame_lines_of
 command_of Tx = whole frames SendsTo
 command_of (Channel seed noise) = whole symbols (PassesTo seed noise)
 command_of Upgrade = whole captures UpgradesTo
-command_of (Demo seed noise count rate length workers window) = Makes (IsDemoLine (plan_of seed noise count rate length))
+command_of (Demo seed noise count rate length workers window) = Makes (IsPlanLine (plan_of seed noise count rate length))
 
 -- what each status says of a run: first the source before and after it, then the sink
 abbrev pub Answered : Option Asked → Device ℕ → Device ℕ → Device ℕ → Device ℕ → Status → Type 0

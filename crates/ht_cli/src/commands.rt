@@ -1,6 +1,6 @@
 //! What commands do that read their whole input first, each in a file of its own.
 mod tx;
-mod upgrade;
+mod upgrading;
 
 pub use tx::send;
-pub use upgrade::upgrade;
+pub use upgrading::upgrade;

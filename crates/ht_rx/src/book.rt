@@ -1,6 +1,7 @@
 //! Where the results of frames go.
-ghost use Rattle.std.specs.Prelude.{◌≡◌, ℕ, List, IfErr, OnErr, OnOk};
+ghost use Rattle.std.specs.Prelude.{◌≡◌, ◌∷◌, [], ℕ, List, Option, IfErr, OnErr, OnOk};
 ghost use Rattle.ht_io.specs.Devices.{Device, Grows, GrowsByPart, Rose, IsLater};
+ghost use Rattle.ht_io.specs.Pieces.{KnownGrown};
 ghost use Rattle.ht_results.specs.declared.frame_result.FrameResult.{FrameResult as ResultValue};
 ghost use Rattle.ht_rx.specs.declared.book_fault.BookFault.TheVariants.{Failed as BookFailed, NoMemory as BookMemory};
 
@@ -21,10 +22,18 @@ pub trait Book {
     /// The pieces of a result.
     ghost booked: { ResultValue → List Self.Piece };
 
-    /// Books a result behind the others. A refusal leaves a part of its pieces there.
+    /// The results that it keeps, where it keeps them.
+    ghost results: { Self → Option (List ResultValue) };
+
+    /// Books a result behind the others. A refusal leaves a part of its pieces there, and the results that are kept as
+    /// they were.
     fn frame(&mut self, frame: FrameResult) -> Result<(), BookFault>
         ensures grown { OnOk result (Grows (shown self.old) (shown self.new) (booked frame)) }
         ensures part { OnErr result (GrowsByPart (shown self.old) (shown self.new) (booked frame)) }
+
+        // A result is kept whole, or not at all.
+        ensures kept { OnOk result (KnownGrown (results self.old) (results self.new) (frame ∷ [])) }
+        ensures unkept { OnErr result (results self.new ≡ results self.old) }
 
         // A fault is counted exactly where the answer is Failed.
         ensures steady { OnOk result ((shown self.new).faults ≡ (shown self.old).faults) }

@@ -40,6 +40,8 @@ impl Book for ListBook {
 
     ghost booked = { λ frame. frame ∷ [] };
 
+    ghost results = { λ b. Some b.results.items };
+
     fn frame(&mut self, frame: FrameResult) -> Result<(), BookFault> {
         match self.results.push(frame) {
             Ok(()) => Ok(()),

@@ -1,5 +1,5 @@
 //! A book of lines.
-ghost use Rattle.std.specs.Prelude.{◌≡◌, ◌∷◌, [], IfOk};
+ghost use Rattle.std.specs.Prelude.{◌≡◌, ◌∷◌, [], IfOk, None};
 ghost use Rattle.ht_results.specs.Texts.{result_line};
 
 use crate::book::Book;
@@ -54,6 +54,8 @@ impl<'a, K: Sink> Book for TextBook<'a, K> {
     ghost lent = { λ b. b.sink.ghost_name ∷ [] };
 
     ghost booked = { result_line };
+
+    ghost results = { λ b. None };
 
     fn frame(&mut self, frame: FrameResult) -> Result<(), BookFault> {
         let line = line_of(self.alloc, &frame)?;

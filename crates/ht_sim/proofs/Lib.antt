@@ -1,6 +1,6 @@
 pub mod Drawing
 mod Mixing
-mod Passing
+mod Converting
 pub mod Shapes
 mod Signs
 pub mod Typed

@@ -289,7 +289,8 @@ def _capture_parts(capture: CaptureReport) -> List[str]:
     theirs = _theirs(capture.judgement)
     names += ["the other receiver"] if theirs is not None else []
     parts += ["<h3>Frames</h3>", *_table(names, (_row(frame, theirs) for frame in capture.frames))]
-    parts += ["<h3>What they carry</h3>", *_table(("#frame", "#MPDU", "#octets", "FCS", "MAC header"), (row for frame in capture.frames for row in _mpdu_rows(frame)))]
+    carried = (row for frame in capture.frames for row in _mpdu_rows(frame))
+    parts += ["<h3>What they carry</h3>", *_table(("#frame", "#MPDU", "#octets", "FCS", "MAC header"), carried)]
     for frame in capture.frames:
         if frame.pictures:
             parts += [f"<h3>Frame {frame.number}</h3>", '<div class="pictures">']

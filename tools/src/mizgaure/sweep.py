@@ -384,8 +384,9 @@ class Task:
 
 
 def sweep(setting: Setting, radio: Optional[Radio] = None, processes: Optional[int] = None,
-          progress: Optional[Callable[[int, int], None]] = None, *, path: Optional[str] = None, scheduler: Optional[str] = None, detectors: Iterable[Detector] = (),
-          part: Tuple[int, int] = (1, 1), journal: Optional[Journal] = None, point_done: Optional[Callable[[Sweep, int], None]] = None) -> Sweep:
+          progress: Optional[Callable[[int, int], None]] = None, *, path: Optional[str] = None, scheduler: Optional[str] = None,
+          detectors: Iterable[Detector] = (), part: Tuple[int, int] = (1, 1), journal: Optional[Journal] = None,
+          point_done: Optional[Callable[[Sweep, int], None]] = None) -> Sweep:
     """Run a sweep.
 
     Parameters

@@ -15,7 +15,10 @@ from collections import deque
 from concurrent.futures import CancelledError, Executor, Future, ProcessPoolExecutor
 from concurrent.futures.process import BrokenProcessPool
 from contextlib import contextmanager
-from typing import Any, Callable, Deque, Iterable, Iterator, Optional, Tuple
+from itertools import islice
+from multiprocessing.context import BaseContext
+from multiprocessing.process import BaseProcess
+from typing import Any, Callable, Deque, Iterable, Iterator, List, Optional, Tuple
 
 from .errors import InputError, ProgramError
 
@@ -83,10 +86,7 @@ def _in_order(fresh: Callable[[], Executor], count: int, function: Callable, tas
     executor = fresh()
     lost = 0
     while True:
-        for task in tasks:
-            waiting.append((task, _submitted(executor, function, task)))
-            if len(waiting) >= AHEAD * count:
-                break
+        waiting.extend((task, _submitted(executor, function, task)) for task in islice(tasks, AHEAD * count - len(waiting)))
         if not waiting:
             return
         task, future = waiting[0]
@@ -128,12 +128,25 @@ class _Local:
     def __init__(self, count: int) -> None:
         self._count = count
         self._pool: Optional[ProcessPoolExecutor] = None
-        self._others = set(multiprocessing.active_children())
+        self._children: List[BaseProcess] = []
+        self._owner = os.getpid()
 
     def fresh(self) -> ProcessPoolExecutor:
         self._end()
-        self._pool = ProcessPoolExecutor(self._count, initializer=_leave_signals)
+        self._pool = ProcessPoolExecutor(self._count, mp_context=self._context(), initializer=_leave_signals)
         return self._pool
+
+    def _context(self) -> BaseContext:
+        """How processes are made, with a note of each."""
+        usual, children = multiprocessing.get_context(multiprocessing.get_start_method()), self._children
+
+        class Noting(type(usual)):  # type: ignore[misc]
+            def Process(self, *words: Any, **named: Any) -> BaseProcess:  # noqa: N802, since it stands for a class
+                made = usual.Process(*words, **named)  # type: ignore[attr-defined]
+                children.append(made)
+                return made
+
+        return Noting()
 
     def __enter__(self) -> "_Local":
         return self
@@ -145,12 +158,15 @@ class _Local:
             self._end()
 
     def _end(self) -> None:
-        """End the pool at once, whatever is under way."""
+        """End the pool at once, whatever is under way; a process that was forked meanwhile has but a copy, and leaves it alone."""
+        if self._owner != os.getpid():
+            return
         if self._pool is not None:
             self._pool.shutdown(wait=False, cancel_futures=True)
-            for child in multiprocessing.active_children():
-                if child not in self._others:
-                    child.terminate()
+        while self._children:
+            child = self._children.pop()
+            if child.pid is not None:
+                child.terminate()
 
 
 def _leave_signals() -> None:

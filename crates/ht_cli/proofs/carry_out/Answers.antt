@@ -4,14 +4,13 @@ use Rattle.std.proofs.Common.{ap, refl, rules}
 use Rattle.ht_io.proofs.Calls.{later-later}
 use Rattle.ht_rx.specs.Texts.{detect_text, lines_of}
 use Rattle.ht_results.specs.Texts.{frame_lines_of, rx_text}
-use Rattle.ht_demo.specs.Demos.{IsDemoLine}
 use Rattle.ht_runs.specs.Filters.{SaysNothing}
 use Rattle.ht_sim.specs.Passing.{passing}
 use Rattle.ht_cli.specs.Converting.{sending, upgrading}
-use Rattle.ht_cli.specs.Tasks.{plan_of}
+use Rattle.ht_cli.specs.Tasks.{IsPlanLine, plan_of}
 use Rattle.ht_cli.proofs.Answering.{converts}
 use Rattle.ht_cli.proofs.Heard.{ends}
-use Rattle.ht_cli.proofs.Making.{done_is_not, makes}
+use Rattle.ht_cli.proofs.Making.{both, done_is_not, makes}
 use Rattle.ht_cli.proofs.Texts.{detects, receives}
 use Rattle.ht_cli.proofs.carry_out.Goals as goal
 
@@ -51,7 +50,8 @@ returns-in-Some-Upgrade-clause-answered g c =
 pub returns-in-Some-Demo-clause-answered : goal.returns-in-Some-Demo-clause-answered
 returns-in-Some-Demo-clause-answered g c =
     let plan = plan_of c.in-Some-Demo.seed c.in-Some-Demo.noise c.in-Some-Demo.frames c.in-Some-Demo.rate c.in-Some-Demo.length in
-    let run = makes (IsDemoLine plan) (g.S.Source.shown c.args.source.now) (g.S.Source.shown c.args.source.now)
+    let made = both c.demo_alone-line.result c.demo_alone-line.ensures.line c.demo_alone-line.ensures.noiseless in
+    let run = makes (IsPlanLine plan) (g.S.Source.shown c.args.source.now) (g.S.Source.shown c.args.source.now)
     (g.K.Sink.shown c.args.sink.now) (g.K.Sink.shown c.put_line.new.sink) (λ (line : Vec ℕ Global). line.items) c.demo_alone-line.result
-    c.put_line.result (rw c.planned-plan.ensures at c.demo_alone-line.ensures.line) c.put_line.ensures.puts c.put_line.ensures.lacks
+    c.put_line.result (rw c.planned-plan.ensures at made) c.put_line.ensures.puts c.put_line.ensures.lacks
     (λ lack. ap g.K.Sink.shown (c.put_line.ensures.nothing done_is_not lack)) in search rules

@@ -5,10 +5,9 @@ use Rattle.ht_io.proofs.Calls.{later-later}
 use Rattle.ht_rx.specs.Texts.{detect_text, lines_of}
 use Rattle.ht_results.specs.Texts.{frame_lines_of, rx_text}
 use Rattle.ht_words.specs.Words.{asked}
-use Rattle.ht_demo.specs.Demos.{IsDemoLine}
-use Rattle.ht_cli.specs.Tasks.{plan_of}
+use Rattle.ht_cli.specs.Tasks.{IsPlanLine, plan_of}
 use Rattle.ht_cli.proofs.Heard.{ends}
-use Rattle.ht_cli.proofs.Making.{done_is_not, makes}
+use Rattle.ht_cli.proofs.Making.{both, done_is_not, makes}
 use Rattle.ht_cli.proofs.Nothing.{nothing_done}
 use Rattle.ht_cli.proofs.Texts.{detects, receives}
 use Rattle.ht_cli.proofs.run.Goals as goal
@@ -34,8 +33,9 @@ returns-in-Some-Rx-clause-answered g c =
 pub returns-in-Some-Demo-clause-answered : goal.returns-in-Some-Demo-clause-answered
 returns-in-Some-Demo-clause-answered g c =
     let plan = plan_of c.in-Some-Demo.seed c.in-Some-Demo.noise c.in-Some-Demo.frames c.in-Some-Demo.rate c.in-Some-Demo.length in
-    let run = makes (IsDemoLine plan) (g.S.Source.shown c.args.source.now) (g.S.Source.shown c.args.source.now)
+    let made = both c.demo-line.result c.demo-line.ensures.line c.demo-line.ensures.noiseless in
+    let run = makes (IsPlanLine plan) (g.S.Source.shown c.args.source.now) (g.S.Source.shown c.args.source.now)
     (g.K.Sink.shown c.args.sink.now) (g.K.Sink.shown c.put_line.new.sink) (λ (line : Vec ℕ Global). line.items) c.demo-line.result
-    c.put_line.result (rw c.planned-plan.ensures at c.demo-line.ensures.line) c.put_line.ensures.puts c.put_line.ensures.lacks
+    c.put_line.result (rw c.planned-plan.ensures at made) c.put_line.ensures.puts c.put_line.ensures.lacks
     (λ lack. ap g.K.Sink.shown (c.put_line.ensures.nothing done_is_not lack)) in
     let words = c.in-Ok.ensures.value in search rules

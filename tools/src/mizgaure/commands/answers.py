@@ -43,10 +43,10 @@ def run(given: argparse.Namespace) -> None:
             for piece in pieces:
                 stream.write(piece)
                 last = (last + piece)[-100:]
-        end = list(last.splitlines() or [b""])[-1]
-        if end.startswith(b"refused "):
-            _, kind, _, offset = end.decode().split()
-            raise FormatError(kind, int(offset))
+            end = list(last.splitlines() or [b""])[-1]
+            if end.startswith(b"refused "):
+                _, kind, _, offset = end.decode().split()
+                raise FormatError(kind, int(offset))
 
 
 def _pieces(given: argparse.Namespace) -> Iterator[bytes]:

@@ -6,7 +6,7 @@ import argparse
 from contextlib import contextmanager
 from typing import Any, Dict, Iterator, List, Optional, Tuple
 
-from ..answers import Answers, FrameAnswer, Jobs, Refused, read_answers
+from ..answers import Answers, FrameAnswer, Refused, read_answers
 from ..errors import FormatError, InputError
 from ..files import Source, naming, reading, refuse_overwriting
 from ..formats import MAGIC

@@ -4,7 +4,7 @@ use Rattle.ht_files.specs.Points.{symbols}
 use Rattle.ht_runs.specs.Filters.{BeforeOutput}
 use Rattle.ht_runs.proofs.Converting.{not_read}
 use Rattle.ht_sim.specs.Passing.{PassesTo}
-use Rattle.ht_sim.proofs.Passing.{passes}
+use Rattle.ht_sim.proofs.Converting.{passes}
 use Rattle.ht_sim.proofs.passing.channel.Goals as goal
 
 pub returns-in_err-frames-clause-converts : goal.returns-in_err-frames-clause-converts

@@ -5,7 +5,7 @@ use Rattle.ht_runs.specs.Filters.{BeforeOutput}
 use Rattle.ht_runs.proofs.Converting.{not_read}
 use Rattle.ht_cli.specs.Converting.{UpgradesTo}
 use Rattle.ht_cli.proofs.Upgrading.{upgrades}
-use Rattle.ht_cli.proofs.commands.upgrade.upgrade.Goals as goal
+use Rattle.ht_cli.proofs.commands.upgrading.upgrade.Goals as goal
 
 pub returns-in_err-frames-clause-converts : goal.returns-in_err-frames-clause-converts
 returns-in_err-frames-clause-converts g c =
