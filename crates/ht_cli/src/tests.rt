@@ -650,10 +650,7 @@ fn threads_meet(rt: HostRuntime) -> Result<(), Fail> {
             "detect --workers 2",
             zero_lines(alloc, 2, "end 1 frames\n")?,
         ),
-        (
-            "rx --workers 2",
-            zero_frames(alloc, 1, "end 1 frames\n")?,
-        ),
+        ("rx --workers 2", zero_frames(alloc, 1, "end 1 frames\n")?),
     ];
     for (words, text) in cases {
         let gate = Held::new();
