@@ -17,10 +17,11 @@ HERE = Path(__file__).resolve().parent
 
 # Python keeps what it compiles of this module beside it, before a line of it runs.
 sys.dont_write_bytecode = True
-if __cached__ and os.path.exists(__cached__):
-    os.unlink(__cached__)
+compiled = __spec__.cached
+if compiled and os.path.exists(compiled):
+    os.unlink(compiled)
     with suppress(OSError):
-        os.rmdir(os.path.dirname(__cached__))
+        os.rmdir(os.path.dirname(compiled))
 
 
 def _setuptools():

@@ -2,6 +2,8 @@
 
 import io
 import json
+import tracemalloc
+from contextlib import contextmanager
 
 import numpy as np
 import pytest
@@ -11,7 +13,7 @@ from mizgaure import InputError, LineError, Rate, judge, read_answers, read_htcp
 from mizgaure.answers import FrameAnswer
 from mizgaure.chain import encode, symbol_landing
 from mizgaure.distances import distances, on_grid, zero_forcing
-from mizgaure.judge import compared
+from mizgaure.judge import Counts, compared, judged
 from mizgaure.rates import scrambling_sequence
 
 SMALL = VECTORS / "jobs" / "small-mcs09.htcp"
@@ -107,7 +109,8 @@ def test_the_order_of_lines_makes_no_difference():
     with pytest.raises(LineError, match=f"line {len(lines) + 1} answers job 0 0 3 a second time"):
         judge(octets, Pieces(b"".join(lines) + lines[3]), reference=reference)
     # A further answer among new ones, at once or late.
-    for text in (lines[:9] + [lines[4]] + lines[9:20], lines[:20] + [lines[560 - 1]] + lines[20:30] + [lines[4]], lines[:20] + [lines[559], lines[30], lines[30]]):
+    for text in (lines[:9] + [lines[4]] + lines[9:20], lines[:20] + [lines[559]] + lines[20:30] + [lines[4]],
+                 lines[:20] + [lines[559], lines[30], lines[30]]):
         with pytest.raises(LineError, match="a second time"):
             judge(octets, Pieces(b"".join(text), 60), reference=reference)
     with pytest.raises(InputError, match="there is an answer to frame 5, and the capture has 5 frames"):
@@ -219,6 +222,11 @@ def test_octets_as_near_are_a_tie(flipped, verdict):
     (b"job 0 0 56 1 1 1 1\n", "line 1 answers job 0 0 56, which the capture doesn't have"),
     (b"job 0 9 0 1 1 1 1\n", "line 1 answers job 0 9 0, which the capture doesn't have"),
     (b"job 1 0 0 1 1 1 1\n", "there is an answer to frame 1, and the capture has 1 frames"),
+    (b"job 65536 0 0 1 1 1 1\n", "there is an answer to frame 65536, and the capture has 1 frames"),
+    (b"job 4294967296 0 0 1 1 1 1\n", "there is an answer to frame 4294967296, and the capture has 1 frames"),
+    (b"job 0 65536 0 1 1 1 1\n", "line 1 answers job 0 65536 0, which the capture doesn't have"),
+    (b"job 0 0 65536 1 1 1 1\r\n", "line 1 answers job 0 0 65536, which the capture doesn't have"),
+    (b"job 0 0 1 1 1 1 1\n\njob 0 0 0 1 1\njob 0 0 2 1 1 1 1\n", "line 3 has another number of streams than the lines of frame 0 before it"),
     (b"job 0 0 0 1 1 1\n", None),
     (b"nonsense\n", "line 1 is no answer to a job or a frame: 'nonsense'"),
     (b"frame 0 octets a\n", "line 1 is no answer to a job or a frame: 'frame 0 octets a'"),
@@ -229,6 +237,51 @@ def test_answers_that_are_none(text, said):
         judge(SMALL, text, reference=reference)
     assert said is None or str(caught.value) == said
     assert isinstance(caught.value, (LineError, InputError))
+
+
+def test_lines_may_end_as_on_other_systems():
+    reference, jobs = kept(SMALL)
+    text = lines_of(jobs)
+    assert judge(SMALL, text.replace(b"\n", b"\r\n"), reference=reference).job_counts["same"] == len(jobs)
+
+
+def test_little_is_held_where_frames_ascend():
+    """Of 40 frames no more than a few are in memory, and where none ascends no more than their answers in small types."""
+    frames = [random_frame(Rate(40, 25), 400, seed=seed, noise=0) for seed in range(40)]
+    octets, size = octets_of(frames), 0
+    reference, lines = [], []
+    for number, frame in enumerate(frames):
+        jobs = zero_forcing(frame, number)
+        reference += stated_lines(jobs)
+        lines += lines_of(jobs, number).splitlines(keepends=True)
+        size += len(jobs)
+    path_like = io.BytesIO(b"".join(reference))
+
+    def peak(text):
+        path_like.seek(0)
+        tracemalloc.start()
+        counts = Counts()
+        for _ in judged(octets, text, counts, radio=Shown(path_like)):
+            pass
+        held = tracemalloc.get_traced_memory()[1]
+        tracemalloc.stop()
+        assert counts.job_counts["same"] == size
+        return held
+
+    assert size == 40 * 114 * 8 and peak(b"".join(lines)) < 12e6
+    assert peak(b"".join(np.random.default_rng(1).permutation(lines).tolist())) < 12e6 + 150 * size
+
+
+class Shown:
+    """A program whose detect says what it is given, frame by frame."""
+
+    def __init__(self, text):
+        self.text = text
+
+    @contextmanager
+    def answers(self, word, source):
+        self.text.seek(0)
+        yield read_answers(self.text)
 
 
 def test_a_reference_of_another_capture_is_refused():

@@ -78,7 +78,8 @@ def test_a_mistake_of_the_tools_is_a_line_too(monkeypatch, capsys):
 
     monkeypatch.setattr("mizgaure.cli.COMMANDS", [type(COMMANDS[0])("break", "break", lambda words: None, run)])
     assert cli.main(["break"]) == 2
-    assert capsys.readouterr().err.startswith("mizgaure: a mistake of mizgaure, please report it: ZeroDivisionError: over three lines (test_refusals.py, line ")
+    said = "mizgaure: a mistake of mizgaure, please report it: ZeroDivisionError: over three lines (test_refusals.py, line "
+    assert capsys.readouterr().err.startswith(said)
     monkeypatch.setenv("MIZGAURE_TRACEBACK", "1")
     assert cli.main(["break"]) == 2 and "Traceback" in capsys.readouterr().err
 
@@ -101,7 +102,8 @@ def test_ratios_may_be_negative(words, snr):
     assert cli._with_negative_values(["picture", "evm", "-", "-1.png"]) == ["picture", "evm", "-", "-1.png"]
 
 
-@pytest.mark.parametrize("words", [["check"], ["judge", "x"], ["capture", "x"], ["sweep", "--snr", "1:2"], ["sweep", "--snr"], ["measure"], [], ["judge", "--list", "-1", "x", "y"]])
+@pytest.mark.parametrize("words", [["check"], ["judge", "x"], ["capture", "x"], ["sweep", "--snr", "1:2"], ["sweep", "--snr"], ["measure"], [],
+                                   ["judge", "--list", "-1", "x", "y"]])
 def test_bad_words_are_usage(words, capsys):
     with pytest.raises(SystemExit) as caught:
         cli.main(words)

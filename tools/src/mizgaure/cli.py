@@ -7,8 +7,10 @@ import os
 import re
 import signal
 import sys
+import threading
 import traceback
-from typing import List, Optional, Sequence
+from contextlib import contextmanager
+from typing import Iterator, List, Optional, Sequence
 
 from . import __version__
 from .commands import COMMANDS
@@ -34,10 +36,11 @@ def main(words: Optional[Sequence[str]] = None) -> int:
         fails, 130 where it was interrupted.
     """
     given = parser().parse_args(_with_negative_values(sys.argv[1:] if words is None else words))
-    try:
-        signal.signal(signal.SIGTERM, _ended)
-    except ValueError:
-        pass  # not in the main thread
+    with _ending_at_sigterm():
+        return _run(given)
+
+
+def _run(given: argparse.Namespace) -> int:
     try:
         status = given.run(given)
         sys.stdout.flush()
@@ -56,6 +59,19 @@ def main(words: Optional[Sequence[str]] = None) -> int:
         return INTERRUPTED_STATUS
     except Exception as error:  # no status but 2 says that something went wrong
         return _said(f"a mistake of mizgaure, please report it: {_in_words(error)}")
+
+
+@contextmanager
+def _ending_at_sigterm() -> Iterator[None]:
+    """Until the block is left, a SIGTERM unwinds what runs, so that no half file stays."""
+    if threading.current_thread() is not threading.main_thread():
+        yield
+        return
+    before = signal.signal(signal.SIGTERM, _ended)
+    try:
+        yield
+    finally:
+        signal.signal(signal.SIGTERM, before)
 
 
 def _with_negative_values(words: Sequence[str]) -> List[str]:

@@ -35,7 +35,7 @@ from .chain import least_hamming, received_bits
 from .distances import distances, on_grid, places
 from .errors import InputError, LineError, ProgramError
 from .files import Source, fronted, naming, reading
-from .formats import CaptureFrame, read_htcp
+from .formats import MOST_FRAMES, CaptureFrame, read_htcp
 from .program import Radio
 
 SAME, TIE, WORSE, OUTSIDE, WRONG = "same", "tie", "worse", "outside", "wrong"
@@ -74,12 +74,13 @@ class TheirJobs:
         """The number of streams of its vectors."""
         return self.levels.shape[1] // 2
 
+    def rows(self, which: Union[slice, np.ndarray]) -> "TheirJobs":
+        """Some of the answers."""
+        return TheirJobs(self.symbol[which], self.carrier[which], self.levels[which], self.stated[which], self.lines[which])
+
     @classmethod
-    def joined(cls, parts: List["TheirJobs"], frame: int) -> "TheirJobs":
-        """The answers to jobs of a frame in one, in the order of their lines."""
-        for part in parts[1:]:
-            if part.streams != parts[0].streams:
-                raise LineError(int(part.lines[0]), f"has another number of streams than the lines of frame {frame} before it")
+    def joined(cls, parts: List["TheirJobs"]) -> "TheirJobs":
+        """Answers of as many streams in one."""
         if len(parts) == 1:
             return parts[0]
         return cls(*(np.concatenate([getattr(part, name) for part in parts]) for name in ("symbol", "carrier", "levels", "stated", "lines")))
@@ -272,63 +273,91 @@ class Theirs(Protocol):
 
 
 class TheirLines:
-    """The lines of another receiver.
+    """The lines of another receiver, read as far as a frame needs it: up to the first answer to a later one.
+
+    Answers to frames that come later wait, in blocks that are sorted by frame; answers to frames that were asked for before
+    are late, and wait for the second time.
 
     Raises
     ------
     LineError
-        Where it is read, if a line is neither kind, or if a frame has two answers.
+        Where it is read, if a line is neither kind, if a frame has two answers, or if the answers to its jobs differ in the
+        number of streams.
     InputError
         From `left`, if there is no answer at all.
     """
 
     def __init__(self, stream: BinaryIO) -> None:
         self._blocks = blocks(stream)
-        self._line, self._highest, self._ended = 1, -1, False
-        self._jobs: Dict[int, List[TheirJobs]] = {}
+        self._line, self._highest, self._turn, self._ended = 1, -1, 0, False
+        self._waiting: List[_Sorted] = []
+        self._late: List[_Sorted] = []
         self._octets: Dict[int, Optional[bytes]] = {}
         self._decoded: Set[int] = set()
 
     def jobs_of(self, number: int, frame: CaptureFrame) -> Optional[TheirJobs]:
+        self._turn = number
         while not self._ended and self._highest <= number:
             self._read_block()
-        parts = self._jobs.pop(number, None)
-        return None if parts is None else TheirJobs.joined(parts, number)
+        parts = sorted((part for part in (block.of(number) for block in self._waiting) if part is not None), key=lambda part: part.lines[0])
+        self._waiting = [block for block in self._waiting if block.frames[-1] > number]
+        if not parts:
+            return None
+        for part in parts[1:]:
+            if part.streams != parts[0].streams:
+                raise LineError(int(part.lines[0]), f"has another number of streams than the lines of frame {number} before it")
+        return TheirJobs.joined(parts)
 
     def octets_of(self, number: int) -> List[Optional[bytes]]:
         return [self._octets.pop(number)] if number in self._octets else []
 
     def left(self) -> List[int]:
+        self._turn = MOST_FRAMES + 1
         while not self._ended:
             self._read_block()
         if self._highest < 0:
             raise InputError("there is no answer to a job or a frame")
-        return sorted({*self._jobs, *self._octets})
+        waiting = self._waiting + self._late
+        self._waiting, self._late = [], []
+        for kind in {block.kind for block in waiting}:
+            alike = [block for block in waiting if block.kind == kind]
+            self._waiting.append(_Sorted.by_frame(np.concatenate([block.frames for block in alike]), TheirJobs.joined([block.jobs for block in alike])))
+        return sorted({*self._octets}.union(*(block.frames.tolist() for block in self._waiting)))
 
     def _read_block(self) -> None:
         block = next(self._blocks, None)
         if block is None:
             self._ended = True
             return
-        count = block.count(b"\n")
+        lines = np.arange(self._line, self._line + block.count(b"\n"))
+        self._line += lines.size
+        block = block.replace(b"\r\n", b"\n")
         table = job_table(block)
         if table is not None:
-            self._add_table(table, np.arange(self._line, self._line + count))
-        else:
-            for _, group in groupby(enumerate(block.split(b"\n")[:-1], self._line), key=lambda pair: width_of(pair[1])):
-                self._add_lines(list(group))
-        self._line += count
+            self._add_table(table, lines)
+            return
+        for width, group in groupby(zip(lines.tolist(), block.split(b"\n")), key=lambda pair: width_of(pair[1])):
+            run = list(group)
+            table = job_table(b"".join(line + b"\n" for _, line in run)) if width else None
+            if table is not None:
+                self._add_table(table, np.array([number for number, _ in run]))
+            else:
+                self._add_lines(run)
+
+    def _add_table(self, table: np.ndarray, lines: np.ndarray) -> None:
+        levels = 3 if table.shape[1] % 2 else 4
+        stated = table[:, 3] if levels == 4 else np.full(len(table), -1)
+        places_ = table[:, :3]
+        if (places_ <= MOST_FRAMES).all():
+            places_ = places_.astype(np.uint16)  # since they may wait
+        self._add(places_[:, 0], TheirJobs(places_[:, 1], places_[:, 2], table[:, levels:].astype(np.int8), stated, lines))
 
     def _add_lines(self, run: List[Tuple[int, bytes]]) -> None:
-        """Lines that are as wide, with their numbers."""
-        table = job_table(b"".join(line + b"\n" for _, line in run)) if width_of(run[0][1]) else None
-        if table is not None:
-            self._add_table(table, np.array([number for number, _ in run]))
-            return
+        """Lines that are as wide, one by one, with their numbers."""
+        rows: List[Tuple[int, List[bytes]]] = []
         for number, line in run:
-            line = line.rstrip(b"\r")
             if THEIR_JOB.fullmatch(line):
-                self._add_job(number, line)
+                rows.append((number, line.split()[1:]))
             elif match := THEIR_FRAME.fullmatch(line):
                 frame = int(match.group(1))
                 if frame in self._decoded:
@@ -338,25 +367,45 @@ class TheirLines:
                 self._highest = max(self._highest, frame)
             elif line and not THEIR_END.fullmatch(line):
                 raise LineError(number, f"is no answer to a job or a frame: {shortened(line)}")
+        if rows:
+            levels = 3 if len(rows[0][1]) % 2 else 4
+            stated = exact(int(words[3]) if levels == 4 else -1 for _, words in rows)
+            frames, symbol, carrier = np.array([words[:3] for _, words in rows]).astype(np.int64).T
+            self._add(frames, TheirJobs(symbol, carrier, np.array([words[levels:] for _, words in rows]).astype(np.int32), stated,
+                                        np.array([number for number, _ in rows])))
 
-    def _add_job(self, number: int, line: bytes) -> None:
-        _, frame, symbol, carrier, *rest = line.split()
-        stated = exact([int(rest.pop(0)) if len(rest) % 2 else -1])
-        place = np.array([[int(symbol)], [int(carrier)]])
-        self._add(int(frame), TheirJobs(*place, np.array([rest]).astype(np.int32), stated, np.array([number])))
+    def _add(self, frames: np.ndarray, jobs: TheirJobs) -> None:
+        self._highest = max(self._highest, int(frames.max()))
+        block = _Sorted.by_frame(frames, jobs)
+        late = int(np.searchsorted(block.frames, self._turn))
+        for part, kept in ((slice(late), self._late), (slice(late, None), self._waiting)):
+            if block.frames[part].size:
+                kept.append(_Sorted(block.frames[part], block.jobs.rows(part)))
 
-    def _add_table(self, table: np.ndarray, lines: np.ndarray) -> None:
-        """The numbers of lines, and which lines they are; kept in small types, since they may wait."""
-        levels = 3 if table.shape[1] % 2 else 4
-        cuts = np.flatnonzero(table[1:, 0] != table[:-1, 0]) + 1
-        for part, numbers in zip(np.split(table, cuts), np.split(lines, cuts)):
-            stated = part[:, 3].copy() if levels == 4 else np.full(len(part), -1)
-            self._add(int(part[0, 0]), TheirJobs(part[:, 1].astype(np.int32), part[:, 2].astype(np.int32), part[:, levels:].astype(np.int8),
-                                                 stated, numbers))
 
-    def _add(self, frame: int, part: TheirJobs) -> None:
-        self._jobs.setdefault(frame, []).append(part)
-        self._highest = max(self._highest, frame)
+@dataclass(eq=False)
+class _Sorted:
+    """Answers to jobs of several frames, by ascending frame, and in the order of their lines in each."""
+
+    frames: np.ndarray
+    jobs: TheirJobs
+
+    @classmethod
+    def by_frame(cls, frames: np.ndarray, jobs: TheirJobs) -> "_Sorted":
+        if (frames[1:] >= frames[:-1]).all():
+            return cls(frames, jobs)
+        order = np.argsort(frames, kind="stable")
+        return cls(frames[order], jobs.rows(order))
+
+    @property
+    def kind(self) -> Tuple[int, str, str]:
+        """What blocks have in common that can be put into one."""
+        return self.jobs.streams, self.jobs.levels.dtype.str, self.jobs.stated.dtype.str
+
+    def of(self, frame: int) -> Optional[TheirJobs]:
+        """The answers to jobs of a frame, where there are any."""
+        low, high = np.searchsorted(self.frames, (frame, frame + 1))
+        return self.jobs.rows(slice(low, high)) if high > low else None
 
 
 class TheirCertificates:

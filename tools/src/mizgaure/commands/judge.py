@@ -18,7 +18,8 @@ WORSE_STATUS = 1
 
 def words(command: argparse.ArgumentParser) -> None:
     command.add_argument("capture", metavar="CAPTURE", help="a capture (HTCP)")
-    command.add_argument("answers", metavar="ANSWERS", help="lines 'job FRAME SYMBOL CARRIER I Q ..' and 'frame N octets HEX', or certificates (HTCT); - is standard input")
+    command.add_argument("answers", metavar="ANSWERS",
+                         help="lines 'job FRAME SYMBOL CARRIER I Q ..' and 'frame N octets HEX', or certificates (HTCT); - is standard input")
     command.add_argument("--reference", metavar="LINES", help="kept lines of radio detect and radio rx, in place of running it")
     command.add_argument("--json", metavar="FILE", help="write all verdicts as JSON lines")
     command.add_argument("--list", metavar="N", type=whole, default=10, help="print at most N of the worst jobs (default 10)")
