@@ -1,4 +1,4 @@
-use Rattle.std.specs.Prelude.{ℕ, Vec}
+use Rattle.std.specs.Prelude.{◌≡◌, ℕ, Vec}
 use Rattle.std.specs.Global.{Global}
 use Rattle.std.proofs.Common.{ap, refl, rules}
 use Rattle.ht_io.proofs.Calls.{later-later}
@@ -7,6 +7,7 @@ use Rattle.ht_results.specs.Texts.{frame_lines_of, rx_text}
 use Rattle.ht_runs.specs.Filters.{SaysNothing}
 use Rattle.ht_sim.specs.Passing.{passing}
 use Rattle.ht_cli.specs.Converting.{sending, upgrading}
+use Rattle.ht_demo.specs.Demos.{IsDemoLine, returned_line}
 use Rattle.ht_cli.specs.Tasks.{IsPlanLine, plan_of}
 use Rattle.ht_cli.proofs.Answering.{converts}
 use Rattle.ht_cli.proofs.Heard.{ends}
@@ -50,7 +51,9 @@ returns-in-Some-Upgrade-clause-answered g c =
 pub returns-in-Some-Demo-clause-answered : goal.returns-in-Some-Demo-clause-answered
 returns-in-Some-Demo-clause-answered g c =
     let plan = plan_of c.in-Some-Demo.seed c.in-Some-Demo.noise c.in-Some-Demo.frames c.in-Some-Demo.rate c.in-Some-Demo.length in
-    let made = both c.demo_alone-line.result c.demo_alone-line.ensures.line c.demo_alone-line.ensures.noiseless in
+    let made = both (λ (line : Vec ℕ Global). IsDemoLine c.planned-plan.result line.items)
+    (λ (line : Vec ℕ Global). c.planned-plan.result.noise ≡ 0 → line.items ≡ returned_line c.planned-plan.result)
+    c.demo_alone-line.result c.demo_alone-line.ensures.line c.demo_alone-line.ensures.noiseless in
     let run = makes (IsPlanLine plan) (g.S.Source.shown c.args.source.now) (g.S.Source.shown c.args.source.now)
     (g.K.Sink.shown c.args.sink.now) (g.K.Sink.shown c.put_line.new.sink) (λ (line : Vec ℕ Global). line.items) c.demo_alone-line.result
     c.put_line.result (rw c.planned-plan.ensures at made) c.put_line.ensures.puts c.put_line.ensures.lacks

@@ -1,10 +1,11 @@
-use Rattle.std.specs.Prelude.{ℕ, Vec}
+use Rattle.std.specs.Prelude.{◌≡◌, ℕ, Vec}
 use Rattle.std.specs.Global.{Global}
 use Rattle.std.proofs.Common.{ap, rules}
 use Rattle.ht_io.proofs.Calls.{later-later}
 use Rattle.ht_rx.specs.Texts.{detect_text, lines_of}
 use Rattle.ht_results.specs.Texts.{frame_lines_of, rx_text}
 use Rattle.ht_words.specs.Words.{asked}
+use Rattle.ht_demo.specs.Demos.{IsDemoLine, returned_line}
 use Rattle.ht_cli.specs.Tasks.{IsPlanLine, plan_of}
 use Rattle.ht_cli.proofs.Heard.{ends}
 use Rattle.ht_cli.proofs.Making.{both, done_is_not, makes}
@@ -33,7 +34,9 @@ returns-in-Some-Rx-clause-answered g c =
 pub returns-in-Some-Demo-clause-answered : goal.returns-in-Some-Demo-clause-answered
 returns-in-Some-Demo-clause-answered g c =
     let plan = plan_of c.in-Some-Demo.seed c.in-Some-Demo.noise c.in-Some-Demo.frames c.in-Some-Demo.rate c.in-Some-Demo.length in
-    let made = both c.demo-line.result c.demo-line.ensures.line c.demo-line.ensures.noiseless in
+    let made = both (λ (line : Vec ℕ Global). IsDemoLine c.planned-plan.result line.items)
+    (λ (line : Vec ℕ Global). c.planned-plan.result.noise ≡ 0 → line.items ≡ returned_line c.planned-plan.result)
+    c.demo-line.result c.demo-line.ensures.line c.demo-line.ensures.noiseless in
     let run = makes (IsPlanLine plan) (g.S.Source.shown c.args.source.now) (g.S.Source.shown c.args.source.now)
     (g.K.Sink.shown c.args.sink.now) (g.K.Sink.shown c.put_line.new.sink) (λ (line : Vec ℕ Global). line.items) c.demo-line.result
     c.put_line.result (rw c.planned-plan.ensures at made) c.put_line.ensures.puts c.put_line.ensures.lacks
