@@ -111,6 +111,17 @@ def test_shards_give_the_text_of_one_run(radio, command):
         assert joined(radio, command, capture, size=10**9) == whole
 
 
+def test_a_run_that_is_killed_is_done_again(radio, tmp_path):
+    killed = tmp_path / "radio"
+    killed.write_text(f'#!/bin/sh\nmkdir "{tmp_path}/once" 2>/dev/null && kill -9 $$\nexec "{radio.path}" "$@"\n')
+    killed.chmod(0o755)
+    capture = octets_of([random_frame(Rate(20, 0), 5, seed=n) for n in range(6)])
+    assert b"".join(texts("detect", capture, Workers(3), str(killed), size=1)) == whole_text(radio, "detect", capture)
+    (tmp_path / "radio").write_text("#!/bin/sh\nkill -9 $$\n")
+    with pytest.raises(ProgramError, match="ended by signal 9"):
+        list(texts("detect", capture, Workers(3), str(killed), size=1))
+
+
 def test_shards_of_what_is_no_capture(radio):
     """Cut anywhere, with octets behind the end, and with a field at fault."""
     picked = random.Random(1)

@@ -13,11 +13,11 @@ import io
 from dataclasses import dataclass
 from typing import BinaryIO, Iterator, List, Optional, Tuple
 
-from .errors import InputError
+from .errors import InputError, ProgramError
 from .files import Source, reading
 from .program import Radio
 from .rates import Rate
-from .workers import Workers
+from .workers import TRIES, Workers
 
 HEAD = 7  # octets in front of the first frame
 SHARD = 1 << 18  # octets of a shard, or one frame where that is longer
@@ -163,8 +163,7 @@ class Task:
 def shard_text(task: Task) -> bytes:
     """What the program's text over a whole capture has of a shard: the lines of its frames, and in the last one the last line."""
     shard = task.shard
-    with Radio(task.radio, progress=False, workers=1).text(task.command, shard.octets) as output:
-        text = output.read()
+    text = _run(task)
     lines, _, last = text[:-1].rpartition(b"\n")
     lines = renumbered(lines + b"\n" if lines else b"", COMMANDS[task.command], shard.first)
     if shard.total is None:
@@ -173,6 +172,18 @@ def shard_text(task: Task) -> bytes:
         front, _, offset = last.rpartition(b" ")
         return lines + front + b" %d\n" % (int(offset) - HEAD + shard.start)
     return lines + b"end %d frames\n" % shard.total
+
+
+def _run(task: Task) -> bytes:
+    """What the program writes of the shard; a run that was killed is done again."""
+    for left in range(TRIES - 1, -1, -1):
+        try:
+            with Radio(task.radio, progress=False, workers=1).text(task.command, task.shard.octets) as output:
+                return output.read()
+        except ProgramError as error:
+            if not left or "was ended by signal 9" not in str(error):
+                raise
+    raise AssertionError("the last try returns or raises")
 
 
 def renumbered(text: bytes, word: bytes, first: int) -> bytes:
@@ -219,5 +230,5 @@ def texts(command: str, source: Source, workers: Workers, radio: Optional[str] =
     number, count = part
     if not 1 <= number <= count:
         raise InputError(f"part {number} of {count} isn't one of them")
-    for _, text in workers.run(shard_text, (Task(command, radio, shard) for shard in shards(source, size, part))):
+    for _, text in workers.run(shard_text, (Task(command, radio, shard) for shard in shards(source, size, part)), threads=True):
         yield text

@@ -12,7 +12,7 @@ import multiprocessing
 import os
 import signal
 from collections import deque
-from concurrent.futures import CancelledError, Executor, Future, ProcessPoolExecutor
+from concurrent.futures import CancelledError, Executor, Future, ProcessPoolExecutor, ThreadPoolExecutor
 from concurrent.futures.process import BrokenProcessPool
 from contextlib import contextmanager
 from itertools import islice
@@ -48,7 +48,7 @@ class Workers:
         self.processes = processes or os.cpu_count() or 1
         self.scheduler = scheduler
 
-    def run(self, function: Callable[[Any], Any], tasks: Iterable[Any]) -> Iterator[Tuple[Any, Any]]:
+    def run(self, function: Callable[[Any], Any], tasks: Iterable[Any], threads: bool = False) -> Iterator[Tuple[Any, Any]]:
         """Do tasks and give what comes of them.
 
         Parameters
@@ -57,6 +57,9 @@ class Workers:
             Of one task; by its name in a module, so that other processes find it.
         tasks : iterable
             Taken as they are needed.
+        threads : bool
+            Whether on this machine threads will do in place of processes: where a task is another program's work, or too large for
+            the pipe to a process, whose end could then wait for ever for what nobody takes any more.
 
         Yields
         ------
@@ -74,6 +77,12 @@ class Workers:
         elif self.processes == 1:
             for task in tasks:
                 yield task, function(task)
+        elif threads:
+            executor = ThreadPoolExecutor(self.processes)
+            try:
+                yield from _in_order(lambda: executor, self.processes, function, tasks)
+            finally:
+                executor.shutdown(wait=False, cancel_futures=True)
         else:
             with _Local(self.processes) as local:
                 yield from _in_order(local.fresh, self.processes, function, tasks)
