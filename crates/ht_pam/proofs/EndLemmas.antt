@@ -279,6 +279,9 @@ halves w is many = elim is [
   ]
 ]
 
+pub two_halves : (at w : ℕ) → w / 2 + w / 2 ≡ w → at + w ≡ at + w / 2 + w / 2
+two_halves at w e = omega arith
+
 -- part `at` begins where its lower half does
 twice : (at w : ℕ) → (w ≡ 1) ⊎ (w ≡ 2) ⊎ (w ≡ 4) ⊎ (w ≡ 8) → 1 < w → 2 * at * (w / 2) ≡ at * w
 twice at w is many = elim is [

@@ -139,7 +139,7 @@ fn start(size: u32, mask: u32, target: i64, d: u32) -> u32
     if d == 0 {
         return 0;
     }
-    mask & up_to(nearest(size, target, d))
+    mask & up_to(nearest_by_jumps(size, target, d))
 }
 
 // Whether the nearest level is the highest one below.
@@ -220,6 +220,26 @@ fn halved(size: u32, at: u32, width: u32, target: i64, d: u32) -> u32
     ensures above { result ≡ 2 * at → target ≤ℤ (pos d *ℤ (level size (2 * at * width + width) -ℤ pos 1)) }
 {
     2 * at + u32::from(middle(size, 2 * at * width + width, d) < target)
+}
+
+// The same with a jump on each comparison. Where a walk begins this is the faster form: what comes next needs no sum of
+// comparisons, and goes on at once where the guess was right.
+fn nearest_by_jumps(size: u32, target: i64, d: u32) -> u32
+    requires size { (size ≡ 1) ⊎ (size ≡ 2) ⊎ (size ≡ 4) ⊎ (size ≡ 8) }
+    requires diagonal { d ≤ 65535 }
+    ensures within { result < size }
+    ensures below { 0 < result → (pos d *ℤ (level size result -ℤ pos 1)) <ℤ target }
+    ensures above { result + 1 < size → target ≤ℤ (pos d *ℤ (level size result +ℤ pos 1)) }
+{
+    let mut at = 0u32;
+    let mut width = size;
+    while width > 1 {
+        width /= 2;
+        if middle(size, at + width, d) < target {
+            at += width;
+        }
+    }
+    at
 }
 
 // The middle of a level and the one below it, times the diagonal.

@@ -17,20 +17,20 @@ pub returns-clause-zigzag : goal.returns-clause-zigzag
 returns-clause-zigzag c =
     let wide : SFits w64 c.args.target = search rules in
     let t : to_z w64 (of_z w64 c.args.target) ≡ c.args.target = to_z-of_z wide in
-    let at = c.nearest.result in
+    let at = c.nearest_by_jumps.result in
     (starts c.args.target c.args.d c.args.size c.args.mask at (bit_and c.args.mask c.up_to.result) c.requires.size c.requires.some c.requires.within
-    (omega (arith, c.if-d-eq0.false)) c.nearest.ensures.within
-    (λ some. subst (λ (z : ℤ). (pos c.args.d *ℤ (level c.args.size at -ℤ pos 1)) <ℤ z) t (c.nearest.ensures.below some))
-    (λ more. subst (λ (z : ℤ). z ≤ℤ (pos c.args.d *ℤ (level c.args.size at +ℤ pos 1))) t (c.nearest.ensures.above more))
+    (omega (arith, c.if-d-eq0.false)) c.nearest_by_jumps.ensures.within
+    (λ some. subst (λ (z : ℤ). (pos c.args.d *ℤ (level c.args.size at -ℤ pos 1)) <ℤ z) t (c.nearest_by_jumps.ensures.below some))
+    (λ more. subst (λ (z : ℤ). z ≤ℤ (pos c.args.d *ℤ (level c.args.size at +ℤ pos 1))) t (c.nearest_by_jumps.ensures.above more))
     (ap (bit_and c.args.mask) c.up_to.ensures)).0
 
 pub returns-clause-all : goal.returns-clause-all
 returns-clause-all c =
     let wide : SFits w64 c.args.target = search rules in
     let t : to_z w64 (of_z w64 c.args.target) ≡ c.args.target = to_z-of_z wide in
-    let at = c.nearest.result in
+    let at = c.nearest_by_jumps.result in
     (starts c.args.target c.args.d c.args.size c.args.mask at (bit_and c.args.mask c.up_to.result) c.requires.size c.requires.some c.requires.within
-    (omega (arith, c.if-d-eq0.false)) c.nearest.ensures.within
-    (λ some. subst (λ (z : ℤ). (pos c.args.d *ℤ (level c.args.size at -ℤ pos 1)) <ℤ z) t (c.nearest.ensures.below some))
-    (λ more. subst (λ (z : ℤ). z ≤ℤ (pos c.args.d *ℤ (level c.args.size at +ℤ pos 1))) t (c.nearest.ensures.above more))
+    (omega (arith, c.if-d-eq0.false)) c.nearest_by_jumps.ensures.within
+    (λ some. subst (λ (z : ℤ). (pos c.args.d *ℤ (level c.args.size at -ℤ pos 1)) <ℤ z) t (c.nearest_by_jumps.ensures.below some))
+    (λ more. subst (λ (z : ℤ). z ≤ℤ (pos c.args.d *ℤ (level c.args.size at +ℤ pos 1))) t (c.nearest_by_jumps.ensures.above more))
     (ap (bit_and c.args.mask) c.up_to.ensures)).1
