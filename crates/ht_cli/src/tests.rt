@@ -1,5 +1,7 @@
-//! Runs over devices in memory that fail or give an octet at a time, by workers that meet, and into a book. What each command
-//! writes of a whole input, or of one at fault, `.ci/vectors` tries, and `checks/stress` with many workers and windows.
+//! Runs over devices in memory that fail or give an octet at a time, by workers that meet, and into a book.
+//!
+//! What each command writes for a whole input and for one at fault is tried by `.ci/vectors`, and with many workers and
+//! windows by `checks/stress`.
 use super::*;
 use ht_crew::OpenGate;
 use ht_inverse::Outcome;
@@ -15,16 +17,42 @@ use std::thread;
 static FRAMES: &str =
     "frame 0 data 10400 pilot 800 code 0 seed zero\nframe 1 data 10400 pilot 800 code 0 seed zero\nend 2 frames\n";
 
-/// How many octets of its text `detect` writes for `zeros` of two frames.
+/// How many octets `detect` writes for `zeros` of two frames.
 const JOBS: usize = 4445;
 
-/// Where a symbol of `zeros` ends, and how many octets of their texts `detect` and `rx` write up to there.
-static SYMBOLS: [(u64, usize, usize); 5] = [
-    (0, 0, 0),
-    (571, 1107, 0),
-    (1019, 2216, 46),
-    (1583, 3323, 46),
-    (2031, 4432, 92),
+/// A place in `zeros` where a symbol ends, and how many octets `detect` and `rx` write up to there.
+struct End {
+    at: u64,
+    detect: usize,
+    rx: usize,
+}
+
+static ENDS: [End; 5] = [
+    End {
+        at: 0,
+        detect: 0,
+        rx: 0,
+    },
+    End {
+        at: 571,
+        detect: 1107,
+        rx: 0,
+    },
+    End {
+        at: 1019,
+        detect: 2216,
+        rx: 46,
+    },
+    End {
+        at: 1583,
+        detect: 3323,
+        rx: 46,
+    },
+    End {
+        at: 2031,
+        detect: 4432,
+        rx: 92,
+    },
 ];
 
 /// A capture of the given number of frames at 20 MHz, MCS 0, of length 1: the diagonal 10 on each subcarrier, every sample 0.
@@ -95,16 +123,16 @@ fn broken_off(rt: HostRuntime) -> Result<(), Fail> {
     let (_, frames) = ran(alloc, "rx", 2, None, None)?;
     assert_eq!(rt; jobs.len(), JOBS);
     assert_eq!(rt; frames.as_slice(), FRAMES.as_bytes());
-    for (offset, of_jobs, _) in &SYMBOLS {
-        let (answer, held) = ran(alloc, "detect", 2, Some(*offset), None)?;
+    for end in &ENDS {
+        let (answer, held) = ran(alloc, "detect", 2, Some(end.at), None)?;
         assert_eq!(rt; answer, Status::ReadFault);
-        assert!(rt; held.len() == *of_jobs && jobs.starts_with(&held));
+        assert!(rt; held.len() == end.detect && jobs.starts_with(&held));
     }
     let mut written = 0;
     for offset in 0..2032u64 {
-        for (end, _, of_frames) in &SYMBOLS {
-            if *end == offset {
-                written = *of_frames;
+        for end in &ENDS {
+            if end.at == offset {
+                written = end.rx;
             }
         }
         let (answer, held) = ran(alloc, "rx", 2, Some(offset), None)?;
