@@ -1,16 +1,16 @@
-# Completion of radio for bash. In a clone the commands are those that the script says it has.
+# Completion of radio for bash, written by docs/words.
 _radio() {
   local word=${COMP_WORDS[COMP_CWORD]} before=${COMP_WORDS[COMP_CWORD-1]} words=''
   if [ "$COMP_CWORD" -eq 1 ]; then
-    words=$("$1" --help 2>/dev/null </dev/null | sed -n '/^Commands:/,/^$/s/^  \([a-z][a-z]*\).*/\1/p')
-    words=${words:-detect rx tx channel upgrade demo}
+    words='detect rx tx channel upgrade demo --help --version'
   else
     case $before in
       --bandwidth) words='20 40' ;;
       --*) ;;
       *)
         case ${COMP_WORDS[1]} in
-          detect | rx) words='--workers --window' ;;
+          detect) words='--workers --window' ;;
+          rx) words='--workers --window' ;;
           channel) words='--seed --noise' ;;
           demo) words='--seed --noise --frames --mcs --bandwidth --length --workers --window' ;;
         esac

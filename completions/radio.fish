@@ -1,23 +1,18 @@
-# Completion of radio for fish. In a clone the commands are those that the script says it has.
-function __radio_commands
-    set -l program (commandline -opc)[1]
-    set -l found
-    if type -q $program
-        set found ($program --help 2>/dev/null </dev/null | sed -n '/^Commands:/,/^$/s/^  \([a-z][a-z]*\).*/\1/p')
-    end
-    test -n "$found"; or set found detect rx tx channel upgrade demo
-    printf '%s\n' $found
-end
-complete -c radio -f -n 'test (count (commandline -opc)) -eq 1' -a '(__radio_commands)'
-
-set -l detects '__fish_seen_subcommand_from detect rx demo'
-complete -c radio -f -n $detects -l workers -x -d 'Threads that detect, 1 to 64'
-complete -c radio -f -n $detects -l window -x -d 'The most jobs under way, 1 to 4096'
-set -l passes '__fish_seen_subcommand_from channel demo'
-complete -c radio -f -n $passes -l seed -x -d 'Where random numbers start'
-complete -c radio -f -n $passes -l noise -x -d 'The most noise in a part of a sample, 0 to 65535'
-set -l demo '__fish_seen_subcommand_from demo'
-complete -c radio -f -n $demo -l frames -x -d 'Sample frames, 1 to 64'
-complete -c radio -f -n $demo -l mcs -x -d '0 to 31'
-complete -c radio -f -n $demo -l bandwidth -x -a '20 40' -d 'In MHz'
-complete -c radio -f -n $demo -l length -x -d 'Octets of a frame, 1 to 65535'
+# Completion of radio for fish, written by docs/words.
+complete -c radio -f
+complete -c radio -n 'test (count (commandline -opc)) -eq 1' -a detect -d 'reads a capture (HTCP) as it comes; writes a line for each subcarrier that is present in each symbol'
+complete -c radio -n 'test (count (commandline -opc)) -eq 1' -a rx -d 'reads a capture (HTCP) as it comes; writes a line for each frame, with its octets'
+complete -c radio -n 'test (count (commandline -opc)) -eq 1' -a tx -d 'reads a file of frames (HTTX) whole; writes the file of their symbols (HTSY)'
+complete -c radio -n 'test (count (commandline -opc)) -eq 1' -a channel -d 'reads a file of symbols (HTSY) whole; writes a capture of them, of version 1, behind a random channel'
+complete -c radio -n 'test (count (commandline -opc)) -eq 1' -a upgrade -d 'reads a capture (HTCP) whole; writes the capture of version 2 of its frames'
+complete -c radio -n 'test (count (commandline -opc)) -eq 1' -a demo -d 'reads nothing; writes a line of sums over sample frames that it makes, sends and receives'
+complete -c radio -n 'test (count (commandline -opc)) -eq 1' -l help -d 'print the commands and options'
+complete -c radio -n 'test (count (commandline -opc)) -eq 1' -l version -d 'print the version'
+complete -c radio -n '__fish_seen_subcommand_from detect rx demo' -l workers -x -d 'threads that detect, the calling one among them, 1 to 64'
+complete -c radio -n '__fish_seen_subcommand_from detect rx demo' -l window -x -d 'most jobs read whose hits weren\'t taken yet, 1 to 4096'
+complete -c radio -n '__fish_seen_subcommand_from channel demo' -l seed -x -d 'start of the generator of channels and of sample frames, 0 to 18446744073709551615'
+complete -c radio -n '__fish_seen_subcommand_from channel demo' -l noise -x -d 'most noise in each part of a sample, 0 to 65535'
+complete -c radio -n '__fish_seen_subcommand_from demo' -l frames -x -d 'number of sample frames, 1 to 64'
+complete -c radio -n '__fish_seen_subcommand_from demo' -l mcs -x -d 'MCS index of sample frames, 0 to 31'
+complete -c radio -n '__fish_seen_subcommand_from demo' -l bandwidth -x -a '20 40' -d 'bandwidth of sample frames in MHz, 20 or 40'
+complete -c radio -n '__fish_seen_subcommand_from demo' -l length -x -d 'octets of each sample frame, 1 to 65535'

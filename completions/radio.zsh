@@ -1,21 +1,43 @@
 #compdef radio
-# Completion of radio for zsh. In a clone the commands are those that the script says it has.
-local -a found detects passes
-detects=('--workers[threads that detect, 1 to 64]:workers:' '--window[the most jobs under way, 1 to 4096]:window:')
-passes=('--seed[where random numbers start]:seed:' '--noise[the most noise in a part of a sample, 0 to 65535]:noise:')
+# Completion of radio for zsh, written by docs/words.
+local -a commands
+commands=(
+  'detect:reads a capture (HTCP) as it comes; writes a line for each subcarrier that is present in each symbol'
+  'rx:reads a capture (HTCP) as it comes; writes a line for each frame, with its octets'
+  'tx:reads a file of frames (HTTX) whole; writes the file of their symbols (HTSY)'
+  'channel:reads a file of symbols (HTSY) whole; writes a capture of them, of version 1, behind a random channel'
+  'upgrade:reads a capture (HTCP) whole; writes the capture of version 2 of its frames'
+  'demo:reads nothing; writes a line of sums over sample frames that it makes, sends and receives'
+)
 if (( CURRENT == 2 )); then
-  found=(${(f)"$(${words[1]} --help 2>/dev/null </dev/null | sed -n '/^Commands:/,/^$/s/^  \([a-z][a-z]*\).*/\1/p')"})
-  (( $#found )) || found=(detect rx tx channel upgrade demo)
-  compadd -- $found
+  _describe command commands
+  compadd -- --help --version
   return
 fi
 local command=${words[2]}
 shift words
 (( CURRENT-- ))
 case $command in
-  detect | rx) _arguments $detects ;;
-  channel) _arguments $passes ;;
+  detect)
+    _arguments \
+      '--workers[threads that detect, the calling one among them, 1 to 64]:workers:' \
+      '--window[most jobs read whose hits weren'\''t taken yet, 1 to 4096]:window:' ;;
+  rx)
+    _arguments \
+      '--workers[threads that detect, the calling one among them, 1 to 64]:workers:' \
+      '--window[most jobs read whose hits weren'\''t taken yet, 1 to 4096]:window:' ;;
+  channel)
+    _arguments \
+      '--seed[start of the generator of channels and of sample frames, 0 to 18446744073709551615]:seed:' \
+      '--noise[most noise in each part of a sample, 0 to 65535]:noise:' ;;
   demo)
-    _arguments $detects $passes '--frames[sample frames, 1 to 64]:frames:' '--mcs[0 to 31]:MCS:' \
-      '--bandwidth[in MHz]:bandwidth:(20 40)' '--length[octets of a frame, 1 to 65535]:length:' ;;
+    _arguments \
+      '--seed[start of the generator of channels and of sample frames, 0 to 18446744073709551615]:seed:' \
+      '--noise[most noise in each part of a sample, 0 to 65535]:noise:' \
+      '--frames[number of sample frames, 1 to 64]:frames:' \
+      '--mcs[MCS index of sample frames, 0 to 31]:mcs:' \
+      '--bandwidth[bandwidth of sample frames in MHz, 20 or 40]:bandwidth:(20 40)' \
+      '--length[octets of each sample frame, 1 to 65535]:length:' \
+      '--workers[threads that detect, the calling one among them, 1 to 64]:workers:' \
+      '--window[most jobs read whose hits weren'\''t taken yet, 1 to 4096]:window:' ;;
 esac

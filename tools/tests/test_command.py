@@ -194,6 +194,20 @@ def test_completions_are_those_of_the_words():
     assert (done.returncode, done.stdout) == (0, "")
 
 
+def test_completions_of_radio_in_bash():
+    """Its commands, and behind each command the options that docs/words lists for it."""
+    words = subprocess.run([sys.executable, str(TOP / "docs" / "words"), "--list"], capture_output=True, text=True, check=True).stdout
+    known = {command: options for command, *options in map(str.split, words.splitlines())}
+    script = f"""source '{TOP}/completions/radio.bash'
+for first in {" ".join(known)} ''; do
+  COMP_WORDS=(radio $first '') COMP_CWORD=${{first:+2}} COMP_CWORD=${{COMP_CWORD:-1}} COMPREPLY=()
+  _radio
+  echo "${{COMPREPLY[*]}}"
+done"""
+    lines = subprocess.run(["bash", "-c", script], capture_output=True, text=True, check=True).stdout.splitlines()
+    assert [line.split() for line in lines] == [*known.values(), [*known, "--help", "--version"]]
+
+
 @pytest.mark.parametrize("page", ["radio", "mizgaure"])
 def test_manual_pages_are_in_good_style(page):
     """What the programs that read them complain of most often; this asks for none of them."""

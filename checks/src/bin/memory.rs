@@ -4,6 +4,7 @@ use checks::{options, side_by_side};
 use std::collections::BTreeMap;
 use std::fs;
 use std::path::PathBuf;
+use std::process::Command;
 use std::sync::Mutex;
 use std::time::Duration;
 
@@ -13,6 +14,9 @@ const TIME: Duration = Duration::from_secs(140);
 /// How many octets beyond those mapped at its beginning a run may map, at most, where this is limited.
 const BEYOND: u64 = 48 << 20;
 const STEP: u64 = 512 << 10;
+
+/// The commands that write while they read.
+const STREAMING: [&str; 2] = ["rx", "detect"];
 
 /// Whether a call starts threads. A thread that can't be started is a growth that a run can do without.
 #[derive(Clone, Copy, PartialEq, Eq)]
@@ -51,7 +55,7 @@ impl Call {
         };
         let growths = (0..5).map(|_| count(room)).max().unwrap_or(0);
         room.variables.clear();
-        let is_streaming = ["detect", "rx"].contains(&words[0].as_str());
+        let is_streaming = STREAMING.contains(&words[0].as_str());
         Call { words, input, code, threads, text: usual.text, is_streaming, growths }
     }
 
@@ -76,6 +80,22 @@ fn file(name: &str) -> Vec<u8> {
     fs::read(&path).unwrap_or_else(|error| panic!("{}: {error}", path.display()))
 }
 
+/// The first vector without a fault of each command: the command and the path of its input.
+fn first_vectors() -> Vec<(String, String)> {
+    let listed = Command::new(program::top().join(".ci/vectors")).arg("--list").output();
+    let listed = listed.expect("the vectors can't be listed").stdout;
+    let mut firsts: Vec<(String, String)> = Vec::new();
+    for line in String::from_utf8_lossy(&listed).lines() {
+        let words: Vec<&str> = line.split(' ').collect();
+        if let [command, "0", path, _] = words[..] {
+            if firsts.iter().all(|(known, _)| known != command) {
+                firsts.push((command.to_string(), path.to_string()));
+            }
+        }
+    }
+    firsts
+}
+
 /// The capture `z` with its frame twice.
 fn two_frames() -> Vec<u8> {
     let mut octets = file("examples/z.htcp");
@@ -88,7 +108,7 @@ fn calls(room: &mut Room) -> Vec<Call> {
     let mut calls = Vec::new();
     for workers in [1, 4] {
         let threads = if workers > 1 { Threads::Several } else { Threads::One };
-        for command in ["rx", "detect"] {
+        for command in STREAMING {
             calls.push(Call::new(room, options::received(command, workers, 256), two_frames(), 0, threads));
         }
         calls.push(Call::new(room, options::demonstrated(workers), Vec::new(), 0, threads));
@@ -97,9 +117,11 @@ fn calls(room: &mut Room) -> Vec<Call> {
         let words = words.iter().map(|word| word.to_string()).collect();
         calls.push(Call::new(room, words, input, code, Threads::One));
     };
-    alone(&["tx"], file("vectors/worked/a5.httx"), 0);
-    alone(&["channel"], file("vectors/worked/a5.htsy"), 0);
-    alone(&["upgrade"], file("vectors/worked/a5.htcp"), 0);
+    for (command, path) in first_vectors() {
+        if !STREAMING.contains(&command.as_str()) {
+            alone(&[&command], file(&path), 0);
+        }
+    }
     alone(&["tx"], file("vectors/worked/a5-bad-seed.httx"), 1);
     alone(&["rx", "rx"], Vec::new(), 2);
     calls

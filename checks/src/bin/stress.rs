@@ -17,7 +17,7 @@ const WORKERS: [u32; 6] = [1, 2, 3, 4, 7, 64];
 const WINDOWS: [u32; 5] = [1, 2, 3, 256, 4096];
 
 /// Small captures: one to four streams, both bandwidths and versions, ties and extremes, erased subcarriers.
-const CAPTURES: [&str; 10] = [
+const CAPTURES: [&str; 11] = [
     "jobs/even-mcs00",
     "jobs/extreme-mcs01",
     "jobs/small-mcs09",
@@ -28,6 +28,7 @@ const CAPTURES: [&str; 10] = [
     "version2/bw0-mcs18",
     "version2/bw1-mcs31",
     "worked/a5-pilots-alone",
+    "worked/zz",
 ];
 
 /// The larger capture: sample frames of a seed at 20 MHz, MCS 15, with noise. It is received with these workers and
