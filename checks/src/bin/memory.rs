@@ -29,7 +29,7 @@ struct Call {
     /// The status that it ends with.
     code: i32,
     threads: Threads,
-    /// Whether lines may stand where memory ran out.
+    /// Whether a beginning of its text may stand where memory ran out.
     is_streaming: bool,
     /// How many growths a run takes, at most.
     growths: u64,
@@ -51,7 +51,7 @@ impl Call {
         };
         let growths = (0..5).map(|_| count(room)).max().unwrap_or(0);
         room.variables.clear();
-        let is_streaming = ["detect", "rx"].contains(&words[0].as_str());
+        let is_streaming = ["detect", "rx", "certify", "check"].contains(&words[0].as_str());
         Call { words, input, code, threads, text: usual.text, is_streaming, growths }
     }
 
@@ -100,6 +100,8 @@ fn calls(room: &mut Room) -> Vec<Call> {
     alone(&["tx"], file("vectors/worked/a5.httx"), 0);
     alone(&["channel"], file("vectors/worked/a5.htsy"), 0);
     alone(&["upgrade"], file("vectors/worked/a5.htcp"), 0);
+    alone(&["certify"], file("vectors/worked/a5.htcp"), 0);
+    alone(&["check"], file("vectors/certificates/jobs-small-mcs01-spoiled.htct"), 0);
     alone(&["tx"], file("vectors/worked/a5-bad-seed.httx"), 1);
     alone(&["rx", "rx"], Vec::new(), 2);
     calls
