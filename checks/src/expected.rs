@@ -183,10 +183,16 @@ impl Job {
     }
 }
 
-/// Checks the job lines of a capture, and gives the sums of each frame.
-pub fn check_jobs(walk: &Walk, octets: &[u8], lines: &[&str]) -> Result<Vec<Sums>, String> {
+/// What the job lines of a capture say: the sums of each frame, and the distance and the points of each data job.
+pub struct Found {
+    pub sums: Vec<Sums>,
+    pub data: Vec<(u128, Vec<Point>)>,
+}
+
+/// Checks the job lines of a capture, and gives what they say.
+pub fn check_jobs(walk: &Walk, octets: &[u8], lines: &[&str]) -> Result<Found, String> {
     let mut lines = lines.iter();
-    let mut all = Vec::new();
+    let mut found = Found { sums: Vec::new(), data: Vec::new() };
     for (number, frame) in walk.frames.iter().enumerate() {
         let (rate, streams) = (frame.rate, frame.rate.streams());
         let constellation = rate.constellation();
@@ -215,19 +221,23 @@ pub fn check_jobs(walk: &Walk, octets: &[u8], lines: &[&str]) -> Result<Vec<Sums
                 if !is_right {
                     return Err(format!("'{line}' is wrong"));
                 }
-                let sum = if rate.pilot_on(carrier).is_some() { &mut sums.pilot } else { &mut sums.data };
-                *sum += distance;
+                if rate.pilot_on(carrier).is_some() {
+                    sums.pilot += distance;
+                } else {
+                    sums.data += distance;
+                    found.data.push((distance, points));
+                }
             }
         }
-        all.push(sums);
+        found.sums.push(sums);
     }
     match lines.next() {
         Some(line) => Err(format!("'{line}' is too much")),
-        None => Ok(all),
+        None => Ok(found),
     }
 }
 
-fn sample(octets: &[u8]) -> (i64, i64) {
+pub(crate) fn sample(octets: &[u8]) -> (i64, i64) {
     let part = |at: usize| i64::from(i32::from_be_bytes(octets[at..at + 4].try_into().unwrap()));
     (part(0), part(4))
 }

@@ -1,6 +1,7 @@
 //! What the checks share: the built program and its runs, the formats read anew from docs/FORMATS.md, files made and
 //! spoiled at random, and what the program has to write for them. Nothing here is proved, and nothing of the product's
 //! crates is used.
+pub mod certificates;
 pub mod channel;
 pub mod expected;
 pub mod making;

@@ -27,7 +27,8 @@ const POLARITY: [i8; 127] = {
     signs
 };
 
-const LEVELS: [i8; 8] = [-7, -5, -3, -1, 1, 3, 5, 7];
+/// The levels of 64-QAM; those of smaller constellations are in the middle.
+pub(crate) const LEVELS: [i8; 8] = [-7, -5, -3, -1, 1, 3, 5, 7];
 
 impl Rate {
     pub fn of(bandwidth: u8, mcs: u8) -> Self {

@@ -27,6 +27,31 @@ fn try_once(random: &mut Random, format: Format, octets: &[u8], other: &[u8]) ->
     }
 }
 
+/// Spoils a file of certificates, mostly in the first records.
+pub fn spoil_certificates(random: &mut Random, octets: &[u8]) -> Vec<u8> {
+    let mut spoiled = octets.to_vec();
+    let reach = if random.once_in(4) { octets.len() } else { octets.len().min(200) };
+    match random.below(8) {
+        0 => return cut(random, octets).0,
+        1 => return append(random, octets, octets).0,
+        2 => return shift(random, octets).0,
+        // The number of records.
+        3 => spoiled[5 + random.below(8)] ^= 1 << random.below(8),
+        4..=5 => {
+            let any = random.octet();
+            spoiled[random.below(reach)] = random.one_of(&[0, 1, 2, 3, 4, 255, any]);
+        }
+        // A mark of the last record, mostly.
+        6 => *spoiled.last_mut().unwrap() ^= 1,
+        _ => {
+            for _ in 0..random.between(1, 3) {
+                spoiled[random.below(reach)] ^= 1 << random.below(8);
+            }
+        }
+    }
+    spoiled
+}
+
 fn cut(random: &mut Random, octets: &[u8]) -> (Vec<u8>, &'static str) {
     let kept = if random.once_in(4) { random.below(octets.len().min(20)) } else { random.below(octets.len()) };
     (octets[..kept].to_vec(), "cut off")

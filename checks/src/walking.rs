@@ -178,23 +178,24 @@ fn points(rate: Rate, symbol: u32, cursor: &mut Cursor) -> Result<(), Fault> {
     Ok(())
 }
 
-struct Cursor<'a> {
-    octets: &'a [u8],
-    at: usize,
+/// Octets, and how far they were gone through.
+pub(crate) struct Cursor<'a> {
+    pub octets: &'a [u8],
+    pub at: usize,
 }
 
 impl<'a> Cursor<'a> {
-    fn fault(&self, kind: &'static str, offset: usize) -> Fault {
+    pub fn fault(&self, kind: &'static str, offset: usize) -> Fault {
         Fault { kind, offset }
     }
 
-    fn take(&mut self, count: usize) -> Result<&'a [u8], Fault> {
+    pub fn take(&mut self, count: usize) -> Result<&'a [u8], Fault> {
         let taken = self.octets.get(self.at..self.at + count).ok_or(self.fault("Truncated", self.octets.len()))?;
         self.at += count;
         Ok(taken)
     }
 
-    fn octet(&mut self, kind: &'static str, is_good: impl Fn(u8) -> bool) -> Result<u8, Fault> {
+    pub fn octet(&mut self, kind: &'static str, is_good: impl Fn(u8) -> bool) -> Result<u8, Fault> {
         let at = self.at;
         let octet = self.take(1)?[0];
         if is_good(octet) { Ok(octet) } else { Err(self.fault(kind, at)) }

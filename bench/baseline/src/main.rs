@@ -1,5 +1,6 @@
 //! The lines of `ht_bench` in plain Rust, to compare with. It prints the same checksums.
 mod capturing;
+mod certifying;
 mod decoding;
 mod detecting;
 mod framing;
@@ -11,7 +12,7 @@ mod sending;
 
 fn main() {
     let words: Vec<String> = std::env::args().skip(1).collect();
-    if receiving::run(&words) || sending::run(&words) {
+    if receiving::run(&words) || certifying::run(&words) || sending::run(&words) {
         return;
     }
     match decoding::run(&words).or_else(|| framing::run(&words)).or_else(|| detecting::run(&words)).or_else(|| capturing::run(&words)) {

@@ -2,9 +2,9 @@
 use checks::expected::{self, Outcome, Sums};
 use checks::program::{Ran, Room};
 use checks::random::Random;
-use checks::rates::Rate;
+use checks::rates::{Point, Rate};
 use checks::walking::{Format, Walk};
-use checks::{making, options, side_by_side, spoiling};
+use checks::{certificates, making, options, side_by_side, spoiling};
 use std::io::Write;
 use std::time::Duration;
 
@@ -122,11 +122,37 @@ impl Runs<'_, '_> {
             self.refused(&upgrade, octets, &walk)?
         }
         let listed = self.received("detect", [(1, 1), (4, 256)], octets, &upgraded)?;
-        let sums = expected::check_jobs(&walk, octets, &before_last(&listed, &walk)?)?;
+        let found = expected::check_jobs(&walk, octets, &before_last(&listed, &walk)?)?;
+        if is_whole {
+            self.certified(input, &walk, &found.data)?
+        } else {
+            self.refused(&["certify".to_string()], octets, &walk)?
+        }
         let received = self.received("rx", [(1, 256), (4, 1)], octets, &upgraded)?;
         let lines = before_last(&received, &walk)?;
-        check_frames(&lines, &walk, &sums)?;
+        check_frames(&lines, &walk, &found.sums)?;
         self.beginning(input, &lines)
+    }
+
+    /// What `certify` makes of a whole capture, and what `check` says of that and of what becomes of it by spoiling.
+    fn certified(&mut self, input: &Input, walk: &Walk, found: &[(u128, Vec<Point>)]) -> Result<(), String> {
+        // Where a large grid was spoiled, a certificate may have millions of marks.
+        let is_cheap = walk.frames.iter().all(|frame| frame.rate.vectors() <= making::CHEAP);
+        if input.how != "whole" && !is_cheap {
+            return Ok(());
+        }
+        let octets = &input.octets;
+        let file = certificates::certified(walk, octets, found);
+        self.made(&["certify".to_string()], octets, &file)?;
+        let mut random = Random::of_input(found.len() as u64, octets.len() as u64);
+        for octets in [&spoiling::spoil_certificates(&mut random, &file), &file] {
+            let (text, fault) = certificates::checked(octets);
+            let ran = self.run(&["check".to_string()], octets)?;
+            if ran.text != text.as_bytes() || ran.code() != Some(fault.is_some().into()) {
+                return Err(format!("`check`: {} and another text", ran.ended()));
+            }
+        }
+        Ok(())
     }
 
     /// The lines of the frames that end before the first octet that was changed are those of the valid file.

@@ -15,8 +15,11 @@ const TIME: Duration = Duration::from_secs(140);
 const BEYOND: u64 = 48 << 20;
 const STEP: u64 = 512 << 10;
 
-/// The commands that write while they read.
-const STREAMING: [&str; 2] = ["rx", "detect"];
+/// The commands with workers, which write while they read.
+const RECEIVING: [&str; 2] = ["rx", "detect"];
+
+/// The commands of which a beginning of the text may stand where memory ran out.
+const PIECEWISE: [&str; 4] = ["rx", "detect", "certify", "check"];
 
 /// Whether a call starts threads. A thread that can't be started is a growth that a run can do without.
 #[derive(Clone, Copy, PartialEq, Eq)]
@@ -33,8 +36,8 @@ struct Call {
     /// The status that it ends with.
     code: i32,
     threads: Threads,
-    /// Whether lines may stand where memory ran out.
-    is_streaming: bool,
+    /// Whether a beginning of the text may stand where memory ran out.
+    is_piecewise: bool,
     /// How many growths a run takes, at most.
     growths: u64,
 }
@@ -55,13 +58,13 @@ impl Call {
         };
         let growths = (0..5).map(|_| count(room)).max().unwrap_or(0);
         room.variables.clear();
-        let is_streaming = STREAMING.contains(&words[0].as_str());
-        Call { words, input, code, threads, text: usual.text, is_streaming, growths }
+        let is_piecewise = PIECEWISE.contains(&words[0].as_str());
+        Call { words, input, code, threads, text: usual.text, is_piecewise, growths }
     }
 
     /// What became of the run: its end in a word, or what is wrong.
     fn judge(&self, ran: &Ran) -> Result<&'static str, String> {
-        let may_stand = if self.is_streaming { self.text.starts_with(&ran.text) } else { ran.text.is_empty() };
+        let may_stand = if self.is_piecewise { self.text.starts_with(&ran.text) } else { ran.text.is_empty() };
         match ran.code() {
             _ if !ran.said.is_empty() => Err(format!("it said '{}'", ran.said.trim_end())),
             Some(5) if may_stand => Ok("ended with status 5"),
@@ -108,7 +111,7 @@ fn calls(room: &mut Room) -> Vec<Call> {
     let mut calls = Vec::new();
     for workers in [1, 4] {
         let threads = if workers > 1 { Threads::Several } else { Threads::One };
-        for command in STREAMING {
+        for command in RECEIVING {
             calls.push(Call::new(room, options::received(command, workers, 256), two_frames(), 0, threads));
         }
         calls.push(Call::new(room, options::demonstrated(workers), Vec::new(), 0, threads));
@@ -118,7 +121,7 @@ fn calls(room: &mut Room) -> Vec<Call> {
         calls.push(Call::new(room, words, input, code, Threads::One));
     };
     for (command, path) in first_vectors() {
-        if !STREAMING.contains(&command.as_str()) {
+        if !RECEIVING.contains(&command.as_str()) {
             alone(&[&command], file(&path), 0);
         }
     }
