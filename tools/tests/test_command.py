@@ -114,7 +114,7 @@ def bad_inputs():
     yield ["judge", Z, "-"], b"job 0 0 56 1 0\n", "standard input: line 1 answers job 0 0 56, which the capture doesn't have"
     yield ["judge", "-", "-"], b"", "the capture and the answers can't both be standard input"
     yield ["capture", "missing.npz", "-o", "x"], b"", "missing.npz can't be read: No such file or directory"
-    yield ["capture", Z, "-o", "x"], b"", f"{Z} is no archive of arrays (.npz)"
+    yield ["capture", Z, "-o", "x"], b"", f"{Z}: frame 0: this is no archive of arrays (.npz)"
     yield ["picture", "evm", Z, "x.gif"], b"", "x.gif: a picture's name ends in .png, .svg, .pdf"
     yield ["picture", "evm", Z, "x.png", "--frame", "1"], b"", f"{Z}: there are 1 frames, and no frame 1"
     yield ["picture", "sweep", Z, "x.png"], b"", None
