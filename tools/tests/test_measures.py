@@ -41,6 +41,15 @@ def test_rates_over_frames_add_up():
             FrameProportion.from_rows(rows)
 
 
+def test_the_order_of_frames_makes_no_difference():
+    """Not in the last digit, so that a merged sweep's table is that of one that was never divided."""
+    pytest.importorskip("scipy")
+    random = np.random.default_rng(3)
+    for _ in range(20):
+        errors = random.integers(0, 400, 30)
+        assert frames_of(errors, 1040).interval == frames_of(errors[::-1], 1040).interval == frames_of(random.permutation(errors), 1040).interval
+
+
 def test_an_interval_over_frames_by_hand():
     """Two frames of 100 trials with 10 and 30 errors: p = 0.2 and a standard error of 0.1, so 0.1 / 0.16 on the scale of odds."""
     stats = pytest.importorskip("scipy.stats")
