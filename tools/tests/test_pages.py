@@ -81,10 +81,10 @@ def test_the_examples_of_packets(here, radio, tmp_path):
     for command in block_of(PACKETS, "mizgaure report").splitlines():
         bash(command)
     assert (tmp_path / "lab.html").read_text().startswith("<!DOCTYPE html>")
-    before = (tmp_path / "made.pcap").read_bytes()
     (python,) = blocks(PACKETS, "python")
     exec(python, {})
-    assert (tmp_path / "made.pcap").read_bytes() == before
+    assert here("frames", "made.pcap", "-o", "third.httx").returncode == 0
+    assert (tmp_path / "third.httx").read_bytes() == (tmp_path / "again.httx").read_bytes()
 
 
 def words_of(line):
