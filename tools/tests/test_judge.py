@@ -131,10 +131,9 @@ def test_lines_in_no_order_are_judged_in_one_way_through():
     found = judge(octets_of(frames), b"".join(mixed), reference=b"".join(reference))
     assert [jobs.frame for jobs in found.jobs] == [verdict.frame for verdict in found.frames] == list(range(len(frames)))
     assert found.job_counts["same"] == sum(map(len, answers)) and found.unanswered == found.misstated == 0 and found.is_clean
-    numbers = {line: number for number, line in enumerate(mixed, 1)}
+    numbers = {tuple(map(int, line.split()[1:4])): number for number, line in enumerate(mixed, 1) if line.startswith(b"job")}
     for jobs in found.jobs:  # in the order of their lines
-        places_ = [b"job %d %d %d " % (jobs.frame, symbol, carrier) for symbol, carrier in zip(jobs.symbol, jobs.carrier)]
-        order = [next(number for line, number in numbers.items() if line.startswith(place)) for place in places_[:5]]
+        order = [numbers[jobs.frame, symbol, carrier] for symbol, carrier in zip(jobs.symbol.tolist(), jobs.carrier.tolist())]
         assert order == sorted(order)
     # Of several faults in a block the first one is told, whatever their widths.
     for first, second in ((b"what\n", b"job 0 0 0 1 x\n"), (b"job 0 0 0 1 x\n", b"what\n")):
