@@ -7,6 +7,8 @@ commands=(
   'tx:reads a file of frames (HTTX) whole; writes the file of their symbols (HTSY)'
   'channel:reads a file of symbols (HTSY) whole; writes a capture of them, of version 1, behind a random channel'
   'upgrade:reads a capture (HTCP) whole; writes the capture of version 2 of its frames'
+  'certify:reads a capture (HTCP) whole; writes the file of certificates (HTCT) of its data jobs'
+  'check:reads a file of certificates (HTCT) as it comes; writes a line for each certificate that says whether it holds'
   'demo:reads nothing; writes a line of sums over sample frames that it makes, sends and receives'
 )
 if (( CURRENT == 2 )); then
@@ -21,23 +23,23 @@ case $command in
   detect)
     _arguments \
       '--workers[threads that detect, the calling one among them, 1 to 64]:workers:' \
-      '--window[most jobs read whose hits weren'\''t taken yet, 1 to 4096]:window:' ;;
+      '--window[most jobs under way at a time: read, and their hits not taken yet, 1 to 4096]:window:' ;;
   rx)
     _arguments \
       '--workers[threads that detect, the calling one among them, 1 to 64]:workers:' \
-      '--window[most jobs read whose hits weren'\''t taken yet, 1 to 4096]:window:' ;;
+      '--window[most jobs under way at a time: read, and their hits not taken yet, 1 to 4096]:window:' ;;
   channel)
     _arguments \
-      '--seed[start of the generator of channels and of sample frames, 0 to 18446744073709551615]:seed:' \
-      '--noise[most noise in each part of a sample, 0 to 65535]:noise:' ;;
+      '--seed[seed of the generator of channels and of sample frames, 0 to 18446744073709551615]:seed:' \
+      '--noise[largest noise in each part of a sample, 0 to 65535]:noise:' ;;
   demo)
     _arguments \
-      '--seed[start of the generator of channels and of sample frames, 0 to 18446744073709551615]:seed:' \
-      '--noise[most noise in each part of a sample, 0 to 65535]:noise:' \
+      '--seed[seed of the generator of channels and of sample frames, 0 to 18446744073709551615]:seed:' \
+      '--noise[largest noise in each part of a sample, 0 to 65535]:noise:' \
       '--frames[number of sample frames, 1 to 64]:frames:' \
       '--mcs[MCS index of sample frames, 0 to 31]:mcs:' \
       '--bandwidth[bandwidth of sample frames in MHz, 20 or 40]:bandwidth:(20 40)' \
       '--length[octets of each sample frame, 1 to 65535]:length:' \
       '--workers[threads that detect, the calling one among them, 1 to 64]:workers:' \
-      '--window[most jobs read whose hits weren'\''t taken yet, 1 to 4096]:window:' ;;
+      '--window[most jobs under way at a time: read, and their hits not taken yet, 1 to 4096]:window:' ;;
 esac

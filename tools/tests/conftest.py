@@ -12,7 +12,7 @@ from typing import Sequence
 import numpy as np
 import pytest
 
-from mizgaure import CaptureFrame, Radio, Rate, write_htcp
+from mizgaure import CaptureFrame, Radio, Rate, cli, write_htcp
 
 TOP = Path(__file__).resolve().parents[2]
 VECTORS = TOP / "vectors"
@@ -43,6 +43,24 @@ def command(radio, tmp_path):
         return subprocess.run([str(TOP / "tools" / "mizgaure"), *map(str, words)], input=given, capture_output=True, cwd=tmp_path,
                               env=environment, timeout=100, check=False)
 
+    return run
+
+
+@pytest.fixture
+def here(radio, tmp_path, monkeypatch, capsysbinary):
+    """The command in this process, which is faster than one of its own: words to the finished run."""
+
+    def run(*words: object, given: bytes = b"") -> subprocess.CompletedProcess:
+        capsysbinary.readouterr()
+        monkeypatch.setattr(sys, "stdin", io.TextIOWrapper(io.BytesIO(given)))
+        try:
+            status = cli.main([str(word) for word in words])
+        except SystemExit as ended:
+            status = ended.code
+        return subprocess.CompletedProcess(words, status, *capsysbinary.readouterr())
+
+    monkeypatch.chdir(tmp_path)
+    monkeypatch.setenv("MIZGAURE_RADIO", radio.path)
     return run
 
 

@@ -16,12 +16,79 @@ from mizgaure.sweep import Setting, random_symbols, received_frame
 PROFILE = ((0.0, 0.0), (100.0, -3.0), (250.0, -9.0))
 
 
-def test_the_delay_spreads_of_task_group_n():
-    """Document 11-03/940r4 gives 15 ns for model B and 50 ns for model D, rounded, and 9 and 18 taps."""
-    assert round(delay_spread(tgn_profile("tgn-b"))) in (15, 16) and round(delay_spread(tgn_profile("tgn-d"))) == 50
-    assert [len(tgn_profile(name)) for name in ("tgn-b", "tgn-d")] == [9, 18]
-    assert [tgn_profile(name)[-1][0] for name in ("tgn-b", "tgn-d")] == [80, 390]
-    assert all(tgn_profile(name)[0] == (0.0, 0.0) for name in TGN)
+# The models of Task Group n in the layout of their tables: the delay of each tap in ns, and what it has of each cluster in dB.
+TABLES = {
+    "tgn-b": """
+          0    0.0
+         10   -5.4
+         20  -10.8   -3.2
+         30  -16.2   -6.3
+         40  -21.7   -9.4
+         50          -12.5
+         60          -15.6
+         70          -18.7
+         80          -21.8""",
+    "tgn-d": """
+          0    0.0
+         10   -0.9
+         20   -1.7
+         30   -2.6
+         40   -3.5
+         50   -4.3
+         60   -5.2
+         70   -6.1
+         80   -6.9
+         90   -7.8
+        110   -9.0   -6.6
+        140  -11.1   -9.5
+        170  -13.7  -12.1
+        200  -16.3  -14.7
+        240  -19.3  -17.4  -18.8
+        290  -23.2  -21.9  -23.2
+        340          -25.5  -25.2
+        390                  -26.7""",
+}
+# Of each cluster: the angle of arrival and its spread, the angle of departure and its spread, in degrees.
+ANGLES = {"tgn-b": [(4.3, 14.4, 225.1, 14.4), (118.4, 25.2, 106.5, 25.4)],
+          "tgn-d": [(158.9, 27.7, 332.1, 27.4), (320.2, 31.4, 49.3, 32.1), (276.1, 37.4, 275.9, 36.8)]}
+
+
+@pytest.mark.parametrize("name", TGN)
+def test_the_taps_of_task_group_n(name):
+    """Each cluster's taps and angles, against the tables as they are written here."""
+    rows = [line for line in TABLES[name].splitlines() if line.strip()]
+    starts, width = 11, 8  # of the columns
+    assert len(rows) == len(tgn_profile(name))
+    for number, (cluster, angles) in enumerate(zip(TGN[name], ANGLES[name])):
+        cells = [(float(row.split()[0]), row[starts + width * number :][:width].strip()) for row in rows]
+        assert cluster.taps == tuple((delay, float(cell)) for delay, cell in cells if cell)
+        assert (*cluster.arrival, *cluster.departure) == angles
+    assert len(TGN[name]) == len(ANGLES[name])
+
+
+@pytest.mark.parametrize("name, spread, delays, firsts", [("tgn-b", 15, [*range(0, 90, 10)], [0, 20]),
+                                                          ("tgn-d", 50, [*range(0, 100, 10), 110, 140, 170, 200, 240, 290, 340, 390], [0, 110, 240])])
+def test_what_is_known_of_the_models_of_task_group_n(name, spread, delays, firsts):
+    """What document 11-03/940r4 says of B and D apart from its tables, and what follows from how it made them.
+
+    The delay spreads are 15 ns and 50 ns, rounded; B has 9 taps in 2 clusters and D 18 in 3, the strongest is the first one and
+    has 0 dB; taps are 10 ns apart or a multiple; clusters overlap, a tap of one being a tap of the model; and the power of a
+    cluster falls exponentially, so in dB it is a straight line, to a tenth, as far as its taps are 10 ns apart.
+    """
+    profile = tgn_profile(name)
+    assert round(delay_spread(profile)) - spread in (0, 1)
+    assert [delay for delay, _ in profile] == delays and profile[0] == (0.0, 0.0) and max(power for _, power in profile) == 0.0
+    clusters = TGN[name]
+    assert [cluster.taps[0][0] for cluster in clusters] == firsts
+    for cluster, behind in zip(clusters, [*clusters[1:], None]):
+        times, powers = np.array(cluster.taps).T
+        first = delays.index(times[0])
+        assert times.tolist() == delays[first : first + times.size] and (np.diff(powers) < 0).all()
+        assert behind is None or times[0] < behind.taps[0][0] < times[-1] < behind.taps[-1][0]
+        near = np.flatnonzero(np.diff(times, prepend=times[0] - 10) == 10)
+        if near.size > 2:
+            line = np.polyval(np.polyfit(times[near], powers[near], 1), times[near])
+            assert abs(powers[near] - line).max() < 0.06
 
 
 @pytest.mark.parametrize("name", ["exponential", "flat", "tapped", "tgn-b", "tgn-d", "awgn"])

@@ -34,25 +34,25 @@ def test_the_python_of_the_page_runs_as_it_stands(radio, tmp_path, monkeypatch, 
     assert re.fullmatch(r"gain \d+, roots of distances off by at most 7\.6\nerror vector magnitude \d\d\.\d %, residuals [3-7]\.\d %\n", said)
 
 
-def test_the_shell_of_the_pages(command):
+def test_the_shell_of_the_pages(here):
     """The way from an example to a verdict, as tools/README.md has it."""
-    assert command("example", "--mcs", 11, "--length", 700, "-o", "frame.npz", "--sent", "sent.htsy").returncode == 0
-    made = command("capture", "frame.npz", "-o", "made.htcp")
+    assert here("example", "--mcs", 11, "--length", 700, "-o", "frame.npz", "--sent", "sent.htsy").returncode == 0
+    made = here("capture", "frame.npz", "-o", "made.htcp")
     assert made.returncode == 0
     assert re.fullmatch(r"frame\.npz: 20 MHz, MCS 11 \(16-QAM 1/2, 2 streams\), 700 octets, gain [\d.]+, "
                         r"the root of a distance is off by at most 7\.62\n", made.stderr.decode())
-    measured = command("measure", "made.htcp", "--sent", "sent.htsy", "--json", "measures.jsonl").stdout.decode()
+    measured = here("measure", "made.htcp", "--sent", "sent.htsy", "--json", "measures.jsonl").stdout.decode()
     assert re.search(r"EVM 14\.67 % \(-16\.7 dB\), within -16 dB; stream 1 17\.05 %, stream 2 11\.81 %; residual 6\.60 % \(-23\.6 dB\); stream 1", measured)
     assert "EVM of 1 frame at 20 MHz, MCS 11 (16-QAM 1/2, 2 streams): 14.67 % (-16.7 dB), within the limit of -16 dB" in measured
     assert "symbol error rate" in measured
-    answers = command("zero-forcing", "made.htcp")
-    verdict = command("judge", "made.htcp", "-", given=answers.stdout)
+    answers = here("zero-forcing", "made.htcp")
+    verdict = here("judge", "made.htcp", "-", given=answers.stdout)
     assert verdict.returncode == 1 and re.search(rb"jobs 1568: \d+ same, 0 tie, \d+ worse, 0 outside; 0 without an answer", verdict.stdout)
     pytest.importorskip("matplotlib")
     for kind in ("constellation", "evm", "residual", "distances"):
-        assert command("picture", kind, "made.htcp", f"{kind}.svg").returncode == 0
-    assert command("sweep", "--length", 20, "--snr", "5,15", "--frames", 3, "--processes", 2, "-o", "sweep.json", "--picture", "a.png").returncode == 0
-    assert command("picture", "sweep", "sweep.json", "b.pdf").returncode == 0
+        assert here("picture", kind, "made.htcp", f"{kind}.svg").returncode == 0
+    assert here("sweep", "--length", 20, "--snr", "5,15", "--frames", 3, "--processes", 2, "-o", "sweep.json", "--picture", "a.png").returncode == 0
+    assert here("picture", "sweep", "sweep.json", "b.pdf").returncode == 0
 
 
 def test_show_and_answers(command, tmp_path):
@@ -89,15 +89,15 @@ def test_a_picture_of_one_frame_detects_one_frame(radio, tmp_path):
     assert b"MCS 9" in (tmp_path / "a.svg").read_bytes() or (tmp_path / "a.svg").stat().st_size > 10000
 
 
-def test_measures_from_kept_lines_and_from_a_pipe(command, tmp_path):
+def test_measures_from_kept_lines_and_from_a_pipe(here, tmp_path):
     path = VECTORS / "jobs" / "small-mcs09.htcp"
     (tmp_path / "lines").write_bytes(path.with_suffix(".detect").read_bytes() + path.with_suffix(".rx").read_bytes())
     (tmp_path / "sent").write_bytes(b"x")
     rates = b"bit error rate of octets 6 of 8 = 0.75 (one frame gives no interval)\nframe error rate 1 of 1 = 1 (95 %: 0.207 to 1)\n"
-    kept = command("measure", path, "--answers", "lines", "--octets", "sent")
+    kept = here("measure", path, "--answers", "lines", "--octets", "sent")
     assert kept.returncode == 0 and kept.stdout.endswith(rates)
-    assert command("measure", "-", "--answers", "lines", "--octets", "sent", given=path.read_bytes()).stdout == kept.stdout
-    assert command("judge", path, path.with_suffix(".rx"), "--reference", "lines").stdout == b"frames 1: 1 same, 0 tie, 0 wrong\n"
+    assert here("measure", "-", "--answers", "lines", "--octets", "sent", given=path.read_bytes()).stdout == kept.stdout
+    assert here("judge", path, path.with_suffix(".rx"), "--reference", "lines").stdout == b"frames 1: 1 same, 0 tie, 0 wrong\n"
 
 
 def bad_inputs():
@@ -114,7 +114,7 @@ def bad_inputs():
     yield ["judge", Z, "-"], b"job 0 0 56 1 0\n", "standard input: line 1 answers job 0 0 56, which the capture doesn't have"
     yield ["judge", "-", "-"], b"", "the capture and the answers can't both be standard input"
     yield ["capture", "missing.npz", "-o", "x"], b"", "missing.npz can't be read: No such file or directory"
-    yield ["capture", Z, "-o", "x"], b"", f"{Z} is no archive of arrays (.npz)"
+    yield ["capture", Z, "-o", "x"], b"", f"{Z}: frame 0: this is no archive of arrays (.npz)"
     yield ["picture", "evm", Z, "x.gif"], b"", "x.gif: a picture's name ends in .png, .svg, .pdf"
     yield ["picture", "evm", Z, "x.png", "--frame", "1"], b"", f"{Z}: there are 1 frames, and no frame 1"
     yield ["picture", "sweep", Z, "x.png"], b"", None
@@ -129,10 +129,10 @@ def bad_inputs():
 
 
 @pytest.mark.parametrize("words, given, said", [pytest.param(*case, id=f"{n}-{case[0][0]}") for n, case in enumerate(bad_inputs())])
-def test_bad_input_gets_one_sentence(command, words, given, said, tmp_path):
+def test_bad_input_gets_one_sentence(here, command, words, given, said, tmp_path):
     if words[0] == "picture" or said is None:
         pytest.importorskip("matplotlib")
-    done = command(*words, given=given)
+    done = (command if words[0] == "answers" else here)(*words, given=given)  # where radio reads standard input itself
     text = done.stderr.decode()
     assert done.returncode == 2 and "Traceback" not in text
     last = text.splitlines()[-1]

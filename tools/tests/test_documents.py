@@ -65,6 +65,12 @@ def test_the_planted_mistakes_are_those_of_the_page():
         assert all((TOP / "tools" / "tests" / f"test_{test}.py").exists() for test in tests.split())
 
 
-def test_the_pictures_stand():
-    for name in re.findall(r"\]\((pictures/[a-z]+\.png)\)", CAPTURES):
-        assert (TOP / "docs" / name).read_bytes().startswith(b"\x89PNG")
+def test_each_picture_is_shown_and_is_made_by_a_script():
+    """Whatever a page shows is there, and each picture that is there is on a page and in a script beside it."""
+    folder = TOP / "docs" / "pictures"
+    shown = {name for page in (TOP / "docs").glob("*.md") for name in re.findall(r"\]\(pictures/([^)]*)\)", page.read_text())}
+    assert shown == {path.name for path in folder.glob("*.png")}
+    scripts = "".join(path.read_text() for path in folder.iterdir() if path.suffix == "")
+    for name in shown:
+        assert (folder / name).read_bytes().startswith(b"\x89PNG")
+        assert re.search(rf"(?<![\w-]){re.escape(name.partition('.')[0])}(?![\w-])", scripts)

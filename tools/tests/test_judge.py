@@ -117,6 +117,33 @@ def test_the_order_of_lines_makes_no_difference():
         judge(octets, Pieces(b"job 5 0 0 1 1 1 1\n" + b"".join(lines)), reference=reference)
 
 
+def test_lines_in_no_order_are_judged_in_one_way_through():
+    """Frames of other widths among each other, some lines with a distance, frames of octets between: each frame has one verdict."""
+    rates = [Rate(20, mcs) for mcs in (0, 9, 17, 27)] * 6
+    frames = [random_frame(rate, 1, seed=seed, noise=250) for seed, rate in enumerate(rates)]
+    answers = [zero_forcing(frame, number) for number, frame in enumerate(frames)]
+    reference = [line for jobs in answers for line in stated_lines(jobs)]
+    words = [line.split(b" ") for line in reference]
+    lines = [b" ".join(line if n % 5 else [*line[:4], *line[5:]]) for n, line in enumerate(words)]
+    lines += [b"frame %d seed zero\n" % number for number in range(len(frames))]
+    reference += [b"frame %d data 0 pilot 0 code 0 seed zero\n" % number for number in range(len(frames))]
+    mixed = np.random.default_rng(2).permutation(lines).tolist()
+    found = judge(octets_of(frames), b"".join(mixed), reference=b"".join(reference))
+    assert [jobs.frame for jobs in found.jobs] == [verdict.frame for verdict in found.frames] == list(range(len(frames)))
+    assert found.job_counts["same"] == sum(map(len, answers)) and found.unanswered == found.misstated == 0 and found.is_clean
+    numbers = {tuple(map(int, line.split()[1:4])): number for number, line in enumerate(mixed, 1) if line.startswith(b"job")}
+    for jobs in found.jobs:  # in the order of their lines
+        order = [numbers[jobs.frame, symbol, carrier] for symbol, carrier in zip(jobs.symbol.tolist(), jobs.carrier.tolist())]
+        assert order == sorted(order)
+    # Of several faults in a block the first one is told, whatever their widths.
+    for first, second in ((b"what\n", b"job 0 0 0 1 x\n"), (b"job 0 0 0 1 x\n", b"what\n")):
+        with pytest.raises(LineError, match=f"line 31 is no answer .*{first.decode()[:4]}"):
+            judge(octets_of(frames), b"".join([*mixed[:30], first, *mixed[30:60], second]), reference=b"".join(reference))
+    again = mixed[:200] + [next(line for line in mixed[:200] if line.startswith(b"job"))]
+    with pytest.raises(LineError, match="line 201 answers job .* a second time"):
+        judge(octets_of(frames), b"".join(again), reference=b"".join(reference))
+
+
 def stated_lines(jobs):
     for line, distance in zip(lines_of(jobs, jobs.frame).splitlines(), jobs.distance.tolist()):
         words = line.split()
@@ -245,8 +272,11 @@ def test_lines_may_end_as_on_other_systems():
     assert judge(SMALL, text.replace(b"\n", b"\r\n"), reference=reference).job_counts["same"] == len(jobs)
 
 
-def test_little_is_held_where_frames_ascend():
-    """Of 40 frames no more than a few are in memory, and where none ascends no more than their answers in small types."""
+def test_little_is_held_where_frames_ascend(tmp_path):
+    """Of 40 frames no more than a few are in memory, and where none ascends no more than their answers in small types.
+
+    Nor is a reference held that is kept in a file.
+    """
     frames = [random_frame(Rate(40, 25), 400, seed=seed, noise=0) for seed in range(40)]
     octets, size = octets_of(frames), 0
     reference, lines = [], []
@@ -257,19 +287,20 @@ def test_little_is_held_where_frames_ascend():
         size += len(jobs)
     path_like = io.BytesIO(b"".join(reference))
 
-    def peak(text):
+    def peak(text, **kept):
         path_like.seek(0)
         tracemalloc.start()
         counts = Counts()
-        for _ in judged(octets, text, counts, radio=Shown(path_like)):
+        for _ in judged(octets, text, counts, **(kept or {"radio": Shown(path_like)})):
             pass
         held = tracemalloc.get_traced_memory()[1]
         tracemalloc.stop()
         assert counts.job_counts["same"] == size
         return held
 
-    assert size == 40 * 114 * 8 and peak(b"".join(lines)) < 12e6
-    assert peak(b"".join(np.random.default_rng(1).permutation(lines).tolist())) < 12e6 + 150 * size
+    (tmp_path / "kept").write_bytes(b"".join(reference))
+    assert size == 40 * 114 * 8 and peak(b"".join(lines)) < 12e6 and peak(b"".join(lines), reference=tmp_path / "kept") < 12e6
+    assert peak(b"".join(np.random.default_rng(1).permutation(lines).tolist())) < 12e6 + 60 * size
 
 
 class Shown:

@@ -1,28 +1,73 @@
-"""The package as pip installs it: without a net, with Debian's setuptools, and with nothing left in its folder."""
+"""The package as pip installs it: without a net, and with nothing left in its folder."""
 
+import csv
 import importlib.util
 import os
 import shutil
 import subprocess
 import sys
+import tarfile
+import zipfile
 
 import pytest
 from conftest import TOP
 
+WITHOUT_NET = {"PIP_NO_INDEX": "1", "PIP_DISABLE_PIP_VERSION_CHECK": "1", "PIP_CONFIG_FILE": os.devnull, "PIP_FIND_LINKS": ""}
 
-def test_it_is_installed_without_a_net_and_leaves_nothing_behind(tmp_path):
-    if not all(importlib.util.find_spec(module) for module in ("pip", "setuptools", "wheel")):
-        pytest.skip("there is no pip, no setuptools or no wheel")
-    folder = shutil.copytree(TOP / "tools", tmp_path / "tools", ignore=shutil.ignore_patterns("__pycache__", ".pytest_cache", ".hypothesis"))
+
+@pytest.fixture
+def environment():
+    """That of a user, whose Python keeps what it compiles."""
+    found = {**os.environ, **WITHOUT_NET}
+    found.pop("PYTHONDONTWRITEBYTECODE", None)
+    found.pop("PYTHONPATH", None)
+    return found
+
+
+@pytest.fixture
+def folder(tmp_path):
+    """A copy of tools/ in which what would be left can be seen."""
+    skipped = shutil.ignore_patterns("__pycache__", ".pytest_cache", ".hypothesis", "tests")
+    return shutil.copytree(TOP / "tools", tmp_path / "tools", ignore=skipped)
+
+
+def sources(folder):
+    return {path.relative_to(folder).as_posix() for path in folder.rglob("*.py")}
+
+
+def test_archives_are_built_by_python_alone(folder, environment, tmp_path):
+    """As pip calls the backend, without a package beside Python's library; what is in a wheel runs as it is."""
+    if sys.version_info < (3, 11) and not importlib.util.find_spec("tomli"):
+        pytest.skip("this Python has neither tomllib (3.11) nor tomli")
     before = sorted(folder.rglob("*"))
-    environment = {**os.environ, "PIP_NO_INDEX": "1", "PIP_DISABLE_PIP_VERSION_CHECK": "1", "PIP_CONFIG_FILE": os.devnull}
-    environment.pop("PYTHONDONTWRITEBYTECODE", None)
-    done = subprocess.run([sys.executable, "-m", "pip", "install", "--no-deps", "--target", str(tmp_path / "there"), str(folder)],
-                          env=environment, capture_output=True, text=True, check=False)
+    calls = "import build_backend as b; assert b.get_requires_for_build_wheel() == []; print(b.build_wheel('..')); print(b.build_sdist('..'))"
+    words = [sys.executable, *(["-S"] if sys.version_info >= (3, 11) else []), "-c", calls]
+    done = subprocess.run(words, cwd=folder, env=environment, capture_output=True, text=True, check=True)
+    assert sorted(folder.rglob("*")) == before
+    wheel, sdist = (tmp_path / name for name in done.stdout.split())
+    with zipfile.ZipFile(wheel) as archive:
+        names = set(archive.namelist())
+        assert {name for name in names if name.endswith(".py")} == sources(folder / "src")
+        (record,) = (name for name in names if name.endswith(".dist-info/RECORD"))
+        assert {row[0] for row in csv.reader(archive.read(record).decode().splitlines())} == names
+    with tarfile.open(sdist) as archive:
+        packed = {name.partition("/")[2] for name in archive.getnames()}
+    assert packed == {f"src/{name}" for name in sources(folder / "src")} | {"PKG-INFO", "README.md", "pyproject.toml", "build_backend.py"}
+    run = subprocess.run([sys.executable, "-m", "mizgaure", "--version"], env={**environment, "PYTHONPATH": str(wheel)}, cwd=tmp_path,
+                         capture_output=True, text=True, check=True)
+    assert run.stdout.startswith("mizgaure tools ")
+
+
+def test_it_is_installed_without_a_net_and_leaves_nothing_behind(folder, environment, tmp_path):
+    if not importlib.util.find_spec("pip"):
+        pytest.skip("this Python has no pip, which Debian's python3-pip gives")
+    before = sorted(folder.rglob("*"))
+    there = tmp_path / "there"
+    done = subprocess.run([sys.executable, "-m", "pip", "install", "--no-deps", "--target", str(there), str(folder)], env=environment,
+                          capture_output=True, text=True, check=False)
     assert done.returncode == 0, done.stderr
     assert sorted(folder.rglob("*")) == before
-    packed = {path.relative_to(tmp_path / "there").as_posix() for path in (tmp_path / "there" / "mizgaure").rglob("*.py")}
-    assert packed == {path.relative_to(folder / "src").as_posix() for path in (folder / "src").rglob("*.py")}
-    run = subprocess.run([sys.executable, "-m", "mizgaure", "--version"], env={**environment, "PYTHONPATH": str(tmp_path / "there")}, cwd=tmp_path,
+    assert sources(there) == sources(folder / "src")
+    run = subprocess.run([str(there / "bin" / "mizgaure"), "--version"], env={**environment, "PYTHONPATH": str(there)}, cwd=tmp_path,
                          capture_output=True, text=True, check=True)
     assert run.stdout.startswith("mizgaure tools ")

@@ -35,24 +35,27 @@ def archive(**members):
 
 
 WHOLE = arrays()
-NONE = "bad.npz is no archive of arrays (.npz)"
+NONE = "bad.npz: frame 2: this is no archive of arrays (.npz)"
+NO_CHANNEL = "bad.npz: frame 2: channel can't be read as an array of numbers"
 BAD_ARCHIVES = {
-    "an-npy": (one_array(), "bad.npz is one array, and an archive of arrays (.npz) is asked for"),
+    "an-npy": (one_array(), "bad.npz: frame 2: this is one array, and an archive of arrays (.npz) is asked for"),
     "empty": (b"", NONE),
     "text": (b"channel", NONE),
     "cut": (WHOLE[:700], NONE),
-    "spoiled": (WHOLE[:200] + bytes(200) + WHOLE[400:], NONE),
-    "no-arrays": (archive(channel=b"text", received=b"", bandwidth=b"1", mcs=b"", length=b""), NONE),
-    "a-head-alone": (archive(channel=one_array()[:20], received=b"", bandwidth=b"", mcs=b"", length=b""), NONE),
-    "objects": (arrays(channel=np.array([None] * 56)), NONE),
-    "missing": (arrays(length=None), "bad.npz has no array length"),
+    "spoiled": (WHOLE[:200] + bytes(200) + WHOLE[400:], NO_CHANNEL),
+    "no-arrays": (archive(channel=b"text", received=b"", bandwidth=b"1", mcs=b"", length=b""), NO_CHANNEL),
+    "a-head-alone": (archive(channel=one_array()[:20], received=b"", bandwidth=b"", mcs=b"", length=b""), NO_CHANNEL),
+    "objects": (arrays(channel=np.array([None] * 56)), NO_CHANNEL),
+    "missing": (arrays(length=None), "bad.npz: frame 2: there is no array length"),
     "text-in-channel": (arrays(channel=np.full((56, 1, 1), "1")), "bad.npz: frame 2: channel isn't an array of numbers, but of <U1"),
     "text-in-erased": (arrays(erased=np.array(["3"])), "bad.npz: frame 2: erased isn't an array of numbers, but of <U1"),
     "a-time": (arrays(received=np.zeros((2, 56, 1), "M8[s]")), "bad.npz: frame 2: received isn't an array of numbers, but of datetime64[s]"),
     "a-small-channel": (arrays(channel=np.full((56, 1, 1), 1e-310), received=np.zeros((2, 56, 1))),
                         "bad.npz: frame 2: the parts of the channel and of what was received are too large or too small to be scaled"),
-    "half-an-octet": (arrays(length=700.5), "bad.npz: length has to be one whole number"),
-    "two-rates": (arrays(mcs=[1, 2]), "bad.npz: mcs has to be one whole number"),
+    "half-an-octet": (arrays(length=700.5), "bad.npz: frame 2: length has to be one whole number"),
+    "a-rate-with-a-point": (arrays(mcs=11.0), "bad.npz: frame 2: mcs has to be one whole number"),
+    "a-bandwidth-in-text": (arrays(bandwidth="20"), "bad.npz: frame 2: bandwidth has to be one whole number"),
+    "two-rates": (arrays(mcs=[1, 2]), "bad.npz: frame 2: mcs has to be one whole number"),
     "no-rate": (arrays(mcs=32), "bad.npz: frame 2: the MCS is 32, and only 0 to 31 are known"),
     "not-a-number": (arrays(channel=np.full((56, 1, 1), np.nan)), "bad.npz: frame 2, subcarrier 0: the channel of antenna 0 and stream 1 isn't finite"),
     "shape": (arrays(received=np.zeros((2, 56))), "bad.npz: frame 2: received has the shape (2, 56), and (2, 56, 1) is asked for"),
@@ -63,6 +66,7 @@ BAD_ARCHIVES = {
 @pytest.mark.filterwarnings("error")
 def test_a_bad_archive_among_good_ones_is_named(name, tmp_path, monkeypatch, capsys):
     octets, said = BAD_ARCHIVES[name]
+    assert said.startswith("bad.npz: frame 2")
     monkeypatch.chdir(tmp_path)
     for path, content in (("a.npz", WHOLE), ("b.npz", WHOLE), ("bad.npz", octets)):
         (tmp_path / path).write_bytes(content)

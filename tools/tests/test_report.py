@@ -18,24 +18,6 @@ MPDUS = ["88010000020000000001020000000002020000000003100000006869", "b400000002
 
 
 @pytest.fixture
-def here(radio, tmp_path, monkeypatch, capsysbinary):
-    """The command in this process, which is faster than one of its own: words to the finished run."""
-
-    def run(*words: object, given: bytes = b"") -> subprocess.CompletedProcess:
-        capsysbinary.readouterr()
-        monkeypatch.setattr(sys, "stdin", io.TextIOWrapper(io.BytesIO(given)))
-        try:
-            status = cli.main([str(word) for word in words])
-        except SystemExit as ended:
-            status = ended.code
-        return subprocess.CompletedProcess(words, status, *capsysbinary.readouterr())
-
-    monkeypatch.chdir(tmp_path)
-    monkeypatch.setenv("MIZGAURE_RADIO", radio.path)
-    return run
-
-
-@pytest.fixture
 def sent(here, tmp_path):
     """A capture of MPDUs, one of which is spoiled by its channel, and an A-MPDU of both."""
     (tmp_path / "mpdus").write_text("# two MPDUs\n" + "\n".join(MPDUS) + "\n")

@@ -47,6 +47,16 @@ def reading(source: Source) -> Iterator[BinaryIO]:
             yield stream
 
 
+def repeatable(source: Source) -> Source:
+    """A source that can be read more than once: what is neither octets nor an ordinary file is read and held."""
+    if isinstance(source, (bytes, bytearray, memoryview)):
+        return source
+    if isinstance(source, (str, os.PathLike)) and os.fspath(source) != "-" and (os.path.isfile(source) or not os.path.exists(source)):
+        return source
+    with reading(source) as stream:
+        return stream.read()
+
+
 class _Rejoined(io.RawIOBase):
     """A stream with the octets in front that were taken from it."""
 

@@ -13,7 +13,8 @@ program says of the same capture; it is run, or its lines are given. The distanc
 computed here, exactly, and that of each reference vector is computed too and has to be the one that the program says.
 
 Frames are judged one at a time, as the answers come. Answers to a frame that was judged already are kept until the end,
-and then the capture and the reference are gone through once more; so it is cheapest where frames ascend.
+and then the capture and the reference are gone through once more. Where answers come in no order at all they are read to
+their end at once, and kept. So least is held where frames ascend.
 """
 
 from __future__ import annotations
@@ -22,10 +23,9 @@ import heapq
 import json
 import re
 from collections import Counter
-from contextlib import ExitStack
-from dataclasses import dataclass, field
-from itertools import groupby
-from typing import BinaryIO, Dict, Iterator, List, Optional, Protocol, Set, Tuple, Union
+from contextlib import ExitStack, contextmanager
+from dataclasses import dataclass, field, fields
+from typing import BinaryIO, ContextManager, Dict, Iterable, Iterator, List, Optional, Protocol, Set, Tuple, Type, Union, cast
 
 import numpy as np
 
@@ -34,7 +34,7 @@ from .certificates import MAGIC, Certificate, read_htct
 from .chain import least_hamming, received_bits
 from .distances import distances, on_grid, places
 from .errors import InputError, LineError, ProgramError
-from .files import Source, fronted, naming, reading
+from .files import Source, fronted, naming, repeatable
 from .formats import MOST_FRAMES, CaptureFrame, read_htcp
 from .program import Radio
 
@@ -46,6 +46,7 @@ THEIR_JOB = re.compile(rb"job(?: " + PLACE + rb"){3}(?: " + NUMBER + rb")??(?: "
 THEIR_FRAME = re.compile(rb"frame (" + PLACE + rb")(?: data " + NUMBER + rb" pilot " + NUMBER + rb" code " + NUMBER
                          + rb")? (?:octets ((?:[0-9a-fA-F]{2})+)|seed zero)")
 THEIR_END = re.compile(rb"end " + NUMBER + rb" frames")
+NEAR = 8  # by so many frames answers may come late before they count as being in no order
 
 
 @dataclass(eq=False)
@@ -57,9 +58,9 @@ class TheirJobs:
     symbol, carrier : ndarray of int, shape (jobs,)
     levels : ndarray of int, shape (jobs, 2 * streams)
         Its vectors, I before Q.
-    stated : ndarray of int64 or of Python's whole numbers, shape (jobs,)
+    stated : ndarray of whole numbers, shape (jobs,)
         The distance that it states, -1 where it states none.
-    lines : ndarray of int64, shape (jobs,)
+    lines : ndarray of whole numbers, shape (jobs,)
         The number of each answer's line.
     """
 
@@ -80,10 +81,14 @@ class TheirJobs:
 
     @classmethod
     def joined(cls, parts: List["TheirJobs"]) -> "TheirJobs":
-        """Answers of as many streams in one."""
+        """Answers of as many streams in one, in the order of their lines."""
         if len(parts) == 1:
             return parts[0]
-        return cls(*(np.concatenate([getattr(part, name) for part in parts]) for name in ("symbol", "carrier", "levels", "stated", "lines")))
+        made = cls(*(np.concatenate([getattr(part, name) for part in parts]) for name in COLUMNS))
+        return made if (made.lines[1:] > made.lines[:-1]).all() else made.rows(np.argsort(made.lines))
+
+
+COLUMNS = tuple(column.name for column in fields(TheirJobs))
 
 
 @dataclass(eq=False)
@@ -276,7 +281,8 @@ class TheirLines:
     """The lines of another receiver, read as far as a frame needs it: up to the first answer to a later one.
 
     Answers to frames that come later wait, in blocks that are sorted by frame; answers to frames that were asked for before
-    are late, and wait for the second time.
+    are late, and wait for the second time. Where one comes more than `NEAR` frames late the lines are in no order: all are
+    read, and wait in one block.
 
     Raises
     ------
@@ -289,7 +295,8 @@ class TheirLines:
 
     def __init__(self, stream: BinaryIO) -> None:
         self._blocks = blocks(stream)
-        self._line, self._highest, self._turn, self._ended = 1, -1, 0, False
+        self._line, self._highest, self._turn = 1, -1, 0
+        self._ended = self._disordered = False
         self._waiting: List[_Sorted] = []
         self._late: List[_Sorted] = []
         self._octets: Dict[int, Optional[bytes]] = {}
@@ -297,8 +304,10 @@ class TheirLines:
 
     def jobs_of(self, number: int, frame: CaptureFrame) -> Optional[TheirJobs]:
         self._turn = number
-        while not self._ended and self._highest <= number:
+        while not self._ended and (self._highest <= number or self._disordered):
             self._read_block()
+        if self._disordered and len(self._waiting) > 1:
+            self._waiting = _Sorted.of_kinds(self._waiting)
         parts = sorted((part for part in (block.of(number) for block in self._waiting) if part is not None), key=lambda part: part.lines[0])
         self._waiting = [block for block in self._waiting if block.frames[-1] > number]
         if not parts:
@@ -317,12 +326,10 @@ class TheirLines:
             self._read_block()
         if self._highest < 0:
             raise InputError("there is no answer to a job or a frame")
-        waiting = self._waiting + self._late
-        self._waiting, self._late = [], []
-        for kind in {block.kind for block in waiting}:
-            alike = [block for block in waiting if block.kind == kind]
-            self._waiting.append(_Sorted.by_frame(np.concatenate([block.frames for block in alike]), TheirJobs.joined([block.jobs for block in alike])))
-        return sorted({*self._octets}.union(*(block.frames.tolist() for block in self._waiting)))
+        self._waiting += self._late
+        self._late = []
+        self._waiting = _Sorted.of_kinds(self._waiting)
+        return sorted({*self._octets}.union(*(np.unique(block.frames).tolist() for block in self._waiting)))
 
     def _read_block(self) -> None:
         block = next(self._blocks, None)
@@ -331,25 +338,36 @@ class TheirLines:
             return
         lines = np.arange(self._line, self._line + block.count(b"\n"))
         self._line += lines.size
+        if self._line < 2**32:
+            lines = lines.astype(np.uint32)  # since they may wait
         block = block.replace(b"\r\n", b"\n")
         table = job_table(block)
         if table is not None:
             self._add_table(table, lines)
             return
-        for width, group in groupby(zip(lines.tolist(), block.split(b"\n")), key=lambda pair: width_of(pair[1])):
-            run = list(group)
+        alike: Dict[int, List[Tuple[int, bytes]]] = {}
+        for number, line in zip(lines.tolist(), block.split(b"\n")):
+            alike.setdefault(width_of(line), []).append((number, line))
+        faults: List[LineError] = []
+        for width, run in alike.items():
             table = job_table(b"".join(line + b"\n" for _, line in run)) if width else None
-            if table is not None:
-                self._add_table(table, np.array([number for number, _ in run]))
-            else:
-                self._add_lines(run)
+            try:
+                if table is not None:
+                    self._add_table(table, np.array([number for number, _ in run], lines.dtype))
+                else:
+                    self._add_lines(run)
+            except LineError as fault:
+                faults.append(fault)
+        if faults:
+            raise min(faults, key=lambda fault: fault.line)
 
     def _add_table(self, table: np.ndarray, lines: np.ndarray) -> None:
         levels = 3 if table.shape[1] % 2 else 4
-        stated = table[:, 3] if levels == 4 else np.full(len(table), -1)
+        # What may wait is copied to small types, so that the table isn't held by a column of it.
+        stated = table[:, 3].copy() if levels == 4 else np.full(len(table), -1, np.int8)
         places_ = table[:, :3]
         if (places_ <= MOST_FRAMES).all():
-            places_ = places_.astype(np.uint16)  # since they may wait
+            places_ = places_.astype(np.uint16)
         self._add(places_[:, 0], TheirJobs(places_[:, 1], places_[:, 2], table[:, levels:].astype(np.int8), stated, lines))
 
     def _add_lines(self, run: List[Tuple[int, bytes]]) -> None:
@@ -375,7 +393,10 @@ class TheirLines:
                                         np.array([number for number, _ in rows])))
 
     def _add(self, frames: np.ndarray, jobs: TheirJobs) -> None:
-        self._highest = max(self._highest, int(frames.max()))
+        wide = frames.astype(np.int64)
+        highest = np.maximum(np.maximum.accumulate(wide), self._highest)
+        self._highest = int(highest[-1])
+        self._disordered |= bool((highest - wide > NEAR).any())
         block = _Sorted.by_frame(frames, jobs)
         late = int(np.searchsorted(block.frames, self._turn))
         for part, kept in ((slice(late), self._late), (slice(late, None), self._waiting)):
@@ -397,10 +418,23 @@ class _Sorted:
         order = np.argsort(frames, kind="stable")
         return cls(frames[order], jobs.rows(order))
 
+    @classmethod
+    def of_kinds(cls, blocks: List["_Sorted"]) -> List["_Sorted"]:
+        """The answers of some blocks in one block for each number of streams and each type."""
+        made = []
+        for kind in {block.kind for block in blocks}:
+            alike = [block for block in blocks if block.kind == kind]
+            frames = np.concatenate([block.frames for block in alike])
+            order = np.argsort(frames, kind="stable")
+            columns = (np.concatenate([getattr(block.jobs, name) for block in alike])[order] for name in COLUMNS)
+            made.append(cls(frames[order], TheirJobs(*columns)))
+        return made
+
     @property
-    def kind(self) -> Tuple[int, str, str]:
+    def kind(self) -> Tuple[int, str, str, str]:
         """What blocks have in common that can be put into one."""
-        return self.jobs.streams, self.jobs.levels.dtype.str, self.jobs.stated.dtype.str
+        jobs = self.jobs
+        return jobs.streams, jobs.levels.dtype.str, jobs.stated.dtype.str, jobs.symbol.dtype.str
 
     def of(self, frame: int) -> Optional[TheirJobs]:
         """The answers to jobs of a frame, where there are any."""
@@ -508,19 +542,18 @@ def judged(capture: Source, answers: Source, counts: Counts, *, reference: Optio
     JobVerdicts or FrameVerdict
         In the order of frames, and behind them those on answers that came late.
     """
-    if not isinstance(capture, (str, bytes)) and hasattr(capture, "read") or capture == "-":
-        with reading(capture) as stream:
-            capture = stream.read()
+    capture = repeatable(capture)
+    kept = None if reference is None else repeatable(reference)
     with ExitStack() as stack:
         with naming(answers):
             front, stream = stack.enter_context(fronted(answers, len(MAGIC)))
             theirs: Theirs = TheirCertificates(stream) if front == MAGIC else TheirLines(stream)
-        kept = None if reference is None else _Kept(reference)
         bench = _Bench(theirs, answers, counts)
         first = True
         while first or bench.late:
             with ExitStack() as running:
-                yield from bench.passed(capture, kept or _Run(running, radio or Radio(), capture), first)
+                known = _Run(running, radio or Radio(), capture) if kept is None else _Kept(running, kept)
+                yield from bench.passed(capture, known, first)
             first = False
     if bench.answered:
         counts.unanswered += bench.present - bench.answered
@@ -613,52 +646,77 @@ class Reference(Protocol):
         """Its line of a frame."""
 
 
-class _Run:
-    """The reference by running the program, frame by frame, each command from when it is first asked for."""
+class _Texts:
+    """Texts of the program's answers, read frame by frame, each from when it is first asked for."""
+
+    def __init__(self, stack: ExitStack) -> None:
+        self._stack = stack
+        self._open: Dict[str, Iterator[Union[Jobs, FrameAnswer]]] = {}
+        self._next: Dict[str, Optional[Union[Jobs, FrameAnswer]]] = {}
+
+    def opened(self, word: str) -> ContextManager[Iterable[Union[Jobs, FrameAnswer]]]:
+        """The answers of ``detect`` or ``rx``."""
+        raise NotImplementedError
+
+    def of(self, word: str, number: int) -> Optional[Union[Jobs, FrameAnswer]]:
+        """What a text has of a frame, None where it has nothing."""
+        if word not in self._open:
+            self._open[word] = iter(self._stack.enter_context(self.opened(word)))
+            self._next[word] = next(self._open[word], None)
+        while (record := self._next[word]) is not None and record.frame < number:
+            self._next[word] = next(self._open[word], None)
+        return record if record is not None and record.frame == number else None
+
+
+class _Run(_Texts):
+    """The reference by running the program."""
 
     def __init__(self, stack: ExitStack, radio: Radio, capture: Source) -> None:
-        self._stack, self._radio, self._capture = stack, radio, capture
-        self._running: Dict[str, Answers] = {}
+        super().__init__(stack)
+        self._radio, self._capture = radio, capture
+
+    def opened(self, word: str) -> ContextManager[Answers]:
+        return self._radio.answers(word, self._capture)
 
     def jobs(self, number: int) -> Jobs:
-        record = self._next("detect", number)
+        record = self.of("detect", number)
         if not isinstance(record, Jobs):
+            self._stack.close()  # where the program failed, this says why
             raise ProgramError(f"the program's detect wrote no jobs of frame {number}")
         return record
 
     def frame(self, number: int) -> FrameAnswer:
-        record = self._next("rx", number)
+        record = self.of("rx", number)
         if not isinstance(record, FrameAnswer):
+            self._stack.close()
             raise ProgramError(f"the program's rx wrote no line of frame {number}")
         return record
 
-    def _next(self, word: str, number: int) -> Optional[Union[Jobs, FrameAnswer]]:
-        if word not in self._running:
-            self._running[word] = self._stack.enter_context(self._radio.answers(word, self._capture))
-        record = next((record for record in self._running[word] if record.frame >= number), None)
-        if record is None:
-            self._stack.close()  # where the program failed, this says why
-        return record
 
+class _Kept(_Texts):
+    """The reference from lines that were kept: those of ``detect`` and those of ``rx``, the frames of each ascending."""
 
-class _Kept:
-    """The reference from lines that were kept."""
+    def __init__(self, stack: ExitStack, reference: Source) -> None:
+        super().__init__(stack)
+        self._reference = reference
 
-    def __init__(self, reference: Source) -> None:
-        self._jobs: Dict[int, Jobs] = {}
-        self._frames: Dict[int, FrameAnswer] = {}
-        with naming(reference):
-            answers = read_answers(reference)
-            for record in answers:
-                (self._jobs if isinstance(record, Jobs) else self._frames)[record.frame] = record  # type: ignore[index]
+    @contextmanager
+    def opened(self, word: str) -> Iterator[Iterator[Union[Jobs, FrameAnswer]]]:
+        kind: Type = Jobs if word == "detect" else FrameAnswer
+        yield (record for record in self._records() if isinstance(record, kind))
+
+    def _records(self) -> Iterator[Union[Jobs, FrameAnswer]]:
+        with naming(self._reference):
+            answers = read_answers(self._reference)
+            yield from answers
             if isinstance(answers.last, Refused):
                 raise InputError("these lines are to an input that is no capture")
 
     def jobs(self, number: int) -> Optional[Jobs]:
-        return self._jobs.get(number)
+        return cast(Optional[Jobs], self.of("detect", number))
 
     def frame(self, number: int) -> Optional[FrameAnswer]:
-        return self._frames.get(number)
+        return cast(Optional[FrameAnswer], self.of("rx", number))
 
 
 def _check_reference(frame: CaptureFrame, number: int, reference: Jobs) -> None:

@@ -160,7 +160,7 @@ class FrameProportion:
         if events in (0, trials):
             return (0.0, unseen) if events == 0 else (1 - unseen, 1.0)
         p = events / trials
-        table = np.array([(e, n, number) for (e, n), number in self.frames.items()], float)
+        table = np.array(self.rows(), float)  # in one order, so that the same frames give the same digits
         squares = (table[:, 0] - p * table[:, 1]) ** 2
         spread, fourth = (float(np.sum(table[:, 2] * squares**power)) for power in (1, 2))
         freedom = count - 1.0

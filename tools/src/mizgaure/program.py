@@ -48,7 +48,7 @@ def find_radio(given: Optional[str] = None) -> str:
         clone = Path(__file__).resolve().parents[3]
         path = str(clone / "radio") if (clone / "crates").is_dir() else shutil.which("radio")
         if not path:
-            raise ProgramError(f"the program radio wasn't found: it is on no folder of PATH, and {VARIABLE} isn't set")
+            raise ProgramError(f"the program radio wasn't found: it is in no folder of PATH, and {VARIABLE} isn't set")
     if not (os.path.isfile(path) and os.access(path, os.X_OK)):
         raise ProgramError(f"{path} is no program that can be run")
     return path

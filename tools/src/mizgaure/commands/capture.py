@@ -5,7 +5,7 @@ from __future__ import annotations
 import argparse
 import io
 import sys
-from typing import Dict
+from typing import Dict, Mapping
 
 import numpy as np
 
@@ -29,7 +29,7 @@ def run(given: argparse.Namespace) -> None:
     made = []
     for number, path in enumerate(given.frames):
         with naming(path):
-            made.append(capture([measured(path)], given.gain, first=number))
+            made.append(capture([measured(path, number)], given.gain, first=number))
     frames = [frame for part in made for frame in part.frames]
     write_htcp(given.output, frames, version=given.format, force=given.force)
     for path, frame, part in zip(given.frames, frames, made):
@@ -40,36 +40,46 @@ def run(given: argparse.Namespace) -> None:
 ASKED = ("channel", "received", "bandwidth", "mcs", "length")
 
 
-def measured(path: str) -> MeasuredFrame:
-    """The frame that an archive of arrays holds."""
-    arrays = _arrays(path)
+def measured(path: str, number: int) -> MeasuredFrame:
+    """The frame that an archive of arrays holds; its number is that of messages."""
+    arrays = _arrays(path, number)
     missing = [name for name in ASKED if name not in arrays]
     if missing:
-        raise InputError(f"{path} has no array {missing[0]}")
-    whole = (_whole(path, name, arrays[name]) for name in ("bandwidth", "mcs", "length"))
+        raise InputError(f"frame {number}: there is no array {missing[0]}")
+    whole = (_whole(number, name, arrays[name]) for name in ("bandwidth", "mcs", "length"))
     return MeasuredFrame(*whole, arrays["channel"], arrays["received"], arrays.get("erased"))
 
 
-def _arrays(path: str) -> Dict[str, np.ndarray]:
+def _arrays(path: str, number: int) -> Dict[str, np.ndarray]:
     """The arrays of an archive that are asked for, by name."""
     with reading(path) as stream:
         try:
             loaded = np.load(io.BytesIO(stream.read()) if path == "-" else stream, allow_pickle=False)
-            if isinstance(loaded, np.ndarray):
-                raise InputError(f"{path} is one array, and an archive of arrays (.npz) is asked for")
-            found = {name: loaded[name] for name in (*ASKED, "erased") if name in loaded.files}
-        except (InputError, MemoryError):
+        except MemoryError:
             raise
         except Exception as error:  # what numpy and zipfile raise at files that are none is no closed list
-            raise InputError(f"{path} is no archive of arrays (.npz)") from error
-    if not all(isinstance(array, np.ndarray) for array in found.values()):
-        raise InputError(f"{path} is no archive of arrays (.npz)")
-    return found
+            raise InputError(f"frame {number}: this is no archive of arrays (.npz)") from error
+        if isinstance(loaded, np.ndarray):
+            raise InputError(f"frame {number}: this is one array, and an archive of arrays (.npz) is asked for")
+        return {name: _array(loaded, number, name) for name in (*ASKED, "erased") if name in loaded.files}
 
 
-def _whole(path: str, name: str, array: np.ndarray) -> int:
+def _array(archive: Mapping[str, np.ndarray], number: int, name: str) -> np.ndarray:
+    """An array of an archive."""
+    try:
+        array = archive[name]
+    except MemoryError:
+        raise
+    except Exception as error:
+        raise InputError(f"frame {number}: {name} can't be read as an array of numbers") from error
+    if not isinstance(array, np.ndarray):
+        raise InputError(f"frame {number}: {name} can't be read as an array of numbers")
+    return array
+
+
+def _whole(number: int, name: str, array: np.ndarray) -> int:
     if array.size != 1 or array.dtype.kind not in "iu":
-        raise InputError(f"{path}: {name} has to be one whole number")
+        raise InputError(f"frame {number}: {name} has to be one whole number")
     return int(array.reshape(-1)[0])
 
 

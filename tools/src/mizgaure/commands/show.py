@@ -23,14 +23,18 @@ def run(given: argparse.Namespace) -> None:
         for number, frame in enumerate(frames):
             more = ""
             if isinstance(frame, CaptureFrame):
-                more = f", {frame.samples.shape[0]} symbols"
+                more = f", {_symbols(frame.samples.shape[0])}"
                 if frame.erased.any():
                     more += f", {int(frame.erased.sum())} subcarriers erased: {' '.join(map(str, np.flatnonzero(frame.erased)))}"
             elif isinstance(frame, SymbolsFrame):
-                more = f", {frame.points.shape[0]} symbols"
+                more = f", {_symbols(frame.points.shape[0])}"
             elif isinstance(frame, SentFrame):
                 more = f", seed {frame.seed}"
             print(f"frame {number}: {frame.rate}, {octets(frame.length)}{more}")
+
+
+def _symbols(count: int) -> str:
+    return "1 symbol" if count == 1 else f"{count} symbols"
 
 
 COMMAND = Command("show", "say what a file (HTCP, HTTX, HTSY) holds, or where it is at fault", words, run)
