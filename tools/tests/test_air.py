@@ -156,20 +156,22 @@ def points_wrong(frame: CaptureFrame, sent) -> int:
 
 
 @pytest.mark.parametrize("bandwidth, short, spread, offset, beyond", [
-    (20, False, 400.0, 40.0, 2), (20, True, 400.0, -40.0, 1), (40, False, 400.0, -40.0, 4), (40, True, 400.0, 40.0, 3), (20, False, 0.0, 0.0, 0)])
+    (20, False, 400.0, 40.0, (1, 2, 3, 4)), (20, True, 400.0, -40.0, (2, 3, 4, 1)), (40, False, 400.0, -40.0, (3, 4, 1, 2)),
+    (40, True, 400.0, 40.0, (4, 1, 2, 3)), (20, False, 0.0, 0.0, (0, 0, 0, 0))])
 def test_all_octets_return(radio, tmp_path, bandwidth, short, spread, offset, beyond):
-    """All 32 MCS at 35 dB: through the program where it is there, and by their points."""
-    frames = frames_of(bandwidth)
+    """All 32 MCS at 35 dB, with so many antennas beyond the streams where there are one, two, three and four, through the program."""
     scene = Scene(spread=spread, offset=offset, short_guard=short, seed=2)
-    octets = air.recorded(frames, scene, 4 + beyond, bandwidth // 20)
-    layout = Layout("cf32_le", 1e6 * bandwidth, 4 + beyond)
-    with air.recording_of(octets, layout) as recording, Spool() as spool:
-        lines = list(spooled(recording, spool))
-        assert [line.left_out for line in lines] == [None] * 32
+    with Spool() as spool:
+        for streams, more in enumerate(beyond, 1):
+            frames = frames_of(bandwidth, range(8 * streams - 8, 8 * streams))
+            octets = air.recorded(frames, scene, streams + more, bandwidth // 20)
+            with air.recording_of(octets, Layout("cf32_le", 1e6 * bandwidth, streams + more)) as recording:
+                lines = list(spooled(recording, spool))
+            assert [line.left_out for line in lines] == [None] * 8
+            for line, frame in zip(lines, frames):
+                assert (line.header["mcs"], line.header["length"], line.header["guard"]) == (frame.rate.mcs, frame.length, 400 if short else 800)
+                assert line.offset == pytest.approx(5180 * offset, abs=600)
         spool.write(tmp_path / "made.htcp")
-    for line, frame in zip(lines, frames):
-        assert (line.header["mcs"], line.header["length"], line.header["guard"]) == (frame.rate.mcs, frame.length, 400 if short else 800)
-        assert line.offset == pytest.approx(5180 * offset, abs=600)
     sent = [frame.octets for n in range(32) for frame in read_httx(VECTORS / "rates" / f"bw{bandwidth // 20 - 1}-mcs{n:02d}.httx")]
     assert [answer.octets for answer in radio.rx(tmp_path / "made.htcp")] == sent
 

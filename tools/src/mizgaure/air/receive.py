@@ -239,6 +239,6 @@ def combined(pilots: np.ndarray, expected: np.ndarray) -> np.ndarray:
 
 def _clipped(samples: np.ndarray) -> float:
     """The share of parts that are as large as the largest one of their antenna, where there are more than a few of them."""
-    parts = np.abs(samples.view(np.float64))
+    parts = np.abs(samples.view(np.float32))
     count = np.count_nonzero(parts >= parts.max(axis=1, keepdims=True), axis=1).max()
     return float(count) / parts.shape[1] if count > FEW else 0.0
