@@ -76,13 +76,28 @@ def test_ht_sig_and_its_crc():
         assert set(points.reshape(-1)) == {-1.0, 1.0} and (decode(points + 0.5 * random.standard_normal(points.shape)) == bits).all()
 
 
-def test_pilots_and_training_have_the_standards_form():
-    assert standard.pilots(Rate(20, 0), 2)[:, :, 0].tolist() == [[1, 1, 1, -1], [-1, -1, 1, -1]]  # p_3 = 1, p_4 = -1
-    for bandwidth, count in ((20, 4), (40, 6)):
-        for streams in range(4):
-            signs = standard.pilots(Rate(bandwidth, 8 * streams), 130) * polarity()[(np.arange(130) + 3) % 127][:, None, None]
-            assert set(np.abs(signs).reshape(-1)) == {1.0} and (signs[1:, :-1] == signs[:-1, 1:]).all()  # they move on by one
-            assert (signs[count:] == signs[:-count]).all()
+# Copied out of the standard: tables 20-19 and 20-20, a row for each stream, and the sequence of equation 18-25.
+PILOTS = {
+    (20, 1): "+++-", (20, 2): "++-- +--+", (20, 3): "++-- +-+- -++-", (20, 4): "+++- ++-+ +-++ -+++",
+    (40, 1): "+++--+", (40, 2): "++---- +++-++", (40, 3): "++---- +++-++ +-+--+", (40, 4): "++---- +++-++ +-+--+ -+++-+",
+}
+POLARITY = ("++++---+----++-+--++-++-++++++-+++-++--+++-+---+-+--+--+++++--++--+-+-++---++----+--+-++++-+-+-+-----+-++-+-+++--+---+++"
+            "-------")
+
+
+@pytest.mark.parametrize("bandwidth, streams", list(PILOTS))
+def test_pilots_are_those_of_the_tables(bandwidth, streams):
+    """Pilot k of symbol n has the sign n + k of its row, counted round, and the polarity of symbol n + 3 (clause 20.3.11.10)."""
+    rows = [[1 if sign == "+" else -1 for sign in row] for row in PILOTS[bandwidth, streams].split()]
+    signs = [1 if sign == "+" else -1 for sign in POLARITY]
+    assert len(signs) == 127 and polarity().tolist() == signs
+    made = standard.pilots(Rate(bandwidth, 8 * streams - 8), 260)
+    for n, symbol in enumerate(made):
+        turned = [[signs[(n + 3) % 127] * row[(n + k) % len(row)] for k in range(len(row))] for row in rows]
+        assert symbol.T.tolist() == turned
+
+
+def test_training_has_the_standards_form():
     for bandwidth, used in ((20, 56), (40, 114)):
         training = standard.ht_long_training(bandwidth)
         assert np.count_nonzero(training) == used and (np.flatnonzero(training) == standard.ht_subcarriers(bandwidth)).all()
@@ -141,20 +156,22 @@ def points_wrong(frame: CaptureFrame, sent) -> int:
 
 
 @pytest.mark.parametrize("bandwidth, short, spread, offset, beyond", [
-    (20, False, 400.0, 40.0, 2), (20, True, 350.0, -40.0, 3), (40, False, 300.0, -31.0, 4), (40, True, 100.0, 23.0, 1), (20, False, 0.0, 0.0, 0)])
+    (20, False, 400.0, 40.0, (1, 2, 3, 4)), (20, True, 400.0, -40.0, (2, 3, 4, 1)), (40, False, 400.0, -40.0, (3, 4, 1, 2)),
+    (40, True, 400.0, 40.0, (4, 1, 2, 3)), (20, False, 0.0, 0.0, (0, 0, 0, 0))])
 def test_all_octets_return(radio, tmp_path, bandwidth, short, spread, offset, beyond):
-    """All 32 MCS at 35 dB: through the program where it is there, and by their points."""
-    frames = frames_of(bandwidth)
+    """All 32 MCS at 35 dB, with so many antennas beyond the streams where there are one, two, three and four, through the program."""
     scene = Scene(spread=spread, offset=offset, short_guard=short, seed=2)
-    octets = air.recorded(frames, scene, 4 + beyond, bandwidth // 20)
-    layout = Layout("cf32_le", 1e6 * bandwidth, 4 + beyond)
-    with air.recording_of(octets, layout) as recording, Spool() as spool:
-        lines = list(spooled(recording, spool))
-        assert [line.left_out for line in lines] == [None] * 32
+    with Spool() as spool:
+        for streams, more in enumerate(beyond, 1):
+            frames = frames_of(bandwidth, range(8 * streams - 8, 8 * streams))
+            octets = air.recorded(frames, scene, streams + more, bandwidth // 20)
+            with air.recording_of(octets, Layout("cf32_le", 1e6 * bandwidth, streams + more)) as recording:
+                lines = list(spooled(recording, spool))
+            assert [line.left_out for line in lines] == [None] * 8
+            for line, frame in zip(lines, frames):
+                assert (line.header["mcs"], line.header["length"], line.header["guard"]) == (frame.rate.mcs, frame.length, 400 if short else 800)
+                assert line.offset == pytest.approx(5180 * offset, abs=600)
         spool.write(tmp_path / "made.htcp")
-    for line, frame in zip(lines, frames):
-        assert (line.header["mcs"], line.header["length"], line.header["guard"]) == (frame.rate.mcs, frame.length, 400 if short else 800)
-        assert line.offset == pytest.approx(5180 * offset, abs=600)
     sent = [frame.octets for n in range(32) for frame in read_httx(VECTORS / "rates" / f"bw{bandwidth // 20 - 1}-mcs{n:02d}.httx")]
     assert [answer.octets for answer in radio.rx(tmp_path / "made.htcp")] == sent
 
@@ -228,12 +245,35 @@ def test_pilots_keep_what_is_left_of_them():
     assert same == [(20, 1), (20, 4)]  # as docs/RECORDINGS.md says
 
 
-def test_timing_finds_the_middle_of_a_channel():
-    delays = np.arange(-24, 40)
-    for first, last, guard in ((-3, 2, 16), (0, 8, 8), (5, 9, 8)):
-        energies = np.where((delays == first) | (delays == last), 1.0, 0.0)
-        begin = track.window_of(energies, delays, guard)
-        assert begin <= first and last <= begin + guard and abs((first - begin) - (begin + guard - last)) <= 1
+@pytest.mark.parametrize("guard, first, last", [(16, -3.0, 2.0), (16, -12.3, -2.3), (8, 0.4, 8.4), (8, -7.9, 0.1), (8, -2.0, -2.0)])
+def test_windows_have_the_channel_in_the_middle_of_their_guard(guard, first, last):
+    """Taps one sample apart: symbols in front of and behind a window begin at its edges, which lie between samples."""
+    random = np.random.default_rng(1)
+    numbers, early = Rate(20, 0).frequencies, -5
+    delays = np.arange(first, last + 1)
+    taps = random.standard_normal((20, delays.size)) + 1j * random.standard_normal((20, delays.size))
+    channel = taps @ np.exp(-2j * np.pi / 64 * np.outer(delays - early, numbers))
+    noise = 1e-3 * np.mean(np.abs(channel) ** 2)
+    channel += np.sqrt(noise / 2) * (random.standard_normal(channel.shape) + 1j * random.standard_normal(channel.shape))
+    window = track.window_of(channel, numbers, noise, guard, 1, early)
+    room = first + guard - last
+    assert last - guard <= window.begin < first + 1  # nothing of another symbol is in it
+    assert window.begin + window.rest == pytest.approx(first - room / 2 + 0.5, abs=0.15 if room < 1 else 1)
+    assert window.room == pytest.approx(room, abs=0.3 if room < 1 else 2)
+
+
+@pytest.mark.parametrize("bandwidth", [20, 40])
+def test_a_channel_as_long_as_the_short_guard_interval(bandwidth):
+    """At 400 ns there is one place only for every window, and nothing is left of what was sent but the noise."""
+    rate = Rate(bandwidth, 31)
+    random = np.random.default_rng(4)
+    frames = [random_symbols(rate, 700, random) for _ in range(10)]
+    octets = air.recorded(frames, Scene(spread=400.0, offset=40.0, short_guard=True, seed=4), 5, bandwidth // 20)
+    for found, frame in zip(packets_in(air.recording_of(octets, Layout("cf32_le", 1e6 * bandwidth, 5))), frames):
+        sent = frame.points * rate.normalising_factor
+        sent[:, rate.is_pilot] = rate.pilot_signs(len(sent))
+        left = np.asarray(found.frame.received) - np.einsum("kas,nks->nka", found.frame.channel, sent)
+        assert 0.9 < np.mean(np.abs(left) ** 2) < 2.2  # the noise is scaled to 1, and as much of it may be in the channel
 
 
 # packets that aren't in a capture

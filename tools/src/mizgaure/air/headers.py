@@ -13,7 +13,7 @@ from .signal import HtSignal, LegacySignal, decode, points_of, read_ht, read_leg
 from .spectra import FRONT, Spectra
 from .standard import LONG_GUARD, SHORT_GUARD, SYMBOL, TRAINING_FIELDS, TRANSFORM
 from .synchronise import EARLY, Training
-from .track import profile, window_of
+from .track import window_of
 
 # Why a packet isn't in a capture.
 NO_LEGACY, BAD_CRC, CUT_OFF, CLAUSE_18, VHT = "bad L-SIG", "bad HT-SIG CRC", "cut off", "clause 18", "VHT"
@@ -67,7 +67,7 @@ class HeaderReader:
     def __init__(self, spectra: Spectra, training: Training) -> None:
         self.spectra, self.training = spectra, training
         over, length = spectra.over, spectra.length
-        self.early = _early(training, over, length)
+        self.early = _early(training, over)
         shift = self.early + EARLY * over
         middles = np.array(training.middles)[:, None]
         self.bins = (NUMBERS + middles) % length
@@ -187,7 +187,7 @@ def _is_turned(values: np.ndarray) -> bool:
     return float(np.sum(values.imag**2)) > float(np.sum(values.real**2))
 
 
-def _early(training: Training, over: int, length: int) -> int:
-    delays = np.arange(-24 * over, 40 * over)
-    energies = profile(training.channel.reshape(-1, NUMBERS.size), NUMBERS, delays + EARLY * over, length)
-    return int(np.clip(window_of(energies, delays, LONG_GUARD * over), -LONG_GUARD * over, 0))
+def _early(training: Training, over: int) -> int:
+    used = NUMBERS != 0
+    links = (training.channel[..., used] / np.sqrt(training.noise)[:, None]).reshape(-1, np.count_nonzero(used))
+    return window_of(links, NUMBERS[used], 0.5, LONG_GUARD * over, over, -EARLY * over).begin

@@ -6,7 +6,7 @@ The steps are those of docs/RECORDINGS.md.
 from __future__ import annotations
 
 from dataclasses import dataclass
-from typing import Optional, Tuple
+from typing import Optional, Tuple, Union
 
 import numpy as np
 
@@ -18,13 +18,14 @@ from .signal import HtSignal, LegacySignal
 from .spectra import FRONT, Spectra
 from .standard import LONG_GUARD, SHORT_GUARD, SYMBOL, TRAINING_FIELDS, TRANSFORM
 from .synchronise import Run, find_training
-from .track import drift_of, phases_of, profile, shifts_of, smoothed, window_of
+from .track import Window, drift_of, phases_of, shifts_of, smoothed, window_of
 
 NO_CHANNEL, NOT_FINITE = "no channel", "samples that aren't finite"
 TRAINING_BEGIN = 448  # samples at 20 MHz from the first long symbol's beginning to the HT-LTFs
 HEADERS_END = 16 * SYMBOL  # and to somewhere behind HT-SIG
 DELAYS = (-6, 24)  # samples at 20 MHz from a window's beginning to the first and the last tap of a channel
 BLOCK = 256  # symbols that are transformed at once
+LATER = np.linspace(-0.5, 0.5, 257)  # parts of a sample by which windows are tried later where there is no room
 FEW = 8  # parts as large as the largest one, which may be chance
 
 
@@ -125,7 +126,7 @@ class _HtPart:
         self.weights = np.sqrt(reader.powers)
         self.guard = SHORT_GUARD if signal.short_guard else LONG_GUARD
         self.channel = np.zeros(0)  # as the windows of data symbols see it: (subcarriers, antennas, streams)
-        self.early = 0  # how many samples behind a data symbol's guard interval its window begins
+        self.window = Window(0, 0.0, 0.0)
 
     def estimate(self) -> bool:
         """Estimate the channel, and place the windows; whether there is one."""
@@ -144,13 +145,10 @@ class _HtPart:
         links, noise = plain.reshape(-1, len(carriers)), np.full(len(carriers), 1 / count)
         if rate.streams == 1:
             links, noise = self._with_legacy(links, noise, turn)
+        self.window = window_of(links, self.numbers, float(noise.mean()), self.guard * over, over, self.reader.early)
         if self.signal.smoothing:
             links = smoothed(links, self.numbers, noise, np.arange(DELAYS[0] * over, DELAYS[1] * over + 1), length)
-        delays = np.arange(-24 * over, 40 * over)
-        energies = profile(links, self.numbers, delays - self.reader.early, length)
-        guard = self.guard * over
-        self.early = int(np.clip(window_of(energies, delays, guard), -guard, guard // 2))
-        links = links * np.exp(2j * np.pi * (self.numbers + self.middle) * (self.early - self.reader.early) / length)
+        links = links * np.exp(2j * np.pi * (self.numbers + self.middle) * (self.window.begin - self.reader.early) / length)
         channel = links.reshape(-1, rate.streams, len(carriers)).transpose(2, 0, 1)
         self.channel = channel * (turn[:, None] * shifts)[:, None, :]
         return bool(np.isfinite(self.channel).all() and self.channel.any())
@@ -178,7 +176,7 @@ class _HtPart:
         rate, over = self.rate, self.spectra.over
         symbols = rate.symbols(self.signal.length)
         training = TRAINING_FIELDS[rate.streams - 1] * SYMBOL
-        begins = (TRAINING_BEGIN + training + self.guard + (TRANSFORM + self.guard) * np.arange(symbols)) * over + self.early
+        begins = (TRAINING_BEGIN + training + self.guard + (TRANSFORM + self.guard) * np.arange(symbols)) * over + self.window.begin
         times = begins - (TRAINING_BEGIN + training / 2) * over  # from the HT-LTFs' middle
         received = self._vectors(begins)
         if received is None:
@@ -186,28 +184,46 @@ class _HtPart:
         untracked = received.copy() if keep else None
         places, sent = standard.pilot_places(rate.bandwidth), standard.pilots(rate, symbols)
         expected = np.einsum("pas,nps->npa", self.channel[places], sent)
-
-        def pilots() -> np.ndarray:
-            """The pilots of what is received, combined over antennas against what is expected."""
-            return np.einsum("npa,npa->np", expected.conj(), received[:, places])
-
-        drift = drift_of(pilots(), self.numbers[places], times, self.spectra.length)
-        received, late = self._moved(received, begins, *shifts_of(drift, times))
+        drift = drift_of(combined(received[:, places], expected), self.numbers[places], times, self.spectra.length)
+        shifts, late = shifts_of(drift, times, self.window.rest)
+        if self.window.room < 1:
+            shifts, late = shifts_of(drift, times, self.window.rest + self._later(begins, drift, times, expected))
+        received, late = self._moved(received, begins, shifts, late)
         received *= np.exp(-2j * np.pi * np.outer(late, self.numbers) / self.spectra.length)[..., None]
-        received *= np.exp(-1j * phases_of(pilots()))[:, None, None]
+        received *= np.exp(-1j * phases_of(combined(received[:, places], expected)))[:, None, None]
         # What is left of a pilot is kept, and its point becomes the one of this project.
         received[:, places] += np.einsum("pas,nps->npa", self.channel[places], rate.pilot_signs(symbols) - sent)
         return MeasuredFrame(rate.bandwidth, rate.mcs, self.signal.length, self.channel, received), untracked
+
+    def _later(self, begins: np.ndarray, drift: float, times: np.ndarray, expected: np.ndarray) -> float:
+        """By how much of a sample windows should begin later where there is no room: the least is left of pilots then."""
+        places = standard.pilot_places(self.rate.bandwidth)
+        shifts, late = shifts_of(drift, times, self.window.rest)
+        left = np.zeros((3, len(begins)))  # of each symbol's pilots, where its window begins a sample early, as it is, and late
+        phases = np.zeros(0)
+        for move in (0, -1, 1):
+            pilots = self._vectors(begins + shifts + move, places)
+            if pilots is None:
+                return 0.0
+            pilots *= np.exp(-2j * np.pi * np.outer(late + move, self.numbers[places]) / self.spectra.length)[..., None]
+            phases = phases if move else phases_of(combined(pilots, expected))
+            left[1 + move] = np.sum(np.abs(pilots * np.exp(-1j * phases)[:, None, None] - expected) ** 2, axis=(1, 2))
+
+        def left_by(later: float) -> float:
+            moves = shifts_of(drift, times, self.window.rest + later)[0] - shifts
+            return float(left[1 + moves, np.arange(len(begins))].sum())
+
+        return min(sorted(LATER, key=abs), key=left_by)
 
     def _moved(self, received: np.ndarray, begins: np.ndarray, shifts: np.ndarray, late: np.ndarray) -> Tuple[np.ndarray, np.ndarray]:
         """The vectors of moved windows, and by how much these are late; those that there are where a window isn't whole then."""
         moved = self._vectors(begins + shifts) if shifts.any() else received
         return (received, late - shifts) if moved is None else (moved, late)
 
-    def _vectors(self, begins: np.ndarray) -> Optional[np.ndarray]:
+    def _vectors(self, begins: np.ndarray, places: Union[np.ndarray, slice] = slice(None)) -> Optional[np.ndarray]:
         """The received vectors of windows: (windows, subcarriers, antennas); None where one of them isn't whole."""
-        made = np.empty((len(begins), len(self.numbers), len(self.weights)), complex)
-        bins = (self.numbers + self.middle) % self.spectra.length
+        bins = (self.numbers[places] + self.middle) % self.spectra.length
+        made = np.empty((len(begins), len(bins), len(self.weights)), complex)
         for first in range(0, len(begins), BLOCK):
             spectra = self.spectra.of(begins[first : first + BLOCK])
             if spectra is None:
@@ -216,8 +232,13 @@ class _HtPart:
         return made
 
 
+def combined(pilots: np.ndarray, expected: np.ndarray) -> np.ndarray:
+    """Pilots, combined over antennas against what is expected: shapes (symbols, pilots, antennas) to (symbols, pilots)."""
+    return np.einsum("npa,npa->np", expected.conj(), pilots)
+
+
 def _clipped(samples: np.ndarray) -> float:
     """The share of parts that are as large as the largest one of their antenna, where there are more than a few of them."""
-    parts = np.abs(samples.view(np.float64))
+    parts = np.abs(samples.view(np.float32))
     count = np.count_nonzero(parts >= parts.max(axis=1, keepdims=True), axis=1).max()
     return float(count) / parts.shape[1] if count > FEW else 0.0

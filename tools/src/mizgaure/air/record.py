@@ -165,11 +165,12 @@ class Spool:
         self.frames, self.octets, self.most = 0, 0, most
 
     def add(self, packet: Packet) -> Optional[CaptureFrame]:
-        """Take a packet's frame; None where the capture is full."""
-        assert packet.frame is not None
+        """Take a packet's frame away from it, since it is large; None where the capture is full."""
+        measured, packet.frame = packet.frame, None
+        assert measured is not None
         if self.frames == self.most:
             return None
-        (frame,) = capture([packet.frame]).frames
+        (frame,) = capture([measured]).frames
         made = io.BytesIO()
         write_htcp(made, [frame], version=1)
         self.octets += self._file.write(made.getbuffer()[HEAD:])

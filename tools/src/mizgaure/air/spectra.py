@@ -30,12 +30,12 @@ class Spectra:
     def __init__(self, recording: Recording, begin: int, oversampling: int, offset: float) -> None:
         self.recording, self.begin, self.over, self.offset = recording, begin, oversampling, offset
         self.length = TRANSFORM * oversampling
-        self.samples = np.zeros((recording.layout.channels, 0), complex)
+        self.samples = np.zeros((recording.layout.channels, 0), np.complex64)
         self._front = min(begin, FRONT * oversampling)
 
     def read(self, behind: int) -> bool:
         """Read up to so many samples behind the beginning, and those of the packet in front of it; whether all are numbers."""
-        self.samples = self.recording.read(self.begin - self._front, self._front + behind).astype(complex)
+        self.samples = self.recording.read(self.begin - self._front, self._front + behind)
         return not self.recording.not_finite
 
     def of(self, begins: np.ndarray) -> Optional[np.ndarray]:

@@ -25,7 +25,7 @@ LONG_PERIOD = 0.15  # the least share of the energy that repeats after 3.2 micro
 COHERENCE = 0.35  # the least agreement of neighbouring subcarriers of the long training
 WEAKER_HALF = 0.05  # of the stronger half's energy, where a packet is in both halves of 40 MHz
 LEAST_NOISE = 1e-4  # of the noise of the antenna with the most, which every antenna is taken to have
-EARLY = 8  # samples at 20 MHz by which the long training is looked at earlier than at its peak
+EARLY = 16  # samples at 20 MHz by which the long training is looked at earlier than at its peak
 
 
 @dataclass(frozen=True)
@@ -136,10 +136,10 @@ def find_training(recording: Recording, run: Run, oversampling: int) -> Optional
     """The long training behind a run, or None where there is none."""
     over = oversampling
     first = max(run.start, run.stop - 170 * over)
-    samples = recording.read(first, 500 * over).astype(complex)
-    if samples.shape[1] < 320 * over:
+    heard = recording.read(first, 500 * over).astype(complex)
+    if heard.shape[1] < 320 * over:
         return None
-    samples -= samples.mean(axis=1, keepdims=True)
+    samples = heard - heard.mean(axis=1, keepdims=True)
     offset = _coarse_offset(samples[:, : 300 * over], over)
     time = np.arange(samples.shape[1])
     samples *= np.exp(-2j * np.pi * offset * time)
@@ -154,16 +154,16 @@ def find_training(recording: Recording, run: Run, oversampling: int) -> Optional
     if not abs(repeated) ** 2 > LONG_PERIOD * energies:
         return None
     fine = np.angle(repeated) / (2 * np.pi * length)
-    samples *= np.exp(-2j * np.pi * fine * time)
-    at = begin - EARLY * over
-    spectra = np.fft.fft(samples[:, at : at + 2 * length].reshape(-1, 2, length), axis=-1)
+    at = slice(begin - EARLY * over, begin - EARLY * over + 2 * length)
+    # The mean isn't taken off here: of a packet it is something, too, and its tone would be counted as noise.
+    turned = heard[:, at] * np.exp(-2j * np.pi * (offset + fine) * (time[at] - begin))
+    spectra = np.fft.fft(turned.reshape(-1, 2, length), axis=-1)
     middles = _parts(spectra.mean(axis=1), over)
     if not middles:
         return None
     known = standard.long_training(20)
     parts = spectra[..., (np.arange(-26, 27) + np.array(middles)[:, None]) % length].transpose(2, 0, 1, 3)  # part, antenna, symbol, number
-    turned = np.exp(2j * np.pi * (offset + fine) * begin)  # as if the offset had been taken off from the first symbol on
-    channel = np.where(known[2:-2] != 0, parts.mean(axis=2) * known[2:-2].real * turned, 0)
+    channel = np.where(known[2:-2] != 0, parts.mean(axis=2) * known[2:-2].real, 0)
     difference = parts[:, :, 0] - parts[:, :, 1]
     used = known[2:-2] != 0
     noise = np.mean(np.abs(difference[..., used]) ** 2, axis=(0, 2)) / 2

@@ -7,15 +7,21 @@ combined over antennas against what is expected, z_nk is about w exp(i (phase_n 
 
 from __future__ import annotations
 
+from dataclasses import dataclass
+from functools import lru_cache
 from typing import Tuple
 
 import numpy as np
+
+from .standard import TRANSFORM
 
 MOST_DRIFT, USUAL_DRIFT = 60e-6, 20e-6  # of two clocks against each other
 GRID = 0.2  # samples at the packet's end between the drifts that are tried
 HALF_WIDTHS = (1, 2, 4, 8, 16, 32)  # symbols on each side over which a phase may be averaged
 ROUNDS = 6
-LEFT_OUT = 1e-3  # of a channel's energy, which a guard interval may miss
+PLACES, FINE = (-20, 6), 0.125  # samples at 20 MHz behind a guard interval at which windows may begin, and how finely they are tried
+LEAST_ERROR = 1e-4  # of a channel's power, which its estimate is taken to have at least
+AS_GOOD = (10.0, 2.0)  # what a place's likelihood may miss of the best one's, in its logarithm, and as much for each link
 
 
 def drift_of(pilots: np.ndarray, numbers: np.ndarray, times: np.ndarray, length: int) -> float:
@@ -123,53 +129,91 @@ def smoothed(channel: np.ndarray, numbers: np.ndarray, noise: np.ndarray, delays
     return (waves @ taps).T
 
 
-def profile(channel: np.ndarray, numbers: np.ndarray, delays: np.ndarray, length: int) -> np.ndarray:
-    """The energy of a channel's impulse response over delays, all links together, seen through Hann's window.
+@dataclass(frozen=True)
+class Window:
+    """Where windows of a packet begin.
+
+    Parameters
+    ----------
+    begin : int
+        So many samples behind a symbol's guard interval.
+    rest : float
+        By how much of a sample later they should.
+    room : float
+        For so many samples that place is as good.
+    """
+
+    begin: int
+    rest: float
+    room: float
+
+
+def window_of(channel: np.ndarray, numbers: np.ndarray, noise: float, guard: int, over: int, early: int) -> Window:
+    """The windows whose guard interval in front of them holds a channel's impulse response.
+
+    At each of many places the impulse response is taken to lie within a guard interval and to have the same power all over
+    it. How badly the channel's values fit that, in the logarithm of their likelihood, tells what lies outside, and tells it
+    finer than samples are apart. The middle of the places that are as good as the best one is taken.
 
     Parameters
     ----------
     channel : ndarray of complex128, shape (links, subcarriers)
     numbers : ndarray of int64, shape (subcarriers,)
-    delays : ndarray of int64
-        In samples.
-    length : int
-        Of the transform.
-    """
-    taper = np.hanning(len(numbers) + 2)[1:-1]
-    waves = np.exp(2j * np.pi * np.outer(numbers, delays) / length)
-    return np.sum(np.abs((channel * taper) @ waves) ** 2, axis=0)
-
-
-def window_of(energies: np.ndarray, delays: np.ndarray, guard: int) -> int:
-    """At which delay a guard interval begins that holds most of a channel's energy, and has it in its middle.
-
-    Parameters
-    ----------
-    energies : ndarray of float64
-    delays : ndarray of int64
-        One sample apart.
+    noise : float
+        Its mean power on a value.
     guard : int
         In samples.
+    over : int
+        The oversampling.
+    early : int
+        How many samples behind a symbol's guard interval the windows began through which the channel was seen.
     """
-    sums = np.concatenate(([0], np.cumsum(energies)))
-    outside = sums[-1] - (sums[guard + 1 :] - sums[: -guard - 1])
-    best = int(outside.argmin())
-    good = outside <= outside[best] + LEFT_OUT * sums[-1]
+    length = TRANSFORM * over
+    apart = numbers[:, None] - numbers
+    turns = apart * (guard / length)
+    even = np.sinc(turns) * np.exp(-1j * np.pi * turns)  # the covariance of delays from 0 to the guard interval's end
+    power = float(np.mean(np.abs(channel) ** 2))
+    noise = max(noise, LEAST_ERROR * power)
+    weights = np.linalg.inv(max(power - noise, noise) * even + noise * np.eye(len(numbers)))
+    seen = channel * np.exp(-2j * np.pi / length * early * numbers)
+    products = (seen.T @ seen.conj()) * weights.T
+    # The misfit is a sum over pairs of subcarriers, and those that are equally far apart turn alike from place to place.
+    widest = int(apart.max())
+    alike = (apart + widest).reshape(-1)
+    sums = np.bincount(alike, products.real.reshape(-1)) + 1j * np.bincount(alike, products.imag.reshape(-1))
+    begins, waves = _places(over, widest)
+    misfit = (waves @ sums).real
+    best = int(misfit.argmin())
+    good = misfit <= misfit[best] + AS_GOOD[0] + AS_GOOD[1] * len(channel)
     low = high = best
     while low > 0 and good[low - 1]:
         low -= 1
     while high + 1 < len(good) and good[high + 1]:
         high += 1
-    return int(delays[(low + high) // 2])
+    # Windows may begin where the guard interval in front of them holds all, and less than a sample later.
+    middle = float(begins[low] + begins[high] + 1) / 2
+    return Window(round(middle), middle - round(middle), float(begins[high] - begins[low]))
 
 
-def corrections(phases: np.ndarray, slopes: np.ndarray, numbers: np.ndarray) -> np.ndarray:
-    """What takes phases and slopes off: complex128, shape (symbols, subcarriers)."""
-    return np.exp(-1j * (phases[:, None] + np.outer(slopes, numbers)))
+@lru_cache(maxsize=None)
+def _places(over: int, widest: int) -> Tuple[np.ndarray, np.ndarray]:
+    """The places that are tried for windows, and by what subcarriers that are up to ``widest`` apart are turned there."""
+    begins = np.arange(PLACES[0] * over, PLACES[1] * over, FINE)
+    return begins, np.exp(2j * np.pi / (TRANSFORM * over) * np.outer(begins, np.arange(-widest, widest + 1)))
 
 
-def shifts_of(drift: float, times: np.ndarray) -> Tuple[np.ndarray, np.ndarray]:
-    """By how many whole samples each symbol's transform is moved, and by how much it is still late then."""
+def shifts_of(drift: float, times: np.ndarray, rest: float) -> Tuple[np.ndarray, np.ndarray]:
+    """By how many whole samples each symbol's transform is moved, and by how much it is late then.
+
+    Parameters
+    ----------
+    drift : float
+        As by `drift_of`.
+    times : ndarray of float64, shape (symbols,)
+        Of symbols at nominal distances.
+    rest : float
+        By how much later they should begin where the drift is 0, less than a sample.
+    """
     late = drift * times
-    shifts = -np.rint(late).astype(np.int64)
+    shifts = np.rint(rest - late).astype(np.int64)
     return shifts, late + shifts
