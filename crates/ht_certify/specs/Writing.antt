@@ -4,7 +4,14 @@ use Rattle.ht_io.specs.Devices.{Device, Grows, GrowsByPart, IsLater, Rose}
 use Rattle.ht_runs.specs.declared.faults.RunFault.{RunFault}
 use Rattle.ht_runs.specs.declared.faults.RunFault.TheVariants.{Format, Read, Write, NoMemory}
 
--- the octets that waited and those given: the sink before and after
+-- the sink failed, or memory ran out and the sink didn't fail
+abbrev pub IsCause : Device ℕ → Device ℕ → RunFault → Type 0
+IsCause sink sink' (Format fault) = ⊥
+IsCause sink sink' Read = ⊥
+IsCause sink sink' Write = Rose sink sink'
+IsCause sink sink' NoMemory = sink'.faults ≡ sink.faults
+
+-- the octets that waited, the sink before and after, and the octets that were given
 module _ (waits : List ℕ) (sink sink' : Device ℕ) (given : List ℕ) where
   -- a front of them was put, and the others wait
   pub record Passes (waits' : List ℕ) : Type 0 where
@@ -14,17 +21,10 @@ module _ (waits : List ℕ) (sink sink' : Device ℕ) (given : List ℕ) where
     pub steady : sink'.faults ≡ sink.faults
     pub later : IsLater sink sink'
 
-  -- the sink failed, or memory ran out and the sink didn't fail
-  abbrev pub IsCause : RunFault → Type 0
-  IsCause (Format fault) = ⊥
-  IsCause Read = ⊥
-  IsCause Write = Rose sink sink'
-  IsCause NoMemory = sink'.faults ≡ sink.faults
-
   -- a part of them from their front was put
   pub record Breaks (fault : RunFault) : Type 0 where
     pub part : GrowsByPart sink sink' (waits ++ given)
-    pub cause : IsCause fault
+    pub cause : IsCause sink sink' fault
     pub later : IsLater sink sink'
 
   abbrev pub Writes : List ℕ → Result (Unit {0}) RunFault → Type 0
