@@ -14,6 +14,8 @@ mod faults;
 mod making;
 mod putting;
 mod subcarriers;
+#[cfg(test)]
+mod tests;
 
 pub use certifying::certify_capture;
 pub use faults::CertFault;

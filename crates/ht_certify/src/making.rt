@@ -1,6 +1,7 @@
 //! The record of a job.
 ghost use Rattle.std.specs.Prelude.{◌≡◌, ◌≤◌, ◌-◌, length, take, drop, replicate, OnOk};
-ghost use Rattle.ht_metric.specs.Rows.{no_sample, rows_of};
+ghost use Rattle.ht_pam.specs.Grids.{IsGrid};
+ghost use Rattle.ht_metric.specs.Rows.{no_sample};
 ghost use Rattle.ht_certify.specs.Certifying.{certificate_of};
 ghost use Rattle.ht_certify.specs.Making.{job_on};
 
@@ -32,6 +33,7 @@ fn received(samples: &[Sample]) -> [Sample; 4]
 
 /// The job of a triangle with what was received on its rows. It has the number 0, and no place.
 pub fn job(grid: &Grid, triangle: &Triangle, samples: &[Sample]) -> Job
+    requires good { IsGrid grid.now }
     requires grid { length grid.now ≡ length triangle.now }
     requires rows { length samples.now ≡ length triangle.now }
     ensures { result ≡ job_on grid.now triangle.now samples.now }
@@ -41,12 +43,12 @@ pub fn job(grid: &Grid, triangle: &Triangle, samples: &[Sample]) -> Job
 }
 
 /// Makes the record of a job in the memory of another record, whose modulation it keeps.
-pub fn make(alloc: Global, record: &mut Record, job: Job) -> Result<(), AllocError>
-    ensures made { OnOk result (record.new ≡ record { modulation = record.old.modulation; job = job; certificate = certificate_of job }) }
-    ensures modulation { record.new.modulation ≡ record.old.modulation }
+pub fn make(alloc: Global, recorded: &mut Record, job: Job) -> Result<(), AllocError>
+    ensures made { OnOk result (recorded.new ≡ record { modulation = recorded.old.modulation; job = job; certificate = certificate_of job }) }
+    ensures modulation { recorded.new.modulation ≡ recorded.old.modulation }
 {
-    let marks = mem::replace(&mut record.certificate.marks, Marks::from(Vec::new(alloc)));
-    record.certificate = certify_with(&job, marks.into_vec())?;
-    record.job = job;
+    let marks = mem::replace(&mut recorded.certificate.marks, Marks::from(Vec::new(alloc)));
+    recorded.certificate = certify_with(&job, marks.into_vec())?;
+    recorded.job = job;
     Ok(())
 }

@@ -1,6 +1,7 @@
 //! The file of certificates of frames.
 ghost use Rattle.std.specs.Prelude.{◌≡◌, ◌≤◌, ◌<◌, ◌*◌, ◌^◌, [], All, length, flat_map, count_by, OnOk, IfOk};
 ghost use Rattle.ht_rate.specs.Rates.{carriers_of, streams_of, symbols_of};
+ghost use Rattle.ht_pam.specs.Grids.{IsGrid};
 ghost use Rattle.ht_capture.specs.Files.{AreCaptureFrames, FitsFrame};
 ghost use Rattle.ht_cert.specs.Files.{record_octets};
 ghost use Rattle.ht_certify.specs.Making.{file_of_frames, records_of_frame, records_of_frames, records_of_symbol, records_of_symbols, records_on};
@@ -17,6 +18,14 @@ use ht_metric::Sample;
 use ht_pam::Grid;
 use std::alloc::{AllocError, Global};
 
+// The number of subcarriers that carry data.
+fn data_among(subcarriers: &[Subcarrier]) -> u64
+    requires { length subcarriers.now ≤ 114 }
+    ensures { result ≡ count_by (λ s. s.carries_data) subcarriers.now }
+{
+    subcarriers.iter().filter(|s| s.carries_data).count() as u64
+}
+
 // The number of records of a frame: one for each symbol and each subcarrier that carries data.
 #[tactic(auto, unfolding(crate::specs::Making::records_of_frame))]
 fn count_frame(frame: &CaptureFrame, room: &mut Vec<Subcarrier>) -> Result<u64, AllocError>
@@ -25,8 +34,9 @@ fn count_frame(frame: &CaptureFrame, room: &mut Vec<Subcarrier>) -> Result<u64, 
     ensures few { IfOk result (λ count. count ≤ 1129296) }
 {
     list(frame, room)?;
-    let data = room.iter().filter(|s| s.carries_data).count() as u64;
-    Ok(u64::from(frame.rate.symbols(frame.length)) * data)
+    let data = data_among(room);
+    let symbols = u64::from(frame.rate.symbols(frame.length));
+    Ok(symbols * data)
 }
 
 // The number of records of frames.
@@ -42,11 +52,11 @@ fn count(frames: &[CaptureFrame], room: &mut Vec<Subcarrier>) -> Result<u64, All
 }
 
 // Adds a record to those that wait, and puts them where they are many.
-fn put_record<K: Sink>(record: &Record, block: &mut Block, sink: &mut K) -> Result<(), CertFault>
-    requires { length record.now.certificate.marks ≤ 33554432 }
-    ensures { Writes block.old (K.shown sink.old) (K.shown sink.new) (record_octets record.now) block.new result }
+fn put_record<K: Sink>(recorded: &Record, block: &mut Block, sink: &mut K) -> Result<(), CertFault>
+    requires { length recorded.now.certificate.marks ≤ 33554432 }
+    ensures { Writes block.old (K.shown sink.old) (K.shown sink.new) (record_octets recorded.now) block.new result }
 {
-    block.add(record)?;
+    block.add(recorded)?;
     if block.is_full() {
         block.put(sink)?;
     }
@@ -59,19 +69,20 @@ fn put_subcarrier<K: Sink>(
     grid: &Grid,
     subcarrier: &Subcarrier,
     samples: &[Sample],
-    record: &mut Record,
+    recorded: &mut Record,
     block: &mut Block,
     sink: &mut K,
 ) -> Result<(), CertFault>
+    requires good { IsGrid grid.now }
     requires grid { length grid.now ≡ length subcarrier.now.triangle }
     requires rows { length samples.now ≡ length subcarrier.now.triangle }
     ensures writes { Writes block.old (K.shown sink.old) (K.shown sink.new)
-        (flat_map record_octets (records_on record.old.modulation grid.now subcarrier.now samples.now)) block.new result }
-    ensures modulation { record.new.modulation ≡ record.old.modulation }
+        (flat_map record_octets (records_on recorded.old.modulation grid.now subcarrier.now samples.now)) block.new result }
+    ensures modulation { recorded.new.modulation ≡ recorded.old.modulation }
 {
     if subcarrier.carries_data {
-        make(alloc, record, job(grid, &subcarrier.triangle, samples))?;
-        put_record(record, block, sink)?;
+        make(alloc, recorded, job(grid, &subcarrier.triangle, samples))?;
+        put_record(recorded, block, sink)?;
     }
     Ok(())
 }
@@ -82,21 +93,21 @@ fn put_symbol<K: Sink>(
     grid: &Grid,
     subcarriers: &[Subcarrier],
     samples: &[Sample],
-    record: &mut Record,
+    recorded: &mut Record,
     block: &mut Block,
     sink: &mut K,
 ) -> Result<(), CertFault>
     requires streams { All (λ s. length s.triangle ≡ length grid.now) subcarriers.now }
     requires samples { length samples.now ≡ length subcarriers.now * length grid.now }
     ensures writes { Writes block.old (K.shown sink.old) (K.shown sink.new)
-        (flat_map record_octets (records_of_symbol record.old.modulation grid.now (length grid.now) subcarriers.now samples.now)) block.new result }
-    ensures modulation { record.new.modulation ≡ record.old.modulation }
+        (flat_map record_octets (records_of_symbol recorded.old.modulation grid.now (length grid.now) subcarriers.now samples.now)) block.new result }
+    ensures modulation { recorded.new.modulation ≡ recorded.old.modulation }
 {
     let streams = usize::from(grid.streams());
     let mut rest = samples;
     for subcarrier in subcarriers {
         let (now, later) = rest.split_at(streams);
-        put_subcarrier(alloc, grid, subcarrier, now, record, block, sink)?;
+        put_subcarrier(alloc, grid, subcarrier, now, recorded, block, sink)?;
         rest = later;
     }
     Ok(())
@@ -109,20 +120,22 @@ fn put_symbols<K: Sink>(
     symbols: u32,
     subcarriers: &[Subcarrier],
     samples: &[Sample],
-    record: &mut Record,
+    recorded: &mut Record,
     block: &mut Block,
     sink: &mut K,
 ) -> Result<(), CertFault>
+    requires few { length subcarriers.now ≤ 114 }
     requires streams { All (λ s. length s.triangle ≡ length grid.now) subcarriers.now }
     requires samples { length samples.now ≡ symbols * (length subcarriers.now * length grid.now) }
     ensures writes { Writes block.old (K.shown sink.old) (K.shown sink.new)
-        (flat_map record_octets (records_of_symbols record.old.modulation grid.now (length grid.now) symbols subcarriers.now samples.now)) block.new result }
+        (flat_map record_octets (records_of_symbols recorded.old.modulation grid.now (length grid.now) symbols subcarriers.now samples.now)) block.new result }
+    ensures modulation { recorded.new.modulation ≡ recorded.old.modulation }
 {
     let width = subcarriers.len() * usize::from(grid.streams());
     let mut rest = samples;
     for _symbol in 0..symbols {
         let (now, later) = rest.split_at(width);
-        put_symbol(alloc, grid, subcarriers, now, record, block, sink)?;
+        put_symbol(alloc, grid, subcarriers, now, recorded, block, sink)?;
         rest = later;
     }
     Ok(())
@@ -134,7 +147,7 @@ fn put_frame<K: Sink>(
     alloc: Global,
     frame: &CaptureFrame,
     room: &mut Vec<Subcarrier>,
-    record: &mut Record,
+    recorded: &mut Record,
     block: &mut Block,
     sink: &mut K,
 ) -> Result<(), CertFault>
@@ -142,10 +155,10 @@ fn put_frame<K: Sink>(
     ensures { Writes block.old (K.shown sink.old) (K.shown sink.new) (flat_map record_octets (records_of_frame frame.now)) block.new result }
 {
     list(frame, room)?;
-    record.modulation = frame.rate.modulation();
+    recorded.modulation = frame.rate.modulation();
     let symbols = frame.rate.symbols(frame.length);
     let samples = frame.samples.as_slice();
-    put_symbols(alloc, &grid(&frame.rate), symbols, room, samples, record, block, sink)
+    put_symbols(alloc, &grid(&frame.rate), symbols, room, samples, recorded, block, sink)
 }
 
 // The same of frames.
@@ -159,9 +172,9 @@ fn put_frames<K: Sink>(
     requires { All FitsFrame frames.now }
     ensures { Writes block.old (K.shown sink.old) (K.shown sink.new) (flat_map record_octets (records_of_frames frames.now)) block.new result }
 {
-    let mut record = Record::empty(alloc);
+    let mut recorded = Record::empty(alloc);
     for frame in frames {
-        put_frame(alloc, frame, room, &mut record, block, sink)?;
+        put_frame(alloc, frame, room, &mut recorded, block, sink)?;
     }
     Ok(())
 }

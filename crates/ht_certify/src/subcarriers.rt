@@ -1,9 +1,9 @@
 //! The subcarriers of a frame that are present.
-ghost use Rattle.std.specs.Prelude.{◌≡◌, ◌<◌, ◌++◌, false, length, map, IfOk, OnOk};
+ghost use Rattle.std.specs.Prelude.{◌≡◌, ◌<◌, ◌≤◌, ◌++◌, false, All, length, map, IfOk, OnOk};
 ghost use Rattle.ht_rate.specs.Carriers.{carrier_of};
-ghost use Rattle.ht_rate.specs.Rates.{carriers_of};
+ghost use Rattle.ht_rate.specs.Rates.{carriers_of, streams_of};
 ghost use Rattle.ht_capture.specs.Contents.{seen};
-ghost use Rattle.ht_capture.specs.Files.{FitsFrame, is_erased as erased_at, triangles_behind};
+ghost use Rattle.ht_capture.specs.Files.{FitsFrame, is_erased as erased_at, present_of, triangles_behind};
 ghost use Rattle.ht_certify.specs.Making.{has_data, subcarrier_of, subcarriers_of};
 
 use ht_capture::CaptureFrame;
@@ -66,6 +66,9 @@ fn add<'a>(
 pub fn list(frame: &CaptureFrame, into: &mut Vec<Subcarrier>) -> Result<(), AllocError>
     requires fits { FitsFrame frame.now }
     ensures listed { OnOk result (into.new.items ≡ subcarriers_of frame.now) }
+    ensures present { OnOk result (length into.new.items ≡ present_of frame.now) }
+    ensures few { OnOk result (length into.new.items ≤ carriers_of frame.now.rate) }
+    ensures streams { OnOk result (All (λ s. length s.triangle ≡ streams_of frame.now.rate) into.new.items) }
 {
     into.clear();
     let mut triangles = frame.triangles.as_slice();
