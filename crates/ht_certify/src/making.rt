@@ -47,7 +47,10 @@ pub fn make(alloc: Global, recorded: &mut Record, job: Job) -> Result<(), AllocE
     ensures made { OnOk result (recorded.new ≡ record { modulation = recorded.old.modulation; job = job; certificate = certificate_of job }) }
     ensures modulation { recorded.new.modulation ≡ recorded.old.modulation }
 {
-    let marks = mem::replace(&mut recorded.certificate.marks, Marks::from(Vec::new(alloc)));
+    let marks = mem::replace(
+        &mut recorded.certificate.marks,
+        Marks::from(Vec::new(alloc)),
+    );
     recorded.certificate = certify_with(&job, marks.into_vec())?;
     recorded.job = job;
     Ok(())

@@ -158,7 +158,16 @@ fn put_frame<K: Sink>(
     recorded.modulation = frame.rate.modulation();
     let symbols = frame.rate.symbols(frame.length);
     let samples = frame.samples.as_slice();
-    put_symbols(alloc, &grid(&frame.rate), symbols, room, samples, recorded, block, sink)
+    put_symbols(
+        alloc,
+        &grid(&frame.rate),
+        symbols,
+        room,
+        samples,
+        recorded,
+        block,
+        sink,
+    )
 }
 
 // The same of frames.
@@ -180,7 +189,11 @@ fn put_frames<K: Sink>(
 }
 
 /// Puts the file of certificates of the data jobs of frames, many records at once.
-pub fn put_file<K: Sink>(alloc: Global, frames: &[CaptureFrame], sink: &mut K) -> Result<(), CertFault>
+pub fn put_file<K: Sink>(
+    alloc: Global,
+    frames: &[CaptureFrame],
+    sink: &mut K,
+) -> Result<(), CertFault>
     requires { AreCaptureFrames frames.now }
     ensures { Writes [] (K.shown sink.old) (K.shown sink.new) (file_of_frames frames.now) [] result }
 {
