@@ -1,5 +1,6 @@
 pub mod Counting
 pub mod Fewness
+pub mod Holding
 pub mod Left
 pub mod Listed
 pub mod Numberless

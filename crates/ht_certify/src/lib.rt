@@ -11,6 +11,7 @@
 
 mod certifying;
 mod faults;
+pub mod laws;
 mod making;
 mod putting;
 mod subcarriers;
