@@ -12,10 +12,12 @@
 //! file is BadMark there, at 49, and with an octet more it is Trailing at 50.
 //!
 //! `RecordReader` reads the records one by one into a record of the caller's. A number of marks takes no memory: each is
-//! kept as it comes. `write_start` and `write_record` put a file and take none. What was written is a file of these
+//! kept as it comes. `write_start` and `write_record` put a file and take none; a `Block` gathers records, so that many are
+//! put at once. What was written is a file of these
 //! records, each file is the one that is written of its records, and no file is a prefix of another.
 #![tactic(auto)]
 
+mod block;
 mod decoding;
 mod fields;
 pub mod laws;
@@ -24,6 +26,7 @@ mod record;
 mod turn;
 mod writing;
 
+pub use block::Block;
 pub use reader::{Came, RecordReader};
 pub use record::Record;
 pub use writing::{write_record, write_start};

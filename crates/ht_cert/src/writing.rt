@@ -99,7 +99,7 @@ fn add_points(chunk: &mut Chunk, vector: &Vector)
 }
 
 // Fills the chunk with what stands in front of the marks of a record.
-fn front(chunk: &mut Chunk, recorded: &Record)
+pub(crate) fn front(chunk: &mut Chunk, recorded: &Record)
     requires { length recorded.now.certificate.marks ≤ 33554432 }
     ensures put { chunk.new ≡ front_octets recorded.now }
     ensures size { length chunk.new ≤ 118 }
@@ -144,10 +144,20 @@ fn put_marks<K: Sink>(marks: &[bool], chunk: &mut Chunk, sink: &mut K) -> Result
     Ok(())
 }
 
+// What stands in front of this number of records.
+#[tactic(auto, unfolding(ht_heads::specs::Starts::started_octets))]
+pub(crate) fn start(count: u64) -> [u8; 13]
+    ensures { result ≡ records_start count }
+{
+    let n = count.to_be_bytes();
+    [
+        b'H', b'T', b'C', b'T', 1, n[0], n[1], n[2], n[3], n[4], n[5], n[6], n[7],
+    ]
+}
+
 /// Puts what stands in front of this number of records.
 ///
 /// Where the sink fails, a part of it from its front was put.
-#[tactic(auto, unfolding(ht_heads::specs::Starts::started_octets))]
 pub fn write_start<K: Sink>(count: u64, sink: &mut K) -> Result<(), Failed>
     ensures grown { OnOk result (Grows (K.shown sink.old) (K.shown sink.new) (records_start count)) }
     ensures steady { OnOk result ((K.shown sink.new).faults ≡ (K.shown sink.old).faults) }
@@ -155,10 +165,7 @@ pub fn write_start<K: Sink>(count: u64, sink: &mut K) -> Result<(), Failed>
     ensures cause { OnErr result (Rose (K.shown sink.old) (K.shown sink.new)) }
     ensures later { IsLater (K.shown sink.old) (K.shown sink.new) }
 {
-    let n = count.to_be_bytes();
-    sink.put(&[
-        b'H', b'T', b'C', b'T', 1, n[0], n[1], n[2], n[3], n[4], n[5], n[6], n[7],
-    ])
+    sink.put(&start(count))
 }
 
 /// Puts a record, which has at most 2^25 marks. It takes no memory.

@@ -25,11 +25,24 @@ pub fn certify(job: &Job, alloc: Global) -> Result<Certificate, AllocError>
     ensures checked { IfOk result (λ certificate. Checked job.now certificate) }
     ensures streams { IfOk result (λ certificate. length certificate.vector ≡ length job.now.system) }
 {
+    certify_with(job, Vec::new(alloc))
+}
+
+/// Does as [`certify`], and keeps the marks in the memory of a vector, whatever that held: so the marks of one job after
+/// another take memory only where there are more of them than ever before.
+pub fn certify_with(job: &Job, memory: Vec<bool>) -> Result<Certificate, AllocError>
+    ensures found { IfOk result (λ certificate. near job.now ≡ record { vector = certificate.vector; distance = certificate.distance }) }
+    ensures marks { IfOk result (λ certificate. certificate.marks
+        ≡ marks_of certificate.distance (from_last job.now.system job.now.grid) [] 0) }
+    ensures checked { IfOk result (λ certificate. Checked job.now certificate) }
+    ensures streams { IfOk result (λ certificate. length certificate.vector ≡ length job.now.system) }
+{
     let Found { vector, distance } = find::<Brand>(job, Blank::new(1));
     let streams = job.system().streams();
     let mut levels = [0i8; 8];
     let levels = &mut levels[..2 * usize::from(streams)];
-    let mut marks = Vec::new(alloc);
+    let mut marks = memory;
+    marks.clear();
     let marking = Marking { job, distance };
     marking.quadrature(streams, levels, 0, &mut marks)?;
     Ok(Certificate {

@@ -7,15 +7,15 @@ use Rattle.ht_sphere.specs.Coordinates.{from_last}
 use Rattle.ht_witness.specs.Marking.{marks_of}
 use Rattle.ht_witness.proofs.Accepting.{accepted}
 use Rattle.ht_witness.proofs.Stages.{all_marks, no_levels, zeros}
-use Rattle.ht_witness.proofs.certifying.certify.Goals as goal
+use Rattle.ht_witness.proofs.certifying.certify_with.Goals as goal
 
 pub returns-clause-marks : goal.returns-clause-marks
 returns-clause-marks c =
     let job = c.args.job.now in
     let n = c.streams-streams.result in
     let same : n ≡ length job.system = c.streams-streams.ensures.number ∙ ap length c.system.ensures.system in
-    all_marks job n c.find-vector.result.distance (drop (2 * n) (take (2 * c.from.result) zeros)) c.new-marks.result.items c.from-2.result c.system.ensures.job
-    same (no_levels c.from.result n c.from.ensures) c.new-marks.ensures.items (c.from-2.ensures ∙ c.in_ok-quadrature.ensures.marks)
+    all_marks job n c.find-vector.result.distance (drop (2 * n) (take (2 * c.from.result) zeros)) c.clear.new.self.items c.from-2.result c.system.ensures.job
+    same (no_levels c.from.result n c.from.ensures) c.clear.ensures.items (c.from-2.ensures ∙ c.in_ok-quadrature.ensures.marks)
 
 pub returns-clause-checked : goal.returns-clause-checked
 returns-clause-checked c =
@@ -25,8 +25,8 @@ returns-clause-checked c =
     let n = c.streams-streams.result in
     let same : n ≡ length job.system = c.streams-streams.ensures.number ∙ ap length c.system.ensures.system in
     let marks : c.from-2.result ≡ marks_of d (from_last job.system job.grid) [] 0 =
-    all_marks job n d (drop (2 * n) (take (2 * c.from.result) zeros)) c.new-marks.result.items c.from-2.result c.system.ensures.job
-    same (no_levels c.from.result n c.from.ensures) c.new-marks.ensures.items (c.from-2.ensures ∙ c.in_ok-quadrature.ensures.marks) in
+    all_marks job n d (drop (2 * n) (take (2 * c.from.result) zeros)) c.clear.new.self.items c.from-2.result c.system.ensures.job
+    same (no_levels c.from.result n c.from.ensures) c.clear.ensures.items (c.from-2.ensures ∙ c.in_ok-quadrature.ensures.marks) in
     let far : d ≡ distance_of job.system x = ap (λ (f : Found). f.distance) (c.find-vector.ensures.found ∙ near_is job x c.find-vector.ensures.near) in
     accepted job record { vector = x; distance = d; marks = c.from-2.result } c.system.ensures.job c.find-vector.ensures.near far marks
 

@@ -1,0 +1,111 @@
+//! Records that are put together.
+ghost use Rattle.std.specs.Prelude.{◌≡◌, ◌≤◌, ◌++◌, [], length, map, take, OnOk, OnErr};
+ghost use Rattle.ht_io.specs.Devices.{Grows, GrowsByPart, Rose, IsLater};
+ghost use Rattle.ht_cert.specs.Files.{mark_octet, record_octets, records_start};
+
+use crate::record::Record;
+use crate::writing::{front, start};
+use ht_fields::Chunk;
+use ht_io::{Failed, Sink};
+use std::alloc::{AllocError, Global};
+use std::marker::Model;
+
+/// From how many octets on a block is full.
+const FULL: usize = 32768;
+
+/// The number of marks that are added at once.
+const MARKS: usize = 128;
+
+// The octets of up to 128 marks, in front of zeros.
+fn octets_of(marks: &[bool]) -> [u8; MARKS]
+    requires few { length marks.now ≤ 128 }
+    ensures octets { take (length marks.now) result ≡ map mark_octet marks.now }
+    ensures places { length result ≡ 128 }
+{
+    let mut octets = [0u8; MARKS];
+    for k in 0..marks.len() {
+        octets[k] = u8::from(marks[k]);
+    }
+    octets
+}
+
+// Appends marks.
+fn append_marks(octets: &mut Vec<u8>, marks: &[bool]) -> Result<(), AllocError>
+    ensures added { OnOk result (octets.new.items ≡ octets.old.items ++ map mark_octet marks.now) }
+{
+    let mut rest = marks;
+    while !rest.is_empty() {
+        let (now, later) = rest.split_at(rest.len().min(MARKS));
+        octets.extend_from_slice(&octets_of(now)[..now.len()])?;
+        rest = later;
+    }
+    Ok(())
+}
+
+/// The octets of records that wait to be put, so that many records are put at once. A contract sees these octets.
+#[derive(Debug, Drop)]
+pub struct Block {
+    // Where the front of a record is made.
+    chunk: Chunk,
+    octets: Vec<u8>,
+}
+
+impl Model for Block {
+    ghost use Rattle.std.specs.Prelude.{ℕ, List};
+
+    ghost Value = { List ℕ };
+
+    ghost view = { λ b. b.octets.items };
+}
+
+impl Block {
+    /// A block of no octets. It takes no memory.
+    pub fn new(alloc: Global) -> Block
+        ensures { result ≡ [] }
+    {
+        Block {
+            chunk: Chunk::new(),
+            octets: Vec::new(alloc),
+        }
+    }
+
+    /// Adds what stands in front of this number of records. The only refusal is lack of memory.
+    pub fn add_start(&mut self, count: u64) -> Result<(), AllocError>
+        ensures added { OnOk result (self.new ≡ self.old ++ records_start count) }
+    {
+        self.octets.extend_from_slice(&start(count))
+    }
+
+    /// Adds a record, which has at most 2^25 marks. The only refusal is lack of memory: then a part of the record may
+    /// have been added.
+    #[tactic(auto, unfolding(crate::specs::Files::record_octets))]
+    pub fn add(&mut self, recorded: &Record) -> Result<(), AllocError>
+        requires marks { length recorded.now.certificate.marks ≤ 33554432 }
+        ensures added { OnOk result (self.new ≡ self.old ++ record_octets recorded.now) }
+    {
+        front(&mut self.chunk, recorded);
+        self.octets.extend_from_slice(self.chunk.as_slice())?;
+        append_marks(&mut self.octets, recorded.certificate.marks.as_slice())
+    }
+
+    /// Whether so many octets wait that they are to be put: at least 32,768.
+    pub fn is_full(&self) -> bool {
+        self.octets.len() >= FULL
+    }
+
+    /// Puts what waits, and keeps the memory.
+    ///
+    /// Where the sink fails, a part of it from its front was put.
+    pub fn put<K: Sink>(&mut self, sink: &mut K) -> Result<(), Failed>
+        ensures grown { OnOk result (Grows (K.shown sink.old) (K.shown sink.new) self.old) }
+        ensures none { OnOk result (self.new ≡ []) }
+        ensures steady { OnOk result ((K.shown sink.new).faults ≡ (K.shown sink.old).faults) }
+        ensures part { OnErr result (GrowsByPart (K.shown sink.old) (K.shown sink.new) self.old) }
+        ensures cause { OnErr result (Rose (K.shown sink.old) (K.shown sink.new)) }
+        ensures later { IsLater (K.shown sink.old) (K.shown sink.new) }
+    {
+        sink.put(&self.octets)?;
+        self.octets.clear();
+        Ok(())
+    }
+}

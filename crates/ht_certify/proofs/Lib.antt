@@ -1,0 +1,9 @@
+pub mod Counting
+pub mod Fewness
+pub mod Holding
+pub mod Left
+pub mod Listed
+pub mod Numberless
+pub mod Passing
+pub mod Shown
+mod Worked

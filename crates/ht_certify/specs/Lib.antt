@@ -1,0 +1,3 @@
+pub mod Certifying
+pub mod Making
+pub mod Writing

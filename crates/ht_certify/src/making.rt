@@ -1,0 +1,57 @@
+//! The record of a job.
+ghost use Rattle.std.specs.Prelude.{◌≡◌, ◌≤◌, ◌-◌, length, take, drop, replicate, OnOk};
+ghost use Rattle.ht_pam.specs.Grids.{IsGrid};
+ghost use Rattle.ht_metric.specs.Rows.{no_sample};
+ghost use Rattle.ht_certify.specs.Certifying.{certificate_of};
+ghost use Rattle.ht_certify.specs.Making.{job_on};
+
+use ht_cert::Record;
+use ht_metric::{Job, Place, Sample, System, Triangle};
+use ht_pam::Grid;
+use ht_witness::{Marks, certify_with};
+use std::alloc::{AllocError, Global};
+use std::mem;
+
+const NO_SAMPLE: Sample = Sample { re: 0, im: 0 };
+
+const NO_PLACE: Place = Place {
+    frame: 0,
+    symbol: 0,
+    carrier: 0,
+};
+
+// The samples of one to four rows, in an array whose other places are zero.
+fn received(samples: &[Sample]) -> [Sample; 4]
+    requires { length samples.now ≤ 4 }
+    ensures front { take (length samples.now) result ≡ samples.now }
+    ensures unused { drop (length samples.now) result ≡ replicate (4 - length samples.now) no_sample }
+{
+    let mut y = [NO_SAMPLE; 4];
+    y[..samples.len()].copy_from_slice(samples);
+    y
+}
+
+/// The job of a triangle with what was received on its rows. It has the number 0, and no place.
+pub fn job(grid: &Grid, triangle: &Triangle, samples: &[Sample]) -> Job
+    requires good { IsGrid grid.now }
+    requires grid { length grid.now ≡ length triangle.now }
+    requires rows { length samples.now ≡ length triangle.now }
+    ensures { result ≡ job_on grid.now triangle.now samples.now }
+{
+    let system = System::new(*triangle, received(samples));
+    Job::new(0, NO_PLACE, *grid, system)
+}
+
+/// Makes the record of a job in the memory of another record, whose modulation it keeps.
+pub fn make(alloc: Global, recorded: &mut Record, job: Job) -> Result<(), AllocError>
+    ensures made { OnOk result (recorded.new ≡ record { modulation = recorded.old.modulation; job = job; certificate = certificate_of job }) }
+    ensures modulation { recorded.new.modulation ≡ recorded.old.modulation }
+{
+    let marks = mem::replace(
+        &mut recorded.certificate.marks,
+        Marks::from(Vec::new(alloc)),
+    );
+    recorded.certificate = certify_with(&job, marks.into_vec())?;
+    recorded.job = job;
+    Ok(())
+}
