@@ -15,12 +15,14 @@
 //! over the list of all inputs. The laws that follow from them are in [`laws`].
 #![tactic(auto)]
 
+mod bit_costs;
 mod branches;
 mod codeword;
 mod decoder;
 mod lanes;
 pub mod laws;
 mod pairs;
+mod place;
 mod plain;
 mod received_bit;
 mod rows;
@@ -29,7 +31,8 @@ mod tests;
 mod walk;
 mod words;
 
-pub use codeword::Codeword;
+pub use codeword::{Cheapest, Codeword};
 pub use decoder::{decode, decode_received};
-pub use plain::plain_decode;
+pub use place::Place;
+pub use plain::{decode_places, plain_decode};
 pub use received_bit::ReceivedBit;
