@@ -1,6 +1,6 @@
 -- The least costs over a stretch of steps: from no state do they fall by more than twelve below that of state 0, and
 -- from state 0 they grow by two a step at most.
-use Rattle.std.proofs.Common.{◌≡◌, ◌∙◌, ℕ, zero, suc, ◌+◌, ◌-◌, ◌*◌, ◌%◌, ◌<◌, ◌≤◌, List, ◌∷◌, length, refl, sym, ap, subst, arith, add-one}
+use Rattle.std.proofs.Common.{◌≡◌, ℕ, zero, suc, ◌+◌, ◌-◌, ◌*◌, ◌<◌, ◌≤◌, List, ◌∷◌, length, refl, sym, ap, subst, arith}
 use Rattle.std.proofs.Common.{slice_index}
 use Rattle.ht_viterbi.specs.Lanes.{pair_of_number, row_costs, steps_at}
 use Rattle.ht_viterbi.specs.Trellis.{StepCosts, moved, way, is_free, least_from, chosen_at}

@@ -1,6 +1,6 @@
 -- The rows of the pairs, in their order, and the pairs that rows stand for.
-use Rattle.std.proofs.Common.{◌≡◌, ◌∙◌, inl, inr, ℕ, zero, suc, ◌+◌, ◌-◌, ◌/◌, ◌%◌, ◌<◌, ◌≤◌, List, [], ◌∷◌, true, false, Some, None, Option, Bool}
-use Rattle.std.proofs.Common.{ap, sym, refl, subst, arith, add-one, drop, length, map, slice_index, slice_index_or, eqb}
+use Rattle.std.proofs.Common.{◌≡◌, ◌∙◌, inl, inr, ℕ, zero, suc, ◌+◌, ◌-◌, ◌<◌, ◌≤◌, List, [], ◌∷◌, true, false, Some, None, Option, Bool}
+use Rattle.std.proofs.Common.{ap, sym, refl, arith, add-one, drop, length, map, slice_index, slice_index_or, eqb}
 use Rattle.std.proofs.Math.Seq.{drop-cons}
 use Rattle.std.proofs.lemmas.Bool.{agree_below_at, cases_lt, eqb-true}
 use Rattle.std.proofs.lemmas.Bool.Decides.{nat_tests}

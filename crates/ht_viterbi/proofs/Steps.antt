@@ -1,5 +1,5 @@
 -- One step of the plain decoder, state by state.
-use Rattle.std.proofs.Common.{◌≡◌, ◌↔◌, ℕ, zero, suc, ◌+◌, ◌-◌, ◌%◌, ◌^◌, ◌<◌, ◌≤◌, List, [], ◌∷◌, ◌++◌, Bool, true, false, Option, Some, None, length}
+use Rattle.std.proofs.Common.{◌≡◌, ◌↔◌, ℕ, zero, suc, ◌+◌, ◌-◌, ◌^◌, ◌<◌, ◌≤◌, List, [], ◌∷◌, ◌++◌, Bool, true, false, length}
 use Rattle.std.proofs.Common.{take, drop, set, get_or, slice_index, replicate, nat_lt, refl, ap, sym, ◌∙◌, subst, arith, add-one, append_assoc, ◌==◌}
 use Rattle.std.specs.Int.{bit_at}
 use Rattle.std.proofs.Math.Seq.{drop-cons, take-append_seam}
@@ -7,10 +7,8 @@ use Rattle.std.proofs.lemmas.Bool.{eqb-true, eq-eqb}
 use Rattle.std.proofs.lemmas.Bool.Decides.{nat_tests}
 use Rattle.std.proofs.lemmas.List.{drop-set, get_or_past}
 use Rattle.ht_rate.specs.declared.kinds.Pattern.{Pattern}
-use Rattle.ht_rate.specs.declared.kinds.Pattern.TheVariants.{Half, TwoThirds, ThreeQuarters, FiveSixths}
 use Rattle.ht_conv.specs.declared.puncture.Kept.{Kept}
-use Rattle.ht_conv.specs.declared.puncture.Kept.TheVariants.{Both}
-use Rattle.ht_conv.specs.Puncturing.{period_of, kept_of, kept_count, sent_count}
+use Rattle.ht_conv.specs.Puncturing.{kept_of, kept_count, sent_count}
 use Rattle.ht_viterbi.specs.declared.bit_costs.BitCosts.{BitCosts}
 use Rattle.ht_viterbi.specs.Trellis.{StepCosts, bit_cost, free_bit, pair_of, pair_at, steps_from, moved, output_a, output_b, branch_cost}
 use Rattle.ht_viterbi.specs.Trellis.{way, chosen, lesser, is_free, least_from, chosen_at, first_from, AreChoices}

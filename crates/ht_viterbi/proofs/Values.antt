@@ -1,9 +1,9 @@
 -- Values of the definitions, by computation.
-use Rattle.std.proofs.Common.{◌≡◌, List, [], ◌∷◌, map, Bool, true, false, Option, Some, None, replicate, refl}
+use Rattle.std.proofs.Common.{◌≡◌, List, [], ◌∷◌, map, ℤ, pos, negsuc, Bool, true, false, Option, Some, None, replicate, refl}
 use mathlib.Core.Bool.{xor}
 use Rattle.ht_rate.specs.declared.kinds.Pattern.TheVariants.{Half, TwoThirds}
 use Rattle.ht_viterbi.specs.Decoded.{cheapest, decoded, terminated_inputs}
-use Rattle.ht_viterbi.specs.Inputs.{is_terminated, is_before, cost_of, distance}
+use Rattle.ht_viterbi.specs.Inputs.{is_terminated, is_before, cost_of, distance, weight_cost}
 
 abbrev zeros : List Bool
 zeros = replicate 7 false
@@ -78,3 +78,27 @@ first-decoded = refl
 second-decoded : decoded 7 Half second_word ≡ one_first
 unfolding cheapest cost_of is_before xor
 second-decoded = refl
+
+-- the weights of the same bits: 9 at the ones of the first word, and -1 at its zeros
+abbrev weight : Bool → ℤ
+weight false = negsuc 0
+weight true = pos 9
+
+abbrev weights : List ℤ
+weights = map weight (true ∷ true ∷ false ∷ true ∷ true ∷ true ∷ replicate 8 false)
+
+weighed-zeros : cost_of weight_cost Half weights zeros ≡ 45
+unfolding cost_of xor
+weighed-zeros = refl
+
+weighed-one : cost_of weight_cost Half weights one_first ≡ 5
+unfolding cost_of xor
+weighed-one = refl
+
+no-weight : cost_of weight_cost Half (replicate 14 (pos 0)) one_first ≡ 0
+unfolding cost_of xor
+no-weight = refl
+
+weighed-decoded : cheapest weight_cost 7 Half weights ≡ one_first
+unfolding cheapest cost_of is_before xor
+weighed-decoded = refl

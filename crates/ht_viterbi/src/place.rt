@@ -46,6 +46,10 @@ impl Place for i32 {
     ghost cost = { weight_cost };
 
     fn cost(self, bit: bool) -> u32 {
-        if bit == (self > 0) { 0 } else { self.unsigned_abs() }
+        if bit == (self > 0) {
+            0
+        } else {
+            self.unsigned_abs()
+        }
     }
 }

@@ -1,5 +1,5 @@
-use Rattle.std.proofs.Common.{◌∙◌, ◌-◌, ℕ, Bool, false, ap, length, slice_index, arith, rules}
-use Rattle.ht_viterbi.specs.Trellis.{branch_cost, is_free, least_from}
+use Rattle.std.proofs.Common.{◌-◌, false, length, slice_index, arith, rules}
+use Rattle.ht_viterbi.specs.Trellis.{branch_cost, least_from}
 use Rattle.ht_viterbi.specs.Lanes.{pair_of_number, rise, row_costs, steps_at}
 use Rattle.ht_viterbi.proofs.LaneSteps.{lanes-step, chosen-lanes}
 use Rattle.ht_viterbi.proofs.RowFacts.{free-known, hard-light, light-steps, steps-before, steps-length}

@@ -1,6 +1,6 @@
 use Rattle.std.proofs.Common.{Bool, ◌≤◌, ◌^◌, sym, subst}
 use Rattle.ht_viterbi.specs.declared.bit_costs.BitCosts.{BitCosts}
-use Rattle.ht_viterbi.specs.Trellis.{bit_cost, free_bit}
+use Rattle.ht_viterbi.specs.Trellis.{bit_cost}
 use Rattle.ht_viterbi.proofs.Steps.{branch-few, free-few}
 use Rattle.ht_viterbi.proofs.pairs.costs_from.Goals as goal
 

@@ -1,4 +1,4 @@
-use Rattle.std.proofs.Common.{◌-◌, ◌*◌, ◌^◌, ◌∙◌, length, map, slice_index, arith, rules}
+use Rattle.std.proofs.Common.{◌-◌, ◌*◌, ◌^◌, length, map, slice_index, arith, rules}
 use Rattle.ht_viterbi.specs.Trellis.{costs_of, steps_from}
 use Rattle.ht_viterbi.proofs.Steps.{start-back, pair-back, pairs-none, free-back, costs-start, choices-start}
 use Rattle.ht_viterbi.proofs.Steps.{costs-step, choices-step, chosen-step, bound-step, zero-at}
