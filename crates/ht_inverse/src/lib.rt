@@ -35,6 +35,7 @@ mod table;
 mod tests;
 mod together;
 
+pub use bits::come_to;
 pub use decoded::Decoded;
 pub use decoder::{Alone, Decoder, decode_frame};
 pub use octets::Octets;

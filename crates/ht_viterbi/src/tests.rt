@@ -99,16 +99,16 @@ fn weights(rt: HostRuntime) -> Result<(), Fail> {
     for place in [0, 1, 3, 4] {
         lost[place] = 0;
     }
-    let table = [
-        (doubtful, "1000000", 5),
+    let table: [(&[i32], &str, u64); 5] = [
+        (&doubtful, "1000000", 5),
         // Now 0000000 costs 9, and 1000000 still 5.
-        (lost, "1000000", 5),
-        ([0; 14], "0000000", 0),
-        ([i32::MIN; 14], "0000000", 0),
-        ([i32::MAX; 14], "1000000", 4 * 2_147_483_647),
+        (&lost, "1000000", 5),
+        (&[0; 14], "0000000", 0),
+        (&[i32::MIN; 14], "0000000", 0),
+        (&[i32::MAX; 14], "1000000", 4 * 2_147_483_647),
     ];
     for (weights, input, cost) in table {
-        let answer = cheapest(rt.alloc(), 7, Pattern::Half, &weights)?;
+        let answer = cheapest(rt.alloc(), 7, Pattern::Half, weights)?;
         assert_eq!(rt;
             answer.input.as_slice(),
             bits(rt.alloc(), input)?.as_slice()
