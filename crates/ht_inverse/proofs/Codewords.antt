@@ -1,6 +1,6 @@
 -- Codewords of a frame: their lengths, distances and joined bits.
-use Rattle.std.proofs.Common.{◌≡◌, ℕ, zero, suc, ◌+◌, ◌-◌, ◌*◌, ◌/◌, ◌%◌, ◌<◌, ◌≤◌, List, [], ◌∷◌, length, map, slice_index_or}
-use Rattle.std.proofs.Common.{Bool, true, false, Option, Some, None, Result, Ok, Err, refl, sym, ap, ◌∙◌, arith}
+use Rattle.std.proofs.Common.{◌≡◌, ℕ, zero, suc, ◌+◌, ◌-◌, ◌*◌, ◌/◌, ◌%◌, ◌<◌, ◌≤◌, List, length, map, slice_index_or}
+use Rattle.std.proofs.Common.{Bool, false, Option, Result, Ok, Err, refl, sym, ap, ◌∙◌, arith}
 use Rattle.std.specs.Prelude.{if◌then◌else◌, ◌==◌, sum}
 use Rattle.std.specs.List.{range_with_len}
 use Rattle.std.specs.Result.{IfOk}
@@ -14,7 +14,6 @@ use Rattle.ht_rate.specs.Rates.{encoders_of, needed_bits_of, pattern_of, steps_o
 use Rattle.ht_rate.proofs.LengthFacts.{steps_of-shared}
 use Rattle.ht_rate.proofs.RateFacts.{encoders_of-range}
 use Rattle.ht_conv.specs.Puncturing.{sent_count}
-use Rattle.ht_conv.specs.Code.{sent_bits}
 use Rattle.ht_parse.specs.Encoders.{AreShares, IsParsed, list_of}
 use Rattle.ht_parse.proofs.Unique.{parsed-bits}
 use Rattle.ht_viterbi.specs.declared.codeword.Codeword.{Codeword}

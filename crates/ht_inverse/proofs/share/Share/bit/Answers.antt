@@ -1,4 +1,4 @@
-use Rattle.std.proofs.Common.{ℕ, ◌*◌, ◌+◌, ◌∙◌, false, arith, slice_index_or}
+use Rattle.std.proofs.Common.{◌*◌, ◌+◌, ◌∙◌, false, arith, slice_index_or}
 use Rattle.ht_inverse.specs.declared.label_bit.LabelBit.{LabelBit}
 use Rattle.ht_inverse.proofs.Gathered.{few-labels, has-is, known-is, label-within, place-is, places-length, share-few}
 use Rattle.ht_inverse.proofs.share.Share.bit.Goals as goal
