@@ -1,6 +1,6 @@
 -- Codewords of a frame: their lengths, distances and joined bits.
-use Rattle.std.proofs.Common.{◌≡◌, ℕ, zero, suc, ◌+◌, ◌-◌, ◌*◌, ◌/◌, ◌%◌, ◌<◌, ◌≤◌, List, [], ◌∷◌, length, map, slice_index_or}
-use Rattle.std.proofs.Common.{Bool, true, false, Option, Some, None, Result, Ok, Err, refl, sym, ap, ◌∙◌, arith}
+use Rattle.std.proofs.Common.{◌≡◌, ℕ, zero, suc, ◌+◌, ◌-◌, ◌*◌, ◌/◌, ◌%◌, ◌<◌, ◌≤◌, List, length, map, slice_index_or}
+use Rattle.std.proofs.Common.{Bool, false, Option, Result, Ok, Err, refl, sym, ap, ◌∙◌, arith}
 use Rattle.std.specs.Prelude.{if◌then◌else◌, ◌==◌, sum}
 use Rattle.std.specs.List.{range_with_len}
 use Rattle.std.specs.Result.{IfOk}
@@ -14,36 +14,15 @@ use Rattle.ht_rate.specs.Rates.{encoders_of, needed_bits_of, pattern_of, steps_o
 use Rattle.ht_rate.proofs.LengthFacts.{steps_of-shared}
 use Rattle.ht_rate.proofs.RateFacts.{encoders_of-range}
 use Rattle.ht_conv.specs.Puncturing.{sent_count}
-use Rattle.ht_conv.specs.Code.{sent_bits}
 use Rattle.ht_parse.specs.Encoders.{AreShares, IsParsed, list_of}
 use Rattle.ht_parse.proofs.Unique.{parsed-bits}
 use Rattle.ht_viterbi.specs.declared.codeword.Codeword.{Codeword}
-use Rattle.ht_viterbi.specs.Inputs.{IsDecoded, distance, hamming, place_cost, tail}
+use Rattle.ht_viterbi.specs.Inputs.{IsDecoded, distance, tail}
 use Rattle.ht_viterbi.specs.Decoded.{decoded}
 use Rattle.ht_viterbi.proofs.Enumerating.{decoded_is}
-use Rattle.ht_viterbi.proofs.Turns.{sent-low}
 use Rattle.ht_inverse.specs.Received.{received_at, received_of}
 use Rattle.ht_inverse.specs.Decoding.{distance_at, input_of, scrambled_bits}
 use Rattle.ht_inverse.specs.Shares.{AreCodewords, codeword_of, no_codeword, untailed}
-
--- a place costs at most 1
-place-low : (place : Option Bool) (bit : Bool) → place_cost place bit ≤ 1
-place-low None bit = omega arith
-place-low (Some false) false = omega arith
-place-low (Some false) true = omega arith
-place-low (Some true) false = omega arith
-place-low (Some true) true = omega arith
-
-hamming-low : (received : List (Option Bool)) (sent : List Bool) → hamming received sent ≤ length received
-hamming-low [] sent = omega arith
-hamming-low (place ∷ received) [] = omega arith
-hamming-low (place ∷ received) (bit ∷ sent) = omega (arith, place-low place bit, hamming-low received sent)
-
--- so a distance is at most twice the number of steps
-pub distance-low : (p : Pattern) (received : List (Option Bool)) (input : List Bool) (steps : ℕ) → length received ≡ sent_count p steps
-    → distance p received input ≤ 2 * steps
-unfolding distance
-distance-low p received input steps many = omega (arith, hamming-low received (sent_bits p input), many, sent-low p steps)
 
 -- a received list has a place for each bit that is kept of the codeword's steps
 pub received-length : (r : Rate) (octets erased j steps : ℕ) (labels : List ℕ) (p : Pattern) (received : List (Option Bool))

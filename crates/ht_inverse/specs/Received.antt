@@ -5,7 +5,7 @@ use Rattle.ht_bits.specs.Bits.{bit}
 use Rattle.ht_rate.specs.declared.rates.Rate.{Rate}
 use Rattle.ht_rate.specs.declared.kinds.Carrier.TheVariants.{Data}
 use Rattle.ht_rate.specs.Carriers.{index_of}
-use Rattle.ht_rate.specs.Rates.{data_carriers_of, modulation_of, pattern_of, steps_of, streams_of, symbols_of}
+use Rattle.ht_rate.specs.Rates.{data_carriers_of, label_bits_of, modulation_of, pattern_of, steps_of, streams_of, symbols_of}
 use Rattle.ht_conv.specs.Puncturing.{sent_count}
 use Rattle.ht_map.specs.Gray.{label_bit}
 use Rattle.ht_landing.specs.Landings.{landing_of}
@@ -36,3 +36,14 @@ received_at r erased labels j q =
 -- the received list of encoder j: the coded bits of its codeword, which ends with the tail
 unfoldable pub received_of : Rate → ℕ → ℕ → List ℕ → ℕ → List (Option Bool)
 received_of r octets erased labels j = map (received_at r erased labels j) (range_with_len 0 (sent_count (pattern_of r) (steps_of r octets)))
+
+-- the same of any values, one for each label bit in the order symbol, data subcarrier, stream, bit: `lost` on an erased
+-- subcarrier
+unfoldable pub value_at : {V : Type 0} → V → Rate → ℕ → List V → ℕ → ℕ → V
+value_at lost r erased values j q =
+    let l = landing_of r j q in
+    if is_lost r erased l.carrier then lost
+    else slice_index_or values (label_number r l.symbol l.carrier l.stream * label_bits_of r + l.bit) lost
+
+unfoldable pub values_of : {V : Type 0} → V → Rate → ℕ → ℕ → List V → ℕ → List V
+values_of lost r octets erased values j = map (value_at lost r erased values j) (range_with_len 0 (sent_count (pattern_of r) (steps_of r octets)))

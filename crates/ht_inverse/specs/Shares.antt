@@ -1,6 +1,6 @@
 -- Where a symbol's labels have the coded bits of each encoder, and what the parts of the decoder hand on.
-use Rattle.std.specs.Prelude.{◌≡◌, ℕ, ◌+◌, ◌-◌, ◌*◌, ◌<◌, ◌==◌, List, [], length, map, take, slice_index_or}
-use Rattle.std.specs.Prelude.{Bool, false, Option, None, Some, if◌then◌else◌}
+use Rattle.std.specs.Prelude.{◌≡◌, ℕ, ◌+◌, ◌-◌, ◌*◌, ◌/◌, ◌%◌, ◌<◌, ◌==◌, List, [], length, map, take, slice_index_or}
+use Rattle.std.specs.Prelude.{Bool, true, false, Option, None, Some, if◌then◌else◌}
 use Rattle.std.specs.List.{range_with_len}
 use Rattle.std.specs.Int.{bit_at}
 use Rattle.ht_rate.specs.declared.rates.Rate.{Rate}
@@ -8,9 +8,12 @@ use Rattle.ht_rate.specs.declared.kinds.Carrier.TheVariants.{Data}
 use Rattle.ht_rate.specs.Carriers.{index_of}
 use Rattle.ht_rate.specs.Rates.{data_carriers_of, encoders_of, label_bits_of, streams_of}
 use Rattle.ht_landing.specs.Landings.{landing_of}
+use Rattle.ht_parse.specs.Streams.{share_of}
 use Rattle.ht_viterbi.specs.declared.codeword.Codeword.{Codeword}
+use Rattle.ht_viterbi.specs.declared.received_bit.ReceivedBit.{ReceivedBit}
+use Rattle.ht_viterbi.specs.declared.received_bit.ReceivedBit.TheVariants.{Erased, Zero, One}
 use Rattle.ht_inverse.specs.declared.label_bit.LabelBit.{LabelBit}
-use Rattle.ht_inverse.specs.Received.{is_lost}
+use Rattle.ht_inverse.specs.Received.{is_lost, labels_per_symbol}
 use Rattle.ht_inverse.specs.Decoding.{distance_at, input_of}
 
 -- where the labels of a symbol have coded bit i of encoder j's share
@@ -30,6 +33,37 @@ label_bits_to r erased j count = map (label_bit_of r erased j) (range_with_len 0
 -- what a label says of the bit that stands there
 abbrev pub bit_in : LabelBit → ℕ → Option Bool
 bit_in place label = if place.lost then None else Some (bit_at label place.shift == 1)
+
+-- the same as the decoder takes it
+abbrev pub decision_in : LabelBit → ℕ → ReceivedBit
+decision_in place label = if place.lost then Erased else (if bit_at label place.shift == 1 then One else Zero)
+
+-- what is known of the bit by values, of which each label has this number
+abbrev pub value_in : {V : Type 0} → V → ℕ → List V → ℕ → LabelBit → V
+value_in lost bits values label place = if place.lost then lost else slice_index_or values (label * bits + (bits - 1 - place.shift)) lost
+
+-- labels have a bit; where they are whole, no bit is lost
+pub record HasDecision (labels : List ℕ) (whole : Bool) (label : ℕ) (place : LabelBit) : Type 0 where
+  pub there : label < length labels
+  pub bit : place.shift < 8
+  pub kept : whole ≡ true → place.lost ≡ false
+
+-- values have one of a bit
+pub record HasValue {V : Type 0} (values : List V) (bits label : ℕ) (place : LabelBit) : Type 0 where
+  pub bit : place.shift < bits
+  pub there : label * bits + (bits - 1 - place.shift) < length values
+
+-- what is known of coded bit q of encoder j: of the place where the labels of its symbol have it
+abbrev pub known_at : {V : Type 0} → (ℕ → LabelBit → V) → Rate → ℕ → ℕ → ℕ → V
+known_at known r erased j q =
+    let place = label_bit_of r erased j (q % share_of r) in
+    known (q / share_of r * labels_per_symbol r + place.label) place
+
+-- something is known of each coded bit of some symbols
+abbrev pub HasSymbols : (ℕ → LabelBit → Type 0) → Rate → ℕ → ℕ → ℕ → Type 0
+HasSymbols has r erased j symbols =
+    (n i : ℕ) → n < symbols → i < share_of r
+    → has (n * labels_per_symbol r + (label_bit_of r erased j i).label) (label_bit_of r erased j i)
 
 -- an array has of each data subcarrier whether it is erased
 abbrev pub AreLost : Rate → ℕ → List Bool → Type 0

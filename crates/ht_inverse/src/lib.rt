@@ -26,6 +26,7 @@ mod decoded;
 mod decoder;
 mod erasures;
 mod label_bit;
+mod label_values;
 pub mod laws;
 mod octets;
 mod outcome;
@@ -35,8 +36,10 @@ mod table;
 mod tests;
 mod together;
 
+pub use bits::come_to;
 pub use decoded::Decoded;
 pub use decoder::{Alone, Decoder, decode_frame};
 pub use octets::Octets;
 pub use outcome::Outcome;
+pub use share::Share;
 pub use together::{Together, decode_frame_together};

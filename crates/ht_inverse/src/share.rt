@@ -3,13 +3,15 @@ ghost use Rattle.std.specs.Prelude.{◌≡◌, ◌+◌, ◌-◌, ◌*◌, ◌^�
 ghost use Rattle.std.specs.Prelude.{length, map, slice_index_or, vec_len, vec_capacity};
 ghost use Rattle.std.specs.List.{range_with_len};
 ghost use Rattle.ht_rate.specs.Rates.{encoders_of, label_bits_of, pattern_of, steps_of, symbols_of};
+ghost use Rattle.ht_conv.specs.Puncturing.{sent_count};
 ghost use Rattle.ht_parse.specs.Streams.{share_of};
 ghost use Rattle.ht_viterbi.specs.Received.{known_of};
-ghost use Rattle.ht_inverse.specs.Received.{labels_in_frame, labels_per_symbol, received_at, received_of};
-ghost use Rattle.ht_inverse.specs.Shares.{AreLost, ListsPlaces, bit_in, codeword_of, label_bit_of, label_bits_to};
+ghost use Rattle.ht_inverse.specs.Received.{labels_in_frame, labels_per_symbol, received_of, values_of};
+ghost use Rattle.ht_inverse.specs.Shares.{AreLost, HasSymbols, ListsPlaces, codeword_of, known_at, label_bit_of, label_bits_to};
 
 use crate::erasures::lost_carriers;
 use crate::label_bit::LabelBit;
+use crate::label_values::{Decisions, LabelValues, Values};
 use ht_conv::sent;
 use ht_landing::Landing;
 use ht_rate::Rate;
@@ -20,10 +22,13 @@ use std::alloc::{AllocError, Global};
 ///
 /// It holds for every symbol, so a coded bit of a frame is found without a division.
 #[derive(Drop)]
-pub(crate) struct Share {
-    pub(crate) rate: Rate,
-    pub(crate) erased: u128,
-    pub(crate) encoder: u8,
+pub struct Share {
+    /// The rate.
+    pub rate: Rate,
+    /// Bit c is set where subcarrier c is erased.
+    pub erased: u128,
+    /// The encoder, 0 or 1.
+    pub encoder: u8,
     pub(crate) places: Vec<LabelBit>,
     pub(crate) ghost there: { encoder < encoders_of rate },
     pub(crate) ghost places_are: { places.items ≡ label_bits_to rate erased encoder (share_of rate) },
@@ -71,30 +76,9 @@ fn first_places(
     Ok(places)
 }
 
-// What a label says of a coded bit. Of a whole share no place needs to be asked whether it is lost.
-#[inline(always)]
-fn bit_from(place: LabelBit, label: u8, whole: bool) -> ReceivedBit
-    requires shift { place.shift < 8 }
-    requires whole { whole ≡ true → place.lost ≡ false }
-    ensures { known_of result ≡ bit_in place label }
-{
-    if !whole && place.lost {
-        ReceivedBit::Erased
-    } else if label >> place.shift & 1 == 1 {
-        ReceivedBit::One
-    } else {
-        ReceivedBit::Zero
-    }
-}
-
 impl Share {
     /// The share of an encoder at a rate, where these subcarriers are erased. The only refusal is lack of memory.
-    pub(crate) fn of(
-        alloc: Global,
-        rate: &Rate,
-        erased: u128,
-        encoder: u8,
-    ) -> Result<Share, AllocError>
+    pub fn of(alloc: Global, rate: &Rate, erased: u128, encoder: u8) -> Result<Share, AllocError>
         requires { encoder < encoders_of rate.now }
         ensures rate { IfOk result (λ share. share.rate ≡ rate.now) }
         ensures erased { IfOk result (λ share. share.erased ≡ erased) }
@@ -109,100 +93,92 @@ impl Share {
         })
     }
 
-    // What the labels say of the coded bit at a place of a symbol's share.
+    // What is known of the coded bit at a place of a symbol's share.
     #[inline(always)]
-    fn bit(
+    fn bit<L: LabelValues>(
         &self,
         places: &[LabelBit],
-        labels: &[u8],
+        labels: &L,
         per_symbol: usize,
         symbol: usize,
         place: usize,
         symbols: usize,
-        whole: bool,
-    ) -> ReceivedBit
+    ) -> L::Value
         requires places { places.now ≡ self.now.places.items }
-        requires labels { length labels.now ≡ symbols * labels_per_symbol self.now.rate }
+        requires labels { HasSymbols (L.has labels.now) self.now.rate self.now.erased self.now.encoder symbols }
         requires few { symbols ≤ 2 ^ 20 }
         requires per_symbol { per_symbol ≡ labels_per_symbol self.now.rate }
         requires symbol { symbol < symbols }
         requires place { place < share_of self.now.rate }
-        requires whole { whole ≡ true → self.now.erased ≡ 0 }
-        ensures { known_of result ≡ received_at self.now.rate self.now.erased labels.now self.now.encoder (symbol * share_of self.now.rate + place) }
+        ensures { result ≡ known_at (L.known labels.now) self.now.rate self.now.erased self.now.encoder (symbol * share_of self.now.rate + place) }
     {
         let place = places[place];
-        bit_from(
-            place,
-            labels[symbol * per_symbol + usize::from(place.label)],
-            whole,
-        )
+        labels.known(symbol * per_symbol + usize::from(place.label), place)
     }
 
-    // Appends what the labels say of a symbol's first coded bits, which come next.
+    // Appends what is known of a symbol's first coded bits, which come next.
     #[inline(always)]
-    fn push_symbol(
+    fn push_symbol<L: LabelValues>(
         &self,
-        bits: &mut Vec<ReceivedBit>,
-        labels: &[u8],
+        bits: &mut Vec<L::Value>,
+        labels: &L,
         symbols: usize,
         symbol: usize,
         count: usize,
-        whole: bool,
     )
-        requires labels { length labels.now ≡ symbols * labels_per_symbol self.now.rate }
+        requires labels { HasSymbols (L.has labels.now) self.now.rate self.now.erased self.now.encoder symbols }
         requires few { symbols ≤ 2 ^ 20 }
         requires share { count ≤ share_of self.now.rate }
         requires within { symbol * share_of self.now.rate + count ≤ symbols * share_of self.now.rate }
-        requires whole { whole ≡ true → self.now.erased ≡ 0 }
         requires room { symbol * share_of self.now.rate + count ≤ vec_capacity bits.old }
-        requires so_far { map known_of bits.old.items
-            ≡ map (received_at self.now.rate self.now.erased labels.now self.now.encoder) (range_with_len 0 (symbol * share_of self.now.rate)) }
-        ensures items { map known_of bits.new.items
-            ≡ map (received_at self.now.rate self.now.erased labels.now self.now.encoder) (range_with_len 0 (symbol * share_of self.now.rate + count)) }
+        requires so_far { bits.old.items
+            ≡ map (known_at (L.known labels.now) self.now.rate self.now.erased self.now.encoder) (range_with_len 0 (symbol * share_of self.now.rate)) }
+        ensures items { bits.new.items
+            ≡ map (known_at (L.known labels.now) self.now.rate self.now.erased self.now.encoder) (range_with_len 0 (symbol * share_of self.now.rate + count)) }
         ensures room { vec_capacity bits.new ≡ vec_capacity bits.old }
     {
         let places = self.places.as_slice();
         let per_symbol = usize::from(self.rate.data_carriers()) * usize::from(self.rate.streams());
         for place in 0..count {
-            bits.push_reserved(self.bit(places, labels, per_symbol, symbol, place, symbols, whole));
+            bits.push_reserved(self.bit(places, labels, per_symbol, symbol, place, symbols));
         }
     }
 
-    // What the labels of some symbols say of the encoder's first coded bits: of whole symbols, and of a part of the next.
+    // What is known of the encoder's first coded bits: of those of whole symbols, and of a part of the next.
     #[inline(always)]
-    fn received(
+    fn received<L: LabelValues>(
         &self,
         alloc: Global,
         symbols: usize,
-        labels: &[u8],
+        labels: &L,
         count: usize,
-        whole: bool,
-    ) -> Result<Vec<ReceivedBit>, AllocError>
-        requires labels { length labels.now ≡ symbols * labels_per_symbol self.now.rate }
+    ) -> Result<Vec<L::Value>, AllocError>
+        requires labels { HasSymbols (L.has labels.now) self.now.rate self.now.erased self.now.encoder symbols }
         requires count { count ≤ symbols * share_of self.now.rate }
         requires few { symbols ≤ 2 ^ 20 }
-        requires whole { whole ≡ true → self.now.erased ≡ 0 }
-        ensures { IfOk result (λ bits. map known_of bits.items
-            ≡ map (received_at self.now.rate self.now.erased labels.now self.now.encoder) (range_with_len 0 count)) }
+        ensures { IfOk result (λ bits. bits.items
+            ≡ map (known_at (L.known labels.now) self.now.rate self.now.erased self.now.encoder) (range_with_len 0 count)) }
     {
         let share = self.places.len();
         let mut bits = Vec::with_capacity(alloc, count)?;
         for symbol in 0..count / share {
-            self.push_symbol(&mut bits, labels, symbols, symbol, share, whole);
+            self.push_symbol(&mut bits, labels, symbols, symbol, share);
         }
-        self.push_symbol(
-            &mut bits,
-            labels,
-            symbols,
-            count / share,
-            count % share,
-            whole,
-        );
+        self.push_symbol(&mut bits, labels, symbols, count / share, count % share);
         Ok(bits)
     }
 
+    // The coded bits of a frame with this number of octets, which its symbols hold.
+    #[tactic(auto, using(ht_conv::proofs::Fitting::sent_fits), unfolding(ht_parse::specs::Streams::share_of))]
+    fn coded_bits(&self, octets: u16) -> usize
+        requires { 1 ≤ octets }
+        ensures value { result ≡ sent_count (pattern_of self.now.rate) (steps_of self.now.rate octets) }
+        ensures within { result ≤ symbols_of self.now.rate octets * share_of self.now.rate }
+    {
+        sent(self.rate.pattern(), self.rate.codeword_steps(octets)) as usize
+    }
+
     /// The received list of a frame with this number of octets. A whole share has loops of its own.
-    #[tactic(auto, using(ht_conv::proofs::Fitting::sent_fits), unfolding(ht_parse::specs::Streams::share_of, crate::specs::Received::received_of))]
     pub(crate) fn gathered(
         &self,
         alloc: Global,
@@ -215,12 +191,39 @@ impl Share {
             ≡ received_of self.now.rate octets self.now.erased labels.now self.now.encoder) }
     {
         let symbols = self.rate.symbols(octets) as usize;
-        let count = sent(self.rate.pattern(), self.rate.codeword_steps(octets)) as usize;
+        let count = self.coded_bits(octets);
         if self.erased == 0 {
-            self.received(alloc, symbols, labels, count, true)
+            let whole = true;
+            self.received(alloc, symbols, &Decisions { labels, whole }, count)
         } else {
-            self.received(alloc, symbols, labels, count, false)
+            let whole = false;
+            self.received(alloc, symbols, &Decisions { labels, whole }, count)
         }
+    }
+
+    /// What is known of the coded bits of a frame with this number of octets.
+    ///
+    /// `values` has a value for each label bit, N_SYM * N_CBPS in the order symbol, data subcarrier, stream, bit. A coded
+    /// bit on an erased subcarrier has the value `lost`. The only refusal is lack of memory.
+    pub fn values<V: Copy>(
+        &self,
+        alloc: Global,
+        octets: u16,
+        values: &[V],
+        lost: V,
+    ) -> Result<Vec<V>, AllocError>
+        requires some { 1 ≤ octets }
+        requires values { length values.now ≡ labels_in_frame self.now.rate octets * label_bits_of self.now.rate }
+        ensures { IfOk result (λ found. found.items
+            ≡ values_of lost self.now.rate octets self.now.erased values.now self.now.encoder) }
+    {
+        let symbols = self.rate.symbols(octets) as usize;
+        let labels = Values {
+            values,
+            lost,
+            label_bits: self.rate.label_bits(),
+        };
+        self.received(alloc, symbols, &labels, self.coded_bits(octets))
     }
 
     /// The codeword of a frame with this number of octets, decoded.

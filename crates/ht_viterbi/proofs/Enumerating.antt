@@ -11,8 +11,8 @@ use Rattle.ht_nearest.specs.Nearest.{Enumerates, first_nearest}
 use Rattle.ht_nearest.proofs.Bests as bests
 use Rattle.ht_nearest.proofs.Bests.{Among, Among-Contains, Contains-Among}
 use Rattle.ht_nearest.proofs.Members.{among_left, among_right, among_either, among_map, mapped}
-use Rattle.ht_viterbi.specs.Decoded.{bit_lists, terminated_inputs, decoded}
-use Rattle.ht_viterbi.specs.Inputs.{IsDecoded, distance, is_before, is_terminated, tail}
+use Rattle.ht_viterbi.specs.Decoded.{bit_lists, cheapest, decoded, terminated_inputs}
+use Rattle.ht_viterbi.specs.Inputs.{IsCheapest, IsDecoded, cost_of, is_before, is_terminated, place_cost, tail}
 use Rattle.ht_viterbi.proofs.Orders.{input-order, zeros-end}
 
 abbrev zero_first : List Bool → List Bool
@@ -69,12 +69,16 @@ enumerated steps some = record {
   whole = λ x is. Contains-Among (terminated_inputs steps) x (whole steps x some is);
 }
 
+pub cheapest_is : {P : Type 0} (cost : P → Bool → ℕ) (steps : ℕ) (p : Pattern) (received : List P) (u : List Bool)
+    → tail ≤ steps → IsCheapest cost steps p received u → cheapest cost steps p received ≡ u
+unfolding cheapest
+cheapest_is cost steps p received u some is =
+    ap (λ (o : Option (List Bool)). unwrap_or o [])
+    (bests.finds (is_terminated steps) (cost_of cost p received) is_before (input-order steps) (terminated_inputs steps) u (enumerated steps some) is)
+
 pub decoded_is : (steps : ℕ) (p : Pattern) (received : List (Option Bool)) (u : List Bool)
     → tail ≤ steps → IsDecoded steps p received u → decoded steps p received ≡ u
-unfolding decoded
-decoded_is steps p received u some is =
-    ap (λ (o : Option (List Bool)). unwrap_or o [])
-    (bests.finds (is_terminated steps) (distance p received) is_before (input-order steps) (terminated_inputs steps) u (enumerated steps some) is)
+decoded_is = cheapest_is place_cost
 
 -- there is a terminated input
 bit_lists_some : (n : ℕ) → 0 < length (bit_lists n)
@@ -85,13 +89,18 @@ bit_lists_some (suc n) =
 inputs_some : (steps : ℕ) → 0 < length (terminated_inputs steps)
 inputs_some steps = omega (arith, length-map (bit_lists (steps - tail)) (λ u. u ++ replicate tail false), bit_lists_some (steps - tail))
 
-found : (steps : ℕ) (p : Pattern) (received : List (Option Bool)) (o : Option (List Bool)) → tail ≤ steps
-    → first_nearest (distance p received) is_before (terminated_inputs steps) ≡ o → IsDecoded steps p received (unwrap_or o [])
-found steps p received None some e = absurd (bests.best_of_some (distance p received) is_before (terminated_inputs steps) (inputs_some steps) e)
-found steps p received (Some u) some e =
-    bests.found (is_terminated steps) (distance p received) is_before (input-order steps) (terminated_inputs steps) u (enumerated steps some) e
+found : {P : Type 0} (cost : P → Bool → ℕ) (steps : ℕ) (p : Pattern) (received : List P) (o : Option (List Bool)) → tail ≤ steps
+    → first_nearest (cost_of cost p received) is_before (terminated_inputs steps) ≡ o → IsCheapest cost steps p received (unwrap_or o [])
+found cost steps p received None some e =
+    absurd (bests.best_of_some (cost_of cost p received) is_before (terminated_inputs steps) (inputs_some steps) e)
+found cost steps p received (Some u) some e =
+    bests.found (is_terminated steps) (cost_of cost p received) is_before (input-order steps) (terminated_inputs steps) u (enumerated steps some) e
+
+pub cheapest_first : {P : Type 0} (cost : P → Bool → ℕ) (steps : ℕ) (p : Pattern) (received : List P)
+    → tail ≤ steps → IsCheapest cost steps p received (cheapest cost steps p received)
+unfolding cheapest
+cheapest_first cost steps p received some =
+    found cost steps p received (first_nearest (cost_of cost p received) is_before (terminated_inputs steps)) some refl
 
 pub decoded_near : (steps : ℕ) (p : Pattern) (received : List (Option Bool)) → tail ≤ steps → IsDecoded steps p received (decoded steps p received)
-unfolding decoded
-decoded_near steps p received some =
-    found steps p received (first_nearest (distance p received) is_before (terminated_inputs steps)) some refl
+decoded_near = cheapest_first place_cost

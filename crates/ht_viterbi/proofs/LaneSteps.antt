@@ -5,15 +5,14 @@ use Rattle.std.specs.Int.{bit_at}
 use Rattle.std.specs.Prelude.{if◌then◌else◌}
 use Rattle.std.proofs.lemmas.Bool.{cases_lt, le-leb, lt-leb, lt-ltb, le-ltb}
 use Rattle.std.proofs.lemmas.Nat.Bits.{bit_at-zero}
-use Rattle.ht_viterbi.specs.Trellis.{StepPlaces, branch_cost, way, chosen, lesser, is_free, least_from, chosen_at}
-use Rattle.ht_viterbi.specs.Lanes.{HasLanes, IsClose, rise}
-use Rattle.ht_viterbi.proofs.Steps.{branch-le}
+use Rattle.ht_viterbi.specs.Trellis.{StepCosts, branch_cost, way, chosen, lesser, is_free, least_from, chosen_at}
+use Rattle.ht_viterbi.specs.Lanes.{HasLanes, IsClose, IsLight, rise}
 
 zero-number : (z n b c t : ℕ) → z ≡ (n + b) % 256 → n ≡ c → c ≡ t % 256 → (w : ℕ) → w ≡ b + t → z ≡ w % 256
 zero-number z n b c t e f g w h = omega arith
 
 -- the ways by a 0
-pub zero-lanes : (costs added next ways : List ℕ) (table : ℕ → ℕ) (pair : StepPlaces)
+pub zero-lanes : (costs added next ways : List ℕ) (table : ℕ → ℕ) (pair : StepCosts)
     → HasLanes costs (λ k. table k % 256) → HasLanes added (λ k. branch_cost pair k false)
     → HasLanes next (λ k. slice_index costs (k / 2)) → HasLanes ways (λ k. (slice_index next k + slice_index added k) % 256)
     → HasLanes ways (λ k. way table pair k false % 256)
@@ -31,14 +30,14 @@ ahead-number : (a d u v r x y s t : ℕ) → a ≡ (d + r) % 256 → d ≡ (u + 
 ahead-number a d u v r x y s t e f g h i few = omega arith
 
 -- how much farther the ways by a 1 are, modulo 256
-abbrev pub IsAhead : List ℕ → (ℕ → ℕ) → StepPlaces → Type 0
+abbrev pub IsAhead : List ℕ → (ℕ → ℕ) → StepCosts → Type 0
 IsAhead ahead table pair = HasLanes ahead (λ k. (way table pair k true % 256 + (256 - way table pair k false % 256)) % 256)
 
-pub ahead-lanes : (costs upper apart spread more ahead : List ℕ) (table : ℕ → ℕ) (pair : StepPlaces) → HasLanes costs (λ k. table k % 256)
+pub ahead-lanes : (costs upper apart spread more ahead : List ℕ) (table : ℕ → ℕ) (pair : StepCosts) → IsLight pair → HasLanes costs (λ k. table k % 256)
     → HasLanes upper (λ k. slice_index costs (k % 32 + 32)) → HasLanes apart (λ k. (slice_index upper k + (256 - slice_index costs k)) % 256)
     → HasLanes spread (λ k. slice_index apart (k / 2)) → HasLanes more (rise pair)
     → HasLanes ahead (λ k. (slice_index spread k + slice_index more k) % 256) → IsAhead ahead table pair
-ahead-lanes costs upper apart spread more ahead table pair held ups aparts spreads mores is = record {
+ahead-lanes costs upper apart spread more ahead table pair light held ups aparts spreads mores is = record {
   count = is.count;
   lane = λ k lt.
       let half : (k / 2) % 32 ≡ k / 2 = omega arith in
@@ -50,7 +49,7 @@ ahead-lanes costs upper apart spread more ahead table pair held ups aparts sprea
       spreads.lane k lt ∙ aparts.lane (k / 2) low in
       ahead-number (slice_index ahead k) (slice_index spread k) (slice_index upper (k / 2)) (slice_index costs (k / 2)) (slice_index more k)
       (branch_cost pair k true) (branch_cost pair k false) (table (k / 2 + 32)) (table (k / 2))
-      (is.lane k lt) apart_is up (held.lane (k / 2) low) (mores.lane k lt) (branch-le pair k false);
+      (is.lane k lt) apart_is up (held.lane (k / 2) low) (mores.lane k lt) (light k false);
 }
 
 below : (d a b : ℕ) → d ≡ (a % 256 + (256 - b % 256)) % 256 → b < a + 128 → a < b → 128 ≤ d
@@ -66,13 +65,13 @@ sign d a b e close = elim (cases_lt a b) [
   | inr more ↦ lt-leb 128 d (above d a b e close.1 more) ∙ sym (le-ltb a b more)
 ]
 
-sign-lanes : (ahead : List ℕ) (table : ℕ → ℕ) (pair : StepPlaces) → IsAhead ahead table pair → IsClose table pair
+sign-lanes : (ahead : List ℕ) (table : ℕ → ℕ) (pair : StepCosts) → IsAhead ahead table pair → IsClose table pair
     → (k : ℕ) → k < 64 → nat_le 128 (slice_index ahead k) ≡ chosen true (way table pair k false) (way table pair k true)
 sign-lanes ahead table pair is close k lt =
     sign (slice_index ahead k) (way table pair k true) (way table pair k false) (is.lane k lt) (close k lt)
 
 -- the choices where a 1 may be taken
-pub choices-lanes : (ahead : List ℕ) (word : ℕ) (table : ℕ → ℕ) (pair : StepPlaces) → IsAhead ahead table pair → IsClose table pair
+pub choices-lanes : (ahead : List ℕ) (word : ℕ) (table : ℕ → ℕ) (pair : StepCosts) → IsAhead ahead table pair → IsClose table pair
     → ((k : ℕ) → k < 64 → (bit_at word k ≡ 1) ↔ (nat_le 128 (slice_index ahead k) ≡ true))
     → (k : ℕ) → k < 64 → (bit_at word k ≡ 1) ↔ (chosen true (way table pair k false) (way table pair k true) ≡ true)
 choices-lanes ahead word table pair is close bits k lt =
@@ -90,7 +89,7 @@ zeros (suc n) zero = refl
 zeros (suc n) (suc k) = zeros n k
 
 -- and the lesser ways
-pub lesser-lanes : (zero_ways ahead fall lesser_ways : List ℕ) (table : ℕ → ℕ) (pair : StepPlaces)
+pub lesser-lanes : (zero_ways ahead fall lesser_ways : List ℕ) (table : ℕ → ℕ) (pair : StepCosts)
     → HasLanes zero_ways (λ k. way table pair k false % 256) → IsAhead ahead table pair → IsClose table pair
     → HasLanes fall (λ k. if nat_le 128 (slice_index ahead k) then slice_index ahead k else slice_index (replicate 64 0) k)
     → HasLanes lesser_ways (λ k. (slice_index zero_ways k + slice_index fall k) % 256)
@@ -111,14 +110,14 @@ pub no-choices : (zero_way one_way k : ℕ) → (bit_at 0 k ≡ 1) ↔ (chosen f
 no-choices zero_way one_way k = ((λ e. absurd (omega (arith, bit_at-zero k))), λ e. absurd (true≢false (sym e)))
 
 -- no step yet
-pub lanes-start : (pairs : List StepPlaces) → pairs ≡ [] → HasLanes (replicate 64 0) (λ k. least_from pairs k % 256)
+pub lanes-start : (pairs : List StepCosts) → pairs ≡ [] → HasLanes (replicate 64 0) (λ k. least_from pairs k % 256)
 lanes-start pairs none = record {
   count = refl;
-  lane = λ k lt. zeros 64 k ∙ sym (ap (λ (ps : List StepPlaces). least_from ps k % 256) none);
+  lane = λ k lt. zeros 64 k ∙ sym (ap (λ (ps : List StepCosts). least_from ps k % 256) none);
 }
 
 -- one step more
-pub lanes-step : (all pairs : List StepPlaces) (lanes : List ℕ) (free : Bool) (pair : StepPlaces) → all ≡ pair ∷ pairs → free ≡ is_free (length pairs)
+pub lanes-step : (all pairs : List StepCosts) (lanes : List ℕ) (free : Bool) (pair : StepCosts) → all ≡ pair ∷ pairs → free ≡ is_free (length pairs)
     → HasLanes lanes (λ k. lesser free (way (least_from pairs) pair k false) (way (least_from pairs) pair k true) % 256)
     → HasLanes lanes (λ k. least_from all k % 256)
 lanes-step all pairs lanes free pair cons is has = record {
@@ -126,10 +125,10 @@ lanes-step all pairs lanes free pair cons is has = record {
   lane = λ k lt.
       has.lane k lt
       ∙ (ap (λ (f : Bool). lesser f (way (least_from pairs) pair k false) (way (least_from pairs) pair k true) % 256) is
-      ∙ sym (ap (λ (ps : List StepPlaces). least_from ps k % 256) cons));
+      ∙ sym (ap (λ (ps : List StepCosts). least_from ps k % 256) cons));
 }
 
-pub chosen-lanes : (pairs : List StepPlaces) (word : ℕ) (free : Bool) (pair : StepPlaces) → free ≡ is_free (length pairs)
+pub chosen-lanes : (pairs : List StepCosts) (word : ℕ) (free : Bool) (pair : StepCosts) → free ≡ is_free (length pairs)
     → ((k : ℕ) → k < 64 → (bit_at word k ≡ 1) ↔ (chosen free (way (least_from pairs) pair k false) (way (least_from pairs) pair k true) ≡ true))
     → (k : ℕ) → k < 64 → (bit_at word k ≡ 1) ↔ (chosen_at pairs pair k ≡ true)
 chosen-lanes pairs word free pair is step k lt =

@@ -1,4 +1,4 @@
--- The trellis gives the first nearest of the terminated inputs.
+-- The trellis gives the first cheapest of the terminated inputs.
 use Rattle.std.proofs.Common.{◌≡◌, ◌⊎◌, ℕ, ◌+◌, ◌-◌, ◌<◌, ◌≤◌, suc, List, [], ◌∷◌, length, drop, Bool, true}
 use Rattle.std.proofs.Common.{false, refl, ap, sym, ◌∙◌, subst, arith, inl, inr, not, true≢false, ◌==◌}
 use Rattle.std.specs.Prelude.{IsTrue}
@@ -6,13 +6,13 @@ use Rattle.std.specs.List.{list_all}
 use Rattle.std.proofs.lemmas.Bool.{and_parts, and_from, not-true, not_from_false, eqb-true, eq-eqb, cases_lt}
 use Rattle.std.proofs.lemmas.Bool.Decides.{nat_tests}
 use Rattle.ht_viterbi.specs.Inputs.{is_terminated, is_before}
-use Rattle.ht_viterbi.specs.Trellis.{StepPlaces, moved, branch_cost, chosen, lesser, is_free, way, least_from, chosen_at, first_from}
+use Rattle.ht_viterbi.specs.Trellis.{StepCosts, moved, branch_cost, chosen, lesser, is_free, way, least_from, chosen_at, first_from}
 
--- how far the pairs are from what an input sends, from a state on
-abbrev pub distance_from : List StepPlaces → ℕ → List Bool → ℕ
-distance_from [] state bits = 0
-distance_from (pair ∷ pairs) state [] = 0
-distance_from (pair ∷ pairs) state (bit ∷ bits) = branch_cost pair state bit + distance_from pairs (moved state bit) bits
+-- what an input costs along the trellis, from a state on
+abbrev pub cost_from : List StepCosts → ℕ → List Bool → ℕ
+cost_from [] state bits = 0
+cost_from (pair ∷ pairs) state [] = 0
+cost_from (pair ∷ pairs) state (bit ∷ bits) = branch_cost pair state bit + cost_from pairs (moved state bit) bits
 
 -- the last six bits are 0
 abbrev pub Ends : List Bool → Type 0
@@ -79,7 +79,7 @@ pub lesser_is : (free : Bool) (ways : Bool → ℕ) (bit : Bool) → chosen free
 lesser_is free ways false e = rw e refl
 lesser_is free ways true e = rw e refl
 
--- a 1 is strictly nearer
+-- a 1 is strictly cheaper
 chosen_one : (free : Bool) (a b : ℕ) → chosen free a b ≡ true → (free ≡ true) × (b < a)
 chosen_one false a b e = absurd (true≢false (sym e))
 chosen_one true a b e = (refl, grind (arith, nat_tests))
@@ -90,20 +90,20 @@ few_not_free n few = grind (arith, nat_tests)
 not_free_few : (n : ℕ) → is_free n ≡ false → n < 6
 not_free_few n e = grind (arith, nat_tests)
 
-pub first-length : (pairs : List StepPlaces) (state : ℕ) → length (first_from pairs state) ≡ length pairs
+pub first-length : (pairs : List StepCosts) (state : ℕ) → length (first_from pairs state) ≡ length pairs
 first-length [] state = refl
 first-length (pair ∷ pairs) state = ap suc (first-length pairs _)
 
-pub first-distance : (pairs : List StepPlaces) (state : ℕ) → distance_from pairs state (first_from pairs state) ≡ least_from pairs state
-first-distance [] state = refl
-first-distance (pair ∷ pairs) state =
-    ap (λ n. branch_cost pair state (chosen_at pairs pair state) + n) (first-distance pairs (moved state (chosen_at pairs pair state)))
+pub first-least : (pairs : List StepCosts) (state : ℕ) → cost_from pairs state (first_from pairs state) ≡ least_from pairs state
+first-least [] state = refl
+first-least (pair ∷ pairs) state =
+    ap (λ n. branch_cost pair state (chosen_at pairs pair state) + n) (first-least pairs (moved state (chosen_at pairs pair state)))
     ∙ sym (lesser_is (is_free (length pairs)) (way (least_from pairs) pair state) (chosen_at pairs pair state) refl)
 
 pub not_chosen : (free : Bool) (a b : ℕ) → free ≡ false → chosen free a b ≡ false
 not_chosen free a b e = rw e refl
 
-pub first-ends : (pairs : List StepPlaces) (state : ℕ) → Ends (first_from pairs state)
+pub first-ends : (pairs : List StepCosts) (state : ℕ) → Ends (first_from pairs state)
 first-ends [] state = tt
 first-ends (pair ∷ pairs) state =
     let bit = chosen_at pairs pair state in (
@@ -111,19 +111,19 @@ first-ends (pair ∷ pairs) state =
       first-ends pairs (moved state bit),
     )
 
-pub least-nearest : (pairs : List StepPlaces) (state : ℕ) (other : List Bool) → length other ≡ length pairs
-    → Ends other → least_from pairs state ≤ distance_from pairs state other
-least-nearest [] state other len ends = omega arith
-least-nearest (pair ∷ pairs) state [] len ends = absurd (omega arith)
-least-nearest (pair ∷ pairs) state (bit ∷ bits) len ends =
-    let rest = least-nearest pairs (moved state bit) bits (omega arith) ends.1 in
+pub least-cheapest : (pairs : List StepCosts) (state : ℕ) (other : List Bool) → length other ≡ length pairs
+    → Ends other → least_from pairs state ≤ cost_from pairs state other
+least-cheapest [] state other len ends = omega arith
+least-cheapest (pair ∷ pairs) state [] len ends = absurd (omega arith)
+least-cheapest (pair ∷ pairs) state (bit ∷ bits) len ends =
+    let rest = least-cheapest pairs (moved state bit) bits (omega arith) ends.1 in
     let here = lesser_least (is_free (length pairs)) bit (way (least_from pairs) pair state)
     (λ none. ends.0 (omega (arith, not_free_few (length pairs) none))) in
     omega (arith, rest, here)
 
-pub first-first : (pairs : List StepPlaces) (state : ℕ) (other : List Bool)
+pub first-first : (pairs : List StepCosts) (state : ℕ) (other : List Bool)
     → length other ≡ length pairs → Ends other → IsTrue (is_before other (first_from pairs state))
-    → least_from pairs state < distance_from pairs state other
+    → least_from pairs state < cost_from pairs state other
 unfolding is_before
 first-first [] state [] len ends before = absurd (true≢false (sym before))
 first-first [] state (bit ∷ bits) len ends before = absurd (omega arith)
@@ -136,11 +136,11 @@ first-first (pair ∷ pairs) state (bit ∷ bits) len ends before =
       | inl at ↦
           let one = chosen_one free (ways false) (ways true) at.1 in
           let same : lesser free (ways false) (ways true) ≡ ways true = lesser_is free ways true at.1 in
-          let rest : least_from pairs (moved state false) ≤ distance_from pairs (moved state false) bits =
-          least-nearest pairs (moved state false) bits (omega arith) ends.1 in
+          let rest : least_from pairs (moved state false) ≤ cost_from pairs (moved state false) bits =
+          least-cheapest pairs (moved state false) bits (omega arith) ends.1 in
           rw at.0 (omega (arith, one.1, same, rest))
       | inr at ↦
-          let rest : least_from pairs (moved state bit) < distance_from pairs (moved state bit) bits =
+          let rest : least_from pairs (moved state bit) < cost_from pairs (moved state bit) bits =
           first-first pairs (moved state bit) bits (omega arith) ends.1
           (subst (λ (b : Bool). IsTrue (is_before bits (first_from pairs (moved state b)))) (sym at.0) at.1) in
           let here : lesser free (ways false) (ways true) ≡ ways bit = lesser_is free ways bit (sym at.0) in

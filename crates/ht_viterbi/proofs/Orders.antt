@@ -10,7 +10,7 @@ use Rattle.ht_conv.specs.Puncturing.{sent_count}
 use Rattle.ht_conv.specs.Code.{sent_bits}
 use Rattle.ht_conv.proofs.MidStream.{length-sent_bits, sent_bits-from, sent_from-equal}
 use Rattle.ht_nearest.specs.Nearest.{IsOrder}
-use Rattle.ht_viterbi.specs.Inputs.{is_terminated, is_before, place_cost, hamming, distance, IsDecoded}
+use Rattle.ht_viterbi.specs.Inputs.{is_terminated, is_before, place_cost, cost_of, hamming, distance, IsDecoded}
 use Rattle.ht_viterbi.proofs.Nearest.{terminated-parts}
 
 all-zero : (bits : List Bool) → list_all not bits ≡ true → bits ≡ replicate (length bits) false
@@ -88,7 +88,7 @@ hamming-zero (a ∷ xs) (b ∷ ys) len e =
     ap (λ (x : Bool). x ∷ xs) (place-zero a b (omega arith)) ∙ ap (λ (zs : List Bool). b ∷ zs) (hamming-zero xs ys (omega arith) (omega arith))
 
 pub distance-sent : (p : Pattern) (u : List Bool) → distance p (map Some (sent_bits p u)) u ≡ 0
-unfolding distance
+unfolding cost_of
 distance-sent p u = hamming-same (sent_bits p u)
 
 sent-equal : (p : Pattern) (u v : List Bool) → length u ≡ length v → sent_bits p u ≡ sent_bits p v → u ≡ v
@@ -99,7 +99,7 @@ not-zero zero apart = absurd (apart refl)
 not-zero (suc n) apart = omega arith
 
 pub sent-decoded : (steps : ℕ) (p : Pattern) (u : List Bool) → IsTrue (is_terminated steps u) → IsDecoded steps p (map Some (sent_bits p u)) u
-unfolding distance
+unfolding cost_of
 sent-decoded steps p u within = record {
   within = within;
   nearest = λ v member. omega (arith, hamming-same (sent_bits p u));

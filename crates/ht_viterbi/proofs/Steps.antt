@@ -1,5 +1,5 @@
 -- One step of the plain decoder, state by state.
-use Rattle.std.proofs.Common.{◌≡◌, ◌↔◌, ℕ, zero, suc, ◌+◌, ◌-◌, ◌%◌, ◌<◌, ◌≤◌, List, [], ◌∷◌, ◌++◌, Bool, true, false, Option, Some, None, length}
+use Rattle.std.proofs.Common.{◌≡◌, ◌↔◌, ℕ, zero, suc, ◌+◌, ◌-◌, ◌^◌, ◌<◌, ◌≤◌, List, [], ◌∷◌, ◌++◌, Bool, true, false, length}
 use Rattle.std.proofs.Common.{take, drop, set, get_or, slice_index, replicate, nat_lt, refl, ap, sym, ◌∙◌, subst, arith, add-one, append_assoc, ◌==◌}
 use Rattle.std.specs.Int.{bit_at}
 use Rattle.std.proofs.Math.Seq.{drop-cons, take-append_seam}
@@ -7,36 +7,33 @@ use Rattle.std.proofs.lemmas.Bool.{eqb-true, eq-eqb}
 use Rattle.std.proofs.lemmas.Bool.Decides.{nat_tests}
 use Rattle.std.proofs.lemmas.List.{drop-set, get_or_past}
 use Rattle.ht_rate.specs.declared.kinds.Pattern.{Pattern}
-use Rattle.ht_rate.specs.declared.kinds.Pattern.TheVariants.{Half, TwoThirds, ThreeQuarters, FiveSixths}
 use Rattle.ht_conv.specs.declared.puncture.Kept.{Kept}
-use Rattle.ht_conv.specs.declared.puncture.Kept.TheVariants.{Both}
-use Rattle.ht_conv.specs.Puncturing.{period_of, kept_of, kept_count, sent_count}
-use Rattle.ht_viterbi.specs.Inputs.{place_cost}
-use Rattle.ht_viterbi.specs.Trellis.{StepPlaces, pair_of, pair_at, pairs_from, moved, output_a, output_b, branch_cost}
+use Rattle.ht_conv.specs.Puncturing.{kept_of, kept_count, sent_count}
+use Rattle.ht_viterbi.specs.declared.bit_costs.BitCosts.{BitCosts}
+use Rattle.ht_viterbi.specs.Trellis.{StepCosts, bit_cost, free_bit, pair_of, pair_at, steps_from, moved, output_a, output_b, branch_cost}
 use Rattle.ht_viterbi.specs.Trellis.{way, chosen, lesser, is_free, least_from, chosen_at, first_from, AreChoices}
 use Rattle.ht_viterbi.proofs.Sending.{length-pairs, sent-grows}
 
-abbrev pub erased : StepPlaces
-erased = (None, None)
+abbrev pub free_step : StepCosts
+free_step = (free_bit, free_bit)
 
 pub moved-lt : (k : ℕ) (bit : Bool) → k < 64 → moved k bit < 64
 moved-lt k false p = omega arith
 moved-lt k true p = omega arith
 
 -- two tables that agree give the same ways
-pub way-same : (f g : ℕ → ℕ) → ((k : ℕ) → k < 64 → f k ≡ g k) → (pair : StepPlaces) (k : ℕ) (bit : Bool) → k < 64 → way f pair k bit ≡ way g pair k bit
+pub way-same : (f g : ℕ → ℕ) → ((k : ℕ) → k < 64 → f k ≡ g k) → (pair : StepCosts) (k : ℕ) (bit : Bool) → k < 64 → way f pair k bit ≡ way g pair k bit
 way-same f g same pair k bit p = ap (λ n. branch_cost pair k bit + n) (same (moved k bit) (moved-lt k bit p))
 
-place-le : (place : Option Bool) (bit : Bool) → place_cost place bit ≤ 1
-place-le None bit = omega arith
-place-le (Some false) false = omega arith
-place-le (Some false) true = omega arith
-place-le (Some true) false = omega arith
-place-le (Some true) true = omega arith
-
-pub branch-le : (pair : StepPlaces) (state : ℕ) (bit : Bool) → branch_cost pair state bit ≤ 2
+-- what a step costs where each of its bits costs less than 2^32
+pub branch-few : (a b : BitCosts) → ((bit : Bool) → bit_cost a bit ≤ 2 ^ 32) → ((bit : Bool) → bit_cost b bit ≤ 2 ^ 32)
+    → (state : ℕ) (bit : Bool) → branch_cost (a, b) state bit ≤ 2 ^ 33
 unfolding branch_cost
-branch-le pair state bit = omega (arith, place-le pair.0 (output_a state bit), place-le pair.1 (output_b state bit))
+branch-few a b few_a few_b state bit = omega (arith, few_a (output_a state bit), few_b (output_b state bit))
+
+pub free-few : (bit : Bool) → bit_cost free_bit bit ≤ 2 ^ 32
+free-few false = omega arith
+free-few true = omega arith
 
 lesser-le : (free : Bool) (a b m : ℕ) → a ≤ m → b ≤ m → lesser free a b ≤ m
 lesser-le false a b m p q = p
@@ -46,14 +43,14 @@ free-same : (n : ℕ) → nat_lt 6 (suc n) ≡ is_free n
 free-same n = grind (arith, nat_tests)
 
 -- the pairs of one more step before those at hand
-pub pairs-back : (pattern : Pattern) (received : List (Option Bool)) (steps at : ℕ) → 0 < at → at ≤ steps
-    → pairs_from pattern received (at - 1) (steps - (at - 1)) ≡ pair_at pattern received (at - 1) ∷ pairs_from pattern received at (steps - at)
-unfolding pairs_from
-pairs-back pattern received steps at p q =
+pub pairs-back : (pattern : Pattern) (places : List BitCosts) (steps at : ℕ) → 0 < at → at ≤ steps
+    → steps_from pattern places (at - 1) (steps - (at - 1)) ≡ pair_at free_bit pattern places (at - 1) ∷ steps_from pattern places at (steps - at)
+unfolding steps_from
+pairs-back pattern places steps at p q =
     let more : steps - (at - 1) ≡ suc (steps - at) = omega arith in
     let next : suc (at - 1) ≡ at = omega arith in
-    ap (λ (n : ℕ). pairs_from pattern received (at - 1) n) more
-    ∙ ap (λ (n : ℕ). pair_at pattern received (at - 1) ∷ pairs_from pattern received n (steps - at)) next
+    ap (λ (n : ℕ). steps_from pattern places (at - 1) n) more
+    ∙ ap (λ (n : ℕ). pair_at free_bit pattern places (at - 1) ∷ steps_from pattern places n (steps - at)) next
 
 -- where the places of the step before begin
 pub start-back : (pattern : Pattern) (steps at start width : ℕ) (kept : Kept) → 0 < at → at ≤ steps → start ≡ sent_count pattern at
@@ -69,23 +66,23 @@ start-back pattern steps at start width kept p q is kept-is width-is =
     (omega arith, omega arith)
 
 -- the pair that is read is that of the step
-pub pair-back : (pattern : Pattern) (received : List (Option Bool)) (steps at start : ℕ) (kept : Kept) (pair : StepPlaces) → 0 < at → at ≤ steps
-    → kept ≡ kept_of pattern (at - 1) → start ≡ sent_count pattern (at - 1) → pair ≡ pair_of kept received start
-    → pairs_from pattern received (at - 1) (steps - (at - 1)) ≡ pair ∷ pairs_from pattern received at (steps - at)
-pair-back pattern received steps at start kept pair p q kept-is start-is pair-is =
-    let same : pair ≡ pair_at pattern received (at - 1) =
-    pair-is ∙ (ap (λ (k : Kept). pair_of k received start) kept-is ∙ ap (λ (n : ℕ). pair_of (kept_of pattern (at - 1)) received n) start-is) in
-    pairs-back pattern received steps at p q ∙ ap (λ (z : StepPlaces). z ∷ pairs_from pattern received at (steps - at)) (sym same)
+pub pair-back : (pattern : Pattern) (places : List BitCosts) (steps at start : ℕ) (kept : Kept) (pair : StepCosts) → 0 < at → at ≤ steps
+    → kept ≡ kept_of pattern (at - 1) → start ≡ sent_count pattern (at - 1) → pair ≡ pair_of free_bit kept places start
+    → steps_from pattern places (at - 1) (steps - (at - 1)) ≡ pair ∷ steps_from pattern places at (steps - at)
+pair-back pattern places steps at start kept pair p q kept-is start-is pair-is =
+    let same : pair ≡ pair_at free_bit pattern places (at - 1) =
+    pair-is ∙ (ap (λ (k : Kept). pair_of free_bit k places start) kept-is ∙ ap (λ (n : ℕ). pair_of free_bit (kept_of pattern (at - 1)) places n) start-is) in
+    pairs-back pattern places steps at p q ∙ ap (λ (z : StepCosts). z ∷ steps_from pattern places at (steps - at)) (sym same)
 
-pub pairs-none : (pattern : Pattern) (received : List (Option Bool)) (steps : ℕ) → pairs_from pattern received steps (steps - steps) ≡ []
-unfolding pairs_from
-pairs-none pattern received steps = let none : steps - steps ≡ 0 = omega arith in ap (λ (n : ℕ). pairs_from pattern received steps n) none
+pub pairs-none : (pattern : Pattern) (places : List BitCosts) (steps : ℕ) → steps_from pattern places steps (steps - steps) ≡ []
+unfolding steps_from
+pairs-none pattern places steps = let none : steps - steps ≡ 0 = omega arith in ap (λ (n : ℕ). steps_from pattern places steps n) none
 
-pub free-back : (pattern : Pattern) (received : List (Option Bool)) (steps at : ℕ) → 0 < at → at ≤ steps
-    → nat_lt 6 (steps - (at - 1)) ≡ is_free (length (pairs_from pattern received at (steps - at)))
-free-back pattern received steps at p q =
+pub free-back : (pattern : Pattern) (places : List BitCosts) (steps at : ℕ) → 0 < at → at ≤ steps
+    → nat_lt 6 (steps - (at - 1)) ≡ is_free (length (steps_from pattern places at (steps - at)))
+free-back pattern places steps at p q =
     let more : steps - (at - 1) ≡ suc (steps - at) = omega arith in
-    ap (λ (n : ℕ). nat_lt 6 n) more ∙ (free-same (steps - at) ∙ ap is_free (sym (length-pairs pattern received at (steps - at))))
+    ap (λ (n : ℕ). nat_lt 6 n) more ∙ (free-same (steps - at) ∙ ap is_free (sym (length-pairs pattern places at (steps - at))))
 
 zeros : (n k : ℕ) → slice_index (replicate n 0) k ≡ 0
 zeros zero k = refl
@@ -96,14 +93,14 @@ pub zero-at : {xs : List ℕ} → xs ≡ replicate 64 0 → (k : ℕ) → slice_
 zero-at e k = ap (λ (xs : List ℕ). slice_index xs k) e ∙ zeros 64 k
 
 -- no step yet
-pub costs-start : (all : List StepPlaces) (costs : List ℕ) → all ≡ [] → costs ≡ replicate 64 0 → (k : ℕ) → k < 64 → slice_index costs k ≡ least_from all k
-costs-start all costs none zeroed k p = zero-at zeroed k ∙ sym (ap (λ (ps : List StepPlaces). least_from ps k) none)
+pub costs-start : (all : List StepCosts) (costs : List ℕ) → all ≡ [] → costs ≡ replicate 64 0 → (k : ℕ) → k < 64 → slice_index costs k ≡ least_from all k
+costs-start all costs none zeroed k p = zero-at zeroed k ∙ sym (ap (λ (ps : List StepCosts). least_from ps k) none)
 
-pub choices-start : (all : List StepPlaces) (words : List ℕ) → all ≡ [] → AreChoices all words
-choices-start all words none = subst (λ (ps : List StepPlaces). AreChoices ps words) (sym none) tt
+pub choices-start : (all : List StepCosts) (words : List ℕ) → all ≡ [] → AreChoices all words
+choices-start all words none = subst (λ (ps : List StepCosts). AreChoices ps words) (sym none) tt
 
 -- the table after one more step
-pub costs-step : (all pairs : List StepPlaces) (costs into : ℕ → ℕ) (free : Bool) (pair : StepPlaces) → all ≡ pair ∷ pairs → free ≡ is_free (length pairs)
+pub costs-step : (all pairs : List StepCosts) (costs into : ℕ → ℕ) (free : Bool) (pair : StepCosts) → all ≡ pair ∷ pairs → free ≡ is_free (length pairs)
     → ((k : ℕ) → k < 64 → costs k ≡ least_from pairs k)
     → ((k : ℕ) → k < 64 → into k ≡ lesser free (way costs pair k false) (way costs pair k true))
     → (k : ℕ) → k < 64 → into k ≡ least_from all k
@@ -112,18 +109,18 @@ costs-step all pairs costs into free pair cons is was step k p =
     ∙ ap (λ (f : Bool). lesser f (way costs pair k false) (way costs pair k true)) is
     ∙ ap (λ (a : ℕ). lesser (is_free (length pairs)) a (way costs pair k true)) (way-same costs (least_from pairs) was pair k false p)
     ∙ ap (λ (b : ℕ). lesser (is_free (length pairs)) (way (least_from pairs) pair k false) b) (way-same costs (least_from pairs) was pair k true p)
-    ∙ sym (ap (λ (xs : List StepPlaces). least_from xs k) cons)
+    ∙ sym (ap (λ (xs : List StepCosts). least_from xs k) cons)
 
 -- the choices after one more step
-pub choices-step : (all pairs : List StepPlaces) (words : List ℕ) (m at word : ℕ) (pair : StepPlaces) → all ≡ pair ∷ pairs → at ≡ m + 1 → m < length words
+pub choices-step : (all pairs : List StepCosts) (words : List ℕ) (m at word : ℕ) (pair : StepCosts) → all ≡ pair ∷ pairs → at ≡ m + 1 → m < length words
     → ((k : ℕ) → k < 64 → (bit_at word k ≡ 1) ↔ (chosen_at pairs pair k ≡ true))
     → AreChoices pairs (drop at words) → AreChoices all (drop m (set words m word))
 choices-step all pairs words m at word pair cons next p step rest =
     let list : drop m (set words m word) ≡ word ∷ drop at words = drop-set words m word p ∙ ap (λ n. word ∷ drop n words) (sym next) in
     let here : AreChoices (pair ∷ pairs) (word ∷ drop at words) = (step, rest) in
-    subst (λ (r : List ℕ). AreChoices all r) (sym list) (subst (λ (q : List StepPlaces). AreChoices q (word ∷ drop at words)) (sym cons) here)
+    subst (λ (r : List ℕ). AreChoices all r) (sym list) (subst (λ (q : List StepCosts). AreChoices q (word ∷ drop at words)) (sym cons) here)
 
-pub chosen-step : (pairs : List StepPlaces) (word : ℕ) (costs : ℕ → ℕ) (free : Bool) (pair : StepPlaces) → free ≡ is_free (length pairs)
+pub chosen-step : (pairs : List StepCosts) (word : ℕ) (costs : ℕ → ℕ) (free : Bool) (pair : StepCosts) → free ≡ is_free (length pairs)
     → ((k : ℕ) → k < 64 → costs k ≡ least_from pairs k)
     → ((k : ℕ) → k < 64 → (bit_at word k ≡ 1) ↔ (chosen free (way costs pair k false) (way costs pair k true) ≡ true))
     → (k : ℕ) → k < 64 → (bit_at word k ≡ 1) ↔ (chosen_at pairs pair k ≡ true)
@@ -134,18 +131,19 @@ chosen-step pairs word costs free pair is was step k q =
     ∙ ap (λ (b : ℕ). chosen (is_free (length pairs)) (way (least_from pairs) pair k false) b) (way-same costs (least_from pairs) was pair k true q) in
     ((λ e. sym same ∙ (step k q).0 e), λ e. (step k q).1 (same ∙ e))
 
--- no distance grows by more than two
-pub bound-step : (into costs : List ℕ) (free : Bool) (pair : StepPlaces) (b : ℕ) → length into ≡ 64 → ((k : ℕ) → slice_index costs k ≤ b)
+-- no cost grows by more than a step costs
+pub bound-step : (into costs : List ℕ) (free : Bool) (pair : StepCosts) (b most : ℕ) → length into ≡ 64 → ((k : ℕ) → slice_index costs k ≤ b)
+    → ((k : ℕ) (bit : Bool) → branch_cost pair k bit ≤ most)
     → ((k : ℕ) → k < 64 → slice_index into k ≡ lesser free (way (slice_index costs) pair k false) (way (slice_index costs) pair k true))
-    → (k : ℕ) → slice_index into k ≤ b + 2
-bound-step into costs free pair b long was step k = go (nat_lt k 64) refl
+    → (k : ℕ) → slice_index into k ≤ b + most
+bound-step into costs free pair b most long was few step k = go (nat_lt k 64) refl
   where
-    go : (t : Bool) → nat_lt k 64 ≡ t → slice_index into k ≤ b + 2
+    go : (t : Bool) → nat_lt k 64 ≡ t → slice_index into k ≤ b + most
     go true e =
         let small : k < 64 = grind (arith, nat_tests) in
-        let zero_way : way (slice_index costs) pair k false ≤ b + 2 = omega (arith, branch-le pair k false, was (moved k false)) in
-        let one_way : way (slice_index costs) pair k true ≤ b + 2 = omega (arith, branch-le pair k true, was (moved k true)) in
-        rw (step k small) (lesser-le free _ _ (b + 2) zero_way one_way)
+        let zero_way : way (slice_index costs) pair k false ≤ b + most = omega (arith, few k false, was (moved k false)) in
+        let one_way : way (slice_index costs) pair k true ≤ b + most = omega (arith, few k true, was (moved k true)) in
+        rw (step k small) (lesser-le free _ _ (b + most) zero_way one_way)
     go false e = let large : 64 ≤ k = grind (arith, nat_tests) in let past : slice_index into k ≡ 0 = get_or_past into k 0 (omega arith) in omega (arith, past)
 
 same-bit : (a b : Bool) (n : ℕ) → a ≡ (n == 1) → (n ≡ 1) ↔ (b ≡ true) → a ≡ b
@@ -154,18 +152,18 @@ same-bit false true n p q = p ∙ eq-eqb n 1 (q.1 refl)
 same-bit false false n p q = refl
 
 -- the walk takes the bit that the word has
-pub word-taken : (pairs : List StepPlaces) (words : List ℕ) (at state : ℕ) (bit : Bool) → at < length words → length pairs ≡ length words → state < 64
+pub word-taken : (pairs : List StepCosts) (words : List ℕ) (at state : ℕ) (bit : Bool) → at < length words → length pairs ≡ length words → state < 64
     → AreChoices (drop at pairs) (drop at words)
     → bit ≡ (bit_at (get_or words at 0) state == 1)
     → (first_from (drop at pairs) state ≡ bit ∷ first_from (drop (at + 1) pairs) (moved state bit)) × AreChoices (drop (at + 1) pairs) (drop (at + 1) words)
 word-taken pairs words at state bit p len small are taken =
-    let ps : drop at pairs ≡ get_or pairs at erased ∷ drop (at + 1) pairs = rw add-one (drop-cons pairs at erased (omega arith)) in
+    let ps : drop at pairs ≡ get_or pairs at free_step ∷ drop (at + 1) pairs = rw add-one (drop-cons pairs at free_step (omega arith)) in
     let ws : drop at words ≡ get_or words at 0 ∷ drop (at + 1) words = rw add-one (drop-cons words at 0 p) in
-    let both : AreChoices (get_or pairs at erased ∷ drop (at + 1) pairs) (get_or words at 0 ∷ drop (at + 1) words) =
-    subst (λ (q : List StepPlaces). AreChoices q (get_or words at 0 ∷ drop (at + 1) words)) ps (subst (λ (r : List ℕ). AreChoices (drop at pairs) r) ws are) in
-    let same : bit ≡ chosen_at (drop (at + 1) pairs) (get_or pairs at erased) state =
+    let both : AreChoices (get_or pairs at free_step ∷ drop (at + 1) pairs) (get_or words at 0 ∷ drop (at + 1) words) =
+    subst (λ (q : List StepCosts). AreChoices q (get_or words at 0 ∷ drop (at + 1) words)) ps (subst (λ (r : List ℕ). AreChoices (drop at pairs) r) ws are) in
+    let same : bit ≡ chosen_at (drop (at + 1) pairs) (get_or pairs at free_step) state =
     same-bit bit _ (bit_at (get_or words at 0) state) taken (both.0 state small) in (
-      ap (λ (q : List StepPlaces). first_from q state) ps ∙ ap (λ (b : Bool). b ∷ first_from (drop (at + 1) pairs) (moved state b)) (sym same),
+      ap (λ (q : List StepCosts). first_from q state) ps ∙ ap (λ (b : Bool). b ∷ first_from (drop (at + 1) pairs) (moved state b)) (sym same),
       both.1,
     )
 
@@ -174,13 +172,13 @@ pub written : (xs rest : List ℕ) (len : ℕ) → length xs ≡ len → take le
 written xs rest len same = ap (λ (n : ℕ). take n (xs ++ rest)) (sym same) ∙ take-append_seam xs rest
 
 -- the choices of the steps from one on
-pub choices-drop : (k : ℕ) (pairs : List StepPlaces) (words : List ℕ) → AreChoices pairs words → AreChoices (drop k pairs) (drop k words)
+pub choices-drop : (k : ℕ) (pairs : List StepCosts) (words : List ℕ) → AreChoices pairs words → AreChoices (drop k pairs) (drop k words)
 choices-drop zero pairs words are = are
 choices-drop (suc k) [] words are = tt
 choices-drop (suc k) (pair ∷ pairs) [] are = absurd are
 choices-drop (suc k) (pair ∷ pairs) (word ∷ words) are = choices-drop k pairs words are.1
 
-pub walked : (whole old new : List Bool) (bit : Bool) (state state' at : ℕ) (pairs : List StepPlaces) → new ≡ old ++ bit ∷ [] → state' ≡ moved state bit
+pub walked : (whole old new : List Bool) (bit : Bool) (state state' at : ℕ) (pairs : List StepCosts) → new ≡ old ++ bit ∷ [] → state' ≡ moved state bit
     → first_from (drop at pairs) state ≡ bit ∷ first_from (drop (at + 1) pairs) (moved state bit)
     → old ++ first_from (drop at pairs) state ≡ whole → new ++ first_from (drop (at + 1) pairs) state' ≡ whole
 walked whole old new bit state state' at pairs e s next was =

@@ -1,11 +1,13 @@
 -- The steps of a period, where the period begins at a step.
-use Rattle.std.proofs.Common.{◌≡◌, ◌∙◌, ℕ, zero, suc, ◌+◌, ◌-◌, ◌*◌, ◌%◌, ◌<◌, ◌≤◌, ◌≢◌, List, length, set, slice_index, get_or, Option, Bool}
-use Rattle.std.proofs.Common.{ap, sym, subst, arith, below_more, get_or-set_other, get_or-set_same}
+use Rattle.std.proofs.Common.{◌≡◌, ◌∙◌, ℕ, zero, suc, ◌+◌, ◌-◌, ◌*◌, ◌%◌, ◌<◌, ◌≤◌, ◌≢◌, List, [], ◌∷◌, length, set, get_or, Option, Bool}
+use Rattle.std.proofs.Common.{None, Some, true, false, ap, sym, subst, arith, below_more, get_or-set_other, get_or-set_same}
 use Rattle.ht_rate.specs.declared.kinds.Pattern.{Pattern}
 use Rattle.ht_rate.specs.declared.kinds.Pattern.TheVariants.{Half, TwoThirds, ThreeQuarters, FiveSixths}
 use Rattle.ht_conv.specs.declared.puncture.Kept.{Kept}
 use Rattle.ht_conv.specs.declared.puncture.Kept.TheVariants.{Both, A, B}
+use Rattle.ht_conv.specs.Code.{sent_bits}
 use Rattle.ht_conv.specs.Puncturing.{period_of, kept_of, kept_count, sent_count}
+use Rattle.ht_viterbi.specs.Inputs.{cost_of, distance, hamming, place_cost}
 use Rattle.ht_viterbi.specs.Lanes.{HasRows, number_of_pair}
 use Rattle.ht_viterbi.specs.Trellis.{pair_of, pair_at}
 use Rattle.ht_viterbi.proofs.Sending.{sent-grows}
@@ -48,13 +50,32 @@ sent-low pattern (suc steps) = omega (arith, sent-low pattern steps, kept-few (k
 
 -- one row more
 pub row-more : (pattern : Pattern) (received : List (Option Bool)) (rows : List ℕ) (at next row start : ℕ) (kept : Kept) → at < length rows → next ≡ at + 1
-    → row ≡ number_of_pair (pair_of kept received start) → kept ≡ kept_of pattern at → start ≡ sent_count pattern at
+    → row ≡ number_of_pair (pair_of None kept received start) → kept ≡ kept_of pattern at → start ≡ sent_count pattern at
     → HasRows pattern received rows at → HasRows pattern received (set rows at row) next
 row-more pattern received rows at next row start kept within more is kept-is start-is were =
-    let here : row ≡ number_of_pair (pair_at pattern received at) =
-    is ∙ (ap (λ (k : Kept). number_of_pair (pair_of k received start)) kept-is
-    ∙ ap (λ (n : ℕ). number_of_pair (pair_of (kept_of pattern at) received n)) start-is) in
+    let here : row ≡ number_of_pair (pair_at None pattern received at) =
+    is ∙ (ap (λ (k : Kept). number_of_pair (pair_of None k received start)) kept-is
+    ∙ ap (λ (n : ℕ). number_of_pair (pair_of None (kept_of pattern at) received n)) start-is) in
     subst (λ (n : ℕ). HasRows pattern received (set rows at row) n) (sym more)
     (below_more _ _
     (λ k h. let other : k ≢ at = omega arith in get_or-set_other rows at k row 0 other ∙ were k h)
     (get_or-set_same rows at row 0 within ∙ here))
+
+-- a hard place costs at most 1
+place-low : (place : Option Bool) (bit : Bool) → place_cost place bit ≤ 1
+place-low None bit = omega arith
+place-low (Some false) false = omega arith
+place-low (Some false) true = omega arith
+place-low (Some true) false = omega arith
+place-low (Some true) true = omega arith
+
+hamming-low : (received : List (Option Bool)) (sent : List Bool) → hamming received sent ≤ length received
+hamming-low [] sent = omega arith
+hamming-low (place ∷ received) [] = omega arith
+hamming-low (place ∷ received) (bit ∷ sent) = omega (arith, place-low place bit, hamming-low received sent)
+
+-- so a distance is at most twice the number of steps
+pub distance-low : (p : Pattern) (received : List (Option Bool)) (input : List Bool) (steps : ℕ) → length received ≡ sent_count p steps
+    → distance p received input ≤ 2 * steps
+unfolding cost_of
+distance-low p received input steps many = omega (arith, hamming-low received (sent_bits p input), many, sent-low p steps)

@@ -1,9 +1,9 @@
 -- Values of the definitions, by computation.
-use Rattle.std.proofs.Common.{◌≡◌, List, [], ◌∷◌, map, Bool, true, false, Option, Some, None, replicate, refl}
+use Rattle.std.proofs.Common.{◌≡◌, List, [], ◌∷◌, map, ℤ, pos, negsuc, Bool, true, false, Option, Some, None, replicate, refl}
 use mathlib.Core.Bool.{xor}
 use Rattle.ht_rate.specs.declared.kinds.Pattern.TheVariants.{Half, TwoThirds}
-use Rattle.ht_viterbi.specs.Decoded.{terminated_inputs, decoded}
-use Rattle.ht_viterbi.specs.Inputs.{is_terminated, is_before, distance}
+use Rattle.ht_viterbi.specs.Decoded.{cheapest, decoded, terminated_inputs}
+use Rattle.ht_viterbi.specs.Inputs.{is_terminated, is_before, cost_of, distance, weight_cost}
 
 abbrev zeros : List Bool
 zeros = replicate 7 false
@@ -19,32 +19,32 @@ abbrev second_word : List (Option Bool)
 second_word = map Some (true ∷ true ∷ false ∷ true ∷ true ∷ true ∷ true ∷ replicate 7 false)
 
 tied-zeros : distance Half first_word zeros ≡ 5
-unfolding distance xor
+unfolding cost_of xor
 tied-zeros = refl
 
 tied-one : distance Half first_word one_first ≡ 5
-unfolding distance xor
+unfolding cost_of xor
 tied-one = refl
 
 near-zeros : distance Half second_word zeros ≡ 6
-unfolding distance xor
+unfolding cost_of xor
 near-zeros = refl
 
 near-one : distance Half second_word one_first ≡ 4
-unfolding distance xor
+unfolding cost_of xor
 near-one = refl
 
 all-erased : distance Half (replicate 14 None) one_first ≡ 0
-unfolding distance xor
+unfolding cost_of xor
 all-erased = refl
 
 all-ones : distance Half (replicate 12 (Some true)) (replicate 6 false) ≡ 12
-unfolding distance xor
+unfolding cost_of xor
 all-ones = refl
 
 -- at 2/3 the input 1000000 sends 11 0 11 1 00 1 11
 punctured : distance TwoThirds (map Some (replicate 11 false)) one_first ≡ 8
-unfolding distance xor
+unfolding cost_of xor
 punctured = refl
 
 ends-well : is_terminated 7 one_first ≡ true
@@ -72,9 +72,33 @@ both-inputs : terminated_inputs 7 ≡ zeros ∷ one_first ∷ []
 both-inputs = refl
 
 first-decoded : decoded 7 Half first_word ≡ zeros
-unfolding decoded distance is_before xor
+unfolding cheapest cost_of is_before xor
 first-decoded = refl
 
 second-decoded : decoded 7 Half second_word ≡ one_first
-unfolding decoded distance is_before xor
+unfolding cheapest cost_of is_before xor
 second-decoded = refl
+
+-- the weights of the same bits: 9 at the ones of the first word, and -1 at its zeros
+abbrev weight : Bool → ℤ
+weight false = negsuc 0
+weight true = pos 9
+
+abbrev weights : List ℤ
+weights = map weight (true ∷ true ∷ false ∷ true ∷ true ∷ true ∷ replicate 8 false)
+
+weighed-zeros : cost_of weight_cost Half weights zeros ≡ 45
+unfolding cost_of xor
+weighed-zeros = refl
+
+weighed-one : cost_of weight_cost Half weights one_first ≡ 5
+unfolding cost_of xor
+weighed-one = refl
+
+no-weight : cost_of weight_cost Half (replicate 14 (pos 0)) one_first ≡ 0
+unfolding cost_of xor
+no-weight = refl
+
+weighed-decoded : cheapest weight_cost 7 Half weights ≡ one_first
+unfolding cheapest cost_of is_before xor
+weighed-decoded = refl

@@ -1,5 +1,6 @@
--- Terminated inputs of the encoder, and how far what they send lies from what was received.
-use Rattle.std.specs.Prelude.{ℕ, ◌+◌, ◌-◌, List, [], ◌∷◌, length, drop, Bool, true, false, not, ◌&&◌, ◌==◌, Option, Some, None}
+-- Terminated inputs of the encoder, and what the bits that they send cost at the places where they were received.
+use Rattle.std.specs.Prelude.{ℕ, suc, ◌+◌, ◌-◌, ℤ, pos, negsuc, List, [], ◌∷◌, length, drop, Bool, true, false, not, ◌&&◌, ◌==◌}
+use Rattle.std.specs.Prelude.{Option, Some, None}
 use Rattle.std.specs.List.{list_all}
 use Rattle.ht_rate.specs.declared.kinds.Pattern.{Pattern}
 use Rattle.ht_conv.specs.Code.{sent_bits}
@@ -21,15 +22,31 @@ place_cost (Some false) true = 1
 place_cost (Some true) false = 1
 place_cost (Some true) true = 0
 
+-- a weight is positive where a 1 is likelier and negative where a 0 is, and its size is what the other bit costs; 0 is
+-- an erased place
+abbrev pub weight_cost : ℤ → Bool → ℕ
+weight_cost (pos n) false = n
+weight_cost (pos n) true = 0
+weight_cost (negsuc n) false = 0
+weight_cost (negsuc n) true = suc n
+
+-- what bits cost at the places where they were received: the sum over the places
+abbrev pub total_cost : {P : Type 0} → (P → Bool → ℕ) → List P → List Bool → ℕ
+total_cost cost [] sent = 0
+total_cost cost (place ∷ received) [] = 0
+total_cost cost (place ∷ received) (bit ∷ sent) = cost place bit + total_cost cost received sent
+
+-- what the bits that an input sends cost
+unfoldable pub cost_of : {P : Type 0} → (P → Bool → ℕ) → Pattern → List P → List Bool → ℕ
+cost_of cost pattern received input = total_cost cost received (sent_bits pattern input)
+
 -- the Hamming distance: at how many places that aren't erased two lists differ
 abbrev pub hamming : List (Option Bool) → List Bool → ℕ
-hamming [] sent = 0
-hamming (place ∷ received) [] = 0
-hamming (place ∷ received) (bit ∷ sent) = place_cost place bit + hamming received sent
+hamming = total_cost place_cost
 
 -- the distance of what was received from what an input sends
-unfoldable pub distance : Pattern → List (Option Bool) → List Bool → ℕ
-distance pattern received input = hamming received (sent_bits pattern input)
+abbrev pub distance : Pattern → List (Option Bool) → List Bool → ℕ
+distance = cost_of place_cost
 
 -- an input comes before another where it has 0 at the first place where they differ
 unfoldable pub is_before : List Bool → List Bool → Bool
@@ -40,6 +57,10 @@ is_before (false ∷ input) (true ∷ other) = true
 is_before (true ∷ input) (false ∷ other) = false
 is_before (true ∷ input) (true ∷ other) = is_before input other
 
+-- a terminated input, none of which costs less, and none before it as little
+abbrev pub IsCheapest : {P : Type 0} → (P → Bool → ℕ) → ℕ → Pattern → List P → List Bool → Type 0
+IsCheapest cost steps pattern received input = IsFirstNearest (is_terminated steps) (cost_of cost pattern received) is_before input
+
 -- a terminated input, none of which is nearer to what was received, and none before it as near
 abbrev pub IsDecoded : ℕ → Pattern → List (Option Bool) → List Bool → Type 0
-IsDecoded steps pattern received input = IsFirstNearest (is_terminated steps) (distance pattern received) is_before input
+IsDecoded = IsCheapest place_cost

@@ -1,37 +1,49 @@
 //! What a step costs from each state, and how much more by a 1: a lane for each of the 64 states, for each pair of
 //! received places.
 ghost use Rattle.std.specs.Prelude.{◌≡◌, ◌<◌, ◌≤◌, ℕ, false, slice_index, length};
-ghost use Rattle.ht_viterbi.specs.Trellis.{branch_cost, StepPlaces};
-ghost use Rattle.ht_viterbi.specs.Lanes.{HasLanes, HoldsRows, pair_of_number, rise};
+ghost use Rattle.ht_viterbi.specs.Trellis.{StepCosts, branch_cost};
+ghost use Rattle.ht_viterbi.specs.Lanes.{HasLanes, HoldsRows, StepPlaces, hard_costs, rise, row_costs};
 
+use crate::bit_costs::BitCosts;
 use crate::lanes::differences;
-use crate::pairs::{StepPlaces, cost_of_branch};
+use crate::pairs::{StepCosts, cost_of_branch};
 use std::simd::prelude::*;
+
+// The received places of a step's bits A and B; None where one is erased or punctured.
+type StepPlaces = (Option<bool>, Option<bool>);
 
 /// A row of all states for each of the nine pairs.
 pub(crate) type Branches = [u8x64; 9];
 
+// What its places cost.
+fn costs_at(pair: StepPlaces) -> StepCosts
+    ensures { result ≡ hard_costs pair }
+{
+    (BitCosts::at(pair.0), BitCosts::at(pair.1))
+}
+
 // What a step of this pair costs from each state.
 fn costs_of_pair(pair: StepPlaces, bit: bool) -> u8x64
-    ensures { HasLanes result (λ k. branch_cost pair k bit) }
+    ensures { HasLanes result (λ k. branch_cost (hard_costs pair) k bit) }
 {
+    let step = costs_at(pair);
     let mut costs = [0u8; 64];
     for state in 0..64usize {
-        costs[state] = cost_of_branch(pair, state, bit) as u8;
+        costs[state] = cost_of_branch(step, state, bit) as u8;
     }
     u8x64::from_array(costs)
 }
 
 // What a 1 costs more than a 0 in a step of this pair, from each state, modulo 256.
 fn rises_of_pair(pair: StepPlaces) -> u8x64
-    ensures { HasLanes result (rise pair) }
+    ensures { HasLanes result (rise (hard_costs pair)) }
 {
     differences(costs_of_pair(pair, true), costs_of_pair(pair, false))
 }
 
 // What a 0 costs at each pair.
 pub(crate) fn costs_of_zero() -> Branches
-    ensures { HoldsRows result (λ pair k. branch_cost pair k false) }
+    ensures { HoldsRows result (λ step k. branch_cost step k false) }
 {
     [
         costs_of_pair((None, None), false),
@@ -67,7 +79,7 @@ pub(crate) fn rises() -> Branches
 #[inline(always)]
 pub(crate) fn lanes_of(branches: &Branches, row: u8) -> u8x64
     requires { row < 9 }
-    ensures { (value : StepPlaces → ℕ → ℕ) → HoldsRows branches.now value → HasLanes result (value (pair_of_number row)) }
+    ensures { (value : StepCosts → ℕ → ℕ) → HoldsRows branches.now value → HasLanes result (value (row_costs row)) }
 {
     branches[usize::from(row)]
 }

@@ -5,8 +5,8 @@ ghost use Rattle.std.specs.Prelude.{length, drop, map, replicate, slice_index};
 ghost use Rattle.std.specs.Int.{bit_at};
 ghost use Rattle.ht_conv.specs.Puncturing.{sent_count};
 ghost use Rattle.ht_viterbi.specs.Inputs.{IsDecoded, distance, tail};
-ghost use Rattle.ht_viterbi.specs.Trellis.{StepPlaces, branch_cost, way, chosen, lesser, least_from, AreChoices};
-ghost use Rattle.ht_viterbi.specs.Lanes.{HasLanes, HoldsRows, IsClose, pairs_at, rise};
+ghost use Rattle.ht_viterbi.specs.Trellis.{StepCosts, branch_cost, way, chosen, lesser, least_from, AreChoices};
+ghost use Rattle.ht_viterbi.specs.Lanes.{HasLanes, HoldsRows, IsClose, IsLight, rise, steps_at};
 ghost use Rattle.ht_viterbi.specs.Received.{known_of};
 
 use crate::branches::{Branches, costs_of_zero, lanes_of, rises};
@@ -24,12 +24,12 @@ use std::simd::prelude::*;
 // new costs, modulo 256, and the states at which a 1 is taken.
 #[inline(always)]
 fn step(costs: u8x64, zero: u8x64, more: u8x64, free: bool) -> (u8x64, u64)
-    ensures costs { (table : ℕ → ℕ) (pair : StepPlaces) → HasLanes costs (λ k. table k % 256)
-        → HasLanes zero (λ k. branch_cost pair k false) → HasLanes more (rise pair) → IsClose table pair
-        → HasLanes result.0 (λ k. lesser free (way table pair k false) (way table pair k true) % 256) }
-    ensures choices { (table : ℕ → ℕ) (pair : StepPlaces) → HasLanes costs (λ k. table k % 256)
-        → HasLanes zero (λ k. branch_cost pair k false) → HasLanes more (rise pair) → IsClose table pair
-        → (k : ℕ) → k < 64 → (bit_at result.1 k ≡ 1) ↔ (chosen free (way table pair k false) (way table pair k true) ≡ true) }
+    ensures costs { (table : ℕ → ℕ) (branches : StepCosts) → IsLight branches → HasLanes costs (λ k. table k % 256)
+        → HasLanes zero (λ k. branch_cost branches k false) → HasLanes more (rise branches) → IsClose table branches
+        → HasLanes result.0 (λ k. lesser free (way table branches k false) (way table branches k true) % 256) }
+    ensures choices { (table : ℕ → ℕ) (branches : StepCosts) → IsLight branches → HasLanes costs (λ k. table k % 256)
+        → HasLanes zero (λ k. branch_cost branches k false) → HasLanes more (rise branches) → IsClose table branches
+        → (k : ℕ) → k < 64 → (bit_at result.1 k ≡ 1) ↔ (chosen free (way table branches k false) (way table branches k true) ≡ true) }
 {
     let zero_ways = sums(after_zero(costs), zero);
     if free {
@@ -85,7 +85,7 @@ fn stretch(
     to: usize,
     free: bool,
 ) -> u8x64
-    requires zeros { HoldsRows zeros.now (λ pair k. branch_cost pair k false) }
+    requires zeros { HoldsRows zeros.now (λ step k. branch_cost step k false) }
     requires rises { HoldsRows rises.now rise }
     requires rows { (k : ℕ) → slice_index rows.now k < 9 }
     requires count { length choices.old ≡ length rows.now }
@@ -93,10 +93,10 @@ fn stretch(
     requires within { to ≤ length rows.now }
     requires tail { free ≡ false → length rows.now ≤ from + 6 }
     requires before { free ≡ true → to + 6 ≤ length rows.now }
-    requires behind { HasLanes behind (λ k. least_from (pairs_at rows.now to) k % 256) }
-    requires chosen { AreChoices (pairs_at rows.now to) (drop to choices.old) }
-    ensures costs { HasLanes result (λ k. least_from (pairs_at rows.now from) k % 256) }
-    ensures choices { AreChoices (pairs_at rows.now from) (drop from choices.new) }
+    requires behind { HasLanes behind (λ k. least_from (steps_at rows.now to) k % 256) }
+    requires chosen { AreChoices (steps_at rows.now to) (drop to choices.old) }
+    ensures costs { HasLanes result (λ k. least_from (steps_at rows.now from) k % 256) }
+    ensures choices { AreChoices (steps_at rows.now from) (drop from choices.new) }
     ensures length { length choices.new ≡ length choices.old }
 {
     let mut costs = behind;
@@ -117,8 +117,8 @@ fn backwards(rows: &[u8], choices: &mut [u64]) -> u32
     requires tail { 6 ≤ length rows.now }
     requires few { length rows.now ≤ 2 ^ 20 }
     requires count { length choices.old ≡ length rows.now }
-    ensures choices { AreChoices (pairs_at rows.now 0) choices.new }
-    ensures least { result ≡ least_from (pairs_at rows.now 0) 0 }
+    ensures choices { AreChoices (steps_at rows.now 0) choices.new }
+    ensures least { result ≡ least_from (steps_at rows.now 0) 0 }
 {
     let zeros = costs_of_zero();
     let rises = rises();

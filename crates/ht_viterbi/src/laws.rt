@@ -3,8 +3,10 @@ ghost use Rattle.std.specs.Prelude.{◌≡◌, ◌-◌, ◌≤◌, ℕ, List, Bo
 ghost use Rattle.ht_rate.specs.declared.kinds.Pattern.{Pattern};
 ghost use Rattle.ht_conv.specs.Code.{sent_bits};
 ghost use Rattle.ht_nearest.specs.Nearest.{IsOrder, Enumerates};
-ghost use Rattle.ht_viterbi.specs.Decoded.{terminated_inputs, decoded};
-ghost use Rattle.ht_viterbi.specs.Inputs.{tail, is_terminated, is_before, distance, IsDecoded};
+ghost use Rattle.ht_viterbi.specs.Decoded.{cheapest, decoded, terminated_inputs};
+ghost use Rattle.ht_viterbi.specs.Inputs.{tail, is_terminated, is_before, distance, IsCheapest, IsDecoded};
+
+use crate::place::Place;
 
 /// Terminated inputs have as many bits as there are steps, and end with six zeros.
 pub fn terminated()
@@ -40,4 +42,12 @@ pub fn decoded_is()
         → tail ≤ steps → IsDecoded steps p received u → decoded steps p received ≡ u }
     ensures some { (steps : ℕ) (p : Pattern) (received : List (Option Bool))
         → tail ≤ steps → IsDecoded steps p received (decoded steps p received) }
+{}
+
+/// What is cheapest is a function of the places.
+pub fn cheapest_is<P: Place>()
+    ensures answer { (steps : ℕ) (p : Pattern) (received : List P) (u : List Bool)
+        → tail ≤ steps → IsCheapest P.cost steps p received u → cheapest P.cost steps p received ≡ u }
+    ensures some { (steps : ℕ) (p : Pattern) (received : List P)
+        → tail ≤ steps → IsCheapest P.cost steps p received (cheapest P.cost steps p received) }
 {}

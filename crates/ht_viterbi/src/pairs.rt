@@ -1,14 +1,15 @@
-//! The two received bits of one step of the trellis, and what they cost.
-ghost use Rattle.std.specs.Prelude.{◌≡◌, ◌+◌, ◌<◌, ◌≤◌, length};
+//! The two coded bits of one step of the trellis, and what they cost.
+ghost use Rattle.std.specs.Prelude.{◌≡◌, ◌+◌, ◌<◌, ◌≤◌, ◌^◌, ℕ, Bool, length, map};
 ghost use Rattle.ht_conv.specs.Puncturing.{kept_count};
-ghost use Rattle.ht_viterbi.specs.Inputs.{place_cost};
-ghost use Rattle.ht_viterbi.specs.Trellis.{pair_of, output_a, output_b, branch_cost, moved};
+ghost use Rattle.ht_viterbi.specs.Trellis.{pair_of, output_a, output_b, branch_cost, costs_of, free_bit, moved};
 
+use crate::bit_costs::BitCosts;
+use crate::place::Place;
 use crate::words::is_set;
 use ht_conv::Kept;
 
-/// The received places of a step's bits A and B; None where one is erased or punctured.
-pub(crate) type StepPlaces = (Option<bool>, Option<bool>);
+/// What a step's bits A and B cost.
+pub(crate) type StepCosts = (BitCosts, BitCosts);
 
 // The coded bits A and B that each state gives at an input bit of 0: bit n of the word is that of state n.
 const A_OF_ZERO: u64 = 0x6699_9966_6699_9966;
@@ -25,26 +26,19 @@ pub(crate) fn places_of(kept: Kept) -> usize
     }
 }
 
-// The pair of a step whose places begin at `start`.
-pub(crate) fn pair_from(received: &[Option<bool>], start: usize, kept: Kept) -> StepPlaces
+// What a step costs whose places begin at `start`.
+pub(crate) fn costs_from<P: Place>(received: &[P], start: usize, kept: Kept) -> StepCosts
     requires { start + kept_count kept ≤ length received.now }
-    ensures { result ≡ pair_of kept received.now start }
+    ensures value { result ≡ pair_of free_bit kept (map (costs_of P.cost) received.now) start }
+    ensures bound { (state : ℕ) (bit : Bool) → branch_cost result state bit ≤ 2 ^ 33 }
 {
     match kept {
-        Kept::Both => (received[start], received[start + 1]),
-        Kept::A => (received[start], None),
-        Kept::B => (None, received[start]),
-    }
-}
-
-// Whether a received place counts against a bit.
-fn cost_of_place(place: Option<bool>, bit: bool) -> u32
-    ensures value { result ≡ place_cost place bit }
-    ensures bound { result ≤ 1 }
-{
-    match place {
-        None => 0,
-        Some(received) => u32::from(received != bit),
+        Kept::Both => (
+            BitCosts::at(received[start]),
+            BitCosts::at(received[start + 1]),
+        ),
+        Kept::A => (BitCosts::at(received[start]), BitCosts::free()),
+        Kept::B => (BitCosts::free(), BitCosts::at(received[start])),
     }
 }
 
@@ -64,14 +58,16 @@ fn coded_b(state: usize, bit: bool) -> bool
     is_set(B_OF_ZERO, state) != bit
 }
 
-// What a step from a state adds to the distance.
+// What a step from a state adds to the cost.
 #[tactic(auto, unfolding(crate::specs::Trellis::branch_cost))]
-pub(crate) fn cost_of_branch(pair: StepPlaces, state: usize, bit: bool) -> u32
+pub(crate) fn cost_of_branch(step: StepCosts, state: usize, bit: bool) -> u64
     requires { state < 64 }
-    ensures value { result ≡ branch_cost pair state bit }
-    ensures bound { result ≤ 2 }
+    ensures value { result ≡ branch_cost step state bit }
+    ensures bound { result ≤ 2 ^ 33 }
 {
-    cost_of_place(pair.0, coded_a(state, bit)) + cost_of_place(pair.1, coded_b(state, bit))
+    let a = step.0.of(coded_a(state, bit));
+    let b = step.1.of(coded_b(state, bit));
+    u64::from(a) + u64::from(b)
 }
 
 // The state after an input bit.

@@ -1,13 +1,14 @@
-//! The plain decoder: 64 costs a step.
+//! The plain decoder: 64 costs a step, for hard decisions and for weights alike.
 ghost use Rattle.std.specs.Prelude.{◌≡◌, ◌≢◌, ◌+◌, ◌-◌, ◌*◌, ◌^◌, ◌<◌, ◌≤◌, ◌↔◌, ℕ, true, false, IfOk};
 ghost use Rattle.std.specs.Prelude.{List, [], length, drop, replicate, slice_index, vec_capacity};
 ghost use Rattle.std.specs.Int.{bit_at};
 ghost use Rattle.ht_conv.specs.Puncturing.{sent_count};
-ghost use Rattle.ht_viterbi.specs.Inputs.{IsDecoded, distance, tail};
-ghost use Rattle.ht_viterbi.specs.Trellis.{way, chosen, lesser, least_from, first_from, AreChoices, pairs_from, moved, StepPlaces};
+ghost use Rattle.ht_viterbi.specs.Inputs.{IsCheapest, IsDecoded, cost_of, distance, tail};
+ghost use Rattle.ht_viterbi.specs.Trellis.{way, chosen, lesser, least_from, first_from, AreChoices, moved, StepCosts, word_steps};
 
-use crate::codeword::Codeword;
-use crate::pairs::{StepPlaces, cost_of_branch, pair_from, places_of, state_after};
+use crate::codeword::{Cheapest, Codeword};
+use crate::pairs::{StepCosts, cost_of_branch, costs_from, places_of, state_after};
+use crate::place::Place;
 use crate::walk::forwards;
 use crate::words::with_flag;
 use ht_bits::Bits;
@@ -15,18 +16,17 @@ use ht_conv::kept_at;
 use ht_rate::Pattern;
 use std::alloc::{AllocError, Global};
 
-// The distance by a first bit.
-fn way_of(costs: &[u32; 64], pair: StepPlaces, state: usize, bit: bool) -> u32
+// The cost by a first bit.
+fn way_of(costs: &[u64; 64], branches: StepCosts, state: usize, bit: bool) -> u64
     requires state { state < 64 }
-    requires bound { (k : ℕ) → slice_index costs.now k ≤ 2 ^ 30 }
-    ensures value { result ≡ way (slice_index costs.now) pair state bit }
-    ensures bound { result ≤ 2 ^ 30 + 2 }
+    requires bound { (k : ℕ) → slice_index costs.now k ≤ 2 ^ 60 }
+    ensures { result ≡ way (slice_index costs.now) branches state bit }
 {
-    cost_of_branch(pair, state, bit) + costs[state_after(state, bit)]
+    cost_of_branch(branches, state, bit) + costs[state_after(state, bit)]
 }
 
-// Whether a 1 is taken, and the distance of the bit that is taken.
-fn pick(free: bool, zero: u32, one: u32) -> (bool, u32)
+// Whether a 1 is taken, and the cost of the bit that is taken.
+fn pick(free: bool, zero: u64, one: u64) -> (bool, u64)
     ensures taken { result.0 ≡ chosen free zero one }
     ensures least { result.1 ≡ lesser free zero one }
 {
@@ -35,17 +35,17 @@ fn pick(free: bool, zero: u32, one: u32) -> (bool, u32)
 }
 
 // One step of the trellis. The answer has the states at which a 1 is taken.
-fn step(costs: &[u32; 64], pair: StepPlaces, free: bool, into: &mut [u32; 64]) -> u64
-    requires { (k : ℕ) → slice_index costs.now k ≤ 2 ^ 30 }
+fn step(costs: &[u64; 64], branches: StepCosts, free: bool, into: &mut [u64; 64]) -> u64
+    requires { (k : ℕ) → slice_index costs.now k ≤ 2 ^ 60 }
     ensures costs { (k : ℕ) → k < 64
-        → slice_index into.new k ≡ lesser free (way (slice_index costs.now) pair k false) (way (slice_index costs.now) pair k true) }
+        → slice_index into.new k ≡ lesser free (way (slice_index costs.now) branches k false) (way (slice_index costs.now) branches k true) }
     ensures choices { (k : ℕ) → k < 64 → (bit_at result k ≡ 1)
-        ↔ (chosen free (way (slice_index costs.now) pair k false) (way (slice_index costs.now) pair k true) ≡ true) }
+        ↔ (chosen free (way (slice_index costs.now) branches k false) (way (slice_index costs.now) branches k true) ≡ true) }
 {
     let mut choices = 0u64;
     for state in 0..64usize {
-        let zero = way_of(costs, pair, state, false);
-        let one = way_of(costs, pair, state, true);
+        let zero = way_of(costs, branches, state, false);
+        let one = way_of(costs, branches, state, true);
         let (taken, least) = pick(free, zero, one);
         choices = with_flag(choices, state, taken);
         into[state] = least;
@@ -54,18 +54,18 @@ fn step(costs: &[u32; 64], pair: StepPlaces, free: bool, into: &mut [u32; 64]) -
 }
 
 // No state costs anything at the end.
-fn no_costs() -> [u32; 64]
+fn no_costs() -> [u64; 64]
     ensures { result ≡ replicate 64 0 }
 {
     [0; 64]
 }
 
-// Fills in the choices of all steps, from the last to the first, and gives the least distance from state 0.
-fn backwards(pattern: Pattern, received: &[Option<bool>], choices: &mut [u64]) -> u32
+// Fills in the choices of all steps, from the last to the first, and gives the least cost from state 0.
+fn backwards<P: Place>(pattern: Pattern, received: &[P], choices: &mut [u64]) -> u64
     requires count { length received.now ≡ sent_count pattern (length choices.old) }
     requires few { length choices.old ≤ 2 ^ 20 }
-    ensures choices { AreChoices (pairs_from pattern received.now 0 (length choices.old)) choices.new }
-    ensures least { result ≡ least_from (pairs_from pattern received.now 0 (length choices.old)) 0 }
+    ensures choices { AreChoices (word_steps P.cost pattern received.now (length choices.old)) choices.new }
+    ensures least { result ≡ least_from (word_steps P.cost pattern received.now (length choices.old)) 0 }
 {
     let steps = choices.len();
     let mut costs = no_costs();
@@ -78,7 +78,7 @@ fn backwards(pattern: Pattern, received: &[Option<bool>], choices: &mut [u64]) -
         let mut into = no_costs();
         choices[at] = step(
             &costs,
-            pair_from(received, start, kept),
+            costs_from(received, start, kept),
             steps - at > 6,
             &mut into,
         );
@@ -87,12 +87,40 @@ fn backwards(pattern: Pattern, received: &[Option<bool>], choices: &mut [u64]) -
     costs[0]
 }
 
-/// Decodes a punctured codeword: the first terminated input whose coded bits are nearest to `received`.
+/// Decodes a punctured codeword from any places: the first terminated input whose coded bits cost least at `received`.
 ///
-/// `steps` is the length of the input with its tail of six zeros, from 6 to 524302, and `received` has the coded bits
-/// that `pattern` keeps of these steps, `None` where one is erased. This is the plain form of
-/// [`decode`](crate::decode): 64 costs and 64 comparisons a step. The only error is lack of memory, and nothing has
-/// changed then.
+/// `steps` is the length of the input with its tail of six zeros, from 6 to 524302, and `received` has the places of the
+/// coded bits that `pattern` keeps of these steps, A before B: hard decisions or weights. It has 64 costs and 64
+/// comparisons a step. The memory for all steps is taken first, eight octets a step and one for each bit of the answer;
+/// lack of it is the only error, and then nothing has changed.
+///
+/// IEEE Std 802.11-2012, clauses 18.3.5.6 and 20.3.11.6.
+pub fn decode_places<P: Place>(
+    alloc: Global,
+    steps: u32,
+    pattern: Pattern,
+    received: &[P],
+) -> Result<Cheapest, AllocError>
+    requires least { tail ≤ steps }
+    requires most { steps ≤ 524302 }
+    requires received { length received.now ≡ sent_count pattern steps }
+    ensures input { IfOk result (λ c. IsCheapest P.cost steps pattern received.now c.input) }
+    ensures cost { IfOk result (λ c. c.cost ≡ cost_of P.cost pattern received.now c.input) }
+    ensures steps { IfOk result (λ c. length c.input ≡ steps) }
+    ensures ending { IfOk result (λ c. drop (steps - tail) c.input ≡ replicate tail false) }
+{
+    let mut choices = Vec::from_elem(alloc, 0u64, steps as usize)?;
+    let mut input = Vec::with_capacity(alloc, steps as usize)?;
+    let cost = backwards(pattern, received, choices.as_mut_slice());
+    forwards(&choices, &mut input);
+    Ok(Cheapest {
+        input: Bits::from(input),
+        cost,
+    })
+}
+
+/// Decodes a punctured codeword as [`decode`](crate::decode) does, in the plain form of [`decode_places`]: 64 costs and 64
+/// comparisons a step.
 ///
 /// IEEE Std 802.11-2012, clauses 18.3.5.6 and 20.3.11.6.
 pub fn plain_decode(
@@ -109,12 +137,9 @@ pub fn plain_decode(
     ensures steps { IfOk result (λ c. length c.input ≡ steps) }
     ensures ending { IfOk result (λ c. drop (steps - tail) c.input ≡ replicate tail false) }
 {
-    let mut choices = Vec::from_elem(alloc, 0u64, steps as usize)?;
-    let mut input = Vec::with_capacity(alloc, steps as usize)?;
-    let distance = backwards(pattern, received, choices.as_mut_slice());
-    forwards(&choices, &mut input);
+    let nearest = decode_places(alloc, steps, pattern, received)?;
     Ok(Codeword {
-        input: Bits::from(input),
-        distance,
+        input: nearest.input,
+        distance: nearest.cost as u32,
     })
 }

@@ -1,5 +1,5 @@
 //! Which row of the table of branches each step of a word has.
-ghost use Rattle.std.specs.Prelude.{◌≡◌, ◌+◌, ◌%◌, ◌<◌, ◌≤◌, ◌^◌, ℕ, length, map, slice_index};
+ghost use Rattle.std.specs.Prelude.{◌≡◌, ◌+◌, ◌%◌, ◌<◌, ◌≤◌, ◌^◌, ℕ, None, length, map, slice_index};
 ghost use Rattle.ht_conv.specs.Puncturing.{kept_count, period_of, sent_count};
 ghost use Rattle.ht_viterbi.specs.Lanes.{HasRows, number_of_pair};
 ghost use Rattle.ht_viterbi.specs.Received.{known_of};
@@ -14,7 +14,7 @@ use ht_rate::Pattern;
 #[inline(always)]
 fn row_from(received: &[ReceivedBit], start: usize, kept: Kept) -> u8
     requires { start + kept_count kept ≤ length received.now }
-    ensures value { result ≡ number_of_pair (pair_of kept (map known_of received.now) start) }
+    ensures value { result ≡ number_of_pair (pair_of None kept (map known_of received.now) start) }
     ensures bound { result < 9 }
 {
     match kept {

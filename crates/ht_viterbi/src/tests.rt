@@ -1,7 +1,7 @@
 //! Worked words, and all inputs of short words tried in turn. Each call has ample memory.
 ghost use Rattle.std.specs.Prelude.{◌<◌, length};
 
-use crate::{Codeword, decode, plain_decode};
+use crate::{Cheapest, Codeword, Place, decode, decode_places, plain_decode};
 use ht_conv::{Kept, encode, kept_at, sent};
 use ht_rate::Pattern;
 use std::alloc::{AllocError, Global};
@@ -75,6 +75,45 @@ fn vectors(rt: HostRuntime) -> Result<(), Fail> {
             );
             assert_eq!(rt; codeword.distance, distance);
         }
+    }
+    Ok(())
+}
+
+// What the decoder of any places answers. A word of another length than asked for is an error.
+fn cheapest<P: Place>(
+    alloc: Global,
+    steps: u32,
+    pattern: Pattern,
+    received: &[P],
+) -> Result<Cheapest, AllocError> {
+    if steps < 6 || steps > 524_302 || received.len() as u64 != sent(pattern, steps) {
+        return Err(AllocError);
+    }
+    decode_places(alloc, steps, pattern, received)
+}
+
+#[test]
+fn weights(rt: HostRuntime) -> Result<(), Fail> {
+    let doubtful = [9, 9, -1, 9, 9, 9, -1, -1, -1, -1, -1, -1, -1, -1];
+    let mut lost = doubtful;
+    for place in [0, 1, 3, 4] {
+        lost[place] = 0;
+    }
+    let table: [(&[i32], &str, u64); 5] = [
+        (&doubtful, "1000000", 5),
+        // Now 0000000 costs 9, and 1000000 still 5.
+        (&lost, "1000000", 5),
+        (&[0; 14], "0000000", 0),
+        (&[i32::MIN; 14], "0000000", 0),
+        (&[i32::MAX; 14], "1000000", 4 * 2_147_483_647),
+    ];
+    for (weights, input, cost) in table {
+        let answer = cheapest(rt.alloc(), 7, Pattern::Half, weights)?;
+        assert_eq!(rt;
+            answer.input.as_slice(),
+            bits(rt.alloc(), input)?.as_slice()
+        );
+        assert_eq!(rt; answer.cost, cost);
     }
     Ok(())
 }

@@ -1,6 +1,6 @@
 //! The way forwards through the trellis.
 ghost use Rattle.std.specs.Prelude.{◌≡◌, ◌≤◌, List, [], length, vec_capacity};
-ghost use Rattle.ht_viterbi.specs.Trellis.{StepPlaces, first_from, AreChoices};
+ghost use Rattle.ht_viterbi.specs.Trellis.{StepCosts, first_from, AreChoices};
 
 use crate::pairs::state_after;
 use crate::words::is_set;
@@ -9,7 +9,7 @@ use crate::words::is_set;
 pub(crate) fn forwards(choices: &[u64], input: &mut Vec<bool>)
     requires room { length choices.now ≤ vec_capacity input.old }
     requires fresh { input.old.items ≡ [] }
-    ensures { (pairs : List StepPlaces) → length pairs ≡ length choices.now → AreChoices pairs choices.now → input.new.items ≡ first_from pairs 0 }
+    ensures { (steps : List StepCosts) → length steps ≡ length choices.now → AreChoices steps choices.now → input.new.items ≡ first_from steps 0 }
 {
     let mut state = 0usize;
     for word in choices {

@@ -1,4 +1,7 @@
-use Rattle.std.proofs.Common.{◌≡◌, ◌∙◌, ℕ, ◌+◌, ◌<◌, ◌≢◌, List, length, set, slice_index, arith, rules, get_or-set_other, get_or-set_same, below_more}
+use Rattle.std.proofs.Common.{◌≡◌, ◌∙◌, ℕ, ◌+◌, ◌<◌, ◌≢◌, List, length, set, slice_index, ap, sym, subst, arith, rules, get_or-set_other, get_or-set_same, below_more}
+use Rattle.ht_viterbi.specs.Lanes.{IsLight}
+use Rattle.ht_viterbi.specs.Trellis.{StepCosts, branch_cost}
+use Rattle.ht_viterbi.proofs.RowFacts.{hard-light}
 use Rattle.ht_viterbi.proofs.branches.costs_of_pair.Goals as goal
 
 -- one more lane
@@ -18,5 +21,16 @@ loop-state-preserved c =
           more _ c.loop-state.costs c.loop-state.state c.cost_of_branch.result (omega (arith, was.count)) c.cost_of_branch.ensures.value was.lane;
     }
 
+-- a hard step costs little
+pub overflow_cast-costs : goal.overflow_cast-costs
+overflow_cast-costs c =
+    let light : IsLight c.costs_at-step.result = subst IsLight (sym c.costs_at-step.ensures) (hard-light c.args.pair) in
+    omega (arith, light c.loop-state.state c.args.bit, c.cost_of_branch.ensures.value)
+
 pub returns : goal.returns
-returns c = let was = c.loop-state.invariant in record { count = was.count; lane = λ k lt. was.lane k (omega arith) }
+returns c =
+    let was = c.loop-state.invariant in
+    record {
+      count = was.count;
+      lane = λ k lt. was.lane k (omega arith) ∙ ap (λ (step : StepCosts). branch_cost step k c.args.bit) c.costs_at-step.ensures;
+    }

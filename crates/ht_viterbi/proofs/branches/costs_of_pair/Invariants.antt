@@ -5,5 +5,5 @@ use Rattle.ht_viterbi.proofs.branches.costs_of_pair.Given as goal
 abbrev pub invariant-loop-state : goal.invariant-loop-state
 invariant-loop-state l = record {
   count : length l.costs ≡ 64;
-  lane : (k : ℕ) → k < l.state → slice_index l.costs k ≡ branch_cost l.pair k l.bit;
+  lane : (k : ℕ) → k < l.state → slice_index l.costs k ≡ branch_cost l.step k l.bit;
 }

@@ -5,7 +5,7 @@ use Rattle.ht_viterbi.proofs.branches.costs_of_zero.Goals as goal
 
 pub returns : goal.returns
 returns c =
-    in-order (λ pair k. branch_cost pair k false) c.costs_of_pair.result c.costs_of_pair-2.result c.costs_of_pair-3.result
+    in-order (λ step k. branch_cost step k false) c.costs_of_pair.result c.costs_of_pair-2.result c.costs_of_pair-3.result
     c.costs_of_pair-4.result c.costs_of_pair-5.result
     c.costs_of_pair-6.result c.costs_of_pair-7.result
     c.costs_of_pair-8.result c.costs_of_pair-9.result

@@ -1,4 +1,5 @@
 use Rattle.std.proofs.Common.{◌∙◌, ℕ, ◌+◌, ◌-◌, ◌%◌, ap, slice_index, true}
+use Rattle.ht_viterbi.specs.Lanes.{hard_costs}
 use Rattle.ht_viterbi.specs.Trellis.{branch_cost}
 use Rattle.ht_viterbi.proofs.branches.rises_of_pair.Goals as goal
 
@@ -12,5 +13,5 @@ returns c =
       lane = λ k lt.
           is.lane k lt
           ∙ (ap (λ (n : ℕ). (n + (256 - slice_index c.costs_of_pair-2.result k)) % 256) (ones.lane k lt)
-          ∙ ap (λ (n : ℕ). (branch_cost c.args.pair k true + (256 - n)) % 256) (zeros.lane k lt));
+          ∙ ap (λ (n : ℕ). (branch_cost (hard_costs c.args.pair) k true + (256 - n)) % 256) (zeros.lane k lt));
     }

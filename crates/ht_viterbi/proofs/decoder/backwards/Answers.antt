@@ -1,21 +1,21 @@
 use Rattle.std.proofs.Common.{◌∙◌, ◌%◌, ◌-◌, ℕ, List, ap, sym, subst, length, arith}
-use Rattle.ht_viterbi.specs.Trellis.{StepPlaces, least_from}
-use Rattle.ht_viterbi.specs.Lanes.{HasLanes, pairs_at}
+use Rattle.ht_viterbi.specs.Trellis.{StepCosts, least_from}
+use Rattle.ht_viterbi.specs.Lanes.{HasLanes, steps_at}
 use Rattle.ht_viterbi.proofs.Carried.{stretched}
 use Rattle.ht_viterbi.proofs.LaneSteps.{lanes-start}
-use Rattle.ht_viterbi.proofs.RowFacts.{pairs-end}
+use Rattle.ht_viterbi.proofs.RowFacts.{steps-end}
 use Rattle.ht_viterbi.proofs.Steps.{choices-start}
 use Rattle.ht_viterbi.proofs.decoder.backwards.Goals as goal
 
 pub stretch-costs-requires-clause-behind : goal.stretch-costs-requires-clause-behind
 stretch-costs-requires-clause-behind c =
     let rows = c.args.rows.now in
-    subst (λ (lanes : List ℕ). HasLanes lanes (λ k. least_from (pairs_at rows (length rows)) k % 256)) (sym c.no_costs.ensures)
-    (lanes-start (pairs_at rows (length rows)) (pairs-end rows (length rows) (omega arith)))
+    subst (λ (lanes : List ℕ). HasLanes lanes (λ k. least_from (steps_at rows (length rows)) k % 256)) (sym c.no_costs.ensures)
+    (lanes-start (steps_at rows (length rows)) (steps-end rows (length rows) (omega arith)))
 
 pub stretch-costs-requires-clause-chosen : goal.stretch-costs-requires-clause-chosen
 stretch-costs-requires-clause-chosen c =
-    choices-start _ _ (pairs-end c.args.rows.now (length c.args.rows.now) (omega arith))
+    choices-start _ _ (steps-end c.args.rows.now (length c.args.rows.now) (omega arith))
 
 pub loop-at-init : goal.loop-at-init
 loop-at-init c =
@@ -23,9 +23,9 @@ loop-at-init c =
     let steps = length rows in
     let tail = c.requires.tail in
     let costs = c.stretch-costs.ensures.costs in
-    let least = least_from (pairs_at rows (steps - 6)) 0 in
+    let least = least_from (steps_at rows (steps - 6)) 0 in
     let grows = (stretched rows (steps - 6) steps (omega arith) (omega arith)).0 in
-    let none = ap (λ (ps : List StepPlaces). least_from ps 0) (pairs-end rows steps (omega arith)) in
+    let none = ap (λ (ps : List StepCosts). least_from ps 0) (steps-end rows steps (omega arith)) in
     let same = c.carried-distance.ensures least (c.first_lane.ensures ∙ costs.lane 0 (omega arith)) (omega (arith, grows, none, tail)) (omega arith) in
     record {
       within = omega (arith, tail);
@@ -47,7 +47,7 @@ loop-at-preserved c =
     let moves = stretched rows from at (omega (arith, down)) (omega (arith, was.within)) in
     let grows = moves.0 in
     let falls = moves.1 in
-    let same = c.carried-distance-in-loop-at.ensures (least_from (pairs_at rows from) 0)
+    let same = c.carried-distance-in-loop-at.ensures (least_from (steps_at rows from) 0)
     (c.first_lane-in-loop-at.ensures ∙ costs.lane 0 (omega arith))
     (omega (arith, grows, was.distance, down)) (omega (arith, falls, was.distance)) in
     record {

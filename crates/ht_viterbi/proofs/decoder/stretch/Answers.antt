@@ -1,8 +1,8 @@
-use Rattle.std.proofs.Common.{◌∙◌, ◌-◌, ℕ, Bool, false, ap, length, slice_index, arith, rules}
-use Rattle.ht_viterbi.specs.Trellis.{branch_cost, is_free, least_from}
-use Rattle.ht_viterbi.specs.Lanes.{pair_of_number, pairs_at, rise}
+use Rattle.std.proofs.Common.{◌-◌, false, length, slice_index, arith, rules}
+use Rattle.ht_viterbi.specs.Trellis.{branch_cost, least_from}
+use Rattle.ht_viterbi.specs.Lanes.{pair_of_number, rise, row_costs, steps_at}
 use Rattle.ht_viterbi.proofs.LaneSteps.{lanes-step, chosen-lanes}
-use Rattle.ht_viterbi.proofs.RowFacts.{free-known, pairs-before, pairs-length}
+use Rattle.ht_viterbi.proofs.RowFacts.{free-known, hard-light, light-steps, steps-before, steps-length}
 use Rattle.ht_viterbi.proofs.Spread.{ways-close}
 use Rattle.ht_viterbi.proofs.Steps.{choices-step}
 use Rattle.ht_viterbi.proofs.decoder.stretch.Goals as goal
@@ -14,23 +14,24 @@ loop-at-preserved c =
     let was = c.loop-at.invariant in
     let within = c.requires.within in
     let test = c.loop-at-test.true in
-    let pair = pair_of_number (slice_index rows (at - 1)) in
-    let pairs = pairs_at rows at in
-    let cons = pairs-before rows at (omega (arith, test)) (omega (arith, was.high, within)) in
-    let left = pairs-length rows at in
+    let pair = row_costs (slice_index rows (at - 1)) in
+    let pairs = steps_at rows at in
+    let cons = steps-before rows at (omega (arith, test)) (omega (arith, was.high, within)) in
+    let left = steps-length rows at in
     let free = free-known c.args.free (length pairs)
     (λ e. omega (arith, left, c.requires.tail e, test)) (λ e. omega (arith, left, c.requires.before e, was.high)) in
-    let zeros = c.lanes_of.ensures (λ pair k. branch_cost pair k false) c.requires.zeros in
+    let zeros = c.lanes_of.ensures (λ step k. branch_cost step k false) c.requires.zeros in
     let mores = c.lanes_of-in-loop-at.ensures rise c.requires.rises in
-    let close = ways-close pairs pair in
+    let light = hard-light (pair_of_number (slice_index rows (at - 1))) in
+    let close = ways-close pairs pair (light, light-steps rows at) in
     record {
       low = omega (arith, test);
       high = omega (arith, was.high);
       count = search rules;
       costs = lanes-step _ pairs c.step-word.result.0 c.args.free pair cons free
-          (c.step-word.ensures.costs (least_from pairs) pair was.costs zeros mores close);
+          (c.step-word.ensures.costs (least_from pairs) pair light was.costs zeros mores close);
       choices = choices-step _ pairs c.loop-at.choices (at - 1) at c.step-word.result.1 pair cons (omega (arith, test))
           (omega (arith, was.count, was.high, within, test))
           (chosen-lanes pairs c.step-word.result.1 c.args.free pair free
-          (c.step-word.ensures.choices (least_from pairs) pair was.costs zeros mores close)) was.choices;
+          (c.step-word.ensures.choices (least_from pairs) pair light was.costs zeros mores close)) was.choices;
     }

@@ -1,6 +1,4 @@
-use Rattle.std.proofs.Common.{◌≡◌, ◌+◌, ◌*◌, ◌≤◌, length, map, arith, rules, refl, slice_index_or}
-use Rattle.ht_conv.specs.declared.puncture.Kept.TheVariants.{Both}
-use Rattle.ht_conv.specs.Puncturing.{kept_of, sent_count}
+use Rattle.std.proofs.Common.{◌+◌, length, map, arith, rules, refl}
 use Rattle.ht_viterbi.specs.Received.{known_of}
 use Rattle.ht_viterbi.proofs.Turns.{kept-in, row-more, sent-low, start-next}
 use Rattle.ht_viterbi.proofs.rows.fill_turn.Goals as goal

@@ -4,8 +4,9 @@ use Rattle.std.proofs.lemmas.Result.{IfOk-weaker}
 use Rattle.ht_viterbi.specs.Inputs.{IsDecoded, distance}
 use Rattle.ht_viterbi.specs.declared.received_bit.ReceivedBit.{ReceivedBit}
 use Rattle.ht_viterbi.specs.Received.{known_of}
+use Rattle.ht_viterbi.proofs.Turns.{distance-low}
 use Rattle.ht_inverse.specs.Shares.{codeword_of}
-use Rattle.ht_inverse.proofs.Codewords.{both-ok, codeword-is, distance-low, received-length}
+use Rattle.ht_inverse.proofs.Codewords.{both-ok, codeword-is, received-length}
 use Rattle.ht_inverse.proofs.share.Share.codeword.Goals as goal
 
 -- the places of what was gathered

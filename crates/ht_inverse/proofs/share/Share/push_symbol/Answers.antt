@@ -1,17 +1,17 @@
 use Rattle.std.proofs.Common.{◌≡◌, ◌∙◌, ℕ, ◌*◌, ◌+◌, length, map, ap, refl, arith}
 use Rattle.std.specs.List.{range_with_len}
 use Rattle.ht_parse.specs.Streams.{share_of}
-use Rattle.ht_inverse.specs.Received.{received_at}
-use Rattle.ht_inverse.proofs.Gathered.{place-added, places-counted}
+use Rattle.ht_inverse.specs.Shares.{known_at}
+use Rattle.ht_inverse.proofs.Gathered.{counted-length, value-added}
 use Rattle.ht_inverse.proofs.share.Share.push_symbol.Goals as goal
 
 pub loop-place-init : goal.loop-place-init
-loop-place-init c =
+loop-place-init g c =
     let s = c.args.self.now in
-    let f = received_at s.rate s.erased c.args.labels.now s.encoder in
+    let f = known_at (g.L.LabelValues.known c.args.labels.now) s.rate s.erased s.encoder in
     let at = c.args.symbol * share_of s.rate in
     let none : at ≡ at + 0 = omega arith in
-    let long : length c.args.bits.now.items ≡ at = places-counted f c.args.bits.now.items at c.requires.so_far in
+    let long : length c.args.bits.now.items ≡ at = counted-length f c.args.bits.now.items at c.requires.so_far in
     record {
       items = c.requires.so_far ∙ ap (λ (n : ℕ). map f (range_with_len 0 n)) none;
       len = omega (arith, long);
@@ -19,14 +19,14 @@ loop-place-init c =
     }
 
 pub loop-place-preserved : goal.loop-place-preserved
-loop-place-preserved c =
+loop-place-preserved g c =
     let s = c.args.self.now in
     let was = c.loop-place.invariant in
     let at = c.args.symbol * share_of s.rate + c.loop-place.place in
     record {
-      items = place-added (received_at s.rate s.erased c.args.labels.now s.encoder) c.loop-place.bits.items c.push_reserved.new.self.items
-          c.bit.result at (c.args.symbol * share_of s.rate + (c.loop-place.place + 1)) c.push_reserved.ensures.items c.bit.ensures (omega arith)
-          was.items;
+      items = c.push_reserved.ensures.items
+          ∙ value-added (known_at (g.L.LabelValues.known c.args.labels.now) s.rate s.erased s.encoder) c.loop-place.bits.items c.bit.result at
+          (c.args.symbol * share_of s.rate + (c.loop-place.place + 1)) c.bit.ensures (omega arith) was.items;
       len = omega (arith, was.len, c.push_reserved.ensures.len);
       room = c.push_reserved.ensures.capacity ∙ was.room;
     }

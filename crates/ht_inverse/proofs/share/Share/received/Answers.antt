@@ -3,40 +3,40 @@ use Rattle.std.specs.List.{range_with_len}
 use Rattle.std.proofs.Math.Nat.{add-mul}
 use Rattle.ht_parse.specs.Streams.{share_of}
 use Rattle.ht_landing.proofs.Landed.{share-some}
-use Rattle.ht_inverse.specs.Received.{received_at}
+use Rattle.ht_inverse.specs.Shares.{known_at}
 use Rattle.ht_inverse.proofs.Gathered.{places-length, whole-within, parted}
 use Rattle.ht_inverse.proofs.share.Share.received.Goals as goal
 
 pub nonzero_div-symbol-end : goal.nonzero_div-symbol-end
-nonzero_div-symbol-end c =
+nonzero_div-symbol-end g c =
     let s = c.args.self.now in
     let wide : c.len-share.result ≡ share_of s.rate =
     omega (arith, places-length s.rate s.erased s.encoder s.places.items s.places_are, c.len-share.ensures) in
     omega (arith, wide, share-some s.rate)
 
 pub nonzero_div-count : goal.nonzero_div-count
-nonzero_div-count c =
+nonzero_div-count g c =
     let s = c.args.self.now in
     let wide : c.len-share.result ≡ share_of s.rate =
     omega (arith, places-length s.rate s.erased s.encoder s.places.items s.places_are, c.len-share.ensures) in
     omega (arith, wide, share-some s.rate)
 
 pub nonzero_rem-count : goal.nonzero_rem-count
-nonzero_rem-count c =
+nonzero_rem-count g c =
     let s = c.args.self.now in
     let wide : c.len-share.result ≡ share_of s.rate =
     omega (arith, places-length s.rate s.erased s.encoder s.places.items s.places_are, c.len-share.ensures) in
     omega (arith, wide, share-some s.rate)
 
 pub push_symbol-requires-clause-share : goal.push_symbol-requires-clause-share
-push_symbol-requires-clause-share c =
+push_symbol-requires-clause-share g c =
     let s = c.args.self.now in
     let wide : c.len-share.result ≡ share_of s.rate =
     omega (arith, places-length s.rate s.erased s.encoder s.places.items s.places_are, c.len-share.ensures) in
     omega (arith, wide)
 
 pub push_symbol-requires-clause-within : goal.push_symbol-requires-clause-within
-push_symbol-requires-clause-within c =
+push_symbol-requires-clause-within g c =
     let s = c.args.self.now in
     let wide : c.len-share.result ≡ share_of s.rate =
     omega (arith, places-length s.rate s.erased s.encoder s.places.items s.places_are, c.len-share.ensures) in
@@ -44,7 +44,7 @@ push_symbol-requires-clause-within c =
     omega (arith, inside, c.requires.count)
 
 pub push_symbol-requires-clause-room : goal.push_symbol-requires-clause-room
-push_symbol-requires-clause-room c =
+push_symbol-requires-clause-room g c =
     let s = c.args.self.now in
     let wide : c.len-share.result ≡ share_of s.rate =
     omega (arith, places-length s.rate s.erased s.encoder s.places.items s.places_are, c.len-share.ensures) in
@@ -52,7 +52,7 @@ push_symbol-requires-clause-room c =
     omega (arith, inside, c.loop-symbol.invariant.room)
 
 pub loop-symbol-preserved : goal.loop-symbol-preserved
-loop-symbol-preserved c =
+loop-symbol-preserved g c =
     let s = c.args.self.now in
     let wide : c.len-share.result ≡ share_of s.rate =
     omega (arith, places-length s.rate s.erased s.encoder s.places.items s.places_are, c.len-share.ensures) in
@@ -60,19 +60,19 @@ loop-symbol-preserved c =
     omega (arith, wide, add-mul c.loop-symbol.symbol 1 (share_of s.rate)) in
     record {
       items = c.push_symbol.ensures.items
-          ∙ ap (λ (n : ℕ). map (received_at s.rate s.erased c.args.labels.now s.encoder) (range_with_len 0 n)) next;
+          ∙ ap (λ (n : ℕ). map (known_at (g.L.LabelValues.known c.args.labels.now) s.rate s.erased s.encoder) (range_with_len 0 n)) next;
       room = c.push_symbol.ensures.room ∙ c.loop-symbol.invariant.room;
     }
 
 pub push_symbol-requires-2-clause-share : goal.push_symbol-requires-2-clause-share
-push_symbol-requires-2-clause-share c =
+push_symbol-requires-2-clause-share g c =
     let s = c.args.self.now in
     let wide : c.len-share.result ≡ share_of s.rate =
     omega (arith, places-length s.rate s.erased s.encoder s.places.items s.places_are, c.len-share.ensures) in
     (parted c.args.count c.len-share.result (share_of s.rate) wide (share-some s.rate)).1
 
 pub push_symbol-requires-2-clause-within : goal.push_symbol-requires-2-clause-within
-push_symbol-requires-2-clause-within c =
+push_symbol-requires-2-clause-within g c =
     let s = c.args.self.now in
     let wide : c.len-share.result ≡ share_of s.rate =
     omega (arith, places-length s.rate s.erased s.encoder s.places.items s.places_are, c.len-share.ensures) in
@@ -80,7 +80,7 @@ push_symbol-requires-2-clause-within c =
     omega (arith, all, c.requires.count)
 
 pub push_symbol-requires-2-clause-room : goal.push_symbol-requires-2-clause-room
-push_symbol-requires-2-clause-room c =
+push_symbol-requires-2-clause-room g c =
     let s = c.args.self.now in
     let wide : c.len-share.result ≡ share_of s.rate =
     omega (arith, places-length s.rate s.erased s.encoder s.places.items s.places_are, c.len-share.ensures) in
@@ -88,9 +88,9 @@ push_symbol-requires-2-clause-room c =
     omega (arith, all, c.loop-symbol.invariant.room)
 
 pub returns : goal.returns
-returns c =
+returns g c =
     let s = c.args.self.now in
     let wide : c.len-share.result ≡ share_of s.rate =
     omega (arith, places-length s.rate s.erased s.encoder s.places.items s.places_are, c.len-share.ensures) in
     let all = (parted c.args.count c.len-share.result (share_of s.rate) wide (share-some s.rate)).0 in
-    c.push_symbol-2.ensures.items ∙ ap (λ (n : ℕ). map (received_at s.rate s.erased c.args.labels.now s.encoder) (range_with_len 0 n)) all
+    c.push_symbol-2.ensures.items ∙ ap (λ (n : ℕ). map (known_at (g.L.LabelValues.known c.args.labels.now) s.rate s.erased s.encoder) (range_with_len 0 n)) all
