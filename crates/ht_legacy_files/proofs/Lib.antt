@@ -1,3 +1,4 @@
+pub mod Back
 pub mod Ends
 pub mod Lists
 pub mod Putting

@@ -1,6 +1,7 @@
 //! What holds of files of clause 18 frames.
 ghost use Rattle.std.specs.Prelude.{◌≡◌, ℕ, List, [], ◌++◌};
 ghost use Rattle.ht_fields.specs.Cases.{CanEnd, IsClean, IsCut, IsFile};
+ghost use Rattle.ht_fields.specs.Tests.{AreBytes};
 ghost use Rattle.ht_clause18.specs.Frames.{LegacyFrameView};
 ghost use Rattle.ht_legacy_files.specs.Formats.{frames as frames_format};
 ghost use Rattle.ht_legacy_files.specs.Files.{AreFrames, frames_file_of};
@@ -33,4 +34,14 @@ pub fn clean_can_end()
     ensures ends { CanEnd frames_format }
     ensures clean { (octets : List ℕ) (frames : List LegacyFrameView) → IsClean frames_format octets frames → IsCut frames_format octets }
     ensures cut { (octets : List ℕ) → IsCut frames_format octets → (frames : List LegacyFrameView) × IsClean frames_format octets frames }
+{}
+
+/// Each file of frames is the file that is written of its frames, and they can be written: at most 65535, each with a seed
+/// and 1 to 4095 octets. So what is read of a file can be written again, octet by octet.
+///
+/// The least file, `4c 47 54 58 01 00 00`, is written of no frames.
+pub fn each_of_frames()
+    ensures fit { (octets : List ℕ) (frames : List LegacyFrameView) → AreBytes octets → IsFile frames_format octets frames → AreFrames frames }
+    ensures written { (octets : List ℕ) (frames : List LegacyFrameView)
+        → AreBytes octets → IsFile frames_format octets frames → octets ≡ frames_file_of frames }
 {}
