@@ -1,0 +1,24 @@
+//! Files of clause 18 frames (LGTX), read whole and written.
+//!
+//! Such a file is what a transmitter of the OFDM PHY is given. It begins with the octets `LGTX`, the version 1 and the
+//! number of frames. For each frame the index of its rate follows (0 to 7, the rows of IEEE Std 802.11-2012, table 18-4),
+//! the number of octets of the PSDU (1 to 4095), the seed of the scrambler (1 to 127) and the octets; and then nothing.
+//! The two numbers of two octets are big-endian.
+//!
+//! `4c 47 54 58 01 00 01 00 00 01 7f a5` is a file of one frame at 6 Mbit/s, with seed 127 and the octet `a5`. With an 8 as
+//! its rate it is BadMcs at 7, with no octets or with 4096 BadLength at 8, with seed 0 BadSeed at 10, without its last octet
+//! Truncated at 11, and with an octet more Trailing at 12.
+//!
+//! `read_legacy_frames` reads a file to its end from any source, or answers its first fault. `write_legacy_frames` puts the
+//! file into any sink and takes no memory. What was written is a file of these frames, no file is a prefix of another, and
+//! frames of which the same file is written are the same, so that what is read of it are the frames again.
+#![tactic(auto)]
+
+pub mod laws;
+mod reading;
+#[cfg(test)]
+mod tests;
+mod writing;
+
+pub use reading::read_legacy_frames;
+pub use writing::write_legacy_frames;

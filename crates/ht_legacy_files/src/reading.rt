@@ -1,0 +1,186 @@
+//! Files of frames that are read whole.
+ghost use Rattle.std.specs.Prelude.{◌≡◌, ◌<◌, ◌≤◌, ◌+◌, ◌^◌, ℕ, [], ◌∷◌, length, IfOk, IfErr};
+ghost use Rattle.byteorder.specs.Endian.{big_bytes};
+ghost use Rattle.ht_io.specs.Devices.{Takes, IsLater};
+ghost use Rattle.ht_io.specs.declared.faults.Kind.TheVariants.{BadLength, BadMcs, BadSeed};
+ghost use Rattle.ht_io.specs.declared.faults.InFault.TheVariants.{NoMemory};
+ghost use Rattle.ht_fields.specs.Lacking.{FailsField};
+ghost use Rattle.ht_fields.specs.Readers.{reader_in};
+ghost use Rattle.ht_fields.specs.Tests.{is_above};
+ghost use Rattle.ht_fields.specs.WholeFiles.{EndsEarly, ReadsWhole};
+ghost use Rattle.ht_heads.specs.Starts.{is_outside};
+ghost use Rattle.ht_scramble.specs.Sequence.{IsSeed};
+ghost use Rattle.ht_clause18.specs.Frames.{IsLegacyPsdu};
+ghost use Rattle.ht_clause18.specs.Rates.{index_of};
+ghost use Rattle.ht_legacy_files.specs.Formats.{frames as frames_format, frames_due, is_no_seed};
+ghost use Rattle.ht_legacy_files.specs.Formats.{frame_limits as frame_limits_of, length_limits as length_limits_of};
+ghost use Rattle.ht_legacy_files.specs.Files.{AreFrames, IsFrame, frame_octets, frames_file_of};
+
+use ht_clause18::{LegacyFrame, LegacyRate};
+use ht_fields::{bad, end, fill, octet};
+use ht_heads::{Limits, count, start};
+use ht_io::{InFault, Kind, Source};
+use ht_scramble::Seed;
+use std::alloc::Global;
+
+// How a file counts its frames.
+fn frame_limits() -> Limits
+    ensures { result ≡ frame_limits_of }
+{
+    Limits {
+        width: 2,
+        least: 0,
+        most: 65535,
+        kind: Kind::BadLength,
+    }
+}
+
+// How a frame counts its octets.
+fn length_limits() -> Limits
+    ensures { result ≡ length_limits_of }
+{
+    Limits {
+        width: 2,
+        least: 1,
+        most: 4095,
+        kind: Kind::BadLength,
+    }
+}
+
+// Reads the index of a frame's rate, 0 to 7.
+fn rate<S: Source>(source: &mut S, at: u64) -> Result<LegacyRate, InFault>
+    requires room { at + 1 < 2 ^ 64 }
+    ensures whole { IfOk result (λ rate. Takes (S.shown source.old) (S.shown source.new) (index_of rate ∷ [])) }
+    ensures failed { IfErr result (FailsField 1 BadMcs (is_above 7) at (S.shown source.old) (S.shown source.new)) }
+    ensures later { IsLater (S.shown source.old) (S.shown source.new) }
+{
+    match octet(source, at) {
+        Ok(index) => match LegacyRate::of(index) {
+            Some(rate) => Ok(rate),
+            None => Err(bad(Kind::BadMcs, at)),
+        },
+        Err(fault) => Err(fault),
+    }
+}
+
+// Reads the number of a frame's octets, 1 to 4095.
+fn length<S: Source>(source: &mut S, at: u64) -> Result<u16, InFault>
+    requires room { at + 8 < 2 ^ 64 }
+    ensures whole { IfOk result (λ len. Takes (S.shown source.old) (S.shown source.new) (big_bytes 2 len)) }
+    ensures least { IfOk result (λ len. 1 ≤ len) }
+    ensures most { IfOk result (λ len. len ≤ 4095) }
+    ensures failed { IfErr result (FailsField 2 BadLength (is_outside length_limits_of) at (S.shown source.old) (S.shown source.new)) }
+    ensures later { IsLater (S.shown source.old) (S.shown source.new) }
+{
+    match count(source, at, &length_limits()) {
+        Ok(length) => Ok(length as u16),
+        Err(fault) => Err(fault),
+    }
+}
+
+// Reads the seed of a frame, 1 to 127.
+fn seed<S: Source>(source: &mut S, at: u64) -> Result<Seed, InFault>
+    requires room { at + 1 < 2 ^ 64 }
+    ensures whole { IfOk result (λ seed. Takes (S.shown source.old) (S.shown source.new) (seed ∷ [])) }
+    ensures seed { IfOk result (λ seed. IsSeed seed) }
+    ensures failed { IfErr result (FailsField 1 BadSeed is_no_seed at (S.shown source.old) (S.shown source.new)) }
+    ensures later { IsLater (S.shown source.old) (S.shown source.new) }
+{
+    match octet(source, at) {
+        Ok(value) => match Seed::new(value) {
+            Some(seed) => Ok(seed),
+            None => Err(bad(Kind::BadSeed, at)),
+        },
+        Err(fault) => Err(fault),
+    }
+}
+
+// Room for octets.
+fn zeros(alloc: Global, count: u16) -> Result<Vec<u8>, InFault>
+    ensures size { IfOk result (λ octets. length octets.items ≡ count) }
+    ensures memory { IfErr result (λ fault. fault ≡ NoMemory) }
+{
+    match vec![in alloc; 0u8; count as usize] {
+        Ok(octets) => Ok(octets),
+        Err(_) => Err(InFault::NoMemory),
+    }
+}
+
+// The frame of these octets.
+fn made(rate: LegacyRate, seed: Seed, octets: Vec<u8>) -> LegacyFrame
+    requires { IsLegacyPsdu octets.items }
+    ensures { result ≡ record { rate = rate; seed = seed; octets = octets.items } }
+{
+    match LegacyFrame::new(rate, seed, octets) {
+        Some(frame) => frame,
+        None => unreachable!(),
+    }
+}
+
+// Reads a frame, while frames are left.
+fn frame<S: Source>(alloc: Global, source: &mut S, at: u64) -> Result<LegacyFrame, InFault>
+    requires room { at + 4103 < 2 ^ 64 }
+    ensures whole { IfOk result (λ frame. Takes (S.shown source.old) (S.shown source.new) (frame_octets frame)) }
+    ensures fits { IfOk result IsFrame }
+    ensures failed { (left : ℕ) → 0 < left
+        → IfErr result (EndsEarly (reader_in frames_format (frames_due left) at (S.shown source.old)) (S.shown source.new)) }
+    ensures later { IsLater (S.shown source.old) (S.shown source.new) }
+{
+    let rate = match rate(source, at) {
+        Ok(rate) => rate,
+        Err(fault) => return Err(fault),
+    };
+    let length = match length(source, at + 1) {
+        Ok(length) => length,
+        Err(fault) => return Err(fault),
+    };
+    let seed = match seed(source, at + 3) {
+        Ok(seed) => seed,
+        Err(fault) => return Err(fault),
+    };
+    let mut octets = match zeros(alloc, length) {
+        Ok(octets) => octets,
+        Err(fault) => return Err(fault),
+    };
+    match fill(source, at + 4, &mut octets) {
+        Ok(()) => Ok(made(rate, seed, octets)),
+        Err(fault) => Err(fault),
+    }
+}
+
+/// Reads a file of frames (LGTX) to its end, and gives its frames.
+///
+/// `Format` comes at the first fault of the file, and `Read` where the source failed before any fault.
+pub fn read_legacy_frames<S: Source>(
+    alloc: Global,
+    source: &mut S,
+) -> Result<Vec<LegacyFrame>, InFault>
+    // What was left was the file of these frames, and is taken.
+    ensures file { IfOk result (λ frames. ReadsWhole AreFrames frames_file_of (S.shown source.old) (S.shown source.new) frames.items) }
+
+    // A refusal is the first fault of the file, or its source failed within a file or behind it.
+    ensures refused { IfErr result (EndsEarly (reader_in frames_format frames_format.start 0 (S.shown source.old)) (S.shown source.new)) }
+    ensures later { IsLater (S.shown source.old) (S.shown source.new) }
+{
+    let count = match start(source, b"LGTX", &frame_limits()) {
+        Ok(count) => count,
+        Err(fault) => return Err(fault),
+    };
+    let mut at = 7;
+    let mut frames = Vec::new(alloc);
+    for _index in 0..count {
+        let frame = match frame(alloc, source, at) {
+            Ok(frame) => frame,
+            Err(fault) => return Err(fault),
+        };
+        at += 4 + frame.octets().len() as u64;
+        match frames.push(frame) {
+            Ok(()) => {}
+            Err(_) => return Err(InFault::NoMemory),
+        }
+    }
+    match end(source, at) {
+        Ok(()) => Ok(frames),
+        Err(fault) => Err(fault),
+    }
+}
