@@ -138,9 +138,9 @@ class Window:
     begin : int
         So many samples behind a symbol's guard interval.
     rest : float
-        By how much of a sample later they should.
+        By how much of a sample later they should begin.
     room : float
-        For so many samples that place is as good.
+        How far in samples they may be moved without loss.
     """
 
     begin: int
