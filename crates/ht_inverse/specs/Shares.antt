@@ -38,17 +38,17 @@ bit_in place label = if place.lost then None else Some (bit_at label place.shift
 abbrev pub decision_in : LabelBit → ℕ → ReceivedBit
 decision_in place label = if place.lost then Erased else (if bit_at label place.shift == 1 then One else Zero)
 
--- what is known of the bit by values, of which each label has this number
+-- what is known of the bit by values, of which each label has `bits`, the first bit first
 abbrev pub value_in : {V : Type 0} → V → ℕ → List V → ℕ → LabelBit → V
 value_in lost bits values label place = if place.lost then lost else slice_index_or values (label * bits + (bits - 1 - place.shift)) lost
 
--- labels have a bit; where they are whole, no bit is lost
+-- labels have this bit; where they are whole, it isn't lost
 pub record HasDecision (labels : List ℕ) (whole : Bool) (label : ℕ) (place : LabelBit) : Type 0 where
   pub there : label < length labels
   pub bit : place.shift < 8
   pub kept : whole ≡ true → place.lost ≡ false
 
--- values have one of a bit
+-- values have one of this bit
 pub record HasValue {V : Type 0} (values : List V) (bits label : ℕ) (place : LabelBit) : Type 0 where
   pub bit : place.shift < bits
   pub there : label * bits + (bits - 1 - place.shift) < length values

@@ -19,6 +19,9 @@
 //! while rate and erased subcarriers stay. [`Together`] does so too, and decodes the codewords of two encoders in two
 //! threads, as [`decode_frame_together`] does. All answer `decoded_frame` of `specs/Decoding.antt`, a function with no
 //! loop of the code in it. The laws of [`laws`] say that what was sent comes back.
+//!
+//! A decoder that knows more of a label bit than the label says has the same parts: a [`Share`] gathers what is known of
+//! an encoder's coded bits from any values, one for each label bit, and [`come_to`] takes scrambled bits to octets.
 #![tactic(auto)]
 
 mod bits;

@@ -12,14 +12,14 @@ pub(crate) struct BitCosts {
 }
 
 impl BitCosts {
-    /// Of a bit that was punctured.
+    /// The costs of a bit that was punctured.
     pub(crate) fn free() -> BitCosts
         ensures { result ≡ free_bit }
     {
         BitCosts { zero: 0, one: 0 }
     }
 
-    /// At a place.
+    /// The costs of a bit at a place.
     pub(crate) fn at<P: Place>(place: P) -> BitCosts
         ensures value { result ≡ costs_of P.cost place }
         ensures bound { (bit : Bool) → bit_cost result bit ≤ 2 ^ 32 }
@@ -30,7 +30,7 @@ impl BitCosts {
         }
     }
 
-    /// Of a bit.
+    /// What it costs if it is this bit.
     pub(crate) fn of(self, bit: bool) -> u32
         ensures { result ≡ bit_cost self bit }
     {
