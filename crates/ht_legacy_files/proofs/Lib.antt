@@ -3,3 +3,4 @@ pub mod Ends
 pub mod Lists
 pub mod Putting
 pub mod Routes
+mod Values
