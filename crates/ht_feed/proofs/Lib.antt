@@ -5,3 +5,6 @@ pub mod Leads
 pub mod Ending
 pub mod Finishing
 pub mod Mapping
+pub mod Measuring
+pub mod Detecting
+mod Worked

@@ -10,3 +10,4 @@ pub mod Feeding
 pub mod Stops
 pub mod Outcomes
 pub mod Captures
+pub mod Meters

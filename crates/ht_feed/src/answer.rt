@@ -1,5 +1,5 @@
 //! What is answered of the jobs of a block.
-ghost use Rattle.std.specs.Prelude.{◌≡◌, List, IfOk};
+ghost use Rattle.std.specs.Prelude.{◌^◌, ◌<◌, List, length, IfOk};
 ghost use Rattle.ht_metric.specs.Jobs.{JobView};
 
 use crate::jobs::Jobs;
@@ -18,5 +18,6 @@ pub trait Work<B: Jobs> {
 
     /// The answer to the jobs of a block. The only error is lack of memory.
     fn run(&self, block: &B) -> Result<Self::Answer, AllocError>
+        requires few { length (B.jobs block.now) < 2 ^ 16 }
         ensures right { IfOk result (λ answer. Self.Answer.answers answer (B.jobs block.now)) };
 }

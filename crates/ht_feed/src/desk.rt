@@ -54,12 +54,7 @@ impl<R: BlockReader + Drop> Desk<R> {
     /// A desk in front of a reader that gave nothing yet, with room for this many blocks that are due. Where more become
     /// due it takes more memory. Until a head comes, `head` stands for the one that came last. The only error is lack of
     /// memory.
-    pub fn new(
-        alloc: Global,
-        reader: R,
-        head: R::Head,
-        room: u16,
-    ) -> Result<Desk<R>, AllocError>
+    pub fn new(alloc: Global, reader: R, head: R::Head, room: u16) -> Result<Desk<R>, AllocError>
         requires going { (R.counts reader).going ≡ true }
         requires fresh { (R.counts reader).given ≡ 0 }
         requires bounded { (R.counts reader).more < 2 ^ 64 - 1 }

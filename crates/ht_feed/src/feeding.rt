@@ -16,11 +16,7 @@ use ht_io::Source;
 
 impl<'s, 'a, R: BlockReader + Drop, S: Source, A: Account<R>> DeskFeed<'s, 'a, R, S, A> {
     /// A feed which goes on from where its desk stands. It takes no memory.
-    pub fn new(
-        desk: Desk<R>,
-        source: &'s mut S,
-        account: &'a mut A,
-    ) -> DeskFeed<'s, 'a, R, S, A>
+    pub fn new(desk: Desk<R>, source: &'s mut S, account: &'a mut A) -> DeskFeed<'s, 'a, R, S, A>
         ensures names { names_of A.lent result ≡ names source.entry.ghost_name account.entry.ghost_name (A.lent account.old) }
         ensures desk { result.desk ≡ desk }
         ensures source { result.source.now ≡ source.old }
