@@ -1,0 +1,165 @@
+-- What a feed did over a new desk, from one end to the other.
+use Rattle.std.specs.Prelude.{◌≡◌, ◌≢◌, ℕ, ◌+◌, List, [], ◌++◌, length, Option, Some, None, is_some, true, Result, Ok, Err, IsErr, IsErrAnd, MatchResult, OnOk}
+use Rattle.std.proofs.Common.{refl, ap, ◌∙◌, sym, subst, append-nil, arith}
+use Rattle.std.proofs.lemmas.Bool.{false≢true}
+use Rattle.ht_io.specs.Devices.{Device, Grows, GrowsByPart, Rose, IsLater}
+use Rattle.ht_io.proofs.Calls.{failed-later, grows_by_part-front}
+use Rattle.ht_fields.specs.Meanings.{Meaning}
+use Rattle.ht_fields.specs.Readers.{ReaderView, Gives}
+use Rattle.ht_runs.proofs.Known.{by_part}
+use Rattle.ht_runs.specs.declared.faults.StopFault.{StopFault}
+use Rattle.ht_runs.specs.declared.faults.StopFault.TheVariants.{Read, Write, NoMemory as StopMemory}
+use Rattle.ht_feed.specs.declared.stop.Stop.{Stop}
+use Rattle.ht_feed.specs.declared.stop.Stop.TheVariants.{Whole, Refused, Broken, Lacking}
+use Rattle.ht_feed.specs.declared.book_fault.BookFault.{BookFault}
+use Rattle.ht_feed.specs.declared.book_fault.BookFault.TheVariants.{Failed, NoMemory}
+use Rattle.ht_feed.specs.declared.ended.Ended.{Ended}
+use Rattle.ht_feed.specs.declared.drive.DriveFault.{DriveFault}
+use Rattle.ht_feed.specs.declared.drive.DriveFault.TheVariants.{Feed, NoMemory as DriveMemory}
+use Rattle.ht_feed.specs.Items.{Item, Headed, headed, frames_of, jobs_of}
+use Rattle.ht_feed.specs.Accounts.{PutsFirst, Telling}
+use Rattle.ht_feed.specs.Dues.{all_due, jobs_in}
+use Rattle.ht_feed.specs.Desks.{DeskView, desk_view}
+use Rattle.ht_feed.specs.Reading.{Closes, ClosesBehind, ReadsBy, view}
+use Rattle.ht_feed.specs.Stops.{ended_at, ended_by, fault_of}
+use Rattle.ht_feed.specs.Telling.{Seen, Tells, TellsBy, TellsPart, seen_by}
+use Rattle.ht_feed.specs.Outcomes.{Comes, StopsBy, TellsPieces, pieces_of}
+use Rattle.ht_feed.proofs.Ending.{broken, in_part, refused, told_nothing, whole}
+use Rattle.ht_feed.proofs.Filling.{none_in}
+
+jobs_taken : {X : Type 0} (last taken jobs : List X) → last ≡ [] → jobs ≡ taken ++ last → jobs ≡ taken
+jobs_taken {X = X} last taken jobs all is = is ∙ (ap (λ (xs : List X). taken ++ xs) all ∙ append-nil taken)
+
+-- all pieces were put, where nothing is kept back
+pieces_put : {X P : Type 0} (old new : List X → List P) (taken : List X) (put : List P) → ((more : List X) → old (taken ++ more) ≡ put ++ new more)
+    → new [] ≡ [] → old taken ≡ put
+pieces_put {P = P} old new taken put first none =
+    ap old (sym (append-nil taken)) ∙ (first [] ∙ (ap (λ (xs : List P). put ++ xs) none ∙ append-nil put))
+
+-- readers of R mean this and are here
+module _ {R H P : Type 0} (means : R → List ℕ → Meaning (Item H)) (at : R → ℕ) (reader : R) (head : H) (source source' : Device ℕ) (a b : Telling H P) where
+  abbrev start : ReaderView (Item H)
+  start = view means at reader source
+
+  abbrev pieces : List ℕ → List P
+  pieces = pieces_of a.pieces head start
+
+  -- a desk in front of the reader
+  abbrev fresh : DeskView R H
+  fresh = desk_view reader None head 0 [] 0
+
+  abbrev Came : Result Ended StopFault → Type 0
+  Came result = Comes means at reader head source source' a b result
+
+  -- what is seen of a desk that the feed leaves
+  module _ (new : DeskView R H) where
+    abbrev first : Seen H P
+    first = seen_by means at fresh source a
+
+    abbrev last : Seen H P
+    last = seen_by means at new source' b
+
+    stopped : (stop : Stop) (x : Option Stop) (items : List (Item H)) → x ≡ Some stop → ReadsBy None x start last.standing.reader items
+        → ClosesBehind start source' items stop
+    stopped stop x items is reads = subst (λ (e : Option Stop). ReadsBy None e start last.standing.reader items) is reads
+
+    module _ (tells : Tells first last) (none : all_due new.due ≡ []) (rests : a.Waits []) (nothing : b.Waits [] → b.pieces [] ≡ []) where
+      all_put : Grows a.device b.device (a.pieces (headed head tells.items))
+      all_put =
+          let taken = jobs_taken (all_due new.due) tells.taken (headed head tells.items) none tells.jobs in
+          let put = pieces_put a.pieces b.pieces tells.taken tells.put tells.first (nothing (subst b.Waits none (tells.waits rests))) in
+          subst (λ (xs : List P). Grows a.device b.device xs) (sym put ∙ ap a.pieces (sym taken)) tells.grows
+
+      frames_are : new.frames ≡ frames_of tells.items
+      frames_are = let e = tells.frames in omega (arith, e)
+
+      jobs_are : new.count ≡ length (jobs_of tells.items)
+      jobs_are = let e = tells.count in omega (arith, e)
+
+      lacked : (stop : Option Stop) → new.stop ≡ stop → TellsPieces start pieces source' a.device b.device
+      lacked stop is =
+          in_part start a.pieces head source' a.device b.device last.standing.reader tells.items stop tells.taken (all_due new.due) refl
+          (subst (λ (e : Option Stop). ReadsBy None e start last.standing.reader tells.items) is tells.reads) tells.jobs
+          (λ more. subst (λ (xs : List P). GrowsByPart a.device b.device xs) (sym (tells.first more))
+          (grows_by_part-front a.device b.device tells.put (b.pieces more) (by_part a.device b.device tells.put tells.grows)))
+
+      ends : (stop : Option Stop) → new.stop ≡ stop → is_some stop ≡ true → Came (ended_at stop new.frames new.count)
+      ends None is some = absurd (false≢true some)
+      ends (Some Whole) is some =
+          let c = stopped Whole new.stop tells.items is tells.reads in
+          whole start a.pieces head source' a.device b.device c.between tells.items c.gives all_put new.frames new.count c.closes frames_are jobs_are
+      ends (Some (Refused fault)) is some =
+          let c = stopped (Refused fault) new.stop tells.items is tells.reads in
+          refused start a.pieces head source' a.device b.device c.between tells.items c.gives all_put fault c.closes
+      ends (Some Broken) is some =
+          let c = stopped Broken new.stop tells.items is tells.reads in (
+            broken start a.pieces head source' a.device b.device c.between tells.items c.gives all_put c.closes.0,
+            failed-later source c.between.source source' c.later c.closes.1,
+          )
+      ends (Some Lacking) is some = lacked (Some Lacking) is
+
+    part_told : (fault : BookFault) → TellsPart first last fault → TellsPieces start pieces source' a.device b.device
+    part_told fault part =
+        in_part start a.pieces head source' a.device b.device last.standing.reader part.items new.stop part.taken part.rest refl part.reads part.jobs part.part
+
+    stops_as : (fault : BookFault) → TellsPart first last fault → StopsBy start pieces source' a.device b.device (fault_of fault)
+    stops_as Failed part = (part_told Failed part, part.cause refl)
+    stops_as NoMemory part = part_told NoMemory part
+
+    -- what a drive says of a feed over a new desk
+    pub record Heard (failed : Option BookFault) (driven : Result (Unit {0}) (DriveFault BookFault)) : Type 0 where
+      pub leads : TellsBy None failed first last
+      pub ended : OnOk driven (is_some new.stop ≡ true)
+      pub taken : OnOk driven (jobs_in new.due ≡ [])
+      pub well : OnOk driven (failed ≡ None)
+      pub fault : (fault : BookFault) → driven ≡ Err (Feed fault) → failed ≡ Some fault
+      pub lacking : driven ≡ Err DriveMemory → failed ≡ None
+
+    told_well : (failed : Option BookFault) → failed ≡ None → TellsBy None failed first last → Tells first last
+    told_well failed is told = subst (λ (f : Option BookFault). TellsBy None f first last) is told
+
+    told_ill : (failed : Option BookFault) (fault : BookFault) → failed ≡ Some fault → TellsBy None failed first last → TellsPart first last fault
+    told_ill failed fault is told = subst (λ (f : Option BookFault). TellsBy None f first last) is told
+
+    -- no fault of a device is taken back
+    pub reads_later : (failed : Option BookFault) → TellsBy None failed first last → IsLater source source'
+    reads_later None told = told.reads_later
+    reads_later (Some fault) told = told.reads_later
+
+    pub puts_later : (failed : Option BookFault) → TellsBy None failed first last → IsLater a.device b.device
+    puts_later None told = told.puts_later
+    puts_later (Some fault) told = told.puts_later
+
+    -- where the answer isn't Write the account's device never failed
+    steady_by : (failed : Option BookFault) (driven : Result (Unit {0}) (DriveFault BookFault)) → Heard failed driven
+        → ended_by new.stop new.frames new.count driven ≢ Err Write → b.device.faults ≡ a.device.faults
+    steady_by failed (Ok done) h other = (told_well failed h.well h.leads).steady
+    steady_by failed (Err (Feed Failed)) h other = absurd (other refl)
+    steady_by failed (Err (Feed NoMemory)) h other = (told_ill failed NoMemory (h.fault NoMemory refl) h.leads).steady refl
+    steady_by failed (Err DriveMemory) h other = (told_well failed (h.lacking refl) h.leads).steady
+
+    pub steady : (failed : Option BookFault) (driven : Result (Unit {0}) (DriveFault BookFault)) (result : Result Ended StopFault)
+        → Heard failed driven → result ≡ ended_by new.stop new.frames new.count driven → result ≢ Err Write → b.device.faults ≡ a.device.faults
+    steady failed driven result h is other = steady_by failed driven h (λ e. other (is ∙ e))
+
+    heard_by : (failed : Option BookFault) (driven : Result (Unit {0}) (DriveFault BookFault)) → Heard failed driven → a.Waits [] → (b.Waits [] → b.pieces [] ≡ [])
+        → Came (ended_by new.stop new.frames new.count driven)
+    heard_by failed (Ok done) h rests nothing =
+        ends (told_well failed h.well h.leads) (ap all_due (none_in new.due h.taken)) rests nothing new.stop refl h.ended
+    heard_by failed (Err (Feed fault)) h rests nothing = stops_as fault (told_ill failed fault (h.fault fault refl) h.leads)
+    heard_by failed (Err DriveMemory) h rests nothing =
+        let tells = told_well failed (h.lacking refl) h.leads in
+        in_part start a.pieces head source' a.device b.device last.standing.reader tells.items new.stop tells.taken (all_due new.due) refl tells.reads tells.jobs
+        (λ more. subst (λ (xs : List P). GrowsByPart a.device b.device xs) (sym (tells.first more))
+        (grows_by_part-front a.device b.device tells.put (b.pieces more) (by_part a.device b.device tells.put tells.grows)))
+
+    -- the end of the reading, as its drive and its desk tell it
+    pub heard : (failed : Option BookFault) (driven : Result (Unit {0}) (DriveFault BookFault)) (result : Result Ended StopFault)
+        → Heard failed driven → a.Waits [] → (b.Waits [] → b.pieces [] ≡ []) → result ≡ ended_by new.stop new.frames new.count driven → Came result
+    heard failed driven result h rests nothing is = subst Came (sym is) (heard_by failed driven h rests nothing)
+
+-- an answer that is a fault of this kind
+pub stops_with : (result : Result Ended StopFault) (P : Ended → Type 0) (R Q : StopFault → Type 0) → IsErr result → IsErrAnd result Q → ((e : StopFault) → Q e → R e)
+    → MatchResult result P R
+stops_with (Ok x) P R Q is and so = absurd (false≢true is)
+stops_with (Err e) P R Q is and so = so e and

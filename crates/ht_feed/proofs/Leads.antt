@@ -1,0 +1,128 @@
+-- What the calls of a desk between a source and an account lead to.
+use Rattle.std.proofs.Common.{◌≡◌, ℕ, ◌+◌, List, [], ◌∷◌, ◌++◌, drop, take, length, Option, None, Some, Result, Ok, Err, OnErr, OnOk, IfErr, refl, ap, ◌∙◌, sym, subst, arith}
+use Rattle.std.proofs.Common.{append-nil, append_assoc}
+use Rattle.std.proofs.lemmas.Option.{none-some}
+use Rattle.ht_io.specs.Devices.{Device, Rose, IsLater}
+use Rattle.ht_io.proofs.Calls.{grows-none, grows_by_part-none, later-refl}
+use Rattle.ht_fields.specs.Meanings.{Meaning}
+use Rattle.ht_feed.specs.declared.book_fault.BookFault.{BookFault}
+use Rattle.ht_feed.specs.declared.book_fault.BookFault.TheVariants.{Failed, NoMemory}
+use Rattle.ht_feed.specs.Items.{Item, Begins, One, Headed, headed, jobs_of}
+use Rattle.ht_feed.specs.Dues.{Due, all_due, headed_due}
+use Rattle.ht_feed.specs.Accounts.{PutsBlock, PutsPartOf, Telling}
+use Rattle.ht_feed.specs.Desks.{DeskView, ReadsMore, standing}
+use Rattle.ht_feed.specs.Leading.{reads_none}
+use Rattle.ht_feed.specs.Telling.{Seen, Tells, TellsBy, TellsPart, seen_by}
+
+length-headed : {H : Type 0} (head : H) (items : List (Item H)) → length (headed head items) ≡ length (jobs_of items)
+length-headed head [] = refl
+length-headed head (Begins next ∷ items) = length-headed next items
+length-headed head (One job ∷ items) = let e = length-headed head items in omega (arith, e)
+
+-- what is kept back may wait while more jobs are due
+waits_all : {H : Type 0} (Waits : List (Headed H) → Type 0) → ((due : List (Headed H)) (h : Headed H) → Waits due → Waits (due ++ h ∷ []))
+    → (due came : List (Headed H)) → Waits due → Waits (due ++ came)
+waits_all Waits one due [] w = subst Waits (sym (append-nil due)) w
+waits_all Waits one due (h ∷ hs) w = subst Waits (append_assoc due (h ∷ []) hs) (waits_all Waits one (due ++ h ∷ []) hs (one due h w))
+
+all_due-first : {H : Type 0} (blocks : List (Due H)) → all_due blocks ++ [] ≡ all_due (take 1 blocks) ++ all_due (drop 1 blocks)
+all_due-first [] = refl
+all_due-first {H = H} (b ∷ bs) =
+    append-nil (all_due (b ∷ bs)) ∙ ap (λ (hs : List (Headed H)). hs ++ all_due bs) (sym (append-nil (headed_due b)))
+
+-- readers of R mean this and are here
+module _ {R H P : Type 0} (means : R → List ℕ → Meaning (Item H)) (at : R → ℕ) where
+  -- the desk read on
+  pub tells_given : (old new : DeskView R H) (source after : Device ℕ) (account : Telling H P)
+      → ((due : List (Headed H)) (h : Headed H) → account.Waits due → account.Waits (due ++ h ∷ []))
+      → ReadsMore means at old new source after → Tells (seen_by means at old source account) (seen_by means at new after account)
+  tells_given old new source after account more r =
+      let f = r.finds in
+      record {
+        items = f.items;
+        taken = [];
+        put = [];
+        reads = f.reads;
+        head = f.head;
+        jobs = ap (λ (xs : List (Headed H)). all_due old.due ++ xs) f.jobs ∙ sym r.due;
+        first = λ ys. refl;
+        grows = grows-none account.device;
+        waits = λ w. subst account.Waits (sym r.due) (waits_all account.Waits more (all_due old.due) r.came w);
+        steady = refl;
+        frames = f.frames;
+        count = r.count ∙ ap (λ (n : ℕ). old.count + n) (ap (λ (xs : List (Headed H)). length xs) (sym f.jobs) ∙ length-headed old.head f.items);
+        reads_later = f.later;
+        puts_later = later-refl account.device;
+      }
+
+  -- memory lacked before anything was read
+  pub tells_lacking : (old new : DeskView R H) (source after : Device ℕ) (account : Telling H P) → new ≡ old → after ≡ source
+      → TellsPart (seen_by means at old source account) (seen_by means at new after account) NoMemory
+  tells_lacking old new source after account is same =
+      let here = seen_by means at old source account in
+      let part : TellsPart here here NoMemory = record {
+        items = [];
+        taken = [];
+        rest = all_due old.due;
+        reads = reads_none here.standing;
+        jobs = append-nil (all_due old.due);
+        part = λ more. grows_by_part-none account.device (account.pieces more);
+        reads_later = later-refl source;
+        puts_later = later-refl account.device;
+        cause = λ write. cc;
+        steady = λ memory. refl;
+      } in
+      subst (λ (d : DeskView R H). TellsPart here (seen_by means at d after account) NoMemory) (sym is)
+      (subst (λ (s : Device ℕ). TellsPart here (seen_by means at old s account) NoMemory) (sym same) part)
+
+  -- the answer to the first block was taken, and pieces were put
+  pub tells_taken : (old new : DeskView R H) (source : Device ℕ) (a b : Telling H P) → new ≡ record old { due = drop 1 old.due }
+      → PutsBlock a.device b.device a.pieces b.pieces (all_due (take 1 old.due)) → (a.Waits (all_due old.due) → b.Waits (all_due (drop 1 old.due)))
+      → IsLater a.device b.device → b.device.faults ≡ a.device.faults
+      → Tells (seen_by means at old source a) (seen_by means at new source b)
+  tells_taken old new source a b is puts waits le steady =
+      subst (λ (d : DeskView R H). Tells (seen_by means at old source a) (seen_by means at d source b)) (sym is)
+      (record {
+        items = [];
+        taken = all_due (take 1 old.due);
+        put = puts.0;
+        reads = reads_none (standing means at old.reader old.stop source);
+        head = refl;
+        jobs = all_due-first old.due;
+        first = puts.2;
+        grows = puts.1;
+        waits = waits;
+        steady = steady;
+        frames = omega arith;
+        count = omega arith;
+        reads_later = later-refl source;
+        puts_later = le;
+      })
+
+  -- the pieces of the first block could not be put, or not made
+  pub tells_refused : (old new : DeskView R H) (source : Device ℕ) (a b : Telling H P) (fault : BookFault) → new ≡ old
+      → PutsPartOf a.device b.device a.pieces (all_due (take 1 old.due)) → IsLater a.device b.device
+      → (fault ≡ Failed → Rose a.device b.device) → (fault ≡ NoMemory → b.device.faults ≡ a.device.faults)
+      → TellsPart (seen_by means at old source a) (seen_by means at new source b) fault
+  tells_refused old new source a b fault is part le cause steady =
+      subst (λ (d : DeskView R H). TellsPart (seen_by means at old source a) (seen_by means at d source b) fault) (sym is)
+      (record {
+        items = [];
+        taken = all_due (take 1 old.due);
+        rest = all_due (drop 1 old.due);
+        reads = reads_none (standing means at old.reader old.stop source);
+        jobs = all_due-first old.due;
+        part = part;
+        reads_later = later-refl source;
+        puts_later = le;
+        cause = cause;
+        steady = steady;
+      })
+
+-- none failed before
+pub well : {H P : Type 0} (x y : Option BookFault) (old new : Seen H P) → x ≡ None → y ≡ x → Tells old new → TellsBy x y old new
+well x y old new none same told =
+    subst (λ (f : Option BookFault). TellsBy f y old new) (sym none) (subst (λ (f : Option BookFault). TellsBy None f old new) (sym (same ∙ none)) told)
+
+pub ill : {H P : Type 0} (x : Option BookFault) (old new : Seen H P) (fault : BookFault) → x ≡ None → TellsPart old new fault → TellsBy x (Some fault) old new
+ill x old new fault none told = subst (λ (f : Option BookFault). TellsBy f (Some fault) old new) (sym none) told

@@ -1,0 +1,10 @@
+pub mod Finding
+pub mod Filling
+pub mod Taking
+pub mod Leads
+pub mod Ending
+pub mod Finishing
+pub mod Mapping
+pub mod Measuring
+pub mod Detecting
+mod Worked

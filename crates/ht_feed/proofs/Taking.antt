@@ -1,0 +1,35 @@
+-- The first block due is taken.
+use Rattle.std.proofs.Common.{◌≡◌, ℕ, List, [], ◌∷◌, ◌++◌, drop, take, slice_get, Option, None, Some, refl, ap, ◌∙◌, sym, subst, append-nil}
+use Rattle.std.proofs.lemmas.Option.{none-some, same_Some}
+use Rattle.ht_io.specs.Devices.{Device}
+use Rattle.ht_metric.specs.Jobs.{JobView}
+use Rattle.ht_feed.specs.Items.{Headed}
+use Rattle.ht_feed.specs.Accounts.{PutsBlock, PutsPartOf}
+use Rattle.ht_feed.specs.Dues.{Due, all_due, due_of, headed_due, jobs_in}
+
+module _ {H : Type 0} where
+  pub none_due : (due : List (Due H)) (jobs : List JobView) → slice_get due 0 ≡ None → slice_get (jobs_in due) 0 ≡ Some jobs → ⊥
+  none_due [] jobs none some = none-some jobs some
+  none_due (d ∷ ds) jobs none some = none-some d (sym none)
+
+  -- the first of the blocks is due with this head and these jobs
+  pub first_due : (due : List (Due H)) (d : Due H) (head : H) (jobs : List JobView) → slice_get due 0 ≡ Some d → head ≡ d.head
+      → slice_get (jobs_in due) 0 ≡ Some jobs → due ≡ due_of head jobs ∷ drop 1 due
+  first_due [] d head jobs first is asked = absurd (none-some d first)
+  first_due (b ∷ bs) d head jobs first is asked =
+      let heads : b.head ≡ head = ap (λ (y : Due H). y.head) (same_Some b d first) ∙ sym is in
+      let same : b.jobs ≡ jobs = same_Some b.jobs jobs asked in
+      ap (λ (h : H). due_of h b.jobs ∷ bs) heads ∙ ap (λ (js : List JobView). due_of head js ∷ bs) same
+
+  pub first_get : (due : List (Due H)) (d : Due H) → due ≡ d ∷ drop 1 due → slice_get due 0 ≡ Some d
+  first_get due d is = ap (λ (bs : List (Due H)). slice_get bs 0) is
+
+  first_all : (due : List (Due H)) (d : Due H) → due ≡ d ∷ drop 1 due → all_due (take 1 due) ≡ headed_due d
+  first_all due d is = ap (λ (bs : List (Due H)). all_due (take 1 bs)) is ∙ append-nil (headed_due d)
+
+  module _ {P : Type 0} (a b : Device P) (old new : List (Headed H) → List P) where
+    pub puts_of : (due : List (Due H)) (d : Due H) → due ≡ d ∷ drop 1 due → PutsBlock a b old new (headed_due d) → PutsBlock a b old new (all_due (take 1 due))
+    puts_of due d is puts = subst (λ (hs : List (Headed H)). PutsBlock a b old new hs) (sym (first_all due d is)) puts
+
+    pub part_of : (due : List (Due H)) (d : Due H) → due ≡ d ∷ drop 1 due → PutsPartOf a b old (headed_due d) → PutsPartOf a b old (all_due (take 1 due))
+    part_of due d is part = subst (λ (hs : List (Headed H)). PutsPartOf a b old hs) (sym (first_all due d is)) part

@@ -1,0 +1,13 @@
+pub mod Items
+pub mod Reading
+pub mod Dues
+pub mod Accounts
+pub mod Feeds
+pub mod Desks
+pub mod Telling
+pub mod Leading
+pub mod Feeding
+pub mod Stops
+pub mod Outcomes
+pub mod Captures
+pub mod Meters

@@ -1,0 +1,76 @@
+-- What a desk between a source and an account does: what was read, which hits were taken, and what was put of them.
+use Rattle.std.specs.Prelude.{◌≡◌, ℕ, ◌+◌, List, ◌++◌, Option, None, Some, length}
+use Rattle.ht_io.specs.Devices.{Device, Grows, Rose, IsLater}
+use Rattle.ht_fields.specs.Meanings.{Meaning}
+use Rattle.ht_feed.specs.declared.book_fault.BookFault.{BookFault}
+use Rattle.ht_feed.specs.declared.book_fault.BookFault.TheVariants.{Failed, NoMemory}
+use Rattle.ht_feed.specs.Items.{Item, Headed, headed, last_head, frames_of, jobs_of}
+use Rattle.ht_feed.specs.Dues.{all_due}
+use Rattle.ht_feed.specs.Reading.{Standing, ReadsOn}
+use Rattle.ht_feed.specs.Accounts.{PutsFirst, PutsPartOf, Telling}
+use Rattle.ht_feed.specs.Desks.{DeskView, standing}
+
+-- what is seen of a desk between its devices: where its reader stands, the head that came last and how many came, the
+-- jobs that are due and how many were given, and its account
+pub record Seen (H P : Type 0) : Type 1 where
+  pub standing : Standing (Item H)
+  pub head : H
+  pub frames : ℕ
+  pub due : List (Headed H)
+  pub count : ℕ
+  pub account : Telling H P
+
+abbrev pub seen_by : {R H P : Type 0} → (R → List ℕ → Meaning (Item H)) → (R → ℕ) → DeskView R H → Device ℕ → Telling H P → Seen H P
+seen_by means at desk source account = record {
+  standing = standing means at desk.reader desk.stop source;
+  head = desk.head;
+  frames = desk.frames;
+  due = all_due desk.due;
+  count = desk.count;
+  account = account;
+}
+
+module _ {H P : Type 0} where
+  -- items were read, hits of jobs were taken in order, and of the pieces of those jobs the first were put; the account's
+  -- device never failed
+  pub record Tells (old new : Seen H P) : Type 0 where
+    pub items : List (Item H)
+    pub taken : List (Headed H)
+    pub put : List P
+    pub reads : ReadsOn old.standing new.standing items
+    pub head : new.head ≡ last_head old.head items
+    pub jobs : old.due ++ headed old.head items ≡ taken ++ new.due
+    pub first : PutsFirst old.account.pieces new.account.pieces taken put
+    pub grows : Grows old.account.device new.account.device put
+    pub waits : old.account.Waits old.due → new.account.Waits new.due
+    pub steady : new.account.device.faults ≡ old.account.device.faults
+    pub frames : new.frames ≡ old.frames + frames_of items
+    pub count : new.count ≡ old.count + length (jobs_of items)
+    pub reads_later : IsLater old.standing.reader.source new.standing.reader.source
+    pub puts_later : IsLater old.account.device new.account.device
+
+  -- items were read, and a part of the pieces of some of their jobs was put; the account's device has counted it exactly
+  -- where it failed
+  pub record TellsPart (old new : Seen H P) (fault : BookFault) : Type 0 where
+    pub items : List (Item H)
+    pub taken : List (Headed H)
+    pub rest : List (Headed H)
+    pub reads : ReadsOn old.standing new.standing items
+    pub jobs : old.due ++ headed old.head items ≡ taken ++ rest
+    pub part : PutsPartOf old.account.device new.account.device old.account.pieces taken
+    pub reads_later : IsLater old.standing.reader.source new.standing.reader.source
+    pub puts_later : IsLater old.account.device new.account.device
+    pub cause : fault ≡ Failed → Rose old.account.device new.account.device
+    pub steady : fault ≡ NoMemory → new.account.device.faults ≡ old.account.device.faults
+
+  -- nothing was read or put
+  pub record RestsThen (old new : Seen H P) : Type 0 where
+    pub standing : old.standing ≡ new.standing
+    pub device : old.account.device ≡ new.account.device
+
+  -- what was done by calls of which none failed, or one and then all; behind a failure nothing is done
+  abbrev pub TellsBy : Option BookFault → Option BookFault → Seen H P → Seen H P → Type 0
+  TellsBy None None old new = Tells old new
+  TellsBy None (Some fault) old new = TellsPart old new fault
+  TellsBy (Some fault) None old new = ⊥
+  TellsBy (Some fault) (Some other) old new = (fault ≡ other) × RestsThen old new

@@ -1,0 +1,23 @@
+//! What is answered of the jobs of a block.
+ghost use Rattle.std.specs.Prelude.{◌^◌, ◌<◌, List, length, IfOk};
+ghost use Rattle.ht_metric.specs.Jobs.{JobView};
+
+use crate::jobs::Jobs;
+use std::alloc::AllocError;
+
+/// What is found for the jobs of a block, in the form in which an account takes it.
+pub trait Answer {
+    /// It is the answer to these jobs.
+    ghost answers: { Self → List JobView → Type 0 };
+}
+
+/// What finds the answers to the jobs of a block.
+pub trait Work<B: Jobs> {
+    /// What it answers.
+    type Answer: Answer + Drop;
+
+    /// The answer to the jobs of a block. The only error is lack of memory.
+    fn run(&self, block: &B) -> Result<Self::Answer, AllocError>
+        requires few { length (B.jobs block.now) < 2 ^ 16 }
+        ensures right { IfOk result (λ answer. Self.Answer.answers answer (B.jobs block.now)) };
+}

@@ -1,0 +1,191 @@
+//! What is due between a reader and an account.
+ghost use Rattle.std.specs.Prelude.{◌≡◌, ◌+◌, ◌-◌, ◌^◌, ◌<◌, ◌≤◌, ◌++◌, [], ◌∷◌, None, Some, true, length, take, drop, slice_get};
+ghost use Rattle.std.specs.Prelude.{IfErr, IfNone, IfOk, IfSome, OnErr, OnOk};
+ghost use Rattle.circular_buffer.specs.Buffer.{buffer};
+ghost use Rattle.ht_io.specs.Devices.{IsLater, Rose};
+ghost use Rattle.ht_feed.specs.Accounts.{PutsBlock, PutsPartOf};
+ghost use Rattle.ht_feed.specs.Desks.{AddsBlock, AddsNone, IsSoundDesk, ReadsMore, desk_view};
+ghost use Rattle.ht_feed.specs.Dues.{all_due, count_in, due_of, jobs_in};
+ghost use Rattle.ht_feed.specs.Reading.{Counts};
+
+use crate::account::Account;
+use crate::answer::Answer;
+use crate::book_fault::BookFault;
+use crate::due_block::DueBlock;
+use crate::jobs::Jobs;
+use crate::reader::BlockReader;
+use crate::reading::next_block;
+use crate::stop::Stop;
+use circular_buffer::HeapCircularBuffer;
+use ht_io::Source;
+use std::alloc::{AllocError, Global};
+use std::marker::Model;
+
+/// The most jobs that may be due.
+const DUE: usize = 4096;
+
+/// A reader, and the blocks that it gave and whose hits weren't taken yet.
+#[derive(Drop)]
+pub struct Desk<R: BlockReader + Drop> {
+    reader: R,
+    // How the reading stopped, once it has.
+    stop: Option<Stop>,
+    // The head that came last; any, where none came.
+    head: R::Head,
+    // The number of frames that began.
+    frames: u64,
+    // The blocks that are due, in order.
+    due: HeapCircularBuffer<DueBlock<R>>,
+    // The number of jobs given.
+    count: u64,
+}
+
+impl<R: BlockReader + Drop> Model for Desk<R> {
+    ghost use Rattle.ht_feed.specs.Desks.{DeskView, IsSoundDesk, desk_view};
+
+    ghost Value = { DeskView R R.Head };
+
+    ghost view = { λ d. desk_view d.reader d.stop d.head d.frames d.due.items d.count };
+
+    ghost invariant = { λ d. IsSoundDesk R.counts (desk_view d.reader d.stop d.head d.frames d.due.items d.count) };
+}
+
+impl<R: BlockReader + Drop> Desk<R> {
+    /// A desk in front of a reader that gave nothing yet, with room for this many blocks that are due. Where more become
+    /// due it takes more memory. Until a head comes, `head` stands for the one that came last. The only error is lack of
+    /// memory.
+    pub fn new(alloc: Global, reader: R, head: R::Head, room: u16) -> Result<Desk<R>, AllocError>
+        requires going { (R.counts reader).going ≡ true }
+        requires fresh { (R.counts reader).given ≡ 0 }
+        requires bounded { (R.counts reader).more < 2 ^ 64 - 1 }
+        ensures { IfOk result (λ desk. desk ≡ desk_view reader None head 0 [] 0) }
+    {
+        Ok(Desk {
+            reader,
+            stop: None,
+            head,
+            frames: 0,
+            due: HeapCircularBuffer::with_capacity(alloc, usize::from(room))?,
+            count: 0,
+        })
+    }
+
+    /// How the reading stopped, once it has.
+    #[must_use]
+    pub fn stop(&self) -> Option<Stop>
+        ensures { result ≡ self.now.stop }
+    {
+        self.stop
+    }
+
+    /// The number of frames that began.
+    #[must_use]
+    pub fn frames(&self) -> u64
+        ensures { result ≡ self.now.frames }
+    {
+        self.frames
+    }
+
+    /// The number of jobs that were given.
+    #[must_use]
+    pub fn count(&self) -> u64
+        ensures { result ≡ self.now.count }
+    {
+        self.count
+    }
+
+    /// Gives the next block, of at most `most` jobs, which is due from now on, or none where the reading stops. With it at
+    /// most 4096 jobs are due. The only error is lack of memory, and then nothing was read.
+    pub fn next<S: Source>(
+        &mut self,
+        most: u16,
+        source: &mut S,
+    ) -> Result<Option<R::Block>, AllocError>
+        requires going { self.old.stop ≡ None }
+        requires some { 1 ≤ most }
+        requires room { count_in (jobs_in self.old.due) + most ≤ 4096 }
+        ensures block { IfOk result (λ given. IfSome given (λ block. AddsBlock R.counts most self.old self.new (R.Block.jobs block))) }
+        ensures none { IfOk result (λ given. IfNone given (AddsNone self.old self.new)) }
+        ensures reads { OnOk result (ReadsMore R.means R.at self.old self.new (S.shown source.old) (S.shown source.new)) }
+        ensures memory { OnErr result ((self.new ≡ self.old) × (source.new ≡ source.old)) }
+        ensures sound { IsSoundDesk R.counts self.new }
+    {
+        make_room(&mut self.due)?;
+        let (reader, head, frames) = (&mut self.reader, &mut self.head, &mut self.frames);
+        match next_block(reader, head, frames, most, source) {
+            Ok(block) => {
+                self.count += u64::from(block.size());
+                keep(&mut self.due, &self.head, &block);
+                Ok(Some(block))
+            }
+            Err(stop) => {
+                self.stop = Some(stop);
+                Ok(None)
+            }
+        }
+    }
+
+    /// Hands an account the answer to the first block due, which is due no longer. Where the account refuses, all stays as
+    /// it was.
+    pub fn take<A: Account<R>>(
+        &mut self,
+        block: &R::Block,
+        answer: &A::Answer,
+        account: &mut A,
+    ) -> Result<(), BookFault>
+        requires right { A.Answer.answers answer.now (R.Block.jobs block.now) }
+        requires first { slice_get (jobs_in self.old.due) 0 ≡ Some (R.Block.jobs block.now) }
+
+        // What was put, and what is left to put.
+        ensures put { OnOk result (PutsBlock (A.shown account.old) (A.shown account.new) (A.pieces account.old) (A.pieces account.new) (all_due (take 1 self.old.due))) }
+        ensures part { OnErr result (PutsPartOf (A.shown account.old) (A.shown account.new) (A.pieces account.old) (all_due (take 1 self.old.due))) }
+        ensures waits { OnOk result (A.waits account.old (all_due self.old.due) → A.waits account.new (all_due (drop 1 self.old.due))) }
+
+        // What is due.
+        ensures due { OnOk result (self.new ≡ record self.old { due = drop 1 self.old.due }) }
+        ensures stays { OnErr result (self.new ≡ self.old) }
+        ensures sound { IsSoundDesk R.counts self.new }
+
+        // The device has counted a fault exactly where it failed.
+        ensures cause { IfErr result (λ fault. fault ≡ BookFault.Failed → Rose (A.shown account.old) (A.shown account.new)) }
+        ensures steady { OnOk result ((A.shown account.new).faults ≡ (A.shown account.old).faults) }
+        ensures unfailed { IfErr result (λ fault. fault ≡ BookFault.NoMemory → (A.shown account.new).faults ≡ (A.shown account.old).faults) }
+        ensures later { IsLater (A.shown account.old) (A.shown account.new) }
+        ensures same { A.lent account.new ≡ A.lent account.old }
+    {
+        let Some(first) = self.due.get(0) else {
+            unreachable!();
+        };
+        let head = *first.head();
+        match account.take(&head, block, answer, &self.due) {
+            Ok(()) => {
+                let _ = self.due.pop_front();
+                Ok(())
+            }
+            Err(fault) => Err(fault),
+        }
+    }
+}
+
+// Makes room for one more block that is due, of which there are fewer than may be.
+fn make_room<T: Drop>(due: &mut HeapCircularBuffer<T>) -> Result<(), AllocError>
+    requires { length due.old.items < 4096 }
+    ensures items { due.new.items ≡ due.old.items }
+    ensures room { OnOk result (length due.new.items < due.new.capacity) }
+{
+    if due.len() < due.capacity() {
+        return Ok(());
+    }
+    due.resize(DUE)
+}
+
+// Keeps a block that is due behind the others, with the head of its frame.
+fn keep<R: BlockReader>(due: &mut HeapCircularBuffer<DueBlock<R>>, head: &R::Head, block: &R::Block)
+    requires room { length due.old.items < due.old.capacity }
+    requires some { 1 ≤ length (R.Block.jobs block.now) }
+    ensures { due.new ≡ buffer (due.old.items ++ due_of head.now (R.Block.jobs block.now) ∷ []) due.old.capacity }
+{
+    let Ok(()) = due.try_push_back(DueBlock::of(head, block)) else {
+        unreachable!();
+    };
+}

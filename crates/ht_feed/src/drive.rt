@@ -1,0 +1,62 @@
+//! The drive of a feed of blocks without threads.
+ghost use Rattle.std.specs.Prelude.{◌≡◌, ◌≤◌, [], true, Err, None, Some, OnOk};
+ghost use Rattle.ht_feed.specs.Dues.{count_in};
+ghost use Rattle.ht_feed.specs.Feeds.{IsFreshFeed};
+
+use crate::answer::Work;
+use crate::feed::BlockFeed;
+use crate::jobs::Jobs;
+use thiserror::Error;
+
+/// Why a drive ended before its feed did.
+#[derive(Clone, Copy, Debug, PartialEq, Eq, Error)]
+pub enum DriveFault<F> {
+    /// A call of the feed failed with this.
+    #[error("the feed failed")]
+    Feed(F),
+    /// Out of memory.
+    #[error("out of memory")]
+    NoMemory,
+}
+
+/// Runs all blocks of a feed, in this thread, and hands it their answers in the order of the blocks.
+///
+/// The feed has given nothing yet. One block is due at a time, of at most `window` jobs, 1 to 4096.
+///
+/// It refuses with the feed's fault, or where the work was out of memory.
+pub fn drive_alone<F: BlockFeed, W: Work<F::Block, Answer = F::Answer>>(
+    window: u16,
+    work: &W,
+    feed: &mut F,
+) -> Result<(), DriveFault<F::Fault>>
+    requires some { 1 ≤ window }
+    requires few { window ≤ 4096 }
+    requires fresh { IsFreshFeed (F.shown feed.old) }
+
+    // However it ends.
+    ensures leads { F.leads feed.old feed.new }
+    ensures due { count_in (F.shown feed.new).due ≤ window }
+
+    // When the feed has ended, every block was run and taken, and no call failed.
+    ensures ended { OnOk result ((F.shown feed.new).ended ≡ true) }
+    ensures taken { OnOk result ((F.shown feed.new).due ≡ []) }
+    ensures well { OnOk result ((F.shown feed.new).failed ≡ None) }
+
+    // What it refuses with.
+    ensures fault { (fault : F.Fault) → result ≡ Err (DriveFault.Feed fault) → (F.shown feed.new).failed ≡ Some fault }
+    ensures memory { result ≡ Err DriveFault.NoMemory → (F.shown feed.new).failed ≡ None }
+{
+    loop {
+        let block = match feed.next(window) {
+            Ok(Some(block)) => block,
+            Ok(None) => return Ok(()),
+            Err(fault) => return Err(DriveFault::Feed(fault)),
+        };
+        let Ok(answer) = work.run(&block) else {
+            return Err(DriveFault::NoMemory);
+        };
+        if let Err(fault) = feed.take(&block, &answer) {
+            return Err(DriveFault::Feed(fault));
+        }
+    }
+}
