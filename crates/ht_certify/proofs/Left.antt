@@ -1,5 +1,5 @@
 -- What is left of the records of symbols, one more having been made.
-use Rattle.std.proofs.Common.{◌≡◌, ℕ, zero, suc, ◌+◌, ◌-◌, ◌*◌, ◌<◌, List, [], ◌∷◌, ◌++◌, get_or, length, take, drop, map, flat_map, Bool, true, false, if◌then◌else◌, refl, sym, ap, ◌∙◌, add-one, append_assoc, arith}
+use Rattle.std.proofs.Common.{◌≡◌, ℕ, suc, ◌+◌, ◌-◌, ◌*◌, ◌<◌, List, [], ◌∷◌, ◌++◌, get_or, length, take, drop, map, flat_map, Bool, true, if◌then◌else◌, refl, sym, ap, ◌∙◌, append_assoc, arith}
 use Rattle.std.proofs.lemmas.List.{drop_more, map-append, append-nil}
 use Rattle.std.proofs.lemmas.Grind.{flat_map-append}
 use Rattle.std.proofs.Math.Nat.{suc-mul}
@@ -10,7 +10,6 @@ use Rattle.ht_pam.specs.declared.axes.Axes.{Axes}
 use Rattle.ht_metric.specs.declared.sample.Sample.{Sample}
 use Rattle.ht_metric.specs.Rows.{Leg, Row, rows_of}
 use Rattle.ht_capture.specs.declared.frames.CaptureFrame.{CaptureFrame}
-use Rattle.ht_capture.specs.declared.places.Present.{Present}
 use Rattle.ht_capture.specs.Contents.{presents, seen}
 use Rattle.ht_capture.specs.Files.{is_erased, present_among, triangles_behind}
 use Rattle.ht_capture.proofs.Written.{left_next}

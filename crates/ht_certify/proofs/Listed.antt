@@ -1,5 +1,5 @@
 -- The subcarriers of a frame that are present.
-use Rattle.std.proofs.Common.{◌≡◌, ℕ, zero, suc, ◌+◌, ◌≤◌, List, [], ◌∷◌, ◌++◌, length, map, slice_index_or, Bool, true, false, All, if◌then◌else◌, refl, ap, sym, subst, ◌∙◌, arith}
+use Rattle.std.proofs.Common.{◌≡◌, ℕ, zero, suc, ◌+◌, ◌≤◌, List, [], ◌∷◌, ◌++◌, length, map, Bool, true, false, All, if◌then◌else◌, sym, subst, ◌∙◌, arith}
 use Rattle.std.proofs.lemmas.List.{length-map}
 use Rattle.std.specs.List.{AllByRecursion}
 use Rattle.std.proofs.lemmas.List.Elements.{All-from_recursion, All-head, All-tail}
@@ -7,7 +7,6 @@ use Rattle.ht_rate.specs.declared.rates.Rate.{Rate}
 use Rattle.ht_rate.specs.Rates.{carriers_of, streams_of}
 use Rattle.ht_metric.specs.Rows.{Leg}
 use Rattle.ht_capture.specs.declared.frames.CaptureFrame.{CaptureFrame}
-use Rattle.ht_capture.specs.declared.places.Present.{Present}
 use Rattle.ht_capture.specs.Contents.{presents, presents_of, seen}
 use Rattle.ht_capture.specs.Files.{FitsFrame, is_erased, present_among, present_of, triangles_behind}
 use Rattle.ht_capture.proofs.Filed.{length-presents}

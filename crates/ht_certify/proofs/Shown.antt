@@ -15,13 +15,11 @@ use Rattle.ht_rate.specs.Rates.{modulation_of, streams_of, symbols_of}
 use Rattle.ht_map.specs.Constellation.{grid_of}
 use Rattle.ht_metric.specs.declared.place.Place.{Place}
 use Rattle.ht_metric.specs.declared.sample.Sample.{Sample}
-use Rattle.ht_metric.specs.Jobs.{JobView}
 use Rattle.ht_metric.specs.Rows.{Leg, rows_of}
 use Rattle.ht_capture.specs.declared.frames.CaptureFrame.{CaptureFrame}
 use Rattle.ht_capture.specs.declared.items.FrameHead.{FrameHead}
 use Rattle.ht_capture.specs.declared.items.Item.{Item}
 use Rattle.ht_capture.specs.declared.places.Present.{Present}
-use Rattle.ht_capture.specs.Captures.{capture_of}
 use Rattle.ht_capture.specs.Contents.{frame_jobs, head_of, items_from, items_of, job_of, presents_of, symbol_jobs}
 use Rattle.ht_capture.specs.Fields.{captures}
 use Rattle.ht_capture.specs.Files.{capture_file_of}
@@ -37,7 +35,7 @@ use Rattle.ht_cert.specs.declared.record.Record.{Record}
 use Rattle.ht_cert.specs.Files.{certificates_file_of, record_octets, records_start}
 use Rattle.ht_certify.specs.declared.subcarriers.Subcarrier.{Subcarrier}
 use Rattle.ht_certify.specs.Writing.{Writes}
-use Rattle.ht_certify.specs.Certifying.{CertifiesTo, certifying, record_for, records_behind, records_of}
+use Rattle.ht_certify.specs.Certifying.{CertifiesTo, certifying, record_for, records_of}
 use Rattle.ht_certify.specs.Making.{file_of_frames, has_data, records_of_frame, records_of_frames, records_of_symbol, records_of_symbols, records_on, subcarrier_of, subcarriers_of}
 use Rattle.ht_certify.proofs.Numberless.{Same, bare, same_bare, same_file}
 

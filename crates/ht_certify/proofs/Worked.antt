@@ -2,13 +2,12 @@
 use Rattle.std.specs.Prelude.{◌≡◌, ℕ, List, [], ◌∷◌, map, pos, negsuc, true, false, refl}
 use Rattle.ht_rate.specs.declared.kinds.Modulation.{Modulation}
 use Rattle.ht_rate.specs.declared.kinds.Modulation.TheVariants.{Bpsk, Qpsk}
-use Rattle.ht_rate.specs.declared.rates.Rate.{Rate}
 use Rattle.ht_rate.specs.Carriers.{carrier_at, carrier_of}
 use Rattle.ht_rate.specs.Rates.{bandwidth_of, modulation_of, rate_at}
 use Rattle.ht_metric.specs.Jobs.{JobView}
 use Rattle.ht_capture.specs.declared.items.FrameHead.{FrameHead}
 use Rattle.ht_capture.specs.declared.items.Item.{Item}
-use Rattle.ht_capture.specs.declared.items.Item.TheVariants.{Frame, Job, Done}
+use Rattle.ht_capture.specs.declared.items.Item.TheVariants.{Frame, Job}
 use Rattle.ht_cert.specs.declared.record.Record.{Record}
 use Rattle.ht_certify.specs.Certifying.{certificate_of, records_of}
 

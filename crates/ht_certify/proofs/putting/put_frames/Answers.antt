@@ -1,4 +1,4 @@
-use Rattle.std.proofs.Common.{◌≡◌, ◌<◌, List, length, ap, ◌∙◌, rules, arith}
+use Rattle.std.proofs.Common.{◌<◌, length, rules, arith}
 use Rattle.ht_certify.proofs.Left.{frames_left}
 use Rattle.ht_certify.proofs.Passing.{one_breaks, one_more}
 use Rattle.ht_certify.proofs.putting.put_frames.Goals as goal

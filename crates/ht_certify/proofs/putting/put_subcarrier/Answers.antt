@@ -7,7 +7,6 @@ use Rattle.ht_cert.specs.declared.record.Record.{Record}
 use Rattle.ht_cert.specs.Files.{record_octets}
 use Rattle.ht_certify.specs.Certifying.{certificate_of, record_of}
 use Rattle.ht_certify.specs.Making.{job_on, records_on}
-use Rattle.ht_certify.specs.Writing.{Breaks}
 use Rattle.ht_certify.proofs.Fewness.{marks_few}
 use Rattle.ht_certify.proofs.Left.{on_data}
 use Rattle.ht_certify.proofs.Passing.{breaks_as}

@@ -1,8 +1,6 @@
-use Rattle.std.proofs.Common.{◌≡◌, ◌+◌, ◌-◌, ◌*◌, ◌<◌, List, [], get_or, length, take, drop, flat_map, refl, sym, ap, subst, ◌∙◌, rules, arith}
+use Rattle.std.proofs.Common.{◌≡◌, ◌+◌, ◌-◌, ◌*◌, ◌<◌, [], length, take, drop, refl, sym, ap, subst, ◌∙◌, rules, arith}
 use Rattle.std.proofs.lemmas.List.Elements.{All-get_or}
-use Rattle.ht_cert.specs.Files.{record_octets}
 use Rattle.ht_certify.specs.declared.subcarriers.Subcarrier.{Subcarrier}
-use Rattle.ht_certify.specs.Making.{records_of_symbol, records_on}
 use Rattle.ht_certify.proofs.Left.{one_less, symbol_left}
 use Rattle.ht_certify.proofs.Passing.{one_breaks, one_more, passes_none}
 use Rattle.ht_certify.proofs.putting.put_symbol.Goals as goal

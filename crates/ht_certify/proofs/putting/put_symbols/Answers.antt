@@ -1,4 +1,4 @@
-use Rattle.std.proofs.Common.{◌≡◌, suc, ◌+◌, ◌-◌, ◌*◌, ◌<◌, List, [], length, take, drop, flat_map, refl, sym, ap, ◌∙◌, rules, arith}
+use Rattle.std.proofs.Common.{◌≡◌, suc, ◌+◌, ◌-◌, ◌*◌, ◌<◌, [], length, flat_map, refl, sym, ap, ◌∙◌, rules, arith}
 use Rattle.ht_cert.specs.Files.{record_octets}
 use Rattle.ht_certify.specs.Making.{records_of_symbols}
 use Rattle.ht_certify.proofs.Left.{one_less, symbols_left}
