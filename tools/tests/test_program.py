@@ -70,7 +70,7 @@ def test_a_program_on_the_path_is_found(tmp_path, monkeypatch, played):
         find_radio()
     monkeypatch.delenv("MIZGAURE_RADIO")
     monkeypatch.setenv("PATH", str(tmp_path / "lib"))
-    with pytest.raises(ProgramError, match="the program radio wasn't found: it is on no folder of PATH, and MIZGAURE_RADIO isn't set"):
+    with pytest.raises(ProgramError, match="the program radio wasn't found: it is in no folder of PATH, and MIZGAURE_RADIO isn't set"):
         find_radio()
 
 
