@@ -1,5 +1,5 @@
 //! An account that puts how far hits are.
-ghost use Rattle.std.specs.Prelude.{◌≡◌, [], ◌∷◌, map, refl, IfOk};
+ghost use Rattle.std.specs.Prelude.{◌≡◌, [], map, refl, IfOk};
 ghost use Rattle.ht_feed.specs.Meters.{octet_of, octets_of};
 
 use crate::account::Account;
@@ -14,16 +14,16 @@ use std::alloc::{AllocError, Global};
 
 /// Puts an octet for each hit: its distance, or 255 where that is more. It keeps nothing back.
 #[derive(Drop)]
-pub struct Meter<'a, K> {
+pub struct Meter<K> {
     alloc: Global,
-    sink: &'a mut K,
+    /// What it puts octets into.
+    pub sink: K,
 }
 
-impl<'a, K: Sink> Meter<'a, K> {
+impl<K: Sink> Meter<K> {
     /// A meter that puts octets into this sink. It takes no memory until a block comes.
-    pub fn new(alloc: Global, sink: &'a mut K) -> Meter<'a, K>
-        ensures sink { result.sink.now ≡ sink.old }
-        ensures name { result.sink.ghost_name ≡ sink.entry.ghost_name }
+    pub fn new(alloc: Global, sink: K) -> Meter<K>
+        ensures { result.sink ≡ sink }
     {
         Meter { alloc, sink }
     }
@@ -40,14 +40,14 @@ fn octets(alloc: Global, found: &[Found]) -> Result<Vec<u8>, AllocError>
     Ok(octets)
 }
 
-impl<'a, R: BlockReader, K: Sink> Account<R> for Meter<'a, K> {
+impl<R: BlockReader, K: Sink> Account<R> for Meter<K> {
     type Piece = u8;
 
     type Answer = Hits;
 
-    ghost shown = { λ m. K.shown m.sink.now };
+    ghost shown = { λ m. K.shown m.sink };
 
-    ghost lent = { λ m. m.sink.ghost_name ∷ [] };
+    ghost lent = { λ m. [] };
 
     ghost pieces = { λ m jobs. octets_of jobs };
 

@@ -19,24 +19,20 @@ fn zeros(alloc: Global) -> Result<Vec<u8>, AllocError> {
     Ok(octets)
 }
 
-fn no_head(rt: &HostRuntime) -> FrameHead {
-    FrameHead {
-        frame: 0,
-        rate: Rate::of(0, 0).expect(rt, "a rate"),
-        length: 1,
-        erased: 0,
-    }
-}
-
 #[test]
 fn a_capture_of_two_symbols(rt: HostRuntime) -> Result<(), Fail> {
     let alloc = rt.alloc();
     let octets = zeros(alloc)?;
     assert_eq!(rt; octets.len(), 1019usize);
     let mut source = MemSource::new(octets, Vec::new(alloc), Vec::new(alloc));
-    let mut sink = GrowSink::new(alloc);
-    let mut meter = Meter::new(alloc, &mut sink);
-    let desk = Desk::new(alloc, CaptureReader::new(alloc)?, no_head(&rt), 1)?;
+    let mut meter = Meter::new(alloc, GrowSink::new(alloc));
+    let none = FrameHead {
+        frame: 0,
+        rate: Rate::of(0, 0).expect(&rt, "a rate"),
+        length: 1,
+        erased: 0,
+    };
+    let desk = Desk::new(alloc, CaptureReader::new(alloc)?, none, 1)?;
     let mut feed = DeskFeed::new(desk, &mut source, &mut meter);
     let ended = feed.run_alone(1, &Detector { alloc });
     assert_eq!(rt;
@@ -46,6 +42,7 @@ fn a_capture_of_two_symbols(rt: HostRuntime) -> Result<(), Fail> {
             jobs: 112
         })
     );
-    assert_eq!(rt; sink.held(), [100u8; 112].as_slice());
+    drop(feed);
+    assert_eq!(rt; meter.sink.held(), [100u8; 112].as_slice());
     Ok(())
 }

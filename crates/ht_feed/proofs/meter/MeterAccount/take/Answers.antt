@@ -7,7 +7,7 @@ use Rattle.ht_feed.proofs.meter.MeterAccount.take.Goals as goal
 
 pub returns-in-Ok-clause-put : goal.returns-in-Ok-clause-put
 returns-in-Ok-clause-put g c =
-    let a = g.K.Sink.shown c.args.self.now.sink.now in
+    let a = g.K.Sink.shown c.args.self.now.sink in
     let b = g.K.Sink.shown c.put.new.self in
     let made = c.in_ok-octets.ensures ∙ ap (λ (fs : List Found). map octet_of fs) c.as_slice.ensures.value in
     puts c.args.arg2.now (g.R.Block.Jobs.jobs c.args.arg3.now) c.args.hits.now.found.items c.in_ok-octets.octets.items c.requires.right made a b
@@ -15,7 +15,7 @@ returns-in-Ok-clause-put g c =
 
 pub returns-clause-part : goal.returns-clause-part
 returns-clause-part g c =
-    let a = g.K.Sink.shown c.args.self.now.sink.now in
+    let a = g.K.Sink.shown c.args.self.now.sink in
     let b = g.K.Sink.shown c.put.new.self in
     let made = c.in_ok-octets.ensures ∙ ap (λ (fs : List Found). map octet_of fs) c.as_slice.ensures.value in
     part c.args.arg2.now (g.R.Block.Jobs.jobs c.args.arg3.now) c.args.hits.now.found.items c.in_ok-octets.octets.items c.requires.right made a b
