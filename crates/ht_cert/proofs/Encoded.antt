@@ -59,7 +59,7 @@ point_back octets at enough bytes =
           ∙ (ap (λ x. a ∷ x ∷ drop (at + 2) octets) (of_z-to_z w8 b (bytes (at + 1))) ∙ sym two),
     )
 
-length-points_at : (n : ℕ) (octets : List ℕ) (at : ℕ) → length (points_at n octets at) ≡ n
+pub length-points_at : (n : ℕ) (octets : List ℕ) (at : ℕ) → length (points_at n octets at) ≡ n
 length-points_at zero octets at = refl
 length-points_at (suc n) octets at = ap suc (length-points_at n octets (at + 2))
 

@@ -3,7 +3,7 @@ use Rattle.std.proofs.Common.{◌≡◌, ℕ, ◌+◌, ◌-◌, ◌<◌, ◌≤�
 use Rattle.std.proofs.lemmas.List.{append-nil}
 use Rattle.byteorder.specs.Endian.{big_bytes}
 use Rattle.ht_io.specs.Devices.{Device, Takes, TakesAll, IsLater}
-use Rattle.ht_io.proofs.Calls.{later-later, takes-all}
+use Rattle.ht_io.proofs.Calls.{later-later, takes-all, takes-append}
 use Rattle.ht_io.specs.declared.faults.InFault.{InFault}
 use Rattle.ht_io.specs.declared.faults.Kind.TheVariants.{BadModulation, BadStreams, BadMark}
 use Rattle.ht_fields.specs.Lacking.{FailsField, GoesFurther, LacksField}
@@ -17,10 +17,14 @@ use Rattle.ht_heads.specs.Starts.{StartState, Body, Over}
 use Rattle.ht_rate.specs.declared.kinds.Modulation.{Modulation}
 use Rattle.ht_cert.specs.declared.record.Record.{Record}
 use Rattle.ht_cert.specs.declared.turn.Turn.{Turn}
-use Rattle.ht_cert.specs.Records.{claim_width, claimed, code_of, with_marks}
+use Rattle.ht_metric.specs.Arrays.{length-rows_of}
+use Rattle.ht_capture.specs.Systems.{samples_at, triangle_of}
+use Rattle.ht_capture.proofs.Grids.{length-triangle_of}
+use Rattle.ht_cert.specs.Records.{claim_width, claimed, code_of, points_begin, samples_begin, with_marks}
+use Rattle.ht_cert.proofs.Encoded.{length-points_at}
 use Rattle.ht_cert.specs.Formats.{RecordState, Modulated, Streams, Claim, Marks, Mark, certificates, is_no_streams, marks_due, marks_given, next_turn, records_due}
 use Rattle.ht_cert.specs.Files.{mark_octet}
-use Rattle.ht_cert.specs.Readers.{Completes, Fails, GivesRecord, ReadsClaim, here}
+use Rattle.ht_cert.specs.Readers.{Completes, Fails, GivesRecord, HasItsPoints, ReadsClaim, TakesSome, here}
 use Rattle.ht_cert.specs.declared.reader.Came.{Came}
 use Rattle.ht_cert.specs.declared.reader.Came.TheVariants.{Whole, End}
 use Rattle.std.specs.Prelude.{MatchResult}
@@ -187,6 +191,20 @@ claim_none number m streams r a b (octets, wide, is, taken) = ap (λ (z : Record
 pub claim_number : (number : ℕ) (m : Modulation) (streams : ℕ) (r : Record) (a b : Device ℕ) → ReadsClaim number m streams r a b → r.job.number ≡ number
 unfolding claimed
 claim_number number m streams r a b (octets, wide, is, taken) = ap (λ (z : Record). z.job.number) is
+
+-- and a point for each stream
+pub claim_points : (number : ℕ) (m : Modulation) (streams : ℕ) (r : Record) (a b : Device ℕ) → ReadsClaim number m streams r a b → HasItsPoints r
+unfolding claimed
+claim_points number m streams r a b (octets, wide, is, taken) =
+    let t = triangle_of streams octets in
+    let rows = length-rows_of t (samples_at streams octets (samples_begin streams)) ∙ length-triangle_of streams octets t refl in
+    subst HasItsPoints (sym is) (length-points_at streams octets (points_begin streams) ∙ sym rows)
+
+-- memory ran out behind fields that were taken
+pub lacks_memory : (old mid : ReaderView Record) (after : Device ℕ) (items : List Record) (octets : List ℕ) → Gives old mid items
+    → Takes mid.source after octets → TakesSome old.source after
+lacks_memory old mid after items octets g taken =
+    (g.taken ++ octets, takes-append old.source mid.source after g.taken octets g.octets taken)
 
 -- behind the last record the file ends
 pub file_ends : (turn : Turn) (at : ℕ) (a b : Device ℕ) → turn.left ≡ 0 → TakesAll a b [] → Completes (here (records_due turn) at a) b

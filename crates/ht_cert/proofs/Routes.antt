@@ -1,10 +1,11 @@
 -- How the octets of a record lead through the fields of a file, and why they don't.
-use Rattle.std.proofs.Common.{◌≡◌, ℕ, ◌-◌, ◌^◌, ◌<◌, ◌≤◌, List, [], ◌∷◌, length, Bool, true, false, nat_eq, nat_lt, ◌||◌}
-use Rattle.std.proofs.Common.{refl, sym, ap, subst, ◌∙◌, arith}
+use Rattle.std.proofs.Common.{◌≡◌, ℕ, ◌-◌, ◌^◌, ◌<◌, ◌≤◌, List, [], ◌∷◌, ◌++◌, length, Bool, true, false, nat_eq, nat_lt, ◌||◌}
+use Rattle.std.proofs.Common.{refl, ap, ◌∙◌, arith}
 use Rattle.std.proofs.lemmas.Bool.Decides.{nat_tests}
 use Rattle.byteorder.specs.Endian.{big_bytes, big_number}
 use Rattle.byteorder.specs.Numbers.{big_number-reads_back}
 use Rattle.ht_io.specs.Devices.{Device, IsLater}
+use Rattle.ht_io.proofs.Calls.{takes-append}
 use Rattle.ht_io.specs.declared.faults.InFault.{InFault}
 use Rattle.ht_io.specs.declared.faults.InFault.TheVariants.{Format, Read, NoMemory}
 use Rattle.ht_io.specs.declared.faults.Kind.TheVariants.{BadLength, BadModulation, BadStreams, BadMark}
@@ -172,14 +173,12 @@ mark_halts turn r left at source after fault fails =
 pub halts_fails : (old : ReaderView Record) (after : Device ℕ) (fault : InFault) → Halts old after fault → Fails old after fault
 halts_fails old after (Format fault) h = h
 halts_fails old after Read h = h
-halts_fails old after NoMemory h = tt
+halts_fails old after NoMemory h = absurd h.1
 
 -- and so behind good fields
 pub gives_fails : (old mid : ReaderView Record) (after : Device ℕ) (fault : InFault)
     → Gives old mid [] → IsLater old.source mid.source → Fails mid after fault → Fails old after fault
 gives_fails old mid after (Format fault) g later f = gives_halts old mid after (Format fault) g later f
 gives_fails old mid after Read g later f = gives_halts old mid after Read g later f
-gives_fails old mid after NoMemory g later f = tt
-
-pub memory_fails : (old : ReaderView Record) (after : Device ℕ) (fault : InFault) → fault ≡ NoMemory → Fails old after fault
-memory_fails old after fault is = subst (λ (f : InFault). Fails old after f) (sym is) tt
+gives_fails old mid after NoMemory g later (taken, octets) =
+    (g.taken ++ taken, takes-append old.source mid.source after g.taken taken g.octets octets)

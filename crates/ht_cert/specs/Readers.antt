@@ -29,11 +29,15 @@ abbrev pub ReadsClaim : ℕ → Modulation → ℕ → Record → Device ℕ →
 ReadsClaim number modulation streams r before after =
     (octets : List ℕ) × (length octets ≡ claim_width streams) × (r ≡ claimed number modulation streams octets) × Takes before after octets
 
--- a reader stopped: at the first fault of the file, where its source failed, or for lack of memory
+-- octets were taken from the front of what was left
+abbrev pub TakesSome : Device ℕ → Device ℕ → Type 0
+TakesSome before after = (taken : List ℕ) × Takes before after taken
+
+-- a reader stopped: at the first fault of the file, where its source failed, or for lack of memory, having taken some octets
 abbrev pub Fails : ReaderView Record → Device ℕ → InFault → Type 0
 Fails old after (Format fault) = Halts old after (Format fault)
 Fails old after Read = Halts old after Read
-Fails old after NoMemory = ⊤
+Fails old after NoMemory = TakesSome old.source after
 
 -- a reader that stopped gives its fault again, and no record
 abbrev pub stopped_means : InFault → List ℕ → Meaning Record
@@ -61,6 +65,10 @@ pub record Completes (old : ReaderView Record) (after : Device ℕ) : Type 0 whe
   pub taken : List ℕ
   pub octets : TakesAll old.source after taken
   pub means : old.means taken ≡ ended
+
+-- a point is claimed for each stream of the job
+abbrev pub HasItsPoints : Record → Type 0
+HasItsPoints r = length r.certificate.vector ≡ length r.job.system
 
 -- a record was read, or the file ended
 abbrev pub GivesRecord : ReaderView Record → ReaderView Record → Came → Record → Type 0

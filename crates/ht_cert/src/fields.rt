@@ -11,7 +11,7 @@ ghost use Rattle.ht_cert.specs.Formats.{Marks as MarksState, certificates, is_no
 ghost use Rattle.ht_cert.specs.Formats.{mark_limits as mark_limits_of, record_limits as record_limits_of};
 ghost use Rattle.ht_cert.specs.Files.{mark_octet};
 ghost use Rattle.ht_cert.specs.Records.{claim_width as claim_width_of, code_of};
-ghost use Rattle.ht_cert.specs.Readers.{Fails, ReadsClaim, here};
+ghost use Rattle.ht_cert.specs.Readers.{Fails, HasItsPoints, ReadsClaim, here};
 
 use crate::decoding::{claim_width, fill_record, modulation_of};
 use crate::record::Record;
@@ -171,6 +171,7 @@ fn marks<S: Source>(
         (here (records_due (next_turn turn.now)) behind (S.shown source.new)) (into.new ∷ []))
         (Fails (here (Body (MarksState turn.now into.old)) at (S.shown source.old)) (S.shown source.new)) }
     ensures number { IfOk result (λ _. into.new.job.number ≡ into.old.job.number) }
+    ensures points { IfOk result (λ _. HasItsPoints into.old → HasItsPoints into.new) }
     ensures place { IfOk result (λ behind. behind ≤ at + 33554436) }
     ensures later { IsLater (S.shown source.old) (S.shown source.new) }
 {
@@ -210,6 +211,7 @@ pub fn record<S: Source>(
         (here (records_due (next_turn turn.now)) behind (S.shown source.new)) (into.new ∷ []))
         (Fails (here (records_due turn.now) at (S.shown source.old)) (S.shown source.new)) }
     ensures number { IfOk result (λ _. into.new.job.number ≡ turn.now.number) }
+    ensures points { IfOk result (λ _. HasItsPoints into.new) }
     ensures place { IfOk result (λ behind. behind ≤ at + 33554526) }
     ensures later { IsLater (S.shown source.old) (S.shown source.new) }
 {

@@ -4,7 +4,7 @@ ghost use Rattle.ht_io.specs.Devices.{Device, IsLater};
 ghost use Rattle.ht_io.specs.declared.faults.InFault.{InFault as InFaultValue};
 ghost use Rattle.ht_cert.specs.declared.reader.Came.{Came as CameValue};
 ghost use Rattle.ht_cert.specs.Formats.{certificates, records_due};
-ghost use Rattle.ht_cert.specs.Readers.{Fails, GivesRecord, Passes, StageFits, finished, here, more, number as number_of, shown_by};
+ghost use Rattle.ht_cert.specs.Readers.{Fails, GivesRecord, HasItsPoints, Passes, StageFits, finished, here, more, number as number_of, shown_by};
 
 use crate::fields;
 use crate::record::Record;
@@ -45,6 +45,7 @@ impl RecordReader {
     pub fn new() -> RecordReader
         ensures first { (source : Device ℕ) → shown_by result source ≡ here certificates.start 0 source }
         ensures number { number_of result ≡ 0 }
+        ensures few { more result ≤ 137438953472 }
         ensures going { finished result ≡ None }
     {
         RecordReader {
@@ -72,6 +73,9 @@ impl RecordReader {
         // Records are numbered from 0, and fewer are left behind each.
         ensures passed { IfOk result (λ came. Passes self.old self.new came into.new) }
 
+        // Each claims a point for each stream of its job.
+        ensures points { result ≡ Ok Came.Whole → HasItsPoints into.new }
+
         // What stays.
         ensures again { (answer : Result CameValue InFaultValue) → finished self.old ≡ Some answer
             → (result ≡ answer) × (self.new ≡ self.old) × (source.new ≡ source.old) }
@@ -98,6 +102,7 @@ impl RecordReader {
             (λ came. GivesRecord (here certificates.start 0 (S.shown source.old)) (shown_by self.new (S.shown source.new)) came into.new)
             (Fails (here certificates.start 0 (S.shown source.old)) (S.shown source.new)) }
         ensures passed { IfOk result (λ came. Passes (record { stage = Stage.Begin; at = 0 }) self.new came into.new) }
+        ensures points { result ≡ Ok Came.Whole → HasItsPoints into.new }
         ensures stopped { IfErr result (λ fault. self.new.stage ≡ Stage.Stopped fault) }
         ensures done { result ≡ Ok Came.End → self.new.stage ≡ Stage.Ended }
         ensures later { IsLater (S.shown source.old) (S.shown source.new) }
@@ -127,6 +132,7 @@ impl RecordReader {
             (λ came. GivesRecord (here (records_due turn) self.old.at (S.shown source.old)) (shown_by self.new (S.shown source.new)) came into.new)
             (Fails (here (records_due turn) self.old.at (S.shown source.old)) (S.shown source.new)) }
         ensures passed { IfOk result (λ came. Passes (record { stage = Stage.Next turn; at = self.old.at }) self.new came into.new) }
+        ensures points { result ≡ Ok Came.Whole → HasItsPoints into.new }
         ensures stopped { IfErr result (λ fault. self.new.stage ≡ Stage.Stopped fault) }
         ensures done { result ≡ Ok Came.End → self.new.stage ≡ Stage.Ended }
         ensures later { IsLater (S.shown source.old) (S.shown source.new) }

@@ -1,4 +1,4 @@
-use Rattle.std.proofs.Common.{◌≡◌, ◌+◌, ◌≤◌, List, Bool, [], ◌∙◌, refl, subst, arith}
+use Rattle.std.proofs.Common.{◌≡◌, ◌+◌, ◌≤◌, List, Bool, [], ◌∷◌, ◌∙◌, refl, subst, arith}
 use Rattle.byteorder.specs.Endian.{big_bytes}
 use Rattle.ht_io.specs.Devices.{Takes}
 use Rattle.ht_io.proofs.Calls.{later-later}
@@ -8,7 +8,8 @@ use Rattle.ht_heads.specs.Starts.{Body, is_outside}
 use Rattle.ht_cert.specs.Formats.{Marks}
 use Rattle.ht_cert.specs.Records.{with_marks}
 use Rattle.ht_cert.specs.Readers.{here}
-use Rattle.ht_cert.proofs.Reading.{mark_failed, mark_read, marks_begun, marks_whole_as}
+use Rattle.ht_cert.specs.Files.{mark_octet}
+use Rattle.ht_cert.proofs.Reading.{lacks_memory, mark_failed, mark_read, marks_begun, marks_whole_as}
 use Rattle.ht_cert.proofs.Routes.{halts_fails, marks_halts}
 use Rattle.ht_cert.proofs.fields.marks.Goals as goal
 
@@ -40,6 +41,11 @@ returns-in-Err-mark-clause-told g c =
     (with_marks c.args.into.now c.loop-k.marks.items) c.in-Ok.count c.loop-k.k (c.args.at + 4 + c.loop-k.k)
     (g.S.Source.shown c.loop-k.source) (g.S.Source.shown c.mark.new.source) c.in-Err-mark.fault
     c.loop-k-test.true c.loop-k.invariant.told c.loop-k.invariant.later c.in-Err-mark.ensures.failed
+
+pub returns-in-Err-push-clause-told : goal.returns-in-Err-push-clause-told
+returns-in-Err-push-clause-told g c =
+    lacks_memory (here (Body (Marks c.args.turn.now c.args.into.now)) c.args.at (g.S.Source.shown c.args.source.now)) _ (g.S.Source.shown c.mark.new.source) _
+    (mark_octet c.in-Ok-mark.is_open ∷ []) c.loop-k.invariant.told c.in-Ok-mark.ensures.whole
 
 pub loop-k-preserved : goal.loop-k-preserved
 loop-k-preserved g c =

@@ -4,7 +4,7 @@ use Rattle.ht_fields.proofs.Joins.{gives_more}
 use Rattle.ht_heads.specs.Starts.{Body}
 use Rattle.ht_cert.specs.Formats.{Marks, next_turn, records_due}
 use Rattle.ht_cert.specs.Readers.{here}
-use Rattle.ht_cert.proofs.Reading.{claim_failed, claim_none, claim_number, claim_read, modulation_failed, streams_failed}
+use Rattle.ht_cert.proofs.Reading.{claim_failed, claim_none, claim_number, claim_points, claim_read, modulation_failed, streams_failed}
 use Rattle.ht_cert.proofs.Routes.{gives_fails}
 use Rattle.ht_cert.proofs.fields.record.Goals as goal
 
@@ -46,6 +46,12 @@ returns-in-Ok-marks-clause-number g c =
     c.in-Ok-marks.ensures.number
     ∙ claim_number c.args.turn.now.number c.in-Ok.modulation c.in-Ok-streams.streams c.claim.new.into (g.S.Source.shown c.streams.new.source)
     (g.S.Source.shown c.claim.new.source) c.in-Ok-claim.ensures.whole
+
+pub returns-in-Ok-marks-clause-points : goal.returns-in-Ok-marks-clause-points
+returns-in-Ok-marks-clause-points g c =
+    c.in-Ok-marks.ensures.points
+    (claim_points c.args.turn.now.number c.in-Ok.modulation c.in-Ok-streams.streams c.claim.new.into (g.S.Source.shown c.streams.new.source)
+    (g.S.Source.shown c.claim.new.source) c.in-Ok-claim.ensures.whole)
 
 pub returns-in-Err-marks-clause-told : goal.returns-in-Err-marks-clause-told
 returns-in-Err-marks-clause-told g c =
