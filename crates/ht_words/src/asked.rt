@@ -32,6 +32,8 @@ pub enum Asked {
     },
     /// `upgrade`: a capture as one of version 2.
     Upgrade,
+    /// `check`: whether certificates hold.
+    Check,
     /// `demo`: sample frames, sent and received.
     Demo {
         seed: u64,
@@ -68,6 +70,7 @@ fn by_command(alloc: Global, words: &[String]) -> Result<Option<Asked>, AllocErr
             "tx" => Ok(alone(options, Asked::Tx)),
             "channel" => channel(alloc, options),
             "upgrade" => Ok(alone(options, Asked::Upgrade)),
+            "check" => Ok(alone(options, Asked::Check)),
             "demo" => demo(alloc, options),
             _ => Ok(None),
         },

@@ -307,7 +307,7 @@ static DEMOS: [(&str, Row); 18] = [
     ),
 ];
 
-static REFUSED: [&str; 169] = [
+static REFUSED: [&str; 174] = [
     "",
     "Detect",
     "DETECT",
@@ -398,6 +398,11 @@ static REFUSED: [&str; 169] = [
     "upgrade|--noise|0",
     "upgrade|",
     "upgrade|2",
+    "check|--seed|42",
+    "check|--workers|4",
+    "check|",
+    "check|check",
+    "checks",
     "demo|--rate|1",
     "demo|--bw|20",
     "demo|--count|1",
@@ -525,6 +530,7 @@ fn accepts_the_plain_form(rt: HostRuntime) -> Result<(), Fail> {
     }
     assert_eq!(rt; asked(alloc, "tx")?, Some(Asked::Tx));
     assert_eq!(rt; asked(alloc, "upgrade")?, Some(Asked::Upgrade));
+    assert_eq!(rt; asked(alloc, "check")?, Some(Asked::Check));
     Ok(())
 }
 
@@ -617,12 +623,13 @@ static EDGES: [Edges; 8] = [
 ];
 
 // Each command, and the options that it has.
-static COMMANDS: [(&str, &str); 6] = [
+static COMMANDS: [(&str, &str); 7] = [
     ("detect", "--workers --window"),
     ("rx", "--workers --window"),
     ("tx", ""),
     ("channel", "--seed --noise"),
     ("upgrade", ""),
+    ("check", ""),
     (
         "demo",
         "--seed --noise --frames --mcs --bandwidth --length --workers --window",

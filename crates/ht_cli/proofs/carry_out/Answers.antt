@@ -6,10 +6,12 @@ use Rattle.ht_rx.specs.Texts.{detect_text, lines_of}
 use Rattle.ht_results.specs.Texts.{frame_lines_of, rx_text}
 use Rattle.ht_runs.specs.Filters.{SaysNothing}
 use Rattle.ht_sim.specs.Passing.{passing}
+use Rattle.ht_check.specs.Checks.{checking}
+use Rattle.ht_check.proofs.Ending.{checking_ends}
 use Rattle.ht_cli.specs.Converting.{sending, upgrading}
 use Rattle.ht_demo.specs.Demos.{IsDemoLine, returned_line}
 use Rattle.ht_cli.specs.Tasks.{IsPlanLine, plan_of}
-use Rattle.ht_cli.proofs.Answering.{converts}
+use Rattle.ht_cli.proofs.Answering.{converts, streams}
 use Rattle.ht_cli.proofs.Heard.{ends}
 use Rattle.ht_cli.proofs.Making.{both, done_is_not, makes}
 use Rattle.ht_cli.proofs.Texts.{detects, receives}
@@ -47,6 +49,12 @@ returns-in-Some-Upgrade-clause-answered g c =
     let asked = c.in-Some-Upgrade.field-0-is in
     let run = converts upgrading (λ fault. refl) _ _ _ SaysNothing c.upgrade-upgraded.result _ _ c.settle-in-Some-Upgrade.result
     c.upgrade-upgraded.ensures.converts c.settle-in-Some-Upgrade.ensures.settles in search rules
+
+pub returns-in-Some-Check-clause-answered : goal.returns-in-Some-Check-clause-answered
+returns-in-Some-Check-clause-answered g c =
+    let asked = c.in-Some-Check.field-0-is in
+    let run = streams checking checking_ends _ _ _ SaysNothing c.check_file-checked.result _ _ c.settle-in-Some-Check.result
+    c.check_file-checked.ensures.checks c.check_file-checked.ensures.puts_later c.settle-in-Some-Check.ensures.settles in search rules
 
 pub returns-in-Some-Demo-clause-answered : goal.returns-in-Some-Demo-clause-answered
 returns-in-Some-Demo-clause-answered g c =

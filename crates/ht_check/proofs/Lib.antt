@@ -1,0 +1,4 @@
+pub mod Lists
+pub mod Ending
+pub mod Stepping
+mod Worked
