@@ -18,8 +18,9 @@
 //! and 111 lines more, in which a pilot has its own value, and then `end 1 frames`. `rx` on it gives
 //! `frame 0 data 10400 pilot 800 code 0 seed zero` before that line. With 02 in octet 7 either refuses it, by the one
 //! line `refused BadBandwidth at 7`. What must be written for a list of octets is `detect_text` or `rx_text`, of the
-//! crates `ht_rx` and `ht_results`. `check` reads a file of certificates as it comes, and writes for each whether it holds:
-//! `check_text` of crate `ht_check`.
+//! crates `ht_rx` and `ht_results`. `certify` reads a capture whole, and writes the
+//! file of certificates of its data jobs, as crate `ht_certify` has it. `check` reads such a file as it comes, and writes
+//! for each certificate whether it holds: `check_text` of crate `ht_check`.
 #![tactic(auto)]
 
 ghost use Rattle.std.specs.Prelude.{◌≡◌, ◌≢◌, None, IfSome};
@@ -34,6 +35,7 @@ mod status;
 mod tests;
 
 use commands::{send, upgrade};
+use ht_certify::certify_capture;
 use ht_check::check_file;
 use ht_crew::Gate;
 use ht_demo::{Plan, demo, demo_alone};
@@ -175,6 +177,10 @@ fn carry_out<S: Source, K: Sink, G: Gate>(
         Some(Asked::Upgrade) => {
             let upgraded = upgrade(alloc, source, sink);
             settle(alloc, upgraded, sink)
+        }
+        Some(Asked::Certify) => {
+            let certified = certify_capture(alloc, source, sink);
+            settle(alloc, certified, sink)
         }
         Some(Asked::Check) => {
             let checked = check_file(alloc, source, sink);

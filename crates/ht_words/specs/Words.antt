@@ -46,7 +46,7 @@ use Rattle.ht_words.specs.declared.setting.Setting.TheVariants.{
   Length,
 }
 use Rattle.ht_words.specs.declared.asked.Asked.{Asked}
-use Rattle.ht_words.specs.declared.asked.Asked.TheVariants.{Detect, Rx, Tx, Channel, Upgrade, Check, Demo}
+use Rattle.ht_words.specs.declared.asked.Asked.TheVariants.{Detect, Rx, Tx, Channel, Upgrade, Certify, Check, Demo}
 use Rattle.ht_words.specs.Settings.{admits, default_of, name_of}
 
 -- 1 to 20 decimal digits
@@ -120,6 +120,7 @@ commands =
     ∷ record { name = codes "tx"; options = []; asks = λ words. Tx }
     ∷ record { name = codes "channel"; options = for_channel; asks = λ words. Channel (value_of words Seed) (value_of words Noise) }
     ∷ record { name = codes "upgrade"; options = []; asks = λ words. Upgrade }
+    ∷ record { name = codes "certify"; options = []; asks = λ words. Certify }
     ∷ record { name = codes "check"; options = []; asks = λ words. Check }
     ∷ record { name = codes "demo"; options = for_demo; asks = demo_in }
     ∷ []

@@ -32,6 +32,8 @@ pub enum Asked {
     },
     /// `upgrade`: a capture as one of version 2.
     Upgrade,
+    /// `certify`: certificates of the data jobs of a capture.
+    Certify,
     /// `check`: whether certificates hold.
     Check,
     /// `demo`: sample frames, sent and received.
@@ -70,6 +72,7 @@ fn by_command(alloc: Global, words: &[String]) -> Result<Option<Asked>, AllocErr
             "tx" => Ok(alone(options, Asked::Tx)),
             "channel" => channel(alloc, options),
             "upgrade" => Ok(alone(options, Asked::Upgrade)),
+            "certify" => Ok(alone(options, Asked::Certify)),
             "check" => Ok(alone(options, Asked::Check)),
             "demo" => demo(alloc, options),
             _ => Ok(None),

@@ -307,7 +307,7 @@ static DEMOS: [(&str, Row); 18] = [
     ),
 ];
 
-static REFUSED: [&str; 174] = [
+static REFUSED: [&str; 179] = [
     "",
     "Detect",
     "DETECT",
@@ -398,6 +398,11 @@ static REFUSED: [&str; 174] = [
     "upgrade|--noise|0",
     "upgrade|",
     "upgrade|2",
+    "certify|--seed|42",
+    "certify|--workers|4",
+    "certify|",
+    "certify|check",
+    "certif",
     "check|--seed|42",
     "check|--workers|4",
     "check|",
@@ -530,6 +535,7 @@ fn accepts_the_plain_form(rt: HostRuntime) -> Result<(), Fail> {
     }
     assert_eq!(rt; asked(alloc, "tx")?, Some(Asked::Tx));
     assert_eq!(rt; asked(alloc, "upgrade")?, Some(Asked::Upgrade));
+    assert_eq!(rt; asked(alloc, "certify")?, Some(Asked::Certify));
     assert_eq!(rt; asked(alloc, "check")?, Some(Asked::Check));
     Ok(())
 }
@@ -623,12 +629,13 @@ static EDGES: [Edges; 8] = [
 ];
 
 // Each command, and the options that it has.
-static COMMANDS: [(&str, &str); 7] = [
+static COMMANDS: [(&str, &str); 8] = [
     ("detect", "--workers --window"),
     ("rx", "--workers --window"),
     ("tx", ""),
     ("channel", "--seed --noise"),
     ("upgrade", ""),
+    ("certify", ""),
     ("check", ""),
     (
         "demo",

@@ -6,6 +6,7 @@ use Rattle.ht_rx.specs.Texts.{detect_text, lines_of}
 use Rattle.ht_results.specs.Texts.{frame_lines_of, rx_text}
 use Rattle.ht_runs.specs.Filters.{SaysNothing}
 use Rattle.ht_sim.specs.Passing.{passing}
+use Rattle.ht_certify.specs.Certifying.{certifying}
 use Rattle.ht_check.specs.Checks.{checking}
 use Rattle.ht_check.proofs.Ending.{checking_ends}
 use Rattle.ht_cli.specs.Converting.{sending, upgrading}
@@ -49,6 +50,12 @@ returns-in-Some-Upgrade-clause-answered g c =
     let asked = c.in-Some-Upgrade.field-0-is in
     let run = converts upgrading (λ fault. refl) _ _ _ SaysNothing c.upgrade-upgraded.result _ _ c.settle-in-Some-Upgrade.result
     c.upgrade-upgraded.ensures.converts c.settle-in-Some-Upgrade.ensures.settles in search rules
+
+pub returns-in-Some-Certify-clause-answered : goal.returns-in-Some-Certify-clause-answered
+returns-in-Some-Certify-clause-answered g c =
+    let asked = c.in-Some-Certify.field-0-is in
+    let run = converts certifying (λ fault. refl) _ _ _ SaysNothing c.certify_capture-certified.result _ _ c.settle-in-Some-Certify.result
+    c.certify_capture-certified.ensures.converts c.settle-in-Some-Certify.ensures.settles in search rules
 
 pub returns-in-Some-Check-clause-answered : goal.returns-in-Some-Check-clause-answered
 returns-in-Some-Check-clause-answered g c =
