@@ -39,7 +39,8 @@ fn file(alloc: Global, claims: &[Claim]) -> Result<Vec<u8>, AllocError> {
         let (i, distance, marks) = *claim;
         octets.extend_from_slice(&[0, 1, 0, 10, 0, 0, 0, 3, 255, 255, 255, 252, i, 0])?;
         octets.extend_from_slice(&u128::from(distance).to_be_bytes())?;
-        octets.extend_from_slice(&(marks.len() as u32).to_be_bytes())?;
+        let count = u32::try_from(marks.len()).unwrap_or(u32::MAX);
+        octets.extend_from_slice(&count.to_be_bytes())?;
         for mark in marks.chars() {
             octets.push(u8::from(mark == 'o'))?;
         }
@@ -56,15 +57,23 @@ fn lines(alloc: Global, count: usize) -> Result<String, AllocError> {
     Ok(text)
 }
 
-// What checking these octets answers, and what it puts. The source and the sink fail at these offsets.
+// What checking these octets answers, and what it puts. Source and sink each fail at an offset where one is given.
 fn checked(
     alloc: Global,
     octets: Vec<u8>,
-    source_fails: &[u64],
-    sink_fails: &[u64],
+    source_fails: Option<u64>,
+    sink_fails: Option<u64>,
 ) -> Result<(Result<(), CertFault>, MemSink), AllocError> {
-    let mut source = MemSource::new(octets, Vec::new(alloc), source_fails.to_vec(alloc)?);
-    let mut sink = MemSink::new(Vec::with_capacity(alloc, 4096)?, sink_fails.to_vec(alloc)?);
+    let mut failing = Vec::new(alloc);
+    if let Some(offset) = source_fails {
+        failing.push(offset)?;
+    }
+    let mut source = MemSource::new(octets, Vec::new(alloc), failing);
+    let mut failing = Vec::new(alloc);
+    if let Some(offset) = sink_fails {
+        failing.push(offset)?;
+    }
+    let mut sink = MemSink::new(Vec::with_capacity(alloc, 4096)?, failing);
     let answer = check_file(alloc, &mut source, &mut sink);
     Ok((answer, sink))
 }
@@ -72,59 +81,55 @@ fn checked(
 #[test]
 fn answers(rt: HostRuntime) -> Result<(), Fail> {
     let alloc = rt.alloc();
-    let (answer, sink) = checked(alloc, file(alloc, &CLAIMS)?, &[], &[])?;
+    let (answer, sink) = checked(alloc, file(alloc, &CLAIMS)?, None, None)?;
     assert_eq!(rt; answer, Ok(()));
     assert!(rt; sink.held() == lines(alloc, 9)?.as_bytes());
-    let (answer, sink) = checked(alloc, file(alloc, &[])?, &[], &[])?;
+    let (answer, sink) = checked(alloc, file(alloc, &[])?, None, None)?;
     assert_eq!(rt; answer, Ok(()));
     assert!(rt; sink.held() == b"end 0 jobs yes 0\n".as_slice());
     Ok(())
 }
 
+// What is no file: so many octets of the file, with one octet changed, its answer, and how many lines are put.
+type Spoiled = (usize, usize, u8, Kind, u64, usize);
+
+static SPOILED: [Spoiled; 8] = [
+    (4, 0, b'H', Kind::Truncated, 4, 0),
+    (304, 3, b'P', Kind::BadMagic, 3, 0),
+    (304, 4, 2, Kind::BadVersion, 4, 0),
+    (304, 49, 2, Kind::BadMark, 49, 0),
+    (304, 50, 4, Kind::BadModulation, 50, 1),
+    (304, 51, 5, Kind::BadStreams, 51, 1),
+    (50, 0, b'H', Kind::Truncated, 50, 1),
+    (303, 0, b'H', Kind::Truncated, 303, 7),
+];
+
 // Of what is no file the records before its fault have their lines.
 #[test]
 fn faults(rt: HostRuntime) -> Result<(), Fail> {
     let alloc = rt.alloc();
-    let whole = file(alloc, &CLAIMS)?;
-    let size = whole.len();
-    for (octets, kind, offset, count) in [
-        (b"HTCT".as_slice(), Kind::Truncated, 4, 0),
-        (b"HTCP\x01".as_slice(), Kind::BadMagic, 3, 0),
-        (&whole[..size - 1], Kind::Truncated, size - 1, 7),
-        (&whole[..50], Kind::Truncated, 50, 1),
-    ] {
-        let offset = offset as u64;
-        let (answer, sink) = checked(alloc, octets.to_vec(alloc)?, &[], &[])?;
-        assert_eq!(rt;
-            answer,
-            Err(CertFault::Format(FormatFault { kind, offset }))
-        );
-        assert!(rt; sink.held() == lines(alloc, count)?.as_bytes());
-    }
-    for (at, octet, kind, count) in [
-        (49, 2, Kind::BadMark, 0),
-        (50, 4, Kind::BadModulation, 1),
-        (51, 5, Kind::BadStreams, 1),
-    ] {
+    for (size, at, octet, kind, offset, count) in &SPOILED {
         let mut octets = file(alloc, &CLAIMS)?;
-        octets[at] = octet;
-        let offset = at as u64;
-        let (answer, sink) = checked(alloc, octets, &[], &[])?;
-        assert_eq!(rt;
-            answer,
-            Err(CertFault::Format(FormatFault { kind, offset }))
-        );
-        assert!(rt; sink.held() == lines(alloc, count)?.as_bytes());
+        octets.truncate(*size);
+        if let Some(place) = octets.get_mut(*at) {
+            *place = *octet;
+        }
+        let fault = FormatFault {
+            kind: *kind,
+            offset: *offset,
+        };
+        let (answer, sink) = checked(alloc, octets, None, None)?;
+        assert_eq!(rt; answer, Err(CertFault::Format(fault)));
+        assert!(rt; sink.held() == lines(alloc, *count)?.as_bytes());
     }
     let mut octets = file(alloc, &CLAIMS)?;
     octets.push(0)?;
-    let (answer, sink) = checked(alloc, octets, &[], &[])?;
-    let offset = size as u64;
-    let kind = Kind::Trailing;
-    assert_eq!(rt;
-        answer,
-        Err(CertFault::Format(FormatFault { kind, offset }))
-    );
+    let fault = FormatFault {
+        kind: Kind::Trailing,
+        offset: 304,
+    };
+    let (answer, sink) = checked(alloc, octets, None, None)?;
+    assert_eq!(rt; answer, Err(CertFault::Format(fault)));
     assert!(rt; sink.held() == lines(alloc, 8)?.as_bytes());
     Ok(())
 }
@@ -132,13 +137,13 @@ fn faults(rt: HostRuntime) -> Result<(), Fail> {
 #[test]
 fn devices(rt: HostRuntime) -> Result<(), Fail> {
     let alloc = rt.alloc();
-    let (answer, sink) = checked(alloc, file(alloc, &CLAIMS)?, &[60], &[])?;
+    let (answer, sink) = checked(alloc, file(alloc, &CLAIMS)?, Some(60), None)?;
     assert_eq!(rt; answer, Err(CertFault::Read));
     assert!(rt; sink.held() == lines(alloc, 1)?.as_bytes());
-    let (answer, sink) = checked(alloc, file(alloc, &CLAIMS)?, &[], &[17])?;
+    let (answer, sink) = checked(alloc, file(alloc, &CLAIMS)?, None, Some(17))?;
     assert_eq!(rt; answer, Err(CertFault::Write));
     assert!(rt; sink.held() == b"job 0 yes\njob 1 y".as_slice());
-    let (answer, _) = checked(alloc, file(alloc, &CLAIMS)?, &[60], &[0])?;
+    let (answer, _) = checked(alloc, file(alloc, &CLAIMS)?, Some(60), Some(0))?;
     assert_eq!(rt; answer, Err(CertFault::Write));
     Ok(())
 }
