@@ -24,7 +24,8 @@ _mizgaure() {
       sweep:--radio | sweep:--mcs | sweep:--length | sweep:--antennas | sweep:--decay | sweep:--channel | sweep:--profile | sweep:--seed | sweep:--snr | sweep:--frames | sweep:--errors | sweep:--chunk | sweep:--detector | sweep:--processes | sweep:--scheduler | sweep:--part | sweep:-o | sweep:--output | sweep:--picture | sweep:--csv | sweep:--json) ;;
       merge:-o | merge:--output | merge:--picture | merge:--csv | merge:--json) ;;
       picture:picture) words='constellation evm residual distances sweep spectrum preamble tracking' ;;
-      picture:--radio | picture:--frame | picture:--answers) ;;
+      picture:--datatype) words='cf32_be cf32_le ci16_be ci16_le ci8 cu8' ;;
+      picture:--radio | picture:--frame | picture:--answers | picture:--sample-rate | picture:--channels) ;;
       report:--radio | report:-o | report:--output | report:--theirs | report:--pictures | report:--title) ;;
       waveform:--datatype) words='cf32_le ci16_le' ;;
       waveform:--guard) words='long short' ;;
@@ -47,7 +48,7 @@ _mizgaure() {
             frames) words='--force --output --bandwidth --mcs --seed --aggregate --fcs --help' ;;
             sweep) words='--radio --force --bandwidth --mcs --length --antennas --decay --channel --profile --estimate --seed --snr --frames --errors --chunk --detector --processes --scheduler --part --output --resume --picture --csv --json --help' ;;
             merge) words='--force --output --picture --csv --json --help' ;;
-            picture) words='--radio --force --frame --answers --help' ;;
+            picture) words='--radio --force --frame --answers --datatype --sample-rate --channels --help' ;;
             report) words='--radio --force --output --theirs --pictures --title --help' ;;
             zero-forcing) words='--help' ;;
             waveform) words='--force --output --datatype --raw --guard --aggregated --antennas --spread --offset --frequency --snr --gap --seed --help' ;;

@@ -159,6 +159,9 @@ case $command in
       '--force[overwrite a file that is there already]' \
       '--frame[the frame to draw]:frame:' \
       '--answers[kept lines of radio detect, in place of running it]:lines:_files' \
+      '--datatype[the file has samples of this type alone, and isn'\''t SigMF]:datatype:(cf32_be cf32_le ci16_be ci16_le ci8 cu8)' \
+      '--sample-rate[samples a second of a file of samples]:rate:' \
+      '--channels[antennas of a file of samples]:channels:' \
       '--help[say more]' \
       '1:kind:(constellation evm residual distances sweep spectrum preamble tracking)' \
       '2:file:_files' \

@@ -491,6 +491,11 @@ def test_bad_waveforms_get_one_sentence(here, tmp_path):
     for words, said in cases:
         done = here("waveform", *words, "-o", "out")
         assert (done.returncode, done.stderr.decode()) == (2, f"mizgaure: {said}\n")
+    done = here("waveform", "good.htsy", "-o", "-")
+    said = b"mizgaure: a SigMF recording is two files, and so isn't written to standard output; --raw writes the samples alone\n"
+    assert (done.returncode, done.stderr) == (2, said)
+    done = here("receive", "-", "--datatype", "cf32_le")
+    assert done.stderr == b"mizgaure: a recording is read at more than one place, and so not from standard input\n"
     assert sorted(tmp_path.iterdir()) == before
 
 
@@ -501,6 +506,9 @@ def test_pictures_of_recordings(here, tmp_path, kind):
     assert here("waveform", "sent.htsy", "-o", "air").returncode == 0
     done = here("picture", kind, "air", "it.png", "--frame", 1)
     assert done.returncode == 0 and (tmp_path / "it.png").stat().st_size > 10000, done.stderr
+    assert here("waveform", "sent.htsy", "--raw", "-o", "air.raw").returncode == 0
+    done = here("picture", kind, "air.raw", "raw.png", "--frame", 1, "--datatype", "cf32_le", "--sample-rate", "40e6", "--channels", 2)
+    assert done.returncode == 0 and (tmp_path / "raw.png").stat().st_size > 10000, done.stderr
     if kind != "spectrum":
         assert here("picture", kind, "air", "no.png", "--frame", 2).stderr == \
             b"mizgaure: air.sigmf-data has 2 packets for a capture, and no packet 2 of them\n"

@@ -116,7 +116,7 @@ def bad_inputs():
     yield ["capture", "missing.npz", "-o", "x"], b"", "missing.npz can't be read: No such file or directory"
     yield ["capture", Z, "-o", "x"], b"", f"{Z}: frame 0: this is no archive of arrays (.npz)"
     yield ["picture", "evm", Z, "x.gif"], b"", "x.gif: a picture's name ends in .png, .svg, .pdf"
-    yield ["picture", "evm", Z, "x.png", "--frame", "1"], b"", f"{Z}: there are 1 frames, and no frame 1"
+    yield ["picture", "evm", Z, "x.png", "--frame", "1"], b"", f"{Z}: it has 1 frame, and no frame 1"
     yield ["picture", "sweep", Z, "x.png"], b"", None
     yield ["sweep", "--mcs", "32"], b"", "the MCS is 32, and only 0 to 31 are known"
     yield ["sweep", "--snr", "a"], b"", None

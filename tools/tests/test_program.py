@@ -77,3 +77,13 @@ def test_a_program_on_the_path_is_found(tmp_path, monkeypatch, played):
 def test_an_input_that_cannot_be_read(played, tmp_path):
     with pytest.raises(InputError, match="can't be read"):
         played("exit 0").detect(tmp_path)
+
+
+def test_a_program_that_is_not_read_to_its_end_does_not_complain(tmp_path, capfd):
+    """It is ended before its output is closed, and so says nothing of a broken pipe."""
+    writing = tmp_path / "radio"
+    writing.write_text("#!/bin/sh\ntrap '' PIPE\nprintf ab\nsleep 0.3\nprintf c || echo complained >&2\n")
+    writing.chmod(0o755)
+    with Radio(str(writing)).text("detect", b"") as output:
+        assert output.read(1) == b"a"
+    assert capfd.readouterr().err == ""

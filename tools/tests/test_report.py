@@ -64,6 +64,9 @@ def test_packets_of_a_capture(sent, here, radio, tmp_path):
     (tmp_path / "lines").write_bytes(lines)
     assert here("packets", "one.htcp", "--answers", "lines").stdout == done.stdout == here("packets", "lines").stdout
     assert here("packets", "-", given=lines).stdout == done.stdout
+    (tmp_path / "others").write_bytes(b"end 0 frames\n")
+    other = here("packets", "one.htcp", "--answers", "others", "-o", "other.pcap")
+    assert other.returncode == 2 and other.stderr.endswith(b", and in these answers 0\n") and not (tmp_path / "other.pcap").exists()
 
 
 def test_packets_of_an_a_mpdu(sent, here, radio, tmp_path):

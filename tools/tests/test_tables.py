@@ -52,7 +52,7 @@ def test_measures_of_many_captures(command, tmp_path):
     assert [line["file"] for line in lines[:2]] == [str(ONE), str(TWO)] and len(lines[0]["evm_cells"]) == 56 and len(lines[1]["residual_cells"][0]) == 3
     assert [line["test"].split(" (")[0] for line in lines[2:4]] == ["20 MHz, MCS 9", "40 MHz, MCS 17"] and not lines[2]["full"]
     assert [line["rate"] for line in lines[4:]] == ["bit error rate before the decoder", "symbol error rate", "bit error rate of octets", "frame error rate"]
-    for words, told in (((ONE, TWO, "--sent", ONE), "--sent is given 1 times, and there are 2 captures"),
+    for words, told in (((ONE, TWO, "--sent", ONE), "--sent comes once for each capture: captures 2, --sent 1"),
                         (("-", "-"), "only one capture can be standard input")):
         done = command("measure", *words)
         assert done.returncode == 2 and done.stderr.decode() == f"mizgaure: {told}\n"

@@ -1,5 +1,6 @@
 """Work shared by processes, by a scheduler's workers, and in shards: the same outcome, whoever is killed meanwhile."""
 
+import gc
 import os
 import random
 import signal
@@ -72,8 +73,12 @@ def test_no_more_tasks_are_taken_than_are_needed():
 def test_there_has_to_be_a_scheduler(monkeypatch):
     pytest.importorskip("distributed")
     monkeypatch.setattr("mizgaure.workers.CONNECT_SECONDS", 1)
-    with pytest.raises(InputError, match="there is no scheduler of dask.distributed at tcp://127.0.0.1:9"):
-        list(Workers(scheduler="tcp://127.0.0.1:9").run(squared, range(4)))
+    begin = time.monotonic()
+    for address in ("tcp://127.0.0.1:9", "nowhere.invalid"):
+        with pytest.raises(InputError, match=f"there is no scheduler of dask.distributed at {address}"):
+            list(Workers(scheduler=address).run(squared, range(4)))
+    gc.collect()  # nothing that is dropped waits for a scheduler that isn't there
+    assert time.monotonic() - begin < 15
 
 
 def test_without_dask_there_is_a_sentence(monkeypatch):

@@ -434,7 +434,7 @@ def error_rates(sent: Iterable[SymbolsFrame], detected: Iterable[Jobs]) -> Error
     total = ErrorRates()
     for jobs in detected:
         if jobs.frame not in frames:
-            raise InputError(f"there is an answer to frame {jobs.frame}, and {len(frames)} frames were sent")
+            raise InputError(f"there is an answer to frame {jobs.frame}, and {len(frames)} frame{' was' if len(frames) == 1 else 's were'} sent")
         total += point_errors(frames[jobs.frame], jobs)
     return total
 
@@ -444,7 +444,7 @@ def point_errors(sent: SymbolsFrame, jobs: Jobs) -> ErrorRates:
     rate = sent.rate
     symbols = sent.points.shape[0]
     if jobs.streams != rate.streams or (len(jobs) and (jobs.symbol.max() >= symbols or jobs.carrier.max() >= rate.subcarriers)):
-        raise InputError(f"frame {jobs.frame}: the answers aren't to a frame of {rate} with {symbols} symbols, as was sent")
+        raise InputError(f"frame {jobs.frame}: the answers aren't to a frame of {rate} with {symbols} symbol{'' if symbols == 1 else 's'}, as was sent")
     data = ~rate.is_pilot[jobs.carrier]
     meant = labels_of(sent.points[jobs.symbol[data], jobs.carrier[data]], rate)
     found = labels_of(jobs.points[data], rate)

@@ -190,6 +190,8 @@ class Radio:
             try:
                 yield cast(BufferedReader, child.stdout)
                 cut = bool(child.stdout.read(1))
+                if cut:
+                    child.terminate()  # before its output is closed, of which it would complain
             except BaseException:
                 child.terminate()
                 raise

@@ -8,6 +8,7 @@ taken, whatever their number, so memory stays bounded.
 
 from __future__ import annotations
 
+import asyncio
 import multiprocessing
 import os
 import signal
@@ -193,6 +194,7 @@ def _scheduled(address: str) -> Iterator[Tuple[Executor, int]]:
     except ImportError:
         raise InputError("--scheduler needs dask.distributed; on Debian: apt install python3-distributed") from None
     try:
+        asyncio.run(_reached(address))  # a Client that can't connect waits for long and writes a traceback when it is dropped
         client = Client(address, timeout=CONNECT_SECONDS, set_as_default=False)
     except (OSError, ValueError) as error:
         raise InputError(f"there is no scheduler of dask.distributed at {address}") from error
@@ -210,3 +212,12 @@ def _scheduled(address: str) -> Iterator[Tuple[Executor, int]]:
             executor.shutdown(wait=False)
     finally:
         client.close()
+
+
+async def _reached(address: str) -> None:
+    """See that somebody answers at an address."""
+    from distributed.comm import connect
+    from distributed.security import Security
+
+    comm = await connect(address, timeout=CONNECT_SECONDS, **Security().get_connection_args("client"))
+    await comm.close()

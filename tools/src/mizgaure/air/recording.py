@@ -162,6 +162,8 @@ def open_recording(path: str, raw: Optional[Layout] = None, frequency: Optional[
     InputError
         If a file is missing or empty, or what it says of its samples can't be used.
     """
+    if path == "-":
+        raise InputError("a recording is read at more than one place, and so not from standard input")
     if raw is None:
         meta, path = _pair(path)
         raw, said = read_meta(meta)
@@ -288,6 +290,8 @@ def write_recording(path: str, layout: Layout, fill, *, raw: bool = False, frequ
     ------
     InputError
     """
+    if path == "-" and not raw:
+        raise InputError("a SigMF recording is two files, and so isn't written to standard output; --raw writes the samples alone")
     base = base_name(path)
     meta, data = (None, path) if raw else (base + META, base + DATA)
     for name in (meta, data):

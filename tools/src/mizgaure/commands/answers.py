@@ -33,7 +33,7 @@ def run(given: argparse.Namespace) -> None:
     arrays = given.output.endswith(".npz")
     if arrays and given.part[1] > 1:
         raise InputError("a part has lines and no arrays: join the parts first")
-    with naming(given.capture):
+    with naming(given.capture, FormatError):
         pieces = _pieces(given)
         with writing(given.output, given.force) as stream:
             if arrays:

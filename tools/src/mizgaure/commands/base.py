@@ -111,8 +111,8 @@ def profile(text: str) -> Tuple[Tuple[float, float], ...]:
 
 def part(text: str) -> Tuple[int, int]:
     """Part K of N, as K/N."""
-    number, slash, count = text.partition("/")
-    if not (slash and 1 <= whole(number) <= whole(count)):
+    number, _, count = text.partition("/")
+    if not all(word.isascii() and word.isdigit() and len(word) <= 18 for word in (number, count)) or not 1 <= int(number) <= int(count):
         raise argparse.ArgumentTypeError(f"{text} is no part as K/N, with K from 1 to N")
     return int(number), int(count)
 

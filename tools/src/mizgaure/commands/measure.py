@@ -48,7 +48,7 @@ def run(given: argparse.Namespace) -> None:
     for name in ("answers", "sent", "octets"):
         files = getattr(given, name)
         if files and len(files) != len(given.captures):
-            raise InputError(f"--{name} is given {len(files)} times, and there are {len(given.captures)} captures")
+            raise InputError(f"--{name} comes once for each capture: captures {len(given.captures)}, --{name} {len(files)}")
     records: List[Dict[str, Any]] = []
     total = ErrorRates()
     for number, capture in enumerate(given.captures):
@@ -113,7 +113,7 @@ def _is_of(record: Any, number: int, waiting: Dict[int, FrameAnswer]) -> bool:
 
 def _of(sent: List, number: int, capture: str):
     if number >= len(sent):
-        raise InputError(f"{len(sent)} frames were sent, and {capture} has more")
+        raise InputError(f"{len(sent)} frame{' was' if len(sent) == 1 else 's were'} sent, and {capture} has more")
     return sent[number]
 
 

@@ -58,6 +58,8 @@ def run(given: argparse.Namespace) -> None:
             raise FormatError(answers.last.kind, answers.last.offset)
         if answers.last is None:
             raise InputError("the lines of radio rx have no end")
+        if given.answers and answers.last.frames != len(rates):
+            raise InputError(f"frames in the capture {len(rates)}, and in these answers {answers.last.frames}")
     frames = "1 frame" if answers.last.frames == 1 else f"{answers.last.frames} frames"
     print(f"{frames}, {seen} MPDU{'' if seen == 1 else 's'}: {good} with a good FCS" + (f"; {empty} without octets" if empty else ""))
     if given.output:

@@ -11,7 +11,6 @@ from typing import Tuple
 from .. import pictures
 from ..air import pictures as air_pictures
 from ..air.recording import name_of as name_of_recording
-from ..air.recording import open_recording
 from ..answers import Jobs
 from ..errors import InputError
 from ..files import naming, refuse_overwriting
@@ -19,6 +18,7 @@ from ..formats import CaptureFrame, read_htcp, write_htcp
 from ..program import Radio
 from ..sweep import Sweep, read_sweep
 from .base import Command, kept_answers, name_of, whole
+from .record import add_layout, opened
 
 KINDS = {"constellation": pictures.constellation, "evm": pictures.evm_over_subcarriers, "residual": pictures.residual_over_subcarriers,
          "distances": pictures.distance_histogram}
@@ -31,18 +31,21 @@ def words(command: argparse.ArgumentParser) -> None:
     command.add_argument("output", metavar="PICTURE", help="ending in .png, .svg or .pdf")
     command.add_argument("--frame", type=whole, default=0, help="the frame to draw (default 0)")
     command.add_argument("--answers", metavar="LINES", help="kept lines of radio detect, in place of running it")
+    add_layout(command)
 
 
 def run(given: argparse.Namespace) -> None:
     pictures.check_ending(given.output)
     refuse_overwriting(given.output, given.force)
+    if given.kind not in air_pictures.KINDS and (given.datatype, given.sample_rate, given.channels) != (None, None, None):
+        raise InputError("--datatype, --sample-rate and --channels are said of a recording")
     if given.kind == "sweep":
         with naming(given.file):
             kept: Sweep = read_sweep(given.file)
         pictures.save(pictures.error_curves(kept, name_of(given.file)), given.output, given.force)
         return
     if given.kind in air_pictures.KINDS:
-        with open_recording(given.file) as recording:
+        with opened(given, given.file) as recording:
             drawn = air_pictures.KINDS[given.kind](recording, given.frame, name_of_recording(given.file))
         pictures.save(drawn, given.output, given.force)
         return
@@ -55,7 +58,7 @@ def _one_frame(given: argparse.Namespace) -> Tuple[CaptureFrame, Jobs]:
     """The frame that is asked for and its answers; the program is given a capture of it alone."""
     with naming(given.file), read_htcp(given.file) as frames:
         if given.frame >= frames.frames:
-            raise InputError(f"there are {frames.frames} frames, and no frame {given.frame}")
+            raise InputError(f"it has {frames.frames} frame{'' if frames.frames == 1 else 's'}, and no frame {given.frame}")
         frame = next(islice(frames, given.frame, None))
     if given.answers:
         for jobs in kept_answers(given.answers)[0]:

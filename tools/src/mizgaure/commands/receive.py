@@ -72,7 +72,7 @@ def run(given: argparse.Namespace) -> None:
             yield from records(packet, recording)
         check_found(recording, sum(fates.values()))
 
-    with opened(given) as recording:
+    with opened(given, given.recording) as recording:
         if given.output:
             write_pcap(given.output, told(recording), given.force)
         else:

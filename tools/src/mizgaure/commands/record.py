@@ -17,19 +17,24 @@ from .base import Command, add_tables, octets, positive, refuse_tables, whole, w
 def add_recording(command: argparse.ArgumentParser) -> None:
     """The words that say what a recording is."""
     command.add_argument("recording", metavar="RECORDING", help="a SigMF recording, or with --datatype a file of samples")
+    add_layout(command)
+
+
+def add_layout(command: argparse.ArgumentParser) -> None:
+    """The options that say what a file of samples holds."""
     command.add_argument("--datatype", choices=sorted(TYPES), help="the file has samples of this type alone, and isn't SigMF")
     command.add_argument("--sample-rate", metavar="RATE", type=positive, help="samples a second of a file of samples (default 20e6)")
     command.add_argument("--channels", type=whole, help="antennas of a file of samples (default 1)")
 
 
-def opened(given: argparse.Namespace) -> Recording:
-    """The recording that the words name."""
+def opened(given: argparse.Namespace, path: str) -> Recording:
+    """A recording that is what the words say."""
     raw: Optional[Layout] = None
     if given.datatype is not None:
         raw = Layout(given.datatype, given.sample_rate or 20e6, 1 if given.channels is None else given.channels)
     elif given.sample_rate is not None or given.channels is not None:
         raise InputError("--sample-rate and --channels are said of a file of samples, whose --datatype is said, too")
-    return open_recording(given.recording, raw)
+    return open_recording(path, raw)
 
 
 def check_found(recording: Recording, packets: int) -> None:
@@ -61,7 +66,7 @@ def run(given: argparse.Namespace) -> None:
     lines = sys.stderr if given.output == "-" else sys.stdout
     fates: Counter = Counter()
     records = []
-    with opened(given) as recording, Spool() as spool:
+    with opened(given, given.recording) as recording, Spool() as spool:
         for line in spooled(recording, spool):
             print(line, file=lines, flush=True)
             fates[line.left_out] += 1

@@ -25,7 +25,7 @@ def run(given: argparse.Namespace) -> None:
     if "-" in given.captures:
         raise InputError("a report reads its captures twice, and so not from standard input")
     if given.theirs and len(given.theirs) != len(given.captures):
-        raise InputError(f"--theirs is given {len(given.theirs)} times, and there are {len(given.captures)} captures")
+        raise InputError(f"--theirs comes once for each capture: captures {len(given.captures)}, --theirs {len(given.theirs)}")
     radio = Radio(given.radio)
     theirs = given.theirs or [None] * len(given.captures)
     made = page([examine(path, radio, lines, given.pictures) for path, lines in zip(given.captures, theirs)], given.title)
