@@ -3,10 +3,11 @@
 from __future__ import annotations
 
 import csv
-import io
 import json
 import math
-from typing import Any, Dict, Iterable, Mapping, Sequence
+import pickle
+import tempfile
+from typing import Any, BinaryIO, Dict, Iterable, Iterator, Mapping, Sequence
 
 import numpy as np
 
@@ -22,6 +23,33 @@ def plain(value: Any) -> Any:
     if isinstance(value, float) and not math.isfinite(value):
         return None
     return value
+
+
+class Records:
+    """Records kept in a file of their own until they are written, so that memory doesn't grow with their number."""
+
+    def __init__(self) -> None:
+        self._file = tempfile.TemporaryFile()
+
+    def append(self, record: Mapping[str, Any]) -> None:
+        """Keep one more, behind the others."""
+        pickle.dump(record, self._file)
+
+    def __iter__(self) -> Iterator[Mapping[str, Any]]:
+        end = self._file.tell()
+        self._file.seek(0)
+        while self._file.tell() < end:
+            yield pickle.load(self._file)
+
+
+class _Octets:
+    """Text that goes into a binary stream."""
+
+    def __init__(self, stream: BinaryIO) -> None:
+        self._stream = stream
+
+    def write(self, text: str) -> None:
+        self._stream.write(text.encode())
 
 
 def write_json_lines(target: Target, records: Iterable[Mapping[str, Any]], force: bool = False) -> None:
@@ -40,24 +68,22 @@ def write_json_lines(target: Target, records: Iterable[Mapping[str, Any]], force
             stream.write(json.dumps({name: plain(value) for name, value in record.items()}).encode() + b"\n")
 
 
-def write_csv(target: Target, rows: Sequence[Mapping[str, Any]], columns: Sequence[str], force: bool = False) -> None:
+def write_csv(target: Target, rows: Iterable[Mapping[str, Any]], columns: Sequence[str], force: bool = False) -> None:
     """Write rows as CSV (RFC 4180 with line feeds) under a line with the names of the columns.
 
     Parameters
     ----------
     target, force
         As in `write_json_lines`.
-    rows : sequence of mappings
+    rows : iterable of mappings
         What a row lacks, None, and numbers that aren't finite stand as nothing; true and false as they are.
     columns : sequence of str
     """
-    text = io.StringIO()
-    table = csv.DictWriter(text, columns, restval="", lineterminator="\n")
-    table.writeheader()
-    for row in rows:
-        table.writerow({name: _cell(value) for name, value in row.items()})
     with writing(target, force) as stream:
-        stream.write(text.getvalue().encode())
+        table = csv.DictWriter(_Octets(stream), columns, restval="", lineterminator="\n")
+        table.writeheader()
+        for row in rows:
+            table.writerow({name: _cell(value) for name, value in row.items()})
 
 
 def _cell(value: Any) -> Any:

@@ -5,7 +5,7 @@ from __future__ import annotations
 import argparse
 from dataclasses import dataclass
 from pathlib import Path
-from typing import Any, Callable, Dict, Iterable, Iterator, List, Optional, Sequence, Tuple
+from typing import Any, Callable, Iterator, List, Mapping, Optional, Sequence, Tuple, Union
 
 import numpy as np
 
@@ -16,7 +16,7 @@ from ..formats import CaptureFrame, read_htcp
 from ..channels import NAMES as CHANNELS
 from ..channels import profile_of
 from ..sweep import ESTIMATES, Setting
-from ..tables import write_csv, write_json_lines
+from ..tables import Records, write_csv, write_json_lines
 
 
 @dataclass(frozen=True)
@@ -156,13 +156,12 @@ def refuse_tables(given: argparse.Namespace) -> None:
             refuse_overwriting(path, given.force)
 
 
-def write_tables(given: argparse.Namespace, records: Iterable[Dict[str, Any]], columns: Sequence[str]) -> None:
+def write_tables(given: argparse.Namespace, records: Union[Sequence[Mapping[str, Any]], Records], columns: Sequence[str]) -> None:
     """Write the tables that are asked for."""
-    held = list(records)
     if given.csv:
-        write_csv(given.csv, held, columns, given.force)
+        write_csv(given.csv, records, columns, given.force)
     if given.json:
-        write_json_lines(given.json, held, given.force)
+        write_json_lines(given.json, records, given.force)
 
 
 def setting_of(given: argparse.Namespace, frames: int) -> Setting:

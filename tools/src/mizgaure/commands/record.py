@@ -11,6 +11,7 @@ from ..air.record import COLUMNS, Spool, spooled
 from ..air.recording import TYPES, Layout, Recording, open_recording
 from ..errors import InputError
 from ..files import refuse_overwriting
+from ..tables import Records
 from .base import Command, add_tables, octets, positive, refuse_tables, whole, write_tables
 
 
@@ -65,7 +66,7 @@ def run(given: argparse.Namespace) -> None:
     refuse_tables(given)
     lines = sys.stderr if given.output == "-" else sys.stdout
     fates: Counter = Counter()
-    records = []
+    records = Records()
     with opened(given, given.recording) as recording, Spool() as spool:
         for line in spooled(recording, spool):
             print(line, file=lines, flush=True)

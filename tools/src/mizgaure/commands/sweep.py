@@ -81,7 +81,7 @@ def _journal(given: argparse.Namespace) -> Optional[Journal]:
 
 def finish(given: argparse.Namespace, found: Sweep, name: Optional[str]) -> None:
     """Write the tables and the picture of a sweep that are asked for."""
-    write_tables(given, found.records(), COLUMNS)
+    write_tables(given, list(found.records()), COLUMNS)
     if given.picture:
         pictures.save(pictures.error_curves(found, name_of(name)), given.picture, given.force)
 
