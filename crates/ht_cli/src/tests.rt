@@ -93,21 +93,21 @@ fn ran(
     if let Some(offset) = reads_to {
         reads.push(offset)?;
     }
-    let mut puts = Vec::new(alloc);
-    if let Some(offset) = puts_to {
-        puts.push(offset)?;
-    }
     let source = MemSource::new(zeros(alloc, frames)?, Vec::new(alloc), reads);
-    ran_over(alloc, words, source, puts)
+    ran_over(alloc, words, source, puts_to)
 }
 
-/// The status of a run in one thread over the source, and what its sink holds, which fails at these offsets.
+/// The status of a run in one thread over the source, and what its sink holds, which fails at an offset where one is given.
 fn ran_over(
     alloc: Global,
     words: &str,
     mut source: MemSource,
-    puts: Vec<u64>,
+    puts_to: Option<u64>,
 ) -> Result<(Status, Vec<u8>), AllocError> {
+    let mut puts = Vec::new(alloc);
+    if let Some(offset) = puts_to {
+        puts.push(offset)?;
+    }
     let mut sink = MemSink::new(Vec::with_capacity(alloc, 16384)?, puts);
     let words = words_of(alloc, words)?;
     let status = run_alone(alloc, &words, &mut source, &mut sink, &OpenGate);
@@ -167,7 +167,7 @@ fn slow_and_unread(rt: HostRuntime) -> Result<(), Fail> {
             cuts.push(at)?;
         }
         let source = MemSource::new(zeros(alloc, 2)?, cuts, Vec::new(alloc));
-        let slow = ran_over(alloc, words, source, Vec::new(alloc))?;
+        let slow = ran_over(alloc, words, source, None)?;
         assert_eq!(rt; slow.0, Status::Done);
         assert_eq!(rt;
             slow.1.as_slice(),
