@@ -277,18 +277,18 @@ impl Record {
         }
         self.marks.clear();
         let mut left = count as usize;
-        let mut block = [0; 4096];
         while left > 0 {
-            let part = &mut block[..left.min(4096)];
+            let from = self.marks.len();
+            let part = left.min(BLOCK);
+            self.marks.resize(from + part, 0);
             let at = input.at;
-            let filled = input.fill(part);
-            let came = if let Err(Fault::Bad(_, end)) = filled { (end - at) as usize } else { part.len() };
-            if let Some(bad) = part[..came].iter().position(|mark| *mark > 1) {
+            let filled = input.fill(&mut self.marks[from..]);
+            let came = if let Err(Fault::Bad(_, end)) = filled { (end - at) as usize } else { part };
+            if let Some(bad) = self.marks[from..from + came].iter().position(|mark| *mark > 1) {
                 return Err(Fault::Bad("BadMark", at + bad as u64));
             }
             filled?;
-            left -= part.len();
-            self.marks.extend_from_slice(part);
+            left -= part;
         }
         Ok(())
     }
