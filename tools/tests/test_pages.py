@@ -160,7 +160,7 @@ def test_a_scheduler_and_its_workers(here, big, radio, monkeypatch):
     with socket.socket() as free:
         free.bind(("127.0.0.1", 0))
         port = str(free.getsockname()[1])
-    pairs = {**SWEPT, "8786": port, "HOST": "127.0.0.1", "/opt/mizgaure/tools/src": str(TOP / "tools" / "src"), "/opt/mizgaure/bin/radio": radio.path,
+    pairs = {**SWEPT, "8786": port, "HOST": "127.0.0.1", "/srv/mizgaure/tools/src": str(TOP / "tools" / "src"), "/srv/mizgaure/bin/radio": radio.path,
              "--nworkers 4": "--nworkers 2"}
     lines = replaced(block_of(CLUSTER, "dask-scheduler"), pairs).splitlines()
     services = []

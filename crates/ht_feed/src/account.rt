@@ -49,7 +49,8 @@ pub trait Account<R: BlockReader> {
         requires right { Self.Answer.answers answer.now (R.Block.jobs block.now) }
 
         // What was put, and what is left to put.
-        ensures put { OnOk result (PutsBlock (shown self.old) (shown self.new) (pieces self.old) (pieces self.new) (headed_due (due_of head.now (R.Block.jobs block.now)))) }
+        ensures put { OnOk result (PutsBlock (shown self.old) (shown self.new) (pieces self.old) (pieces self.new)
+            (headed_due (due_of head.now (R.Block.jobs block.now)))) }
         ensures part { OnErr result (PutsPartOf (shown self.old) (shown self.new) (pieces self.old) (headed_due (due_of head.now (R.Block.jobs block.now)))) }
         ensures waits { OnOk result (waits self.old (all_due due.now.items) → waits self.new (all_due (drop 1 due.now.items))) }
 

@@ -1,6 +1,6 @@
 //! What is due between a reader and an account.
-ghost use Rattle.std.specs.Prelude.{◌≡◌, ◌+◌, ◌-◌, ◌^◌, ◌<◌, ◌≤◌, ◌++◌, [], ◌∷◌, None, Some, true, length, take, drop, slice_get};
-ghost use Rattle.std.specs.Prelude.{IfErr, IfNone, IfOk, IfSome, OnErr, OnOk};
+ghost use Rattle.std.specs.Prelude.{◌≡◌, ◌+◌, ◌-◌, ◌^◌, ◌<◌, ◌≤◌, ◌++◌, [], ◌∷◌};
+ghost use Rattle.std.specs.Prelude.{None, Some, true, length, take, drop, slice_get, IfErr, IfNone, IfOk, IfSome, OnErr, OnOk};
 ghost use Rattle.circular_buffer.specs.Buffer.{buffer};
 ghost use Rattle.ht_io.specs.Devices.{IsLater, Rose};
 ghost use Rattle.ht_feed.specs.Accounts.{PutsBlock, PutsPartOf};
@@ -137,7 +137,8 @@ impl<R: BlockReader + Drop> Desk<R> {
         requires first { slice_get (jobs_in self.old.due) 0 ≡ Some (R.Block.jobs block.now) }
 
         // What was put, and what is left to put.
-        ensures put { OnOk result (PutsBlock (A.shown account.old) (A.shown account.new) (A.pieces account.old) (A.pieces account.new) (all_due (take 1 self.old.due))) }
+        ensures put { OnOk result (PutsBlock (A.shown account.old) (A.shown account.new) (A.pieces account.old) (A.pieces account.new)
+            (all_due (take 1 self.old.due))) }
         ensures part { OnErr result (PutsPartOf (A.shown account.old) (A.shown account.new) (A.pieces account.old) (all_due (take 1 self.old.due))) }
         ensures waits { OnOk result (A.waits account.old (all_due self.old.due) → A.waits account.new (all_due (drop 1 self.old.due))) }
 
