@@ -1,22 +1,22 @@
 -- What it comes to that an input is read and its hits are taken, from what its reader gave.
 use Rattle.std.specs.Prelude.{◌≡◌, ◌⊎◌, ℕ, ◌+◌, List, [], ◌++◌, length, Option, None, Some, IfSome}
 use Rattle.std.proofs.Common.{refl, ap, ◌∙◌, sym, subst, inl, inr, append_assoc, append-nil, arith, length-append}
-use Rattle.ht_io.specs.Devices.{Device, Takes, TakesAll, Grows, GrowsByPart, Rose, IsLater}
-use Rattle.ht_io.proofs.Calls.{takes-append, takes-all, takes-none, grows_by_part-none, failed-later}
+use Rattle.ht_io.specs.Devices.{Device, Takes, Grows, GrowsByPart}
+use Rattle.ht_io.proofs.Calls.{takes-append, takes-all, takes-none, grows_by_part-none}
 use Rattle.ht_io.specs.declared.faults.FormatFault.{FormatFault}
 use Rattle.ht_io.specs.declared.faults.Kind.TheVariants.{Truncated}
-use Rattle.ht_fields.specs.Meanings.{Meaning, before, ended}
+use Rattle.ht_fields.specs.Meanings.{Meaning, before}
 use Rattle.ht_fields.specs.Readers.{ReaderView, Gives, Refuses, RunsOut, Breaks}
 use Rattle.ht_fields.proofs.Answered.{alone}
 use Rattle.ht_fields.proofs.Joins.{gives_broke, ends_behind}
-use Rattle.ht_runs.proofs.Known.{by_part, known, known_all, takes_of}
+use Rattle.ht_runs.proofs.Known.{known, known_all, takes_of}
 use Rattle.ht_feed.specs.declared.stop.Stop.{Stop}
 use Rattle.ht_feed.specs.declared.stop.Stop.TheVariants.{Whole, Refused, Broken, Lacking}
 use Rattle.ht_feed.specs.Items.{Item, Headed, headed, last_head, frames_of, jobs_of}
 use Rattle.ht_feed.specs.Accounts.{PutsPartOf}
 use Rattle.ht_feed.specs.Leading.{headed-append}
 use Rattle.ht_feed.specs.Outcomes.{TellsBroken, TellsPieces, TellsRefused, TellsWhole, pieces_of}
-use Rattle.ht_feed.specs.Reading.{Closes, Completes, Lacks, ReadsBy}
+use Rattle.ht_feed.specs.Reading.{Closes, Completes, ReadsBy}
 
 -- what a meaning's items and fault are
 items_are : {I : Type 0} (m : Meaning I) (items : List I) (fault : Option FormatFault) → m ≡ record { items = items; fault = fault } → m.items ≡ items

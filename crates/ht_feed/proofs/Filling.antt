@@ -1,12 +1,12 @@
 -- Blocks that are due, and what holds of a desk.
-use Rattle.std.proofs.Common.{◌≡◌, ℕ, ◌+◌, ◌-◌, ◌^◌, ◌<◌, ◌≤◌, List, [], ◌∷◌, ◌++◌, drop, map, length, Option, None, Some, true, refl, ap, ◌∙◌, sym, subst, arith}
-use Rattle.std.proofs.Common.{append-nil, append_assoc, length-append}
+use Rattle.std.proofs.Common.{◌≡◌, ℕ, ◌+◌, ◌<◌, ◌≤◌, List, [], ◌∷◌, ◌++◌, drop, length, Option, None, Some, refl, ap, ◌∙◌, sym, subst, arith}
+use Rattle.std.proofs.Common.{append-nil, append_assoc}
 use Rattle.std.proofs.lemmas.Option.{none-some}
 use Rattle.ht_io.specs.Devices.{Device}
 use Rattle.ht_fields.specs.Meanings.{Meaning}
 use Rattle.ht_metric.specs.Jobs.{JobView}
 use Rattle.ht_feed.specs.declared.stop.Stop.{Stop}
-use Rattle.ht_feed.specs.Items.{Item, Headed, Numbered, headed_of}
+use Rattle.ht_feed.specs.Items.{Item, Headed, Numbered}
 use Rattle.ht_feed.specs.Dues.{Due, NoneEmpty, all_due, count_in, due_of, headed_due, jobs_in}
 use Rattle.ht_feed.specs.Reading.{Counts, CountsBlock, Finds, begun}
 use Rattle.ht_feed.specs.Desks.{AddsBlock, DeskView, IsSoundDesk, ReadsMore, standing}

@@ -1,14 +1,14 @@
 -- What a feed did over a new desk, from one end to the other.
-use Rattle.std.specs.Prelude.{◌≡◌, ◌≢◌, ℕ, ◌+◌, List, [], ◌++◌, length, Option, Some, None, is_some, true, Result, Ok, Err, IsErr, IsErrAnd, MatchResult, OnOk}
+use Rattle.std.specs.Prelude.{◌≡◌, ◌≢◌, ℕ, List, [], ◌++◌, length, Option, Some, None, is_some, true, Result, Ok, Err, IsErr, IsErrAnd, MatchResult, OnOk}
 use Rattle.std.proofs.Common.{refl, ap, ◌∙◌, sym, subst, append-nil, arith}
 use Rattle.std.proofs.lemmas.Bool.{false≢true}
-use Rattle.ht_io.specs.Devices.{Device, Grows, GrowsByPart, Rose, IsLater}
+use Rattle.ht_io.specs.Devices.{Device, Grows, GrowsByPart, IsLater}
 use Rattle.ht_io.proofs.Calls.{failed-later, grows_by_part-front}
 use Rattle.ht_fields.specs.Meanings.{Meaning}
-use Rattle.ht_fields.specs.Readers.{ReaderView, Gives}
+use Rattle.ht_fields.specs.Readers.{ReaderView}
 use Rattle.ht_runs.proofs.Known.{by_part}
 use Rattle.ht_runs.specs.declared.faults.StopFault.{StopFault}
-use Rattle.ht_runs.specs.declared.faults.StopFault.TheVariants.{Read, Write, NoMemory as StopMemory}
+use Rattle.ht_runs.specs.declared.faults.StopFault.TheVariants.{Write}
 use Rattle.ht_feed.specs.declared.stop.Stop.{Stop}
 use Rattle.ht_feed.specs.declared.stop.Stop.TheVariants.{Whole, Refused, Broken, Lacking}
 use Rattle.ht_feed.specs.declared.book_fault.BookFault.{BookFault}
@@ -16,15 +16,15 @@ use Rattle.ht_feed.specs.declared.book_fault.BookFault.TheVariants.{Failed, NoMe
 use Rattle.ht_feed.specs.declared.ended.Ended.{Ended}
 use Rattle.ht_feed.specs.declared.drive.DriveFault.{DriveFault}
 use Rattle.ht_feed.specs.declared.drive.DriveFault.TheVariants.{Feed, NoMemory as DriveMemory}
-use Rattle.ht_feed.specs.Items.{Item, Headed, headed, frames_of, jobs_of}
-use Rattle.ht_feed.specs.Accounts.{PutsFirst, Telling}
+use Rattle.ht_feed.specs.Items.{Item, headed, frames_of, jobs_of}
+use Rattle.ht_feed.specs.Accounts.{Telling}
 use Rattle.ht_feed.specs.Dues.{all_due, jobs_in}
 use Rattle.ht_feed.specs.Desks.{DeskView, desk_view}
-use Rattle.ht_feed.specs.Reading.{Closes, ClosesBehind, ReadsBy, view}
+use Rattle.ht_feed.specs.Reading.{ClosesBehind, ReadsBy, view}
 use Rattle.ht_feed.specs.Stops.{ended_at, ended_by, fault_of}
 use Rattle.ht_feed.specs.Telling.{Seen, Tells, TellsBy, TellsPart, seen_by}
 use Rattle.ht_feed.specs.Outcomes.{Comes, StopsBy, TellsPieces, pieces_of}
-use Rattle.ht_feed.proofs.Ending.{broken, in_part, refused, told_nothing, whole}
+use Rattle.ht_feed.proofs.Ending.{broken, in_part, refused, whole}
 use Rattle.ht_feed.proofs.Filling.{none_in}
 
 jobs_taken : {X : Type 0} (last taken jobs : List X) → last ≡ [] → jobs ≡ taken ++ last → jobs ≡ taken

@@ -1,7 +1,6 @@
 -- What the calls of a desk between a source and an account lead to.
-use Rattle.std.proofs.Common.{◌≡◌, ℕ, ◌+◌, List, [], ◌∷◌, ◌++◌, drop, take, length, Option, None, Some, Result, Ok, Err, OnErr, OnOk, IfErr, refl, ap, ◌∙◌, sym, subst, arith}
+use Rattle.std.proofs.Common.{◌≡◌, ℕ, ◌+◌, List, [], ◌∷◌, ◌++◌, drop, take, length, Option, None, Some, refl, ap, ◌∙◌, sym, subst, arith}
 use Rattle.std.proofs.Common.{append-nil, append_assoc}
-use Rattle.std.proofs.lemmas.Option.{none-some}
 use Rattle.ht_io.specs.Devices.{Device, Rose, IsLater}
 use Rattle.ht_io.proofs.Calls.{grows-none, grows_by_part-none, later-refl}
 use Rattle.ht_fields.specs.Meanings.{Meaning}

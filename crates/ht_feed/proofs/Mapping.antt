@@ -1,13 +1,12 @@
 -- What a reader of captures says, said of heads and jobs.
-use Rattle.std.specs.Prelude.{◌≡◌, ◌⊎◌, ℕ, ◌+◌, ◌<◌, ◌≤◌, List, [], ◌∷◌, ◌++◌, Option, None, Some, not, is_some, true, false, Result, Ok, Err, MatchResult}
-use Rattle.std.proofs.Common.{refl, ap, ◌∙◌, sym, subst, inl, inr, arith}
+use Rattle.std.specs.Prelude.{◌≡◌, ℕ, ◌<◌, ◌≤◌, List, [], ◌∷◌, ◌++◌, Option, None, Some, not, is_some, true, Result}
+use Rattle.std.proofs.Common.{refl, ap, ◌∙◌, inl, inr, arith}
 use Rattle.std.proofs.lemmas.Bool.{false≢true}
 use Rattle.ht_io.specs.Devices.{Device}
 use Rattle.ht_io.specs.declared.faults.InFault.{InFault}
 use Rattle.ht_io.specs.declared.faults.InFault.TheVariants.{Format, Read, NoMemory}
 use Rattle.ht_io.specs.declared.faults.FormatFault.{FormatFault}
-use Rattle.ht_fields.specs.Meanings.{Meaning, before}
-use Rattle.ht_fields.specs.Readers.{ReaderView, Gives, Refuses, RunsOut, Breaks, EndsAt}
+use Rattle.ht_fields.specs.Readers.{ReaderView, Gives, Refuses, RunsOut, Breaks}
 use Rattle.ht_fields.specs.WholeFiles.{Halts as CaptureHalts}
 use Rattle.ht_metric.specs.Jobs.{JobView}
 use Rattle.ht_capture.specs.declared.items.FrameHead.{FrameHead}
@@ -15,7 +14,7 @@ use Rattle.ht_capture.specs.declared.items.Item.{Item as CaptureItem}
 use Rattle.ht_capture.specs.declared.items.Item.TheVariants.{Frame, Job, Done}
 use Rattle.ht_capture.specs.Readers.{Progress, Completes as CaptureCompletes, Counted, counted, counts, finished, more, shown_by}
 use Rattle.ht_feed.specs.Items.{Item, Begins, One}
-use Rattle.ht_feed.specs.Reading.{Completes, CountsBlock, CountsHead, Halts, Lacks, view}
+use Rattle.ht_feed.specs.Reading.{Completes, CountsBlock, CountsHead, Halts, view}
 use Rattle.ht_feed.specs.Captures.{capture_at, capture_counts, capture_means, items_of, mapped}
 
 abbrev pub seen : Progress → Device ℕ → ReaderView (Item FrameHead)

@@ -4,7 +4,7 @@ use Rattle.ht_io.specs.Devices.{Device, Grows, GrowsByPart}
 use Rattle.ht_io.proofs.Calls.{grows_by_part-front, grows_by_part-none}
 use Rattle.ht_metric.specs.Jobs.{JobView, near}
 use Rattle.ht_metric.specs.declared.found.Found.{Found}
-use Rattle.ht_feed.specs.Items.{Headed, headed_of}
+use Rattle.ht_feed.specs.Items.{Headed}
 use Rattle.ht_feed.specs.Dues.{due_of, headed_due}
 use Rattle.ht_feed.specs.Accounts.{PutsBlock, PutsPartOf}
 use Rattle.ht_feed.specs.Meters.{octet_of, octets_of}

@@ -1,5 +1,5 @@
 -- Captures as heads and jobs.
-use Rattle.std.specs.Prelude.{◌≡◌, ℕ, List, [], ◌∷◌, ◌++◌, not, is_some}
+use Rattle.std.specs.Prelude.{ℕ, List, [], ◌∷◌, not, is_some}
 use Rattle.ht_fields.specs.Meanings.{Meaning}
 use Rattle.ht_capture.specs.declared.items.FrameHead.{FrameHead}
 use Rattle.ht_capture.specs.declared.items.Item.{Item as CaptureItem}

@@ -1,12 +1,12 @@
 -- What is seen of a desk, and what its calls do.
-use Rattle.std.specs.Prelude.{◌≡◌, ℕ, ◌+◌, ◌-◌, ◌^◌, ◌<◌, ◌≤◌, List, [], ◌∷◌, ◌++◌, length, Option, None, Some, is_some, true}
+use Rattle.std.specs.Prelude.{◌≡◌, ℕ, ◌+◌, ◌-◌, ◌^◌, ◌<◌, ◌≤◌, List, [], ◌∷◌, ◌++◌, length, Option, None, is_some, true}
 use Rattle.ht_io.specs.Devices.{Device}
 use Rattle.ht_fields.specs.Meanings.{Meaning}
 use Rattle.ht_metric.specs.Jobs.{JobView}
 use Rattle.ht_feed.specs.declared.stop.Stop.{Stop}
 use Rattle.ht_feed.specs.declared.book_fault.BookFault.{BookFault}
 use Rattle.ht_feed.specs.Items.{Item, Headed, Numbered}
-use Rattle.ht_feed.specs.Dues.{Due, NoneEmpty, all_due, due_of, headed_due, jobs_in}
+use Rattle.ht_feed.specs.Dues.{Due, NoneEmpty, all_due, due_of, jobs_in}
 use Rattle.ht_feed.specs.Reading.{Counts, Finds, Standing, begun, view}
 use Rattle.ht_feed.specs.Feeds.{FeedView}
 

@@ -5,7 +5,7 @@ use Rattle.ht_io.specs.Devices.{Device}
 use Rattle.ht_fields.specs.Meanings.{Meaning}
 use Rattle.ht_feed.specs.declared.desk_feed.DeskFeed.{DeskFeed}
 use Rattle.ht_feed.specs.declared.book_fault.BookFault.{BookFault}
-use Rattle.ht_feed.specs.Items.{Item, Headed}
+use Rattle.ht_feed.specs.Items.{Item}
 use Rattle.ht_feed.specs.Accounts.{Telling}
 use Rattle.ht_feed.specs.Desks.{feed_view}
 use Rattle.ht_feed.specs.Feeds.{FeedView}

@@ -10,6 +10,7 @@ use crate::reader::BlockReader;
 /// answer, and neither reads nor puts.
 #[derive(Drop)]
 pub struct DeskFeed<'s, 'a, R: BlockReader + Drop, S, A> {
+    /// The reader, and the blocks that are due.
     pub desk: Desk<R>,
     pub(crate) source: &'s mut S,
     pub(crate) account: &'a mut A,

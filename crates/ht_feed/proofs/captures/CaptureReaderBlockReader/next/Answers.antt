@@ -1,6 +1,6 @@
-use Rattle.std.proofs.Common.{◌≡◌, ◌≤◌, ◌<◌, [], ◌∷◌, Ok, subst, arith}
+use Rattle.std.proofs.Common.{◌<◌, [], ◌∷◌, Ok, subst, arith}
 use Rattle.ht_capture.specs.declared.items.Item.{Item}
-use Rattle.ht_capture.specs.declared.items.Item.TheVariants.{Frame, Job, Done}
+use Rattle.ht_capture.specs.declared.items.Item.TheVariants.{Frame, Job}
 use Rattle.ht_capture.specs.Readers.{Counted, Falls, GivesItem, GoesOn, counts, finished, more, shown_by}
 use Rattle.ht_feed.proofs.Mapping.{completes, gives, halts, head_counts, job_counts, unfinished}
 use Rattle.ht_feed.proofs.captures.CaptureReaderBlockReader.next.Goals as goal

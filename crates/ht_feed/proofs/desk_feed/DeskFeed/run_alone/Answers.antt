@@ -1,4 +1,4 @@
-use Rattle.std.proofs.Common.{rules, ◌≡◌}
+use Rattle.std.proofs.Common.{rules}
 use Rattle.ht_feed.specs.Accounts.{told_by}
 use Rattle.ht_feed.proofs.Finishing.{Heard, heard, puts_later, reads_later, steady}
 use Rattle.ht_feed.proofs.desk_feed.DeskFeed.run_alone.Goals as goal
