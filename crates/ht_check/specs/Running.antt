@@ -1,5 +1,5 @@
 -- A check of a file that is under way.
-use Rattle.std.specs.Prelude.{◌≡◌, ℕ, ◌+◌, List, ◌++◌, length}
+use Rattle.std.specs.Prelude.{◌≡◌, ℕ, List, ◌++◌, length}
 use Rattle.ht_io.specs.Devices.{Device, Grows, IsLater}
 use Rattle.ht_fields.specs.Readers.{ReaderView, Gives}
 use Rattle.ht_cert.specs.declared.record.Record.{Record}
