@@ -2,7 +2,7 @@
 _radio() {
   local word=${COMP_WORDS[COMP_CWORD]} before=${COMP_WORDS[COMP_CWORD-1]} words=''
   if [ "$COMP_CWORD" -eq 1 ]; then
-    words='detect rx tx channel upgrade certify check demo --help --version'
+    words='detect rx tx channel upgrade certify check lchannel demo --help --version'
   else
     case $before in
       --bandwidth) words='20 40' ;;
@@ -12,6 +12,7 @@ _radio() {
           detect) words='--workers --window' ;;
           rx) words='--workers --window' ;;
           channel) words='--seed --noise' ;;
+          lchannel) words='--seed --noise' ;;
           demo) words='--seed --noise --frames --mcs --bandwidth --length --workers --window' ;;
         esac
         ;;

@@ -9,6 +9,7 @@ commands=(
   'upgrade:reads a capture (HTCP) whole; writes the capture of version 2 of its frames'
   'certify:reads a capture (HTCP) whole; writes the file of certificates (HTCT) of its data jobs'
   'check:reads a file of certificates (HTCT) as it comes; writes a line for each certificate that says whether it holds'
+  'lchannel:reads a file of clause 18 frames (LGTX) whole; writes a capture of them (LGCP), behind a random channel'
   'demo:reads nothing; writes a line of sums over sample frames that it makes, sends and receives'
 )
 if (( CURRENT == 2 )); then
@@ -29,6 +30,10 @@ case $command in
       '--workers[threads that detect, the calling one among them, 1 to 64]:workers:' \
       '--window[most jobs under way at a time: read, and their hits not taken yet, 1 to 4096]:window:' ;;
   channel)
+    _arguments \
+      '--seed[seed of the generator of channels and of sample frames, 0 to 18446744073709551615]:seed:' \
+      '--noise[largest noise in each part of a sample, 0 to 65535]:noise:' ;;
+  lchannel)
     _arguments \
       '--seed[seed of the generator of channels and of sample frames, 0 to 18446744073709551615]:seed:' \
       '--noise[largest noise in each part of a sample, 0 to 65535]:noise:' ;;

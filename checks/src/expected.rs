@@ -97,10 +97,10 @@ fn pass(frame: &Frame, octets: &[u8], noise: u16, words: &mut Words, made: &mut 
 }
 
 /// The simulator's words: PCG XSH RR 64/32 on stream 54.
-struct Words(u64);
+pub(crate) struct Words(u64);
 
 impl Words {
-    fn new(seed: u64) -> Self {
+    pub fn new(seed: u64) -> Self {
         let mut words = Words(seed.wrapping_add(109));
         words.step();
         words
@@ -110,7 +110,7 @@ impl Words {
         self.0 = self.0.wrapping_mul(6_364_136_223_846_793_005).wrapping_add(109);
     }
 
-    fn below(&mut self, bound: u32) -> u32 {
+    pub fn below(&mut self, bound: u32) -> u32 {
         let z = self.0;
         self.step();
         (((z >> 18 ^ z) >> 27) as u32).rotate_right((z >> 59) as u32) % bound

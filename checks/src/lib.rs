@@ -4,6 +4,7 @@
 pub mod certificates;
 pub mod channel;
 pub mod expected;
+pub mod legacy;
 pub mod making;
 pub mod options;
 pub mod program;

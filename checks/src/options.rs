@@ -5,9 +5,9 @@ pub fn received(command: &str, workers: u32, window: u32) -> Vec<String> {
     with(command, &[("workers", workers.into()), ("window", window.into())])
 }
 
-/// The words of a call of `channel`.
-pub fn passed(seed: u64, noise: u16) -> Vec<String> {
-    with("channel", &[("seed", seed), ("noise", noise.into())])
+/// The words of a call of `channel` or `lchannel`.
+pub fn passed(command: &str, seed: u64, noise: u16) -> Vec<String> {
+    with(command, &[("seed", seed), ("noise", noise.into())])
 }
 
 fn with(command: &str, values: &[(&str, u64)]) -> Vec<String> {

@@ -12,7 +12,7 @@ pub struct Rate {
 }
 
 /// The pilots' polarity: 1 or -1, by the scrambler's sequence from the state of all ones.
-const POLARITY: [i8; 127] = {
+pub(crate) const POLARITY: [i8; 127] = {
     let mut signs = [1; 127];
     let mut state = 0x7f_u8;
     let mut at = 0;

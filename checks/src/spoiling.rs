@@ -52,6 +52,24 @@ pub fn spoil_certificates(random: &mut Random, octets: &[u8]) -> Vec<u8> {
     spoiled
 }
 
+/// Spoils a file of clause 18 frames, mostly in the head of its first frame.
+pub fn spoil_legacy(random: &mut Random, octets: &[u8]) -> Vec<u8> {
+    let mut spoiled = octets.to_vec();
+    match random.below(8) {
+        0 => return cut(random, octets).0,
+        1 => return append(random, octets, octets).0,
+        2 => return shift(random, octets).0,
+        3 => return count(random, octets).0,
+        4 => return flip(random, octets).0,
+        _ => {
+            let any = random.octet();
+            let at = random.below(octets.len().min(11));
+            spoiled[at] = random.one_of(&[0, 1, 7, 8, 15, 16, 127, 128, 255, any]);
+        }
+    }
+    spoiled
+}
+
 fn cut(random: &mut Random, octets: &[u8]) -> (Vec<u8>, &'static str) {
     let kept = if random.once_in(4) { random.below(octets.len().min(20)) } else { random.below(octets.len()) };
     (octets[..kept].to_vec(), "cut off")

@@ -201,7 +201,7 @@ impl<'a> Cursor<'a> {
         if is_good(octet) { Ok(octet) } else { Err(self.fault(kind, at)) }
     }
 
-    fn number(&mut self, kind: &'static str, is_good: impl Fn(u16) -> bool) -> Result<u16, Fault> {
+    pub fn number(&mut self, kind: &'static str, is_good: impl Fn(u16) -> bool) -> Result<u16, Fault> {
         let at = self.at;
         let octets = self.take(2)?;
         let number = u16::from_be_bytes([octets[0], octets[1]]);

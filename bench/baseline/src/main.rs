@@ -4,6 +4,7 @@ mod certifying;
 mod decoding;
 mod detecting;
 mod framing;
+mod legacy;
 mod listing;
 mod random;
 mod receiving;
@@ -12,7 +13,7 @@ mod sending;
 
 fn main() {
     let words: Vec<String> = std::env::args().skip(1).collect();
-    if receiving::run(&words) || certifying::run(&words) || sending::run(&words) {
+    if receiving::run(&words) || certifying::run(&words) || sending::run(&words) || legacy::run(&words) {
         return;
     }
     match decoding::run(&words).or_else(|| framing::run(&words)).or_else(|| detecting::run(&words)).or_else(|| capturing::run(&words)) {

@@ -4,7 +4,7 @@ use checks::program::{Ran, Room};
 use checks::random::Random;
 use checks::rates::{Point, Rate};
 use checks::walking::{Format, Walk};
-use checks::{certificates, making, options, side_by_side, spoiling};
+use checks::{certificates, legacy, making, options, side_by_side, spoiling};
 use std::io::Write;
 use std::time::Duration;
 
@@ -186,7 +186,7 @@ impl Runs<'_, '_> {
             return Err(format!("`tx`: {} and no file of these frames' symbols", sent.ended()));
         }
         let (capture, sums) = expected::passed(&symbols, &sent.text, seed, noise);
-        self.made(&options::passed(seed, noise), &sent.text, &capture)?;
+        self.made(&options::passed("channel", seed, noise), &sent.text, &capture)?;
         let received = self.run(&options::received("rx", 4, 256), &capture)?;
         let lines = before_last(&received, &Walk::of(Format::Capture, &capture))?;
         if lines.len() != walk.whole() {
@@ -203,12 +203,25 @@ impl Runs<'_, '_> {
 
     fn symbols(&mut self, input: &Input, seed: u64, noise: u16) -> Result<(), String> {
         let walk = Walk::of(Format::Symbols, &input.octets);
-        let channel = options::passed(seed, noise);
+        let channel = options::passed("channel", seed, noise);
         if walk.fault.is_some() {
             return self.refused(&channel, &input.octets, &walk);
         }
         let (capture, _) = expected::passed(&walk, &input.octets, seed, noise);
         self.made(&channel, &input.octets, &capture)
+    }
+}
+
+impl Runs<'_, '_> {
+    /// What `lchannel` makes of a file of clause 18 frames, or says of it where it is at fault.
+    fn legacy(&mut self, random: &mut Random, seed: u64, noise: u16) -> Result<(), String> {
+        let valid = legacy::file(random);
+        let octets = if random.once_in(3) { valid } else { spoiling::spoil_legacy(random, &valid) };
+        let words = options::passed("lchannel", seed, noise);
+        match legacy::passed(&octets, seed, noise) {
+            Ok(capture) => self.made(&words, &octets, &capture),
+            Err(fault) => self.refused(&words, &octets, &Walk { version: 1, count: 0, frames: Vec::new(), fault: Some(fault) }),
+        }
     }
 }
 
@@ -262,7 +275,9 @@ fn main() {
         let mut runs = Runs { room };
         let result = match input.format {
             Format::Capture => runs.capture(&input),
-            Format::Frames => runs.frames(&input, of_channel, noise),
+            Format::Frames => runs
+                .frames(&input, of_channel, noise)
+                .and_then(|()| runs.legacy(&mut random, of_channel, noise)),
             Format::Symbols => runs.symbols(&input, of_channel, noise),
         };
         result.map_err(|wrong| format!("{:?} {}: {wrong}", input.format, input.how))

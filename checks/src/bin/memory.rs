@@ -19,7 +19,7 @@ const STEP: u64 = 512 << 10;
 const RECEIVING: [&str; 2] = ["rx", "detect"];
 
 /// The commands of which a beginning of the text may stand where memory ran out.
-const PIECEWISE: [&str; 4] = ["rx", "detect", "certify", "check"];
+const PIECEWISE: [&str; 5] = ["rx", "detect", "certify", "check", "lchannel"];
 
 /// Whether a call starts threads. A thread that can't be started is a growth that a run can do without.
 #[derive(Clone, Copy, PartialEq, Eq)]

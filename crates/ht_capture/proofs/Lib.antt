@@ -1,6 +1,10 @@
 pub mod Grids
+pub mod Hearing
+pub mod Shapes
+pub mod Sharing
 pub mod Halting
 pub mod Judges
+pub mod Lending
 pub mod Slices
 pub mod Symbols
 pub mod Turns

@@ -147,7 +147,7 @@ symbol_read due present at behind left after into samples size some front taken 
     (good_gives (Symbol due present) (symbol_due (next_symbol due) present) at behind _ left after into
     (ones (length into) _ size some, symbol_good due present into) taken place)
 
-gives_completes : (old mid : ReaderView Item) (after : Device ℕ) → Gives old mid [] → Completes mid after → Completes old after
+pub gives_completes : (old mid : ReaderView Item) (after : Device ℕ) → Gives old mid [] → Completes mid after → Completes old after
 gives_completes old mid after a b = record {
   taken = a.taken ++ b.taken;
   octets = takes-all old.source mid.source after a.taken b.taken a.octets b.octets;

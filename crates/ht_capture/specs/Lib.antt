@@ -9,3 +9,6 @@ pub mod Contents
 pub mod Taking
 pub mod Reading
 pub mod Readers
+pub mod Parts
+pub mod Presents
+pub mod Blocks

@@ -1,4 +1,6 @@
 //! What a capture holds, as a reader gives it.
+ghost use Rattle.std.specs.Prelude.{◌≡◌, ◌↔◌, IsTrue};
+
 use ht_metric::Job;
 use ht_rate::Rate;
 
@@ -13,6 +15,15 @@ pub struct FrameHead {
     pub length: u16,
     /// Bit c is set exactly where subcarrier c is erased, subcarrier 0 being the lowest. 0 in version 1.
     pub erased: u128,
+}
+
+impl FrameHead {
+    // Whether both heads are the same, as `==` says too.
+    pub(crate) fn same(&self, other: &FrameHead) -> bool
+        ensures { IsTrue result ↔ (self.now ≡ other.now) }
+    {
+        *self == *other
+    }
 }
 
 /// What a reader gives.

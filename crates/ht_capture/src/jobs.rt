@@ -1,13 +1,17 @@
 //! The jobs of a symbol.
-ghost use Rattle.std.specs.Prelude.{◌≡◌, ◌+◌, ◌*◌, ◌≤◌, ◌<◌, length};
+ghost use Rattle.std.specs.Prelude.{◌≡◌, ◌+◌, ◌*◌, ◌≤◌, ◌<◌, length, replicate};
 ghost use Rattle.ht_map.specs.Constellation.{grid_of as full_grid};
 ghost use Rattle.ht_rate.specs.Rates.{carriers_of, pilots_of, streams_of};
+ghost use Rattle.ht_metric.specs.Rows.{no_sample};
 ghost use Rattle.ht_capture.specs.Frames.{carrier_octets, grid_at, job_at, one_point, pilot_grid};
+ghost use Rattle.ht_capture.specs.Parts.{IsTemplate, on_grid};
+ghost use Rattle.ht_capture.specs.Presents.{present_of};
 
 use crate::items::FrameHead;
 use crate::numbers;
 use crate::places::Present;
-use ht_metric::{Job, Place, System};
+use crate::template::Template;
+use ht_metric::{Job, Place, Sample, System};
 use ht_pam::{Grid, Ladder};
 use ht_pilot::pilot;
 use ht_rate::{Carrier, Rate};
@@ -76,4 +80,69 @@ pub fn job(
     };
     let grid = grid_of(&head.rate, symbol, present.carrier, full);
     Job::new(number, place, grid, System::new(present.triangle, samples))
+}
+
+// No sample on any row.
+fn silence() -> [Sample; 4]
+    ensures { result ≡ replicate 4 no_sample }
+{
+    [Sample { re: 0, im: 0 }; 4]
+}
+
+/// What the jobs of a present subcarrier share in all symbols. `full` is the grid of the frame's data subcarriers.
+pub fn template(head: &FrameHead, present: &Present, full: &Grid) -> Template
+    requires carrier { present.now.carrier < carriers_of head.now.rate }
+    requires triangle { length present.now.triangle ≡ streams_of head.now.rate }
+    requires full { full.now ≡ full_grid head.now.rate }
+    ensures template { IsTemplate head.now result }
+    ensures present { present_of result.job ≡ present.now }
+{
+    let place = Place {
+        frame: head.frame,
+        symbol: 0,
+        carrier: present.carrier,
+    };
+    let grid = grid_of(&head.rate, 0, present.carrier, full);
+    Template {
+        job: Job::new(0, place, grid, System::new(present.triangle, silence())),
+        kind: head.rate.carrier(present.carrier),
+    }
+}
+
+/// The job of a subcarrier in a symbol, whose samples stand in octets from a place on, out of the subcarrier's template.
+#[inline]
+pub fn heard(
+    head: &FrameHead,
+    symbol: u32,
+    number: u64,
+    template: &Template,
+    octets: &[u8],
+    at: usize,
+) -> Job
+    requires template { IsTemplate head.now template.now }
+    requires whole { at + carrier_octets head.now.rate ≤ length octets.now }
+    ensures { result ≡ job_at head.now symbol number (present_of template.now.job) octets.now at }
+{
+    let samples = numbers::samples(head.rate.streams(), octets, at);
+    let mut job = template.job.copy();
+    job.hear(number, symbol, samples);
+    match template.kind {
+        Carrier::Data(_) => job,
+        Carrier::Pilot(index) => {
+            give_grid(&mut job, &head.rate, index);
+            job
+        }
+    }
+}
+
+// Gives a job on a pilot the grid of its symbol, where it lies: a job that moved would cost as much again.
+#[inline(never)]
+fn give_grid(job: &mut Job, rate: &Rate, index: u8)
+    requires index { index < pilots_of rate.now }
+    requires streams { length job.old.system ≡ streams_of rate.now }
+    ensures { job.new ≡ on_grid job.old (pilot_grid rate.now job.old.place.symbol index) }
+{
+    let place = job.place();
+    let grid = pilot_points(rate, place.symbol, index);
+    *job = Job::new(job.number(), place, grid, *job.system());
 }

@@ -19,6 +19,10 @@
 //! capture of these frames, and equal files have equal frames, so that reading it gives the frames again.
 #![tactic(auto)]
 
+mod block;
+mod block_item;
+#[cfg(test)]
+mod block_tests;
 mod carriers;
 mod fields;
 mod frames;
@@ -26,18 +30,24 @@ mod heads;
 mod items;
 mod jobs;
 pub mod laws;
+mod lent;
 pub mod numbers;
 mod parts;
 mod places;
 mod reader;
 mod reading;
+mod shape;
+mod shared_symbol;
 mod stage;
+mod template;
 #[cfg(test)]
 mod tests;
 mod writing;
 #[cfg(test)]
 mod writing_tests;
 
+pub use block::SymbolBlock;
+pub use block_item::BlockItem;
 pub use frames::{CaptureFrame, Samples, Triangles};
 pub use items::{FrameHead, Item};
 pub use reader::Reader;

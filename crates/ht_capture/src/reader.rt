@@ -1,5 +1,5 @@
 //! The reader of captures.
-ghost use Rattle.std.specs.Prelude.{◌≡◌, ◌<◌, ◌≤◌, ◌+◌, ◌-◌, ◌*◌, ℕ, List, [], ◌∷◌, None, Some, Ok, Err, Result, length, take, is_some, MatchResult, IfOk};
+ghost use Rattle.std.specs.Prelude.{◌≡◌, ◌<◌, ◌≤◌, ◌+◌, ◌-◌, ◌*◌, ℕ, List, [], ◌∷◌, None, Some, Ok, Err, Result, length, take, is_some, false, MatchResult, IfOk};
 ghost use Rattle.std.specs.Prelude.{IfErr, IfSome, IfNone};
 ghost use Rattle.ht_io.specs.Devices.{Device, IsLater};
 ghost use Rattle.ht_io.specs.declared.faults.InFault.{InFault as InFaultValue};
@@ -7,19 +7,26 @@ ghost use Rattle.ht_io.specs.declared.faults.InFault.TheVariants.{NoMemory};
 ghost use Rattle.ht_fields.specs.Readers.{Gives};
 ghost use Rattle.ht_map.specs.Constellation.{grid_of};
 ghost use Rattle.ht_pam.specs.declared.axes.Axes.{Axes};
+ghost use Rattle.std.specs.Arc.{arc_value};
 ghost use Rattle.ht_capture.specs.declared.items.Item.{Item as ItemValue};
 ghost use Rattle.ht_capture.specs.declared.items.Item.TheVariants.{Job as JobItem, Done};
 ghost use Rattle.ht_capture.specs.Fields.{Symbol, captures, turn_due, capture_magic, capture_magic_due};
+ghost use Rattle.ht_capture.specs.Parts.{symbol_part};
 ghost use Rattle.ht_capture.specs.Reading.{here};
+ghost use Rattle.ht_capture.specs.Blocks.{CountsBlock, CountsPart, FallsBy, GivesBlock, GoesOnBy, PlacesBlock, PlacesPart, Repeats, StopsBlocks, items_in};
 ghost use Rattle.ht_capture.specs.Readers.{Counted, Falls, KeepsGrid, StaysInFrame, GivesItem, GoesOn, IsOfSymbol, IsPlaced, IsReady, StageFits, SymbolFits};
 ghost use Rattle.ht_capture.specs.Readers.{TurnFits};
 ghost use Rattle.ht_capture.specs.Readers.{counted, counts, counts_at, finished, finished_stage, has_job, more, more_at, most_of};
 ghost use Rattle.ht_capture.specs.Readers.{shown_at, shown_by, stage_after, symbol_at, symbol_under_way};
 ghost use Rattle.ht_fields.specs.WholeFiles.{Halts};
 
+use crate::block::SymbolBlock;
+use crate::block_item::BlockItem;
 use crate::items::Item;
+use crate::lent::Lent;
 use crate::parts::{self, width};
 use crate::places::{Present, SymbolTurn, Turn};
+use crate::shared_symbol::SharedSymbol;
 use crate::stage::Stage;
 use crate::{heads, jobs};
 use ht_io::{InFault, Source};
@@ -28,6 +35,8 @@ use ht_metric::{Job, Tap, Triangle};
 use ht_pam::{Grid, Ladder};
 use std::alloc::{AllocError, Global};
 use std::marker::Model;
+use std::mem;
+use std::sync::Arc;
 
 /// The most subcarriers of a frame.
 const CARRIERS: usize = 114;
@@ -35,28 +44,32 @@ const CARRIERS: usize = 114;
 /// The most octets of a symbol: for each subcarrier two parts of four octets on each of four streams.
 const SYMBOL: usize = 3648;
 
-/// Reads a capture of either version from a source, item by item.
+/// Reads a capture of either version from a source, item by item or in blocks of jobs.
 ///
-/// It keeps the triangles of one frame and the samples of one symbol, and takes the memory for them when it is made.
+/// It keeps the triangles of one frame and the samples of one symbol, and takes the memory for them when it is made. What
+/// blocks share it takes where a block is asked for: once a frame, and again for a symbol only while a block has the last one.
 #[derive(Debug, Drop)]
 pub struct Reader {
+    alloc: Global,
     stage: Stage,
     at: u64,
     present: Vec<Present>,
     samples: Vec<u8>,
     // The grid of the data subcarriers of the frame under way; any, where none is.
     grid: Grid,
+    lent: Lent,
 }
 
 impl Model for Reader {
     ghost use Rattle.ht_capture.specs.Readers.{Progress, IsSound, KeepsGrid};
+    ghost use Rattle.ht_capture.specs.Blocks.{KeepsLent};
 
     ghost Value = { Progress };
 
     ghost view = { λ r. record { stage = r.stage; at = r.at; present = r.present.items; samples = r.samples.items } };
 
     ghost invariant = { λ r. IsSound (record { stage = r.stage; at = r.at; present = r.present.items; samples = r.samples.items })
-        × KeepsGrid r.stage r.grid };
+        × KeepsGrid r.stage r.grid × KeepsLent r.stage r.present.items r.samples.items r.lent };
 }
 
 // The stage behind a symbol: its next one, or the next frame.
@@ -144,11 +157,13 @@ impl Reader {
         let samples = vec![in alloc; 0u8; SYMBOL]?;
         let zero = Ladder::of(1, 0b1);
         Ok(Reader {
+            alloc,
             stage: Stage::Begin,
             at: 0,
             present,
             samples,
             grid: Grid::one(zero, zero),
+            lent: Lent::Nothing,
         })
     }
 
@@ -211,6 +226,108 @@ impl Reader {
         }
     }
 
+    /// The next jobs of a symbol in one block, at most `most`, or the next head or the end, where a symbol's jobs were all
+    /// given: told as [`next`](Reader::next) tells it, with which it may be mixed.
+    ///
+    /// `NoMemory` comes where the memory that blocks share lacks. Then no job is lost, and the reader goes on.
+    pub fn next_block<S: Source>(&mut self, most: u16, source: &mut S) -> Result<BlockItem, InFault>
+        requires some { 1 ≤ most }
+
+        // What the octets that this call took mean.
+        ensures told { finished self.old ≡ None → MatchResult result
+            (GivesBlock (shown_by self.old (S.shown source.old)) (shown_by self.new (S.shown source.new)))
+            (StopsBlocks (shown_by self.old (S.shown source.old)) (shown_by self.new (S.shown source.new))) }
+
+        // Heads and jobs are numbered from 0.
+        ensures counted { IfOk result (CountsBlock most (counts self.old) (counts self.new)) }
+
+        // A block's jobs are some of the symbol that was due.
+        ensures placed { IfOk result (PlacesBlock (symbol_under_way self.old) (symbol_under_way self.new)) }
+
+        // What stays.
+        ensures going { GoesOnBy self.new result }
+        ensures later { IsLater (S.shown source.old) (S.shown source.new) }
+        ensures again { (answer : Result ItemValue InFaultValue) → finished self.old ≡ Some answer
+            → Repeats answer result × (self.new ≡ self.old) × (source.new ≡ source.old) }
+
+        // How many heads and jobs still come, at most: over every source fewer behind each of them.
+        ensures fewer { FallsBy (more self.old) (more self.new) result }
+    {
+        self.ready(source)?;
+        self.answer_block(most, source)
+    }
+
+    /// The next jobs of the symbol that was read last, in one block of at most `most`; or none where all of its jobs were
+    /// given, or where the memory that blocks share lacks: then [`next_block`](Reader::next_block) reads on, or says so.
+    /// It asks no source.
+    pub fn ready_block(&mut self, most: u16) -> Option<SymbolBlock>
+        requires some { 1 ≤ most }
+
+        // The jobs are the next items.
+        ensures told { IfSome result (λ block. (source : Device ℕ) → Gives (shown_by self.old source) (shown_by self.new source) (items_in block)) }
+        ensures counted { IfSome result (CountsPart most (counts self.old) (counts self.new)) }
+        ensures placed { IfSome result (PlacesPart (symbol_under_way self.old) (symbol_under_way self.new)) }
+        ensures going { IfSome result (λ _. finished self.new ≡ None) }
+        ensures fewer { IfSome result (λ block. more self.new + length block.present ≤ more self.old) }
+
+        ensures none { IfNone result (self.new ≡ self.old) }
+    {
+        match self.stage {
+            Stage::Giving(due, k) => match self.give_block(&due, k, most) {
+                Ok(block) => Some(block),
+                Err(_) => None,
+            },
+            _ => None,
+        }
+    }
+
+    // Gives what comes next, a symbol's jobs in blocks, where no symbol has to be read before.
+    fn answer_block<S: Source>(&mut self, most: u16, source: &mut S) -> Result<BlockItem, InFault>
+        requires ready { IsReady self.old.stage }
+        requires some { 1 ≤ most }
+        ensures told { finished self.old ≡ None → MatchResult result
+            (GivesBlock (shown_by self.old (S.shown source.old)) (shown_by self.new (S.shown source.new)))
+            (StopsBlocks (shown_by self.old (S.shown source.old)) (shown_by self.new (S.shown source.new))) }
+        ensures counted { IfOk result (CountsBlock most (counts self.old) (counts self.new)) }
+        ensures placed { IfOk result (PlacesBlock (symbol_under_way self.old) (symbol_under_way self.new)) }
+        ensures going { GoesOnBy self.new result }
+        ensures later { IsLater (S.shown source.old) (S.shown source.new) }
+        ensures again { (answer : Result ItemValue InFaultValue) → finished self.old ≡ Some answer
+            → Repeats answer result × (self.new ≡ self.old) × (source.new ≡ source.old) }
+        ensures fewer { FallsBy (more self.old) (more self.new) result }
+    {
+        match self.stage {
+            Stage::Giving(due, k) => match self.give_block(&due, k, most) {
+                Ok(block) => Ok(BlockItem::Block(block)),
+                Err(_) => Err(InFault::NoMemory),
+            },
+            _ => self.answer_joint(source),
+        }
+    }
+
+    // Gives what comes next, where no jobs are due.
+    fn answer_joint<S: Source>(&mut self, source: &mut S) -> Result<BlockItem, InFault>
+        requires ready { IsReady self.old.stage }
+        requires none { has_job self.old.stage ≡ false }
+        ensures told { finished self.old ≡ None → MatchResult result
+            (GivesBlock (shown_by self.old (S.shown source.old)) (shown_by self.new (S.shown source.new)))
+            (StopsBlocks (shown_by self.old (S.shown source.old)) (shown_by self.new (S.shown source.new))) }
+        ensures counted { (most : ℕ) → IfOk result (CountsBlock most (counts self.old) (counts self.new)) }
+        ensures placed { IfOk result (PlacesBlock (symbol_under_way self.old) (symbol_under_way self.new)) }
+        ensures going { GoesOnBy self.new result }
+        ensures later { IsLater (S.shown source.old) (S.shown source.new) }
+        ensures again { (answer : Result ItemValue InFaultValue) → finished self.old ≡ Some answer
+            → Repeats answer result × (self.new ≡ self.old) × (source.new ≡ source.old) }
+        ensures fewer { FallsBy (more self.old) (more self.new) result }
+    {
+        match self.answer(source) {
+            Ok(Item::Frame(head)) => Ok(BlockItem::Frame(head)),
+            Ok(Item::Job(_)) => unreachable!(),
+            Ok(Item::Done) => Ok(BlockItem::Done),
+            Err(fault) => Err(fault),
+        }
+    }
+
     // Gives the next job of the symbol that was read.
     fn give(&mut self, due: &SymbolTurn, k: usize) -> Job
         requires stage { self.old.stage ≡ Stage.Giving due.now k }
@@ -221,7 +338,7 @@ impl Reader {
         ensures fewer { more self.new < more self.old }
     {
         let job = job_of(due, k, self.at, &self.present, &self.grid, &self.samples);
-        self.pass(due, k);
+        self.pass(due, k, 1);
         job
     }
 
@@ -329,6 +446,7 @@ impl Reader {
                 Ok((due, behind)) => {
                     self.at = behind;
                     self.grid = grid(&due.head.rate);
+                    self.lent = Lent::Nothing;
                     self.stage = Stage::NextSymbol(due);
                     Ok(Item::Frame(due.head))
                 }
@@ -354,6 +472,7 @@ impl Reader {
         match parts::symbol(source, self.at, &due, &mut self.samples) {
             Ok(behind) => {
                 self.at = behind;
+                self.lent = mem::replace(&mut self.lent, Lent::Nothing).passed();
                 self.stage = Stage::Giving(due, 0);
                 Ok(())
             }
@@ -361,23 +480,64 @@ impl Reader {
         }
     }
 
-    // Leaves a job behind: the next one of its symbol is due, or what follows the symbol.
-    fn pass(&mut self, due: &SymbolTurn, k: usize)
+    // Leaves jobs behind: the next one of their symbol is due, or what follows the symbol.
+    fn pass(&mut self, due: &SymbolTurn, k: usize, count: usize)
         requires stage { self.old.stage ≡ Stage.Giving due.now k }
         requires fits { SymbolFits due.now 1 self.old.at self.old.present }
-        requires inside { k < due.now.count }
-        ensures told { (source : Device ℕ) → shown_at (Stage.Giving due.now (k + 1)) self.old.at self.old.present self.old.samples source
+        requires some { 1 ≤ count }
+        requires inside { k + count ≤ due.now.count }
+        ensures told { (source : Device ℕ) → shown_at (Stage.Giving due.now (k + count)) self.old.at self.old.present self.old.samples source
             ≡ shown_by self.new source }
-        ensures counts { counts self.new ≡ counted (due.now.turn.frame + 1) (due.now.turn.number + (k + 1)) }
-        ensures fewer { more self.new < more_at (Stage.Giving due.now k) }
+        ensures counts { counts self.new ≡ counted (due.now.turn.frame + 1) (due.now.turn.number + (k + count)) }
+        ensures fewer { more self.new + count ≤ more_at (Stage.Giving due.now k) }
         ensures going { finished self.new ≡ None }
         ensures follows { StaysInFrame due.now (symbol_under_way self.new) }
     {
-        if k + 1 < due.count {
-            self.stage = Stage::Giving(*due, k + 1);
+        if k + count < due.count {
+            self.stage = Stage::Giving(*due, k + count);
         } else {
             self.stage = after(due, self.at, &self.present);
         }
+    }
+
+    // The symbol that was read, for its blocks.
+    fn lend(&mut self, due: &SymbolTurn, k: usize) -> Result<Arc<SharedSymbol, Global>, AllocError>
+        requires stage { self.old.stage ≡ Stage.Giving due.now k }
+        ensures symbol { IfOk result (λ symbol. arc_value symbol ≡ symbol_part due.now self.old.present self.old.samples) }
+        ensures same { self.new ≡ self.old }
+        ensures fits { SymbolFits due.now 1 self.old.at self.old.present }
+        ensures inside { k < due.now.count }
+        ensures space { length self.old.present ≡ 114 }
+    {
+        let lent = mem::replace(&mut self.lent, Lent::Nothing);
+        let present = &self.present[..due.count];
+        let octets = &self.samples[..width(due.count, due.head.rate.streams())];
+        let symbol = lent.current(self.alloc, due, present, &self.grid, octets)?;
+        let theirs = Arc::try_clone(&symbol)?;
+        self.lent = Lent::Current(symbol);
+        Ok(theirs)
+    }
+
+    // Gives the next jobs of the symbol that was read, at most this number.
+    fn give_block(
+        &mut self,
+        due: &SymbolTurn,
+        k: usize,
+        most: u16,
+    ) -> Result<SymbolBlock, AllocError>
+        requires stage { self.old.stage ≡ Stage.Giving due.now k }
+        requires some { 1 ≤ most }
+        ensures told { IfOk result (λ block. (source : Device ℕ) → Gives (shown_by self.old source) (shown_by self.new source) (items_in block)) }
+        ensures counted { IfOk result (CountsPart most (counts self.old) (counts self.new)) }
+        ensures placed { IfOk result (PlacesPart (symbol_under_way self.old) (symbol_under_way self.new)) }
+        ensures going { IfOk result (λ _. finished self.new ≡ None) }
+        ensures fewer { IfOk result (λ block. more self.new + length block.present ≤ more self.old) }
+        ensures none { IfErr result (λ _. self.new ≡ self.old) }
+    {
+        let symbol = self.lend(due, k)?;
+        let count = (due.count - k).min(usize::from(most));
+        self.pass(due, k, count);
+        Ok(SymbolBlock::of(symbol, k as u16, count as u16))
     }
 
     // Stops reading.

@@ -23,7 +23,7 @@ use Rattle.ht_cert.specs.Formats.{RecordState, Modulated, Streams, Claim, Marks,
 use Rattle.ht_cert.specs.Formats.{good_claim, good_mark, good_marks, good_modulation, good_streams, marks_due, marks_given, next_turn, record_limits, recorded, records_due}
 use Rattle.ht_cert.specs.Files.{AreNumbered, AreRecords, IsRecord, certificates_file_of, claim_octets, front_octets, mark_octet, record_octets, records_start}
 use Rattle.ht_cert.proofs.Encoded.{claim_encoded}
-use Rattle.ht_cert.proofs.Routes.{mark_is, none_given, one_given, over_is, record_is, whole_is}
+use Rattle.ht_cert.proofs.Routes.{mark_back, mark_is, none_given, one_given, over_is, record_is, whole_is}
 
 abbrev State : Type 0
 State = StartState RecordState
@@ -180,11 +180,6 @@ code_back (suc zero) low = refl
 code_back (suc (suc zero)) low = refl
 code_back (suc (suc (suc zero))) low = refl
 code_back (suc (suc (suc (suc n)))) low = absurd (omega (arith, low))
-
-mark_back : (mark : ℕ) → mark ≤ 1 → mark_octet (nat_eq mark 1) ≡ mark
-mark_back zero low = refl
-mark_back (suc zero) low = refl
-mark_back (suc (suc n)) low = absurd (omega (arith, low))
 
 neither : (a b : Bool) → (a || b) ≡ false → (a ≡ false) × (b ≡ false)
 neither true b e = absurd cc

@@ -1,6 +1,8 @@
 pub mod Grids
+mod Halves
 pub mod Routes
 pub mod Reading
+pub mod MarksRead
 pub mod Ends
 pub mod Decoded
 pub mod Filed

@@ -23,15 +23,14 @@ use Rattle.ht_capture.proofs.Grids.{length-triangle_of}
 use Rattle.ht_cert.specs.Records.{claim_width, claimed, code_of, points_begin, samples_begin, with_marks}
 use Rattle.ht_cert.proofs.Encoded.{length-points_at}
 use Rattle.ht_cert.specs.Formats.{RecordState, Modulated, Streams, Claim, Marks, Mark, certificates, is_no_streams, marks_due, marks_given, next_turn, records_due}
-use Rattle.ht_cert.specs.Files.{mark_octet}
 use Rattle.ht_cert.specs.Readers.{Completes, Fails, GivesRecord, HasItsPoints, ReadsClaim, TakesSome, here}
 use Rattle.ht_cert.specs.declared.reader.Came.{Came}
 use Rattle.ht_cert.specs.declared.reader.Came.TheVariants.{Whole, End}
 use Rattle.std.specs.Prelude.{MatchResult}
 use Rattle.std.proofs.Common.{Result, Ok, Err}
 use Rattle.ht_fields.specs.Meanings.{before}
-use Rattle.ht_cert.proofs.Routes.{claim_halts, gives_fails, halts_fails, mark_halts, mark_is, modulation_halts, none_given, one_given, one_mark, over_is, record_is}
-use Rattle.ht_cert.proofs.Routes.{route_claim, route_mark, route_marks, route_modulation, route_streams, streams_halts, whole_is}
+use Rattle.ht_cert.proofs.Routes.{claim_halts, gives_fails, halts_fails, mark_halts, mark_is, modulation_halts, none_given, one_given, over_is, record_is}
+use Rattle.ht_cert.proofs.Routes.{route_claim, route_marks, route_modulation, route_streams, streams_halts, whole_is}
 
 pub no_marks_more : (r : Record) → with_marks r [] ≡ r
 unfolding with_marks
@@ -70,7 +69,7 @@ marks_set r new marks none is =
 abbrev pub GivesMarks : ReaderView Record → Turn → Record → ℕ → ℕ → Device ℕ → Type 0
 GivesMarks old turn r left at source = Gives old (here (marks_due turn r left) at source) (marks_given r left)
 
-gives_marks_as : (old : ReaderView Record) (turn : Turn) (r r' : Record) (left left' at at' : ℕ) (source : Device ℕ)
+pub gives_marks_as : (old : ReaderView Record) (turn : Turn) (r r' : Record) (left left' at at' : ℕ) (source : Device ℕ)
     → r ≡ r' → left ≡ left' → at ≡ at' → GivesMarks old turn r left at source → GivesMarks old turn r' left' at' source
 gives_marks_as old turn r r' left left' at at' source e f h g =
     subst (λ (x : Record). GivesMarks old turn x left' at' source) e
@@ -87,28 +86,11 @@ marks_begun turn r count at marks source after few none taken =
     (route_gives certificates (Body (Marks turn r)) (marks_due turn r count) (big_bytes 4 count) (marks_given r count) at (at + 4) source after
     (route_marks turn r count few) place taken)
 
-mark_next : (old : ReaderView Record) (turn : Turn) (r : Record) (left at : ℕ) (source : Device ℕ) → 0 < left
+pub mark_next : (old : ReaderView Record) (turn : Turn) (r : Record) (left at : ℕ) (source : Device ℕ) → 0 < left
     → GivesMarks old turn r left at source → Gives old (here (Body (Mark turn r left)) at source) []
 mark_next old turn r left at source some g =
     subst (λ (s : StartState RecordState). Gives old (here s at source) []) (mark_is turn r left some)
     (subst (λ (items : List Record). Gives old (here (marks_due turn r left) at source) items) (none_given r left some) g)
-
--- a mark was read
-pub mark_read : (old : ReaderView Record) (turn : Turn) (r : Record) (count k at : ℕ) (marks now : List Bool) (bit : Bool) (source after : Device ℕ)
-    → k < count → now ≡ marks ++ bit ∷ [] → GivesMarks old turn (with_marks r marks) (count - k) (at + k) source
-    → Takes source after (mark_octet bit ∷ []) → GivesMarks old turn (with_marks r now) (count - (k + 1)) (at + (k + 1)) after
-mark_read old turn r count k at marks now bit source after lt is g taken =
-    let so_far = with_marks r marks in
-    let left = count - k in
-    let more = marks_given (one_mark so_far bit) (left - 1) in
-    let place : at + k + 1 ≡ at + k + length (mark_octet bit ∷ []) = refl in
-    let h : Gives (here (Body (Mark turn so_far left)) (at + k) source) (here (marks_due turn (one_mark so_far bit) (left - 1)) (at + k + 1) after) more =
-    route_gives certificates (Body (Mark turn so_far left)) (marks_due turn (one_mark so_far bit) (left - 1)) (mark_octet bit ∷ []) more
-    (at + k) (at + k + 1) source after (route_mark turn so_far left bit) place taken in
-    let both : GivesMarks old turn (one_mark so_far bit) (left - 1) (at + k + 1) after =
-    gives_more old (here (Body (Mark turn so_far left)) (at + k) source) _ [] more (mark_next old turn so_far left (at + k) source (omega (arith, lt)) g) h in
-    gives_marks_as old turn _ _ (left - 1) (count - (k + 1)) (at + k + 1) (at + (k + 1)) after
-    (marks_then r marks (bit ∷ []) ∙ ap (with_marks r) (sym is)) (omega arith) (omega arith) both
 
 -- a mark was not read
 pub mark_failed : (old : ReaderView Record) (turn : Turn) (r : Record) (count k at : ℕ) (source after : Device ℕ) (fault : InFault)

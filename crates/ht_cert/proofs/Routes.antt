@@ -1,5 +1,5 @@
 -- How the octets of a record lead through the fields of a file, and why they don't.
-use Rattle.std.proofs.Common.{◌≡◌, ℕ, ◌-◌, ◌^◌, ◌<◌, ◌≤◌, List, [], ◌∷◌, ◌++◌, length, Bool, true, false, nat_eq, nat_lt, ◌||◌}
+use Rattle.std.proofs.Common.{zero, suc, ◌≡◌, ℕ, ◌-◌, ◌^◌, ◌<◌, ◌≤◌, List, [], ◌∷◌, ◌++◌, length, Bool, true, false, nat_eq, nat_lt, ◌||◌}
 use Rattle.std.proofs.Common.{refl, ap, ◌∙◌, arith}
 use Rattle.std.proofs.lemmas.Bool.Decides.{nat_tests}
 use Rattle.byteorder.specs.Endian.{big_bytes, big_number}
@@ -137,6 +137,12 @@ route_mark turn r left bit =
       refl,
       checked_good BadMark (is_above 1) (good_mark turn r left) (mark_octet bit ∷ []) _ (not_above (mark_octet bit) 1 (low_mark bit)) (mark_of turn r left bit),
     )
+
+-- an octet that is a mark
+pub mark_back : (mark : ℕ) → mark ≤ 1 → mark_octet (nat_eq mark 1) ≡ mark
+mark_back zero low = refl
+mark_back (suc zero) low = refl
+mark_back (suc (suc n)) low = absurd (omega (arith, low))
 
 -- each field, where it was not read
 pub modulation_halts : (turn : Turn) (at : ℕ) (source after : Device ℕ) (fault : InFault)

@@ -1,8 +1,10 @@
 -- What a reader of certificates still gives.
-use Rattle.std.specs.Prelude.{◌≡◌, ⊤, ℕ, ◌+◌, ◌*◌, ◌<◌, ◌≤◌, List, [], ◌∷◌, length, Option, Some, None, Result, Ok, Err}
+use Rattle.std.specs.Prelude.{◌≡◌, ◌⊎◌, ⊤, ℕ, ◌+◌, ◌*◌, ◌<◌, ◌≤◌, List, [], ◌∷◌, ◌++◌, length, map, Bool, nat_eq, Option, Some, None, Result, Ok, Err}
 use Rattle.ht_io.specs.Devices.{Device, Takes, TakesAll}
 use Rattle.ht_io.specs.declared.faults.InFault.{InFault}
 use Rattle.ht_io.specs.declared.faults.InFault.TheVariants.{Format, Read, NoMemory}
+use Rattle.ht_io.specs.declared.faults.Kind.TheVariants.{BadMark}
+use Rattle.ht_fields.specs.Lacking.{FailsAmong}
 use Rattle.ht_fields.specs.Meanings.{Meaning, ended, refused, meaning}
 use Rattle.ht_fields.specs.Readers.{ReaderView, reader_in, Gives}
 use Rattle.ht_fields.specs.WholeFiles.{Halts}
@@ -14,6 +16,7 @@ use Rattle.ht_cert.specs.declared.turn.Stage.{Stage}
 use Rattle.ht_cert.specs.declared.turn.Stage.TheVariants.{Begin, Next, Ended, Stopped}
 use Rattle.ht_rate.specs.declared.kinds.Modulation.{Modulation}
 use Rattle.ht_cert.specs.Formats.{RecordState, certificates, records_due}
+use Rattle.ht_cert.specs.Files.{mark_octet}
 use Rattle.ht_cert.specs.Records.{claim_width, claimed}
 
 -- a reader in a state, at an offset, over this source
@@ -32,6 +35,20 @@ ReadsClaim number modulation streams r before after =
 -- octets were taken from the front of what was left
 abbrev pub TakesSome : Device ℕ → Device ℕ → Type 0
 TakesSome before after = (taken : List ℕ) × Takes before after taken
+
+-- a mark of 1 is open, one of 0 is cut
+abbrev pub is_open : ℕ → Bool
+is_open octet = nat_eq octet 1
+
+-- this number of marks was taken, and they were added
+abbrev pub ReadsMarks : ℕ → List Bool → List Bool → Device ℕ → Device ℕ → Type 0
+ReadsMarks count old new before after =
+    (marks : List Bool) × (length marks ≡ count) × (new ≡ old ++ marks) × Takes before after (map mark_octet marks)
+
+-- of this number of marks from the offset on, some were taken, and the next one was not read or is none; or memory ran out
+abbrev pub FailsMarks : ℕ → ℕ → Device ℕ → Device ℕ → InFault → Type 0
+FailsMarks count at before after fault =
+    FailsAmong count 1 BadMark at before after fault ⊎ ((fault ≡ NoMemory) × TakesSome before after)
 
 -- a reader stopped: at the first fault of the file, where its source failed, or for lack of memory, having taken some octets
 abbrev pub Fails : ReaderView Record → Device ℕ → InFault → Type 0

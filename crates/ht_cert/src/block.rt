@@ -1,10 +1,10 @@
 //! Records that are put together.
-ghost use Rattle.std.specs.Prelude.{◌≡◌, ◌≤◌, ◌++◌, [], length, map, take, OnOk, OnErr};
+ghost use Rattle.std.specs.Prelude.{◌≡◌, ◌≤◌, ◌++◌, [], length, map, OnOk, OnErr};
 ghost use Rattle.ht_io.specs.Devices.{Grows, GrowsByPart, Rose, IsLater};
 ghost use Rattle.ht_cert.specs.Files.{mark_octet, record_octets, records_start};
 
 use crate::record::Record;
-use crate::writing::{front, start};
+use crate::writing::{add_marks, front, start};
 use ht_fields::Chunk;
 use ht_io::{Failed, Sink};
 use std::alloc::{AllocError, Global};
@@ -13,32 +13,26 @@ use std::marker::Model;
 /// From how many octets on a block is full.
 const FULL: usize = 32768;
 
-/// The number of marks that are added at once.
-const MARKS: usize = 128;
+/// The number of marks that are added with what stands in front of them: so few are written sooner one by one.
+const FIRST_MARKS: usize = 4;
 
-// The octets of up to 128 marks, in front of zeros.
-fn octets_of(marks: &[bool]) -> [u8; MARKS]
-    requires few { length marks.now ≤ 128 }
-    ensures octets { take (length marks.now) result ≡ map mark_octet marks.now }
-    ensures places { length result ≡ 128 }
+// Writes marks into as many octets.
+fn write_marks(marks: &[bool], into: &mut [u8])
+    requires { length into.old ≡ length marks.now }
+    ensures { into.new ≡ map mark_octet marks.now }
 {
-    let mut octets = [0u8; MARKS];
     for k in 0..marks.len() {
-        octets[k] = u8::from(marks[k]);
+        into[k] = u8::from(marks[k]);
     }
-    octets
 }
 
 // Appends marks.
 fn append_marks(octets: &mut Vec<u8>, marks: &[bool]) -> Result<(), AllocError>
     ensures added { OnOk result (octets.new.items ≡ octets.old.items ++ map mark_octet marks.now) }
 {
-    let mut rest = marks;
-    while !rest.is_empty() {
-        let (now, later) = rest.split_at(rest.len().min(MARKS));
-        octets.extend_from_slice(&octets_of(now)[..now.len()])?;
-        rest = later;
-    }
+    let at = octets.len();
+    octets.resize(at + marks.len(), 0)?;
+    write_marks(marks, &mut octets[at..]);
     Ok(())
 }
 
@@ -83,9 +77,12 @@ impl Block {
         requires marks { length recorded.now.certificate.marks ≤ 33554432 }
         ensures added { OnOk result (self.new ≡ self.old ++ record_octets recorded.now) }
     {
+        let marks = recorded.certificate.marks.as_slice();
+        let (first, rest) = marks.split_at(marks.len().min(FIRST_MARKS));
         front(&mut self.chunk, recorded);
+        add_marks(&mut self.chunk, first);
         self.octets.extend_from_slice(self.chunk.as_slice())?;
-        append_marks(&mut self.octets, recorded.certificate.marks.as_slice())
+        append_marks(&mut self.octets, rest)
     }
 
     /// Whether so many octets wait that they are to be put: at least 32,768.

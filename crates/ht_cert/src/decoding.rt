@@ -13,6 +13,7 @@ use ht_pam::{Grid, Point};
 use ht_rate::{Modulation, Rate};
 use ht_witness::Marks;
 use std::alloc::Global;
+use std::mem;
 
 /// The modulation of a code, 0 to 3.
 pub fn modulation_of(code: u8) -> Modulation
@@ -104,7 +105,17 @@ pub fn claim_width(streams: u8) -> usize
     triangle_width(streams) + 10 * usize::from(streams) + 16
 }
 
-/// Fills a record with the job and the claim of these octets, and leaves it without marks.
+// No marks, in the memory of some.
+fn without_marks(alloc: Global, marks: &mut Marks) -> Marks
+    ensures { result ≡ [] }
+{
+    let mut memory = mem::replace(marks, Marks::from(Vec::new(alloc))).into_vec();
+    memory.clear();
+    Marks::from(memory)
+}
+
+/// Fills a record with the job and the claim of these octets, and leaves it without marks. The memory of the marks that it
+/// had is kept.
 #[tactic(auto, unfolding(crate::specs::Records::claimed))]
 pub fn fill_record(
     alloc: Global,
@@ -138,5 +149,5 @@ pub fn fill_record(
     );
     into.certificate.vector = points(streams, octets, points_at);
     into.certificate.distance = BigEndian::read_u128(&octets[distance_at..]);
-    into.certificate.marks = Marks::from(Vec::new(alloc));
+    into.certificate.marks = without_marks(alloc, &mut into.certificate.marks);
 }

@@ -1,7 +1,7 @@
 //! The fields of a record, each read whole and judged.
-ghost use Rattle.std.specs.Prelude.{◌≡◌, ◌<◌, ◌≤◌, ◌+◌, ◌^◌, ◌||◌, nat_eq, nat_lt, [], ◌∷◌, length, MatchResult, IfOk, IfErr};
+ghost use Rattle.std.specs.Prelude.{◌≡◌, ◌<◌, ◌≤◌, ◌+◌, ◌^◌, ◌||◌, nat_eq, nat_lt, [], ◌∷◌, length, map, take, MatchResult, IfOk, IfErr, OnOk};
 ghost use Rattle.ht_io.specs.Devices.{Takes, IsLater};
-ghost use Rattle.ht_io.specs.declared.faults.Kind.TheVariants.{BadModulation, BadStreams, BadMark};
+ghost use Rattle.ht_io.specs.declared.faults.Kind.TheVariants.{BadModulation, BadStreams};
 ghost use Rattle.ht_fields.specs.Lacking.{FailsField, LacksField};
 ghost use Rattle.ht_fields.specs.Readers.{Gives};
 ghost use Rattle.ht_fields.specs.Tests.{is_above};
@@ -9,14 +9,13 @@ ghost use Rattle.ht_fields.specs.WholeFiles.{Halts};
 ghost use Rattle.ht_heads.specs.Starts.{Body};
 ghost use Rattle.ht_cert.specs.Formats.{Marks as MarksState, certificates, is_no_streams, next_turn, records_due};
 ghost use Rattle.ht_cert.specs.Formats.{mark_limits as mark_limits_of, record_limits as record_limits_of};
-ghost use Rattle.ht_cert.specs.Files.{mark_octet};
 ghost use Rattle.ht_cert.specs.Records.{claim_width as claim_width_of, code_of};
-ghost use Rattle.ht_cert.specs.Readers.{Fails, HasItsPoints, ReadsClaim, here};
+ghost use Rattle.ht_cert.specs.Readers.{Fails, FailsMarks, HasItsPoints, ReadsClaim, ReadsMarks, here, is_open};
 
 use crate::decoding::{claim_width, fill_record, modulation_of};
 use crate::record::Record;
 use crate::turn::Turn;
-use ht_fields::{bad, fill, octet};
+use ht_fields::{bad, fill, fill_low, octet};
 use ht_heads::{Limits, count};
 use ht_io::{InFault, Kind, Source};
 use ht_rate::Modulation;
@@ -26,6 +25,9 @@ use std::mem;
 
 /// The most octets of triangle, samples, points and distance.
 const CLAIM: usize = 88;
+
+/// The number of marks that are read at once.
+const MARKS: usize = 128;
 
 // How a file counts its records.
 fn record_limits() -> Limits
@@ -141,22 +143,46 @@ fn claim<S: Source>(
     }
 }
 
-// Reads a mark: whether its level is open.
-fn mark<S: Source>(source: &mut S, at: u64) -> Result<bool, InFault>
-    requires room { at + 1 < 2 ^ 64 }
-    ensures whole { IfOk result (λ is_open. Takes (S.shown source.old) (S.shown source.new) (mark_octet is_open ∷ [])) }
-    ensures failed { IfErr result (FailsField 1 BadMark (is_above 1) at (S.shown source.old) (S.shown source.new)) }
+// Which of up to 128 levels are open, by their marks.
+fn opened(octets: &[u8]) -> [bool; MARKS]
+    requires few { length octets.now ≤ 128 }
+    ensures marks { take (length octets.now) result ≡ map is_open octets.now }
+    ensures places { length result ≡ 128 }
+{
+    let mut marks = [false; MARKS];
+    for k in 0..octets.len() {
+        marks[k] = octets[k] == 1;
+    }
+    marks
+}
+
+// Reads up to 128 marks, and appends them.
+fn some_marks<S: Source>(
+    source: &mut S,
+    at: u64,
+    count: usize,
+    marks: &mut Vec<bool>,
+) -> Result<(), InFault>
+    requires few { count ≤ 128 }
+    requires room { at + count < 2 ^ 64 }
+    ensures read { OnOk result (ReadsMarks count marks.old.items marks.new.items (S.shown source.old) (S.shown source.new)) }
+    ensures failed { IfErr result (FailsMarks count at (S.shown source.old) (S.shown source.new)) }
     ensures later { IsLater (S.shown source.old) (S.shown source.new) }
 {
-    let mark = octet(source, at)?;
-    if mark > 1 {
-        Err(bad(Kind::BadMark, at))
-    } else {
-        Ok(mark == 1)
+    let mut octets = [0u8; MARKS];
+    let octets = &mut octets[..count];
+    match fill_low(source, at, 1, Kind::BadMark, octets) {
+        Ok(()) => {}
+        Err(fault) => return Err(fault),
+    }
+    match marks.extend_from_slice(&opened(octets)[..count]) {
+        Ok(()) => Ok(()),
+        Err(_) => Err(InFault::NoMemory),
     }
 }
 
-// Reads the marks of a record that has none yet. Each is kept as it comes.
+// Reads the marks of a record that has none yet, into the memory that it has for them. Memory is taken for up to 128 at
+// a time, as they come.
 fn marks<S: Source>(
     alloc: Global,
     source: &mut S,
@@ -183,12 +209,11 @@ fn marks<S: Source>(
         &mut into.certificate.marks,
         Marks::from(Vec::new(alloc)),
     ).into_vec();
-    for k in 0..count {
-        match mark(source, at + 4 + k) {
-            Ok(is_open) => match marks.push(is_open) {
-                Ok(()) => {}
-                Err(_) => return Err(InFault::NoMemory),
-            },
+    let mut read = 0;
+    while read < count {
+        let more = (count - read).min(MARKS as u64);
+        match some_marks(source, at + 4 + read, more as usize, &mut marks) {
+            Ok(()) => read += more,
             Err(fault) => return Err(fault),
         }
     }

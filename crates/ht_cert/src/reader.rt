@@ -54,7 +54,8 @@ impl RecordReader {
         }
     }
 
-    /// Reads the next record, or the end of the file. The memory of the marks that the record had is let go.
+    /// Reads the next record, or the end of the file. The marks are read into the memory of those that the record had; for
+    /// more of them memory is taken as they come.
     ///
     /// `Format` comes at the first fault of the file, behind all records before it, and the octets taken end with the
     /// field at fault. `Read` comes where the source failed, and `NoMemory` where a mark found no room. Behind these

@@ -1,5 +1,6 @@
 //! Files of certificates as they are written.
 ghost use Rattle.std.specs.Prelude.{◌≡◌, ◌≤◌, ◌<◌, ◌+◌, ◌*◌, ◌-◌, ◌++◌, length, map, flat_map, slice_index_or, OnOk, OnErr};
+ghost use Rattle.byteorder.specs.Endian.{big_bytes};
 ghost use Rattle.ht_io.specs.Devices.{Grows, GrowsByPart, Rose, IsLater};
 ghost use Rattle.ht_metric.specs.Arrays.{legs, samples};
 ghost use Rattle.ht_metric.specs.Rows.{no_row};
@@ -98,6 +99,21 @@ fn add_points(chunk: &mut Chunk, vector: &Vector)
     }
 }
 
+// Adds a distance. Nearly every one fits in the lower eight of its octets.
+fn add_distance(chunk: &mut Chunk, distance: u128)
+    requires { length chunk.old + 16 ≤ 4096 }
+    ensures put { chunk.new ≡ chunk.old ++ big_bytes 16 distance }
+    ensures size { length chunk.new ≡ length chunk.old + 16 }
+{
+    match u64::try_from(distance) {
+        Ok(low) => {
+            chunk.add(&[0; 8]);
+            chunk.add(&low.to_be_bytes());
+        }
+        Err(_) => chunk.add(&distance.to_be_bytes()),
+    }
+}
+
 // Fills the chunk with what stands in front of the marks of a record.
 pub(crate) fn front(chunk: &mut Chunk, recorded: &Record)
     requires { length recorded.now.certificate.marks ≤ 33554432 }
@@ -111,12 +127,12 @@ pub(crate) fn front(chunk: &mut Chunk, recorded: &Record)
     add_triangle(chunk, system);
     add_samples(chunk, system);
     add_points(chunk, &recorded.certificate.vector);
-    chunk.add(&recorded.certificate.distance.to_be_bytes());
+    add_distance(chunk, recorded.certificate.distance);
     chunk.add(&marks.to_be_bytes());
 }
 
 // Adds marks.
-fn add_marks(chunk: &mut Chunk, marks: &[bool])
+pub(crate) fn add_marks(chunk: &mut Chunk, marks: &[bool])
     requires few { length chunk.old + length marks.now ≤ 4096 }
     ensures { chunk.new ≡ chunk.old ++ map mark_octet marks.now }
 {

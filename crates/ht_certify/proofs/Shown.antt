@@ -89,7 +89,7 @@ of_symbols (suc n) head symbol number present samples more =
     ∙ ap (λ k. (records_of_symbol m g s ss (take k samples) ++ records_of_symbols m g s n ss (drop k samples)) ++ bare head.rate more) wide)))
 
 -- the items of frames
-of_frames : (rate : Rate) (frame number : ℕ) (fs : List CaptureFrame) → bare rate (items_from frame number fs) ≡ records_of_frames fs
+pub of_frames : (rate : Rate) (frame number : ℕ) (fs : List CaptureFrame) → bare rate (items_from frame number fs) ≡ records_of_frames fs
 unfolding items_from records_of_frame
 of_frames rate frame number [] = refl
 of_frames rate frame number (f ∷ fs) =

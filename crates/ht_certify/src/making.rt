@@ -8,9 +8,8 @@ ghost use Rattle.ht_certify.specs.Making.{job_on};
 use ht_cert::Record;
 use ht_metric::{Job, Place, Sample, System, Triangle};
 use ht_pam::Grid;
-use ht_witness::{Marks, certify_with};
-use std::alloc::{AllocError, Global};
-use std::mem;
+use ht_witness::certify_into;
+use std::alloc::AllocError;
 
 const NO_SAMPLE: Sample = Sample { re: 0, im: 0 };
 
@@ -26,9 +25,13 @@ fn received(samples: &[Sample]) -> [Sample; 4]
     ensures front { take (length samples.now) result ≡ samples.now }
     ensures unused { drop (length samples.now) result ≡ replicate (4 - length samples.now) no_sample }
 {
-    let mut y = [NO_SAMPLE; 4];
-    y[..samples.len()].copy_from_slice(samples);
-    y
+    match samples {
+        [a] => [*a, NO_SAMPLE, NO_SAMPLE, NO_SAMPLE],
+        [a, b] => [*a, *b, NO_SAMPLE, NO_SAMPLE],
+        [a, b, c] => [*a, *b, *c, NO_SAMPLE],
+        [a, b, c, d] => [*a, *b, *c, *d],
+        _ => [NO_SAMPLE; 4],
+    }
 }
 
 /// The job of a triangle with what was received on its rows. It has the number 0, and no place.
@@ -42,16 +45,11 @@ pub fn job(grid: &Grid, triangle: &Triangle, samples: &[Sample]) -> Job
     Job::new(0, NO_PLACE, *grid, system)
 }
 
-/// Makes the record of a job in the memory of another record, whose modulation it keeps.
-pub fn make(alloc: Global, recorded: &mut Record, job: Job) -> Result<(), AllocError>
+/// Makes the record of a job in the place of another one, whose modulation it keeps, and in the memory of its marks.
+pub fn make(recorded: &mut Record, job: Job) -> Result<(), AllocError>
     ensures made { OnOk result (recorded.new ≡ record { modulation = recorded.old.modulation; job = job; certificate = certificate_of job }) }
     ensures modulation { recorded.new.modulation ≡ recorded.old.modulation }
 {
-    let marks = mem::replace(
-        &mut recorded.certificate.marks,
-        Marks::from(Vec::new(alloc)),
-    );
-    recorded.certificate = certify_with(&job, marks.into_vec())?;
     recorded.job = job;
-    Ok(())
+    certify_into(&recorded.job, &mut recorded.certificate)
 }

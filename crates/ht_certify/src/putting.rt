@@ -65,7 +65,6 @@ fn put_record<K: Sink>(recorded: &Record, block: &mut Block, sink: &mut K) -> Re
 
 // The same of a subcarrier in a symbol: of a pilot there is none.
 fn put_subcarrier<K: Sink>(
-    alloc: Global,
     grid: &Grid,
     subcarrier: &Subcarrier,
     samples: &[Sample],
@@ -81,7 +80,7 @@ fn put_subcarrier<K: Sink>(
     ensures modulation { recorded.new.modulation ≡ recorded.old.modulation }
 {
     if subcarrier.carries_data {
-        make(alloc, recorded, job(grid, &subcarrier.triangle, samples))?;
+        make(recorded, job(grid, &subcarrier.triangle, samples))?;
         put_record(recorded, block, sink)?;
     }
     Ok(())
@@ -89,7 +88,6 @@ fn put_subcarrier<K: Sink>(
 
 // The same of the subcarriers of a symbol.
 fn put_symbol<K: Sink>(
-    alloc: Global,
     grid: &Grid,
     subcarriers: &[Subcarrier],
     samples: &[Sample],
@@ -107,7 +105,7 @@ fn put_symbol<K: Sink>(
     let mut rest = samples;
     for subcarrier in subcarriers {
         let (now, later) = rest.split_at(streams);
-        put_subcarrier(alloc, grid, subcarrier, now, recorded, block, sink)?;
+        put_subcarrier(grid, subcarrier, now, recorded, block, sink)?;
         rest = later;
     }
     Ok(())
@@ -115,7 +113,6 @@ fn put_symbol<K: Sink>(
 
 // The same of a number of symbols.
 fn put_symbols<K: Sink>(
-    alloc: Global,
     grid: &Grid,
     symbols: u32,
     subcarriers: &[Subcarrier],
@@ -135,7 +132,7 @@ fn put_symbols<K: Sink>(
     let mut rest = samples;
     for _symbol in 0..symbols {
         let (now, later) = rest.split_at(width);
-        put_symbol(alloc, grid, subcarriers, now, recorded, block, sink)?;
+        put_symbol(grid, subcarriers, now, recorded, block, sink)?;
         rest = later;
     }
     Ok(())
@@ -144,7 +141,6 @@ fn put_symbols<K: Sink>(
 // The same of a frame.
 #[tactic(auto, unfolding(crate::specs::Making::records_of_frame))]
 fn put_frame<K: Sink>(
-    alloc: Global,
     frame: &CaptureFrame,
     room: &mut Vec<Subcarrier>,
     recorded: &mut Record,
@@ -159,7 +155,6 @@ fn put_frame<K: Sink>(
     let symbols = frame.rate.symbols(frame.length);
     let samples = frame.samples.as_slice();
     put_symbols(
-        alloc,
         &grid(&frame.rate),
         symbols,
         room,
@@ -183,7 +178,7 @@ fn put_frames<K: Sink>(
 {
     let mut recorded = Record::empty(alloc);
     for frame in frames {
-        put_frame(alloc, frame, room, &mut recorded, block, sink)?;
+        put_frame(frame, room, &mut recorded, block, sink)?;
     }
     Ok(())
 }

@@ -1,4 +1,5 @@
 pub mod Lists
 pub mod Ending
 pub mod Stepping
+pub mod Accepting
 mod Worked

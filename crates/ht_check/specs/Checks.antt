@@ -1,5 +1,5 @@
 -- The lines of a file of certificates, and its text. A line says whether a certificate holds, and if not, what is wrong.
-use Rattle.std.specs.Prelude.{ℕ, ◌+◌, List, [], ◌∷◌, ◌++◌, length, Option, Some, None, is_none, if◌then◌else◌}
+use Rattle.std.specs.Prelude.{ℕ, zero, suc, ◌+◌, List, [], ◌∷◌, ◌++◌, length, Option, Some, None, is_none, if◌then◌else◌}
 use Rattle.ht_cert.specs.declared.record.Record.{Record}
 use Rattle.ht_cert.specs.Formats.{certificates}
 use Rattle.ht_runs.specs.Filters.{Filter}
@@ -51,6 +51,14 @@ check_lines octets = lines_by certificates check_lines_of octets
 -- these, and behind them the last line: how many certificates hold, or the octets' first fault
 abbrev pub check_text : List ℕ → List ℕ
 check_text octets = text_by certificates check_lines_of check_end_of octets
+
+-- the text where each of a number of certificates holds: `job N yes` for each, and `end J jobs yes J`
+abbrev pub yes_lines_from : ℕ → ℕ → List ℕ
+yes_lines_from number zero = []
+yes_lines_from number (suc n) = yes_text number ++ yes_lines_from (number + 1) n
+
+abbrev pub all_yes_text : ℕ → List ℕ
+all_yes_text count = yes_lines_from 0 count ++ checked_text count count
 
 -- a file of certificates is read, and a line for each is put
 abbrev pub checking : Filter

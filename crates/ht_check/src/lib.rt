@@ -22,6 +22,7 @@
 
 mod checking;
 mod faults;
+pub mod laws;
 mod lines;
 mod putting;
 mod tally;

@@ -1,5 +1,5 @@
 //! Lines that wait, put many at once.
-ghost use Rattle.std.specs.Prelude.{◌≡◌, ◌++◌, ℕ, List, [], OnErr, OnOk, string_bytes};
+ghost use Rattle.std.specs.Prelude.{◌≡◌, ◌<◌, ◌++◌, ℕ, List, [], OnErr, OnOk, length, string_bytes};
 ghost use Rattle.ht_io.specs.Devices.{Grows, GrowsByPart, IsLater, Rose};
 
 use ht_io::{Failed, Sink};
@@ -21,10 +21,11 @@ pub(crate) fn put<K: Sink>(text: &mut String, sink: &mut K) -> Result<(), Failed
     Ok(())
 }
 
-/// Puts the lines that wait where they fill a block.
+/// Puts the lines that wait where they fill a block, so that fewer octets than a block has wait from then on.
 pub(crate) fn put_block<K: Sink>(text: &mut String, sink: &mut K) -> Result<(), Failed>
     ensures grown { OnOk result ((lines : List ℕ) × Grows (K.shown sink.old) (K.shown sink.new) lines
         × (string_bytes text.old ≡ lines ++ string_bytes text.new)) }
+    ensures few { OnOk result (length (string_bytes text.new) < 16384) }
     ensures steady { OnOk result ((K.shown sink.new).faults ≡ (K.shown sink.old).faults) }
     ensures part { OnErr result (GrowsByPart (K.shown sink.old) (K.shown sink.new) (string_bytes text.old)) }
     ensures cause { OnErr result (Rose (K.shown sink.old) (K.shown sink.new)) }

@@ -6,7 +6,7 @@ use Rattle.std.proofs.lemmas.Bool.{true≢false}
 use Rattle.ht_io.specs.Devices.{Device, Rose}
 use Rattle.ht_text.specs.Lines.{usage_text}
 use Rattle.ht_words.specs.declared.asked.Asked.{Asked}
-use Rattle.ht_words.specs.declared.asked.Asked.TheVariants.{Detect, Rx, Tx, Channel, Upgrade, Certify, Check, Demo}
+use Rattle.ht_words.specs.declared.asked.Asked.TheVariants.{Detect, Rx, Tx, Channel, Upgrade, Certify, Check, LegacyChannel, Demo}
 use Rattle.ht_words.specs.Accepted.{IsAccepted}
 use Rattle.ht_words.specs.Words.{asked}
 use Rattle.ht_words.proofs.Acceptance.{accepted_asks, asks_accepted}
@@ -25,6 +25,7 @@ module _ (a b c d : Device ℕ) where
   no_usage (Some Upgrade) some run = run
   no_usage (Some Certify) some run = run
   no_usage (Some Check) some run = run
+  no_usage (Some (LegacyChannel seed noise)) some run = run
   no_usage (Some (Demo seed noise frames rate length workers window)) some run = run
   no_usage None some run = absurd (true≢false (sym some))
 

@@ -8,7 +8,7 @@ use Rattle.ht_io.proofs.Calls.{takes_all-known}
 use Rattle.ht_words.specs.declared.asked.Asked.{Asked}
 use Rattle.ht_cli.specs.declared.status.Status.{Status}
 use Rattle.ht_cli.specs.declared.status.Status.TheVariants.{Done, Refused, Usage, ReadFault, WriteFault, NoMemory}
-use Rattle.ht_cli.specs.Commands.{Command, Answers, Converts, IsWritten, Makes, NotConverted, Reads, RefusesRun}
+use Rattle.ht_cli.specs.Commands.{Command, Answers, Converts, Makes, NotConverted, Reads, RefusesRun}
 use Rattle.ht_runs.specs.Converted.{PutsOutput}
 use Rattle.ht_runs.specs.Filters.{Conversion, Filter}
 use Rattle.ht_runs.specs.Streamed.{FinishesRun}

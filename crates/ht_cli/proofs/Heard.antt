@@ -1,5 +1,5 @@
 -- What a run comes to that puts the lines of a capture, and then its end line.
-use Rattle.std.specs.Prelude.{◌≡◌, ℕ, List, Result, Ok, Err, MatchResult}
+use Rattle.std.specs.Prelude.{ℕ, List, Result, Ok, Err, MatchResult}
 use Rattle.std.proofs.Common.{ap, sym, subst, inl, inr}
 use Rattle.ht_io.specs.Devices.{Device, Rose, IsLater}
 use Rattle.ht_io.proofs.Calls.{failed-later}
@@ -13,8 +13,8 @@ use Rattle.ht_runs.specs.declared.faults.StopFault.{StopFault}
 use Rattle.ht_runs.specs.declared.faults.StopFault.TheVariants.{Read, Write, NoMemory}
 use Rattle.ht_runs.proofs.Streaming.{broken_off, ended, ended_in_part, ended_without, ends_with_its_fault, lacked, stopped, written_in_part}
 use Rattle.ht_rx.specs.Outcomes.{HasCounts, StopsBy, TellsTo}
-use Rattle.ht_rx.specs.declared.faults.Ended.{Ended}
-use Rattle.ht_rx.specs.declared.faults.Ended.TheVariants.{Done as EndedDone, Refused as EndedRefused}
+use Rattle.ht_feed.specs.declared.ended.Ended.{Ended}
+use Rattle.ht_feed.specs.declared.ended.Ended.TheVariants.{Done as EndedDone, Refused as EndedRefused}
 use Rattle.ht_text.specs.Lines.{end_text}
 use Rattle.ht_cli.specs.declared.status.Status.{Status}
 use Rattle.ht_cli.specs.Commands.{Answers}

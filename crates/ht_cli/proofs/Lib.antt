@@ -1,5 +1,7 @@
 pub mod Accepted
 pub mod Answering
+pub mod Certified
+pub mod Certifying
 pub mod Exactly
 pub mod Heard
 pub mod Making

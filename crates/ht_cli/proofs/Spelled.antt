@@ -1,5 +1,5 @@
 -- What is promised of a command in the form for all commands, in the words of captures.
-use Rattle.std.specs.Prelude.{◌≡◌, ℕ, List, [], Option, Some, IfSome}
+use Rattle.std.specs.Prelude.{◌≡◌, ℕ, List, [], Some}
 use Rattle.std.proofs.Common.{sym, subst}
 use Rattle.ht_io.specs.Devices.{Device, Grows}
 use Rattle.ht_io.proofs.Calls.{takes_all-known}

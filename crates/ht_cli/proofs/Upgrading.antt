@@ -1,6 +1,6 @@
 -- What upgrading a capture comes to.
 use Rattle.std.specs.Prelude.{◌≡◌, ℕ, List, ◌++◌, Some, map}
-use Rattle.std.proofs.Common.{refl, ap, ◌∙◌, sym, subst, inr}
+use Rattle.std.proofs.Common.{refl, ap, ◌∙◌, sym, inr}
 use Rattle.ht_io.specs.Devices.{Device, Grows, TakesAll}
 use Rattle.ht_fields.specs.Cases.{File}
 use Rattle.ht_runs.specs.Converted.{TakesWhole}

@@ -1,8 +1,8 @@
 -- How a run ends once its call has answered.
 use Rattle.std.specs.Prelude.{◌≡◌, ◌⊎◌, ℕ, List, Result, Ok, Err}
 use Rattle.ht_io.specs.Devices.{Device, Grows, GrowsByPart, Rose}
-use Rattle.ht_rx.specs.declared.faults.Ended.{Ended}
-use Rattle.ht_rx.specs.declared.faults.Ended.TheVariants.{Done as EndedDone, Refused as EndedRefused}
+use Rattle.ht_feed.specs.declared.ended.Ended.{Ended}
+use Rattle.ht_feed.specs.declared.ended.Ended.TheVariants.{Done as EndedDone, Refused as EndedRefused}
 use Rattle.ht_runs.specs.Faults.{fault_of_stop}
 use Rattle.ht_runs.specs.Streamed.{line_of_fault}
 use Rattle.ht_runs.specs.declared.faults.RunFault.{RunFault}

@@ -7,7 +7,7 @@ use Rattle.ht_rx.specs.Texts.{detect_text, lines_of}
 use Rattle.ht_results.specs.Texts.{frame_lines_of, rx_text}
 use Rattle.ht_cli.specs.declared.status.Status.{Status}
 use Rattle.ht_words.specs.declared.asked.Asked.{Asked}
-use Rattle.ht_words.specs.declared.asked.Asked.TheVariants.{Detect, Rx, Tx, Channel, Upgrade, Certify, Check, Demo}
+use Rattle.ht_words.specs.declared.asked.Asked.TheVariants.{Detect, Rx, Tx, Channel, Upgrade, Certify, Check, LegacyChannel, Demo}
 use Rattle.ht_cli.specs.Commands.{Command, Reads, Converts, Makes, Answers, Rejects}
 use Rattle.ht_cli.specs.Filters.{streaming, whole}
 use Rattle.ht_cli.specs.Converting.{SendsTo, UpgradesTo}
@@ -17,6 +17,7 @@ use Rattle.ht_sim.specs.Passing.{PassesTo}
 use Rattle.ht_cert.specs.Formats.{certificates}
 use Rattle.ht_certify.specs.Certifying.{certifying}
 use Rattle.ht_check.specs.Checks.{check_lines, check_text}
+use Rattle.ht_legacy_sim.specs.Passing.{passing as legacy_passing}
 use Rattle.ht_rate.specs.declared.rates.Rate.{Rate}
 use Rattle.ht_demo.specs.declared.plan.Plan.{Plan}
 use Rattle.ht_demo.specs.Demos.{IsDemoLine, returned_line}
@@ -38,6 +39,7 @@ command_of (Channel seed noise) = whole symbols (PassesTo seed noise)
 command_of Upgrade = whole captures UpgradesTo
 command_of Certify = Converts certifying
 command_of Check = streaming certificates check_text check_lines
+command_of (LegacyChannel seed noise) = Converts (legacy_passing seed noise)
 command_of (Demo seed noise count rate length workers window) = Makes (IsPlanLine (plan_of seed noise count rate length))
 
 -- what each status says of a run: first the source before and after it, then the sink

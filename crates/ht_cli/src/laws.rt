@@ -2,9 +2,21 @@
 //!
 //! The clauses of [`run`](crate::run) are the same for every command. Each law is a function with an empty body: its
 //! clauses follow from `Answered`, where a run goes from the source `a` to `b` and from the sink `c` to `d`.
-ghost use Rattle.std.specs.Prelude.{◌≡◌, ◌≢◌, ◌⊎◌, ◌≤◌, ℕ, List, [], IfSome, Option, None, Some, String, map, string_bytes};
+ghost use Rattle.std.specs.Prelude.{◌≡◌, ◌≢◌, ◌⊎◌, ◌≤◌, ℕ, List, [], All, IfSome, Option, None, Some, String, length, map, string_bytes};
 ghost use Rattle.std.specs.Global.{Global as GlobalValue};
-ghost use Rattle.ht_io.specs.Devices.{Device, Grows, GrowsByPart, Rose, TakesAll};
+ghost use Rattle.ht_io.specs.Devices.{Device, Grows, GrowsByPart, Rose, Takes, TakesAll};
+ghost use Rattle.ht_io.specs.declared.faults.FormatFault.{FormatFault};
+ghost use Rattle.ht_fields.specs.Cases.{IsFile};
+ghost use Rattle.ht_fields.specs.Meanings.{meaning};
+ghost use Rattle.ht_fields.specs.Tests.{AreBytes};
+ghost use Rattle.ht_runs.specs.Formats.{IsFaultless, IsWhole};
+ghost use Rattle.ht_runs.specs.Streamed.{line_of_fault};
+ghost use Rattle.ht_metric.specs.Jobs.{IsJob, IsNear};
+ghost use Rattle.ht_witness.specs.Certificates.{Checked};
+ghost use Rattle.ht_cert.specs.Files.{AreRecords, certificates_file_of};
+ghost use Rattle.ht_cert.specs.Formats.{certificates};
+ghost use Rattle.ht_certify.specs.Certifying.{CertifiesTo, certified};
+ghost use Rattle.ht_check.specs.Checks.{all_yes_text, check_lines, check_text};
 ghost use Rattle.ht_capture.specs.declared.frames.CaptureFrame.{CaptureFrame};
 ghost use Rattle.ht_capture.specs.Captures.{capture_of};
 ghost use Rattle.ht_capture.specs.Contents.{AreTyped};
@@ -143,6 +155,79 @@ pub fn upgraded()
     ensures items { (octets output : List ℕ) → UpgradesTo octets output → capture_of output ≡ capture_of octets }
     ensures detects { (octets output : List ℕ) → UpgradesTo octets output → detect_text output ≡ detect_text octets }
     ensures receives { (octets output : List ℕ) → UpgradesTo octets output → rx_text output ≡ rx_text octets }
+{}
+
+/// What a status says of `certify`, which reads a capture to its end and then puts the certificates of its data jobs.
+pub fn clauses_of_certify()
+    // Done: what was left is a capture, and the file of the certificates of its data jobs was put.
+    ensures done { (a b c d : Device ℕ) → Answered (Some Asked.Certify) a b c d Status.Done
+        → (taken : List ℕ) × TakesAll a b taken × IsCapture taken × Grows c d (certificates_file_of (certified taken)) }
+
+    // Refused: what was left is no capture, and the line of its first fault was put, and nothing else.
+    ensures refused { (a b c d : Device ℕ) → Answered (Some Asked.Certify) a b c d Status.Refused
+        → (taken : List ℕ) × (fault : FormatFault) × Takes a b taken × ((capture_of taken).fault ≡ Some fault) × Grows c d (line_of_fault fault) }
+
+    // Where the source failed nothing was put. Where memory ran out it was nothing, or a part of the file from its front.
+    ensures read_fault { (a b c d : Device ℕ) → Answered (Some Asked.Certify) a b c d Status.ReadFault → d ≡ c }
+    ensures memory { (a b c d : Device ℕ) → Answered (Some Asked.Certify) a b c d Status.NoMemory → (d ≡ c)
+        ⊎ ((taken : List ℕ) × TakesAll a b taken × IsCapture taken × GrowsByPart c d (certificates_file_of (certified taken))) }
+
+    // Where all octets are known that the source had left: Done says that they are a capture, and has all taken.
+    ensures known_done { (all : List ℕ) (a b c d : Device ℕ) → a.known ≡ Some all → Answered (Some Asked.Certify) a b c d Status.Done
+        → IsCapture all × Grows c d (certificates_file_of (certified all)) × (b.known ≡ Some []) }
+{}
+
+/// What a status says of `check`, which puts a line for each certificate while it reads.
+pub fn clauses_of_check()
+    // Done: what was left is a file of certificates, and its text was put, whatever the certificates are worth.
+    ensures done { (a b c d : Device ℕ) → Answered (Some Asked.Check) a b c d Status.Done
+        → (taken : List ℕ) × TakesAll a b taken × IsWhole certificates taken × Grows c d (check_text taken) }
+
+    // Refused: what was left is no such file, and its text was put, which names its first fault.
+    ensures refused { (a b c d : Device ℕ) → Answered (Some Asked.Check) a b c d Status.Refused
+        → (taken : List ℕ) × (fault : FormatFault) × Takes a b taken
+        × ((meaning certificates certificates.start 0 taken).fault ≡ Some fault) × Grows c d (check_text taken) }
+
+    // ReadFault: the lines of the certificates read whole were put. NoMemory: a part of them. WriteFault: a part of the text.
+    ensures broken_off { (a b c d : Device ℕ) → Answered (Some Asked.Check) a b c d Status.ReadFault
+        → (taken : List ℕ) × Takes a b taken × IsFaultless certificates taken × Grows c d (check_lines taken) }
+    ensures memory { (a b c d : Device ℕ) → Answered (Some Asked.Check) a b c d Status.NoMemory
+        → (taken : List ℕ) × Takes a b taken × GrowsByPart c d (check_lines taken) }
+    ensures part { (a b c d : Device ℕ) → Answered (Some Asked.Check) a b c d Status.WriteFault
+        → (taken : List ℕ) × Takes a b taken × GrowsByPart c d (check_text taken) }
+
+    // Where all octets are known that the source had left, Done and Refused put the text of them all.
+    ensures known_done { (all : List ℕ) (a b c d : Device ℕ) → a.known ≡ Some all → Answered (Some Asked.Check) a b c d Status.Done
+        → IsWhole certificates all × Grows c d (check_text all) }
+    ensures known_refused { (all : List ℕ) (a b c d : Device ℕ) → a.known ≡ Some all → Answered (Some Asked.Check) a b c d Status.Refused
+        → (IsWhole certificates all → ⊥) × Grows c d (check_text all) }
+{}
+
+/// Every file that `certify` writes is accepted by `check`: it has a yes for each of the capture's data jobs.
+pub fn certified_is_accepted()
+    // Of any octets each record has a job, of a grid and a system of as many streams, and its certificate holds: so the
+    // claimed vector is the job's first nearest one.
+    ensures jobs { (octets : List ℕ) → All (λ r. IsJob r.job) (certified octets) }
+    ensures holds { (octets : List ℕ) → All (λ r. Checked r.job r.certificate) (certified octets) }
+    ensures near { (octets : List ℕ) → All (λ r. IsNear r.job r.certificate.vector) (certified octets) }
+
+    // Of a capture they are records that a file can have, so what `certify` writes is the file of exactly these.
+    ensures records { (octets : List ℕ) → AreBytes octets → IsCapture octets → AreRecords (certified octets) }
+    ensures file { (octets output : List ℕ) → AreBytes octets → IsCapture octets → CertifiesTo octets output
+        → IsFile certificates output (certified octets) }
+
+    // The text of that file is `job K yes` for each data job, and then `end J jobs yes J`.
+    ensures accepted { (octets output : List ℕ) → AreBytes octets → IsCapture octets → CertifiesTo octets output
+        → check_text output ≡ all_yes_text (length (certified octets)) }
+
+    // From run to run: what `certify` put into an empty sink in memory, `check` reads, and puts that text.
+    ensures runs { (all output : List ℕ) (a b c d e f g h : Device ℕ) → AreBytes all → a.known ≡ Some all → c.known ≡ Some []
+        → d.known ≡ Some output → Answered (Some Asked.Certify) a b c d Status.Done
+        → e.known ≡ Some output → Answered (Some Asked.Check) e f g h Status.Done
+        → Grows g h (all_yes_text (length (certified all))) }
+    ensures never_refused { (all output : List ℕ) (a b c d e f g h : Device ℕ) → AreBytes all → a.known ≡ Some all → c.known ≡ Some []
+        → d.known ≡ Some output → Answered (Some Asked.Certify) a b c d Status.Done
+        → e.known ≡ Some output → Answered (Some Asked.Check) e f g h Status.Refused → ⊥ }
 {}
 
 /// What a status says of `demo`, which reads nothing.

@@ -20,7 +20,8 @@
 //! line `refused BadBandwidth at 7`. What must be written for a list of octets is `detect_text` or `rx_text`, of the
 //! crates `ht_rx` and `ht_results`. `certify` reads a capture whole, and writes the
 //! file of certificates of its data jobs, as crate `ht_certify` has it. `check` reads such a file as it comes, and writes
-//! for each certificate whether it holds: `check_text` of crate `ht_check`.
+//! for each certificate whether it holds: `check_text` of crate `ht_check`. `lchannel` reads a file of clause 18 frames whole,
+//! and writes the capture that they come to, as crate `ht_legacy_sim` has it.
 #![tactic(auto)]
 
 ghost use Rattle.std.specs.Prelude.{◌≡◌, ◌≢◌, None, IfSome};
@@ -40,6 +41,7 @@ use ht_check::check_file;
 use ht_crew::Gate;
 use ht_demo::{Plan, demo, demo_alone};
 use ht_io::{Sink, Source};
+use ht_legacy_sim::legacy_channel;
 use ht_rate::Rate;
 use ht_rx::{list, list_alone, receive_text, receive_text_alone};
 use ht_sim::channel;
@@ -60,7 +62,8 @@ use std::thread::Threads;
 /// the call waits for them; else it does as [`run_alone`]. Where memory runs out before it is known what the words ask
 /// for, nothing is read and nothing put.
 ///
-/// `Answered` says what each status means, for each command; [`laws`] spells it out for `detect`, `rx`, `upgrade` and `demo`.
+/// `Answered` says what each status means, for each command; [`laws`] spells it out for `detect`, `rx`, `upgrade`, `certify`,
+/// `check` and `demo`.
 pub fn run<R: Threads + Wait + Sync, S: Source, K: Sink, G: Gate + Sync>(
     rt: &R,
     alloc: Global,
@@ -185,6 +188,10 @@ fn carry_out<S: Source, K: Sink, G: Gate>(
         Some(Asked::Check) => {
             let checked = check_file(alloc, source, sink);
             settle(alloc, checked, sink)
+        }
+        Some(Asked::LegacyChannel { seed, noise }) => {
+            let passed = legacy_channel(alloc, seed, noise, source, sink);
+            settle(alloc, passed, sink)
         }
         Some(
             Asked::Demo {

@@ -4,7 +4,7 @@ use Rattle.ht_metric.specs.Jobs.{JobView}
 use Rattle.ht_window.specs.Windows.{WindowView, IsWindow, jobs}
 use Rattle.ht_window.specs.Accepting.{IsUnbooked, Books}
 use Rattle.ht_window.specs.declared.slot.Slot.{Slot}
-use Rattle.ht_crew.specs.Accounts.{HasBooked}
+use Rattle.ht_crew.specs.Tallying.{HasBooked}
 use Rattle.ht_crew.specs.declared.tally.Tally.{Tally}
 use Rattle.ht_crew.specs.Driving.{waiting}
 use Rattle.ht_crew.proofs.Running.{waiting_booked}

@@ -10,7 +10,7 @@ use Rattle.ht_metric.specs.declared.found.Found.{Found}
 use Rattle.ht_metric.specs.declared.hit.Hit.{Hit}
 use Rattle.ht_metric.proofs.Finding.{found_near}
 use Rattle.ht_crew.specs.Feeds.{GivesJob, TakesHit}
-use Rattle.ht_crew.specs.Lists.{JobAnswer, answer, answer_of, Listed, IsListed, called, gave, took, shown, TakesInTurn}
+use Rattle.ht_crew.specs.Lists.{JobAnswer, nearest_answer, answer_of, Listed, IsListed, called, gave, took, shown, TakesInTurn}
 
 -- an entry that is there, behind those before it
 pub take_next : {A : Type 0} (xs : List A) (n : ℕ) (x : A) → slice_get xs n ≡ Some x → take (n + 1) xs ≡ take n xs ++ x ∷ []
@@ -59,7 +59,7 @@ first_between {A} xs n m x e =
     (below.0, slice_get-get_or xs n x below.1 ∙ ap Some read)
 
 -- a hit says its job's first nearest vector
-pub hit_answers : (hit : Hit) → answer_of hit ≡ answer hit.job
+pub hit_answers : (hit : Hit) → answer_of hit ≡ nearest_answer hit.job
 hit_answers hit = ap (λ (found : Found). let a : JobAnswer = record { job = hit.job; found = found } in a) (found_near hit)
 
 -- one more hit
@@ -94,6 +94,6 @@ takes_in_turn a hit first =
       jobs = refl;
       taken = map-append answer_of a.taken (hit ∷ [])
           ∙ (ap (λ (x : JobAnswer). map answer_of a.taken ++ x ∷ []) (hit_answers hit)
-          ∙ ap (λ (jobs : List JobView). map answer_of a.taken ++ map answer jobs)
+          ∙ ap (λ (jobs : List JobView). map answer_of a.taken ++ map nearest_answer jobs)
           (sym (ap (λ (m : ℕ). drop n (take m a.jobs)) (length_more a.taken hit) ∙ next)));
     }

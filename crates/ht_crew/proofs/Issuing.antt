@@ -11,8 +11,8 @@ use Rattle.ht_window.specs.Windows.{WindowView, unbooked}
 use Rattle.ht_window.specs.declared.slot.Slot.{Slot}
 use Rattle.ht_pool.specs.Helms.{IsSameHelm}
 use Rattle.ht_crew.specs.Lots.{LotHelm, lot_of}
-use Rattle.ht_crew.specs.Accounts.{JobHelmView, IsSameJobHelm, Loads, Ships, GetsBack, Receives, Stores, sources}
-use Rattle.ht_crew.specs.Accounts.{BooksHits, Tallies, IssuesJob, TakesTurn, AreTold, HaveNumbers, is_number}
+use Rattle.ht_crew.specs.Tallying.{JobHelmView, IsSameJobHelm, Loads, Ships, GetsBack, Receives, Stores, sources}
+use Rattle.ht_crew.specs.Tallying.{BooksHits, Tallies, IssuesJob, TakesTurn, AreTold, HaveNumbers, is_number}
 use Rattle.ht_crew.specs.declared.tally.Tally.{Tally}
 use Rattle.ht_crew.proofs.Answering.{as_many}
 use Rattle.ht_crew.proofs.Filling.{issued, waiting_more}

@@ -3,7 +3,7 @@ use Rattle.std.proofs.Common.{◌∙◌, arith}
 use Rattle.ht_window.specs.Windows.{WindowView}
 use Rattle.ht_crew.specs.Feeds.{FeedView}
 use Rattle.ht_crew.specs.Driving.{Holds}
-use Rattle.ht_crew.specs.Accounts.{JobHelmView, TakesTurn}
+use Rattle.ht_crew.specs.Tallying.{JobHelmView, TakesTurn}
 use Rattle.ht_crew.specs.declared.tally.Tally.{Tally}
 
 -- the window holds the jobs due after a turn too

@@ -10,7 +10,7 @@ use Rattle.ht_metric.specs.Jobs.{JobView}
 use Rattle.ht_metric.specs.declared.hit.Hit.{Hit}
 use Rattle.ht_pool.specs.Helms.{gave, received, TakesBack, IsSameHelm}
 use Rattle.ht_crew.specs.Lots.{LotHelm, IsFilled, asked, lot_of, flat}
-use Rattle.ht_crew.specs.Accounts.{JobHelmView, IsJobHelm, Ships, GetsBack, Receives, ComesBack, job_helm, places_of}
+use Rattle.ht_crew.specs.Tallying.{JobHelmView, IsJobHelm, Ships, GetsBack, Receives, ComesBack, job_helm, places_of}
 use Rattle.ht_crew.specs.declared.lot.LotRoom.{LotRoom}
 
 -- one lot more at the end

@@ -17,7 +17,7 @@ use Rattle.ht_pool.specs.declared.member.Member.{Member}
 use Rattle.ht_pool.specs.Members.{answers_of, answered_weight}
 use Rattle.ht_pool.specs.Gathering.{answered_by}
 use Rattle.ht_crew.specs.Lots.{IsFilled, asked, lot_of, jobs_in, flat}
-use Rattle.ht_crew.specs.Accounts.{JobHelmView, IsOfLots, Tallies, HaveNumbers}
+use Rattle.ht_crew.specs.Tallying.{JobHelmView, IsOfLots, Tallies, HaveNumbers}
 use Rattle.ht_crew.specs.Reports.{HasRunInPool, IsShared, jobs_pushed, hits_of}
 use Rattle.ht_crew.specs.declared.tally.Tally.{Tally}
 use Rattle.ht_crew.specs.declared.report.Passes.{Passes}

@@ -6,7 +6,7 @@ use Rattle.ht_metric.specs.Jobs.{JobView}
 use Rattle.ht_window.specs.Windows.{WindowView}
 use Rattle.ht_crew.specs.Feeds.{FeedView, GivesJob, ComesFirst}
 use Rattle.ht_crew.specs.Driving.{IsAlong}
-use Rattle.ht_crew.specs.Accounts.{JobHelmView, IssuesJob, TakesTurn}
+use Rattle.ht_crew.specs.Tallying.{JobHelmView, IssuesJob, TakesTurn}
 use Rattle.ht_crew.specs.Supplying.{Supplying}
 use Rattle.ht_crew.specs.declared.tally.Tally.{Tally}
 use Rattle.ht_crew.proofs.Filling.{along_more}

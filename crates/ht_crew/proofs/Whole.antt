@@ -4,14 +4,14 @@ use Rattle.std.proofs.lemmas.List.{length-drop, length-take, take_all}
 use Rattle.ht_metric.specs.Jobs.{JobView}
 use Rattle.ht_metric.specs.declared.hit.Hit.{Hit}
 use Rattle.ht_crew.specs.Feeds.{IsLeft}
-use Rattle.ht_crew.specs.Lists.{answer, answer_of, Listed, shown, TakesInTurn}
+use Rattle.ht_crew.specs.Lists.{nearest_answer, answer_of, Listed, shown, TakesInTurn}
 
-pub takes_first : (old new : Listed) → old.taken ≡ [] → TakesInTurn old new → map answer_of new.taken ≡ map answer (take (length new.taken) old.jobs)
+pub takes_first : (old new : Listed) → old.taken ≡ [] → TakesInTurn old new → map answer_of new.taken ≡ map nearest_answer (take (length new.taken) old.jobs)
 takes_first old new none leads =
-    leads.taken ∙ ap (λ (taken : List Hit). map answer_of taken ++ map answer (drop (length taken) (take (length new.taken) old.jobs))) none
+    leads.taken ∙ ap (λ (taken : List Hit). map answer_of taken ++ map nearest_answer (drop (length taken) (take (length new.taken) old.jobs))) none
 
 pub takes_all : (old new : Listed) → old.taken ≡ [] → TakesInTurn old new → (shown new).due ≡ []
-    → IsLeft (shown new).left [] → map answer_of new.taken ≡ map answer old.jobs
+    → IsLeft (shown new).left [] → map answer_of new.taken ≡ map nearest_answer old.jobs
 takes_all old new none leads due left =
     let n : ℕ = length new.taken in
     let same : length new.jobs ≡ length old.jobs = ap (λ (jobs : List JobView). length jobs) leads.jobs in
@@ -19,4 +19,4 @@ takes_all old new none leads due left =
     let none_left : length (drop new.given new.jobs) ≡ 0 = ap (λ (jobs : List JobView). length jobs) left in
     let all : length old.jobs ≤ n =
     omega (arith, same, none_due, none_left, length-drop n (take new.given new.jobs), length-take new.given new.jobs, length-drop new.given new.jobs) in
-    takes_first old new none leads ∙ ap (λ (jobs : List JobView). map answer jobs) (take_all n old.jobs all)
+    takes_first old new none leads ∙ ap (λ (jobs : List JobView). map nearest_answer jobs) (take_all n old.jobs all)

@@ -3,6 +3,6 @@ pub mod Lists
 pub mod Turns
 pub mod Driving
 pub mod Lots
-pub mod Accounts
+pub mod Tallying
 pub mod Supplying
 pub mod Reports

@@ -19,8 +19,8 @@ abbrev pub answer_of : Hit → JobAnswer
 answer_of hit = record { job = hit.job; found = found_of hit }
 
 -- a job and its first nearest vector
-abbrev pub answer : JobView → JobAnswer
-answer job = record { job = job; found = near job }
+abbrev pub nearest_answer : JobView → JobAnswer
+nearest_answer job = record { job = job; found = near job }
 
 -- job k has number k
 abbrev pub AreNumbered : List JobView → Type 0
@@ -82,7 +82,7 @@ shown feed = record {
 -- the jobs are the same, and the hits taken grew by the first nearest vectors of the jobs next in turn
 pub record TakesInTurn (old new : Listed) : Type 0 where
   pub jobs : new.jobs ≡ old.jobs
-  pub taken : map answer_of new.taken ≡ map answer_of old.taken ++ map answer (drop (length old.taken) (take (length new.taken) old.jobs))
+  pub taken : map answer_of new.taken ≡ map answer_of old.taken ++ map nearest_answer (drop (length old.taken) (take (length new.taken) old.jobs))
 
 -- the feed after a call that gave a job
 abbrev pub gave : Listed → Listed

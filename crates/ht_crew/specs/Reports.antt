@@ -9,7 +9,7 @@ use Rattle.ht_pool.specs.Pools.{IsEmptied, taken_on, moved_on}
 use Rattle.ht_pool.specs.Through.{first_of}
 use Rattle.ht_pool.specs.declared.hand.Hand.{Hand}
 use Rattle.ht_crew.specs.Lots.{IsFilled, asked, flat, lot_of}
-use Rattle.ht_crew.specs.Accounts.{HaveNumbers}
+use Rattle.ht_crew.specs.Tallying.{HaveNumbers}
 use Rattle.ht_crew.specs.declared.report.Passes.{Passes}
 use Rattle.ht_crew.specs.declared.report.Report.{Report}
 

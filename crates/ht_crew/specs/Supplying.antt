@@ -4,7 +4,7 @@ use Rattle.ht_metric.specs.Jobs.{JobView}
 use Rattle.ht_window.specs.Windows.{WindowView}
 use Rattle.ht_crew.specs.Feeds.{FeedView}
 use Rattle.ht_crew.specs.Driving.{Holds, IsAlong}
-use Rattle.ht_crew.specs.Accounts.{JobHelmView, IsSameJobHelm, Tallies, AreTold}
+use Rattle.ht_crew.specs.Tallying.{JobHelmView, IsSameJobHelm, Tallies, AreTold}
 use Rattle.ht_crew.specs.declared.tally.Tally.{Tally}
 
 -- since the window, the helm and the feed were these

@@ -5,7 +5,7 @@ use Rattle.std.proofs.lemmas.List.{append-nil, append_assoc, drop-take, drop-dro
 use Rattle.std.proofs.Math.Seq.{take-add}
 use Rattle.ht_metric.specs.Jobs.{JobView}
 use Rattle.ht_metric.specs.declared.hit.Hit.{Hit}
-use Rattle.ht_crew.specs.Lists.{JobAnswer, answer, answer_of, Listed, TakesInTurn}
+use Rattle.ht_crew.specs.Lists.{JobAnswer, nearest_answer, answer_of, Listed, TakesInTurn}
 
 -- a part of a list, in two parts
 pub parts : {A : Type 0} (a b c : ℕ) (xs : List A) → a ≤ b → b ≤ c → drop a (take c xs) ≡ drop a (take b xs) ++ drop b (take c xs)
@@ -29,16 +29,16 @@ pub no_part : {A : Type 0} (n : ℕ) (xs : List A) → drop n (take n xs) ≡ []
 no_part n xs = drop_all n (take n xs) (omega (arith, length-take n xs))
 
 -- hits that grew by answers are no fewer
-pub grew : (before after : List Hit) (jobs : List JobView) → map answer_of after ≡ map answer_of before ++ map answer jobs → length before ≤ length after
+pub grew : (before after : List Hit) (jobs : List JobView) → map answer_of after ≡ map answer_of before ++ map nearest_answer jobs → length before ≤ length after
 grew before after jobs e =
-    let lengths : length (map answer_of after) ≡ length (map answer_of before) + length (map answer jobs) =
-    ap (λ (xs : List JobAnswer). length xs) e ∙ length-append (map answer_of before) (map answer jobs) in
+    let lengths : length (map answer_of after) ≡ length (map answer_of before) + length (map nearest_answer jobs) =
+    ap (λ (xs : List JobAnswer). length xs) e ∙ length-append (map answer_of before) (map nearest_answer jobs) in
     omega (arith, lengths, length-map after answer_of, length-map before answer_of)
 
 pub stays : (a : Listed) → TakesInTurn a a
 stays a = record {
   jobs = refl;
-  taken = sym (ap (λ (jobs : List JobView). map answer_of a.taken ++ map answer jobs) (no_part (length a.taken) a.jobs) ∙ append-nil (map answer_of a.taken));
+  taken = sym (ap (λ (jobs : List JobView). map answer_of a.taken ++ map nearest_answer jobs) (no_part (length a.taken) a.jobs) ∙ append-nil (map answer_of a.taken));
 }
 
 pub goes_on : (a b c : Listed) → TakesInTurn a b → TakesInTurn b c → TakesInTurn a c
@@ -55,8 +55,8 @@ goes_on a b c ab bc =
     record {
       jobs = bc.jobs ∙ ab.jobs;
       taken = bc.taken
-          ∙ (ap (λ (answers : List JobAnswer). answers ++ map answer (drop mid (take end b.jobs))) ab.taken
-          ∙ (append_assoc (map answer_of a.taken) (map answer (drop start (take mid a.jobs))) (map answer (drop mid (take end b.jobs)))
+          ∙ (ap (λ (answers : List JobAnswer). answers ++ map nearest_answer (drop mid (take end b.jobs))) ab.taken
+          ∙ (append_assoc (map answer_of a.taken) (map nearest_answer (drop start (take mid a.jobs))) (map nearest_answer (drop mid (take end b.jobs)))
           ∙ ap (λ (answers : List JobAnswer). map answer_of a.taken ++ answers)
-          (sym (map-append answer (drop start (take mid a.jobs)) (drop mid (take end b.jobs))) ∙ ap (λ (jobs : List JobView). map answer jobs) joined)));
+          (sym (map-append nearest_answer (drop start (take mid a.jobs)) (drop mid (take end b.jobs))) ∙ ap (λ (jobs : List JobView). map nearest_answer jobs) joined)));
     }

@@ -1,7 +1,7 @@
 //! The caller's end of a pool that runs jobs in lots.
 ghost use Rattle.std.specs.Prelude.{◌≡◌, ◌+◌, ◌<◌, ◌≤◌, [], ◌∷◌, ◌++◌, length, true, IfSome, IfNone, IsTrue};
 ghost use Rattle.ht_pool.specs.Helms.{IsSettled};
-ghost use Rattle.ht_crew.specs.Accounts.{IsOfLots, ComesBack, Loads, Ships, GetsBack, Receives, Stores};
+ghost use Rattle.ht_crew.specs.Tallying.{IsOfLots, ComesBack, Loads, Ships, GetsBack, Receives, Stores};
 
 use crate::detect::Detect;
 use crate::gate::Gate;
@@ -106,7 +106,7 @@ pub(crate) struct JobHelm<'a, 'g, G: Gate> {
 impl<'a, 'g, G: Gate> Model for JobHelm<'a, 'g, G> {
     ghost use Rattle.std.specs.Prelude.{◌++◌};
     ghost use Rattle.ht_crew.specs.Lots.{flat};
-    ghost use Rattle.ht_crew.specs.Accounts.{JobHelmView, IsJobHelm, job_helm, places_of};
+    ghost use Rattle.ht_crew.specs.Tallying.{JobHelmView, IsJobHelm, job_helm, places_of};
 
     ghost Value = { JobHelmView };
 

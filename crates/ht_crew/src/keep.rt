@@ -3,7 +3,7 @@ ghost use Rattle.std.specs.Prelude.{◌≡◌, ◌+◌, ◌-◌, ◌^◌, ◌<�
 ghost use Rattle.std.specs.Prelude.{Some, IsTrue, IfOk, IfErr, OnOk};
 ghost use Rattle.ht_metric.specs.Jobs.{JobView};
 ghost use Rattle.ht_crew.specs.Driving.{CallFailed, Holds, IsUnderWay, IsInTurn, IsAlong, RunsOn, at_once};
-ghost use Rattle.ht_crew.specs.Accounts.{IsSameJobHelm, Tallies, AreTold};
+ghost use Rattle.ht_crew.specs.Tallying.{IsSameJobHelm, Tallies, AreTold};
 
 use crate::alone::hand_back;
 use crate::caller::run;
@@ -110,6 +110,7 @@ pub(crate) fn keep<F: Feed, G: Gate>(
     ensures later { (F.shown feed.old).faults ≤ (F.shown feed.new).faults }
     ensures leads { F.leads feed.old feed.new }
 {
+    // For the proof alone: the call says that the window keeps to its bounds.
     let _room = window.has_room();
     let QuickRun { ran, next } = run_quick(work, helm.room() > 1, pace, feed)?;
     window.pass(ran);

@@ -1,17 +1,17 @@
 //! What follows for a feed over a list. None of these functions does anything.
 ghost use Rattle.std.specs.Prelude.{◌≡◌, [], length, map, take};
 ghost use Rattle.ht_crew.specs.Feeds.{IsLeft};
-ghost use Rattle.ht_crew.specs.Lists.{Listed, answer, answer_of, shown, TakesInTurn};
+ghost use Rattle.ht_crew.specs.Lists.{Listed, nearest_answer, answer_of, shown, TakesInTurn};
 
 /// A feed over a list that had taken nothing, and of which nothing is due or left, has taken the first nearest
 /// vector of each of its jobs, in order. So this is what a drive leaves where it answers `Ok`.
 pub fn takes_all()
     ensures { (old new : Listed) → old.taken ≡ [] → TakesInTurn old new → (shown new).due ≡ [] → IsLeft (shown new).left []
-        → map answer_of new.taken ≡ map answer old.jobs }
+        → map answer_of new.taken ≡ map nearest_answer old.jobs }
 {}
 
 /// However a drive ends, a feed over a list that had taken nothing has taken the first nearest vectors of the
 /// first of its jobs, in order.
 pub fn takes_first()
-    ensures { (old new : Listed) → old.taken ≡ [] → TakesInTurn old new → map answer_of new.taken ≡ map answer (take (length new.taken) old.jobs) }
+    ensures { (old new : Listed) → old.taken ≡ [] → TakesInTurn old new → map answer_of new.taken ≡ map nearest_answer (take (length new.taken) old.jobs) }
 {}

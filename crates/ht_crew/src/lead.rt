@@ -5,7 +5,7 @@ ghost use Rattle.ht_metric.specs.Jobs.{JobView};
 ghost use Rattle.ht_pool.specs.Helms.{IsSettled};
 ghost use Rattle.ht_crew.specs.Feeds.{IsFreshFeed, IsLeft};
 ghost use Rattle.ht_crew.specs.Driving.{CallFailed, IsInTurn};
-ghost use Rattle.ht_crew.specs.Accounts.{IsSameJobHelm, Tallies, AreTold, IsUntouched, none_counted};
+ghost use Rattle.ht_crew.specs.Tallying.{IsSameJobHelm, Tallies, AreTold, IsUntouched, none_counted};
 
 use crate::caller::deliver;
 use crate::detect::Detect;

@@ -2,7 +2,7 @@
 ghost use Rattle.std.specs.Prelude.{◌≡◌, ◌+◌, ◌-◌, ◌^◌, ◌<◌, ◌≤◌, length, not, true, false, List, Some, IfOk, IfErr, OnOk};
 ghost use Rattle.ht_metric.specs.Jobs.{JobView};
 ghost use Rattle.ht_crew.specs.Driving.{CallFailed, Holds, IsUnderWay, IsInTurn, IsAlong};
-ghost use Rattle.ht_crew.specs.Accounts.{IsSameJobHelm, Tallies, AreTold};
+ghost use Rattle.ht_crew.specs.Tallying.{IsSameJobHelm, Tallies, AreTold};
 
 use crate::detect::Detect;
 use crate::feed::Feed;

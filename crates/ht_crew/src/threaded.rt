@@ -9,7 +9,7 @@ ghost use Rattle.ht_pool.specs.Pools.{IsOpened, IsVacant};
 ghost use Rattle.ht_crew.specs.Feeds.{IsFreshFeed, IsLeft};
 ghost use Rattle.ht_crew.specs.Driving.{CallFailed, IsInTurn};
 ghost use Rattle.ht_crew.specs.Lots.{jobs_in, lot_of};
-ghost use Rattle.ht_crew.specs.Accounts.{Tallies, AreTold};
+ghost use Rattle.ht_crew.specs.Tallying.{Tallies, AreTold};
 ghost use Rattle.ht_crew.specs.Reports.{HasRunAlone, HasRunInPool, jobs_pushed};
 
 use crate::alone::drive_alone;
@@ -228,6 +228,7 @@ fn finish<G: Gate>(
     ensures ran { IfSome result.passes (HasRunInPool (length helm.entry.lots.deques) helm.entry.room result) }
     ensures given { IfSome result.passes (λ passes. jobs_pushed passes ≡ helm.entry.given) }
 {
+    // For the proof alone: the call says that the window keeps to its bounds.
     let _room = window.has_room();
     let Closed { deques, pass, ran } = close(helm.into_helm(), members, space);
     Report {

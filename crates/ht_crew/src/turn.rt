@@ -5,7 +5,7 @@ ghost use Rattle.ht_metric.specs.declared.hit.Hit.{Hit as HitValue};
 ghost use Rattle.ht_window.specs.Accepting.{IsUnbooked};
 ghost use Rattle.ht_crew.specs.Driving.{waiting};
 ghost use Rattle.ht_crew.specs.Lots.{lot_of};
-ghost use Rattle.ht_crew.specs.Accounts.{HasBooked, BooksHits, Tallies, IssuesJob, TakesTurn, Stores};
+ghost use Rattle.ht_crew.specs.Tallying.{HasBooked, BooksHits, Tallies, IssuesJob, TakesTurn, Stores};
 
 use crate::detect::Detect;
 use crate::gate::Gate;
@@ -24,6 +24,7 @@ pub(crate) fn book(window: &mut Window, job: &Job, found: Found) -> bool
     ensures booked { HasBooked result window.old window.new }
     ensures sure { IsUnbooked window.old job.now → result ≡ true }
 {
+    // For the proof alone: the call says that the window keeps to its bounds.
     let _room = window.has_room();
     match window.accept_found(job, found) {
         Accepted::Booked => true,

@@ -15,8 +15,8 @@ use Rattle.ht_results.specs.Results.{frame_result, results_of}
 use Rattle.ht_sim.proofs.Drawing.{length-several}
 use Rattle.ht_sim.specs.Samples.{frames_drawn, sample_frame_drawn}
 use Rattle.ht_sim.specs.Words.{first}
-use Rattle.ht_rx.specs.declared.faults.Ended.{Ended}
-use Rattle.ht_rx.specs.declared.faults.Ended.TheVariants.{Done, Refused}
+use Rattle.ht_feed.specs.declared.ended.Ended.{Ended}
+use Rattle.ht_feed.specs.declared.ended.Ended.TheVariants.{Done, Refused}
 use Rattle.ht_rx.specs.Frames.{booked_of}
 use Rattle.ht_rx.specs.Outcomes.{TellsTo}
 use Rattle.ht_demo.specs.declared.plan.Plan.{Plan}

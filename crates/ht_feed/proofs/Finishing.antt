@@ -21,7 +21,7 @@ use Rattle.ht_feed.specs.Accounts.{Telling}
 use Rattle.ht_feed.specs.Dues.{all_due, jobs_in}
 use Rattle.ht_feed.specs.Desks.{DeskView, desk_view}
 use Rattle.ht_feed.specs.Reading.{ClosesBehind, ReadsBy, view}
-use Rattle.ht_feed.specs.Stops.{ended_at, ended_by, fault_of}
+use Rattle.ht_feed.specs.Stops.{ended_at, ended_by, failed_by, fault_of}
 use Rattle.ht_feed.specs.Telling.{Seen, Tells, TellsBy, TellsPart, seen_by}
 use Rattle.ht_feed.specs.Outcomes.{Comes, StopsBy, TellsPieces, pieces_of}
 use Rattle.ht_feed.proofs.Ending.{broken, in_part, refused, whole}
@@ -35,6 +35,11 @@ pieces_put : {X P : Type 0} (old new : List X → List P) (taken : List X) (put 
     → new [] ≡ [] → old taken ≡ put
 pieces_put {P = P} old new taken put first none =
     ap old (sym (append-nil taken)) ∙ (first [] ∙ (ap (λ (xs : List P). put ++ xs) none ∙ append-nil put))
+
+-- where a drive ends well nothing failed
+none_failed : (driven : Result (Unit {0}) (DriveFault BookFault)) → OnOk driven (failed_by driven ≡ None)
+none_failed (Ok done) = refl
+none_failed (Err fault) = tt
 
 -- readers of R mean this and are here
 module _ {R H P : Type 0} (means : R → List ℕ → Meaning (Item H)) (at : R → ℕ) (reader : R) (head : H) (source source' : Device ℕ) (a b : Telling H P) where
@@ -114,6 +119,23 @@ module _ {R H P : Type 0} (means : R → List ℕ → Meaning (Item H)) (at : R 
       pub well : OnOk driven (failed ≡ None)
       pub fault : (fault : BookFault) → driven ≡ Err (Feed fault) → failed ≡ Some fault
       pub lacking : driven ≡ Err DriveMemory → failed ≡ None
+
+    none_due : (driven : Result (Unit {0}) (DriveFault BookFault)) → OnOk driven (new.due ≡ []) → OnOk driven (jobs_in new.due ≡ [])
+    none_due (Ok done) none = ap jobs_in none
+    none_due (Err fault) none = tt
+
+    -- what a drive says that answers what failed
+    pub driven_so : (driven : Result (Unit {0}) (DriveFault BookFault)) → TellsBy None (failed_by driven) first last → OnOk driven (is_some new.stop ≡ true)
+        → OnOk driven (new.due ≡ []) → Heard (failed_by driven) driven
+    driven_so driven leads ended none =
+        record {
+          leads = leads;
+          ended = ended;
+          taken = none_due driven none;
+          well = none_failed driven;
+          fault = λ fault is. ap failed_by is;
+          lacking = λ is. ap failed_by is;
+        }
 
     told_well : (failed : Option BookFault) → failed ≡ None → TellsBy None failed first last → Tells first last
     told_well failed is told = subst (λ (f : Option BookFault). TellsBy None f first last) is told

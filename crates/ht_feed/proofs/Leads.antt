@@ -10,7 +10,7 @@ use Rattle.ht_feed.specs.Items.{Item, Begins, One, Headed, headed, jobs_of}
 use Rattle.ht_feed.specs.Dues.{Due, all_due, headed_due}
 use Rattle.ht_feed.specs.Accounts.{PutsBlock, PutsPartOf, Telling}
 use Rattle.ht_feed.specs.Desks.{DeskView, ReadsMore, standing}
-use Rattle.ht_feed.specs.Leading.{reads_none}
+use Rattle.ht_feed.specs.Leading.{reads_none, tells-on}
 use Rattle.ht_feed.specs.Telling.{Seen, Tells, TellsBy, TellsPart, seen_by}
 
 length-headed : {H : Type 0} (head : H) (items : List (Item H)) → length (headed head items) ≡ length (jobs_of items)
@@ -53,6 +53,13 @@ module _ {R H P : Type 0} (means : R → List ℕ → Meaning (Item H)) (at : R 
         reads_later = f.later;
         puts_later = later-refl account.device;
       }
+
+  -- and so it has gone on from where it began
+  pub tells_read : (first : Seen H P) (old new : DeskView R H) (source after : Device ℕ) (account : Telling H P)
+      → ((due : List (Headed H)) (h : Headed H) → account.Waits due → account.Waits (due ++ h ∷ []))
+      → Tells first (seen_by means at old source account) → ReadsMore means at old new source after → Tells first (seen_by means at new after account)
+  tells_read first old new source after account more told r =
+      tells-on first (seen_by means at old source account) (seen_by means at new after account) told (tells_given old new source after account more r)
 
   -- memory lacked before anything was read
   pub tells_lacking : (old new : DeskView R H) (source after : Device ℕ) (account : Telling H P) → new ≡ old → after ≡ source

@@ -4,7 +4,6 @@ pub mod Taking
 pub mod Leads
 pub mod Ending
 pub mod Finishing
-pub mod Mapping
 pub mod Measuring
 pub mod Detecting
 mod Worked

@@ -1,5 +1,5 @@
 -- The first block due is taken.
-use Rattle.std.proofs.Common.{◌≡◌, List, [], ◌∷◌, drop, take, slice_get, None, Some, ap, ◌∙◌, sym, subst, append-nil}
+use Rattle.std.proofs.Common.{◌≡◌, List, [], ◌∷◌, ◌++◌, drop, take, slice_get, None, Some, ap, ◌∙◌, sym, subst, append-nil}
 use Rattle.std.proofs.lemmas.Option.{none-some, same_Some}
 use Rattle.ht_io.specs.Devices.{Device}
 use Rattle.ht_metric.specs.Jobs.{JobView}
@@ -26,6 +26,10 @@ module _ {H : Type 0} where
 
   first_all : (due : List (Due H)) (d : Due H) → due ≡ d ∷ drop 1 due → all_due (take 1 due) ≡ headed_due d
   first_all due d is = ap (λ (bs : List (Due H)). all_due (take 1 bs)) is ∙ append-nil (headed_due d)
+
+  -- a block that was due alone is due no longer
+  pub one_gone : (old new : List (Due H)) (d : Due H) → old ≡ [] → new ≡ old ++ d ∷ [] → drop 1 new ≡ []
+  one_gone old new d none is = ap (λ (ds : List (Due H)). drop 1 ds) (is ∙ ap (λ (ds : List (Due H)). ds ++ d ∷ []) none)
 
   module _ {P : Type 0} (a b : Device P) (old new : List (Headed H) → List P) where
     pub puts_of : (due : List (Due H)) (d : Due H) → due ≡ d ∷ drop 1 due → PutsBlock a b old new (headed_due d) → PutsBlock a b old new (all_due (take 1 due))

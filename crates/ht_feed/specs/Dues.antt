@@ -1,7 +1,8 @@
 -- What is due: blocks, each with the head of its frame, and the jobs that they stand for.
-use Rattle.std.specs.Prelude.{◌≡◌, ℕ, ◌+◌, ◌≤◌, List, [], ◌∷◌, map, length, slice_get, IfSome}
+use Rattle.std.specs.Prelude.{◌≡◌, ℕ, ◌+◌, ◌^◌, ◌<◌, ◌≤◌, List, [], ◌∷◌, map, length, slice_get, Some, IfSome}
 use Rattle.std.specs.List.{flat_map}
-use Rattle.ht_metric.specs.Jobs.{JobView}
+use Rattle.ht_metric.specs.Jobs.{JobView, near}
+use Rattle.ht_metric.specs.declared.found.Found.{Found}
 use Rattle.ht_metric.specs.declared.place.Place.{Place}
 use Rattle.ht_feed.specs.Items.{Headed, headed_of}
 
@@ -38,3 +39,17 @@ NoneEmpty (jobs ∷ blocks) = (1 ≤ length jobs) × NoneEmpty blocks
 -- the first of the jobs, where there is one, has this place
 abbrev pub StartsAt : Place → List JobView → Type 0
 StartsAt place jobs = IfSome (slice_get jobs 0) (λ job. job.place ≡ place)
+
+-- the job that has `at` others before it, where there is one, has this place
+abbrev pub IsPlaceAt : Place → List JobView → ℕ → Type 0
+IsPlaceAt place jobs at = IfSome (slice_get jobs at) (λ job. job.place ≡ place)
+
+-- each distance is below 2^66
+abbrev pub AreBounded : List Found → Type 0
+AreBounded found = (k : ℕ) (f : Found) → slice_get found k ≡ Some f → f.distance < 2 ^ 66
+
+-- what is found for these jobs, of which there are fewer than 2^16
+pub record AreHits (found : List Found) (jobs : List JobView) : Type 0 where
+  pub are : found ≡ map near jobs
+  pub below : AreBounded found
+  pub few : length jobs < 2 ^ 16

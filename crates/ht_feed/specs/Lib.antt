@@ -9,5 +9,4 @@ pub mod Leading
 pub mod Feeding
 pub mod Stops
 pub mod Outcomes
-pub mod Captures
 pub mod Meters

@@ -37,3 +37,9 @@ abbrev pub ended_by : Option Stop → ℕ → ℕ → Result (Unit {0}) (DriveFa
 ended_by stop frames jobs (Ok done) = ended_at stop frames jobs
 ended_by stop frames jobs (Err (Feed fault)) = Err (fault_of fault)
 ended_by stop frames jobs (Err DriveMemory) = Err StopMemory
+
+-- what a call of the desk or of its account failed with, where the drive answered this
+abbrev pub failed_by : Result (Unit {0}) (DriveFault BookFault) → Option BookFault
+failed_by (Ok done) = None
+failed_by (Err (Feed fault)) = Some fault
+failed_by (Err DriveMemory) = None

@@ -1,5 +1,5 @@
 //! The drive of a feed of blocks without threads.
-ghost use Rattle.std.specs.Prelude.{◌≡◌, ◌≤◌, [], true, Err, None, Some, OnOk};
+ghost use Rattle.std.specs.Prelude.{◌≡◌, ◌≤◌, [], true, Err, None, Some, IfOk, OnOk};
 ghost use Rattle.ht_feed.specs.Dues.{count_in};
 ghost use Rattle.ht_feed.specs.Feeds.{IsFreshFeed};
 
@@ -46,12 +46,44 @@ pub fn drive_alone<F: BlockFeed, W: Work<F::Block, Answer = F::Answer>>(
     ensures fault { (fault : F.Fault) → result ≡ Err (DriveFault.Feed fault) → (F.shown feed.new).failed ≡ Some fault }
     ensures memory { result ≡ Err DriveFault.NoMemory → (F.shown feed.new).failed ≡ None }
 {
+    match drive_counted(window, work, feed) {
+        Ok(_) => Ok(()),
+        Err(fault) => Err(fault),
+    }
+}
+
+/// Does what [`drive_alone`] does, and answers how many jobs the feed gave.
+pub fn drive_counted<F: BlockFeed, W: Work<F::Block, Answer = F::Answer>>(
+    window: u16,
+    work: &W,
+    feed: &mut F,
+) -> Result<u64, DriveFault<F::Fault>>
+    requires some { 1 ≤ window }
+    requires few { window ≤ 4096 }
+    requires fresh { IsFreshFeed (F.shown feed.old) }
+
+    // However it ends.
+    ensures leads { F.leads feed.old feed.new }
+    ensures due { count_in (F.shown feed.new).due ≤ window }
+
+    // When the feed has ended, every block was run and taken, and no call failed.
+    ensures ended { OnOk result ((F.shown feed.new).ended ≡ true) }
+    ensures taken { OnOk result ((F.shown feed.new).due ≡ []) }
+    ensures well { OnOk result ((F.shown feed.new).failed ≡ None) }
+    ensures jobs { IfOk result (λ jobs. jobs ≡ (F.shown feed.new).count) }
+
+    // What it refuses with.
+    ensures fault { (fault : F.Fault) → result ≡ Err (DriveFault.Feed fault) → (F.shown feed.new).failed ≡ Some fault }
+    ensures memory { result ≡ Err DriveFault.NoMemory → (F.shown feed.new).failed ≡ None }
+{
+    let mut jobs = 0u64;
     loop {
         let block = match feed.next(window) {
             Ok(Some(block)) => block,
-            Ok(None) => return Ok(()),
+            Ok(None) => return Ok(jobs),
             Err(fault) => return Err(DriveFault::Feed(fault)),
         };
+        jobs += u64::from(block.size());
         let Ok(answer) = work.run(&block) else {
             return Err(DriveFault::NoMemory);
         };

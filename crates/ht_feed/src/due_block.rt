@@ -1,5 +1,5 @@
 //! A block that is due, as a desk keeps it.
-ghost use Rattle.std.specs.Prelude.{◌≡◌, ◌≤◌, length};
+ghost use Rattle.std.specs.Prelude.{◌≡◌, ◌≤◌, length, true};
 ghost use Rattle.ht_feed.specs.Dues.{StartsAt, due_of};
 
 use crate::jobs::Jobs;
@@ -19,13 +19,14 @@ pub struct DueBlock<R: BlockReader> {
 }
 
 impl<R: BlockReader> Model for DueBlock<R> {
+    ghost use Rattle.std.specs.Prelude.{◌≤◌, length};
     ghost use Rattle.ht_feed.specs.Dues.{Due, StartsAt, due_of};
 
     ghost Value = { Due R.Head };
 
     ghost view = { λ d. due_of d.head (R.Block.jobs d.block.value) };
 
-    ghost invariant = { λ d. StartsAt d.place (R.Block.jobs d.block.value) };
+    ghost invariant = { λ d. StartsAt d.place (R.Block.jobs d.block.value) × (1 ≤ length (R.Block.jobs d.block.value)) };
 }
 
 impl<R: BlockReader> DueBlock<R> {
@@ -46,6 +47,16 @@ impl<R: BlockReader> DueBlock<R> {
         ensures { result.now ≡ self.now.head }
     {
         &self.head
+    }
+
+    /// Whether it has a job, as each has.
+    pub fn is_some(&self) -> bool
+        ensures value { result ≡ true }
+        ensures some { 1 ≤ length self.now.jobs }
+    {
+        // So the struct's invariant is known here.
+        let _ = &self.place;
+        true
     }
 
     /// Where in the input its first job comes from.

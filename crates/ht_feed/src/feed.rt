@@ -40,6 +40,7 @@ pub trait BlockFeed {
         ensures block { IfOk result (λ given. IfSome given (λ block. GivesBlock most (shown self.old) (shown self.new) (Self.Block.jobs block))) }
         ensures none { IfOk result (λ given. IfNone given (EndsBlocks (shown self.old) (shown self.new))) }
         ensures fault { IfErr result (Fails (shown self.old) (shown self.new)) }
+        ensures bound { IfOk result (λ given. IfSome given (λ _. (shown self.new).count < 2 ^ 64 - 1)) }
         ensures leads { leads self.old self.new };
 
     /// Takes the answer to the first block due. A call that fails leaves the block due.

@@ -1,8 +1,10 @@
 //! The hits of a block.
-ghost use Rattle.std.specs.Prelude.{◌≡◌, ◌<◌, map};
+ghost use Rattle.std.specs.Prelude.{◌≡◌, ◌^◌, ◌<◌, length, IfOk};
 ghost use Rattle.ht_metric.specs.Jobs.{near};
+ghost use Rattle.ht_feed.specs.Dues.{AreHits};
 
 use crate::answer::{Answer, Work};
+use crate::hard::is_hard;
 use crate::jobs::Jobs;
 use ht_metric::{Found, Job};
 use ht_pam::Steps;
@@ -11,7 +13,8 @@ use std::alloc::{AllocError, Global};
 use std::marker::Brand;
 use std::sync::ledger::{Blank, Ledger};
 
-/// What was found for the jobs of a block: for each its first nearest vector, with that vector's distance.
+/// What was found for the jobs of a block, fewer than 2^16: for each its first nearest vector, with that vector's distance,
+/// which is below 2^66.
 #[derive(Debug, Drop)]
 pub struct Hits {
     /// One for each job, in the order of the jobs.
@@ -19,18 +22,52 @@ pub struct Hits {
 }
 
 impl Answer for Hits {
-    ghost answers = { λ hits jobs. hits.found.items ≡ map near jobs };
+    ghost answers = { λ hits jobs. AreHits hits.found.items jobs };
 }
 
 // What is found for a job, with the steps of a counter of its own.
-fn detect<L: Ledger>(job: &Job, blank: Blank) -> Found
+fn detect_by<L: Ledger>(job: &Job, blank: Blank) -> Found
     requires name { blank.name ≡ L.name }
     requires parts { blank.parts ≡ L.parts }
     requires some { 0 < blank.parts }
-    ensures { result ≡ near job.now }
+    ensures found { result ≡ near job.now }
+    ensures below { result.distance < 2 ^ 66 }
 {
     let mut steps = Steps::<L>::new(blank);
-    find(job, &mut steps)
+    // Moved field by field: a wide move would have to wait until the detector's narrow writes have left the processor.
+    let Found { vector, distance } = find(job, &mut steps);
+    Found { vector, distance }
+}
+
+/// What is found for a job: its first nearest vector, with that vector's distance.
+#[inline]
+pub fn detect(job: &Job) -> Found
+    ensures found { result ≡ near job.now }
+    ensures below { result.distance < 2 ^ 66 }
+{
+    detect_by::<Brand>(job, Blank::new(1))
+}
+
+/// What finds the hit of a job.
+pub trait Finder {
+    /// What is found for a job: its first nearest vector, with that vector's distance.
+    fn find(&self, job: &Job) -> Found
+        ensures found { result ≡ near job.now }
+        ensures below { result.distance < 2 ^ 66 };
+}
+
+/// The hits of a block, found job by job. The only error is lack of memory.
+pub fn hits_of<B: Jobs, F: Finder>(alloc: Global, block: &B, finder: &F) -> Result<Hits, AllocError>
+    requires few { length (B.jobs block.now) < 2 ^ 16 }
+    ensures right { IfOk result (λ hits. AreHits hits.found.items (B.jobs block.now)) }
+{
+    let size = block.size();
+    let mut found = Vec::with_capacity(alloc, usize::from(size))?;
+    for at in 0..size {
+        let job = block.job(at);
+        found.push(finder.find(&job))?;
+    }
+    Ok(Hits { found })
 }
 
 /// Finds the hits of any block, job by job.
@@ -40,17 +77,25 @@ pub struct Detector {
     pub alloc: Global,
 }
 
+impl Finder for Detector {
+    fn find(&self, job: &Job) -> Found {
+        detect(job)
+    }
+}
+
 impl<B: Jobs> Work<B> for Detector {
     type Answer = Hits;
 
-    #[tactic(auto, using(crate::proofs::Detecting::found_next))]
     fn run(&self, block: &B) -> Result<Hits, AllocError> {
+        hits_of(self.alloc, block, self)
+    }
+
+    /// Whether the last job, which speaks for all, was hard.
+    fn is_hard(&self, block: &B, answer: &Hits) -> bool {
         let size = block.size();
-        let mut found = Vec::with_capacity(self.alloc, usize::from(size))?;
-        for at in 0..size {
-            let job = block.job(at);
-            found.push(detect::<Brand>(&job, Blank::new(1)))?;
+        match answer.found.last() {
+            Some(last) if size > 0 => is_hard(&block.job(size - 1), last.distance),
+            _ => false,
         }
-        Ok(Hits { found })
     }
 }

@@ -1,7 +1,7 @@
 //! What stands for a list of jobs.
 ghost use Rattle.std.specs.Prelude.{◌≡◌, ◌^◌, ◌<◌, ◌≤◌, List, Some, length, slice_get};
 ghost use Rattle.ht_metric.specs.Jobs.{JobView};
-ghost use Rattle.ht_feed.specs.Dues.{StartsAt};
+ghost use Rattle.ht_feed.specs.Dues.{IsPlaceAt, StartsAt};
 
 use ht_metric::{Job, Place};
 
@@ -22,6 +22,14 @@ pub trait Jobs {
     fn place(&self) -> Place
         requires { 1 ≤ length (jobs self.now) }
         ensures { StartsAt result (jobs self.now) };
+
+    /// Where in the input the job comes from that has `at` others before it.
+    fn place_at(&self, at: u16) -> Place
+        requires { at < length (jobs self.now) }
+        ensures { IsPlaceAt result (jobs self.now) at }
+    {
+        self.job(at).place()
+    }
 
     /// The job that has `at` others before it.
     fn job(&self, at: u16) -> Job

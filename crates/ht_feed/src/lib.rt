@@ -6,21 +6,20 @@
 //! counted in jobs. Whoever runs a block gives an [`Answer`] for it ([`Work`]), which the desk hands, in order, to an
 //! [`Account`]: what is put in all is the account's alone, as a function of the jobs that come, each with the head of its
 //! frame. A [`DeskFeed`] is a desk between its source and its account as a [`BlockFeed`], which a drive asks for blocks and
-//! gives their answers back to; [`run_alone`](DeskFeed::run_alone) does so with a whole input, in this thread.
+//! gives their answers back to. [`tell_alone`] goes through a whole input in this thread.
 //!
 //! What a run comes to is said once for all readers and accounts: for an input that is whole, for one with a first fault,
 //! where the source or the account's device failed, and where memory lacked (`specs/Outcomes.antt`).
 //!
-//! [`CaptureReader`] reads captures, each block of one job; [`Hits`] are the answers of the [`Detector`]; and a [`Meter`]
-//! puts an octet for each. So of a capture of two symbols with 56 present subcarriers, whose diagonals are 10 and whose
-//! samples are 0, `run_alone` puts 112 octets of 100, and answers `Done { frames: 1, jobs: 112 }`.
+//! A block may be [one job](OneJob); [`Hits`] are the answers of the [`Detector`]; and a [`Meter`] puts an octet for each. So
+//! of two symbols with 56 jobs each, whose diagonals are 10 and whose samples are 0, [`tell_alone`] puts 112 octets of 100,
+//! whatever the blocks are, and answers `Done { frames: 1, jobs: 112 }`.
 #![tactic(auto)]
 
 mod account;
 mod answer;
 mod book_fault;
 mod came;
-mod captures;
 mod desk;
 mod desk_feed;
 mod drive;
@@ -28,29 +27,32 @@ mod due_block;
 mod ended;
 mod feed;
 mod feeding;
+mod hard;
 mod hits;
 mod jobs;
 mod meter;
+mod one_job;
 mod reader;
 mod reading;
+mod shared;
 mod stop;
 mod telling;
-#[cfg(test)]
-mod tests;
 
 pub use account::Account;
 pub use answer::{Answer, Work};
 pub use book_fault::BookFault;
 pub use came::Came;
-pub use captures::{CaptureReader, OneJob};
 pub use desk::Desk;
 pub use desk_feed::DeskFeed;
-pub use drive::{DriveFault, drive_alone};
+pub use drive::{DriveFault, drive_alone, drive_counted};
 pub use due_block::DueBlock;
 pub use ended::Ended;
 pub use feed::BlockFeed;
-pub use hits::{Detector, Hits};
+pub use hits::{Detector, Finder, Hits, detect, hits_of};
 pub use jobs::Jobs;
 pub use meter::Meter;
+pub use one_job::OneJob;
 pub use reader::BlockReader;
+pub use shared::Shared;
 pub use stop::Stop;
+pub use telling::{end_of, tell_alone};

@@ -5,6 +5,7 @@ pub mod Cuts
 pub mod Endings
 pub mod Halting
 pub mod Joins
+mod LowOctets
 pub mod Paths
 pub mod Pieces
 pub mod Putting

@@ -6,7 +6,7 @@ use borrow.Rule.Slice.PartMut.{put_mid}
 use Rattle.ht_io.specs.Devices.{Device, Takes}
 use Rattle.ht_io.proofs.Calls.{takes-append}
 
-front-put : (a k n : ℕ) (xs ys : List ℕ) → a ≤ length xs → n ≤ length ys → take (a + n) (put_mid a k xs ys) ≡ take a xs ++ take n ys
+pub front-put : (a k n : ℕ) (xs ys : List ℕ) → a ≤ length xs → n ≤ length ys → take (a + n) (put_mid a k xs ys) ≡ take a xs ++ take n ys
 front-put a k n xs ys p q =
     let len : length (take a xs) ≡ a = length-take-le a xs p in
     ap (λ m. take (m + n) (take a xs ++ (ys ++ drop k (drop a xs)))) (sym len)

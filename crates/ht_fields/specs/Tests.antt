@@ -1,5 +1,5 @@
 -- Tests of the octets of a field.
-use Rattle.std.specs.Prelude.{ℕ, ◌<◌, List, slice_index, get_or, nat_eq, nat_lt, Bool, true, false, if◌then◌else◌}
+use Rattle.std.specs.Prelude.{ℕ, ◌<◌, ◌≤◌, All, List, slice_index, get_or, nat_eq, nat_lt, Bool, true, false, if◌then◌else◌}
 use Rattle.byteorder.specs.Endian.{big_number}
 use Rattle.ht_io.specs.declared.faults.Kind.{Kind}
 use Rattle.ht_fields.specs.Grammar.{Verdict, Bad}
@@ -15,6 +15,10 @@ differs wanted octets = if nat_eq (octet_of octets) wanted then false else true
 -- the octet is above the last value that it may have
 abbrev pub is_above : ℕ → List ℕ → Bool
 is_above last octets = nat_lt last (octet_of octets)
+
+-- no octet is above the last value that they may have
+abbrev pub AreLow : ℕ → List ℕ → Type 0
+AreLow last octets = All (λ x. x ≤ last) octets
 
 -- the number of two octets is 0
 abbrev pub is_zero : List ℕ → Bool

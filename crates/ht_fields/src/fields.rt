@@ -38,6 +38,10 @@ pub fn octet<S: Source>(source: &mut S, at: u64) -> Result<u8, InFault>
     ensures lacking { IfErr result (LacksField 1 at (S.shown source.old) (S.shown source.new)) }
     ensures later { IsLater (S.shown source.old) (S.shown source.new) }
 {
+    if let Some(octet) = source.at_hand().first().copied() {
+        source.pass(1);
+        return Ok(octet);
+    }
     let mut octets = [0u8; 1];
     fill(source, at, &mut octets)?;
     Ok(octets[0])

@@ -15,7 +15,8 @@
 //!
 //! `read_field` reads one field from any source, in whatever pieces the source gives it, and takes no octet
 //! behind the field; `read_front` tells how many octets came, also where the source failed. `octet`, `pair` and `number`
-//! read a field or say why there is none, `one_octet` one that has a single value, and `end` sees that nothing follows.
+//! read a field or say why there is none, `one_octet` one that has a single value, `fill_low` many of one octet each that
+//! none may be above a value, and `end` sees that nothing follows. What is at hand they take without asking the source.
 //! The specs of this crate have the words for what a reader does and for how the reading of a whole file ends, and `laws`
 //! what holds of every format.
 #![tactic(auto)]
@@ -23,8 +24,10 @@
 mod chunk;
 pub mod fields;
 pub mod laws;
+pub mod low;
 pub mod read;
 
 pub use chunk::Chunk;
 pub use fields::{bad, end, fill, number, octet, one_octet, pair};
+pub use low::fill_low;
 pub use read::{Field, read_field, read_front};

@@ -1,5 +1,5 @@
 //! Fields read whole from a source.
-ghost use Rattle.std.specs.Prelude.{◌≡◌, ◌≤◌, ◌<◌, length, take, IfOk, IfErr, OnErr};
+ghost use Rattle.std.specs.Prelude.{◌≡◌, ◌≤◌, ◌<◌, length, take, IfOk, IfErr, OnErr, MatchBool};
 ghost use Rattle.ht_io.specs.Devices.{Rose, IsLater, Takes, TakesAll};
 ghost use Rattle.ht_fields.specs.Reading.{ReadsField};
 
@@ -17,6 +17,21 @@ pub enum Field {
     Broken,
 }
 
+// Takes the octets of the whole slice from those at hand, where there are so many. Else nothing is taken.
+fn take_at_hand<S: Source>(source: &mut S, into: &mut [u8]) -> bool
+    ensures taken { MatchBool result (Takes (S.shown source.old) (S.shown source.new) into.new) (source.new ≡ source.old) }
+    ensures later { IsLater (S.shown source.old) (S.shown source.new) }
+{
+    let hand = source.at_hand();
+    let count = into.len();
+    if hand.len() < count {
+        return false;
+    }
+    into.copy_from_slice(&hand[..count]);
+    source.pass(count);
+    true
+}
+
 /// Reads octets into the front of the slice until it is full, the input ends or the source fails, in as many reads as
 /// the source takes for it, and gives how many came. Where the slice has more, the input ended behind them.
 ///
@@ -29,6 +44,9 @@ pub fn read_front<S: Source>(source: &mut S, into: &mut [u8]) -> Result<usize, u
     ensures cause { OnErr result (Rose (S.shown source.old) (S.shown source.new)) }
     ensures later { IsLater (S.shown source.old) (S.shown source.new) }
 {
+    if take_at_hand(source, into) {
+        return Ok(into.len());
+    }
     let mut count = 0;
     while count < into.len() {
         match source.read(&mut into[count..]) {

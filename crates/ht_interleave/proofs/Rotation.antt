@@ -1,5 +1,5 @@
 -- The rotation and back, by a test of every place.
-use Rattle.std.proofs.Common.{◌≡◌, ℕ, ◌+◌, ◌-◌, ◌*◌, ◌/◌, ◌%◌, ◌<◌, ◌≤◌, ◌==◌, nat_eq, nat_lt, nat_le, if◌then◌else◌, refl}
+use Rattle.std.proofs.Common.{◌≡◌, ℕ, ◌+◌, ◌-◌, ◌*◌, ◌/◌, ◌%◌, ◌<◌, ◌≤◌, nat_eq, nat_lt, nat_le, refl}
 use Rattle.std.proofs.lemmas.Bool.{eqb-true, ltb-true, leb-true}
 use Rattle.ht_rate.specs.declared.rates.Rate.{Rate}
 use Rattle.ht_rate.specs.Rates.{bandwidth_of, modulation_of, label_bits_of, data_carriers_of, stream_bits_of}
@@ -40,18 +40,6 @@ third-third_back rate stream x low high lt =
     eqb-true (third rate stream (third_back rate stream x)) (x)
     (at_stream (λ rate stream x. nat_eq (third rate stream (third_back rate stream x)) (x)) rate stream x low high
     (at_place (each_stream (λ rate stream x. nat_eq (third rate stream (third_back rate stream x)) (x))) (λ n. refl) rate x lt))
-
--- the next place, round the end
-pub third-next : (rate : Rate) (stream x : ℕ) → 1 ≤ stream → stream ≤ 4 → x < stream_bits_of rate
-    → third rate stream (x + 1) ≡ if third rate stream x + 1 == stream_bits_of rate then 0 else third rate stream x + 1
-unfolding each_place each_shape each_bandwidth each_scheme bandwidth_of modulation_of label_bits_of data_carriers_of stream_bits_of each_stream
-    turn_of rotation_of third
-third-next rate stream x low high lt =
-    eqb-true (third rate stream (x + 1)) (if third rate stream x + 1 == stream_bits_of rate then 0 else third rate stream x + 1)
-    (at_stream (λ rate stream x. nat_eq (third rate stream (x + 1))
-    (if third rate stream x + 1 == stream_bits_of rate then 0 else third rate stream x + 1)) rate stream x low high
-    (at_place (each_stream (λ rate stream x. nat_eq (third rate stream (x + 1))
-    (if third rate stream x + 1 == stream_bits_of rate then 0 else third rate stream x + 1))) (λ n. refl) rate x lt))
 
 -- it is by fewer places than there are
 pub turn_of-bound : (rate : Rate) (stream : ℕ) → 1 ≤ stream → stream ≤ 4 → turn_of rate stream ≤ stream_bits_of rate

@@ -159,7 +159,7 @@ decided-at r erased j q labels =
     decides place.lost (bit_at (slice_index_or labels (n * labels_per_symbol r + place.label) 0) place.shift == 1)
     ∙ (sym (place-received r erased j n (q % share_of r) labels is.1) ∙ ap (λ k. received_at r erased labels j k) is.0)
 
-map-same : {X Y : Type 0} (f g : X → Y) → ((x : X) → f x ≡ g x) → (xs : List X) → map f xs ≡ map g xs
+pub map-same : {X Y : Type 0} (f g : X → Y) → ((x : X) → f x ≡ g x) → (xs : List X) → map f xs ≡ map g xs
 map-same f g same [] = refl
 map-same f g same (x ∷ xs) = ap (λ y. y ∷ map f xs) (same x) ∙ ap (λ ys. g x ∷ ys) (map-same f g same xs)
 

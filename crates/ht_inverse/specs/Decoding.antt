@@ -20,10 +20,14 @@ input_of r octets erased labels j = decoded (steps_of r octets) (pattern_of r) (
 unfoldable pub distance_at : Rate → ℕ → ℕ → List ℕ → ℕ → ℕ
 distance_at r octets erased labels j = distance (pattern_of r) (received_of r octets erased labels j) (input_of r octets erased labels j)
 
--- the bits of SERVICE and of the octets, still scrambled: bit N_ES * i + j is bit i of encoder j's input
+-- the bits of SERVICE and of the octets from the encoders' inputs: bit N_ES * i + j is bit i of encoder j's input
+abbrev pub joined_bits : Rate → ℕ → (ℕ → List Bool) → List Bool
+joined_bits r octets inputs =
+    map (λ t. slice_index_or (inputs (t % encoders_of r)) (t / encoders_of r) false) (range_with_len 0 (16 + 8 * octets))
+
+-- those of a frame, still scrambled
 unfoldable pub scrambled_bits : Rate → ℕ → ℕ → List ℕ → List Bool
-scrambled_bits r octets erased labels =
-    map (λ t. slice_index_or (input_of r octets erased labels (t % encoders_of r)) (t / encoders_of r) false) (range_with_len 0 (16 + 8 * octets))
+scrambled_bits r octets erased labels = joined_bits r octets (input_of r octets erased labels)
 
 -- what scrambled bits come to: seven zeros are the beginning of no sequence; any other seven bits give the seed, and
 -- what stands behind the 16 bits of SERVICE, descrambled, are the octets

@@ -92,7 +92,11 @@ codeword_of r octets erased labels j = record { input = input_of r octets erased
 abbrev pub no_codeword : Codeword
 no_codeword = record { input = []; distance = 0 }
 
--- the codewords of a frame: the second one only where there are two encoders
-pub record AreCodewords (r : Rate) (octets erased : ℕ) (labels : List ℕ) (first second : Codeword) : Type 0 where
-  pub first_is : first ≡ codeword_of r octets erased labels 0
-  pub second_is : second ≡ (if encoders_of r == 2 then codeword_of r octets erased labels 1 else no_codeword)
+-- what the encoders of a rate have: the second one has something only where there are two
+pub record AreOfEncoders {X : Type 0} (r : Rate) (each : ℕ → X) (none first second : X) : Type 0 where
+  pub first_is : first ≡ each 0
+  pub second_is : second ≡ (if encoders_of r == 2 then each 1 else none)
+
+-- the codewords of a frame
+abbrev pub AreCodewords : Rate → ℕ → ℕ → List ℕ → Codeword → Codeword → Type 0
+AreCodewords r octets erased labels = AreOfEncoders r (codeword_of r octets erased labels) no_codeword

@@ -1,8 +1,8 @@
 //! From the inputs of the encoders to octets.
 ghost use Rattle.std.specs.Prelude.{◌≡◌, ◌+◌, ◌-◌, ◌*◌, ◌%◌, ◌^◌, ◌≤◌, ℕ, List, IfOk, length, take};
 ghost use Rattle.ht_rate.specs.Rates.{encoders_of, steps_of};
-ghost use Rattle.ht_parse.specs.Encoders.{AreShares, IsParsed};
-ghost use Rattle.ht_inverse.specs.Decoding.{decoded_frame, outcome_of};
+ghost use Rattle.ht_parse.specs.Encoders.{list_of};
+ghost use Rattle.ht_inverse.specs.Decoding.{decoded_frame, joined_bits, outcome_of};
 ghost use Rattle.ht_inverse.specs.Shares.{AreCodewords, untailed};
 
 use crate::decoded::Decoded;
@@ -55,22 +55,23 @@ fn without_tail(input: &[bool]) -> &[bool]
     &input[..input.len().saturating_sub(TAIL)]
 }
 
-// The encoders' inputs without their tails, put together.
-fn joined(
+/// What the inputs of a frame's encoders come to, each with its tail of six bits. Where the rate has one encoder, `second`
+/// is empty. The only refusal is lack of memory.
+///
+/// IEEE Std 802.11-2012, clauses 20.3.11.5, 18.3.5.2 and 18.3.5.5.
+pub fn inputs_come_to(
     alloc: Global,
     rate: &Rate,
-    first: &Codeword,
-    second: &Codeword,
-) -> Result<Vec<bool>, AllocError>
-    requires { AreShares rate.now (untailed first.now.input) (untailed second.now.input) }
-    ensures { IfOk result (λ bits. IsParsed rate.now bits.items (untailed first.now.input) (untailed second.now.input)) }
+    octets: u16,
+    first: &[bool],
+    second: &[bool],
+) -> Result<Outcome, AllocError>
+    requires first { length first.now ≡ steps_of rate.now octets }
+    requires second { length second.now ≡ (encoders_of rate.now - 1) * steps_of rate.now octets }
+    ensures { IfOk result (λ outcome. outcome ≡ outcome_of (joined_bits rate.now octets (list_of first.now second.now))) }
 {
-    join_encoders(
-        alloc,
-        rate,
-        without_tail(first.input.as_slice()),
-        without_tail(second.input.as_slice()),
-    )
+    let mut bits = join_encoders(alloc, rate, without_tail(first), without_tail(second))?;
+    come_to(alloc, bits.as_mut_slice())
 }
 
 /// The frame of these codewords. The only refusal is lack of memory.
@@ -87,8 +88,13 @@ pub(crate) fn frame_of(
     ensures { (erased : ℕ) (labels : List ℕ) → AreCodewords rate.now octets erased labels first second
         → IfOk result (λ frame. frame ≡ decoded_frame rate.now octets erased labels) }
 {
-    let mut bits = joined(alloc, rate, &first, &second)?;
-    let outcome = come_to(alloc, bits.as_mut_slice())?;
+    let outcome = inputs_come_to(
+        alloc,
+        rate,
+        octets,
+        first.input.as_slice(),
+        second.input.as_slice(),
+    )?;
     Ok(Decoded {
         outcome,
         code: first.distance + second.distance,

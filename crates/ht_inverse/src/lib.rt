@@ -21,7 +21,8 @@
 //! loop of the code in it. The laws of [`laws`] say that what was sent comes back.
 //!
 //! A decoder that knows more of a label bit than the label says has the same parts: a [`Share`] gathers what is known of
-//! an encoder's coded bits from any values, one for each label bit, and [`come_to`] takes scrambled bits to octets.
+//! an encoder's coded bits from any values, one for each label bit, a [`Table`] has the shares of all encoders, and
+//! [`inputs_come_to`] takes their inputs to octets.
 #![tactic(auto)]
 
 mod bits;
@@ -39,10 +40,11 @@ mod table;
 mod tests;
 mod together;
 
-pub use bits::come_to;
+pub use bits::{come_to, inputs_come_to};
 pub use decoded::Decoded;
 pub use decoder::{Alone, Decoder, decode_frame};
 pub use octets::Octets;
 pub use outcome::Outcome;
 pub use share::Share;
+pub use table::Table;
 pub use together::{Together, decode_frame_together};

@@ -19,11 +19,13 @@ use std::thread::Threads;
 /// The shares of a rate's encoders, where some subcarriers are erased. It serves every frame of this rate with these
 /// erasures.
 #[derive(Drop)]
-pub(crate) struct Table {
-    pub(crate) first: Share,
-    pub(crate) second: Option<Share>,
-    pub(crate) ghost encoder: { first.encoder ≡ 0 },
-    pub(crate) ghost matched: { IsSecond first.rate first.erased second },
+pub struct Table {
+    /// The share of encoder 0.
+    pub first: Share,
+    /// The share of encoder 1, where the rate has one.
+    pub second: Option<Share>,
+    pub ghost encoder: { first.encoder ≡ 0 },
+    pub ghost matched: { IsSecond first.rate first.erased second },
 }
 
 // The share of encoder 1, where the rate has one.
@@ -39,7 +41,7 @@ fn second_share(alloc: Global, rate: &Rate, erased: u128) -> Result<Option<Share
 
 impl Table {
     /// The table of a rate, where these subcarriers are erased. The only refusal is lack of memory.
-    pub(crate) fn of(alloc: Global, rate: &Rate, erased: u128) -> Result<Table, AllocError>
+    pub fn of(alloc: Global, rate: &Rate, erased: u128) -> Result<Table, AllocError>
         ensures rate { IfOk result (λ table. table.first.rate ≡ rate.now) }
         ensures erased { IfOk result (λ table. table.first.erased ≡ erased) }
     {
@@ -49,7 +51,7 @@ impl Table {
     }
 
     /// Whether this is the table of a rate with these erasures.
-    pub(crate) fn serves(&self, rate: &Rate, erased: u128) -> bool
+    pub fn serves(&self, rate: &Rate, erased: u128) -> bool
         ensures { IsTrue result ↔ ((self.now.first.rate ≡ rate.now) × (self.now.first.erased ≡ erased)) }
     {
         self.first.rate == *rate && self.first.erased == erased

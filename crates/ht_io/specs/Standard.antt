@@ -1,12 +1,14 @@
 -- What is seen of a source over a reader of std and of a sink over a writer.
 use Rattle.std.specs.Prelude.{ℕ, ◌≤◌, List, Option, length, take}
 use Rattle.std.specs.declared.io.Error.{Error}
+use Rattle.std.specs.declared.io.buffered.BufReader.{BufReader}
+use Rattle.std.specs.Global.{Global}
 use Rattle.std.specs.Io.KnownBytes.{Appends}
 use Rattle.ht_io.specs.declared.std_source.StdSource.{StdSource}
 use Rattle.ht_io.specs.declared.std_sink.StdSink.{StdSink}
 
--- the reader below a source, and how often the source has failed
-abbrev pub reader_of : {R : Type 0} → StdSource R → R
+-- the reader below a source with its buffer, and how often the source has failed
+abbrev pub reader_of : {R : Type 0} → StdSource R → BufReader R Global
 reader_of source = source.inner
 
 abbrev pub source_faults : {R : Type 0} → StdSource R → ℕ

@@ -1,5 +1,5 @@
 //! What octets are read from and put into.
-ghost use Rattle.std.specs.Prelude.{◌≡◌, ◌<◌, ◌≤◌, ℕ, length, take, IfOk, OnOk, OnErr};
+ghost use Rattle.std.specs.Prelude.{◌≡◌, ◌<◌, ◌≤◌, ℕ, List, length, take, IfOk, OnOk, OnErr};
 ghost use Rattle.ht_io.specs.Devices.{Device, Takes, NoneExactlyAtEnd, Grows, GrowsByPart, Rose, IsLater};
 
 use thiserror::Error;
@@ -15,6 +15,9 @@ pub trait Source {
     /// borrow it is, where it is one.
     ghost shown: { Self → Device ℕ };
 
+    /// The octets at hand: the first of those still to come, as far as they can be taken without asking the device.
+    ghost hand: { Self → List ℕ };
+
     /// Reads octets into the front of `into`, which has room for at least one, and answers how many: 0 at the end of
     /// the input. A read that fails takes no octet.
     fn read(&mut self, into: &mut [u8]) -> Result<usize, Failed>
@@ -28,6 +31,17 @@ pub trait Source {
         // A refusal is counted, and changes nothing else that is known.
         ensures kept { OnErr result ((shown self.new).known ≡ (shown self.old).known) }
         ensures cause { OnErr result (Rose (shown self.old) (shown self.new)) }
+        ensures later { IsLater (shown self.old) (shown self.new) };
+
+    /// The octets at hand. There may be none where more are still to come.
+    fn at_hand(&self) -> &[u8]
+        ensures { result.now ≡ hand self.now };
+
+    /// Takes this many of the octets at hand, from their front. It can't fail.
+    fn pass(&mut self, count: usize)
+        requires { count ≤ length (hand self.old) }
+        ensures taken { Takes (shown self.old) (shown self.new) (take count (hand self.old)) }
+        ensures steady { (shown self.new).faults ≡ (shown self.old).faults }
         ensures later { IsLater (shown self.old) (shown self.new) };
 }
 
@@ -50,8 +64,18 @@ pub trait Sink {
 impl<S: Source> Source for &mut S {
     ghost shown = { λ s. record (S.shown s.now) { borrow = s.ghost_name } };
 
+    ghost hand = { λ s. S.hand s.now };
+
     fn read(&mut self, into: &mut [u8]) -> Result<usize, Failed> {
         (**self).read(into)
+    }
+
+    fn at_hand(&self) -> &[u8] {
+        (**self).at_hand()
+    }
+
+    fn pass(&mut self, count: usize) {
+        (**self).pass(count)
     }
 }
 

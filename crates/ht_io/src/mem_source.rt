@@ -1,8 +1,8 @@
 //! A source over octets in memory, for tests: it reads in pieces and fails at the offsets that are named.
 ghost use Rattle.std.specs.Prelude.{All, Contains, Some, IsTrue, IsSome, IsErr, IfOk, OnErr};
-ghost use Rattle.std.specs.Prelude.{◌≡◌, ◌⊎◌, ◌↔◌, ◌+◌, ◌<◌, ◌≤◌, [], ◌++◌, length, take, drop, min, nat_eq, position, if◌then◌else◌};
+ghost use Rattle.std.specs.Prelude.{◌≡◌, ◌⊎◌, ◌↔◌, ◌+◌, ◌<◌, ◌≤◌, ℕ, List, [], ◌++◌, length, take, drop, min, nat_eq, position, if◌then◌else◌};
 ghost use Rattle.ht_io.specs.Causes.{HasRisen, one_more};
-ghost use Rattle.ht_io.specs.Reading.{without_first, PassesNone, IsFull, device_of_reading};
+ghost use Rattle.ht_io.specs.Reading.{without_first, PassesNone, IsFull, device_of_reading, hand_of_reading, ready_of};
 
 use crate::{Failed, Source};
 use std::marker::Model;
@@ -97,8 +97,21 @@ fn spend(failing: &mut Vec<u64>, at: usize) -> bool
     }
 }
 
+// How many of the octets left come before the next stop, where the next read does not fail.
+fn ready(cuts: &[u64], failing: &[u64], at: usize, left: usize) -> usize
+    ensures within { result ≤ left }
+    ensures value { (octets : List ℕ) → length octets ≡ left → take result octets ≡ ready_of cuts.now failing.now at octets }
+{
+    if left == 0 || first_at(failing, at).is_some() {
+        return 0;
+    }
+    room_before(failing, at, room_before(cuts, at, left))
+}
+
 impl Source for MemSource {
     ghost shown = { device_of_reading };
+
+    ghost hand = { hand_of_reading };
 
     fn read(&mut self, into: &mut [u8]) -> Result<usize, Failed>
         requires room { 0 < length into.old }
@@ -132,5 +145,26 @@ impl Source for MemSource {
         into[..count].copy_from_slice(&self.bytes[self.at..self.at + count]);
         self.at += count;
         Ok(count)
+    }
+
+    // What the next read would give with room for all: none where it fails.
+    fn at_hand(&self) -> &[u8]
+        ensures { result.now ≡ hand_of_reading self.now }
+    {
+        let count = ready(
+            &self.cuts,
+            &self.failing,
+            self.at,
+            self.bytes.len() - self.at,
+        );
+        &self.bytes[self.at..self.at + count]
+    }
+
+    fn pass(&mut self, count: usize)
+        requires { count ≤ length (hand_of_reading self.old) }
+        ensures moved { self.new ≡ record self.old { left = drop count self.old.left; at = self.old.at + count } }
+        ensures taken { self.old.left ≡ take count (hand_of_reading self.old) ++ self.new.left }
+    {
+        self.at += count;
     }
 }

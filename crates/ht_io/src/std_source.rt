@@ -1,27 +1,29 @@
 //! A source over a reader of std.
 ghost use Rattle.std.specs.Prelude.{◌≡◌, ◌<◌, ◌≤◌, length, take, None, IsSome, IfOk, OnOk, OnErr};
+ghost use Rattle.std.specs.Io.Buffered.{reader_buffer, reader_remaining};
 ghost use Rattle.std.specs.Io.KnownBytes.{Keeps, Consumes, IsAtEnd};
 ghost use Rattle.ht_io.specs.Causes.{HasRisen, one_more};
 ghost use Rattle.ht_io.specs.Standard.{reader_of, source_faults, source_error};
 
 use crate::{Failed, Source};
-use std::io::{self, ErrorKind, Read};
+use std::io::{self, BufRead, BufReader, ErrorKind, Read};
 
 // How often an interrupted call is tried again within one call of a source or a sink.
 pub(crate) const RETRIES: u32 = 1_000;
 
-/// Reads from a reader of std. As a source it shows no octets. An interrupted call is tried again,
-/// at most 1,000 times within one read, and then fails. The last error of the system is kept.
+/// Reads from a reader of std through its buffer, whose octets are at hand. As a source it shows no octets. An
+/// interrupted call is tried again, at most 1,000 times within one read, and then fails. The last error of the system
+/// is kept.
 #[derive(Drop)]
 pub struct StdSource<R> {
-    inner: R,
+    inner: BufReader<R>,
     faults: u64,
     last: Option<io::Error>,
 }
 
 impl<R: Read> StdSource<R> {
     /// A source over the reader. It takes no memory.
-    pub fn new(inner: R) -> StdSource<R>
+    pub fn new(inner: BufReader<R>) -> StdSource<R>
         ensures reader { reader_of result ≡ inner }
         ensures faults { source_faults result ≡ 0 }
         ensures error { source_error result ≡ None }
@@ -61,13 +63,15 @@ fn read_patiently<R: Read>(inner: &mut R, into: &mut [u8]) -> io::Result<usize>
 impl<R: Read> Source for StdSource<R> {
     ghost shown = { λ s. record { known = None; faults = source_faults s; borrow = 0 } };
 
+    ghost hand = { λ s. reader_buffer (reader_of s) };
+
     fn read(&mut self, into: &mut [u8]) -> Result<usize, Failed>
         requires room { 0 < length into.old }
 
         // What the reader has left, where it is known, passes unchanged.
-        ensures passed { IfOk result (λ count. Consumes (R.remaining (reader_of self.old)) (R.remaining (reader_of self.new)) (take count into.new)) }
-        ensures whole { IfOk result (λ count. count ≡ 0 → IsAtEnd (R.remaining (reader_of self.new))) }
-        ensures unread { OnErr result (Keeps (R.remaining (reader_of self.old)) (R.remaining (reader_of self.new))) }
+        ensures passed { IfOk result (λ count. Consumes (reader_remaining R.remaining (reader_of self.old)) (reader_remaining R.remaining (reader_of self.new)) (take count into.new)) }
+        ensures whole { IfOk result (λ count. count ≡ 0 → IsAtEnd (reader_remaining R.remaining (reader_of self.new))) }
+        ensures unread { OnErr result (Keeps (reader_remaining R.remaining (reader_of self.old)) (reader_remaining R.remaining (reader_of self.new))) }
 
         ensures steady { OnOk result (source_faults self.new ≡ source_faults self.old) }
         ensures counted { OnErr result (source_faults self.new ≡ one_more (source_faults self.old)) }
@@ -85,5 +89,21 @@ impl<R: Read> Source for StdSource<R> {
                 Err(Failed)
             }
         }
+    }
+
+    fn at_hand(&self) -> &[u8]
+        ensures { result.now ≡ reader_buffer (reader_of self.now) }
+    {
+        self.inner.buffer()
+    }
+
+    fn pass(&mut self, count: usize)
+        requires { count ≤ length (reader_buffer (reader_of self.old)) }
+        ensures passed { Consumes (reader_remaining R.remaining (reader_of self.old)) (reader_remaining R.remaining (reader_of self.new))
+            (take count (reader_buffer (reader_of self.old))) }
+        ensures error { source_error self.new ≡ source_error self.old }
+        ensures steady { source_faults self.new ≡ source_faults self.old }
+    {
+        self.inner.consume(count);
     }
 }

@@ -33,6 +33,9 @@ impl SureSource {
 impl Source for SureSource {
     ghost shown = { λ s. record { known = Some s; faults = 0; borrow = 0 } };
 
+    // All octets are at hand.
+    ghost hand = { λ s. s };
+
     fn read(&mut self, into: &mut [u8]) -> Result<usize, Failed>
         requires room { 0 < length into.old }
         ensures sure { IsOk result }
@@ -47,5 +50,19 @@ impl Source for SureSource {
         into[..count].copy_from_slice(&self.bytes[self.at..self.at + count]);
         self.at += count;
         Ok(count)
+    }
+
+    fn at_hand(&self) -> &[u8]
+        ensures { result.now ≡ self.now }
+    {
+        &self.bytes[self.at..]
+    }
+
+    fn pass(&mut self, count: usize)
+        requires { count ≤ length self.old }
+        ensures rest { self.new ≡ drop count self.old }
+        ensures taken { self.old ≡ take count self.old ++ self.new }
+    {
+        self.at += count;
     }
 }

@@ -5,7 +5,7 @@ use crate::{
     Failed, FormatFault, GrowSink, InFault, Kind, MemSink, MemSource, Sink, Source, StdSink,
     StdSource, SureSink, SureSource,
 };
-use std::io::{self, ErrorKind, Read, Write};
+use std::io::{self, BufReader, ErrorKind, Read, Write};
 use std::test::Fail;
 
 // A device of std that is interrupted a number of times before each call that it does.
@@ -81,7 +81,7 @@ fn counts<S: Source>(source: &mut S) -> [Option<usize>; 6] {
 #[test]
 fn smoke_std(rt: HostRuntime) -> Result<(), Fail> {
     let octets: &[u8] = b"HTCP\x01\x00\xff";
-    let mut source = StdSource::new(octets);
+    let mut source = StdSource::new(BufReader::new(rt.alloc(), octets)?);
     let mut into = [0u8; 4];
     assert_eq!(rt; source.read(&mut into), Ok(4));
     assert_eq!(rt; &into[..], b"HTCP".as_slice());
@@ -100,9 +100,12 @@ fn smoke_std(rt: HostRuntime) -> Result<(), Fail> {
 }
 
 #[test]
-fn refusals_std(rt: HostRuntime) {
+fn refusals_std(rt: HostRuntime) -> Result<(), Fail> {
     for (times, works) in [(0, true), (999, true), (1_000, true), (1_001, false)] {
-        let mut source = StdSource::new(Interrupted { times, left: times });
+        let mut source = StdSource::new(BufReader::new(
+            rt.alloc(),
+            Interrupted { times, left: times },
+        )?);
         let mut sink = StdSink::new(Interrupted { times, left: times });
         let mut into = [0u8; 4];
         assert_eq!(rt; source.read(&mut into).is_ok(), works, "read after {times}");
@@ -114,13 +117,15 @@ fn refusals_std(rt: HostRuntime) {
         assert_eq!(rt; sink.put(b"x"), Err(Failed));
         assert_eq!(rt; kind_of(sink.last_error()), Some(kind));
     }
-    let mut source = StdSource::new(Interrupted {
-        times: 1_001,
-        left: 1_001,
-    });
+    let times = 1_001;
+    let mut source = StdSource::new(BufReader::new(
+        rt.alloc(),
+        Interrupted { times, left: times },
+    )?);
     assert_eq!(rt; kind_of(source.last_error()), None);
     assert_eq!(rt; source.read(&mut [0; 4]), Err(Failed));
     assert_eq!(rt; kind_of(source.last_error()), Some(ErrorKind::Interrupted));
+    Ok(())
 }
 
 #[test]
@@ -136,6 +141,30 @@ fn smoke_sources(rt: HostRuntime) -> Result<(), Fail> {
     let mut sure = SureSource::new(Vec::from_slice(alloc, b"0123456789")?);
     let pieces = [Some(8), Some(2), Some(0), Some(0), Some(0), Some(0)];
     assert_eq!(rt; counts(&mut &mut sure), pieces);
+    Ok(())
+}
+
+// Pieces that are at hand, and one octet that is read wherever none is.
+#[test]
+fn smoke_hands(rt: HostRuntime) -> Result<(), Fail> {
+    let alloc = rt.alloc();
+    let octets = Vec::from_slice(alloc, b"0123456789")?;
+    let cuts = Vec::from_slice(alloc, &[4])?;
+    let failing = Vec::from_slice(alloc, &[6])?;
+    let mut source = MemSource::new(octets, cuts, failing);
+    let mut into = [0u8; 1];
+    for (hand, count) in [("0123", 3), ("3", 1), ("45", 2), ("", 0)] {
+        assert_eq!(rt; source.at_hand(), hand.as_bytes());
+        source.pass(count);
+    }
+    assert_eq!(rt; source.read(&mut into), Err(Failed));
+    assert_eq!(rt; source.at_hand(), b"6789".as_slice());
+
+    let octets: &[u8] = b"abcdef";
+    let mut source = StdSource::new(BufReader::with_capacity(alloc, 4, octets)?);
+    assert_eq!(rt; source.at_hand(), b"".as_slice());
+    assert_eq!(rt; source.read(&mut into), Ok(1));
+    assert_eq!(rt; source.at_hand(), b"bcd".as_slice());
     Ok(())
 }
 
@@ -214,7 +243,7 @@ fn vectors_kinds(rt: HostRuntime) {
 fn is_sent<T: Send + Sync>(_: &T) {}
 
 #[test]
-fn smoke_threads(rt: HostRuntime) {
+fn smoke_threads(rt: HostRuntime) -> Result<(), Fail> {
     let alloc = rt.alloc();
     is_sent(&MemSource::new(Vec::new(alloc), Vec::new(alloc), Vec::new(alloc)));
     is_sent(&MemSink::new(Vec::new(alloc), Vec::new(alloc)));
@@ -222,6 +251,7 @@ fn smoke_threads(rt: HostRuntime) {
     is_sent(&SureSource::new(Vec::new(alloc)));
     is_sent(&SureSink::new(Vec::new(alloc)));
     let octets: &[u8] = &[];
-    is_sent(&StdSource::new(octets));
+    is_sent(&StdSource::new(BufReader::new(alloc, octets)?));
     is_sent(&StdSink::new(Broken { takes: true }));
+    Ok(())
 }

@@ -74,7 +74,7 @@ unfolding started_octets
 length_start count = refl
 
 -- the index of a rate
-rate_back : (r : LegacyRate) → rate_at (index_of r) ≡ r
+pub rate_back : (r : LegacyRate) → rate_at (index_of r) ≡ r
 rate_back Mbit6 = refl
 rate_back Mbit9 = refl
 rate_back Mbit12 = refl
@@ -84,7 +84,7 @@ rate_back Mbit36 = refl
 rate_back Mbit48 = refl
 rate_back Mbit54 = refl
 
-low_index : (r : LegacyRate) → index_of r ≤ 7
+pub low_index : (r : LegacyRate) → index_of r ≤ 7
 low_index Mbit6 = omega arith
 low_index Mbit9 = omega arith
 low_index Mbit12 = omega arith

@@ -39,6 +39,10 @@ pub length-rows_of : (rows : List Leg) (ys : List Sample) → length (rows_of ro
 length-rows_of [] ys = refl
 length-rows_of (leg ∷ rows) ys = ap suc (length-rows_of rows (drop 1 ys))
 
+pub length-legs : (rows : List Row) → length (legs rows) ≡ length rows
+length-legs [] = refl
+length-legs (row ∷ rows) = ap suc (length-legs rows)
+
 pub legs-rows_of : (rows : List Leg) (ys : List Sample) → legs (rows_of rows ys) ≡ rows
 legs-rows_of [] ys = refl
 legs-rows_of (leg ∷ rows) ys = ap (λ (rest : List Leg). leg ∷ rest) (legs-rows_of rows (drop 1 ys))

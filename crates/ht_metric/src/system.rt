@@ -2,6 +2,7 @@
 ghost use Rattle.std.specs.Prelude.{◌≡◌, ◌+◌, ◌-◌, ◌^◌, ◌<◌, ◌≤◌, length, drop, replicate, slice_index_or, IsTrue, ◌↔◌};
 ghost use Rattle.std.specs.List.{All};
 ghost use Rattle.ht_metric.specs.Distance.{distance_of, IsInRange};
+ghost use Rattle.ht_metric.specs.Arrays.{legs};
 ghost use Rattle.ht_metric.specs.Rows.{rows_of, no_row, no_tap, no_sample};
 
 use crate::sample::Sample;
@@ -44,6 +45,23 @@ impl System {
         ensures { result ≡ rows_of triangle y }
     {
         System { triangle, y }
+    }
+
+    /// Receives other samples on the same triangle, the first row's first. Those behind the last row are zero.
+    #[inline]
+    pub fn hear(&mut self, y: [Sample; 4])
+        requires unused { drop (length self.old) y ≡ replicate (4 - length self.old) no_sample }
+        ensures { self.new ≡ rows_of (legs self.old) y }
+    {
+        self.y = y;
+    }
+
+    /// The triangle without what was received.
+    #[inline]
+    pub fn triangle(&self) -> &Triangle
+        ensures { result.now ≡ legs self.now }
+    {
+        &self.triangle
     }
 
     /// The number of streams, 1 to 4.

@@ -85,8 +85,9 @@ impl Triangle {
         self.above[row_start(self.streams, k) + usize::from(l - k) - 1]
     }
 
-    // Whether both triangles have the same rows, as `==` says too.
-    pub(crate) fn same(&self, other: &Triangle) -> bool
+    /// Whether both triangles have the same rows, as `==` says too.
+    #[inline]
+    pub fn same(&self, other: &Triangle) -> bool
         ensures { IsTrue result ↔ (self.now ≡ other.now) }
     {
         let mut same = self.streams == other.streams;

@@ -50,6 +50,7 @@ impl<T: Drop, A: Drop> Post<T, A> {
         requires answers { answer_view pass ≡ hand (1025 - length seats.items) [] [] }
         ensures { result ≡ unused own.room (deques_at seats.items) pass.table_id }
     {
+        // For the proof alone: the call says that the vector's length fits its type.
         let _seats = seats.len();
         Post { own, seats, pass }
     }

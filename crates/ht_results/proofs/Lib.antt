@@ -3,6 +3,8 @@ pub mod Places
 pub mod Vectors
 pub mod Steps
 pub mod Placed
+pub mod Counted
 pub mod Whole
+pub mod Instances
 pub mod Folded
 mod Worked

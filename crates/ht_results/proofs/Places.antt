@@ -9,7 +9,7 @@ use Rattle.ht_metric.specs.Jobs.{JobView}
 use Rattle.ht_capture.specs.declared.items.FrameHead.{FrameHead}
 use Rattle.ht_capture.specs.Files.{is_erased}
 use Rattle.ht_capture_laws.specs.Items.{place_in, places_in, symbol_places}
-use Rattle.ht_results.specs.Labels.{stands_at}
+use Rattle.ht_results.specs.Plans.{stands_at}
 
 -- the number of a place in a frame with this number of subcarriers
 abbrev pub place_number : ℕ → Place → ℕ

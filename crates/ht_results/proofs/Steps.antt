@@ -1,23 +1,13 @@
--- The jobs of a frame under way, one after another: what they make of its sums and of its labels.
-use Rattle.std.proofs.Common.{◌≡◌, ℕ, suc, ◌+◌, ◌-◌, ◌<◌, List, [], ◌∷◌, length, not, Bool, if◌then◌else◌}
+-- The jobs of a frame under way, one after another: what they make of its sums and of what is kept.
+use Rattle.std.proofs.Common.{◌≡◌, ℕ, suc, ◌+◌, ◌-◌, List, [], ◌∷◌, length, not, if◌then◌else◌}
 use Rattle.std.proofs.Common.{refl, ap, ◌∙◌, arith}
-use Rattle.std.specs.List.{AllByRecursion, filter, fold}
-use Rattle.std.proofs.lemmas.Bool.{lt-ltb}
+use Rattle.std.specs.List.{filter, fold}
 use Rattle.ht_rate.specs.declared.kinds.Carrier.{Carrier}
 use Rattle.ht_rate.specs.declared.kinds.Carrier.TheVariants.{Data, Pilot}
-use Rattle.ht_rate.specs.declared.rates.Rate.{Rate}
-use Rattle.ht_rate.specs.Carriers.{carrier_of}
-use Rattle.ht_rate.specs.Rates.{carriers_of, modulation_of}
 use Rattle.ht_metric.specs.Jobs.{JobView, near}
-use Rattle.ht_results.specs.Folding.{FrameSoFar, kind_of, label_place, put_labels, with_hit, with_kind}
-use Rattle.ht_results.specs.Results.{is_data, on_data}
+use Rattle.ht_results.specs.Plans.{Plan, SoFar, is_data, on_data_by, place_by, put_values, with_hit_by, with_kind_by}
 
--- jobs are taken with no look at their heads
-abbrev pub with_all : FrameSoFar → List JobView → FrameSoFar
-with_all f [] = f
-with_all f (job ∷ jobs) = with_all (with_kind job f) jobs
-
--- what one job makes of each sum, and of the labels
+-- what one job makes of each sum
 abbrev pub data_with : JobView → Carrier → ℕ → ℕ
 data_with job (Data m) n = n + (near job).distance
 data_with job (Pilot k) n = n
@@ -25,51 +15,6 @@ data_with job (Pilot k) n = n
 abbrev pub pilot_with : JobView → Carrier → ℕ → ℕ
 pilot_with job (Data m) n = n
 pilot_with job (Pilot k) n = n + (near job).distance
-
-abbrev pub labels_with : Rate → JobView → Carrier → List ℕ → List ℕ
-labels_with r job (Data m) labels = put_labels (modulation_of r) labels (label_place r job.place.symbol m) (near job).vector
-labels_with r job (Pilot k) labels = labels
-
--- and all jobs
-abbrev pub data_after : Rate → List JobView → ℕ → ℕ
-data_after r [] n = n
-data_after r (job ∷ jobs) n = data_after r jobs (data_with job (kind_of r job.place.carrier) n)
-
-abbrev pub pilot_after : Rate → List JobView → ℕ → ℕ
-pilot_after r [] n = n
-pilot_after r (job ∷ jobs) n = pilot_after r jobs (pilot_with job (kind_of r job.place.carrier) n)
-
-abbrev pub labels_after : Rate → List JobView → List ℕ → List ℕ
-labels_after r [] labels = labels
-labels_after r (job ∷ jobs) labels = labels_after r jobs (labels_with r job (kind_of r job.place.carrier) labels)
-
-abbrev pub parts : FrameSoFar → ℕ → ℕ → List ℕ → ℕ → FrameSoFar
-parts f sum pilot_sum labels left = record { head = f.head; data_sum = sum; pilot_sum = pilot_sum; labels = labels; left = left }
-
-one_job : (job : JobView) (c : Carrier) (f : FrameSoFar)
-    → with_hit job c f ≡ parts f (data_with job c f.data_sum) (pilot_with job c f.pilot_sum) (labels_with f.head.rate job c f.labels) (f.left - 1)
-one_job job (Data m) f = refl
-one_job job (Pilot k) f = refl
-
-pub all_jobs : (jobs : List JobView) (f : FrameSoFar)
-    → with_all f jobs
-    ≡ parts f (data_after f.head.rate jobs f.data_sum) (pilot_after f.head.rate jobs f.pilot_sum) (labels_after f.head.rate jobs f.labels)
-    (f.left - length jobs)
-all_jobs [] f = ap (parts f f.data_sum f.pilot_sum f.labels) (omega arith)
-all_jobs (job ∷ jobs) f =
-    let c : Carrier = kind_of f.head.rate job.place.carrier in
-    let g : FrameSoFar = parts f (data_with job c f.data_sum) (pilot_with job c f.pilot_sum) (labels_with f.head.rate job c f.labels) (f.left - 1) in
-    let left : f.left - 1 - length jobs ≡ f.left - suc (length jobs) = omega arith in
-    ap (λ (z : FrameSoFar). with_all z jobs) (one_job job c f)
-    ∙ (all_jobs jobs g
-    ∙ ap (parts f (data_after f.head.rate jobs g.data_sum) (pilot_after f.head.rate jobs g.pilot_sum) (labels_after f.head.rate jobs g.labels)) left)
-
-pub left_after : (job : JobView) (f : FrameSoFar) → (with_kind job f).left ≡ f.left - 1
-left_after job f = ap (λ (z : FrameSoFar). z.left) (one_job job (kind_of f.head.rate job.place.carrier) f)
-
--- a subcarrier of the rate is what it carries
-pub kind_is : (r : Rate) (carrier : ℕ) → carrier < carriers_of r → kind_of r carrier ≡ carrier_of r carrier
-kind_is r carrier lt = ap (λ (b : Bool). if b then carrier_of r carrier else Data carrier) (lt-ltb carrier (carriers_of r) lt)
 
 -- the sums
 abbrev pub plus_distance : ℕ → JobView → ℕ
@@ -85,19 +30,61 @@ pilot_step : (job : JobView) (c : Carrier) (jobs : List JobView) (n : ℕ)
 pilot_step job (Data m) jobs n = refl
 pilot_step job (Pilot k) jobs n = refl
 
-abbrev pub Within : Rate → List JobView → Type 0
-Within r jobs = AllByRecursion (λ (job : JobView). job.place.carrier < carriers_of r) jobs
+module _ {H V : Type 0} (plan : Plan H V) where
+  -- jobs are taken with no look at their heads
+  abbrev pub with_all : SoFar H V → List JobView → SoFar H V
+  with_all f [] = f
+  with_all f (job ∷ jobs) = with_all (with_kind_by plan job f) jobs
 
-pub data_is : (r : Rate) (jobs : List JobView) (n : ℕ) → Within r jobs → data_after r jobs n ≡ fold plus_distance n (filter (on_data r) jobs)
-data_is r [] n good = refl
-data_is r (job ∷ jobs) n good =
-    ap (λ (c : Carrier). data_after r jobs (data_with job c n)) (kind_is r job.place.carrier good.0)
-    ∙ (data_is r jobs (data_with job (carrier_of r job.place.carrier) n) good.1
-    ∙ data_step job (carrier_of r job.place.carrier) (filter (on_data r) jobs) n)
+  -- what one job makes of what is kept
+  abbrev pub labels_with : H → JobView → Carrier → List V → List V
+  labels_with head job (Data m) labels = put_values labels (place_by plan head job.place.symbol m) (plan.values head job)
+  labels_with head job (Pilot k) labels = labels
 
-pub pilot_is : (r : Rate) (jobs : List JobView) (n : ℕ) → Within r jobs → pilot_after r jobs n ≡ fold plus_distance n (filter (λ job. not (on_data r job)) jobs)
-pilot_is r [] n good = refl
-pilot_is r (job ∷ jobs) n good =
-    ap (λ (c : Carrier). pilot_after r jobs (pilot_with job c n)) (kind_is r job.place.carrier good.0)
-    ∙ (pilot_is r jobs (pilot_with job (carrier_of r job.place.carrier) n) good.1
-    ∙ pilot_step job (carrier_of r job.place.carrier) (filter (λ j. not (on_data r j)) jobs) n)
+  -- and all jobs
+  abbrev pub data_after : H → List JobView → ℕ → ℕ
+  data_after head [] n = n
+  data_after head (job ∷ jobs) n = data_after head jobs (data_with job (plan.kind head job.place.carrier) n)
+
+  abbrev pub pilot_after : H → List JobView → ℕ → ℕ
+  pilot_after head [] n = n
+  pilot_after head (job ∷ jobs) n = pilot_after head jobs (pilot_with job (plan.kind head job.place.carrier) n)
+
+  abbrev pub labels_after : H → List JobView → List V → List V
+  labels_after head [] labels = labels
+  labels_after head (job ∷ jobs) labels = labels_after head jobs (labels_with head job (plan.kind head job.place.carrier) labels)
+
+  abbrev pub parts : H → ℕ → ℕ → List V → ℕ → SoFar H V
+  parts head sum pilot_sum labels left = record { head = head; data_sum = sum; pilot_sum = pilot_sum; labels = labels; left = left }
+
+  one_job : (job : JobView) (c : Carrier) (f : SoFar H V)
+      → with_hit_by plan job c f ≡ parts f.head (data_with job c f.data_sum) (pilot_with job c f.pilot_sum) (labels_with f.head job c f.labels) (f.left - 1)
+  one_job job (Data m) f = refl
+  one_job job (Pilot k) f = refl
+
+  pub all_jobs : (jobs : List JobView) (f : SoFar H V)
+      → with_all f jobs
+      ≡ parts f.head (data_after f.head jobs f.data_sum) (pilot_after f.head jobs f.pilot_sum) (labels_after f.head jobs f.labels) (f.left - length jobs)
+  all_jobs [] f = ap (parts f.head f.data_sum f.pilot_sum f.labels) (omega arith)
+  all_jobs (job ∷ jobs) f =
+      let c : Carrier = plan.kind f.head job.place.carrier in
+      let g : SoFar H V = parts f.head (data_with job c f.data_sum) (pilot_with job c f.pilot_sum) (labels_with f.head job c f.labels) (f.left - 1) in
+      let left : f.left - 1 - length jobs ≡ f.left - suc (length jobs) = omega arith in
+      ap (λ (z : SoFar H V). with_all z jobs) (one_job job c f)
+      ∙ (all_jobs jobs g
+      ∙ ap (parts f.head (data_after f.head jobs g.data_sum) (pilot_after f.head jobs g.pilot_sum) (labels_after f.head jobs g.labels)) left)
+
+  pub left_after : (job : JobView) (f : SoFar H V) → (with_kind_by plan job f).left ≡ f.left - 1
+  left_after job f = ap (λ (z : SoFar H V). z.left) (one_job job (plan.kind f.head job.place.carrier) f)
+
+  pub data_is : (head : H) (jobs : List JobView) (n : ℕ) → data_after head jobs n ≡ fold plus_distance n (filter (on_data_by plan head) jobs)
+  data_is head [] n = refl
+  data_is head (job ∷ jobs) n =
+      let c : Carrier = plan.kind head job.place.carrier in
+      data_is head jobs (data_with job c n) ∙ data_step job c (filter (on_data_by plan head) jobs) n
+
+  pub pilot_is : (head : H) (jobs : List JobView) (n : ℕ) → pilot_after head jobs n ≡ fold plus_distance n (filter (λ job. not (on_data_by plan head job)) jobs)
+  pilot_is head [] n = refl
+  pilot_is head (job ∷ jobs) n =
+      let c : Carrier = plan.kind head job.place.carrier in
+      pilot_is head jobs (pilot_with job c n) ∙ pilot_step job c (filter (λ j. not (on_data_by plan head j)) jobs) n

@@ -1,5 +1,5 @@
 -- The labels that were detected in a frame, by their places (IEEE Std 802.11-2012, clause 20.3.11.9 backwards).
-use Rattle.std.specs.Prelude.{ℕ, ◌-◌, ◌==◌, List, map, Bool, ◌&&◌, Option, None, Some, unwrap_or, slice_index_or}
+use Rattle.std.specs.Prelude.{ℕ, ◌-◌, List, map, Option, None, Some, unwrap_or, slice_index_or}
 use Rattle.std.specs.List.{find, flat_map, range_with_len}
 use Rattle.ht_rate.specs.declared.kinds.Carrier.TheVariants.{Data}
 use Rattle.ht_rate.specs.declared.kinds.Modulation.{Modulation}
@@ -9,10 +9,7 @@ use Rattle.ht_map.specs.Gray.{label_of}
 use Rattle.ht_metric.specs.Jobs.{JobView, near}
 use Rattle.ht_metric.specs.Vectors.{no_point}
 use Rattle.ht_capture_laws.specs.Items.{FrameJobs, symbols_in}
-
--- a job is that of a symbol and of the subcarrier of this index
-abbrev pub stands_at : ℕ → ℕ → JobView → Bool
-stands_at symbol carrier job = (job.place.symbol == symbol) && (job.place.carrier == carrier)
+pub use Rattle.ht_results.specs.Plans.{stands_at}
 
 -- the job of a frame at a symbol and a data subcarrier, which an erased one doesn't have
 abbrev pub data_job_at : FrameJobs → ℕ → ℕ → Option JobView

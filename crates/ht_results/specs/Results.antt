@@ -1,29 +1,20 @@
 -- What the frames of a capture come to.
-use Rattle.std.specs.Prelude.{ℕ, List, map, Bool, true, false, not}
-use Rattle.std.specs.List.{filter, sum_by}
-use Rattle.ht_rate.specs.declared.kinds.Carrier.{Carrier}
-use Rattle.ht_rate.specs.declared.kinds.Carrier.TheVariants.{Data, Pilot}
+use Rattle.std.specs.Prelude.{ℕ, List, map, Bool, not}
+use Rattle.std.specs.List.{filter}
 use Rattle.ht_rate.specs.declared.rates.Rate.{Rate}
 use Rattle.ht_rate.specs.Carriers.{carrier_of}
-use Rattle.ht_metric.specs.Jobs.{JobView, near}
+use Rattle.ht_metric.specs.Jobs.{JobView}
 use Rattle.ht_capture.specs.Captures.{capture_of}
 use Rattle.ht_capture_laws.specs.Items.{FrameJobs, whole_frames}
 use Rattle.ht_inverse.specs.declared.decoded.Decoded.{Decoded}
 use Rattle.ht_inverse.specs.Decoding.{decoded_frame}
 use Rattle.ht_results.specs.declared.frame_result.FrameResult.{FrameResult}
 use Rattle.ht_results.specs.Labels.{frame_labels}
-
-abbrev pub is_data : Carrier → Bool
-is_data (Data m) = true
-is_data (Pilot k) = false
+pub use Rattle.ht_results.specs.Plans.{distances, is_data}
 
 -- the job stands on a data subcarrier; else it stands on a pilot
 abbrev pub on_data : Rate → JobView → Bool
 on_data rate job = is_data (carrier_of rate job.place.carrier)
-
--- the distances of the first nearest vectors of jobs, together
-abbrev pub distances : List JobView → ℕ
-distances jobs = sum_by (λ job. (near job).distance) jobs
 
 abbrev pub data_sum_of : FrameJobs → ℕ
 data_sum_of f = distances (filter (on_data f.head.rate) f.jobs)

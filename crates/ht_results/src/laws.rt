@@ -5,8 +5,10 @@ ghost use Rattle.ht_capture.specs.Captures.{capture_of};
 ghost use Rattle.ht_capture_laws.specs.Items.{whole_frames};
 ghost use Rattle.ht_results.specs.declared.frame_result.FrameResult.{FrameResult as ResultValue};
 ghost use Rattle.ht_results.specs.declared.headed.Headed.{Headed as HeadedValue};
+ghost use Rattle.ht_results.specs.Distances.{distance_fold, distances_of};
 ghost use Rattle.ht_results.specs.Folding.{FrameSoFar, frame_after, frames_within, no_frame, results_from};
 ghost use Rattle.ht_results.specs.Heads.{headed, headed_jobs};
+ghost use Rattle.ht_results.specs.Plans.{SoFar, given_from};
 ghost use Rattle.ht_results.specs.Results.{frame_result, results_of};
 ghost use Rattle.ht_results.specs.Texts.{frame_lines_of};
 
@@ -29,6 +31,12 @@ pub fn fronts()
     ensures first { (octets : List ℕ) (frame : FrameSoFar) (taken rest : List HeadedValue) → frame.left ≡ 0
         → headed_jobs octets ≡ taken ++ rest
         → results_of octets ≡ results_from frame taken ++ results_from (frame_after frame taken) rest }
+{}
+
+/// What is kept of a job may be anything: of the distances of the jobs, put on their places one after another, whole
+/// frames give what stands on each place.
+pub fn distances()
+    ensures places { (octets : List ℕ) (frame : SoFar FrameHead ℕ) → frame.left ≡ 0 → given_from distance_fold frame (headed_jobs octets) ≡ distances_of octets }
 {}
 
 /// Jobs one after another may be taken in parts, whatever jobs they are.

@@ -11,6 +11,10 @@
 //! labels on their places, and a frame's last job gives its result. The module [`laws`] says that both come to the same,
 //! for any octets and any front of their jobs. So a receiver that follows the second keeps the first.
 //!
+//! Nothing of this hangs on labels. A `Plan` of `specs/Plans.antt` says which places a frame has and what is kept of a
+//! job, and a `Fold` what its jobs come to one after another; `specs/Captured.antt` has the plans of captures, and
+//! `ComesTo` what such a fold owes. Labels are one instance, and the distances of `specs/Distances.antt` another.
+//!
 //! Take a capture in version 2 of one frame at 20 MHz, MCS 0, of one octet, so of two symbols, in which subcarriers 0
 //! (data) and 7 (a pilot) alone are present, each with a channel of 10. Of the samples -7 and 11 in the first symbol and
 //! 12 + j and 11 in the second one the sums are 9 + 5 = 14 and 1 + 441 = 442, and the labels of subcarrier 0 are 0 and 1.

@@ -1,7 +1,6 @@
 -- Whether a job of the frame under way is still to come, and its result if none is.
-use Rattle.std.proofs.Common.{◌≡◌, ℕ, ◌==◌, ◌≤◌, List, [], ◌∷◌, Bool, true, false, if◌then◌else◌, arith, ap}
+use Rattle.std.proofs.Common.{◌≡◌, ℕ, ◌==◌, ◌≤◌, [], ◌∷◌, Bool, true, false, if◌then◌else◌, arith, ap}
 use Rattle.std.proofs.lemmas.Bool.Decides.{nat_tests}
-use Rattle.ht_results.specs.declared.frame_result.FrameResult.{FrameResult}
 use Rattle.ht_results.specs.Folding.{FrameSoFar, result_if, result_of}
 
 pub more_left : (n : ℕ) → 1 ≤ n → (n == 0) ≡ false

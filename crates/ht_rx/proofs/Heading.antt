@@ -6,7 +6,6 @@ use Rattle.ht_capture.specs.declared.items.FrameHead.{FrameHead}
 use Rattle.ht_capture.specs.declared.items.Item.{Item}
 use Rattle.ht_capture.specs.declared.items.Item.TheVariants.{Job}
 use Rattle.ht_capture.specs.Captures.{capture_of}
-use Rattle.ht_results.specs.declared.headed.Headed.{Headed}
 use Rattle.ht_results.specs.Heads.{headed, headed_jobs}
 use Rattle.ht_results.proofs.Folded.{headed_is as headed_octets}
 use Rattle.ht_rx.specs.Heads.{jobs_alone}

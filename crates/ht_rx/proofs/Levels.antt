@@ -4,13 +4,7 @@ use Rattle.std.proofs.lemmas.List.{take_more, take_more_set}
 use Rattle.std.proofs.lemmas.Grind.{flat_map-append}
 use Rattle.std.proofs.Math.ListN.{length-set}
 use Rattle.ht_pam.specs.declared.point.Point.{Point}
-use Rattle.ht_metric.specs.declared.place.Place.{Place}
-use Rattle.ht_metric.specs.Distance.{distance_of}
-use Rattle.ht_metric.specs.Jobs.{JobView, IsNear, near}
-use Rattle.ht_metric.specs.declared.found.Found.{Found}
-use Rattle.ht_metric.proofs.Finding.{near_is}
-use Rattle.ht_text.specs.Lines.{job_text}
-use Rattle.ht_rx.specs.Texts.{job_line_of, levels_of}
+use Rattle.ht_rx.specs.Texts.{levels_of}
 
 -- I and Q of one more point
 pub levels-more : (levels : List ℤ) (points : List Point) (k : ℕ) (p : Point) → 2 * k + 1 < length levels → k < length points → p ≡ get_or points k p
@@ -27,14 +21,3 @@ levels-more levels points k p room within is so_far =
     ∙ sym (ap levels_of (take_more points k p within)
     ∙ (flat_map-append (λ (x : Point). x.i ∷ x.q ∷ []) (take k points) (get_or points k p ∷ [])
     ∙ ap (λ (x : Point). levels_of (take k points) ++ x.i ∷ x.q ∷ []) (sym is)))))))
-
--- the line of a job, from a hit of it
-pub line_is : (job seen : JobView) (place : Place) (vector x : List Point) (levels : List ℤ) (d e : ℕ)
-    → seen ≡ job → place ≡ seen.place → vector ≡ x → levels ≡ levels_of vector → d ≡ e → IsNear job x → e ≡ distance_of job.system x
-    → job_text place.frame place.symbol place.carrier d levels ≡ job_line_of job
-unfolding job_line_of
-line_is job seen place vector x levels d e a b is l same near far =
-    ap (λ (p : Place). job_text p.frame p.symbol p.carrier d levels) (b ∙ ap (λ (j : JobView). j.place) a)
-    ∙ (ap (λ (xs : List ℤ). job_text job.place.frame job.place.symbol job.place.carrier d xs) (l ∙ ap levels_of is)
-    ∙ (ap (λ (n : ℕ). job_text job.place.frame job.place.symbol job.place.carrier n (levels_of x)) (same ∙ far)
-    ∙ sym (ap (λ (f : Found). job_text job.place.frame job.place.symbol job.place.carrier f.distance (levels_of f.vector)) (near_is job x near))))

@@ -1,13 +1,19 @@
 -- What is booked of a frame, and what its receiver keeps of a frame under way.
-use Rattle.std.specs.Prelude.{◌≡◌, ℕ, ◌+◌, ◌*◌, ◌^◌, ◌<◌, ◌≤◌, List, length, slice_index_or}
+use Rattle.std.specs.Prelude.{◌≡◌, ℕ, ◌+◌, ◌-◌, ◌*◌, ◌^◌, ◌<◌, ◌≤◌, List, length, map, slice_index_or}
 use Rattle.std.specs.List.{flat_map}
 use Rattle.ht_rate.specs.declared.kinds.Carrier.{Carrier}
-use Rattle.ht_rate.specs.declared.kinds.Carrier.TheVariants.{Data}
+use Rattle.ht_rate.specs.declared.kinds.Carrier.TheVariants.{Data, Pilot}
 use Rattle.ht_rate.specs.declared.rates.Rate.{Rate}
 use Rattle.ht_inverse.specs.Received.{labels_in_frame}
 use Rattle.ht_results.specs.declared.frame_result.FrameResult.{FrameResult}
-use Rattle.ht_results.specs.Folding.{FrameSoFar, kind_of}
+use Rattle.ht_rate.specs.Rates.{modulation_of}
+use Rattle.ht_metric.specs.declared.found.Found.{Found}
+use Rattle.ht_metric.specs.declared.place.Place.{Place}
+use Rattle.ht_capture.specs.declared.items.FrameHead.{FrameHead}
+use Rattle.ht_feed.specs.Items.{Headed as BlockHeaded}
+use Rattle.ht_results.specs.Folding.{FrameSoFar, kind_of, label_place, put_labels, results_from}
 use Rattle.ht_results.specs.Results.{results_of}
+use Rattle.ht_rx.specs.Blocks.{out_of_block}
 
 -- what is booked in all of a list of octets, where this is booked of each result
 abbrev pub booked_of : {P : Type 0} → (FrameResult → List P) → List ℕ → List P
@@ -32,3 +38,19 @@ pub record IsOpenFrame (f : FrameSoFar) : Type 0 where
   pub kept : HasLabels f
   pub data_room : f.data_sum + f.left * 2 ^ 66 ≤ 2 ^ 96
   pub pilot_room : f.pilot_sum + f.left * 2 ^ 66 ≤ 2 ^ 96
+
+-- the frame with what was found for one more job, which comes from this place and carries this
+abbrev pub with_found_as : Place → Found → Carrier → FrameSoFar → FrameSoFar
+with_found_as place found (Data m) f = record f {
+  data_sum = f.data_sum + found.distance;
+  labels = put_labels (modulation_of f.head.rate) f.labels (label_place f.head.rate place.symbol m) found.vector;
+  left = f.left - 1;
+}
+with_found_as place found (Pilot k) f = record f { pilot_sum = f.pilot_sum + found.distance; left = f.left - 1 }
+
+abbrev pub with_found : Place → Found → FrameSoFar → FrameSoFar
+with_found place found f = with_found_as place found (kind_of f.head.rate place.carrier) f
+
+-- what is booked in all of jobs of blocks that still come, where this frame is under way
+abbrev pub booked_in : {P : Type 0} → (FrameResult → List P) → FrameSoFar → List (BlockHeaded FrameHead) → List P
+booked_in booked f jobs = flat_map booked (results_from f (map out_of_block jobs))

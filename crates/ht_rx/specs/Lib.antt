@@ -1,15 +1,8 @@
 pub mod Texts
 pub mod Heads
-pub mod Stops
-pub mod Reading
-pub mod Desks
-pub mod Accounts
-pub mod Telling
-pub mod Leading
+pub mod Blocks
 pub mod Feeding
 pub mod Gathering
-pub mod Listing
-pub mod Keeping
 pub mod Outcomes
 pub mod Frames
 pub mod Decoding

@@ -7,8 +7,8 @@ use Rattle.ht_results.specs.Texts.{frames_of}
 use Rattle.ht_runs.specs.Outcomes.{TellsBroken, TellsPieces, TellsRefused, TellsWhole}
 use Rattle.ht_runs.specs.declared.faults.StopFault.{StopFault}
 use Rattle.ht_runs.specs.declared.faults.StopFault.TheVariants.{Read, Write, NoMemory}
-use Rattle.ht_rx.specs.declared.faults.Ended.{Ended}
-use Rattle.ht_rx.specs.declared.faults.Ended.TheVariants.{Done, Refused}
+use Rattle.ht_feed.specs.declared.ended.Ended.{Ended}
+use Rattle.ht_feed.specs.declared.ended.Ended.TheVariants.{Done, Refused}
 use Rattle.ht_rx.specs.Texts.{jobs_of}
 
 -- a capture has this number of frames and of jobs

@@ -2,6 +2,8 @@
 use Rattle.std.specs.Prelude.{ℕ, ℤ, List, [], ◌∷◌, ◌++◌}
 use Rattle.std.specs.List.{flat_map}
 use Rattle.ht_pam.specs.declared.point.Point.{Point}
+use Rattle.ht_metric.specs.declared.found.Found.{Found}
+use Rattle.ht_metric.specs.declared.place.Place.{Place}
 use Rattle.ht_metric.specs.Jobs.{JobView, near}
 use Rattle.ht_capture.specs.declared.items.Item.{Item}
 use Rattle.ht_capture.specs.declared.items.Item.TheVariants.{Frame, Job, Done}
@@ -13,9 +15,13 @@ use Rattle.ht_results.specs.Texts.{last_line}
 abbrev pub levels_of : List Point → List ℤ
 levels_of points = flat_map (λ p. p.i ∷ p.q ∷ []) points
 
+-- the line of a job from this place, of which this was found
+abbrev pub line_at : Place → Found → List ℕ
+line_at place found = job_text place.frame place.symbol place.carrier found.distance (levels_of found.vector)
+
 -- the line of a job: its place, and its first nearest vector with the distance
 unfoldable pub job_line_of : JobView → List ℕ
-job_line_of job = job_text job.place.frame job.place.symbol job.place.carrier (near job).distance (levels_of (near job).vector)
+job_line_of job = line_at job.place (near job)
 
 -- the lines of jobs, in order
 abbrev pub job_lines : List JobView → List ℕ

@@ -3,9 +3,9 @@ ghost use Rattle.std.specs.Prelude.{◌≡◌, ◌∷◌, [], ℕ, List, Option,
 ghost use Rattle.ht_io.specs.Devices.{Device, Grows, GrowsByPart, Rose, IsLater};
 ghost use Rattle.ht_io.specs.Pieces.{KnownGrown};
 ghost use Rattle.ht_results.specs.declared.frame_result.FrameResult.{FrameResult as ResultValue};
-ghost use Rattle.ht_rx.specs.declared.book_fault.BookFault.TheVariants.{Failed as BookFailed, NoMemory as BookMemory};
+ghost use Rattle.ht_feed.specs.declared.book_fault.BookFault.TheVariants.{Failed as BookFailed, NoMemory as BookMemory};
 
-use crate::book_fault::BookFault;
+use ht_feed::BookFault;
 use ht_results::FrameResult;
 
 /// What results of frames are booked in: a list that keeps them, or a sink that their lines are put into.

@@ -1,20 +1,21 @@
 //! Whole frames are decoded while more jobs come, and their results are booked in order.
-ghost use Rattle.std.specs.Prelude.{◌≡◌, ◌≤◌, [], ◌∷◌, ◌++◌, false, List, None, length, map, option_to_list, IfErr, IfOk, OnErr, OnOk};
+ghost use Rattle.std.specs.Prelude.{◌≡◌, ◌^◌, ◌<◌, ◌≤◌, [], ◌∷◌, ◌++◌, false, List, None, length, map, option_to_list, IfErr, IfOk, OnErr, OnOk};
 ghost use Rattle.std.specs.List.{flat_map};
 ghost use Rattle.ht_io.specs.Devices.{Grows, GrowsByPart, IsLater, Rose};
+ghost use Rattle.ht_metric.specs.Jobs.{JobView, near};
 ghost use Rattle.ht_results.specs.declared.headed.Headed.{Headed as HeadedValue};
 ghost use Rattle.ht_results.specs.Folding.{result_of, results_from};
 ghost use Rattle.ht_results.specs.Heads.{headed_of};
 ghost use Rattle.ht_rx.specs.Gathering.{BooksFirst, results_behind};
 
 use crate::book::Book;
-use crate::book_fault::BookFault;
 use crate::decoding::Decoding;
 use crate::open_frame::OpenFrame;
 use crate::whole_frame::WholeFrame;
 use ht_capture::FrameHead;
+use ht_feed::BookFault;
 use ht_inverse::Decoder;
-use ht_metric::Hit;
+use ht_metric::{Found, Place};
 use std::alloc::{AllocError, Global};
 use std::collections::VecDeque;
 use std::mem;
@@ -26,19 +27,21 @@ const LEAST: u16 = 400;
 /// The most octets of frames that are decoded while more jobs come. Two of the longest frames have fewer.
 const MOST: u32 = 131072;
 
-/// Takes the hit of a job of the frame that is under way, or that begins with this head. Where it was the last one, the
+/// Takes what was found for a job of the frame that is under way, or that begins with this head. Where it was the last one, the
 /// answer is the whole frame, and none is under way. The only error is lack of memory.
 pub(crate) fn gather(
     alloc: Global,
     under_way: &mut OpenFrame,
     head: &FrameHead,
-    hit: &Hit,
+    place: Place,
+    found: &Found,
 ) -> Result<Option<WholeFrame>, AllocError>
-    ensures { IfOk result (λ whole. (more : List HeadedValue)
-        → results_from under_way.old (headed_of head.now hit.now.job ∷ more) ≡ results_behind (option_to_list whole) under_way.new more) }
+    requires below { found.now.distance < 2 ^ 66 }
+    ensures { IfOk result (λ whole. (job : JobView) → job.place ≡ place → found.now ≡ near job → (more : List HeadedValue)
+        → results_from under_way.old (headed_of head.now job ∷ more) ≡ results_behind (option_to_list whole) under_way.new more) }
 {
     under_way.enter(head)?;
-    under_way.add(hit);
+    under_way.add_found(place, found);
     if under_way.left() > 0 {
         return Ok(None);
     }

@@ -1,12 +1,12 @@
 //! Captures received: a line for each job, or a result for each frame.
 //!
-//! A [`CaptureFeed`] stands between a capture and an [`Account`]. A drive of crate `ht_crew` asks it for jobs, which it
-//! takes from a capture's reader, and hands it their hits in order, which it hands on to the account. What becomes of
-//! the hits is the account's alone: a [`Lister`] puts a line for each, those of a symbol together; a [`Receiver`] books
-//! the [`FrameResult`] of each frame in a [`Book`] once its last hit came, and an account like it, which serves a crew of
-//! workers, decodes whole frames in threads of their own while more hits come. What an account puts in all is a function of
-//! the jobs that come, so that one set of lemmas says for every account what a whole capture, a fault, a source that
-//! fails and a full memory come to (`specs/Telling.antt`, `specs/Outcomes.antt`).
+//! A [`CaptureFeed`] stands between a capture and an account (`Account` of crate `ht_feed`). A drive of crate `ht_drive` asks
+//! it for blocks of jobs, which it takes from a capture's reader, and hands it the answers to them in order, which it hands
+//! on to the account. What becomes of them is the account's alone: a [`Lister`] puts the lines of each block; a
+//! [`Receiver`] books the [`FrameResult`] of each frame in a [`Book`] once its last hit came, and an account like it, which
+//! serves a crew of workers, decodes whole frames in threads of their own while more hits come. What an account puts in all
+//! is a function of the jobs that come, so that one set of lemmas says for every account what a whole capture, a fault, a
+//! source that fails and a full memory come to (`specs/Outcomes.antt`).
 //!
 //! [`list`] and [`receive`] read a capture from any source, and a crew of workers runs its jobs; [`list_alone`] and
 //! [`receive_alone`] promise the same, and run every job in the calling thread. [`receive_text`] and
@@ -29,14 +29,12 @@
 //! 56 lines are put, no frame is whole, and the answer is `Refused` with Truncated at 1018.
 #![tactic(auto)]
 
-mod account;
+mod block_lines;
 mod book;
-mod book_fault;
 mod decoding;
-mod desk;
-mod due_job;
 mod faults;
 mod feed;
+mod gated;
 mod gatherer;
 mod gathering;
 mod headed;
@@ -45,25 +43,20 @@ mod list_book;
 mod lister;
 mod listing;
 mod open_frame;
-mod reading;
 mod receiver;
 mod receiving;
 mod receiving_text;
-mod stop;
 mod telling;
 #[cfg(test)]
 mod tests;
 mod text_book;
 mod whole_frame;
-mod writing;
 
-pub use account::Account;
+pub use block_lines::Lines;
 pub use book::Book;
-pub use book_fault::BookFault;
-pub use desk::Desk;
-pub use due_job::DueJob;
-pub use faults::{Ended, RxFault};
+pub use faults::RxFault;
 pub use feed::CaptureFeed;
+pub use ht_feed::{BookFault, Ended};
 pub use ht_results::FrameResult;
 pub use list_book::ListBook;
 pub use lister::Lister;
@@ -72,5 +65,4 @@ pub use open_frame::OpenFrame;
 pub use receiver::Receiver;
 pub use receiving::{receive, receive_alone};
 pub use receiving_text::{receive_text, receive_text_alone};
-pub use stop::Stop;
 pub use text_book::TextBook;

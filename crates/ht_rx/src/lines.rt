@@ -1,8 +1,8 @@
 //! The line of a job that was detected.
 ghost use Rattle.std.specs.Prelude.{◌≡◌, ◌++◌, ◌≤◌, OnErr, OnOk, take, string_bytes};
-ghost use Rattle.ht_rx.specs.Texts.{job_line_of, levels_of};
+ghost use Rattle.ht_rx.specs.Texts.{levels_of, line_at};
 
-use ht_metric::{Hit, Vector};
+use ht_metric::{Found, Place, Vector};
 use ht_text::push_job_line;
 use std::alloc::AllocError;
 
@@ -21,20 +21,18 @@ fn levels(vector: &Vector) -> ([i8; 8], usize)
     (levels, usize::from(2 * streams))
 }
 
-/// Appends the line of the job of a hit. Only memory can fail; the text is then as it was.
-#[tactic(auto, unfolding(crate::specs::Texts::job_line_of))]
-pub fn push_line(text: &mut String, hit: &Hit) -> Result<(), AllocError>
-    ensures ok { OnOk result (string_bytes text.new ≡ string_bytes text.old ++ job_line_of hit.now.job) }
+/// Appends the line of a job from this place, of which this was found. Only memory can fail; the text is then as it was.
+pub(crate) fn push_found(text: &mut String, place: Place, found: &Found) -> Result<(), AllocError>
+    ensures ok { OnOk result (string_bytes text.new ≡ string_bytes text.old ++ line_at place found.now) }
     ensures err { OnErr result (string_bytes text.new ≡ string_bytes text.old) }
 {
-    let place = hit.job().place();
-    let (levels, count) = levels(hit.vector());
+    let (levels, count) = levels(&found.vector);
     push_job_line(
         text,
         place.frame,
         place.symbol,
         place.carrier,
-        hit.distance(),
+        found.distance,
         &levels[..count],
     )
 }

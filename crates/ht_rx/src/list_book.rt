@@ -2,7 +2,7 @@
 ghost use Rattle.std.specs.Prelude.{◌≡◌, ◌∷◌, [], Some};
 
 use crate::book::Book;
-use crate::book_fault::BookFault;
+use ht_feed::BookFault;
 use ht_results::FrameResult;
 use std::alloc::Global;
 

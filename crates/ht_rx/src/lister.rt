@@ -1,70 +1,55 @@
-//! An account that puts a line for each job.
-ghost use Rattle.std.specs.Prelude.{◌≡◌, ◌++◌, [], ◌∷◌, string_bytes, IfOk};
-ghost use Rattle.ht_rx.specs.Heads.{jobs_alone};
-ghost use Rattle.ht_rx.specs.Keeping.{nothing_waits, waits_given};
-ghost use Rattle.ht_rx.specs.Listing.{LinesWait};
+//! An account that puts the lines of each block.
+ghost use Rattle.std.specs.Prelude.{◌≡◌, ◌∷◌, [], refl};
+ghost use Rattle.ht_rx.specs.Blocks.{jobs_in_blocks};
 ghost use Rattle.ht_rx.specs.Texts.{job_lines};
 
-use crate::account::Account;
-use crate::book_fault::BookFault;
-use crate::due_job::DueJob;
-use crate::writing::write;
+use crate::block_lines::Lines;
 use circular_buffer::HeapCircularBuffer;
 use ht_capture::FrameHead;
+use ht_feed::{Account, BlockReader, BookFault, DueBlock};
 use ht_io::Sink;
-use ht_metric::Hit;
-use std::alloc::{AllocError, Global};
 
-/// Room for the lines of a symbol: 114 lines of at most 105 octets.
-const TEXT: usize = 11970;
-
-/// Puts the line of each hit into a sink, the lines of a symbol together.
+/// Puts the lines of each block into a sink, in one put. It keeps nothing back.
 #[derive(Drop)]
 pub struct Lister<'a, K> {
-    // The lines that weren't put yet.
-    text: &'a mut String,
     sink: &'a mut K,
 }
 
-/// Room for the lines of a symbol. The only error is lack of memory.
-pub(crate) fn room(alloc: Global) -> Result<String, AllocError>
-    ensures { IfOk result (λ text. string_bytes text ≡ []) }
-{
-    String::with_capacity(alloc, TEXT)
-}
-
 impl<'a, K: Sink> Lister<'a, K> {
-    /// A lister that puts lines into this sink, behind the lines that wait in this text. It takes no memory.
-    pub fn new(text: &'a mut String, sink: &'a mut K) -> Lister<'a, K>
-        ensures text { result.text.now ≡ text.old }
+    /// A lister that puts lines into this sink. It takes no memory.
+    pub fn new(sink: &'a mut K) -> Lister<'a, K>
         ensures sink { result.sink.now ≡ sink.old }
         ensures name { result.sink.ghost_name ≡ sink.entry.ghost_name }
     {
-        Lister { text, sink }
+        Lister { sink }
     }
 }
 
-impl<'a, K: Sink> Account for Lister<'a, K> {
+impl<'a, R: BlockReader<Head = FrameHead>, K: Sink> Account<R> for Lister<'a, K> {
     type Piece = u8;
+
+    type Answer = Lines;
 
     ghost shown = { λ l. K.shown l.sink.now };
 
     ghost lent = { λ l. l.sink.ghost_name ∷ [] };
 
-    ghost pieces = { λ l jobs. string_bytes l.text.now ++ job_lines (jobs_alone jobs) };
+    ghost pieces = { λ l jobs. job_lines (jobs_in_blocks jobs) };
 
-    ghost waits = { λ l due. LinesWait (string_bytes l.text.now) due };
+    ghost waits = { λ l due. Unit {0} };
 
     fn take(
         &mut self,
         _: &FrameHead,
-        hit: &Hit,
-        due: &HeapCircularBuffer<DueJob>,
+        _: &R::Block,
+        lines: &Lines,
+        _: &HeapCircularBuffer<DueBlock<R>>,
     ) -> Result<(), BookFault> {
-        write(self.text, hit, due, self.sink)
+        self.sink.put(lines.text.as_bytes())?;
+        Ok(())
     }
 
-    ghost more_due = { λ l. waits_given (string_bytes l.text.now) };
+    ghost more_due = { λ l due h w. tt };
 
-    ghost none_due = { λ l. nothing_waits (string_bytes l.text.now) };
+    ghost none_due = { λ l w. refl };
 }

@@ -5,10 +5,12 @@ ghost use Rattle.ht_rx.specs.Outcomes.{StopsBy, TellsTo};
 ghost use Rattle.ht_rx.specs.Texts.{lines_of};
 ghost use Rattle.ht_runs.specs.declared.faults.StopFault.TheVariants.{Write};
 
-use crate::faults::{Ended, RxFault};
-use crate::lister::{Lister, room};
+use crate::block_lines::LineWork;
+use crate::faults::RxFault;
+use crate::lister::Lister;
 use crate::telling::{tell, tell_alone};
 use ht_crew::Gate;
+use ht_feed::Ended;
 use ht_io::{Sink, Source};
 use std::alloc::Global;
 use std::sync::Wait;
@@ -19,7 +21,7 @@ use std::thread::Threads;
 ///
 /// Every job runs in this thread, between the two calls of the gate. At most `window` jobs, 1 to 4096, were given and
 /// not yet taken at any moment. Nothing of the capture is kept but the triangles of a frame, the samples of a
-/// symbol, these jobs and the lines of one symbol.
+/// symbol, these jobs and their lines.
 ///
 /// It answers `Done` for a capture, and `Refused` with the first fault of an input that is none. It refuses with
 /// `Read` where the source failed, having put the lines of the symbols that were read whole; with `Write` where the
@@ -44,9 +46,14 @@ pub fn list_alone<S: Source, K: Sink, G: Gate>(
     ensures reads_later { IsLater (S.shown source.old) (S.shown source.new) }
     ensures puts_later { IsLater (K.shown sink.old) (K.shown sink.new) }
 {
-    let mut text = room(alloc)?;
-    let mut lister = Lister::new(&mut text, sink);
-    tell_alone(alloc, window, source, &mut lister, gate)
+    let mut lister = Lister::new(sink);
+    tell_alone(
+        alloc,
+        window,
+        &LineWork { alloc, gate },
+        source,
+        &mut lister,
+    )
 }
 
 /// Does as [`list_alone`], and the jobs are run by 1 to 64 workers, of which the caller is one. The lines are the same, in
@@ -75,7 +82,10 @@ pub fn list<R: Threads + Wait + Sync, S: Source, K: Sink, G: Gate + Sync>(
     ensures reads_later { IsLater (S.shown source.old) (S.shown source.new) }
     ensures puts_later { IsLater (K.shown sink.old) (K.shown sink.new) }
 {
-    let mut text = room(alloc)?;
-    let mut lister = Lister::new(&mut text, sink);
-    tell(rt, alloc, workers, window, source, &mut lister, gate)
+    if workers == 1 {
+        return list_alone(alloc, window, source, sink, gate);
+    }
+    let mut lister = Lister::new(sink);
+    let work = LineWork { alloc, gate };
+    tell(rt, alloc, workers, window, &work, source, &mut lister)
 }

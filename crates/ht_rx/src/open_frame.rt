@@ -6,13 +6,13 @@ ghost use Rattle.ht_map.specs.Gray.{label_of};
 ghost use Rattle.ht_metric.specs.Jobs.{near};
 ghost use Rattle.ht_rate.specs.Rates.{carriers_of};
 ghost use Rattle.ht_results.specs.Folding.{frame_begun, frame_of, jobs_in_frame, kind_of, label_at, label_place, put_labels, result_of, with_kind, with_octets};
-ghost use Rattle.ht_rx.specs.Frames.{HasLabels, IsOpenFrame, KnowsCarriers};
+ghost use Rattle.ht_rx.specs.Frames.{HasLabels, IsOpenFrame, KnowsCarriers, with_found};
 
 use crate::headed::no_head;
 use ht_capture::FrameHead;
 use ht_inverse::{Decoded, Decoder};
 use ht_map::label;
-use ht_metric::{Hit, Vector};
+use ht_metric::{Found, Place, Vector};
 use ht_pam::Point;
 use ht_rate::{Carrier, Modulation, Rate};
 use ht_results::FrameResult;
@@ -224,27 +224,28 @@ impl OpenFrame {
         self.begin(head)
     }
 
-    /// Takes the hit of a job of the frame that is under way.
-    pub fn add(&mut self, hit: &Hit)
+    /// Takes what was found for a job of the frame that is under way, from this place; its distance is below 2^66.
+    #[inline]
+    pub fn add_found(&mut self, place: Place, found: &Found)
         requires ready { IsOpenFrame self.old }
-        ensures added { self.new ≡ with_kind hit.now.job self.old }
+        requires below { found.now.distance < 2 ^ 66 }
+        ensures added { self.new ≡ with_found place found.now self.old }
         ensures kept { HasLabels self.new }
     {
-        let place = hit.job().place();
         self.left -= 1;
         match noted_kind(&self.carriers, &self.head.rate, place.carrier) {
             Carrier::Data(m) => {
                 let at = place_of(&self.head.rate, place.symbol, m);
-                self.data_sum += nearest_distance(hit);
+                self.data_sum += found.distance;
                 put_vector(
                     &mut self.labels,
                     at,
                     self.head.rate.modulation(),
-                    nearest(hit),
+                    &found.vector,
                 );
             }
             Carrier::Pilot(_) => {
-                self.pilot_sum += nearest_distance(hit);
+                self.pilot_sum += found.distance;
             }
         }
     }
@@ -274,19 +275,4 @@ impl OpenFrame {
             outcome,
         })
     }
-}
-
-// The first nearest vector of a hit's job.
-fn nearest(hit: &Hit) -> &Vector
-    ensures { result.now ≡ (near hit.now.job).vector }
-{
-    hit.vector()
-}
-
-// Its distance.
-fn nearest_distance(hit: &Hit) -> u128
-    ensures value { result ≡ (near hit.now.job).distance }
-    ensures bound { result < 2 ^ 66 }
-{
-    hit.distance()
 }

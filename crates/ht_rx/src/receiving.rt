@@ -6,13 +6,15 @@ ghost use Rattle.ht_rx.specs.Outcomes.{StopsBy, TellsTo};
 ghost use Rattle.ht_runs.specs.declared.faults.StopFault.TheVariants.{Write};
 
 use crate::book::Book;
-use crate::faults::{Ended, RxFault};
+use crate::faults::RxFault;
+use crate::gated::HitWork;
 use crate::gatherer::Gatherer;
 use crate::gathering::abandon;
 use crate::open_frame::OpenFrame;
 use crate::receiver::Receiver;
 use crate::telling::{tell, tell_alone};
 use ht_crew::Gate;
+use ht_feed::Ended;
 use ht_inverse::{Alone, Together};
 use ht_io::Source;
 use std::alloc::Global;
@@ -52,10 +54,16 @@ pub fn receive_alone<S: Source, B: Book, G: Gate>(
     ensures books_later { IsLater (B.shown book.old) (B.shown book.new) }
     ensures same { B.lent book.new ≡ B.lent book.old }
 {
-    let mut open = OpenFrame::new(alloc);
+    let mut under_way = OpenFrame::new(alloc);
     let mut decoder = Alone::new();
-    let mut receiver = Receiver::new(alloc, &mut open, book, &mut decoder);
-    tell_alone(alloc, window, source, &mut receiver, gate)
+    let mut receiver = Receiver::new(alloc, &mut under_way, book, &mut decoder);
+    tell_alone(
+        alloc,
+        window,
+        &HitWork { alloc, gate },
+        source,
+        &mut receiver,
+    )
 }
 
 /// Does as [`receive_alone`], and the jobs are run by 1 to 64 workers, of which the caller is one. The results are the
@@ -92,6 +100,9 @@ pub fn receive<R: Threads + Wait + Sync, S: Source, B: Book, G: Gate + Sync>(
     ensures books_later { IsLater (B.shown book.old) (B.shown book.new) }
     ensures same { B.lent book.new ≡ B.lent book.old }
 {
+    if workers == 1 {
+        return receive_alone(alloc, window, source, book, gate);
+    }
     let mut under_way = OpenFrame::new(alloc);
     let mut queue = VecDeque::new(alloc);
     let mut decoder = Together::new(rt);
@@ -104,7 +115,8 @@ pub fn receive<R: Threads + Wait + Sync, S: Source, B: Book, G: Gate + Sync>(
         book,
         decoder: &mut decoder,
     };
-    let ended = tell(rt, alloc, workers, window, source, &mut gatherer, gate);
+    let work = HitWork { alloc, gate };
+    let ended = tell(rt, alloc, workers, window, &work, source, &mut gatherer);
     abandon(rt, queue);
     ended
 }

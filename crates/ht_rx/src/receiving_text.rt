@@ -5,10 +5,11 @@ ghost use Rattle.ht_results.specs.Texts.{frame_lines_of};
 ghost use Rattle.ht_rx.specs.Outcomes.{StopsBy, TellsTo};
 ghost use Rattle.ht_runs.specs.declared.faults.StopFault.TheVariants.{Write};
 
-use crate::faults::{Ended, RxFault};
+use crate::faults::RxFault;
 use crate::receiving::{receive, receive_alone};
 use crate::text_book::TextBook;
 use ht_crew::Gate;
+use ht_feed::Ended;
 use ht_io::{Sink, Source};
 use std::alloc::Global;
 use std::sync::Wait;

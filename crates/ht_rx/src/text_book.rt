@@ -3,7 +3,7 @@ ghost use Rattle.std.specs.Prelude.{◌≡◌, ◌∷◌, [], IfOk, None};
 ghost use Rattle.ht_results.specs.Texts.{result_line};
 
 use crate::book::Book;
-use crate::book_fault::BookFault;
+use ht_feed::BookFault;
 use ht_inverse::Outcome;
 use ht_io::Sink;
 use ht_results::FrameResult;

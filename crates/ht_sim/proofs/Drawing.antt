@@ -45,7 +45,7 @@ pub each-end : {A B : Type 0} (draw : A → ℕ → Drawn B) (left : List A) (us
 each-end draw left us z whole e h =
     ap (λ ts. drawn ts z) (sym (append-nil us)) ∙ ap (λ ts. joined us (each draw ts z)) (sym e) ∙ h
 
-each-append : {A B : Type 0} (draw : A → ℕ → Drawn B) (xs ys : List A) (z : ℕ)
+pub each-append : {A B : Type 0} (draw : A → ℕ → Drawn B) (xs ys : List A) (z : ℕ)
     → each draw (xs ++ ys) z ≡ joined (each draw xs z).value (each draw ys (each draw xs z).state)
 each-append draw [] ys z = refl
 each-append {A} {B} draw (x ∷ xs) ys z =

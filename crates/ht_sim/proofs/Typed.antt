@@ -23,7 +23,7 @@ use Rattle.ht_sim.proofs.Shapes.{length-legs_drawn, length-triangle_drawn}
 part_fits : (w : ℕ) → FitsSigned w16 (entry_part_of w)
 part_fits w = fits_signed_from_abs w16 (entry_part_of w) (omega (arith, ints, mod_below w 129 (omega arith)))
 
-diagonal_fits : (w : ℕ) → diagonal_of w < 2 ^ 16
+pub diagonal_fits : (w : ℕ) → diagonal_of w < 2 ^ 16
 diagonal_fits w = omega (arith, mod_below w 192 (omega arith))
 
 taps_typed : (n z : ℕ) → AreTaps (several tap_drawn n z).value

@@ -22,5 +22,6 @@ mod words;
 pub use captures::pass;
 pub use faults::SimFault;
 pub use passing::channel;
+pub use rows::stretched;
 pub use samples::sample_frames;
 pub use words::Words;

@@ -19,8 +19,8 @@ fn multiplied(part: i16, level: i8) -> i32
     i32::from(part) * i32::from(level)
 }
 
-// A diagonal times a level.
-fn stretched(diagonal: u16, level: i8) -> i32
+/// A diagonal times a level.
+pub fn stretched(diagonal: u16, level: i8) -> i32
     ensures value { result ≡ pos diagonal *ℤ level }
     ensures bound { unsigned_abs result ≤ 8388480 }
 {

@@ -53,8 +53,8 @@ impl Words {
         self.generator.next_word()
     }
 
-    // A diagonal of a triangle.
-    pub(crate) fn diagonal(&mut self) -> u16
+    /// A diagonal of a triangle, 64 to 255.
+    pub fn diagonal(&mut self) -> u16
         ensures value { result ≡ diagonal_of (word self.old) }
         ensures behind { self.new ≡ next self.old }
     {
@@ -109,9 +109,9 @@ impl Words {
         (self.draw() % spread) as i32 - i32::from(noise)
     }
 
-    // A sample with noise, which its real part gets first.
+    /// A sample with noise, at most `noise` in each part, which its real part gets first.
     #[tactic(auto, unfolding(crate::specs::Channel::sample_drawn))]
-    pub(crate) fn sample(&mut self, noise: u16, exact: Sample) -> Sample
+    pub fn sample(&mut self, noise: u16, exact: Sample) -> Sample
         requires re { unsigned_abs exact.re ≤ 2 ^ 25 }
         requires im { unsigned_abs exact.im ≤ 2 ^ 25 }
         ensures value { result ≡ (sample_drawn noise (received exact) self.old).value }

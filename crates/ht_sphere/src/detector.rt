@@ -51,8 +51,7 @@ pub fn into_hit<L: Ledger>(job: Job, steps: &mut Steps<L>) -> Hit
 }
 
 /// The first nearest vector of a job and its distance, below 2^66, as [`nearest`] finds them, without the job.
-// It is kept out of line, so that the job stays where it is.
-#[inline(never)]
+#[inline]
 pub fn find<L: Ledger>(job: &Job, steps: &mut Steps<L>) -> Found
     ensures found { result ≡ near job.now }
     ensures near { IsNear job.now result.vector }

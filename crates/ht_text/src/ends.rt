@@ -6,7 +6,7 @@ use std::alloc::{AllocError, Global};
 
 /// The line `end N frames`: the input was a whole capture with this number of frames. The only error is lack of memory.
 #[tactic(auto, unfolding(crate::specs::Lines::end_text))]
-pub fn end_line(alloc: Global, frames: u16) -> Result<Vec<u8>, AllocError>
+pub fn end_line(alloc: Global, frames: u64) -> Result<Vec<u8>, AllocError>
     ensures { IfOk result (λ v. v.items ≡ end_text frames) }
 {
     let text = format!(in alloc; "end {frames} frames\n")?;

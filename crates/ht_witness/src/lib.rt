@@ -32,7 +32,7 @@ mod tests;
 mod walk;
 
 pub use certificate::Certificate;
-pub use certifying::{certify, certify_with};
+pub use certifying::{certify, certify_into};
 pub use check_fault::CheckFault;
 pub use checking::check;
 pub use marks::Marks;

@@ -1,6 +1,12 @@
 //! Lists of marks.
-ghost use Rattle.std.specs.Prelude.{◌≡◌};
+ghost use Rattle.std.specs.Prelude.{◌≡◌, [], OnOk};
+ghost use Rattle.ht_metric.specs.Jobs.{IsJob};
+ghost use Rattle.ht_sphere.specs.Coordinates.{from_last};
+ghost use Rattle.ht_witness.specs.Marking.{marks_of};
 
+use crate::marking::Marking;
+use ht_metric::Job;
+use std::alloc::AllocError;
 use std::marker::Model;
 
 /// A mark for each level that the walk of a certificate goes through: `true` where the level is open, `false` where it
@@ -34,6 +40,21 @@ impl Marks {
         ensures { result.now ≡ self.now }
     {
         self.marks.as_slice()
+    }
+
+    // Puts the marks of a job's walk in the place of those that are there, in their memory. A level is cut where its partial
+    // distance is above this one.
+    pub(crate) fn write(&mut self, job: &Job, distance: u128) -> Result<(), AllocError>
+        ensures written { OnOk result (self.new ≡ marks_of distance (from_last job.now.system job.now.grid) [] 0) }
+        ensures job { IsJob job.now }
+    {
+        let streams = job.system().streams();
+        let mut levels = [0i8; 8];
+        let levels = &mut levels[..2 * usize::from(streams)];
+        self.marks.clear();
+        let marking = Marking { job, distance };
+        marking.quadrature(streams, levels, 0, &mut self.marks)?;
+        Ok(())
     }
 
     /// Gives the vector back. Takes no memory.

@@ -1,4 +1,5 @@
 pub mod Acceptance
+pub mod Channels
 pub mod Numbers
 pub mod Ranges
 pub mod ReadingLemmas

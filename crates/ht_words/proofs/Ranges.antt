@@ -66,5 +66,5 @@ rows_in_range (row ∷ rows) command words are =
 pub asked-in_range : (words : List (List ℕ)) → IfSome (asked_by words) IsWithinRanges
 asked-in_range [] = tt
 asked-in_range (command ∷ words) =
-    let all : AreInRange commands = (for_workers_within, (for_workers_within, ((λ _ _. tt), ((λ _ _. tt), ((λ _ _. tt), ((λ _ _. tt), ((λ _ _. tt), (demo_within, tt)))))))) in
+    let all : AreInRange commands = (for_workers_within, (for_workers_within, ((λ _ _. tt), ((λ _ _. tt), ((λ _ _. tt), ((λ _ _. tt), ((λ _ _. tt), ((λ _ _. tt), (demo_within, tt))))))))) in
     rows_in_range commands command words all

@@ -46,7 +46,7 @@ use Rattle.ht_words.specs.declared.setting.Setting.TheVariants.{
   Length,
 }
 use Rattle.ht_words.specs.declared.asked.Asked.{Asked}
-use Rattle.ht_words.specs.declared.asked.Asked.TheVariants.{Detect, Rx, Tx, Channel, Upgrade, Certify, Check, Demo}
+use Rattle.ht_words.specs.declared.asked.Asked.TheVariants.{Detect, Rx, Tx, Channel, Upgrade, Certify, Check, LegacyChannel, Demo}
 use Rattle.ht_words.specs.Settings.{admits, default_of, name_of}
 
 -- 1 to 20 decimal digits
@@ -89,7 +89,7 @@ are_accepted settings words = is_plain settings words && list_all (λ setting. a
 abbrev pub for_workers : List Setting
 for_workers = Workers ∷ Window ∷ []
 
--- the options of `channel`
+-- the options of `channel` and `lchannel`
 abbrev pub for_channel : List Setting
 for_channel = Seed ∷ Noise ∷ []
 
@@ -122,6 +122,7 @@ commands =
     ∷ record { name = codes "upgrade"; options = []; asks = λ words. Upgrade }
     ∷ record { name = codes "certify"; options = []; asks = λ words. Certify }
     ∷ record { name = codes "check"; options = []; asks = λ words. Check }
+    ∷ record { name = codes "lchannel"; options = for_channel; asks = λ words. LegacyChannel (value_of words Seed) (value_of words Noise) }
     ∷ record { name = codes "demo"; options = for_demo; asks = demo_in }
     ∷ []
 

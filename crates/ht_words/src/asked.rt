@@ -2,7 +2,7 @@
 ghost use Rattle.std.specs.Prelude.{◌≡◌, ◌≤◌, ◌==◌, [], IfOk, IfSome, Some, None, if◌then◌else◌, map, string_bytes};
 ghost use Rattle.ht_rate.specs.Rates.{rate_at};
 ghost use Rattle.ht_words.specs.declared.setting.Setting.TheVariants.{Noise, Seed, Window, Workers};
-ghost use Rattle.ht_words.specs.declared.asked.Asked.TheVariants.{Channel, Detect, Rx};
+ghost use Rattle.ht_words.specs.declared.asked.Asked.TheVariants.{Channel, Detect, LegacyChannel, Rx};
 ghost use Rattle.ht_words.specs.Words.{IsWithinRanges, are_accepted, asked, demo_in, for_channel, for_demo, for_workers, only_if, value_of};
 
 use crate::plain::{is_plain, value};
@@ -36,6 +36,11 @@ pub enum Asked {
     Certify,
     /// `check`: whether certificates hold.
     Check,
+    /// `lchannel`: a capture of clause 18 frames.
+    LegacyChannel {
+        seed: u64,
+        noise: u16,
+    },
     /// `demo`: sample frames, sent and received.
     Demo {
         seed: u64,
@@ -74,6 +79,7 @@ fn by_command(alloc: Global, words: &[String]) -> Result<Option<Asked>, AllocErr
             "upgrade" => Ok(alone(options, Asked::Upgrade)),
             "certify" => Ok(alone(options, Asked::Certify)),
             "check" => Ok(alone(options, Asked::Check)),
+            "lchannel" => legacy_channel(alloc, options),
             "demo" => demo(alloc, options),
             _ => Ok(None),
         },
@@ -129,11 +135,10 @@ fn rx(alloc: Global, words: &[String]) -> Result<Option<Asked>, AllocError>
     Ok(Some(Asked::Rx { workers, window }))
 }
 
-/// The command `channel`.
-fn channel(alloc: Global, words: &[String]) -> Result<Option<Asked>, AllocError>
+/// The options of a channel: its seed and its noise.
+fn for_channel(alloc: Global, words: &[String]) -> Result<Option<(u64, u16)>, AllocError>
     ensures { let texts = map string_bytes words.now in
-        let asked = Channel (value_of texts Seed) (value_of texts Noise) in
-        IfOk result (λ answer. answer ≡ only_if (are_accepted for_channel texts) asked) }
+        IfOk result (λ answer. answer ≡ (if are_accepted for_channel texts then Some (value_of texts Seed, value_of texts Noise) else None)) }
 {
     if !is_plain(words, &[Setting::Seed, Setting::Noise]) {
         return Ok(None);
@@ -144,10 +149,31 @@ fn channel(alloc: Global, words: &[String]) -> Result<Option<Asked>, AllocError>
     let Some(noise) = value(alloc, words, Setting::Noise)? else {
         return Ok(None);
     };
-    Ok(Some(Asked::Channel {
-        seed,
-        noise: noise as u16,
-    }))
+    Ok(Some((seed, noise as u16)))
+}
+
+/// The command `channel`.
+fn channel(alloc: Global, words: &[String]) -> Result<Option<Asked>, AllocError>
+    ensures { let texts = map string_bytes words.now in
+        let asked = Channel (value_of texts Seed) (value_of texts Noise) in
+        IfOk result (λ answer. answer ≡ only_if (are_accepted for_channel texts) asked) }
+{
+    let Some((seed, noise)) = for_channel(alloc, words)? else {
+        return Ok(None);
+    };
+    Ok(Some(Asked::Channel { seed, noise }))
+}
+
+/// The command `lchannel`.
+fn legacy_channel(alloc: Global, words: &[String]) -> Result<Option<Asked>, AllocError>
+    ensures { let texts = map string_bytes words.now in
+        let asked = LegacyChannel (value_of texts Seed) (value_of texts Noise) in
+        IfOk result (λ answer. answer ≡ only_if (are_accepted for_channel texts) asked) }
+{
+    let Some((seed, noise)) = for_channel(alloc, words)? else {
+        return Ok(None);
+    };
+    Ok(Some(Asked::LegacyChannel { seed, noise }))
 }
 
 /// The options of `demo`.

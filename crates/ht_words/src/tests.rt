@@ -518,6 +518,8 @@ fn accepts_the_plain_form(rt: HostRuntime) -> Result<(), Fail> {
         let (seed, noise) = (*seed, *noise);
         let channel = Some(Asked::Channel { seed, noise });
         assert_eq!(rt; behind(alloc, "channel", text)?, channel, "channel{text}");
+        let legacy = Some(Asked::LegacyChannel { seed, noise });
+        assert_eq!(rt; behind(alloc, "lchannel", text)?, legacy, "lchannel{text}");
     }
     for (text, row) in &DEMOS {
         let rate = Rate::of(row.bandwidth, row.mcs).ok();
@@ -629,7 +631,7 @@ static EDGES: [Edges; 8] = [
 ];
 
 // Each command, and the options that it has.
-static COMMANDS: [(&str, &str); 8] = [
+static COMMANDS: [(&str, &str); 9] = [
     ("detect", "--workers --window"),
     ("rx", "--workers --window"),
     ("tx", ""),
@@ -637,6 +639,7 @@ static COMMANDS: [(&str, &str); 8] = [
     ("upgrade", ""),
     ("certify", ""),
     ("check", ""),
+    ("lchannel", "--seed --noise"),
     (
         "demo",
         "--seed --noise --frames --mcs --bandwidth --length --workers --window",

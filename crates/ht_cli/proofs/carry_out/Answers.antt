@@ -9,6 +9,7 @@ use Rattle.ht_sim.specs.Passing.{passing}
 use Rattle.ht_certify.specs.Certifying.{certifying}
 use Rattle.ht_check.specs.Checks.{checking}
 use Rattle.ht_check.proofs.Ending.{checking_ends}
+use Rattle.ht_legacy_sim.specs.Passing.{passing as legacy_passing}
 use Rattle.ht_cli.specs.Converting.{sending, upgrading}
 use Rattle.ht_demo.specs.Demos.{IsDemoLine, returned_line}
 use Rattle.ht_cli.specs.Tasks.{IsPlanLine, plan_of}
@@ -62,6 +63,13 @@ returns-in-Some-Check-clause-answered g c =
     let asked = c.in-Some-Check.field-0-is in
     let run = streams checking checking_ends _ _ _ SaysNothing c.check_file-checked.result _ _ c.settle-in-Some-Check.result
     c.check_file-checked.ensures.checks c.check_file-checked.ensures.puts_later c.settle-in-Some-Check.ensures.settles in search rules
+
+pub returns-in-Some-LegacyChannel-clause-answered : goal.returns-in-Some-LegacyChannel-clause-answered
+returns-in-Some-LegacyChannel-clause-answered g c =
+    let asked = c.in-Some-LegacyChannel.field-0-is in
+    let run = converts (legacy_passing c.in-Some-LegacyChannel.seed c.in-Some-LegacyChannel.noise) (λ fault. refl) _ _ _ SaysNothing
+    c.legacy_channel-passed.result _ _ c.settle-in-Some-LegacyChannel.result c.legacy_channel-passed.ensures.converts
+    c.settle-in-Some-LegacyChannel.ensures.settles in search rules
 
 pub returns-in-Some-Demo-clause-answered : goal.returns-in-Some-Demo-clause-answered
 returns-in-Some-Demo-clause-answered g c =

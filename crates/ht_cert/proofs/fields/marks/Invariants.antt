@@ -1,4 +1,4 @@
-use Rattle.std.proofs.Common.{◌-◌, ◌+◌}
+use Rattle.std.proofs.Common.{◌-◌, ◌+◌, ◌≤◌}
 use Rattle.ht_io.specs.Devices.{IsLater}
 use Rattle.ht_heads.specs.Starts.{Body}
 use Rattle.ht_cert.specs.Formats.{Marks}
@@ -8,9 +8,13 @@ use Rattle.ht_cert.proofs.Reading.{GivesMarks}
 use Rattle.ht_cert.proofs.fields.marks.Given as goal
 
 -- this number of marks was read
-abbrev pub invariant-loop-k : goal.invariant-loop-k
-invariant-loop-k g l = record {
+abbrev pub invariant-loop-read : goal.invariant-loop-read
+invariant-loop-read g l = record {
+  within : l.read ≤ l.count;
   told : GivesMarks (here (Body (Marks l.turn l.fn.into)) l.at (g.S.Source.shown l.fn.source)) l.turn
-      (with_marks l.fn.into l.marks.items) (l.count - l.k) (l.at + 4 + l.k) (g.S.Source.shown l.source);
+      (with_marks l.fn.into l.marks.items) (l.count - l.read) (l.at + 4 + l.read) (g.S.Source.shown l.source);
   later : IsLater (g.S.Source.shown l.fn.source) (g.S.Source.shown l.source);
 }
+
+abbrev pub decreases-loop-read : goal.decreases-loop-read
+decreases-loop-read g l = l.count - l.read

@@ -1,5 +1,5 @@
-use Rattle.std.proofs.Common.{◌+◌, [], ◌∷◌, ap, sym, subst, ◌∙◌, arith, rules}
-use Rattle.std.specs.Prelude.{string_bytes}
+use Rattle.std.proofs.Common.{ℕ, ◌+◌, List, [], ◌∷◌, ap, sym, subst, ◌∙◌, arith, rules}
+use Rattle.std.specs.Prelude.{length, string_bytes}
 use Rattle.ht_fields.specs.Readers.{Gives}
 use Rattle.ht_cert.specs.Readers.{Completes, GivesRecord, Passes, shown_by}
 use Rattle.ht_cert.specs.declared.reader.Came.{Came}
@@ -23,6 +23,7 @@ loop-text-init g c =
     record {
       going = c.new-reader.ensures.going;
       few = omega (arith, jobs, few);
+      waits = let none = c.in_ok-text.ensures.bytes in omega (arith, ap (λ (xs : List ℕ). length xs) none);
       checks = checks_begun a (g.K.Sink.shown c.args.sink.now) (shown_by c.new-reader.result a) c.new-tally.result (string_bytes c.in_ok-text.text)
           (c.new-reader.ensures.first a) jobs c.new-tally.ensures.right c.in_ok-text.ensures.bytes;
     }
@@ -59,6 +60,7 @@ loop-text-preserved g c =
     record {
       going = passes.3;
       few = omega (arith, few, jobs, passes.0);
+      waits = put.few;
       checks = checks_on (g.S.Source.shown c.args.source.now) (g.K.Sink.shown c.args.sink.now) old new (g.K.Sink.shown c.loop-text.sink)
           (g.K.Sink.shown c.put_block.new.sink) tally c.count.new.self (string_bytes c.loop-text.text) (string_bytes c.push_line.new.text) put.grown.0
           (string_bytes c.put_block.new.text) r c.loop-text.invariant.checks gives c.in-Ok-Whole.ensures.later line.line jobs

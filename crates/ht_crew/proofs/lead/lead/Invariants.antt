@@ -1,7 +1,7 @@
 use Rattle.std.proofs.Common.{◌≡◌, ◌-◌, ◌<◌, ◌≤◌, ◌^◌, List, Some}
 use Rattle.ht_metric.specs.Jobs.{JobView}
 use Rattle.ht_crew.specs.Driving.{Holds, IsUnderWay, IsAlong}
-use Rattle.ht_crew.specs.Accounts.{IsSameJobHelm, Tallies, AreTold}
+use Rattle.ht_crew.specs.Tallying.{IsSameJobHelm, Tallies, AreTold}
 use Rattle.ht_crew.proofs.lead.lead.Given as goal
 
 abbrev pub invariant-loop : goal.invariant-loop

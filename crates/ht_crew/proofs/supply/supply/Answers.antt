@@ -2,7 +2,7 @@ use Rattle.std.proofs.Common.{◌≡◌, ◌<◌, false, length, rules}
 use Rattle.ht_crew.specs.Feeds.{GivesJob}
 use Rattle.ht_crew.proofs.Filling.{goes_on_more}
 use Rattle.ht_crew.proofs.Supplied.{supplying_more}
-use Rattle.ht_crew.specs.Accounts.{AreTold}
+use Rattle.ht_crew.specs.Tallying.{AreTold}
 use Rattle.ht_crew.proofs.supply.supply.Goals.{then-over, else-over}
 use Rattle.ht_crew.proofs.supply.supply.Goals as goal
 

@@ -1,15 +1,10 @@
-use Rattle.std.proofs.Common.{◌+◌, ◌*◌}
-use Rattle.ht_rate.specs.Rates.{axis_bits_of}
-use Rattle.ht_interleave.specs.Steps.{rows_of}
-use Rattle.ht_interleave.proofs.Filling.{Filled}
+use Rattle.std.proofs.Common.{◌≡◌, ◌<◌, ℕ, false, get_or, length}
+use Rattle.ht_rate.specs.Rates.{stream_bits_of}
+use Rattle.ht_interleave.specs.Interleaver.{origin_of}
 use Rattle.ht_interleave.proofs.blocks.interleave.Given as goal
 
-abbrev pub invariant-loop-column : goal.invariant-loop-column
-invariant-loop-column l = Filled l.rate l.stream l.from l.into l.place (rows_of l.rate * l.column)
-
-abbrev pub invariant-loop-group : goal.invariant-loop-group
-invariant-loop-group l = Filled l.rate l.stream l.from l.into l.place (rows_of l.rate * l.column + axis_bits_of l.rate * l.group)
-
-abbrev pub invariant-loop-lane : goal.invariant-loop-lane
-invariant-loop-lane l =
-    Filled l.rate l.stream l.from l.into l.place (rows_of l.rate * l.column + axis_bits_of l.rate * l.group + l.lane)
+abbrev pub invariant-loop-r : goal.invariant-loop-r
+invariant-loop-r l = record {
+  size : length l.into ≡ stream_bits_of l.rate;
+  done : (j : ℕ) → j < l.r → get_or l.into j false ≡ get_or l.from (origin_of l.rate l.stream j) false;
+}

@@ -1,8 +1,9 @@
-use Rattle.ht_results.proofs.Folded.{frame_after-append, results_from-append}
+use Rattle.ht_results.specs.Folding.{label_fold}
+use Rattle.ht_results.proofs.Counted.{given_from-append, under_way-append}
 use Rattle.ht_results.proofs.laws.in_parts.Goals as goal
 
 pub returns-clause-results : goal.returns-clause-results
-returns-clause-results c = results_from-append
+returns-clause-results c = given_from-append label_fold
 
 pub returns-clause-state : goal.returns-clause-state
-returns-clause-state c = frame_after-append
+returns-clause-state c = under_way-append label_fold

@@ -1,5 +1,5 @@
-use Rattle.std.proofs.Common.{rules, ◌≤◌, arith}
-use Rattle.ht_rx.proofs.Booking.{frames_told}
+use Rattle.std.proofs.Common.{rules, ◌≤◌}
+use Rattle.ht_rx.proofs.BlockBooking.{frames_told}
 use Rattle.ht_rx.proofs.receiving.receive_alone.Goals as goal
 
 pub returns-clause-receives : goal.returns-clause-receives

@@ -3,6 +3,7 @@ use Rattle.ht_capture.specs.declared.places.Present.{Present}
 use Rattle.ht_capture.specs.declared.stage.Stage.{Stage}
 use Rattle.ht_capture.specs.declared.stage.Stage.TheVariants.{NextFrame}
 use Rattle.ht_capture.specs.Fields.{Over, turn_due}
+use Rattle.ht_capture.specs.Blocks.{KeepsLent}
 use Rattle.ht_capture.specs.Readers.{KeepsGrid, StageFits, TurnFits}
 use Rattle.ht_capture.proofs.Grids.{written-all}
 use Rattle.ht_capture.proofs.Turns.{completes_over, halts_from, over_is}
@@ -23,6 +24,7 @@ invariant_of-self-in-Err-frame g c =
         stage = subst (λ (s : Stage). StageFits s old.at (take old.present.len (present ++ drop (length present) old.present.items))) (sym is) fits;
       },
       subst (λ (s : Stage). KeepsGrid s old.grid) (sym is) tt,
+      subst (λ (s : Stage). KeepsLent s (take old.present.len (present ++ drop (length present) old.present.items)) old.samples.items old.lent) (sym is) tt,
     )
 
 pub returns-in-Ok-clause-told : goal.returns-in-Ok-clause-told

@@ -1,10 +1,49 @@
-use Rattle.std.proofs.Common.{◌≡◌, length, take, sym, ap, ◌∙◌, arith}
-use Rattle.ht_capture.specs.Readers.{symbol_octets}
+use Rattle.std.proofs.Common.{◌≡◌, ℕ, List, length, take, sym, ap, subst, ◌∙◌, arith, rules}
+use Rattle.ht_capture.specs.declared.lent.Lent.{Lent}
+use Rattle.ht_capture.specs.declared.stage.Stage.{Stage}
+use Rattle.ht_capture.specs.declared.stage.Stage.TheVariants.{NextSymbol}
+use Rattle.ht_capture.specs.Blocks.{KeepsLent, LendsFrame}
+use Rattle.ht_capture.specs.Readers.{SymbolFits, symbol_octets}
 use Rattle.ht_capture.proofs.Grids.{written-all}
 use Rattle.ht_capture.proofs.Symbols.{gives_read}
 use Rattle.ht_capture.proofs.Turns.{halts_real}
 use Rattle.ht_fields.proofs.Halting.{halts_as}
 use Rattle.ht_capture.proofs.reader.Reader.symbol.Goals as goal
+
+pub invariant_of-self : goal.invariant_of-self
+invariant_of-self g c =
+    let old = c.self.inside in
+    let due = c.args.due in
+    let is : old.stage ≡ NextSymbol due = rw (← c.self.view_is) at c.requires.stage in
+    let lent : LendsFrame due.head (take due.count old.present.items) c.replace.result =
+    subst (λ (l : Lent). LendsFrame due.head (take due.count old.present.items) l) (sym c.replace.ensures.value)
+    (subst (λ (s : Stage). KeepsLent s old.present.items old.samples.items old.lent) is c.self.invariant.2) in
+    let size : length c.symbol.new.samples ≡ old.samples.len = omega arith in
+    let len : length c.symbol.new.samples ≡ 3648 = omega arith in
+    let f : SymbolFits due 0 old.at old.present.items = rw (← c.self.view_is) at c.requires.fits in (
+      record {
+        present = search rules;
+        samples = ap (λ (o : List ℕ). length o) (written-all c.symbol.new.samples _ _ size) ∙ len;
+        stage = (
+          omega (arith, f.count),
+          record {
+            frames = f.frames;
+            left = f.left;
+            count = f.count;
+            few = f.few;
+            places = f.places;
+            symbol = f.symbol;
+            symbols = f.symbols;
+            whole = f.whole;
+            place = omega (arith, f.place, c.in-Ok.ensures.place);
+            number = f.number;
+            seen = f.seen;
+          },
+        );
+      },
+      search rules,
+      c.passed.ensures due.head (take due.count old.present.items) lent due.symbol due.turn.number _,
+    )
 
 pub stop-requires : goal.stop-requires
 stop-requires g c = record { real = halts_real _ _ c.in-Err.fault (c.in-Err.ensures.told (take c.args.due.count c.self.inside.present.items)) }

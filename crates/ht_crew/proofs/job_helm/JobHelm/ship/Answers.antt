@@ -1,5 +1,5 @@
 use Rattle.std.proofs.Common.{rules}
-use Rattle.ht_crew.specs.Accounts.{places_of}
+use Rattle.ht_crew.specs.Tallying.{places_of}
 use Rattle.ht_crew.proofs.Lots.{gets_back_as}
 use Rattle.ht_crew.proofs.job_helm.JobHelm.ship.Goals as goal
 

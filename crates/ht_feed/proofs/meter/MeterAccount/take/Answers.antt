@@ -10,7 +10,7 @@ returns-in-Ok-clause-put g c =
     let a = g.K.Sink.shown c.args.self.now.sink in
     let b = g.K.Sink.shown c.put.new.self in
     let made = c.in_ok-octets.ensures ∙ ap (λ (fs : List Found). map octet_of fs) c.as_slice.ensures.value in
-    puts c.args.arg2.now (g.R.Block.Jobs.jobs c.args.arg3.now) c.args.hits.now.found.items c.in_ok-octets.octets.items c.requires.right made a b
+    puts c.args.arg2.now (g.R.Block.Jobs.jobs c.args.arg3.now) c.args.hits.now.found.items c.in_ok-octets.octets.items c.requires.right.are made a b
     (subst (λ (ns : List ℕ). Grows a b ns) c.as_slice-2.ensures.value c.in-Ok.ensures.grown)
 
 pub returns-clause-part : goal.returns-clause-part
@@ -18,5 +18,5 @@ returns-clause-part g c =
     let a = g.K.Sink.shown c.args.self.now.sink in
     let b = g.K.Sink.shown c.put.new.self in
     let made = c.in_ok-octets.ensures ∙ ap (λ (fs : List Found). map octet_of fs) c.as_slice.ensures.value in
-    part c.args.arg2.now (g.R.Block.Jobs.jobs c.args.arg3.now) c.args.hits.now.found.items c.in_ok-octets.octets.items c.requires.right made a b
+    part c.args.arg2.now (g.R.Block.Jobs.jobs c.args.arg3.now) c.args.hits.now.found.items c.in_ok-octets.octets.items c.requires.right.are made a b
     (subst (λ (ns : List ℕ). GrowsByPart a b ns) c.as_slice-2.ensures.value c.in-Err.ensures.part)

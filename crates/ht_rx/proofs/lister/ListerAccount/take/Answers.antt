@@ -1,14 +1,23 @@
-use Rattle.std.proofs.Common.{string_bytes}
-use Rattle.ht_results.specs.Heads.{headed_of}
-use Rattle.ht_rx.proofs.Waiting.{line_part, line_waits}
+use Rattle.std.proofs.Common.{◌∙◌}
+use Rattle.ht_feed.specs.Accounts.{PutsPartOf}
+use Rattle.ht_feed.specs.Dues.{due_of, headed_due}
+use Rattle.ht_rx.specs.Blocks.{jobs_in_blocks}
+use Rattle.ht_rx.specs.Texts.{job_lines}
+use Rattle.ht_rx.proofs.BlockListing.{part, puts}
+use Rattle.ht_rx.proofs.Booking.{err_so}
 use Rattle.ht_rx.proofs.lister.ListerAccount.take.Goals as goal
 
-pub returns-clause-part : goal.returns-clause-part
-returns-clause-part g c =
-    line_part c.write.result (g.K.Sink.shown c.args.self.now.sink.now) (g.K.Sink.shown c.write.new.sink)
-    (string_bytes c.args.self.now.text.now) (headed_of c.args.arg2.now c.args.hit.now.job) c.write.ensures.part
+pub returns-in_err-put-clause-part : goal.returns-in_err-put-clause-part
+returns-in_err-put-clause-part g c =
+    let a = g.K.Sink.shown c.args.self.now.sink.now in
+    let b = g.K.Sink.shown c.put.new.self in
+    let jobs = g.R.Block.Jobs.jobs c.args.arg3.now in
+    err_so c.from_residual.result (PutsPartOf a b (λ js. job_lines (jobs_in_blocks js)) (headed_due (due_of c.args.arg2.now jobs)))
+    (part c.args.arg2.now jobs c.as_bytes.result.now (c.as_bytes.ensures.value ∙ c.requires.right) a b c.in_err-put.ensures.part)
 
-pub returns-clause-waits : goal.returns-clause-waits
-returns-clause-waits g c =
-    line_waits c.write.result (string_bytes c.args.self.now.text.now) (string_bytes c.write.new.text) c.args.due.now.items
-    (headed_of c.args.arg2.now c.args.hit.now.job) c.requires.first c.write.ensures.waits
+pub returns-clause-put : goal.returns-clause-put
+returns-clause-put g c =
+    let a = g.K.Sink.shown c.args.self.now.sink.now in
+    let b = g.K.Sink.shown c.put.new.self in
+    let jobs = g.R.Block.Jobs.jobs c.args.arg3.now in
+    puts c.args.arg2.now jobs c.as_bytes.result.now (c.as_bytes.ensures.value ∙ c.requires.right) a b c.in_ok-put.ensures.grown

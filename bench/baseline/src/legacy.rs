@@ -1,0 +1,118 @@
+//! What `radio lchannel` does, in plain Rust: clause 18 frames read whole, sent, and passed through the simulator's
+//! channel. And files of random frames to try it on.
+use crate::decoding::period;
+use crate::random::Random;
+use crate::sending::{Words, coded, input, level, output, scrambled};
+
+/// The bits of a label, the data bits of a symbol and the coding rate of each rate.
+const RATES: [(usize, usize, &str); 8] = [
+    (1, 24, "half"),
+    (1, 36, "three_quarters"),
+    (2, 48, "half"),
+    (2, 72, "three_quarters"),
+    (4, 96, "half"),
+    (4, 144, "three_quarters"),
+    (6, 192, "two_thirds"),
+    (6, 216, "three_quarters"),
+];
+
+const PILOTS: [usize; 4] = [5, 19, 32, 46];
+
+/// The polarity of the pilots, 127 symbols of it: true where it is negative.
+fn polarity() -> Vec<bool> {
+    scrambled(127, &[], 0, 127)
+}
+
+/// For each label bit in turn the coded bit of the symbol that stands there.
+fn sources(label_bits: usize) -> Vec<usize> {
+    let share = 48 * label_bits;
+    let s = (label_bits / 2).max(1);
+    let mut sources = vec![0; share];
+    for k in 0..share {
+        let i = share / 16 * (k % 16) + k / 16;
+        sources[s * (i / s) + (i + share - 16 * i / share) % s] = k;
+    }
+    sources
+}
+
+fn point(label: u8, bits: usize) -> (i32, i32) {
+    match bits {
+        1 => (level(label, 1).into(), 0),
+        bits => {
+            let axis = bits / 2;
+            let (i, q) = (label >> axis, label & ((1 << axis) - 1));
+            (level(i, axis as u32).into(), level(q, axis as u32).into())
+        }
+    }
+}
+
+fn lchannel(noise: u16) {
+    let octets = input();
+    let frames = u16::from_be_bytes([octets[5], octets[6]]);
+    let mut made = b"LGCP\x01".to_vec();
+    made.extend(frames.to_be_bytes());
+    let mut words = Words::new(42);
+    let polarity = polarity();
+    let spread = 2 * u32::from(noise) + 1;
+    let mut at = 7;
+    for _ in 0..frames {
+        let (label_bits, data_bits, rate) = RATES[usize::from(octets[at])];
+        let length = usize::from(u16::from_be_bytes([octets[at + 1], octets[at + 2]]));
+        made.extend(&octets[at..at + 3]);
+        let psdu = &octets[at + 4..at + 4 + length];
+        let symbols = (22 + 8 * length).div_ceil(data_bits);
+        let bits = scrambled(octets[at + 3], psdu, 6, symbols * data_bits);
+        at += 4 + length;
+        let sources = sources(label_bits);
+        let code = coded(bits.into_iter(), period(rate).unwrap(), symbols * sources.len());
+        let diagonals: Vec<i32> = (0..52).map(|_| 64 + (words.draw() % 192) as i32).collect();
+        for diagonal in &diagonals {
+            made.extend((*diagonal as u16).to_be_bytes());
+        }
+        for (symbol, bits) in code.chunks_exact(sources.len()).enumerate() {
+            let sign = if polarity[(symbol + 1) % 127] { -1 } else { 1 };
+            let mut labels = sources.chunks_exact(label_bits);
+            for (carrier, diagonal) in diagonals.iter().enumerate() {
+                let (i, q) = match PILOTS.iter().position(|pilot| *pilot == carrier) {
+                    Some(3) => (-sign, 0),
+                    Some(_) => (sign, 0),
+                    None => {
+                        let places = labels.next().unwrap();
+                        point(places.iter().fold(0, |label, place| label << 1 | u8::from(bits[*place])), label_bits)
+                    }
+                };
+                for part in [i, q] {
+                    let sample = diagonal * part + (words.draw() % spread) as i32 - i32::from(noise);
+                    made.extend(sample.to_be_bytes());
+                }
+            }
+        }
+    }
+    output(&made);
+}
+
+/// Writes a file of a number of frames of random octets.
+fn write_frames(frames: u16, rate: u8, length: u16) {
+    let mut random = Random::new(1);
+    let mut made = b"LGTX\x01".to_vec();
+    made.extend(frames.to_be_bytes());
+    for _ in 0..frames {
+        made.push(rate);
+        made.extend(length.to_be_bytes());
+        made.push(1 + (random.draw() % 127) as u8);
+        made.extend((0..length).map(|_| random.draw() as u8));
+    }
+    output(&made);
+}
+
+/// Whether the words are a command or a file to be written.
+pub fn run(words: &[String]) -> bool {
+    let number = |at: usize, default: u16| words.get(at).and_then(|word| word.parse().ok()).unwrap_or(default);
+    match words.first().map(String::as_str) {
+        Some("lchannel") => lchannel(number(1, 0)),
+        // The number of frames, the index of the rate and the length.
+        Some("lframes") => write_frames(number(1, 1), number(2, 0) as u8, number(3, 1500)),
+        _ => return false,
+    }
+    true
+}

@@ -1,0 +1,109 @@
+//! Blocks of jobs.
+ghost use Rattle.std.specs.Prelude.{◌≡◌, ◌+◌, ◌<◌, ◌≤◌, ◌↔◌, Some, length, slice_get, IfOk, IfSome, IsTrue};
+ghost use Rattle.std.specs.Arc.{arc_value};
+ghost use Rattle.ht_capture.specs.Parts.{jobs_of, part_of};
+
+use crate::shared_symbol::SharedSymbol;
+use ht_metric::{Job, Place};
+use std::alloc::{AllocError, Global};
+use std::marker::Model;
+use std::sync::Arc;
+
+/// The jobs of some subcarriers of a symbol, which follow one another: at least one, and at most 114.
+///
+/// It is a handle of a few words. Triangles and samples stay where the symbol lies, which its blocks share, and each job
+/// is made when it is asked for.
+#[derive(Debug, Drop)]
+pub struct SymbolBlock {
+    symbol: Arc<SharedSymbol, Global>,
+    first: u16,
+    count: u16,
+}
+
+impl Model for SymbolBlock {
+    ghost use Rattle.std.specs.Prelude.{◌≤◌, ◌+◌, length};
+    ghost use Rattle.std.specs.Arc.{arc_value};
+    ghost use Rattle.ht_capture.specs.Parts.{SymbolPart, part_of};
+
+    ghost Value = { SymbolPart };
+
+    ghost view = { λ b. part_of (arc_value b.symbol) b.first b.count };
+
+    ghost invariant = { λ b. (1 ≤ b.count) × (b.first + b.count ≤ length (arc_value b.symbol).present) × (b.first + b.count ≤ 114) };
+}
+
+impl SymbolBlock {
+    // The block of a number of subcarriers of a symbol, from one on.
+    pub(crate) fn of(symbol: Arc<SharedSymbol, Global>, first: u16, count: u16) -> SymbolBlock
+        requires some { 1 ≤ count }
+        requires within { first + count ≤ length (arc_value symbol).present }
+        requires few { first + count ≤ 114 }
+        ensures { result ≡ part_of (arc_value symbol) first count }
+    {
+        SymbolBlock {
+            symbol,
+            first,
+            count,
+        }
+    }
+
+    /// The number of its jobs, 1 to 114.
+    #[inline]
+    pub fn size(&self) -> u16
+        ensures number { result ≡ length (jobs_of self.now) }
+        ensures some { 1 ≤ result }
+        ensures few { result ≤ 114 }
+    {
+        self.count
+    }
+
+    /// The place of its first job.
+    pub fn place(&self) -> Place
+        ensures { IfSome (slice_get (jobs_of self.now) 0) (λ job. job.place ≡ result) }
+    {
+        self.symbol.place(usize::from(self.first))
+    }
+
+    /// The place of the job that has `at` others before it.
+    #[inline]
+    pub fn place_at(&self, at: u16) -> Place
+        requires { at < length (jobs_of self.now) }
+        ensures { IfSome (slice_get (jobs_of self.now) at) (λ job. job.place ≡ result) }
+    {
+        self.symbol.place(usize::from(self.first + at))
+    }
+
+    /// The job that has `at` others before it.
+    #[inline]
+    pub fn job(&self, at: u16) -> Job
+        requires { at < length (jobs_of self.now) }
+        ensures { Some result ≡ slice_get (jobs_of self.now) at }
+    {
+        self.symbol.job(usize::from(self.first + at))
+    }
+
+    /// The same block, which shares the symbol. The only error is lack of memory.
+    pub fn copy(&self) -> Result<SymbolBlock, AllocError>
+        ensures { IfOk result (λ copy. copy ≡ self.now) }
+    {
+        Ok(SymbolBlock {
+            symbol: Arc::try_clone(&self.symbol)?,
+            first: self.first,
+            count: self.count,
+        })
+    }
+
+    /// Whether both blocks have the same head, symbol, numbers, subcarriers, triangles and samples. Then they stand for the
+    /// same jobs. It compares the octets of the samples, and makes no job.
+    pub fn same(&self, other: &SymbolBlock) -> bool
+        ensures { IsTrue result ↔ (self.now ≡ other.now) }
+    {
+        self.count == other.count
+            && self.symbol.same(
+                usize::from(self.first),
+                &other.symbol,
+                usize::from(other.first),
+                usize::from(self.count),
+            )
+    }
+}

@@ -1,0 +1,51 @@
+//! Blocks of a capture as lists of jobs.
+ghost use Rattle.ht_capture.specs.Parts.{jobs_of};
+
+use ht_capture::SymbolBlock;
+use ht_feed::{Jobs, Shared};
+use ht_metric::{Job, Place};
+
+/// Some of the jobs of one symbol of a capture, in a handle of a few words: triangles and samples stay where the symbol
+/// lies.
+#[derive(Debug, Drop)]
+pub struct CaptureBlock {
+    /// The subcarriers of the symbol.
+    pub block: SymbolBlock,
+}
+
+impl Jobs for CaptureBlock {
+    ghost jobs = { λ b. jobs_of b.block };
+
+    #[inline]
+    fn size(&self) -> u16 {
+        self.block.size()
+    }
+
+    #[inline]
+    fn place(&self) -> Place {
+        self.block.place()
+    }
+
+    #[inline]
+    fn place_at(&self, at: u16) -> Place {
+        self.block.place_at(at)
+    }
+
+    #[inline]
+    fn job(&self, at: u16) -> Job {
+        self.block.job(at)
+    }
+}
+
+impl Shared for CaptureBlock {
+    fn same(&self, other: &CaptureBlock) -> bool {
+        self.block.same(&other.block)
+    }
+
+    fn copy(&self) -> Option<CaptureBlock> {
+        match self.block.copy() {
+            Ok(block) => Some(CaptureBlock { block }),
+            Err(_) => None,
+        }
+    }
+}

@@ -1,0 +1,101 @@
+//! The caller's end of a pool that runs blocks.
+ghost use Rattle.std.specs.Prelude.{if◌then◌else◌, ◌≡◌, ◌-◌, ◌^◌, ◌<◌, [], length, IfSome, IfNone, IsTrue, OnErr, OnOk};
+ghost use Rattle.ht_pool.specs.Helms.{IsSettled, IsSameHelm, gave};
+ghost use Rattle.ht_drive.specs.Blocks.{ComesBack};
+
+use crate::task::{Done, Runner, Task};
+use ht_feed::{Answer, Jobs, Work};
+use ht_pool::helm::Helm;
+use std::marker::Model;
+
+/// Where a caller gives blocks to the pool and gets what came of them. Contracts see the blocks that it gave, in order, and
+/// those that came back.
+#[derive(Drop)]
+pub(crate) struct BlockHelm<
+    'p,
+    'w,
+    B: Jobs + Drop + Send,
+    A: Answer + Drop + Send,
+    W: Work<B, Answer = A>,
+> {
+    helm: Helm<'p, Runner<'w, B, A, W>>,
+    // A number of blocks that has to come back before all have, and never too low.
+    out: u64,
+}
+
+impl<'p, 'w, B: Jobs + Drop + Send, A: Answer + Drop + Send, W: Work<B, Answer = A>> Model
+    for BlockHelm<'p, 'w, B, A, W> {
+    ghost use Rattle.ht_drive.specs.Blocks.{BlockHelm, IsCounted};
+
+    ghost Value = { BlockHelm };
+
+    ghost view = { λ h. h.helm };
+
+    ghost invariant = { λ h. IsCounted h.out h.helm };
+}
+
+impl<'p, 'w, B: Jobs + Drop + Send, A: Answer + Drop + Send, W: Work<B, Answer = A>> BlockHelm<
+    'p,
+    'w,
+    B,
+    A,
+    W,
+> {
+    /// The helm of a pool to which nothing was given.
+    pub(crate) fn new(helm: Helm<'p, Runner<'w, B, A, W>>) -> BlockHelm<'p, 'w, B, A, W>
+        requires { helm.given ≡ [] }
+        ensures { result ≡ helm.entry }
+    {
+        BlockHelm { helm, out: 0 }
+    }
+
+    /// Gives a task to the pool, if that has memory for it. Answers whether it has.
+    pub(crate) fn give(&mut self, task: Task<B>) -> bool
+        requires { length self.old.given < 2 ^ 64 - 1 }
+        ensures { self.new ≡ (if result then gave self.old task else self.old) }
+    {
+        let given = self.helm.give(task).is_ok();
+        if given {
+            self.out += 1;
+        }
+        given
+    }
+
+    /// What came of a task that a worker ran, or else of one that no worker took. There may be none.
+    pub(crate) fn next(&mut self) -> Option<Done<B, A>>
+        ensures same { IsSameHelm self.old self.new }
+        ensures given { self.new.given ≡ self.old.given }
+    {
+        let done = next_done(&mut self.helm)?;
+        self.out = self.out.saturating_sub(1);
+        Some(done)
+    }
+
+    /// Whether all blocks have come back.
+    pub(crate) fn is_home(&self) -> bool
+        ensures { IsTrue result → IsSettled self.now }
+    {
+        self.out == 0
+    }
+
+    /// The helm for tasks.
+    pub(crate) fn into_helm(self) -> Helm<'p, Runner<'w, B, A, W>>
+        ensures { result ≡ self.entry }
+    {
+        self.helm
+    }
+}
+
+// What came of a task that a worker ran, or else of one that no worker took.
+fn next_done<B: Jobs + Drop + Send, A: Answer + Drop + Send, W: Work<B, Answer = A>>(
+    helm: &mut Helm<'_, Runner<'_, B, A, W>>,
+) -> Option<Done<B, A>>
+    ensures some { IfSome result (λ _. ComesBack helm.old helm.new) }
+    ensures none { IfNone result (helm.new ≡ helm.old) }
+{
+    let received = helm.receive();
+    if received.is_some() {
+        return received;
+    }
+    helm.run_one()
+}

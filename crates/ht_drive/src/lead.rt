@@ -1,0 +1,115 @@
+//! The caller's part of a drive.
+ghost use Rattle.std.specs.Prelude.{◌≡◌, ◌≤◌, [], None, true, false, Some, IfErr, IfOk, OnOk};
+ghost use Rattle.ht_feed.specs.Dues.{count_in};
+ghost use Rattle.ht_feed.specs.Feeds.{IsFreshFeed};
+ghost use Rattle.ht_pool.specs.Helms.{IsSameHelm, IsSettled};
+ghost use Rattle.ht_drive.specs.Driving.{Refuses, Tallies};
+
+use crate::deliver::deliver;
+use crate::helm::BlockHelm;
+use crate::pace::Pace;
+use crate::supply::supply;
+use crate::tally::Tally;
+use crate::task::Runner;
+use crate::turn::turn;
+use crate::window::Window;
+use ht_feed::{Answer, BlockFeed, DriveFault, Shared, Work};
+use std::sync::Wait;
+
+/// Leads all blocks of a feed through an empty window and a pool to which nothing was given, and hands the feed their
+/// answers.
+pub(crate) fn lead<
+    R: Wait,
+    B: Shared + Drop + Send,
+    A: Answer + Drop + Send,
+    F: BlockFeed<Block = B, Answer = A>,
+    W: Work<B, Answer = A>,
+>(
+    rt: &R,
+    runner: &Runner<'_, B, A, W>,
+    window: &mut Window<B, A>,
+    helm: &mut BlockHelm<'_, '_, B, A, W>,
+    tally: &mut Tally,
+    pace: &mut Pace,
+    feed: &mut F,
+) -> Result<(), DriveFault<F::Fault>>
+    requires capacity { window.old.capacity ≤ 4096 }
+    requires empty { window.old.due ≡ [] }
+    requires fresh { IsFreshFeed (F.shown feed.old) }
+    requires untouched { helm.old.given ≡ [] }
+    requires own { tally.old.own ≡ 0 }
+    requires issued { tally.old.issued ≡ 0 }
+
+    ensures leads { F.leads feed.old feed.new }
+    ensures due { count_in (F.shown feed.new).due ≤ window.old.capacity }
+    ensures ended { OnOk result ((F.shown feed.new).ended ≡ true) }
+    ensures taken { OnOk result ((F.shown feed.new).due ≡ []) }
+    ensures well { OnOk result ((F.shown feed.new).failed ≡ None) }
+    ensures refuses { IfErr result (Refuses (F.shown feed.new)) }
+
+    ensures jobs { OnOk result (tally.new.issued ≡ (F.shown feed.new).count) }
+    ensures tallies { OnOk result (Tallies tally.new helm.new.given) }
+    ensures same { IsSameHelm helm.old helm.new }
+    ensures settled { OnOk result (IsSettled helm.new) }
+{
+    let mut running = true;
+    for _ in rt.forever() {
+        running = match supply(window, helm, tally, pace.size(), running, feed) {
+            Ok(on) => on,
+            Err(fault) => return Err(DriveFault::Feed(fault)),
+        };
+        if let Err(fault) = deliver(window, feed) {
+            return Err(DriveFault::Feed(fault));
+        }
+        if !running && window.is_empty() && helm.is_home() {
+            return Ok(());
+        }
+        if turn(runner.work, window, helm, pace).is_err() {
+            return Err(DriveFault::NoMemory);
+        }
+    }
+    unreachable!()
+}
+
+/// The same, and answers whether there was memory enough, or the feed's fault.
+pub(crate) fn lead_into<
+    R: Wait,
+    B: Shared + Drop + Send,
+    A: Answer + Drop + Send,
+    F: BlockFeed<Block = B, Answer = A>,
+    W: Work<B, Answer = A>,
+>(
+    rt: &R,
+    runner: &Runner<'_, B, A, W>,
+    window: &mut Window<B, A>,
+    helm: &mut BlockHelm<'_, '_, B, A, W>,
+    tally: &mut Tally,
+    pace: &mut Pace,
+    feed: &mut F,
+) -> Result<bool, F::Fault>
+    requires capacity { window.old.capacity ≤ 4096 }
+    requires empty { window.old.due ≡ [] }
+    requires fresh { IsFreshFeed (F.shown feed.old) }
+    requires untouched { helm.old.given ≡ [] }
+    requires own { tally.old.own ≡ 0 }
+    requires issued { tally.old.issued ≡ 0 }
+
+    ensures leads { F.leads feed.old feed.new }
+    ensures due { count_in (F.shown feed.new).due ≤ window.old.capacity }
+    ensures ended { IfOk result (λ enough. enough ≡ true → (F.shown feed.new).ended ≡ true) }
+    ensures taken { IfOk result (λ enough. enough ≡ true → (F.shown feed.new).due ≡ []) }
+    ensures well { IfOk result (λ enough. enough ≡ true → (F.shown feed.new).failed ≡ None) }
+    ensures fault { IfErr result (λ fault. (F.shown feed.new).failed ≡ Some fault) }
+    ensures memory { IfOk result (λ enough. enough ≡ false → (F.shown feed.new).failed ≡ None) }
+
+    ensures jobs { IfOk result (λ enough. enough ≡ true → tally.new.issued ≡ (F.shown feed.new).count) }
+    ensures tallies { IfOk result (λ enough. enough ≡ true → Tallies tally.new helm.new.given) }
+    ensures same { IsSameHelm helm.old helm.new }
+    ensures settled { IfOk result (λ enough. enough ≡ true → IsSettled helm.new) }
+{
+    match lead(rt, runner, window, helm, tally, pace, feed) {
+        Ok(()) => Ok(true),
+        Err(DriveFault::NoMemory) => Ok(false),
+        Err(DriveFault::Feed(fault)) => Err(fault),
+    }
+}

@@ -1,0 +1,216 @@
+//! The drive of a feed of blocks.
+ghost use Rattle.std.specs.Prelude.{◌≡◌, ◌+◌, ◌-◌, ◌<◌, ◌≤◌, [], length, map, true, Err, None, Some, IfErr, IfOk, OnOk, vec_len, vec_capacity};
+ghost use Rattle.std.specs.List.{All};
+ghost use Rattle.ht_feed.specs.Dues.{count_in};
+ghost use Rattle.ht_feed.specs.Feeds.{IsFreshFeed};
+ghost use Rattle.ht_pool.specs.Helms.{IsSettled, unused};
+ghost use Rattle.ht_pool.specs.Members.{HasServed, HasYetToServe, berth_of, berths};
+ghost use Rattle.ht_pool.specs.Pools.{IsOpened, IsVacant};
+ghost use Rattle.ht_drive.specs.Blocks.{jobs_in, task_of};
+ghost use Rattle.ht_drive.specs.Driving.{Refuses, Tallies};
+ghost use Rattle.ht_drive.specs.Reports.{HasRunAlone, HasRunInPool};
+
+use crate::helm::BlockHelm;
+use crate::lead::lead_into;
+use crate::pace::Pace;
+use crate::report::Report;
+use crate::tally::Tally;
+use crate::task::{Done, Runner, Task};
+use crate::window::Window;
+use ht_feed::{Answer, BlockFeed, DriveFault, Jobs, Shared, Work, drive_counted};
+use ht_pool::close::close;
+use ht_pool::crew::beside;
+use ht_pool::helm::Helm;
+use ht_pool::member::Member;
+use ht_pool::pool::Pool;
+use ht_pool::post::Post;
+use ht_pool::shared::Shared as Common;
+use ht_pool::space::Space;
+use std::alloc::Global;
+use std::marker::PhantomData;
+use std::sync::Wait;
+use std::thread::Threads;
+
+/// Runs all blocks of a feed by 1 to 64 workers, of which the caller is one, and hands it their answers in the order of the
+/// blocks.
+///
+/// The feed has given nothing yet. The caller asks it for blocks until `window` jobs are due, 1 to 4096, or it has ended, and
+/// gives a copy of each to the pool, from which the other workers take them, each in a thread of its own. What can't be
+/// copied it runs itself. So whichever call of the feed fails, no more than `window` jobs are due. Blocks begin with single
+/// jobs and grow with each answer that comes back, up to half a worker's share of a full window,
+/// `window / (2 * workers)` jobs, at least 1 and at most 57; where the work calls a block hard they are single jobs again.
+/// With one worker it is [`drive_alone`](ht_feed::drive_alone).
+///
+/// It refuses with the feed's fault, or with `NoMemory`: before the first call of the feed, or where the work was out of
+/// memory. Threads that can't be started leave more to the caller.
+pub fn drive<R: Threads + Wait + Sync, F: BlockFeed, W: Work<F::Block, Answer = F::Answer> + Sync>(
+    rt: &R,
+    alloc: Global,
+    workers: u8,
+    window: u16,
+    work: &W,
+    feed: &mut F,
+) -> Result<Report, DriveFault<F::Fault>>
+where
+    F::Block: Shared + Send + Sync,
+    F::Answer: Send + Sync,
+    requires one { 1 ≤ workers }
+    requires many { workers ≤ 64 }
+    requires some { 1 ≤ window }
+    requires few { window ≤ 4096 }
+    requires fresh { IsFreshFeed (F.shown feed.old) }
+
+    // However it ends.
+    ensures leads { F.leads feed.old feed.new }
+    ensures due { count_in (F.shown feed.new).due ≤ window }
+
+    // When the feed has ended, every block was run and taken, and no call failed.
+    ensures ended { OnOk result ((F.shown feed.new).ended ≡ true) }
+    ensures taken { OnOk result ((F.shown feed.new).due ≡ []) }
+    ensures well { OnOk result ((F.shown feed.new).failed ≡ None) }
+    ensures jobs { IfOk result (λ report. report.jobs ≡ (F.shown feed.new).count) }
+
+    // What the workers did.
+    ensures alone { workers ≡ 1 → IfOk result HasRunAlone }
+    ensures ran { 2 ≤ workers → IfOk result (HasRunInPool workers) }
+
+    // What it refuses with.
+    ensures fault { (fault : F.Fault) → result ≡ Err (DriveFault.Feed fault) → (F.shown feed.new).failed ≡ Some fault }
+    ensures memory { result ≡ Err DriveFault.NoMemory → (F.shown feed.new).failed ≡ None }
+{
+    if workers == 1 {
+        return run_alone(alloc, window, work, feed);
+    }
+    let Ok(due) = Window::new(alloc, window) else {
+        return Err(DriveFault::NoMemory);
+    };
+    let Ok(pool) = Pool::open(alloc, workers - 1, window) else {
+        return Err(DriveFault::NoMemory);
+    };
+    in_pool(rt, pool, due, Pace::new(workers, window), work, feed)
+}
+
+// Runs all blocks of a feed in this thread.
+fn run_alone<F: BlockFeed, W: Work<F::Block, Answer = F::Answer>>(
+    alloc: Global,
+    window: u16,
+    work: &W,
+    feed: &mut F,
+) -> Result<Report, DriveFault<F::Fault>>
+    requires some { 1 ≤ window }
+    requires few { window ≤ 4096 }
+    requires fresh { IsFreshFeed (F.shown feed.old) }
+    ensures leads { F.leads feed.old feed.new }
+    ensures due { count_in (F.shown feed.new).due ≤ window }
+    ensures ended { OnOk result ((F.shown feed.new).ended ≡ true) }
+    ensures taken { OnOk result ((F.shown feed.new).due ≡ []) }
+    ensures well { OnOk result ((F.shown feed.new).failed ≡ None) }
+    ensures jobs { IfOk result (λ report. report.jobs ≡ (F.shown feed.new).count) }
+    ensures alone { IfOk result HasRunAlone }
+    ensures fault { (fault : F.Fault) → result ≡ Err (DriveFault.Feed fault) → (F.shown feed.new).failed ≡ Some fault }
+    ensures memory { result ≡ Err DriveFault.NoMemory → (F.shown feed.new).failed ≡ None }
+{
+    match drive_counted(window, work, feed) {
+        Ok(jobs) => Ok(Report {
+            jobs,
+            own: jobs,
+            ran: Vec::new(alloc),
+        }),
+        Err(fault) => Err(fault),
+    }
+}
+
+// Runs all blocks of a feed in a pool that was opened, and through an empty window.
+fn in_pool<
+    R: Threads + Wait + Sync,
+    B: Shared + Drop + Send + Sync,
+    A: Answer + Drop + Send + Sync,
+    E: Drop,
+    F: BlockFeed<Block = B, Answer = A, Fault = E>,
+    W: Work<B, Answer = A> + Sync,
+>(
+    rt: &R,
+    pool: Pool<Task<B>, Done<B, A>>,
+    window: Window<B, A>,
+    pace: Pace,
+    work: &W,
+    feed: &mut F,
+) -> Result<Report, DriveFault<E>>
+    requires opened { IsOpened window.capacity pool }
+    requires capacity { window.capacity ≤ 4096 }
+    requires empty { window.due ≡ [] }
+    requires fresh { IsFreshFeed (F.shown feed.old) }
+
+    ensures leads { F.leads feed.old feed.new }
+    ensures due { count_in (F.shown feed.new).due ≤ window.capacity }
+    ensures ended { OnOk result ((F.shown feed.new).ended ≡ true) }
+    ensures taken { OnOk result ((F.shown feed.new).due ≡ []) }
+    ensures well { OnOk result ((F.shown feed.new).failed ≡ None) }
+    ensures jobs { IfOk result (λ report. report.jobs ≡ (F.shown feed.new).count) }
+    ensures ran { IfOk result (HasRunInPool (length pool.post.deques)) }
+    ensures refuses { IfErr result (Refuses (F.shown feed.new)) }
+{
+    let Pool {
+        shared,
+        post,
+        members,
+        space,
+    } = pool;
+    let runner = Runner {
+        work,
+        of: PhantomData,
+    };
+    let mut window = window;
+    let mut pace = pace;
+    let shared = &shared;
+    let runner = &runner;
+    let mut helm = BlockHelm::new(Helm::new(post, shared, runner));
+    let mut tally = Tally { issued: 0, own: 0 };
+    let (members, answer) = beside(
+        rt,
+        runner,
+        shared,
+        members,
+        &mut || -> Result<bool, E>
+            requires { (window.capacity ≤ 4096) × (window.due ≡ []) × IsFreshFeed (F.shown feed.now) × (helm.given ≡ []) × (tally.own ≡ 0) × (tally.issued ≡ 0) }
+        {
+            lead_into(
+                rt,
+                runner,
+                &mut window,
+                &mut helm,
+                &mut tally,
+                &mut pace,
+                feed,
+            )
+        },
+    );
+    match answer {
+        Ok(true) => Ok(finish(tally, helm, members, space)),
+        Ok(false) => Err(DriveFault::NoMemory),
+        Err(fault) => Err(DriveFault::Feed(fault)),
+    }
+}
+
+// What was done, once every block was taken and the workers have ended.
+fn finish<B: Jobs + Drop + Send, A: Answer + Drop + Send, W: Work<B, Answer = A>>(
+    tally: Tally,
+    helm: BlockHelm<'_, '_, B, A, W>,
+    members: Vec<Member<Task<B>, Done<B, A>>>,
+    space: Space<Task<B>>,
+) -> Report
+    requires served { All (HasServed task_of jobs_in helm.queue) members.items }
+    requires berths { map berth_of members.items ≡ berths helm.deques }
+    requires space { IsVacant (length helm.deques) space }
+    requires settled { IsSettled helm }
+    requires tallies { Tallies tally helm.given }
+    ensures jobs { result.jobs ≡ tally.issued }
+    ensures ran { HasRunInPool (length helm.entry.deques) result }
+{
+    let closed = close(helm.into_helm(), members, space);
+    Report {
+        jobs: tally.issued,
+        own: tally.own,
+        ran: closed.ran,
+    }
+}

@@ -1,0 +1,34 @@
+//! What a caller does while it waits.
+ghost use Rattle.std.specs.Prelude.{◌≡◌};
+ghost use Rattle.ht_pool.specs.Helms.{IsSameHelm};
+
+use crate::helm::BlockHelm;
+use crate::pace::Pace;
+use crate::window::Window;
+use ht_feed::{Answer, Shared, Work};
+use std::alloc::AllocError;
+use std::thread;
+
+/// Keeps an answer that has come, or runs a block that no worker took. Where there is neither and all blocks have come back,
+/// it runs the first one due that still waits for its answer; else another thread may go on. The only error is that the
+/// work lacked memory.
+pub(crate) fn turn<B: Shared + Drop + Send, A: Answer + Drop + Send, W: Work<B, Answer = A>>(
+    work: &W,
+    window: &mut Window<B, A>,
+    helm: &mut BlockHelm<'_, '_, B, A, W>,
+    pace: &mut Pace,
+) -> Result<(), AllocError>
+    ensures window { window.new ≡ window.old }
+    ensures given { helm.new.given ≡ helm.old.given }
+    ensures same { IsSameHelm helm.old helm.new }
+{
+    if let Some(done) = helm.next() {
+        pace.see(done.is_hard(work));
+        return window.accept(done);
+    }
+    if helm.is_home() {
+        return window.run_first(work);
+    }
+    thread::yield_now();
+    Ok(())
+}

@@ -1,0 +1,35 @@
+//! How hard a search was.
+
+use ht_metric::Job;
+
+/// The streams of a hard job, at least.
+const STREAMS: u8 = 3;
+
+/// How often the distance of a hard job has its measure in it, at least.
+const FAR: u64 = 64;
+
+/// Whether the search for a job whose hit has this distance may have looked at thousands of vectors: many are in the grid,
+/// and the one that was found is far.
+pub(crate) fn is_hard(job: &Job, distance: u128) -> bool {
+    let grid = job.grid();
+    if grid.streams() < STREAMS || !grid.i_ladder(1).has(3) {
+        return false;
+    }
+    u64::try_from(distance).unwrap_or(u64::MAX) / measure(job).max(1) >= FAR
+}
+
+// Four times the square of the least diagonal of a job's system.
+fn measure(job: &Job) -> u64 {
+    let least = u64::from(least_diagonal(job));
+    4 * least * least
+}
+
+// The least diagonal of a job's system.
+fn least_diagonal(job: &Job) -> u16 {
+    let system = job.system();
+    let mut least = u16::MAX;
+    for row in 0..system.streams() {
+        least = least.min(system.diagonal(row + 1));
+    }
+    least
+}

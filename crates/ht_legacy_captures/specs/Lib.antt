@@ -1,0 +1,3 @@
+pub mod Items
+pub mod Formats
+pub mod Files

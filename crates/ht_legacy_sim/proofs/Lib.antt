@@ -1,0 +1,3 @@
+pub mod Drawn
+pub mod Converting
+pub mod Framed

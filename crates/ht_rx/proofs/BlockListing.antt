@@ -1,0 +1,78 @@
+-- The lines of a block are put.
+use Rattle.std.proofs.Common.{◌≡◌, ℕ, ◌+◌, List, [], ◌∷◌, ◌++◌, map, take, slice_get, Some, Result, MatchResult, refl, sym, ap, ◌∙◌, subst, append-nil, append_assoc}
+use Rattle.std.proofs.Math.Path.{fun_ext}
+use Rattle.std.proofs.lemmas.List.{take_more}
+use Rattle.std.proofs.lemmas.Option.{get_or_from_slice_get, slice_get_within}
+use Rattle.ht_io.specs.Devices.{Device, Grows, GrowsByPart}
+use Rattle.ht_io.proofs.Calls.{grows_by_part-front}
+use Rattle.ht_metric.specs.declared.found.Found.{Found}
+use Rattle.ht_metric.specs.declared.place.Place.{Place}
+use Rattle.ht_metric.specs.Jobs.{JobView, near}
+use Rattle.ht_capture.specs.declared.items.FrameHead.{FrameHead}
+use Rattle.ht_runs.specs.declared.faults.StopFault.{StopFault}
+use Rattle.ht_feed.specs.declared.ended.Ended.{Ended}
+use Rattle.ht_feed.specs.Accounts.{PutsBlock, PutsPartOf}
+use Rattle.ht_feed.specs.Dues.{due_of, headed_due}
+use Rattle.ht_feed.specs.Items.{Headed as BlockHeaded}
+use Rattle.ht_results.specs.declared.headed.Headed.{Headed}
+use Rattle.ht_results.specs.Heads.{headed_jobs}
+use Rattle.ht_rx.specs.Blocks.{in_block, jobs_in_blocks, told_of}
+use Rattle.ht_rx.specs.Heads.{jobs_alone}
+use Rattle.ht_rx.specs.Outcomes.{StopsBy, TellsTo}
+use Rattle.ht_rx.specs.Texts.{job_line_of, job_lines, line_at, lines_of}
+use Rattle.ht_rx.proofs.Heading.{jobs_of_octets}
+
+job_lines-append : (xs ys : List JobView) → job_lines (xs ++ ys) ≡ job_lines xs ++ job_lines ys
+job_lines-append [] ys = refl
+job_lines-append (x ∷ xs) ys =
+    ap (λ (lines : List ℕ). job_line_of x ++ lines) (job_lines-append xs ys) ∙ sym (append_assoc (job_line_of x) (job_lines xs) (job_lines ys))
+
+-- what is said of a job's place and of what was found for it is its line
+pub line_is : (job : JobView) (place : Place) (found : Found) → place ≡ job.place → found ≡ near job → line_at place found ≡ job_line_of job
+unfolding job_line_of
+line_is job place found here is = ap (λ (p : Place). line_at p found) here ∙ ap (λ (f : Found). line_at job.place f) is
+
+-- the line of one job more
+pub lines_next : (jobs : List JobView) (at : ℕ) (job : JobView) (text : List ℕ) → slice_get jobs at ≡ Some job → text ≡ job_lines (take at jobs)
+    → text ++ job_line_of job ≡ job_lines (take (at + 1) jobs)
+lines_next jobs at job text is so =
+    ap (λ (xs : List ℕ). xs ++ job_line_of job) so
+    ∙ (ap (λ (xs : List ℕ). job_lines (take at jobs) ++ xs) (sym (append-nil (job_line_of job)))
+    ∙ (sym (job_lines-append (take at jobs) (job ∷ []))
+    ∙ ap job_lines (ap (λ (j : JobView). take at jobs ++ j ∷ []) (sym (get_or_from_slice_get jobs at job job is))
+    ∙ sym (take_more jobs at job (slice_get_within jobs at job is)))))
+
+module _ (head : FrameHead) where
+  alone : (jobs : List JobView) (more : List (BlockHeaded FrameHead)) → jobs_in_blocks (headed_due (due_of head jobs) ++ more) ≡ jobs ++ jobs_in_blocks more
+  alone [] more = refl
+  alone (job ∷ jobs) more = ap (λ (js : List JobView). job ∷ js) (alone jobs more)
+
+  -- the text is that of these jobs
+  module _ (jobs : List JobView) (text : List ℕ) (is : text ≡ job_lines jobs) (a b : Device ℕ) where
+    whole : (more : List (BlockHeaded FrameHead)) → job_lines (jobs_in_blocks (headed_due (due_of head jobs) ++ more)) ≡ text ++ job_lines (jobs_in_blocks more)
+    whole more =
+        ap job_lines (alone jobs more)
+        ∙ (job_lines-append jobs (jobs_in_blocks more) ∙ ap (λ (xs : List ℕ). xs ++ job_lines (jobs_in_blocks more)) (sym is))
+
+    pub puts : Grows a b text → PutsBlock a b (λ js. job_lines (jobs_in_blocks js)) (λ js. job_lines (jobs_in_blocks js)) (headed_due (due_of head jobs))
+    puts grows = (text, grows, whole)
+
+    pub part : GrowsByPart a b text → PutsPartOf a b (λ js. job_lines (jobs_in_blocks js)) (headed_due (due_of head jobs))
+    part grows = λ more. subst (λ (xs : List ℕ). GrowsByPart a b xs) (sym (whole more)) (grows_by_part-front a b text (job_lines (jobs_in_blocks more)) grows)
+
+alone-in : (hs : List Headed) → jobs_in_blocks (map in_block hs) ≡ jobs_alone hs
+alone-in [] = refl
+alone-in (h ∷ hs) = ap (λ (js : List JobView). h.job ∷ js) (alone-in hs)
+
+lines_are : (octets : List ℕ) → told_of (λ js. job_lines (jobs_in_blocks js)) octets ≡ lines_of octets
+unfolding lines_of
+lines_are octets = ap job_lines (alone-in (headed_jobs octets) ∙ jobs_of_octets octets)
+
+-- the lines of all jobs are the lines of the octets
+pub blocks_told : (result : Result Ended StopFault) (source source' sink sink' : Device ℕ)
+    → MatchResult result (TellsTo (told_of (λ js. job_lines (jobs_in_blocks js))) source source' sink sink')
+    (StopsBy (told_of (λ js. job_lines (jobs_in_blocks js))) source source' sink sink')
+    → MatchResult result (TellsTo lines_of source source' sink sink') (StopsBy lines_of source source' sink sink')
+blocks_told result source source' sink sink' told =
+    subst (λ (f : List ℕ → List ℕ). MatchResult result (TellsTo f source source' sink sink') (StopsBy f source source' sink sink'))
+    (fun_ext lines_are) told

@@ -1,0 +1,186 @@
+-- What a run of the feed over blocks comes to, said of the octets of a capture.
+use Rattle.std.specs.Prelude.{◌≡◌, ℕ, ◌+◌, ◌<◌, List, [], ◌∷◌, ◌++◌, length, map, take, Option, None, Some, IfSome, Result, Ok, Err, MatchResult}
+use Rattle.std.proofs.Common.{refl, ap, ◌∙◌, sym, subst, inl, inr, arith, length-take}
+use Rattle.std.proofs.Math.Path.{fun_ext}
+use Rattle.ht_io.specs.Devices.{Device}
+use Rattle.ht_io.specs.declared.faults.FormatFault.{FormatFault}
+use Rattle.ht_fields.specs.Meanings.{Meaning}
+use Rattle.ht_fields.specs.Readers.{EndsAt, IsEarly, ReaderView}
+use Rattle.ht_metric.specs.Jobs.{JobView}
+use Rattle.ht_capture.specs.declared.items.FrameHead.{FrameHead}
+use Rattle.ht_capture.specs.declared.items.Item.{Item as CaptureItem}
+use Rattle.ht_capture.specs.declared.items.Item.TheVariants.{Frame, Job, Done}
+use Rattle.ht_capture.specs.Captures.{capture_of}
+use Rattle.ht_capture.specs.Fields.{captures}
+use Rattle.ht_capture_laws.specs.Items.{FrameJobs, frames_in, items_in}
+use Rattle.ht_capture_laws.proofs.Parts.{frames_of as parts_of}
+use Rattle.ht_runs.specs.declared.faults.StopFault.{StopFault}
+use Rattle.ht_runs.specs.declared.faults.StopFault.TheVariants.{Read, Write, NoMemory}
+use Rattle.ht_runs.specs.Outcomes.{IsFrontOf, TellsBroken, TellsPieces, TellsRefused, TellsWhole}
+use Rattle.ht_runs.proofs.Fronts.{before_end, before_fault}
+use Rattle.ht_runs.proofs.Outcomes.{start as start_of}
+use Rattle.ht_feed.specs.declared.ended.Ended.{Ended}
+use Rattle.ht_feed.specs.declared.ended.Ended.TheVariants.{Done as EndedDone, Refused as EndedRefused}
+use Rattle.ht_feed.specs.Accounts.{Telling}
+use Rattle.ht_capture_blocks.specs.Captures.{items_of, mapped}
+use Rattle.ht_feed.specs.Items.{Item, Begins, One, Headed as BlockHeaded}
+use Rattle.ht_feed.specs.Items.{headed as block_headed, headed_of as block_headed_of, frames_of as block_frames, jobs_of as block_jobs}
+use Rattle.ht_feed.specs.Reading.{view}
+use Rattle.ht_feed.specs.Outcomes.{
+  Comes,
+  EndsWith,
+  StopsBy as BlockStops,
+  TellsBroken as BlockBroken,
+  TellsPieces as BlockPieces,
+  TellsRefused as BlockRefused,
+  TellsTo as BlockTells,
+  TellsWhole as BlockWhole,
+  pieces_of,
+}
+use Rattle.ht_results.specs.declared.headed.Headed.{Headed}
+use Rattle.ht_results.specs.Heads.{headed, headed_jobs}
+use Rattle.ht_results.specs.Texts.{frames_of}
+use Rattle.ht_results.proofs.Folded.{headed_is}
+use Rattle.ht_rx.specs.Blocks.{in_block, told_of}
+use Rattle.ht_rx.specs.Outcomes.{HasCounts, StopsBy, TellsTo}
+use Rattle.ht_rx.specs.Texts.{jobs_of}
+
+-- the items of a capture out of its heads and jobs
+abbrev items_again : List (Item FrameHead) → List CaptureItem
+items_again [] = []
+items_again (Begins head ∷ items) = Frame head ∷ items_again items
+items_again (One job ∷ items) = Job job ∷ items_again items
+
+again-jobs : (jobs : List JobView) (items : List CaptureItem)
+    → items_again (items_of (map Job jobs ++ items)) ≡ map Job jobs ++ items_again (items_of items)
+again-jobs [] items = refl
+again-jobs (job ∷ jobs) items = ap (λ (is : List CaptureItem). Job job ∷ is) (again-jobs jobs items)
+
+again-frames : (frames : List FrameJobs) → items_again (items_of (items_in frames)) ≡ items_in frames
+again-frames [] = refl
+again-frames (f ∷ fs) =
+    ap (λ (is : List CaptureItem). Frame f.head ∷ is)
+    (again-jobs f.jobs (items_in fs) ∙ ap (λ (is : List CaptureItem). map Job f.jobs ++ is) (again-frames fs))
+
+-- none of the items of octets is an end
+again : (octets : List ℕ) → items_again (items_of (capture_of octets).items) ≡ (capture_of octets).items
+again octets =
+    let all = (parts_of octets).all in
+    ap (λ (is : List CaptureItem). items_again (items_of is)) all ∙ (again-frames (frames_in (capture_of octets).items) ∙ sym all)
+
+same_meaning : (xs ys : List ℕ) → mapped (capture_of xs) ≡ mapped (capture_of ys) → capture_of xs ≡ capture_of ys
+same_meaning xs ys is =
+    let items : (capture_of xs).items ≡ (capture_of ys).items =
+    sym (again xs) ∙ (ap (λ (m : Meaning (Item FrameHead)). items_again m.items) is ∙ again ys) in
+    let fault : (capture_of xs).fault ≡ (capture_of ys).fault = ap (λ (m : Meaning (Item FrameHead)). m.fault) is in
+    ap (λ (is : List CaptureItem). let m : Meaning CaptureItem = record { items = is; fault = (capture_of xs).fault } in m) items
+    ∙ ap (λ (f : Option FormatFault). let m : Meaning CaptureItem = record { items = (capture_of ys).items; fault = f } in m) fault
+
+-- heads and jobs, frames and jobs are those of the items
+headed-items : (head : FrameHead) (items : List CaptureItem) → block_headed head (items_of items) ≡ map in_block (headed head items)
+headed-items head [] = refl
+headed-items head (Frame next ∷ items) = headed-items next items
+headed-items head (Job job ∷ items) = ap (λ (hs : List (BlockHeaded FrameHead)). block_headed_of head job ∷ hs) (headed-items head items)
+headed-items head (Done ∷ items) = headed-items head items
+
+frames-items : (items : List CaptureItem) → block_frames (items_of items) ≡ frames_of items
+frames-items [] = refl
+frames-items (Frame head ∷ items) = let e = frames-items items in omega (arith, e)
+frames-items (Job job ∷ items) = frames-items items
+frames-items (Done ∷ items) = frames-items items
+
+jobs-items : (items : List CaptureItem) → block_jobs (items_of items) ≡ jobs_of items
+jobs-items [] = refl
+jobs-items (Frame head ∷ items) = jobs-items items
+jobs-items (Job job ∷ items) = ap (λ (js : List JobView). job ∷ js) (jobs-items items)
+jobs-items (Done ∷ items) = jobs-items items
+
+headed-octets : (head : FrameHead) (octets : List ℕ) → block_headed head (items_of (capture_of octets).items) ≡ map in_block (headed_jobs octets)
+headed-octets head octets = headed-items head (capture_of octets).items ∙ ap (λ (hs : List Headed). map in_block hs) (headed_is octets head)
+
+-- a reader in front of a capture
+abbrev front : Device ℕ → ReaderView (Item FrameHead)
+front source = record { means = λ octets. mapped (capture_of octets); at = 0; source = source }
+
+comes_from : (left : Option (List ℕ)) (taken : List ℕ) → IfSome left (λ all. mapped (capture_of all) ≡ mapped (capture_of taken))
+    → IfSome left (λ all. capture_of all ≡ capture_of taken)
+comes_from None taken is = tt
+comes_from (Some all) taken is = same_meaning all taken is
+
+-- these pieces are put of octets; the source and the device, before and after
+module _ {P : Type 0} (pieces : List ℕ → List P) (source source' : Device ℕ) (device device' : Device P) where
+  front_is : (taken : List ℕ) (n : ℕ) → n < length taken → IsEarly n (capture_of (take n taken)).fault → IsFrontOf captures (take n taken)
+  front_is taken n few early =
+      let long : length (take n taken) ≡ n = omega (arith, few, length-take n taken) in
+      subst (λ k. IsEarly k (capture_of (take n taken)).fault) (sym long) early
+
+  ends : (taken : List ℕ) (fault : FormatFault) (n : ℕ) → (capture_of taken).fault ≡ Some fault
+      → EndsWith (front source) pieces source' device device' taken fault → n < length taken → IsFrontOf captures (take n taken)
+  ends taken fault n is (inl e) few =
+      let at : EndsAt (start_of captures source) taken fault =
+      record { kind = e.kind; behind = e.behind; within = e.within; early = e.early; trailing = e.trailing } in
+      front_is taken n few (before_end captures (start_of captures source) taken fault n refl (λ xs. refl) is at few)
+  ends taken fault n is (inr e) few =
+      let place : fault.offset ≡ 0 + length taken = ap (λ (f : FormatFault). f.offset) e in
+      front_is taken n few (before_fault captures taken fault n is (omega (arith, few, place)) few)
+
+  whole : (frames jobs : ℕ) → BlockWhole (front source) pieces source' device device' frames jobs
+      → TellsWhole captures pieces source source' device device' (HasCounts frames jobs)
+  whole frames jobs w =
+      record {
+        taken = w.taken;
+        octets = w.octets;
+        whole = w.whole;
+        says = record {
+          frames_are = w.frames_are ∙ frames-items (capture_of w.taken).items;
+          jobs_are = w.jobs_are ∙ ap (λ (js : List JobView). length js) (jobs-items (capture_of w.taken).items);
+        };
+        put = w.put;
+      }
+
+  refused : (fault : FormatFault) → BlockRefused (front source) pieces source' device device' fault
+      → TellsRefused captures pieces source source' device device' fault
+  refused fault r =
+      record {
+        taken = r.taken;
+        octets = r.octets;
+        refused = r.refused;
+        ends = λ n few. ends r.taken fault n r.refused r.ends few;
+        comes = comes_from source.known r.taken r.comes;
+        put = r.put;
+      }
+
+  broken : BlockBroken (front source) pieces source' device device' → TellsBroken captures pieces source source' device device'
+  broken b =
+      let place : 0 + length b.taken ≡ length b.taken = omega arith in
+      record { taken = b.taken; octets = b.octets; front = subst (λ n. IsEarly n (capture_of b.taken).fault) place b.front; put = b.put }
+
+  in_part : BlockPieces (front source) pieces source' device device' → TellsPieces captures pieces source source' device device'
+  in_part p = record { taken = p.taken; octets = p.octets; put = p.put; of_all = p.of_all }
+
+  told : (result : Result Ended StopFault)
+      → MatchResult result (BlockTells (front source) pieces source' device device') (BlockStops (front source) pieces source' device device')
+      → MatchResult result (TellsTo pieces source source' device device') (StopsBy pieces source source' device device')
+  told (Ok (EndedDone frames jobs)) t = whole frames jobs t
+  told (Ok (EndedRefused fault)) t = refused fault t
+  told (Err Read) t = (broken t.0, t.1)
+  told (Err Write) t = (in_part t.0, t.1)
+  told (Err NoMemory) t = in_part t
+
+-- a run from a reader in front of a capture
+pub comes_to : {R P : Type 0} (means : R → List ℕ → Meaning (Item FrameHead)) (at : R → ℕ) (reader : R) (head : FrameHead)
+    (source source' : Device ℕ) (a b : Telling FrameHead P) (result : Result Ended StopFault)
+    → ((octets : List ℕ) → means reader octets ≡ mapped (capture_of octets)) → at reader ≡ 0
+    → Comes means at reader head source source' a b result
+    → MatchResult result (TellsTo (told_of a.pieces) source source' a.device b.device) (StopsBy (told_of a.pieces) source source' a.device b.device)
+comes_to {P = P} means at reader head source source' a b result same zero came =
+    let is : view means at reader source ≡ front source =
+    ap (λ (m : List ℕ → Meaning (Item FrameHead)). let v : ReaderView (Item FrameHead) = record { means = m; at = at reader; source = source } in v) (fun_ext same)
+    ∙ ap (λ (n : ℕ). let v : ReaderView (Item FrameHead) = record { means = λ octets. mapped (capture_of octets); at = n; source = source } in v) zero in
+    let pieces_same : pieces_of a.pieces head (front source) ≡ told_of a.pieces = fun_ext (λ octets. ap a.pieces (headed-octets head octets)) in
+    told (told_of a.pieces) source source' a.device b.device result
+    (subst (λ (g : List ℕ → List P).
+    MatchResult result (BlockTells (front source) g source' a.device b.device) (BlockStops (front source) g source' a.device b.device)) pieces_same
+    (subst (λ (v : ReaderView (Item FrameHead)).
+    MatchResult result (BlockTells v (pieces_of a.pieces head v) source' a.device b.device)
+    (BlockStops v (pieces_of a.pieces head v) source' a.device b.device)) is came))

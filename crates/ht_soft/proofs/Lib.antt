@@ -1,0 +1,5 @@
+pub mod Cuts
+pub mod Signs
+pub mod SoftFrames
+pub mod Tables
+mod Values

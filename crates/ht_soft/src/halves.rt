@@ -1,0 +1,190 @@
+//! The vectors of a job of which one label bit has a given value.
+ghost use Rattle.std.specs.Prelude.{◌≡◌, ◌-◌, ◌<◌, ◌≤◌, ◌&&◌, List, length, replicate, slice_index_or, slice_set};
+ghost use Rattle.ht_rate.specs.Schemes.{bits_of};
+ghost use Rattle.ht_pam.specs.Grids.{no_axes};
+ghost use Rattle.ht_pam.specs.declared.point.Point.{Point};
+ghost use Rattle.ht_map.specs.Constellation.{axes_of};
+ghost use Rattle.ht_map.specs.Gray.{i_axis, one_bit, q_axis, three_bits, two_bits};
+ghost use Rattle.ht_metric.specs.Vectors.{is_in};
+ghost use Rattle.ht_soft.specs.Halves.{axis_named, cut_axis, half_axes, half_of, has_bit, i_bits, q_bits};
+
+use ht_metric::Job;
+use ht_pam::{Axes, Grid, Ladder};
+use ht_rate::Modulation;
+
+// Of the levels that one bit names, the one of which it has this value.
+#[tactic(auto, using(crate::proofs::Tables::cut_tables))]
+fn of_one_bit(k: u8, value: bool) -> Ladder
+    requires { k < 1 }
+    ensures { result ≡ cut_axis one_bit 1 k value }
+{
+    if value {
+        Ladder::of(2, 0b10)
+    } else {
+        Ladder::of(2, 0b01)
+    }
+}
+
+// Of the levels that two bits name, those of which bit `k` has this value.
+#[tactic(auto, using(crate::proofs::Tables::cut_tables))]
+fn of_two_bits(k: u8, value: bool) -> Ladder
+    requires { k < 2 }
+    ensures { result ≡ cut_axis two_bits 2 k value }
+{
+    match (k, value) {
+        (0, false) => Ladder::of(4, 0b0011),
+        (0, true) => Ladder::of(4, 0b1100),
+        (_, false) => Ladder::of(4, 0b1001),
+        (_, true) => Ladder::of(4, 0b0110),
+    }
+}
+
+// Of the levels that three bits name, those of which bit `k` has this value.
+#[tactic(auto, using(crate::proofs::Tables::cut_tables))]
+fn of_three_bits(k: u8, value: bool) -> Ladder
+    requires { k < 3 }
+    ensures { result ≡ cut_axis three_bits 3 k value }
+{
+    match (k, value) {
+        (0, false) => Ladder::of(8, 0b0000_1111),
+        (0, true) => Ladder::of(8, 0b1111_0000),
+        (1, false) => Ladder::of(8, 0b1100_0011),
+        (1, true) => Ladder::of(8, 0b0011_1100),
+        (_, false) => Ladder::of(8, 0b1001_1001),
+        (_, true) => Ladder::of(8, 0b0110_0110),
+    }
+}
+
+// Of the levels that `count` bits name, those of which bit `k` has this value.
+#[tactic(auto, unfolding(crate::specs::Halves::axis_named))]
+fn cut(count: u8, k: u8, value: bool) -> Ladder
+    requires few { count ≤ 3 }
+    requires bit { k < count }
+    ensures { result ≡ cut_axis (axis_named count) count k value }
+{
+    match count {
+        1 => of_one_bit(k, value),
+        2 => of_two_bits(k, value),
+        _ => of_three_bits(k, value),
+    }
+}
+
+// How many bits of a label name I.
+#[tactic(auto, unfolding(crate::specs::Halves::axis_named))]
+fn i_bits_of(modulation: Modulation) -> u8
+    ensures value { result ≡ i_bits modulation }
+    ensures axis { axis_named result ≡ i_axis modulation }
+    ensures few { result ≤ 3 }
+{
+    match modulation {
+        Modulation::Bpsk | Modulation::Qpsk => 1,
+        Modulation::Qam16 => 2,
+        Modulation::Qam64 => 3,
+    }
+}
+
+// How many bits of a label name Q.
+#[tactic(auto, unfolding(crate::specs::Halves::axis_named))]
+fn q_bits_of(modulation: Modulation) -> u8
+    ensures value { result ≡ q_bits modulation }
+    ensures axis { 0 < result → axis_named result ≡ q_axis modulation }
+    ensures few { result ≤ 3 }
+{
+    match modulation {
+        Modulation::Bpsk => 0,
+        Modulation::Qpsk => 1,
+        Modulation::Qam16 => 2,
+        Modulation::Qam64 => 3,
+    }
+}
+
+// Of all points of a modulation those whose label has this value at a bit.
+#[tactic(auto, using(crate::proofs::Cuts::halves_of_axes))]
+fn half_axes(modulation: Modulation, all: Axes, bit: u8, value: bool) -> Axes
+    requires all { all ≡ axes_of modulation }
+    requires bit { bit < bits_of modulation }
+    ensures { result ≡ half_axes modulation bit value }
+{
+    let first = i_bits_of(modulation);
+    if bit < first {
+        Axes {
+            i: cut(first, bit, value),
+            q: all.q,
+        }
+    } else {
+        Axes {
+            i: all.i,
+            q: cut(q_bits_of(modulation), bit - first, value),
+        }
+    }
+}
+
+// The ladders of a grid's stream.
+fn axes_at(grid: &Grid, stream: u8) -> Axes
+    requires first { 1 ≤ stream }
+    requires last { stream ≤ length grid.now }
+    ensures { result ≡ slice_index_or grid.now (stream - 1) no_axes }
+{
+    Axes {
+        i: grid.i_ladder(stream),
+        q: grid.q_ladder(stream),
+    }
+}
+
+// The ladders of a grid's stream, where one stream has others.
+fn axes_among(grid: &Grid, changed: u8, axes: &Axes, stream: u8) -> Axes
+    requires changed_first { 1 ≤ changed }
+    requires changed_last { changed ≤ length grid.now }
+    requires first { 1 ≤ stream }
+    requires last { stream ≤ length grid.now }
+    ensures { result ≡ slice_index_or (slice_set grid.now (changed - 1) axes.now) (stream - 1) no_axes }
+{
+    if stream == changed {
+        Axes {
+            i: axes.i,
+            q: axes.q,
+        }
+    } else {
+        axes_at(grid, stream)
+    }
+}
+
+// The grid with other ladders on one stream.
+fn changed(grid: &Grid, stream: u8, axes: &Axes) -> Grid
+    requires first { 1 ≤ stream }
+    requires last { stream ≤ length grid.now }
+    ensures { result ≡ slice_set grid.now (stream - 1) axes.now }
+{
+    let first = axes_among(grid, stream, axes, 1);
+    let mut changed = Grid::one(first.i, first.q);
+    for done in 1..grid.streams() {
+        let next = axes_among(grid, stream, axes, done + 1);
+        changed = changed.and(next.i, next.q);
+    }
+    changed
+}
+
+/// The job of this number with the vectors alone whose label on `stream` has `value` at a bit: one of the two halves of
+/// a job's grid that a label bit makes.
+///
+/// The job's grid is the full constellation of `modulation` on each stream. Streams are counted from 1, and bits of a
+/// label from 0, which is the first and most significant one (IEEE Std 802.11-2012, clause 20.3.11.9). Place and system
+/// are the job's. Takes no memory.
+#[tactic(auto, unfolding(crate::specs::Halves::half_of))]
+pub fn half(modulation: Modulation, job: &Job, number: u64, stream: u8, bit: u8, value: bool) -> Job
+    requires full { job.now.grid ≡ replicate (length job.now.grid) (axes_of modulation) }
+    requires first { 1 ≤ stream }
+    requires last { stream ≤ length job.now.grid }
+    requires bit { bit < bits_of modulation }
+    ensures half { result ≡ half_of modulation stream bit value number job.now }
+    ensures vectors { (x : List Point) → is_in result.grid x ≡ (is_in job.now.grid x && has_bit modulation stream bit value x) }
+{
+    let grid = job.grid();
+    let axes = half_axes(modulation, axes_at(grid, stream), bit, value);
+    Job::new(
+        number,
+        job.place(),
+        changed(grid, stream, &axes),
+        *job.system(),
+    )
+}

@@ -1,4 +1,0 @@
-use Rattle.ht_witness.proofs.certifying.certify_with.Given as goal
-
-abbrev pub ghosts-find : goal.ghosts-find
-ghosts-find a = record { name = a.blank.name; parts = a.blank.parts }
