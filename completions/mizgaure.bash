@@ -2,7 +2,7 @@
 _mizgaure() {
   local word=${COMP_WORDS[COMP_CWORD]} before=${COMP_WORDS[COMP_CWORD-1]} words=''
   if [ "$COMP_CWORD" -eq 1 ]; then
-    words='judge check capture example show answers measure packets frames sweep merge picture report zero-forcing waveform record receive --help --version'
+    words='judge check capture example show answers measure packets frames bundle unbundle sweep merge picture report zero-forcing waveform record receive --help --version'
   else
     case ${COMP_WORDS[1]}:$before in
       judge:--radio | judge:--reference | judge:--json | judge:--list) ;;
@@ -19,6 +19,8 @@ _mizgaure() {
       frames:--bandwidth) words='20 40' ;;
       frames:--fcs) words='add there keep' ;;
       frames:-o | frames:--output | frames:--mcs | frames:--seed | frames:--aggregate) ;;
+      bundle:-o | bundle:--output) ;;
+      unbundle:-o | unbundle:--output) ;;
       sweep:--bandwidth) words='20 40' ;;
       sweep:--estimate) words='perfect ls' ;;
       sweep:--radio | sweep:--mcs | sweep:--length | sweep:--antennas | sweep:--decay | sweep:--channel | sweep:--profile | sweep:--seed | sweep:--snr | sweep:--frames | sweep:--errors | sweep:--chunk | sweep:--detector | sweep:--processes | sweep:--scheduler | sweep:--part | sweep:-o | sweep:--output | sweep:--picture | sweep:--csv | sweep:--json) ;;
@@ -37,7 +39,7 @@ _mizgaure() {
       *)
         if [[ $word == -* ]]; then
           case ${COMP_WORDS[1]} in
-            judge) words='--radio --force --reference --json --list --complete --help' ;;
+            judge) words='--radio --force --reference --soft --json --list --complete --help' ;;
             check) words='--help' ;;
             capture) words='--force --output --gain --format --help' ;;
             example) words='--force --bandwidth --mcs --length --antennas --decay --channel --profile --estimate --seed --snr --output --sent --help' ;;
@@ -46,7 +48,9 @@ _mizgaure() {
             measure) words='--radio --force --answers --sent --octets --untracked --json --csv --help' ;;
             packets) words='--radio --force --answers --aggregated --output --csv --json --help' ;;
             frames) words='--force --output --bandwidth --mcs --seed --aggregate --fcs --help' ;;
-            sweep) words='--radio --force --bandwidth --mcs --length --antennas --decay --channel --profile --estimate --seed --snr --frames --errors --chunk --detector --processes --scheduler --part --output --resume --picture --csv --json --help' ;;
+            bundle) words='--force --output --help' ;;
+            unbundle) words='--force --output --help' ;;
+            sweep) words='--radio --force --bandwidth --mcs --length --antennas --decay --channel --profile --estimate --seed --snr --frames --errors --chunk --detector --soft --processes --scheduler --part --output --resume --picture --csv --json --help' ;;
             merge) words='--force --output --picture --csv --json --help' ;;
             picture) words='--radio --force --frame --answers --datatype --sample-rate --channels --help' ;;
             report) words='--radio --force --output --theirs --pictures --title --help' ;;

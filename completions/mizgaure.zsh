@@ -11,6 +11,8 @@ commands=(
   'measure:measure error vector magnitude and error rates'
   'packets:say what MPDUs the frames of a capture carry, and write them for Wireshark'
   'frames:make a file of frames (HTTX) from MPDUs, as hexadecimal lines or a pcap file'
+  'bundle:put captures into a bundle (HTMB), for radio many'
+  'unbundle:take the captures out of a bundle (HTMB)'
   'sweep:find error rates over the signal-to-noise ratio, over random channels'
   'merge:put the parts of a sweep together'
   'picture:draw a frame of a capture, a sweep, or a recording'
@@ -33,7 +35,8 @@ case $command in
     _arguments \
       '--radio[the program radio]:program:_files' \
       '--force[overwrite a file that is there already]' \
-      '--reference[kept lines of radio detect and radio rx, in place of running it]:lines:_files' \
+      '--reference[kept lines of radio detect and radio rx, or with --soft of radio soft, in place of running it]:lines:_files' \
+      '--soft[the answers are a soft decoder'\''s\: compare its octets with those of radio soft]' \
       '--json[write all verdicts as JSON lines]:file:_files' \
       '--list[print at most N of the worst jobs]:n:' \
       '--complete[end with status 1 also where a job has no answer]' \
@@ -117,6 +120,18 @@ case $command in
       '--fcs[of hexadecimal lines\: add it, see that it is there and right, or keep what is there]:fcs:(add there keep)' \
       '--help[say more]' \
       '1:file:_files' ;;
+  bundle)
+    _arguments \
+      '--force[overwrite a file that is there already]' \
+      {-o,--output}'[the bundle (HTMB) to write; - is standard output]:file:_files' \
+      '--help[say more]' \
+      '*:capture:_files' ;;
+  unbundle)
+    _arguments \
+      '--force[overwrite a file that is there already]' \
+      {-o,--output}'[where to write capture-00.htcp and so on; it is made where it isn'\''t there]:folder:_files' \
+      '--help[say more]' \
+      '1:file:_files' ;;
   sweep)
     _arguments \
       '--radio[the program radio]:program:_files' \
@@ -134,7 +149,8 @@ case $command in
       '--frames[frames of each point]:frames:' \
       '--errors[end a point once so many of its frames are in error]:errors:' \
       '--chunk[frames that are done in one go]:n:' \
-      '--detector[one more detector\: zero-forcing, a function as FILE.py\:NAME, or a command; may come again]:name=words:' \
+      '--detector[one more detector\: zero-forcing, soft, a function as FILE.py\:NAME, or a command; may come again]:name=words:' \
+      '--soft[decode the same captures with radio soft, too, as the detector soft=soft]' \
       '--processes[how many share the work]:n:' \
       '--scheduler[let the workers of this scheduler of dask.distributed do it, as tcp\://HOST\:8786]:address:' \
       '--part[do part K of N alone\: every N-th chunk from the K-th on]:k/n:' \

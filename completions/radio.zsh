@@ -4,12 +4,15 @@ local -a commands
 commands=(
   'detect:reads a capture (HTCP) as it comes; writes a line for each subcarrier that is present in each symbol'
   'rx:reads a capture (HTCP) as it comes; writes a line for each frame, with its octets'
+  'soft:reads a capture (HTCP) as it comes; writes a line for each frame, with its octets, decoded by how certain each bit is'
+  'many:reads a bundle of captures (HTMB) whole; writes a line for each of its captures, and behind it the lines of its frames'
   'tx:reads a file of frames (HTTX) whole; writes the file of their symbols (HTSY)'
   'channel:reads a file of symbols (HTSY) whole; writes a capture of them, of version 1, behind a random channel'
   'upgrade:reads a capture (HTCP) whole; writes the capture of version 2 of its frames'
   'certify:reads a capture (HTCP) whole; writes the file of certificates (HTCT) of its data jobs'
   'check:reads a file of certificates (HTCT) as it comes; writes a line for each certificate that says whether it holds'
   'lchannel:reads a file of clause 18 frames (LGTX) whole; writes a capture of them (LGCP), behind a random channel'
+  'lrx:reads a capture of clause 18 frames (LGCP) as it comes; writes a line for each frame, with its octets'
   'demo:reads nothing; writes a line of sums over sample frames that it makes, sends and receives'
 )
 if (( CURRENT == 2 )); then
@@ -29,6 +32,14 @@ case $command in
     _arguments \
       '--workers[threads that detect, the calling one among them, 1 to 64]:workers:' \
       '--window[most jobs under way at a time: read, and their hits not taken yet, 1 to 4096]:window:' ;;
+  soft)
+    _arguments \
+      '--workers[threads that detect, the calling one among them, 1 to 64]:workers:' \
+      '--window[most jobs under way at a time: read, and their hits not taken yet, 1 to 4096]:window:' ;;
+  many)
+    _arguments \
+      '--workers[threads that detect, the calling one among them, 1 to 64]:workers:' \
+      '--window[most jobs under way at a time: read, and their hits not taken yet, 1 to 4096]:window:' ;;
   channel)
     _arguments \
       '--seed[seed of the generator of channels and of sample frames, 0 to 18446744073709551615]:seed:' \
@@ -37,6 +48,10 @@ case $command in
     _arguments \
       '--seed[seed of the generator of channels and of sample frames, 0 to 18446744073709551615]:seed:' \
       '--noise[largest noise in each part of a sample, 0 to 65535]:noise:' ;;
+  lrx)
+    _arguments \
+      '--workers[threads that detect, the calling one among them, 1 to 64]:workers:' \
+      '--window[most jobs under way at a time: read, and their hits not taken yet, 1 to 4096]:window:' ;;
   demo)
     _arguments \
       '--seed[seed of the generator of channels and of sample frames, 0 to 18446744073709551615]:seed:' \

@@ -136,6 +136,35 @@ pub fn file(random: &mut Random) -> Vec<u8> {
     octets
 }
 
+/// A capture of random frames: what is sent of some, with noise, or small numbers with many ties, or extremes.
+pub fn capture(random: &mut Random) -> Vec<u8> {
+    let (seed, noise) = (random.draw(), random.one_of(&[0, 8, 60, 400]));
+    let mut octets = passed(&file(random), seed, noise).expect("a file that is made is whole");
+    if random.once_in(2) {
+        return octets;
+    }
+    let small = random.once_in(2);
+    let heads = octets.clone();
+    let mut at = 7;
+    while at < heads.len() {
+        let length = usize::from(u16::from_be_bytes([heads[at + 1], heads[at + 2]]));
+        let symbols = (22 + 8 * length).div_ceil(RATES[usize::from(heads[at])].data);
+        let (diagonals, samples) = octets[at + 3..].split_at_mut(2 * CARRIERS);
+        for diagonal in diagonals.chunks_exact_mut(2) {
+            let any = random.draw() as u16;
+            let value = if small { any % 9 } else { random.one_of(&[0, 1, 255, 65534, 65535, any]) };
+            diagonal.copy_from_slice(&value.to_be_bytes());
+        }
+        for part in samples[..8 * CARRIERS * symbols].chunks_exact_mut(4) {
+            let any = random.draw() as i32;
+            let value = if small { any % 7 } else { random.one_of(&[0, 1, -1, i32::MIN, i32::MAX, any]) };
+            part.copy_from_slice(&value.to_be_bytes());
+        }
+        at += 3 + 2 * CARRIERS + 8 * CARRIERS * symbols;
+    }
+    octets
+}
+
 fn frames(octets: &[u8]) -> Result<Vec<Frame<'_>>, Fault> {
     let mut cursor = Cursor { octets, at: 0 };
     for wanted in b"LGTX" {

@@ -1,6 +1,6 @@
 //! The options of a call, in one place.
 
-/// The words of a call of `detect` or `rx` with a number of workers and a window of a number of jobs.
+/// The words of a call of a command that receives, with a number of workers and a window of a number of jobs.
 pub fn received(command: &str, workers: u32, window: u32) -> Vec<String> {
     with(command, &[("workers", workers.into()), ("window", window.into())])
 }

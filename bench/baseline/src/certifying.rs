@@ -140,7 +140,8 @@ impl<W: Write> Account for Certificates<W> {
         self.streams = head.streams();
     }
 
-    fn take(&mut self, data: Option<usize>, job: &Job, points: &[Point; 4], distance: u128) {
+    fn hear(&mut self, data: Option<usize>, job: &Job) {
+        let (points, distance) = detecting::found(job);
         if data.is_none() {
             return;
         }

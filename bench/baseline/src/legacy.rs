@@ -1,8 +1,13 @@
-//! What `radio lchannel` does, in plain Rust: clause 18 frames read whole, sent, and passed through the simulator's
-//! channel. And files of random frames to try it on.
+//! What `radio lchannel` and `radio lrx` do, in plain Rust: clause 18 frames read whole, sent, and passed through the
+//! simulator's channel; and captures of such frames received as they come. And files of random frames to try it on.
+use crate::chain::{Chain, Spot};
 use crate::decoding::period;
+use crate::detecting::{Axes, Complex, Job, Ladder};
 use crate::random::Random;
+use crate::receiving::{Account, Fault, Input};
+use crate::results::Results;
 use crate::sending::{Words, coded, input, level, output, scrambled};
+use std::io::{BufReader, Read, Write};
 
 /// The bits of a label, the data bits of a symbol and the coding rate of each rate.
 const RATES: [(usize, usize, &str); 8] = [
@@ -91,6 +96,93 @@ fn lchannel(noise: u16) {
     output(&made);
 }
 
+/// How the frames of a rate are coded.
+fn chain(index: u8) -> Chain {
+    let (bits, _, pattern) = RATES[usize::from(index)];
+    let mut spots = vec![Spot { label: 0, shift: 0, lost: false }; 48 * bits];
+    for (place, k) in sources(bits).into_iter().enumerate() {
+        spots[k] = Spot { label: (place / bits) as u16, shift: (bits - 1 - place % bits) as u8, lost: false };
+    }
+    Chain { spots: vec![spots], bits: bits as u32, labels: 48, period: period(pattern).unwrap() }
+}
+
+fn ladder(size: u8) -> Ladder {
+    Ladder { size, mask: ((1u16 << size) - 1) as u8 }
+}
+
+/// Both axes of a data subcarrier.
+fn axes(bits: usize) -> Axes {
+    match bits {
+        1 => Axes { i: ladder(2), q: ladder(1) },
+        bits => Axes { i: ladder(1 << (bits / 2)), q: ladder(1 << (bits / 2)) },
+    }
+}
+
+fn receive<R: Read, W: Write>(source: R, results: &mut Results<W>) -> Result<u16, Fault> {
+    let mut input = Input { source, at: 0 };
+    for wanted in *b"LGCP" {
+        input.octet("BadMagic", |octet| octet == wanted)?;
+    }
+    input.octet("BadVersion", |octet| octet == 1)?;
+    let frames = input.pair()?;
+    let negative = polarity();
+    let mut made_for = None;
+    for frame in 0..frames {
+        let index = input.octet("BadMcs", |octet| octet < 8)?;
+        let length = input.pair()?;
+        if length == 0 || length > 4095 {
+            return Err(Fault::Bad("BadLength", input.at - 2));
+        }
+        let mut diagonals = [0; 104];
+        input.fill(&mut diagonals)?;
+        let (bits, data_bits, _) = RATES[usize::from(index)];
+        let symbols = (22 + 8 * usize::from(length)).div_ceil(data_bits);
+        if made_for != Some(index) {
+            results.set(chain(index));
+            made_for = Some(index);
+        }
+        let mut jobs: Vec<(Job, Option<usize>)> = Vec::with_capacity(52);
+        let mut data = 0;
+        for (carrier, octets) in diagonals.chunks_exact(2).enumerate() {
+            let mut job = Job { streams: 1, ..Job::default() };
+            job.d[0] = u16::from_be_bytes([octets[0], octets[1]]);
+            job.axes[0] = axes(bits);
+            let is_pilot = PILOTS.contains(&carrier);
+            jobs.push((job, (!is_pilot).then_some(data)));
+            data += usize::from(!is_pilot);
+        }
+        results.open(symbols);
+        for symbol in 0..symbols {
+            let mut samples = [0; 416];
+            input.fill(&mut samples)?;
+            let is_negative = negative[(symbol + 1) % 127];
+            for (carrier, ((job, data), octets)) in jobs.iter_mut().zip(samples.chunks_exact(8)).enumerate() {
+                let read = crate::capturing::sample(octets);
+                job.y[0] = Complex { re: read.re, im: read.im };
+                if data.is_none() {
+                    let mask = if is_negative != (carrier == PILOTS[3]) { 1 } else { 2 };
+                    job.axes[0] = Axes { i: Ladder { size: 2, mask }, q: ladder(1) };
+                }
+                results.hear(*data, job);
+            }
+            results.end_symbol();
+        }
+        results.close(frame, length);
+    }
+    input.end()?;
+    Ok(frames)
+}
+
+/// Receives a capture of clause 18 frames from a source.
+pub fn receive_on<R: Read, W: Write>(source: R, sink: W) {
+    let mut results = Results::new(sink);
+    match receive(source, &mut results) {
+        Ok(frames) => results.last(&format!("end {frames} frames\n")),
+        Err(Fault::Bad(kind, offset)) => results.last(&format!("refused {kind} at {offset}\n")),
+        Err(Fault::Read) => {}
+    }
+}
+
 /// Writes a file of a number of frames of random octets.
 fn write_frames(frames: u16, rate: u8, length: u16) {
     let mut random = Random::new(1);
@@ -110,6 +202,7 @@ pub fn run(words: &[String]) -> bool {
     let number = |at: usize, default: u16| words.get(at).and_then(|word| word.parse().ok()).unwrap_or(default);
     match words.first().map(String::as_str) {
         Some("lchannel") => lchannel(number(1, 0)),
+        Some("lrx") => receive_on(BufReader::new(std::io::stdin().lock()), std::io::stdout().lock()),
         // The number of frames, the index of the rate and the length.
         Some("lframes") => write_frames(number(1, 1), number(2, 0) as u8, number(3, 1500)),
         _ => return false,

@@ -3,8 +3,8 @@ use checks::expected::{self, Outcome, Sums};
 use checks::program::{Ran, Room};
 use checks::random::Random;
 use checks::rates::{Point, Rate};
-use checks::walking::{Format, Walk};
-use checks::{certificates, legacy, making, options, side_by_side, spoiling};
+use checks::walking::{Format, Frame, Walk};
+use checks::{bundles, certificates, legacy, making, options, side_by_side, spoiling};
 use std::io::Write;
 use std::time::Duration;
 
@@ -19,6 +19,9 @@ of them (20000), the first of which has the number FROM (0), for at most SECONDS
 
 /// Of one input the most memory that a run may hold, in kilobytes.
 const MEMORY: u64 = 64 * 1024;
+
+/// The most searches of large grids by which a capture is received by weights.
+const LARGEST: usize = 6_000;
 
 /// An input: a valid file, and what became of it.
 struct Input {
@@ -131,14 +134,30 @@ impl Runs<'_, '_> {
         let received = self.received("rx", [(1, 256), (4, 1)], octets, &upgraded)?;
         let lines = before_last(&received, &walk)?;
         check_frames(&lines, &walk, &found.sums)?;
+        self.weighed(input, &walk)?;
         self.beginning(input, &lines)
+    }
+
+    /// What `soft` writes of a capture. Of those with a large grid few are received, since each takes thousands of searches
+    /// that leave out the nearest vector.
+    fn weighed(&mut self, input: &Input, walk: &Walk) -> Result<(), String> {
+        let mut random = Random::of_input(walk.count.into(), input.octets.len() as u64);
+        let searches_of = |frame: &Frame| {
+            let of_job = 2 * frame.rate.bits() * frame.rate.streams();
+            frame.symbols as usize * frame.present().count() * of_job
+        };
+        let large = walk.frames.iter().filter(|frame| frame.rate.vectors() > making::CHEAP);
+        let searches: usize = large.map(searches_of).sum();
+        if !is_cheap(input, walk) || searches > LARGEST || searches > 0 && !random.once_in(3) {
+            return Ok(());
+        }
+        self.written("soft", &mut random, &input.octets, &baseline::text_by_weights(&input.octets))
     }
 
     /// What `certify` makes of a whole capture, and what `check` says of that and of what becomes of it by spoiling.
     fn certified(&mut self, input: &Input, walk: &Walk, found: &[(u128, Vec<Point>)]) -> Result<(), String> {
-        // Where a large grid was spoiled, a certificate may have millions of marks.
-        let is_cheap = walk.frames.iter().all(|frame| frame.rate.vectors() <= making::CHEAP);
-        if input.how != "whole" && !is_cheap {
+        // Else a certificate may have millions of marks.
+        if !is_cheap(input, walk) {
             return Ok(());
         }
         let octets = &input.octets;
@@ -220,9 +239,47 @@ impl Runs<'_, '_> {
         let words = options::passed("lchannel", seed, noise);
         match legacy::passed(&octets, seed, noise) {
             Ok(capture) => self.made(&words, &octets, &capture),
-            Err(fault) => self.refused(&words, &octets, &Walk { version: 1, count: 0, frames: Vec::new(), fault: Some(fault) }),
+            Err(fault) => {
+                self.refused(&words, &octets, &Walk { version: 1, count: 0, frames: Vec::new(), fault: Some(fault) })
+            }
         }
     }
+}
+
+impl Runs<'_, '_> {
+    /// Runs a command that receives with some number of workers and some window: exactly this text has to come. The last
+    /// line of it says whether the input was refused; of a bundle the first one does.
+    fn written(&mut self, command: &str, random: &mut Random, octets: &[u8], wanted: &[u8]) -> Result<(), String> {
+        let (workers, window) = (random.one_of(&[1, 2, 4, 7]), random.one_of(&[1, 2, 3, 256, 4096]));
+        let ran = self.run(&options::received(command, workers, window), octets)?;
+        let lines: Vec<&[u8]> = wanted.split_inclusive(|octet| *octet == b'\n').collect();
+        let told = if command == "many" { lines.first() } else { lines.last() };
+        let is_refused = told.is_some_and(|line| line.starts_with(b"refused "));
+        if ran.text == wanted && ran.code() == Some(is_refused.into()) {
+            return Ok(());
+        }
+        let how = format!("`{command}` with {workers} workers and a window of {window}");
+        Err(format!("{how}: {} and another text", ran.ended()))
+    }
+
+    /// What `lrx` writes of a capture of clause 18 frames.
+    fn legacy_received(&mut self, random: &mut Random) -> Result<(), String> {
+        let valid = legacy::capture(random);
+        let octets = if random.once_in(2) { valid } else { spoiling::spoil_legacy(random, &valid) };
+        self.written("lrx", random, &octets, &baseline::text_of_legacy(&octets))
+    }
+
+    /// What `many` writes of a bundle.
+    fn bundled(&mut self, random: &mut Random) -> Result<(), String> {
+        let valid = bundles::file(random);
+        let octets = if random.once_in(3) { bundles::spoil(random, &valid) } else { valid };
+        self.written("many", random, &octets, &baseline::text_of_bundle(&octets))
+    }
+}
+
+/// Whether the walks of the jobs are short, also those that leave out the nearest vector: where no large grid was spoiled.
+fn is_cheap(input: &Input, walk: &Walk) -> bool {
+    input.how == "whole" || walk.frames.iter().all(|frame| frame.rate.vectors() <= making::CHEAP)
 }
 
 /// The lines before the last one, which has to be the right one with its status.
@@ -277,8 +334,9 @@ fn main() {
             Format::Capture => runs.capture(&input),
             Format::Frames => runs
                 .frames(&input, of_channel, noise)
-                .and_then(|()| runs.legacy(&mut random, of_channel, noise)),
-            Format::Symbols => runs.symbols(&input, of_channel, noise),
+                .and_then(|()| runs.legacy(&mut random, of_channel, noise))
+                .and_then(|()| runs.legacy_received(&mut random)),
+            Format::Symbols => runs.symbols(&input, of_channel, noise).and_then(|()| runs.bundled(&mut random)),
         };
         result.map_err(|wrong| format!("{:?} {}: {wrong}", input.format, input.how))
     };

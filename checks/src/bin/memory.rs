@@ -15,11 +15,14 @@ const TIME: Duration = Duration::from_secs(140);
 const BEYOND: u64 = 48 << 20;
 const STEP: u64 = 512 << 10;
 
-/// The commands with workers, which write while they read.
-const RECEIVING: [&str; 2] = ["rx", "detect"];
+/// The commands with workers and an input, beside those that receive a capture.
+const RECEIVING: [(&str, &str); 2] = [("lrx", "vectors/legacy/rate0-0.lgcp"), ("many", "vectors/worked/three.htmb")];
+
+/// The commands that receive a capture.
+const OF_CAPTURES: [&str; 3] = ["rx", "detect", "soft"];
 
 /// The commands of which a beginning of the text may stand where memory ran out.
-const PIECEWISE: [&str; 5] = ["rx", "detect", "certify", "check", "lchannel"];
+const PIECEWISE: [&str; 8] = ["rx", "detect", "soft", "many", "certify", "check", "lchannel", "lrx"];
 
 /// Whether a call starts threads. A thread that can't be started is a growth that a run can do without.
 #[derive(Clone, Copy, PartialEq, Eq)]
@@ -99,6 +102,10 @@ fn first_vectors() -> Vec<(String, String)> {
     firsts
 }
 
+fn has_workers(command: &str) -> bool {
+    OF_CAPTURES.contains(&command) || RECEIVING.iter().any(|(known, _)| *known == command)
+}
+
 /// The capture `z` with its frame twice.
 fn two_frames() -> Vec<u8> {
     let mut octets = file("examples/z.htcp");
@@ -111,8 +118,9 @@ fn calls(room: &mut Room) -> Vec<Call> {
     let mut calls = Vec::new();
     for workers in [1, 4] {
         let threads = if workers > 1 { Threads::Several } else { Threads::One };
-        for command in RECEIVING {
-            calls.push(Call::new(room, options::received(command, workers, 256), two_frames(), 0, threads));
+        let inputs = RECEIVING.map(|(command, path)| (command, file(path)));
+        for (command, input) in OF_CAPTURES.map(|command| (command, two_frames())).into_iter().chain(inputs) {
+            calls.push(Call::new(room, options::received(command, workers, 256), input, 0, threads));
         }
         calls.push(Call::new(room, options::demonstrated(workers), Vec::new(), 0, threads));
     }
@@ -121,7 +129,7 @@ fn calls(room: &mut Room) -> Vec<Call> {
         calls.push(Call::new(room, words, input, code, Threads::One));
     };
     for (command, path) in first_vectors() {
-        if !RECEIVING.contains(&command.as_str()) {
+        if !has_workers(&command) {
             alone(&[&command], file(&path), 0);
         }
     }

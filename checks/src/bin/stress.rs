@@ -1,6 +1,6 @@
-//! Runs `detect` and `rx` with all numbers of workers and all windows, over and over, and checks that the text is always
-//! that of the vectors, that of a larger capture of sample frames what was sent, and that of the longest frames the same
-//! with one worker and with many; and that no run holds too much memory. `checks/stress` says how.
+//! Runs the commands that receive with all numbers of workers and all windows, over and over, and checks that the text is
+//! always that of the vectors, that of a larger capture of sample frames what was sent, and that of the longest frames the
+//! same with one worker and with many; and that no run holds too much memory. `checks/stress` says how.
 use checks::program::{self, Room};
 use checks::rates::Rate;
 use checks::walking::{Format, Walk};
@@ -31,6 +31,17 @@ const CAPTURES: [&str; 11] = [
     "worked/zz",
 ];
 
+/// Captures of clause 18 frames, and bundles.
+const OTHERS: [(&str, &str, &str); 7] = [
+    ("lrx", "legacy/many-frames", "lgcp"),
+    ("lrx", "legacy/rate0-1", "lgcp"),
+    ("lrx", "legacy/rate7-1", "lgcp"),
+    ("many", "worked/three", "htmb"),
+    ("many", "bundles/b1", "htmb"),
+    ("many", "bundles/b5", "htmb"),
+    ("many", "bundles/b9", "htmb"),
+];
+
 /// The larger capture: sample frames of a seed at 20 MHz, MCS 15, with noise. It is received with these workers and
 /// windows.
 const SEED: u64 = 42;
@@ -40,9 +51,9 @@ const NOISE: u16 = 8;
 const SAMPLE_WORKERS: [u32; 4] = [1, 2, 7, 64];
 const SAMPLE_WINDOWS: [u32; 3] = [1, 2, 4096];
 
-/// The capture of the longest frames: a number of frames of 65,535 octets at 20 MHz, MCS 7, with the diagonal 10 and all samples 0. They
-/// are run with these workers and windows, and the text is that of the first.
-const LONGEST: u16 = 6;
+/// The captures of the longest frames: a number of frames of 65,535 octets at 20 MHz, MCS 7, with the diagonal 10 and all
+/// samples 0. They are run with these workers and windows, and the text is that of the first.
+const LONGEST: [(&str, u16); 3] = [("rx", 6), ("detect", 6), ("soft", 2)];
 const LONGEST_PAIRS: [(u32, u32); 4] = [(1, 256), (4, 256), (64, 256), (64, 4096)];
 
 /// The most memory that a run may hold, in kilobytes.
@@ -62,14 +73,20 @@ fn cases() -> Vec<Case> {
         fs::read(&path).unwrap_or_else(|error| panic!("{}: {error}", path.display()))
     };
     let of = |capture| {
-        ["detect", "rx"].map(|command| Case {
+        ["detect", "rx", "soft"].map(|command| Case {
             command,
             capture,
             octets: file(capture, "htcp"),
             text: file(capture, command),
         })
     };
-    CAPTURES.into_iter().flat_map(of).collect()
+    let others = OTHERS.into_iter().map(|(command, capture, kind)| Case {
+        command,
+        capture,
+        octets: file(capture, kind),
+        text: file(capture, command),
+    });
+    CAPTURES.into_iter().flat_map(of).chain(others).collect()
 }
 
 /// The capture of sample frames, and what was sent in it: by the rules of docs/SIMULATOR.md, but for the symbols, which
@@ -82,12 +99,12 @@ fn samples(room: &mut Room) -> Case {
     Case { command: "rx", capture: "sample frames", octets, text }
 }
 
-/// The capture of the longest frames, and what the command writes of it with the first workers and window.
-fn longest(room: &mut Room, command: &'static str) -> Case {
+/// A capture of the longest frames, and what the command writes of it with the first workers and window.
+fn longest(room: &mut Room, (command, frames): (&'static str, u16)) -> Case {
     let length = u16::MAX;
     let symbols = (16 + 8 * usize::from(length) + 6).div_ceil(260);
-    let mut octets = [b"HTCP\x01".as_slice(), &LONGEST.to_be_bytes()].concat();
-    for _ in 0..LONGEST {
+    let mut octets = [b"HTCP\x01".as_slice(), &frames.to_be_bytes()].concat();
+    for _ in 0..frames {
         octets.extend([0, 7]);
         octets.extend(length.to_be_bytes());
         octets.extend([0, 10].repeat(56));
@@ -118,7 +135,7 @@ fn main() {
     let mut room = Room::new(&program::path(), &std::env::temp_dir(), "checks-samples", &slot)
         .expect("the files of a room can't be made");
     let samples = samples(&mut room);
-    let long = ["rx", "detect"].map(|command| longest(&mut room, command));
+    let long = LONGEST.map(|case| longest(&mut room, case));
     let pairs = SAMPLE_WORKERS.into_iter().flat_map(|workers| SAMPLE_WINDOWS.map(|window| (workers, window)));
     let larger =
         pairs.map(|pair| (&samples, pair)).chain(long.iter().flat_map(|case| LONGEST_PAIRS.map(|pair| (case, pair))));

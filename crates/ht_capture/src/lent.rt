@@ -71,10 +71,12 @@ impl Lent {
         full: &Grid,
         octets: &[u8],
     ) -> Result<Arc<SharedSymbol, Global>, AllocError>
-        requires symbol { IsSymbol (record { head = due.now.head; symbol = due.now.symbol; number = due.now.turn.number; present = present.now; octets = octets.now }) }
+        requires symbol { IsSymbol
+            (record { head = due.now.head; symbol = due.now.symbol; number = due.now.turn.number; present = present.now; octets = octets.now }) }
         requires seen { AreSeen due.now.head.rate (length present.now) present.now }
         requires full { full.now ≡ grid_of due.now.head.rate }
-        requires lent { Lends (record { head = due.now.head; symbol = due.now.symbol; number = due.now.turn.number; present = present.now; octets = octets.now }) self }
+        requires lent { Lends
+            (record { head = due.now.head; symbol = due.now.symbol; number = due.now.turn.number; present = present.now; octets = octets.now }) self }
         ensures { IfOk result (λ symbol. arc_value symbol
             ≡ record { head = due.now.head; symbol = due.now.symbol; number = due.now.turn.number; present = present.now; octets = octets.now }) }
     {

@@ -109,7 +109,8 @@ impl SharedSymbol {
     #[inline]
     pub fn place(&self, k: usize) -> Place
         requires { k < length self.now.present }
-        ensures { (d : PresentValue) → result ≡ record { frame = self.now.head.frame; symbol = self.now.symbol; carrier = (get_or self.now.present k d).carrier } }
+        ensures { (d : PresentValue) → result
+            ≡ record { frame = self.now.head.frame; symbol = self.now.symbol; carrier = (get_or self.now.present k d).carrier } }
     {
         Place {
             frame: self.shape.head().frame,

@@ -22,7 +22,8 @@ pub fn whole_or_cut()
     ensures items { (octets : List ℕ) → (capture_of octets).items ≡ items_in (frames_in (capture_of octets).items) }
 
     // The whole frames come first.
-    ensures order { (octets : List ℕ) → frames_in (capture_of octets).items ≡ whole_frames (capture_of octets).items ++ cut_frames (capture_of octets).items }
+    ensures order { (octets : List ℕ) → frames_in (capture_of octets).items
+        ≡ whole_frames (capture_of octets).items ++ cut_frames (capture_of octets).items }
     ensures whole { (octets : List ℕ) → All IsWholeFrame (whole_frames (capture_of octets).items) }
     ensures cut { (octets : List ℕ) → All IsFrontOfFrame (cut_frames (capture_of octets).items) }
     ensures one { (octets : List ℕ) → length (cut_frames (capture_of octets).items) ≤ 1 }

@@ -6,7 +6,7 @@ use Rattle.std.proofs.lemmas.Bool.{true≢false}
 use Rattle.ht_io.specs.Devices.{Device, Rose}
 use Rattle.ht_text.specs.Lines.{usage_text}
 use Rattle.ht_words.specs.declared.asked.Asked.{Asked}
-use Rattle.ht_words.specs.declared.asked.Asked.TheVariants.{Detect, Rx, Tx, Channel, Upgrade, Certify, Check, LegacyChannel, Demo}
+use Rattle.ht_words.specs.declared.asked.Asked.TheVariants.{Detect, Rx, Soft, LegacyRx, Many, Tx, Channel, Upgrade, Certify, Check, LegacyChannel, Demo}
 use Rattle.ht_words.specs.Accepted.{IsAccepted}
 use Rattle.ht_words.specs.Words.{asked}
 use Rattle.ht_words.proofs.Acceptance.{accepted_asks, asks_accepted}
@@ -20,6 +20,9 @@ module _ (a b c d : Device ℕ) where
   no_usage : (asked : Option Asked) → is_some asked ≡ true → Answered asked a b c d Usage → ⊥
   no_usage (Some (Detect workers window)) some run = run
   no_usage (Some (Rx workers window)) some run = run
+  no_usage (Some (Soft workers window)) some run = run
+  no_usage (Some (LegacyRx workers window)) some run = run
+  no_usage (Some (Many workers window)) some run = run
   no_usage (Some Tx) some run = run
   no_usage (Some (Channel seed noise)) some run = run
   no_usage (Some Upgrade) some run = run

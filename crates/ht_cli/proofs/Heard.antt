@@ -19,18 +19,19 @@ use Rattle.ht_text.specs.Lines.{end_text}
 use Rattle.ht_cli.specs.declared.status.Status.{Status}
 use Rattle.ht_cli.specs.Commands.{Answers}
 use Rattle.ht_cli.specs.Filters.{streaming}
-use Rattle.ht_cli.specs.Stopping.{PutsEnd, Settles}
+use Rattle.ht_cli.specs.Stopping.{Settles}
+use Rattle.ht_endings.specs.Endings.{PutsEnd}
 use Rattle.ht_cli.proofs.Answering.{streams}
 use Rattle.ht_cli.proofs.Texts.{end_of_capture}
 
 -- the text of captures and its lines; the source before and after, and the sink before
 module _ (text lines : List ℕ → List ℕ) (s : IsLined captures text lines end_of_capture) (a b c : Device ℕ) where
   -- what an answer says where this is what stands in the sink
-  abbrev Says : Device ℕ → Result (Unit {0}) RunFault → Type 0
+  abbrev Says : Device ℕ → Result ℕ RunFault → Type 0
   Says d result = Streamed (filter captures text lines) a b c d SaysNothing result
 
   -- how the lines ended, and the end line behind them
-  heard : (ended_so : Result Ended StopFault) (mid d : Device ℕ) (result : Result (Unit {0}) RunFault)
+  heard : (ended_so : Result Ended StopFault) (mid d : Device ℕ) (result : Result ℕ RunFault)
       → MatchResult ended_so (TellsTo lines a b c mid) (StopsBy lines a b c mid) → IsLater c mid → PutsEnd ended_so mid d result → Says d result
   heard (Ok (EndedDone frames jobs)) mid d result l later (inl (is, last)) =
       let run = ended captures text lines end_of_capture s a b c mid d (HasCounts frames jobs) (end_text frames)
@@ -61,7 +62,7 @@ module _ (text lines : List ℕ → List ℕ) (s : IsLined captures text lines e
       (lacked captures text lines end_of_capture s a b c d (subst (λ (k : Device ℕ). TellsPieces captures lines a b c k) (sym same) l))
 
   -- the same, and then the line of the first fault, if there is one
-  pub ends : (ended_so : Result Ended StopFault) (mid d e : Device ℕ) (result : Result (Unit {0}) RunFault) (status : Status)
+  pub ends : (ended_so : Result Ended StopFault) (mid d e : Device ℕ) (result : Result ℕ RunFault) (status : Status)
       → MatchResult ended_so (TellsTo lines a b c mid) (StopsBy lines a b c mid) → IsLater c mid → PutsEnd ended_so mid d result → IsLater c d
       → Settles result d e status → Answers (streaming captures text lines) a b c e status
   ends ended_so mid d e result status told later puts later_still settles =

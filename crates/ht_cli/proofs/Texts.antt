@@ -9,7 +9,13 @@ use Rattle.ht_capture.specs.Fields.{captures}
 use Rattle.ht_capture_laws.specs.Items.{whole_frames}
 use Rattle.ht_results.specs.Results.{frame_result, results_of}
 use Rattle.ht_results.specs.Texts.{frame_lines_of, frames_of, last_line, last_of, result_line, rx_text}
-use Rattle.ht_runs.specs.Formats.{IsLined, last_text}
+use Rattle.ht_runs.specs.Formats.{IsLined, filter, last_text}
+use Rattle.ht_runs.specs.Streamed.{EndsWithItsFault}
+use Rattle.ht_runs.proofs.Streaming.{ends_with_its_fault, lined}
+use Rattle.ht_legacy_captures.specs.Formats.{captures as legacy_captures}
+use Rattle.ht_legacy_rx.specs.Texts.{end_of_legacy, legacy_lines_of, legacy_text, lines_in}
+use Rattle.ht_soft_rx.specs.Results.{soft_result, soft_results_of}
+use Rattle.ht_soft_rx.specs.Texts.{soft_line, soft_lines_of, soft_rx_text}
 use Rattle.ht_rx.specs.Texts.{detect_text, job_lines, jobs_of, lines_of}
 use Rattle.ht_text.specs.Lines.{end_text}
 
@@ -48,3 +54,26 @@ same_frames a b is = ap (λ (m : Meaning Item). flat_map result_line (map frame_
 
 pub receives : IsLined captures rx_text frame_lines_of end_of_capture
 receives = record { text_is = λ octets. with_last frame_lines_of octets ∙ rx_is octets; same = same_frames }
+
+soft_is : (octets : List ℕ) → soft_lines_of octets ++ last_line octets ≡ soft_rx_text octets
+unfolding soft_rx_text
+soft_is octets = refl
+
+same_soft : (a b : List ℕ) → capture_of a ≡ capture_of b → soft_lines_of a ≡ soft_lines_of b
+unfolding soft_lines_of soft_results_of
+same_soft a b is = ap (λ (m : Meaning Item). flat_map soft_line (map soft_result (whole_frames m.items))) is
+
+soft_lined : IsLined captures soft_rx_text soft_lines_of end_of_capture
+soft_lined = record { text_is = λ octets. with_last soft_lines_of octets ∙ soft_is octets; same = same_soft }
+
+-- the text of a capture with a fault ends with the line of it, also where frames are decoded from weights
+pub soft_ends : EndsWithItsFault (filter captures soft_rx_text soft_lines_of)
+soft_ends = ends_with_its_fault captures soft_rx_text soft_lines_of end_of_capture soft_lined
+
+legacy_lined : IsLined legacy_captures legacy_text legacy_lines_of end_of_legacy
+unfolding legacy_text legacy_lines_of
+legacy_lined = lined legacy_captures lines_in end_of_legacy
+
+-- and that of clause 18 frames
+pub legacy_ends : EndsWithItsFault (filter legacy_captures legacy_text legacy_lines_of)
+legacy_ends = ends_with_its_fault legacy_captures legacy_text legacy_lines_of end_of_legacy legacy_lined

@@ -7,7 +7,7 @@ use Rattle.ht_rx.specs.Texts.{detect_text, lines_of}
 use Rattle.ht_results.specs.Texts.{frame_lines_of, rx_text}
 use Rattle.ht_cli.specs.declared.status.Status.{Status}
 use Rattle.ht_words.specs.declared.asked.Asked.{Asked}
-use Rattle.ht_words.specs.declared.asked.Asked.TheVariants.{Detect, Rx, Tx, Channel, Upgrade, Certify, Check, LegacyChannel, Demo}
+use Rattle.ht_words.specs.declared.asked.Asked.TheVariants.{Detect, Rx, Soft, LegacyRx, Many, Tx, Channel, Upgrade, Certify, Check, LegacyChannel, Demo}
 use Rattle.ht_cli.specs.Commands.{Command, Reads, Converts, Makes, Answers, Rejects}
 use Rattle.ht_cli.specs.Filters.{streaming, whole}
 use Rattle.ht_cli.specs.Converting.{SendsTo, UpgradesTo}
@@ -18,6 +18,10 @@ use Rattle.ht_cert.specs.Formats.{certificates}
 use Rattle.ht_certify.specs.Certifying.{certifying}
 use Rattle.ht_check.specs.Checks.{check_lines, check_text}
 use Rattle.ht_legacy_sim.specs.Passing.{passing as legacy_passing}
+use Rattle.ht_legacy_captures.specs.Formats.{captures as legacy_captures}
+use Rattle.ht_legacy_rx.specs.Texts.{legacy_lines_of, legacy_text}
+use Rattle.ht_soft_rx.specs.Texts.{soft_lines_of, soft_rx_text}
+use Rattle.ht_several.specs.Bundles.{receiving}
 use Rattle.ht_rate.specs.declared.rates.Rate.{Rate}
 use Rattle.ht_demo.specs.declared.plan.Plan.{Plan}
 use Rattle.ht_demo.specs.Demos.{IsDemoLine, returned_line}
@@ -34,6 +38,9 @@ IsPlanLine plan line = IsDemoLine plan line × (plan.noise ≡ 0 → line ≡ re
 abbrev pub command_of : Asked → Command
 command_of (Detect workers window) = streaming captures detect_text lines_of
 command_of (Rx workers window) = streaming captures rx_text frame_lines_of
+command_of (Soft workers window) = streaming captures soft_rx_text soft_lines_of
+command_of (LegacyRx workers window) = streaming legacy_captures legacy_text legacy_lines_of
+command_of (Many workers window) = Converts receiving
 command_of Tx = whole frames SendsTo
 command_of (Channel seed noise) = whole symbols (PassesTo seed noise)
 command_of Upgrade = whole captures UpgradesTo

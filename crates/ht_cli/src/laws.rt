@@ -31,6 +31,7 @@ ghost use Rattle.ht_round.specs.Returned.{returned_text};
 ghost use Rattle.ht_text.specs.Lines.{usage_text};
 ghost use Rattle.ht_results.specs.Texts.{frame_lines_of, rx_text};
 ghost use Rattle.ht_rx.specs.Texts.{detect_text, lines_of};
+ghost use Rattle.ht_soft_rx.specs.Texts.{soft_lines_of, soft_rx_text};
 ghost use Rattle.ht_rate.specs.declared.rates.Rate.{Rate as RateValue};
 ghost use Rattle.ht_demo.specs.Demos.{returned_line};
 ghost use Rattle.ht_words.specs.Accepted.{IsAccepted};
@@ -90,20 +91,28 @@ pub fn clauses_of_words()
         → Answered (Some (Asked.Detect workers window)) a b c d status → Answered (Some (Asked.Detect others room)) a b c d status }
     ensures receives { (workers window others room : ℕ) (a b c d : Device ℕ) (status : Status)
         → Answered (Some (Asked.Rx workers window)) a b c d status → Answered (Some (Asked.Rx others room)) a b c d status }
+    ensures decodes_by_weights { (workers window others room : ℕ) (a b c d : Device ℕ) (status : Status)
+        → Answered (Some (Asked.Soft workers window)) a b c d status → Answered (Some (Asked.Soft others room)) a b c d status }
+    ensures receives_clause_18 { (workers window others room : ℕ) (a b c d : Device ℕ) (status : Status)
+        → Answered (Some (Asked.LegacyRx workers window)) a b c d status → Answered (Some (Asked.LegacyRx others room)) a b c d status }
+    ensures receives_many { (workers window others room : ℕ) (a b c d : Device ℕ) (status : Status)
+        → Answered (Some (Asked.Many workers window)) a b c d status → Answered (Some (Asked.Many others room)) a b c d status }
     ensures demonstrates { (seed noise count length workers window others room : ℕ) (rate : RateValue) (a b c d : Device ℕ) (status : Status)
         → Answered (Some (Asked.Demo seed noise count rate length workers window)) a b c d status
         → Answered (Some (Asked.Demo seed noise count rate length others room)) a b c d status }
 {}
 
-/// What a status says of the octets that `detect` or `rx` took and of the text that it put, in the words of captures.
+/// What a status says of the octets that `detect`, `rx` or `soft` took and of the text that it put, in the words of captures.
 ///
-/// Either puts lines of a capture while it reads it, `detect` those of its symbols and `rx` those of its frames. What is
-/// said of such a run is the same for both.
+/// Each puts lines of a capture while it reads it, `detect` those of its symbols, the others those of its frames. What is
+/// said of such a run is the same for all.
 pub fn clauses_of_streaming()
     ensures detect { (workers window : ℕ) (a b c d : Device ℕ) (status : Status)
         → Answered (Some (Asked.Detect workers window)) a b c d status → StreamsAs lines_of detect_text a b c d status }
     ensures rx { (workers window : ℕ) (a b c d : Device ℕ) (status : Status)
         → Answered (Some (Asked.Rx workers window)) a b c d status → StreamsAs frame_lines_of rx_text a b c d status }
+    ensures soft { (workers window : ℕ) (a b c d : Device ℕ) (status : Status)
+        → Answered (Some (Asked.Soft workers window)) a b c d status → StreamsAs soft_lines_of soft_rx_text a b c d status }
 
     // Done: what was left is a capture, and its text was put.
     ensures done { (lines text : List ℕ → List ℕ) (a b c d : Device ℕ) → StreamsAs lines text a b c d Status.Done

@@ -21,7 +21,9 @@
 //! crates `ht_rx` and `ht_results`. `certify` reads a capture whole, and writes the
 //! file of certificates of its data jobs, as crate `ht_certify` has it. `check` reads such a file as it comes, and writes
 //! for each certificate whether it holds: `check_text` of crate `ht_check`. `lchannel` reads a file of clause 18 frames whole,
-//! and writes the capture that they come to, as crate `ht_legacy_sim` has it.
+//! and writes the capture that they come to, as crate `ht_legacy_sim` has it; `lrx` reads such a capture as it comes, and
+//! writes a line for each frame (`ht_legacy_rx`). `soft` does as `rx` with the weights of label bits in place of labels
+//! (`ht_soft_rx`). `many` reads a bundle of captures whole, and writes for each the text of `rx` (`ht_many`).
 #![tactic(auto)]
 
 ghost use Rattle.std.specs.Prelude.{◌≡◌, ◌≢◌, None, IfSome};
@@ -40,13 +42,17 @@ use ht_certify::certify_capture;
 use ht_check::check_file;
 use ht_crew::Gate;
 use ht_demo::{Plan, demo, demo_alone};
+use ht_endings::put_end;
 use ht_io::{Sink, Source};
+use ht_legacy_rx::{legacy_receive, legacy_receive_alone};
 use ht_legacy_sim::legacy_channel;
+use ht_many::{many_bundle, many_bundle_alone};
 use ht_rate::Rate;
 use ht_rx::{list, list_alone, receive_text, receive_text_alone};
 use ht_sim::channel;
+use ht_soft_rx::{receive_soft, receive_soft_alone};
 pub use ht_words::Asked;
-use lines::{put_end, put_line, put_usage, settle};
+use lines::{put_line, put_usage, settle};
 pub use status::Status;
 use std::alloc::Global;
 use std::sync::Wait;
@@ -56,14 +62,15 @@ use std::thread::Threads;
 ///
 /// The words come without the program's name. The lines of a symbol are put once its jobs were run, and the line of a
 /// frame once all its jobs were. The clauses on octets speak of some octets that the call took: of those that the source
-/// had left, where they are known, as those in memory are; those of standard input and output aren't. The gate is called before and after each job.
+/// had left, where they are known, as those in memory are; those of standard input and output aren't. The gate is called
+/// before and after each job.
 ///
 /// Where the words ask for two workers or more, the jobs are run in as many threads, of which the caller's is one, and
 /// the call waits for them; else it does as [`run_alone`]. Where memory runs out before it is known what the words ask
 /// for, nothing is read and nothing put.
 ///
-/// `Answered` says what each status means, for each command; [`laws`] spells it out for `detect`, `rx`, `upgrade`, `certify`,
-/// `check` and `demo`.
+/// `Answered` says what each status means, for each command; [`laws`] spells it out for `detect`, `rx`, `soft`, `upgrade`,
+/// `certify`, `check` and `demo`.
 pub fn run<R: Threads + Wait + Sync, S: Source, K: Sink, G: Gate + Sync>(
     rt: &R,
     alloc: Global,
@@ -97,6 +104,18 @@ pub fn run<R: Threads + Wait + Sync, S: Source, K: Sink, G: Gate + Sync>(
         Some(Asked::Rx { workers, window }) if workers > 1 => {
             let heard = receive_text(rt, alloc, workers, window, source, sink, gate);
             let received = put_end(alloc, heard, sink);
+            settle(alloc, received, sink)
+        }
+        Some(Asked::Soft { workers, window }) if workers > 1 => {
+            let received = receive_soft(rt, alloc, workers, window, source, sink, gate);
+            settle(alloc, received, sink)
+        }
+        Some(Asked::LegacyRx { workers, window }) if workers > 1 => {
+            let received = legacy_receive(rt, alloc, workers, window, source, sink, gate);
+            settle(alloc, received, sink)
+        }
+        Some(Asked::Many { workers, window }) if workers > 1 => {
+            let received = many_bundle(rt, alloc, workers, window, source, sink, gate);
             settle(alloc, received, sink)
         }
         Some(
@@ -167,6 +186,18 @@ fn carry_out<S: Source, K: Sink, G: Gate>(
         Some(Asked::Rx { window, .. }) => {
             let heard = receive_text_alone(alloc, window, source, sink, gate);
             let received = put_end(alloc, heard, sink);
+            settle(alloc, received, sink)
+        }
+        Some(Asked::Soft { window, .. }) => {
+            let received = receive_soft_alone(alloc, window, source, sink, gate);
+            settle(alloc, received, sink)
+        }
+        Some(Asked::LegacyRx { window, .. }) => {
+            let received = legacy_receive_alone(alloc, window, source, sink, gate);
+            settle(alloc, received, sink)
+        }
+        Some(Asked::Many { window, .. }) => {
+            let received = many_bundle_alone(alloc, window, source, sink, gate);
             settle(alloc, received, sink)
         }
         Some(Asked::Tx) => {

@@ -1,32 +1,16 @@
 //! The lines that a run puts itself: the last one, or how the program is called.
 ghost use Rattle.std.specs.Prelude.{◌≡◌, ◌≢◌, ℕ, List, Err, IfOk, OnErr};
-ghost use Rattle.ht_io.specs.Devices.{IsLater};
 ghost use Rattle.ht_io.specs.Kinds.{name_of};
-ghost use Rattle.ht_runs.specs.declared.faults.RunFault.TheVariants.{NoMemory as LackOfMemory, Write as FailedWrite};
-ghost use Rattle.ht_runs.specs.declared.faults.StopFault.TheVariants.{Write as WriteStop};
+ghost use Rattle.ht_runs.specs.declared.faults.RunFault.TheVariants.{Write as FailedWrite};
 ghost use Rattle.ht_text.specs.Lines.{refused_text, usage_text};
 ghost use Rattle.ht_cli.specs.Putting.{PutsLine};
-ghost use Rattle.ht_cli.specs.Stopping.{PutsEnd, PutsText, Settles};
+ghost use Rattle.ht_cli.specs.Stopping.{Settles};
 
 use crate::status::Status;
 use ht_io::{FormatFault, Sink};
 use ht_runs::RunFault;
-use ht_rx::{Ended, RxFault};
-use ht_text::{end_line, refused_line, usage_line};
+use ht_text::{refused_line, usage_line};
 use std::alloc::{AllocError, Global};
-
-// Puts a text. Without memory for it the sink is as before.
-fn put_text<K: Sink>(text: Result<Vec<u8>, AllocError>, sink: &mut K) -> Result<(), RunFault>
-    ensures puts { (whole : List ℕ) → IfOk text (λ octets. octets.items ≡ whole) → PutsText whole (K.shown sink.old) (K.shown sink.new) result }
-    ensures lacks { OnErr text (result ≡ Err LackOfMemory) }
-    ensures nothing { result ≡ Err LackOfMemory → sink.new ≡ sink.old }
-    ensures writes { result ≢ Err FailedWrite → (K.shown sink.new).faults ≡ (K.shown sink.old).faults }
-    ensures later { IsLater (K.shown sink.old) (K.shown sink.new) }
-{
-    let text = text?;
-    sink.put(&text)?;
-    Ok(())
-}
 
 /// Puts a line, after which the run ends with the status given. Without memory for it the sink is as before.
 pub fn put_line<K: Sink>(line: Result<Vec<u8>, AllocError>, then: Status, sink: &mut K) -> Status
@@ -62,33 +46,15 @@ fn put_refused<K: Sink>(alloc: Global, fault: FormatFault, sink: &mut K) -> Stat
     put_line(line, Status::Refused, sink)
 }
 
-/// Puts the end line behind the lines of a capture. Where these aren't the lines of a whole one nothing is put.
-pub fn put_end<K: Sink>(
-    alloc: Global,
-    heard: Result<Ended, RxFault>,
-    sink: &mut K,
-) -> Result<(), RunFault>
-    ensures puts { PutsEnd heard (K.shown sink.old) (K.shown sink.new) result }
-    ensures writes { result ≢ Err FailedWrite → (K.shown sink.new).faults ≡ (K.shown sink.old).faults }
-    ensures failed { heard ≡ Err WriteStop → result ≡ Err FailedWrite }
-    ensures later { IsLater (K.shown sink.old) (K.shown sink.new) }
-{
-    match heard {
-        Ok(Ended::Done { frames, .. }) => put_text(end_line(alloc, frames), sink),
-        Ok(Ended::Refused(fault)) => Err(RunFault::Format(fault)),
-        Err(fault) => Err(RunFault::from(fault)),
-    }
-}
-
 /// Ends a run whose call has answered, and which put all that it had to but for a refused line: puts this line where the
 /// input has a fault.
-pub fn settle<K: Sink>(alloc: Global, ran: Result<(), RunFault>, sink: &mut K) -> Status
+pub fn settle<A: Drop, K: Sink>(alloc: Global, ran: Result<A, RunFault>, sink: &mut K) -> Status
     ensures settles { Settles ran (K.shown sink.old) (K.shown sink.new) result }
     ensures writes { result ≢ Status.WriteFault → (K.shown sink.new).faults ≡ (K.shown sink.old).faults }
     ensures failed { ran ≡ Err FailedWrite → result ≡ Status.WriteFault }
 {
     match ran {
-        Ok(()) => Status::Done,
+        Ok(_) => Status::Done,
         Err(RunFault::Format(fault)) => put_refused(alloc, fault, sink),
         Err(RunFault::Read) => Status::ReadFault,
         Err(RunFault::Write) => Status::WriteFault,

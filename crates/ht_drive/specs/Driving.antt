@@ -1,5 +1,5 @@
 -- How the window of a drive, its counts and its feed stand to each other.
-use Rattle.std.specs.Prelude.{◌≡◌, ◌+◌, ◌≤◌, ℕ, List, length, Bool, not, Some, None}
+use Rattle.std.specs.Prelude.{◌≡◌, ◌+◌, ◌≤◌, List, length, Bool, not, Some, None}
 use Rattle.ht_metric.specs.Jobs.{JobView}
 use Rattle.ht_feed.specs.Dues.{count_in}
 use Rattle.ht_feed.specs.Feeds.{FeedView}

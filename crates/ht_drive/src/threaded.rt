@@ -17,7 +17,7 @@ use crate::report::Report;
 use crate::tally::Tally;
 use crate::task::{Done, Runner, Task};
 use crate::window::Window;
-use ht_feed::{Answer, BlockFeed, DriveFault, Jobs, Shared, Work, drive_counted};
+use ht_feed::{Answer, BlockFeed, DriveFault, Jobs, Shared, Work, drive_alone};
 use ht_pool::close::close;
 use ht_pool::crew::beside;
 use ht_pool::helm::Helm;
@@ -110,7 +110,7 @@ fn run_alone<F: BlockFeed, W: Work<F::Block, Answer = F::Answer>>(
     ensures fault { (fault : F.Fault) → result ≡ Err (DriveFault.Feed fault) → (F.shown feed.new).failed ≡ Some fault }
     ensures memory { result ≡ Err DriveFault.NoMemory → (F.shown feed.new).failed ≡ None }
 {
-    match drive_counted(window, work, feed) {
+    match drive_alone(window, work, feed) {
         Ok(jobs) => Ok(Report {
             jobs,
             own: jobs,

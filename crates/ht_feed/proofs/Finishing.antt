@@ -37,7 +37,7 @@ pieces_put {P = P} old new taken put first none =
     ap old (sym (append-nil taken)) ∙ (first [] ∙ (ap (λ (xs : List P). put ++ xs) none ∙ append-nil put))
 
 -- where a drive ends well nothing failed
-none_failed : (driven : Result (Unit {0}) (DriveFault BookFault)) → OnOk driven (failed_by driven ≡ None)
+none_failed : {X : Type 0} (driven : Result X (DriveFault BookFault)) → OnOk driven (failed_by driven ≡ None)
 none_failed (Ok done) = refl
 none_failed (Err fault) = tt
 
@@ -112,7 +112,7 @@ module _ {R H P : Type 0} (means : R → List ℕ → Meaning (Item H)) (at : R 
     stops_as NoMemory part = part_told NoMemory part
 
     -- what a drive says of a feed over a new desk
-    pub record Heard (failed : Option BookFault) (driven : Result (Unit {0}) (DriveFault BookFault)) : Type 0 where
+    pub record Heard {X : Type 0} (failed : Option BookFault) (driven : Result X (DriveFault BookFault)) : Type 0 where
       pub leads : TellsBy None failed first last
       pub ended : OnOk driven (is_some new.stop ≡ true)
       pub taken : OnOk driven (jobs_in new.due ≡ [])
@@ -120,21 +120,21 @@ module _ {R H P : Type 0} (means : R → List ℕ → Meaning (Item H)) (at : R 
       pub fault : (fault : BookFault) → driven ≡ Err (Feed fault) → failed ≡ Some fault
       pub lacking : driven ≡ Err DriveMemory → failed ≡ None
 
-    none_due : (driven : Result (Unit {0}) (DriveFault BookFault)) → OnOk driven (new.due ≡ []) → OnOk driven (jobs_in new.due ≡ [])
+    none_due : {X : Type 0} (driven : Result X (DriveFault BookFault)) → OnOk driven (new.due ≡ []) → OnOk driven (jobs_in new.due ≡ [])
     none_due (Ok done) none = ap jobs_in none
     none_due (Err fault) none = tt
 
     -- what a drive says that answers what failed
-    pub driven_so : (driven : Result (Unit {0}) (DriveFault BookFault)) → TellsBy None (failed_by driven) first last → OnOk driven (is_some new.stop ≡ true)
+    pub driven_so : {X : Type 0} (driven : Result X (DriveFault BookFault)) → TellsBy None (failed_by driven) first last → OnOk driven (is_some new.stop ≡ true)
         → OnOk driven (new.due ≡ []) → Heard (failed_by driven) driven
-    driven_so driven leads ended none =
+    driven_so {X = X} driven leads ended none =
         record {
           leads = leads;
           ended = ended;
           taken = none_due driven none;
           well = none_failed driven;
-          fault = λ fault is. ap failed_by is;
-          lacking = λ is. ap failed_by is;
+          fault = λ fault is. ap (λ (r : Result X (DriveFault BookFault)). failed_by r) is;
+          lacking = λ is. ap (λ (r : Result X (DriveFault BookFault)). failed_by r) is;
         }
 
     told_well : (failed : Option BookFault) → failed ≡ None → TellsBy None failed first last → Tells first last
@@ -153,18 +153,18 @@ module _ {R H P : Type 0} (means : R → List ℕ → Meaning (Item H)) (at : R 
     puts_later (Some fault) told = told.puts_later
 
     -- where the answer isn't Write the account's device never failed
-    steady_by : (failed : Option BookFault) (driven : Result (Unit {0}) (DriveFault BookFault)) → Heard failed driven
+    steady_by : {X : Type 0} (failed : Option BookFault) (driven : Result X (DriveFault BookFault)) → Heard failed driven
         → ended_by new.stop new.frames new.count driven ≢ Err Write → b.device.faults ≡ a.device.faults
     steady_by failed (Ok done) h other = (told_well failed h.well h.leads).steady
     steady_by failed (Err (Feed Failed)) h other = absurd (other refl)
     steady_by failed (Err (Feed NoMemory)) h other = (told_ill failed NoMemory (h.fault NoMemory refl) h.leads).steady refl
     steady_by failed (Err DriveMemory) h other = (told_well failed (h.lacking refl) h.leads).steady
 
-    pub steady : (failed : Option BookFault) (driven : Result (Unit {0}) (DriveFault BookFault)) (result : Result Ended StopFault)
+    pub steady : {X : Type 0} (failed : Option BookFault) (driven : Result X (DriveFault BookFault)) (result : Result Ended StopFault)
         → Heard failed driven → result ≡ ended_by new.stop new.frames new.count driven → result ≢ Err Write → b.device.faults ≡ a.device.faults
     steady failed driven result h is other = steady_by failed driven h (λ e. other (is ∙ e))
 
-    heard_by : (failed : Option BookFault) (driven : Result (Unit {0}) (DriveFault BookFault)) → Heard failed driven → a.Waits [] → (b.Waits [] → b.pieces [] ≡ [])
+    heard_by : {X : Type 0} (failed : Option BookFault) (driven : Result X (DriveFault BookFault)) → Heard failed driven → a.Waits [] → (b.Waits [] → b.pieces [] ≡ [])
         → Came (ended_by new.stop new.frames new.count driven)
     heard_by failed (Ok done) h rests nothing =
         ends (told_well failed h.well h.leads) (ap all_due (none_in new.due h.taken)) rests nothing new.stop refl h.ended
@@ -176,7 +176,7 @@ module _ {R H P : Type 0} (means : R → List ℕ → Meaning (Item H)) (at : R 
         (grows_by_part-front a.device b.device tells.put (b.pieces more) (by_part a.device b.device tells.put tells.grows)))
 
     -- the end of the reading, as its drive and its desk tell it
-    pub heard : (failed : Option BookFault) (driven : Result (Unit {0}) (DriveFault BookFault)) (result : Result Ended StopFault)
+    pub heard : {X : Type 0} (failed : Option BookFault) (driven : Result X (DriveFault BookFault)) (result : Result Ended StopFault)
         → Heard failed driven → a.Waits [] → (b.Waits [] → b.pieces [] ≡ []) → result ≡ ended_by new.stop new.frames new.count driven → Came result
     heard failed driven result h rests nothing is = subst Came (sym is) (heard_by failed driven h rests nothing)
 

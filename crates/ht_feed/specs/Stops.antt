@@ -33,13 +33,13 @@ ended_at (Some Lacking) frames jobs = Err StopMemory
 ended_at None frames jobs = Err StopRead
 
 -- how it ended, where its drive answered this
-abbrev pub ended_by : Option Stop → ℕ → ℕ → Result (Unit {0}) (DriveFault BookFault) → Result Ended StopFault
+abbrev pub ended_by : {X : Type 0} → Option Stop → ℕ → ℕ → Result X (DriveFault BookFault) → Result Ended StopFault
 ended_by stop frames jobs (Ok done) = ended_at stop frames jobs
 ended_by stop frames jobs (Err (Feed fault)) = Err (fault_of fault)
 ended_by stop frames jobs (Err DriveMemory) = Err StopMemory
 
 -- what a call of the desk or of its account failed with, where the drive answered this
-abbrev pub failed_by : Result (Unit {0}) (DriveFault BookFault) → Option BookFault
+abbrev pub failed_by : {X : Type 0} → Result X (DriveFault BookFault) → Option BookFault
 failed_by (Ok done) = None
 failed_by (Err (Feed fault)) = Some fault
 failed_by (Err DriveMemory) = None

@@ -1,16 +1,13 @@
 //! What is due between a reader and an account.
-ghost use Rattle.std.specs.Prelude.{◌≡◌, ◌+◌, ◌-◌, ◌^◌, ◌<◌, ◌≤◌, ◌++◌, [], ◌∷◌};
-ghost use Rattle.std.specs.Prelude.{None, Some, true, length, take, drop, slice_get, IfErr, IfNone, IfOk, IfSome, OnErr, OnOk};
+ghost use Rattle.std.specs.Prelude.{◌≡◌, ◌-◌, ◌^◌, ◌<◌, ◌≤◌, ◌++◌, [], ◌∷◌, None, true, length, IfOk, OnOk};
 ghost use Rattle.circular_buffer.specs.Buffer.{buffer};
-ghost use Rattle.ht_io.specs.Devices.{IsLater, Rose};
-ghost use Rattle.ht_feed.specs.Accounts.{PutsBlock, PutsPartOf};
-ghost use Rattle.ht_feed.specs.Desks.{AddsBlock, AddsNone, IsSoundDesk, ReadsMore, desk_view};
-ghost use Rattle.ht_feed.specs.Dues.{all_due, count_in, due_of, jobs_in};
+ghost use Rattle.ht_feed.specs.Desks.{desk_view};
+ghost use Rattle.ht_feed.specs.Dues.{due_of};
 ghost use Rattle.ht_feed.specs.Reading.{Counts};
 
 use crate::account::Account;
-use crate::answer::Answer;
 use crate::book_fault::BookFault;
+use crate::desking::Desking;
 use crate::due_block::DueBlock;
 use crate::jobs::Jobs;
 use crate::reader::BlockReader;
@@ -93,23 +90,16 @@ impl<R: BlockReader + Drop> Desk<R> {
     {
         self.count
     }
+}
 
-    /// Gives the next block, of at most `most` jobs, which is due from now on, or none where the reading stops. With it at
-    /// most 4096 jobs are due. The only error is lack of memory, and then nothing was read.
-    pub fn next<S: Source>(
+impl<R: BlockReader + Drop> Desking<R> for Desk<R> {
+    ghost seen = { λ d. d };
+
+    fn next<S: Source>(
         &mut self,
         most: u16,
         source: &mut S,
-    ) -> Result<Option<R::Block>, AllocError>
-        requires going { self.old.stop ≡ None }
-        requires some { 1 ≤ most }
-        requires room { count_in (jobs_in self.old.due) + most ≤ 4096 }
-        ensures block { IfOk result (λ given. IfSome given (λ block. AddsBlock R.counts most self.old self.new (R.Block.jobs block))) }
-        ensures none { IfOk result (λ given. IfNone given (AddsNone self.old self.new)) }
-        ensures reads { OnOk result (ReadsMore R.means R.at self.old self.new (S.shown source.old) (S.shown source.new)) }
-        ensures memory { OnErr result ((self.new ≡ self.old) × (source.new ≡ source.old)) }
-        ensures sound { IsSoundDesk R.counts self.new }
-    {
+    ) -> Result<Option<R::Block>, AllocError> {
         make_room(&mut self.due)?;
         let (reader, head, frames) = (&mut self.reader, &mut self.head, &mut self.frames);
         match next_block(reader, head, frames, most, source) {
@@ -125,35 +115,12 @@ impl<R: BlockReader + Drop> Desk<R> {
         }
     }
 
-    /// Hands an account the answer to the first block due, which is due no longer. Where the account refuses, all stays as
-    /// it was.
-    pub fn take<A: Account<R>>(
+    fn take<A: Account<R>>(
         &mut self,
         block: &R::Block,
         answer: &A::Answer,
         account: &mut A,
-    ) -> Result<(), BookFault>
-        requires right { A.Answer.answers answer.now (R.Block.jobs block.now) }
-        requires first { slice_get (jobs_in self.old.due) 0 ≡ Some (R.Block.jobs block.now) }
-
-        // What was put, and what is left to put.
-        ensures put { OnOk result (PutsBlock (A.shown account.old) (A.shown account.new) (A.pieces account.old) (A.pieces account.new)
-            (all_due (take 1 self.old.due))) }
-        ensures part { OnErr result (PutsPartOf (A.shown account.old) (A.shown account.new) (A.pieces account.old) (all_due (take 1 self.old.due))) }
-        ensures waits { OnOk result (A.waits account.old (all_due self.old.due) → A.waits account.new (all_due (drop 1 self.old.due))) }
-
-        // What is due.
-        ensures due { OnOk result (self.new ≡ record self.old { due = drop 1 self.old.due }) }
-        ensures stays { OnErr result (self.new ≡ self.old) }
-        ensures sound { IsSoundDesk R.counts self.new }
-
-        // The device has counted a fault exactly where it failed.
-        ensures cause { IfErr result (λ fault. fault ≡ BookFault.Failed → Rose (A.shown account.old) (A.shown account.new)) }
-        ensures steady { OnOk result ((A.shown account.new).faults ≡ (A.shown account.old).faults) }
-        ensures unfailed { IfErr result (λ fault. fault ≡ BookFault.NoMemory → (A.shown account.new).faults ≡ (A.shown account.old).faults) }
-        ensures later { IsLater (A.shown account.old) (A.shown account.new) }
-        ensures same { A.lent account.new ≡ A.lent account.old }
-    {
+    ) -> Result<(), BookFault> {
         let Some(first) = self.due.get(0) else {
             unreachable!();
         };

@@ -19,41 +19,13 @@ pub enum DriveFault<F> {
     NoMemory,
 }
 
-/// Runs all blocks of a feed, in this thread, and hands it their answers in the order of the blocks.
+/// Runs all blocks of a feed, in this thread, and hands it their answers in the order of the blocks. It answers how many
+/// jobs the feed gave.
 ///
 /// The feed has given nothing yet. One block is due at a time, of at most `window` jobs, 1 to 4096.
 ///
 /// It refuses with the feed's fault, or where the work was out of memory.
 pub fn drive_alone<F: BlockFeed, W: Work<F::Block, Answer = F::Answer>>(
-    window: u16,
-    work: &W,
-    feed: &mut F,
-) -> Result<(), DriveFault<F::Fault>>
-    requires some { 1 ≤ window }
-    requires few { window ≤ 4096 }
-    requires fresh { IsFreshFeed (F.shown feed.old) }
-
-    // However it ends.
-    ensures leads { F.leads feed.old feed.new }
-    ensures due { count_in (F.shown feed.new).due ≤ window }
-
-    // When the feed has ended, every block was run and taken, and no call failed.
-    ensures ended { OnOk result ((F.shown feed.new).ended ≡ true) }
-    ensures taken { OnOk result ((F.shown feed.new).due ≡ []) }
-    ensures well { OnOk result ((F.shown feed.new).failed ≡ None) }
-
-    // What it refuses with.
-    ensures fault { (fault : F.Fault) → result ≡ Err (DriveFault.Feed fault) → (F.shown feed.new).failed ≡ Some fault }
-    ensures memory { result ≡ Err DriveFault.NoMemory → (F.shown feed.new).failed ≡ None }
-{
-    match drive_counted(window, work, feed) {
-        Ok(_) => Ok(()),
-        Err(fault) => Err(fault),
-    }
-}
-
-/// Does what [`drive_alone`] does, and answers how many jobs the feed gave.
-pub fn drive_counted<F: BlockFeed, W: Work<F::Block, Answer = F::Answer>>(
     window: u16,
     work: &W,
     feed: &mut F,

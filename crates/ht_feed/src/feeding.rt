@@ -1,5 +1,5 @@
 //! A desk as a feed.
-ghost use Rattle.std.specs.Prelude.{◌≡◌, slice_get, None, Some, IfErr, OnOk};
+ghost use Rattle.std.specs.Prelude.{◌≡◌, slice_get, Some, IfErr, OnOk};
 ghost use Rattle.ht_feed.specs.Accounts.{told_by};
 ghost use Rattle.ht_feed.specs.Feeds.{Fails, TakesBlock};
 ghost use Rattle.ht_feed.specs.Feeding.{FeedsOn, feed_of, feeds_on-more, feeds_on-none, names, names_of};
@@ -7,51 +7,59 @@ ghost use Rattle.ht_feed.specs.Feeding.{FeedsOn, feed_of, feeds_on-more, feeds_o
 use crate::account::Account;
 use crate::answer::Answer;
 use crate::book_fault::BookFault;
-use crate::desk::Desk;
 use crate::desk_feed::DeskFeed;
+use crate::desking::Desking;
 use crate::feed::BlockFeed;
 use crate::jobs::Jobs;
 use crate::reader::BlockReader;
 use ht_io::Source;
+use std::marker::PhantomData;
 
-impl<'s, 'a, R: BlockReader + Drop, S: Source, A: Account<R>> DeskFeed<'s, 'a, R, S, A> {
-    /// A feed which goes on from where its desk stands. It takes no memory.
-    pub fn new(desk: Desk<R>, source: &'s mut S, account: &'a mut A) -> DeskFeed<'s, 'a, R, S, A>
-        ensures names { names_of A.lent result ≡ names source.entry.ghost_name account.entry.ghost_name (A.lent account.old) }
-        ensures desk { result.desk ≡ desk }
+impl<'a, R: BlockReader + Drop, D: Desking<R>, S: Source, A: Account<R>> DeskFeed<'a, R, D, S, A> {
+    /// A feed which goes on from where its desk stands, and from what a call before it failed with, if one did. It takes no
+    /// memory.
+    pub fn new(
+        desk: &'a mut D,
+        source: &'a mut S,
+        account: &'a mut A,
+        failed: &'a mut Option<BookFault>,
+    ) -> DeskFeed<'a, R, D, S, A>
+        ensures names { names_of A.lent result ≡ names desk.entry.ghost_name source.entry.ghost_name account.entry.ghost_name failed.entry.ghost_name (A.lent account.old) }
+        ensures desk { result.desk.now ≡ desk.old }
         ensures source { result.source.now ≡ source.old }
         ensures account { result.account.now ≡ account.old }
-        ensures well { result.failed ≡ None }
+        ensures failed { result.failed.now ≡ failed.old }
     {
         DeskFeed {
             desk,
             source,
             account,
-            failed: None,
+            failed,
+            of: PhantomData,
         }
     }
 }
 
-impl<'s, 'a, R: BlockReader + Drop, S: Source, A: Account<R>> BlockFeed
-    for DeskFeed<'s, 'a, R, S, A> {
+impl<'a, R: BlockReader + Drop, D: Desking<R>, S: Source, A: Account<R>> BlockFeed
+    for DeskFeed<'a, R, D, S, A> {
     type Fault = BookFault;
 
     type Block = R::Block;
 
     type Answer = A::Answer;
 
-    ghost shown = { feed_of R.counts };
+    ghost shown = { feed_of D.seen R.counts };
 
-    ghost leads = { FeedsOn R.means R.at S.shown A.lent (told_by A.shown A.pieces A.waits) };
+    ghost leads = { FeedsOn D.seen R.means R.at S.shown A.lent (told_by A.shown A.pieces A.waits) };
 
     fn next(&mut self, most: u16) -> Result<Option<R::Block>, BookFault> {
-        if let Some(fault) = self.failed {
+        if let Some(fault) = *self.failed {
             return Err(fault);
         }
         match self.desk.next(most, self.source) {
             Ok(given) => Ok(given),
             Err(_) => {
-                self.failed = Some(BookFault::NoMemory);
+                *self.failed = Some(BookFault::NoMemory);
                 Err(BookFault::NoMemory)
             }
         }
@@ -59,24 +67,24 @@ impl<'s, 'a, R: BlockReader + Drop, S: Source, A: Account<R>> BlockFeed
 
     fn take(&mut self, block: &R::Block, answer: &A::Answer) -> Result<(), BookFault>
         requires right { A.Answer.answers answer.now (R.Block.jobs block.now) }
-        requires first { slice_get (feed_of R.counts self.old).due 0 ≡ Some (R.Block.jobs block.now) }
-        ensures taken { OnOk result (TakesBlock (feed_of R.counts self.old) (feed_of R.counts self.new)) }
-        ensures fault { IfErr result (Fails (feed_of R.counts self.old) (feed_of R.counts self.new)) }
-        ensures leads { FeedsOn R.means R.at S.shown A.lent (told_by A.shown A.pieces A.waits) self.old self.new }
+        requires first { slice_get (feed_of D.seen R.counts self.old).due 0 ≡ Some (R.Block.jobs block.now) }
+        ensures taken { OnOk result (TakesBlock (feed_of D.seen R.counts self.old) (feed_of D.seen R.counts self.new)) }
+        ensures fault { IfErr result (Fails (feed_of D.seen R.counts self.old) (feed_of D.seen R.counts self.new)) }
+        ensures leads { FeedsOn D.seen R.means R.at S.shown A.lent (told_by A.shown A.pieces A.waits) self.old self.new }
     {
-        if let Some(fault) = self.failed {
+        if let Some(fault) = *self.failed {
             return Err(fault);
         }
         match self.desk.take(block, answer, self.account) {
             Ok(()) => Ok(()),
             Err(fault) => {
-                self.failed = Some(fault);
+                *self.failed = Some(fault);
                 Err(fault)
             }
         }
     }
 
-    ghost stays = { feeds_on-none R.means R.at S.shown A.lent (told_by A.shown A.pieces A.waits) };
+    ghost stays = { feeds_on-none D.seen R.means R.at S.shown A.lent (told_by A.shown A.pieces A.waits) };
 
-    ghost goes_on = { feeds_on-more R.means R.at S.shown A.lent (told_by A.shown A.pieces A.waits) };
+    ghost goes_on = { feeds_on-more D.seen R.means R.at S.shown A.lent (told_by A.shown A.pieces A.waits) };
 }

@@ -1,6 +1,8 @@
 //! How hard a search was.
+ghost use Rattle.std.specs.Prelude.{◌^◌, ◌<◌, length};
 
-use ht_metric::Job;
+use crate::jobs::Jobs;
+use ht_metric::{Found, Job};
 
 /// The streams of a hard job, at least.
 const STREAMS: u8 = 3;
@@ -9,13 +11,24 @@ const STREAMS: u8 = 3;
 const FAR: u64 = 64;
 
 /// Whether the search for a job whose hit has this distance may have looked at thousands of vectors: many are in the grid,
-/// and the one that was found is far.
-pub(crate) fn is_hard(job: &Job, distance: u128) -> bool {
+/// and the one that was found is far. Nothing but the size of blocks rests on it.
+pub fn is_hard(job: &Job, distance: u128) -> bool {
     let grid = job.grid();
     if grid.streams() < STREAMS || !grid.i_ladder(1).has(3) {
         return false;
     }
     u64::try_from(distance).unwrap_or(u64::MAX) / measure(job).max(1) >= FAR
+}
+
+/// Whether the last job of a block, which speaks for all, was hard, where this was found for its jobs.
+pub fn is_last_hard<B: Jobs>(block: &B, found: &[Found]) -> bool
+    requires few { length (B.jobs block.now) < 2 ^ 16 }
+{
+    let size = block.size();
+    match found.last() {
+        Some(last) if size > 0 => is_hard(&block.job(size - 1), last.distance),
+        _ => false,
+    }
 }
 
 // Four times the square of the least diagonal of a job's system.

@@ -4,7 +4,7 @@ ghost use Rattle.ht_metric.specs.Jobs.{near};
 ghost use Rattle.ht_feed.specs.Dues.{AreHits};
 
 use crate::answer::{Answer, Work};
-use crate::hard::is_hard;
+use crate::hard::is_last_hard;
 use crate::jobs::Jobs;
 use ht_metric::{Found, Job};
 use ht_pam::Steps;
@@ -92,10 +92,6 @@ impl<B: Jobs> Work<B> for Detector {
 
     /// Whether the last job, which speaks for all, was hard.
     fn is_hard(&self, block: &B, answer: &Hits) -> bool {
-        let size = block.size();
-        match answer.found.last() {
-            Some(last) if size > 0 => is_hard(&block.job(size - 1), last.distance),
-            _ => false,
-        }
+        is_last_hard(block, answer.found.as_slice())
     }
 }

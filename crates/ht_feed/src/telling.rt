@@ -12,6 +12,7 @@ use crate::account::Account;
 use crate::answer::Work;
 use crate::book_fault::BookFault;
 use crate::desk::Desk;
+use crate::desking::Desking;
 use crate::drive::DriveFault;
 use crate::ended::Ended;
 use crate::reader::BlockReader;
@@ -20,16 +21,16 @@ use ht_io::Source;
 use ht_runs::StopFault;
 use std::alloc::Global;
 
-/// How the reading of an input ended whose drive answered this.
-pub fn end_of<R: BlockReader + Drop>(
+/// How the reading of an input ended whose drive answered this, at `Ok` whatever.
+pub fn end_of<R: BlockReader + Drop, T: Drop>(
     desk: &Desk<R>,
-    driven: Result<(), DriveFault<BookFault>>,
+    driven: Result<T, DriveFault<BookFault>>,
 ) -> Result<Ended, StopFault>
     requires stopped { OnOk driven (is_some desk.now.stop ≡ true) }
     ensures { result ≡ ended_by desk.now.stop desk.now.frames desk.now.count driven }
 {
     match driven {
-        Ok(()) => {}
+        Ok(_) => {}
         Err(DriveFault::Feed(fault)) => return Err(fault.into()),
         Err(DriveFault::NoMemory) => return Err(StopFault::NoMemory),
     }

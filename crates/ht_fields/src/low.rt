@@ -1,5 +1,5 @@
 //! Fields of one octet, of which none may be above a value, read many at a time.
-ghost use Rattle.std.specs.Prelude.{◌≡◌, ◌<◌, ◌≤◌, ◌+◌, ◌^◌, ◌∷◌, [], length, take, All, IfOk, IfErr, OnOk, IsTrue};
+ghost use Rattle.std.specs.Prelude.{◌≡◌, ◌<◌, ◌≤◌, ◌+◌, ◌^◌, ◌∷◌, [], length, take, IfOk, IfErr, OnOk, IsTrue};
 ghost use Rattle.ht_io.specs.Devices.{Takes, IsLater};
 ghost use Rattle.ht_fields.specs.Lacking.{FailsAmong, FailsField};
 ghost use Rattle.ht_fields.specs.Tests.{AreLow, is_above};

@@ -127,7 +127,8 @@ impl Source for MemSource {
 
         // It fails exactly at an unspent failing offset, and spends one entry.
         ensures fails { IsErr result ↔ Contains self.old.failing self.old.at }
-        ensures spent { OnErr result (self.new ≡ record self.old { failing = without_first self.old.at self.old.failing; faults = one_more self.old.faults }) }
+        ensures spent { OnErr result (self.new
+            ≡ record self.old { failing = without_first self.old.at self.old.failing; faults = one_more self.old.faults }) }
         ensures kept { OnErr result (self.new.left ≡ self.old.left) }
         ensures cause { OnErr result (HasRisen self.old.faults self.new.faults) }
         ensures later { self.old.faults ≤ self.new.faults }

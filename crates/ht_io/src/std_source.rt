@@ -69,7 +69,8 @@ impl<R: Read> Source for StdSource<R> {
         requires room { 0 < length into.old }
 
         // What the reader has left, where it is known, passes unchanged.
-        ensures passed { IfOk result (λ count. Consumes (reader_remaining R.remaining (reader_of self.old)) (reader_remaining R.remaining (reader_of self.new)) (take count into.new)) }
+        ensures passed { IfOk result (λ count. Consumes
+            (reader_remaining R.remaining (reader_of self.old)) (reader_remaining R.remaining (reader_of self.new)) (take count into.new)) }
         ensures whole { IfOk result (λ count. count ≡ 0 → IsAtEnd (reader_remaining R.remaining (reader_of self.new))) }
         ensures unread { OnErr result (Keeps (reader_remaining R.remaining (reader_of self.old)) (reader_remaining R.remaining (reader_of self.new))) }
 

@@ -52,13 +52,13 @@ unfolding symbols_due
 behind_is left n none = let t : nat_eq n 0 ≡ true = grind (arith, nat_tests) in when_true _ _ _ t
 
 -- what stands in front of the frames
-route_start : (count : ℕ) → count ≤ 65535
+pub route_start : (count : ℕ) → count ≤ 65535
     → Route captures (magic_due captures_magic) (captures_due count) (started_octets captures_magic 2 count) []
 route_start count few =
     let small : count < 256 ^ 2 = omega (arith, few) in
     route_started captured count (omega arith) small (omega arith) few
 
-route_rate : (left : ℕ) (r : LegacyRate) → 0 < left → Route captures (captures_due left) (Body (Length left r)) (index_of r ∷ []) []
+pub route_rate : (left : ℕ) (r : LegacyRate) → 0 < left → Route captures (captures_due left) (Body (Length left r)) (index_of r ∷ []) []
 unfolding good_index
 route_rate left r some =
     let state : LegacyRate → Verdict State LegacyItem = λ q. Good (Body (Length left q)) [] in
@@ -74,7 +74,7 @@ length_is : (left : ℕ) (r : LegacyRate) (octets : List ℕ) (len : ℕ) → bi
 unfolding good_length
 length_is left r octets len is = ap (λ (n : ℕ). let v : Verdict State LegacyItem = Good (Body (Diagonals left r n)) [] in v) is
 
-route_length : (left : ℕ) (r : LegacyRate) (len : ℕ) → 0 < left → 1 ≤ len → len ≤ 4095
+pub route_length : (left : ℕ) (r : LegacyRate) (len : ℕ) → 0 < left → 1 ≤ len → len ≤ 4095
     → Route captures (captures_due left) (Body (Diagonals left r len)) (index_of r ∷ big_bytes 2 len) []
 route_length left r len left_some some few =
     let octets = big_bytes 2 len in

@@ -9,9 +9,10 @@
 //! its rate it is BadMcs at 7, with no octets or with 4096 BadLength at 8, with seed 0 BadSeed at 10, without its last octet
 //! Truncated at 11, and with an octet more Trailing at 12.
 //!
-//! `read_legacy_frames` reads a file to its end from any source, or answers its first fault. `write_legacy_frames` puts the
-//! file into any sink and takes no memory. What was written is a file of these frames, no file is a prefix of another, and
-//! frames of which the same file is written are the same, so that what is read of it are the frames again.
+//! `read_legacy_frames` reads a file to its end from any source, or answers its first fault. `rate` and `length` read the
+//! two fields that captures of such frames have too. `write_legacy_frames` puts the file into any sink and takes no memory.
+//! What was written is a file of these frames, no file is a prefix of another, and frames of which the same file is written
+//! are the same, so that what is read of it are the frames again.
 #![tactic(auto)]
 
 pub mod laws;
@@ -20,5 +21,5 @@ mod reading;
 mod tests;
 mod writing;
 
-pub use reading::read_legacy_frames;
+pub use reading::{length, rate, read_legacy_frames};
 pub use writing::write_legacy_frames;

@@ -70,7 +70,8 @@ fn alternated(alloc: Global, first: &[bool], second: &[bool]) -> Result<Vec<bool
     requires { length second.now ≡ length first.now }
     ensures len { IfOk result (λ v. length v.items ≡ 2 * length first.now) }
     ensures firsts { IfOk result (λ v. (i : ℕ) → i < length first.now → slice_index_or v.items (2 * i) false ≡ slice_index_or first.now i false) }
-    ensures seconds { IfOk result (λ v. (i : ℕ) → i < length first.now → slice_index_or v.items (2 * i + 1) false ≡ slice_index_or second.now i false) }
+    ensures seconds { IfOk result (λ v. (i : ℕ) → i < length first.now
+        → slice_index_or v.items (2 * i + 1) false ≡ slice_index_or second.now i false) }
 {
     let mut bits = Vec::with_capacity(alloc, 2 * first.len())?;
     for (i, bit) in first.iter().enumerate() {

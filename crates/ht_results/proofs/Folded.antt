@@ -43,10 +43,10 @@ pub headed_is : (octets : List ℕ) (head : FrameHead) → headed head (capture_
 headed_is octets head = ap (headed head) (frames_of octets).all ∙ headed-frames head (frames_in (capture_of octets).items)
 
 -- a whole frame, and one that is cut off
-abbrev IsGood : FrameJobs → Type 0
+abbrev pub IsGood : FrameJobs → Type 0
 IsGood f = IsHead f.head × IsWholeFrame f
 
-abbrev IsCutOff : FrameJobs → Type 0
+abbrev pub IsCutOff : FrameJobs → Type 0
 IsCutOff f = IsHead f.head × IsFrontOfFrame f
 
 none_taken : (n : ℕ) → take {A = Headed} n [] ≡ []
@@ -68,11 +68,11 @@ heads_kept octets p =
     all_weaker (λ (f : FrameJobs). IsHead f.head × (p f ≡ true)) (λ (f : FrameJobs). IsHead f.head) (filter p fs) (λ f both. both.0)
     (all_kept (λ (f : FrameJobs). IsHead f.head) p fs (heads_good (frames_of octets).last 0 0 fs (frames_of octets).are))
 
-whole_good : (octets : List ℕ) → AllByRecursion IsGood (whole_frames (capture_of octets).items)
+pub whole_good : (octets : List ℕ) → AllByRecursion IsGood (whole_frames (capture_of octets).items)
 whole_good octets =
     both_of (λ (f : FrameJobs). IsHead f.head) IsWholeFrame (whole_frames (capture_of octets).items) (heads_kept octets has_all_jobs) (parted_of octets).whole
 
-cut_good : (octets : List ℕ) → AllByRecursion IsCutOff (cut_frames (capture_of octets).items)
+pub cut_good : (octets : List ℕ) → AllByRecursion IsCutOff (cut_frames (capture_of octets).items)
 cut_good octets =
     both_of (λ (f : FrameJobs). IsHead f.head) IsFrontOfFrame (cut_frames (capture_of octets).items)
     (heads_kept octets (λ f. not (has_all_jobs f))) (parted_of octets).cut

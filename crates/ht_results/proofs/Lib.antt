@@ -8,3 +8,4 @@ pub mod Whole
 pub mod Instances
 pub mod Folded
 mod Worked
+pub mod Present

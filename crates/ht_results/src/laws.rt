@@ -36,7 +36,8 @@ pub fn fronts()
 /// What is kept of a job may be anything: of the distances of the jobs, put on their places one after another, whole
 /// frames give what stands on each place.
 pub fn distances()
-    ensures places { (octets : List ℕ) (frame : SoFar FrameHead ℕ) → frame.left ≡ 0 → given_from distance_fold frame (headed_jobs octets) ≡ distances_of octets }
+    ensures places { (octets : List ℕ) (frame : SoFar FrameHead ℕ) → frame.left ≡ 0
+        → given_from distance_fold frame (headed_jobs octets) ≡ distances_of octets }
 {}
 
 /// Jobs one after another may be taken in parts, whatever jobs they are.

@@ -21,9 +21,12 @@
 //! `proofs/Worked.antt` computes them.
 #![tactic(auto)]
 
+mod frame_places;
 mod frame_result;
 mod headed;
 pub mod laws;
+mod line;
 
+pub use frame_places::{jobs_in, kind, no_head};
 pub use frame_result::FrameResult;
 pub use headed::Headed;

@@ -6,6 +6,4 @@ pub mod Blocks
 pub mod BlockBooking
 pub mod BlockListing
 pub mod Gathered
-pub mod NextDue
 pub mod Stamping
-pub mod Driven

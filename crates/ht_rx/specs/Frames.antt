@@ -51,6 +51,6 @@ with_found_as place found (Pilot k) f = record f { pilot_sum = f.pilot_sum + fou
 abbrev pub with_found : Place → Found → FrameSoFar → FrameSoFar
 with_found place found f = with_found_as place found (kind_of f.head.rate place.carrier) f
 
--- what is booked in all of jobs of blocks that still come, where this frame is under way
-abbrev pub booked_in : {P : Type 0} → (FrameResult → List P) → FrameSoFar → List (BlockHeaded FrameHead) → List P
-booked_in booked f jobs = flat_map booked (results_from f (map out_of_block jobs))
+-- the results that jobs of blocks give, one after another, where this frame is under way
+abbrev pub results_in : FrameSoFar → List (BlockHeaded FrameHead) → List FrameResult
+results_in f jobs = results_from f (map out_of_block jobs)

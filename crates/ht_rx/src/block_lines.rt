@@ -2,10 +2,10 @@
 ghost use Rattle.std.specs.Prelude.{◌≡◌, string_bytes};
 ghost use Rattle.ht_rx.specs.Texts.{job_lines};
 
-use crate::gated::pass;
 use crate::lines::push_found;
 use ht_crew::Gate;
-use ht_feed::{Answer, Jobs, Work};
+use ht_feed::{Answer, Jobs, Work, is_hard};
+use ht_frames::pass;
 use std::alloc::{AllocError, Global};
 
 /// The most octets of a line.
@@ -16,6 +16,8 @@ const LINE: usize = 105;
 pub struct Lines {
     /// Each with its line end.
     pub text: String,
+    // Whether the last job was hard.
+    hard: bool,
 }
 
 impl Answer for Lines {
@@ -37,10 +39,18 @@ impl<'g, B: Jobs, G: Gate> Work<B> for LineWork<'g, G> {
     fn run(&self, block: &B) -> Result<Lines, AllocError> {
         let size = block.size();
         let mut text = String::with_capacity(self.alloc, LINE * usize::from(size))?;
+        let mut hard = false;
         for at in 0..size {
             let job = block.job(at);
-            push_found(&mut text, job.place(), &pass(self.gate, &job))?;
+            let found = pass(self.gate, &job);
+            push_found(&mut text, job.place(), &found)?;
+            hard = at == size - 1 && is_hard(&job, found.distance);
         }
-        Ok(Lines { text })
+        Ok(Lines { text, hard })
+    }
+
+    /// Whether the last job, which speaks for all, was hard.
+    fn is_hard(&self, _: &B, lines: &Lines) -> bool {
+        lines.hard
     }
 }

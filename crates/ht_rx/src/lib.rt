@@ -1,12 +1,11 @@
 //! Captures received: a line for each job, or a result for each frame.
 //!
-//! A [`CaptureFeed`] stands between a capture and an account (`Account` of crate `ht_feed`). A drive of crate `ht_drive` asks
-//! it for blocks of jobs, which it takes from a capture's reader, and hands it the answers to them in order, which it hands
-//! on to the account. What becomes of them is the account's alone: a [`Lister`] puts the lines of each block; a
-//! [`Receiver`] books the [`FrameResult`] of each frame in a [`Book`] once its last hit came, and an account like it, which
-//! serves a crew of workers, decodes whole frames in threads of their own while more hits come. What an account puts in all
-//! is a function of the jobs that come, so that one set of lemmas says for every account what a whole capture, a fault, a
-//! source that fails and a full memory come to (`specs/Outcomes.antt`).
+//! A drive of crate `ht_drive` takes blocks of jobs from a capture's reader, and hands the answers to them in order to an
+//! account (`Account` of crate `ht_feed`). What becomes of them is the account's alone: a [`Lister`] puts the lines of each
+//! block; the receivers of crate `ht_frames` book the [`FrameResult`] of each frame in a book once its last hit came. They
+//! ask an [`OpenFrame`], which keeps the labels of the frame under way, and gives the frame as [`WholeLabels`] with its last
+//! job. What an account puts in all is a function of the jobs that come, so that one set of lemmas says for every account
+//! what a whole capture, a fault, a source that fails and a full memory come to (`specs/Outcomes.antt`).
 //!
 //! [`list`] and [`receive`] read a capture from any source, and a crew of workers runs its jobs; [`list_alone`] and
 //! [`receive_alone`] promise the same, and run every job in the calling thread. [`receive_text`] and
@@ -30,39 +29,27 @@
 #![tactic(auto)]
 
 mod block_lines;
-mod book;
-mod decoding;
 mod faults;
-mod feed;
-mod gated;
-mod gatherer;
-mod gathering;
 mod headed;
 mod lines;
-mod list_book;
 mod lister;
 mod listing;
 mod open_frame;
-mod receiver;
 mod receiving;
 mod receiving_text;
 mod telling;
 #[cfg(test)]
 mod tests;
-mod text_book;
-mod whole_frame;
+mod under_way;
+mod whole_labels;
 
 pub use block_lines::Lines;
-pub use book::Book;
 pub use faults::RxFault;
-pub use feed::CaptureFeed;
 pub use ht_feed::{BookFault, Ended};
 pub use ht_results::FrameResult;
-pub use list_book::ListBook;
 pub use lister::Lister;
 pub use listing::{list, list_alone};
 pub use open_frame::OpenFrame;
-pub use receiver::Receiver;
 pub use receiving::{receive, receive_alone};
 pub use receiving_text::{receive_text, receive_text_alone};
-pub use text_book::TextBook;
+pub use whole_labels::WholeLabels;

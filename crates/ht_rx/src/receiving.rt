@@ -5,18 +5,14 @@ ghost use Rattle.ht_rx.specs.Frames.{booked_of};
 ghost use Rattle.ht_rx.specs.Outcomes.{StopsBy, TellsTo};
 ghost use Rattle.ht_runs.specs.declared.faults.StopFault.TheVariants.{Write};
 
-use crate::book::Book;
 use crate::faults::RxFault;
-use crate::gated::HitWork;
-use crate::gatherer::Gatherer;
-use crate::gathering::abandon;
 use crate::open_frame::OpenFrame;
-use crate::receiver::Receiver;
 use crate::telling::{tell, tell_alone};
 use ht_crew::Gate;
 use ht_feed::Ended;
-use ht_inverse::{Alone, Together};
+use ht_frames::{Book, Gatherer, HitWork, Receiver, abandon};
 use ht_io::Source;
+use ht_results::FrameResult;
 use std::alloc::Global;
 use std::collections::VecDeque;
 use std::sync::Wait;
@@ -33,7 +29,7 @@ use std::thread::Threads;
 /// It answers `Done` for a capture, and `Refused` with the first fault of an input that is none. It refuses with
 /// `Read` where the source failed, having booked the frames that were read whole; with `Write` where the book failed,
 /// also if the source did; and with `NoMemory`. In the last two cases a part of the frames was booked.
-pub fn receive_alone<S: Source, B: Book, G: Gate>(
+pub fn receive_alone<S: Source, B: Book<FrameResult>, G: Gate>(
     alloc: Global,
     window: u16,
     source: &mut S,
@@ -55,8 +51,7 @@ pub fn receive_alone<S: Source, B: Book, G: Gate>(
     ensures same { B.lent book.new ≡ B.lent book.old }
 {
     let mut under_way = OpenFrame::new(alloc);
-    let mut decoder = Alone::new();
-    let mut receiver = Receiver::new(alloc, &mut under_way, book, &mut decoder);
+    let mut receiver = Receiver::new(alloc, &mut under_way, book);
     tell_alone(
         alloc,
         window,
@@ -75,7 +70,7 @@ pub fn receive_alone<S: Source, B: Book, G: Gate>(
 /// the caller waits for the oldest ones. So at most three of the longest frames are kept, whatever the workers. Where no
 /// job is due any more the caller waits for all of them. It decodes the frame that is whole then, and the codewords of
 /// two encoders in two threads. However it ends, no thread is left behind.
-pub fn receive<R: Threads + Wait + Sync, S: Source, B: Book, G: Gate + Sync>(
+pub fn receive<R: Threads + Wait + Sync, S: Source, B: Book<FrameResult>, G: Gate + Sync>(
     rt: &R,
     alloc: Global,
     workers: u8,
@@ -105,16 +100,7 @@ pub fn receive<R: Threads + Wait + Sync, S: Source, B: Book, G: Gate + Sync>(
     }
     let mut under_way = OpenFrame::new(alloc);
     let mut queue = VecDeque::new(alloc);
-    let mut decoder = Together::new(rt);
-    let mut gatherer = Gatherer {
-        rt,
-        alloc,
-        beside: workers - 1,
-        under_way: &mut under_way,
-        queue: &mut queue,
-        book,
-        decoder: &mut decoder,
-    };
+    let mut gatherer = Gatherer::new(rt, alloc, workers, &mut under_way, &mut queue, book);
     let work = HitWork { alloc, gate };
     let ended = tell(rt, alloc, workers, window, &work, source, &mut gatherer);
     abandon(rt, queue);

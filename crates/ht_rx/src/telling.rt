@@ -2,30 +2,17 @@
 ghost use Rattle.std.specs.Prelude.{◌≡◌, ◌≢◌, ◌≤◌, [], Err, MatchResult};
 ghost use Rattle.ht_io.specs.Devices.{IsLater};
 ghost use Rattle.ht_rx.specs.Blocks.{told_of};
-ghost use Rattle.ht_rx.specs.Feeding.{unreported};
 ghost use Rattle.ht_rx.specs.Outcomes.{StopsBy, TellsTo};
 ghost use Rattle.ht_runs.specs.declared.faults.StopFault.TheVariants.{Write};
 
 use crate::faults::RxFault;
-use crate::feed::CaptureFeed;
 use crate::headed::no_head;
 use ht_capture_blocks::{CaptureBlock, CaptureReader};
-use ht_drive::{Report, drive};
-use ht_feed::{Account, BookFault, Desk, DriveFault, Ended, Work, end_of};
+use ht_feed::{Account, Ended, Work};
 use ht_io::Source;
 use std::alloc::Global;
 use std::sync::Wait;
 use std::thread::Threads;
-
-// What a drive answered, without its report.
-fn done(driven: Result<Report, DriveFault<BookFault>>) -> Result<(), DriveFault<BookFault>>
-    ensures { result ≡ unreported driven }
-{
-    match driven {
-        Ok(_) => Ok(()),
-        Err(fault) => Err(fault),
-    }
-}
 
 /// Reads a capture from the source, and hands what the work answers of the jobs of each symbol that is whole before the
 /// capture's first fault to the account, which keeps nothing back.
@@ -82,9 +69,15 @@ where
     ensures same { A.lent account.new ≡ A.lent account.old }
 {
     let reader = CaptureReader::new(alloc)?;
-    let mut desk = Desk::new(alloc, reader, no_head(), window)?;
-    let mut failed = None;
-    let mut feed = CaptureFeed::new(&mut desk, source, account, &mut failed);
-    let driven = drive(rt, alloc, workers, window, work, &mut feed);
-    end_of(&desk, done(driven))
+    ht_drive::tell(
+        rt,
+        alloc,
+        workers,
+        window,
+        reader,
+        no_head(),
+        work,
+        source,
+        account,
+    )
 }

@@ -1,7 +1,7 @@
 -- Worked lines, by computation.
 use Rattle.std.proofs.Common.{◌≡◌, ◌++◌, [], ◌∷◌, Some, None, pos, negsuc, refl, codes}
 use Rattle.std.specs.Fmt.{digits}
-use Rattle.ht_text.specs.Lines.{job_text, frame_text, outcome_text, sums_text, end_text, refused_text, usage_text, demo_text, line_feed}
+use Rattle.ht_text.specs.Lines.{capture_text, job_text, frame_text, outcome_text, soft_text, sums_text, end_text, refused_text, usage_text, demo_text, line_feed}
 
 -- one stream in BPSK: I is -1 and Q is 0
 first_job : job_text 0 0 0 100 (negsuc 0 ∷ pos 0 ∷ []) ≡ codes "job 0 0 0 100 -1 0" ++ line_feed
@@ -29,6 +29,18 @@ octets : frame_text 1 0 0 1 (Some (0xa5 ∷ 0x09 ∷ 0x30 ∷ []))
     ≡ codes "frame 1 data 0 pilot 0 code 1 octets a50930" ++ line_feed
 unfolding frame_text sums_text outcome_text digits
 octets = refl
+
+soft_octets : soft_text 0 0 (Some (0xa5 ∷ [])) ≡ codes "soft 0 cost 0 octets a5" ++ line_feed
+unfolding soft_text outcome_text digits
+soft_octets = refl
+
+soft_no_seed : soft_text 7 131070 None ≡ codes "soft 7 cost 131070 seed zero" ++ line_feed
+unfolding soft_text outcome_text digits
+soft_no_seed = refl
+
+second_capture : capture_text 1 ≡ codes "capture 1" ++ line_feed
+unfolding capture_text digits
+second_capture = refl
 
 no_frames : end_text 0 ≡ codes "end 0 frames" ++ line_feed
 unfolding end_text digits

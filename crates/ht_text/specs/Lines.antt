@@ -2,7 +2,7 @@
 --
 -- A number is written by `decimal`, without leading zeros, and a signed one by `signed_decimal`,
 -- which puts a minus before the digits of a negative number. Words are set apart by one space.
-use Rattle.std.specs.Prelude.{ℕ, ℤ, List, [], ◌∷◌, ◌++◌, ◌/◌, ◌%◌, Option, Some, None, codes, decimal, slice_index}
+use Rattle.std.specs.Prelude.{ℕ, ◌+◌, ◌*◌, ℤ, List, [], ◌∷◌, ◌++◌, ◌/◌, ◌%◌, length, Option, Some, None, codes, decimal, slice_index}
 use Rattle.std.specs.Fmt.{signed_decimal}
 
 -- the line feed that ends each line
@@ -35,6 +35,11 @@ unfoldable pub outcome_text : Option (List ℕ) → List ℕ
 outcome_text (Some octets) = codes " octets " ++ hex octets
 outcome_text None = codes " seed zero"
 
+-- no fewer characters than what a frame came to has, with the line feed behind it
+abbrev pub outcome_room : Option (List ℕ) → ℕ
+outcome_room (Some octets) = 11 + 2 * length octets
+outcome_room None = 11
+
 -- ` data D pilot P code C`: the sums of the distances of the data jobs and of the pilot jobs, and
 -- the Hamming distance of the codewords from the detected bits
 unfoldable pub sums_text : ℕ → ℕ → ℕ → List ℕ
@@ -47,6 +52,14 @@ unfoldable pub frame_text : ℕ → ℕ → ℕ → ℕ → Option (List ℕ) �
 frame_text frame data_sum pilot_sum code outcome =
     codes "frame " ++ decimal frame ++ sums_text data_sum pilot_sum code ++ outcome_text outcome
     ++ line_feed
+
+-- `soft N cost C octets HEX`, or `soft N cost C seed zero`: a frame decoded from weights, and what its codewords cost
+unfoldable pub soft_text : ℕ → ℕ → Option (List ℕ) → List ℕ
+soft_text frame cost outcome = codes "soft " ++ decimal frame ++ codes " cost " ++ decimal cost ++ outcome_text outcome ++ line_feed
+
+-- `capture K`: what follows is of the capture with this number
+unfoldable pub capture_text : ℕ → List ℕ
+capture_text number = codes "capture " ++ decimal number ++ line_feed
 
 -- `job N yes`: the certificate with this number holds
 unfoldable pub yes_text : ℕ → List ℕ

@@ -1,8 +1,17 @@
-//! The lines that end an output, or stand for it.
+//! The lines that begin an output, end it, or stand for it.
 ghost use Rattle.std.specs.Prelude.{◌≡◌, IfOk};
-ghost use Rattle.ht_text.specs.Lines.{end_text, refused_text, usage_text};
+ghost use Rattle.ht_text.specs.Lines.{capture_text, end_text, refused_text, usage_text};
 
 use std::alloc::{AllocError, Global};
+
+/// The line `capture K`: what follows is of the capture with this number, counted from 0. The only error is lack of memory.
+#[tactic(auto, unfolding(crate::specs::Lines::capture_text))]
+pub fn capture_line(alloc: Global, number: u8) -> Result<Vec<u8>, AllocError>
+    ensures { IfOk result (λ v. v.items ≡ capture_text number) }
+{
+    let text = format!(in alloc; "capture {number}\n")?;
+    Ok(text.into_bytes())
+}
 
 /// The line `end N frames`: the input was a whole capture with this number of frames. The only error is lack of memory.
 #[tactic(auto, unfolding(crate::specs::Lines::end_text))]

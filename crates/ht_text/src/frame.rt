@@ -2,7 +2,7 @@
 ghost use Rattle.std.specs.Prelude.{◌≡◌, ◌+◌, ◌*◌, ◌<◌, ◌≤◌, ◌++◌, [], ◌∷◌, IfOk, OnErr, OnOk};
 ghost use Rattle.std.specs.Prelude.{codes, decimal, length, string_bytes, string_len, string_capacity};
 ghost use Rattle.std.specs.Option.{option_copied};
-ghost use Rattle.ht_text.specs.Lines.{frame_text, hex, hex_digit, sums_text};
+ghost use Rattle.ht_text.specs.Lines.{frame_text, hex, hex_digit, line_feed, outcome_room, outcome_text, soft_text, sums_text};
 
 use crate::room::{push, push_ascii, push_number};
 use crate::sums::{LONGEST as SUMS, push_sums};
@@ -10,8 +10,14 @@ use std::alloc::{AllocError, Global};
 
 static HEX_DIGITS: [u8; 16] = *b"0123456789abcdef";
 
-/// Room for what stands before the sums and behind them, but for the digits of the octets.
-const REST: usize = 22;
+/// Room for what stands before the sums.
+const HEAD: usize = 11;
+
+/// Room for what stands before the octets in the line of soft decoding.
+const SOFT: usize = 55;
+
+/// Room for what stands behind the sums, but for the digits of the octets.
+const REST: usize = 11;
 
 /// The line `frame N data D pilot P code C octets HEX`, or `frame N data D pilot P code C seed zero`.
 ///
@@ -51,29 +57,64 @@ pub fn push_frame_line(
         ≡ string_bytes text.old ++ frame_text frame data_sum pilot_sum code (option_copied octets.entry)) }
     ensures err { OnErr result (string_bytes text.new ≡ string_bytes text.old) }
 {
-    let Some(octets) = octets else {
-        text.reserve(SUMS + REST)?;
-        push_head(text, frame, data_sum, pilot_sum, code);
-        push(text, " seed zero\n");
-        return Ok(());
-    };
-    text.reserve(room_for(octets)?)?;
+    text.reserve(room_for(SUMS + HEAD, octets)?)?;
     push_head(text, frame, data_sum, pilot_sum, code);
-    push(text, " octets ");
-    push_hex(text, octets);
-    push(text, "\n");
+    push_outcome(text, octets);
     Ok(())
 }
 
-// Room for the line of a frame of these octets. Octets whose line is longer than a number can count have no room in any
-// memory.
-fn room_for(octets: &[u8]) -> Result<usize, AllocError>
-    ensures { IfOk result (λ room. room ≡ SUMS + REST + 2 * length octets.now) }
+/// Appends the line `soft N cost C octets HEX`, or `soft N cost C seed zero`.
+///
+/// `frame` is the frame's number in the capture from 0, and `cost` what the codewords cost that were decoded from its
+/// weights. `octets` is the PSDU, or `None` where the descrambler found no seed. Only memory can fail; `text` is then as it
+/// was.
+#[tactic(auto, unfolding(crate::specs::Lines::soft_text))]
+pub fn push_soft_line(
+    text: &mut String,
+    frame: u16,
+    cost: u128,
+    octets: Option<&[u8]>,
+) -> Result<(), AllocError>
+    ensures ok { OnOk result (string_bytes text.new ≡ string_bytes text.old ++ soft_text frame cost (option_copied octets.entry)) }
+    ensures err { OnErr result (string_bytes text.new ≡ string_bytes text.old) }
 {
+    text.reserve(room_for(SOFT, octets)?)?;
+    push(text, "soft ");
+    push_number(text, frame);
+    push(text, " cost ");
+    push_number(text, cost);
+    push_outcome(text, octets);
+    Ok(())
+}
+
+// Appends what a frame came to, which ends its line, to a text that has room for it.
+#[tactic(auto, unfolding(crate::specs::Lines::outcome_text))]
+fn push_outcome(text: &mut String, octets: Option<&[u8]>)
+    requires room { string_len text.old + outcome_room (option_copied octets) ≤ string_capacity text.old }
+    ensures { string_bytes text.new ≡ string_bytes text.old ++ outcome_text (option_copied octets.entry) ++ line_feed }
+{
+    let Some(octets) = octets else {
+        push(text, " seed zero\n");
+        return;
+    };
+    push(text, " octets ");
+    push_hex(text, octets);
+    push(text, "\n");
+}
+
+// Room for a line of these octets behind this number of characters. Octets whose line is longer than a number can count have
+// no room in any memory.
+fn room_for(front: usize, octets: Option<&[u8]>) -> Result<usize, AllocError>
+    requires { front ≤ 256 }
+    ensures { IfOk result (λ room. front + outcome_room (option_copied octets.entry) ≤ room) }
+{
+    let Some(octets) = octets else {
+        return Ok(front + REST);
+    };
     let Some(digits) = octets.len().checked_mul(2) else {
         return Err(AllocError);
     };
-    match digits.checked_add(SUMS + REST) {
+    match digits.checked_add(front + REST) {
         Some(room) => Ok(room),
         None => Err(AllocError),
     }

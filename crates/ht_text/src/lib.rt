@@ -1,7 +1,7 @@
 //! The lines of text that `radio` prints, octet for octet.
 //!
 //! Each call makes one line with its line feed: what a detection job found, what a frame decoded to, whether a
-//! certificate holds, how an output ends, how the program is called, or the sums of a demonstration. Numbers are decimal
+//! certificate holds, which capture follows, how an output ends, how the program is called, or the sums of a demonstration. Numbers are decimal
 //! without leading zeros, a negative number begins with a minus, and one space sets words apart. The texts are this
 //! receiver's own; the standard has none.
 //!
@@ -27,7 +27,7 @@ mod tests;
 mod verdict;
 
 pub use demo::demo_line;
-pub use ends::{end_line, refused_line, usage_line};
-pub use frame::{frame_line, push_frame_line};
+pub use ends::{capture_line, end_line, refused_line, usage_line};
+pub use frame::{frame_line, push_frame_line, push_soft_line};
 pub use job::{job_line, push_job_line};
 pub use verdict::{push_checked_line, push_no_line, push_yes_line};

@@ -1,5 +1,18 @@
 use super::*;
+use std::alloc::{AllocError, Global};
 use std::test::Fail;
+
+// The line of a frame that was decoded from weights, in a text of its own.
+fn soft_line(
+    alloc: Global,
+    frame: u16,
+    cost: u128,
+    octets: Option<&[u8]>,
+) -> Result<Vec<u8>, AllocError> {
+    let mut text = String::new(alloc);
+    push_soft_line(&mut text, frame, cost, octets)?;
+    Ok(text.into_bytes())
+}
 
 #[test]
 fn vectors(rt: HostRuntime) -> Result<(), Fail> {
@@ -32,6 +45,15 @@ fn vectors(rt: HostRuntime) -> Result<(), Fail> {
             frame_line(alloc, 65535, 0, 0, 0, Some(&octets))?,
             "frame 65535 data 0 pilot 0 code 0 octets 0930a5\n",
         ),
+        (
+            soft_line(alloc, 0, 0, Some(&[0xa5]))?,
+            "soft 0 cost 0 octets a5\n",
+        ),
+        (
+            soft_line(alloc, 65535, data_sum, None)?,
+            "soft 65535 cost 10400 seed zero\n",
+        ),
+        (capture_line(alloc, 2)?, "capture 2\n"),
         (end_line(alloc, 1)?, "end 1 frames\n"),
         (
             refused_line(alloc, "Truncated", 1018)?,

@@ -179,7 +179,8 @@ impl Window {
 fn book(slots: &mut HeapCircularBuffer<Slot>, at: u64, job: &Job, found: Found) -> Accepted
     requires found { found ≡ near job.now }
     ensures booked { result ≡ Accepted.Booked ↔ (slice_get slots.old.items at ≡ Some (unbooked job.now)) }
-    ensures twice { result ≡ Accepted.Twice ↔ ((other : FoundValue) × (slice_get slots.old.items at ≡ Some (record { job = job.now; found = Some other }))) }
+    ensures twice { result ≡ Accepted.Twice
+        ↔ ((other : FoundValue) × (slice_get slots.old.items at ≡ Some (record { job = job.now; found = Some other }))) }
     ensures stranger { result ≡ Accepted.Stranger ↔ ((s : SlotValue) → slice_get slots.old.items at ≡ Some s → s.job ≢ job.now) }
     ensures books { result ≡ Accepted.Booked → slots.new ≡ buffer (slice_set slots.old.items at (booked job.now)) slots.old.capacity }
     ensures refused { result ≢ Accepted.Booked → slots.new ≡ slots.old }

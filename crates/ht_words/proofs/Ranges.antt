@@ -1,5 +1,5 @@
 -- Accepted words give each option a value in its range.
-use Rattle.std.proofs.Common.{◌≡◌, ◌≤◌, ℕ, Bool, true, false, List, [], ◌∷◌, Option, IfSome, refl}
+use Rattle.std.proofs.Common.{◌≡◌, ◌≤◌, ℕ, Bool, true, false, List, [], ◌∷◌, drop, Option, IfSome, refl}
 use Rattle.std.proofs.lemmas.Bool.{and_parts, leb-true}
 use Rattle.std.specs.Prelude.{bytes_eq, nat_le, if◌then◌else◌}
 use Rattle.ht_words.specs.declared.asked.Asked.{Asked}
@@ -66,5 +66,7 @@ rows_in_range (row ∷ rows) command words are =
 pub asked-in_range : (words : List (List ℕ)) → IfSome (asked_by words) IsWithinRanges
 asked-in_range [] = tt
 asked-in_range (command ∷ words) =
-    let all : AreInRange commands = (for_workers_within, (for_workers_within, ((λ _ _. tt), ((λ _ _. tt), ((λ _ _. tt), ((λ _ _. tt), ((λ _ _. tt), ((λ _ _. tt), (demo_within, tt))))))))) in
+    let behind : AreInRange (drop 4 commands) =
+    ((λ _ _. tt), ((λ _ _. tt), ((λ _ _. tt), ((λ _ _. tt), ((λ _ _. tt), ((λ _ _. tt), (for_workers_within, (demo_within, tt)))))))) in
+    let all : AreInRange commands = (for_workers_within, (for_workers_within, (for_workers_within, (for_workers_within, behind)))) in
     rows_in_range commands command words all

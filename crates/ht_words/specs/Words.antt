@@ -46,7 +46,20 @@ use Rattle.ht_words.specs.declared.setting.Setting.TheVariants.{
   Length,
 }
 use Rattle.ht_words.specs.declared.asked.Asked.{Asked}
-use Rattle.ht_words.specs.declared.asked.Asked.TheVariants.{Detect, Rx, Tx, Channel, Upgrade, Certify, Check, LegacyChannel, Demo}
+use Rattle.ht_words.specs.declared.asked.Asked.TheVariants.{
+  Detect,
+  Rx,
+  Soft,
+  Many,
+  Tx,
+  Channel,
+  Upgrade,
+  Certify,
+  Check,
+  LegacyChannel,
+  LegacyRx,
+  Demo,
+}
 use Rattle.ht_words.specs.Settings.{admits, default_of, name_of}
 
 -- 1 to 20 decimal digits
@@ -85,7 +98,7 @@ value_of words setting = option_map_or (digits_value 10) (given (name_of setting
 abbrev pub are_accepted : List Setting → List (List ℕ) → Bool
 are_accepted settings words = is_plain settings words && list_all (λ setting. admits setting (value_of words setting)) settings
 
--- the options of `detect` and `rx`
+-- the options of `detect`, `rx`, `soft`, `many` and `lrx`
 abbrev pub for_workers : List Setting
 for_workers = Workers ∷ Window ∷ []
 
@@ -117,12 +130,15 @@ abbrev pub commands : List Row
 commands =
     record { name = codes "detect"; options = for_workers; asks = λ words. Detect (value_of words Workers) (value_of words Window) }
     ∷ record { name = codes "rx"; options = for_workers; asks = λ words. Rx (value_of words Workers) (value_of words Window) }
+    ∷ record { name = codes "soft"; options = for_workers; asks = λ words. Soft (value_of words Workers) (value_of words Window) }
+    ∷ record { name = codes "many"; options = for_workers; asks = λ words. Many (value_of words Workers) (value_of words Window) }
     ∷ record { name = codes "tx"; options = []; asks = λ words. Tx }
     ∷ record { name = codes "channel"; options = for_channel; asks = λ words. Channel (value_of words Seed) (value_of words Noise) }
     ∷ record { name = codes "upgrade"; options = []; asks = λ words. Upgrade }
     ∷ record { name = codes "certify"; options = []; asks = λ words. Certify }
     ∷ record { name = codes "check"; options = []; asks = λ words. Check }
     ∷ record { name = codes "lchannel"; options = for_channel; asks = λ words. LegacyChannel (value_of words Seed) (value_of words Noise) }
+    ∷ record { name = codes "lrx"; options = for_workers; asks = λ words. LegacyRx (value_of words Workers) (value_of words Window) }
     ∷ record { name = codes "demo"; options = for_demo; asks = demo_in }
     ∷ []
 
@@ -153,6 +169,9 @@ IsForWorkers workers window = (1 ≤ workers) × (workers ≤ 64) × (1 ≤ wind
 abbrev pub IsWithinRanges : Asked → Type 0
 IsWithinRanges (Detect workers window) = IsForWorkers workers window
 IsWithinRanges (Rx workers window) = IsForWorkers workers window
+IsWithinRanges (Soft workers window) = IsForWorkers workers window
+IsWithinRanges (Many workers window) = IsForWorkers workers window
+IsWithinRanges (LegacyRx workers window) = IsForWorkers workers window
 IsWithinRanges (Demo seed noise frames rate length workers window) =
     (1 ≤ frames) × (frames ≤ 64) × (1 ≤ length) × (length ≤ 65535) × IsForWorkers workers window
 IsWithinRanges _ = ⊤

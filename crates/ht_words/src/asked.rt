@@ -2,7 +2,7 @@
 ghost use Rattle.std.specs.Prelude.{◌≡◌, ◌≤◌, ◌==◌, [], IfOk, IfSome, Some, None, if◌then◌else◌, map, string_bytes};
 ghost use Rattle.ht_rate.specs.Rates.{rate_at};
 ghost use Rattle.ht_words.specs.declared.setting.Setting.TheVariants.{Noise, Seed, Window, Workers};
-ghost use Rattle.ht_words.specs.declared.asked.Asked.TheVariants.{Channel, Detect, LegacyChannel, Rx};
+ghost use Rattle.ht_words.specs.declared.asked.Asked.TheVariants.{Channel, Detect, LegacyChannel, LegacyRx, Many, Rx, Soft};
 ghost use Rattle.ht_words.specs.Words.{IsWithinRanges, are_accepted, asked, demo_in, for_channel, for_demo, for_workers, only_if, value_of};
 
 use crate::plain::{is_plain, value};
@@ -23,6 +23,16 @@ pub enum Asked {
         workers: u8,
         window: u16,
     },
+    /// `soft`: the frames of a capture, decoded by weights.
+    Soft {
+        workers: u8,
+        window: u16,
+    },
+    /// `many`: the frames of each capture of a bundle.
+    Many {
+        workers: u8,
+        window: u16,
+    },
     /// `tx`: the subcarrier values of frames.
     Tx,
     /// `channel`: a capture of subcarrier values.
@@ -40,6 +50,11 @@ pub enum Asked {
     LegacyChannel {
         seed: u64,
         noise: u16,
+    },
+    /// `lrx`: the frames of a capture of clause 18.
+    LegacyRx {
+        workers: u8,
+        window: u16,
     },
     /// `demo`: sample frames, sent and received.
     Demo {
@@ -74,12 +89,15 @@ fn by_command(alloc: Global, words: &[String]) -> Result<Option<Asked>, AllocErr
         [command, options @ ..] => match command.as_str() {
             "detect" => detect(alloc, options),
             "rx" => rx(alloc, options),
+            "soft" => soft(alloc, options),
+            "many" => many(alloc, options),
             "tx" => Ok(alone(options, Asked::Tx)),
             "channel" => channel(alloc, options),
             "upgrade" => Ok(alone(options, Asked::Upgrade)),
             "certify" => Ok(alone(options, Asked::Certify)),
             "check" => Ok(alone(options, Asked::Check)),
             "lchannel" => legacy_channel(alloc, options),
+            "lrx" => legacy_rx(alloc, options),
             "demo" => demo(alloc, options),
             _ => Ok(None),
         },
@@ -133,6 +151,42 @@ fn rx(alloc: Global, words: &[String]) -> Result<Option<Asked>, AllocError>
         return Ok(None);
     };
     Ok(Some(Asked::Rx { workers, window }))
+}
+
+/// The command `soft`.
+fn soft(alloc: Global, words: &[String]) -> Result<Option<Asked>, AllocError>
+    ensures { let texts = map string_bytes words.now in
+        let asked = Soft (value_of texts Workers) (value_of texts Window) in
+        IfOk result (λ answer. answer ≡ only_if (are_accepted for_workers texts) asked) }
+{
+    let Some((workers, window)) = for_workers(alloc, words)? else {
+        return Ok(None);
+    };
+    Ok(Some(Asked::Soft { workers, window }))
+}
+
+/// The command `many`.
+fn many(alloc: Global, words: &[String]) -> Result<Option<Asked>, AllocError>
+    ensures { let texts = map string_bytes words.now in
+        let asked = Many (value_of texts Workers) (value_of texts Window) in
+        IfOk result (λ answer. answer ≡ only_if (are_accepted for_workers texts) asked) }
+{
+    let Some((workers, window)) = for_workers(alloc, words)? else {
+        return Ok(None);
+    };
+    Ok(Some(Asked::Many { workers, window }))
+}
+
+/// The command `lrx`.
+fn legacy_rx(alloc: Global, words: &[String]) -> Result<Option<Asked>, AllocError>
+    ensures { let texts = map string_bytes words.now in
+        let asked = LegacyRx (value_of texts Workers) (value_of texts Window) in
+        IfOk result (λ answer. answer ≡ only_if (are_accepted for_workers texts) asked) }
+{
+    let Some((workers, window)) = for_workers(alloc, words)? else {
+        return Ok(None);
+    };
+    Ok(Some(Asked::LegacyRx { workers, window }))
 }
 
 /// The options of a channel: its seed and its noise.

@@ -307,7 +307,7 @@ static DEMOS: [(&str, Row); 18] = [
     ),
 ];
 
-static REFUSED: [&str; 179] = [
+static REFUSED: [&str; 188] = [
     "",
     "Detect",
     "DETECT",
@@ -408,6 +408,15 @@ static REFUSED: [&str; 179] = [
     "check|",
     "check|check",
     "checks",
+    "soft|--seed|42",
+    "soft|",
+    "softs",
+    "many|--noise|0",
+    "many|2",
+    "man",
+    "lrx|--seed|42",
+    "lrx|lrx",
+    "lrxs",
     "demo|--rate|1",
     "demo|--bw|20",
     "demo|--count|1",
@@ -513,6 +522,12 @@ fn accepts_the_plain_form(rt: HostRuntime) -> Result<(), Fail> {
         let rx = Some(Asked::Rx { workers, window });
         assert_eq!(rt; behind(alloc, "detect", text)?, detect, "detect{text}");
         assert_eq!(rt; behind(alloc, "rx", text)?, rx, "rx{text}");
+        let soft = Some(Asked::Soft { workers, window });
+        assert_eq!(rt; behind(alloc, "soft", text)?, soft, "soft{text}");
+        let many = Some(Asked::Many { workers, window });
+        assert_eq!(rt; behind(alloc, "many", text)?, many, "many{text}");
+        let legacy = Some(Asked::LegacyRx { workers, window });
+        assert_eq!(rt; behind(alloc, "lrx", text)?, legacy, "lrx{text}");
     }
     for (text, seed, noise) in &FOR_CHANNEL {
         let (seed, noise) = (*seed, *noise);
@@ -631,15 +646,18 @@ static EDGES: [Edges; 8] = [
 ];
 
 // Each command, and the options that it has.
-static COMMANDS: [(&str, &str); 9] = [
+static COMMANDS: [(&str, &str); 12] = [
     ("detect", "--workers --window"),
     ("rx", "--workers --window"),
+    ("soft", "--workers --window"),
+    ("many", "--workers --window"),
     ("tx", ""),
     ("channel", "--seed --noise"),
     ("upgrade", ""),
     ("certify", ""),
     ("check", ""),
     ("lchannel", "--seed --noise"),
+    ("lrx", "--workers --window"),
     (
         "demo",
         "--seed --noise --frames --mcs --bandwidth --length --workers --window",

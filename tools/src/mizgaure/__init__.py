@@ -16,6 +16,8 @@ What is here:
 ``tables``         records as JSON lines and as CSV
 ``chain``          from octets to coded bits and where they land, to tell a tie of frames from an error
 ``judge``          another receiver's answers beside the reference
+``soft``           another soft decoder's octets beside those of ``radio soft``
+``bundles``        several captures in one file, for ``radio many``
 ``sweep``          error rates against the signal-to-noise ratio, over random channels
 ``air``            packets as complex samples: waveforms, and packets of recordings, in a package of its own
 ``packets``        MPDUs, A-MPDUs, MAC headers, and pcap files for Wireshark
@@ -26,7 +28,8 @@ Symbols, subcarriers and frames are counted from 0. Arrays have the spatial stre
 first stream, which the standard and the program's pages call stream 1, is at index 0.
 """
 
-from .answers import Answers, End, FrameAnswer, Jobs, Refused, read_answers
+from .answers import Answers, End, FrameAnswer, Jobs, Refused, SoftAnswer, read_answers
+from .bundles import read_htmb, write_htmb
 from .errors import FitError, FormatError, InputError, LineError, MizgaureError, ProgramError
 from .formats import CaptureFrame, SentFrame, SymbolsFrame, read_htcp, read_htsy, read_httx, write_htcp, write_htsy, write_httx
 from .judge import judge
@@ -56,6 +59,7 @@ __all__ = [
     "Radio",
     "Rate",
     "Refused",
+    "SoftAnswer",
     "SentFrame",
     "SymbolsFrame",
     "capture",
@@ -64,10 +68,12 @@ __all__ = [
     "judge",
     "read_answers",
     "read_htcp",
+    "read_htmb",
     "read_htsy",
     "read_httx",
     "residual_ratio",
     "write_htcp",
+    "write_htmb",
     "write_htsy",
     "write_httx",
 ]

@@ -1,10 +1,12 @@
-"""The lines of ``radio detect`` and ``radio rx``, read as they come.
+"""The lines of ``radio detect``, ``radio rx`` and ``radio soft``, read as they come.
 
 ``docs/COMMANDS.md`` of the repository has the texts:
 
     job FRAME SYMBOL CARRIER DISTANCE I Q ..
     frame N data D pilot P code C octets HEX
     frame N data D pilot P code C seed zero
+    soft N cost C octets HEX
+    soft N cost C seed zero
     end N frames
     refused NAME at OFFSET
 """
@@ -26,6 +28,7 @@ PLACE = rb"(?:0|[1-9][0-9]{0,4})"
 LEVEL = rb"(?:0|-?[1-7])"
 JOB = re.compile(rb"job(?: " + PLACE + rb"){3} " + NUMBER + rb"(?: " + LEVEL + rb" " + LEVEL + rb"){1,4}")
 FRAME = re.compile(rb"frame (%b) data (%b) pilot (%b) code (%b) (?:octets ((?:[0-9a-f]{2})+)|seed zero)" % ((NUMBER,) * 4))
+SOFT = re.compile(rb"soft (%b) cost (%b) (?:octets ((?:[0-9a-f]{2})+)|seed zero)" % (NUMBER, NUMBER))
 END = re.compile(rb"end (%b) frames" % NUMBER)
 REFUSED = re.compile(rb"refused ([A-Za-z]+) at (%b)" % NUMBER)
 BLOCK = 1 << 18
@@ -83,6 +86,24 @@ class FrameAnswer:
 
 
 @dataclass(frozen=True)
+class SoftAnswer:
+    """The line of one frame by ``soft``.
+
+    Parameters
+    ----------
+    frame : int
+    cost : int
+        The sum of the weights of the bits against which the codewords decide.
+    octets : bytes or None
+        The PSDU, or None where the seed is zero.
+    """
+
+    frame: int
+    cost: int
+    octets: Optional[bytes]
+
+
+@dataclass(frozen=True)
 class End:
     """The last line of a capture that is whole."""
 
@@ -97,7 +118,8 @@ class Refused:
     offset: int
 
 
-Record = Union[Jobs, FrameAnswer, End, Refused]
+Answer = Union[Jobs, FrameAnswer, SoftAnswer]
+Record = Union[Answer, End, Refused]
 
 
 def exact(numbers: Iterable[int]) -> np.ndarray:
@@ -108,7 +130,7 @@ def exact(numbers: Iterable[int]) -> np.ndarray:
 
 
 class Answers:
-    """An iterator over the answers in a text: `Jobs` for each frame, or `FrameAnswer`.
+    """An iterator over the answers in a text: `Jobs` for each frame, or `FrameAnswer`, or `SoftAnswer`.
 
     Lines are read as they come, and the jobs of one frame are held at a time. ``last`` is the last line, `End` or
     `Refused`, once it was read, and None before and in a text without one.
@@ -127,13 +149,13 @@ class Answers:
         self.last: Optional[Union[End, Refused]] = None
         self._records = self._read(source)
 
-    def __iter__(self) -> Iterator[Union[Jobs, FrameAnswer]]:
+    def __iter__(self) -> Iterator[Answer]:
         return self
 
-    def __next__(self) -> Union[Jobs, FrameAnswer]:
+    def __next__(self) -> Answer:
         return next(self._records)
 
-    def _read(self, source: Source) -> Iterator[Union[Jobs, FrameAnswer]]:
+    def _read(self, source: Source) -> Iterator[Answer]:
         waiting: List[Jobs] = []
         for record in _records(source):
             if isinstance(record, Jobs):
@@ -145,7 +167,7 @@ class Answers:
             if waiting:
                 yield _joined(waiting)
                 waiting = []
-            if isinstance(record, FrameAnswer):
+            if isinstance(record, (FrameAnswer, SoftAnswer)):
                 yield record
             else:
                 self.last = record
@@ -154,7 +176,7 @@ class Answers:
 
 
 def read_answers(source: Source) -> Answers:
-    """Read the lines of ``radio detect`` or ``radio rx``.
+    """Read the lines of ``radio detect``, ``radio rx`` or ``radio soft``.
 
     Parameters
     ----------
@@ -163,7 +185,7 @@ def read_answers(source: Source) -> Answers:
     Returns
     -------
     Answers
-        An iterator of `Jobs`, one for each frame, and of `FrameAnswer`.
+        An iterator of `Jobs`, one for each frame, of `FrameAnswer` and of `SoftAnswer`.
     """
     return Answers(source)
 
@@ -184,6 +206,8 @@ def read_line(line: bytes, number: int = 1) -> Record:
         frame, data, pilot, code = (int(word) for word in match.groups()[:4])
         octets = None if match.group(5) is None else bytes.fromhex(match.group(5).decode())
         return FrameAnswer(frame, data, pilot, code, octets)
+    if match := SOFT.fullmatch(line):
+        return SoftAnswer(int(match.group(1)), int(match.group(2)), None if match.group(3) is None else bytes.fromhex(match.group(3).decode()))
     if match := END.fullmatch(line):
         return End(int(match.group(1)))
     if match := REFUSED.fullmatch(line):

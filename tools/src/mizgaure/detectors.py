@@ -5,6 +5,8 @@ as the points of a capture whose channel is 1, so that its frame error rate diff
 
 ``zero-forcing``
     the detector of `mizgaure.distances`
+``soft``
+    no detector but the program's other decoder: what ``radio soft`` makes of the same captures; it has octets and no points
 ``FILE.py:NAME``
     a function: given a frame of a capture (`CaptureFrame`) and the noise's mean power on an antenna, in the squared units of
     the capture, it gives an array of shape (symbols, subcarriers, streams); what it says of pilots isn't looked at
@@ -34,6 +36,7 @@ from .formats import CaptureFrame
 from .judge import TheirLines
 
 ZERO_FORCING = "zero-forcing"
+SOFT = "soft"
 REFERENCE = "reference"
 
 
@@ -69,6 +72,11 @@ class Detector:
             raise InputError(f"{REFERENCE} is the name of the program's own detector")
         made.command()
         return made
+
+    @property
+    def is_soft(self) -> bool:
+        """Whether it is the program's soft decoder."""
+        return self.words == SOFT
 
     @property
     def is_function(self) -> bool:

@@ -24,7 +24,8 @@ class FormatError(InputError):
     ----------
     kind : str
         The kind of its first fault, as the program names it: ``BadMagic``, ``BadVersion``, ``BadBandwidth``,
-        ``BadMcs``, ``BadLength``, ``BadErased``, ``BadSeed``, ``BadPoint``, ``BadPilot``, ``Truncated`` or ``Trailing``.
+        ``BadMcs``, ``BadLength``, ``BadErased``, ``BadSeed``, ``BadPoint``, ``BadPilot``, ``BadCount``, ``Truncated`` or
+        ``Trailing``.
     offset : int
         The octet where the fault is, counted from 0: the first octet of the field at fault, the length of an input that
         ends too early, or the first octet behind the end.

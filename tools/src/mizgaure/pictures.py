@@ -308,7 +308,8 @@ def error_curves(sweep: Sweep, name: str = "") -> "Figure":
         marker = "s^DPX"[number % 5]
         if sweep.coded:
             curves.append((f"{front}PER, behind the decoder", [each.frames for each in rates], colours[0], marker, "--"))
-        curves.append((f"{front}SER, before the decoder", [each.symbols for each in rates], colours[1], "o" if number == 0 else marker, "-"))
+        if any(each.symbols.trials for each in rates):
+            curves.append((f"{front}SER, before the decoder", [each.symbols for each in rates], colours[1], "o" if number == 0 else marker, "-"))
     with matplotlib.rc_context(STYLE):
         figure, (panel,) = _drawn(Figure, 1, 1, 7.0, 3.7)
         floor = 1.0

@@ -25,7 +25,7 @@ VARIABLE = "MIZGAURE_RADIO"
 STATUSES = {3: "it couldn't read its input", 4: "it couldn't write its output", 5: "it ran out of memory",
             6: "a word of the call isn't UTF-8", 125: "it couldn't be built"}
 USAGE = 2
-THREADED = ("detect", "rx")
+THREADED = ("detect", "rx", "soft", "many", "lrx")
 PIECE = 1 << 16
 JOIN_SECONDS = 2  # what feeds a program that has ended may still wait for its source
 
@@ -120,7 +120,7 @@ class Radio:
     progress : bool, optional
         Whether a bar shows on standard error how far an input was read. By default where that is a terminal.
     workers : int, optional
-        The threads with which ``detect`` and ``rx`` run; by default the program's own number.
+        The threads with which commands that have workers run; by default the program's own number.
     """
 
     def __init__(self, path: Optional[str] = None, progress: Optional[bool] = None, workers: Optional[int] = None) -> None:
@@ -235,12 +235,12 @@ class Radio:
 
     @contextmanager
     def answers(self, word: str, source: Source) -> Iterator[Answers]:
-        """Run ``detect`` or ``rx`` and read its answers while it runs.
+        """Run ``detect``, ``rx`` or ``soft`` and read its answers while it runs.
 
         Parameters
         ----------
         word : str
-            ``"detect"`` or ``"rx"``.
+            ``"detect"``, ``"rx"`` or ``"soft"``.
         source : path, ``"-"``, bytes or binary stream
             A capture.
 
@@ -265,6 +265,10 @@ class Radio:
     def rx(self, source: Source) -> list:
         """All answers of ``radio rx``: a list of `FrameAnswer`. Raises as `detect`, and where there is no such command."""
         return self._all("rx", source)
+
+    def soft(self, source: Source) -> list:
+        """All answers of ``radio soft``: a list of `SoftAnswer`. Raises as `rx`."""
+        return self._all("soft", source)
 
     def _all(self, word: str, source: Source) -> list:
         with self.answers(word, source) as answers:

@@ -6,7 +6,7 @@ the power 10**(-SNR/10), where each antenna receives mean power 1 on a data subc
 The receiver knows the channel (``perfect``), or estimates it by least squares (``ls``) from training symbols of the same
 noise that each stream sends with the signs of the orthogonal matrix of clause 20.3.9.4.6: 1, 2, 4 and 4 training symbols
 for one to four streams. Then the frame is quantised, and the program does the rest; other detectors may stand beside it
-(`mizgaure.detectors`).
+(`mizgaure.detectors`). Where the program's soft decoder is one of them, the gain is so small that few of its weights are cut.
 
 Each frame draws from a generator of its own, which the seed, the number of the SNR point and the number of the frame
 determine; so a sweep is the same in one process and in many, on one machine and on many, and in parts.
@@ -22,12 +22,12 @@ import json
 import os
 from dataclasses import asdict, dataclass, field, fields
 from functools import partial
-from typing import Any, BinaryIO, Callable, Dict, Iterable, Iterator, List, Optional, Sequence, Set, Tuple
+from typing import Any, BinaryIO, Callable, Dict, Iterable, Iterator, List, Optional, Sequence, Set, Tuple, Union
 
 import numpy as np
 
 from . import measures, plugs
-from .answers import FrameAnswer, Jobs
+from .answers import FrameAnswer, Jobs, SoftAnswer
 from .channels import Profile, check_channel, draw, gaussian, rayleigh
 from .detectors import REFERENCE, Detector, decided
 from .errors import InputError, ProgramError
@@ -45,6 +45,7 @@ __all__ = ["ESTIMATES", "Chunk", "Journal", "Setting", "Sweep", "gaussian", "lea
 
 TRAINING = np.array([[1, -1, 1, 1], [1, 1, -1, 1], [1, 1, 1, -1], [-1, 1, 1, 1]])
 ESTIMATES = ("perfect", "ls")
+SOFT_DIAGONAL = 40.0  # neighbouring points are then 80 apart, and a weight between them is 6400 of the 65535 at which it is cut
 BY_FRAME = ("bits", "symbols", "octet_bits")  # the rates that are kept with how many frames had how many errors
 NAMES = {"ser": "symbols", "ber": "bits", "octet_ber": "octet_bits", "per": "frames"}  # of rates in tables
 COLUMNS = ("detector", "snr", *(f"{name}{end}" for name in NAMES for end in ("", "_low", "_high", "_errors", "_trials")))
@@ -228,7 +229,8 @@ class Sweep:
         for name in self.names:
             rates = self.rates_of(name)[point]
             front = f"{self.setting.snr[point]:6g} dB  " if name == REFERENCE else f"{'':9}  {name}: "
-            yield f"{front}SER {rates.symbols}" + (f"  PER {rates.frames}" if self.coded else "")
+            points = [f"SER {rates.symbols}"] if rates.symbols.trials or not rates.frames.trials else []
+            yield front + "  ".join(points + ([f"PER {rates.frames}"] if self.coded else []))
 
     def table(self) -> str:
         """The sweep as a table to read."""
@@ -432,6 +434,8 @@ def sweep(setting: Setting, radio: Optional[Radio] = None, processes: Optional[i
     done = Sweep(setting, coded, detectors, _checked_part(part), {word: plugs.digest(word) for word in own})
     if len(set(done.names)) < len(done.names):
         raise InputError("two detectors have the same name")
+    if not coded and any(detector.is_soft for detector in detectors):
+        raise InputError("the program has no tx or no rx, so there are no frames to decode by weights")
     if setting.errors and not coded:
         raise InputError("the program has no tx or no rx, so there are no frame errors to end a point by")
     if journal is not None:
@@ -521,17 +525,26 @@ def _chunk(task: Task) -> Rates:
     generators = [np.random.default_rng([setting.seed, task.point, number]) for number in range(task.first, task.first + task.count)]
     octets, symbols = _sent(setting, task.coded, radio, generators)
     snr = setting.snr[task.point]
-    made = capture([received_frame(setting, snr, frame, generator) for frame, generator in zip(symbols, generators)])
+    gain = _soft_gain(setting.rate) if any(detector.is_soft for detector in task.detectors) else None
+    made = capture([received_frame(setting, snr, frame, generator) for frame, generator in zip(symbols, generators)], gain)
     whole = _octets(made.frames)
-    of_octets = partial(_octet_errors, radio, octets) if task.coded else lambda _: ErrorRates()
+    of_octets = partial(_octet_errors, radio, "rx", octets) if task.coded else lambda _: ErrorRates()
     found: Rates = {REFERENCE: _point_errors(symbols, radio.detect(whole)) + of_octets(whole)}
     noises = [gain**2 * 10 ** (-snr / 10) for gain in made.gains]
     for detector in task.detectors:
+        if detector.is_soft:
+            found[detector.name] = _octet_errors(radio, "soft", octets, whole)
+            continue
         points = detector.decide(made.frames, whole, noises)
         jobs = [_jobs(number, each) for number, each in enumerate(points)]
         again = _octets([decided(frame, each) for frame, each in zip(made.frames, points)])
         found[detector.name] = _point_errors(symbols, jobs) + of_octets(again)
     return found
+
+
+def _soft_gain(rate: Rate) -> float:
+    """A gain at which a channel of mean power has diagonals of some `SOFT_DIAGONAL`."""
+    return SOFT_DIAGONAL * rate.streams**0.5 / rate.normalising_factor
 
 
 def _octets(frames: Sequence[CaptureFrame]) -> bytes:
@@ -555,19 +568,18 @@ def _point_errors(sent: Sequence[SymbolsFrame], answers: Sequence[Jobs]) -> Erro
     return total
 
 
-def _octet_errors(radio: Radio, sent: Sequence[bytes], whole: bytes) -> ErrorRates:
+def _octet_errors(radio: Radio, word: str, sent: Sequence[bytes], whole: bytes) -> ErrorRates:
     total = ErrorRates()
-    answers: Sequence[FrameAnswer] = _decoded(radio, whole)
-    for answer in answers:
+    for answer in _decoded(radio, word, whole):
         total += measures.octet_errors(sent[answer.frame], answer.octets)
     return total
 
 
-def _decoded(radio: Radio, whole: bytes) -> List[FrameAnswer]:
-    with radio.answers("rx", whole) as answers:
-        found = list(answers)
-    if not found or not all(isinstance(answer, FrameAnswer) for answer in found):
-        raise ProgramError(f"{radio.path} rx gave no line for each frame")
+def _decoded(radio: Radio, word: str, whole: bytes) -> List[Union[FrameAnswer, SoftAnswer]]:
+    with radio.answers(word, whole) as answers:
+        found = [answer for answer in answers if isinstance(answer, (FrameAnswer, SoftAnswer))]
+    if not found:
+        raise ProgramError(f"{radio.path} {word} gave no line for each frame")
     return found
 
 

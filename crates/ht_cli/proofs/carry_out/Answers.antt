@@ -15,8 +15,16 @@ use Rattle.ht_demo.specs.Demos.{IsDemoLine, returned_line}
 use Rattle.ht_cli.specs.Tasks.{IsPlanLine, plan_of}
 use Rattle.ht_cli.proofs.Answering.{converts, streams}
 use Rattle.ht_cli.proofs.Heard.{ends}
+use Rattle.ht_capture.specs.Fields.{captures}
+use Rattle.ht_runs.specs.Formats.{filter}
+use Rattle.ht_endings.specs.Endings.{HasFrames}
+use Rattle.ht_legacy_captures.specs.Formats.{captures as legacy_captures}
+use Rattle.ht_legacy_rx.specs.Texts.{legacy_items, legacy_lines_of, legacy_text}
+use Rattle.ht_soft_rx.specs.Halved.{HasFrames as SoftFrames}
+use Rattle.ht_soft_rx.specs.Texts.{soft_lines_of, soft_rx_text}
+use Rattle.ht_several.specs.Bundles.{receiving}
 use Rattle.ht_cli.proofs.Making.{both, done_is_not, makes}
-use Rattle.ht_cli.proofs.Texts.{detects, receives}
+use Rattle.ht_cli.proofs.Texts.{detects, legacy_ends, receives, soft_ends}
 use Rattle.ht_cli.proofs.carry_out.Goals as goal
 
 pub returns-in-Some-Detect-clause-answered : goal.returns-in-Some-Detect-clause-answered
@@ -33,6 +41,26 @@ returns-in-Some-Rx-clause-answered g c =
     c.settle-in-Some-Rx.result c.receive_text_alone-heard.ensures.receives c.receive_text_alone-heard.ensures.puts_later
     c.put_end-received.ensures.puts (later-later _ _ _ c.receive_text_alone-heard.ensures.puts_later c.put_end-received.ensures.later)
     c.settle-in-Some-Rx.ensures.settles in search rules
+
+pub returns-in-Some-Soft-clause-answered : goal.returns-in-Some-Soft-clause-answered
+returns-in-Some-Soft-clause-answered g c =
+    let asked = c.in-Some-Soft.field-0-is in
+    let run = streams (filter captures soft_rx_text soft_lines_of) soft_ends _ _ _ SoftFrames c.receive_soft_alone-received.result _ _ c.settle-in-Some-Soft.result
+    c.receive_soft_alone-received.ensures.streams c.receive_soft_alone-received.ensures.puts_later c.settle-in-Some-Soft.ensures.settles
+    in search rules
+
+pub returns-in-Some-LegacyRx-clause-answered : goal.returns-in-Some-LegacyRx-clause-answered
+returns-in-Some-LegacyRx-clause-answered g c =
+    let asked = c.in-Some-LegacyRx.field-0-is in
+    let run = streams (filter legacy_captures legacy_text legacy_lines_of) legacy_ends _ _ _ (HasFrames legacy_captures legacy_items) c.legacy_receive_alone-received.result _ _ c.settle-in-Some-LegacyRx.result
+    c.legacy_receive_alone-received.ensures.receives c.legacy_receive_alone-received.ensures.puts_later
+    c.settle-in-Some-LegacyRx.ensures.settles in search rules
+
+pub returns-in-Some-Many-clause-answered : goal.returns-in-Some-Many-clause-answered
+returns-in-Some-Many-clause-answered g c =
+    let asked = c.in-Some-Many.field-0-is in
+    let run = converts receiving (λ fault. refl) _ _ _ SaysNothing c.many_bundle_alone-received.result _ _ c.settle-in-Some-Many.result
+    c.many_bundle_alone-received.ensures.converts c.settle-in-Some-Many.ensures.settles in search rules
 
 pub returns-in-Some-Tx-clause-answered : goal.returns-in-Some-Tx-clause-answered
 returns-in-Some-Tx-clause-answered g c =

@@ -1,16 +1,26 @@
 use Rattle.std.specs.Prelude.{◌≡◌, ℕ, Vec}
 use Rattle.std.specs.Global.{Global}
-use Rattle.std.proofs.Common.{ap, rules}
+use Rattle.std.proofs.Common.{ap, refl, rules}
 use Rattle.ht_io.proofs.Calls.{later-later}
 use Rattle.ht_rx.specs.Texts.{detect_text, lines_of}
 use Rattle.ht_results.specs.Texts.{frame_lines_of, rx_text}
 use Rattle.ht_words.specs.Words.{asked}
 use Rattle.ht_demo.specs.Demos.{IsDemoLine, returned_line}
 use Rattle.ht_cli.specs.Tasks.{IsPlanLine, plan_of}
+use Rattle.ht_cli.proofs.Answering.{converts, streams}
 use Rattle.ht_cli.proofs.Heard.{ends}
+use Rattle.ht_capture.specs.Fields.{captures}
+use Rattle.ht_runs.specs.Formats.{filter}
+use Rattle.ht_endings.specs.Endings.{HasFrames}
+use Rattle.ht_legacy_captures.specs.Formats.{captures as legacy_captures}
+use Rattle.ht_legacy_rx.specs.Texts.{legacy_items, legacy_lines_of, legacy_text}
+use Rattle.ht_soft_rx.specs.Halved.{HasFrames as SoftFrames}
+use Rattle.ht_soft_rx.specs.Texts.{soft_lines_of, soft_rx_text}
+use Rattle.ht_several.specs.Bundles.{receiving}
+use Rattle.ht_runs.specs.Filters.{SaysNothing}
 use Rattle.ht_cli.proofs.Making.{both, done_is_not, makes}
 use Rattle.ht_cli.proofs.Nothing.{nothing_done}
-use Rattle.ht_cli.proofs.Texts.{detects, receives}
+use Rattle.ht_cli.proofs.Texts.{detects, legacy_ends, receives, soft_ends}
 use Rattle.ht_cli.proofs.run.Goals as goal
 
 pub returns-in-Err-clause-answered : goal.returns-in-Err-clause-answered
@@ -29,6 +39,25 @@ returns-in-Some-Rx-clause-answered g c =
     let run = ends rx_text frame_lines_of receives _ _ _ c.receive_text-heard.result _ _ _ c.put_end-received.result c.settle-in-Some-Rx.result
     c.receive_text-heard.ensures.receives c.receive_text-heard.ensures.puts_later c.put_end-received.ensures.puts
     (later-later _ _ _ c.receive_text-heard.ensures.puts_later c.put_end-received.ensures.later) c.settle-in-Some-Rx.ensures.settles in
+    let words = c.in-Ok.ensures.value in search rules
+
+pub returns-in-Some-Soft-clause-answered : goal.returns-in-Some-Soft-clause-answered
+returns-in-Some-Soft-clause-answered g c =
+    let run = streams (filter captures soft_rx_text soft_lines_of) soft_ends _ _ _ SoftFrames c.receive_soft-received.result _ _ c.settle-in-Some-Soft.result
+    c.receive_soft-received.ensures.streams c.receive_soft-received.ensures.puts_later c.settle-in-Some-Soft.ensures.settles in
+    let words = c.in-Ok.ensures.value in search rules
+
+pub returns-in-Some-LegacyRx-clause-answered : goal.returns-in-Some-LegacyRx-clause-answered
+returns-in-Some-LegacyRx-clause-answered g c =
+    let run = streams (filter legacy_captures legacy_text legacy_lines_of) legacy_ends _ _ _ (HasFrames legacy_captures legacy_items)
+    c.legacy_receive-received.result _ _ c.settle-in-Some-LegacyRx.result c.legacy_receive-received.ensures.receives
+    c.legacy_receive-received.ensures.puts_later c.settle-in-Some-LegacyRx.ensures.settles in
+    let words = c.in-Ok.ensures.value in search rules
+
+pub returns-in-Some-Many-clause-answered : goal.returns-in-Some-Many-clause-answered
+returns-in-Some-Many-clause-answered g c =
+    let run = converts receiving (λ fault. refl) _ _ _ SaysNothing c.many_bundle-received.result _ _ c.settle-in-Some-Many.result
+    c.many_bundle-received.ensures.converts c.settle-in-Some-Many.ensures.settles in
     let words = c.in-Ok.ensures.value in search rules
 
 pub returns-in-Some-Demo-clause-answered : goal.returns-in-Some-Demo-clause-answered

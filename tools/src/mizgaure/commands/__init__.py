@@ -7,8 +7,8 @@ last, and the tests say what is missing.
 
 from typing import Tuple
 
-from . import answers, capture, check, example, frames, judge, measure, merge, packets, picture, report, show, sweep, zero_forcing
-from . import receive, record, waveform
+from . import answers, bundle, capture, check, example, frames, judge, measure, merge, packets, picture, report, show, sweep, zero_forcing
+from . import receive, record, unbundle, waveform
 from .base import Command
 
 MODULES = (
@@ -21,6 +21,8 @@ MODULES = (
     measure,
     packets,
     frames,
+    bundle,
+    unbundle,
     sweep,
     merge,
     picture,

@@ -7,7 +7,7 @@ import os
 from typing import Optional
 
 from .. import pictures
-from ..detectors import Detector
+from ..detectors import SOFT, Detector
 from ..errors import InputError
 from ..files import refuse_overwriting, writing
 from ..program import Progress, Radio
@@ -23,7 +23,8 @@ def words(command: argparse.ArgumentParser) -> None:
     command.add_argument("--errors", type=whole, default=setting.errors, help="end a point once so many of its frames are in error (default: never)")
     command.add_argument("--chunk", metavar="N", type=whole, default=setting.chunk, help="frames that are done in one go (default 10)")
     command.add_argument("--detector", metavar="NAME=WORDS", action="append", default=[],
-                         help="one more detector: zero-forcing, a function as FILE.py:NAME, or a command; may come again")
+                         help="one more detector: zero-forcing, soft, a function as FILE.py:NAME, or a command; may come again")
+    command.add_argument("--soft", action="store_true", help="decode the same captures with radio soft, too, as the detector soft=soft")
     add_workers(command)
     add_part(command, "every N-th chunk from the K-th on")
     command.add_argument("-o", "--output", metavar="FILE", help="keep the outcome as JSON lines, as it comes")
@@ -42,7 +43,7 @@ def run(given: argparse.Namespace) -> None:
     if given.resume and not given.output:
         raise InputError("--resume goes on with a file, which --output names")
     setting = setting_of(given, given.frames)
-    detectors = [Detector.of(text) for text in given.detector]
+    detectors = [Detector.of(text) for text in given.detector] + ([Detector(SOFT, SOFT)] if given.soft else [])
     radio = Radio(given.radio) if given.scheduler is None else None
     path = None if radio is not None else given.radio
     journal = _journal(given)

@@ -8,5 +8,5 @@ loop-at-preserved g c =
     let text = string_bytes l.text in
     let job = c.job-job.result in
     c.in_ok-push_found.ensures.ok
-    ∙ (ap (λ (xs : List ℕ). text ++ xs) (line_is job c.place.result c.pass.result c.place.ensures c.pass.ensures.found)
+    ∙ (ap (λ (xs : List ℕ). text ++ xs) (line_is job c.place.result c.pass-found.result c.place.ensures c.pass-found.ensures.found)
     ∙ lines_next (g.B.Jobs.jobs c.args.block.now) l.at job text (sym c.job-job.ensures) l.invariant)

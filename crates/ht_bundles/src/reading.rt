@@ -1,0 +1,155 @@
+//! Bundles that are read whole.
+ghost use Rattle.std.specs.Prelude.{◌≡◌, ◌⊎◌, ◌<◌, ◌≤◌, ◌+◌, ◌^◌, ℕ, List, ◌++◌, length, OnOk, IfOk, IfErr};
+ghost use Rattle.byteorder.specs.Endian.{big_bytes};
+ghost use Rattle.ht_io.specs.Devices.{Takes, IsLater};
+ghost use Rattle.ht_io.specs.declared.faults.InFault.TheVariants.{NoMemory};
+ghost use Rattle.ht_fields.specs.Lacking.{LacksField};
+ghost use Rattle.ht_fields.specs.Readers.{reader_in};
+ghost use Rattle.ht_fields.specs.WholeFiles.{EndsEarly, ReadsWhole};
+ghost use Rattle.ht_bundles.specs.Formats.{bundles as bundles_format, captures_due, capture_limits as capture_limits_of};
+ghost use Rattle.ht_bundles.specs.Files.{AreCaptures, IsSized, bundle_of, sized_octets};
+
+use crate::bundled::Bundled;
+use byteorder::{BigEndian, ByteOrder};
+use ht_fields::{end, fill};
+use ht_heads::{Limits, start};
+use ht_io::{InFault, Kind, Source};
+use std::alloc::Global;
+
+// How many octets of a capture are read at once.
+const PIECE: usize = 4096;
+
+// How a bundle counts its captures.
+fn capture_limits() -> Limits
+    ensures { result ≡ capture_limits_of }
+{
+    Limits {
+        width: 1,
+        least: 1,
+        most: 16,
+        kind: Kind::BadCount,
+    }
+}
+
+// Reads the number of a capture's octets.
+fn size<S: Source>(source: &mut S, at: u64) -> Result<u32, InFault>
+    requires room { at + 4 < 2 ^ 64 }
+    ensures whole { IfOk result (λ size. Takes (S.shown source.old) (S.shown source.new) (big_bytes 4 size)) }
+    ensures fits { IfOk result (λ size. size < 2 ^ 32) }
+    ensures lacking { IfErr result (LacksField 4 at (S.shown source.old) (S.shown source.new)) }
+    ensures later { IsLater (S.shown source.old) (S.shown source.new) }
+{
+    let mut octets = [0u8; 4];
+    match fill(source, at, &mut octets) {
+        Ok(()) => Ok(BigEndian::read_u32(&octets)),
+        Err(fault) => Err(fault),
+    }
+}
+
+// Room for a piece.
+fn no_piece() -> [u8; PIECE]
+    ensures { length result ≡ 4096 }
+{
+    [0u8; PIECE]
+}
+
+// Reads a piece of a capture, and appends it.
+fn piece<S: Source>(
+    source: &mut S,
+    at: u64,
+    count: usize,
+    octets: &mut Vec<u8>,
+) -> Result<(), InFault>
+    requires few { count ≤ 4096 }
+    requires room { at + count < 2 ^ 64 }
+    ensures read { OnOk result ((piece : List ℕ) × (length piece ≡ count) × (octets.new.items ≡ octets.old.items ++ piece)
+        × Takes (S.shown source.old) (S.shown source.new) piece) }
+    ensures failed { IfErr result (λ fault. (fault ≡ NoMemory) ⊎ LacksField count at (S.shown source.old) (S.shown source.new) fault) }
+    ensures later { IsLater (S.shown source.old) (S.shown source.new) }
+{
+    let mut room = no_piece();
+    let room = &mut room[..count];
+    match fill(source, at, room) {
+        Ok(()) => {}
+        Err(fault) => return Err(fault),
+    }
+    match octets.extend_from_slice(room) {
+        Ok(()) => Ok(()),
+        Err(_) => Err(InFault::NoMemory),
+    }
+}
+
+// Reads this number of octets. Memory is taken as they come.
+fn octets<S: Source>(alloc: Global, source: &mut S, at: u64, size: u32) -> Result<Vec<u8>, InFault>
+    requires room { at + size < 2 ^ 64 }
+    ensures whole { IfOk result (λ octets. Takes (S.shown source.old) (S.shown source.new) octets.items) }
+    ensures size { IfOk result (λ octets. length octets.items ≡ size) }
+    ensures failed { IfErr result (λ fault. (fault ≡ NoMemory) ⊎ LacksField size at (S.shown source.old) (S.shown source.new) fault) }
+    ensures later { IsLater (S.shown source.old) (S.shown source.new) }
+{
+    let size = size as usize;
+    let mut octets = Vec::new(alloc);
+    let mut read = 0;
+    while read < size {
+        let more = (size - read).min(PIECE);
+        match piece(source, at + read as u64, more, &mut octets) {
+            Ok(()) => read += more,
+            Err(fault) => return Err(fault),
+        }
+    }
+    Ok(octets)
+}
+
+// Reads a capture, while captures are left.
+fn capture<S: Source>(alloc: Global, source: &mut S, at: u64) -> Result<Bundled, InFault>
+    requires room { at + 4294967300 < 2 ^ 64 }
+    ensures whole { IfOk result (λ capture. Takes (S.shown source.old) (S.shown source.new) (sized_octets capture)) }
+    ensures sized { IfOk result IsSized }
+    ensures failed { (left : ℕ) → 0 < left
+        → IfErr result (EndsEarly (reader_in bundles_format (captures_due left) at (S.shown source.old)) (S.shown source.new)) }
+    ensures later { IsLater (S.shown source.old) (S.shown source.new) }
+{
+    let size = match size(source, at) {
+        Ok(size) => size,
+        Err(fault) => return Err(fault),
+    };
+    match octets(alloc, source, at + 4, size) {
+        Ok(octets) => Ok(Bundled::new(octets)),
+        Err(fault) => Err(fault),
+    }
+}
+
+/// Reads a bundle to its end, and gives the octets of its captures, in order.
+///
+/// `Format` comes at the first fault of the bundle, `Read` where the source failed before any fault, and `NoMemory` where
+/// octets that came found no room.
+pub fn read_bundle<S: Source>(alloc: Global, source: &mut S) -> Result<Vec<Bundled>, InFault>
+    // What was left was the bundle of these captures, and is taken.
+    ensures file { IfOk result (λ captures. ReadsWhole AreCaptures bundle_of (S.shown source.old) (S.shown source.new) captures.items) }
+
+    // A refusal is the first fault of the bundle, or its source failed within a bundle or behind it, or memory ran out.
+    ensures refused { IfErr result (EndsEarly (reader_in bundles_format bundles_format.start 0 (S.shown source.old)) (S.shown source.new)) }
+    ensures later { IsLater (S.shown source.old) (S.shown source.new) }
+{
+    let count = match start(source, b"HTMB", &capture_limits()) {
+        Ok(count) => count,
+        Err(fault) => return Err(fault),
+    };
+    let mut at = 6;
+    let mut captures = Vec::new(alloc);
+    for _index in 0..count {
+        let capture = match capture(alloc, source, at) {
+            Ok(capture) => capture,
+            Err(fault) => return Err(fault),
+        };
+        at += 4 + capture.octets().len() as u64;
+        match captures.push(capture) {
+            Ok(()) => {}
+            Err(_) => return Err(InFault::NoMemory),
+        }
+    }
+    match end(source, at) {
+        Ok(()) => Ok(captures),
+        Err(fault) => Err(fault),
+    }
+}

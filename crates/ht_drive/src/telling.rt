@@ -1,0 +1,120 @@
+//! A whole input, whose blocks workers run, and what becomes of its hits.
+ghost use Rattle.std.specs.Prelude.{◌≡◌, ◌≢◌, ◌^◌, ◌-◌, ◌<◌, ◌≤◌, [], Err, None, Some, true, is_some, OnOk};
+ghost use Rattle.ht_io.specs.Devices.{IsLater};
+ghost use Rattle.ht_runs.specs.declared.faults.StopFault.TheVariants.{Write};
+ghost use Rattle.ht_feed.specs.Accounts.{told_by};
+ghost use Rattle.ht_feed.specs.Desks.{feed_view};
+ghost use Rattle.ht_feed.specs.Dues.{jobs_in};
+ghost use Rattle.ht_feed.specs.Feeds.{IsFreshFeed};
+ghost use Rattle.ht_feed.specs.Outcomes.{Comes};
+ghost use Rattle.ht_feed.specs.Telling.{TellsBy, seen_by};
+
+use crate::report::Report;
+use crate::threaded::drive;
+use ht_feed::{
+    Account, BlockReader, BookFault, Desk, DeskFeed, Desking, DriveFault, Ended, Shared, Work,
+    end_of,
+};
+use ht_io::Source;
+use ht_runs::StopFault;
+use std::alloc::Global;
+use std::sync::Wait;
+use std::thread::Threads;
+
+// Runs all blocks of a desk that gave none yet.
+fn run_desk<
+    T: Threads + Wait + Sync,
+    R: BlockReader + Drop,
+    D: Desking<R>,
+    S: Source,
+    A: Account<R>,
+    W: Work<R::Block, Answer = A::Answer> + Sync,
+>(
+    rt: &T,
+    alloc: Global,
+    workers: u8,
+    window: u16,
+    work: &W,
+    desk: &mut D,
+    source: &mut S,
+    account: &mut A,
+    failed: &mut Option<BookFault>,
+) -> Result<Report, DriveFault<BookFault>>
+where
+    R::Block: Shared + Send + Sync,
+    A::Answer: Send + Sync,
+    requires one { 1 ≤ workers }
+    requires many { workers ≤ 64 }
+    requires some { 1 ≤ window }
+    requires few { window ≤ 4096 }
+    requires fresh { IsFreshFeed (feed_view R.counts (D.seen desk.old) failed.old) }
+    ensures tells { TellsBy failed.old failed.new
+        (seen_by R.means R.at (D.seen desk.old) (S.shown source.old) (told_by A.shown A.pieces A.waits account.old))
+        (seen_by R.means R.at (D.seen desk.new) (S.shown source.new) (told_by A.shown A.pieces A.waits account.new)) }
+    ensures ended { OnOk result (is_some (D.seen desk.new).stop ≡ true) }
+    ensures taken { OnOk result (jobs_in (D.seen desk.new).due ≡ []) }
+    ensures well { OnOk result (failed.new ≡ None) }
+    ensures fault { (fault : BookFault) → result ≡ Err (DriveFault.Feed fault) → failed.new ≡ Some fault }
+    ensures memory { result ≡ Err DriveFault.NoMemory → failed.new ≡ None }
+    ensures same { A.lent account.new ≡ A.lent account.old }
+{
+    let mut feed = DeskFeed::new(desk, source, account, failed);
+    drive(rt, alloc, workers, window, work, &mut feed)
+}
+
+/// Does as [`tell_alone`](ht_feed::tell_alone), and the blocks are run by 1 to 64 workers, of which the caller is one. At
+/// most `window` jobs, 1 to 4096, were given and not yet taken at any moment. What is put is the same, in the same order.
+pub fn tell<
+    T: Threads + Wait + Sync,
+    R: BlockReader + Drop,
+    S: Source,
+    A: Account<R>,
+    W: Work<R::Block, Answer = A::Answer> + Sync,
+>(
+    rt: &T,
+    alloc: Global,
+    workers: u8,
+    window: u16,
+    reader: R,
+    head: R::Head,
+    work: &W,
+    source: &mut S,
+    account: &mut A,
+) -> Result<Ended, StopFault>
+where
+    R::Block: Shared + Send + Sync,
+    A::Answer: Send + Sync,
+    requires one { 1 ≤ workers }
+    requires many { workers ≤ 64 }
+    requires some { 1 ≤ window }
+    requires few { window ≤ 4096 }
+    requires going { (R.counts reader).going ≡ true }
+    requires fresh { (R.counts reader).given ≡ 0 }
+    requires bounded { (R.counts reader).more < 2 ^ 64 - 1 }
+    requires rests { A.waits account.old [] }
+    ensures tells { Comes R.means R.at reader head (S.shown source.old) (S.shown source.new)
+        (told_by A.shown A.pieces A.waits account.old) (told_by A.shown A.pieces A.waits account.new) result }
+
+    // Where the device failed the answer is `Write`, whatever else failed.
+    ensures writes { result ≢ Err Write → (A.shown account.new).faults ≡ (A.shown account.old).faults }
+
+    // However it ends, the devices are the same, and take back no fault.
+    ensures reads_later { IsLater (S.shown source.old) (S.shown source.new) }
+    ensures puts_later { IsLater (A.shown account.old) (A.shown account.new) }
+    ensures same { A.lent account.new ≡ A.lent account.old }
+{
+    let mut desk = Desk::new(alloc, reader, head, window)?;
+    let mut failed = None;
+    let driven = run_desk(
+        rt,
+        alloc,
+        workers,
+        window,
+        work,
+        &mut desk,
+        source,
+        account,
+        &mut failed,
+    );
+    end_of(&desk, driven)
+}

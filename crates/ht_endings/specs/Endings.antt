@@ -1,0 +1,46 @@
+-- What the end of a run over blocks puts, and what such a run comes to.
+use Rattle.std.specs.Prelude.{◌≡◌, ◌⊎◌, ℕ, List, Result, Ok, Err}
+use Rattle.ht_io.specs.Devices.{Device, Grows, GrowsByPart, Rose}
+use Rattle.ht_fields.specs.Grammar.{Grammar}
+use Rattle.ht_fields.specs.Meanings.{Meaning, meaning}
+use Rattle.ht_text.specs.Lines.{end_text}
+use Rattle.ht_runs.specs.Faults.{fault_of_stop}
+use Rattle.ht_runs.specs.Formats.{IsLined}
+use Rattle.ht_runs.specs.declared.faults.RunFault.{RunFault}
+use Rattle.ht_runs.specs.declared.faults.RunFault.TheVariants.{Format, Write, NoMemory}
+use Rattle.ht_runs.specs.declared.faults.StopFault.{StopFault}
+use Rattle.ht_feed.specs.declared.ended.Ended.{Ended}
+use Rattle.ht_feed.specs.declared.ended.Ended.TheVariants.{Done, Refused}
+use Rattle.ht_feed.specs.Items.{Headed, Item, frames_of, headed}
+
+-- this text was put, and the answer is a good one; or a part of it, by a sink that failed; or nothing, without memory for it
+abbrev pub PutsText : {A : Type 0} → A → List ℕ → Device ℕ → Device ℕ → Result A RunFault → Type 0
+PutsText good text sink sink' result =
+    ((result ≡ Ok good) × Grows sink sink' text)
+    ⊎ ((result ≡ Err Write) × GrowsByPart sink sink' text × Rose sink sink')
+    ⊎ ((result ≡ Err NoMemory) × (sink' ≡ sink))
+
+-- the end line was put behind the lines of a whole input; where these are not the lines of a whole one nothing was
+abbrev pub PutsEnd : Result Ended StopFault → Device ℕ → Device ℕ → Result ℕ RunFault → Type 0
+PutsEnd (Ok (Done frames jobs)) sink sink' result = PutsText frames (end_text frames) sink sink' result
+PutsEnd (Ok (Refused fault)) sink sink' result = (result ≡ Err (Format fault)) × (sink' ≡ sink)
+PutsEnd (Err stop) sink sink' result = (result ≡ Err (fault_of_stop stop)) × (sink' ≡ sink)
+
+-- what octets mean to a reader of blocks that sees the items of a format so
+abbrev pub seen_as : {I H : Type 0} → (List I → List (Item H)) → Meaning I → Meaning (Item H)
+seen_as items_as m = record { items = items_as m.items; fault = m.fault }
+
+module _ {S I H : Type 0} (f : Grammar S I) (items_as : List I → List (Item H)) where
+  -- the line that ends the lines of a file with these items
+  abbrev pub end_as : List I → List ℕ
+  end_as items = end_text (frames_of (items_as items))
+
+  -- a file of the format has this number of frames
+  abbrev pub HasFrames : ℕ → List ℕ → Type 0
+  HasFrames frames octets = frames ≡ frames_of (items_as (meaning f f.start 0 octets).items)
+
+  -- The text and the lines of octets, where an account puts these pieces of the jobs that the reader sees, behind a head
+  -- that stands for the one that came last.
+  pub record IsTold (head : H) (pieces : List (Headed H) → List ℕ) (text lines : List ℕ → List ℕ) : Type 0 where
+    pub lined : IsLined f text lines end_as
+    pub are : (octets : List ℕ) → pieces (headed head (items_as (meaning f f.start 0 octets).items)) ≡ lines octets

@@ -1,0 +1,172 @@
+-- The hit of one more job is taken where the results of whole frames are still to be booked.
+use Rattle.std.proofs.Common.{◌≡◌, ◌≤◌, List, [], ◌∷◌, ◌++◌, Result, Ok, Err, OnErr, OnOk, map, length}
+use Rattle.std.specs.Prelude.{IfErr, Option, option_to_list}
+use Rattle.std.proofs.Common.{arith, refl, sym, ap, ◌∙◌, subst, append-nil, append_assoc}
+use Rattle.std.proofs.lemmas.List.{map-append}
+use Rattle.std.specs.List.{flat_map}
+use Rattle.std.proofs.lemmas.Grind.{flat_map-append}
+use Rattle.ht_io.specs.Devices.{Device, Grows, GrowsByPart, IsLater, Rose}
+use Rattle.ht_io.proofs.Calls.{failed-later, grows-append, grows-none, grows_by_part-append, grows_by_part-front, grows_by_part-none}
+use Rattle.ht_metric.specs.Jobs.{JobView, near}
+use Rattle.ht_metric.specs.declared.found.Found.{Found}
+use Rattle.ht_metric.specs.declared.place.Place.{Place}
+use Rattle.ht_feed.specs.declared.book_fault.BookFault.{BookFault}
+use Rattle.ht_feed.specs.declared.book_fault.BookFault.TheVariants.{Failed}
+use Rattle.ht_feed.specs.Accounts.{PutsBlock, PutsPartOf}
+use Rattle.ht_feed.specs.Items.{Headed, headed_of}
+use Rattle.ht_frames.specs.Gathering.{BooksFirst, WaitForJobs, booked_behind, booked_whole}
+
+-- where the book failed behind others that didn't, it failed
+pub failed_behind : {P : Type 0} (result : Result (Unit {0}) BookFault) (a b c : Device P) → IsLater a b
+    → IfErr result (λ fault. fault ≡ Failed → Rose b c) → IfErr result (λ fault. fault ≡ Failed → Rose a c)
+failed_behind (Ok x) a b c later cause = tt
+failed_behind (Err e) a b c later cause = λ is. failed-later a b c later (cause is)
+
+-- none is left
+none_longer : {W : Type 0} (whole : List W) → length whole ≤ 0 → whole ≡ []
+none_longer [] none = refl
+none_longer (f ∷ fs) none = absurd (omega (arith, none))
+
+-- where none waits, nothing is kept back
+pub none_kept : {W X : Type 0} (result : Result (Unit {0}) BookFault) (whole : List W) (Waits : Type 0) (due : List X)
+    → OnOk result (length whole ≤ 0) → OnOk result (Waits → WaitForJobs whole due)
+none_kept (Ok x) whole Waits due few = λ w is. none_longer whole few
+none_kept (Err e) whole Waits due few = tt
+
+module _ {W T P : Type 0} (result_of : W → T) (booked : T → List P) where
+  -- no result was booked yet
+  pub books_none : (a : Device P) (whole : List W) → BooksFirst result_of booked a a whole whole
+  books_none a whole = ([], refl, grows-none a)
+
+  one_whole : (f : W) → booked_whole result_of booked (f ∷ []) ≡ booked (result_of f)
+  one_whole f = append-nil (booked (result_of f))
+
+  -- the only one was booked, or a part of it
+  pub only_put : {A E : Type 0} (a b : Device P) (f : W) (result : Result A E) → OnOk result (Grows a b (booked (result_of f)))
+      → OnOk result (BooksFirst result_of booked a b (f ∷ []) [])
+  only_put a b f (Ok x) grows = (f ∷ [], refl, subst (λ (ps : List P). Grows a b ps) (sym (one_whole f)) grows)
+  only_put a b f (Err e) grows = tt
+
+  pub only_part : {A E : Type 0} (a b : Device P) (f : W) (result : Result A E) → OnErr result (GrowsByPart a b (booked (result_of f)))
+      → OnErr result (GrowsByPart a b (booked_whole result_of booked (f ∷ [])))
+  only_part a b f (Ok x) part = tt
+  only_part a b f (Err e) part = subst (λ (ps : List P). GrowsByPart a b ps) (sym (one_whole f)) part
+
+  -- the results of the first ones and of the next one
+  whole_next : (done : List W) (f : W) (rest : List W) → booked_whole result_of booked (done ++ f ∷ rest)
+      ≡ booked_whole result_of booked done ++ (booked (result_of f) ++ booked_whole result_of booked rest)
+  whole_next done f rest = ap (flat_map booked) (map-append result_of done (f ∷ rest)) ∙ flat_map-append booked (map result_of done) (map result_of (f ∷ rest))
+
+  module _ (a b c : Device P) (old mid new : List W) (f : W) where
+    -- the next one was booked too
+    pub books_next : BooksFirst result_of booked a b old mid → mid ≡ f ∷ new → Grows b c (booked (result_of f)) → BooksFirst result_of booked a c old new
+    books_next books is grows =
+        let all : booked_whole result_of booked (books.0 ++ f ∷ []) ≡ booked_whole result_of booked books.0 ++ booked (result_of f) =
+        whole_next books.0 f [] ∙ ap (λ (ps : List P). booked_whole result_of booked books.0 ++ ps) (append-nil (booked (result_of f))) in (
+          books.0 ++ f ∷ [],
+          books.1 ∙ (ap (λ (fs : List W). books.0 ++ fs) is ∙ sym (append_assoc books.0 (f ∷ []) new)),
+          subst (λ (ps : List P). Grows a c ps) (sym all)
+              (grows-append a b c (booked_whole result_of booked books.0) (booked (result_of f)) books.2 grows),
+        )
+
+    -- a part of the next one was booked
+    pub books_next_part : BooksFirst result_of booked a b old mid → mid ≡ f ∷ new → GrowsByPart b c (booked (result_of f))
+        → GrowsByPart a c (booked_whole result_of booked old)
+    books_next_part books is part =
+        let all : booked_whole result_of booked old ≡ booked_whole result_of booked books.0 ++ (booked (result_of f) ++ booked_whole result_of booked new) =
+        ap (booked_whole result_of booked) (books.1 ∙ ap (λ (fs : List W). books.0 ++ fs) is) ∙ whole_next books.0 f new in
+        subst (λ (ps : List P). GrowsByPart a c ps) (sym all)
+        (grows_by_part-append a b c (booked_whole result_of booked books.0) (booked (result_of f) ++ booked_whole result_of booked new) books.2
+        (grows_by_part-front b c (booked (result_of f)) (booked_whole result_of booked new) part))
+
+  -- what is booked behind whole frames is booked behind their results
+  behind_whole : (whole : List W) (later : List T) → flat_map booked (map result_of whole ++ later) ≡ booked_whole result_of booked whole ++ flat_map booked later
+  behind_whole whole later = flat_map-append booked (map result_of whole) later
+
+  module _ {H : Type 0} where
+    -- where the results of the first ones were booked, those of the others are left
+    first_booked : (whole : List W) (results : List (Headed H) → List T) (done left : List W) (more : List (Headed H)) → whole ≡ done ++ left
+        → booked_behind result_of booked whole results more ≡ booked_whole result_of booked done ++ booked_behind result_of booked left results more
+    first_booked whole results done left more is =
+        let rest = results more in
+        ap (λ (fs : List W). booked_behind result_of booked fs results more) is
+        ∙ (ap (λ (rs : List T). flat_map booked (rs ++ rest)) (map-append result_of done left)
+        ∙ (ap (flat_map booked) (append_assoc (map result_of done) (map result_of left) rest)
+        ∙ behind_whole done (map result_of left ++ rest)))
+
+    -- the hit of a job was taken, with which frames are whole that weren't
+    module _ (a b : Device P) (whole whole' : List W) (before after : List (Headed H) → List T) (h : Headed H)
+        (goes : (more : List (Headed H)) → map result_of whole ++ before (h ∷ more) ≡ map result_of whole' ++ after more) where
+      pub puts_first : (left : List W) → BooksFirst result_of booked a b whole' left
+          → PutsBlock a b (booked_behind result_of booked whole before) (booked_behind result_of booked left after) (h ∷ [])
+      puts_first left books = (
+        booked_whole result_of booked books.0,
+        books.2,
+        λ more. ap (flat_map booked) (goes more) ∙ first_booked whole' after books.0 left more books.1,
+      )
+
+      -- a part of what waited was booked
+      pub part_first : GrowsByPart a b (booked_whole result_of booked whole') → PutsPartOf a b (booked_behind result_of booked whole before) (h ∷ [])
+      part_first part = λ more.
+          subst (λ (ps : List P). GrowsByPart a b ps) (sym (ap (flat_map booked) (goes more) ∙ behind_whole whole' (after more)))
+          (grows_by_part-front a b (booked_whole result_of booked whole') (flat_map booked (after more)) part)
+
+    -- a frame that is whole stands behind the others
+    pub stands_behind : (whole whole' : List W) (taken known : Option W) (before after : List (Headed H) → List T) (h : Headed H) → taken ≡ known
+        → whole' ≡ whole ++ option_to_list known
+        → ((more : List (Headed H)) → before (h ∷ more) ≡ map result_of (option_to_list taken) ++ after more)
+        → (more : List (Headed H)) → map result_of whole ++ before (h ∷ more) ≡ map result_of whole' ++ after more
+    stands_behind whole whole' taken known before after h same is goes more =
+        let new = option_to_list known in
+        let rest = after more in
+        ap (λ (rs : List T). map result_of whole ++ rs) (goes more ∙ ap (λ (o : Option W). map result_of (option_to_list o) ++ rest) same)
+        ∙ (sym (append_assoc (map result_of whole) (map result_of new) rest)
+        ∙ (ap (λ (rs : List T). rs ++ rest) (sym (map-append result_of whole new))
+        ∙ ap (λ (fs : List W). map result_of fs ++ rest) (sym is)))
+
+    -- where nothing was put, none of all pieces was
+    pub part_none : {A E : Type 0} (a : Device P) (start : List (Headed H) → List P) (head : H) (place : Place) (found : Found) (result : Result A E)
+        → OnErr result ((job : JobView) → job.place ≡ place → found ≡ near job → PutsPartOf a a start (headed_of head job ∷ []))
+    part_none a start head place found (Ok x) = tt
+    part_none a start head place found (Err e) = λ job here is more. grows_by_part-none a (start (headed_of head job ∷ more))
+
+    -- what comes of a job from this place, of which this was found
+    module _ (a b : Device P) (whole whole' left : List W) (before after : List (Headed H) → List T) (head : H) (place : Place) (found : Found)
+        (goes : (job : JobView) → job.place ≡ place → found ≡ near job → (more : List (Headed H))
+        → map result_of whole ++ before (headed_of head job ∷ more) ≡ map result_of whole' ++ after more) where
+      pub puts_each : {A E : Type 0} (result : Result A E) → OnOk result (BooksFirst result_of booked a b whole' left)
+          → OnOk result ((job : JobView) → job.place ≡ place → found ≡ near job
+          → PutsBlock a b (booked_behind result_of booked whole before) (booked_behind result_of booked left after) (headed_of head job ∷ []))
+      puts_each (Ok x) books = λ job here is. puts_first a b whole whole' before after (headed_of head job) (goes job here is) left books
+      puts_each (Err e) books = tt
+
+      pub part_each : {A E : Type 0} (result : Result A E) → OnErr result (GrowsByPart a b (booked_whole result_of booked whole'))
+          → OnErr result ((job : JobView) → job.place ≡ place → found ≡ near job
+          → PutsPartOf a b (booked_behind result_of booked whole before) (headed_of head job ∷ []))
+      part_each (Ok x) part = tt
+      part_each (Err e) part = λ job here is. part_first a b whole whole' before after (headed_of head job) (goes job here is) part
+
+    -- the hits of a block were taken, and then results are booked that wait
+    module _ (a b c : Device P) (start : List (Headed H) → List P) (mid new : List W) (results : List (Headed H) → List T) (hs : List (Headed H))
+        (puts : PutsBlock a b start (booked_behind result_of booked mid results) hs) where
+      pub all_put : (result : Result (Unit {0}) BookFault) → OnOk result (BooksFirst result_of booked b c mid new)
+          → OnOk result (PutsBlock a c start (booked_behind result_of booked new results) hs)
+      all_put (Ok x) books =
+          let put = booked_whole result_of booked books.0 in (
+            puts.0 ++ put,
+            grows-append a b c puts.0 put puts.1 books.2,
+            λ more. puts.2 more
+                ∙ (ap (λ (ps : List P). puts.0 ++ ps) (first_booked mid results books.0 new more books.1)
+                ∙ sym (append_assoc puts.0 put (booked_behind result_of booked new results more))),
+          )
+      all_put (Err e) books = tt
+
+      pub all_part : (result : Result (Unit {0}) BookFault) → OnErr result (GrowsByPart b c (booked_whole result_of booked mid))
+          → OnErr result (PutsPartOf a c start hs)
+      all_part (Ok x) part = tt
+      all_part (Err e) part = λ more.
+          let waiting = booked_whole result_of booked mid in
+          let behind = flat_map booked (results more) in
+          subst (λ (ps : List P). GrowsByPart a c ps) (sym (puts.2 more))
+          (grows_by_part-append a b c puts.0 (booked_behind result_of booked mid results more) puts.1
+          (subst (λ (ps : List P). GrowsByPart b c ps) (sym (behind_whole mid (results more))) (grows_by_part-front b c waiting behind part)))

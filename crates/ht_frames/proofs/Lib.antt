@@ -1,0 +1,3 @@
+pub mod NextDue
+pub mod Taking
+pub mod Gathered

@@ -1,0 +1,60 @@
+-- What was found for the jobs of a block is taken, one job after another.
+use Rattle.std.proofs.Common.{◌≡◌, ℕ, zero, suc, ◌+◌, List, [], ◌∷◌, ◌++◌, map, take, drop, slice_get, Some, Result, Ok, Err, OnErr}
+use Rattle.std.proofs.Common.{refl, sym, ap, ◌∙◌, subst, append_assoc}
+use Rattle.std.proofs.lemmas.List.{map-append, take-append-drop, take_more}
+use Rattle.std.proofs.lemmas.Option.{get_or_from_slice_get, none-some, same_Some, slice_get_within}
+use Rattle.ht_io.specs.Devices.{Device, GrowsByPart}
+use Rattle.ht_io.proofs.Calls.{grows-append}
+use Rattle.ht_metric.specs.declared.found.Found.{Found}
+use Rattle.ht_metric.specs.declared.place.Place.{Place}
+use Rattle.ht_metric.specs.Jobs.{JobView, near}
+use Rattle.ht_feed.specs.Accounts.{PutsBlock, PutsPartOf}
+use Rattle.ht_feed.specs.Dues.{IsPlaceAt}
+use Rattle.ht_feed.specs.Items.{Headed, headed_of}
+use Rattle.ht_feed.specs.Leading.{part-on, puts-on}
+
+pub err_so : {A E : Type 0} (result : Result A E) (X : Type 0) → X → OnErr result X
+err_so (Ok x) X holds = tt
+err_so (Err e) X holds = holds
+
+-- the job that stands there, its place, and what was found for it
+pub job_there : (jobs : List JobView) (at : ℕ) (place : Place) (found : Found) → IsPlaceAt place jobs at → slice_get (map near jobs) at ≡ Some found
+    → (job : JobView) × (slice_get jobs at ≡ Some job) × (job.place ≡ place) × (found ≡ near job)
+job_there [] at place found here is = absurd (none-some found is)
+job_there (job ∷ jobs) zero place found here is = (job, refl, here, sym (same_Some (near job) found is))
+job_there (job ∷ jobs) (suc at) place found here is = job_there jobs at place found here is
+
+module _ {H : Type 0} (head : H) where
+  abbrev pub heads : List JobView → List (Headed H)
+  heads jobs = map (headed_of head) jobs
+
+  heads-more : (jobs : List JobView) (at : ℕ) (job : JobView) → slice_get jobs at ≡ Some job
+      → heads (take at jobs) ++ headed_of head job ∷ [] ≡ heads (take (at + 1) jobs)
+  heads-more jobs at job is =
+      sym (map-append (headed_of head) (take at jobs) (job ∷ []))
+      ∙ ap (map (headed_of head)) (ap (λ (j : JobView). take at jobs ++ j ∷ []) (sym (get_or_from_slice_get jobs at job job is))
+      ∙ sym (take_more jobs at job (slice_get_within jobs at job is)))
+
+  module _ {P : Type 0} (a b c : Device P) (start before : List (Headed H) → List P) (jobs : List JobView) (at : ℕ) (job : JobView)
+      (there : slice_get jobs at ≡ Some job) (puts : PutsBlock a b start before (heads (take at jobs))) where
+    -- what was found for one job more was taken
+    pub one_more : (after : List (Headed H) → List P) → PutsBlock b c before after (headed_of head job ∷ [])
+        → PutsBlock a c start after (heads (take (at + 1) jobs))
+    one_more after next =
+        subst (λ (hs : List (Headed H)). PutsBlock a c start after hs) (heads-more jobs at job there) (
+          puts.0 ++ next.0,
+          grows-append a b c puts.0 next.0 puts.1 next.1,
+          puts-on start before after (heads (take at jobs)) (headed_of head job ∷ []) puts.0 next.0 puts.2 next.2,
+        )
+
+    -- it wasn't, and of all that the block gives a part was put
+    pub one_part : PutsPartOf b c before (headed_of head job ∷ []) → PutsPartOf a c start (heads jobs)
+    one_part part = λ more.
+        let rest = heads (drop (at + 1) jobs) ++ more in
+        let all : (heads (take at jobs) ++ headed_of head job ∷ []) ++ rest ≡ heads jobs ++ more =
+        ap (λ (hs : List (Headed H)). hs ++ rest) (heads-more jobs at job there)
+        ∙ (sym (append_assoc (heads (take (at + 1) jobs)) (heads (drop (at + 1) jobs)) more)
+        ∙ ap (λ (hs : List (Headed H)). hs ++ more) (sym (map-append (headed_of head) (take (at + 1) jobs) (drop (at + 1) jobs))
+        ∙ ap (map (headed_of head)) (take-append-drop (at + 1) jobs))) in
+        subst (λ (hs : List (Headed H)). GrowsByPart a c (start hs)) all
+        (part-on a b c start before (heads (take at jobs)) (headed_of head job ∷ []) puts.0 puts.1 puts.2 part rest)

@@ -1,0 +1,44 @@
+//! Where the results of frames go.
+ghost use Rattle.std.specs.Prelude.{◌≡◌, ◌∷◌, [], ℕ, List, Option, IfErr, OnErr, OnOk};
+ghost use Rattle.ht_io.specs.Devices.{Device, Grows, GrowsByPart, Rose, IsLater};
+ghost use Rattle.ht_io.specs.Pieces.{KnownGrown};
+ghost use Rattle.ht_feed.specs.declared.book_fault.BookFault.TheVariants.{Failed as BookFailed, NoMemory as BookMemory};
+
+use ht_feed::BookFault;
+
+/// What results of frames are booked in: a list that keeps them, or a sink that their lines are put into.
+pub trait Book<T> {
+    /// What is booked, piece by piece, as contracts see it: results, or the octets of their lines.
+    type Piece;
+
+    /// The pieces that were booked where they are known, and how often booking failed.
+    ghost shown: { Self → Device Self.Piece };
+
+    /// Which borrows lead to its device.
+    ghost lent: { Self → List ℕ };
+
+    /// The pieces of a result.
+    ghost booked: { T → List Self.Piece };
+
+    /// The results that it keeps, where it keeps them.
+    ghost results: { Self → Option (List T) };
+
+    /// Books a result behind the others. A refusal leaves a part of its pieces there, and the results that are kept as
+    /// they were.
+    fn frame(&mut self, frame: T) -> Result<(), BookFault>
+        ensures grown { OnOk result (Grows (shown self.old) (shown self.new) (booked frame)) }
+        ensures part { OnErr result (GrowsByPart (shown self.old) (shown self.new) (booked frame)) }
+
+        // A result is kept whole, or not at all.
+        ensures kept { OnOk result (KnownGrown (results self.old) (results self.new) (frame ∷ [])) }
+        ensures unkept { OnErr result (results self.new ≡ results self.old) }
+
+        // A fault is counted exactly where the answer is Failed.
+        ensures steady { OnOk result ((shown self.new).faults ≡ (shown self.old).faults) }
+        ensures cause { IfErr result (λ fault. fault ≡ BookFailed → Rose (shown self.old) (shown self.new)) }
+        ensures unfailed { IfErr result (λ fault. fault ≡ BookMemory → (shown self.new).faults ≡ (shown self.old).faults) }
+
+        // It is the same device.
+        ensures later { IsLater (shown self.old) (shown self.new) }
+        ensures same { lent self.new ≡ lent self.old };
+}

@@ -1,0 +1,199 @@
+//! An account that decodes whole frames while more jobs come.
+ghost use Rattle.std.specs.Prelude.{◌≡◌, ◌-◌, ◌^◌, ◌<◌, ◌≤◌, ◌∷◌, [], true, IfErr, OnErr, OnOk, drop};
+ghost use Rattle.ht_io.specs.Devices.{IsLater, Rose};
+ghost use Rattle.ht_metric.specs.Jobs.{JobView, near};
+ghost use Rattle.ht_feed.specs.Accounts.{PutsBlock, PutsPartOf};
+ghost use Rattle.ht_feed.specs.Dues.{AreHits, all_due, due_of, headed_due};
+ghost use Rattle.ht_feed.specs.Items.{headed_of};
+ghost use Rattle.ht_frames.specs.Gathering.{WaitForJobs, booked_behind, none_behind, wait_on};
+
+use crate::book::Book;
+use crate::decoding::Decoding;
+use crate::gathering::{decode, finish};
+use crate::under_way::UnderWay;
+use crate::whole_frame::WholeFrame;
+use circular_buffer::HeapCircularBuffer;
+use ht_feed::{Account, BlockReader, BookFault, DueBlock, Hits, Jobs};
+use ht_metric::{Found, Place};
+use std::alloc::Global;
+use std::collections::VecDeque;
+use std::thread::Threads;
+
+/// Books the result of each frame in a book, as a [`Receiver`](crate::Receiver) does, and decodes whole frames in threads
+/// of their own while it takes more hits.
+///
+/// A frame of 400 octets or more is decoded in a thread of its own once its last job came; a shorter one is decoded by
+/// the caller, at once. Results are booked in order, and that of a frame that the caller decoded as soon as it is the
+/// oldest.
+///
+/// Behind each hit fewer frames than there are workers, of at most 131,072 octets together, have no booked result, besides
+/// the frame under way. Where one more is whole, it is begun, and then the caller waits for the oldest ones. As two of the
+/// longest frames have 131,070 octets, there are never more than three of the longest frames, the one under way among them.
+/// Where no other block is due, the caller decodes the frame that is whole then, and books all results.
+#[derive(Drop)]
+pub struct Gatherer<'a, R, U: UnderWay, B> {
+    rt: &'a R,
+    alloc: Global,
+    // How many frames are decoded while hits are taken.
+    beside: u8,
+    under_way: &'a mut U,
+    // The whole frames whose results aren't booked, in order.
+    queue: &'a mut VecDeque<Decoding<U::Whole>>,
+    book: &'a mut B,
+}
+
+impl<'a, R, U: UnderWay, B> Gatherer<'a, R, U, B> {
+    /// A gatherer beside this number of workers, of which the caller is one. It books results in this book, and goes on
+    /// from the frame that is under way and those that are whole. It takes no memory.
+    pub fn new(
+        rt: &'a R,
+        alloc: Global,
+        workers: u8,
+        under_way: &'a mut U,
+        queue: &'a mut VecDeque<Decoding<U::Whole>>,
+        book: &'a mut B,
+    ) -> Gatherer<'a, R, U, B>
+        requires { 1 ≤ workers }
+        ensures under_way { result.under_way.now ≡ under_way.old }
+        ensures queue { result.queue.now ≡ queue.old }
+        ensures queue_name { result.queue.ghost_name ≡ queue.entry.ghost_name }
+        ensures book { result.book.now ≡ book.old }
+        ensures name { result.book.ghost_name ≡ book.entry.ghost_name }
+    {
+        Gatherer {
+            rt,
+            alloc,
+            beside: workers - 1,
+            under_way,
+            queue,
+            book,
+        }
+    }
+}
+
+// Whether another block is due behind the first one.
+fn another_is_due<R: BlockReader>(due: &HeapCircularBuffer<DueBlock<R>>) -> bool
+    ensures { result ≡ true → all_due (drop 1 due.now.items) ≡ [] → ⊥ }
+{
+    match due.get(1) {
+        Some(next) => next.is_some(),
+        None => false,
+    }
+}
+
+// Takes what was found for a job of the frame that is under way, or that begins with this head. A frame that is whole then
+// stands behind the others, of which at most `room` are left.
+fn take_found<R: Threads, U: UnderWay, B: Book<<U::Whole as WholeFrame>::Result>>(
+    rt: &R,
+    alloc: Global,
+    room: usize,
+    under_way: &mut U,
+    queue: &mut VecDeque<Decoding<U::Whole>>,
+    book: &mut B,
+    head: &U::Head,
+    place: Place,
+    found: &Found,
+) -> Result<(), BookFault>
+    requires below { found.now.distance < 2 ^ 66 }
+    ensures put { OnOk result ((job : JobView) → job.place ≡ place → found.now ≡ near job → PutsBlock (B.shown book.old) (B.shown book.new)
+        (booked_behind U.Whole.result_of B.booked queue.old.items (U.results under_way.old))
+        (booked_behind U.Whole.result_of B.booked queue.new.items (U.results under_way.new)) (headed_of head.now job ∷ [])) }
+    ensures part { OnErr result ((job : JobView) → job.place ≡ place → found.now ≡ near job → PutsPartOf (B.shown book.old) (B.shown book.new)
+        (booked_behind U.Whole.result_of B.booked queue.old.items (U.results under_way.old)) (headed_of head.now job ∷ [])) }
+    ensures cause { IfErr result (λ fault. fault ≡ BookFault.Failed → Rose (B.shown book.old) (B.shown book.new)) }
+    ensures steady { OnOk result ((B.shown book.new).faults ≡ (B.shown book.old).faults) }
+    ensures unfailed { IfErr result (λ fault. fault ≡ BookFault.NoMemory → (B.shown book.new).faults ≡ (B.shown book.old).faults) }
+    ensures later { IsLater (B.shown book.old) (B.shown book.new) }
+    ensures same { B.lent book.new ≡ B.lent book.old }
+{
+    match under_way.take(alloc, head, place, found)? {
+        Some(frame) => {
+            decode::<R, U>(rt, alloc, queue, frame, room > 0)?;
+            finish(rt, room, queue, book)
+        }
+        None => Ok(()),
+    }
+}
+
+// Takes what was found for the jobs of a block of the frame with this head.
+fn take_block<J: Jobs, R: Threads, U: UnderWay, B: Book<<U::Whole as WholeFrame>::Result>>(
+    rt: &R,
+    alloc: Global,
+    room: usize,
+    under_way: &mut U,
+    queue: &mut VecDeque<Decoding<U::Whole>>,
+    book: &mut B,
+    head: &U::Head,
+    block: &J,
+    found: &[Found],
+) -> Result<(), BookFault>
+    requires right { AreHits found.now (J.jobs block.now) }
+    ensures put { OnOk result (PutsBlock (B.shown book.old) (B.shown book.new)
+        (booked_behind U.Whole.result_of B.booked queue.old.items (U.results under_way.old))
+        (booked_behind U.Whole.result_of B.booked queue.new.items (U.results under_way.new)) (headed_due (due_of head.now (J.jobs block.now)))) }
+    ensures part { OnErr result (PutsPartOf (B.shown book.old) (B.shown book.new)
+        (booked_behind U.Whole.result_of B.booked queue.old.items (U.results under_way.old)) (headed_due (due_of head.now (J.jobs block.now)))) }
+    ensures cause { IfErr result (λ fault. fault ≡ BookFault.Failed → Rose (B.shown book.old) (B.shown book.new)) }
+    ensures steady { OnOk result ((B.shown book.new).faults ≡ (B.shown book.old).faults) }
+    ensures unfailed { IfErr result (λ fault. fault ≡ BookFault.NoMemory → (B.shown book.new).faults ≡ (B.shown book.old).faults) }
+    ensures later { IsLater (B.shown book.old) (B.shown book.new) }
+    ensures same { B.lent book.new ≡ B.lent book.old }
+{
+    for at in 0..found.len() {
+        let place = block.place_at(at as u16);
+        take_found(
+            rt, alloc, room, under_way, queue, book, head, place, &found[at],
+        )?;
+    }
+    Ok(())
+}
+
+impl<
+    'a,
+    T: BlockReader<Head = U::Head>,
+    R: Threads,
+    U: UnderWay,
+    B: Book<<U::Whole as WholeFrame>::Result>,
+> Account<T> for Gatherer<'a, R, U, B> {
+    type Piece = B::Piece;
+
+    type Answer = Hits;
+
+    ghost shown = { λ r. B.shown r.book.now };
+
+    ghost lent = { λ r. r.book.ghost_name ∷ B.lent r.book.now };
+
+    ghost pieces = { λ r. booked_behind U.Whole.result_of B.booked r.queue.now.items (U.results r.under_way.now) };
+
+    ghost waits = { λ r due. WaitForJobs r.queue.now.items due };
+
+    fn take(
+        &mut self,
+        head: &U::Head,
+        block: &T::Block,
+        hits: &Hits,
+        due: &HeapCircularBuffer<DueBlock<T>>,
+    ) -> Result<(), BookFault> {
+        let more = another_is_due(due);
+        let room = if more { usize::from(self.beside) } else { 0 };
+        take_block(
+            self.rt,
+            self.alloc,
+            room,
+            self.under_way,
+            self.queue,
+            self.book,
+            head,
+            block,
+            hits.found.as_slice(),
+        )?;
+        if more {
+            return Ok(());
+        }
+        finish(self.rt, 0, self.queue, self.book)
+    }
+
+    ghost more_due = { λ r. wait_on r.queue.now.items };
+
+    ghost none_due = { λ r. none_behind U.Whole.result_of B.booked r.queue.now.items (U.results r.under_way.now) (U.none r.under_way.now) };
+}

@@ -1,0 +1,38 @@
+//! Frames under way, and what becomes of their results.
+//!
+//! Whoever receives frames says by an [`UnderWay`] what their jobs come to: it takes what was found for one job after
+//! another, each with its place and the head of its frame, and gives a [`WholeFrame`] with a frame's last job. All else is
+//! here. A [`Receiver`] decodes each whole frame and books its result in a [`Book`]; a [`Gatherer`] does so too, and
+//! decodes long frames in threads of their own while more hits come. Both are accounts (`Account` of crate `ht_feed`): the
+//! jobs that come put what is booked of the results that they come to, `booked_in` in `specs/Gathering.antt`, whatever the
+//! blocks and the threads are. A [`ListBook`] keeps the results, and a [`TextBook`] puts the [`Line`] of each into a sink.
+//! [`HitWork`] finds the hits, each job between the two calls of a gate.
+//!
+//! Say a frame is whole with its second job, its result is the sum of the two distances, and its line is that number. Of
+//! five jobs with the distances 7, 7, 4, 0 and 9 a receiver with a [`TextBook`] puts `14` and `4`, and keeps the fifth job
+//! under way.
+#![tactic(auto)]
+
+mod book;
+mod decoding;
+mod gated;
+mod gatherer;
+mod gathering;
+mod line;
+mod list_book;
+mod receiver;
+mod text_book;
+mod under_way;
+mod whole_frame;
+
+pub use book::Book;
+pub use decoding::Decoding;
+pub use gated::{HitWork, pass};
+pub use gatherer::Gatherer;
+pub use gathering::abandon;
+pub use line::Line;
+pub use list_book::ListBook;
+pub use receiver::Receiver;
+pub use text_book::TextBook;
+pub use under_way::UnderWay;
+pub use whole_frame::WholeFrame;

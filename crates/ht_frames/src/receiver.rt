@@ -1,0 +1,154 @@
+//! An account that books the result of each frame.
+ghost use Rattle.std.specs.Prelude.{◌≡◌, ◌^◌, ◌<◌, ◌∷◌, [], IfErr, OnErr, OnOk};
+ghost use Rattle.ht_io.specs.Devices.{Grows, GrowsByPart, IsLater, Rose};
+ghost use Rattle.ht_metric.specs.Jobs.{JobView, near};
+ghost use Rattle.ht_feed.specs.Accounts.{PutsBlock, PutsPartOf};
+ghost use Rattle.ht_feed.specs.Dues.{AreHits, due_of, headed_due};
+ghost use Rattle.ht_feed.specs.Items.{headed_of};
+ghost use Rattle.ht_frames.specs.Gathering.{booked_in, none_booked};
+
+use crate::book::Book;
+use crate::under_way::UnderWay;
+use crate::whole_frame::WholeFrame;
+use circular_buffer::HeapCircularBuffer;
+use ht_feed::{Account, BlockReader, BookFault, DueBlock, Hits, Jobs};
+use ht_metric::{Found, Place};
+use std::alloc::Global;
+
+/// Books the result of each frame in a book, once the hit of its last job was taken.
+///
+/// Until then what its jobs come to is under way, in the memory that its maker lends it.
+#[derive(Drop)]
+pub struct Receiver<'a, U, B> {
+    alloc: Global,
+    under_way: &'a mut U,
+    book: &'a mut B,
+}
+
+impl<'a, U, B> Receiver<'a, U, B> {
+    /// A receiver that books results in this book, and goes on from the frame that is under way. It takes no memory.
+    pub fn new(alloc: Global, under_way: &'a mut U, book: &'a mut B) -> Receiver<'a, U, B>
+        ensures under_way { result.under_way.now ≡ under_way.old }
+        ensures book { result.book.now ≡ book.old }
+        ensures name { result.book.ghost_name ≡ book.entry.ghost_name }
+    {
+        Receiver {
+            alloc,
+            under_way,
+            book,
+        }
+    }
+}
+
+// Decodes a whole frame, and books its result.
+fn book_whole<W: WholeFrame, B: Book<W::Result>>(
+    alloc: Global,
+    frame: &W,
+    book: &mut B,
+) -> Result<(), BookFault>
+    ensures put { OnOk result (Grows (B.shown book.old) (B.shown book.new) (B.booked (W.result_of frame.now))) }
+    ensures part { OnErr result (GrowsByPart (B.shown book.old) (B.shown book.new) (B.booked (W.result_of frame.now))) }
+    ensures steady { OnOk result ((B.shown book.new).faults ≡ (B.shown book.old).faults) }
+    ensures cause { IfErr result (λ fault. fault ≡ BookFault.Failed → Rose (B.shown book.old) (B.shown book.new)) }
+    ensures unfailed { IfErr result (λ fault. fault ≡ BookFault.NoMemory → (B.shown book.new).faults ≡ (B.shown book.old).faults) }
+    ensures later { IsLater (B.shown book.old) (B.shown book.new) }
+    ensures same { B.lent book.new ≡ B.lent book.old }
+{
+    let result = frame.decode(alloc)?;
+    book.frame(result)?;
+    Ok(())
+}
+
+// Takes what was found for a job of the frame that is under way, or that begins with this head, and books the frame's
+// result where it was the last job.
+fn take_found<U: UnderWay, B: Book<<U::Whole as WholeFrame>::Result>>(
+    alloc: Global,
+    under_way: &mut U,
+    book: &mut B,
+    head: &U::Head,
+    place: Place,
+    found: &Found,
+) -> Result<(), BookFault>
+    requires below { found.now.distance < 2 ^ 66 }
+    ensures put { OnOk result ((job : JobView) → job.place ≡ place → found.now ≡ near job → PutsBlock (B.shown book.old) (B.shown book.new)
+        (booked_in B.booked (U.results under_way.old)) (booked_in B.booked (U.results under_way.new)) (headed_of head.now job ∷ [])) }
+    ensures part { OnErr result ((job : JobView) → job.place ≡ place → found.now ≡ near job → PutsPartOf (B.shown book.old) (B.shown book.new)
+        (booked_in B.booked (U.results under_way.old)) (headed_of head.now job ∷ [])) }
+    ensures cause { IfErr result (λ fault. fault ≡ BookFault.Failed → Rose (B.shown book.old) (B.shown book.new)) }
+    ensures steady { OnOk result ((B.shown book.new).faults ≡ (B.shown book.old).faults) }
+    ensures unfailed { IfErr result (λ fault. fault ≡ BookFault.NoMemory → (B.shown book.new).faults ≡ (B.shown book.old).faults) }
+    ensures later { IsLater (B.shown book.old) (B.shown book.new) }
+    ensures same { B.lent book.new ≡ B.lent book.old }
+{
+    match under_way.take(alloc, head, place, found)? {
+        Some(frame) => book_whole(alloc, &frame, book),
+        None => Ok(()),
+    }
+}
+
+// Takes what was found for the jobs of a block of the frame with this head.
+fn take_block<J: Jobs, U: UnderWay, B: Book<<U::Whole as WholeFrame>::Result>>(
+    alloc: Global,
+    under_way: &mut U,
+    book: &mut B,
+    head: &U::Head,
+    block: &J,
+    found: &[Found],
+) -> Result<(), BookFault>
+    requires right { AreHits found.now (J.jobs block.now) }
+    ensures put { OnOk result (PutsBlock (B.shown book.old) (B.shown book.new)
+        (booked_in B.booked (U.results under_way.old)) (booked_in B.booked (U.results under_way.new)) (headed_due (due_of head.now (J.jobs block.now)))) }
+    ensures part { OnErr result (PutsPartOf (B.shown book.old) (B.shown book.new)
+        (booked_in B.booked (U.results under_way.old)) (headed_due (due_of head.now (J.jobs block.now)))) }
+    ensures cause { IfErr result (λ fault. fault ≡ BookFault.Failed → Rose (B.shown book.old) (B.shown book.new)) }
+    ensures steady { OnOk result ((B.shown book.new).faults ≡ (B.shown book.old).faults) }
+    ensures unfailed { IfErr result (λ fault. fault ≡ BookFault.NoMemory → (B.shown book.new).faults ≡ (B.shown book.old).faults) }
+    ensures later { IsLater (B.shown book.old) (B.shown book.new) }
+    ensures same { B.lent book.new ≡ B.lent book.old }
+{
+    for at in 0..found.len() {
+        let place = block.place_at(at as u16);
+        take_found(alloc, under_way, book, head, place, &found[at])?;
+    }
+    Ok(())
+}
+
+impl<
+    'a,
+    R: BlockReader<Head = U::Head>,
+    U: UnderWay,
+    B: Book<<U::Whole as WholeFrame>::Result>,
+> Account<R> for Receiver<'a, U, B> {
+    type Piece = B::Piece;
+
+    type Answer = Hits;
+
+    ghost shown = { λ r. B.shown r.book.now };
+
+    ghost lent = { λ r. r.book.ghost_name ∷ B.lent r.book.now };
+
+    ghost pieces = { λ r. booked_in B.booked (U.results r.under_way.now) };
+
+    ghost waits = { λ r due. Unit {0} };
+
+    fn take(
+        &mut self,
+        head: &U::Head,
+        block: &R::Block,
+        hits: &Hits,
+        _: &HeapCircularBuffer<DueBlock<R>>,
+    ) -> Result<(), BookFault> {
+        take_block(
+            self.alloc,
+            self.under_way,
+            self.book,
+            head,
+            block,
+            hits.found.as_slice(),
+        )
+    }
+
+    ghost more_due = { λ r due h w. tt };
+
+    ghost none_due = { λ r w. none_booked B.booked (U.results r.under_way.now) (U.none r.under_way.now) };
+}

@@ -1,0 +1,5 @@
+pub mod Octets
+pub mod Splitting
+pub mod Fronts
+pub mod Seeing
+mod Worked

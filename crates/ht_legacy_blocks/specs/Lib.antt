@@ -1,0 +1,4 @@
+pub mod Jobs
+pub mod Symbols
+pub mod Frames
+pub mod Readers

@@ -1,0 +1,77 @@
+//! What stands in front of the frames of a capture, and in front of a frame's symbols, each read whole and judged.
+ghost use Rattle.std.specs.Prelude.{◌≡◌, ◌<◌, ◌≤◌, ◌+◌, ◌^◌, ℕ, [], ◌∷◌, IfOk, MatchResult};
+ghost use Rattle.ht_io.specs.Devices.{IsLater};
+ghost use Rattle.ht_fields.specs.Readers.{Gives, reader_in};
+ghost use Rattle.ht_fields.specs.WholeFiles.{Halts};
+ghost use Rattle.ht_clause18.specs.Rates.{symbols_of};
+ghost use Rattle.ht_legacy_captures.specs.Formats.{captures, captures_due, symbols_due};
+ghost use Rattle.ht_legacy_captures.specs.Items.{Begins};
+ghost use Rattle.ht_legacy_blocks.specs.Jobs.{diagonals_of};
+
+use crate::symbol::DIAGONALS;
+use ht_clause18::LegacyRate;
+use ht_fields::fill;
+use ht_heads::Limits;
+use ht_io::{InFault, Kind, Source};
+use ht_legacy_files::{length, rate};
+
+/// What stands in front of a frame's symbols.
+#[derive(Clone, Copy, Debug)]
+pub struct Front {
+    /// The rate.
+    pub rate: LegacyRate,
+    /// The octets of its PSDU, 1 to 4095.
+    pub length: u16,
+    /// The octets of its diagonals.
+    pub diagonals: [u8; DIAGONALS],
+}
+
+/// Reads what stands in front of the frames, and gives their number.
+pub fn start<S: Source>(source: &mut S) -> Result<u16, InFault>
+    ensures told { MatchResult result
+        (λ count. Gives (reader_in captures captures.start 0 (S.shown source.old)) (reader_in captures (captures_due count) 7 (S.shown source.new)) [])
+        (Halts (reader_in captures captures.start 0 (S.shown source.old)) (S.shown source.new)) }
+    ensures later { IsLater (S.shown source.old) (S.shown source.new) }
+{
+    let limits = Limits {
+        width: 2,
+        least: 0,
+        most: 65535,
+        kind: Kind::BadLength,
+    };
+    match ht_heads::start(source, b"LGCP", &limits) {
+        Ok(count) => Ok(count as u16),
+        Err(fault) => Err(fault),
+    }
+}
+
+/// Reads what stands in front of the symbols of the next frame, where frames are left.
+pub fn frame_front<S: Source>(source: &mut S, at: u64) -> Result<Front, InFault>
+    requires room { at + 107 < 2 ^ 64 }
+    ensures told { (left : ℕ) → 0 < left → MatchResult result
+        (λ f. Gives (reader_in captures (captures_due left) at (S.shown source.old))
+        (reader_in captures (symbols_due left (symbols_of f.rate f.length)) (at + 107) (S.shown source.new))
+        (Begins (record { rate = f.rate; length = f.length; diagonals = diagonals_of f.diagonals }) ∷ []))
+        (Halts (reader_in captures (captures_due left) at (S.shown source.old)) (S.shown source.new)) }
+    ensures some { IfOk result (λ f. 1 ≤ f.length) }
+    ensures few { IfOk result (λ f. f.length ≤ 4095) }
+    ensures later { IsLater (S.shown source.old) (S.shown source.new) }
+{
+    let rate = match rate(source, at) {
+        Ok(rate) => rate,
+        Err(fault) => return Err(fault),
+    };
+    let length = match length(source, at + 1) {
+        Ok(length) => length,
+        Err(fault) => return Err(fault),
+    };
+    let mut diagonals = [0u8; DIAGONALS];
+    match fill(source, at + 3, &mut diagonals) {
+        Ok(()) => Ok(Front {
+            rate,
+            length,
+            diagonals,
+        }),
+        Err(fault) => Err(fault),
+    }
+}

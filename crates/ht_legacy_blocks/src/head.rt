@@ -1,0 +1,24 @@
+//! The head of a frame, as a receiver has it.
+ghost use Rattle.std.specs.Prelude.{◌≡◌, ◌↔◌, IsTrue};
+
+use ht_clause18::LegacyRate;
+
+/// The head of a clause 18 frame in a capture.
+#[derive(Clone, Copy, Debug, PartialEq, Eq)]
+pub struct LegacyFrameHead {
+    /// The frame's number in the capture, counted from 0.
+    pub frame: u16,
+    /// Its rate.
+    pub rate: LegacyRate,
+    /// The octets of its PSDU, 1 to 4095.
+    pub length: u16,
+}
+
+impl LegacyFrameHead {
+    // Whether both heads are the same, as `==` says too.
+    pub(crate) fn same(&self, other: &LegacyFrameHead) -> bool
+        ensures { IsTrue result ↔ (self.now ≡ other.now) }
+    {
+        *self == *other
+    }
+}

@@ -1,0 +1,51 @@
+-- The codeword of a frame.
+use Rattle.std.proofs.Common.{◌≡◌, ℕ, ◌+◌, ◌*◌, ◌≤◌, List, map, length, take, Bool, Option, sym, ap, ◌∙◌}
+use Rattle.std.proofs.lemmas.List.{length-map}
+use Rattle.std.proofs.lemmas.List.FromFn.{length-map-range_with_len}
+use Rattle.ht_rate.specs.declared.kinds.Pattern.{Pattern}
+use Rattle.ht_conv.specs.Puncturing.{sent_count}
+use Rattle.ht_viterbi.specs.declared.codeword.Codeword.{Codeword}
+use Rattle.ht_viterbi.specs.declared.received_bit.ReceivedBit.{ReceivedBit}
+use Rattle.ht_viterbi.specs.Inputs.{IsDecoded, distance, place_cost, tail}
+use Rattle.ht_viterbi.specs.Received.{known_of}
+use Rattle.ht_inverse.specs.declared.decoded.Decoded.{Decoded}
+use Rattle.ht_inverse.specs.declared.outcome.Outcome.{Outcome}
+use Rattle.ht_inverse.specs.Decoding.{outcome_of}
+use Rattle.ht_inverse.proofs.Codewords.{cheapest-answer}
+use Rattle.ht_clause18.specs.declared.rates.LegacyRate.{LegacyRate}
+use Rattle.ht_clause18.specs.Rates.{needed_bits, pattern_of}
+use Rattle.ht_legacy_inverse.specs.Decoding.{input_of, legacy_decoded_frame, scrambled_bits}
+use Rattle.ht_legacy_inverse.specs.Places.{IsCodewordOf}
+use Rattle.ht_legacy_inverse.specs.Received.{received_at, received_of}
+
+-- a received list has a place for each bit that is kept of the codeword's steps
+pub received-length : (r : LegacyRate) (octets steps : ℕ) (labels : List ℕ) (p : Pattern) (bits : List ReceivedBit) → steps ≡ needed_bits octets
+    → p ≡ pattern_of r
+    → map known_of bits ≡ received_of r octets labels → length bits ≡ sent_count p steps
+unfolding received_of
+received-length r octets steps labels p bits steps_are p_is are =
+    sym (length-map bits known_of)
+    ∙ (ap (λ (xs : List (Option Bool)). length xs) are
+    ∙ (length-map-range_with_len (received_at r labels) 0 (sent_count (pattern_of r) (needed_bits octets))
+    ∙ sym (ap (λ (q : Pattern). sent_count q steps) p_is ∙ ap (λ (n : ℕ). sent_count (pattern_of r) n) steps_are)))
+
+-- what is decoded is the codeword of the frame
+pub codeword-is : (r : LegacyRate) (octets steps : ℕ) (labels : List ℕ) (p : Pattern) (received : List (Option Bool)) (c : Codeword)
+    → steps ≡ needed_bits octets → p ≡ pattern_of r → received ≡ received_of r octets labels → tail ≤ steps
+    → IsDecoded steps p received c.input → c.distance ≡ distance p received c.input → IsCodewordOf r octets labels c
+unfolding input_of legacy_decoded_frame
+codeword-is r octets steps labels p received c steps_are p_is received_is some is far =
+    let answer = cheapest-answer place_cost steps (needed_bits octets) p (pattern_of r) received (received_of r octets labels) c.input c.distance
+    steps_are p_is received_is some is far in
+    record { input = answer.0; distance = answer.1 }
+
+-- and its bits in front of the tail come to the frame
+pub frame-is : (r : LegacyRate) (octets : ℕ) (labels : List ℕ) (c : Codeword) (outcome : Outcome) (frame : Decoded) → IsCodewordOf r octets labels c
+    → outcome ≡ outcome_of (take (16 + 8 * octets) c.input) → frame ≡ record { outcome = outcome; code = c.distance }
+    → frame ≡ legacy_decoded_frame r octets labels
+unfolding legacy_decoded_frame scrambled_bits
+frame-is r octets labels c outcome frame is comes made =
+    let of_parts : Outcome → ℕ → Decoded = λ o n. record { outcome = o; code = n } in
+    made
+    ∙ (ap (λ o. of_parts o c.distance) (comes ∙ ap (λ (u : List Bool). outcome_of (take (16 + 8 * octets) u)) is.input)
+    ∙ ap (λ n. of_parts (outcome_of (scrambled_bits r octets labels)) n) is.distance)

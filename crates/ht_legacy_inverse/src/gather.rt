@@ -1,0 +1,92 @@
+//! The received list of a frame.
+ghost use Rattle.std.specs.Prelude.{◌≡◌, ◌*◌, ◌<◌, ◌≤◌, ◌==◌, IfOk, Some, length, map};
+ghost use Rattle.std.specs.Int.{bit_at};
+ghost use Rattle.ht_clause18.specs.Rates.{coded_bits_of, needed_bits, pattern_of, symbols_of};
+ghost use Rattle.ht_conv.specs.Puncturing.{sent_count};
+ghost use Rattle.ht_viterbi.specs.Received.{known_of};
+ghost use Rattle.ht_legacy_inverse.specs.Places.{AreLabelPlaces};
+ghost use Rattle.ht_legacy_inverse.specs.Received.{labels_in_frame, received_at, received_of};
+
+use crate::label_place::LabelPlace;
+use crate::places::label_places;
+use ht_clause18::LegacyRate;
+use ht_conv::sent;
+use ht_viterbi::ReceivedBit;
+use std::alloc::{AllocError, Global};
+
+// The labels of a symbol.
+const LABELS: usize = 48;
+
+// The bits of SERVICE and of the tail.
+const FRAMING: u32 = 22;
+
+/// The steps of a frame's codeword: SERVICE, the octets and the tail.
+pub(crate) fn steps(octets: u16) -> u32
+    ensures value { result ≡ needed_bits octets }
+{
+    FRAMING + 8 * u32::from(octets)
+}
+
+// The bit that a label has at a place.
+#[inline(always)]
+fn bit_of(label: u8, place: LabelPlace) -> ReceivedBit
+    requires { place.shift < 8 }
+    ensures { known_of result ≡ Some (bit_at label place.shift == 1) }
+{
+    if label >> place.shift & 1 == 1 {
+        ReceivedBit::One
+    } else {
+        ReceivedBit::Zero
+    }
+}
+
+// Coded bit `q` of a frame with this number of symbols.
+#[inline(always)]
+fn coded_bit(
+    rate: LegacyRate,
+    places: &[LabelPlace; 288],
+    labels: &[u8],
+    symbols: u32,
+    q: usize,
+) -> ReceivedBit
+    requires places { AreLabelPlaces rate places.now }
+    requires labels { length labels.now ≡ symbols * 48 }
+    requires within { q < symbols * coded_bits_of rate }
+    ensures { known_of result ≡ received_at rate labels.now q }
+{
+    let size = usize::from(rate.coded_bits());
+    let place = places[q % size];
+    bit_of(
+        labels[q / size * LABELS + usize::from(place.carrier)],
+        place,
+    )
+}
+
+// The coded bits of a frame's codeword, which its symbols hold.
+fn coded_bits(rate: LegacyRate, octets: u16) -> usize
+    ensures value { result ≡ sent_count (pattern_of rate) (needed_bits octets) }
+    ensures within { result ≤ symbols_of rate octets * coded_bits_of rate }
+{
+    sent(rate.pattern(), steps(octets)) as usize
+}
+
+/// The received list of a frame. The only refusal is lack of memory.
+pub(crate) fn received(
+    alloc: Global,
+    rate: LegacyRate,
+    octets: u16,
+    labels: &[u8],
+) -> Result<Vec<ReceivedBit>, AllocError>
+    requires octets { (1 ≤ octets) × (octets ≤ 4095) }
+    requires labels { length labels.now ≡ labels_in_frame rate octets }
+    ensures { IfOk result (λ bits. map known_of bits.items ≡ received_of rate octets labels.now) }
+{
+    let places = label_places(rate);
+    let symbols = rate.symbols(octets);
+    let count = coded_bits(rate, octets);
+    let mut bits = Vec::with_capacity(alloc, count)?;
+    for q in 0..count {
+        bits.push_reserved(coded_bit(rate, &places, labels, symbols, q));
+    }
+    Ok(bits)
+}

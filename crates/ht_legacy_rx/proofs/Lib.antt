@@ -1,0 +1,7 @@
+pub mod Indices
+pub mod Framed
+pub mod Rising
+pub mod Frames
+pub mod Folded
+pub mod Taking
+pub mod Telling

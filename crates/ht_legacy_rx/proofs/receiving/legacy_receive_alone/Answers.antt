@@ -1,0 +1,17 @@
+use Rattle.std.proofs.Common.{◌≡◌, rules, Err, sym, subst}
+use Rattle.ht_runs.specs.Formats.{filter}
+use Rattle.ht_runs.specs.Streamed.{Streamed}
+use Rattle.ht_runs.specs.declared.faults.RunFault.TheVariants.{NoMemory}
+use Rattle.ht_endings.specs.Endings.{HasFrames}
+use Rattle.ht_legacy_captures.specs.Formats.{captures}
+use Rattle.ht_legacy_rx.specs.Texts.{legacy_items, legacy_lines_of, legacy_text}
+use Rattle.ht_legacy_rx.proofs.Telling.{nothing_put}
+use Rattle.ht_legacy_rx.proofs.receiving.legacy_receive_alone.Goals as goal
+
+pub returns-in_err-reader-clause-receives : goal.returns-in_err-reader-clause-receives
+returns-in_err-reader-clause-receives g c =
+    let source = g.S.Source.shown c.args.source.now in
+    let sink = g.K.Sink.shown c.args.sink.now in
+    let is : c.from_residual.result ≡ Err NoMemory = search rules in
+    subst (λ r. Streamed (filter captures legacy_text legacy_lines_of) source source sink sink (HasFrames captures legacy_items) r) (sym is)
+    (nothing_put legacy_lines_of source sink)

@@ -1,0 +1,5 @@
+pub mod Results
+pub mod Folding
+pub mod Texts
+pub mod Frames
+pub mod Telling

@@ -1,0 +1,29 @@
+//! Captures of clause 18 frames received: a result and a line for each frame.
+//!
+//! An [`OpenLegacyFrame`] takes what a detector found for the jobs of a frame, one after another: the distances go into a
+//! sum of data subcarriers and one of pilots, and the label of each data subcarrier on its place. With the last job it
+//! gives a [`WholeLegacyFrame`], whose labels `ht_legacy_inverse` decodes (IEEE Std 802.11-2012, clause 18.3.5 backwards).
+//!
+//! What the frames of a list of octets come to is a definition over the octets alone: `legacy_results_of`, and with their
+//! lines and the last line `legacy_text`, in `specs/Texts.antt`. It looks labels up place by place; the module [`laws`] says
+//! that the jobs of a capture, one after another, come to the same.
+//!
+//! A capture of one frame at 6 Mbit/s with the octet a5, sent with seed 127 over samples that are exactly its points, has
+//! the text
+//!
+//! ```text
+//! frame 0 data 0 pilot 0 code 0 octets a5
+//! end 1 frames
+//! ```
+#![tactic(auto)]
+
+pub mod laws;
+mod open_frame;
+mod receiving;
+#[cfg(test)]
+mod tests;
+mod whole_frame;
+
+pub use open_frame::OpenLegacyFrame;
+pub use receiving::{legacy_receive, legacy_receive_alone};
+pub use whole_frame::WholeLegacyFrame;

@@ -1,0 +1,66 @@
+//! A frame whose last job came.
+ghost use Rattle.std.specs.Prelude.{◌≡◌};
+ghost use Rattle.ht_legacy_rx.specs.Frames.{HasLabels};
+ghost use Rattle.ht_legacy_rx.specs.Results.{result_of};
+
+use crate::open_frame::OpenLegacyFrame;
+use ht_frames::WholeFrame;
+use ht_inverse::Decoded;
+use ht_legacy_inverse::legacy_decode_frame;
+use ht_results::FrameResult;
+use std::alloc::{AllocError, Global};
+use std::marker::Model;
+
+/// A frame whose last job came: all of its labels are there, and it can be decoded.
+#[derive(Drop)]
+pub struct WholeLegacyFrame {
+    frame: OpenLegacyFrame,
+}
+
+impl Model for WholeLegacyFrame {
+    ghost use Rattle.ht_legacy_rx.specs.Frames.{HasLabels};
+    ghost use Rattle.ht_legacy_rx.specs.Results.{LegacySoFar};
+
+    ghost Value = { LegacySoFar };
+
+    ghost view = { λ w. w.frame };
+
+    ghost invariant = { λ w. HasLabels w.frame };
+}
+
+impl WholeLegacyFrame {
+    /// A frame whose last job came.
+    pub(crate) fn new(frame: OpenLegacyFrame) -> WholeLegacyFrame
+        requires { HasLabels frame }
+        ensures { result ≡ frame }
+    {
+        WholeLegacyFrame { frame }
+    }
+}
+
+impl WholeFrame for WholeLegacyFrame {
+    type Result = FrameResult;
+
+    ghost result_of = { result_of };
+
+    fn octets(&self) -> u16 {
+        self.frame.head.length
+    }
+
+    fn decode(&self, alloc: Global) -> Result<FrameResult, AllocError> {
+        let head = &self.frame.head;
+        let Decoded { outcome, code } = legacy_decode_frame(
+            alloc,
+            head.rate,
+            head.length,
+            &self.frame.labels,
+        )?;
+        Ok(FrameResult {
+            frame: head.frame,
+            data_sum: self.frame.data_sum,
+            pilot_sum: self.frame.pilot_sum,
+            code,
+            outcome,
+        })
+    }
+}

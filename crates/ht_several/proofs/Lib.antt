@@ -1,0 +1,5 @@
+pub mod Ending
+pub mod Several
+pub mod Texts
+pub mod Converting
+mod Worked

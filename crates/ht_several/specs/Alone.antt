@@ -1,0 +1,66 @@
+-- What is said of one capture among several: its own source and its own sink, before and after, and nothing of another capture.
+use Rattle.std.specs.Prelude.{◌≡◌, ◌⊎◌, ℕ, List, Result, Ok, Err, MatchResult}
+use Rattle.ht_io.specs.Devices.{Device, Grows, GrowsByPart, Rose}
+use Rattle.ht_io.specs.Kinds.{name_of}
+use Rattle.ht_capture.specs.Captures.{capture_of}
+use Rattle.ht_capture.specs.Fields.{captures}
+use Rattle.ht_results.specs.Texts.{frame_lines_of, frames_of, rx_text}
+use Rattle.ht_runs.specs.Outcomes.{TellsBroken, TellsPieces, TellsRefused, TellsWhole}
+use Rattle.ht_runs.specs.declared.faults.StopFault.{StopFault}
+use Rattle.ht_runs.specs.declared.faults.StopFault.TheVariants.{Read as StopRead, Write as StopWrite, NoMemory as StopMemory}
+use Rattle.ht_feed.specs.declared.ended.Ended.{Ended}
+use Rattle.ht_feed.specs.declared.ended.Ended.TheVariants.{Done as EndedDone, Refused as EndedRefused}
+use Rattle.ht_text.specs.Lines.{end_text, refused_text}
+use Rattle.ht_several.specs.declared.many_end.ManyEnd.{ManyEnd}
+use Rattle.ht_several.specs.declared.many_end.ManyEnd.TheVariants.{Done, Refused, Read, Write}
+
+-- a capture has this number of frames
+abbrev pub HasFrames : ℕ → List ℕ → Type 0
+HasFrames frames octets = frames ≡ frames_of (capture_of octets).items
+
+-- the source of a capture, and the sink that its text is put into, before and after
+module _ (source source' sink sink' : Device ℕ) where
+  -- a part of the text of what was taken was put
+  abbrev pub PutsPart : Type 0
+  PutsPart = TellsPieces captures rx_text source source' sink sink'
+
+  -- Done: all octets that were left are a capture of this number of frames, and its text was put. Refused: the octets taken
+  -- end with the first fault, and their text was put, the line of the fault at its end. Read: the source failed behind a
+  -- capture or a front of one, and the lines of its whole frames were put. Write: the sink failed, and a part of the text
+  -- was put.
+  abbrev pub Alone : ManyEnd → Type 0
+  Alone (Done frames) = TellsWhole captures rx_text source source' sink sink' (HasFrames frames)
+  Alone (Refused fault) = TellsRefused captures rx_text source source' sink sink' fault
+  Alone Read = TellsBroken captures frame_lines_of source source' sink sink' × Rose source source'
+  Alone Write = PutsPart × Rose sink sink'
+
+-- the lines of a capture were put, and this was answered: what was taken, and the sink behind them
+abbrev pub Heard : Device ℕ → Device ℕ → Device ℕ → Device ℕ → Result Ended StopFault → Type 0
+Heard source source' sink sink' (Ok (EndedDone frames jobs)) = TellsWhole captures frame_lines_of source source' sink sink' (HasFrames frames)
+Heard source source' sink sink' (Ok (EndedRefused fault)) = TellsRefused captures frame_lines_of source source' sink sink' fault
+Heard source source' sink sink' (Err StopRead) = TellsBroken captures frame_lines_of source source' sink sink' × Rose source source'
+Heard source source' sink sink' (Err StopWrite) = TellsPieces captures frame_lines_of source source' sink sink' × Rose sink sink'
+Heard source source' sink sink' (Err StopMemory) = TellsPieces captures frame_lines_of source source' sink sink'
+
+-- the whole text of the capture was put
+abbrev pub HasText : ManyEnd → Type 0
+HasText (Done frames) = Unit {0}
+HasText (Refused fault) = Unit {0}
+HasText Read = ⊥
+HasText Write = ⊥
+
+-- the last line was put, and the capture ends so; or a part of it was, by a sink that failed
+abbrev pub PutsLast : List ℕ → ManyEnd → Device ℕ → Device ℕ → ManyEnd → Type 0
+PutsLast line then sink sink' end = ((end ≡ then) × Grows sink sink' line) ⊎ ((end ≡ Write) × GrowsByPart sink sink' line × Rose sink sink')
+
+-- the same, or nothing was put, without memory for the line
+abbrev pub PutsLastLine : {E : Type 0} → List ℕ → ManyEnd → Device ℕ → Device ℕ → Result ManyEnd E → Type 0
+PutsLastLine line then sink sink' result = MatchResult result (PutsLast line then sink sink') (λ lack. sink' ≡ sink)
+
+-- how a capture ends whose receiving answered this, and the last line, where one is to be put
+abbrev pub Finishes : {E : Type 0} → Result Ended StopFault → Device ℕ → Device ℕ → Result ManyEnd E → Type 0
+Finishes (Ok (EndedDone frames jobs)) sink sink' result = PutsLastLine (end_text frames) (Done frames) sink sink' result
+Finishes (Ok (EndedRefused fault)) sink sink' result = PutsLastLine (refused_text (name_of fault.kind) fault.offset) (Refused fault) sink sink' result
+Finishes (Err StopRead) sink sink' result = MatchResult result (λ end. (end ≡ Read) × (sink' ≡ sink)) (λ lack. ⊥)
+Finishes (Err StopWrite) sink sink' result = MatchResult result (λ end. (end ≡ Write) × (sink' ≡ sink)) (λ lack. ⊥)
+Finishes (Err StopMemory) sink sink' result = MatchResult result (λ end. ⊥) (λ lack. sink' ≡ sink)

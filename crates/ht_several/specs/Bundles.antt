@@ -1,0 +1,27 @@
+-- What the command `many` writes for a bundle.
+use Rattle.std.specs.Prelude.{◌≡◌, ℕ, ◌+◌, List, [], ◌∷◌, ◌++◌, map}
+use Rattle.ht_bundles.specs.Files.{AreCaptures, bundle_of}
+use Rattle.ht_bundles.specs.Formats.{bundles}
+use Rattle.ht_results.specs.Texts.{rx_text}
+use Rattle.ht_runs.specs.Filters.{Conversion, WithinOutput}
+use Rattle.ht_runs.specs.Formats.{conversion}
+use Rattle.ht_text.specs.Lines.{capture_text}
+
+-- the line `capture K` and behind it a text, for each text, numbered from a number on
+abbrev pub texts_from : ℕ → List (List ℕ) → List ℕ
+texts_from number [] = []
+texts_from number (text ∷ texts) = (capture_text number ++ text) ++ texts_from (number + 1) texts
+
+-- the text of the captures of a bundle
+unfoldable pub many_text : List (List ℕ) → List ℕ
+many_text captures = texts_from 0 (map rx_text captures)
+
+-- a bundle of captures, and what is written of it
+abbrev pub ReceivesTo : List ℕ → List ℕ → Type 0
+ReceivesTo octets output =
+    (captures : List (List ℕ)) × AreCaptures captures × (octets ≡ bundle_of captures) × (output ≡ many_text captures)
+
+-- A bundle is read, and put is the text of its captures. Memory is also taken while it is put, for the lines between them:
+-- where it runs out then, a part was put.
+abbrev pub receiving : Conversion
+receiving = conversion bundles WithinOutput ReceivesTo

@@ -1,0 +1,155 @@
+//! A bundle of captures, received.
+ghost use Rattle.std.specs.Prelude.{◌≡◌, ◌≢◌, ◌⊎◌, ℕ, ◌+◌, ◌<◌, ◌≤◌, [], ◌++◌, length, map, replicate, slice_index_or, Err, IfOk, IfErr, OnErr, OnOk};
+ghost use Rattle.std.specs.Bool.{OnTrue};
+ghost use Rattle.ht_io.specs.Devices.{Grows, GrowsByPart, IsLater, Rose};
+ghost use Rattle.ht_io.specs.Writing.{Growing};
+ghost use Rattle.ht_bundles.specs.Files.{AreCaptures};
+ghost use Rattle.ht_results.specs.Texts.{rx_text};
+ghost use Rattle.ht_runs.specs.Converted.{Converted};
+ghost use Rattle.ht_runs.specs.Filters.{SaysNothing};
+ghost use Rattle.ht_runs.specs.declared.faults.RunFault.TheVariants.{NoMemory, Write};
+ghost use Rattle.ht_text.specs.Lines.{capture_text};
+ghost use Rattle.ht_several.specs.declared.many_end.ManyEnd.TheVariants.{Read as ReadEnd};
+ghost use Rattle.ht_several.specs.Alone.{HasText};
+ghost use Rattle.ht_several.specs.Bundles.{receiving, texts_from};
+
+use crate::calls::each;
+use crate::many_end::ManyEnd;
+use crate::receiving::Receiving;
+use ht_bundles::{Bundled, read_bundle};
+use ht_io::{GrowSink, Sink, Source, SureSource};
+use ht_runs::RunFault;
+use ht_text::capture_line;
+use std::alloc::{AllocError, Global};
+
+/// A source of the octets of each capture. The only error is lack of memory.
+pub fn sources_of(alloc: Global, captures: Vec<Bundled>) -> Result<Vec<SureSource>, AllocError>
+    ensures { IfOk result (λ sources. sources.items ≡ captures.items) }
+{
+    let mut sources = Vec::new(alloc);
+    for capture in captures {
+        match sources.push(SureSource::new(capture.into_octets())) {
+            Ok(()) => {}
+            Err(_) => return Err(AllocError),
+        }
+    }
+    Ok(sources)
+}
+
+/// This many sinks that hold nothing. The only error is lack of memory.
+pub fn sinks_of(alloc: Global, count: usize) -> Result<Vec<GrowSink>, AllocError>
+    ensures { IfOk result (λ sinks. sinks.items ≡ replicate count (record { held = []; faults = 0 })) }
+{
+    let mut sinks = Vec::new(alloc);
+    for _index in 0..count {
+        match sinks.push(GrowSink::new(alloc)) {
+            Ok(()) => {}
+            Err(_) => return Err(AllocError),
+        }
+    }
+    Ok(sinks)
+}
+
+// Whether a capture's whole text was put.
+fn has_text(end: &ManyEnd) -> bool
+    ensures { OnTrue result (HasText end.now) }
+{
+    match end {
+        ManyEnd::Done(_) | ManyEnd::Refused(_) => true,
+        ManyEnd::Read | ManyEnd::Write => false,
+    }
+}
+
+/// Whether the whole text of each capture was put.
+pub fn have_text(ends: &[ManyEnd]) -> bool
+    ensures { OnTrue result ((k : ℕ) → k < length ends.now → HasText (slice_index_or ends.now k ReadEnd)) }
+{
+    for at in 0..ends.len() {
+        if !has_text(&ends[at]) {
+            return false;
+        }
+    }
+    true
+}
+
+// The text of each capture. These sources never fail, and these sinks only for lack of memory.
+fn texts<W: Receiving>(
+    alloc: Global,
+    work: &W,
+    captures: Vec<Bundled>,
+) -> Result<Vec<GrowSink>, AllocError>
+    ensures { IfOk result (λ sinks. map (λ (s : Growing). s.held) sinks.items ≡ map rx_text captures.items) }
+{
+    let count = captures.len();
+    let mut sources = match sources_of(alloc, captures) {
+        Ok(sources) => sources,
+        Err(lack) => return Err(lack),
+    };
+    let mut sinks = match sinks_of(alloc, count) {
+        Ok(sinks) => sinks,
+        Err(lack) => return Err(lack),
+    };
+    let ends = match each(alloc, work, &mut sources, &mut sinks) {
+        Ok(ends) => ends,
+        Err(lack) => return Err(lack),
+    };
+    if have_text(&ends) {
+        Ok(sinks)
+    } else {
+        Err(AllocError)
+    }
+}
+
+// Puts the line `capture K`, and behind it the capture's text.
+fn put_text<K: Sink>(alloc: Global, number: u8, text: &[u8], sink: &mut K) -> Result<(), RunFault>
+    ensures grown { OnOk result (Grows (K.shown sink.old) (K.shown sink.new) (capture_text number ++ text.now)) }
+    ensures steady { OnOk result ((K.shown sink.new).faults ≡ (K.shown sink.old).faults) }
+    ensures part { OnErr result (GrowsByPart (K.shown sink.old) (K.shown sink.new) (capture_text number ++ text.now)) }
+    ensures cause { IfErr result (λ fault. ((fault ≡ Write) × Rose (K.shown sink.old) (K.shown sink.new))
+        ⊎ ((fault ≡ NoMemory) × ((K.shown sink.new).faults ≡ (K.shown sink.old).faults))) }
+    ensures later { IsLater (K.shown sink.old) (K.shown sink.new) }
+{
+    let line = capture_line(alloc, number)?;
+    sink.put(&line)?;
+    sink.put(text)?;
+    Ok(())
+}
+
+/// Puts the line `capture K` and behind it the text that a sink holds, for each of at most 255 sinks.
+///
+/// `Write` comes exactly where the sink failed, and `NoMemory` where a line found no room: then a part was put.
+pub fn put_texts<K: Sink>(alloc: Global, texts: &[GrowSink], sink: &mut K) -> Result<(), RunFault>
+    requires few { length texts.now ≤ 255 }
+    ensures grown { OnOk result (Grows (K.shown sink.old) (K.shown sink.new) (texts_from 0 (map (λ (s : Growing). s.held) texts.now))) }
+    ensures steady { OnOk result ((K.shown sink.new).faults ≡ (K.shown sink.old).faults) }
+    ensures part { OnErr result (GrowsByPart (K.shown sink.old) (K.shown sink.new) (texts_from 0 (map (λ (s : Growing). s.held) texts.now))) }
+    ensures cause { IfErr result (λ fault. ((fault ≡ Write) × Rose (K.shown sink.old) (K.shown sink.new))
+        ⊎ ((fault ≡ NoMemory) × ((K.shown sink.new).faults ≡ (K.shown sink.old).faults))) }
+    ensures later { IsLater (K.shown sink.old) (K.shown sink.new) }
+{
+    for at in 0..texts.len() {
+        let text = texts[at].held();
+        put_text(alloc, at as u8, text, sink)?;
+    }
+    Ok(())
+}
+
+/// Reads a bundle of captures (HTMB) to its end, receives each, and puts for each the line `capture K` and what the
+/// command `rx` writes for it, the line of a fault at its end where it has one.
+///
+/// Nothing is put before the last capture was received. `Format` comes at the first fault of the bundle, and `Read`
+/// where the source failed before any fault; what a capture holds is no fault of the bundle. `Write` comes exactly
+/// where the sink failed, and `NoMemory` also within the output: in both cases a part of the text was put.
+pub fn receive_bundle<W: Receiving, S: Source, K: Sink>(
+    alloc: Global,
+    work: &W,
+    source: &mut S,
+    sink: &mut K,
+) -> Result<(), RunFault>
+    ensures converts { Converted receiving (S.shown source.old) (S.shown source.new) (K.shown sink.old) (K.shown sink.new) SaysNothing result }
+    ensures writes { result ≢ Err Write → (K.shown sink.new).faults ≡ (K.shown sink.old).faults }
+{
+    let captures = read_bundle(alloc, source)?;
+    let texts = texts(alloc, work, captures)?;
+    put_texts(alloc, &texts, sink)
+}

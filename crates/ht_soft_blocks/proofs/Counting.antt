@@ -1,0 +1,176 @@
+-- How many halves a job has, and which one stands where.
+use Rattle.std.proofs.Common.{◌≡◌, Bool, ℕ, zero, suc, ◌+◌, ◌*◌, ◌/◌, ◌%◌, ◌<◌, ◌≤◌, ◌==◌, List, length, replicate, refl, sym, ap, subst, ◌∙◌, arith}
+use Rattle.std.specs.Prelude.{Some, slice_get, option_map}
+use Rattle.std.specs.List.{AllByRecursion, flat_map, range_with_len}
+use Rattle.std.proofs.Math.Nat.{div-add-mod, div-lt_iff_lt-mul, mod-lt, mul_assoc, mul_comm}
+use Rattle.ht_rate.specs.declared.kinds.Carrier.{Carrier}
+use Rattle.ht_rate.specs.declared.kinds.Carrier.TheVariants.{Data, Pilot}
+use Rattle.ht_rate.specs.declared.kinds.Modulation.{Modulation}
+use Rattle.ht_rate.specs.declared.rates.Rate.{Rate}
+use Rattle.ht_rate.specs.Carriers.{carrier_of}
+use Rattle.ht_rate.specs.Rates.{label_bits_of, modulation_of, streams_of}
+use Rattle.std.proofs.lemmas.List.{length-replicate}
+use Rattle.ht_rate.specs.Schemes.{bits_of}
+use Rattle.ht_rate.proofs.RateFacts.{streams_of-range}
+use Rattle.ht_pam.specs.declared.axes.Axes.{Axes}
+use Rattle.ht_map.specs.Constellation.{axes_of, grid_of}
+use Rattle.ht_capture.specs.Frames.{grid_at, grid_for}
+use Rattle.ht_capture_laws.proofs.Lists.{all_append, length-flat}
+use Rattle.ht_metric.specs.Jobs.{JobView}
+use Rattle.ht_metric.specs.Rows.{Row}
+use Rattle.ht_metric.specs.declared.place.Place.{Place}
+use Rattle.ht_soft.specs.Halves.{half_of}
+use Rattle.ht_soft_blocks.specs.Blocks.{IsOfRate}
+use Rattle.ht_soft_blocks.specs.Halved.{halves_of, halves_of_bit, halves_of_data, halves_of_stream, halves_on, with_number}
+use Rattle.ht_soft_blocks.proofs.Lists.{get_flat}
+
+length_stream : (rate : Rate) (job : JobView) (stream : ℕ) → length (halves_of_stream rate job stream) ≡ label_bits_of rate * 2
+length_stream rate job stream = length-flat (halves_of_bit (modulation_of rate) job stream) 2 0 (label_bits_of rate) (λ bit. refl)
+
+pub length_data : (rate : Rate) (job : JobView) → length (halves_of_data rate job) ≡ streams_of rate * (label_bits_of rate * 2)
+length_data rate job = length-flat (halves_of_stream rate job) (label_bits_of rate * 2) 1 (streams_of rate) (length_stream rate job)
+
+-- what the halves of a job are, by its subcarrier
+pub halves_at : (rate : Rate) (c : Carrier) (carrier : ℕ) (job : JobView) → c ≡ carrier_of rate carrier → job.place.carrier ≡ carrier
+    → halves_of rate job ≡ halves_on c rate job
+unfolding halves_of
+halves_at rate c carrier job is place = ap (λ k. halves_on k rate job) (ap (carrier_of rate) place ∙ sym is)
+
+pub count_data : (rate : Rate) (m carrier streams bits : ℕ) (job : JobView) → Data m ≡ carrier_of rate carrier → job.place.carrier ≡ carrier
+    → streams ≡ streams_of rate → bits ≡ label_bits_of rate → length (halves_of rate job) ≡ 2 * streams * bits
+count_data rate m carrier streams bits job is place streams_is bits_is =
+    ap (λ (js : List JobView). length js) (halves_at rate (Data m) carrier job is place)
+    ∙ (length_data rate job
+    ∙ (ap (λ n. n * (label_bits_of rate * 2)) (sym streams_is)
+    ∙ (ap (λ n. streams * (n * 2)) (sym bits_is) ∙ (sym (mul_assoc streams bits 2) ∙ (mul_comm (streams * bits) 2 ∙ sym (mul_assoc 2 streams bits))))))
+
+pub count_pilot : (rate : Rate) (k carrier : ℕ) (job : JobView) → Pilot k ≡ carrier_of rate carrier → job.place.carrier ≡ carrier → length (halves_of rate job) ≡ 1
+count_pilot rate k carrier job is place = ap (λ (js : List JobView). length js) (halves_at rate (Pilot k) carrier job is place)
+
+-- the same job under another number, made of its parts
+pub remade : (job : JobView) (n : ℕ) (place : Place) (grid : List Axes) (system : List Row) → place ≡ job.place → grid ≡ job.grid → system ≡ job.system
+    → record { number = n; place = place; grid = grid; system = system } ≡ with_number n job
+remade job n place grid system place_is grid_is system_is =
+    let made : Place → List Axes → List Row → JobView = λ p g s. record { number = n; place = p; grid = g; system = s } in
+    ap (λ p. made p grid system) place_is ∙ (ap (λ g. made job.place g system) grid_is ∙ ap (λ s. made job.place job.grid s) system_is)
+
+-- each half has the place of its job
+abbrev pub HasPlace : Place → JobView → Type 0
+HasPlace place job = job.place ≡ place
+
+bits_placed : (rate : Rate) (job : JobView) (stream a n : ℕ)
+    → AllByRecursion (HasPlace job.place) (flat_map (halves_of_bit (modulation_of rate) job stream) (range_with_len a n))
+unfolding half_of
+bits_placed rate job stream a zero = tt
+bits_placed rate job stream a (suc n) = (refl, (refl, bits_placed rate job stream (a + 1) n))
+
+streams_placed : (rate : Rate) (job : JobView) (a n : ℕ) → AllByRecursion (HasPlace job.place) (flat_map (halves_of_stream rate job) (range_with_len a n))
+streams_placed rate job a zero = tt
+streams_placed rate job a (suc n) =
+    all_append (HasPlace job.place) (halves_of_stream rate job a) (flat_map (halves_of_stream rate job) (range_with_len (a + 1) n))
+    (bits_placed rate job a 0 (label_bits_of rate)) (streams_placed rate job (a + 1) n)
+
+on_placed : (c : Carrier) (rate : Rate) (job : JobView) → AllByRecursion (HasPlace job.place) (halves_on c rate job)
+on_placed (Data m) rate job = streams_placed rate job 1 (streams_of rate)
+on_placed (Pilot k) rate job = (refl, tt)
+
+pub all_placed : (rate : Rate) (job : JobView) → AllByRecursion (HasPlace job.place) (halves_of rate job)
+unfolding halves_of
+all_placed rate job = on_placed (carrier_of rate job.place.carrier) rate job
+
+-- the halves of a pilot's job
+pub of_pilot : (rate : Rate) (k carrier : ℕ) (job made : JobView) (at number : ℕ) → Pilot k ≡ carrier_of rate carrier → job.place.carrier ≡ carrier
+    → at < length (halves_of rate job) → made ≡ with_number number job → Some made ≡ option_map (with_number number) (slice_get (halves_of rate job) at)
+of_pilot rate k carrier job made zero number is place within made_is =
+    ap Some made_is ∙ ap (λ (js : List JobView). option_map (with_number number) (slice_get js 0)) (sym (halves_at rate (Pilot k) carrier job is place))
+of_pilot rate k carrier job made (suc at) number is place within made_is =
+    let one = count_pilot rate k carrier job is place in
+    absurd (omega (arith, one, within))
+
+-- a data subcarrier's job has the full grid
+pub full_grid : (rate : Rate) (m : ℕ) (job : JobView) → IsOfRate rate job → Data m ≡ carrier_of rate job.place.carrier → job.grid ≡ grid_of rate
+unfolding grid_at
+full_grid rate m job of is = of.grid ∙ ap (grid_for rate job.place.symbol) (sym is)
+
+-- Bit `bit` of the labels of all streams, counted through, is bit `bit % bits` of stream 1 + bit / bits.
+module _ (rate : Rate) (job : JobView) (at : ℕ) (some : 1 ≤ label_bits_of rate) (within : at < length (halves_of_data rate job)) where
+  pub bit_within : at / 2 < streams_of rate * label_bits_of rate
+  bit_within =
+      let total = length_data rate job in
+      let two = mul_assoc (streams_of rate) (label_bits_of rate) 2 in
+      (div-lt_iff_lt-mul {k = 2} {x = at} {y = streams_of rate * label_bits_of rate} (omega arith)).1 (omega (arith, within, total, two))
+
+  pub stream_within : at / 2 / label_bits_of rate < streams_of rate
+  stream_within = (div-lt_iff_lt-mul {k = label_bits_of rate} {x = at / 2} {y = streams_of rate} (omega (arith, some))).1 bit_within
+
+  pub label_within : at / 2 % label_bits_of rate < label_bits_of rate
+  label_within = mod-lt (at / 2) (omega (arith, some))
+
+-- of the two halves of a bit
+of_bit : (m : Modulation) (job : JobView) (stream bit value : ℕ) → value < 2
+    → slice_get (halves_of_bit m job stream bit) value ≡ Some (half_of m stream bit (value == 1) job.number job)
+of_bit m job stream bit zero less = refl
+of_bit m job stream bit (suc zero) less = refl
+of_bit m job stream bit (suc (suc value)) less = absurd (omega (arith, less))
+
+pub get_half : (rate : Rate) (job : JobView) (at : ℕ) → 1 ≤ label_bits_of rate → at < length (halves_of_data rate job)
+    → slice_get (halves_of_data rate job) at
+    ≡ Some (half_of (modulation_of rate) (1 + at / 2 / label_bits_of rate) (at / 2 % label_bits_of rate) (at % 2 == 1) job.number job)
+get_half rate job at some within =
+    let bits = label_bits_of rate in
+    let stream = at / 2 / bits in
+    let bit = at / 2 % bits in
+    let value = at % 2 in
+    let few : value < 2 = mod-lt at (omega arith) in
+    let label : bit < bits = label_within rate job at some within in
+    let twice : 2 * (at / 2) + value ≡ at = div-add-mod at 2 in
+    let parts : bits * stream + bit ≡ at / 2 = div-add-mod (at / 2) bits in
+    let turned : stream * (bits * 2) ≡ bits * stream * 2 = sym (mul_assoc stream bits 2) ∙ ap (λ n. n * 2) (mul_comm stream bits) in
+    let place : at ≡ stream * (bits * 2) + (bit * 2 + value) = omega (arith, twice, parts, turned) in
+    let zero_on : 0 + bit ≡ bit = omega arith in
+    get_flat (halves_of_stream rate job) (bits * 2) (length_stream rate job) 1 (streams_of rate) stream (bit * 2 + value) at place
+    (omega (arith, few, label)) (stream_within rate job at some within)
+    ∙ (get_flat (halves_of_bit (modulation_of rate) job (1 + stream)) 2 (λ b. refl) 0 bits bit value (bit * 2 + value) refl few label
+    ∙ (ap (λ b. slice_get (halves_of_bit (modulation_of rate) job (1 + stream) b) value) zero_on
+    ∙ of_bit (modulation_of rate) job (1 + stream) bit value few))
+
+-- under another number
+pub renumbered : (m : Modulation) (job : JobView) (stream bit number : ℕ) (value : Bool)
+    → Some (half_of m stream bit value number job) ≡ option_map (with_number number) (Some (half_of m stream bit value job.number job))
+unfolding half_of
+renumbered m job stream bit number value = refl
+
+-- The same in the code's words.
+module _ (rate : Rate) (job : JobView) (at bits : ℕ) (bits_is : bits ≡ label_bits_of rate) (some : 1 ≤ bits) (within : at < length (halves_of_data rate job)) where
+  some_bits : 1 ≤ label_bits_of rate
+  some_bits = omega (arith, some, bits_is)
+
+  pub stream_fits : at / 2 / bits < streams_of rate
+  stream_fits = subst (λ b. at / 2 / b < streams_of rate) (sym bits_is) (stream_within rate job at some_bits within)
+
+  pub stream_few : at / 2 / bits < 4
+  stream_few = let e = stream_fits in let most = (streams_of-range rate).1 in omega (arith, e, most)
+
+  pub label_fits : (m : Modulation) → m ≡ modulation_of rate → at / 2 % bits < bits_of m
+  unfolding label_bits_of
+  label_fits m m_is =
+      subst (λ k. at / 2 % bits < bits_of k) (sym m_is)
+      (subst (λ b. at / 2 % b < bits_of (modulation_of rate)) (sym bits_is) (label_within rate job at some_bits within))
+
+  pub half_is : (made : JobView) (m : Modulation) (number : ℕ) → m ≡ modulation_of rate
+      → made ≡ half_of m (1 + at / 2 / bits) (at / 2 % bits) (at % 2 == 1) number job
+      → Some made ≡ option_map (with_number number) (slice_get (halves_of_data rate job) at)
+  half_is made m number m_is made_is =
+      let in_words : (k : Modulation) (b : ℕ) → JobView = λ k b. half_of k (1 + at / 2 / b) (at / 2 % b) (at % 2 == 1) number job in
+      ap Some (made_is ∙ (ap (λ k. in_words k bits) m_is ∙ ap (λ b. in_words (modulation_of rate) b) bits_is))
+      ∙ (renumbered (modulation_of rate) job (1 + at / 2 / label_bits_of rate) (at / 2 % label_bits_of rate) number (at % 2 == 1)
+      ∙ ap (option_map (with_number number)) (sym (get_half rate job at some_bits within)))
+
+pub grid_long : (rate : Rate) (grid : List Axes) → grid ≡ grid_of rate → length grid ≡ streams_of rate
+unfolding grid_of
+grid_long rate grid is = ap (λ (g : List Axes). length g) is ∙ length-replicate (streams_of rate) (axes_of (modulation_of rate))
+
+pub grid_full : (rate : Rate) (grid : List Axes) (m : Modulation) → grid ≡ grid_of rate → m ≡ modulation_of rate → grid ≡ replicate (length grid) (axes_of m)
+unfolding grid_of
+grid_full rate grid m is m_is =
+    is ∙ (ap (λ n. replicate n (axes_of (modulation_of rate))) (sym (grid_long rate grid is)) ∙ ap (λ k. replicate (length grid) (axes_of k)) (sym m_is))

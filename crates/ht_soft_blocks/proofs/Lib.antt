@@ -1,0 +1,8 @@
+pub mod Lists
+pub mod Numbering
+pub mod Parts
+pub mod Counting
+pub mod Spots
+pub mod Items
+pub mod Giving
+mod Worked

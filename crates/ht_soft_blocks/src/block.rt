@@ -1,0 +1,149 @@
+//! Blocks of halves.
+ghost use Rattle.std.specs.Prelude.{◌≡◌, ◌+◌, ◌*◌, ◌^◌, ◌<◌, ◌≤◌, ◌↔◌, length, take, drop, IfSome, IsTrue};
+ghost use Rattle.ht_capture.specs.Parts.{jobs_of};
+ghost use Rattle.ht_soft_blocks.specs.Blocks.{AreOfRate};
+ghost use Rattle.ht_soft_blocks.specs.Halved.{halves_of_all, numbered_jobs};
+
+use crate::halves::{count_in, half_of_job, spot_of};
+use ht_capture_blocks::CaptureBlock;
+use ht_feed::{Jobs, Shared};
+use ht_metric::{Job, Place};
+use ht_rate::Rate;
+use std::marker::Model;
+
+/// Some of the halves of a block's jobs, which follow one another: at least one, and at most 5,472.
+///
+/// It is a handle of a few words, as the block is. Each half is made when it is asked for.
+#[derive(Debug, Drop)]
+pub struct HalvesBlock {
+    block: CaptureBlock,
+    // The rate of the jobs' frame.
+    rate: Rate,
+    // How many halves of the block's jobs stand in front of these, and how many these are.
+    first: u16,
+    count: u16,
+    // The number of the first one.
+    number: u64,
+}
+
+impl Model for HalvesBlock {
+    ghost use Rattle.std.specs.Prelude.{List};
+    ghost use Rattle.ht_metric.specs.Jobs.{JobView};
+    ghost use Rattle.ht_capture.specs.Parts.{jobs_of};
+    ghost use Rattle.ht_soft_blocks.specs.Blocks.{AreSomeHalves, some_halves};
+
+    ghost Value = { List JobView };
+
+    ghost view = { λ b. some_halves b.rate (jobs_of b.block.block) b.first b.count b.number };
+
+    ghost invariant = { λ b. AreSomeHalves b.rate (jobs_of b.block.block) b.first b.count b.number };
+}
+
+impl HalvesBlock {
+    // All halves of a block of a frame of this rate, numbered from a number on.
+    pub(crate) fn of(block: CaptureBlock, rate: Rate, number: u64) -> HalvesBlock
+        requires rates { AreOfRate rate (jobs_of block.block) }
+        requires some { 1 ≤ length (jobs_of block.block) }
+        requires numbers { number + 48 * length (jobs_of block.block) < 2 ^ 64 }
+        ensures all { result ≡ numbered_jobs number (halves_of_all rate (jobs_of block.block)) }
+        ensures few { length result ≤ 48 * length (jobs_of block.block) }
+    {
+        let count = count_in(&block, &rate);
+        HalvesBlock {
+            block,
+            rate,
+            first: 0,
+            count,
+            number,
+        }
+    }
+
+    /// How many they are, 1 to 5,472.
+    pub fn count(&self) -> u16
+        ensures number { result ≡ length self.now }
+        ensures some { 1 ≤ result }
+    {
+        self.count
+    }
+
+    // The first ones, in another block; or none where it can't be made.
+    pub(crate) fn front(&self, count: u16) -> Option<HalvesBlock>
+        requires some { 1 ≤ count }
+        requires few { count ≤ length self.now }
+        ensures { IfSome result (λ front. front ≡ take count self.now) }
+    {
+        match self.block.copy() {
+            Some(block) => Some(HalvesBlock {
+                block,
+                rate: self.rate,
+                first: self.first,
+                count,
+                number: self.number,
+            }),
+            None => None,
+        }
+    }
+
+    // Those behind the first ones.
+    pub(crate) fn behind(self, count: u16) -> HalvesBlock
+        requires { count < length self }
+        ensures { result ≡ drop count self }
+    {
+        HalvesBlock {
+            first: self.first + count,
+            count: self.count - count,
+            number: self.number + u64::from(count),
+            ..self
+        }
+    }
+}
+
+// Whether both rates are the same, as `==` says too.
+fn same_rate(rate: &Rate, other: &Rate) -> bool
+    ensures { IsTrue result ↔ (rate.now ≡ other.now) }
+{
+    *rate == *other
+}
+
+impl Jobs for HalvesBlock {
+    ghost jobs = { λ b. b };
+
+    fn size(&self) -> u16 {
+        self.count
+    }
+
+    fn place(&self) -> Place {
+        self.place_at(0)
+    }
+
+    #[inline]
+    fn place_at(&self, at: u16) -> Place {
+        let spot = spot_of(&self.block, &self.rate, self.first + at);
+        self.block.place_at(spot.job)
+    }
+
+    #[inline]
+    fn job(&self, at: u16) -> Job {
+        let spot = spot_of(&self.block, &self.rate, self.first + at);
+        half_of_job(
+            &self.rate,
+            &self.block.job(spot.job),
+            spot.behind,
+            self.number + u64::from(at),
+        )
+    }
+}
+
+impl Shared for HalvesBlock {
+    fn same(&self, other: &HalvesBlock) -> bool {
+        self.first == other.first
+            && self.count == other.count
+            && self.number == other.number
+            && same_rate(&self.rate, &other.rate)
+            && self.block.same(&other.block)
+    }
+
+    fn copy(&self) -> Option<HalvesBlock> {
+        self.front(self.count)
+    }
+}

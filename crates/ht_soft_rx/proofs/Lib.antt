@@ -1,0 +1,8 @@
+pub mod Widths
+pub mod Placed
+pub mod Bits
+pub mod Folded
+pub mod Taken
+pub mod Booked
+pub mod Told
+mod Worked

@@ -1,0 +1,114 @@
+-- The lines of frames are told of the halves of a capture's jobs.
+use Rattle.std.proofs.Common.{◌≡◌, ℕ, ◌+◌, List, [], ◌∷◌, ◌++◌, map, Option, None, Some, Result, Ok, Err, refl, ap, ◌∙◌, arith, IfSome}
+use Rattle.std.specs.List.{flat_map}
+use Rattle.ht_io.specs.Devices.{Device, GrowsByPart, IsLater}
+use Rattle.ht_io.proofs.Calls.{grows_by_part-none, takes-none}
+use Rattle.ht_io.specs.declared.faults.FormatFault.{FormatFault}
+use Rattle.ht_fields.specs.Meanings.{Meaning}
+use Rattle.ht_metric.specs.Jobs.{JobView}
+use Rattle.ht_capture.specs.declared.items.FrameHead.{FrameHead}
+use Rattle.ht_capture.specs.declared.items.Item.{Item as CaptureItem}
+use Rattle.ht_capture.specs.declared.items.Item.TheVariants.{Frame, Job, Done}
+use Rattle.ht_capture.specs.Captures.{capture_of}
+use Rattle.ht_capture.specs.Fields.{captures}
+use Rattle.ht_capture_blocks.specs.Captures.{items_of, mapped}
+use Rattle.ht_feed.specs.declared.ended.Ended.{Ended}
+use Rattle.ht_runs.specs.declared.faults.RunFault.{RunFault}
+use Rattle.ht_runs.specs.declared.faults.StopFault.{StopFault}
+use Rattle.ht_runs.specs.Streamed.{PutsPart, Streamed}
+use Rattle.ht_soft_blocks.specs.Readers.{HalvesView, soft_at, soft_means}
+use Rattle.ht_soft_rx.specs.Booking.{PutsLines, booked_in, telling}
+use Rattle.ht_capture_laws.specs.Items.{whole_frames}
+use Rattle.ht_endings.specs.Endings.{HasFrames as BlockFrames, IsTold, PutsEnd, end_as}
+use Rattle.ht_endings.proofs.Endings.{ends}
+use Rattle.ht_feed.specs.Items.{Headed, Item, Begins, One, frames_of as block_frames, headed as block_headed}
+use Rattle.ht_results.specs.Texts.{frames_of, last_line, last_of}
+use Rattle.ht_runs.specs.Formats.{filter, last_text}
+use Rattle.ht_soft_blocks.specs.Halved.{halved, halves_of, in_halves, numbered_items}
+use Rattle.ht_text.specs.Lines.{end_text}
+use Rattle.ht_soft_rx.specs.declared.soft_result.SoftResult.{SoftResult}
+use Rattle.ht_soft_rx.specs.Folding.{Weighing, results_from, taken_of}
+use Rattle.ht_soft_rx.specs.Halved.{HasFrames, halved_items}
+use Rattle.ht_soft_rx.specs.Results.{soft_result, soft_results_of}
+use Rattle.ht_soft_rx.specs.Texts.{soft_line, soft_lines_of, soft_rx_text}
+use Rattle.ht_soft_rx.proofs.Folded.{halves_give}
+
+-- the frames of halves are those of the jobs
+numbered-frames : (n : ℕ) (items : List (Item FrameHead)) → block_frames (numbered_items n items) ≡ block_frames items
+numbered-frames n [] = refl
+numbered-frames n (Begins head ∷ items) = ap (λ (k : ℕ). k + 1) (numbered-frames n items)
+numbered-frames n (One job ∷ items) = numbered-frames (n + 1) items
+
+ones-frames : (jobs : List JobView) (items : List (Item FrameHead)) → block_frames (map One jobs ++ items) ≡ block_frames items
+ones-frames [] items = refl
+ones-frames (job ∷ jobs) items = ones-frames jobs items
+
+halved-frames : (head : FrameHead) (items : List CaptureItem) → block_frames (in_halves head (items_of items)) ≡ frames_of items
+halved-frames head [] = refl
+halved-frames head (Frame next ∷ items) = let e = halved-frames next items in omega (arith, e)
+halved-frames head (Job job ∷ items) = ones-frames (halves_of head.rate job) (in_halves head (items_of items)) ∙ halved-frames head items
+halved-frames head (Done ∷ items) = halved-frames head items
+
+frames_same : (head : FrameHead) (items : List CaptureItem) → block_frames (halved_items head items) ≡ frames_of items
+frames_same head items = numbered-frames 0 (in_halves head (items_of items)) ∙ halved-frames head items
+
+last_is : (fault : Option FormatFault) (frames : ℕ) → last_text fault (end_text frames) ≡ last_of fault frames
+last_is None frames = refl
+last_is (Some fault) frames = refl
+
+text_is : (head : FrameHead) (octets : List ℕ)
+    → soft_lines_of octets ++ last_text (capture_of octets).fault (end_as captures (halved_items head) (capture_of octets).items) ≡ soft_rx_text octets
+unfolding soft_rx_text last_line
+text_is head octets =
+    let fault : Option FormatFault = (capture_of octets).fault in
+    ap (λ (n : ℕ). soft_lines_of octets ++ last_text fault (end_text n)) (frames_same head (capture_of octets).items)
+    ∙ ap (λ (xs : List ℕ). soft_lines_of octets ++ xs) (last_is fault (frames_of (capture_of octets).items))
+
+same_lines : (a b : List ℕ) → capture_of a ≡ capture_of b → soft_lines_of a ≡ soft_lines_of b
+unfolding soft_lines_of soft_results_of
+same_lines a b is = ap (λ (m : Meaning CaptureItem). flat_map soft_line (map soft_result (whole_frames m.items))) is
+
+lines_are : (head : FrameHead) (w : Weighing) (octets : List ℕ) → w.left ≡ 0
+    → flat_map soft_line (results_from w (map taken_of (block_headed head (halved_items head (capture_of octets).items)))) ≡ soft_lines_of octets
+unfolding soft_lines_of
+lines_are head w octets none = ap (λ (rs : List SoftResult). flat_map soft_line rs) (halves_give octets head w none)
+
+pub soft_told : (head : FrameHead) (w : Weighing) → w.left ≡ 0
+    → IsTold captures (halved_items head) head (λ (jobs : List (Headed FrameHead)). flat_map soft_line (results_from w (map taken_of jobs)))
+    soft_rx_text soft_lines_of
+soft_told head w none = record {
+  lined = record { text_is = text_is head; same = same_lines };
+  are = λ octets. lines_are head w octets none;
+}
+
+-- the number of frames is that of the capture
+framed : (head : FrameHead) (source source' sink sink' : Device ℕ) (result : Result ℕ RunFault)
+    → Streamed (filter captures soft_rx_text soft_lines_of) source source' sink sink' (BlockFrames captures (halved_items head)) result
+    → Streamed (filter captures soft_rx_text soft_lines_of) source source' sink sink' HasFrames result
+framed head source source' sink sink' (Ok frames) run = (run.0, run.1 ∙ frames_same head (capture_of run.0.taken).items)
+framed head source source' sink sink' (Err fault) run = run
+
+-- lines were put of all halves, and then the end line
+pub finished : (reader : HalvesView) (head : FrameHead) (source source' sink mid sink' : Device ℕ) (ended_so : Result Ended StopFault)
+    (result : Result ℕ RunFault)
+    → ((octets : List ℕ) → soft_means reader octets ≡ halved head (mapped (capture_of octets))) → soft_at reader ≡ 0
+    → PutsLines reader head source source' sink mid ended_so → IsLater sink mid → PutsEnd ended_so mid sink' result
+    → Streamed (filter captures soft_rx_text soft_lines_of) source source' sink sink' HasFrames result
+finished reader head source source' sink mid sink' ended_so result means at puts later last =
+    framed head source source' sink sink' result
+    (ends captures (halved_items head) head (booked_in soft_line puts.before) soft_rx_text soft_lines_of (soft_told head puts.before puts.idle)
+    soft_means soft_at reader source source' (telling soft_line sink puts.before) (telling soft_line mid puts.after) ended_so sink' result
+    means at refl puts.comes later last)
+
+-- without memory for a reader nothing is taken or put
+none_of : (text_of : List ℕ → List ℕ) (sink : Device ℕ) (known : Option (List ℕ)) → IfSome known (λ all. GrowsByPart sink sink (text_of all))
+none_of text_of sink None = tt
+none_of text_of sink (Some all) = grows_by_part-none sink (text_of all)
+
+pub nothing_put : (text_of : List ℕ → List ℕ) (source sink : Device ℕ) → PutsPart text_of source source sink sink
+nothing_put text_of source sink = record {
+  taken = [];
+  octets = takes-none source;
+  text = grows_by_part-none sink (text_of []);
+  of_all = none_of text_of sink source.known;
+}

@@ -1,0 +1,24 @@
+use Rattle.std.proofs.Common.{◌≡◌, rules, Err, sym, subst}
+use Rattle.ht_runs.specs.Formats.{filter}
+use Rattle.ht_runs.specs.Streamed.{Streamed}
+use Rattle.ht_runs.specs.declared.faults.RunFault.TheVariants.{NoMemory}
+use Rattle.ht_capture.specs.Fields.{captures}
+use Rattle.ht_soft_rx.specs.Halved.{HasFrames}
+use Rattle.ht_soft_rx.specs.Texts.{soft_lines_of, soft_rx_text}
+use Rattle.ht_soft_rx.proofs.Told.{finished, nothing_put}
+use Rattle.ht_soft_rx.proofs.receiving.receive_soft.Goals as goal
+
+pub returns-in_err-reader-clause-streams : goal.returns-in_err-reader-clause-streams
+returns-in_err-reader-clause-streams g c =
+    let source = g.S.Source.shown c.args.source.now in
+    let sink = g.K.Sink.shown c.args.sink.now in
+    let is : c.from_residual.result ≡ Err NoMemory = search rules in
+    subst (λ r. Streamed (filter captures soft_rx_text soft_lines_of) source source sink sink HasFrames r) (sym is) (nothing_put soft_lines_of source sink)
+
+pub returns-clause-streams : goal.returns-clause-streams
+returns-clause-streams g c =
+    let e = c.put_lines-ended in
+    let r = c.in_ok-reader in
+    finished c.in_ok-reader.reader c.no_head-head.result (g.S.Source.shown c.args.source.now) (g.S.Source.shown e.new.source) (g.K.Sink.shown c.args.sink.now)
+    (g.K.Sink.shown e.new.sink) (g.K.Sink.shown c.put_end.new.sink) e.result c.put_end.result r.ensures.means r.ensures.at e.ensures.tells
+    e.ensures.puts_later c.put_end.ensures.puts

@@ -1,0 +1,7 @@
+pub mod Weights
+pub mod Results
+pub mod Texts
+pub mod Folding
+pub mod Jobs
+pub mod Halved
+pub mod Booking

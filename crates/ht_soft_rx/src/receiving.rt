@@ -1,0 +1,257 @@
+//! Receiving the frames of a capture by soft decisions.
+ghost use Rattle.std.specs.Prelude.{◌≡◌, ◌≢◌, ◌<◌, ◌≤◌, ◌-◌, ◌^◌, Err, true};
+ghost use Rattle.ht_io.specs.Devices.{IsLater};
+ghost use Rattle.ht_capture.specs.Fields.{captures};
+ghost use Rattle.ht_feed.specs.Outcomes.{Comes};
+ghost use Rattle.ht_runs.specs.declared.faults.RunFault.TheVariants.{Write};
+ghost use Rattle.ht_runs.specs.declared.faults.StopFault.TheVariants.{Write as FailedWrite};
+ghost use Rattle.ht_runs.specs.Formats.{filter};
+ghost use Rattle.ht_runs.specs.Streamed.{Streamed};
+ghost use Rattle.ht_soft_rx.specs.Halved.{HasFrames};
+ghost use Rattle.ht_soft_blocks.specs.Readers.{soft_at, soft_counts, soft_means};
+ghost use Rattle.ht_soft_rx.specs.Booking.{PutsLines, telling};
+ghost use Rattle.ht_soft_rx.specs.Texts.{soft_lines_of, soft_rx_text};
+
+use crate::soft_result::SoftResult;
+use crate::under_way::SoftUnderWay;
+use ht_capture::FrameHead;
+use ht_crew::Gate;
+use ht_drive::tell;
+use ht_endings::put_end;
+use ht_feed::{Ended, tell_alone};
+use ht_frames::{Book, Gatherer, HitWork, Receiver, TextBook, abandon};
+use ht_io::{Sink, Source};
+use ht_results::no_head;
+use ht_runs::{RunFault, StopFault};
+use ht_soft_blocks::HalvesReader;
+use std::alloc::Global;
+use std::collections::VecDeque;
+use std::sync::Wait;
+use std::thread::Threads;
+
+// Reads the halves of a capture from the source in this thread, and books the result of each frame that is whole.
+fn book_alone<S: Source, B: Book<SoftResult>, G: Gate>(
+    alloc: Global,
+    reader: HalvesReader,
+    head: FrameHead,
+    window: u16,
+    source: &mut S,
+    under_way: &mut SoftUnderWay,
+    book: &mut B,
+    gate: &G,
+) -> Result<Ended, StopFault>
+    requires some { 1 ≤ window }
+    requires few { window ≤ 4096 }
+    requires going { (soft_counts reader).going ≡ true }
+    requires fresh { (soft_counts reader).given ≡ 0 }
+    requires bounded { (soft_counts reader).more < 2 ^ 64 - 1 }
+    ensures tells { Comes soft_means soft_at reader head (S.shown source.old) (S.shown source.new)
+        (telling B.booked (B.shown book.old) under_way.old) (telling B.booked (B.shown book.new) under_way.new) result }
+    ensures writes { result ≢ Err FailedWrite → (B.shown book.new).faults ≡ (B.shown book.old).faults }
+    ensures reads_later { IsLater (S.shown source.old) (S.shown source.new) }
+    ensures books_later { IsLater (B.shown book.old) (B.shown book.new) }
+    ensures same { B.lent book.new ≡ B.lent book.old }
+{
+    let mut receiver = Receiver::new(alloc, under_way, book);
+    let work = HitWork { alloc, gate };
+    tell_alone(alloc, reader, head, window, &work, source, &mut receiver)
+}
+
+// The same, and the halves are run by 1 to 64 workers, of which the caller is one.
+fn gather<R: Threads + Wait + Sync, S: Source, B: Book<SoftResult>, G: Gate + Sync>(
+    rt: &R,
+    alloc: Global,
+    workers: u8,
+    reader: HalvesReader,
+    head: FrameHead,
+    window: u16,
+    source: &mut S,
+    under_way: &mut SoftUnderWay,
+    book: &mut B,
+    gate: &G,
+) -> Result<Ended, StopFault>
+    requires one { 1 ≤ workers }
+    requires many { workers ≤ 64 }
+    requires some { 1 ≤ window }
+    requires few { window ≤ 4096 }
+    requires going { (soft_counts reader).going ≡ true }
+    requires fresh { (soft_counts reader).given ≡ 0 }
+    requires bounded { (soft_counts reader).more < 2 ^ 64 - 1 }
+    ensures tells { Comes soft_means soft_at reader head (S.shown source.old) (S.shown source.new)
+        (telling B.booked (B.shown book.old) under_way.old) (telling B.booked (B.shown book.new) under_way.new) result }
+    ensures writes { result ≢ Err FailedWrite → (B.shown book.new).faults ≡ (B.shown book.old).faults }
+    ensures reads_later { IsLater (S.shown source.old) (S.shown source.new) }
+    ensures books_later { IsLater (B.shown book.old) (B.shown book.new) }
+    ensures same { B.lent book.new ≡ B.lent book.old }
+{
+    let mut queue = VecDeque::new(alloc);
+    let mut gatherer = Gatherer::new(rt, alloc, workers, under_way, &mut queue, book);
+    let work = HitWork { alloc, gate };
+    let ended = tell(
+        rt,
+        alloc,
+        workers,
+        window,
+        reader,
+        head,
+        &work,
+        source,
+        &mut gatherer,
+    );
+    abandon(rt, queue);
+    ended
+}
+
+// The same, with the line of each result put into the sink.
+fn put_lines_alone<S: Source, K: Sink, G: Gate>(
+    alloc: Global,
+    reader: HalvesReader,
+    head: FrameHead,
+    window: u16,
+    source: &mut S,
+    sink: &mut K,
+    gate: &G,
+) -> Result<Ended, StopFault>
+    requires some { 1 ≤ window }
+    requires few { window ≤ 4096 }
+    requires going { (soft_counts reader).going ≡ true }
+    requires fresh { (soft_counts reader).given ≡ 0 }
+    requires bounded { (soft_counts reader).more < 2 ^ 64 - 1 }
+    ensures tells { PutsLines reader head (S.shown source.old) (S.shown source.new) (K.shown sink.old) (K.shown sink.new) result }
+    ensures writes { result ≢ Err FailedWrite → (K.shown sink.new).faults ≡ (K.shown sink.old).faults }
+    ensures reads_later { IsLater (S.shown source.old) (S.shown source.new) }
+    ensures puts_later { IsLater (K.shown sink.old) (K.shown sink.new) }
+{
+    let mut under_way = SoftUnderWay::new(alloc);
+    let mut book = TextBook::new(alloc, sink);
+    book_alone(
+        alloc,
+        reader,
+        head,
+        window,
+        source,
+        &mut under_way,
+        &mut book,
+        gate,
+    )
+}
+
+// The same by 1 to 64 workers.
+fn put_lines<R: Threads + Wait + Sync, S: Source, K: Sink, G: Gate + Sync>(
+    rt: &R,
+    alloc: Global,
+    workers: u8,
+    reader: HalvesReader,
+    head: FrameHead,
+    window: u16,
+    source: &mut S,
+    sink: &mut K,
+    gate: &G,
+) -> Result<Ended, StopFault>
+    requires one { 1 ≤ workers }
+    requires many { workers ≤ 64 }
+    requires some { 1 ≤ window }
+    requires few { window ≤ 4096 }
+    requires going { (soft_counts reader).going ≡ true }
+    requires fresh { (soft_counts reader).given ≡ 0 }
+    requires bounded { (soft_counts reader).more < 2 ^ 64 - 1 }
+    ensures tells { PutsLines reader head (S.shown source.old) (S.shown source.new) (K.shown sink.old) (K.shown sink.new) result }
+    ensures writes { result ≢ Err FailedWrite → (K.shown sink.new).faults ≡ (K.shown sink.old).faults }
+    ensures reads_later { IsLater (S.shown source.old) (S.shown source.new) }
+    ensures puts_later { IsLater (K.shown sink.old) (K.shown sink.new) }
+{
+    let mut under_way = SoftUnderWay::new(alloc);
+    let mut book = TextBook::new(alloc, sink);
+    gather(
+        rt,
+        alloc,
+        workers,
+        reader,
+        head,
+        window,
+        source,
+        &mut under_way,
+        &mut book,
+        gate,
+    )
+}
+
+/// Reads a capture from the source, and puts the line `soft N cost C octets HEX`, or `soft N cost C seed zero`, of each
+/// frame that is whole before the capture's first fault into the sink, each in one put, and behind them the line
+/// `end N frames` of a whole capture. The answer is the number of its frames.
+///
+/// Each label bit of a frame weighs the least distance of the vectors where it is 0, less the least one of those where it
+/// is 1, cut to the range from -65535 to 65535; on an erased subcarrier it weighs 0. Octets and cost are those of the first
+/// of the inputs that cost least at these weights.
+///
+/// The halves of data jobs and the pilot jobs run in this thread, each between the two calls of the gate, by their numbers
+/// from 0. At most `window` of them, 1 to 4096, were read and not yet taken at any moment. Of the frames the weights of
+/// one are kept, four octets each.
+///
+/// It refuses with the first fault of an input that is no capture, whose line it leaves to the caller; with `Read` where
+/// the source failed, having put the lines of the frames that were read whole; with `Write` where the sink failed, also
+/// if the source did; and with `NoMemory`. In the last two cases a part of the text was put.
+///
+/// IEEE Std 802.11-2012, clause 20.3.11 backwards.
+pub fn receive_soft_alone<S: Source, K: Sink, G: Gate>(
+    alloc: Global,
+    window: u16,
+    source: &mut S,
+    sink: &mut K,
+    gate: &G,
+) -> Result<u64, RunFault>
+    requires some { 1 ≤ window }
+    requires few { window ≤ 4096 }
+    ensures streams { Streamed (filter captures soft_rx_text soft_lines_of) (S.shown source.old) (S.shown source.new) (K.shown sink.old) (K.shown sink.new)
+        HasFrames result }
+
+    // Where the sink failed the answer is `Write`, whatever else failed.
+    ensures writes { result ≢ Err Write → (K.shown sink.new).faults ≡ (K.shown sink.old).faults }
+
+    // However it ends, the devices are the same, and take back no fault.
+    ensures reads_later { IsLater (S.shown source.old) (S.shown source.new) }
+    ensures puts_later { IsLater (K.shown sink.old) (K.shown sink.new) }
+{
+    let head = no_head();
+    let reader = HalvesReader::new(alloc, head)?;
+    let ended = put_lines_alone(alloc, reader, head, window, source, sink, gate);
+    put_end(alloc, ended, sink)
+}
+
+/// Does as [`receive_soft_alone`], and the jobs are run by 1 to 64 workers, of which the caller is one. The lines are the
+/// same, in the same order.
+///
+/// Whole frames are decoded while the jobs behind them are read and run, as [`Gatherer`] does it: a frame of 400 octets or
+/// more in a thread of its own, a shorter one by the caller. So the weights of at most three of the longest frames are
+/// kept, 4.2 MB each, whatever the workers. However it ends, no thread is left behind.
+pub fn receive_soft<R: Threads + Wait + Sync, S: Source, K: Sink, G: Gate + Sync>(
+    rt: &R,
+    alloc: Global,
+    workers: u8,
+    window: u16,
+    source: &mut S,
+    sink: &mut K,
+    gate: &G,
+) -> Result<u64, RunFault>
+    requires one { 1 ≤ workers }
+    requires many { workers ≤ 64 }
+    requires some { 1 ≤ window }
+    requires few { window ≤ 4096 }
+    ensures streams { Streamed (filter captures soft_rx_text soft_lines_of) (S.shown source.old) (S.shown source.new) (K.shown sink.old) (K.shown sink.new)
+        HasFrames result }
+
+    // Where the sink failed the answer is `Write`, whatever else failed.
+    ensures writes { result ≢ Err Write → (K.shown sink.new).faults ≡ (K.shown sink.old).faults }
+
+    // However it ends, the devices are the same, and take back no fault.
+    ensures reads_later { IsLater (S.shown source.old) (S.shown source.new) }
+    ensures puts_later { IsLater (K.shown sink.old) (K.shown sink.new) }
+{
+    if workers == 1 {
+        return receive_soft_alone(alloc, window, source, sink, gate);
+    }
+    let head = no_head();
+    let reader = HalvesReader::new(alloc, head)?;
+    let ended = put_lines(rt, alloc, workers, reader, head, window, source, sink, gate);
+    put_end(alloc, ended, sink)
+}
