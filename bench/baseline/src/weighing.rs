@@ -158,7 +158,7 @@ impl<W: Write> Account for Weighed<W> {
 }
 
 /// The least cost, and a word of choices for each step: bit n is state n's.
-fn backwards(received: &[i32], period: &'static [Kept], choices: &mut [u64]) -> u64 {
+pub(crate) fn backwards(received: &[i32], period: &'static [Kept], choices: &mut [u64]) -> u64 {
     // SAFETY: SSE4.1 is part of x86-64-v2, for which this is built.
     unsafe { backwards_by_lanes(received, period, choices) }
 }

@@ -2,7 +2,8 @@
 use crate::random::Random;
 use ht_conv::{encode, sent};
 use ht_rate::Pattern;
-use ht_viterbi::{Codeword, decode, plain_decode};
+use ht_soft::soft_decode;
+use ht_viterbi::{Cheapest, Codeword, decode, plain_decode};
 use std::alloc::{AllocError, Global};
 
 /// Which decoder is run.
@@ -10,6 +11,7 @@ use std::alloc::{AllocError, Global};
 enum DecoderKind {
     Fast,
     Plain,
+    Soft,
 }
 
 /// A codeword's form, how many of a hundred places are wrong, and how often it is decoded.
@@ -31,6 +33,7 @@ impl Line {
         let decoder = match decoder.as_str() {
             "decode" => DecoderKind::Fast,
             "plain_decode" => DecoderKind::Plain,
+            "soft_decode" => DecoderKind::Soft,
             _ => return None,
         };
         let pattern = match pattern.as_str() {
@@ -49,15 +52,16 @@ impl Line {
         })
     }
 
-    /// Decodes the codeword as often as the line says. The checksum is over the last answer and all distances.
+    /// Decodes the codeword as often as the line says. The checksum is over the last answer and all costs.
     pub fn run(&self, alloc: Global) -> Result<u64, AllocError> {
         let received = self.received(alloc)?;
+        let weights = weights_of(alloc, &received)?;
         let mut checksum = 0u64;
         for left in (0..self.count).rev() {
-            let codeword = self.decoded(alloc, &received)?;
-            checksum = checksum.wrapping_add(u64::from(codeword.distance));
+            let answer = self.decoded(alloc, &received, &weights)?;
+            checksum = checksum.wrapping_add(answer.cost);
             if left == 0 {
-                checksum = folded(checksum, codeword.input.as_slice());
+                checksum = folded(checksum, answer.input.as_slice());
             }
         }
         Ok(checksum)
@@ -81,16 +85,50 @@ impl Line {
     }
 
     // One decoding. A length that no codeword has is not decoded.
-    fn decoded(&self, alloc: Global, received: &[Option<bool>]) -> Result<Codeword, AllocError> {
+    fn decoded(
+        &self,
+        alloc: Global,
+        received: &[Option<bool>],
+        weights: &[i32],
+    ) -> Result<Cheapest, AllocError> {
         let (steps, pattern) = (self.steps, self.pattern);
-        if steps < 6 || steps > 524_302 || received.len() as u64 != sent(pattern, steps) {
+        let count = sent(pattern, steps);
+        if steps < 6
+            || steps > 524_302
+            || received.len() as u64 != count
+            || weights.len() as u64 != count
+        {
             return Err(AllocError);
         }
         match self.decoder {
-            DecoderKind::Fast => decode(alloc, steps, pattern, received),
-            DecoderKind::Plain => plain_decode(alloc, steps, pattern, received),
+            DecoderKind::Fast => Ok(counted(decode(alloc, steps, pattern, received)?)),
+            DecoderKind::Plain => Ok(counted(plain_decode(alloc, steps, pattern, received)?)),
+            DecoderKind::Soft => soft_decode(alloc, steps, pattern, weights),
         }
     }
+}
+
+// An answer whose cost is its distance.
+fn counted(codeword: Codeword) -> Cheapest {
+    Cheapest {
+        input: codeword.input,
+        cost: u64::from(codeword.distance),
+    }
+}
+
+// Weights of random size, positive where a 1 was received.
+fn weights_of(alloc: Global, received: &[Option<bool>]) -> Result<Vec<i32>, AllocError> {
+    let mut random = Random::new(2);
+    let mut weights = Vec::new(alloc);
+    for place in received {
+        let size = (random.draw() % 65536) as i32;
+        weights.push(match place {
+            Some(true) => size,
+            Some(false) => -size,
+            None => 0,
+        })?;
+    }
+    Ok(weights)
 }
 
 // A checksum that depends on each bit and its place.

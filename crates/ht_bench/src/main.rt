@@ -2,7 +2,8 @@
 //!
 //! ```text
 //! ht_bench decode PATTERN STEPS PERCENT COUNT          the decoder
-//! ht_bench plain_decode PATTERN STEPS PERCENT COUNT    the same, state by state
+//! ht_bench plain_decode PATTERN STEPS PERCENT COUNT    the same, with whole costs
+//! ht_bench soft_decode PATTERN STEPS PERCENT COUNT     the decoder of weights
 //! ht_bench frame BANDWIDTH MCS OCTETS COUNT            a frame's labels, to octets
 //! ht_bench nearest STREAMS MODULATION NOISE DIAGONALS COUNT    the detector, on 256 jobs so often
 //! ht_bench into_hit STREAMS MODULATION NOISE DIAGONALS COUNT   the same, on copies of the jobs that it is given

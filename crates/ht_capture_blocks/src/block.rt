@@ -31,7 +31,7 @@ impl Jobs for CaptureBlock {
         self.block.place_at(at)
     }
 
-    #[inline]
+    #[inline(always)]
     fn job(&self, at: u16) -> Job {
         self.block.job(at)
     }

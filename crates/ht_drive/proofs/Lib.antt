@@ -1,2 +1,4 @@
 mod Windows
 mod Supplying
+mod Giving
+mod Settling

@@ -1,11 +1,18 @@
--- A block that the feed gave stands in the window.
-use Rattle.std.proofs.Common.{◌≡◌, ℕ, ◌+◌, ◌≤◌, List, [], ◌∷◌, ◌++◌, length, Bool, true, not, ap, sym, subst, ◌∙◌, arith}
+-- What a feed gave stands in the window, until the feed takes the answer to it.
+use Rattle.std.proofs.Common.{◌≡◌, ℕ, ◌+◌, ◌≤◌, List, [], ◌∷◌, ◌++◌, length, Bool, true, false, not, ap, sym, subst, ◌∙◌, arith, rules}
+use Rattle.std.specs.Prelude.{Option, Result, Ok, Err, OnOk}
+use Rattle.std.specs.Result.{is_err}
 use Rattle.ht_metric.specs.Jobs.{JobView}
 use Rattle.ht_feed.specs.Dues.{count_in}
-use Rattle.ht_feed.specs.Feeds.{FeedView, GivesBlock}
+use Rattle.ht_feed.specs.Feeds.{EndsBlocks, FeedView, GivesBlock, IsLeft}
 use Rattle.ht_drive.specs.Blocks.{WindowView, window_view}
-use Rattle.ht_drive.specs.Driving.{Holds, IsUnderWay}
-use Rattle.ht_drive.proofs.Windows.{count_in-more}
+use Rattle.ht_drive.specs.Driving.{Holds, IsUnderWay, OnlyTakes}
+use Rattle.ht_feed.proofs.Turning.{count_in-more}
+
+-- what is ensured where there is no error
+pub on_ok : {T E : Type 0} (r : Result T E) (P : Type 0) → is_err r ≡ false → OnOk r P → P
+on_ok (Ok x) P e p = p
+on_ok (Err x) P e p = search rules
 
 module _ {Fault : Type 0} where
   pub holds_more : (most : ℕ) (w after : WindowView) (old new : FeedView Fault) (jobs : List JobView) → Holds w old → GivesBlock most old new jobs
@@ -21,7 +28,28 @@ module _ {Fault : Type 0} where
 
   pub goes_on_more : (most : ℕ) (running : Bool) (old new : FeedView Fault) (jobs : List JobView) → running ≡ true → IsUnderWay running old
       → GivesBlock most old new jobs → IsUnderWay running new
-  goes_on_more most running old new jobs on before gives = record {
-    ended = gives.running ∙ sym (ap not on);
-    well = gives.failed ∙ before.well;
+  goes_on_more most running old new jobs on before gives =
+      let still : IsUnderWay true new = record { ended = gives.running; left = λ off. search rules; well = gives.failed ∙ before.well } in
+      subst (λ (r : Bool). IsUnderWay r new) (sym on) still
+
+  -- a feed under way that goes on hasn't ended
+  pub is_running : (running : Bool) (f : FeedView Fault) → running ≡ true → IsUnderWay running f → f.ended ≡ false
+  is_running running f on way = way.ended ∙ ap not on
+
+  -- the feed ended
+  pub holds_end : (w : WindowView) (old new : FeedView Fault) → Holds w old → EndsBlocks old new → Holds w new
+  holds_end w old new holds ends =
+      let d = ap count_in ends.due in
+      let f = holds.few in
+      record { due = holds.due ∙ sym ends.due; few = omega (arith, d, f) }
+
+  pub goes_on_end : (running : Bool) (old new : FeedView Fault) → IsUnderWay running old → EndsBlocks old new → IsUnderWay false new
+  goes_on_end running old new before ends = record { ended = ends.ended; left = λ off. ends.left; well = ends.failed ∙ before.well }
+
+  -- answers were taken
+  pub goes_on_taken : (running : Bool) (old new : FeedView Fault) → IsUnderWay running old → OnlyTakes old new → IsUnderWay running new
+  goes_on_taken running old new before takes = record {
+    ended = takes.ended ∙ before.ended;
+    left = λ off. subst (λ (left : Option (List JobView)). IsLeft left []) (sym takes.left) (before.left off);
+    well = takes.failed ∙ before.well;
   }

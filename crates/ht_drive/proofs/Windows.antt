@@ -4,6 +4,7 @@ use Rattle.std.proofs.lemmas.Option.{same_Some}
 use Rattle.std.specs.Prelude.{slice_get, slice_set, Some}
 use Rattle.ht_metric.specs.Jobs.{JobView}
 use Rattle.ht_feed.specs.Dues.{NoneEmpty, count_in}
+use Rattle.ht_feed.proofs.Turning.{count_in-more}
 use Rattle.ht_drive.specs.Blocks.{IsBlock, IsWindow, WindowView, window_view}
 
 -- what is put back is no change
@@ -13,15 +14,11 @@ put_same {A} (y ∷ ys) zero x e = ap (λ (z : A). z ∷ ys) (sym (same_Some y x
 put_same {A} (y ∷ ys) (suc at) x e = ap (λ (zs : List A). y ∷ zs) (put_same ys at x e)
 
 -- no more blocks than jobs
-few_blocks : (blocks : List (List JobView)) → NoneEmpty blocks → length blocks ≤ count_in blocks
+pub few_blocks : (blocks : List (List JobView)) → NoneEmpty blocks → length blocks ≤ count_in blocks
 few_blocks [] full = omega arith
 few_blocks (jobs ∷ blocks) full = let e = few_blocks blocks full.1 in let f = full.0 in omega (arith, e, f)
 
-pub count_in-more : (blocks : List (List JobView)) (jobs : List JobView) → count_in (blocks ++ jobs ∷ []) ≡ count_in blocks + length jobs
-count_in-more [] jobs = omega arith
-count_in-more (b ∷ bs) jobs = let e = count_in-more bs jobs in omega (arith, e)
-
-full-more : (blocks : List (List JobView)) (jobs : List JobView) → NoneEmpty blocks → 1 ≤ length jobs → NoneEmpty (blocks ++ jobs ∷ [])
+pub full-more : (blocks : List (List JobView)) (jobs : List JobView) → NoneEmpty blocks → 1 ≤ length jobs → NoneEmpty (blocks ++ jobs ∷ [])
 full-more [] jobs full some = (some, tt)
 full-more (b ∷ bs) jobs full some = (full.0, full-more bs jobs full.1 some)
 

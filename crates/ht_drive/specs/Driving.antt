@@ -1,18 +1,23 @@
 -- How the window of a drive, its counts and its feed stand to each other.
-use Rattle.std.specs.Prelude.{◌≡◌, ◌+◌, ◌≤◌, List, length, Bool, not, Some, None}
+use Rattle.std.specs.Prelude.{◌≡◌, ◌+◌, ◌<◌, ◌≤◌, List, [], length, Bool, not, false, Some, None}
 use Rattle.ht_metric.specs.Jobs.{JobView}
-use Rattle.ht_feed.specs.Dues.{count_in}
-use Rattle.ht_feed.specs.Feeds.{FeedView}
+use Rattle.ht_crew.specs.Tallying.{HaveNumbers}
+use Rattle.ht_feed.specs.Dues.{NoneEmpty, all_in, count_in}
+use Rattle.ht_feed.specs.Feeds.{FeedView, IsLeft}
 use Rattle.ht_feed.specs.declared.drive.DriveFault.{DriveFault}
 use Rattle.ht_feed.specs.declared.drive.DriveFault.TheVariants.{Feed, NoMemory}
-use Rattle.ht_drive.specs.Blocks.{WindowView, jobs_of}
+use Rattle.ht_drive.specs.Blocks.{BlockHelm, WindowView, jobs_of}
 use Rattle.ht_drive.specs.declared.tally.Tally.{Tally}
 
--- the counts of a caller that has given these blocks to the pool
-pub record Tallies (t : Tally) (given : List (List JobView)) : Type 0 where
+-- the counts of a caller fit the blocks that it gave to the pool
+pub record Tallies (t : Tally) (helm : BlockHelm) : Type 0 where
   -- a job was given to the pool, or is the caller's own
-  pub jobs : jobs_of given + t.own ≡ t.issued
-  pub blocks : length given ≤ t.issued
+  pub jobs : jobs_of helm.given + t.own ≡ t.issued
+  pub blocks : length helm.given ≤ t.issued
+  pub full : NoneEmpty helm.given
+  -- the caller kept none before the pool had as many blocks as there is room for
+  pub sure : 0 < t.own → helm.room ≤ length helm.given
+  pub numbers : HaveNumbers t.issued (all_in helm.given)
 
 module _ {Fault : Type 0} where
   -- the window holds the blocks due, and has room for their jobs
@@ -23,13 +28,15 @@ module _ {Fault : Type 0} where
   -- blocks were taken, if any were, and the feed gives what it would have given
   pub record OnlyTakes (old new : FeedView Fault) : Type 0 where
     pub count : new.count ≡ old.count
+    pub left : new.left ≡ old.left
     pub more : new.more ≡ old.more
     pub ended : new.ended ≡ old.ended
     pub failed : new.failed ≡ old.failed
 
-  -- the feed goes on, or has ended, and no call of it failed
+  -- the feed goes on, or has ended and has nothing left, and no call of it failed
   pub record IsUnderWay (running : Bool) (feed : FeedView Fault) : Type 0 where
     pub ended : feed.ended ≡ not running
+    pub left : running ≡ false → IsLeft feed.left []
     pub well : feed.failed ≡ None
 
   -- a drive refuses with what a call of the feed answered, or no call of it failed

@@ -1,14 +1,77 @@
 -- What the workers of a drive have run.
-use Rattle.std.specs.Prelude.{◌≡◌, ◌+◌, ℕ, [], length, sum}
-use Rattle.ht_drive.specs.declared.report.Report.{Report}
+use Rattle.std.specs.Prelude.{◌≡◌, ◌+◌, ◌≤◌, ◌++◌, ◌∷◌, ℕ, List, [], length, map, sum, min, drop, None}
+use Rattle.std.specs.List.{All, flat_map}
+use Rattle.crossbeam_queue.specs.Passes.{view}
+use Rattle.ht_metric.specs.Jobs.{JobView}
+use Rattle.ht_counts.specs.Counts.{SameCounts}
+use Rattle.ht_pool.specs.Pools.{IsEmptied, moved_on, taken_on}
+use Rattle.ht_pool.specs.Through.{first_of, through}
+use Rattle.ht_pool.specs.declared.hand.Hand.{Hand}
+use Rattle.ht_crew.specs.Tallying.{HaveNumbers}
+use Rattle.ht_feed.specs.Dues.{NoneEmpty, all_in}
+use Rattle.ht_drive.specs.Blocks.{jobs_of}
+use Rattle.ht_drive.specs.declared.report.Passes.{Passes as PassesOf}
+use Rattle.ht_drive.specs.declared.report.Report.{Report as ReportOf}
+
+-- a report of blocks that were given, and of blocks that came back with their answers
+abbrev pub Report : Type 0
+Report = ReportOf (List JobView) (List JobView)
+
+abbrev pub Passes : Type 0
+Passes = PassesOf (List JobView) (List JobView)
+
+-- what went through the deques
+abbrev pub deques_of : Passes → List (Hand (List JobView))
+deques_of passes = map through passes.deques.items
+
+-- the blocks that were pushed on the caller's deque, in order
+abbrev pub blocks_pushed : Passes → List (List JobView)
+blocks_pushed passes = (first_of (deques_of passes)).pushed
+
+-- what went through the queue: the blocks that came back with their answers
+abbrev pub came_back : Passes → Hand (List JobView)
+came_back passes = view passes.results
 
 -- one worker ran all jobs without a pool
 pub record HasRunAlone (report : Report) : Type 0 where
   pub own : report.own ≡ report.jobs
   pub ran : report.ran.items ≡ []
+  pub passes : report.passes ≡ None
 
--- this number of workers ran the jobs, the caller first
-pub record HasRunInPool (workers : ℕ) (report : Report) : Type 0 where
-  -- each counted the jobs of its blocks: with the caller's own they are all jobs
+-- who ran the blocks that were pushed, with a number for each worker, the caller first
+pub record IsShared (ran : List ℕ) (passes : Passes) : Type 0 where
+  -- the blocks that the caller took back and ran
+  pub mine : List (List JobView)
+  -- those that each of the others ran and delivered, which are those that were pushed on the queue
+  pub others : List (List (List JobView))
+  pub delivered : (came_back passes).pushed ≡ flat_map (λ (blocks : List (List JobView)). blocks) others
+  -- each block was run by the caller or by one of the others, and that once
+  pub once : SameCounts (mine ++ (came_back passes).pushed) (blocks_pushed passes)
+  -- the numbers are those of the jobs of their blocks
+  pub numbers : ran ≡ jobs_of mine ∷ map jobs_of others
+
+-- this number of workers ran the jobs, where the pool had room for that number of blocks for sure
+pub record HasRunInPool (workers room : ℕ) (report : Report) (passes : Passes) : Type 0 where
+  -- there is a deque for each worker, the caller's first
+  pub deques : length passes.deques.items ≡ workers
+  -- all jobs but the caller's own were pushed on the caller's deque, in blocks, none of which is empty
+  pub pushed : jobs_of (blocks_pushed passes) + report.own ≡ report.jobs
+  pub full : NoneEmpty (blocks_pushed passes)
+  -- and for sure as many of them as there was room for blocks
+  pub sure : report.own + min report.jobs room ≤ report.jobs
+  -- each of them has a number of its own below the number of jobs
+  pub numbers : HaveNumbers report.jobs (all_in (blocks_pushed passes))
+  -- on each deque the blocks taken are those pushed, so nothing is left
+  pub emptied : All IsEmptied (deques_of passes)
+  -- the blocks run, which are those taken on all deques less those moved on, are those pushed on the caller's, each
+  -- once
+  pub run : SameCounts (taken_on (deques_of passes)) (blocks_pushed passes ++ moved_on (deques_of passes))
+  -- by this number of workers, the caller first, each of whom counted the jobs of its blocks: with the caller's own
+  -- they are all jobs
   pub each : length report.ran.items ≡ workers
   pub ran : report.own + sum report.ran.items ≡ report.jobs
+  pub shared : IsShared report.ran.items passes
+  -- so the blocks on the queue have as many jobs as the workers beside the caller counted
+  pub helped : jobs_of (came_back passes).pushed ≡ sum (drop 1 report.ran.items)
+  -- and what the caller took from the queue is what was pushed on it, each block once
+  pub received : SameCounts (came_back passes).taken (came_back passes).pushed

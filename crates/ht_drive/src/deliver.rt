@@ -1,6 +1,8 @@
 //! How a caller hands a feed its answers.
-ghost use Rattle.std.specs.Prelude.{◌≡◌, ◌≤◌, Some, IfErr, OnOk};
+ghost use Rattle.std.specs.Prelude.{◌≡◌, ◌≤◌, List, Option, Some, IfErr, OnOk};
+ghost use Rattle.ht_metric.specs.Jobs.{JobView};
 ghost use Rattle.ht_feed.specs.Dues.{count_in};
+ghost use Rattle.ht_feed.specs.Feeds.{IsAlong, IsInTurn};
 ghost use Rattle.ht_drive.specs.Driving.{Holds, OnlyTakes};
 
 use crate::window::Window;
@@ -15,6 +17,8 @@ pub(crate) fn deliver<B: Shared + Drop, A: Answer + Drop, F: BlockFeed<Block = B
     ensures holds { OnOk result (Holds window.new (F.shown feed.new)) }
     ensures few { count_in (F.shown feed.new).due ≤ window.old.capacity }
     ensures capacity { window.new.capacity ≡ window.old.capacity }
+    ensures in_turn { (known : Option (List JobView)) → IsAlong known (F.shown feed.old) → IsInTurn known (F.shown feed.new) }
+    ensures along { OnOk result ((known : Option (List JobView)) → IsAlong known (F.shown feed.old) → IsAlong known (F.shown feed.new)) }
     ensures takes { OnOk result (OnlyTakes (F.shown feed.old) (F.shown feed.new)) }
     ensures fault { IfErr result (λ fault. (F.shown feed.new).failed ≡ Some fault) }
     ensures leads { F.leads feed.old feed.new }

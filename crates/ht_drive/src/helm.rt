@@ -1,5 +1,5 @@
 //! The caller's end of a pool that runs blocks.
-ghost use Rattle.std.specs.Prelude.{if◌then◌else◌, ◌≡◌, ◌-◌, ◌^◌, ◌<◌, [], length, IfSome, IfNone, IsTrue, OnErr, OnOk};
+ghost use Rattle.std.specs.Prelude.{if◌then◌else◌, ◌≡◌, ◌-◌, ◌^◌, ◌<◌, ◌≤◌, [], length, false, IfSome, IfNone, IsTrue, OnErr, OnOk};
 ghost use Rattle.ht_pool.specs.Helms.{IsSettled, IsSameHelm, gave};
 ghost use Rattle.ht_drive.specs.Blocks.{ComesBack};
 
@@ -8,8 +8,8 @@ use ht_feed::{Answer, Jobs, Work};
 use ht_pool::helm::Helm;
 use std::marker::Model;
 
-/// Where a caller gives blocks to the pool and gets what came of them. Contracts see the blocks that it gave, in order, and
-/// those that came back.
+/// Where a caller gives blocks to the pool and gets what came of them. Contracts see the blocks that it gave, in order,
+/// and those that came back.
 #[derive(Drop)]
 pub(crate) struct BlockHelm<
     'p,
@@ -49,10 +49,12 @@ impl<'p, 'w, B: Jobs + Drop + Send, A: Answer + Drop + Send, W: Work<B, Answer =
         BlockHelm { helm, out: 0 }
     }
 
-    /// Gives a task to the pool, if that has memory for it. Answers whether it has.
+    /// Gives a task to the pool, if that has memory for it. Answers whether it has; if not, at least `room` tasks were
+    /// given before.
     pub(crate) fn give(&mut self, task: Task<B>) -> bool
         requires { length self.old.given < 2 ^ 64 - 1 }
-        ensures { self.new ≡ (if result then gave self.old task else self.old) }
+        ensures given { self.new ≡ (if result then gave self.old task else self.old) }
+        ensures full { result ≡ false → self.old.room ≤ length self.old.given }
     {
         let given = self.helm.give(task).is_ok();
         if given {

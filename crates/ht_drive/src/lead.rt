@@ -1,7 +1,9 @@
 //! The caller's part of a drive.
-ghost use Rattle.std.specs.Prelude.{◌≡◌, ◌≤◌, [], None, true, false, Some, IfErr, IfOk, OnOk};
-ghost use Rattle.ht_feed.specs.Dues.{count_in};
-ghost use Rattle.ht_feed.specs.Feeds.{IsFreshFeed};
+ghost use Rattle.std.specs.Prelude.{◌≡◌, ◌≤◌, [], List, None, true, false, Some, IfErr, IfOk, OnOk};
+ghost use Rattle.ht_metric.specs.Jobs.{JobView};
+ghost use Rattle.ht_crew.specs.Tallying.{AreTold};
+ghost use Rattle.ht_feed.specs.Dues.{all_in, count_in};
+ghost use Rattle.ht_feed.specs.Feeds.{IsFreshFeed, IsInTurn, IsLeft};
 ghost use Rattle.ht_pool.specs.Helms.{IsSameHelm, IsSettled};
 ghost use Rattle.ht_drive.specs.Driving.{Refuses, Tallies};
 
@@ -42,13 +44,16 @@ pub(crate) fn lead<
 
     ensures leads { F.leads feed.old feed.new }
     ensures due { count_in (F.shown feed.new).due ≤ window.old.capacity }
+    ensures in_turn { IsInTurn (F.shown feed.old).left (F.shown feed.new) }
     ensures ended { OnOk result ((F.shown feed.new).ended ≡ true) }
     ensures taken { OnOk result ((F.shown feed.new).due ≡ []) }
+    ensures left { OnOk result (IsLeft (F.shown feed.new).left []) }
     ensures well { OnOk result ((F.shown feed.new).failed ≡ None) }
     ensures refuses { IfErr result (Refuses (F.shown feed.new)) }
 
     ensures jobs { OnOk result (tally.new.issued ≡ (F.shown feed.new).count) }
-    ensures tallies { OnOk result (Tallies tally.new helm.new.given) }
+    ensures tallies { OnOk result (Tallies tally.new helm.new) }
+    ensures told { OnOk result ((all : List JobView) → (F.shown feed.old).left ≡ Some all → AreTold all (all_in helm.new.given)) }
     ensures same { IsSameHelm helm.old helm.new }
     ensures settled { OnOk result (IsSettled helm.new) }
 {
@@ -56,7 +61,7 @@ pub(crate) fn lead<
     for _ in rt.forever() {
         running = match supply(window, helm, tally, pace.size(), running, feed) {
             Ok(on) => on,
-            Err(fault) => return Err(DriveFault::Feed(fault)),
+            Err(fault) => return Err(fault),
         };
         if let Err(fault) = deliver(window, feed) {
             return Err(DriveFault::Feed(fault));
@@ -96,14 +101,18 @@ pub(crate) fn lead_into<
 
     ensures leads { F.leads feed.old feed.new }
     ensures due { count_in (F.shown feed.new).due ≤ window.old.capacity }
+    ensures in_turn { IsInTurn (F.shown feed.old).left (F.shown feed.new) }
     ensures ended { IfOk result (λ enough. enough ≡ true → (F.shown feed.new).ended ≡ true) }
     ensures taken { IfOk result (λ enough. enough ≡ true → (F.shown feed.new).due ≡ []) }
+    ensures left { IfOk result (λ enough. enough ≡ true → IsLeft (F.shown feed.new).left []) }
     ensures well { IfOk result (λ enough. enough ≡ true → (F.shown feed.new).failed ≡ None) }
     ensures fault { IfErr result (λ fault. (F.shown feed.new).failed ≡ Some fault) }
     ensures memory { IfOk result (λ enough. enough ≡ false → (F.shown feed.new).failed ≡ None) }
 
     ensures jobs { IfOk result (λ enough. enough ≡ true → tally.new.issued ≡ (F.shown feed.new).count) }
-    ensures tallies { IfOk result (λ enough. enough ≡ true → Tallies tally.new helm.new.given) }
+    ensures tallies { IfOk result (λ enough. enough ≡ true → Tallies tally.new helm.new) }
+    ensures told { IfOk result (λ enough. enough ≡ true → (all : List JobView) → (F.shown feed.old).left ≡ Some all
+        → AreTold all (all_in helm.new.given)) }
     ensures same { IsSameHelm helm.old helm.new }
     ensures settled { IfOk result (λ enough. enough ≡ true → IsSettled helm.new) }
 {

@@ -1,30 +1,38 @@
 //! How a caller fills its window and gives blocks to its pool.
-ghost use Rattle.std.specs.Prelude.{◌≡◌, ◌+◌, ◌-◌, ◌<◌, ◌≤◌, ◌^◌, ◌++◌, ◌∷◌, [], length, Some, IfErr, IfOk};
-ghost use Rattle.ht_feed.specs.Dues.{count_in};
+ghost use Rattle.std.specs.Prelude.{◌≡◌, ◌+◌, ◌-◌, ◌<◌, ◌≤◌, ◌^◌, ◌++◌, ◌∷◌, [], length, List, Option, Some, IfErr, IfOk, OnOk};
+ghost use Rattle.ht_metric.specs.Jobs.{JobView};
+ghost use Rattle.ht_crew.specs.Tallying.{AreTold};
+ghost use Rattle.ht_feed.specs.Dues.{all_in, count_in};
+ghost use Rattle.ht_feed.specs.Feeds.{IsAlong, IsInTurn};
+ghost use Rattle.ht_feed.specs.Items.{Numbered};
 ghost use Rattle.ht_pool.specs.Helms.{IsSameHelm};
 ghost use Rattle.ht_drive.specs.Blocks.{IsBlock, window_view};
-ghost use Rattle.ht_drive.specs.Driving.{Holds, IsUnderWay, Tallies};
+ghost use Rattle.ht_drive.specs.Driving.{Holds, IsUnderWay, Refuses, Tallies};
 
 use crate::helm::BlockHelm;
 use crate::tally::Tally;
 use crate::task::Task;
 use crate::window::Window;
-use ht_feed::{Answer, BlockFeed, Jobs, Shared, Work};
+use ht_feed::{Answer, BlockFeed, DriveFault, Jobs, Shared, Work};
+use std::alloc::AllocError;
 
-// Puts a block into the window, and gives a copy to the pool where it can be copied and the pool has memory for it. Else
-// the caller runs it in its turn.
+// Puts a block into the window, and gives a copy to the pool. Where that has no memory for it, the caller runs the
+// block in its turn. The only error is that there was no memory for the copy.
 fn issue<B: Shared + Drop + Send, A: Answer + Drop + Send, W: Work<B, Answer = A>>(
     window: &mut Window<B, A>,
     helm: &mut BlockHelm<'_, '_, B, A, W>,
     tally: &mut Tally,
     block: B,
-)
+) -> Result<(), AllocError>
     requires block { IsBlock (B.jobs block) }
     requires room { count_in window.old.due + length (B.jobs block) ≤ window.old.capacity }
-    requires tallies { Tallies tally.old helm.old.given }
+    requires tallies { Tallies tally.old helm.old }
+    requires numbers { Numbered tally.old.issued (B.jobs block) }
     requires last { tally.old.issued + length (B.jobs block) < 2 ^ 64 - 1 }
     ensures window { window.new ≡ window_view window.old.capacity (window.old.due ++ B.jobs block ∷ []) }
-    ensures tallies { Tallies tally.new helm.new.given }
+    ensures tallies { OnOk result (Tallies tally.new helm.new) }
+    ensures told { OnOk result ((all : List JobView) → AreTold all (all_in helm.old.given) → AreTold all (B.jobs block)
+        → AreTold all (all_in helm.new.given)) }
     ensures issued { tally.new.issued ≡ tally.old.issued + length (B.jobs block) }
     ensures same { IsSameHelm helm.old helm.new }
 {
@@ -32,13 +40,13 @@ fn issue<B: Shared + Drop + Send, A: Answer + Drop + Send, W: Work<B, Answer = A
     let copy = block.copy();
     let place = window.push(block);
     tally.issued += size;
-    let given = match copy {
-        Some(copy) => helm.give(Task::new(place, copy)),
-        None => false,
+    let Some(copy) = copy else {
+        return Err(AllocError);
     };
-    if !given {
+    if !helm.give(Task::new(place, copy)) {
         tally.own += size;
     }
+    Ok(())
 }
 
 /// Asks the feed for blocks of at most `size` jobs and issues them, while the window has room for as many jobs and the
@@ -55,28 +63,41 @@ pub(crate) fn supply<
     size: u16,
     running: bool,
     feed: &mut F,
-) -> Result<bool, F::Fault>
+) -> Result<bool, DriveFault<F::Fault>>
     requires some { 1 ≤ size }
     requires capacity { window.old.capacity ≤ 4096 }
     requires holds { Holds window.old (F.shown feed.old) }
-    requires tallies { Tallies tally.old helm.old.given }
+    requires tallies { Tallies tally.old helm.old }
     requires issued { tally.old.issued ≡ (F.shown feed.old).count }
     requires running { IsUnderWay running (F.shown feed.old) }
 
+    // What is due stands in the window, and was given to the pool or is the caller's own.
     ensures holds { Holds window.new (F.shown feed.new) }
     ensures capacity { window.new.capacity ≡ window.old.capacity }
-    ensures tallies { Tallies tally.new helm.new.given }
+    ensures tallies { OnOk result (Tallies tally.new helm.new) }
     ensures issued { tally.new.issued ≡ (F.shown feed.new).count }
     ensures same { IsSameHelm helm.old helm.new }
+
+    // The feed was asked in turn.
+    ensures in_turn { (known : Option (List JobView)) → IsAlong known (F.shown feed.old) → IsInTurn known (F.shown feed.new) }
+    ensures along { OnOk result ((known : Option (List JobView)) → IsAlong known (F.shown feed.old) → IsAlong known (F.shown feed.new)) }
+    ensures told { OnOk result ((all : List JobView) → IsAlong (Some all) (F.shown feed.old) → AreTold all (all_in helm.old.given)
+        → AreTold all (all_in helm.new.given)) }
+
     ensures running { IfOk result (λ on. IsUnderWay on (F.shown feed.new)) }
-    ensures fault { IfErr result (λ fault. (F.shown feed.new).failed ≡ Some fault) }
+    ensures refuses { IfErr result (Refuses (F.shown feed.new)) }
     ensures leads { F.leads feed.old feed.new }
 {
     let mut running = running;
     while running && window.room() >= size {
-        match feed.next(size)? {
-            Some(block) => issue(window, helm, tally, block),
-            None => running = false,
+        match feed.next(size) {
+            Ok(Some(block)) => {
+                if issue(window, helm, tally, block).is_err() {
+                    return Err(DriveFault::NoMemory);
+                }
+            }
+            Ok(None) => running = false,
+            Err(fault) => return Err(DriveFault::Feed(fault)),
         }
     }
     Ok(running)

@@ -9,7 +9,7 @@ use std::marker::{Model, PhantomData};
 
 /// A block with its place in the order of the blocks. Contracts see its jobs.
 #[derive(Drop)]
-pub(crate) struct Task<B: Jobs> {
+pub struct Task<B: Jobs> {
     number: u64,
     block: B,
 }
@@ -57,7 +57,7 @@ impl<B: Jobs + Drop> Task<B> {
 
 /// A block that was run, with what the work answered. Contracts see its jobs, and that the answer is one to these.
 #[derive(Drop)]
-pub(crate) struct Done<B: Jobs, A: Answer> {
+pub struct Done<B: Jobs, A: Answer> {
     number: u64,
     block: B,
     found: Result<A, AllocError>,

@@ -10,6 +10,7 @@ ghost use Rattle.ht_feed.specs.Outcomes.{Comes};
 ghost use Rattle.ht_feed.specs.Telling.{TellsBy, seen_by};
 
 use crate::report::Report;
+use crate::task::{Done, Task};
 use crate::threaded::drive;
 use ht_feed::{
     Account, BlockReader, BookFault, Desk, DeskFeed, Desking, DriveFault, Ended, Shared, Work,
@@ -39,7 +40,7 @@ fn run_desk<
     source: &mut S,
     account: &mut A,
     failed: &mut Option<BookFault>,
-) -> Result<Report, DriveFault<BookFault>>
+) -> Result<Report<Task<R::Block>, Done<R::Block, A::Answer>>, DriveFault<BookFault>>
 where
     R::Block: Shared + Send + Sync,
     A::Answer: Send + Sync,
@@ -62,8 +63,9 @@ where
     drive(rt, alloc, workers, window, work, &mut feed)
 }
 
-/// Does as [`tell_alone`](ht_feed::tell_alone), and the blocks are run by 1 to 64 workers, of which the caller is one. At
-/// most `window` jobs, 1 to 4096, were given and not yet taken at any moment. What is put is the same, in the same order.
+/// Does as [`tell_alone`](ht_feed::tell_alone), and the blocks are run by 1 to 64 workers, of which the caller is one.
+/// At most `window` jobs, 1 to 4096, were given and not yet taken at any moment. What is put is the same, in the same
+/// order.
 pub fn tell<
     T: Threads + Wait + Sync,
     R: BlockReader + Drop,

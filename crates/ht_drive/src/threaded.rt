@@ -1,24 +1,28 @@
 //! The drive of a feed of blocks.
-ghost use Rattle.std.specs.Prelude.{◌≡◌, ◌+◌, ◌-◌, ◌<◌, ◌≤◌, [], length, map, true, Err, None, Some, IfErr, IfOk, OnOk, vec_len, vec_capacity};
+ghost use Rattle.std.specs.Prelude.{◌≡◌, ◌+◌, ◌-◌, ◌<◌, ◌≤◌, [], List, length, map, true, vec_len, vec_capacity};
+ghost use Rattle.std.specs.Prelude.{Err, None, Some, IfErr, IfOk, IfSome, IsSome, OnOk};
 ghost use Rattle.std.specs.List.{All};
-ghost use Rattle.ht_feed.specs.Dues.{count_in};
-ghost use Rattle.ht_feed.specs.Feeds.{IsFreshFeed};
+ghost use Rattle.ht_metric.specs.Jobs.{JobView};
+ghost use Rattle.ht_crew.specs.Tallying.{AreTold};
+ghost use Rattle.ht_feed.specs.Dues.{all_in, count_in};
+ghost use Rattle.ht_feed.specs.Feeds.{IsFreshFeed, IsInTurn, IsLeft};
 ghost use Rattle.ht_pool.specs.Helms.{IsSettled, unused};
 ghost use Rattle.ht_pool.specs.Members.{HasServed, HasYetToServe, berth_of, berths};
 ghost use Rattle.ht_pool.specs.Pools.{IsOpened, IsVacant};
 ghost use Rattle.ht_drive.specs.Blocks.{jobs_in, task_of};
 ghost use Rattle.ht_drive.specs.Driving.{Refuses, Tallies};
-ghost use Rattle.ht_drive.specs.Reports.{HasRunAlone, HasRunInPool};
+ghost use Rattle.ht_drive.specs.Reports.{HasRunAlone, HasRunInPool, blocks_pushed};
 
 use crate::helm::BlockHelm;
 use crate::lead::lead_into;
 use crate::pace::Pace;
-use crate::report::Report;
+use crate::report::{Passes, Report};
 use crate::tally::Tally;
 use crate::task::{Done, Runner, Task};
 use crate::window::Window;
 use ht_feed::{Answer, BlockFeed, DriveFault, Jobs, Shared, Work, drive_alone};
 use ht_pool::close::close;
+use ht_pool::closed::Closed;
 use ht_pool::crew::beside;
 use ht_pool::helm::Helm;
 use ht_pool::member::Member;
@@ -31,18 +35,18 @@ use std::marker::PhantomData;
 use std::sync::Wait;
 use std::thread::Threads;
 
-/// Runs all blocks of a feed by 1 to 64 workers, of which the caller is one, and hands it their answers in the order of the
-/// blocks.
+/// Runs all blocks of a feed by 1 to 64 workers, of which the caller is one, and hands it their answers in the order of
+/// the blocks.
 ///
-/// The feed has given nothing yet. The caller asks it for blocks until `window` jobs are due, 1 to 4096, or it has ended, and
-/// gives a copy of each to the pool, from which the other workers take them, each in a thread of its own. What can't be
-/// copied it runs itself. So whichever call of the feed fails, no more than `window` jobs are due. Blocks begin with single
-/// jobs and grow with each answer that comes back, up to half a worker's share of a full window,
-/// `window / (2 * workers)` jobs, at least 1 and at most 57; where the work calls a block hard they are single jobs again.
-/// With one worker it is [`drive_alone`](ht_feed::drive_alone).
+/// The feed has given nothing yet. The caller asks it for blocks until `window` jobs are due, 1 to 4096, or it has
+/// ended, and gives a copy of each to the pool, from which the other workers take them, each in a thread of its own. So
+/// whichever call of the feed fails, no more than `window` jobs are due. Blocks begin with single jobs and grow with
+/// each answer that comes back, up to half a worker's share of a full window, `window / (2 * workers)` jobs, at least 1
+/// and at most 57; where the work calls a block hard they are single jobs again. With one worker it is
+/// [`drive_alone`](ht_feed::drive_alone).
 ///
-/// It refuses with the feed's fault, or with `NoMemory`: before the first call of the feed, or where the work was out of
-/// memory. Threads that can't be started leave more to the caller.
+/// It refuses with the feed's fault, or with `NoMemory`: before the first call of the feed, or where there was no
+/// memory for a copy or for the work. Threads that can't be started leave more to the caller.
 pub fn drive<R: Threads + Wait + Sync, F: BlockFeed, W: Work<F::Block, Answer = F::Answer> + Sync>(
     rt: &R,
     alloc: Global,
@@ -50,7 +54,7 @@ pub fn drive<R: Threads + Wait + Sync, F: BlockFeed, W: Work<F::Block, Answer = 
     window: u16,
     work: &W,
     feed: &mut F,
-) -> Result<Report, DriveFault<F::Fault>>
+) -> Result<Report<Task<F::Block>, Done<F::Block, F::Answer>>, DriveFault<F::Fault>>
 where
     F::Block: Shared + Send + Sync,
     F::Answer: Send + Sync,
@@ -63,16 +67,21 @@ where
     // However it ends.
     ensures leads { F.leads feed.old feed.new }
     ensures due { count_in (F.shown feed.new).due ≤ window }
+    ensures in_turn { IsInTurn (F.shown feed.old).left (F.shown feed.new) }
 
     // When the feed has ended, every block was run and taken, and no call failed.
     ensures ended { OnOk result ((F.shown feed.new).ended ≡ true) }
     ensures taken { OnOk result ((F.shown feed.new).due ≡ []) }
+    ensures left { OnOk result (IsLeft (F.shown feed.new).left []) }
     ensures well { OnOk result ((F.shown feed.new).failed ≡ None) }
     ensures jobs { IfOk result (λ report. report.jobs ≡ (F.shown feed.new).count) }
 
     // What the workers did.
     ensures alone { workers ≡ 1 → IfOk result HasRunAlone }
-    ensures ran { 2 ≤ workers → IfOk result (HasRunInPool workers) }
+    ensures passes { 2 ≤ workers → IfOk result (λ report. IsSome report.passes) }
+    ensures ran { 2 ≤ workers → IfOk result (λ report. IfSome report.passes (HasRunInPool workers window report)) }
+    ensures told { (all : List JobView) → (F.shown feed.old).left ≡ Some all
+        → IfOk result (λ report. IfSome report.passes (λ passes. AreTold all (all_in (blocks_pushed passes)))) }
 
     // What it refuses with.
     ensures fault { (fault : F.Fault) → result ≡ Err (DriveFault.Feed fault) → (F.shown feed.new).failed ≡ Some fault }
@@ -96,14 +105,16 @@ fn run_alone<F: BlockFeed, W: Work<F::Block, Answer = F::Answer>>(
     window: u16,
     work: &W,
     feed: &mut F,
-) -> Result<Report, DriveFault<F::Fault>>
+) -> Result<Report<Task<F::Block>, Done<F::Block, F::Answer>>, DriveFault<F::Fault>>
     requires some { 1 ≤ window }
     requires few { window ≤ 4096 }
     requires fresh { IsFreshFeed (F.shown feed.old) }
     ensures leads { F.leads feed.old feed.new }
     ensures due { count_in (F.shown feed.new).due ≤ window }
+    ensures in_turn { IsInTurn (F.shown feed.old).left (F.shown feed.new) }
     ensures ended { OnOk result ((F.shown feed.new).ended ≡ true) }
     ensures taken { OnOk result ((F.shown feed.new).due ≡ []) }
+    ensures left { OnOk result (IsLeft (F.shown feed.new).left []) }
     ensures well { OnOk result ((F.shown feed.new).failed ≡ None) }
     ensures jobs { IfOk result (λ report. report.jobs ≡ (F.shown feed.new).count) }
     ensures alone { IfOk result HasRunAlone }
@@ -115,6 +126,7 @@ fn run_alone<F: BlockFeed, W: Work<F::Block, Answer = F::Answer>>(
             jobs,
             own: jobs,
             ran: Vec::new(alloc),
+            passes: None,
         }),
         Err(fault) => Err(fault),
     }
@@ -135,7 +147,7 @@ fn in_pool<
     pace: Pace,
     work: &W,
     feed: &mut F,
-) -> Result<Report, DriveFault<E>>
+) -> Result<Report<Task<B>, Done<B, A>>, DriveFault<E>>
     requires opened { IsOpened window.capacity pool }
     requires capacity { window.capacity ≤ 4096 }
     requires empty { window.due ≡ [] }
@@ -143,11 +155,16 @@ fn in_pool<
 
     ensures leads { F.leads feed.old feed.new }
     ensures due { count_in (F.shown feed.new).due ≤ window.capacity }
+    ensures in_turn { IsInTurn (F.shown feed.old).left (F.shown feed.new) }
     ensures ended { OnOk result ((F.shown feed.new).ended ≡ true) }
     ensures taken { OnOk result ((F.shown feed.new).due ≡ []) }
+    ensures left { OnOk result (IsLeft (F.shown feed.new).left []) }
     ensures well { OnOk result ((F.shown feed.new).failed ≡ None) }
     ensures jobs { IfOk result (λ report. report.jobs ≡ (F.shown feed.new).count) }
-    ensures ran { IfOk result (HasRunInPool (length pool.post.deques)) }
+    ensures passes { IfOk result (λ report. IsSome report.passes) }
+    ensures ran { IfOk result (λ report. IfSome report.passes (HasRunInPool (length pool.post.deques) window.capacity report)) }
+    ensures told { (all : List JobView) → (F.shown feed.old).left ≡ Some all
+        → IfOk result (λ report. IfSome report.passes (λ passes. AreTold all (all_in (blocks_pushed passes)))) }
     ensures refuses { IfErr result (Refuses (F.shown feed.new)) }
 {
     let Pool {
@@ -172,7 +189,8 @@ fn in_pool<
         shared,
         members,
         &mut || -> Result<bool, E>
-            requires { (window.capacity ≤ 4096) × (window.due ≡ []) × IsFreshFeed (F.shown feed.now) × (helm.given ≡ []) × (tally.own ≡ 0) × (tally.issued ≡ 0) }
+            requires { (window.capacity ≤ 4096) × (window.due ≡ []) × IsFreshFeed (F.shown feed.now) × (helm.given ≡ [])
+                × (tally.own ≡ 0) × (tally.issued ≡ 0) }
         {
             lead_into(
                 rt,
@@ -198,19 +216,25 @@ fn finish<B: Jobs + Drop + Send, A: Answer + Drop + Send, W: Work<B, Answer = A>
     helm: BlockHelm<'_, '_, B, A, W>,
     members: Vec<Member<Task<B>, Done<B, A>>>,
     space: Space<Task<B>>,
-) -> Report
+) -> Report<Task<B>, Done<B, A>>
     requires served { All (HasServed task_of jobs_in helm.queue) members.items }
     requires berths { map berth_of members.items ≡ berths helm.deques }
     requires space { IsVacant (length helm.deques) space }
     requires settled { IsSettled helm }
-    requires tallies { Tallies tally helm.given }
+    requires tallies { Tallies tally helm }
     ensures jobs { result.jobs ≡ tally.issued }
-    ensures ran { HasRunInPool (length helm.entry.deques) result }
+    ensures passes { IsSome result.passes }
+    ensures ran { IfSome result.passes (HasRunInPool (length helm.entry.deques) helm.entry.room result) }
+    ensures given { IfSome result.passes (λ passes. blocks_pushed passes ≡ helm.entry.given) }
 {
-    let closed = close(helm.into_helm(), members, space);
+    let Closed { deques, pass, ran } = close(helm.into_helm(), members, space);
     Report {
         jobs: tally.issued,
         own: tally.own,
-        ran: closed.ran,
+        ran,
+        passes: Some(Passes {
+            deques,
+            results: pass,
+        }),
     }
 }

@@ -9,9 +9,9 @@ use ht_feed::{Answer, Shared, Work};
 use std::alloc::AllocError;
 use std::thread;
 
-/// Keeps an answer that has come, or runs a block that no worker took. Where there is neither and all blocks have come back,
-/// it runs the first one due that still waits for its answer; else another thread may go on. The only error is that the
-/// work lacked memory.
+/// Keeps an answer that has come, or runs a block that no worker took. Where there is neither and all blocks have come
+/// back, it runs the first one due that still waits for its answer; else another thread may go on. The only error is
+/// that the work lacked memory.
 pub(crate) fn turn<B: Shared + Drop + Send, A: Answer + Drop + Send, W: Work<B, Answer = A>>(
     work: &W,
     window: &mut Window<B, A>,

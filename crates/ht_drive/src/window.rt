@@ -11,8 +11,8 @@ use ht_feed::{Answer, Shared, Work};
 use std::alloc::{AllocError, Global};
 use std::marker::Model;
 
-/// The blocks that are due, in order, each with its answer once that has come. It has room for a number of jobs. Contracts
-/// see the jobs of each block.
+/// The blocks that are due, in order, each with its answer once that has come. It has room for a number of jobs.
+/// Contracts see the jobs of each block.
 #[derive(Drop)]
 pub(crate) struct Window<B: Shared, A: Answer> {
     slots: HeapCircularBuffer<Slot<B, A>>,
@@ -75,8 +75,8 @@ impl<B: Shared + Drop, A: Answer + Drop> Window<B, A> {
         place
     }
 
-    /// Keeps what came of a task, where its block is due and waits for an answer. The only error is that the work lacked
-    /// memory.
+    /// Keeps what came of a task, where its block is due and waits for an answer. The only error is that the work
+    /// lacked memory.
     pub(crate) fn accept(&mut self, done: Done<B, A>) -> Result<(), AllocError>
         ensures { self.new ≡ self.old }
     {

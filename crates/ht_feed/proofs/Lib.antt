@@ -6,4 +6,5 @@ pub mod Ending
 pub mod Finishing
 pub mod Measuring
 pub mod Detecting
+pub mod Turning
 mod Worked

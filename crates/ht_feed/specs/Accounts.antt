@@ -5,7 +5,8 @@ use Rattle.ht_feed.specs.Items.{Headed}
 
 -- an account of jobs with heads of H, which puts pieces of P
 module _ {H P : Type 0} where
-  -- the hits of these jobs were taken and these pieces put: whatever comes behind them, they are the first of all pieces
+  -- the hits of these jobs were taken and these pieces put: whatever comes behind them, they are the first of all
+  -- pieces
   abbrev pub PutsFirst : (List (Headed H) → List P) → (List (Headed H) → List P) → List (Headed H) → List P → Type 0
   PutsFirst old new taken put = (more : List (Headed H)) → old (taken ++ more) ≡ put ++ new more
 

@@ -10,8 +10,8 @@ use Rattle.ht_feed.specs.Dues.{Due, NoneEmpty, all_due, due_of, jobs_in}
 use Rattle.ht_feed.specs.Reading.{Counts, Finds, Standing, begun, view}
 use Rattle.ht_feed.specs.Feeds.{FeedView}
 
--- its reader and how the reading stopped, if it has; the head that came last and how many came; the blocks that are due,
--- and how many jobs were given
+-- its reader and how the reading stopped, if it has; the head that came last and how many came; the blocks that are
+-- due, and how many jobs were given
 pub record DeskView (R H : Type 0) : Type 0 where
   pub reader : R
   pub stop : Option Stop
@@ -33,11 +33,12 @@ module _ {R H : Type 0} (counts : R → Counts) where
     pub bound : desk.count + desk.frames + (counts desk.reader).more < 2 ^ 64 - 1
     pub full : NoneEmpty (jobs_in desk.due)
 
-  -- the desk as a feed, of which a call failed so, if one has
+  -- the desk as a feed, of which a call failed so, if one has; it doesn't know which jobs still come
   abbrev pub feed_view : DeskView R H → Option BookFault → FeedView BookFault
   feed_view desk failed = record {
     count = desk.count;
     due = jobs_in desk.due;
+    left = None;
     more = (counts desk.reader).more;
     ended = is_some desk.stop;
     failed = failed;

@@ -26,6 +26,10 @@ module _ {H : Type 0} where
   abbrev pub jobs_in : List (Due H) → List (List JobView)
   jobs_in blocks = map (λ (d : Due H). d.jobs) blocks
 
+-- all jobs of these blocks, in order
+abbrev pub all_in : List (List JobView) → List JobView
+all_in blocks = flat_map (λ (jobs : List JobView). jobs) blocks
+
 -- how many jobs these blocks have
 abbrev pub count_in : List (List JobView) → ℕ
 count_in [] = 0

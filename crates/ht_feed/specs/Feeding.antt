@@ -32,8 +32,8 @@ module _ {R D S A : Type 0} where
   abbrev pub feed_of : {H : Type 0} → (D → DeskView R H) → (R → Counts) → DeskFeed R D S A → FeedView BookFault
   feed_of seen counts f = feed_view counts (seen f.desk.now) f.failed.now
 
--- this is seen of a desk of D, and its reader of R means this; a source of S shows these devices, and an account of A tells
--- this, to whose device these borrows lead
+-- this is seen of a desk of D, and its reader of R means this; a source of S shows these devices, and an account of A
+-- tells this, to whose device these borrows lead
 module _ {R D S A H P : Type 0} (seen : D → DeskView R H) (means : R → List ℕ → Meaning (Item H)) (at : R → ℕ) (source : S → Device ℕ) (lent : A → List ℕ)
     (told : A → Telling H P) where
   abbrev pub seen_of : DeskFeed R D S A → Seen H P

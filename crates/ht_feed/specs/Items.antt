@@ -1,4 +1,5 @@
--- What a reader of blocks gives: the heads of frames, and behind each the jobs of its frame. A block stands for a list of jobs.
+-- What a reader of blocks gives: the heads of frames, and behind each the jobs of its frame. A block stands for a list
+-- of jobs.
 use Rattle.std.specs.Prelude.{◌≡◌, ℕ, ◌+◌, List, [], ◌∷◌}
 use Rattle.ht_metric.specs.Jobs.{JobView}
 

@@ -42,8 +42,8 @@ module _ {H P : Type 0} (start : ReaderView (Item H)) (pieces : List ℕ → Lis
     pub comes : IfSome start.source.known (λ all. start.means all ≡ start.means taken)
     pub put : Grows device device' (pieces taken)
 
-  -- the octets taken before the source failed are a whole input, or the front of one; the pieces of what is whole in them
-  -- were put
+  -- the octets taken before the source failed are a whole input, or the front of one; the pieces of what is whole in
+  -- them were put
   pub record TellsBroken : Type 0 where
     pub taken : List ℕ
     pub octets : Takes start.source source' taken

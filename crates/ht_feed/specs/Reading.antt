@@ -1,4 +1,5 @@
--- What a call of a reader of blocks does with the octets that it takes, and how far an input was read over several calls.
+-- What a call of a reader of blocks does with the octets that it takes, and how far an input was read over several
+-- calls.
 use Rattle.std.specs.Prelude.{◌≡◌, ◌⊎◌, ℕ, ◌+◌, ◌<◌, ◌≤◌, List, [], ◌∷◌, map, length, Option, None, Some, Bool, true}
 use Rattle.ht_io.specs.Devices.{Device, Takes, TakesAll, Rose, IsLater}
 use Rattle.ht_io.specs.declared.faults.InFault.{InFault}

@@ -31,8 +31,8 @@ seen_by means at desk source account = record {
 }
 
 module _ {H P : Type 0} where
-  -- items were read, hits of jobs were taken in order, and of the pieces of those jobs the first were put; the account's
-  -- device never failed
+  -- items were read, hits of jobs were taken in order, and of the pieces of those jobs the first were put; the
+  -- account's device never failed
   pub record Tells (old new : Seen H P) : Type 0 where
     pub items : List (Item H)
     pub taken : List (Headed H)
@@ -49,8 +49,8 @@ module _ {H P : Type 0} where
     pub reads_later : IsLater old.standing.reader.source new.standing.reader.source
     pub puts_later : IsLater old.account.device new.account.device
 
-  -- items were read, and a part of the pieces of some of their jobs was put; the account's device has counted it exactly
-  -- where it failed
+  -- items were read, and a part of the pieces of some of their jobs was put; the account's device has counted it
+  -- exactly where it failed
   pub record TellsPart (old new : Seen H P) (fault : BookFault) : Type 0 where
     pub items : List (Item H)
     pub taken : List (Headed H)

@@ -13,9 +13,9 @@ use circular_buffer::HeapCircularBuffer;
 
 /// What becomes of the hits of blocks: pieces, such as lines of text, which an account puts into its device.
 ///
-/// A desk hands an account the answers to the blocks of its reader, in their order. In each state the account shows which
-/// pieces it puts in all if the hits of exactly these jobs still come, those included that it keeps back until then.
-/// So taking the hits of a block puts the first of them, and what is left is what the account shows from then on.
+/// A desk hands an account the answers to the blocks of its reader, in their order. In each state the account shows
+/// which pieces it puts in all if the hits of exactly these jobs still come, those included that it keeps back until
+/// then. So taking the hits of a block puts the first of them, and what is left is what the account shows from then on.
 pub trait Account<R: BlockReader> {
     /// What is put, as contracts see it.
     type Piece;
@@ -35,9 +35,9 @@ pub trait Account<R: BlockReader> {
     /// What is kept back is of jobs in front of these, which are due; where none is due, nothing is kept back.
     ghost waits: { Self → List (Headed R.Head) → Type 0 };
 
-    /// Takes the answer to the first block due, whose frame has this head. In `due` are all blocks that are due, in order,
-    /// this one first. Behind a refusal nothing is said of the pieces still to come, and nothing of the ones that were
-    /// kept back.
+    /// Takes the answer to the first block due, whose frame has this head. In `due` are all blocks that are due, in
+    /// order, this one first. Behind a refusal nothing is said of the pieces still to come, and nothing of the ones
+    /// that were kept back.
     fn take(
         &mut self,
         head: &R::Head,

@@ -21,8 +21,8 @@ pub trait Work<B: Jobs> {
         requires few { length (B.jobs block.now) < 2 ^ 16 }
         ensures right { IfOk result (λ answer. Self.Answer.answers answer (B.jobs block.now)) };
 
-    /// Whether the block of this answer took so long that the next ones are better given job by job. Nothing but the size
-    /// of blocks rests on it.
+    /// Whether the block of this answer took so long that the next ones are better given job by job. Nothing but the
+    /// size of blocks rests on it.
     fn is_hard(&self, _block: &B, _answer: &Self::Answer) -> bool
         requires few { length (B.jobs _block.now) < 2 ^ 16 }
     {

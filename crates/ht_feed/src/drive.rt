@@ -1,7 +1,7 @@
 //! The drive of a feed of blocks without threads.
 ghost use Rattle.std.specs.Prelude.{◌≡◌, ◌≤◌, [], true, Err, None, Some, IfOk, OnOk};
 ghost use Rattle.ht_feed.specs.Dues.{count_in};
-ghost use Rattle.ht_feed.specs.Feeds.{IsFreshFeed};
+ghost use Rattle.ht_feed.specs.Feeds.{IsFreshFeed, IsInTurn, IsLeft};
 
 use crate::answer::Work;
 use crate::feed::BlockFeed;
@@ -19,8 +19,8 @@ pub enum DriveFault<F> {
     NoMemory,
 }
 
-/// Runs all blocks of a feed, in this thread, and hands it their answers in the order of the blocks. It answers how many
-/// jobs the feed gave.
+/// Runs all blocks of a feed, in this thread, and hands it their answers in the order of the blocks. It answers how
+/// many jobs the feed gave.
 ///
 /// The feed has given nothing yet. One block is due at a time, of at most `window` jobs, 1 to 4096.
 ///
@@ -37,10 +37,12 @@ pub fn drive_alone<F: BlockFeed, W: Work<F::Block, Answer = F::Answer>>(
     // However it ends.
     ensures leads { F.leads feed.old feed.new }
     ensures due { count_in (F.shown feed.new).due ≤ window }
+    ensures in_turn { IsInTurn (F.shown feed.old).left (F.shown feed.new) }
 
     // When the feed has ended, every block was run and taken, and no call failed.
     ensures ended { OnOk result ((F.shown feed.new).ended ≡ true) }
     ensures taken { OnOk result ((F.shown feed.new).due ≡ []) }
+    ensures left { OnOk result (IsLeft (F.shown feed.new).left []) }
     ensures well { OnOk result ((F.shown feed.new).failed ≡ None) }
     ensures jobs { IfOk result (λ jobs. jobs ≡ (F.shown feed.new).count) }
 

@@ -8,8 +8,8 @@ use ht_metric::Place;
 use std::marker::Model;
 use std::snapshot::Snapshot;
 
-/// A block that is due, as a desk keeps it: the head of its frame, and the place of its first job. Contracts see the head
-/// and all of its jobs.
+/// A block that is due, as a desk keeps it: the head of its frame, and the place of its first job. Contracts see the
+/// head and all of its jobs.
 #[derive(Drop)]
 pub struct DueBlock<R: BlockReader> {
     head: R::Head,

@@ -9,12 +9,12 @@ use crate::jobs::Jobs;
 /// A source of blocks that takes back their answers, in the order of the blocks.
 ///
 /// Jobs are numbered from 0. A block that was given is due until its answer is taken. What each call did shows in one
-/// record, [`shown`](BlockFeed): how many jobs were given, which are due, a number of jobs beyond which none comes, whether
-/// it has ended, and what it answered when it failed.
+/// record, [`shown`](BlockFeed): how many jobs were given, which are due, which are still to come where this is known,
+/// a number of jobs beyond which none comes, whether it has ended, and what it answered when it failed.
 ///
-/// Beyond this a feed says by a relation of its own, `leads`, what it does with the answers and with the devices behind it:
-/// every call leads from the state before it to the state after it. So whoever hands a feed to a drive knows afterwards
-/// that the state at the call leads to the one that comes back.
+/// Beyond this a feed says by a relation of its own, `leads`, what it does with the answers and with the devices behind
+/// it: every call leads from the state before it to the state after it. So whoever hands a feed to a drive knows
+/// afterwards that the state at the call leads to the one that comes back.
 pub trait BlockFeed {
     /// What a call that fails answers.
     type Fault: Drop;
@@ -31,8 +31,8 @@ pub trait BlockFeed {
     /// The calls of the feed may lead from the one state to the other.
     ghost leads: { Self → Self → Type 0 };
 
-    /// Gives the next block, of at most `most` jobs, or none where no block comes any more. The feed hasn't ended, and with
-    /// the block at most 4096 jobs are due.
+    /// Gives the next block, of at most `most` jobs, or none where no block comes any more. The feed hasn't ended, and
+    /// with the block at most 4096 jobs are due.
     fn next(&mut self, most: u16) -> Result<Option<Self::Block>, Self::Fault>
         requires running { (shown self.old).ended ≡ false }
         requires some { 1 ≤ most }

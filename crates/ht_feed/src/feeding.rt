@@ -16,15 +16,16 @@ use ht_io::Source;
 use std::marker::PhantomData;
 
 impl<'a, R: BlockReader + Drop, D: Desking<R>, S: Source, A: Account<R>> DeskFeed<'a, R, D, S, A> {
-    /// A feed which goes on from where its desk stands, and from what a call before it failed with, if one did. It takes no
-    /// memory.
+    /// A feed which goes on from where its desk stands, and from what a call before it failed with, if one did. It
+    /// takes no memory.
     pub fn new(
         desk: &'a mut D,
         source: &'a mut S,
         account: &'a mut A,
         failed: &'a mut Option<BookFault>,
     ) -> DeskFeed<'a, R, D, S, A>
-        ensures names { names_of A.lent result ≡ names desk.entry.ghost_name source.entry.ghost_name account.entry.ghost_name failed.entry.ghost_name (A.lent account.old) }
+        ensures names { names_of A.lent result
+            ≡ names desk.entry.ghost_name source.entry.ghost_name account.entry.ghost_name failed.entry.ghost_name (A.lent account.old) }
         ensures desk { result.desk.now ≡ desk.old }
         ensures source { result.source.now ≡ source.old }
         ensures account { result.account.now ≡ account.old }

@@ -10,8 +10,8 @@ const STREAMS: u8 = 3;
 /// How often the distance of a hard job has its measure in it, at least.
 const FAR: u64 = 64;
 
-/// Whether the search for a job whose hit has this distance may have looked at thousands of vectors: many are in the grid,
-/// and the one that was found is far. Nothing but the size of blocks rests on it.
+/// Whether the search for a job whose hit has this distance may have looked at thousands of vectors: many are in the
+/// grid, and the one that was found is far. Nothing but the size of blocks rests on it.
 pub fn is_hard(job: &Job, distance: u128) -> bool {
     let grid = job.grid();
     if grid.streams() < STREAMS || !grid.i_ladder(1).has(3) {

@@ -65,7 +65,7 @@ pub fn hits_of<B: Jobs, F: Finder>(alloc: Global, block: &B, finder: &F) -> Resu
     let mut found = Vec::with_capacity(alloc, usize::from(size))?;
     for at in 0..size {
         let job = block.job(at);
-        found.push(finder.find(&job))?;
+        found.push_reserved(finder.find(&job));
     }
     Ok(Hits { found })
 }

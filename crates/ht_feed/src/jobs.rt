@@ -7,8 +7,8 @@ use ht_metric::{Job, Place};
 
 /// What stands for a list of jobs, such as those of some subcarriers of one symbol.
 ///
-/// Whoever runs a block asks it for one job after another; a block whose jobs share most of what they hold, as those of a
-/// frame share its triangles, need not keep any of them whole.
+/// Whoever runs a block asks it for one job after another; a block whose jobs share most of what they hold, as those of
+/// a frame share its triangles, need not keep any of them whole.
 pub trait Jobs {
     /// The jobs that it stands for, in their order.
     ghost jobs: { Self → List JobView };

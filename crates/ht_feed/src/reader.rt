@@ -12,8 +12,9 @@ use ht_io::{InFault, Source};
 
 /// What reads the heads of frames, and blocks of jobs behind each, from the octets of a source.
 ///
-/// In each state a reader says what the octets mean that still come: a list of heads and jobs, and a fault behind them or
-/// none. What a call gives is the first of that, in any division into blocks. Jobs are numbered from 0 over an input.
+/// In each state a reader says what the octets mean that still come: a list of heads and jobs, and a fault behind them
+/// or none. What a call gives is the first of that, in any division into blocks. Jobs are numbered from 0 over an
+/// input.
 pub trait BlockReader {
     /// The head of a frame.
     type Head: Copy + Drop;
@@ -30,8 +31,8 @@ pub trait BlockReader {
     /// How many jobs were given, and how many heads and jobs still come at most.
     ghost counts: { Self → Counts };
 
-    /// Reads on to the next head, the next block of at most `most` jobs, or the end. Behind a fault or the end it can't be
-    /// asked again.
+    /// Reads on to the next head, the next block of at most `most` jobs, or the end. Behind a fault or the end it can't
+    /// be asked again.
     fn next<S: Source>(
         &mut self,
         most: u16,
@@ -46,7 +47,8 @@ pub trait BlockReader {
         ensures never_more { (counts self.new).more ≤ (counts self.old).more }
         ensures later { IsLater (S.shown source.old) (S.shown source.new) };
 
-    /// The next block of at most `most` jobs out of what was read, if there is one. It asks no source, so nothing can fail.
+    /// The next block of at most `most` jobs out of what was read, if there is one. It asks no source, so nothing can
+    /// fail.
     fn ready(&mut self, most: u16) -> Option<Self::Block>
         requires going { (counts self.old).going ≡ true }
         requires some { 1 ≤ most }

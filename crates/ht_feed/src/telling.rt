@@ -80,12 +80,12 @@ fn run_desk<R: BlockReader + Drop, S: Source, A: Account<R>, W: Work<R::Block, A
     }
 }
 
-/// Reads the input of a reader that gave nothing yet to its end or its first fault, and hands the hits of its jobs to the
-/// account, which keeps nothing back.
+/// Reads the input of a reader that gave nothing yet to its end or its first fault, and hands the hits of its jobs to
+/// the account, which keeps nothing back.
 ///
 /// Every block is run in this thread, by the work, and one block is due at a time, of at most `window` jobs, 1 to 4096.
-/// What is put for a list of octets is what the account shows at the call, of the jobs that the reader shows. Until a head
-/// comes, `head` stands for the one that came last.
+/// What is put for a list of octets is what the account shows at the call, of the jobs that the reader shows. Until a
+/// head comes, `head` stands for the one that came last.
 ///
 /// It answers `Done` for a whole input, and `Refused` with the first fault of another. It refuses with `Read` where the
 /// source failed, having put the pieces of what was read whole; with `Write` where the account's device failed, also if

@@ -1,12 +1,12 @@
 -- The hit of one more job is taken where the results of whole frames are still to be booked.
 use Rattle.std.proofs.Common.{◌≡◌, ◌≤◌, List, [], ◌∷◌, ◌++◌, Result, Ok, Err, OnErr, OnOk, map, length}
-use Rattle.std.specs.Prelude.{IfErr, Option, option_to_list}
+use Rattle.std.specs.Prelude.{IfErr, Bool, true}
 use Rattle.std.proofs.Common.{arith, refl, sym, ap, ◌∙◌, subst, append-nil, append_assoc}
 use Rattle.std.proofs.lemmas.List.{map-append}
 use Rattle.std.specs.List.{flat_map}
 use Rattle.std.proofs.lemmas.Grind.{flat_map-append}
 use Rattle.ht_io.specs.Devices.{Device, Grows, GrowsByPart, IsLater, Rose}
-use Rattle.ht_io.proofs.Calls.{failed-later, grows-append, grows-none, grows_by_part-append, grows_by_part-front, grows_by_part-none}
+use Rattle.ht_io.proofs.Calls.{failed-later, grows-append, grows-none, grows_by_part-append, grows_by_part-front}
 use Rattle.ht_metric.specs.Jobs.{JobView, near}
 use Rattle.ht_metric.specs.declared.found.Found.{Found}
 use Rattle.ht_metric.specs.declared.place.Place.{Place}
@@ -14,7 +14,7 @@ use Rattle.ht_feed.specs.declared.book_fault.BookFault.{BookFault}
 use Rattle.ht_feed.specs.declared.book_fault.BookFault.TheVariants.{Failed}
 use Rattle.ht_feed.specs.Accounts.{PutsBlock, PutsPartOf}
 use Rattle.ht_feed.specs.Items.{Headed, headed_of}
-use Rattle.ht_frames.specs.Gathering.{BooksFirst, WaitForJobs, booked_behind, booked_whole}
+use Rattle.ht_frames.specs.Gathering.{BooksFirst, WaitForJobs, booked_behind, booked_whole, finished}
 
 -- where the book failed behind others that didn't, it failed
 pub failed_behind : {P : Type 0} (result : Result (Unit {0}) BookFault) (a b c : Device P) → IsLater a b
@@ -37,20 +37,6 @@ module _ {W T P : Type 0} (result_of : W → T) (booked : T → List P) where
   -- no result was booked yet
   pub books_none : (a : Device P) (whole : List W) → BooksFirst result_of booked a a whole whole
   books_none a whole = ([], refl, grows-none a)
-
-  one_whole : (f : W) → booked_whole result_of booked (f ∷ []) ≡ booked (result_of f)
-  one_whole f = append-nil (booked (result_of f))
-
-  -- the only one was booked, or a part of it
-  pub only_put : {A E : Type 0} (a b : Device P) (f : W) (result : Result A E) → OnOk result (Grows a b (booked (result_of f)))
-      → OnOk result (BooksFirst result_of booked a b (f ∷ []) [])
-  only_put a b f (Ok x) grows = (f ∷ [], refl, subst (λ (ps : List P). Grows a b ps) (sym (one_whole f)) grows)
-  only_put a b f (Err e) grows = tt
-
-  pub only_part : {A E : Type 0} (a b : Device P) (f : W) (result : Result A E) → OnErr result (GrowsByPart a b (booked (result_of f)))
-      → OnErr result (GrowsByPart a b (booked_whole result_of booked (f ∷ [])))
-  only_part a b f (Ok x) part = tt
-  only_part a b f (Err e) part = subst (λ (ps : List P). GrowsByPart a b ps) (sym (one_whole f)) part
 
   -- the results of the first ones and of the next one
   whole_next : (done : List W) (f : W) (rest : List W) → booked_whole result_of booked (done ++ f ∷ rest)
@@ -80,7 +66,8 @@ module _ {W T P : Type 0} (result_of : W → T) (booked : T → List P) where
         (grows_by_part-front b c (booked (result_of f)) (booked_whole result_of booked new) part))
 
   -- what is booked behind whole frames is booked behind their results
-  behind_whole : (whole : List W) (later : List T) → flat_map booked (map result_of whole ++ later) ≡ booked_whole result_of booked whole ++ flat_map booked later
+  behind_whole : (whole : List W) (later : List T)
+      → flat_map booked (map result_of whole ++ later) ≡ booked_whole result_of booked whole ++ flat_map booked later
   behind_whole whole later = flat_map-append booked (map result_of whole) later
 
   module _ {H : Type 0} where
@@ -111,24 +98,21 @@ module _ {W T P : Type 0} (result_of : W → T) (booked : T → List P) where
           subst (λ (ps : List P). GrowsByPart a b ps) (sym (ap (flat_map booked) (goes more) ∙ behind_whole whole' (after more)))
           (grows_by_part-front a b (booked_whole result_of booked whole') (flat_map booked (after more)) part)
 
-    -- a frame that is whole stands behind the others
-    pub stands_behind : (whole whole' : List W) (taken known : Option W) (before after : List (Headed H) → List T) (h : Headed H) → taken ≡ known
-        → whole' ≡ whole ++ option_to_list known
-        → ((more : List (Headed H)) → before (h ∷ more) ≡ map result_of (option_to_list taken) ++ after more)
+    -- a frame whose last job came stands behind the others, and what the jobs that still come give is the same
+    pub stands_behind : (whole whole' : List W) (f : W) (last : Bool) (one : T) (before mid after : List (Headed H) → List T) (h : Headed H)
+        → last ≡ true → result_of f ≡ one → whole' ≡ whole ++ f ∷ []
+        → ((more : List (Headed H)) → before (h ∷ more) ≡ finished last one ++ mid more) → ((more : List (Headed H)) → after more ≡ mid more)
         → (more : List (Headed H)) → map result_of whole ++ before (h ∷ more) ≡ map result_of whole' ++ after more
-    stands_behind whole whole' taken known before after h same is goes more =
-        let new = option_to_list known in
+    stands_behind whole whole' f last one before mid after h is same stands goes kept more =
         let rest = after more in
-        ap (λ (rs : List T). map result_of whole ++ rs) (goes more ∙ ap (λ (o : Option W). map result_of (option_to_list o) ++ rest) same)
-        ∙ (sym (append_assoc (map result_of whole) (map result_of new) rest)
-        ∙ (ap (λ (rs : List T). rs ++ rest) (sym (map-append result_of whole new))
-        ∙ ap (λ (fs : List W). map result_of fs ++ rest) (sym is)))
-
-    -- where nothing was put, none of all pieces was
-    pub part_none : {A E : Type 0} (a : Device P) (start : List (Headed H) → List P) (head : H) (place : Place) (found : Found) (result : Result A E)
-        → OnErr result ((job : JobView) → job.place ≡ place → found ≡ near job → PutsPartOf a a start (headed_of head job ∷ []))
-    part_none a start head place found (Ok x) = tt
-    part_none a start head place found (Err e) = λ job here is more. grows_by_part-none a (start (headed_of head job ∷ more))
+        let come : before (h ∷ more) ≡ result_of f ∷ rest =
+        goes more
+        ∙ (ap (λ (b : Bool). finished b one ++ mid more) is
+        ∙ (ap (λ (r : T). r ∷ mid more) (sym same) ∙ ap (λ (rs : List T). result_of f ∷ rs) (sym (kept more)))) in
+        ap (λ (rs : List T). map result_of whole ++ rs) come
+        ∙ (sym (append_assoc (map result_of whole) (result_of f ∷ []) rest)
+        ∙ (ap (λ (rs : List T). rs ++ rest) (sym (map-append result_of whole (f ∷ [])))
+        ∙ ap (λ (fs : List W). map result_of fs ++ rest) (sym stands)))
 
     -- what comes of a job from this place, of which this was found
     module _ (a b : Device P) (whole whole' left : List W) (before after : List (Headed H) → List T) (head : H) (place : Place) (found : Found)

@@ -1,10 +1,26 @@
 -- Whole frames whose results are still to be booked, and what is booked of them and of the frames that are whole later.
-use Rattle.std.specs.Prelude.{◌≡◌, List, [], ◌∷◌, ◌++◌, map, slice_get}
+use Rattle.std.specs.Prelude.{◌≡◌, ℕ, Bool, true, false, Result, IfErr, OnOk, List, [], ◌∷◌, ◌++◌, map, slice_get}
 use Rattle.std.specs.List.{flat_map}
 use Rattle.std.proofs.Common.{ap, refl, sym, ◌∙◌}
 use Rattle.std.proofs.lemmas.Option.{none-some}
-use Rattle.ht_io.specs.Devices.{Device, Grows}
+use Rattle.ht_io.specs.Devices.{Device, Grows, IsLater, Rose}
+use Rattle.ht_feed.specs.declared.book_fault.BookFault.{BookFault}
+use Rattle.ht_feed.specs.declared.book_fault.BookFault.TheVariants.{Failed, NoMemory}
 use Rattle.ht_feed.specs.Items.{Headed}
+
+-- behind calls that answered so a fault of a book's device is counted exactly where the answer is Failed, and it is the
+-- same device
+pub record CountsFaults {A P : Type 0} (result : Result A BookFault) (before after : Device P) (lent lent' : List ℕ) : Type 0 where
+  pub steady : OnOk result (after.faults ≡ before.faults)
+  pub cause : IfErr result (λ fault. fault ≡ Failed → Rose before after)
+  pub unfailed : IfErr result (λ fault. fault ≡ NoMemory → after.faults ≡ before.faults)
+  pub later : IsLater before after
+  pub same : lent' ≡ lent
+
+-- the result of a frame, where its last job came
+abbrev pub finished : {T : Type 0} → Bool → T → List T
+finished true result = result ∷ []
+finished false result = []
 
 -- what is booked in all of jobs that still come, where they come to these results
 abbrev pub booked_in : {H T P : Type 0} → (T → List P) → (List (Headed H) → List T) → List (Headed H) → List P

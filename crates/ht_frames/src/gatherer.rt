@@ -1,11 +1,10 @@
 //! An account that decodes whole frames while more jobs come.
-ghost use Rattle.std.specs.Prelude.{◌≡◌, ◌-◌, ◌^◌, ◌<◌, ◌≤◌, ◌∷◌, [], true, IfErr, OnErr, OnOk, drop};
-ghost use Rattle.ht_io.specs.Devices.{IsLater, Rose};
+ghost use Rattle.std.specs.Prelude.{◌≡◌, ◌-◌, ◌^◌, ◌<◌, ◌≤◌, ◌∷◌, [], true, OnErr, OnOk, drop};
 ghost use Rattle.ht_metric.specs.Jobs.{JobView, near};
 ghost use Rattle.ht_feed.specs.Accounts.{PutsBlock, PutsPartOf};
 ghost use Rattle.ht_feed.specs.Dues.{AreHits, all_due, due_of, headed_due};
 ghost use Rattle.ht_feed.specs.Items.{headed_of};
-ghost use Rattle.ht_frames.specs.Gathering.{WaitForJobs, booked_behind, none_behind, wait_on};
+ghost use Rattle.ht_frames.specs.Gathering.{CountsFaults, WaitForJobs, booked_behind, none_behind, wait_on};
 
 use crate::book::Book;
 use crate::decoding::Decoding;
@@ -19,17 +18,17 @@ use std::alloc::Global;
 use std::collections::VecDeque;
 use std::thread::Threads;
 
-/// Books the result of each frame in a book, as a [`Receiver`](crate::Receiver) does, and decodes whole frames in threads
-/// of their own while it takes more hits.
+/// Books the result of each frame in a book, as a [`Receiver`](crate::Receiver) does, and decodes whole frames in
+/// threads of their own while it takes more hits.
 ///
 /// A frame of 400 octets or more is decoded in a thread of its own once its last job came; a shorter one is decoded by
 /// the caller, at once. Results are booked in order, and that of a frame that the caller decoded as soon as it is the
 /// oldest.
 ///
-/// Behind each hit fewer frames than there are workers, of at most 131,072 octets together, have no booked result, besides
-/// the frame under way. Where one more is whole, it is begun, and then the caller waits for the oldest ones. As two of the
-/// longest frames have 131,070 octets, there are never more than three of the longest frames, the one under way among them.
-/// Where no other block is due, the caller decodes the frame that is whole then, and books all results.
+/// Behind each hit fewer frames than there are workers, of at most 131,072 octets together, have no booked result,
+/// besides the frame under way. Where one more is whole, it is begun, and then the caller waits for the oldest ones. As
+/// two of the longest frames have 131,070 octets, there are never more than three of the longest frames, the one under
+/// way among them. Where no other block is due, the caller decodes the frame that is whole then, and books all results.
 #[derive(Drop)]
 pub struct Gatherer<'a, R, U: UnderWay, B> {
     rt: &'a R,
@@ -81,8 +80,8 @@ fn another_is_due<R: BlockReader>(due: &HeapCircularBuffer<DueBlock<R>>) -> bool
     }
 }
 
-// Takes what was found for a job of the frame that is under way, or that begins with this head. A frame that is whole then
-// stands behind the others, of which at most `room` are left.
+// Takes what was found for a job of the frame that is under way, or that begins with this head. A frame that is whole
+// then stands behind the others, of which at most `room` are left.
 fn take_found<R: Threads, U: UnderWay, B: Book<<U::Whole as WholeFrame>::Result>>(
     rt: &R,
     alloc: Global,
@@ -100,18 +99,14 @@ fn take_found<R: Threads, U: UnderWay, B: Book<<U::Whole as WholeFrame>::Result>
         (booked_behind U.Whole.result_of B.booked queue.new.items (U.results under_way.new)) (headed_of head.now job ∷ [])) }
     ensures part { OnErr result ((job : JobView) → job.place ≡ place → found.now ≡ near job → PutsPartOf (B.shown book.old) (B.shown book.new)
         (booked_behind U.Whole.result_of B.booked queue.old.items (U.results under_way.old)) (headed_of head.now job ∷ [])) }
-    ensures cause { IfErr result (λ fault. fault ≡ BookFault.Failed → Rose (B.shown book.old) (B.shown book.new)) }
-    ensures steady { OnOk result ((B.shown book.new).faults ≡ (B.shown book.old).faults) }
-    ensures unfailed { IfErr result (λ fault. fault ≡ BookFault.NoMemory → (B.shown book.new).faults ≡ (B.shown book.old).faults) }
-    ensures later { IsLater (B.shown book.old) (B.shown book.new) }
-    ensures same { B.lent book.new ≡ B.lent book.old }
+    ensures faults { CountsFaults result (B.shown book.old) (B.shown book.new) (B.lent book.old) (B.lent book.new) }
 {
-    match under_way.take(alloc, head, place, found)? {
-        Some(frame) => {
-            decode::<R, U>(rt, alloc, queue, frame, room > 0)?;
-            finish(rt, room, queue, book)
-        }
-        None => Ok(()),
+    if under_way.take(alloc, head, place, found)? {
+        let frame = under_way.leave(alloc);
+        decode::<R, U>(rt, alloc, queue, frame, room > 0)?;
+        finish(rt, room, queue, book)
+    } else {
+        Ok(())
     }
 }
 
@@ -133,11 +128,7 @@ fn take_block<J: Jobs, R: Threads, U: UnderWay, B: Book<<U::Whole as WholeFrame>
         (booked_behind U.Whole.result_of B.booked queue.new.items (U.results under_way.new)) (headed_due (due_of head.now (J.jobs block.now)))) }
     ensures part { OnErr result (PutsPartOf (B.shown book.old) (B.shown book.new)
         (booked_behind U.Whole.result_of B.booked queue.old.items (U.results under_way.old)) (headed_due (due_of head.now (J.jobs block.now)))) }
-    ensures cause { IfErr result (λ fault. fault ≡ BookFault.Failed → Rose (B.shown book.old) (B.shown book.new)) }
-    ensures steady { OnOk result ((B.shown book.new).faults ≡ (B.shown book.old).faults) }
-    ensures unfailed { IfErr result (λ fault. fault ≡ BookFault.NoMemory → (B.shown book.new).faults ≡ (B.shown book.old).faults) }
-    ensures later { IsLater (B.shown book.old) (B.shown book.new) }
-    ensures same { B.lent book.new ≡ B.lent book.old }
+    ensures faults { CountsFaults result (B.shown book.old) (B.shown book.new) (B.lent book.old) (B.lent book.new) }
 {
     for at in 0..found.len() {
         let place = block.place_at(at as u16);

@@ -1,7 +1,7 @@
 //! Whole frames are decoded while more jobs come, and their results are booked in order.
-ghost use Rattle.std.specs.Prelude.{◌≡◌, ◌≤◌, ◌∷◌, [], ◌++◌, false, List, None, length, option_to_list, IfErr, OnErr, OnOk};
-ghost use Rattle.ht_io.specs.Devices.{Grows, GrowsByPart, IsLater, Rose};
-ghost use Rattle.ht_frames.specs.Gathering.{BooksFirst, booked_whole};
+ghost use Rattle.std.specs.Prelude.{◌≡◌, ◌≤◌, ◌∷◌, [], ◌++◌, false, None, length, option_to_list, OnErr, OnOk};
+ghost use Rattle.ht_io.specs.Devices.{Grows, GrowsByPart};
+ghost use Rattle.ht_frames.specs.Gathering.{BooksFirst, CountsFaults, booked_whole};
 
 use crate::book::Book;
 use crate::decoding::Decoding;
@@ -93,19 +93,15 @@ fn book_one<R: Threads, W: WholeFrame + Drop, B: Book<W::Result>>(
 ) -> Result<(), BookFault>
     ensures put { OnOk result (Grows (B.shown book.old) (B.shown book.new) (B.booked (W.result_of frame))) }
     ensures part { OnErr result (GrowsByPart (B.shown book.old) (B.shown book.new) (B.booked (W.result_of frame))) }
-    ensures steady { OnOk result ((B.shown book.new).faults ≡ (B.shown book.old).faults) }
-    ensures cause { IfErr result (λ fault. fault ≡ BookFault.Failed → Rose (B.shown book.old) (B.shown book.new)) }
-    ensures unfailed { IfErr result (λ fault. fault ≡ BookFault.NoMemory → (B.shown book.new).faults ≡ (B.shown book.old).faults) }
-    ensures later { IsLater (B.shown book.old) (B.shown book.new) }
-    ensures same { B.lent book.new ≡ B.lent book.old }
+    ensures faults { CountsFaults result (B.shown book.old) (B.shown book.new) (B.lent book.old) (B.lent book.new) }
 {
     let result = frame.finish(rt)?;
     book.frame(result)?;
     Ok(())
 }
 
-/// Books the results of the oldest frames, until at most `room` frames are left, they have at most 131,072 octets together,
-/// and the oldest of them has a thread.
+/// Books the results of the oldest frames, until at most `room` frames are left, they have at most 131,072 octets
+/// together, and the oldest of them has a thread.
 pub(crate) fn finish<R: Threads, W: WholeFrame + Drop, B: Book<W::Result>>(
     rt: &R,
     room: usize,
@@ -115,11 +111,7 @@ pub(crate) fn finish<R: Threads, W: WholeFrame + Drop, B: Book<W::Result>>(
     ensures put { OnOk result (BooksFirst W.result_of B.booked (B.shown book.old) (B.shown book.new) queue.old.items queue.new.items) }
     ensures few { OnOk result (length queue.new.items ≤ room) }
     ensures part { OnErr result (GrowsByPart (B.shown book.old) (B.shown book.new) (booked_whole W.result_of B.booked queue.old.items)) }
-    ensures steady { OnOk result ((B.shown book.new).faults ≡ (B.shown book.old).faults) }
-    ensures cause { IfErr result (λ fault. fault ≡ BookFault.Failed → Rose (B.shown book.old) (B.shown book.new)) }
-    ensures unfailed { IfErr result (λ fault. fault ≡ BookFault.NoMemory → (B.shown book.new).faults ≡ (B.shown book.old).faults) }
-    ensures later { IsLater (B.shown book.old) (B.shown book.new) }
-    ensures same { B.lent book.new ≡ B.lent book.old }
+    ensures faults { CountsFaults result (B.shown book.old) (B.shown book.new) (B.lent book.old) (B.lent book.new) }
 {
     while let Some(oldest) = take_oldest(queue, room) {
         book_one(rt, oldest, book)?;

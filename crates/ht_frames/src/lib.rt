@@ -1,16 +1,17 @@
 //! Frames under way, and what becomes of their results.
 //!
 //! Whoever receives frames says by an [`UnderWay`] what their jobs come to: it takes what was found for one job after
-//! another, each with its place and the head of its frame, and gives a [`WholeFrame`] with a frame's last job. All else is
-//! here. A [`Receiver`] decodes each whole frame and books its result in a [`Book`]; a [`Gatherer`] does so too, and
-//! decodes long frames in threads of their own while more hits come. Both are accounts (`Account` of crate `ht_feed`): the
-//! jobs that come put what is booked of the results that they come to, `booked_in` in `specs/Gathering.antt`, whatever the
-//! blocks and the threads are. A [`ListBook`] keeps the results, and a [`TextBook`] puts the [`Line`] of each into a sink.
-//! [`HitWork`] finds the hits, each job between the two calls of a gate.
+//! another, each with its place and the head of its frame. With its last job a frame is whole, and is decoded where it
+//! stands or leaves as a [`WholeFrame`]. All else is here. A [`Receiver`] decodes each whole frame and books its result
+//! in a [`Book`]; a [`Gatherer`] has them leave, and decodes long ones in threads of their own while more hits come.
+//! Both are accounts (`Account` of crate `ht_feed`): the jobs that come put what is booked of the results that they
+//! come to, `booked_in` in `specs/Gathering.antt`, whatever the blocks and the threads are. A [`ListBook`] keeps the
+//! results, and a [`TextBook`] puts the [`Line`] of each into a sink. [`HitWork`] finds the hits, each job between the
+//! two calls of a gate.
 //!
-//! Say a frame is whole with its second job, its result is the sum of the two distances, and its line is that number. Of
-//! five jobs with the distances 7, 7, 4, 0 and 9 a receiver with a [`TextBook`] puts `14` and `4`, and keeps the fifth job
-//! under way.
+//! Say a frame is whole with its second job, its result is the sum of the two distances, and its line is that number.
+//! Of five jobs with the distances 7, 7, 4, 0 and 9 a receiver with a [`TextBook`] puts `14` and `4`, and keeps the
+//! fifth job under way.
 #![tactic(auto)]
 
 mod book;

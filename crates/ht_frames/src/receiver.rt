@@ -1,11 +1,11 @@
 //! An account that books the result of each frame.
-ghost use Rattle.std.specs.Prelude.{◌≡◌, ◌^◌, ◌<◌, ◌∷◌, [], IfErr, OnErr, OnOk};
-ghost use Rattle.ht_io.specs.Devices.{Grows, GrowsByPart, IsLater, Rose};
+ghost use Rattle.std.specs.Prelude.{◌≡◌, ◌^◌, ◌<◌, ◌∷◌, [], List, OnErr, OnOk};
+ghost use Rattle.ht_io.specs.Devices.{Grows, GrowsByPart};
 ghost use Rattle.ht_metric.specs.Jobs.{JobView, near};
 ghost use Rattle.ht_feed.specs.Accounts.{PutsBlock, PutsPartOf};
 ghost use Rattle.ht_feed.specs.Dues.{AreHits, due_of, headed_due};
-ghost use Rattle.ht_feed.specs.Items.{headed_of};
-ghost use Rattle.ht_frames.specs.Gathering.{booked_in, none_booked};
+ghost use Rattle.ht_feed.specs.Items.{Headed, headed_of};
+ghost use Rattle.ht_frames.specs.Gathering.{CountsFaults, booked_in, none_booked};
 
 use crate::book::Book;
 use crate::under_way::UnderWay;
@@ -40,21 +40,19 @@ impl<'a, U, B> Receiver<'a, U, B> {
     }
 }
 
-// Decodes a whole frame, and books its result.
-fn book_whole<W: WholeFrame, B: Book<W::Result>>(
+// Decodes the whole frame that stands there, and books its result.
+fn book_whole<U: UnderWay, B: Book<<U::Whole as WholeFrame>::Result>>(
     alloc: Global,
-    frame: &W,
+    under_way: &mut U,
     book: &mut B,
 ) -> Result<(), BookFault>
-    ensures put { OnOk result (Grows (B.shown book.old) (B.shown book.new) (B.booked (W.result_of frame.now))) }
-    ensures part { OnErr result (GrowsByPart (B.shown book.old) (B.shown book.new) (B.booked (W.result_of frame.now))) }
-    ensures steady { OnOk result ((B.shown book.new).faults ≡ (B.shown book.old).faults) }
-    ensures cause { IfErr result (λ fault. fault ≡ BookFault.Failed → Rose (B.shown book.old) (B.shown book.new)) }
-    ensures unfailed { IfErr result (λ fault. fault ≡ BookFault.NoMemory → (B.shown book.new).faults ≡ (B.shown book.old).faults) }
-    ensures later { IsLater (B.shown book.old) (B.shown book.new) }
-    ensures same { B.lent book.new ≡ B.lent book.old }
+    requires whole { U.is_whole under_way.old }
+    ensures kept { (more : List (Headed U.Head)) → U.results under_way.new more ≡ U.results under_way.old more }
+    ensures put { OnOk result (Grows (B.shown book.old) (B.shown book.new) (B.booked (U.comes_to under_way.old))) }
+    ensures part { OnErr result (GrowsByPart (B.shown book.old) (B.shown book.new) (B.booked (U.comes_to under_way.old))) }
+    ensures faults { CountsFaults result (B.shown book.old) (B.shown book.new) (B.lent book.old) (B.lent book.new) }
 {
-    let result = frame.decode(alloc)?;
+    let result = under_way.decode(alloc)?;
     book.frame(result)?;
     Ok(())
 }
@@ -74,15 +72,12 @@ fn take_found<U: UnderWay, B: Book<<U::Whole as WholeFrame>::Result>>(
         (booked_in B.booked (U.results under_way.old)) (booked_in B.booked (U.results under_way.new)) (headed_of head.now job ∷ [])) }
     ensures part { OnErr result ((job : JobView) → job.place ≡ place → found.now ≡ near job → PutsPartOf (B.shown book.old) (B.shown book.new)
         (booked_in B.booked (U.results under_way.old)) (headed_of head.now job ∷ [])) }
-    ensures cause { IfErr result (λ fault. fault ≡ BookFault.Failed → Rose (B.shown book.old) (B.shown book.new)) }
-    ensures steady { OnOk result ((B.shown book.new).faults ≡ (B.shown book.old).faults) }
-    ensures unfailed { IfErr result (λ fault. fault ≡ BookFault.NoMemory → (B.shown book.new).faults ≡ (B.shown book.old).faults) }
-    ensures later { IsLater (B.shown book.old) (B.shown book.new) }
-    ensures same { B.lent book.new ≡ B.lent book.old }
+    ensures faults { CountsFaults result (B.shown book.old) (B.shown book.new) (B.lent book.old) (B.lent book.new) }
 {
-    match under_way.take(alloc, head, place, found)? {
-        Some(frame) => book_whole(alloc, &frame, book),
-        None => Ok(()),
+    if under_way.take(alloc, head, place, found)? {
+        book_whole(alloc, under_way, book)
+    } else {
+        Ok(())
     }
 }
 
@@ -100,11 +95,7 @@ fn take_block<J: Jobs, U: UnderWay, B: Book<<U::Whole as WholeFrame>::Result>>(
         (booked_in B.booked (U.results under_way.old)) (booked_in B.booked (U.results under_way.new)) (headed_due (due_of head.now (J.jobs block.now)))) }
     ensures part { OnErr result (PutsPartOf (B.shown book.old) (B.shown book.new)
         (booked_in B.booked (U.results under_way.old)) (headed_due (due_of head.now (J.jobs block.now)))) }
-    ensures cause { IfErr result (λ fault. fault ≡ BookFault.Failed → Rose (B.shown book.old) (B.shown book.new)) }
-    ensures steady { OnOk result ((B.shown book.new).faults ≡ (B.shown book.old).faults) }
-    ensures unfailed { IfErr result (λ fault. fault ≡ BookFault.NoMemory → (B.shown book.new).faults ≡ (B.shown book.old).faults) }
-    ensures later { IsLater (B.shown book.old) (B.shown book.new) }
-    ensures same { B.lent book.new ≡ B.lent book.old }
+    ensures faults { CountsFaults result (B.shown book.old) (B.shown book.new) (B.lent book.old) (B.lent book.new) }
 {
     for at in 0..found.len() {
         let place = block.place_at(at as u16);

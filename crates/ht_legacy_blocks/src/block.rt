@@ -68,7 +68,7 @@ impl Jobs for LegacyBlock {
         self.symbol.place(self.first + at as u8)
     }
 
-    #[inline]
+    #[inline(always)]
     fn job(&self, at: u16) -> Job {
         self.symbol.job(self.first + at as u8)
     }

@@ -6,8 +6,7 @@ use Rattle.ht_metric.specs.declared.place.Place.{Place}
 use Rattle.ht_metric.specs.Jobs.{JobView}
 use Rattle.ht_clause18.specs.Carriers.{carriers}
 use Rattle.ht_capture_laws.proofs.Lists.{all_append}
-use Rattle.ht_results.proofs.Places.{Rising}
-use Rattle.ht_legacy_rx.proofs.Rising.{lower, rising_append}
+use Rattle.ht_results.proofs.Places.{Rising, lower, rising_append}
 use Rattle.ht_feed.specs.Items.{Begins, Headed, Item, One, headed, headed_of}
 use Rattle.ht_legacy_captures.specs.Items.{LegacyItem, Begins as BeginsFrame, Symbol}
 use Rattle.ht_legacy_blocks.specs.declared.head.LegacyFrameHead.{LegacyFrameHead}

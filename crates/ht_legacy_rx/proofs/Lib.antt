@@ -1,6 +1,5 @@
 pub mod Indices
 pub mod Framed
-pub mod Rising
 pub mod Frames
 pub mod Folded
 pub mod Taking

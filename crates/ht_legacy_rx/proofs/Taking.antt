@@ -9,6 +9,7 @@ use Rattle.ht_metric.specs.Jobs.{JobView, near}
 use Rattle.ht_clause18.specs.Carriers.{carrier_of}
 use Rattle.ht_clause18.specs.Rates.{modulation_of}
 use Rattle.ht_feed.specs.Items.{Headed, headed_of}
+use Rattle.ht_frames.specs.Gathering.{finished}
 use Rattle.ht_results.specs.declared.frame_result.FrameResult.{FrameResult}
 use Rattle.ht_results.specs.Plans.{begun_by, with_hit_by, with_kind_by}
 use Rattle.ht_legacy_blocks.specs.declared.head.LegacyFrameHead.{LegacyFrameHead}
@@ -47,34 +48,24 @@ begins_anew h f g none over =
     ap (λ (x : Bool). with_kind_by legacy_plan h.job (if x then start else f)) a
     ∙ sym (ap (λ (x : Bool). with_kind_by legacy_plan h.job (if x then start else g)) b)
 
-anew : (f g : LegacySoFar) (jobs : List (Headed LegacyFrameHead)) → f.left ≡ 0 → g.left ≡ 0 → legacy_results_from f jobs ≡ legacy_results_from g jobs
+pub anew : (f g : LegacySoFar) (jobs : List (Headed LegacyFrameHead)) → f.left ≡ 0 → g.left ≡ 0 → legacy_results_from f jobs ≡ legacy_results_from g jobs
 anew f g [] none over = refl
 anew f g (h ∷ jobs) none over =
     ap (λ (z : LegacySoFar). (if z.left == 0 then result_of z ∷ [] else []) ++ legacy_results_from z jobs) (begins_anew h f g none over)
 
-abbrev First : LegacySoFar → Bool → List (Headed LegacyFrameHead) → List FrameResult
-First f b more = (if b then result_of f ∷ [] else []) ++ legacy_results_from f more
+-- one more job: with a frame's last one comes the frame's result
+by_last : (b : Bool) (r : FrameResult) (more : List FrameResult) → (if b then r ∷ [] else []) ++ more ≡ finished b r ++ more
+by_last true r more = refl
+by_last false r more = refl
 
--- a job that isn't a frame's last one, and one that is
-pub more_come : (head : LegacyFrameHead) (place : Place) (found : Found) (job : JobView) (old mid new : LegacySoFar) (more : List (Headed LegacyFrameHead))
-    → mid ≡ frame_for head old → new ≡ with_found place found mid → job.place ≡ place → found ≡ near job → 0 < new.left
-    → legacy_results_from old (headed_of head job ∷ more) ≡ legacy_results_from new more
-more_come head place found job old mid new more entered added at is some =
-    let step = found_is head place found job old mid new entered added at is in
-    let other : new.left == 0 ≡ false = grind (arith, nat_tests) in
-    ap (λ (z : LegacySoFar). First z (z.left == 0) more) (sym step) ∙ ap (λ (b : Bool). First new b more) other
-
-pub last_came : (head : LegacyFrameHead) (place : Place) (found : Found) (job : JobView) (old mid new none whole : LegacySoFar)
+pub taken : (head : LegacyFrameHead) (place : Place) (found : Found) (job : JobView) (old mid new : LegacySoFar) (last : Bool)
     (more : List (Headed LegacyFrameHead)) → mid ≡ frame_for head old → new ≡ with_found place found mid → job.place ≡ place → found ≡ near job
-    → new.left ≡ 0 → none.left ≡ 0 → whole ≡ new
-    → legacy_results_from old (headed_of head job ∷ more) ≡ result_of whole ∷ legacy_results_from none more
-last_came head place found job old mid new none whole more entered added at is last over same =
+    → last ≡ (new.left == 0) → legacy_results_from old (headed_of head job ∷ more) ≡ finished last (result_of new) ++ legacy_results_from new more
+taken head place found job old mid new last more entered added at is over =
     let step = found_is head place found job old mid new entered added at is in
-    let yes : new.left == 0 ≡ true = grind (arith, nat_tests) in
-    ap (λ (z : LegacySoFar). First z (z.left == 0) more) (sym step)
-    ∙ (ap (λ (b : Bool). First new b more) yes
-    ∙ (ap (λ (z : LegacySoFar). result_of z ∷ legacy_results_from new more) (sym same)
-    ∙ ap (λ (rs : List FrameResult). result_of whole ∷ rs) (anew new none more last over)))
+    let rest : LegacySoFar → Bool → List FrameResult = λ z b. (if b then result_of z ∷ [] else []) ++ legacy_results_from z more in
+    ap (λ (z : LegacySoFar). rest z (z.left == 0)) (sym step)
+    ∙ (ap (rest new) (sym over) ∙ by_last last (result_of new) (legacy_results_from new more))
 
 -- the result of a whole frame
 pub result_is : (f g : LegacySoFar) (d : Decoded) → g ≡ f → d ≡ legacy_decoded_frame g.head.rate g.head.length g.labels → result_by g d ≡ result_of f

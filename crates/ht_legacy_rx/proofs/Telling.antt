@@ -1,10 +1,9 @@
 -- The text of a capture from what a receiver puts, and the end line.
-use Rattle.std.proofs.Common.{◌≡◌, ℕ, List, [], Result, refl, ap, subst, ◌∙◌, IfSome, Option, None, Some, MatchResult}
-use Rattle.ht_io.specs.Devices.{Device, GrowsByPart, IsLater}
-use Rattle.ht_io.proofs.Calls.{grows_by_part-none, takes-none}
+use Rattle.std.proofs.Common.{◌≡◌, ℕ, List, [], Result, refl, ap, subst, ◌∙◌, MatchResult}
+use Rattle.ht_io.specs.Devices.{Device, IsLater}
 use Rattle.ht_fields.specs.Meanings.{Meaning}
 use Rattle.ht_runs.specs.Formats.{IsLined, filter}
-use Rattle.ht_runs.specs.Streamed.{PutsPart, Streamed}
+use Rattle.ht_runs.specs.Streamed.{Streamed}
 use Rattle.ht_runs.specs.declared.faults.RunFault.{RunFault}
 use Rattle.ht_runs.specs.declared.faults.StopFault.{StopFault}
 use Rattle.ht_runs.proofs.Streaming.{lined}
@@ -90,16 +89,3 @@ gathered_told {P = P} means at reader head source source' booked whole f a b hea
     (subst (λ (p : List (Headed LegacyFrameHead) → List P). let v = view means at reader source in
     MatchResult heard (TellsTo v (pieces_of p head v) source' a.device b.device) (StopsBy v (pieces_of p head v) source' a.device b.device))
     (pieces ∙ none_kept booked whole f none begun) comes)
-
--- without memory for a reader nothing is taken or put
-any : (text_of : List ℕ → List ℕ) (sink : Device ℕ) (known : Option (List ℕ)) → IfSome known (λ all. GrowsByPart sink sink (text_of all))
-any text_of sink None = tt
-any text_of sink (Some all) = grows_by_part-none sink (text_of all)
-
-pub nothing_put : (text_of : List ℕ → List ℕ) (source sink : Device ℕ) → PutsPart text_of source source sink sink
-nothing_put text_of source sink = record {
-  taken = [];
-  octets = takes-none source;
-  text = grows_by_part-none sink (text_of []);
-  of_all = any text_of sink source.known;
-}

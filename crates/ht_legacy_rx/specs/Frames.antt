@@ -15,6 +15,11 @@ pub record HasLabels (f : LegacySoFar) : Type 0 where
   pub few : f.head.length ≤ 4095
   pub labels : length f.labels ≡ labels_in_frame f.head.rate f.head.length
 
+-- the last job of the frame came: it can be decoded, and none is under way
+pub record IsWhole (f : LegacySoFar) : Type 0 where
+  pub over : f.left ≡ 0
+  pub kept : HasLabels f
+
 -- a frame of which a job is still to come; its sums can't leave their type
 pub record IsOpenFrame (f : LegacySoFar) : Type 0 where
   pub left : 1 ≤ f.left

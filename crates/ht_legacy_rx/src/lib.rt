@@ -1,8 +1,9 @@
 //! Captures of clause 18 frames received: a result and a line for each frame.
 //!
 //! An [`OpenLegacyFrame`] takes what a detector found for the jobs of a frame, one after another: the distances go into a
-//! sum of data subcarriers and one of pilots, and the label of each data subcarrier on its place. With the last job it
-//! gives a [`WholeLegacyFrame`], whose labels `ht_legacy_inverse` decodes (IEEE Std 802.11-2012, clause 18.3.5 backwards).
+//! sum of data subcarriers and one of pilots, and the label of each data subcarrier on its place. With the last job the
+//! frame is whole, and `ht_legacy_inverse` decodes its labels (IEEE Std 802.11-2012, clause 18.3.5 backwards): where it
+//! stands, or in a thread of its own, to which it leaves as a [`WholeLegacyFrame`].
 //!
 //! What the frames of a list of octets come to is a definition over the octets alone: `legacy_results_of`, and with their
 //! lines and the last line `legacy_text`, in `specs/Texts.antt`. It looks labels up place by place; the module [`laws`] says

@@ -1,5 +1,5 @@
 //! A frame under way.
-ghost use Rattle.std.specs.Prelude.{◌≡◌, ◌+◌, ◌*◌, ◌^◌, ◌<◌, ◌≤◌, OnOk, length, set};
+ghost use Rattle.std.specs.Prelude.{◌≡◌, ◌+◌, ◌*◌, ◌^◌, ◌<◌, ◌≤◌, IfOk, OnOk, length, set};
 ghost use Rattle.std.proofs.Common.{refl};
 ghost use Rattle.ht_clause18.specs.Carriers.{carrier_of};
 ghost use Rattle.ht_results.specs.Folding.{label_at};
@@ -7,16 +7,19 @@ ghost use Rattle.ht_results.specs.Plans.{begun_by};
 ghost use Rattle.ht_legacy_inverse.specs.Received.{label_number, labels_in_frame};
 ghost use Rattle.ht_legacy_blocks.specs.Frames.{no_head};
 ghost use Rattle.ht_legacy_rx.specs.Folding.{frame_for, legacy_results_from, no_frame, with_octets};
-ghost use Rattle.ht_legacy_rx.specs.Frames.{HasLabels, IsOpenFrame, with_found};
-ghost use Rattle.ht_legacy_rx.specs.Results.{first_label, legacy_plan};
+ghost use Rattle.ht_legacy_rx.specs.Frames.{HasLabels, IsOpenFrame, IsWhole, with_found};
+ghost use Rattle.ht_legacy_rx.specs.Results.{first_label, legacy_plan, result_of};
 
 use crate::whole_frame::WholeLegacyFrame;
 use ht_clause18::{LegacyRate, legacy_carrier};
 use ht_frames::{Decoding, UnderWay};
+use ht_inverse::Decoded;
 use ht_legacy_blocks::LegacyFrameHead;
+use ht_legacy_inverse::legacy_decode_frame;
 use ht_map::label;
 use ht_metric::{Found, Place, Vector};
 use ht_rate::{Carrier, Modulation};
+use ht_results::FrameResult;
 use std::alloc::{AllocError, Global};
 use std::marker::Model;
 use std::mem;
@@ -31,14 +34,14 @@ const CARRIERS: u8 = 52;
 /// The labels of a symbol.
 const LABELS: usize = 48;
 
-/// The frame under way: what the hits of its jobs so far come to. Its labels are kept, one octet each, until its last job
-/// came.
+/// The frame under way: what the hits of its jobs so far come to. Its labels are kept, one octet each, until the next
+/// frame begins.
 #[derive(Drop)]
 pub struct OpenLegacyFrame {
     pub(crate) head: LegacyFrameHead,
-    pub(crate) data_sum: u128,
-    pub(crate) pilot_sum: u128,
-    pub(crate) labels: Vec<u8>,
+    data_sum: u128,
+    pilot_sum: u128,
+    labels: Vec<u8>,
     // The number of jobs that are still to come; 0 where no frame is under way.
     left: u32,
 }
@@ -184,6 +187,27 @@ impl OpenLegacyFrame {
             }
         }
     }
+
+    // What the frame comes to, whose labels are all there. The only error is lack of memory.
+    pub(crate) fn result(&self, alloc: Global) -> Result<FrameResult, AllocError>
+        requires { HasLabels self.now }
+        ensures { IfOk result (λ r. r ≡ result_of self.now) }
+    {
+        let head = &self.head;
+        let Decoded { outcome, code } = legacy_decode_frame(
+            alloc,
+            head.rate,
+            head.length,
+            &self.labels,
+        )?;
+        Ok(FrameResult {
+            frame: head.frame,
+            data_sum: self.data_sum,
+            pilot_sum: self.pilot_sum,
+            code,
+            outcome,
+        })
+    }
 }
 
 impl UnderWay for OpenLegacyFrame {
@@ -193,20 +217,28 @@ impl UnderWay for OpenLegacyFrame {
 
     ghost results = { legacy_results_from };
 
+    ghost is_whole = { IsWhole };
+
+    ghost comes_to = { result_of };
+
     fn take(
         &mut self,
         alloc: Global,
         head: &LegacyFrameHead,
         place: Place,
         found: &Found,
-    ) -> Result<Option<WholeLegacyFrame>, AllocError> {
+    ) -> Result<bool, AllocError> {
         self.enter(alloc, head)?;
         self.add_found(place, found);
-        if self.left > 0 {
-            return Ok(None);
-        }
-        let whole = mem::replace(self, OpenLegacyFrame::new(alloc));
-        Ok(Some(WholeLegacyFrame::new(whole)))
+        Ok(self.left == 0)
+    }
+
+    fn decode(&mut self, alloc: Global) -> Result<FrameResult, AllocError> {
+        self.result(alloc)
+    }
+
+    fn leave(&mut self, alloc: Global) -> WholeLegacyFrame {
+        WholeLegacyFrame::new(mem::replace(self, OpenLegacyFrame::new(alloc)))
     }
 
     fn begin<R: Threads>(

@@ -5,8 +5,6 @@ ghost use Rattle.ht_legacy_rx.specs.Results.{result_of};
 
 use crate::open_frame::OpenLegacyFrame;
 use ht_frames::WholeFrame;
-use ht_inverse::Decoded;
-use ht_legacy_inverse::legacy_decode_frame;
 use ht_results::FrameResult;
 use std::alloc::{AllocError, Global};
 use std::marker::Model;
@@ -48,19 +46,6 @@ impl WholeFrame for WholeLegacyFrame {
     }
 
     fn decode(&self, alloc: Global) -> Result<FrameResult, AllocError> {
-        let head = &self.frame.head;
-        let Decoded { outcome, code } = legacy_decode_frame(
-            alloc,
-            head.rate,
-            head.length,
-            &self.frame.labels,
-        )?;
-        Ok(FrameResult {
-            frame: head.frame,
-            data_sum: self.frame.data_sum,
-            pilot_sum: self.frame.pilot_sum,
-            code,
-            outcome,
-        })
+        self.frame.result(alloc)
     }
 }

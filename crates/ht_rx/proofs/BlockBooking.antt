@@ -45,7 +45,8 @@ out-in (h ∷ hs) = ap (λ (xs : List Headed). h ∷ xs) (out-in hs)
 -- where no frame is under way, the results are those of the octets
 pub frames_told : {P : Type 0} (booked : FrameResult → List P) (f : FrameSoFar) (result : Result Ended StopFault)
     (source source' : Device ℕ) (book book' : Device P) → f.left ≤ 0
-    → MatchResult result (TellsTo (told_of (booked_in booked (results_in f))) source source' book book') (StopsBy (told_of (booked_in booked (results_in f))) source source' book book')
+    → MatchResult result (TellsTo (told_of (booked_in booked (results_in f))) source source' book book')
+    (StopsBy (told_of (booked_in booked (results_in f))) source source' book book')
     → MatchResult result (TellsTo (booked_of booked) source source' book book') (StopsBy (booked_of booked) source source' book book')
 frames_told {P = P} booked f result source source' book book' none told =
     let zero : f.left ≡ 0 = omega (arith, none) in

@@ -1,7 +1,8 @@
 -- The lines of a block are put.
-use Rattle.std.proofs.Common.{◌≡◌, ℕ, ◌+◌, List, [], ◌∷◌, ◌++◌, map, take, slice_get, Some, Result, MatchResult, refl, sym, ap, ◌∙◌, subst, append-nil, append_assoc}
+use Rattle.std.proofs.Common.{◌≡◌, ℕ, ◌+◌, List, [], ◌∷◌, ◌++◌, map, drop, slice_get, Some, Result, MatchResult}
+use Rattle.std.proofs.Common.{refl, sym, ap, ◌∙◌, subst, append_assoc}
 use Rattle.std.proofs.Math.Path.{fun_ext}
-use Rattle.std.proofs.lemmas.List.{take_more}
+use Rattle.std.proofs.lemmas.List.{drop_more}
 use Rattle.std.proofs.lemmas.Option.{get_or_from_slice_get, slice_get_within}
 use Rattle.ht_io.specs.Devices.{Device, Grows, GrowsByPart}
 use Rattle.ht_io.proofs.Calls.{grows_by_part-front}
@@ -28,19 +29,25 @@ job_lines-append (x ∷ xs) ys =
     ap (λ (lines : List ℕ). job_line_of x ++ lines) (job_lines-append xs ys) ∙ sym (append_assoc (job_line_of x) (job_lines xs) (job_lines ys))
 
 -- what is said of a job's place and of what was found for it is its line
-pub line_is : (job : JobView) (place : Place) (found : Found) → place ≡ job.place → found ≡ near job → line_at place found ≡ job_line_of job
+line_is : (job : JobView) (place : Place) (found : Found) → place ≡ job.place → found ≡ near job → line_at place found ≡ job_line_of job
 unfolding job_line_of
 line_is job place found here is = ap (λ (p : Place). line_at p found) here ∙ ap (λ (f : Found). line_at job.place f) is
 
--- the line of one job more
-pub lines_next : (jobs : List JobView) (at : ℕ) (job : JobView) (text : List ℕ) → slice_get jobs at ≡ Some job → text ≡ job_lines (take at jobs)
-    → text ++ job_line_of job ≡ job_lines (take (at + 1) jobs)
-lines_next jobs at job text is so =
-    ap (λ (xs : List ℕ). xs ++ job_line_of job) so
-    ∙ (ap (λ (xs : List ℕ). job_lines (take at jobs) ++ xs) (sym (append-nil (job_line_of job)))
-    ∙ (sym (job_lines-append (take at jobs) (job ∷ []))
-    ∙ ap job_lines (ap (λ (j : JobView). take at jobs ++ j ∷ []) (sym (get_or_from_slice_get jobs at job job is))
-    ∙ sym (take_more jobs at job (slice_get_within jobs at job is)))))
+-- the line of a job in front of those behind it
+lines_before : (jobs : List JobView) (at : ℕ) (job : JobView) (text : List ℕ) → slice_get jobs at ≡ Some job → text ≡ job_lines (drop (at + 1) jobs)
+    → job_line_of job ++ text ≡ job_lines (drop at jobs)
+lines_before jobs at job text is so =
+    ap (λ (xs : List ℕ). job_line_of job ++ xs) so
+    ∙ sym (ap job_lines (drop_more jobs at job (slice_get_within jobs at job is)
+    ∙ ap (λ (j : JobView). j ∷ drop (at + 1) jobs) (get_or_from_slice_get jobs at job job is)))
+
+-- the line of the job before those whose lines are there
+pub line_put : (jobs : List JobView) (at left : ℕ) (job : JobView) (place : Place) (found : Found) (new behind : List ℕ) → at + 1 ≡ left → place ≡ job.place → found ≡ near job
+    → Some job ≡ slice_get jobs at → behind ≡ job_lines (drop left jobs) → new ≡ line_at place found ++ behind → new ≡ job_lines (drop at jobs)
+line_put jobs at left job place found new behind next here near-is job-is so is =
+    is
+    ∙ (ap (λ (xs : List ℕ). xs ++ behind) (line_is job place found here near-is)
+    ∙ lines_before jobs at job behind (sym job-is) (so ∙ ap (λ (n : ℕ). job_lines (drop n jobs)) (sym next)))
 
 module _ (head : FrameHead) where
   alone : (jobs : List JobView) (more : List (BlockHeaded FrameHead)) → jobs_in_blocks (headed_due (due_of head jobs) ++ more) ≡ jobs ++ jobs_in_blocks more

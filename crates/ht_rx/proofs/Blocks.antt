@@ -175,7 +175,8 @@ pub comes_to : {R P : Type 0} (means : R → List ℕ → Meaning (Item FrameHea
     → MatchResult result (TellsTo (told_of a.pieces) source source' a.device b.device) (StopsBy (told_of a.pieces) source source' a.device b.device)
 comes_to {P = P} means at reader head source source' a b result same zero came =
     let is : view means at reader source ≡ front source =
-    ap (λ (m : List ℕ → Meaning (Item FrameHead)). let v : ReaderView (Item FrameHead) = record { means = m; at = at reader; source = source } in v) (fun_ext same)
+    ap (λ (m : List ℕ → Meaning (Item FrameHead)). let v : ReaderView (Item FrameHead) = record { means = m; at = at reader; source = source } in v)
+    (fun_ext same)
     ∙ ap (λ (n : ℕ). let v : ReaderView (Item FrameHead) = record { means = λ octets. mapped (capture_of octets); at = n; source = source } in v) zero in
     let pieces_same : pieces_of a.pieces head (front source) ≡ told_of a.pieces = fun_ext (λ octets. ap a.pieces (headed-octets head octets)) in
     told (told_of a.pieces) source source' a.device b.device result

@@ -12,37 +12,33 @@ use Rattle.ht_rx.specs.Blocks.{told_of}
 use Rattle.ht_rx.specs.Frames.{booked_of, results_in}
 use Rattle.ht_rx.proofs.BlockBooking.{frames_told}
 use Rattle.ht_rx.specs.Outcomes.{StopsBy, TellsTo}
-use Rattle.ht_frames.specs.Gathering.{booked_behind}
-use Rattle.ht_rx.proofs.Counting.{none_if, one_if}
+use Rattle.ht_frames.specs.Gathering.{booked_behind, finished}
 
--- behind the hit of a job the frame goes on
-pub gathers_on : (before after : FrameSoFar) (h : Headed) (more : List Headed) → after ≡ with_job h before → (after.left == 0) ≡ false
-    → results_from before (h ∷ more) ≡ results_from after more
-gathers_on before after h more is left =
+finished_if : (last : Bool) (result : FrameResult) → (if last then result ∷ [] else []) ≡ finished last result
+finished_if true result = refl
+finished_if false result = refl
+
+-- behind the hit of a job the frame is whole with its last one, and else goes on
+pub gathers : (before after : FrameSoFar) (last : Bool) (h : Headed) (more : List Headed) → after ≡ with_job h before → last ≡ (after.left == 0)
+    → results_from before (h ∷ more) ≡ finished last (result_of after) ++ results_from after more
+gathers before after last h more is left =
+    let result = result_of after in
     ap (λ (f : FrameSoFar). result_if f ++ results_from f more) (sym is)
-    ∙ ap (λ (rs : List FrameResult). rs ++ results_from after more) (none_if after left)
+    ∙ ap (λ (rs : List FrameResult). rs ++ results_from after more)
+    (finished_if (after.left == 0) result ∙ ap (λ (b : Bool). finished b result) (sym left))
 
 -- where no frame is under way, the next job begins one
-begins : (head : FrameHead) (f : FrameSoFar) → (f.left == 0) ≡ true → frame_of head f ≡ frame_begun (with_octets head)
-begins head f none = ap (λ (b : Bool). if b then frame_begun (with_octets head) else f) none
+begins : (head : FrameHead) (f : FrameSoFar) → f.left ≡ 0 → frame_of head f ≡ frame_begun (with_octets head)
+begins head f none = ap (λ (n : ℕ). if n == 0 then frame_begun (with_octets head) else f) none
 
-begins_as : (h : Headed) (f g : FrameSoFar) → (f.left == 0) ≡ true → (g.left == 0) ≡ true → with_job h f ≡ with_job h g
+begins_as : (h : Headed) (f g : FrameSoFar) → f.left ≡ 0 → g.left ≡ 0 → with_job h f ≡ with_job h g
 unfolding with_job
 begins_as h f g a b = ap (with_kind h.job) (begins h.head f a ∙ sym (begins h.head g b))
 
-begin_as : (f g : FrameSoFar) (jobs : List Headed) → (f.left == 0) ≡ true → (g.left == 0) ≡ true → results_from f jobs ≡ results_from g jobs
+-- so it doesn't matter which frame was whole before
+pub begin_as : (f g : FrameSoFar) (jobs : List Headed) → f.left ≡ 0 → g.left ≡ 0 → results_from f jobs ≡ results_from g jobs
 begin_as f g [] a b = refl
 begin_as f g (h ∷ hs) a b = ap (λ (x : FrameSoFar). result_if x ++ results_from x hs) (begins_as h f g a b)
-
--- behind the hit of its last job the frame is whole
-pub gathers_one : (before after none whole : FrameSoFar) (h : Headed) (more : List Headed) → after ≡ with_job h before
-    → (after.left == 0) ≡ true → (none.left == 0) ≡ true → whole ≡ after
-    → results_from before (h ∷ more) ≡ result_of whole ∷ results_from none more
-gathers_one before after none whole h more is last idle same =
-    ap (λ (f : FrameSoFar). result_if f ++ results_from f more) (sym is)
-    ∙ (ap (λ (rs : List FrameResult). rs ++ results_from after more) (one_if after last)
-    ∙ (ap (λ (f : FrameSoFar). result_of f ∷ results_from after more) (sym same)
-    ∙ ap (λ (rs : List FrameResult). result_of whole ∷ rs) (begin_as after none more last idle)))
 
 -- where no frame waits and none is under way, the results are those of the octets
 pub gathered_told : {P : Type 0} (booked : FrameResult → List P) (whole : List FrameSoFar) (f : FrameSoFar) (result : Result Ended StopFault)

@@ -1,9 +1,8 @@
-pub mod Levels
 pub mod Heading
-pub mod Counting
 pub mod Booking
 pub mod Blocks
 pub mod BlockBooking
 pub mod BlockListing
 pub mod Gathered
 pub mod Stamping
+pub mod Writing

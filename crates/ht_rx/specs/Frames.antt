@@ -24,6 +24,11 @@ pub record HasLabels (f : FrameSoFar) : Type 0 where
   pub some : 1 ≤ f.head.length
   pub labels : length f.labels ≡ labels_in_frame f.head.rate f.head.length
 
+-- its last job came, and none is under way
+pub record IsWhole (f : FrameSoFar) : Type 0 where
+  pub none : f.left ≡ 0
+  pub kept : HasLabels f
+
 -- the first of them are what the subcarriers of a rate carry
 abbrev pub KnowsBelow : ℕ → List Carrier → Rate → Type 0
 KnowsBelow count carriers rate = (c : ℕ) → c < count → slice_index_or carriers c (Data 0) ≡ kind_of rate c

@@ -1,5 +1,5 @@
 -- What `detect` writes for a list of octets: a line for each job, and a last line.
-use Rattle.std.specs.Prelude.{ℕ, ℤ, List, [], ◌∷◌, ◌++◌}
+use Rattle.std.specs.Prelude.{ℕ, ℤ, List, [], ◌∷◌, ◌++◌, codes, decimal}
 use Rattle.std.specs.List.{flat_map}
 use Rattle.ht_pam.specs.declared.point.Point.{Point}
 use Rattle.ht_metric.specs.declared.found.Found.{Found}
@@ -14,6 +14,10 @@ use Rattle.ht_results.specs.Texts.{last_line}
 -- I and Q of each point in turn
 abbrev pub levels_of : List Point → List ℤ
 levels_of points = flat_map (λ p. p.i ∷ p.q ∷ []) points
+
+-- what the lines of a symbol's jobs begin with
+abbrev pub front_of : ℕ → ℕ → List ℕ
+front_of frame symbol = codes "job " ++ decimal frame ++ codes " " ++ decimal symbol ++ codes " "
 
 -- the line of a job from this place, of which this was found
 abbrev pub line_at : Place → Found → List ℕ

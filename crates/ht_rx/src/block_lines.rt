@@ -1,31 +1,45 @@
 //! The lines of the jobs of a block.
-ghost use Rattle.std.specs.Prelude.{◌≡◌, string_bytes};
+ghost use Rattle.std.specs.Prelude.{◌≡◌, ◌*◌, ◌^◌, ◌<◌, ◌≤◌, drop, length, IfOk};
 ghost use Rattle.ht_rx.specs.Texts.{job_lines};
 
-use crate::lines::push_found;
+use crate::front::Front;
+use crate::lines::{LINE, write_line};
 use ht_crew::Gate;
 use ht_feed::{Answer, Jobs, Work, is_hard};
 use ht_frames::pass;
+use ht_metric::{Found, Job};
 use std::alloc::{AllocError, Global};
 
-/// The most octets of a line.
-const LINE: usize = 105;
+/// How many zeros are put at once.
+const ZEROS: usize = 2048;
 
 /// The lines of the jobs of a block, in their order.
 #[derive(Drop)]
 pub struct Lines {
-    /// Each with its line end.
-    pub text: String,
+    // The lines, behind octets that are no part of them.
+    octets: Vec<u8>,
+    // Where the lines begin.
+    start: usize,
     // Whether the last job was hard.
     hard: bool,
+    ghost within: { start ≤ length octets.items },
+}
+
+impl Lines {
+    /// The lines, each with its line end.
+    pub(crate) fn text(&self) -> &[u8]
+        ensures { result.now ≡ drop self.now.start self.now.octets.items }
+    {
+        &self.octets[self.start..]
+    }
 }
 
 impl Answer for Lines {
-    ghost answers = { λ lines jobs. string_bytes lines.text ≡ job_lines jobs };
+    ghost answers = { λ lines jobs. drop lines.start lines.octets.items ≡ job_lines jobs };
 }
 
 /// Makes the lines of any block, each job run between the two calls of a gate. Memory is taken once a block, for lines of
-/// 105 octets.
+/// 105 octets, and filled from its end: the last job is run first.
 #[derive(Drop)]
 pub(crate) struct LineWork<'g, G> {
     /// Where the memory for the lines comes from.
@@ -37,20 +51,57 @@ impl<'g, B: Jobs, G: Gate> Work<B> for LineWork<'g, G> {
     type Answer = Lines;
 
     fn run(&self, block: &B) -> Result<Lines, AllocError> {
-        let size = block.size();
-        let mut text = String::with_capacity(self.alloc, LINE * usize::from(size))?;
-        let mut hard = false;
-        for at in 0..size {
-            let job = block.job(at);
-            let found = pass(self.gate, &job);
-            push_found(&mut text, job.place(), &found)?;
-            hard = at == size - 1 && is_hard(&job, found.distance);
-        }
-        Ok(Lines { text, hard })
+        let mut octets = zeros(self.alloc, LINE * usize::from(block.size()))?;
+        let (start, hard) = write_lines(&mut octets, block, self.gate);
+        Ok(Lines {
+            octets,
+            start,
+            hard,
+        })
     }
 
     /// Whether the last job, which speaks for all, was hard.
     fn is_hard(&self, _: &B, lines: &Lines) -> bool {
         lines.hard
     }
+}
+
+// Writes the lines of a block's jobs to the end, and answers where they begin, and whether the last job was hard.
+fn write_lines<B: Jobs, G: Gate>(into: &mut [u8], block: &B, gate: &G) -> (usize, bool)
+    requires few { length (B.jobs block.now) < 2 ^ 16 }
+    requires room { LINE * length (B.jobs block.now) ≤ length into.old }
+    ensures within { result.0 ≤ length into.new }
+    ensures lines { drop result.0 into.new ≡ job_lines (B.jobs block.now) }
+{
+    let mut front = Front::of(0, 0);
+    let mut start = into.len();
+    let mut hard = false;
+    let size = block.size();
+    let mut left = size;
+    while left > 0 {
+        left -= 1;
+        let job = block.job(left);
+        let found = pass(gate, &job);
+        hard = hard | is_hard_as_last(left + 1 == size, &job, &found);
+        start = write_line(into, start, &mut front, job.place(), &found);
+    }
+    (start, hard)
+}
+
+// Whether this is the last job, and was hard.
+#[inline(always)]
+fn is_hard_as_last(is_last: bool, job: &Job, found: &Found) -> bool {
+    is_last && is_hard(job, found.distance)
+}
+
+// Zeros of this number. They are put part by part, since what counts instructions counts a longer fill octet by octet.
+fn zeros(alloc: Global, room: usize) -> Result<Vec<u8>, AllocError>
+    ensures { IfOk result (λ zeros. length zeros.items ≡ room) }
+{
+    let mut zeros = Vec::with_capacity(alloc, room)?;
+    while zeros.len() < room {
+        let more = (room - zeros.len()).min(ZEROS);
+        zeros.resize(zeros.len() + more, 0)?;
+    }
+    Ok(zeros)
 }

@@ -1,11 +1,12 @@
 //! Captures received: a line for each job, or a result for each frame.
 //!
-//! A drive of crate `ht_drive` takes blocks of jobs from a capture's reader, and hands the answers to them in order to an
-//! account (`Account` of crate `ht_feed`). What becomes of them is the account's alone: a [`Lister`] puts the lines of each
-//! block; the receivers of crate `ht_frames` book the [`FrameResult`] of each frame in a book once its last hit came. They
-//! ask an [`OpenFrame`], which keeps the labels of the frame under way, and gives the frame as [`WholeLabels`] with its last
-//! job. What an account puts in all is a function of the jobs that come, so that one set of lemmas says for every account
-//! what a whole capture, a fault, a source that fails and a full memory come to (`specs/Outcomes.antt`).
+//! A drive of crate `ht_drive` takes blocks of jobs from a capture's reader, and hands the answers to them in order to
+//! an account (`Account` of crate `ht_feed`). What becomes of them is the account's alone: a [`Lister`] puts the lines
+//! of each block; the receivers of crate `ht_frames` book the [`FrameResult`] of each frame in a book once its last hit
+//! came. They ask an [`OpenFrame`], which keeps the labels of the frame under way. With the frame's last job it decodes
+//! them, or the frame leaves as [`WholeLabels`]. What an account puts in all is a function of the jobs that come, so
+//! that one set of lemmas says for every account what a whole capture, a fault, a source that fails and a full memory
+//! come to (`specs/Outcomes.antt`).
 //!
 //! [`list`] and [`receive`] read a capture from any source, and a crew of workers runs its jobs; [`list_alone`] and
 //! [`receive_alone`] promise the same, and run every job in the calling thread. [`receive_text`] and
@@ -30,11 +31,12 @@
 
 mod block_lines;
 mod faults;
-mod headed;
+mod front;
 mod lines;
 mod lister;
 mod listing;
 mod open_frame;
+mod pieces;
 mod receiving;
 mod receiving_text;
 mod telling;

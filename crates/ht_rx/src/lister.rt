@@ -45,7 +45,7 @@ impl<'a, R: BlockReader<Head = FrameHead>, K: Sink> Account<R> for Lister<'a, K>
         lines: &Lines,
         _: &HeapCircularBuffer<DueBlock<R>>,
     ) -> Result<(), BookFault> {
-        self.sink.put(lines.text.as_bytes())?;
+        self.sink.put(lines.text())?;
         Ok(())
     }
 

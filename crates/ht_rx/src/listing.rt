@@ -56,8 +56,8 @@ pub fn list_alone<S: Source, K: Sink, G: Gate>(
     )
 }
 
-/// Does as [`list_alone`], and the jobs are run by 1 to 64 workers, of which the caller is one. The lines are the same, in
-/// the same order.
+/// Does as [`list_alone`], and the jobs are run by 1 to 64 workers, of which the caller is one. The lines are the same,
+/// in the same order.
 pub fn list<R: Threads + Wait + Sync, S: Source, K: Sink, G: Gate + Sync>(
     rt: &R,
     alloc: Global,

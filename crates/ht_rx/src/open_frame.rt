@@ -1,29 +1,25 @@
 //! A frame under way.
-ghost use Rattle.std.specs.Prelude.{◌≡◌, ◌+◌, ◌-◌, ◌*◌, ◌^◌, ◌<◌, ◌≤◌, IfOk, OnOk, length, max, set};
-ghost use Rattle.ht_capture.specs.Files.{is_erased as erased_at, present_among};
+ghost use Rattle.std.specs.Prelude.{◌≡◌, ◌+◌, ◌-◌, ◌*◌, ◌^◌, ◌<◌, ◌≤◌, IfOk, OnOk, length, set};
 ghost use Rattle.ht_inverse.specs.Received.{labels_in_frame};
-ghost use Rattle.ht_map.specs.Gray.{label_of};
-ghost use Rattle.ht_metric.specs.Jobs.{near};
-ghost use Rattle.ht_rate.specs.Rates.{carriers_of};
-ghost use Rattle.ht_results.specs.Folding.{frame_begun, frame_of, jobs_in_frame, kind_of, label_at, label_place, put_labels, result_of, with_kind, with_octets};
+ghost use Rattle.ht_results.specs.Folding.{frame_begun, frame_of, kind_of, label_at, label_place, put_labels, result_of, with_octets};
 ghost use Rattle.ht_rx.specs.Frames.{HasLabels, IsOpenFrame, KnowsCarriers, with_found};
 
-use crate::headed::no_head;
 use ht_capture::FrameHead;
-use ht_inverse::{Decoded, Decoder};
+use ht_inverse::{Alone, Decoded, Decoder};
 use ht_map::label;
 use ht_metric::{Found, Place, Vector};
 use ht_pam::Point;
 use ht_rate::{Carrier, Modulation, Rate};
-use ht_results::FrameResult;
+use ht_results::{FrameResult, jobs_in, kind, no_head};
 use std::alloc::{AllocError, Global};
 use std::marker::Model;
+use std::mem;
 
 /// The most subcarriers of a frame.
 const CARRIERS: usize = 114;
 
 /// The frame under way: what the hits of its jobs so far come to. Its labels are kept, one octet each, until its last
-/// job came; the next frame has their memory.
+/// job came; the next frame has their memory, and the table by which they are decoded.
 #[derive(Drop)]
 pub struct OpenFrame {
     head: FrameHead,
@@ -34,6 +30,8 @@ pub struct OpenFrame {
     labels: Vec<u8>,
     // The number of jobs that are still to come; 0 where no frame is under way.
     left: u64,
+    // Decodes the frames that are whole here.
+    decoder: Alone,
 }
 
 impl Model for OpenFrame {
@@ -57,51 +55,6 @@ fn labels_in(head: &FrameHead) -> usize
 {
     let symbols = head.rate.symbols(head.length) as usize;
     symbols * (usize::from(head.rate.data_carriers()) * usize::from(head.rate.streams()))
-}
-
-// Whether a subcarrier is erased.
-fn is_erased(erased: u128, carrier: u8) -> bool
-    requires { carrier < 128 }
-    ensures { result ≡ erased_at erased carrier }
-{
-    erased >> carrier & 1 == 1
-}
-
-// The number of subcarriers that are present.
-#[tactic(auto, using(crate::proofs::Stamping::present_step))]
-fn present_in(head: &FrameHead) -> u8
-    ensures value { result ≡ present_among (carriers_of head.now.rate) 0 head.now.erased }
-    ensures few { result ≤ 114 }
-{
-    let mut count = 0;
-    for carrier in 0..head.rate.carriers() {
-        if !is_erased(head.erased, carrier) {
-            count += 1;
-        }
-    }
-    count
-}
-
-// The number of a frame's jobs, at least one.
-fn jobs_in(head: &FrameHead) -> u64
-    requires { 1 ≤ head.now.length }
-    ensures value { result ≡ max 1 (jobs_in_frame head.now) }
-    ensures low { 1 ≤ result }
-    ensures high { result ≤ 2298924 }
-{
-    let symbols = u64::from(head.rate.symbols(head.length));
-    (symbols * u64::from(present_in(head))).max(1)
-}
-
-// What a subcarrier carries; there are no others than those of the rate.
-fn kind(rate: &Rate, carrier: u8) -> Carrier
-    ensures { result ≡ kind_of rate.now carrier }
-{
-    if carrier < rate.carriers() {
-        rate.carrier(carrier)
-    } else {
-        Carrier::Data(carrier)
-    }
 }
 
 // Notes what each subcarrier carries, by its index.
@@ -177,6 +130,7 @@ impl OpenFrame {
             pilot_sum: 0,
             labels: Vec::new(alloc),
             left: 0,
+            decoder: Alone::new(),
         }
     }
 
@@ -209,7 +163,7 @@ impl OpenFrame {
         note_carriers(&mut self.carriers, &head.rate);
         self.data_sum = 0;
         self.pilot_sum = 0;
-        self.left = jobs_in(&head);
+        self.left = jobs_in(&head).max(1);
         Ok(())
     }
 
@@ -274,5 +228,17 @@ impl OpenFrame {
             code,
             outcome,
         })
+    }
+
+    /// The same, by the decoder that is kept from frame to frame.
+    pub fn decoded(&mut self, alloc: Global) -> Result<FrameResult, AllocError>
+        requires { HasLabels self.old }
+        ensures value { IfOk result (λ r. r ≡ result_of self.old) }
+        ensures same { self.new ≡ self.old }
+    {
+        let mut decoder = mem::replace(&mut self.decoder, Alone::new());
+        let result = self.result(alloc, &mut decoder);
+        self.decoder = decoder;
+        result
     }
 }

@@ -65,11 +65,11 @@ pub fn receive_alone<S: Source, B: Book<FrameResult>, G: Gate>(
 /// same, in the same order.
 ///
 /// A frame of 400 octets or more that is whole is decoded in a thread of its own, while the jobs behind it are read and
-/// run; a shorter one is decoded by the caller. Results are booked in order. While jobs are run, fewer frames than there
-/// are workers are being decoded, of at most 131,072 octets together, beside the frame under way; where one more is whole
-/// the caller waits for the oldest ones. So at most three of the longest frames are kept, whatever the workers. Where no
-/// job is due any more the caller waits for all of them. It decodes the frame that is whole then, and the codewords of
-/// two encoders in two threads. However it ends, no thread is left behind.
+/// run; a shorter one is decoded by the caller. Results are booked in order. While jobs are run, fewer frames than
+/// there are workers are being decoded, of at most 131,072 octets together, beside the frame under way; where one more
+/// is whole the caller waits for the oldest ones. So at most three of the longest frames are kept, whatever the
+/// workers. Where no job is due any more the caller waits for all of them. It decodes the frame that is whole then, and
+/// the codewords of two encoders in two threads. However it ends, no thread is left behind.
 pub fn receive<R: Threads + Wait + Sync, S: Source, B: Book<FrameResult>, G: Gate + Sync>(
     rt: &R,
     alloc: Global,

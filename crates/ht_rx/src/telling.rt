@@ -6,10 +6,10 @@ ghost use Rattle.ht_rx.specs.Outcomes.{StopsBy, TellsTo};
 ghost use Rattle.ht_runs.specs.declared.faults.StopFault.TheVariants.{Write};
 
 use crate::faults::RxFault;
-use crate::headed::no_head;
 use ht_capture_blocks::{CaptureBlock, CaptureReader};
 use ht_feed::{Account, Ended, Work};
 use ht_io::Source;
+use ht_results::no_head;
 use std::alloc::Global;
 use std::sync::Wait;
 use std::thread::Threads;

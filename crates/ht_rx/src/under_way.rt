@@ -1,12 +1,14 @@
 //! Frames whose labels are kept while their jobs come.
 ghost use Rattle.std.specs.Prelude.{refl};
-ghost use Rattle.ht_rx.specs.Frames.{results_in};
+ghost use Rattle.ht_results.specs.Folding.{result_of};
+ghost use Rattle.ht_rx.specs.Frames.{IsWhole, results_in};
 
 use crate::open_frame::OpenFrame;
 use crate::whole_labels::WholeLabels;
 use ht_capture::FrameHead;
 use ht_frames::{Decoding, UnderWay};
 use ht_metric::{Found, Place};
+use ht_results::FrameResult;
 use std::alloc::{AllocError, Global};
 use std::mem;
 use std::thread::Threads;
@@ -18,20 +20,28 @@ impl UnderWay for OpenFrame {
 
     ghost results = { results_in };
 
+    ghost is_whole = { IsWhole };
+
+    ghost comes_to = { result_of };
+
     fn take(
         &mut self,
         alloc: Global,
         head: &FrameHead,
         place: Place,
         found: &Found,
-    ) -> Result<Option<WholeLabels>, AllocError> {
+    ) -> Result<bool, AllocError> {
         self.enter(head)?;
         self.add_found(place, found);
-        if self.left() > 0 {
-            return Ok(None);
-        }
-        let frame = mem::replace(self, OpenFrame::new(alloc));
-        Ok(Some(WholeLabels::new(frame)))
+        Ok(self.left() == 0)
+    }
+
+    fn decode(&mut self, alloc: Global) -> Result<FrameResult, AllocError> {
+        self.decoded(alloc)
+    }
+
+    fn leave(&mut self, alloc: Global) -> WholeLabels {
+        WholeLabels::new(mem::replace(self, OpenFrame::new(alloc)))
     }
 
     fn begin<R: Threads>(rt: &R, alloc: Global, frame: WholeLabels) -> Decoding<WholeLabels> {

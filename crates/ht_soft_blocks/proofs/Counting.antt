@@ -1,8 +1,9 @@
 -- How many halves a job has, and which one stands where.
-use Rattle.std.proofs.Common.{◌≡◌, Bool, ℕ, zero, suc, ◌+◌, ◌*◌, ◌/◌, ◌%◌, ◌<◌, ◌≤◌, ◌==◌, List, length, replicate, refl, sym, ap, subst, ◌∙◌, arith}
-use Rattle.std.specs.Prelude.{Some, slice_get, option_map}
+use Rattle.std.proofs.Common.{◌≡◌, Bool, ℕ, zero, suc, ◌+◌, ◌*◌, ◌/◌, ◌%◌, ◌<◌, ◌≤◌, ◌==◌, List, length, replicate, refl, sym, ap, subst, ◌∙◌, arith, ◌⊎◌, inl, inr}
+use Rattle.std.specs.Prelude.{◌≢◌, Option, Some, IfSome, slice_get, option_map, false, true}
+use Rattle.std.specs.Int.{bit_at}
 use Rattle.std.specs.List.{AllByRecursion, flat_map, range_with_len}
-use Rattle.std.proofs.Math.Nat.{div-add-mod, div-lt_iff_lt-mul, mod-lt, mul_assoc, mul_comm}
+use Rattle.std.proofs.Math.Nat.{div-add-mod, div-lt_iff_lt-mul, mod-lt, mul-le-mul, mul_assoc, mul_comm}
 use Rattle.ht_rate.specs.declared.kinds.Carrier.{Carrier}
 use Rattle.ht_rate.specs.declared.kinds.Carrier.TheVariants.{Data, Pilot}
 use Rattle.ht_rate.specs.declared.kinds.Modulation.{Modulation}
@@ -11,7 +12,7 @@ use Rattle.ht_rate.specs.Carriers.{carrier_of}
 use Rattle.ht_rate.specs.Rates.{label_bits_of, modulation_of, streams_of}
 use Rattle.std.proofs.lemmas.List.{length-replicate}
 use Rattle.ht_rate.specs.Schemes.{bits_of}
-use Rattle.ht_rate.proofs.RateFacts.{streams_of-range}
+use Rattle.ht_rate.proofs.RateFacts.{label_bits_of-range, streams_of-range}
 use Rattle.ht_pam.specs.declared.axes.Axes.{Axes}
 use Rattle.ht_map.specs.Constellation.{axes_of, grid_of}
 use Rattle.ht_capture.specs.Frames.{grid_at, grid_for}
@@ -20,7 +21,7 @@ use Rattle.ht_metric.specs.Jobs.{JobView}
 use Rattle.ht_metric.specs.Rows.{Row}
 use Rattle.ht_metric.specs.declared.place.Place.{Place}
 use Rattle.ht_soft.specs.Halves.{half_of}
-use Rattle.ht_soft_blocks.specs.Blocks.{IsOfRate}
+use Rattle.ht_soft_blocks.specs.Blocks.{AreCounts, IsOfRate, count_by_kind, is_pilot}
 use Rattle.ht_soft_blocks.specs.Halved.{halves_of, halves_of_bit, halves_of_data, halves_of_stream, halves_on, with_number}
 use Rattle.ht_soft_blocks.proofs.Lists.{get_flat}
 
@@ -46,6 +47,74 @@ count_data rate m carrier streams bits job is place streams_is bits_is =
 
 pub count_pilot : (rate : Rate) (k carrier : ℕ) (job : JobView) → Pilot k ≡ carrier_of rate carrier → job.place.carrier ≡ carrier → length (halves_of rate job) ≡ 1
 count_pilot rate k carrier job is place = ap (λ (js : List JobView). length js) (halves_at rate (Pilot k) carrier job is place)
+
+split_last : (k at : ℕ) → k < at + 1 → (k < at) ⊎ (k ≡ at)
+split_last zero zero less = inr refl
+split_last zero (suc at) less = inl (omega arith)
+split_last (suc k) zero less = absurd (omega (arith, less))
+split_last (suc k) (suc at) less = elim (split_last k at (omega (arith, less))) [
+  | inl l ↦ inl (omega (arith, l))
+  | inr e ↦ inr (ap suc e)
+]
+
+-- the bits of so many jobs are there
+abbrev pub AreSoFar : Rate → List JobView → ℕ → ℕ → Type 0
+AreSoFar rate jobs at pilots =
+    (k : ℕ) (job : JobView) → k < at → slice_get jobs k ≡ Some job → (bit_at pilots k == 1) ≡ is_pilot (carrier_of rate job.place.carrier)
+
+-- and of one more
+pub pilots_next : (rate : Rate) (jobs : List JobView) (at old new : ℕ) (bit : Bool) (place : Place) → AreSoFar rate jobs at old
+    → ((k : ℕ) → k ≢ at → bit_at new k ≡ bit_at old k) → (bit_at new at == 1) ≡ bit → bit ≡ is_pilot (carrier_of rate place.carrier)
+    → IfSome (slice_get jobs at) (λ job. job.place ≡ place) → AreSoFar rate jobs (at + 1) new
+pilots_next rate jobs at old new bit place so_far others here bit_is there k job less is =
+    elim (split_last k at less) [
+      | inl l ↦ ap (λ n. n == 1) (others k (λ e. absurd (omega (arith, l, e)))) ∙ so_far k job l is
+      | inr e ↦
+          let found : slice_get jobs at ≡ Some job = ap (λ n. slice_get jobs n) (sym e) ∙ is in
+          let at_place : job.place ≡ place = subst (λ (o : Option JobView). IfSome o (λ (j : JobView). j.place ≡ place)) found there in
+          ap (λ n. bit_at new n == 1) e ∙ (here ∙ (bit_is ∙ ap (λ (p : Place). is_pilot (carrier_of rate p.carrier)) (sym at_place)))
+    ]
+
+-- a subcarrier that is a pilot, or not
+pub with_pilot : (c : Carrier) → true ≡ is_pilot c → (k : ℕ) × (Pilot k ≡ c)
+with_pilot (Data m) is = absurd cc
+with_pilot (Pilot k) is = (k, refl)
+
+pub with_data : (c : Carrier) → false ≡ is_pilot c → (m : ℕ) × (Data m ≡ c)
+with_data (Data m) is = (m, refl)
+with_data (Pilot k) is = absurd cc
+
+-- by what its subcarrier carries
+count_on : (rate : Rate) (c : Carrier) (job : JobView) (of_data : ℕ) → of_data ≡ 2 * streams_of rate * label_bits_of rate → c ≡ carrier_of rate job.place.carrier
+    → length (halves_of rate job) ≡ count_by_kind (is_pilot c) of_data
+count_on rate (Data m) job of_data others is =
+    count_data rate m job.place.carrier (streams_of rate) (label_bits_of rate) job is refl refl refl ∙ sym others
+count_on rate (Pilot k) job of_data others is = count_pilot rate k job.place.carrier job is refl
+
+-- how many halves each job of a block has
+pub counts_are : (rate : Rate) (jobs : List JobView) (pilots of_data k : ℕ) → AreCounts rate jobs pilots of_data
+    → (job : JobView) → slice_get jobs k ≡ Some job → length (halves_of rate job) ≡ count_by_kind (bit_at pilots k == 1) of_data
+counts_are rate jobs pilots of_data k are job is =
+    count_on rate (carrier_of rate job.place.carrier) job of_data are.others refl ∙ ap (λ b. count_by_kind b of_data) (sym (are.alone k job is))
+
+-- a job has one half at least, and 48 at most
+pub count_some : (rate : Rate) (of_data : ℕ) (b : Bool) → of_data ≡ 2 * streams_of rate * label_bits_of rate → 1 ≤ count_by_kind b of_data
+count_some rate of_data true is = omega arith
+count_some rate of_data false is =
+    let streams = streams_of-range rate in
+    let bits = label_bits_of-range rate in
+    let le : 1 ≤ streams_of rate * label_bits_of rate = mul-le-mul streams.0 bits.0 in
+    let e = mul_assoc 2 (streams_of rate) (label_bits_of rate) in
+    omega (arith, le, is, e)
+
+pub count_few : (rate : Rate) (of_data : ℕ) (b : Bool) → of_data ≡ 2 * streams_of rate * label_bits_of rate → count_by_kind b of_data ≤ 48
+count_few rate of_data true is = omega arith
+count_few rate of_data false is =
+    let streams = streams_of-range rate in
+    let bits = label_bits_of-range rate in
+    let le : streams_of rate * label_bits_of rate ≤ 4 * 6 = mul-le-mul streams.1 bits.1 in
+    let e = mul_assoc 2 (streams_of rate) (label_bits_of rate) in
+    omega (arith, le, is, e)
 
 -- the same job under another number, made of its parts
 pub remade : (job : JobView) (n : ℕ) (place : Place) (grid : List Axes) (system : List Row) → place ≡ job.place → grid ≡ job.grid → system ≡ job.system

@@ -3,6 +3,8 @@ pub mod Numbering
 pub mod Parts
 pub mod Counting
 pub mod Spots
+pub mod Runs
 pub mod Items
 pub mod Giving
+pub mod Detected
 mod Worked

@@ -32,7 +32,7 @@ module _ {X : Type 0} where
   get_some (x ∷ xs) zero less = (x, refl)
   get_some (x ∷ xs) (suc k) less = get_some xs k (omega (arith, less))
 
-  same_some : (x y : X) → Some x ≡ Some y → x ≡ y
+  pub same_some : (x y : X) → Some x ≡ Some y → x ≡ y
   same_some x y is = ap (λ o. unwrap_or o x) is
 
   pub drop_get : (xs : List X) (k m : ℕ) (x : X) → m ≡ k + 1 → slice_get xs k ≡ Some x → drop k xs ≡ x ∷ drop m xs

@@ -10,6 +10,7 @@ use Rattle.ht_soft_blocks.specs.Blocks.{IsSpot, some_halves}
 use Rattle.ht_soft_blocks.specs.Halved.{halves_of, halves_of_all, numbered_jobs, with_number}
 use Rattle.ht_soft_blocks.proofs.Lists.{all_get, get_drop, get_some, get_take}
 use Rattle.ht_soft_blocks.proofs.Counting.{all_placed}
+use Rattle.ht_soft_blocks.proofs.Spots.{in_job, small}
 use Rattle.ht_soft_blocks.proofs.Numbering.{drop_numbered, get_numbered, length_numbered, take_numbered}
 
 module _ (rate : Rate) (jobs : List JobView) (first count number : ℕ) where
@@ -48,17 +49,19 @@ all_halves rate jobs count number is =
     ap (numbered_jobs number) (ap (λ n. take n (halves_of_all rate jobs)) is ∙ take-length (halves_of_all rate jobs))
 
 -- a half has the place of the job that it is of
-pub place_is : (rate : Rate) (jobs : List JobView) (first count number at k behind : ℕ) (place : Place) → at < count → IsSpot rate jobs (first + at) k behind
+pub place_is : (rate : Rate) (jobs : List JobView) (first count number at k start : ℕ) (place : Place) → at < count → IsSpot rate jobs (first + at) k start
     → IfSome (slice_get jobs k) (λ job. job.place ≡ place) → IfSome (slice_get (some_halves rate jobs first count number) at) (λ job. job.place ≡ place)
-place_is rate jobs first count number at k behind place less spot has =
+place_is rate jobs first count number at k start place less spot has =
     let IsThere : Option JobView → Type 0 = λ o. IfSome o (λ (job : JobView). job.place ≡ place) in
     let found = get_some jobs k spot.within in
-    let half = get_some (halves_of rate found.0) behind (spot.small found.0 found.1) in
+    let behind : ℕ = first + at - start in
+    let half = get_some (halves_of rate found.0) behind (small rate jobs (first + at) k start found.0 spot found.1) in
     let of_job : half.0.place ≡ found.0.place = all_get (λ (x : JobView). x.place ≡ found.0.place) (halves_of rate found.0) behind half.0 (all_placed rate found.0) half.1 in
     let job_place : found.0.place ≡ place = subst IsThere found.1 has in
     let is : slice_get (some_halves rate jobs first count number) at ≡ Some (with_number (number + at) half.0) =
     get_half rate jobs first count number at less
-    ∙ (ap (λ o. option_map (with_number (number + at)) o) (spot.is found.0 found.1) ∙ ap (λ o. option_map (with_number (number + at)) o) half.1) in
+    ∙ (ap (λ o. option_map (with_number (number + at)) o) (in_job rate jobs (first + at) k start found.0 spot found.1)
+    ∙ ap (λ o. option_map (with_number (number + at)) o) half.1) in
     subst IsThere (sym is) (of_job ∙ job_place)
 
 pub same_halves : (rate other : Rate) (jobs others : List JobView) (first first' count count' number number' : ℕ) → rate ≡ other → jobs ≡ others

@@ -4,7 +4,7 @@ use Rattle.std.specs.Prelude.{Some, slice_get}
 use Rattle.std.proofs.Math.ListN.{drop_of_length-le}
 use Rattle.ht_rate.specs.declared.rates.Rate.{Rate}
 use Rattle.ht_metric.specs.Jobs.{JobView}
-use Rattle.ht_soft_blocks.specs.Blocks.{IsSpot}
+use Rattle.ht_soft_blocks.specs.Blocks.{IsSpot, IsStart}
 use Rattle.ht_soft_blocks.specs.Halved.{halves_of, halves_of_all}
 use Rattle.ht_soft_blocks.proofs.Lists.{drop_get, get_behind, get_first, get_some}
 
@@ -20,46 +20,68 @@ module _ (rate : Rate) (jobs : List JobView) where
   pub none_left : (k : ℕ) → length jobs ≤ k → from k ≡ []
   none_left k le = ap (halves_of_all rate) (drop_of_length-le jobs le)
 
-  -- a half is one of job k, as far as it is known
-  pub record IsBehind (at k behind : ℕ) : Type 0 where
-    pub is : slice_get (halves_of_all rate jobs) at ≡ slice_get (from k) behind
-    pub within : behind < length (from k)
-
-  pub behind_none : (at : ℕ) → at < length (halves_of_all rate jobs) → IsBehind at 0 at
-  behind_none at within = record { is = refl; within = within }
-
-  pub is_spot : (at k behind count : ℕ) → k < length jobs → IsBehind at k behind → behind < count
-      → ((job : JobView) → slice_get jobs k ≡ Some job → length (halves_of rate job) ≡ count) → IsSpot rate jobs at k behind
-  is_spot at k behind count within b less count_is =
-      let small : (job : JobView) → slice_get jobs k ≡ Some job → behind < length (halves_of rate job) =
-      λ job is. let e = count_is job is in omega (arith, e, less) in
+  pub start_none : IsStart rate jobs 0 0
+  start_none =
       record {
-        within = within;
-        small = small;
-        is = λ job is. b.is ∙ (ap (λ (js : List JobView). slice_get js behind) (step k job is)
-            ∙ get_first (halves_of rate job) (from (k + 1)) behind (small job is));
+        is = λ i. let e : 0 + i ≡ i = omega arith in ap (λ n. slice_get (halves_of_all rate jobs) n) e;
+        left = omega arith;
       }
 
-  pub behind_more : (at k behind count : ℕ) → k < length jobs → IsBehind at k behind → count ≤ behind
-      → ((job : JobView) → slice_get jobs k ≡ Some job → length (halves_of rate job) ≡ count) → IsBehind at (k + 1) (behind - count)
-  behind_more at k behind count within b le count_is =
+  -- the halves of the next job begin behind those of this one
+  pub start_more : (k start count : ℕ) → k < length jobs → IsStart rate jobs k start
+      → ((job : JobView) → slice_get jobs k ≡ Some job → length (halves_of rate job) ≡ count) → IsStart rate jobs (k + 1) (start + count)
+  start_more k start count within s count_is =
       let found = get_some jobs k within in
       let e : length (halves_of rate found.0) ≡ count = count_is found.0 found.1 in
       let all : length (from k) ≡ length (halves_of rate found.0) + length (from (k + 1)) =
       ap (λ (js : List JobView). length js) (step k found.0 found.1) ∙ length-append (halves_of rate found.0) (from (k + 1)) in
-      let w = b.within in
+      let l = s.left in
       record {
-        is = b.is ∙ (ap (λ (js : List JobView). slice_get js behind) (step k found.0 found.1)
-            ∙ get_behind (halves_of rate found.0) (from (k + 1)) (behind - count) behind (omega (arith, e, le)));
-        within = omega (arith, all, e, le, w);
+        is = λ i.
+            let moved : start + count + i ≡ start + (count + i) = omega arith in
+            ap (λ n. slice_get (halves_of_all rate jobs) n) moved
+            ∙ (s.is (count + i)
+            ∙ (ap (λ (js : List JobView). slice_get js (count + i)) (step k found.0 found.1)
+            ∙ get_behind (halves_of rate found.0) (from (k + 1)) i (count + i) (omega (arith, e))));
+        left = omega (arith, all, e, l);
       }
 
+  -- which half of its job it is
+  pub at_start : (at k start : ℕ) (job : JobView) → IsStart rate jobs k start → slice_get jobs k ≡ Some job → start ≤ at
+      → at < start + length (halves_of rate job) → slice_get (halves_of_all rate jobs) at ≡ slice_get (halves_of rate job) (at - start)
+  at_start at k start job starts is le before =
+      let place : at ≡ start + (at - start) = omega (arith, le) in
+      ap (λ n. slice_get (halves_of_all rate jobs) n) place
+      ∙ (starts.is (at - start)
+      ∙ (ap (λ (js : List JobView). slice_get js (at - start)) (step k job is)
+      ∙ get_first (halves_of rate job) (from (k + 1)) (at - start) (omega (arith, le, before))))
+
+  pub in_job : (at k start : ℕ) (job : JobView) → IsSpot rate jobs at k start → slice_get jobs k ≡ Some job
+      → slice_get (halves_of_all rate jobs) at ≡ slice_get (halves_of rate job) (at - start)
+  in_job at k start job spot is = at_start at k start job spot.starts is spot.behind (spot.before job is)
+
+  pub small : (at k start : ℕ) (job : JobView) → IsSpot rate jobs at k start → slice_get jobs k ≡ Some job → at - start < length (halves_of rate job)
+  small at k start job spot is =
+      let le = spot.behind in
+      let before = spot.before job is in
+      omega (arith, le, before)
+
+  pub is_spot : (at k start count : ℕ) → k < length jobs → IsStart rate jobs k start → start ≤ at → at < start + count
+      → ((job : JobView) → slice_get jobs k ≡ Some job → length (halves_of rate job) ≡ count) → IsSpot rate jobs at k start
+  is_spot at k start count within s le less count_is =
+      record { within = within; starts = s; behind = le; before = λ job is. let e = count_is job is in omega (arith, e, less) }
+
   -- no half is behind the last job
-  pub never_behind : (at k behind : ℕ) → length jobs ≤ k → IsBehind at k behind → ⊥
-  never_behind at k behind le b =
+  pub never_behind : (at k start : ℕ) → length jobs ≤ k → IsStart rate jobs k start → start ≤ at → at < length (halves_of_all rate jobs) → ⊥
+  never_behind at k start le s behind less =
       let none : length (from k) ≡ 0 = ap (λ (js : List JobView). length js) (none_left k le) in
-      let w = b.within in
-      omega (arith, none, w)
+      let l = s.left in
+      omega (arith, none, l, behind, less)
+
+  -- the halves of a job are counted with all
+  pub end_fits : (k start count : ℕ) → k < length jobs → IsStart rate jobs k start
+      → ((job : JobView) → slice_get jobs k ≡ Some job → length (halves_of rate job) ≡ count) → start + count ≤ length (halves_of_all rate jobs)
+  end_fits k start count within s count_is = let l = (start_more k start count within s count_is).left in omega (arith, l)
 
   -- counted up to job k
   pub record IsCounted (k count : ℕ) : Type 0 where

@@ -1,3 +1,4 @@
 pub mod Blocks
 pub mod Halved
 pub mod Readers
+pub mod Turns

@@ -1,14 +1,17 @@
 //! Blocks of halves.
-ghost use Rattle.std.specs.Prelude.{◌≡◌, ◌+◌, ◌*◌, ◌^◌, ◌<◌, ◌≤◌, ◌↔◌, length, take, drop, IfSome, IsTrue};
+ghost use Rattle.std.specs.Prelude.{◌≡◌, ◌+◌, ◌*◌, ◌^◌, ◌<◌, ◌≤◌, ◌↔◌, length, take, drop, IfOk, IfSome, IsTrue};
 ghost use Rattle.ht_capture.specs.Parts.{jobs_of};
+ghost use Rattle.ht_feed.specs.Dues.{AreHits};
 ghost use Rattle.ht_soft_blocks.specs.Blocks.{AreOfRate};
 ghost use Rattle.ht_soft_blocks.specs.Halved.{halves_of_all, numbered_jobs};
 
-use crate::halves::{count_in, half_of_job, spot_of};
+use crate::finding::hits_of_halves;
+use crate::halves::{Counts, count_in, half_of_job, spot_of};
 use ht_capture_blocks::CaptureBlock;
-use ht_feed::{Jobs, Shared};
+use ht_feed::{Finder, Hits, Jobs, Shared};
 use ht_metric::{Job, Place};
 use ht_rate::Rate;
+use std::alloc::{AllocError, Global};
 use std::marker::Model;
 
 /// Some of the halves of a block's jobs, which follow one another: at least one, and at most 5,472.
@@ -17,8 +20,9 @@ use std::marker::Model;
 #[derive(Debug, Drop)]
 pub struct HalvesBlock {
     block: CaptureBlock,
-    // The rate of the jobs' frame.
+    // The rate of the jobs' frame, and how many halves each of the block's jobs has.
     rate: Rate,
+    counts: Counts,
     // How many halves of the block's jobs stand in front of these, and how many these are.
     first: u16,
     count: u16,
@@ -36,7 +40,7 @@ impl Model for HalvesBlock {
 
     ghost view = { λ b. some_halves b.rate (jobs_of b.block.block) b.first b.count b.number };
 
-    ghost invariant = { λ b. AreSomeHalves b.rate (jobs_of b.block.block) b.first b.count b.number };
+    ghost invariant = { λ b. AreSomeHalves b.rate (jobs_of b.block.block) b.counts.pilots b.counts.of_data b.first b.count b.number };
 }
 
 impl HalvesBlock {
@@ -48,10 +52,12 @@ impl HalvesBlock {
         ensures all { result ≡ numbered_jobs number (halves_of_all rate (jobs_of block.block)) }
         ensures few { length result ≤ 48 * length (jobs_of block.block) }
     {
-        let count = count_in(&block, &rate);
+        let counts = Counts::of(&block, &rate);
+        let count = count_in(&block, &rate, counts);
         HalvesBlock {
             block,
             rate,
+            counts,
             first: 0,
             count,
             number,
@@ -66,6 +72,23 @@ impl HalvesBlock {
         self.count
     }
 
+    /// What is found for each of them: half by half, each job made once. The only error is lack of memory.
+    pub fn hits<F: Finder>(&self, alloc: Global, finder: &F) -> Result<Hits, AllocError>
+        ensures { IfOk result (λ hits. AreHits hits.found.items self.now) }
+    {
+        let (first, count) = (self.first, self.count);
+        hits_of_halves(
+            alloc,
+            &self.block,
+            &self.rate,
+            self.counts,
+            first,
+            count,
+            self.number,
+            finder,
+        )
+    }
+
     // The first ones, in another block; or none where it can't be made.
     pub(crate) fn front(&self, count: u16) -> Option<HalvesBlock>
         requires some { 1 ≤ count }
@@ -76,6 +99,7 @@ impl HalvesBlock {
             Some(block) => Some(HalvesBlock {
                 block,
                 rate: self.rate,
+                counts: self.counts,
                 first: self.first,
                 count,
                 number: self.number,
@@ -118,17 +142,19 @@ impl Jobs for HalvesBlock {
 
     #[inline]
     fn place_at(&self, at: u16) -> Place {
-        let spot = spot_of(&self.block, &self.rate, self.first + at);
+        let spot = spot_of(&self.block, &self.rate, self.counts, self.first + at);
         self.block.place_at(spot.job)
     }
 
     #[inline]
     fn job(&self, at: u16) -> Job {
-        let spot = spot_of(&self.block, &self.rate, self.first + at);
+        let behind = self.first + at;
+        let spot = spot_of(&self.block, &self.rate, self.counts, behind);
         half_of_job(
             &self.rate,
             &self.block.job(spot.job),
-            spot.behind,
+            self.counts.is_pilot(spot.job),
+            behind - spot.start,
             self.number + u64::from(at),
         )
     }

@@ -13,10 +13,12 @@
 #![tactic(auto)]
 
 mod block;
+mod finding;
 mod halves;
 mod reader;
 #[cfg(test)]
 mod tests;
+mod turn;
 
 pub use block::HalvesBlock;
 pub use reader::HalvesReader;

@@ -46,7 +46,7 @@ impl Model for HalvesReader {
     ghost invariant = { λ r. IsSoundReader (record { reader = r.reader.reader; going = r.going; head = r.head; kept = kept_of r.kept; given = r.given }) };
 }
 
-/// The most jobs whose halves come together: a half finds its job by a walk from the first of them.
+/// The most jobs whose halves come together: where two of them are on pilots, a half finds its job by a walk.
 const JOBS: u16 = 16;
 
 // How many jobs of a frame have this number of halves at most, but at least one, and few.

@@ -1,8 +1,7 @@
 -- The lines of frames are told of the halves of a capture's jobs.
-use Rattle.std.proofs.Common.{◌≡◌, ℕ, ◌+◌, List, [], ◌∷◌, ◌++◌, map, Option, None, Some, Result, Ok, Err, refl, ap, ◌∙◌, arith, IfSome}
+use Rattle.std.proofs.Common.{◌≡◌, ℕ, ◌+◌, List, [], ◌∷◌, ◌++◌, map, Option, None, Some, Result, Ok, Err, refl, ap, ◌∙◌, arith}
 use Rattle.std.specs.List.{flat_map}
-use Rattle.ht_io.specs.Devices.{Device, GrowsByPart, IsLater}
-use Rattle.ht_io.proofs.Calls.{grows_by_part-none, takes-none}
+use Rattle.ht_io.specs.Devices.{Device, IsLater}
 use Rattle.ht_io.specs.declared.faults.FormatFault.{FormatFault}
 use Rattle.ht_fields.specs.Meanings.{Meaning}
 use Rattle.ht_metric.specs.Jobs.{JobView}
@@ -15,7 +14,7 @@ use Rattle.ht_capture_blocks.specs.Captures.{items_of, mapped}
 use Rattle.ht_feed.specs.declared.ended.Ended.{Ended}
 use Rattle.ht_runs.specs.declared.faults.RunFault.{RunFault}
 use Rattle.ht_runs.specs.declared.faults.StopFault.{StopFault}
-use Rattle.ht_runs.specs.Streamed.{PutsPart, Streamed}
+use Rattle.ht_runs.specs.Streamed.{Streamed}
 use Rattle.ht_soft_blocks.specs.Readers.{HalvesView, soft_at, soft_means}
 use Rattle.ht_soft_rx.specs.Booking.{PutsLines, booked_in, telling}
 use Rattle.ht_capture_laws.specs.Items.{whole_frames}
@@ -99,16 +98,3 @@ finished reader head source source' sink mid sink' ended_so result means at puts
     (ends captures (halved_items head) head (booked_in soft_line puts.before) soft_rx_text soft_lines_of (soft_told head puts.before puts.idle)
     soft_means soft_at reader source source' (telling soft_line sink puts.before) (telling soft_line mid puts.after) ended_so sink' result
     means at refl puts.comes later last)
-
--- without memory for a reader nothing is taken or put
-none_of : (text_of : List ℕ → List ℕ) (sink : Device ℕ) (known : Option (List ℕ)) → IfSome known (λ all. GrowsByPart sink sink (text_of all))
-none_of text_of sink None = tt
-none_of text_of sink (Some all) = grows_by_part-none sink (text_of all)
-
-pub nothing_put : (text_of : List ℕ → List ℕ) (source sink : Device ℕ) → PutsPart text_of source source sink sink
-nothing_put text_of source sink = record {
-  taken = [];
-  octets = takes-none source;
-  text = grows_by_part-none sink (text_of []);
-  of_all = none_of text_of sink source.known;
-}

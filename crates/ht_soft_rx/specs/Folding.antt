@@ -107,3 +107,8 @@ pub record IsUnderWay (w : Weighing) : Type 0 where
   pub left : 1 ≤ w.left
   pub kept : HasWeights w.head w.weights
   pub bits : w.bits < weights_of_job w.head
+
+-- a whole frame, behind its last job
+pub record IsWhole (w : Weighing) : Type 0 where
+  pub over : w.left ≡ 0
+  pub kept : HasWeights w.head w.weights

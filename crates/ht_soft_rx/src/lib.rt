@@ -30,8 +30,10 @@ mod soft_result;
 mod tests;
 mod under_way;
 mod whole;
+mod work;
 
 pub use receiving::{receive_soft, receive_soft_alone};
 pub use soft_result::SoftResult;
 pub use under_way::SoftUnderWay;
 pub use whole::SoftWhole;
+pub use work::HalvesWork;

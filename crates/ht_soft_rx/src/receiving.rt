@@ -14,6 +14,7 @@ ghost use Rattle.ht_soft_rx.specs.Texts.{soft_lines_of, soft_rx_text};
 
 use crate::soft_result::SoftResult;
 use crate::under_way::SoftUnderWay;
+use crate::work::HalvesWork;
 use ht_capture::FrameHead;
 use ht_crew::Gate;
 use ht_drive::tell;
@@ -53,7 +54,9 @@ fn book_alone<S: Source, B: Book<SoftResult>, G: Gate>(
     ensures same { B.lent book.new ≡ B.lent book.old }
 {
     let mut receiver = Receiver::new(alloc, under_way, book);
-    let work = HitWork { alloc, gate };
+    let work = HalvesWork {
+        work: HitWork { alloc, gate },
+    };
     tell_alone(alloc, reader, head, window, &work, source, &mut receiver)
 }
 
@@ -86,7 +89,9 @@ fn gather<R: Threads + Wait + Sync, S: Source, B: Book<SoftResult>, G: Gate + Sy
 {
     let mut queue = VecDeque::new(alloc);
     let mut gatherer = Gatherer::new(rt, alloc, workers, under_way, &mut queue, book);
-    let work = HitWork { alloc, gate };
+    let work = HalvesWork {
+        work: HitWork { alloc, gate },
+    };
     let ended = tell(
         rt,
         alloc,

@@ -1,14 +1,17 @@
 //! A frame under way.
-ghost use Rattle.std.specs.Prelude.{◌≡◌, ◌+◌, ◌*◌, ◌^◌, ◌<◌, ◌≤◌, [], ◌∷◌, ◌++◌, List, length, map, max, option_to_list, refl, set, IfOk, OnOk};
+ghost use Rattle.std.specs.Prelude.{◌≡◌, ◌+◌, ◌*◌, ◌^◌, ◌<◌, ◌≤◌, [], ◌∷◌, ◌++◌, true, List, length, map, max, refl, set, IfOk, OnOk};
 ghost use Rattle.ht_metric.specs.Jobs.{JobView, near};
 ghost use Rattle.ht_feed.specs.Items.{Headed, headed_of};
+ghost use Rattle.ht_frames.specs.Gathering.{finished};
 ghost use Rattle.ht_results.specs.Folding.{jobs_in_frame, with_octets};
 ghost use Rattle.ht_soft.specs.Weights.{weight_of};
-ghost use Rattle.ht_soft_rx.specs.Folding.{HasWeights, IsUnderWay, results_from, taken_of, weight_place, weighing_begun, weighing_of, weights_in_frame};
+ghost use Rattle.ht_soft_rx.specs.Folding.{HasWeights, IsUnderWay, IsWhole, results_from, taken_of, weight_place, weighing_begun, weighing_of, weights_in_frame};
 ghost use Rattle.ht_soft_rx.specs.Folding.{with_distance, with_found};
+ghost use Rattle.ht_soft_rx.specs.Results.{result_of};
 ghost use Rattle.ht_soft_rx.specs.Weights.{weights_of_job};
 
-use crate::whole::SoftWhole;
+use crate::soft_result::SoftResult;
+use crate::whole::{SoftWhole, decoded};
 use ht_capture::FrameHead;
 use ht_frames::{Decoding, UnderWay};
 use ht_metric::{Found, Place};
@@ -20,7 +23,8 @@ use std::marker::Model;
 use std::mem;
 use std::thread::Threads;
 
-/// The frame under way: the weights of its label bits so far, four octets each, until its last job came.
+/// The frame under way: the weights of its label bits so far, four octets each. The next frame has them in the same memory,
+/// where the whole frame was decoded here.
 ///
 /// It takes what was found for the halves of data jobs bit by bit, for the one where the bit is 0 first, and for pilots.
 #[derive(Drop)]
@@ -170,10 +174,17 @@ impl SoftUnderWay {
         }
     }
 
-    // The frame, which is whole.
-    fn whole(&mut self, alloc: Global) -> SoftWhole
-        requires over { self.old.left ≡ 0 }
-        requires kept { HasWeights self.old.head self.old.weights }
+    // What the whole frame comes to.
+    fn decoded(&self, alloc: Global) -> Result<SoftResult, AllocError>
+        requires { HasWeights self.now.head self.now.weights }
+        ensures { IfOk result (λ r. r ≡ result_of self.now.head self.now.weights) }
+    {
+        decoded(alloc, &self.head, self.weights.as_slice())
+    }
+
+    // The whole frame, which leaves with its weights.
+    fn taken_away(&mut self, alloc: Global) -> SoftWhole
+        requires { IsWhole self.old }
         ensures head { result.head ≡ self.old.head }
         ensures weights { result.weights.items ≡ self.old.weights }
         ensures none { self.new.left ≡ 0 }
@@ -190,19 +201,28 @@ impl UnderWay for SoftUnderWay {
 
     ghost results = { λ frame halves. results_from frame (map taken_of halves) };
 
+    ghost is_whole = { IsWhole };
+
+    ghost comes_to = { λ frame. result_of frame.head frame.weights };
+
     fn take(
         &mut self,
         alloc: Global,
         head: &FrameHead,
         place: Place,
         found: &Found,
-    ) -> Result<Option<SoftWhole>, AllocError> {
+    ) -> Result<bool, AllocError> {
         self.enter(head)?;
         self.add(place, found.distance);
-        if self.left > 0 {
-            return Ok(None);
-        }
-        Ok(Some(self.whole(alloc)))
+        Ok(self.left == 0)
+    }
+
+    fn decode(&mut self, alloc: Global) -> Result<SoftResult, AllocError> {
+        self.decoded(alloc)
+    }
+
+    fn leave(&mut self, alloc: Global) -> SoftWhole {
+        self.taken_away(alloc)
     }
 
     fn begin<R: Threads>(rt: &R, alloc: Global, frame: SoftWhole) -> Decoding<SoftWhole> {

@@ -28,6 +28,24 @@ impl SoftWhole {
     }
 }
 
+// What a frame with these weights comes to.
+#[tactic(auto, using(crate::proofs::Widths::weights_count), unfolding(crate::specs::Results::result_of))]
+pub(crate) fn decoded(
+    alloc: Global,
+    head: &FrameHead,
+    weights: &[i32],
+) -> Result<SoftResult, AllocError>
+    requires { HasWeights head.now weights.now }
+    ensures { IfOk result (λ r. r ≡ result_of head.now weights.now) }
+{
+    let decoded = soft_frame(alloc, &head.rate, head.length, head.erased, weights)?;
+    Ok(SoftResult {
+        frame: head.frame,
+        cost: decoded.cost,
+        outcome: decoded.outcome,
+    })
+}
+
 impl WholeFrame for SoftWhole {
     type Result = SoftResult;
 
@@ -37,20 +55,7 @@ impl WholeFrame for SoftWhole {
         self.head.length
     }
 
-    #[tactic(auto, using(crate::proofs::Widths::weights_count), unfolding(crate::specs::Results::result_of))]
     fn decode(&self, alloc: Global) -> Result<SoftResult, AllocError> {
-        let head = &self.head;
-        let decoded = soft_frame(
-            alloc,
-            &head.rate,
-            head.length,
-            head.erased,
-            self.weights.as_slice(),
-        )?;
-        Ok(SoftResult {
-            frame: head.frame,
-            cost: decoded.cost,
-            outcome: decoded.outcome,
-        })
+        decoded(alloc, &self.head, self.weights.as_slice())
     }
 }

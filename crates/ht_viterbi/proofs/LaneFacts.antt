@@ -47,7 +47,7 @@ at_least-at v long k lt =
     get_or-zip2 leb (replicate 64 128) v k 0 0 false (omega arith) (omega arith)
     ∙ ap (λ (n : ℕ). leb n (get_or v k 0)) (get_or-replicate {A = ℕ} 64 k 128 0 lt)
 
-bit-cond : (b : Bool) (n : ℕ) → n ≡ cond b 1 0 → (n ≡ 1) ↔ (b ≡ true)
+pub bit-cond : (b : Bool) (n : ℕ) → n ≡ cond b 1 0 → (n ≡ 1) ↔ (b ≡ true)
 bit-cond true n e = ((λ _. refl), λ _. e)
 bit-cond false n e = ((λ one. absurd (omega arith)), λ t. absurd (true≢false (sym t)))
 

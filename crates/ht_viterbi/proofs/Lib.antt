@@ -4,6 +4,7 @@ pub mod Sending
 pub mod Steps
 pub mod Orders
 pub mod LaneFacts
+pub mod WideFacts
 pub mod LaneSteps
 pub mod Spread
 pub mod Values

@@ -15,10 +15,10 @@
 //!
 //! [`decode`] keeps the costs of all 64 states, modulo 256, in the lanes of one vector, from the last step to the first,
 //! so that one way forwards gives the first of the nearest inputs. [`decode_received`] does the same with an octet for each
-//! hard decision, a [`ReceivedBit`]. [`decode_places`] answers for any places, state by state, and [`plain_decode`] is its
-//! form for hard decisions. The definitions are in `specs/Inputs.antt`: a minimum over all inputs, with no trellis in it.
-//! `specs/Decoded.antt` has the same as a function of what is received, over the list of all inputs. The laws that follow
-//! from them are in [`laws`].
+//! hard decision, a [`ReceivedBit`]. [`decode_places`] answers for any places, with whole costs in the lanes of a vector,
+//! and [`plain_decode`] is its form for hard decisions. The definitions are in `specs/Inputs.antt`: a minimum over all
+//! inputs, with no trellis in it. `specs/Decoded.antt` has the same as a function of what is received, over the list of all
+//! inputs. The laws that follow from them are in [`laws`].
 #![tactic(auto)]
 
 mod bit_costs;
@@ -35,6 +35,7 @@ mod rows;
 #[cfg(test)]
 mod tests;
 mod walk;
+mod wide;
 mod words;
 
 pub use codeword::{Cheapest, Codeword};

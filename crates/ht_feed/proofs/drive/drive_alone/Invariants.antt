@@ -1,4 +1,5 @@
 use Rattle.std.proofs.Common.{◌≡◌, [], None, false}
+use Rattle.ht_feed.specs.Feeds.{IsAlong}
 use Rattle.ht_feed.proofs.drive.drive_alone.Given as goal
 
 -- nothing is due between the turns
@@ -8,6 +9,7 @@ invariant-loop-block g l = record {
   none : (g.F.BlockFeed.shown l.feed).due ≡ [];
   count : (g.F.BlockFeed.shown l.feed).count ≡ l.jobs;
   well : (g.F.BlockFeed.shown l.feed).failed ≡ None;
+  along : IsAlong (g.F.BlockFeed.shown l.fn.feed).left (g.F.BlockFeed.shown l.feed);
   leads : g.F.BlockFeed.leads l.fn.feed l.feed;
 }
 

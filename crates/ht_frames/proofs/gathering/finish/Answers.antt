@@ -35,9 +35,9 @@ loop-oldest-preserved g c =
     let e = c.in_ok-book_one.ensures in
     record {
       put = books_next result_of b.booked start before now c.args.queue.now.items c.loop-oldest.queue.items left f c.loop-oldest.invariant.put is e.put;
-      steady = e.steady ∙ c.loop-oldest.invariant.steady;
-      later = later-later start before now c.loop-oldest.invariant.later c.book_one.ensures.later;
-      same = c.book_one.ensures.same ∙ c.loop-oldest.invariant.same;
+      steady = e.faults.steady ∙ c.loop-oldest.invariant.steady;
+      later = later-later start before now c.loop-oldest.invariant.later c.book_one.ensures.faults.later;
+      same = c.book_one.ensures.faults.same ∙ c.loop-oldest.invariant.same;
     }
 
 pub returns-in_err-book_one-clause-part : goal.returns-in_err-book_one-clause-part

@@ -43,7 +43,7 @@ loop-at-preserved g c =
     let now = b.shown c.take_found.new.book in
     record {
       puts = one_more head (b.shown c.args.book.now) (b.shown l.book) now start before jobs l.at j.0 j.1 l.invariant.puts after (e.put j.0 j.2 j.3);
-      steady = e.steady ∙ l.invariant.steady;
-      later = later-later (b.shown c.args.book.now) (b.shown l.book) now l.invariant.later c.take_found.ensures.later;
-      same = c.take_found.ensures.same ∙ l.invariant.same;
+      steady = e.faults.steady ∙ l.invariant.steady;
+      later = later-later (b.shown c.args.book.now) (b.shown l.book) now l.invariant.later c.take_found.ensures.faults.later;
+      same = c.take_found.ensures.faults.same ∙ l.invariant.same;
     }

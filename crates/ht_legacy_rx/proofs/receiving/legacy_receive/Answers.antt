@@ -3,9 +3,9 @@ use Rattle.ht_runs.specs.Formats.{filter}
 use Rattle.ht_runs.specs.Streamed.{Streamed}
 use Rattle.ht_runs.specs.declared.faults.RunFault.TheVariants.{NoMemory}
 use Rattle.ht_endings.specs.Endings.{HasFrames}
+use Rattle.ht_endings.proofs.Nothing.{nothing_put}
 use Rattle.ht_legacy_captures.specs.Formats.{captures}
 use Rattle.ht_legacy_rx.specs.Texts.{legacy_items, legacy_lines_of, legacy_text}
-use Rattle.ht_legacy_rx.proofs.Telling.{nothing_put}
 use Rattle.ht_legacy_rx.proofs.receiving.legacy_receive.Goals as goal
 
 pub returns-in_err-reader-clause-receives : goal.returns-in_err-reader-clause-receives

@@ -5,7 +5,8 @@ use Rattle.ht_runs.specs.declared.faults.RunFault.TheVariants.{NoMemory}
 use Rattle.ht_capture.specs.Fields.{captures}
 use Rattle.ht_soft_rx.specs.Halved.{HasFrames}
 use Rattle.ht_soft_rx.specs.Texts.{soft_lines_of, soft_rx_text}
-use Rattle.ht_soft_rx.proofs.Told.{finished, nothing_put}
+use Rattle.ht_endings.proofs.Nothing.{nothing_put}
+use Rattle.ht_soft_rx.proofs.Told.{finished}
 use Rattle.ht_soft_rx.proofs.receiving.receive_soft_alone.Goals as goal
 
 pub returns-in_err-reader-clause-streams : goal.returns-in_err-reader-clause-streams

@@ -38,4 +38,4 @@ pub returns-clause-cause : goal.returns-clause-cause
 returns-clause-cause g c =
     let b = g.B.Book in
     failed_behind c.finish.result (b.shown c.args.self.now.book.now) (b.shown c.take_block.new.book) (b.shown c.finish.new.book)
-    c.take_block.ensures.later c.finish.ensures.cause
+    c.take_block.ensures.faults.later c.finish.ensures.faults.cause

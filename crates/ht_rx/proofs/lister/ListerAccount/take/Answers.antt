@@ -13,11 +13,11 @@ returns-in_err-put-clause-part g c =
     let b = g.K.Sink.shown c.put.new.self in
     let jobs = g.R.Block.Jobs.jobs c.args.arg3.now in
     err_so c.from_residual.result (PutsPartOf a b (λ js. job_lines (jobs_in_blocks js)) (headed_due (due_of c.args.arg2.now jobs)))
-    (part c.args.arg2.now jobs c.as_bytes.result.now (c.as_bytes.ensures.value ∙ c.requires.right) a b c.in_err-put.ensures.part)
+    (part c.args.arg2.now jobs c.text.result.now (c.text.ensures ∙ c.requires.right) a b c.in_err-put.ensures.part)
 
 pub returns-clause-put : goal.returns-clause-put
 returns-clause-put g c =
     let a = g.K.Sink.shown c.args.self.now.sink.now in
     let b = g.K.Sink.shown c.put.new.self in
     let jobs = g.R.Block.Jobs.jobs c.args.arg3.now in
-    puts c.args.arg2.now jobs c.as_bytes.result.now (c.as_bytes.ensures.value ∙ c.requires.right) a b c.in_ok-put.ensures.grown
+    puts c.args.arg2.now jobs c.text.result.now (c.text.ensures ∙ c.requires.right) a b c.in_ok-put.ensures.grown

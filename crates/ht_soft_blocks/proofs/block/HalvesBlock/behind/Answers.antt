@@ -39,6 +39,8 @@ invariant_of-result c =
     let same = c.from.ensures in
     record {
       rates = i.rates;
+      counts = i.counts;
+      fits = i.fits;
       some = omega (arith, long, less);
       within = let w = i.within in omega (arith, w, long, less);
       few = let w = i.few in omega (arith, w, long, less);

@@ -11,9 +11,11 @@ invariant_of-result c =
     let i = c.self.invariant in
     let long : length c.args.self.now ≡ b.count = rw (← c.self.view_is) (length_some b.rate (jobs_of b.block.block) b.first b.count b.number i.within) in
     let few : c.args.count ≤ b.count = let e = c.requires.few in omega (arith, long, e) in
-    subst (λ (js : List JobView). AreSomeHalves b.rate js b.first c.args.count b.number) (sym c.in-Some.ensures)
+    subst (λ (js : List JobView). AreSomeHalves b.rate js b.counts.pilots b.counts.of_data b.first c.args.count b.number) (sym c.in-Some.ensures)
     (record {
       rates = i.rates;
+      counts = i.counts;
+      fits = i.fits;
       some = c.requires.some;
       within = let w = i.within in omega (arith, w, few);
       few = let w = i.few in omega (arith, w, few);

@@ -28,5 +28,5 @@ returns c =
     let long : length c.args.self.now ≡ b.count = rw (← c.self.view_is) (length_some b.rate (jobs_of b.block.block) b.first b.count b.number i.within) in
     let less : c.args.at < b.count = let e = c.requires in omega (arith, long, e) in
     rw (← c.self.view_is)
-    (place_is b.rate (jobs_of b.block.block) b.first b.count b.number c.args.at c.spot_of-spot.result.job c.spot_of-spot.result.behind c.place_at.result less
+    (place_is b.rate (jobs_of b.block.block) b.first b.count b.number c.args.at c.spot_of-spot.result.job c.spot_of-spot.result.start c.place_at.result less
     c.spot_of-spot.ensures c.place_at.ensures)

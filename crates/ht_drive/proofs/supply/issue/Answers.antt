@@ -1,0 +1,26 @@
+use Rattle.std.proofs.Common.{◌≡◌, ◌+◌, length, ap, sym, subst, ◌∙◌, refl, arith, rules, List}
+use Rattle.ht_metric.specs.Jobs.{JobView}
+use Rattle.ht_crew.specs.Tallying.{AreTold}
+use Rattle.ht_feed.specs.Dues.{all_in}
+use Rattle.ht_pool.specs.Helms.{gave}
+use Rattle.ht_drive.specs.Blocks.{BlockHelm}
+use Rattle.ht_drive.specs.Driving.{Tallies}
+use Rattle.ht_drive.specs.declared.tally.Tally.{Tally}
+use Rattle.ht_drive.proofs.Giving.{issues_given, told_given}
+use Rattle.ht_drive.proofs.supply.issue.Goals as goal
+
+pub returns-else-not-give-clause-tallies : goal.returns-else-not-give-clause-tallies
+returns-else-not-give-clause-tallies g c =
+    let jobs = g.B.Jobs.jobs c.args.block in
+    let t = c.args.tally.now in
+    let t' : Tally = record { issued = t.issued + c.from-size.result; own = t.own } in
+    let is : c.give.new.self ≡ gave c.args.helm.now jobs = search rules in
+    let issued : t'.issued ≡ t.issued + length jobs = search rules in
+    subst (λ (helm : BlockHelm). Tallies t' helm) (sym is)
+    (issues_given t c.args.helm.now jobs c.requires.tallies c.requires.numbers c.requires.block t' issued refl)
+
+pub returns-else-not-give-clause-told : goal.returns-else-not-give-clause-told
+returns-else-not-give-clause-told g c =
+    let jobs = g.B.Jobs.jobs c.args.block in
+    let is : c.give.new.self ≡ gave c.args.helm.now jobs = search rules in
+    λ all told more. subst (λ (helm : BlockHelm). AreTold all (all_in helm.given)) (sym is) (told_given all c.args.helm.now jobs told more)

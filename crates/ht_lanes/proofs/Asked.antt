@@ -1,0 +1,119 @@
+-- Lanes are asked, one after another.
+use Rattle.std.proofs.Common.{◌≡◌, ◌≢◌, ℕ, ◌+◌, ◌<◌, ◌≤◌, List, [], ◌∷◌, ◌++◌, length, get_or, Option, Some, None, Bool, true, false, nat_eq}
+use Rattle.std.specs.Prelude.{IfNone, IfSome}
+use Rattle.std.proofs.Common.{refl, ap, ◌∙◌, sym, subst, arith}
+use Rattle.std.proofs.lemmas.Bool.{false≢true}
+use Rattle.ht_metric.specs.Jobs.{JobView}
+use Rattle.ht_lanes.specs.Lanes.{AllLead, AreOver, HasRoom, HaveRoom, OneMoreAt, SameBook, SameBooks, Side, Sides, side_of, sides_of}
+use Rattle.ht_lanes.specs.Leading.{all-on, all-one, other_number, same_number}
+
+-- what is said of an answer that is there, and of one that isn't
+pub some_so : {X : Type 0} (o : Option X) (x : X) (P : X → Type 0) → o ≡ Some x → IfSome o P → P x
+some_so o x P is so = subst (λ z. IfSome z P) is so
+
+pub none_so : {X : Type 0} (o : Option X) (P : Type 0) → o ≡ None → IfNone o P → P
+none_so o P is so = subst (λ z. IfNone z P) is so
+
+-- the lane with this number alone was asked
+module _ {L : Type 0} (b c : List L) (at : ℕ) (others : (l : L) (k : ℕ) → k ≢ at → get_or c k l ≡ get_or b k l) where
+  module _ (due : L → List (List JobView)) (rests : L → Bool) (a : List L) (same : SameBooks due rests a b)
+      (rest : (l : L) → rests (get_or c at l) ≡ rests (get_or b at l)) where
+    same_other : (l : L) (k : ℕ) → k ≢ at → k < length a → SameBook due rests (get_or a k l) (get_or c k l)
+    same_other l k far few =
+        let o = others l k far in
+        let s = same l k few in
+        (ap rests o ∙ s.0, ap due o ∙ s.1)
+
+    same_as : ((l : L) → due (get_or c at l) ≡ due (get_or b at l)) → (t : Bool) (l : L) (k : ℕ) → nat_eq k at ≡ t → k < length a
+        → SameBook due rests (get_or a k l) (get_or c k l)
+    same_as is true l k e few =
+        let s = same l k few in
+        let here : SameBook due rests (get_or b k l) (get_or c k l) =
+        subst (λ (n : ℕ). SameBook due rests (get_or b n l) (get_or c n l)) (sym (same_number at k e)) (rest l, is l) in
+        (here.0 ∙ s.0, here.1 ∙ s.1)
+    same_as is false l k e few = same_other l k (other_number at k e) few
+
+    -- it waits for no block more
+    pub same_none : ((l : L) → due (get_or c at l) ≡ due (get_or b at l)) → SameBooks due rests a c
+    same_none is l k few = same_as is (nat_eq k at) l k refl few
+
+    -- it waits for one block more
+    pub one_more : (jobs : List JobView) → at < length a → ((l : L) → due (get_or c at l) ≡ due (get_or b at l) ++ jobs ∷ []) → OneMoreAt due rests a c at jobs
+    one_more jobs low is = record {
+      here = λ l.
+          let s = same l at low in
+          (rest l ∙ s.0, is l ∙ ap (λ (bs : List (List JobView)). bs ++ jobs ∷ []) s.1);
+      others = λ l k far few. same_other l k far few;
+    }
+
+  module _ (over : L → Bool) (ended : (l : L) → over (get_or c at l) ≡ true) where
+    room_as : (due : L → List (List JobView)) (most : ℕ) → HaveRoom due over most b → (t : Bool) (l : L) (k : ℕ) → nat_eq k at ≡ t → k < length b
+        → HasRoom due over most (get_or c k l)
+    room_as due most room true l k e few going =
+        absurd (false≢true (sym going ∙ (ap (λ (n : ℕ). over (get_or c n l)) (same_number at k e) ∙ ended l)))
+    room_as due most room false l k e few going =
+        subst (λ (x : L). HasRoom due over most x) (sym (others l k (other_number at k e))) (room l k few) going
+
+    pub room_none : (due : L → List (List JobView)) (most : ℕ) → length c ≡ length b → HaveRoom due over most b → HaveRoom due over most c
+    room_none due most as_many room l k few = room_as due most room (nat_eq k at) l k refl (subst (λ (n : ℕ). k < n) as_many few)
+
+    over_as : (from : ℕ) → ((l : L) (k : ℕ) → from ≤ k → k < at → over (get_or b k l) ≡ true)
+        → (t : Bool) (l : L) (k : ℕ) → nat_eq k at ≡ t → from ≤ k → k < at + 1 → over (get_or c k l) ≡ true
+    over_as from before true l k e high low = ap (λ (n : ℕ). over (get_or c n l)) (same_number at k e) ∙ ended l
+    over_as from before false l k e high low =
+        let far = other_number at k e in
+        ap over (others l k far) ∙ before l k high (omega (arith, low, far))
+
+    pub over_none : (from : ℕ) → ((l : L) (k : ℕ) → from ≤ k → k < at → over (get_or b k l) ≡ true)
+        → (l : L) (k : ℕ) → from ≤ k → k < at + 1 → over (get_or c k l) ≡ true
+    over_none from before l k high low = over_as from before (nat_eq k at) l k refl high low
+
+-- one lane and its source went on, behind what all did before
+pub leads_asked : {L S K : Type 0} (leads : Side L S K → Side L S K → Type 0) → ((a : Side L S K) → leads a a)
+    → ((a b c : Side L S K) → leads a b → leads b c → leads a c) → (a : Sides L S K) (b c : List L) (r q : List S) (sinks : List K) (at : ℕ)
+    → AllLead leads a (sides_of b r sinks) → length c ≡ length b → length q ≡ length r
+    → ((l : L) (k : ℕ) → k ≢ at → get_or c k l ≡ get_or b k l) → ((s : S) (k : ℕ) → k ≢ at → get_or q k s ≡ get_or r k s)
+    → ((l : L) (s : S) (sink : K) → leads (side_of (get_or b at l) (get_or r at s) sink) (side_of (get_or c at l) (get_or q at s) sink))
+    → AllLead leads a (sides_of c q sinks)
+leads_asked leads stays goes_on a b c r q sinks at before lanes sources others apart here =
+    all-on leads stays goes_on a (sides_of b r sinks) (sides_of c q sinks) before
+    (all-one leads stays goes_on (sides_of b r sinks) (sides_of c q sinks) at (record {
+      lanes = lanes;
+      sources = sources;
+      sinks = refl;
+      other_lanes = others;
+      other_sources = apart;
+      other_sinks = λ t k far. refl;
+      here = λ l s t. here l s (get_or sinks at t);
+    }))
+
+-- one lane and its sink went on
+pub leads_settled : {L S K : Type 0} (leads : Side L S K → Side L S K → Type 0) → ((a : Side L S K) → leads a a)
+    → ((a b c : Side L S K) → leads a b → leads b c → leads a c) → (b c : List L) (sources : List S) (r q : List K) (at : ℕ)
+    → length c ≡ length b → length q ≡ length r
+    → ((l : L) (k : ℕ) → k ≢ at → get_or c k l ≡ get_or b k l) → ((t : K) (k : ℕ) → k ≢ at → get_or q k t ≡ get_or r k t)
+    → ((l : L) (source : S) (t : K) → leads (side_of (get_or b at l) source (get_or r at t)) (side_of (get_or c at l) source (get_or q at t)))
+    → AllLead leads (sides_of b sources r) (sides_of c sources q)
+leads_settled leads stays goes_on b c sources r q at lanes sinks others apart here =
+    all-one leads stays goes_on (sides_of b sources r) (sides_of c sources q) at (record {
+      lanes = lanes;
+      sources = refl;
+      sinks = sinks;
+      other_lanes = others;
+      other_sources = λ s k far. refl;
+      other_sinks = apart;
+      here = λ l s t. here l (get_or sources at s) t;
+    })
+
+-- lanes that were over still are
+pub over_settled : {L : Type 0} (over : L → Bool) (b c : List L) (at : ℕ) → length c ≡ length b
+    → ((l : L) (k : ℕ) → k ≢ at → get_or c k l ≡ get_or b k l) → ((l : L) → over (get_or b at l) ≡ true → over (get_or c at l) ≡ true)
+    → AreOver over 0 b → AreOver over 0 c
+over_settled {L = L} over b c at as_many others here all l k high low =
+    still (nat_eq k at) refl (all l k high (subst (λ (n : ℕ). k < n) as_many low))
+  where
+    still : (t : Bool) → nat_eq k at ≡ t → over (get_or b k l) ≡ true → over (get_or c k l) ≡ true
+    still true e was =
+        let is = same_number at k e in
+        ap (λ (n : ℕ). over (get_or c n l)) is ∙ here l (ap (λ (n : ℕ). over (get_or b n l)) (sym is) ∙ was)
+    still false e was = ap over (others l k (other_number at k e)) ∙ was

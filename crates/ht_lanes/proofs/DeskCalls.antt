@@ -1,0 +1,56 @@
+-- What the calls of a lane over a desk lead to.
+use Rattle.std.specs.Prelude.{◌≡◌, ℕ, List, [], ◌∷◌, ◌++◌, Option, Some, None, true, false, is_some, Result, Ok, Err, OnErr, OnOk}
+use Rattle.std.proofs.Common.{refl, ap, ◌∙◌, sym, subst}
+use Rattle.std.proofs.lemmas.Bool.{false≢true}
+use Rattle.ht_io.specs.Devices.{Device}
+use Rattle.ht_fields.specs.Meanings.{Meaning}
+use Rattle.ht_metric.specs.Jobs.{JobView}
+use Rattle.ht_feed.specs.declared.stop.Stop.{Stop}
+use Rattle.ht_feed.specs.declared.book_fault.BookFault.{BookFault}
+use Rattle.ht_feed.specs.Accounts.{Telling}
+use Rattle.ht_feed.specs.Items.{Item, Headed}
+use Rattle.ht_feed.specs.Dues.{Due, jobs_in}
+use Rattle.ht_feed.specs.Desks.{AddsBlock, DeskView, ReadsMore}
+use Rattle.ht_feed.specs.Leading.{tells-none}
+use Rattle.ht_feed.specs.Reading.{Counts}
+use Rattle.ht_feed.specs.Telling.{Tells, seen_by}
+use Rattle.ht_feed.proofs.Filling.{jobs_in-append}
+use Rattle.ht_feed.proofs.Leads.{tells_given}
+use Rattle.ht_lanes.specs.DeskLanes.{is_over}
+
+-- a lane that goes on neither failed nor stopped
+pub goes : (failed : Option BookFault) (stop : Option Stop) → is_over failed stop ≡ false → (failed ≡ None) × (stop ≡ None)
+goes (Some fault) stop is = absurd (false≢true (sym is))
+goes None (Some other) is = absurd (false≢true (sym is))
+goes None None is = (refl, refl)
+
+pub well_so : (failed : Option BookFault) → is_some failed ≡ false → failed ≡ None
+well_so (Some fault) is = absurd (false≢true (sym is))
+well_so None is = refl
+
+pub over_so : (failed : Option BookFault) (stop : Option Stop) → is_some stop ≡ true → is_over failed stop ≡ true
+over_so (Some fault) stop is = refl
+over_so None stop is = is
+
+module _ {R H : Type 0} (means : R → List ℕ → Meaning (Item H)) (at : R → ℕ) where
+  -- the desk was asked, and read on or lacked memory
+  pub asked : {X E : Type 0} (old new : DeskView R H) (source after : Device ℕ) (account : Telling H ℕ) (result : Result X E)
+      → ((due : List (Headed H)) (h : Headed H) → account.Waits due → account.Waits (due ++ h ∷ []))
+      → OnOk result (ReadsMore means at old new source after) → OnErr result ((new ≡ old) × (after ≡ source))
+      → Tells (seen_by means at old source account) (seen_by means at new after account)
+  asked old new source after account (Ok x) more reads lacks = tells_given means at old new source after account more reads
+  asked old new source after account (Err e) more reads lacks =
+      subst (λ (d : DeskView R H). Tells (seen_by means at old source account) (seen_by means at d after account)) (sym lacks.0)
+      (subst (λ (s : Device ℕ). Tells (seen_by means at old source account) (seen_by means at old s account)) (sym lacks.1)
+      (tells-none (seen_by means at old source account)))
+
+-- a block more is due
+pub one_more_due : {R H : Type 0} (counts : R → Counts) (most : ℕ) (old new : DeskView R H) (jobs : List JobView) → AddsBlock counts most old new jobs
+    → jobs_in new.due ≡ jobs_in old.due ++ jobs ∷ []
+one_more_due {H = H} counts most old new jobs adds = ap (λ (ds : List (Due H)). jobs_in ds) adds.due ∙ jobs_in-append old.due _
+
+-- a source that is the same is seen the same
+pub lacking : {D S X E : Type 0} (old new : D) (source : S → Device ℕ) (before after : S) (result : Result X E)
+    → OnErr result ((new ≡ old) × (after ≡ before)) → OnErr result ((new ≡ old) × (source after ≡ source before))
+lacking old new source before after (Ok x) lacks = tt
+lacking old new source before after (Err e) lacks = (lacks.0, ap source lacks.1)

@@ -1,0 +1,109 @@
+-- What it comes to that a lane over a new desk ran to its end, or as far as memory lasted.
+use Rattle.std.specs.Prelude.{◌≡◌, ◌≢◌, ℕ, List, [], Option, Some, None, true, false, is_some, Result, Err}
+use Rattle.std.proofs.Common.{refl, ap}
+use Rattle.ht_io.specs.Devices.{Device, IsLater}
+use Rattle.ht_fields.specs.Meanings.{Meaning}
+use Rattle.ht_runs.specs.declared.faults.StopFault.{StopFault}
+use Rattle.ht_runs.specs.declared.faults.StopFault.TheVariants.{Write, NoMemory as StopMemory}
+use Rattle.ht_feed.specs.declared.ended.Ended.{Ended}
+use Rattle.ht_feed.specs.declared.book_fault.BookFault.{BookFault}
+use Rattle.ht_feed.specs.declared.book_fault.BookFault.TheVariants.{Failed, NoMemory}
+use Rattle.ht_feed.specs.declared.drive.DriveFault.{DriveFault}
+use Rattle.ht_feed.specs.declared.drive.DriveFault.TheVariants.{NoMemory as DriveMemory}
+use Rattle.ht_feed.specs.Items.{Item}
+use Rattle.ht_feed.specs.Accounts.{Telling}
+use Rattle.ht_feed.specs.Dues.{jobs_in}
+use Rattle.ht_feed.specs.Desks.{DeskView, desk_view}
+use Rattle.ht_feed.specs.Outcomes.{Comes}
+use Rattle.ht_feed.specs.Stops.{failed_by}
+use Rattle.ht_feed.specs.Telling.{Seen, TellsBy, seen_by}
+use Rattle.ht_feed.proofs.Finishing.{Heard, heard, puts_later, reads_later, steady}
+use Rattle.ht_lanes.specs.DeskLanes.{driven_so, ended_so, is_over}
+
+-- readers of R mean this and are here; a reader in front of its source, and its account; and what a lane over a new desk left
+module _ {R H P : Type 0} (means : R → List ℕ → Meaning (Item H)) (at : R → ℕ) (reader : R) (head : H) (source source' : Device ℕ) (a b : Telling H P)
+    (new : DeskView R H) where
+  abbrev first : Seen H P
+  first = seen_by means at (desk_view reader None head 0 [] 0) source a
+
+  abbrev last : Seen H P
+  last = seen_by means at new source' b
+
+  abbrev Came : Result Ended StopFault → Type 0
+  Came result = Comes means at reader head source source' a b result
+
+  -- a call failed so
+  ill : (fault : BookFault) → TellsBy None (Some fault) first last
+      → Heard means at reader head source source' a b new (Some fault) (driven_so (Some fault))
+  ill fault told = record {
+    leads = told;
+    ended = tt;
+    taken = tt;
+    well = tt;
+    fault = λ f is. ap (λ (r : Result (Unit {0}) (DriveFault BookFault)). failed_by r) is;
+    lacking = λ is. ap (λ (r : Result (Unit {0}) (DriveFault BookFault)). failed_by r) is;
+  }
+
+  -- none failed, and the reading stopped
+  well : TellsBy None None first last → is_some new.stop ≡ true → jobs_in new.due ≡ [] → Heard means at reader head source source' a b new None (driven_so None)
+  well told stopped none = record {
+    leads = told;
+    ended = stopped;
+    taken = none;
+    well = refl;
+    fault = λ f is. ap (λ (r : Result (Unit {0}) (DriveFault BookFault)). failed_by r) is;
+    lacking = λ is. refl;
+  }
+
+  -- what a drive answers where memory lacked elsewhere
+  abbrev lacked : Result (Unit {0}) (DriveFault BookFault)
+  lacked = Err DriveMemory
+
+  -- none failed, and memory lacked elsewhere
+  lacking : TellsBy None None first last → Heard means at reader head source source' a b new None lacked
+  lacking told = record {
+    leads = told;
+    ended = tt;
+    taken = tt;
+    well = tt;
+    fault = λ f is. ap (λ (r : Result (Unit {0}) (DriveFault BookFault)). failed_by r) is;
+    lacking = λ is. refl;
+  }
+
+  module _ (rests : a.Waits []) (nothing : b.Waits [] → b.pieces [] ≡ []) where
+    -- the lane is over, and waits for no answer, if it takes any
+    pub lane_ends : (failed : Option BookFault) → TellsBy None failed first last → is_over failed new.stop ≡ true
+        → (is_some failed ≡ false → jobs_in new.due ≡ []) → Came (ended_so failed new.stop new.frames new.count)
+    lane_ends (Some fault) told over none =
+        heard means at reader head source source' a b new (Some fault) (driven_so (Some fault)) (ended_so (Some fault) new.stop new.frames new.count)
+        (ill fault told) rests nothing refl
+    lane_ends None told over none =
+        heard means at reader head source source' a b new None (driven_so None) (ended_so None new.stop new.frames new.count)
+        (well told over (none refl)) rests nothing refl
+
+    -- memory lacked, here or elsewhere
+    pub lane_lacks : (failed : Option BookFault) → TellsBy None failed first last → Came (Err StopMemory)
+    lane_lacks (Some Failed) told =
+        (heard means at reader head source source' a b new (Some Failed) (driven_so (Some Failed)) (ended_so (Some Failed) new.stop new.frames new.count)
+        (ill Failed told) rests nothing refl).0
+    lane_lacks (Some NoMemory) told =
+        heard means at reader head source source' a b new (Some NoMemory) (driven_so (Some NoMemory)) (ended_so (Some NoMemory) new.stop new.frames new.count)
+        (ill NoMemory told) rests nothing refl
+    lane_lacks None told =
+        heard means at reader head source source' a b new None lacked (Err StopMemory) (lacking told) rests nothing refl
+
+  -- where the lane doesn't end with Write its sink never failed
+  pub lane_steady : (failed : Option BookFault) → TellsBy None failed first last → is_over failed new.stop ≡ true
+      → (is_some failed ≡ false → jobs_in new.due ≡ []) → ended_so failed new.stop new.frames new.count ≢ Err Write → b.device.faults ≡ a.device.faults
+  lane_steady (Some fault) told over none =
+      steady means at reader head source source' a b new (Some fault) (driven_so (Some fault)) (ended_so (Some fault) new.stop new.frames new.count)
+      (ill fault told) refl
+  lane_steady None told over none =
+      steady means at reader head source source' a b new None (driven_so None) (ended_so None new.stop new.frames new.count) (well told over (none refl)) refl
+
+  -- no fault of a device is taken back
+  pub lane_reads_later : (failed : Option BookFault) → TellsBy None failed first last → IsLater source source'
+  lane_reads_later failed told = reads_later means at reader head source source' a b new failed told
+
+  pub lane_puts_later : (failed : Option BookFault) → TellsBy None failed first last → IsLater a.device b.device
+  lane_puts_later failed told = puts_later means at reader head source source' a b new failed told

@@ -1,0 +1,5 @@
+pub mod Numbering
+pub mod Rings
+pub mod Asked
+pub mod DeskCalls
+pub mod LaneEnds

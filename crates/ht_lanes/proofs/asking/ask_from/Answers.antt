@@ -1,0 +1,81 @@
+use Rattle.std.proofs.Common.{◌≡◌, [], ◌∷◌, ◌++◌, get_or, true, refl, arith}
+use Rattle.ht_lanes.specs.Lanes.{sides_of}
+use Rattle.ht_lanes.proofs.Asked.{leads_asked, none_so, one_more, over_none, room_none, same_none, some_so}
+use Rattle.ht_lanes.specs.Leading.{all-none}
+use Rattle.ht_lanes.proofs.asking.ask_from.Goals as goal
+
+pub loop-at-init : goal.loop-at-init
+loop-at-init g c =
+    let lane = g.met.L.Lane in
+    record {
+      same = λ l k few. (refl, refl);
+      room = c.requires.room;
+      over = λ x k high low. absurd (omega (arith, high, low));
+      leads = λ sinks. all-none g.L.Lane.leads lane.stays lane.goes_on (sides_of c.args.lanes.now c.args.sources.now sinks);
+    }
+
+pub ask_at-requires-clause-lane : goal.ask_at-requires-clause-lane
+ask_at-requires-clause-lane g c =
+    let e = (c.loop-at.invariant.leads []).lanes in
+    omega (arith, c.loop-at-test.true, e)
+
+pub ask_at-requires-clause-source : goal.ask_at-requires-clause-source
+ask_at-requires-clause-source g c =
+    let e = c.loop-at.invariant.leads [] in
+    let f = e.sources in
+    omega (arith, c.loop-at-test.true, f, c.requires.pairs)
+
+pub ask_at-requires-clause-room : goal.ask_at-requires-clause-room
+ask_at-requires-clause-room g c = λ l.
+    let e = (c.loop-at.invariant.leads []).lanes in
+    c.loop-at.invariant.room l c.loop-at.at (omega (arith, c.loop-at-test.true, e))
+
+pub returns-in-Ok-Some-clause-due : goal.returns-in-Ok-Some-clause-due
+returns-in-Ok-Some-clause-due g c =
+    let e = c.in-Ok-Some.ensures in
+    one_more c.loop-at.lanes c.ask_at.new.lanes c.loop-at.at e.other_lanes g.L.Lane.due g.L.Lane.rests c.args.lanes.now c.loop-at.invariant.same e.rests
+    c.in-Ok-Some.block.jobs (omega (arith, c.loop-at-test.true, (c.loop-at.invariant.leads []).lanes)) (some_so c.in-Ok-Some.field-0 c.in-Ok-Some.block
+    (λ block. (l : g.row.L.Denot) → g.L.Lane.due (get_or c.ask_at.new.lanes c.loop-at.at l) ≡ g.L.Lane.due (get_or c.loop-at.lanes c.loop-at.at l) ++ block.jobs ∷ [])
+    c.in-Ok-Some.field-0-is e.due)
+
+pub returns-in-Ok-Some-clause-leads : goal.returns-in-Ok-Some-clause-leads
+returns-in-Ok-Some-clause-leads g c = λ sinks.
+    let lane = g.met.L.Lane in
+    let e = c.ask_at.ensures in
+    leads_asked g.L.Lane.leads lane.stays lane.goes_on (sides_of c.args.lanes.now c.args.sources.now sinks) c.loop-at.lanes c.ask_at.new.lanes
+    c.loop-at.sources c.ask_at.new.sources sinks c.loop-at.at (c.loop-at.invariant.leads sinks) e.as_many_lanes e.as_many_sources e.other_lanes
+    e.other_sources e.leads
+
+pub returns-in-Err-clause-leads : goal.returns-in-Err-clause-leads
+returns-in-Err-clause-leads g c = λ sinks.
+    let lane = g.met.L.Lane in
+    let e = c.ask_at.ensures in
+    leads_asked g.L.Lane.leads lane.stays lane.goes_on (sides_of c.args.lanes.now c.args.sources.now sinks) c.loop-at.lanes c.ask_at.new.lanes
+    c.loop-at.sources c.ask_at.new.sources sinks c.loop-at.at (c.loop-at.invariant.leads sinks) e.as_many_lanes e.as_many_sources e.other_lanes
+    e.other_sources e.leads
+
+pub returns-in-Err-clause-memory : goal.returns-in-Err-clause-memory
+returns-in-Err-clause-memory g c =
+    let e = c.in-Err.ensures in
+    same_none c.loop-at.lanes c.ask_at.new.lanes c.loop-at.at e.other_lanes g.L.Lane.due g.L.Lane.rests c.args.lanes.now c.loop-at.invariant.same e.rests
+    e.memory
+
+pub loop-at-preserved : goal.loop-at-preserved
+loop-at-preserved g c =
+    let lane = g.met.L.Lane in
+    let i = c.loop-at.invariant in
+    let e = c.in-Ok-None.ensures in
+    let at = c.loop-at.at in
+    let none : (l : g.row.L.Denot) → g.L.Lane.due (get_or c.ask_at.new.lanes at l) ≡ g.L.Lane.due (get_or c.loop-at.lanes at l) =
+    none_so c.in-Ok-None.field-0 ((l : g.row.L.Denot) → g.L.Lane.due (get_or c.ask_at.new.lanes at l) ≡ g.L.Lane.due (get_or c.loop-at.lanes at l))
+    c.in-Ok-None.field-0-is e.none in
+    let over : (l : g.row.L.Denot) → g.L.Lane.over (get_or c.ask_at.new.lanes at l) ≡ true =
+    none_so c.in-Ok-None.field-0 ((l : g.row.L.Denot) → g.L.Lane.over (get_or c.ask_at.new.lanes at l) ≡ true) c.in-Ok-None.field-0-is e.over in
+    record {
+      same = same_none c.loop-at.lanes c.ask_at.new.lanes c.loop-at.at e.other_lanes g.L.Lane.due g.L.Lane.rests c.args.lanes.now i.same e.rests none;
+      room = room_none c.loop-at.lanes c.ask_at.new.lanes c.loop-at.at e.other_lanes g.L.Lane.over over g.L.Lane.due c.args.most e.as_many_lanes i.room;
+      over = over_none c.loop-at.lanes c.ask_at.new.lanes c.loop-at.at e.other_lanes g.L.Lane.over over c.args.from i.over;
+      leads = λ sinks. leads_asked g.L.Lane.leads lane.stays lane.goes_on (sides_of c.args.lanes.now c.args.sources.now sinks)
+          c.loop-at.lanes c.ask_at.new.lanes c.loop-at.sources c.ask_at.new.sources sinks c.loop-at.at (i.leads sinks) e.as_many_lanes e.as_many_sources
+          e.other_lanes e.other_sources e.leads;
+    }

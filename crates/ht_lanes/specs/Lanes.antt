@@ -1,0 +1,164 @@
+-- Several lanes at one moment: what gives blocks, and the blocks that are due, of which each is of one of them.
+use Rattle.std.specs.Prelude.{◌≡◌, ◌≢◌, ℕ, ◌++◌, ◌+◌, ◌-◌, ◌^◌, ◌<◌, ◌≤◌, List, [], ◌∷◌, map, length, slice_get, slice_index_or, Option, Some, None, Bool, true, false, nat_eq, if◌then◌else◌}
+use Rattle.ht_metric.specs.Jobs.{JobView}
+use Rattle.ht_feed.specs.Items.{Numbered}
+use Rattle.ht_feed.specs.Dues.{count_in}
+use Rattle.ht_feed.specs.Feeds.{FeedView}
+use Rattle.ht_lanes.specs.Numbers.{numbered}
+
+-- a block among those of several lanes: its jobs as its lane numbers them, from its own number on, and the number of its
+-- first job among those of all lanes
+pub record LaneJobs : Type 0 where
+  pub jobs : List JobView
+  pub own : ℕ
+  pub first : ℕ
+
+abbrev pub lane_jobs : List JobView → ℕ → ℕ → LaneJobs
+lane_jobs jobs own first = record { jobs = jobs; own = own; first = first }
+
+-- its jobs as the whole numbers them
+abbrev pub whole_jobs : LaneJobs → List JobView
+whole_jobs b = numbered b.first b.jobs
+
+-- it is some jobs, numbered by their lane, and no number passes the end of its type
+pub record IsOfLane (b : LaneJobs) : Type 0 where
+  pub numbers : Numbered b.own b.jobs
+  pub some : 1 ≤ length b.jobs
+  pub bound : b.first + length b.jobs < 2 ^ 64
+
+-- a block that is due, and the number of its lane
+pub record DueOf : Type 0 where
+  pub lane : ℕ
+  pub block : LaneJobs
+
+abbrev pub due_of : ℕ → LaneJobs → DueOf
+due_of lane block = record { lane = lane; block = block }
+
+-- the jobs of each block that is due, as the whole numbers them
+abbrev pub whole_due : List DueOf → List (List JobView)
+whole_due due = map (λ (d : DueOf). whole_jobs d.block) due
+
+-- the jobs of each block of one lane, as that numbers them
+abbrev pub due_at : ℕ → List DueOf → List (List JobView)
+due_at k [] = []
+due_at k (d ∷ ds) = if nat_eq d.lane k then d.block.jobs ∷ due_at k ds else due_at k ds
+
+-- each block is of one of this many lanes, and has a job
+abbrev pub Within : ℕ → List DueOf → Type 0
+Within count due = (k : ℕ) (d : DueOf) → slice_get due k ≡ Some d → (d.lane < count) × (1 ≤ length d.block.jobs)
+
+-- the most jobs that are given in all
+abbrev pub most_jobs : ℕ
+most_jobs = 2 ^ 64 - 2
+
+-- several lanes as one feed
+abbrev pub lanes_view : {F : Type 0} → ℕ → List DueOf → Bool → Option F → FeedView F
+lanes_view count due ended failed =
+    record { count = count; due = whole_due due; left = None; more = most_jobs - count; ended = ended; failed = failed }
+
+-- which borrows the lanes, the sources, the sinks and the blocks due are
+pub record Names : Type 0 where
+  pub lanes : ℕ
+  pub sources : ℕ
+  pub sinks : ℕ
+  pub due : ℕ
+
+abbrev pub names : ℕ → ℕ → ℕ → ℕ → Names
+names lanes sources sinks due = record { lanes = lanes; sources = sources; sinks = sinks; due = due }
+
+-- a lane with its own source and sink
+pub record Side (L S K : Type 0) : Type 0 where
+  pub lane : L
+  pub source : S
+  pub sink : K
+
+abbrev pub side_of : {L S K : Type 0} → L → S → K → Side L S K
+side_of lane source sink = record { lane = lane; source = source; sink = sink }
+
+-- all lanes, their sources and their sinks
+pub record Sides (L S K : Type 0) : Type 0 where
+  pub lanes : List L
+  pub sources : List S
+  pub sinks : List K
+
+abbrev pub sides_of : {L S K : Type 0} → List L → List S → List K → Sides L S K
+sides_of lanes sources sinks = record { lanes = lanes; sources = sources; sinks = sinks }
+
+module _ {L S K : Type 0} where
+  -- the lane with this number and its devices
+  abbrev pub side_at : Sides L S K → L → S → K → ℕ → Side L S K
+  side_at a l s t k = side_of (slice_index_or a.lanes k l) (slice_index_or a.sources k s) (slice_index_or a.sinks k t)
+
+  -- what a lane does with its devices leads from the one to the other
+  module _ (leads : Side L S K → Side L S K → Type 0) where
+    -- only the lane with this number did something
+    pub record OneLeads (a b : Sides L S K) (at : ℕ) : Type 0 where
+      pub lanes : length b.lanes ≡ length a.lanes
+      pub sources : length b.sources ≡ length a.sources
+      pub sinks : length b.sinks ≡ length a.sinks
+      pub other_lanes : (l : L) (k : ℕ) → k ≢ at → slice_index_or b.lanes k l ≡ slice_index_or a.lanes k l
+      pub other_sources : (s : S) (k : ℕ) → k ≢ at → slice_index_or b.sources k s ≡ slice_index_or a.sources k s
+      pub other_sinks : (t : K) (k : ℕ) → k ≢ at → slice_index_or b.sinks k t ≡ slice_index_or a.sinks k t
+      pub here : (l : L) (s : S) (t : K) → leads (side_at a l s t at) (side_at b l s t at)
+
+    -- each lane did what its own devices and its own blocks made it do
+    pub record AllLead (a b : Sides L S K) : Type 0 where
+      pub lanes : length b.lanes ≡ length a.lanes
+      pub sources : length b.sources ≡ length a.sources
+      pub sinks : length b.sinks ≡ length a.sinks
+      pub each : (l : L) (s : S) (t : K) (k : ℕ) → k < length a.lanes → leads (side_at a l s t k) (side_at b l s t k)
+
+-- a lane that is over gives no block any more
+module _ {L : Type 0} (over : L → Bool) where
+  -- the lanes from this one on are over
+  abbrev pub AreOver : ℕ → List L → Type 0
+  AreOver from lanes = (l : L) (k : ℕ) → from ≤ k → k < length lanes → over (slice_index_or lanes k l) ≡ true
+
+-- no block of any lane is due
+abbrev pub AreFresh : {L : Type 0} → (L → List (List JobView)) → List L → Type 0
+AreFresh {L = L} due lanes = (l : L) (k : ℕ) → k < length lanes → due (slice_index_or lanes k l) ≡ []
+
+-- no lane that takes answers waits for one
+abbrev pub HaveNone : {L : Type 0} → (L → List (List JobView)) → (L → Bool) → List L → Type 0
+HaveNone {L = L} due rests lanes = (l : L) (k : ℕ) → k < length lanes → rests (slice_index_or lanes k l) ≡ false → due (slice_index_or lanes k l) ≡ []
+
+-- these blocks of a lane are due
+module _ {L : Type 0} (due : L → List (List JobView)) (over : L → Bool) where
+  -- a lane is over, or may give as many jobs as are asked for
+  abbrev pub HasRoom : ℕ → L → Type 0
+  HasRoom most l = over l ≡ false → count_in (due l) + most ≤ 4096
+
+  abbrev pub HaveRoom : ℕ → List L → Type 0
+  HaveRoom most lanes = (l : L) (k : ℕ) → k < length lanes → HasRoom most (slice_index_or lanes k l)
+
+-- a lane that rests takes no answers any more
+module _ {L : Type 0} (due : L → List (List JobView)) (rests : L → Bool) where
+  -- what is due of each lane that takes answers is what that lane waits for
+  abbrev pub AreBooked : List L → List DueOf → Type 0
+  AreBooked lanes ring = (l : L) (k : ℕ) → k < length lanes → rests (slice_index_or lanes k l) ≡ false
+      → due_at k ring ≡ due (slice_index_or lanes k l)
+
+  -- what holds of lanes and of the blocks that are due
+  pub record IsBooked (lanes : List L) (ring : List DueOf) : Type 0 where
+    pub within : Within (length lanes) ring
+    pub booked : AreBooked lanes ring
+
+  -- a lane waits for the same blocks, and rests if it did
+  abbrev pub SameBook : L → L → Type 0
+  SameBook a b = (rests b ≡ rests a) × (due b ≡ due a)
+
+  abbrev pub SameBooks : List L → List L → Type 0
+  SameBooks a b = (l : L) (k : ℕ) → k < length a → SameBook (slice_index_or a k l) (slice_index_or b k l)
+
+  -- the lane with this number waits for one block more, and no other does
+  pub record OneMoreAt (a b : List L) (at : ℕ) (jobs : List JobView) : Type 0 where
+    pub here : (l : L) → (rests (slice_index_or b at l) ≡ rests (slice_index_or a at l)) × (due (slice_index_or b at l) ≡ due (slice_index_or a at l) ++ jobs ∷ [])
+    pub others : (l : L) (k : ℕ) → k ≢ at → k < length a → SameBook (slice_index_or a k l) (slice_index_or b k l)
+
+module _ {L : Type 0} (due : L → List (List JobView)) (rests over : L → Bool) where
+  -- what holds of lanes, of so many sources and sinks and of the blocks that are due, where the feed has ended, or has not
+  pub record IsFeed (lanes : List L) (sources sinks : ℕ) (ring : List DueOf) (ended : Bool) : Type 0 where
+    pub sources_are : sources ≡ length lanes
+    pub sinks_are : sinks ≡ length lanes
+    pub rings : IsBooked due rests lanes ring
+    pub ends : ended ≡ true → AreOver over 0 lanes

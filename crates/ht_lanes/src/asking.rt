@@ -1,0 +1,102 @@
+//! Lanes are asked for a block.
+ghost use Rattle.std.specs.Prelude.{◌≡◌, ◌≢◌, ◌+◌, ◌^◌, ◌<◌, ◌≤◌, ℕ, List, [], ◌∷◌, ◌++◌, true, length, slice_index_or, IfNone, IfOk, IfSome, OnErr};
+ghost use Rattle.ht_lanes.specs.Lanes.{AllLead, HasRoom, HaveRoom, OneLeads, OneMoreAt, SameBook, SameBooks, side_of, sides_of};
+
+use crate::lane::Lane;
+use crate::lane_block::LaneBlock;
+use std::alloc::AllocError;
+
+// Asks a lane for a block, unless it is over. All lanes together have given `first` jobs.
+fn ask<L: Lane<S, K>, S, K>(
+    lane: &mut L,
+    source: &mut S,
+    most: u16,
+    first: u64,
+) -> Result<Option<LaneBlock<L::Block>>, AllocError>
+    requires some { 1 ≤ most }
+    requires bound { first + most < 2 ^ 64 }
+    requires room { HasRoom L.due L.over most lane.old }
+    ensures due { IfOk result (λ given. IfSome given (λ block. L.due lane.new ≡ L.due lane.old ++ block.jobs ∷ [])) }
+    ensures first { IfOk result (λ given. IfSome given (λ block. block.first ≡ first)) }
+    ensures some { IfOk result (λ given. IfSome given (λ block. 1 ≤ length block.jobs)) }
+    ensures few { IfOk result (λ given. IfSome given (λ block. length block.jobs ≤ most)) }
+    ensures none { IfOk result (λ given. IfNone given (L.due lane.new ≡ L.due lane.old)) }
+    ensures over { IfOk result (λ given. IfNone given (L.over lane.new ≡ true)) }
+    ensures memory { OnErr result (L.due lane.new ≡ L.due lane.old) }
+    ensures rests { L.rests lane.new ≡ L.rests lane.old }
+    ensures leads { (sink : K) → L.leads (side_of lane.old source.old sink) (side_of lane.new source.new sink) }
+{
+    if lane.is_over() {
+        return Ok(None);
+    }
+    let own = lane.count();
+    match lane.next(most, source) {
+        Ok(Some(block)) => Ok(Some(LaneBlock::new(block, own, first))),
+        Ok(None) => Ok(None),
+        Err(lack) => Err(lack),
+    }
+}
+
+// Asks the lane with this number.
+fn ask_at<L: Lane<S, K>, S, K>(
+    lanes: &mut [L],
+    sources: &mut [S],
+    at: usize,
+    most: u16,
+    first: u64,
+) -> Result<Option<LaneBlock<L::Block>>, AllocError>
+    requires lane { at < length lanes.old }
+    requires source { at < length sources.old }
+    requires some { 1 ≤ most }
+    requires bound { first + most < 2 ^ 64 }
+    requires room { (l : L) → HasRoom L.due L.over most (slice_index_or lanes.old at l) }
+    ensures due { IfOk result (λ given. IfSome given (λ block. (l : L)
+        → L.due (slice_index_or lanes.new at l) ≡ L.due (slice_index_or lanes.old at l) ++ block.jobs ∷ [])) }
+    ensures first { IfOk result (λ given. IfSome given (λ block. block.first ≡ first)) }
+    ensures some { IfOk result (λ given. IfSome given (λ block. 1 ≤ length block.jobs)) }
+    ensures few { IfOk result (λ given. IfSome given (λ block. length block.jobs ≤ most)) }
+    ensures none { IfOk result (λ given. IfNone given ((l : L) → L.due (slice_index_or lanes.new at l) ≡ L.due (slice_index_or lanes.old at l))) }
+    ensures over { IfOk result (λ given. IfNone given ((l : L) → L.over (slice_index_or lanes.new at l) ≡ true)) }
+    ensures memory { OnErr result ((l : L) → L.due (slice_index_or lanes.new at l) ≡ L.due (slice_index_or lanes.old at l)) }
+    ensures rests { (l : L) → L.rests (slice_index_or lanes.new at l) ≡ L.rests (slice_index_or lanes.old at l) }
+    ensures leads { (l : L) (s : S) (sink : K) → L.leads (side_of (slice_index_or lanes.old at l) (slice_index_or sources.old at s) sink)
+        (side_of (slice_index_or lanes.new at l) (slice_index_or sources.new at s) sink) }
+    ensures other_lanes { (l : L) (k : ℕ) → k ≢ at → slice_index_or lanes.new k l ≡ slice_index_or lanes.old k l }
+    ensures other_sources { (s : S) (k : ℕ) → k ≢ at → slice_index_or sources.new k s ≡ slice_index_or sources.old k s }
+    ensures as_many_lanes { length lanes.new ≡ length lanes.old }
+    ensures as_many_sources { length sources.new ≡ length sources.old }
+{
+    ask::<L, S, K>(&mut lanes[at], &mut sources[at], most, first)
+}
+
+/// Asks the lanes from the one with this number on, until one gives a block; tells which.
+pub(crate) fn ask_from<L: Lane<S, K>, S, K>(
+    lanes: &mut [L],
+    sources: &mut [S],
+    from: usize,
+    most: u16,
+    first: u64,
+) -> Result<Option<(usize, LaneBlock<L::Block>)>, AllocError>
+    requires pairs { length sources.old ≡ length lanes.old }
+    requires some { 1 ≤ most }
+    requires bound { first + most < 2 ^ 64 }
+    requires room { HaveRoom L.due L.over most lanes.old }
+    ensures lane { IfOk result (λ given. IfSome given (λ asked. asked.0 < length lanes.old)) }
+    ensures due { IfOk result (λ given. IfSome given (λ asked. OneMoreAt L.due L.rests lanes.old lanes.new asked.0 asked.1.jobs)) }
+    ensures first { IfOk result (λ given. IfSome given (λ asked. asked.1.first ≡ first)) }
+    ensures some { IfOk result (λ given. IfSome given (λ asked. 1 ≤ length asked.1.jobs)) }
+    ensures few { IfOk result (λ given. IfSome given (λ asked. length asked.1.jobs ≤ most)) }
+    ensures none { IfOk result (λ given. IfNone given (SameBooks L.due L.rests lanes.old lanes.new)) }
+    ensures over { IfOk result (λ given. IfNone given ((l : L) (k : ℕ) → from ≤ k → k < length lanes.new → L.over (slice_index_or lanes.new k l) ≡ true)) }
+    ensures memory { OnErr result (SameBooks L.due L.rests lanes.old lanes.new) }
+    ensures leads { (sinks : List K) → AllLead L.leads (sides_of lanes.old sources.old sinks) (sides_of lanes.new sources.new sinks) }
+{
+    for at in from..lanes.len() {
+        match ask_at::<L, S, K>(lanes, sources, at, most, first) {
+            Ok(Some(block)) => return Ok(Some((at, block))),
+            Ok(None) => {}
+            Err(lack) => return Err(lack),
+        }
+    }
+    Ok(None)
+}

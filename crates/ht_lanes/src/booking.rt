@@ -1,0 +1,53 @@
+//! What becomes of the hits of one lane.
+ghost use Rattle.std.specs.Prelude.{◌≡◌, ℕ, List, [], drop, slice_get, take, Some, IfErr, OnErr, OnOk};
+ghost use Rattle.ht_io.specs.Devices.{IsLater, Rose};
+ghost use Rattle.ht_metric.specs.Jobs.{JobView};
+ghost use Rattle.ht_feed.specs.Accounts.{PutsBlock, PutsPartOf};
+ghost use Rattle.ht_feed.specs.Dues.{all_due, jobs_in};
+ghost use Rattle.ht_feed.specs.Items.{Headed};
+ghost use Rattle.ht_lanes.specs.Numbers.{numbered};
+
+use ht_feed::{Answer, BlockReader, BookFault, Desk};
+use ht_io::Sink;
+
+/// What becomes of the hits of one lane, whose blocks come from a reader: octets, which it puts into a sink that it is
+/// handed at each call. It is an account (`Account` of crate `ht_feed`) that keeps no hold of its sink.
+pub trait Booking<R: BlockReader + Drop, K: Sink> {
+    /// What it takes for a block.
+    type Answer: Answer + Drop;
+
+    /// What is put in all if the hits of exactly these jobs still come.
+    ghost pieces: { Self → List (Headed R.Head) → List ℕ };
+
+    /// Takes the answer to the first block due of a desk, which is due no longer. Where it refuses, the desk stays as
+    /// it was.
+    fn take(
+        &mut self,
+        desk: &mut Desk<R>,
+        block: &R::Block,
+        answer: &Self::Answer,
+        sink: &mut K,
+    ) -> Result<(), BookFault>
+        requires right { Self.Answer.answers answer.now (R.Block.jobs block.now) }
+        requires first { slice_get (jobs_in desk.old.due) 0 ≡ Some (R.Block.jobs block.now) }
+
+        // What was put, and what is left to put.
+        ensures put { OnOk result (PutsBlock (K.shown sink.old) (K.shown sink.new) (pieces self.old) (pieces self.new) (all_due (take 1 desk.old.due))) }
+        ensures part { OnErr result (PutsPartOf (K.shown sink.old) (K.shown sink.new) (pieces self.old) (all_due (take 1 desk.old.due))) }
+
+        // What is due.
+        ensures due { OnOk result (desk.new ≡ record desk.old { due = drop 1 desk.old.due }) }
+        ensures stays { OnErr result (desk.new ≡ desk.old) }
+
+        // The sink has counted a fault exactly where it failed.
+        ensures cause { IfErr result (λ fault. fault ≡ BookFault.Failed → Rose (K.shown sink.old) (K.shown sink.new)) }
+        ensures steady { OnOk result ((K.shown sink.new).faults ≡ (K.shown sink.old).faults) }
+        ensures unfailed { IfErr result (λ fault. fault ≡ BookFault.NoMemory → (K.shown sink.new).faults ≡ (K.shown sink.old).faults) }
+        ensures later { IsLater (K.shown sink.old) (K.shown sink.new) };
+
+    /// Where no job comes, nothing is put.
+    ghost none: { (a : Self) → pieces a [] ≡ [] };
+
+    /// Whatever their numbers are, jobs have the same answer.
+    ghost numberless: { (a : Self.Answer) (n : ℕ) (jobs : List JobView) → Self.Answer.answers a (numbered n jobs) → Self.Answer.answers a jobs };
+}

@@ -1,0 +1,112 @@
+//! The next block of several lanes.
+ghost use Rattle.std.specs.Prelude.{◌≡◌, ◌+◌, ◌^◌, ◌<◌, ◌≤◌, ℕ, List, [], ◌∷◌, ◌++◌, true, length, slice_index_or, IfNone, IfOk, IfSome, OnErr, OnOk};
+ghost use Rattle.circular_buffer.specs.Buffer.{buffer};
+ghost use Rattle.ht_feed.specs.Dues.{count_in};
+ghost use Rattle.ht_lanes.specs.Lanes.{AllLead, AreOver, IsBooked, due_of, sides_of, whole_due};
+
+use crate::asking::ask_from;
+use crate::lane::Lane;
+use crate::lane_block::LaneBlock;
+use crate::lane_due::LaneDue;
+use circular_buffer::HeapCircularBuffer;
+use ht_feed::Jobs;
+use std::alloc::AllocError;
+
+/// The most blocks that may be due.
+const DUE: usize = 4096;
+
+/// Gives the next block: lanes are asked in turn, the one with the number `turn` first, until one gives a block of at
+/// most `most` jobs. All lanes together have given `first` jobs. Tells which lane it was, or that none gives a block
+/// any more.
+pub(crate) fn give<L: Lane<S, K>, S, K>(
+    lanes: &mut [L],
+    sources: &mut [S],
+    due: &mut HeapCircularBuffer<LaneDue<L::Block>>,
+    turn: usize,
+    most: u16,
+    first: u64,
+) -> Result<Option<(usize, LaneBlock<L::Block>)>, AllocError>
+    requires pairs { length sources.old ≡ length lanes.old }
+    requires booked { IsBooked L.due L.rests lanes.old due.old.items }
+    requires some { 1 ≤ most }
+    requires bound { first + most < 2 ^ 64 }
+    requires room { count_in (whole_due due.old.items) + most ≤ 4096 }
+    ensures lane { IfOk result (λ given. IfSome given (λ asked. asked.0 < length lanes.old)) }
+    ensures due { IfOk result (λ given. IfSome given (λ asked. due.new.items ≡ due.old.items ++ due_of asked.0 asked.1 ∷ [])) }
+    ensures first { IfOk result (λ given. IfSome given (λ asked. asked.1.first ≡ first)) }
+    ensures some { IfOk result (λ given. IfSome given (λ asked. 1 ≤ length asked.1.jobs)) }
+    ensures few { IfOk result (λ given. IfSome given (λ asked. length asked.1.jobs ≤ most)) }
+    ensures none { IfOk result (λ given. IfNone given (due.new.items ≡ due.old.items)) }
+    ensures over { IfOk result (λ given. IfNone given (AreOver L.over 0 lanes.new)) }
+    ensures memory { OnErr result (due.new.items ≡ due.old.items) }
+    ensures booked { IsBooked L.due L.rests lanes.new due.new.items }
+    ensures leads { (sinks : List K) → AllLead L.leads (sides_of lanes.old sources.old sinks) (sides_of lanes.new sources.new sinks) }
+{
+    if make_room(due).is_err() {
+        return Err(AllocError);
+    }
+    match give_from::<L, S, K>(lanes, sources, due, turn, most, first) {
+        Ok(Some(asked)) => return Ok(Some(asked)),
+        Ok(None) => {}
+        Err(lack) => return Err(lack),
+    }
+    give_from::<L, S, K>(lanes, sources, due, 0, most, first)
+}
+
+// Asks the lanes from this one on, where the ring has room for a block.
+fn give_from<L: Lane<S, K>, S, K>(
+    lanes: &mut [L],
+    sources: &mut [S],
+    due: &mut HeapCircularBuffer<LaneDue<L::Block>>,
+    from: usize,
+    most: u16,
+    first: u64,
+) -> Result<Option<(usize, LaneBlock<L::Block>)>, AllocError>
+    requires pairs { length sources.old ≡ length lanes.old }
+    requires booked { IsBooked L.due L.rests lanes.old due.old.items }
+    requires some { 1 ≤ most }
+    requires bound { first + most < 2 ^ 64 }
+    requires room { count_in (whole_due due.old.items) + most ≤ 4096 }
+    requires space { length due.old.items < due.old.capacity }
+    ensures lane { IfOk result (λ given. IfSome given (λ asked. asked.0 < length lanes.old)) }
+    ensures due { IfOk result (λ given. IfSome given (λ asked. due.new.items ≡ due.old.items ++ due_of asked.0 asked.1 ∷ [])) }
+    ensures first { IfOk result (λ given. IfSome given (λ asked. asked.1.first ≡ first)) }
+    ensures some { IfOk result (λ given. IfSome given (λ asked. 1 ≤ length asked.1.jobs)) }
+    ensures few { IfOk result (λ given. IfSome given (λ asked. length asked.1.jobs ≤ most)) }
+    ensures none { IfOk result (λ given. IfNone given (due.new ≡ due.old)) }
+    ensures over { IfOk result (λ given. IfNone given (AreOver L.over from lanes.new)) }
+    ensures memory { OnErr result (due.new ≡ due.old) }
+    ensures booked { IsBooked L.due L.rests lanes.new due.new.items }
+    ensures leads { (sinks : List K) → AllLead L.leads (sides_of lanes.old sources.old sinks) (sides_of lanes.new sources.new sinks) }
+{
+    match ask_from::<L, S, K>(lanes, sources, from, most, first) {
+        Ok(Some((lane, block))) => {
+            keep(due, lane, &block);
+            Ok(Some((lane, block)))
+        }
+        Ok(None) => Ok(None),
+        Err(lack) => Err(lack),
+    }
+}
+
+// Makes room for one more block that is due, of which there are fewer than may be.
+fn make_room<T: Drop>(due: &mut HeapCircularBuffer<T>) -> Result<(), AllocError>
+    requires { length due.old.items < 4096 }
+    ensures items { due.new.items ≡ due.old.items }
+    ensures room { OnOk result (length due.new.items < due.new.capacity) }
+{
+    if due.len() < due.capacity() {
+        return Ok(());
+    }
+    due.resize(DUE)
+}
+
+// Keeps a block that is due behind the others.
+fn keep<B: Jobs>(due: &mut HeapCircularBuffer<LaneDue<B>>, lane: usize, block: &LaneBlock<B>)
+    requires { length due.old.items < due.old.capacity }
+    ensures { due.new ≡ buffer (due.old.items ++ due_of lane block.now ∷ []) due.old.capacity }
+{
+    let Ok(()) = due.try_push_back(LaneDue::of(lane, block)) else {
+        unreachable!();
+    };
+}

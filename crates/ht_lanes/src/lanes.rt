@@ -1,0 +1,136 @@
+//! Several lanes as one feed.
+ghost use Rattle.std.specs.Prelude.{◌≡◌, ◌≤◌, [], false, length, None};
+ghost use Rattle.std.proofs.Common.{refl, ◌∙◌};
+ghost use Rattle.ht_lanes.specs.Lanes.{AllLead, IsFeed, lanes_view, most_jobs, names, sides_of};
+ghost use Rattle.ht_lanes.specs.Leading.{all-none, all-on};
+
+use crate::giving::give;
+use crate::lane::Lane;
+use crate::lane_block::LaneBlock;
+use crate::lane_due::LaneDue;
+use crate::settling::settle_first;
+use circular_buffer::HeapCircularBuffer;
+use ht_feed::{BlockFeed, Jobs};
+use std::alloc::AllocError;
+
+/// The most jobs that are given in all.
+const MOST: u64 = u64::MAX - 1;
+
+/// A feed over several lanes, with a source and a sink for each, which it borrows.
+///
+/// It asks the lanes that aren't over in turn, a block each, and numbers the jobs of all of them from 0. An answer goes
+/// back to the lane of the oldest block that is due. A lane that rests gives no blocks, and what is still due of it is
+/// dropped; the others go on as if it weren't there. Only lack of memory ends the feed: from then on each call fails.
+#[derive(Drop)]
+pub struct Lanes<'a, L: Lane<S, K>, S, K> {
+    lanes: &'a mut [L],
+    sources: &'a mut [S],
+    sinks: &'a mut [K],
+    // The blocks of all lanes that are due, in order.
+    due: &'a mut HeapCircularBuffer<LaneDue<L::Block>>,
+    // The lane that is asked first.
+    turn: usize,
+    // The number of jobs given.
+    count: u64,
+    // Whether all lanes have been found to be over.
+    ended: bool,
+    // What a call that failed answered.
+    failed: Option<AllocError>,
+    ghost feed: { IsFeed L.due L.rests L.over lanes.now (length sources.now) (length sinks.now) due.now.items ended },
+    ghost few: { count ≤ most_jobs },
+}
+
+impl<'a, L: Lane<S, K>, S, K> Lanes<'a, L, S, K> {
+    /// A feed over lanes of which none has given a block. It takes no memory.
+    pub fn new(
+        lanes: &'a mut [L],
+        sources: &'a mut [S],
+        sinks: &'a mut [K],
+        due: &'a mut HeapCircularBuffer<LaneDue<L::Block>>,
+    ) -> Lanes<'a, L, S, K>
+        requires feed { IsFeed L.due L.rests L.over lanes.old (length sources.old) (length sinks.old) due.old.items false }
+        requires none { due.old.items ≡ [] }
+        ensures names { names result.lanes.ghost_name result.sources.ghost_name result.sinks.ghost_name result.due.ghost_name
+            ≡ names lanes.entry.ghost_name sources.entry.ghost_name sinks.entry.ghost_name due.entry.ghost_name }
+        ensures sides { sides_of result.lanes.now result.sources.now result.sinks.now ≡ sides_of lanes.old sources.old sinks.old }
+        ensures shown { lanes_view result.count result.due.now.items result.ended result.failed ≡ lanes_view 0 [] false None }
+    {
+        Lanes {
+            lanes,
+            sources,
+            sinks,
+            due,
+            turn: 0,
+            count: 0,
+            ended: false,
+            failed: None,
+        }
+    }
+}
+
+impl<'a, L: Lane<S, K>, S, K> BlockFeed for Lanes<'a, L, S, K> {
+    type Fault = AllocError;
+
+    type Block = LaneBlock<L::Block>;
+
+    type Answer = L::Answer;
+
+    ghost shown = { λ f. lanes_view f.count f.due.now.items f.ended f.failed };
+
+    ghost leads = { λ a b. (names a.lanes.ghost_name a.sources.ghost_name a.sinks.ghost_name a.due.ghost_name
+        ≡ names b.lanes.ghost_name b.sources.ghost_name b.sinks.ghost_name b.due.ghost_name)
+        × AllLead L.leads (sides_of a.lanes.now a.sources.now a.sinks.now) (sides_of b.lanes.now b.sources.now b.sinks.now) };
+
+    fn next(&mut self, most: u16) -> Result<Option<LaneBlock<L::Block>>, AllocError> {
+        if let Some(lack) = self.failed {
+            return Err(lack);
+        }
+        if self.count > MOST - u64::from(most) {
+            self.failed = Some(AllocError);
+            return Err(AllocError);
+        }
+        match give::<L, S, K>(
+            self.lanes,
+            self.sources,
+            self.due,
+            self.turn,
+            most,
+            self.count,
+        ) {
+            Ok(Some((lane, block))) => {
+                self.turn = lane + 1;
+                self.count += u64::from(block.size());
+                Ok(Some(block))
+            }
+            Ok(None) => {
+                self.ended = true;
+                Ok(None)
+            }
+            Err(lack) => {
+                self.failed = Some(lack);
+                Err(lack)
+            }
+        }
+    }
+
+    fn take(&mut self, block: &LaneBlock<L::Block>, answer: &L::Answer) -> Result<(), AllocError> {
+        if let Some(lack) = self.failed {
+            return Err(lack);
+        }
+        match settle_first::<L, S, K>(self.lanes, self.sinks, self.due, block, answer) {
+            Ok(()) => Ok(()),
+            Err(lack) => {
+                self.failed = Some(lack);
+                Err(lack)
+            }
+        }
+    }
+
+    ghost stays = { λ a. (refl, all-none L.leads L.stays L.goes_on (sides_of a.lanes.now a.sources.now a.sinks.now)) };
+
+    ghost goes_on = { λ a b c p q. (
+      p.0 ∙ q.0,
+      all-on L.leads L.stays L.goes_on (sides_of a.lanes.now a.sources.now a.sinks.now)
+          (sides_of b.lanes.now b.sources.now b.sinks.now) (sides_of c.lanes.now c.sources.now c.sinks.now) p.1 q.1,
+    ) };
+}

@@ -1,0 +1,38 @@
+//! Several lanes as one feed of blocks.
+//!
+//! A [`Lane`] gives blocks out of a source of its own and puts what comes of their answers into a sink of its own.
+//! [`Lanes`] is a feed (`BlockFeed` of crate `ht_feed`) over lanes, sources and sinks that it borrows as slices: it
+//! asks the lanes that aren't over in turn, numbers the jobs of all of them from 0, and hands each answer to the lane
+//! of the oldest block that is due, whose own number the block ([`LaneBlock`]) carries too. A lane whose sink failed
+//! rests: what is still due of it is dropped, and the others go on. [`run_alone`] runs all blocks of lanes in the
+//! calling thread.
+//!
+//! What the feed leads to is said lane by lane, by a relation that sees one lane with its own source and sink
+//! (`AllLead` in `specs/Lanes.antt`), so that nothing is said of an order, and no lane's share speaks of another.
+//!
+//! A [`DeskLane`] is a lane over the desk of a reader. Its relation is that of a feed over one desk (`TellsBy` of crate
+//! `ht_feed`), so that what a whole input, a fault, a source that fails and a full memory come to holds of it
+//! unchanged; a [`Booking`] says what becomes of its hits.
+//!
+//! Of two lanes with three and one blocks of two jobs, say, the blocks come in the order of the lanes 0, 1, 0, 0, with
+//! the jobs 0 and 1, 2 and 3, 4 and 5, and 6 and 7.
+#![tactic(auto)]
+
+mod asking;
+mod booking;
+mod desk_lane;
+mod driving;
+mod giving;
+mod lane;
+mod lane_block;
+mod lane_due;
+mod lanes;
+mod settling;
+
+pub use booking::Booking;
+pub use desk_lane::DeskLane;
+pub use driving::run_alone;
+pub use lane::Lane;
+pub use lane_block::LaneBlock;
+pub use lane_due::LaneDue;
+pub use lanes::Lanes;

@@ -1,0 +1,94 @@
+//! The answer to a block goes back to its lane.
+ghost use Rattle.std.specs.Prelude.{◌≡◌, ◌≢◌, ◌<◌, ℕ, List, true, false, drop, length, slice_get, slice_index_or, Some, OnErr, OnOk};
+ghost use Rattle.ht_lanes.specs.Lanes.{AllLead, AreOver, IsBooked, side_of, sides_of, whole_due, whole_jobs};
+
+use crate::lane::Lane;
+use crate::lane_block::LaneBlock;
+use crate::lane_due::LaneDue;
+use circular_buffer::HeapCircularBuffer;
+use ht_feed::{Answer, Jobs};
+use std::alloc::AllocError;
+
+// Hands a lane the answer to the first block due, unless it rests.
+fn settle<L: Lane<S, K>, S, K>(
+    lane: &mut L,
+    sink: &mut K,
+    block: &L::Block,
+    answer: &L::Answer,
+) -> Result<(), AllocError>
+    requires right { L.Answer.answers answer.now (L.Block.jobs block.now) }
+    requires first { L.rests lane.old ≡ false → slice_get (L.due lane.old) 0 ≡ Some (L.Block.jobs block.now) }
+    ensures due { OnOk result (L.rests lane.new ≡ false → L.due lane.new ≡ drop 1 (L.due lane.old)) }
+    ensures memory { OnErr result (L.rests lane.new ≡ true) }
+    ensures rests { L.rests lane.new ≡ false → L.rests lane.old ≡ false }
+    ensures over { L.over lane.old ≡ true → L.over lane.new ≡ true }
+    ensures leads { (source : S) → L.leads (side_of lane.old source sink.old) (side_of lane.new source sink.new) }
+{
+    if lane.is_resting() {
+        return Ok(());
+    }
+    lane.take(block, answer, sink)
+}
+
+// Hands the lane with this number the answer to its first block due, unless it rests.
+fn settle_at<L: Lane<S, K>, S, K>(
+    lanes: &mut [L],
+    sinks: &mut [K],
+    at: usize,
+    block: &L::Block,
+    answer: &L::Answer,
+) -> Result<(), AllocError>
+    requires lane { at < length lanes.old }
+    requires sink { at < length sinks.old }
+    requires right { L.Answer.answers answer.now (L.Block.jobs block.now) }
+    requires first { (l : L) → L.rests (slice_index_or lanes.old at l) ≡ false
+        → slice_get (L.due (slice_index_or lanes.old at l)) 0 ≡ Some (L.Block.jobs block.now) }
+    ensures due { OnOk result ((l : L) → L.rests (slice_index_or lanes.new at l) ≡ false
+        → L.due (slice_index_or lanes.new at l) ≡ drop 1 (L.due (slice_index_or lanes.old at l))) }
+    ensures memory { OnErr result ((l : L) → L.rests (slice_index_or lanes.new at l) ≡ true) }
+    ensures rests { (l : L) → L.rests (slice_index_or lanes.new at l) ≡ false → L.rests (slice_index_or lanes.old at l) ≡ false }
+    ensures over { (l : L) → L.over (slice_index_or lanes.old at l) ≡ true → L.over (slice_index_or lanes.new at l) ≡ true }
+    ensures leads { (l : L) (source : S) (t : K) → L.leads (side_of (slice_index_or lanes.old at l) source (slice_index_or sinks.old at t))
+        (side_of (slice_index_or lanes.new at l) source (slice_index_or sinks.new at t)) }
+    ensures other_lanes { (l : L) (k : ℕ) → k ≢ at → slice_index_or lanes.new k l ≡ slice_index_or lanes.old k l }
+    ensures other_sinks { (t : K) (k : ℕ) → k ≢ at → slice_index_or sinks.new k t ≡ slice_index_or sinks.old k t }
+    ensures as_many_lanes { length lanes.new ≡ length lanes.old }
+    ensures as_many_sinks { length sinks.new ≡ length sinks.old }
+{
+    settle::<L, S, K>(&mut lanes[at], &mut sinks[at], block, answer)
+}
+
+/// Hands the lane of the first block due the answer to it. The block is due no longer, unless memory lacked.
+pub(crate) fn settle_first<L: Lane<S, K>, S, K>(
+    lanes: &mut [L],
+    sinks: &mut [K],
+    due: &mut HeapCircularBuffer<LaneDue<L::Block>>,
+    block: &LaneBlock<L::Block>,
+    answer: &L::Answer,
+) -> Result<(), AllocError>
+    requires booked { IsBooked L.due L.rests lanes.old due.old.items }
+    requires sinks { length sinks.old ≡ length lanes.old }
+    requires right { L.Answer.answers answer.now (whole_jobs block.now) }
+    requires first { slice_get (whole_due due.old.items) 0 ≡ Some (whole_jobs block.now) }
+    ensures taken { OnOk result (due.new.items ≡ drop 1 due.old.items) }
+    ensures memory { OnErr result (due.new.items ≡ due.old.items) }
+    ensures booked { IsBooked L.due L.rests lanes.new due.new.items }
+    ensures over { AreOver L.over 0 lanes.old → AreOver L.over 0 lanes.new }
+    ensures leads { (sources : List S) → AllLead L.leads (sides_of lanes.old sources sinks.old) (sides_of lanes.new sources sinks.new) }
+{
+    let Some(first) = due.get(0) else {
+        unreachable!();
+    };
+    let at = first.lane();
+    if first.own() != block.own() {
+        // The block isn't the one that is due; no caller hands such a one.
+        return Err(AllocError);
+    }
+    match settle_at::<L, S, K>(lanes, sinks, at, block.inner(), answer) {
+        Ok(()) => {
+            let _ = due.pop_front();
+            Ok(())
+        }
+        Err(lack) => Err(lack),
+    }
+}

@@ -1,0 +1,39 @@
+-- Pieces of a line, each written in front of a place.
+use Rattle.std.proofs.Common.{◌≡◌, ℕ, suc, ℤ, pos, negsuc, List, [], ◌∷◌, ◌++◌, ◌+◌, ◌-◌, ◌≤◌, length, take, drop, decimal, unsigned_abs, sym, ap, ◌∙◌, arith, append-nil}
+use Rattle.std.specs.Int.Signed.{◌<ℤ◌, ◌≤ℤ◌}
+use Rattle.std.proofs.lemmas.Int.{ints}
+use Rattle.std.proofs.lemmas.List.{drop-append-le, drop-drop, drop_at, length-take-le}
+use borrow.Rule.Slice.PartMut.{put_mid}
+use Rattle.ht_text.specs.Lines.{spaced}
+
+-- behind the first octet
+pub behind : (xs ys : List ℕ) (a b x : ℕ) → a + 1 ≡ b → drop a xs ≡ x ∷ ys → drop b xs ≡ ys
+behind xs ys a b x next is = ap (λ (n : ℕ). drop n xs) (sym next) ∙ (sym (drop-drop 1 a xs) ∙ ap (λ (l : List ℕ). drop 1 l) is)
+
+-- a part of 21 octets is copied in front of a place, and the last of them are a front
+pub front_put : (end s : ℕ) (xs ys front : List ℕ) → 21 ≤ end → end ≤ length xs → length ys ≡ 21 → s ≤ 21 → drop s ys ≡ front
+    → drop (end - 21 + s) (put_mid (end - 21) (end - (end - 21)) xs ys) ≡ front ++ drop end xs
+front_put end s xs ys front room within len few is =
+    let a = end - 21 in
+    let k = end - a in
+    let wide : length (take a xs) ≡ a = length-take-le a xs (omega arith) in
+    let rest : a + k ≡ end = omega arith in
+    sym (drop-drop s a (put_mid a k xs ys))
+    ∙ (ap (λ (l : List ℕ). drop s l) (drop_at (take a xs) (ys ++ drop k (drop a xs)) a wide)
+    ∙ (drop-append-le s ys (drop k (drop a xs)) (omega arith)
+    ∙ (ap (λ (l : List ℕ). l ++ drop k (drop a xs)) is
+    ∙ ap (λ (l : List ℕ). front ++ l) (drop-drop k a xs ∙ ap (λ (n : ℕ). drop n xs) rest))))
+
+module _ (sign : ℕ) (rest : List ℕ) where
+  -- a number behind its minus
+  pub with_minus : (z : ℤ) → (pos 0 ≤ℤ z → sign ≡ 32) → sign ≡ 45 → 32 ∷ sign ∷ (decimal (unsigned_abs z) ++ rest) ≡ spaced (z ∷ []) ++ rest
+  with_minus (pos n) other is = let space : sign ≡ 32 = other (omega (arith, ints)) in absurd (omega arith)
+  with_minus (negsuc n) other is =
+      ap (λ (s : ℕ). 32 ∷ s ∷ (decimal (suc n) ++ rest)) is ∙ ap (λ (l : List ℕ). 32 ∷ 45 ∷ (l ++ rest)) (sym (append-nil (decimal (suc n))))
+
+  -- a number with none
+  pub with_space : (z : ℤ) → (z <ℤ pos 0 → sign ≡ 45) → (pos 0 ≤ℤ z → sign ≡ 32) → (sign ≡ 45 → ⊥)
+      → sign ∷ (decimal (unsigned_abs z) ++ rest) ≡ spaced (z ∷ []) ++ rest
+  with_space (pos n) minus other not =
+      ap (λ (s : ℕ). s ∷ (decimal n ++ rest)) (other (omega (arith, ints))) ∙ ap (λ (l : List ℕ). 32 ∷ (l ++ rest)) (sym (append-nil (decimal n)))
+  with_space (negsuc n) minus other not = absurd (not (minus (omega (arith, ints))))

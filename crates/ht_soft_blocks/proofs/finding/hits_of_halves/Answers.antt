@@ -1,0 +1,81 @@
+use Rattle.std.proofs.Common.{rules, ◌≡◌, ◌≤◌, ◌<◌, ◌+◌, ◌∙◌, List, [], ◌∷◌, ◌++◌, sym, ap, subst, arith}
+use Rattle.std.specs.Prelude.{Some, slice_get, option_map, map}
+use Rattle.std.proofs.lemmas.Bool.Decides.{nat_tests}
+use Rattle.std.proofs.lemmas.List.{take_all}
+use Rattle.ht_metric.specs.Jobs.{JobView, near}
+use Rattle.ht_metric.specs.declared.found.Found.{Found}
+use Rattle.ht_capture.specs.Parts.{jobs_of}
+use Rattle.ht_feed.specs.Dues.{AreBounded}
+use Rattle.ht_feed.proofs.Detecting.{bounded_next, bounded_none}
+use Rattle.ht_soft_blocks.specs.Blocks.{IsOfRate, some_halves}
+use Rattle.ht_soft_blocks.specs.Halved.{halves_of, halves_of_all, with_number}
+use Rattle.ht_soft_blocks.proofs.Detected.{behind_is, first_within, hits_next}
+use Rattle.ht_soft_blocks.proofs.Lists.{all_get}
+use Rattle.ht_soft_blocks.proofs.Parts.{length_some}
+use Rattle.ht_soft_blocks.proofs.finding.hits_of_halves.Goals as goal
+
+pub loop-at-init : goal.loop-at-init
+loop-at-init g c =
+    let spot = c.spot_of-spot.result in
+    let e = c.in_ok-found.ensures in
+    let cap = e.capacity in
+    let count = c.from.ensures in
+    let start = c.turn_of-turn.ensures.start in
+    let behind = c.spot_of-spot.ensures.behind in
+    let less = first_within c.args.rate.now (jobs_of c.args.block.now.block) c.args.first spot.job spot.start c.turn_of-turn.result c.spot_of-spot.ensures
+    c.turn_of-turn.ensures.turn c.turn_of-turn.ensures.job start in
+    record {
+      done = search rules;
+      room = search rules;
+      are = e.items;
+      below = subst (λ (fs : List Found). AreBounded fs) (sym e.items) bounded_none;
+      turn = c.turn_of-turn.ensures.turn;
+      from = omega (arith, start, behind);
+      to = omega (arith, less);
+    }
+
+pub half_of_job-half-requires-clause-rate : goal.half_of_job-half-requires-clause-rate
+half_of_job-half-requires-clause-rate g c =
+    let turn = c.go_on.new.turn in
+    all_get (IsOfRate c.args.rate.now) (jobs_of c.args.block.now.block) turn.k turn.job c.requires.rates c.go_on.ensures.turn.here
+
+pub loop-at-preserved : goal.loop-at-preserved
+loop-at-preserved g c =
+    let rate = c.args.rate.now in
+    let jobs = jobs_of c.args.block.now.block in
+    let l = c.loop-at in
+    let found = l.found.items in
+    let turn = c.go_on.new.turn in
+    let n = c.args.number in
+    let less : l.at < c.args.count = let t = c.loop-at-test.true in grind (arith, nat_tests) in
+    let at : List JobView = halves_of rate turn.job in
+    let from = c.go_on.ensures.from in
+    let to = c.go_on.ensures.to in
+    let is : Some c.half_of_job-half.result ≡ option_map (with_number (n + l.at)) (slice_get (halves_of_all rate jobs) (c.args.first + l.at)) =
+    c.half_of_job-half.ensures
+    ∙ (ap (λ o. option_map (with_number (n + c.from-in-loop-at.result)) o) (sym (behind_is rate jobs turn (c.args.first + l.at) c.go_on.ensures.turn from to))
+    ∙ ap (λ m. option_map (with_number (n + m)) (slice_get (halves_of_all rate jobs) (c.args.first + l.at))) c.from-in-loop-at.ensures) in
+    let items = c.push_reserved.ensures.items in
+    record {
+      done = search rules;
+      room = search rules;
+      are = items ∙ (ap (λ (f : Found). found ++ f ∷ []) c.find.ensures.found
+          ∙ hits_next rate jobs c.args.first c.args.count n l.at c.half_of_job-half.result found less is l.invariant.are);
+      below = subst (λ (fs : List Found). AreBounded fs) (sym items) (bounded_next found c.find.result l.invariant.below c.find.ensures.below);
+      turn = c.go_on.ensures.turn;
+      from = omega (arith, from);
+      to = omega (arith, to);
+    }
+
+pub returns : goal.returns
+returns g c =
+    let halves = some_halves c.args.rate.now (jobs_of c.args.block.now.block) c.args.first c.args.count c.args.number in
+    let l = c.loop-at in
+    let long = length_some c.args.rate.now (jobs_of c.args.block.now.block) c.args.first c.args.count c.args.number c.requires.within in
+    let le : c.args.count ≤ l.at = let t = c.loop-at-test.false in grind (arith, nat_tests) in
+    let few = c.requires.few in
+    record {
+      are = l.invariant.are ∙ ap (λ (js : List JobView). map near js) (take_all l.at halves (omega (arith, long, le)));
+      below = l.invariant.below;
+      few = omega (arith, long, few);
+    }

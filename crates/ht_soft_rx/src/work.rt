@@ -1,0 +1,40 @@
+//! What finds the hits of halves.
+ghost use Rattle.std.specs.Prelude.{◌^◌, ◌<◌, length};
+
+use ht_crew::Gate;
+use ht_feed::{Hits, Jobs, Work, is_hard};
+use ht_frames::HitWork;
+use ht_metric::Found;
+use ht_soft_blocks::HalvesBlock;
+use std::alloc::AllocError;
+
+/// Finds the hits of blocks of halves as [`HitWork`] does, and makes each job but once.
+#[derive(Drop)]
+pub struct HalvesWork<'g, G> {
+    /// What finds the hit of a half.
+    pub work: HitWork<'g, G>,
+}
+
+// The least distance of the last three that were found.
+fn least_of_last(found: &[Found]) -> u128 {
+    let mut least = u128::MAX;
+    for at in found.len().saturating_sub(3)..found.len() {
+        least = least.min(found[at].distance);
+    }
+    least
+}
+
+impl<'g, G: Gate> Work<HalvesBlock> for HalvesWork<'g, G> {
+    type Answer = Hits;
+
+    fn run(&self, block: &HalvesBlock) -> Result<Hits, AllocError> {
+        block.hits(self.work.alloc, &self.work)
+    }
+
+    /// Whether the last job was hard. Of its halves only those that have its first nearest vector tell, and among three
+    /// halves that follow one another are both of one bit.
+    fn is_hard(&self, block: &HalvesBlock, hits: &Hits) -> bool {
+        let last = block.job(block.count() - 1);
+        is_hard(&last, least_of_last(hits.found.as_slice()))
+    }
+}
