@@ -3,7 +3,6 @@ use Rattle.std.specs.Prelude.{◌≡◌, ℕ, ◌+◌, ◌*◌, ◌≤◌, ◌<�
 use Rattle.std.specs.List.{All}
 use Rattle.ht_rate.specs.Carriers.{IsAmong, carrier_of}
 use Rattle.ht_rate.specs.Rates.{carriers_of, streams_of}
-use Rattle.ht_pam.specs.declared.axes.Axes.{Axes}
 use Rattle.ht_metric.specs.Jobs.{JobView}
 use Rattle.ht_capture.specs.declared.items.FrameHead.{FrameHead}
 use Rattle.ht_capture.specs.declared.places.Present.{Present}
@@ -65,10 +64,6 @@ pub record IsSymbol (part : SymbolPart) : Type 0 where
 pub record ShapeView : Type 0 where
   pub head : FrameHead
   pub present : List Present
-
--- a job with another grid
-abbrev pub on_grid : JobView → List Axes → JobView
-on_grid job grid = record { number = job.number; place = job.place; grid = grid; system = job.system }
 
 -- the subcarriers of these templates
 abbrev pub presents_of : List Template → List Present

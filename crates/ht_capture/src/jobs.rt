@@ -4,7 +4,7 @@ ghost use Rattle.ht_map.specs.Constellation.{grid_of as full_grid};
 ghost use Rattle.ht_rate.specs.Rates.{carriers_of, pilots_of, streams_of};
 ghost use Rattle.ht_metric.specs.Rows.{no_sample};
 ghost use Rattle.ht_capture.specs.Frames.{carrier_octets, grid_at, job_at, one_point, pilot_grid};
-ghost use Rattle.ht_capture.specs.Parts.{IsTemplate, on_grid};
+ghost use Rattle.ht_capture.specs.Parts.{IsTemplate};
 ghost use Rattle.ht_capture.specs.Presents.{present_of};
 
 use crate::items::FrameHead;
@@ -23,7 +23,8 @@ fn one_level(value: i8) -> Ladder
     Ladder::of(2, if value == 1 { 0b10 } else { 0b01 })
 }
 
-// The grid of a pilot: one point on each stream.
+// The grid of a pilot: one point on each stream. Pilots are few, and no caller has a copy of it.
+#[inline(never)]
 #[tactic(auto, unfolding(crate::specs::Frames::pilot_grid))]
 fn pilot_points(rate: &Rate, symbol: u32, index: u8) -> Grid
     requires { index < pilots_of rate.now }
@@ -109,6 +110,19 @@ pub fn template(head: &FrameHead, present: &Present, full: &Grid) -> Template
     }
 }
 
+// The grid of a subcarrier in a symbol, out of the subcarrier's template: that of all symbols, but on a pilot.
+#[inline(always)]
+fn grid_on(head: &FrameHead, symbol: u32, template: &Template) -> Grid
+    requires { IsTemplate head.now template.now }
+    ensures value { result ≡ grid_at head.now.rate symbol template.now.job.place.carrier }
+    ensures streams { length result ≡ streams_of head.now.rate }
+{
+    match template.kind {
+        Carrier::Data(_) => *template.job.grid(),
+        Carrier::Pilot(index) => pilot_points(&head.rate, symbol, index),
+    }
+}
+
 /// The job of a subcarrier in a symbol, whose samples stand in octets from a place on, out of the subcarrier's template.
 #[inline]
 pub fn heard(
@@ -124,25 +138,12 @@ pub fn heard(
     ensures { result ≡ job_at head.now symbol number (present_of template.now.job) octets.now at }
 {
     let samples = numbers::samples(head.rate.streams(), octets, at);
-    let mut job = template.job.copy();
-    job.hear(number, symbol, samples);
-    match template.kind {
-        Carrier::Data(_) => job,
-        Carrier::Pilot(index) => {
-            give_grid(&mut job, &head.rate, index);
-            job
-        }
-    }
-}
-
-// Gives a job on a pilot the grid of its symbol, where it lies: a job that moved would cost as much again.
-#[inline(never)]
-fn give_grid(job: &mut Job, rate: &Rate, index: u8)
-    requires index { index < pilots_of rate.now }
-    requires streams { length job.old.system ≡ streams_of rate.now }
-    ensures { job.new ≡ on_grid job.old (pilot_grid rate.now job.old.place.symbol index) }
-{
-    let place = job.place();
-    let grid = pilot_points(rate, place.symbol, index);
-    *job = Job::new(job.number(), place, grid, *job.system());
+    let place = Place {
+        frame: head.frame,
+        symbol,
+        carrier: template.job.place().carrier,
+    };
+    let grid = grid_on(head, symbol, template);
+    let triangle = *template.job.system().triangle();
+    Job::new(number, place, grid, System::new(triangle, samples))
 }

@@ -1,4 +1,5 @@
 //! Blocks of a capture as lists of jobs.
+ghost use Rattle.std.specs.Prelude.{◌≡◌, ◌↔◌, IfSome, IsTrue};
 ghost use Rattle.ht_capture.specs.Parts.{jobs_of};
 
 use ht_capture::SymbolBlock;
@@ -38,11 +39,17 @@ impl Jobs for CaptureBlock {
 }
 
 impl Shared for CaptureBlock {
-    fn same(&self, other: &CaptureBlock) -> bool {
+    /// Whether both have the same head, symbol, numbers, subcarriers, triangles and samples.
+    fn same(&self, other: &CaptureBlock) -> bool
+        ensures { IsTrue result ↔ (self.now.block ≡ other.now.block) }
+    {
         self.block.same(&other.block)
     }
 
-    fn copy(&self) -> Option<CaptureBlock> {
+    /// The same block, or none where there is no memory for it.
+    fn copy(&self) -> Option<CaptureBlock>
+        ensures { IfSome result (λ copy. copy.block ≡ self.now.block) }
+    {
         match self.block.copy() {
             Ok(block) => Some(CaptureBlock { block }),
             Err(_) => None,

@@ -1,5 +1,6 @@
 pub mod AllRates
 pub mod CarrierFacts
+mod CarrierTable
 pub mod Coding
 pub mod Interleaving
 pub mod Mapping

@@ -1,4 +1,5 @@
 pub mod Finding
+pub mod Numbering
 pub mod Filling
 pub mod Taking
 pub mod Leads

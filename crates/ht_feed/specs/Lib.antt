@@ -1,4 +1,5 @@
 pub mod Items
+pub mod Numbers
 pub mod Reading
 pub mod Dues
 pub mod Accounts

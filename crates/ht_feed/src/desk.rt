@@ -12,14 +12,12 @@ use crate::due_block::DueBlock;
 use crate::jobs::Jobs;
 use crate::reader::BlockReader;
 use crate::reading::next_block;
+use crate::room::make_room;
 use crate::stop::Stop;
 use circular_buffer::HeapCircularBuffer;
 use ht_io::Source;
 use std::alloc::{AllocError, Global};
 use std::marker::Model;
-
-/// The most jobs that may be due.
-const DUE: usize = 4096;
 
 /// A reader, and the blocks that it gave and whose hits weren't taken yet.
 #[derive(Drop)]
@@ -133,18 +131,6 @@ impl<R: BlockReader + Drop> Desking<R> for Desk<R> {
             Err(fault) => Err(fault),
         }
     }
-}
-
-// Makes room for one more block that is due, of which there are fewer than may be.
-fn make_room<T: Drop>(due: &mut HeapCircularBuffer<T>) -> Result<(), AllocError>
-    requires { length due.old.items < 4096 }
-    ensures items { due.new.items ≡ due.old.items }
-    ensures room { OnOk result (length due.new.items < due.new.capacity) }
-{
-    if due.len() < due.capacity() {
-        return Ok(());
-    }
-    due.resize(DUE)
 }
 
 // Keeps a block that is due behind the others, with the head of its frame.

@@ -34,9 +34,7 @@ fn detect_by<L: Ledger>(job: &Job, blank: Blank) -> Found
     ensures below { result.distance < 2 ^ 66 }
 {
     let mut steps = Steps::<L>::new(blank);
-    // Moved field by field: a wide move would have to wait until the detector's narrow writes have left the processor.
-    let Found { vector, distance } = find(job, &mut steps);
-    Found { vector, distance }
+    find(job, &mut steps)
 }
 
 /// What is found for a job: its first nearest vector, with that vector's distance.

@@ -14,9 +14,9 @@ pub fn pass<G: Gate>(gate: &G, job: &Job) -> Found
 {
     let number = job.number();
     gate.enter(number);
-    let Found { vector, distance } = detect(job);
+    let found = detect(job);
     gate.leave(number);
-    Found { vector, distance }
+    found
 }
 
 /// Finds the hits of any block, each job between the two calls of a gate.

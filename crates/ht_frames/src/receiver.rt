@@ -30,6 +30,7 @@ impl<'a, U, B> Receiver<'a, U, B> {
     pub fn new(alloc: Global, under_way: &'a mut U, book: &'a mut B) -> Receiver<'a, U, B>
         ensures under_way { result.under_way.now ≡ under_way.old }
         ensures book { result.book.now ≡ book.old }
+        ensures frame_name { result.under_way.ghost_name ≡ under_way.entry.ghost_name }
         ensures name { result.book.ghost_name ≡ book.entry.ghost_name }
     {
         Receiver {
@@ -116,7 +117,7 @@ impl<
 
     ghost shown = { λ r. B.shown r.book.now };
 
-    ghost lent = { λ r. r.book.ghost_name ∷ B.lent r.book.now };
+    ghost lent = { λ r. r.under_way.ghost_name ∷ r.book.ghost_name ∷ B.lent r.book.now };
 
     ghost pieces = { λ r. booked_in B.booked (U.results r.under_way.now) };
 

@@ -10,7 +10,8 @@ use Rattle.ht_feed.specs.Dues.{count_in}
 use Rattle.ht_feed.specs.Feeds.{GivesBlock}
 use Rattle.ht_lanes.specs.Lanes.{AreBooked, AreFresh, DueOf, HaveNone, HaveRoom, IsBooked, IsFeed, LaneJobs, OneMoreAt, SameBooks, Within, due_at, due_of, lanes_view, most_jobs, whole_due, whole_jobs}
 use Rattle.ht_lanes.specs.Leading.{other_number, same_number}
-use Rattle.ht_lanes.proofs.Numbering.{are_numbered, length-numbered, same_jobs}
+use Rattle.ht_feed.proofs.Numbering.{are_numbered, length_numbered}
+use Rattle.ht_lanes.proofs.Numbering.{same_jobs}
 
 same_test : (k : ℕ) → nat_eq k k ≡ true
 same_test k = grind (arith, nat_tests)
@@ -74,7 +75,7 @@ few_blocks count [] w = omega arith
 few_blocks count (d ∷ ds) w =
     let e = few_blocks count ds (λ k f. w (suc k) f) in
     let f = (w 0 d refl).1 in
-    omega (arith, e, f, length-numbered d.block.first d.block.jobs)
+    omega (arith, e, f, length_numbered d.block.first d.block.jobs)
 
 pub room_for : (count : ℕ) (ring : List DueOf) (most : ℕ) → Within count ring → 1 ≤ most → count_in (whole_due ring) + most ≤ 4096 → length ring < 4096
 room_for count ring most w some few = let e = few_blocks count ring w in omega (arith, e, some, few)
@@ -84,7 +85,7 @@ few_at-as : (b : Bool) (k : ℕ) (d : DueOf) (ds : List DueOf) → nat_eq d.lane
     → count_in (due_at k (d ∷ ds)) ≤ count_in (whole_due (d ∷ ds))
 few_at-as true k d ds e few =
     let here = ap count_in (due_at-here k d ds e) in
-    omega (arith, here, few, length-numbered d.block.first d.block.jobs)
+    omega (arith, here, few, length_numbered d.block.first d.block.jobs)
 few_at-as false k d ds e few =
     let here = ap count_in (due_at-other k d ds e) in
     omega (arith, here, few)
@@ -225,7 +226,7 @@ pub gives_block : {F : Type 0} (most count size lane : ℕ) (ring after : List D
     → after ≡ ring ++ due_of lane block ∷ [] → block.first ≡ count → 1 ≤ length block.jobs → length block.jobs ≤ most → size ≡ length (whole_jobs block)
     → count + size ≤ most_jobs → GivesBlock most (lanes_view count ring ended failed) (lanes_view (count + size) after ended failed) (whole_jobs block)
 gives_block most count size lane ring after ended failed block running is first some few sized total =
-    let long = length-numbered block.first block.jobs in
+    let long = length_numbered block.first block.jobs in
     record {
       running = running;
       numbers = subst (λ (n : ℕ). Numbered n (whole_jobs block)) first (are_numbered block.first block.jobs);
@@ -242,7 +243,7 @@ gives_block most count size lane ring after ended failed block running is first 
 pub total_of : (most count size left : ℕ) (block : LaneJobs) → count ≤ left → left + most ≤ most_jobs → length block.jobs ≤ most
     → size ≡ length (whole_jobs block) → count + size ≤ most_jobs
 total_of most count size left block few room less sized =
-    let long = length-numbered block.first block.jobs in
+    let long = length_numbered block.first block.jobs in
     omega (arith, few, room, less, sized, long)
 
 -- lanes of which no block is due

@@ -4,7 +4,7 @@ use Rattle.ht_metric.specs.Jobs.{JobView}
 use Rattle.ht_feed.specs.Items.{Numbered}
 use Rattle.ht_feed.specs.Dues.{count_in}
 use Rattle.ht_feed.specs.Feeds.{FeedView}
-use Rattle.ht_lanes.specs.Numbers.{numbered}
+use Rattle.ht_feed.specs.Numbers.{numbered}
 
 -- a block among those of several lanes: its jobs as its lane numbers them, from its own number on, and the number of its
 -- first job among those of all lanes

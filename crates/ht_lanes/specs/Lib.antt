@@ -1,4 +1,3 @@
-pub mod Numbers
 pub mod Lanes
 pub mod Leading
 pub mod DeskLanes

@@ -5,7 +5,7 @@ ghost use Rattle.ht_metric.specs.Jobs.{JobView};
 ghost use Rattle.ht_feed.specs.Accounts.{PutsBlock, PutsPartOf};
 ghost use Rattle.ht_feed.specs.Dues.{all_due, jobs_in};
 ghost use Rattle.ht_feed.specs.Items.{Headed};
-ghost use Rattle.ht_lanes.specs.Numbers.{numbered};
+ghost use Rattle.ht_feed.specs.Numbers.{numbered};
 
 use ht_feed::{Answer, BlockReader, BookFault, Desk};
 use ht_io::Sink;

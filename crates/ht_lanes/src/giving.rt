@@ -9,11 +9,8 @@ use crate::lane::Lane;
 use crate::lane_block::LaneBlock;
 use crate::lane_due::LaneDue;
 use circular_buffer::HeapCircularBuffer;
-use ht_feed::Jobs;
+use ht_feed::{Jobs, make_room};
 use std::alloc::AllocError;
-
-/// The most blocks that may be due.
-const DUE: usize = 4096;
 
 /// Gives the next block: lanes are asked in turn, the one with the number `turn` first, until one gives a block of at
 /// most `most` jobs. All lanes together have given `first` jobs. Tells which lane it was, or that none gives a block
@@ -87,18 +84,6 @@ fn give_from<L: Lane<S, K>, S, K>(
         Ok(None) => Ok(None),
         Err(lack) => Err(lack),
     }
-}
-
-// Makes room for one more block that is due, of which there are fewer than may be.
-fn make_room<T: Drop>(due: &mut HeapCircularBuffer<T>) -> Result<(), AllocError>
-    requires { length due.old.items < 4096 }
-    ensures items { due.new.items ≡ due.old.items }
-    ensures room { OnOk result (length due.new.items < due.new.capacity) }
-{
-    if due.len() < due.capacity() {
-        return Ok(());
-    }
-    due.resize(DUE)
 }
 
 // Keeps a block that is due behind the others.

@@ -4,7 +4,7 @@ ghost use Rattle.ht_metric.specs.Jobs.{JobView};
 ghost use Rattle.ht_feed.specs.Dues.{count_in};
 ghost use Rattle.ht_feed.specs.Items.{Numbered};
 ghost use Rattle.ht_lanes.specs.Lanes.{Side, side_of};
-ghost use Rattle.ht_lanes.specs.Numbers.{numbered};
+ghost use Rattle.ht_feed.specs.Numbers.{numbered};
 
 use ht_feed::{Answer, Jobs};
 use std::alloc::AllocError;

@@ -14,8 +14,9 @@
 //! `ht_feed`), so that what a whole input, a fault, a source that fails and a full memory come to holds of it
 //! unchanged; a [`Booking`] says what becomes of its hits.
 //!
-//! Of two lanes with three and one blocks of two jobs, say, the blocks come in the order of the lanes 0, 1, 0, 0, with
-//! the jobs 0 and 1, 2 and 3, 4 and 5, and 6 and 7.
+//! Of two lanes with three and one blocks of two jobs, say, the four blocks have the jobs 0 and 1, 2 and 3, 4 and 5,
+//! and 6 and 7 of all lanes. The one lane numbers its own jobs from 0 to 5, and the other from 0 to 1. No clause says
+//! which lane a block is of.
 #![tactic(auto)]
 
 mod asking;

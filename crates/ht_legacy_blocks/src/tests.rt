@@ -1,7 +1,7 @@
 //! A capture through a reader, a desk and an account.
-use crate::{LegacyFrameHead, LegacyReader};
+use crate::{LegacyBlock, LegacyFrameHead, LegacyReader};
 use ht_clause18::LegacyRate;
-use ht_feed::{Detector, Ended, Meter, tell_alone};
+use ht_feed::{BlockReader, Came, Detector, Ended, Meter, Shared, tell_alone};
 use ht_io::{FormatFault, GrowSink, Kind, MemSource};
 use std::alloc::{AllocError, Global};
 use std::process::Abort;
@@ -86,4 +86,35 @@ fn a_capture_of_two_symbols(rt: HostRuntime) -> Result<(), Fail> {
         offset: 945,
     });
     runs(&rt, alloc, shorter, 50, truncated, 52)
+}
+
+// The next block of at most 50 jobs, if a block comes.
+fn next(reader: &mut LegacyReader, source: &mut MemSource) -> Option<LegacyBlock> {
+    match reader.next(50, source) {
+        Ok(Came::Block(block)) => Some(block),
+        _ => None,
+    }
+}
+
+// A block is the same as its copy and as the block of another reader of the same octets, but not as the blocks behind it:
+// the rest of its symbol, which is ready, and the same subcarriers of the next one.
+#[test]
+fn blocks_of_the_same_jobs(rt: HostRuntime) -> Result<(), Fail> {
+    let alloc = rt.alloc();
+    let mut reader = LegacyReader::new(alloc)?;
+    let mut again = LegacyReader::new(alloc)?;
+    let mut one = MemSource::new(tens(alloc)?, Vec::new(alloc), Vec::new(alloc));
+    let mut two = MemSource::new(tens(alloc)?, Vec::new(alloc), Vec::new(alloc));
+    assert!(rt; matches!(reader.next(50, &mut one), Ok(Came::Head(_))));
+    assert!(rt; matches!(again.next(50, &mut two), Ok(Came::Head(_))));
+    let first = next(&mut reader, &mut one).ok_or("a block")?;
+    let copy = first.copy().ok_or("a copy")?;
+    let rest = reader.ready(50).ok_or("a block")?;
+    let behind = next(&mut reader, &mut one).ok_or("a block")?;
+    let other = next(&mut again, &mut two).ok_or("a block")?;
+    assert!(rt; first.same(&copy));
+    assert!(rt; first.same(&other));
+    assert!(rt; !first.same(&rest));
+    assert!(rt; !first.same(&behind));
+    Ok(())
 }

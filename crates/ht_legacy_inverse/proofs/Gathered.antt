@@ -1,11 +1,12 @@
 -- What the places of a symbol say of the coded bits of each symbol.
 use Rattle.std.proofs.Common.{◌≡◌, ℕ, ◌+◌, ◌-◌, ◌*◌, ◌/◌, ◌%◌, ◌<◌, ◌≤◌, List, ◌∷◌, [], ◌++◌, map, length, take, drop, replicate, slice_index_or}
-use Rattle.std.proofs.Common.{Bool, false, Option, Some, refl, sym, ap, ◌∙◌, subst, arith, mod-lt}
+use Rattle.std.proofs.Common.{Bool, false, Option, Some, refl, sym, ap, ◌∙◌, subst, arith, min, ⊎_elim}
 use Rattle.std.specs.Prelude.{◌==◌}
 use Rattle.std.specs.Int.{bit_at}
 use Rattle.std.specs.List.{range_with_len}
+use Rattle.std.proofs.lemmas.Bool.{cases_lt}
 use Rattle.std.proofs.lemmas.List.{length-append, length-replicate, length-take, length-drop, map-append}
-use Rattle.std.proofs.Math.Nat.{div-lt_iff_lt-mul}
+use Rattle.std.proofs.Math.Nat.{add-mul, div-eq_of_lt-le, div-lt_iff_lt-mul, min-eq_left, min-eq_right, mod-eq-sub-div-mul}
 use Rattle.ht_conv.specs.Puncturing.{sent_count}
 use Rattle.ht_conv.proofs.MidStream.{length-sent_bits}
 use Rattle.ht_map.specs.Gray.{label_bit}
@@ -20,11 +21,11 @@ use Rattle.ht_clause18.specs.Interleaver.{place_of}
 use Rattle.ht_clause18.specs.Rates.{coded_bits_of, label_bits_of, needed_bits, pattern_of, symbols_of}
 use Rattle.ht_clause18.proofs.Coding.{length-coded_of, tail-fits}
 use Rattle.ht_clause18.proofs.Interleaving.{place_of-bound}
-use Rattle.ht_clause18.proofs.RateFacts.{coded_bits_of-is, coded_bits_of-range, label_bits_of-is, label_bits_of-range}
+use Rattle.ht_clause18.proofs.RateFacts.{coded_bits_of-is, label_bits_of-is, label_bits_of-range}
 use Rattle.ht_inverse.proofs.Gathered.{value-added}
 use Rattle.ht_legacy_inverse.specs.declared.label_place.LabelPlace.{LabelPlace}
 use Rattle.ht_legacy_inverse.specs.Places.{AreLabelPlaces, label_place_of, no_place}
-use Rattle.ht_legacy_inverse.specs.Received.{received_at, received_of}
+use Rattle.ht_legacy_inverse.specs.Received.{at_place, received_at, received_of}
 
 -- a number below 48 times as many as a label has bits is that of a label and of a bit of it
 pub label-below : (place bits size : ℕ) → size ≡ 48 * bits → 1 ≤ bits → place < size → place / bits < 48
@@ -69,37 +70,57 @@ coded-fit r octets =
     let fit : sent_count p (needed_bits (length f.octets)) ≤ symbols_of r (length f.octets) * coded_bits_of r = omega (arith, grows, same, all) in
     subst (λ (n : ℕ). sent_count p (needed_bits n) ≤ symbols_of r n * coded_bits_of r) (length-replicate octets 0) fit
 
--- the place of a coded bit, from the table
-pub place-is : (r : LegacyRate) (places : List LabelPlace) (q size : ℕ) → AreLabelPlaces r places → size ≡ coded_bits_of r
-    → slice_index_or places (q % size) no_place ≡ label_place_of r (q % coded_bits_of r)
-place-is r places q size are same =
-    let some = (coded_bits_of-range r).0 in
-    ap (λ (n : ℕ). slice_index_or places (q % n) no_place) same ∙ are.each (q % coded_bits_of r) (mod-lt q (omega (arith, some)))
+-- a place of a symbol, from the number that it has in the frame
+at-symbol : (n k size : ℕ) → k < size → ((n * size + k) / size ≡ n) × ((n * size + k) % size ≡ k)
+at-symbol n k size below =
+    let more = add-mul n 1 size in
+    let some : n * size + k < (n + 1) * size = omega (arith, more, below) in
+    let least : n * size ≤ n * size + k = omega arith in
+    let over : (n * size + k) / size ≡ n = div-eq_of_lt-le {k = n} size {m = n * size + k} least some in
+    let left = mod-eq-sub-div-mul (n * size + k) size in
+    let same = ap (λ (m : ℕ). m * size) over in
+    (over, omega (arith, left, same))
 
--- its label stands among those of the symbols, and its bit in the label
-pub bit-within : (r : LegacyRate) (place : LabelPlace) (q size symbols : ℕ) → size ≡ coded_bits_of r → place ≡ label_place_of r (q % coded_bits_of r)
-    → q < symbols * coded_bits_of r → (q / size * 48 + place.carrier < symbols * 48) × (place.shift < 6)
-bit-within r place q size symbols same is within =
-    let some = (coded_bits_of-range r).0 in
-    let bounds = place-bounds r (q % coded_bits_of r) (mod-lt q (omega (arith, some))) in
-    let carrier : place.carrier < 48 = subst (λ (p : LabelPlace). p.carrier < 48) (sym is) bounds.0 in
-    let shift : place.shift < 6 = subst (λ (p : LabelPlace). p.shift < 6) (sym is) bounds.1 in
-    let symbol : q / size < symbols = subst (λ (n : ℕ). q / n < symbols) (sym same)
-    ((div-lt_iff_lt-mul {k = coded_bits_of r} {x = q} {y = symbols} (omega (arith, some))).1 within) in
-    (omega (arith, symbol, carrier), shift)
+-- its symbol is one of the frame's
+pub symbol-below : (n k size symbols : ℕ) → k < size → n * size + k < symbols * size → n < symbols
+symbol-below n k size symbols below within =
+    subst (λ (m : ℕ). m < symbols) (at-symbol n k size below).0
+    ((div-lt_iff_lt-mul {k = size} {x = n * size + k} {y = symbols} (omega (arith, below))).1 within)
+
+-- of what is left, a whole symbol is taken where more is left behind it
+pub whole-symbol : (n left size : ℕ) → 1 ≤ left - min left size → (n + 1) * size + (left - min left size) ≡ n * size + left
+whole-symbol n left size more = ⊎_elim
+    (λ less. let all = min-eq_left {n = left} {m = size} (omega (arith, less)) in absurd (omega (arith, all, more)))
+    (λ over. let some = min-eq_right {n = size} {m = left} over in let next = add-mul n 1 size in omega (arith, some, next, over))
+    (cases_lt left size)
+
+-- the place of a coded bit, from the table
+pub place-is : (r : LegacyRate) (places : List LabelPlace) (k : ℕ) → AreLabelPlaces r places → k < coded_bits_of r
+    → slice_index_or places k no_place ≡ label_place_of r k
+place-is r places k are below = are.each k below
+
+-- its label stands among those of a symbol, and its bit in the label
+pub bit-within : (r : LegacyRate) (place : LabelPlace) (k : ℕ) → place ≡ label_place_of r k → k < coded_bits_of r
+    → (place.carrier < 48) × (place.shift < 6)
+bit-within r place k is below =
+    let bounds = place-bounds r k below in
+    (subst (λ (p : LabelPlace). p.carrier < 48) (sym is) bounds.0, subst (λ (p : LabelPlace). p.shift < 6) (sym is) bounds.1)
 
 -- and it is what was received
-pub bit-is : (r : LegacyRate) (labels : List ℕ) (place : LabelPlace) (q size : ℕ) (bit : ReceivedBit) → size ≡ coded_bits_of r
-    → place ≡ label_place_of r (q % coded_bits_of r)
-    → known_of bit ≡ Some (bit_at (slice_index_or labels (q / size * 48 + place.carrier) 0) place.shift == 1)
-    → known_of bit ≡ received_at r labels q
+pub bit-is : (r : LegacyRate) (labels : List ℕ) (place : LabelPlace) (n k : ℕ) (bit : ReceivedBit) → k < coded_bits_of r → place ≡ label_place_of r k
+    → known_of bit ≡ Some (bit_at (slice_index_or labels (n * 48 + place.carrier) 0) place.shift == 1)
+    → known_of bit ≡ received_at r labels (n * coded_bits_of r + k)
 unfolding received_at label_place_of label_bit
-bit-is r labels place q size bit same is known =
-    let n = q / coded_bits_of r in
-    let there = place_of r (q % coded_bits_of r) in
-    let said : ℕ → LabelPlace → Option Bool = λ symbol p. Some (bit_at (slice_index_or labels (symbol * 48 + p.carrier) 0) p.shift == 1) in
+bit-is r labels place n k bit below is known =
+    let size = coded_bits_of r in
+    let q = n * size + k in
+    let there = place_of r k in
+    let said : LabelPlace → Option Bool = λ p. Some (bit_at (slice_index_or labels (n * 48 + p.carrier) 0) p.shift == 1) in
     let told : ℕ → Option Bool = λ bits. Some (bit_at (slice_index_or labels (n * 48 + there / label_bits_of r) 0) (bits - 1 - there % label_bits_of r) == 1) in
-    known ∙ (ap (λ k. said (q / k) place) same ∙ (ap (λ p. said n p) is ∙ ap told (label_bits_of-is r)))
+    let at : ℕ → ℕ → Option Bool = λ symbol place. Some (at_place r labels symbol (place_of r place)) in
+    let spot = at-symbol n k size below in
+    known ∙ (ap said is ∙ (ap told (label_bits_of-is r)
+    ∙ sym (ap (λ (m : ℕ). at m (q % size)) spot.0 ∙ ap (at n) spot.1)))
 
 -- one coded bit more
 pub bits-more : (r : LegacyRate) (labels : List ℕ) (old new : List ReceivedBit) (bit : ReceivedBit) (q : ℕ) → new ≡ old ++ bit ∷ []

@@ -1,6 +1,7 @@
 //! The received list of a frame.
-ghost use Rattle.std.specs.Prelude.{◌≡◌, ◌*◌, ◌<◌, ◌≤◌, ◌==◌, IfOk, Some, length, map};
+ghost use Rattle.std.specs.Prelude.{◌≡◌, ◌+◌, ◌*◌, ◌<◌, ◌≤◌, ◌==◌, IfOk, Some, length, map, vec_len, vec_capacity};
 ghost use Rattle.std.specs.Int.{bit_at};
+ghost use Rattle.std.specs.List.{range_with_len};
 ghost use Rattle.ht_clause18.specs.Rates.{coded_bits_of, needed_bits, pattern_of, symbols_of};
 ghost use Rattle.ht_conv.specs.Puncturing.{sent_count};
 ghost use Rattle.ht_viterbi.specs.Received.{known_of};
@@ -40,26 +41,48 @@ fn bit_of(label: u8, place: LabelPlace) -> ReceivedBit
     }
 }
 
-// Coded bit `q` of a frame with this number of symbols.
+// A coded bit of a symbol, out of the symbol's labels.
 #[inline(always)]
 fn coded_bit(
     rate: LegacyRate,
     places: &[LabelPlace; 288],
     labels: &[u8],
-    symbols: u32,
-    q: usize,
+    symbol: u32,
+    k: u16,
 ) -> ReceivedBit
     requires places { AreLabelPlaces rate places.now }
-    requires labels { length labels.now ≡ symbols * 48 }
-    requires within { q < symbols * coded_bits_of rate }
-    ensures { known_of result ≡ received_at rate labels.now q }
+    requires labels { symbol * 48 + 48 ≤ length labels.now }
+    requires place { k < coded_bits_of rate }
+    ensures { known_of result ≡ received_at rate labels.now (symbol * coded_bits_of rate + k) }
 {
-    let size = usize::from(rate.coded_bits());
-    let place = places[q % size];
-    bit_of(
-        labels[q / size * LABELS + usize::from(place.carrier)],
-        place,
-    )
+    let _size = rate.coded_bits(); // at most 288, which only the proof asks for
+    let place = places[usize::from(k)];
+    let at = symbol as usize * LABELS + usize::from(place.carrier);
+    bit_of(labels[at], place)
+}
+
+// Puts the first coded bits of a symbol, this number of them, behind those of the symbols in front of it. So nothing is
+// divided: a division for each bit would cost as much as all the rest.
+fn push_symbol(
+    rate: LegacyRate,
+    places: &[LabelPlace; 288],
+    labels: &[u8],
+    symbol: u32,
+    count: u16,
+    bits: &mut Vec<ReceivedBit>,
+)
+    requires places { AreLabelPlaces rate places.now }
+    requires labels { symbol * 48 + 48 ≤ length labels.now }
+    requires few { count ≤ coded_bits_of rate }
+    requires room { vec_len bits.old + count ≤ vec_capacity bits.old }
+    requires before { map known_of bits.old.items ≡ map (received_at rate labels.now) (range_with_len 0 (symbol * coded_bits_of rate)) }
+    ensures bits { map known_of bits.new.items ≡ map (received_at rate labels.now) (range_with_len 0 (symbol * coded_bits_of rate + count)) }
+    ensures len { vec_len bits.new ≡ vec_len bits.old + count }
+    ensures room { vec_capacity bits.new ≡ vec_capacity bits.old }
+{
+    for k in 0..count {
+        bits.push_reserved(coded_bit(rate, places, labels, symbol, k));
+    }
 }
 
 // The coded bits of a frame's codeword, which its symbols hold.
@@ -82,11 +105,17 @@ pub(crate) fn received(
     ensures { IfOk result (λ bits. map known_of bits.items ≡ received_of rate octets labels.now) }
 {
     let places = label_places(rate);
-    let symbols = rate.symbols(octets);
+    let _symbols = rate.symbols(octets); // how many are enough, which only the proof asks for
     let count = coded_bits(rate, octets);
     let mut bits = Vec::with_capacity(alloc, count)?;
-    for q in 0..count {
-        bits.push_reserved(coded_bit(rate, &places, labels, symbols, q));
+    let size = rate.coded_bits();
+    let mut symbol = 0;
+    let mut left = count;
+    while left > 0 {
+        let taken = left.min(usize::from(size)) as u16;
+        push_symbol(rate, &places, labels, symbol, taken, &mut bits);
+        symbol += 1;
+        left -= usize::from(taken);
     }
     Ok(bits)
 }

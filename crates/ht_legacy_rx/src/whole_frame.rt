@@ -41,7 +41,10 @@ impl WholeFrame for WholeLegacyFrame {
 
     ghost result_of = { result_of };
 
-    fn octets(&self) -> u16 {
+    /// The number of its octets, as its head says.
+    fn octets(&self) -> u16
+        ensures { result ≡ self.now.head.length }
+    {
         self.frame.head.length
     }
 

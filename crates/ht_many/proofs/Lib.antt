@@ -1,1 +1,3 @@
-pub mod Hearing
+pub mod Parts
+pub mod Opened
+pub mod CaptureEnds

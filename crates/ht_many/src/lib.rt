@@ -1,17 +1,27 @@
-//! Several captures, received in this thread or with crews of workers.
+//! Several captures, received beside one another, in this thread or by one crew of workers.
 //!
-//! [`many`] takes a source and a sink for each of 1 to 16 captures, receives one capture after another with a crew, and
-//! answers for each how it ended; [`many_alone`] promises the same, and runs every job in the calling thread.
-//! [`many_bundle`] and [`many_bundle_alone`] do so for a bundle of captures (HTMB). What they promise is that of crate
-//! `ht_several`.
+//! [`many`] takes a source and a sink for each of 1 to 16 captures, receives them by one crew, and answers for each how
+//! it ended; [`many_alone`] promises the same, and runs every job in the calling thread. [`many_bundle`] and
+//! [`many_bundle_alone`] do so for a bundle of captures (HTMB). What they promise is said in the words of crate
+//! `ht_several`, of each capture by its own octets and devices alone.
+//!
+//! Each capture has a lane (crate `ht_lanes`): a reader, the blocks of jobs that are due, and a frame under way. The
+//! lanes together are one feed of blocks, so that the captures share the window and the workers block by block. Once no
+//! lane gives a block any more, each capture gets its last line.
 //!
 //! The bundle `48 54 4d 42 01 01 00 00 00 02 48 58` of the capture `HX`, say, comes to `capture 0` and
 //! `refused BadMagic at 1`.
 #![tactic(auto)]
 
 mod calls;
+mod capture_lane;
 mod crews;
+mod ending;
+mod frame_lines;
+#[cfg(test)]
+mod offset_tests;
 mod receiving;
+mod running;
 #[cfg(test)]
 mod tests;
 

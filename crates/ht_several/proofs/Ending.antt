@@ -1,5 +1,5 @@
 -- How a capture ended, with its last line.
-use Rattle.std.specs.Prelude.{◌≡◌, ◌⊎◌, ℕ, List, ◌++◌, Option, Some, None, IfSome, Result, Ok, Err, IfOk, OnErr}
+use Rattle.std.specs.Prelude.{◌≡◌, ◌⊎◌, ℕ, List, ◌++◌, Option, Some, None, IfSome, Result, Ok, Err}
 use Rattle.std.proofs.Common.{refl, ap, ◌∙◌, sym, subst, inl, inr, map}
 use Rattle.std.specs.List.{flat_map}
 use Rattle.std.proofs.lemmas.Option.{IfSome_then}
@@ -153,29 +153,23 @@ module _ (a b c : Device ℕ) where
   refused_lacks d fault l = refused_part d l.taken l.octets l.comes (text_part d l.taken (by_part c d (frame_lines_of l.taken) l.put))
 
   -- how a capture ended whose receiving answered this
-  pub heard_ends : {E : Type 0} (heard : Result Ended StopFault) (mid d : Device ℕ) (result : Result ManyEnd E)
-      → Heard a b c mid heard → IsLater c mid → Finishes heard mid d result
-      → IfOk result (Alone a b c d)
-  heard_ends (Ok (EndedDone frames jobs)) mid d (Ok end) l later puts = done_with mid d frames end later l puts
-  heard_ends (Ok (EndedRefused fault)) mid d (Ok end) l later puts = refused_with mid d fault end later l puts
-  heard_ends (Err StopRead) mid d (Ok end) l later (is, same) =
+  pub heard_ends : (answer : Result Ended StopFault) (mid d : Device ℕ) (end : ManyEnd) → Heard a b c mid answer → IsLater c mid
+      → Finishes answer mid d end → Alone a b c d end
+  heard_ends (Ok (EndedDone frames jobs)) mid d end l later puts = done_with mid d frames end later l puts
+  heard_ends (Ok (EndedRefused fault)) mid d end l later puts = refused_with mid d fault end later l puts
+  heard_ends (Err StopRead) mid d end l later (is, same) =
       subst (λ (e : ManyEnd). Alone a b c d e) (sym is) (subst (λ (k : Device ℕ). TellsBroken captures frame_lines_of a b c k) (sym same) l.0, l.1)
-  heard_ends (Err StopWrite) mid d (Ok end) l later (is, same) =
+  heard_ends (Err StopWrite) mid d end l later (is, same) =
       subst (λ (e : ManyEnd). Alone a b c d e) (sym is) (subst (λ (k : Device ℕ). PutsPart a b c k × Rose c k) (sym same) (pieces_part mid l.0, l.1))
-  heard_ends (Err StopMemory) mid d (Ok end) l later puts = absurd puts
-  heard_ends heard mid d (Err lack) l later puts = tt
+  heard_ends (Err StopMemory) mid d end l later puts = absurd puts
 
-  pub heard_part : {E : Type 0} (heard : Result Ended StopFault) (mid d : Device ℕ) (result : Result ManyEnd E)
-      → Heard a b c mid heard → Finishes heard mid d result
-      → OnErr result (PutsPart a b c d)
-  heard_part (Ok (EndedDone frames jobs)) mid d (Err lack) l same =
-      subst (λ (k : Device ℕ). PutsPart a b c k) (sym same) (whole_lacks mid (HasFrames frames) l)
-  heard_part (Ok (EndedRefused fault)) mid d (Err lack) l same =
-      subst (λ (k : Device ℕ). PutsPart a b c k) (sym same) (refused_lacks mid fault l)
-  heard_part (Err StopRead) mid d (Err lack) l puts = absurd puts
-  heard_part (Err StopWrite) mid d (Err lack) l puts = absurd puts
-  heard_part (Err StopMemory) mid d (Err lack) l same = subst (λ (k : Device ℕ). PutsPart a b c k) (sym same) (pieces_part mid l)
-  heard_part heard mid d (Ok end) l puts = tt
+  -- without its last line a part of its text was put
+  pub heard_part : (answer : Result Ended StopFault) (d : Device ℕ) → Heard a b c d answer → PutsPart a b c d
+  heard_part (Ok (EndedDone frames jobs)) d l = whole_lacks d (HasFrames frames) l
+  heard_part (Ok (EndedRefused fault)) d l = refused_lacks d fault l
+  heard_part (Err StopRead) d l = broken_part d l.0
+  heard_part (Err StopWrite) d l = pieces_part d l.0
+  heard_part (Err StopMemory) d l = pieces_part d l
 
   -- neither device failed
   pub unfailed_ends : (d : Device ℕ) (end : ManyEnd) → Alone a b c d end → (Rose a b → ⊥) → (Rose c d → ⊥)

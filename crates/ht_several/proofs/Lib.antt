@@ -1,5 +1,5 @@
 pub mod Ending
-pub mod Several
+pub mod LastLines
 pub mod Texts
 pub mod Converting
 mod Worked

@@ -82,14 +82,13 @@ pub held_at : (sinks : List Growing) (k : ℕ) (s none : Growing) (text : List �
 held_at sinks k s none text low is held = held ∙ (ap held_by is ∙ sym (get_or-map held_by sinks k none [] low))
 
 -- what a slice of the whole list leaves there
-pub written_back : (sinks was : List Growing) (size : ℕ) → size ≡ length was → length sinks ≡ length was
-    → take size (sinks ++ drop (length sinks) was) ≡ sinks
-written_back sinks was size is same =
-    let none : drop (length sinks) was ≡ [] = drop_all (length sinks) was (omega (arith, same)) in
-    let all : size ≡ length sinks = is ∙ sym same in
-    ap (λ (z : List Growing). take size (sinks ++ z)) none
-    ∙ (ap (λ (z : List Growing). take size z) (append-nil sinks)
-    ∙ (ap (λ (n : ℕ). take n sinks) all ∙ take_all (length sinks) sinks (omega arith)))
+pub written_back : {X : Type 0} (xs was : List X) (size : ℕ) → size ≡ length was → length xs ≡ length was → take size (xs ++ drop (length xs) was) ≡ xs
+written_back {X = X} xs was size is same =
+    let none : drop (length xs) was ≡ [] = drop_all (length xs) was (omega (arith, same)) in
+    let all : size ≡ length xs = is ∙ sym same in
+    ap (λ (z : List X). take size (xs ++ z)) none
+    ∙ (ap (λ (z : List X). take size z) (append-nil xs)
+    ∙ (ap (λ (n : ℕ). take n xs) all ∙ take_all (length xs) xs (omega arith)))
 
 -- the same, where the captures, the sinks and the ends go by several names
 pub all_put : (captures sources lent after : List (List ℕ)) (fresh lent_sinks sinks : List Growing) (ends seen : List ManyEnd) (count size : ℕ)

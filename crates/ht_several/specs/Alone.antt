@@ -1,5 +1,5 @@
 -- What is said of one capture among several: its own source and its own sink, before and after, and nothing of another capture.
-use Rattle.std.specs.Prelude.{◌≡◌, ◌⊎◌, ℕ, List, Result, Ok, Err, MatchResult}
+use Rattle.std.specs.Prelude.{◌≡◌, ◌⊎◌, ◌<◌, ℕ, List, length, slice_index_or, Result, Ok, Err}
 use Rattle.ht_io.specs.Devices.{Device, Grows, GrowsByPart, Rose}
 use Rattle.ht_io.specs.Kinds.{name_of}
 use Rattle.ht_capture.specs.Captures.{capture_of}
@@ -49,18 +49,18 @@ HasText (Refused fault) = Unit {0}
 HasText Read = ⊥
 HasText Write = ⊥
 
+-- the whole text of each was put
+abbrev pub HaveText : List ManyEnd → Type 0
+HaveText ends = (k : ℕ) → k < length ends → HasText (slice_index_or ends k Read)
+
 -- the last line was put, and the capture ends so; or a part of it was, by a sink that failed
 abbrev pub PutsLast : List ℕ → ManyEnd → Device ℕ → Device ℕ → ManyEnd → Type 0
 PutsLast line then sink sink' end = ((end ≡ then) × Grows sink sink' line) ⊎ ((end ≡ Write) × GrowsByPart sink sink' line × Rose sink sink')
 
--- the same, or nothing was put, without memory for the line
-abbrev pub PutsLastLine : {E : Type 0} → List ℕ → ManyEnd → Device ℕ → Device ℕ → Result ManyEnd E → Type 0
-PutsLastLine line then sink sink' result = MatchResult result (PutsLast line then sink sink') (λ lack. sink' ≡ sink)
-
 -- how a capture ends whose receiving answered this, and the last line, where one is to be put
-abbrev pub Finishes : {E : Type 0} → Result Ended StopFault → Device ℕ → Device ℕ → Result ManyEnd E → Type 0
-Finishes (Ok (EndedDone frames jobs)) sink sink' result = PutsLastLine (end_text frames) (Done frames) sink sink' result
-Finishes (Ok (EndedRefused fault)) sink sink' result = PutsLastLine (refused_text (name_of fault.kind) fault.offset) (Refused fault) sink sink' result
-Finishes (Err StopRead) sink sink' result = MatchResult result (λ end. (end ≡ Read) × (sink' ≡ sink)) (λ lack. ⊥)
-Finishes (Err StopWrite) sink sink' result = MatchResult result (λ end. (end ≡ Write) × (sink' ≡ sink)) (λ lack. ⊥)
-Finishes (Err StopMemory) sink sink' result = MatchResult result (λ end. ⊥) (λ lack. sink' ≡ sink)
+abbrev pub Finishes : Result Ended StopFault → Device ℕ → Device ℕ → ManyEnd → Type 0
+Finishes (Ok (EndedDone frames jobs)) sink sink' end = PutsLast (end_text frames) (Done frames) sink sink' end
+Finishes (Ok (EndedRefused fault)) sink sink' end = PutsLast (refused_text (name_of fault.kind) fault.offset) (Refused fault) sink sink' end
+Finishes (Err StopRead) sink sink' end = (end ≡ Read) × (sink' ≡ sink)
+Finishes (Err StopWrite) sink sink' end = (end ≡ Write) × (sink' ≡ sink)
+Finishes (Err StopMemory) sink sink' end = ⊥

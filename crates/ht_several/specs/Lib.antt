@@ -1,3 +1,4 @@
 pub mod Alone
 pub mod Several
+pub mod LastLines
 pub mod Bundles

@@ -1,9 +1,12 @@
 -- What is said of several captures, one by one.
-use Rattle.std.specs.Prelude.{◌≡◌, ◌≢◌, ℕ, ◌<◌, List, length, slice_index_or}
+use Rattle.std.specs.Prelude.{◌≡◌, ◌≢◌, ℕ, ◌<◌, List, length, slice_index_or, Result, Err}
 use Rattle.ht_io.specs.Devices.{Device, IsLater}
+use Rattle.ht_runs.specs.declared.faults.StopFault.{StopFault}
+use Rattle.ht_runs.specs.declared.faults.StopFault.TheVariants.{Read as StopRead, Write as StopWrite}
+use Rattle.ht_feed.specs.declared.ended.Ended.{Ended}
 use Rattle.ht_several.specs.declared.many_end.ManyEnd.{ManyEnd}
 use Rattle.ht_several.specs.declared.many_end.ManyEnd.TheVariants.{Read, Write}
-use Rattle.ht_several.specs.Alone.{Alone, PutsPart}
+use Rattle.ht_several.specs.Alone.{Alone, Heard, PutsPart}
 
 -- the sources and the sinks of several captures at one moment
 pub record Devices (S K : Type 0) : Type 0 where
@@ -19,6 +22,14 @@ source_at source d k none = source (slice_index_or d.sources k none)
 
 abbrev pub sink_at : {S K : Type 0} → (K → Device ℕ) → Devices S K → ℕ → K → Device ℕ
 sink_at sink d k none = sink (slice_index_or d.sinks k none)
+
+-- what the receiving of the capture with this number answered
+abbrev pub answer_at : List (Result Ended StopFault) → ℕ → Result Ended StopFault
+answer_at answers k = slice_index_or answers k (Err StopRead)
+
+-- how the capture with this number ended
+abbrev pub end_at : List ManyEnd → ℕ → ManyEnd
+end_at ends k = slice_index_or ends k Read
 
 -- a source and a sink are seen so; from the one moment to the other
 module _ {S K : Type 0} (source : S → Device ℕ) (sink : K → Device ℕ) (a b : Devices S K) where
@@ -44,9 +55,17 @@ module _ {S K : Type 0} (source : S → Device ℕ) (sink : K → Device ℕ) (a
   -- each capture ended so
   pub record EachEnds (ends : List ManyEnd) : Type 0 where
     pub as_many : length ends ≡ length a.sources
-    pub each : (k : ℕ) → k < length a.sources → EndsAlone k (slice_index_or ends k Read)
-    pub writes : (k : ℕ) → EndsSteady k (slice_index_or ends k Read)
+    pub each : (k : ℕ) → k < length a.sources → EndsAlone k (end_at ends k)
+    pub writes : (k : ℕ) → EndsSteady k (end_at ends k)
 
   -- of the text of each a part was put
   abbrev pub EachInPart : Type 0
   EachInPart = (k : ℕ) → k < length a.sources → EndsInPart k
+
+  -- the lines of the frames of each capture were put, but not its last line, and this was answered; where it isn't Write
+  -- its sink didn't fail
+  pub record EachHeard (answers : List (Result Ended StopFault)) : Type 0 where
+    pub as_many : length answers ≡ length a.sources
+    pub each : (k : ℕ) → k < length a.sources → (s : S) (t : K)
+        → Heard (source_at source a k s) (source_at source b k s) (sink_at sink a k t) (sink_at sink b k t) (answer_at answers k)
+    pub writes : (k : ℕ) (t : K) → answer_at answers k ≢ Err StopWrite → (sink_at sink b k t).faults ≡ (sink_at sink a k t).faults

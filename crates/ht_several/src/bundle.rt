@@ -1,23 +1,16 @@
-//! A bundle of captures, received.
-ghost use Rattle.std.specs.Prelude.{◌≡◌, ◌≢◌, ◌⊎◌, ℕ, ◌+◌, ◌<◌, ◌≤◌, [], ◌++◌, length, map, replicate, slice_index_or, Err, IfOk, IfErr, OnErr, OnOk};
-ghost use Rattle.std.specs.Bool.{OnTrue};
+//! The devices of the captures of a bundle, and their texts.
+ghost use Rattle.std.specs.Prelude.{◌≡◌, ◌≢◌, ◌⊎◌, ℕ, ◌+◌, ◌≤◌, [], ◌++◌, length, map, replicate, Err, IfOk, IfErr, OnErr, OnOk};
+ghost use Rattle.std.specs.Bool.{MatchBool};
 ghost use Rattle.ht_io.specs.Devices.{Grows, GrowsByPart, IsLater, Rose};
 ghost use Rattle.ht_io.specs.Writing.{Growing};
-ghost use Rattle.ht_bundles.specs.Files.{AreCaptures};
-ghost use Rattle.ht_results.specs.Texts.{rx_text};
-ghost use Rattle.ht_runs.specs.Converted.{Converted};
-ghost use Rattle.ht_runs.specs.Filters.{SaysNothing};
 ghost use Rattle.ht_runs.specs.declared.faults.RunFault.TheVariants.{NoMemory, Write};
 ghost use Rattle.ht_text.specs.Lines.{capture_text};
-ghost use Rattle.ht_several.specs.declared.many_end.ManyEnd.TheVariants.{Read as ReadEnd};
-ghost use Rattle.ht_several.specs.Alone.{HasText};
-ghost use Rattle.ht_several.specs.Bundles.{receiving, texts_from};
+ghost use Rattle.ht_several.specs.Alone.{HasText, HaveText};
+ghost use Rattle.ht_several.specs.Bundles.{texts_from};
 
-use crate::calls::each;
 use crate::many_end::ManyEnd;
-use crate::receiving::Receiving;
-use ht_bundles::{Bundled, read_bundle};
-use ht_io::{GrowSink, Sink, Source, SureSource};
+use ht_bundles::Bundled;
+use ht_io::{GrowSink, Sink, SureSource};
 use ht_runs::RunFault;
 use ht_text::capture_line;
 use std::alloc::{AllocError, Global};
@@ -52,7 +45,7 @@ pub fn sinks_of(alloc: Global, count: usize) -> Result<Vec<GrowSink>, AllocError
 
 // Whether a capture's whole text was put.
 fn has_text(end: &ManyEnd) -> bool
-    ensures { OnTrue result (HasText end.now) }
+    ensures { MatchBool result (HasText end.now) (HasText end.now → ⊥) }
 {
     match end {
         ManyEnd::Done(_) | ManyEnd::Refused(_) => true,
@@ -60,9 +53,9 @@ fn has_text(end: &ManyEnd) -> bool
     }
 }
 
-/// Whether the whole text of each capture was put.
+/// Whether the whole text of each capture was put: true exactly where each is `Done` or `Refused`.
 pub fn have_text(ends: &[ManyEnd]) -> bool
-    ensures { OnTrue result ((k : ℕ) → k < length ends.now → HasText (slice_index_or ends.now k ReadEnd)) }
+    ensures { MatchBool result (HaveText ends.now) (HaveText ends.now → ⊥) }
 {
     for at in 0..ends.len() {
         if !has_text(&ends[at]) {
@@ -70,34 +63,6 @@ pub fn have_text(ends: &[ManyEnd]) -> bool
         }
     }
     true
-}
-
-// The text of each capture. These sources never fail, and these sinks only for lack of memory.
-fn texts<W: Receiving>(
-    alloc: Global,
-    work: &W,
-    captures: Vec<Bundled>,
-) -> Result<Vec<GrowSink>, AllocError>
-    ensures { IfOk result (λ sinks. map (λ (s : Growing). s.held) sinks.items ≡ map rx_text captures.items) }
-{
-    let count = captures.len();
-    let mut sources = match sources_of(alloc, captures) {
-        Ok(sources) => sources,
-        Err(lack) => return Err(lack),
-    };
-    let mut sinks = match sinks_of(alloc, count) {
-        Ok(sinks) => sinks,
-        Err(lack) => return Err(lack),
-    };
-    let ends = match each(alloc, work, &mut sources, &mut sinks) {
-        Ok(ends) => ends,
-        Err(lack) => return Err(lack),
-    };
-    if have_text(&ends) {
-        Ok(sinks)
-    } else {
-        Err(AllocError)
-    }
 }
 
 // Puts the line `capture K`, and behind it the capture's text.
@@ -132,24 +97,4 @@ pub fn put_texts<K: Sink>(alloc: Global, texts: &[GrowSink], sink: &mut K) -> Re
         put_text(alloc, at as u8, text, sink)?;
     }
     Ok(())
-}
-
-/// Reads a bundle of captures (HTMB) to its end, receives each, and puts for each the line `capture K` and what the
-/// command `rx` writes for it, the line of a fault at its end where it has one.
-///
-/// Nothing is put before the last capture was received. `Format` comes at the first fault of the bundle, and `Read`
-/// where the source failed before any fault; what a capture holds is no fault of the bundle. `Write` comes exactly
-/// where the sink failed, and `NoMemory` also within the output: in both cases a part of the text was put.
-pub fn receive_bundle<W: Receiving, S: Source, K: Sink>(
-    alloc: Global,
-    work: &W,
-    source: &mut S,
-    sink: &mut K,
-) -> Result<(), RunFault>
-    ensures converts { Converted receiving (S.shown source.old) (S.shown source.new) (K.shown sink.old) (K.shown sink.new) SaysNothing result }
-    ensures writes { result ≢ Err Write → (K.shown sink.new).faults ≡ (K.shown sink.old).faults }
-{
-    let captures = read_bundle(alloc, source)?;
-    let texts = texts(alloc, work, captures)?;
-    put_texts(alloc, &texts, sink)
 }

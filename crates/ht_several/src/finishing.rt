@@ -1,81 +1,61 @@
-//! The last line of a capture.
-ghost use Rattle.std.specs.Prelude.{◌≡◌, ◌≢◌, ◌≤◌, ℕ, List, Err, Ok, IfOk, OnErr};
+//! The last lines of several captures.
+ghost use Rattle.std.specs.Prelude.{◌≡◌, ◌≢◌, ℕ, ◌<◌, length, slice_index_or, IfOk, OnErr};
 ghost use Rattle.ht_io.specs.Devices.{IsLater};
-ghost use Rattle.ht_io.specs.Kinds.{name_of};
-ghost use Rattle.ht_text.specs.Lines.{end_text, refused_text};
-ghost use Rattle.ht_runs.specs.declared.faults.StopFault.TheVariants.{Write as WriteStop};
 ghost use Rattle.ht_several.specs.declared.many_end.ManyEnd.TheVariants.{Write as WriteEnd};
-ghost use Rattle.ht_several.specs.Alone.{Finishes, PutsLastLine};
+ghost use Rattle.ht_several.specs.Alone.{Finishes};
+ghost use Rattle.ht_several.specs.LastLines.{EachFinishes, EachMayFinish, KeepSinks};
 
+use crate::last_line::finish_one;
 use crate::many_end::ManyEnd;
 use ht_feed::Ended;
-use ht_io::{FormatFault, Sink};
+use ht_io::Sink;
 use ht_runs::StopFault;
-use ht_text::{end_line, refused_line};
 use std::alloc::{AllocError, Global};
 
-// Puts the last line of a capture, which then ends so. Without memory for the line the sink is as before.
-fn put_last<K: Sink>(
-    line: Result<Vec<u8>, AllocError>,
-    then: ManyEnd,
-    sink: &mut K,
-) -> Result<ManyEnd, AllocError>
-    ensures puts { (text : List ℕ) → IfOk line (λ octets. octets.items ≡ text) → PutsLastLine text then (K.shown sink.old) (K.shown sink.new) result }
-    ensures writes { IfOk result (λ end. end ≢ WriteEnd → (K.shown sink.new).faults ≡ (K.shown sink.old).faults) }
-    ensures later { IsLater (K.shown sink.old) (K.shown sink.new) }
-{
-    let Ok(line) = line else {
-        return Err(AllocError);
-    };
-    match sink.put(&line) {
-        Ok(()) => Ok(then),
-        Err(_) => Ok(ManyEnd::Write),
-    }
-}
-
-// Ends a whole capture. One counts its frames by two octets, so there are never more of them.
-fn put_end<K: Sink>(alloc: Global, frames: u64, sink: &mut K) -> Result<ManyEnd, AllocError>
-    ensures puts { PutsLastLine (end_text frames) (ManyEnd.Done frames) (K.shown sink.old) (K.shown sink.new) result }
-    ensures writes { IfOk result (λ end. end ≢ WriteEnd → (K.shown sink.new).faults ≡ (K.shown sink.old).faults) }
-    ensures later { IsLater (K.shown sink.old) (K.shown sink.new) }
-{
-    if frames > 65535 {
-        return Err(AllocError);
-    }
-    put_last(end_line(alloc, frames), ManyEnd::Done(frames as u16), sink)
-}
-
-// Ends a capture with this first fault.
-fn put_refused<K: Sink>(
+// Puts the last line of the capture with this number; the sinks of the others stay as they are.
+fn finish_at<K: Sink>(
     alloc: Global,
-    fault: FormatFault,
-    sink: &mut K,
+    answer: Result<Ended, StopFault>,
+    sinks: &mut [K],
+    at: usize,
 ) -> Result<ManyEnd, AllocError>
-    ensures puts { PutsLastLine (refused_text (name_of fault.kind) fault.offset) (ManyEnd.Refused fault) (K.shown sink.old) (K.shown sink.new) result }
-    ensures writes { IfOk result (λ end. end ≢ WriteEnd → (K.shown sink.new).faults ≡ (K.shown sink.old).faults) }
-    ensures later { IsLater (K.shown sink.old) (K.shown sink.new) }
+    requires sink { at < length sinks.old }
+    ensures finishes { IfOk result (λ end. (t : K) → Finishes answer (K.shown (slice_index_or sinks.old at t)) (K.shown (slice_index_or sinks.new at t)) end) }
+    ensures writes { IfOk result (λ end. (t : K) → end ≢ WriteEnd
+        → (K.shown (slice_index_or sinks.new at t)).faults ≡ (K.shown (slice_index_or sinks.old at t)).faults) }
+    ensures memory { OnErr result ((t : K) → slice_index_or sinks.new at t ≡ slice_index_or sinks.old at t) }
+    ensures later { (t : K) → IsLater (K.shown (slice_index_or sinks.old at t)) (K.shown (slice_index_or sinks.new at t)) }
+    ensures others { (t : K) (k : ℕ) → k ≢ at → slice_index_or sinks.new k t ≡ slice_index_or sinks.old k t }
+    ensures as_many { length sinks.new ≡ length sinks.old }
 {
-    let line = refused_line(alloc, fault.kind.name(), fault.offset);
-    put_last(line, ManyEnd::Refused(fault), sink)
+    finish_one(alloc, answer, &mut sinks[at])
 }
 
-/// Puts the last line behind the lines of a capture whose receiving answered this, and tells how the capture ended:
-/// with `Write` where a sink failed, this time or before. The only error is lack of memory.
+/// Puts the last line of each of several captures behind its other lines, where the receiving of each answered this,
+/// and tells how each ended, in their order: with `Write` where its sink failed, this time or before.
+///
+/// The only error is lack of memory, and then the last lines of the first captures were put and those of the others
+/// weren't.
 pub fn finish<K: Sink>(
     alloc: Global,
-    heard: Result<Ended, StopFault>,
-    sink: &mut K,
-) -> Result<ManyEnd, AllocError>
-    ensures finishes { Finishes heard (K.shown sink.old) (K.shown sink.new) result }
-    ensures writes { IfOk result (λ end. end ≢ WriteEnd → (K.shown sink.new).faults ≡ (K.shown sink.old).faults) }
-    ensures failed { heard ≡ Err WriteStop → result ≡ Ok WriteEnd }
-    ensures later { IsLater (K.shown sink.old) (K.shown sink.new) }
+    answers: &[Result<Ended, StopFault>],
+    sinks: &mut [K],
+) -> Result<Vec<ManyEnd>, AllocError>
+    requires pairs { length sinks.old ≡ length answers.now }
+    ensures finishes { IfOk result (λ ends. EachFinishes K.shown sinks.old sinks.new answers.now ends.items) }
+    ensures memory { OnErr result (EachMayFinish K.shown sinks.old sinks.new answers.now) }
+    ensures later { KeepSinks K.shown sinks.old sinks.new }
 {
-    match heard {
-        Ok(Ended::Done { frames, .. }) => put_end(alloc, frames, sink),
-        Ok(Ended::Refused(fault)) => put_refused(alloc, fault, sink),
-        Err(StopFault::Read) => Ok(ManyEnd::Read),
-        Err(StopFault::Write) => Ok(ManyEnd::Write),
-        Err(StopFault::NoMemory) => Err(AllocError),
+    let mut ends = Vec::new(alloc);
+    for at in 0..answers.len() {
+        let end = match finish_at(alloc, answers[at], sinks, at) {
+            Ok(end) => end,
+            Err(lack) => return Err(lack),
+        };
+        match ends.push(end) {
+            Ok(()) => {}
+            Err(_) => return Err(AllocError),
+        }
     }
+    Ok(ends)
 }

@@ -54,12 +54,16 @@ half_axes m e value =
     then record { i = cut_axis (i_axis m) (i_bits m) e value; q = (axes_of m).q }
     else record { i = (axes_of m).i; q = cut_axis (q_axis m) (q_bits m) (e - i_bits m) value }
 
--- the job of this number with these points alone on a stream
+-- a grid with these points alone on a stream; streams count from 1
+abbrev pub half_grid_of : Modulation → ℕ → ℕ → Bool → List Axes → List Axes
+half_grid_of m stream e value grid = slice_set grid (stream - 1) (half_axes m e value)
+
+-- the job of this number with this half of its grid
 unfoldable pub half_of : Modulation → ℕ → ℕ → Bool → ℕ → JobView → JobView
 half_of m stream e value number job = record {
   number = number;
   place = job.place;
-  grid = slice_set job.grid (stream - 1) (half_axes m e value);
+  grid = half_grid_of m stream e value job.grid;
   system = job.system;
 }
 

@@ -4,7 +4,7 @@ ghost use Rattle.ht_conv.specs.Puncturing.{sent_count};
 ghost use Rattle.ht_viterbi.specs.Inputs.{IsCheapest, cost_of, tail, weight_cost};
 
 use ht_rate::Pattern;
-use ht_viterbi::{Cheapest, decode_places};
+use ht_viterbi::{Cheapest, decode_weights};
 use std::alloc::{AllocError, Global};
 
 /// Decodes a punctured codeword from weights: the first terminated input whose coded bits cost least.
@@ -30,5 +30,5 @@ pub fn soft_decode(
     ensures steps { IfOk result (λ c. length c.input ≡ steps) }
     ensures ending { IfOk result (λ c. drop (steps - tail) c.input ≡ replicate tail false) }
 {
-    decode_places(alloc, steps, pattern, weights)
+    decode_weights(alloc, steps, pattern, weights)
 }

@@ -6,7 +6,7 @@ ghost use Rattle.ht_pam.specs.declared.point.Point.{Point};
 ghost use Rattle.ht_map.specs.Constellation.{axes_of};
 ghost use Rattle.ht_map.specs.Gray.{i_axis, one_bit, q_axis, three_bits, two_bits};
 ghost use Rattle.ht_metric.specs.Vectors.{is_in};
-ghost use Rattle.ht_soft.specs.Halves.{axis_named, cut_axis, half_axes, half_of, has_bit, i_bits, q_bits};
+ghost use Rattle.ht_soft.specs.Halves.{axis_named, cut_axis, half_axes, half_grid_of, half_of, has_bit, i_bits, q_bits};
 
 use ht_metric::Job;
 use ht_pam::{Axes, Grid, Ladder};
@@ -164,6 +164,22 @@ fn changed(grid: &Grid, stream: u8, axes: &Axes) -> Grid
     changed
 }
 
+/// The grid with the points alone on `stream` whose label has `value` at a bit: one of the two halves of a grid that a
+/// label bit makes.
+///
+/// The grid is the full constellation of `modulation` on each stream. Streams are counted from 1, and bits of a label
+/// from 0, which is the first and most significant one (IEEE Std 802.11-2012, clause 20.3.11.9).
+pub fn half_grid(modulation: Modulation, grid: &Grid, stream: u8, bit: u8, value: bool) -> Grid
+    requires full { grid.now ≡ replicate (length grid.now) (axes_of modulation) }
+    requires first { 1 ≤ stream }
+    requires last { stream ≤ length grid.now }
+    requires bit { bit < bits_of modulation }
+    ensures { result ≡ half_grid_of modulation stream bit value grid.now }
+{
+    let axes = half_axes(modulation, axes_at(grid, stream), bit, value);
+    changed(grid, stream, &axes)
+}
+
 /// The job of this number with the vectors alone whose label on `stream` has `value` at a bit: one of the two halves of
 /// a job's grid that a label bit makes.
 ///
@@ -179,12 +195,6 @@ pub fn half(modulation: Modulation, job: &Job, number: u64, stream: u8, bit: u8,
     ensures half { result ≡ half_of modulation stream bit value number job.now }
     ensures vectors { (x : List Point) → is_in result.grid x ≡ (is_in job.now.grid x && has_bit modulation stream bit value x) }
 {
-    let grid = job.grid();
-    let axes = half_axes(modulation, axes_at(grid, stream), bit, value);
-    Job::new(
-        number,
-        job.place(),
-        changed(grid, stream, &axes),
-        *job.system(),
-    )
+    let grid = half_grid(modulation, job.grid(), stream, bit, value);
+    Job::new(number, job.place(), grid, *job.system())
 }

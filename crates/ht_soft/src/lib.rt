@@ -1,8 +1,9 @@
 //! Soft values: how much each label bit of a subcarrier weighs, and decoding by these weights.
 //!
-//! A label bit cuts the vectors of a job in two halves (IEEE Std 802.11-2012, clause 20.3.11.9). [`half`] makes the job of
-//! one of them, and a detector finds its least distance. [`weight`] takes the two distances: the one with 0 less the one
-//! with 1, exact, and cut to the range from -65535 to 65535. A weight is positive where a 1 is likelier.
+//! A label bit cuts the vectors of a job in two halves (IEEE Std 802.11-2012, clause 20.3.11.9). [`half`] makes the job
+//! of one of them, [`half_grid`] its grid alone, and a detector finds its least distance. [`weight`] takes the two
+//! distances: the one with 0 less the one with 1, exact, and cut to the range from -65535 to 65535. A weight is positive
+//! where a 1 is likelier.
 //!
 //! In BPSK with diagonal 10, the sample 3 - 4i lies at the distance 185 from the point of 0 and at 65 from that of 1, so
 //! the bit weighs 120.
@@ -25,6 +26,6 @@ mod weights;
 
 pub use codewords::soft_decode;
 pub use frames::soft_frame;
-pub use halves::half;
+pub use halves::{half, half_grid};
 pub use soft_decoded::SoftDecoded;
 pub use weights::weight;

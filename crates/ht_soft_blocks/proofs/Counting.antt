@@ -1,6 +1,7 @@
 -- How many halves a job has, and which one stands where.
-use Rattle.std.proofs.Common.{◌≡◌, Bool, ℕ, zero, suc, ◌+◌, ◌*◌, ◌/◌, ◌%◌, ◌<◌, ◌≤◌, ◌==◌, List, length, replicate, refl, sym, ap, subst, ◌∙◌, arith, ◌⊎◌, inl, inr}
-use Rattle.std.specs.Prelude.{◌≢◌, Option, Some, IfSome, slice_get, option_map, false, true}
+use Rattle.std.proofs.Common.{◌≡◌, Bool, ℕ, zero, suc, ◌+◌, ◌-◌, ◌*◌, ◌/◌, ◌%◌, ◌<◌, ◌≤◌, ◌==◌, List, [], ◌∷◌, ◌++◌, length, length-append, replicate}
+use Rattle.std.proofs.Common.{refl, sym, ap, subst, ◌∙◌, arith, ◌⊎◌, inl, inr}
+use Rattle.std.specs.Prelude.{◌≢◌, Option, Some, IfSome, slice_get, slice_index_or, option_map, false, true}
 use Rattle.std.specs.Int.{bit_at}
 use Rattle.std.specs.List.{AllByRecursion, flat_map, range_with_len}
 use Rattle.std.proofs.Math.Nat.{div-add-mod, div-lt_iff_lt-mul, mod-lt, mul-le-mul, mul_assoc, mul_comm}
@@ -10,7 +11,8 @@ use Rattle.ht_rate.specs.declared.kinds.Modulation.{Modulation}
 use Rattle.ht_rate.specs.declared.rates.Rate.{Rate}
 use Rattle.ht_rate.specs.Carriers.{carrier_of}
 use Rattle.ht_rate.specs.Rates.{label_bits_of, modulation_of, streams_of}
-use Rattle.std.proofs.lemmas.List.{length-replicate}
+use Rattle.std.proofs.lemmas.List.{length-replicate, length-set}
+use Rattle.std.proofs.lemmas.Option.{slice_get_read, slice_get_within}
 use Rattle.ht_rate.specs.Schemes.{bits_of}
 use Rattle.ht_rate.proofs.RateFacts.{label_bits_of-range, streams_of-range}
 use Rattle.ht_pam.specs.declared.axes.Axes.{Axes}
@@ -18,12 +20,14 @@ use Rattle.ht_map.specs.Constellation.{axes_of, grid_of}
 use Rattle.ht_capture.specs.Frames.{grid_at, grid_for}
 use Rattle.ht_capture_laws.proofs.Lists.{all_append, length-flat}
 use Rattle.ht_metric.specs.Jobs.{JobView}
-use Rattle.ht_metric.specs.Rows.{Row}
 use Rattle.ht_metric.specs.declared.place.Place.{Place}
-use Rattle.ht_soft.specs.Halves.{half_of}
-use Rattle.ht_soft_blocks.specs.Blocks.{AreCounts, IsOfRate, count_by_kind, is_pilot}
-use Rattle.ht_soft_blocks.specs.Halved.{halves_of, halves_of_bit, halves_of_data, halves_of_stream, halves_on, with_number}
-use Rattle.ht_soft_blocks.proofs.Lists.{get_flat}
+use Rattle.ht_metric.specs.Rows.{Row}
+use Rattle.ht_soft.specs.Halves.{half_axes, half_grid_of, half_of}
+use Rattle.ht_soft_blocks.specs.Blocks.{AreCounts, AreHalfGrids, IsOfRate, count_by_kind, half_grid_at, is_pilot}
+use Rattle.ht_feed.specs.Numbers.{with_number}
+use Rattle.ht_feed.proofs.Numbering.{remade}
+use Rattle.ht_soft_blocks.specs.Halved.{halves_of, halves_of_bit, halves_of_data, halves_of_stream, halves_on}
+use Rattle.ht_soft_blocks.proofs.Lists.{get_behind, get_first, get_flat, same_some}
 
 length_stream : (rate : Rate) (job : JobView) (stream : ℕ) → length (halves_of_stream rate job stream) ≡ label_bits_of rate * 2
 length_stream rate job stream = length-flat (halves_of_bit (modulation_of rate) job stream) 2 0 (label_bits_of rate) (λ bit. refl)
@@ -91,6 +95,37 @@ count_on rate (Data m) job of_data others is =
     count_data rate m job.place.carrier (streams_of rate) (label_bits_of rate) job is refl refl refl ∙ sym others
 count_on rate (Pilot k) job of_data others is = count_pilot rate k job.place.carrier job is refl
 
+-- a half of a data subcarrier's job has one of its grids
+pub half_within : (rate : Rate) (m at : ℕ) (job : JobView) → Data m ≡ carrier_of rate job.place.carrier → at < length (halves_of rate job)
+    → at < 2 * streams_of rate * label_bits_of rate
+half_within rate m at job is within =
+    let count = count_data rate m job.place.carrier (streams_of rate) (label_bits_of rate) job is refl refl refl in
+    omega (arith, count, within)
+
+-- so many grids are those of the first halves
+abbrev pub AreGridsSoFar : Rate → List (List Axes) → Type 0
+AreGridsSoFar rate grids = (at : ℕ) (grid : List Axes) → slice_get grids at ≡ Some grid → grid ≡ half_grid_at rate at
+
+-- and with one more
+pub grids_next : (rate : Rate) (grids : List (List Axes)) (next : List Axes) (count : ℕ) → AreGridsSoFar rate grids → length grids ≡ count
+    → next ≡ half_grid_at rate count → AreGridsSoFar rate (grids ++ next ∷ [])
+grids_next rate grids next count so_far long next_is at grid is =
+    let within = slice_get_within (grids ++ next ∷ []) at grid is in
+    let all = length-append grids (next ∷ []) in
+    elim (split_last at count (omega (arith, within, all, long))) [
+      | inl l ↦ so_far at grid (sym (get_first grids (next ∷ []) at (omega (arith, l, long))) ∙ is)
+      | inr e ↦
+          let found : Some next ≡ Some grid = sym (get_behind grids (next ∷ []) 0 at (omega (arith, e, long))) ∙ is in
+          sym (same_some next grid found) ∙ (next_is ∙ ap (half_grid_at rate) (sym e))
+    ]
+
+-- the grid that is read at a place
+pub read_grid : (rate : Rate) (grids : List (List Axes)) (at place : ℕ) (grid : List Axes) → AreHalfGrids rate grids
+    → at < 2 * streams_of rate * label_bits_of rate → place ≡ at → grid ≡ slice_index_or grids place grid → grid ≡ half_grid_at rate at
+read_grid rate grids at place grid are less same is =
+    let count = are.count in
+    are.are at grid (slice_get_read grids (length grids) at grid refl (omega (arith, less, count)) (is ∙ ap (λ n. slice_index_or grids n grid) same))
+
 -- how many halves each job of a block has
 pub counts_are : (rate : Rate) (jobs : List JobView) (pilots of_data k : ℕ) → AreCounts rate jobs pilots of_data
     → (job : JobView) → slice_get jobs k ≡ Some job → length (halves_of rate job) ≡ count_by_kind (bit_at pilots k == 1) of_data
@@ -115,13 +150,6 @@ count_few rate of_data false is =
     let le : streams_of rate * label_bits_of rate ≤ 4 * 6 = mul-le-mul streams.1 bits.1 in
     let e = mul_assoc 2 (streams_of rate) (label_bits_of rate) in
     omega (arith, le, is, e)
-
--- the same job under another number, made of its parts
-pub remade : (job : JobView) (n : ℕ) (place : Place) (grid : List Axes) (system : List Row) → place ≡ job.place → grid ≡ job.grid → system ≡ job.system
-    → record { number = n; place = place; grid = grid; system = system } ≡ with_number n job
-remade job n place grid system place_is grid_is system_is =
-    let made : Place → List Axes → List Row → JobView = λ p g s. record { number = n; place = p; grid = g; system = s } in
-    ap (λ p. made p grid system) place_is ∙ (ap (λ g. made job.place g system) grid_is ∙ ap (λ s. made job.place job.grid s) system_is)
 
 -- each half has the place of its job
 abbrev pub HasPlace : Place → JobView → Type 0
@@ -161,19 +189,43 @@ pub full_grid : (rate : Rate) (m : ℕ) (job : JobView) → IsOfRate rate job �
 unfolding grid_at
 full_grid rate m job of is = of.grid ∙ ap (grid_for rate job.place.symbol) (sym is)
 
+-- as many halves has a data subcarrier's job
+pub within_data : (rate : Rate) (job : JobView) (at : ℕ) → at < length (halves_of_data rate job) → at < 2 * streams_of rate * label_bits_of rate
+within_data rate job at within =
+    let total = length_data rate job in
+    let two = mul_assoc (streams_of rate) (label_bits_of rate) 2 in
+    let three = mul_assoc 2 (streams_of rate) (label_bits_of rate) in
+    omega (arith, within, total, two, three)
+
 -- Bit `bit` of the labels of all streams, counted through, is bit `bit % bits` of stream 1 + bit / bits.
-module _ (rate : Rate) (job : JobView) (at : ℕ) (some : 1 ≤ label_bits_of rate) (within : at < length (halves_of_data rate job)) where
-  pub bit_within : at / 2 < streams_of rate * label_bits_of rate
+module _ (rate : Rate) (at : ℕ) (within : at < 2 * streams_of rate * label_bits_of rate) where
+  some_bits : 1 ≤ label_bits_of rate
+  some_bits = (label_bits_of-range rate).0
+
+  bit_within : at / 2 < streams_of rate * label_bits_of rate
   bit_within =
-      let total = length_data rate job in
-      let two = mul_assoc (streams_of rate) (label_bits_of rate) 2 in
-      (div-lt_iff_lt-mul {k = 2} {x = at} {y = streams_of rate * label_bits_of rate} (omega arith)).1 (omega (arith, within, total, two))
+      let two = mul_assoc 2 (streams_of rate) (label_bits_of rate) in
+      (div-lt_iff_lt-mul {k = 2} {x = at} {y = streams_of rate * label_bits_of rate} (omega arith)).1 (omega (arith, within, two))
 
   pub stream_within : at / 2 / label_bits_of rate < streams_of rate
-  stream_within = (div-lt_iff_lt-mul {k = label_bits_of rate} {x = at / 2} {y = streams_of rate} (omega (arith, some))).1 bit_within
+  stream_within =
+      let some = some_bits in
+      (div-lt_iff_lt-mul {k = label_bits_of rate} {x = at / 2} {y = streams_of rate} (omega (arith, some))).1 bit_within
+
+  pub stream_few : (bits : ℕ) → bits ≡ label_bits_of rate → at / 2 / bits < 4
+  stream_few bits is =
+      let e = stream_within in
+      let most = (streams_of-range rate).1 in
+      let same : at / 2 / bits ≡ at / 2 / label_bits_of rate = ap (λ b. at / 2 / b) is in
+      omega (arith, e, most, same)
 
   pub label_within : at / 2 % label_bits_of rate < label_bits_of rate
-  label_within = mod-lt (at / 2) (omega (arith, some))
+  label_within = let some = some_bits in mod-lt (at / 2) (omega (arith, some))
+
+-- a bit of the rate's labels is one of its modulation's
+pub bit_fits : (rate : Rate) (m : Modulation) (bit : ℕ) → m ≡ modulation_of rate → bit < label_bits_of rate → bit < bits_of m
+unfolding label_bits_of
+bit_fits rate m bit is less = subst (λ k. bit < bits_of k) (sym is) less
 
 -- of the two halves of a bit
 of_bit : (m : Modulation) (job : JobView) (stream bit value : ℕ) → value < 2
@@ -182,23 +234,23 @@ of_bit m job stream bit zero less = refl
 of_bit m job stream bit (suc zero) less = refl
 of_bit m job stream bit (suc (suc value)) less = absurd (omega (arith, less))
 
-pub get_half : (rate : Rate) (job : JobView) (at : ℕ) → 1 ≤ label_bits_of rate → at < length (halves_of_data rate job)
+pub get_half : (rate : Rate) (job : JobView) (at : ℕ) → at < length (halves_of_data rate job)
     → slice_get (halves_of_data rate job) at
     ≡ Some (half_of (modulation_of rate) (1 + at / 2 / label_bits_of rate) (at / 2 % label_bits_of rate) (at % 2 == 1) job.number job)
-get_half rate job at some within =
+get_half rate job at within =
     let bits = label_bits_of rate in
     let stream = at / 2 / bits in
     let bit = at / 2 % bits in
     let value = at % 2 in
     let few : value < 2 = mod-lt at (omega arith) in
-    let label : bit < bits = label_within rate job at some within in
+    let label : bit < bits = label_within rate at (within_data rate job at within) in
     let twice : 2 * (at / 2) + value ≡ at = div-add-mod at 2 in
     let parts : bits * stream + bit ≡ at / 2 = div-add-mod (at / 2) bits in
     let turned : stream * (bits * 2) ≡ bits * stream * 2 = sym (mul_assoc stream bits 2) ∙ ap (λ n. n * 2) (mul_comm stream bits) in
     let place : at ≡ stream * (bits * 2) + (bit * 2 + value) = omega (arith, twice, parts, turned) in
     let zero_on : 0 + bit ≡ bit = omega arith in
     get_flat (halves_of_stream rate job) (bits * 2) (length_stream rate job) 1 (streams_of rate) stream (bit * 2 + value) at place
-    (omega (arith, few, label)) (stream_within rate job at some within)
+    (omega (arith, few, label)) (stream_within rate at (within_data rate job at within))
     ∙ (get_flat (halves_of_bit (modulation_of rate) job (1 + stream)) 2 (λ b. refl) 0 bits bit value (bit * 2 + value) refl few label
     ∙ (ap (λ b. slice_get (halves_of_bit (modulation_of rate) job (1 + stream) b) value) zero_on
     ∙ of_bit (modulation_of rate) job (1 + stream) bit value few))
@@ -209,31 +261,40 @@ pub renumbered : (m : Modulation) (job : JobView) (stream bit number : ℕ) (val
 unfolding half_of
 renumbered m job stream bit number value = refl
 
--- The same in the code's words.
-module _ (rate : Rate) (job : JobView) (at bits : ℕ) (bits_is : bits ≡ label_bits_of rate) (some : 1 ≤ bits) (within : at < length (halves_of_data rate job)) where
-  some_bits : 1 ≤ label_bits_of rate
-  some_bits = omega (arith, some, bits_is)
+-- a half, made of the label bit that it is of
+pub half_is : (rate : Rate) (job made : JobView) (at number : ℕ) (m : Modulation) (stream bit : ℕ) (value : Bool) → at < length (halves_of_data rate job)
+    → m ≡ modulation_of rate → stream ≡ 1 + at / 2 / label_bits_of rate → bit ≡ at / 2 % label_bits_of rate → value ≡ (at % 2 == 1)
+    → made ≡ half_of m stream bit value number job → Some made ≡ option_map (with_number number) (slice_get (halves_of_data rate job) at)
+half_is rate job made at number m stream bit value within m_is stream_is bit_is value_is made_is =
+    let modulation = modulation_of rate in
+    let stream_at : ℕ = 1 + at / 2 / label_bits_of rate in
+    let bit_at : ℕ = at / 2 % label_bits_of rate in
+    ap Some (made_is
+    ∙ (ap (λ k. half_of k stream bit value number job) m_is
+    ∙ (ap (λ s. half_of modulation s bit value number job) stream_is
+    ∙ (ap (λ b. half_of modulation stream_at b value number job) bit_is
+    ∙ ap (λ v. half_of modulation stream_at bit_at v number job) value_is))))
+    ∙ (renumbered modulation job stream_at bit_at number (at % 2 == 1) ∙ ap (option_map (with_number number)) (sym (get_half rate job at within)))
 
-  pub stream_fits : at / 2 / bits < streams_of rate
-  stream_fits = subst (λ b. at / 2 / b < streams_of rate) (sym bits_is) (stream_within rate job at some_bits within)
+-- a half, made of its grid
+pub with_grid : (rate : Rate) (job : JobView) (at number : ℕ) (place : Place) (grid : List Axes) (system : List Row) → at < length (halves_of_data rate job)
+    → job.grid ≡ grid_of rate → place ≡ job.place → grid ≡ half_grid_at rate at → system ≡ job.system
+    → Some (record { number = number; place = place; grid = grid; system = system }) ≡ option_map (with_number number) (slice_get (halves_of_data rate job) at)
+unfolding half_of
+with_grid rate job at number place grid system within full place_is grid_is system_is =
+    let bits = label_bits_of rate in
+    let half : List Axes → List Axes = half_grid_of (modulation_of rate) (1 + at / 2 / bits) (at / 2 % bits) (at % 2 == 1) in
+    let cut : JobView = record { number = job.number; place = job.place; grid = half job.grid; system = job.system } in
+    ap Some (remade cut number place grid system place_is (grid_is ∙ ap half (sym full)) system_is)
+    ∙ ap (option_map (with_number number)) (sym (get_half rate job at within))
 
-  pub stream_few : at / 2 / bits < 4
-  stream_few = let e = stream_fits in let most = (streams_of-range rate).1 in omega (arith, e, most)
-
-  pub label_fits : (m : Modulation) → m ≡ modulation_of rate → at / 2 % bits < bits_of m
-  unfolding label_bits_of
-  label_fits m m_is =
-      subst (λ k. at / 2 % bits < bits_of k) (sym m_is)
-      (subst (λ b. at / 2 % b < bits_of (modulation_of rate)) (sym bits_is) (label_within rate job at some_bits within))
-
-  pub half_is : (made : JobView) (m : Modulation) (number : ℕ) → m ≡ modulation_of rate
-      → made ≡ half_of m (1 + at / 2 / bits) (at / 2 % bits) (at % 2 == 1) number job
-      → Some made ≡ option_map (with_number number) (slice_get (halves_of_data rate job) at)
-  half_is made m number m_is made_is =
-      let in_words : (k : Modulation) (b : ℕ) → JobView = λ k b. half_of k (1 + at / 2 / b) (at / 2 % b) (at % 2 == 1) number job in
-      ap Some (made_is ∙ (ap (λ k. in_words k bits) m_is ∙ ap (λ b. in_words (modulation_of rate) b) bits_is))
-      ∙ (renumbered (modulation_of rate) job (1 + at / 2 / label_bits_of rate) (at / 2 % label_bits_of rate) number (at % 2 == 1)
-      ∙ ap (option_map (with_number number)) (sym (get_half rate job at some_bits within)))
+-- the grid of a half has as many streams as its job
+pub half_long : (rate : Rate) (job : JobView) (at : ℕ) (grid : List Axes) → job.grid ≡ grid_of rate → grid ≡ half_grid_at rate at → length grid ≡ length job.grid
+half_long rate job at grid full is =
+    let bits = label_bits_of rate in
+    let long : List Axes → ℕ = λ g. length g in
+    ap long is
+    ∙ (length-set (grid_of rate) (1 + at / 2 / bits - 1) (half_axes (modulation_of rate) (at / 2 % bits) (at % 2 == 1)) ∙ ap long (sym full))
 
 pub grid_long : (rate : Rate) (grid : List Axes) → grid ≡ grid_of rate → length grid ≡ streams_of rate
 unfolding grid_of

@@ -9,7 +9,8 @@ use Rattle.ht_metric.specs.declared.found.Found.{Found}
 use Rattle.ht_feed.proofs.Detecting.{found_next}
 use Rattle.ht_soft_blocks.specs.declared.turn.Turn.{Turn}
 use Rattle.ht_soft_blocks.specs.Blocks.{IsSpot, IsStart, some_halves}
-use Rattle.ht_soft_blocks.specs.Halved.{halves_of, halves_of_all, with_number}
+use Rattle.ht_soft_blocks.specs.Halved.{halves_of, halves_of_all}
+use Rattle.ht_feed.specs.Numbers.{with_number}
 use Rattle.ht_soft_blocks.specs.Turns.{IsTurn}
 use Rattle.ht_soft_blocks.proofs.Lists.{same_some}
 use Rattle.ht_soft_blocks.proofs.Parts.{get_half}

@@ -16,10 +16,12 @@ use Rattle.ht_feed.specs.Items.{Item, Begins, One, Numbered}
 use Rattle.ht_feed.specs.Reading.{Completes, CountsBlock, CountsHead, Halts, view}
 use Rattle.ht_capture_blocks.specs.Captures.{capture_at, capture_counts, capture_means}
 use Rattle.ht_soft_blocks.specs.Blocks.{AreOfRate}
-use Rattle.ht_soft_blocks.specs.Halved.{halves_of_all, in_halves, numbered_items, numbered_jobs}
+use Rattle.ht_soft_blocks.specs.Halved.{halves_of_all, in_halves, numbered_items}
+use Rattle.ht_feed.specs.Numbers.{numbered}
 use Rattle.ht_soft_blocks.specs.Readers.{AreOfRates, HalvesView, IsSoundReader, kept_of, soft_at, soft_counts, soft_means, soft_more}
 use Rattle.ht_soft_blocks.proofs.Items.{halves_first, rates_first}
-use Rattle.ht_soft_blocks.proofs.Numbering.{are_numbered, behind_numbered, front_numbered, items_numbered, length_numbered}
+use Rattle.ht_soft_blocks.proofs.Numbering.{behind_numbered, front_numbered, items_numbered}
+use Rattle.ht_feed.proofs.Numbering.{are_numbered, length_numbered}
 
 abbrev pub seen : HalvesView → Device ℕ → ReaderView (Item FrameHead)
 seen = view soft_means soft_at
@@ -144,7 +146,7 @@ module _ (it : HalvesView) (none : it.kept ≡ []) (source : Device ℕ) where
         let bound = sound.bound in
         omega (arith, fits, bound)
 
-    module _ (kept : List JobView) (is : kept ≡ numbered_jobs it.given (halves_of_all it.head.rate jobs)) (few : length kept ≤ 48 * length jobs) where
+    module _ (kept : List JobView) (is : kept ≡ numbered it.given (halves_of_all it.head.rate jobs)) (few : length kept ≤ 48 * length jobs) where
       abbrev pub filled : HalvesView
       filled = record it { reader = reader; kept = kept }
 

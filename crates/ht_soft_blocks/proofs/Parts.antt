@@ -7,11 +7,13 @@ use Rattle.ht_rate.specs.declared.rates.Rate.{Rate}
 use Rattle.ht_metric.specs.Jobs.{JobView}
 use Rattle.ht_metric.specs.declared.place.Place.{Place}
 use Rattle.ht_soft_blocks.specs.Blocks.{IsSpot, some_halves}
-use Rattle.ht_soft_blocks.specs.Halved.{halves_of, halves_of_all, numbered_jobs, with_number}
+use Rattle.ht_soft_blocks.specs.Halved.{halves_of, halves_of_all}
+use Rattle.ht_feed.specs.Numbers.{numbered, with_number}
 use Rattle.ht_soft_blocks.proofs.Lists.{all_get, get_drop, get_some, get_take}
 use Rattle.ht_soft_blocks.proofs.Counting.{all_placed}
 use Rattle.ht_soft_blocks.proofs.Spots.{in_job, small}
-use Rattle.ht_soft_blocks.proofs.Numbering.{drop_numbered, get_numbered, length_numbered, take_numbered}
+use Rattle.ht_soft_blocks.proofs.Numbering.{drop_numbered, take_numbered}
+use Rattle.ht_feed.proofs.Numbering.{get_numbered, length_numbered}
 
 module _ (rate : Rate) (jobs : List JobView) (first count number : ℕ) where
   pub length_some : first + count ≤ length (halves_of_all rate jobs) → length (some_halves rate jobs first count number) ≡ count
@@ -30,7 +32,7 @@ module _ (rate : Rate) (jobs : List JobView) (first count number : ℕ) where
   pub first_halves : (k : ℕ) → k ≤ count → some_halves rate jobs first k number ≡ take k (some_halves rate jobs first count number)
   first_halves k few =
       let halves = drop first (halves_of_all rate jobs) in
-      ap (numbered_jobs number) (sym (take-take k count halves few)) ∙ take_numbered number k (take count halves)
+      ap (numbered number) (sym (take-take k count halves few)) ∙ take_numbered number k (take count halves)
 
   pub other_halves : (k : ℕ) → k ≤ count
       → some_halves rate jobs (first + k) (count - k) (number + k) ≡ drop k (some_halves rate jobs first count number)
@@ -38,15 +40,15 @@ module _ (rate : Rate) (jobs : List JobView) (first count number : ℕ) where
       let split : k + (count - k) ≡ count = omega (arith, few) in
       let halves = halves_of_all rate jobs in
       let moved : drop k (drop first halves) ≡ drop (first + k) halves = drop-drop k first halves in
-      ap (λ xs. numbered_jobs (number + k) (take (count - k) xs)) (sym moved)
-      ∙ (ap (numbered_jobs (number + k)) (sym (drop-take k (count - k) (drop first halves)) ∙ ap (λ n. drop k (take n (drop first halves))) split)
+      ap (λ xs. numbered (number + k) (take (count - k) xs)) (sym moved)
+      ∙ (ap (numbered (number + k)) (sym (drop-take k (count - k) (drop first halves)) ∙ ap (λ n. drop k (take n (drop first halves))) split)
       ∙ drop_numbered number k (take count (drop first halves)))
 
 -- all of them
 pub all_halves : (rate : Rate) (jobs : List JobView) (count number : ℕ) → count ≡ length (halves_of_all rate jobs)
-    → some_halves rate jobs 0 count number ≡ numbered_jobs number (halves_of_all rate jobs)
+    → some_halves rate jobs 0 count number ≡ numbered number (halves_of_all rate jobs)
 all_halves rate jobs count number is =
-    ap (numbered_jobs number) (ap (λ n. take n (halves_of_all rate jobs)) is ∙ take-length (halves_of_all rate jobs))
+    ap (numbered number) (ap (λ n. take n (halves_of_all rate jobs)) is ∙ take-length (halves_of_all rate jobs))
 
 -- a half has the place of the job that it is of
 pub place_is : (rate : Rate) (jobs : List JobView) (first count number at k start : ℕ) (place : Place) → at < count → IsSpot rate jobs (first + at) k start

@@ -1,15 +1,19 @@
 -- Some of the halves of a block's jobs.
-use Rattle.std.specs.Prelude.{◌≡◌, ◌≢◌, ◌==◌, ℕ, ◌+◌, ◌*◌, ◌^◌, ◌<◌, ◌≤◌, Bool, true, false, if◌then◌else◌, List, length, take, drop, slice_get, Some}
+use Rattle.std.specs.Prelude.{◌≡◌, ◌≢◌, ◌==◌, ℕ, ◌+◌, ◌*◌, ◌/◌, ◌%◌, ◌^◌, ◌<◌, ◌≤◌, Bool, true, false, if◌then◌else◌, List, length, take, drop, slice_get, Some}
 use Rattle.std.specs.Int.{bit_at}
 use Rattle.std.specs.List.{AllByRecursion}
 use Rattle.ht_rate.specs.declared.rates.Rate.{Rate}
 use Rattle.ht_rate.specs.declared.kinds.Carrier.{Carrier}
 use Rattle.ht_rate.specs.declared.kinds.Carrier.TheVariants.{Data, Pilot}
 use Rattle.ht_rate.specs.Carriers.{carrier_of}
-use Rattle.ht_rate.specs.Rates.{carriers_of, label_bits_of, streams_of}
+use Rattle.ht_rate.specs.Rates.{carriers_of, label_bits_of, modulation_of, streams_of}
+use Rattle.ht_pam.specs.declared.axes.Axes.{Axes}
+use Rattle.ht_map.specs.Constellation.{grid_of}
 use Rattle.ht_metric.specs.Jobs.{JobView}
 use Rattle.ht_capture.specs.Frames.{grid_at}
-use Rattle.ht_soft_blocks.specs.Halved.{halves_of, halves_of_all, numbered_jobs}
+use Rattle.ht_soft.specs.Halves.{half_grid_of}
+use Rattle.ht_soft_blocks.specs.Halved.{halves_of, halves_of_all}
+use Rattle.ht_feed.specs.Numbers.{numbered}
 
 -- a job on a subcarrier of this rate, with the grid of its place
 pub record IsOfRate (rate : Rate) (job : JobView) : Type 0 where
@@ -32,6 +36,17 @@ ArePilots rate jobs pilots = (k : ℕ) (job : JobView) → slice_get jobs k ≡ 
 abbrev pub IsLone : ℕ → ℕ → Type 0
 IsLone word place = (k : ℕ) → k ≢ place → bit_at word k ≡ 0
 
+-- the grid of the half of a data subcarrier's job that has this number of others before it
+abbrev pub half_grid_at : Rate → ℕ → List Axes
+half_grid_at rate at =
+    let bits = label_bits_of rate in
+    half_grid_of (modulation_of rate) (1 + at / 2 / bits) (at / 2 % bits) (at % 2 == 1) (grid_of rate)
+
+-- the grids of all halves of such a job, in their order
+pub record AreHalfGrids (rate : Rate) (grids : List (List Axes)) : Type 0 where
+  pub count : length grids ≡ 2 * streams_of rate * label_bits_of rate
+  pub are : (at : ℕ) (grid : List Axes) → slice_get grids at ≡ Some grid → grid ≡ half_grid_at rate at
+
 -- how many halves a job has: a pilot's is alone
 abbrev pub count_by_kind : Bool → ℕ → ℕ
 count_by_kind pilot of_data = if pilot then 1 else of_data
@@ -44,7 +59,7 @@ pub record AreCounts (rate : Rate) (jobs : List JobView) (pilots of_data : ℕ) 
 
 -- this many of the halves of some jobs, behind the first ones, numbered from a number on
 abbrev pub some_halves : Rate → List JobView → ℕ → ℕ → ℕ → List JobView
-some_halves rate jobs first count number = numbered_jobs number (take count (drop first (halves_of_all rate jobs)))
+some_halves rate jobs first count number = numbered number (take count (drop first (halves_of_all rate jobs)))
 
 -- they are among the halves, at least one, and their numbers fit
 pub record AreSomeHalves (rate : Rate) (jobs : List JobView) (pilots of_data first count number : ℕ) : Type 0 where

@@ -12,6 +12,7 @@ use Rattle.ht_rate.specs.Rates.{label_bits_of, modulation_of, streams_of}
 use Rattle.ht_metric.specs.Jobs.{JobView}
 use Rattle.ht_capture.specs.declared.items.FrameHead.{FrameHead}
 use Rattle.ht_feed.specs.Items.{Item, Begins, One}
+use Rattle.ht_feed.specs.Numbers.{with_number}
 use Rattle.ht_soft.specs.Halves.{half_of}
 
 -- the two halves of a label bit, under the job's own number
@@ -43,15 +44,7 @@ in_halves head [] = []
 in_halves head (Begins next ∷ items) = Begins next ∷ in_halves next items
 in_halves head (One job ∷ items) = map One (halves_of head.rate job) ++ in_halves head items
 
--- the same job with another number
-abbrev pub with_number : ℕ → JobView → JobView
-with_number n job = record { number = n; place = job.place; grid = job.grid; system = job.system }
-
--- jobs numbered from this number on, and items with their jobs numbered so
-abbrev pub numbered_jobs : ℕ → List JobView → List JobView
-numbered_jobs n [] = []
-numbered_jobs n (job ∷ jobs) = with_number n job ∷ numbered_jobs (n + 1) jobs
-
+-- items with their jobs numbered from this number on
 abbrev pub numbered_items : ℕ → List (Item FrameHead) → List (Item FrameHead)
 numbered_items n [] = []
 numbered_items n (Begins head ∷ items) = Begins head ∷ numbered_items n items

@@ -3,10 +3,12 @@ ghost use Rattle.std.specs.Prelude.{◌≡◌, ◌+◌, ◌*◌, ◌^◌, ◌<�
 ghost use Rattle.ht_capture.specs.Parts.{jobs_of};
 ghost use Rattle.ht_feed.specs.Dues.{AreHits};
 ghost use Rattle.ht_soft_blocks.specs.Blocks.{AreOfRate};
-ghost use Rattle.ht_soft_blocks.specs.Halved.{halves_of_all, numbered_jobs};
+ghost use Rattle.ht_soft_blocks.specs.Halved.{halves_of_all};
+ghost use Rattle.ht_feed.specs.Numbers.{numbered};
 
+use crate::counts::Counts;
 use crate::finding::hits_of_halves;
-use crate::halves::{Counts, count_in, half_of_job, spot_of};
+use crate::halves::{count_in, half_of_job, spot_of};
 use ht_capture_blocks::CaptureBlock;
 use ht_feed::{Finder, Hits, Jobs, Shared};
 use ht_metric::{Job, Place};
@@ -49,7 +51,7 @@ impl HalvesBlock {
         requires rates { AreOfRate rate (jobs_of block.block) }
         requires some { 1 ≤ length (jobs_of block.block) }
         requires numbers { number + 48 * length (jobs_of block.block) < 2 ^ 64 }
-        ensures all { result ≡ numbered_jobs number (halves_of_all rate (jobs_of block.block)) }
+        ensures all { result ≡ numbered number (halves_of_all rate (jobs_of block.block)) }
         ensures few { length result ≤ 48 * length (jobs_of block.block) }
     {
         let counts = Counts::of(&block, &rate);

@@ -6,7 +6,9 @@ ghost use Rattle.ht_soft_blocks.specs.Blocks.{AreCounts, AreSomeHalves, IsStart,
 ghost use Rattle.ht_soft_blocks.specs.Halved.{halves_of_all};
 ghost use Rattle.ht_soft_blocks.specs.Turns.{IsTurn};
 
-use crate::halves::{Counts, half_of_job, spot_of};
+use crate::counts::Counts;
+use crate::half_grids::HalfGrids;
+use crate::halves::spot_of;
 use crate::turn::Turn;
 use ht_capture_blocks::CaptureBlock;
 use ht_feed::{Finder, Hits, Jobs};
@@ -66,13 +68,13 @@ pub(crate) fn hits_of_halves<F: Finder>(
     ensures { IfOk result (λ hits. AreHits hits.found.items (some_halves rate.now (jobs_of block.now.block) first count number)) }
 {
     let mut found = Vec::with_capacity(alloc, usize::from(count))?;
+    let grids = HalfGrids::of(alloc, rate)?;
     let spot = spot_of(block, rate, counts, first);
     let mut turn = turn_of(block, rate, counts, spot.job, spot.start);
     for at in 0..count {
         let behind = first + at;
         go_on(block, rate, counts, behind, &mut turn);
-        let half = half_of_job(
-            rate,
+        let half = grids.half(
             &turn.job,
             turn.pilot,
             behind - turn.start,

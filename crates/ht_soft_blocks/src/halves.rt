@@ -1,113 +1,25 @@
 //! The halves of the jobs of a block.
-ghost use Rattle.std.specs.Prelude.{◌≡◌, ◌≢◌, ◌==◌, ℕ, ◌*◌, ◌^◌, ◌<◌, ◌≤◌, Some, length, slice_get, option_map, IsTrue};
-ghost use Rattle.std.specs.Int.{bit_at};
+ghost use Rattle.std.specs.Prelude.{◌≡◌, ◌*◌, ◌^◌, ◌<◌, ◌≤◌, Some, length, slice_get, option_map};
 ghost use Rattle.ht_rate.specs.Carriers.{carrier_of};
-ghost use Rattle.ht_rate.specs.Rates.{carriers_of};
 ghost use Rattle.ht_map.specs.Constellation.{grid_of};
 ghost use Rattle.ht_capture.specs.Parts.{jobs_of};
-ghost use Rattle.ht_soft_blocks.specs.Blocks.{AreCounts, AreOfRate, ArePilots, IsLone, IsOfRate, IsSpot, count_by_kind, is_pilot};
-ghost use Rattle.ht_soft_blocks.specs.Halved.{halves_of, halves_of_all, halves_of_data, with_number};
+ghost use Rattle.ht_soft_blocks.specs.Blocks.{AreCounts, IsLone, IsOfRate, IsSpot, is_pilot};
+ghost use Rattle.ht_soft_blocks.specs.Halved.{halves_of, halves_of_all, halves_of_data};
+ghost use Rattle.ht_feed.specs.Numbers.{with_number};
 
+use crate::counts::Counts;
+use crate::side::Side;
 use ht_capture_blocks::CaptureBlock;
 use ht_feed::Jobs;
 use ht_metric::Job;
-use ht_rate::{Carrier, Rate};
+use ht_rate::Rate;
 use ht_soft::half;
-
-/// How many halves each job of a block has.
-#[derive(Clone, Copy, Debug)]
-pub(crate) struct Counts {
-    // Bit k is set where job k is on a pilot, which stays as it is.
-    pub pilots: u128,
-    // How many halves each other job has.
-    pub of_data: u16,
-}
 
 /// Where a half stands: at a job of a block, of which the first half has `start` others before it.
 #[derive(Clone, Copy, Debug)]
 pub(crate) struct Spot {
     pub job: u16,
     pub start: u16,
-}
-
-// Whether the bit of a place is set.
-fn is_set(word: u128, place: u16) -> bool
-    requires { place < 128 }
-    ensures { result ≡ (bit_at word place == 1) }
-{
-    (word >> place) & 1 == 1
-}
-
-// The word with the bit of a place, where it was not set.
-fn with_bit(word: u128, place: u16, bit: bool) -> u128
-    requires place { place < 128 }
-    requires fresh { bit_at word place ≡ 0 }
-    ensures here { (bit_at result place == 1) ≡ bit }
-    ensures others { (k : ℕ) → k ≢ place → bit_at result k ≡ bit_at word k }
-{
-    if bit { word | (1 << place) } else { word }
-}
-
-// Whether no other bit is set than that of a place.
-fn is_lone(word: u128, place: u16) -> bool
-    requires { place < 128 }
-    ensures { IsTrue result → IsLone word place }
-{
-    word == 0 || word == with_bit(0, place, true)
-}
-
-// Whether the subcarrier of this index is a pilot.
-fn is_pilot(rate: &Rate, carrier: u8) -> bool
-    requires { carrier < carriers_of rate.now }
-    ensures { result ≡ is_pilot (carrier_of rate.now carrier) }
-{
-    match rate.carrier(carrier) {
-        Carrier::Data(_) => false,
-        Carrier::Pilot(_) => true,
-    }
-}
-
-// Which of a block's jobs are on pilots.
-fn pilots_in(block: &CaptureBlock, rate: &Rate) -> u128
-    requires rates { AreOfRate rate.now (jobs_of block.now.block) }
-    ensures alone { ArePilots rate.now (jobs_of block.now.block) result }
-    ensures few { length (jobs_of block.now.block) ≤ 114 }
-{
-    let mut pilots = 0;
-    for at in 0..block.block.size() {
-        let bit = is_pilot(rate, block.place_at(at).carrier);
-        pilots = with_bit(pilots, at, bit);
-    }
-    pilots
-}
-
-impl Counts {
-    /// The counts of a block of a frame of this rate.
-    pub fn of(block: &CaptureBlock, rate: &Rate) -> Counts
-        requires { AreOfRate rate.now (jobs_of block.now.block) }
-        ensures { AreCounts rate.now (jobs_of block.now.block) result.pilots result.of_data }
-    {
-        Counts {
-            pilots: pilots_in(block, rate),
-            of_data: 2 * u16::from(rate.streams()) * u16::from(rate.label_bits()),
-        }
-    }
-
-    /// Whether the job that has `at` others before it is on a pilot.
-    pub fn is_pilot(self, at: u16) -> bool
-        requires { at < 128 }
-        ensures { result ≡ (bit_at self.pilots at == 1) }
-    {
-        is_set(self.pilots, at)
-    }
-
-    /// The number of halves of the job that has `at` others before it.
-    pub fn at(self, at: u16) -> u16
-        requires { at < 128 }
-        ensures { result ≡ count_by_kind (bit_at self.pilots at == 1) self.of_data }
-    {
-        if self.is_pilot(at) { 1 } else { self.of_data }
-    }
 }
 
 /// The number of halves of all jobs of a block.
@@ -163,8 +75,7 @@ pub(crate) fn spot_of(block: &CaptureBlock, rate: &Rate, counts: Counts, at: u16
     requires few { length (halves_of_all rate.now (jobs_of block.now.block)) < 2 ^ 16 }
     ensures { IsSpot rate.now (jobs_of block.now.block) at result.job result.start }
 {
-    let pilot = counts.pilots.trailing_zeros().min(127) as u16;
-    if is_lone(counts.pilots, pilot) {
+    if let Some(pilot) = counts.lone {
         return spot_beside(block, rate, counts, pilot, at);
     }
     let mut start = 0;
@@ -184,15 +95,14 @@ fn data_half(rate: &Rate, job: &Job, at: u16, number: u64) -> Job
     requires within { at < length (halves_of_data rate.now job.now) }
     ensures { Some result ≡ option_map (with_number number) (slice_get (halves_of_data rate.now job.now) at) }
 {
-    let bits = u16::from(rate.label_bits());
-    let bit = at / 2;
+    let side = Side::of(rate, at);
     half(
         rate.modulation(),
         job,
         number,
-        1 + (bit / bits) as u8,
-        (bit % bits) as u8,
-        at % 2 == 1,
+        side.stream,
+        side.bit,
+        side.value,
     )
 }
 

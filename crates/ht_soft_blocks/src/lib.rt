@@ -13,9 +13,12 @@
 #![tactic(auto)]
 
 mod block;
+mod counts;
 mod finding;
+mod half_grids;
 mod halves;
 mod reader;
+mod side;
 #[cfg(test)]
 mod tests;
 mod turn;

@@ -11,6 +11,7 @@ ghost use Rattle.ht_soft_blocks.specs.Halved.{halved};
 ghost use Rattle.ht_soft_blocks.specs.Readers.{soft_at, soft_counts, soft_means, soft_more};
 
 use crate::block::HalvesBlock;
+use crate::counts::halves_of_data;
 use ht_capture::FrameHead;
 use ht_capture_blocks::CaptureReader;
 use ht_feed::{BlockReader, Came};
@@ -53,8 +54,7 @@ const JOBS: u16 = 16;
 fn jobs_for(rate: &Rate, most: u16) -> u16
     ensures some { 1 ≤ result }
 {
-    let halves = 2 * u16::from(rate.streams()) * u16::from(rate.label_bits());
-    (most / halves).clamp(1, JOBS)
+    (most / halves_of_data(rate)).clamp(1, JOBS)
 }
 
 impl HalvesReader {

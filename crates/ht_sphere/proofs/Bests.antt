@@ -10,9 +10,9 @@ use Rattle.std.proofs.lemmas.Bool.Decides.{nat_tests}
 use Rattle.std.proofs.lemmas.Int.{ints}
 use Rattle.std.proofs.lemmas.List.{drop-set, drop-drop}
 use Rattle.std.proofs.Math.Nat.{mul-le-mul}
-use Rattle.ht_pam.specs.Ladders.{levels, IsLadder}
+use Rattle.ht_pam.specs.Ladders.{Rungs, levels, IsLadder}
 use Rattle.ht_pam.proofs.Tables.{levels_some}
-use Rattle.ht_pam.specs.Zigzags.{gap, From, Ascending}
+use Rattle.ht_pam.specs.Zigzags.{gap, nearest_first, From, Ascending}
 use Rattle.ht_pam.proofs.ZigzagLemmas.{ascending, length-nearest_first}
 use Rattle.ht_metric.specs.Vectors.{levels_before}
 use Rattle.ht_sphere.specs.Coordinates.{Real, cost, order, cost_at, order_at}
@@ -205,8 +205,11 @@ pub sorted : (c : Real) (t : ℤ) → Ascending (cost_at c t) (order_at c t)
 sorted c t = ascending_squared t c (order_at c t) (ascending (gap t c.diagonal) (levels c.ladder))
 
 -- there is a level
+pub walk_some : (l : Rungs) (f : ℤ → ℕ) → IsLadder l → 0 < length (nearest_first f (levels l))
+walk_some l f ladder = omega (arith, length-nearest_first f (levels l), levels_some l ladder)
+
 pub order_some : (c : Real) (t : ℤ) → IsLadder c.ladder → 0 < length (order_at c t)
-order_some c t ladder = omega (arith, length-nearest_first (gap t c.diagonal) (levels c.ladder), levels_some c.ladder ladder)
+order_some c t ladder = walk_some c.ladder (gap t c.diagonal) ladder
 
 pub still_at : (xs ys : List ℤ) (at place size : ℕ) (x y : ℤ) → at < length xs → at ≡ place
     → at + 1 ≡ size → drop place ys ≡ drop place (set xs at y) → drop size ys ≡ drop size xs

@@ -6,5 +6,6 @@ pub mod Making
 pub mod Values
 pub mod Heard
 pub mod Down
+pub mod Margins
 pub mod Others
 pub mod Steps

@@ -1,77 +1,14 @@
 -- What the vectors cost that successive rounding leaves out.
-use Rattle.std.proofs.Common.{◌≡◌, ◌⊎◌, ℕ, zero, suc, ◌+◌, ◌-◌, ◌*◌, ◌<◌, ◌≤◌, ℤ, pos, ◌+ℤ◌, ◌-ℤ◌, ◌*ℤ◌, List, [], ◌∷◌}
-use Rattle.std.proofs.Common.{◌++◌, get_or, Bool, true, false, unsigned_abs, arith, inl, inr, refl, ap, sym, ◌∙◌, subst}
-use Rattle.std.specs.Prelude.{◌==◌, if◌then◌else◌, nat_lt}
-use Rattle.std.specs.Int.{bit_at}
-use Rattle.std.specs.Int.Signed.{◌<ℤ◌, ◌≤ℤ◌}
-use Rattle.std.proofs.Math.Nat.{mul-le-mul}
-use Rattle.std.proofs.lemmas.Bool.{cases_lt}
+use Rattle.std.proofs.Common.{◌≡◌, ◌⊎◌, ℕ, ◌+◌, ◌-◌, ◌<◌, ◌≤◌, ℤ, List, [], ◌∷◌, get_or, pos, false, arith, inl, inr, refl, ap, sym, ◌∙◌, subst}
+use Rattle.std.specs.Prelude.{nat_lt}
 use Rattle.std.proofs.lemmas.Bool.Decides.{nat_tests}
-use Rattle.std.proofs.lemmas.Int.{ints}
 use Rattle.ht_nearest.proofs.Bests as bests
-use Rattle.ht_pam.specs.Ladders.{Rungs, level, lowest, levels}
-use Rattle.ht_pam.specs.Zigzags.{gap}
-use Rattle.ht_pam.proofs.EndLemmas.{times_less}
-use Rattle.ht_sphere.specs.Coordinates.{Real, target, cost, order}
+use Rattle.ht_sphere.specs.Coordinates.{Real, target, cost, cost_at, order, order_at, first_of, IsMargin}
 use Rattle.ht_sphere.specs.Tree.{Reached, rounding, inside}
 use Rattle.ht_sphere.specs.Searching.{leaves, leaves_by, better, Among, IsBestOf}
-use Rattle.ht_sphere.proofs.Bests.{among-append, leaves-le, better-self, farther}
-use Rattle.ht_sphere.proofs.Paths.{in_order}
-
--- an allowed level is the level at a place
-in_both : (xs : List ℤ) (y x : ℤ) → bests.Among (xs ++ y ∷ []) x → bests.Among xs x ⊎ (x ≡ y)
-in_both [] y x g = elim g [ inl e ↦ inr (sym e) | inr none ↦ absurd none ]
-in_both (z ∷ zs) y x g = elim g [ inl e ↦ inl (inl e) | inr rest ↦ elim (in_both zs y x rest) [ inl there ↦ inl (inr there) | inr e ↦ inr e ] ]
-
-in_one_more : (b : Bool) (xs : List ℤ) (y x : ℤ) → bests.Among (if b then xs ++ y ∷ [] else xs) x → bests.Among xs x ⊎ (x ≡ y)
-in_one_more true xs y x g = in_both xs y x g
-in_one_more false xs y x g = inl g
-
-in_lowest : (l : Rungs) (j : ℕ) (x : ℤ) → bests.Among (lowest l j) x → (i : ℕ) × (x ≡ level l.size i)
-in_lowest l zero x h = absurd h
-in_lowest l (suc j) x h = elim (in_one_more (bit_at l.mask j == 1) (lowest l j) (level l.size j) x h) [
-  | inl there ↦ in_lowest l j x there
-  | inr e ↦ (j, e)
-]
-
--- two levels of a ladder are the same, or two apart
-two_apart : (size i j : ℕ) (x y : ℤ) → x ≡ level size i → y ≡ level size j → (x ≡ y) ⊎ (((x +ℤ pos 1) <ℤ y) ⊎ ((y +ℤ pos 1) <ℤ x))
-two_apart size i j x y e f = elim (cases_lt i j) [
-  | inl less ↦ inr (inl (omega (arith, ints)))
-  | inr more ↦ elim (cases_lt j i) [
-    | inl less ↦ inr (inr (omega (arith, ints)))
-    | inr same ↦ let s : i ≡ j = omega arith in inl (e ∙ ap (level size) s ∙ sym f)
-  ]
-]
-
--- so one of them is far where the other one is near
-far_up : (t : ℤ) (d : ℕ) (x y : ℤ) → (x +ℤ pos 1) <ℤ y → 2 * d - gap t d x ≤ gap t d y
-far_up t d x y h =
-    let a = times_less d x (x +ℤ pos 1) (omega (arith, ints)) in
-    let b = times_less d (x +ℤ pos 1) y h in
-    apart t d (pos d *ℤ x) (pos d *ℤ y) (omega (arith, ints))
-  where
-    apart : (t : ℤ) (d : ℕ) (a b : ℤ) → (a +ℤ pos (2 * d)) ≤ℤ b → 2 * d - unsigned_abs (t -ℤ a) ≤ unsigned_abs (t -ℤ b)
-    apart t d a b h = omega (arith, ints)
-
-far_down : (t : ℤ) (d : ℕ) (x y : ℤ) → (y +ℤ pos 1) <ℤ x → 2 * d - gap t d x ≤ gap t d y
-far_down t d x y h = let e = far_up t d y x h in omega arith
-
-pub least_of_others : (c : Real) (s : List ℤ) (x y : ℤ) → bests.Among (order c s) x → bests.Among (order c s) y
-    → (x ≡ y) ⊎ ((2 * c.diagonal - gap (target c s) c.diagonal x) * (2 * c.diagonal - gap (target c s) c.diagonal x) ≤ cost c s y)
-least_of_others c s x y h g =
-    let t = target c s in
-    let d = c.diagonal in
-    let l = c.ladder in
-    let a = in_lowest l l.size x (in_order (gap t d) (levels l) x h) in
-    let b = in_lowest l l.size y (in_order (gap t d) (levels l) y g) in
-    elim (two_apart l.size a.0 b.0 x y a.1 b.1) [
-      | inl e ↦ inl e
-      | inr rest ↦ elim rest [
-        | inl up ↦ let e = far_up t d x y up in inr (mul-le-mul e e)
-        | inr below ↦ let e = far_down t d x y below in inr (mul-le-mul e e)
-      ]
-    ]
+use Rattle.ht_sphere.proofs.Bests.{among-append, leaves-le, better-self, farther, sorted}
+use Rattle.ht_sphere.proofs.Paths.{tried_has}
+use Rattle.ht_sphere.proofs.Margins.{least_first}
 
 -- a leaf is under one of the levels
 under_one : (cs : List Real) (c : Real) (s : List ℤ) (p : ℕ) (v : Reached) (xs : List ℤ)
@@ -86,16 +23,23 @@ under_one cs c s p v (x ∷ xs) h = elim (among-append (leaves cs (x ∷ s) (p +
 abbrev pub OthersFrom : List Real → List ℤ → ℕ → Reached → ℕ → Type 0
 OthersFrom cs s p w off = (v : Reached) → Among (leaves cs s p) v → (v ≡ w) ⊎ (off ≤ v.1)
 
-pub others_more : (c : Real) (cs : List Real) (s : List ℤ) (p off : ℕ) (x : ℤ) (w : Reached) → bests.Among (order c s) x
-    → off ≤ p + (2 * c.diagonal - gap (target c s) c.diagonal x) * (2 * c.diagonal - gap (target c s) c.diagonal x)
-    → OthersFrom cs (x ∷ s) (p + cost c s x) w off → OthersFrom (c ∷ cs) s p w off
-others_more c cs s p off x w among least rest v h =
+-- who leaves the way at a coordinate is farther by its margin
+others_more : (c : Real) (cs : List Real) (s : List ℤ) (p n m off : ℕ) (x : ℤ) (w : Reached) → IsMargin c.ladder (target c s) c.diagonal x m
+    → n ≡ p + cost c s x → off ≤ n + m → OthersFrom cs (x ∷ s) n w off → OthersFrom (c ∷ cs) s p w off
+others_more c cs s p n m off x w margin sum far others v h =
     let r = under_one cs c s p v (order c s) h in
     let y = r.0 in
-    elim (least_of_others c s x y among r.1) [
-      | inl e ↦ rest v (subst (λ (z : ℤ). Among (leaves cs (z ∷ s) (p + cost c s z)) v) (sym e) r.2)
-      | inr far ↦ let le = leaves-le cs (y ∷ s) (p + cost c s y) v r.2 in inr (omega arith)
+    elim (margin y (tried_has c s y r.1)) [
+      | inl e ↦ others v (subst (λ (k : ℕ). Among (leaves cs (x ∷ s) k) v) (sym sum) (subst (λ (z : ℤ). Among (leaves cs (z ∷ s) (p + cost c s z)) v) e r.2))
+      | inr more ↦ let le = leaves-le cs (y ∷ s) (p + cost c s y) v r.2 in inr (omega arith)
     ]
+
+-- who has another Q has the same targets of I, and costs there at least what the nearest level costs
+nearest_at : (i : Real) (s : List ℤ) (t : ℤ) (y u : ℤ) → t ≡ target i s → y ≡ first_of i.ladder t i.diagonal → bests.Among (order i s) u
+    → cost_at i t y ≤ cost i s u
+nearest_at i s t y u e f h =
+    subst (λ (z : ℤ). cost_at i t z ≤ cost i s u) (sym f)
+    (subst (λ (r : ℤ). bests.Among (order_at i r) u → cost_at i t (first_of i.ladder t i.diagonal) ≤ cost_at i r u) e (least_first (cost_at i t) (order_at i t) u (sorted i t)) h)
 
 pub others_none : (s : List ℤ) (p off : ℕ) → OthersFrom [] s p (s, p) off
 others_none s p off v h = elim h [ inl e ↦ inl e | inr none ↦ absurd none ]
@@ -111,24 +55,45 @@ alone cs s p off w others less = record {
   ];
 }
 
--- two coordinates of successive rounding
-pub round_two : (q i : Real) (rest : List Real) (s : List ℤ) (p m n : ℕ) (x y : ℤ) (w : Reached) → x ≡ get_or (order q s) 0 (pos 0) → m ≡ p + cost q s x
-    → y ≡ get_or (order i (x ∷ s)) 0 (pos 0) → n ≡ m + cost i (x ∷ s) y → rounding rest (y ∷ x ∷ s) n ≡ w → rounding (q ∷ i ∷ rest) s p ≡ w
-round_two q i rest s p m n x y w e f g h r =
-    ap (λ (z : ℤ). rounding (i ∷ rest) (z ∷ s) (p + cost q s z)) (sym e)
-    ∙ ap (λ (k : ℕ). rounding (i ∷ rest) (x ∷ s) k) (sym f)
-    ∙ ap (λ (z : ℤ). rounding rest (z ∷ x ∷ s) (m + cost i (x ∷ s) z)) (sym g)
-    ∙ ap (λ (k : ℕ). rounding rest (y ∷ x ∷ s) k) (sym h) ∙ r
+-- the nearest levels x and y of a stream's Q and I, with the distance n and the margins a and b: whatever Q is, t is the target of I
+pub record AreChosen (q i : Real) (s : List ℤ) (p n a b : ℕ) (x y t : ℤ) : Type 0 where
+  pub sum : n ≡ p + (cost q s x + cost_at i t y)
+  pub same : (z : ℤ) → t ≡ target i (z ∷ s)
+  pub first_q : x ≡ first_of q.ladder (target q s) q.diagonal
+  pub first_i : y ≡ first_of i.ladder t i.diagonal
+  pub margin_q : IsMargin q.ladder (target q s) q.diagonal x a
+  pub margin_i : IsMargin i.ladder t i.diagonal y b
 
-pub others_two : (q i : Real) (rest : List Real) (s : List ℤ) (p m n off : ℕ) (x y : ℤ) (w : Reached) → bests.Among (order q s) x → m ≡ p + cost q s x
-    → bests.Among (order i (x ∷ s)) y → n ≡ m + cost i (x ∷ s) y
-    → off ≤ p + (2 * q.diagonal - gap (target q s) q.diagonal x) * (2 * q.diagonal - gap (target q s) q.diagonal x)
-    → off ≤ m + (2 * i.diagonal - gap (target i (x ∷ s)) i.diagonal y) * (2 * i.diagonal - gap (target i (x ∷ s)) i.diagonal y)
-    → OthersFrom rest (y ∷ x ∷ s) n w off → OthersFrom (q ∷ i ∷ rest) s p w off
-others_two q i rest s p m n off x y w e f g h a b r =
-    others_more q (i ∷ rest) s p off x w e a
-    (subst (λ (k : ℕ). OthersFrom (i ∷ rest) (x ∷ s) k w off) f
-    (others_more i rest (x ∷ s) m off y w g b (subst (λ (k : ℕ). OthersFrom rest (y ∷ x ∷ s) k w off) h r)))
+-- two coordinates of successive rounding
+pub round_two : (q i : Real) (rest : List Real) (s : List ℤ) (p n a b : ℕ) (x y t : ℤ) (w : Reached) → AreChosen q i s p n a b x y t
+    → rounding rest (y ∷ x ∷ s) n ≡ w → rounding (q ∷ i ∷ rest) s p ≡ w
+round_two q i rest s p n a b x y t w both r =
+    let costs : cost_at i t y ≡ cost i (x ∷ s) y = ap (λ (z : ℤ). cost_at i z y) (both.same x) in
+    let all : n ≡ p + cost q s x + cost i (x ∷ s) y = omega (arith, both.sum, costs) in
+    let first : y ≡ get_or (order i (x ∷ s)) 0 (pos 0) = both.first_i ∙ ap (λ (z : ℤ). first_of i.ladder z i.diagonal) (both.same x) in
+    ap (λ (z : ℤ). rounding (i ∷ rest) (z ∷ s) (p + cost q s z)) (sym both.first_q)
+    ∙ ap (λ (z : ℤ). rounding rest (z ∷ x ∷ s) (p + cost q s x + cost i (x ∷ s) z)) (sym first)
+    ∙ ap (λ (k : ℕ). rounding rest (y ∷ x ∷ s) k) (sym all) ∙ r
+
+pub others_two : (q i : Real) (rest : List Real) (s : List ℤ) (p n a b off : ℕ) (x y t : ℤ) (w : Reached) → AreChosen q i s p n a b x y t
+    → off ≤ n + a → off ≤ n + b → OthersFrom rest (y ∷ x ∷ s) n w off → OthersFrom (q ∷ i ∷ rest) s p w off
+others_two q i rest s p n a b off x y t w both far_q far_i others v h =
+    let at_q = under_one (i ∷ rest) q s p v (order q s) h in
+    let z = at_q.0 in
+    elim (both.margin_q z (tried_has q s z at_q.1)) [
+      | inl e ↦
+          let margin : IsMargin i.ladder (target i (x ∷ s)) i.diagonal y b = subst (λ (r : ℤ). IsMargin i.ladder r i.diagonal y b) (both.same x) both.margin_i in
+          let costs : cost_at i t y ≡ cost i (x ∷ s) y = ap (λ (r : ℤ). cost_at i r y) (both.same x) in
+          others_more i rest (x ∷ s) (p + cost q s x) n b off y w margin (omega (arith, both.sum, costs)) far_i others v
+          (subst (λ (r : ℤ). Among (leaves (i ∷ rest) (r ∷ s) (p + cost q s r)) v) e at_q.2)
+      | inr more ↦
+          let m = p + cost q s z in
+          let at_i = under_one rest i (z ∷ s) m v (order i (z ∷ s)) at_q.2 in
+          let u = at_i.0 in
+          let least = nearest_at i (z ∷ s) t y u (both.same z) both.first_i at_i.1 in
+          let le = leaves-le rest (u ∷ z ∷ s) (m + cost i (z ∷ s) u) v at_i.2 in
+          inr (omega (arith, both.sum, more, least, le, far_q))
+    ]
 
 -- the root is inside
 root : (rho : ℕ) → nat_lt rho 0 ≡ false

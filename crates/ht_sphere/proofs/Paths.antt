@@ -5,7 +5,7 @@ use Rattle.std.specs.Ordering.{int_eq}
 use Rattle.std.proofs.lemmas.Bool.{cases_lt, or_cases, or_left, or_right, both_ways}
 use Rattle.std.proofs.lemmas.Bool.Decides.{Decides-int_eq}
 use Rattle.ht_nearest.proofs.Bests as bests
-use Rattle.ht_pam.specs.Ladders.{IsLadder, levels, has}
+use Rattle.ht_pam.specs.Ladders.{IsLadder, Rungs, levels, has}
 use Rattle.ht_pam.specs.Zigzags.{gap, put, nearest_first}
 use Rattle.ht_pam.proofs.ZigzagLemmas.{put_behind, put_before}
 use Rattle.ht_sphere.specs.Coordinates.{Real, target, cost, order}
@@ -57,11 +57,17 @@ in_list x (y ∷ ys) h = elim h [
 ]
 
 -- the levels that are tried are the allowed ones
+pub sorted_has : (l : Rungs) (f : ℤ → ℕ) (x : ℤ) → bests.Among (nearest_first f (levels l)) x → has l x ≡ true
+sorted_has l f x h = in_list x (levels l) (in_order f (levels l) x h)
+
+pub has_sorted : (l : Rungs) (f : ℤ → ℕ) (x : ℤ) → has l x ≡ true → bests.Among (nearest_first f (levels l)) x
+has_sorted l f x h = among_order f (levels l) x (among_list x (levels l) h)
+
 pub tried_has : (c : Real) (s : List ℤ) (x : ℤ) → bests.Among (order c s) x → has c.ladder x ≡ true
-tried_has c s x h = in_list x (levels c.ladder) (in_order (gap (target c s) c.diagonal) (levels c.ladder) x h)
+tried_has c s x h = sorted_has c.ladder (gap (target c s) c.diagonal) x h
 
 pub has_tried : (c : Real) (s : List ℤ) (x : ℤ) → has c.ladder x ≡ true → bests.Among (order c s) x
-has_tried c s x h = among_order (gap (target c s) c.diagonal) (levels c.ladder) x (among_list x (levels c.ladder) h)
+has_tried c s x h = has_sorted c.ladder (gap (target c s) c.diagonal) x h
 
 -- a way from a node down to a leaf
 abbrev pub Path : List Real → List ℤ → ℕ → Reached → Type 0

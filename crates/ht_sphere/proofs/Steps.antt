@@ -2,13 +2,11 @@
 use Rattle.std.proofs.Common.{◌≡◌, ℕ, ◌+◌, ◌-◌, ◌*◌, ◌<◌, ◌≤◌, ℤ, pos, ◌-ℤ◌, ◌*ℤ◌, List, ◌∷◌, length, drop, set, get_or, arith, ap, sym, ◌∙◌, subst}
 use Rattle.std.proofs.lemmas.List.{drop-set}
 use Rattle.std.proofs.Math.ListN.{length-set}
-use Rattle.ht_nearest.proofs.Bests as bests
-use Rattle.ht_pam.specs.Ladders.{IsLadder}
-use Rattle.ht_pam.specs.Zigzags.{gap}
+use Rattle.ht_pam.specs.Ladders.{Rungs}
 use Rattle.ht_metric.specs.Distance.{square}
-use Rattle.ht_sphere.specs.Coordinates.{Real, target, cost, order, order_at}
-use Rattle.ht_sphere.proofs.Bests.{order_some}
-use Rattle.ht_sphere.proofs.Paths.{first_among}
+use Rattle.ht_sphere.specs.Coordinates.{Real, target, cost, cost_at, first_of, IsMargin}
+use Rattle.ht_sphere.proofs.Margins.{squares}
+use Rattle.ht_sphere.proofs.Others.{AreChosen}
 
 -- both levels of a stream are written
 pub two_set : (xs : List ℤ) (k at : ℕ) (a b x y : ℤ) → at + 2 ≡ 2 * k → at + 2 ≤ length xs → a ≡ x → b ≡ y
@@ -23,27 +21,34 @@ two_set xs k at a b x y here room e f =
     ∙ ap (λ (z : ℤ). z ∷ a ∷ drop (2 * k) xs) f ∙ ap (λ (z : ℤ). y ∷ z ∷ drop (2 * k) xs) e
 
 -- what was passed to a sum of costs
+cost_at_is : (c : Real) (d : ℕ) (u t x z : ℤ) → d ≡ c.diagonal → u ≡ t → z ≡ x → square (u -ℤ (pos d *ℤ z)) ≡ cost_at c t x
+cost_at_is c d u t x z e f g = ap (λ (n : ℕ). square (u -ℤ (pos n *ℤ z))) e ∙ squares c.diagonal u t z x f g
+
 pub cost_is : (c : Real) (s : List ℤ) (d : ℕ) (u x z : ℤ) → d ≡ c.diagonal → u ≡ target c s → z ≡ x → square (u -ℤ (pos d *ℤ z)) ≡ cost c s x
-cost_is c s d u x z e f g =
-    ap (λ (n : ℕ). square (u -ℤ (pos n *ℤ z))) e ∙ ap (λ (t : ℤ). square (t -ℤ (pos c.diagonal *ℤ z))) f
-    ∙ ap (λ (y : ℤ). square (target c s -ℤ (pos c.diagonal *ℤ y))) g
+cost_is c s d u x z e f g = cost_at_is c d u (target c s) x z e f g
 
-abbrev pub other : ℤ → ℕ → ℤ → ℕ
-other t d x = (2 * d - gap t d x) * (2 * d - gap t d x)
+-- what a look at a ladder tells of a coordinate
+first_is : (c : Real) (l : Rungs) (d : ℕ) (u t : ℤ) → l ≡ c.ladder → d ≡ c.diagonal → u ≡ t → first_of l u d ≡ first_of c.ladder t c.diagonal
+first_is c l d u t e f g =
+    ap (λ (k : Rungs). first_of k u d) e ∙ ap (λ (n : ℕ). first_of c.ladder u n) f ∙ ap (λ (r : ℤ). first_of c.ladder r c.diagonal) g
 
-pub others_is : (c : Real) (s : List ℤ) (d : ℕ) (u x z : ℤ) (p off : ℕ) → d ≡ c.diagonal
-    → u ≡ target c s → z ≡ x → off ≤ p + other u d z → off ≤ p + other (target c s) c.diagonal x
-others_is c s d u x z p off e f g h =
-    let same : other u d z ≡ other (target c s) c.diagonal x =
-    ap (λ (n : ℕ). other u n z) e ∙ ap (λ (t : ℤ). other t c.diagonal z) f ∙ ap (λ (y : ℤ). other (target c s) c.diagonal y) g in
-    subst (λ (n : ℕ). off ≤ p + n) same h
+margin_is : (c : Real) (l : Rungs) (d m : ℕ) (u t x : ℤ) → l ≡ c.ladder → d ≡ c.diagonal → u ≡ t → IsMargin l u d x m → IsMargin c.ladder t c.diagonal x m
+margin_is c l d m u t x e f g margin =
+    subst (λ (k : Rungs). IsMargin k t c.diagonal x m) e
+    (subst (λ (n : ℕ). IsMargin l t n x m) f (subst (λ (r : ℤ). IsMargin l r d x m) g margin))
 
--- the first level of an order
-pub first_at : (c : Real) (s : List ℤ) (u : ℤ) → u ≡ target c s → get_or (order_at c u) 0 (pos 0) ≡ get_or (order c s) 0 (pos 0)
-first_at c s u f = ap (λ (t : ℤ). get_or (order_at c t) 0 (pos 0)) f
-
-pub first_is : (c : Real) (s : List ℤ) (x : ℤ) → IsLadder c.ladder → x ≡ get_or (order c s) 0 (pos 0) → bests.Among (order c s) x
-first_is c s x ladder e = subst (bests.Among (order c s)) (sym e) (first_among (order c s) (order_some c (target c s) ladder))
+-- both looks at a stream
+pub chosen : (q i : Real) (s : List ℤ) (p d a b m n more : ℕ) (u v t x y z w : ℤ) (l k : Rungs) → l ≡ q.ladder → k ≡ i.ladder → d ≡ q.diagonal → d ≡ i.diagonal
+    → u ≡ target q s → v ≡ t → ((r : ℤ) → t ≡ target i (r ∷ s)) → z ≡ x → w ≡ y → x ≡ first_of l u d → y ≡ first_of k v d
+    → IsMargin l u d x a → IsMargin k v d y b → m ≡ square (u -ℤ (pos d *ℤ z)) → n ≡ square (v -ℤ (pos d *ℤ w)) → more ≡ m + n → AreChosen q i s p (p + more) a b x y t
+chosen q i s p d a b m n more u v t x y z w l k of_q of_i d_q d_i at_q at_i same is_x is_y first_q first_i more_q more_i cost_q cost_i both = record {
+  sum = ap (λ (j : ℕ). p + j) (both ∙ ap (λ (j : ℕ). j + n) (cost_q ∙ cost_is q s d u x z d_q at_q is_x) ∙ ap (λ (j : ℕ). cost q s x + j) (cost_i ∙ cost_at_is i d v t y w d_i at_i is_y));
+  same = same;
+  first_q = first_q ∙ first_is q l d u (target q s) of_q d_q at_q;
+  first_i = first_i ∙ first_is i k d v t of_i d_i at_i;
+  margin_q = margin_is q l d a u (target q s) x of_q d_q at_q more_q;
+  margin_i = margin_is i k d b v t y of_i d_i at_i more_i;
+}
 
 -- one level is written
 pub one_set : (xs : List ℤ) (at place size : ℕ) (a x : ℤ) {s : List ℤ} → at < length xs

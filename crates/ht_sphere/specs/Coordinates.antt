@@ -1,6 +1,6 @@
 -- A system of complex rows as one of real coordinates: I and Q of each stream.
-use Rattle.std.specs.Prelude.{ℕ, zero, suc, ◌-◌, ℤ, pos, ◌+ℤ◌, ◌-ℤ◌, ◌*ℤ◌, List, [], ◌∷◌, ◌++◌, length, drop, slice_index_or}
-use Rattle.ht_pam.specs.Ladders.{Rungs, levels}
+use Rattle.std.specs.Prelude.{◌≡◌, ◌⊎◌, ◌≤◌, true, ℕ, zero, suc, ◌+◌, ◌-◌, ℤ, pos, ◌+ℤ◌, ◌-ℤ◌, ◌*ℤ◌, List, [], ◌∷◌, ◌++◌, length, drop, slice_index_or}
+use Rattle.ht_pam.specs.Ladders.{Rungs, levels, has}
 use Rattle.ht_pam.specs.Grids.{no_axes}
 use Rattle.ht_pam.specs.Zigzags.{gap, nearest_first}
 use Rattle.ht_pam.specs.declared.axes.Axes.{Axes}
@@ -33,6 +33,14 @@ order_at c t = nearest_first (gap t c.diagonal) (levels c.ladder)
 -- the square of what a level leaves of a target
 abbrev pub cost_at : Real → ℤ → ℤ → ℕ
 cost_at c t x = square (t -ℤ (pos c.diagonal *ℤ x))
+
+-- the first level of a ladder: the nearest to a target, and the lower one at a tie
+abbrev pub first_of : Rungs → ℤ → ℕ → ℤ
+first_of l t d = slice_index_or (nearest_first (gap t d) (levels l)) 0 (pos 0)
+
+-- each other level of a ladder costs more than this one, by so much at least
+abbrev pub IsMargin : Rungs → ℤ → ℕ → ℤ → ℕ → Type 0
+IsMargin l t d x m = (y : ℤ) → has l y ≡ true → (y ≡ x) ⊎ (square (t -ℤ (pos d *ℤ x)) + m ≤ square (t -ℤ (pos d *ℤ y)))
 
 -- the same behind chosen levels
 abbrev pub order : Real → List ℤ → List ℤ

@@ -1,11 +1,12 @@
 //! The sphere detector.
-ghost use Rattle.std.specs.Prelude.{◌≡◌, ◌<◌, ◌≤◌, ◌+◌, ◌*◌, ◌^◌, [], length, unsigned_abs};
+ghost use Rattle.std.specs.Prelude.{◌≡◌, ◌<◌, ◌≤◌, ◌+◌, ◌*◌, ◌^◌, [], true, length, unsigned_abs};
 ghost use Rattle.std.specs.List.{All};
-ghost use Rattle.ht_metric.specs.Jobs.{near, IsNear};
+ghost use Rattle.ht_metric.specs.Jobs.{near, IsJob, IsNear};
 ghost use Rattle.ht_sphere.specs.Coordinates.{from_last, points_from};
 ghost use Rattle.ht_sphere.specs.Tree.{rounding, inside, inside_of};
 ghost use Rattle.ht_sphere.specs.Searching.{leaves, IsBestOf};
 
+use crate::look::{AtOne, AtTwo, Look};
 use crate::round::round;
 use crate::search::search;
 use crate::vectors::vector_of;
@@ -25,9 +26,10 @@ pub fn nearest<L: Ledger>(job: &Job, steps: &mut Steps<L>) -> Hit
     ensures near { near job.now ≡ record { vector = result.vector; distance = result.distance } }
     ensures steps { steps.new ≤ steps.old + 2 * inside_of job.now }
 {
+    let streams = job.system().streams();
     let mut levels = [0i8; 8];
-    let levels = &mut levels[..2 * usize::from(job.system().streams())];
-    let distance = best_levels(job, levels, steps);
+    let levels = &mut levels[..2 * usize::from(streams)];
+    let distance = best_levels(job, streams, levels, steps);
     let vector = vector_of(levels);
     Hit {
         job: job.copy(),
@@ -58,9 +60,26 @@ pub fn find<L: Ledger>(job: &Job, steps: &mut Steps<L>) -> Found
     ensures bound { result.distance < 2 ^ 66 }
     ensures steps { steps.new ≤ steps.old + 2 * inside_of job.now }
 {
+    match job.system().streams() {
+        1 => found(job, 1, steps),
+        streams => found(job, streams, steps),
+    }
+}
+
+// The same for a job of so many streams. Each caller has a copy of it, so that a count that is written there, as 1
+// above, leaves no loop over streams.
+#[inline(always)]
+fn found<L: Ledger>(job: &Job, streams: u8, steps: &mut Steps<L>) -> Found
+    requires job { IsJob job.now }
+    requires streams { streams ≡ length job.now.system }
+    ensures found { result ≡ near job.now }
+    ensures near { IsNear job.now result.vector }
+    ensures bound { result.distance < 2 ^ 66 }
+    ensures steps { steps.new ≤ steps.old + 2 * inside_of job.now }
+{
     let mut levels = [0i8; 8];
-    let levels = &mut levels[..2 * usize::from(job.system().streams())];
-    let distance = best_levels(job, levels, steps);
+    let levels = &mut levels[..2 * usize::from(streams)];
+    let distance = best_levels(job, streams, levels, steps);
     Found {
         vector: vector_of(levels),
         distance,
@@ -68,9 +87,12 @@ pub fn find<L: Ledger>(job: &Job, steps: &mut Steps<L>) -> Found
 }
 
 // The levels of the best vector, and its distance. Successive rounding comes first, and ends the search where no other
-// vector can be as near. Each caller has a copy of it, without a call.
+// vector can be as near. For one stream a second look tells all but ties; for several it would leave too many to the
+// search. Each caller has a copy of it, without a call.
 #[inline(always)]
-fn best_levels<L: Ledger>(job: &Job, levels: &mut [i8], steps: &mut Steps<L>) -> u128
+fn best_levels<L: Ledger>(job: &Job, streams: u8, levels: &mut [i8], steps: &mut Steps<L>) -> u128
+    requires job { IsJob job.now }
+    requires streams { streams ≡ length job.now.system }
     requires room { length levels.old ≡ 2 * length job.now.system }
     requires levels { All (λ x. unsigned_abs x ≤ 7) levels.old }
     ensures room { length levels.new ≡ length levels.old }
@@ -78,19 +100,48 @@ fn best_levels<L: Ledger>(job: &Job, levels: &mut [i8], steps: &mut Steps<L>) ->
     ensures bound { result < 2 ^ 66 }
     ensures steps { steps.new + 1 ≤ steps.old + 2 * inside_of job.now }
 {
+    let first = rounded::<AtOne>(job, streams, levels);
+    if first.is_alone {
+        return first.distance;
+    }
+    if streams > 1 {
+        return better(job, levels, first.distance, steps);
+    }
+    let second = rounded::<AtTwo>(job, streams, levels);
+    if second.is_alone {
+        return second.distance;
+    }
+    better(job, levels, second.distance, steps)
+}
+
+// The distance of successive rounding, and whether no other vector is as near, as far as a look can tell.
+#[derive(Clone, Copy)]
+struct Rounding {
+    distance: u128,
+    is_alone: bool,
+}
+
+// Successive rounding of all coordinates. Each caller has a copy of it, without a call.
+#[inline(always)]
+fn rounded<A: Look>(job: &Job, streams: u8, levels: &mut [i8]) -> Rounding
+    requires job { IsJob job.now }
+    requires streams { streams ≡ length job.now.system }
+    requires room { length levels.old ≡ 2 * length job.now.system }
+    requires levels { All (λ x. unsigned_abs x ≤ 7) levels.old }
+    ensures room { length levels.new ≡ length levels.old }
+    ensures levels { All (λ x. unsigned_abs x ≤ 7) levels.new }
+    ensures found { rounding (from_last job.now.system job.now.grid) [] 0 ≡ (levels.new, result.distance) }
+    ensures alone { result.is_alone ≡ true
+        → IsBestOf (levels.new, result.distance) (leaves (from_last job.now.system job.now.grid) [] 0) (levels.new, result.distance) }
+    ensures bound { result.distance < 2 ^ 66 }
+{
     let mut distance = 0u128;
     let mut spare = u64::MAX;
-    round(
-        job,
-        job.system().streams(),
-        levels,
-        &mut distance,
-        &mut spare,
-    );
-    if spare > 0 {
-        return distance;
+    round::<A>(job, streams, levels, &mut distance, &mut spare);
+    Rounding {
+        distance,
+        is_alone: spare > 0,
     }
-    better(job, levels, distance, steps)
 }
 
 // The best of a vector and all others, and its distance.

@@ -16,6 +16,7 @@
 #![tactic(auto)]
 
 mod detector;
+mod look;
 pub mod remainder;
 mod round;
 mod search;

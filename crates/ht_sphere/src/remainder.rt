@@ -1,5 +1,5 @@
 //! What is left of a row of a system.
-ghost use Rattle.std.specs.Prelude.{◌≡◌, ◌≤◌, ◌+◌, ◌-◌, ◌*◌, ◌^◌, ◌-ℤ◌, ◌*ℤ◌, pos, ℤ, ◌∷◌, length, drop, slice_index_or, unsigned_abs};
+ghost use Rattle.std.specs.Prelude.{◌≡◌, ◌≤◌, ◌+◌, ◌-◌, ◌*◌, ◌^◌, ◌-ℤ◌, ◌*ℤ◌, pos, ℤ, ◌∷◌, length, drop, unsigned_abs};
 ghost use Rattle.std.specs.List.{All};
 ghost use Rattle.ht_pam.specs.Ladders.{IsLadder};
 ghost use Rattle.ht_pam.specs.Zigzags.{gap};
@@ -37,31 +37,6 @@ pub fn remainder_of(job: &Job, k: u8, levels: &[i8]) -> Remainder
         im: left.im,
         d: job.system().diagonal(k),
     }
-}
-
-// The level of Q of stream k that is nearest, and that of I.
-pub(crate) fn nearest_q(job: &Job, k: u8, t: i64) -> i8
-    requires first { 1 ≤ k }
-    requires last { k ≤ length job.now.system }
-    requires target { unsigned_abs t ≤ 2 ^ 31 + 2 ^ 21 }
-    ensures value { result ≡ slice_index_or (order_at (q_at job.now.system job.now.grid (k - 1)) t) 0 (pos 0) }
-    ensures level { unsigned_abs result ≤ 7 }
-    ensures ladder { IsLadder (q_at job.now.system job.now.grid (k - 1)).ladder }
-{
-    let d = u32::from(job.system().diagonal(k));
-    job.grid().q_ladder(k).nearest(t, d)
-}
-
-pub(crate) fn nearest_i(job: &Job, k: u8, t: i64) -> i8
-    requires first { 1 ≤ k }
-    requires last { k ≤ length job.now.system }
-    requires target { unsigned_abs t ≤ 2 ^ 31 + 2 ^ 21 }
-    ensures value { result ≡ slice_index_or (order_at (i_at job.now.system job.now.grid (k - 1)) t) 0 (pos 0) }
-    ensures level { unsigned_abs result ≤ 7 }
-    ensures ladder { IsLadder (i_at job.now.system job.now.grid (k - 1)).ladder }
-{
-    let d = u32::from(job.system().diagonal(k));
-    job.grid().i_ladder(k).nearest(t, d)
 }
 
 // The levels of Q of stream k, nearest first.
@@ -131,13 +106,14 @@ pub fn cost(d: u16, target: i64, level: i8) -> u64
     squared(distance(d, target, level))
 }
 
-// At most the cost of each level but this one: two levels are twice the diagonal apart.
-pub(crate) fn cost_of_others(d: u16, target: i64, level: i8) -> u64
+// At most what each other level costs more than the nearest one, g from the target: two levels are 2d apart, and
+// (2d - g)^2 is g^2 + 4d(d - g).
+pub(crate) fn margin_of_lattice(d: u16, target: i64, level: i8) -> u64
     requires target { unsigned_abs target ≤ 2 ^ 31 + 2 ^ 21 }
     requires level { unsigned_abs level ≤ 7 }
-    ensures { result ≡ (2 * d - gap target d level) * (2 * d - gap target d level) }
+    ensures { result ≡ 4 * d * (d - gap target d level) }
 {
-    squared((2 * u64::from(d)).saturating_sub(distance(d, target, level)))
+    4 * u64::from(d) * u64::from(d).saturating_sub(distance(d, target, level))
 }
 
 // How far a level, times the diagonal, is from the target.

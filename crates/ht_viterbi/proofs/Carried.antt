@@ -40,7 +40,7 @@ ceiling rows (suc n) from within =
     let next : from + suc n ≡ from + 1 + n = omega arith in
     let same = ap (λ (at : ℕ). least_from (steps_at rows at) 0) next in
     let above = ceiling rows n (from + 1) (omega arith) in
-    let grows = (first-grows (steps_at rows (from + 1)) (row_costs (slice_index rows from))
+    let grows = (first-grows 2 (steps_at rows (from + 1)) (row_costs (slice_index rows from))
     (hard-light (pair_of_number (slice_index rows from)), light-steps rows (from + 1))).0 in
     let here = ap (λ (ps : List StepCosts). least_from ps 0) (steps-cons rows from (omega arith)) in
     omega (arith, same, above, grows, here)
@@ -55,5 +55,5 @@ stretched rows from to order within =
     let up = ceiling rows n from (omega arith) in
     let same = ap (λ (at : ℕ). least_from (steps_at rows at) 0) there in
     let low : (s : ℕ) → s < 64 → least_from (steps_at rows to) 0 ≤ least_from (steps_at rows (from + n)) s + 12 =
-    λ s lt. let at = ap (λ (k : ℕ). least_from (steps_at rows k) s) there in omega (arith, at, spread (steps_at rows to) 0 s (light-steps rows to) (omega arith) lt) in
+    λ s lt. let at = ap (λ (k : ℕ). least_from (steps_at rows k) s) there in omega (arith, at, spread 2 (steps_at rows to) 0 s (light-steps rows to) (omega arith) lt) in
     (omega (arith, up, same), floor rows (least_from (steps_at rows to) 0) n from (omega arith) low 0 (omega arith))

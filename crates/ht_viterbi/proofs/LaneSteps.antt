@@ -33,7 +33,7 @@ ahead-number a d u v r x y s t e f g h i few = omega arith
 abbrev pub IsAhead : List ℕ → (ℕ → ℕ) → StepCosts → Type 0
 IsAhead ahead table pair = HasLanes ahead (λ k. (way table pair k true % 256 + (256 - way table pair k false % 256)) % 256)
 
-pub ahead-lanes : (costs upper apart spread more ahead : List ℕ) (table : ℕ → ℕ) (pair : StepCosts) → IsLight pair → HasLanes costs (λ k. table k % 256)
+pub ahead-lanes : (costs upper apart spread more ahead : List ℕ) (table : ℕ → ℕ) (pair : StepCosts) → IsLight 2 pair → HasLanes costs (λ k. table k % 256)
     → HasLanes upper (λ k. slice_index costs (k % 32 + 32)) → HasLanes apart (λ k. (slice_index upper k + (256 - slice_index costs k)) % 256)
     → HasLanes spread (λ k. slice_index apart (k / 2)) → HasLanes more (rise pair)
     → HasLanes ahead (λ k. (slice_index spread k + slice_index more k) % 256) → IsAhead ahead table pair
@@ -58,12 +58,16 @@ below d a b e near less = omega arith
 above : (d a b : ℕ) → d ≡ (a % 256 + (256 - b % 256)) % 256 → a < b + 128 → b ≤ a → d < 128
 above d a b e near more = omega arith
 
+-- a difference that comes to the half of its range exactly where the first number is the lesser
+pub sign-by : (half d a b : ℕ) → (a < b → half ≤ d) → (b ≤ a → d < half) → nat_le half d ≡ nat_lt a b
+sign-by half d a b low high = elim (cases_lt a b) [
+  | inl less ↦ le-leb half d (low less) ∙ sym (lt-ltb a b less)
+  | inr more ↦ lt-leb half d (high more) ∙ sym (le-ltb a b more)
+]
+
 -- the difference of two close numbers, modulo 256, has its highest bit where the first is the lesser
 sign : (d a b : ℕ) → d ≡ (a % 256 + (256 - b % 256)) % 256 → (b < a + 128) × (a < b + 128) → nat_le 128 d ≡ nat_lt a b
-sign d a b e close = elim (cases_lt a b) [
-  | inl less ↦ le-leb 128 d (below d a b e close.0 less) ∙ sym (lt-ltb a b less)
-  | inr more ↦ lt-leb 128 d (above d a b e close.1 more) ∙ sym (le-ltb a b more)
-]
+sign d a b e close = sign-by 128 d a b (below d a b e close.0) (above d a b e close.1)
 
 sign-lanes : (ahead : List ℕ) (table : ℕ → ℕ) (pair : StepCosts) → IsAhead ahead table pair → IsClose table pair
     → (k : ℕ) → k < 64 → nat_le 128 (slice_index ahead k) ≡ chosen true (way table pair k false) (way table pair k true)

@@ -4,9 +4,11 @@ pub mod Sending
 pub mod Steps
 pub mod Orders
 pub mod LaneFacts
-pub mod WideFacts
+pub mod CostLanes
 pub mod LaneSteps
 pub mod Spread
+pub mod Found
+pub mod Raised
 pub mod Values
 pub mod Enumerating
 pub mod RowFacts

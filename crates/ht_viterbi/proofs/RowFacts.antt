@@ -75,33 +75,33 @@ place-light (Some false) true = omega arith
 place-light (Some true) false = omega arith
 place-light (Some true) true = omega arith
 
-pub hard-light : (pair : StepPlaces) → IsLight (hard_costs pair)
+pub hard-light : (pair : StepPlaces) → IsLight 2 (hard_costs pair)
 unfolding branch_cost
 hard-light pair state bit = omega (arith, place-light pair.0 (output_a state bit), place-light pair.1 (output_b state bit))
 
-pub light-rows : (rows : List ℕ) → AreLight (map row_costs rows)
+pub light-rows : (rows : List ℕ) → AreLight 2 (map row_costs rows)
 light-rows [] = tt
 light-rows (row ∷ rows) = (hard-light (pair_of_number row), light-rows rows)
 
-pub light-steps : (rows : List ℕ) (at : ℕ) → AreLight (steps_at rows at)
+pub light-steps : (rows : List ℕ) (at : ℕ) → AreLight 2 (steps_at rows at)
 unfolding steps_at
 light-steps rows at = light-rows (drop at rows)
 
 -- what a step's places cost, by what is known of them
-cost-there : (received : List (Option Bool)) (n : ℕ)
-    → slice_index_or (map (costs_of place_cost) received) n free_bit ≡ costs_of place_cost (slice_index_or received n None)
-cost-there [] n = refl
-cost-there (place ∷ received) zero = refl
-cost-there (place ∷ received) (suc n) = cost-there received n
+pub cost-there : {P : Type 0} (cost : P → Bool → ℕ) (none : P) → costs_of cost none ≡ free_bit → (received : List P) (n : ℕ)
+    → slice_index_or (map (costs_of cost) received) n free_bit ≡ costs_of cost (slice_index_or received n none)
+cost-there cost none free [] n = sym free
+cost-there cost none free (place ∷ received) zero = refl
+cost-there cost none free (place ∷ received) (suc n) = cost-there cost none free received n
 
 pair-costs : (kept : Kept) (received : List (Option Bool)) (start : ℕ)
     → hard_costs (pair_of None kept received start) ≡ pair_of free_bit kept (map (costs_of place_cost) received) start
 pair-costs Both received start =
     let costs = map (costs_of place_cost) received in
-    sym (ap (λ (a : BitCosts). (a, slice_index_or costs (start + 1) free_bit)) (cost-there received start)
-    ∙ ap (λ (b : BitCosts). (costs_of place_cost (slice_index_or received start None), b)) (cost-there received (start + 1)))
-pair-costs A received start = sym (ap (λ (a : BitCosts). (a, free_bit)) (cost-there received start))
-pair-costs B received start = sym (ap (λ (b : BitCosts). (free_bit, b)) (cost-there received start))
+    sym (ap (λ (a : BitCosts). (a, slice_index_or costs (start + 1) free_bit)) (cost-there place_cost None refl received start)
+    ∙ ap (λ (b : BitCosts). (costs_of place_cost (slice_index_or received start None), b)) (cost-there place_cost None refl received (start + 1)))
+pair-costs A received start = sym (ap (λ (a : BitCosts). (a, free_bit)) (cost-there place_cost None refl received start))
+pair-costs B received start = sym (ap (λ (b : BitCosts). (free_bit, b)) (cost-there place_cost None refl received start))
 
 -- the rows of a word's steps stand for what they cost
 pub rows-steps : (pattern : Pattern) (received : List (Option Bool)) (step count : ℕ) (rows : List ℕ) → length rows ≡ count

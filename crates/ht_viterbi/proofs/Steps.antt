@@ -1,5 +1,5 @@
 -- One step of the plain decoder, state by state.
-use Rattle.std.proofs.Common.{◌≡◌, ◌↔◌, ℕ, zero, suc, ◌+◌, ◌-◌, ◌^◌, ◌<◌, ◌≤◌, List, [], ◌∷◌, ◌++◌, Bool, true, false, length}
+use Rattle.std.proofs.Common.{◌≡◌, ◌↔◌, ℕ, zero, suc, ◌+◌, ◌-◌, ◌*◌, ◌<◌, ◌≤◌, List, [], ◌∷◌, ◌++◌, Bool, true, false, length}
 use Rattle.std.proofs.Common.{take, drop, set, get_or, slice_index, replicate, nat_lt, refl, ap, sym, ◌∙◌, subst, arith, add-one, append_assoc, ◌==◌}
 use Rattle.std.specs.Int.{bit_at}
 use Rattle.std.proofs.Math.Seq.{drop-cons, take-append_seam}
@@ -25,15 +25,15 @@ moved-lt k true p = omega arith
 pub way-same : (f g : ℕ → ℕ) → ((k : ℕ) → k < 64 → f k ≡ g k) → (pair : StepCosts) (k : ℕ) (bit : Bool) → k < 64 → way f pair k bit ≡ way g pair k bit
 way-same f g same pair k bit p = ap (λ n. branch_cost pair k bit + n) (same (moved k bit) (moved-lt k bit p))
 
--- what a step costs where each of its bits costs less than 2^32
-pub branch-few : (a b : BitCosts) → ((bit : Bool) → bit_cost a bit ≤ 2 ^ 32) → ((bit : Bool) → bit_cost b bit ≤ 2 ^ 32)
-    → (state : ℕ) (bit : Bool) → branch_cost (a, b) state bit ≤ 2 ^ 33
+-- what a step costs where each of its bits costs at most so much
+pub branch-few : (most : ℕ) (a b : BitCosts) → ((bit : Bool) → bit_cost a bit ≤ most) → ((bit : Bool) → bit_cost b bit ≤ most)
+    → (state : ℕ) (bit : Bool) → branch_cost (a, b) state bit ≤ 2 * most
 unfolding branch_cost
-branch-few a b few_a few_b state bit = omega (arith, few_a (output_a state bit), few_b (output_b state bit))
+branch-few most a b few_a few_b state bit = omega (arith, few_a (output_a state bit), few_b (output_b state bit))
 
-pub free-few : (bit : Bool) → bit_cost free_bit bit ≤ 2 ^ 32
-free-few false = omega arith
-free-few true = omega arith
+pub free-few : (most : ℕ) (bit : Bool) → bit_cost free_bit bit ≤ most
+free-few most false = omega arith
+free-few most true = omega arith
 
 lesser-le : (free : Bool) (a b m : ℕ) → a ≤ m → b ≤ m → lesser free a b ≤ m
 lesser-le false a b m p q = p

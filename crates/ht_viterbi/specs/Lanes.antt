@@ -1,5 +1,5 @@
--- The costs of the 64 states as octets, in the lanes of a vector.
-use Rattle.std.specs.Prelude.{◌≡◌, ℕ, zero, suc, ◌+◌, ◌-◌, ◌*◌, ◌/◌, ◌%◌, ◌<◌, ◌≤◌, List, [], Bool, true, false, Option, Some, None}
+-- The costs of the 64 states in the lanes of a vector, as octets or as they are.
+use Rattle.std.specs.Prelude.{◌≡◌, ℕ, ℤ, pos, unsigned_abs, zero, suc, ◌+◌, ◌-◌, ◌*◌, ◌/◌, ◌%◌, ◌<◌, ◌≤◌, List, [], ◌∷◌, Bool, true, false, Option, Some, None}
 use Rattle.std.specs.Prelude.{drop, length, map, slice_index, slice_index_or}
 use Rattle.ht_rate.specs.declared.kinds.Pattern.{Pattern}
 use Rattle.ht_viterbi.specs.Inputs.{place_cost}
@@ -55,9 +55,22 @@ rise step state = (branch_cost step state true + (256 - branch_cost step state f
 abbrev pub HoldsRows : List (List ℕ) → (StepCosts → ℕ → ℕ) → Type 0
 HoldsRows table value = (pair : StepPlaces) → HasLanes (slice_index_or table (number_of_pair pair) []) (value (hard_costs pair))
 
--- a step that costs at most 2
-abbrev pub IsLight : StepCosts → Type 0
-IsLight step = (state : ℕ) (bit : Bool) → branch_cost step state bit ≤ 2
+-- a step that costs at most so much
+abbrev pub IsLight : ℕ → StepCosts → Type 0
+IsLight most step = (state : ℕ) (bit : Bool) → branch_cost step state bit ≤ most
+
+-- the size of the heaviest weights whose costs lanes of 32 bits hold
+abbrev pub heaviest : ℕ
+heaviest = 65535
+
+-- weights of at most this size
+abbrev pub AreWithin : ℕ → List ℤ → Type 0
+AreWithin most weights = (k : ℕ) → unsigned_abs (slice_index_or weights k (pos 0)) ≤ most
+
+-- what the coded bits of a step cost as 00, 01, 10 and 11
+abbrev pub pair_costs_of : StepCosts → List ℕ
+pair_costs_of step =
+    (step.0.zero + step.1.zero) ∷ (step.0.zero + step.1.one) ∷ (step.0.one + step.1.zero) ∷ (step.0.one + step.1.one) ∷ []
 
 -- no state's two ways lie 128 or more apart
 abbrev pub IsClose : (ℕ → ℕ) → StepCosts → Type 0

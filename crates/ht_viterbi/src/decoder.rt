@@ -24,10 +24,10 @@ use std::simd::prelude::*;
 // new costs, modulo 256, and the states at which a 1 is taken.
 #[inline(always)]
 fn step(costs: u8x64, zero: u8x64, more: u8x64, free: bool) -> (u8x64, u64)
-    ensures costs { (table : ℕ → ℕ) (branches : StepCosts) → IsLight branches → HasLanes costs (λ k. table k % 256)
+    ensures costs { (table : ℕ → ℕ) (branches : StepCosts) → IsLight 2 branches → HasLanes costs (λ k. table k % 256)
         → HasLanes zero (λ k. branch_cost branches k false) → HasLanes more (rise branches) → IsClose table branches
         → HasLanes result.0 (λ k. lesser free (way table branches k false) (way table branches k true) % 256) }
-    ensures choices { (table : ℕ → ℕ) (branches : StepCosts) → IsLight branches → HasLanes costs (λ k. table k % 256)
+    ensures choices { (table : ℕ → ℕ) (branches : StepCosts) → IsLight 2 branches → HasLanes costs (λ k. table k % 256)
         → HasLanes zero (λ k. branch_cost branches k false) → HasLanes more (rise branches) → IsClose table branches
         → (k : ℕ) → k < 64 → (bit_at result.1 k ≡ 1) ↔ (chosen free (way table branches k false) (way table branches k true) ≡ true) }
 {
@@ -45,7 +45,7 @@ fn step(costs: u8x64, zero: u8x64, more: u8x64, free: bool) -> (u8x64, u64)
 const STRETCH: usize = 64;
 
 // The number of tail bits.
-const TAIL: usize = 6;
+pub(crate) const TAIL: usize = 6;
 
 // No state costs anything at the end.
 #[inline(always)]

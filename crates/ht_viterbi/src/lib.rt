@@ -13,17 +13,19 @@
 //!    costs. With weights of 9 at the five ones of that word, and of -1 at its nine zeros, 1000000 costs 5 and 0000000
 //!    costs 45.
 //!
-//! [`decode`] keeps the costs of all 64 states, modulo 256, in the lanes of one vector, from the last step to the first,
-//! so that one way forwards gives the first of the nearest inputs. [`decode_received`] does the same with an octet for each
-//! hard decision, a [`ReceivedBit`]. [`decode_places`] answers for any places, with whole costs in the lanes of a vector,
-//! and [`plain_decode`] is its form for hard decisions. The definitions are in `specs/Inputs.antt`: a minimum over all
-//! inputs, with no trellis in it. `specs/Decoded.antt` has the same as a function of what is received, over the list of all
-//! inputs. The laws that follow from them are in [`laws`].
+//! [`decode`] keeps the costs of all 64 states, modulo 256, in the lanes of one vector, from the last step to the
+//! first, so that one way forwards gives the first of the nearest inputs. [`decode_received`] does the same with an
+//! octet for each hard decision, a [`ReceivedBit`]. [`decode_weights`] keeps whole costs in lanes of 32 bits.
+//! [`decode_places`] answers for any places, one state after the other, and [`plain_decode`] is its form for hard
+//! decisions. The definitions are in `specs/Inputs.antt`: a minimum over all inputs, with no trellis in it.
+//! `specs/Decoded.antt` has the same as a function of what is received, over the list of all inputs. The laws that
+//! follow from them are in [`laws`].
 #![tactic(auto)]
 
 mod bit_costs;
 mod branches;
 mod codeword;
+mod cost_lanes;
 mod decoder;
 mod lanes;
 pub mod laws;
@@ -35,7 +37,7 @@ mod rows;
 #[cfg(test)]
 mod tests;
 mod walk;
-mod wide;
+mod weights;
 mod words;
 
 pub use codeword::{Cheapest, Codeword};
@@ -43,3 +45,4 @@ pub use decoder::{decode, decode_received};
 pub use place::Place;
 pub use plain::{decode_places, plain_decode};
 pub use received_bit::ReceivedBit;
+pub use weights::decode_weights;

@@ -46,10 +46,10 @@ impl Place for i32 {
     ghost cost = { weight_cost };
 
     fn cost(self, bit: bool) -> u32 {
-        if bit == (self > 0) {
-            0
+        if bit {
+            self.min(0).unsigned_abs()
         } else {
-            self.unsigned_abs()
+            self.max(0).unsigned_abs()
         }
     }
 }

@@ -1,41 +1,56 @@
-//! The plain decoder: the whole costs of 64 states a step, for hard decisions and for weights alike.
-ghost use Rattle.std.specs.Prelude.{◌≡◌, ◌+◌, ◌-◌, ◌*◌, ◌^◌, ◌<◌, ◌≤◌, ◌↔◌, ℕ, Bool, true, false, IfOk};
+//! The plain decoder: 64 costs a step, for hard decisions and for weights alike.
+ghost use Rattle.std.specs.Prelude.{◌≡◌, ◌≢◌, ◌+◌, ◌-◌, ◌*◌, ◌^◌, ◌<◌, ◌≤◌, ◌↔◌, ℕ, true, false, IfOk};
 ghost use Rattle.std.specs.Prelude.{List, [], length, drop, replicate, slice_index, vec_capacity};
 ghost use Rattle.std.specs.Int.{bit_at};
 ghost use Rattle.ht_conv.specs.Puncturing.{sent_count};
 ghost use Rattle.ht_viterbi.specs.Inputs.{IsCheapest, IsDecoded, cost_of, distance, tail};
-ghost use Rattle.ht_viterbi.specs.Trellis.{way, chosen, branch_cost, lesser, least_from, first_from, AreChoices, moved, StepCosts, word_steps};
+ghost use Rattle.ht_viterbi.specs.Trellis.{way, chosen, lesser, least_from, first_from, AreChoices, moved, StepCosts, word_steps};
 
 use crate::codeword::{Cheapest, Codeword};
-use crate::pairs::{StepCosts, costs_from, places_of};
+use crate::pairs::{StepCosts, cost_of_branch, costs_from, places_of, state_after};
 use crate::place::Place;
 use crate::walk::forwards;
-use crate::wide::{after_one, after_zero, lesser, one_costs, sums, zero_costs};
+use crate::words::with_flag;
 use ht_bits::Bits;
 use ht_conv::kept_at;
 use ht_rate::Pattern;
 use std::alloc::{AllocError, Global};
-use std::simd::prelude::*;
+
+// The cost by a first bit.
+fn way_of(costs: &[u64; 64], branches: StepCosts, state: usize, bit: bool) -> u64
+    requires state { state < 64 }
+    requires bound { (k : ℕ) → slice_index costs.now k ≤ 2 ^ 60 }
+    ensures { result ≡ way (slice_index costs.now) branches state bit }
+{
+    cost_of_branch(branches, state, bit) + costs[state_after(state, bit)]
+}
+
+// Whether a 1 is taken, and the cost of the bit that is taken.
+fn pick(free: bool, zero: u64, one: u64) -> (bool, u64)
+    ensures taken { result.0 ≡ chosen free zero one }
+    ensures least { result.1 ≡ lesser free zero one }
+{
+    let taken = free && one < zero;
+    (taken, if taken { one } else { zero })
+}
 
 // One step of the trellis. The answer has the states at which a 1 is taken.
 fn step(costs: &[u64; 64], branches: StepCosts, free: bool, into: &mut [u64; 64]) -> u64
-    requires few { (k : ℕ) → slice_index costs.now k ≤ 2 ^ 60 }
-    requires light { (state : ℕ) (bit : Bool) → branch_cost branches state bit ≤ 2 ^ 33 }
+    requires { (k : ℕ) → slice_index costs.now k ≤ 2 ^ 60 }
     ensures costs { (k : ℕ) → k < 64
         → slice_index into.new k ≡ lesser free (way (slice_index costs.now) branches k false) (way (slice_index costs.now) branches k true) }
     ensures choices { (k : ℕ) → k < 64 → (bit_at result k ≡ 1)
         ↔ (chosen free (way (slice_index costs.now) branches k false) (way (slice_index costs.now) branches k true) ≡ true) }
 {
-    let costs = u64x64::from_array(*costs);
-    let zero = sums(after_zero(costs), zero_costs(branches));
-    if free {
-        let (least, choices) = lesser(zero, sums(after_one(costs), one_costs(branches)));
-        *into = least.to_array();
-        choices
-    } else {
-        *into = zero.to_array();
-        0
+    let mut choices = 0u64;
+    for state in 0..64usize {
+        let zero = way_of(costs, branches, state, false);
+        let one = way_of(costs, branches, state, true);
+        let (taken, least) = pick(free, zero, one);
+        choices = with_flag(choices, state, taken);
+        into[state] = least;
     }
+    choices
 }
 
 // No state costs anything at the end.
@@ -46,7 +61,7 @@ fn no_costs() -> [u64; 64]
 }
 
 // Fills in the choices of all steps, from the last to the first, and gives the least cost from state 0.
-fn backwards<P: Place>(pattern: Pattern, received: &[P], choices: &mut [u64]) -> u64
+pub(crate) fn backwards<P: Place>(pattern: Pattern, received: &[P], choices: &mut [u64]) -> u64
     requires count { length received.now ≡ sent_count pattern (length choices.old) }
     requires few { length choices.old ≤ 2 ^ 20 }
     ensures choices { AreChoices (word_steps P.cost pattern received.now (length choices.old)) choices.new }

@@ -1,7 +1,7 @@
 //! Worked words, and all inputs of short words tried in turn. Each call has ample memory.
 ghost use Rattle.std.specs.Prelude.{◌<◌, length};
 
-use crate::{Cheapest, Codeword, Place, decode, decode_places, plain_decode};
+use crate::{Cheapest, Codeword, decode, decode_places, decode_weights, plain_decode};
 use ht_conv::{Kept, encode, kept_at, sent};
 use ht_rate::Pattern;
 use std::alloc::{AllocError, Global};
@@ -79,17 +79,22 @@ fn vectors(rt: HostRuntime) -> Result<(), Fail> {
     Ok(())
 }
 
-// What the decoder of any places answers. A word of another length than asked for is an error.
-fn cheapest<P: Place>(
+// What a decoder of weights answers. A word of another length than asked for is an error.
+fn cheapest(
     alloc: Global,
+    is_plain: bool,
     steps: u32,
     pattern: Pattern,
-    received: &[P],
+    weights: &[i32],
 ) -> Result<Cheapest, AllocError> {
-    if steps < 6 || steps > 524_302 || received.len() as u64 != sent(pattern, steps) {
+    if steps < 6 || steps > 524_302 || weights.len() as u64 != sent(pattern, steps) {
         return Err(AllocError);
     }
-    decode_places(alloc, steps, pattern, received)
+    if is_plain {
+        decode_places(alloc, steps, pattern, weights)
+    } else {
+        decode_weights(alloc, steps, pattern, weights)
+    }
 }
 
 #[test]
@@ -99,21 +104,25 @@ fn weights(rt: HostRuntime) -> Result<(), Fail> {
     for place in [0, 1, 3, 4] {
         lost[place] = 0;
     }
-    let table: [(&[i32], &str, u64); 5] = [
+    let table: [(&[i32], &str, u64); 7] = [
         (&doubtful, "1000000", 5),
         // Now 0000000 costs 9, and 1000000 still 5.
         (&lost, "1000000", 5),
         (&[0; 14], "0000000", 0),
+        (&[65_535; 14], "1000000", 4 * 65_535),
+        (&[65_536; 14], "1000000", 4 * 65_536),
         (&[i32::MIN; 14], "0000000", 0),
         (&[i32::MAX; 14], "1000000", 4 * 2_147_483_647),
     ];
     for (weights, input, cost) in table {
-        let answer = cheapest(rt.alloc(), 7, Pattern::Half, weights)?;
-        assert_eq!(rt;
-            answer.input.as_slice(),
-            bits(rt.alloc(), input)?.as_slice()
-        );
-        assert_eq!(rt; answer.cost, cost);
+        for is_plain in [false, true] {
+            let answer = cheapest(rt.alloc(), is_plain, 7, Pattern::Half, weights)?;
+            assert_eq!(rt;
+                answer.input.as_slice(),
+                bits(rt.alloc(), input)?.as_slice()
+            );
+            assert_eq!(rt; answer.cost, cost);
+        }
     }
     Ok(())
 }
@@ -246,6 +255,55 @@ fn alike(rt: HostRuntime) -> Result<(), Fail> {
                 if percent == 0 {
                     assert_eq!(rt; fast.input.as_slice(), input.as_slice());
                 }
+            }
+        }
+    }
+    Ok(())
+}
+
+// Weights of random size: positive where a 1 was received, and the heaviest everywhere if `is_heaviest`.
+fn random_weights(
+    alloc: Global,
+    received: &[Option<bool>],
+    is_heaviest: bool,
+) -> Result<Vec<i32>, AllocError> {
+    let mut weights = Vec::new(alloc);
+    let mut state = received.len() as u64;
+    for place in received {
+        state = state
+            .wrapping_mul(6_364_136_223_846_793_005)
+            .wrapping_add(1_442_695_040_888_963_407);
+        let size = if is_heaviest {
+            65_535
+        } else {
+            (state >> 48) as i32
+        };
+        weights.push(match place {
+            Some(true) => size,
+            Some(false) => -size,
+            None => 0,
+        })?;
+    }
+    Ok(weights)
+}
+
+// With half of the places wrong and the heaviest weights everywhere all costs are lowered, since that of the answer is
+// far above 2^30.
+#[test]
+fn weights_alike(rt: HostRuntime) -> Result<(), Fail> {
+    for steps in [6, 7, 13, 822, 70_000] {
+        for pattern in PATTERNS {
+            for is_heaviest in [false, true] {
+                let (_, received) = sent_with_errors(rt.alloc(), steps, pattern, 50)?;
+                let weights = random_weights(rt.alloc(), &received, is_heaviest)?;
+                let fast = cheapest(rt.alloc(), false, steps, pattern, &weights)?;
+                let plain = cheapest(rt.alloc(), true, steps, pattern, &weights)?;
+                assert_eq!(rt; fast.cost, plain.cost, "{steps} steps");
+                assert_eq!(rt;
+                    fast.input.as_slice(),
+                    plain.input.as_slice(),
+                    "{steps} steps"
+                );
             }
         }
     }

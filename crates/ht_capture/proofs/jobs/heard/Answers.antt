@@ -1,30 +1,35 @@
-use Rattle.std.proofs.Common.{◌≡◌, ◌∙◌, ap, length}
-use Rattle.ht_metric.specs.Jobs.{JobView, heard}
-use Rattle.ht_capture.specs.Frames.{pilot_grid}
-use Rattle.ht_capture.specs.Parts.{on_grid}
-use Rattle.ht_capture.proofs.Hearing.{heard_data, heard_pilot, heard_streams}
+use Rattle.std.proofs.Common.{◌≡◌, ◌∙◌, ap, length, List, sym}
+use Rattle.ht_metric.specs.declared.place.Place.{Place}
+use Rattle.ht_metric.specs.Arrays.{legs, length-legs, length-rows_of}
+use Rattle.ht_metric.specs.Jobs.{JobView}
+use Rattle.ht_metric.specs.Rows.{Leg, Row, rows_of}
+use Rattle.ht_capture.specs.Presents.{present_of}
+use Rattle.ht_capture.proofs.Grids.{job_made}
 use Rattle.ht_capture.proofs.jobs.heard.Goals as goal
 
-pub give_grid-requires-clause-streams : goal.give_grid-requires-clause-streams
-give_grid-requires-clause-streams c =
-    ap (λ (job : JobView). length job.system) c.hear.ensures
-    ∙ (heard_streams c.copy-job.result c.args.number c.args.symbol c.samples-samples.result
-    ∙ (ap (λ (job : JobView). length job.system) c.copy-job.ensures ∙ c.requires.template.streams))
+pub new-requires-2 : goal.new-requires-2
+new-requires-2 c =
+    let rows = c.args.template.now.job.system in
+    let ys = c.samples-samples.result in
+    let is : c.new.result ≡ rows_of (legs rows) ys =
+    c.new.ensures ∙ ap (λ (t : List Leg). rows_of t ys) (c.triangle-triangle.ensures ∙ ap (λ (r : List Row). legs r) c.system.ensures.system) in
+    c.grid_on-grid.ensures.streams
+    ∙ sym (ap (λ (r : List Row). length r) is ∙ (length-rows_of (legs rows) ys ∙ (length-legs rows ∙ c.requires.template.streams)))
 
-pub returns-in-Data : goal.returns-in-Data
-returns-in-Data c =
+pub returns : goal.returns
+returns c =
     let a = c.args in
-    c.hear.ensures
-    ∙ (ap (λ (job : JobView). heard job a.number a.symbol c.samples-samples.result) c.copy-job.ensures
-    ∙ heard_data a.head.now a.symbol a.number a.octets.now a.at c.streams.result c.samples-samples.result
-    c.streams.ensures.value c.samples-samples.ensures a.template.now c.in-Data.field-0 c.requires.template c.in-Data.is)
-
-pub returns-in-Pilot : goal.returns-in-Pilot
-returns-in-Pilot c =
-    let a = c.args in
-    let is : c.hear.new.self ≡ heard a.template.now.job a.number a.symbol c.samples-samples.result =
-    c.hear.ensures ∙ ap (λ (job : JobView). heard job a.number a.symbol c.samples-samples.result) c.copy-job.ensures in
-    c.give_grid.ensures
-    ∙ (ap (λ (job : JobView). on_grid job (pilot_grid a.head.now.rate job.place.symbol c.in-Pilot.index)) is
-    ∙ heard_pilot a.head.now a.symbol a.number a.octets.now a.at c.streams.result c.samples-samples.result
-    c.streams.ensures.value c.samples-samples.ensures a.template.now c.in-Pilot.index c.requires.template c.in-Pilot.is)
+    let job = a.template.now.job in
+    let rows = job.system in
+    let ys = c.samples-samples.result in
+    let is : c.new.result ≡ rows_of (legs rows) ys =
+    c.new.ensures ∙ ap (λ (t : List Leg). rows_of t ys) (c.triangle-triangle.ensures ∙ ap (λ (r : List Row). legs r) c.system.ensures.system) in
+    let on : Place → JobView = λ place. record {
+      number = a.number;
+      place = record { frame = a.head.now.frame; symbol = a.symbol; carrier = place.carrier };
+      grid = c.grid_on-grid.result;
+      system = c.new.result;
+    } in
+    c.new-2.ensures ∙ (ap on c.place.ensures
+    ∙ job_made a.head.now a.symbol a.number c.streams.result (present_of job) a.octets.now a.at c.grid_on-grid.result c.new.result ys
+    c.grid_on-grid.ensures.value is c.streams.ensures.value c.samples-samples.ensures (length-legs rows ∙ c.requires.template.streams))

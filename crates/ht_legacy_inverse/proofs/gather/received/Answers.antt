@@ -1,16 +1,79 @@
-use Rattle.std.proofs.Common.{◌≡◌, ◌∙◌, arith}
-use Rattle.ht_legacy_inverse.proofs.Gathered.{all-bits, bits-more}
+use Rattle.std.proofs.Common.{rules, ◌≡◌, ℕ, ◌+◌, ◌-◌, ◌*◌, ◌<◌, ◌≤◌, ◌∙◌, ap, arith, map, min, subst}
+use Rattle.std.specs.List.{range_with_len}
+use Rattle.std.proofs.Math.Nat.{min-le_left}
+use Rattle.ht_clause18.specs.Rates.{coded_bits_of, symbols_of}
+use Rattle.ht_viterbi.specs.Received.{known_of}
+use Rattle.ht_legacy_inverse.specs.Received.{received_at}
+use Rattle.ht_legacy_inverse.proofs.Gathered.{all-bits, symbol-below, whole-symbol}
 use Rattle.ht_legacy_inverse.proofs.gather.received.Goals as goal
 
-pub loop-q-preserved : goal.loop-q-preserved
-loop-q-preserved c = record {
-  items = bits-more c.args.rate c.args.labels.now c.loop-q.bits.items c.push_reserved.new.self.items c.coded_bit.result c.loop-q.q c.push_reserved.ensures.items
-      c.coded_bit.ensures c.loop-q.invariant.items;
-  len = omega (arith, c.push_reserved.ensures.len, c.loop-q.invariant.len);
-  room = c.push_reserved.ensures.capacity ∙ c.loop-q.invariant.room;
-}
+pub loop-left-init : goal.loop-left-init
+loop-left-init c =
+    let count = c.coded_bits-count.result in
+    let none : 0 ≡ count - count = omega arith in
+    let start : map known_of c.in_ok-bits.bits.items ≡ map (received_at c.args.rate c.args.labels.now) (range_with_len 0 0) = search rules in
+    record {
+      items = start ∙ ap (λ (n : ℕ). map (received_at c.args.rate c.args.labels.now) (range_with_len 0 n)) none;
+      len = omega (arith, c.in_ok-bits.ensures.len);
+      room = search rules;
+      before = λ some. omega arith;
+    }
+
+pub push_symbol-requires-clause-labels : goal.push_symbol-requires-clause-labels
+push_symbol-requires-clause-labels c =
+    let size = coded_bits_of c.args.rate in
+    let low = c.coded_bits-size.ensures in
+    let within = c.coded_bits-count.ensures.within in
+    let at = c.loop-left.invariant.before c.loop-left-test.true in
+    let below : c.loop-left.symbol < symbols_of c.args.rate c.args.octets =
+    symbol-below c.loop-left.symbol 0 size (symbols_of c.args.rate c.args.octets) (omega (arith, low.value, low.low))
+    (omega (arith, within, at, c.loop-left-test.true)) in
+    omega (arith, below, c.requires.labels)
+
+pub push_symbol-requires-clause-room : goal.push_symbol-requires-clause-room
+push_symbol-requires-clause-room c =
+    let few = min-le_left c.loop-left.left c.from.result in
+    omega (arith, few, c.min-taken.ensures, c.loop-left.invariant.len, c.loop-left.invariant.room)
+
+pub push_symbol-requires-clause-before : goal.push_symbol-requires-clause-before
+push_symbol-requires-clause-before c =
+    let at = c.loop-left.invariant.before c.loop-left-test.true in
+    let done : c.coded_bits-count.result - c.loop-left.left ≡ c.loop-left.symbol * coded_bits_of c.args.rate = omega (arith, at) in
+    c.loop-left.invariant.items ∙ ap (λ (n : ℕ). map (received_at c.args.rate c.args.labels.now) (range_with_len 0 n)) done
+
+pub overflow_add-symbol : goal.overflow_add-symbol
+overflow_add-symbol c =
+    let size = coded_bits_of c.args.rate in
+    let low = c.coded_bits-size.ensures in
+    let within = c.coded_bits-count.ensures.within in
+    let at = c.loop-left.invariant.before c.loop-left-test.true in
+    let below : c.loop-left.symbol < symbols_of c.args.rate c.args.octets =
+    symbol-below c.loop-left.symbol 0 size (symbols_of c.args.rate c.args.octets) (omega (arith, low.value, low.low))
+    (omega (arith, within, at, c.loop-left-test.true)) in
+    omega (arith, below, c.symbols-symbols.ensures.value, c.symbols-symbols.ensures.high)
+
+pub loop-left-preserved : goal.loop-left-preserved
+loop-left-preserved c =
+    let size = coded_bits_of c.args.rate in
+    let count = c.coded_bits-count.result in
+    let n = c.loop-left.symbol in
+    let left = c.loop-left.left in
+    let at = c.loop-left.invariant.before c.loop-left-test.true in
+    let taken : c.from-left.result ≡ min left size =
+    c.from-left.ensures ∙ (c.min-taken.ensures ∙ ap (λ (m : ℕ). min left m) (c.from.ensures ∙ c.coded_bits-size.ensures.value)) in
+    let few = min-le_left left size in
+    let done : n * size + c.min-taken.result ≡ count - (left - c.from-left.result) = omega (arith, at, taken, few, c.from-left.ensures) in
+    record {
+      items = c.push_symbol.ensures.bits ∙ ap (λ (m : ℕ). map (received_at c.args.rate c.args.labels.now) (range_with_len 0 m)) done;
+      len = omega (arith, c.push_symbol.ensures.len, c.loop-left.invariant.len, taken, few, c.from-left.ensures);
+      room = c.push_symbol.ensures.room ∙ c.loop-left.invariant.room;
+      before = λ more.
+          let whole = whole-symbol n left size (subst (λ (m : ℕ). 1 ≤ left - m) taken more) in
+          omega (arith, whole, at, taken);
+    }
 
 pub returns : goal.returns
 returns c =
-    let end : c.loop-q.q ≡ c.coded_bits-count.result = omega (arith, c.loop-q-test.false, c.loop-q.auto.q-end) in
-    all-bits c.args.rate c.args.octets c.args.labels.now c.loop-q.bits.items c.loop-q.q (end ∙ c.coded_bits-count.ensures.value) c.loop-q.invariant.items
+    let end : c.coded_bits-count.result - c.loop-left.left ≡ c.coded_bits-count.result = omega (arith, c.loop-left-test.false) in
+    all-bits c.args.rate c.args.octets c.args.labels.now c.loop-left.bits.items (c.coded_bits-count.result - c.loop-left.left)
+    (end ∙ c.coded_bits-count.ensures.value) c.loop-left.invariant.items

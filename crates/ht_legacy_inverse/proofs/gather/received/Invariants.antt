@@ -1,13 +1,18 @@
--- The coded bits so far.
-use Rattle.std.proofs.Common.{◌≡◌, map, vec_capacity, vec_len}
+-- The coded bits of whole symbols so far, as long as more are left.
+use Rattle.std.proofs.Common.{◌≡◌, ◌+◌, ◌-◌, ◌*◌, ◌≤◌, map, vec_capacity, vec_len}
 use Rattle.std.specs.List.{range_with_len}
+use Rattle.ht_clause18.specs.Rates.{coded_bits_of}
 use Rattle.ht_viterbi.specs.Received.{known_of}
 use Rattle.ht_legacy_inverse.specs.Received.{received_at}
 use Rattle.ht_legacy_inverse.proofs.gather.received.Given as goal
 
-abbrev pub invariant-loop-q : goal.invariant-loop-q
-invariant-loop-q l = record {
-  items : map known_of l.bits.items ≡ map (received_at l.rate l.labels) (range_with_len 0 l.q);
-  len : vec_len l.bits ≡ l.q;
+abbrev pub invariant-loop-left : goal.invariant-loop-left
+invariant-loop-left l = record {
+  items : map known_of l.bits.items ≡ map (received_at l.rate l.labels) (range_with_len 0 (l.count - l.left));
+  len : vec_len l.bits + l.left ≡ l.count;
   room : vec_capacity l.bits ≡ l.count;
+  before : 1 ≤ l.left → l.symbol * coded_bits_of l.rate + l.left ≡ l.count;
 }
+
+abbrev pub decreases-loop-left : goal.decreases-loop-left
+decreases-loop-left l = l.left

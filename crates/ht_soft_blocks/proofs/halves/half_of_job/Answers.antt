@@ -3,8 +3,9 @@ use Rattle.std.specs.Prelude.{option_map, slice_get}
 use Rattle.ht_rate.specs.declared.kinds.Carrier.TheVariants.{Data}
 use Rattle.ht_rate.specs.Carriers.{carrier_of}
 use Rattle.ht_metric.specs.Jobs.{JobView}
-use Rattle.ht_soft_blocks.specs.Halved.{with_number}
-use Rattle.ht_soft_blocks.proofs.Counting.{full_grid, halves_at, of_pilot, remade, with_data, with_pilot}
+use Rattle.ht_feed.specs.Numbers.{with_number}
+use Rattle.ht_soft_blocks.proofs.Counting.{full_grid, halves_at, of_pilot, with_data, with_pilot}
+use Rattle.ht_feed.proofs.Numbering.{remade}
 use Rattle.ht_soft_blocks.proofs.halves.half_of_job.Goals as goal
 
 pub data_half-requires-clause-grid : goal.data_half-requires-clause-grid

@@ -1,4 +1,4 @@
 use Rattle.ht_sphere.proofs.round.+round.Given as goal
 
 abbrev pub decreases-round : goal.decreases-round
-decreases-round l = l.k
+decreases-round g l = l.k

@@ -24,7 +24,7 @@ loop-state-preserved c =
 -- a hard step costs little
 pub overflow_cast-costs : goal.overflow_cast-costs
 overflow_cast-costs c =
-    let light : IsLight c.costs_at-step.result = subst IsLight (sym c.costs_at-step.ensures) (hard-light c.args.pair) in
+    let light : IsLight 2 c.costs_at-step.result = subst (IsLight 2) (sym c.costs_at-step.ensures) (hard-light c.args.pair) in
     omega (arith, light c.loop-state.state c.args.bit, c.cost_of_branch.ensures.value)
 
 pub returns : goal.returns

@@ -4,4 +4,4 @@ use Rattle.ht_viterbi.proofs.LaneFacts.{pick-lanes, after_zero-at}
 use Rattle.ht_viterbi.proofs.lanes.after_zero.Goals as goal
 
 pub returns : goal.returns
-returns c = pick-lanes c.args.costs AFTER_ZERO (λ k. k / 2) c.fits-costs.0 refl tt after_zero-at
+returns c = pick-lanes 64 c.args.costs AFTER_ZERO (λ k. k / 2) c.fits-costs.0 refl tt after_zero-at

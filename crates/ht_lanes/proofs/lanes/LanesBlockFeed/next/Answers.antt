@@ -2,7 +2,7 @@ use Rattle.std.proofs.Common.{◌≡◌, ◌+◌, ◌≤◌, ℕ, [], ◌∷◌,
 use Rattle.std.proofs.lemmas.Bool.{false≢true}
 use Rattle.ht_lanes.specs.Lanes.{LaneJobs, due_of, most_jobs}
 use Rattle.ht_lanes.proofs.Asked.{some_so}
-use Rattle.ht_lanes.proofs.Numbering.{length-numbered}
+use Rattle.ht_feed.proofs.Numbering.{length_numbered}
 use Rattle.ht_lanes.proofs.Rings.{gives_block}
 use Rattle.ht_lanes.proofs.lanes.LanesBlockFeed.next.Goals as goal
 
@@ -11,14 +11,14 @@ size-requires g c =
     let block : LaneJobs = c.in-Ok-Some.block in
     let asked : ℕ × LaneJobs = (c.in-Ok-Some.lane, block) in
     let few = some_so c.in-Ok-Some.field-0 asked (λ (a : ℕ × LaneJobs). length a.1.jobs ≤ c.args.most) c.in-Ok-Some.field-0-is c.in-Ok-Some.ensures.few in
-    omega (arith, few, c.ranges.most.fits, length-numbered block.first block.jobs)
+    omega (arith, few, c.ranges.most.fits, length_numbered block.first block.jobs)
 
 pub overflow_add-self-in-Ok-Some : goal.overflow_add-self-in-Ok-Some
 overflow_add-self-in-Ok-Some g c =
     let block : LaneJobs = c.in-Ok-Some.block in
     let asked : ℕ × LaneJobs = (c.in-Ok-Some.lane, block) in
     let few = some_so c.in-Ok-Some.field-0 asked (λ (a : ℕ × LaneJobs). length a.1.jobs ≤ c.args.most) c.in-Ok-Some.field-0-is c.in-Ok-Some.ensures.few in
-    omega (arith, few, c.ranges.most.fits, length-numbered block.first block.jobs, c.from.ensures, c.from-in-Ok-Some.ensures, c.size.ensures, c.if-self-from.false)
+    omega (arith, few, c.ranges.most.fits, length_numbered block.first block.jobs, c.from.ensures, c.from-in-Ok-Some.ensures, c.size.ensures, c.if-self-from.false)
 
 pub invariant_of-self-in-Ok-Some-clause-feed : goal.invariant_of-self-in-Ok-Some-clause-feed
 invariant_of-self-in-Ok-Some-clause-feed g c =
@@ -38,7 +38,7 @@ invariant_of-self-in-Ok-Some-clause-few g c =
     let block : LaneJobs = c.in-Ok-Some.block in
     let asked : ℕ × LaneJobs = (c.in-Ok-Some.lane, block) in
     let few = some_so c.in-Ok-Some.field-0 asked (λ (a : ℕ × LaneJobs). length a.1.jobs ≤ c.args.most) c.in-Ok-Some.field-0-is c.in-Ok-Some.ensures.few in
-    omega (arith, few, c.ranges.most.fits, length-numbered block.first block.jobs, c.from.ensures, c.from-in-Ok-Some.ensures, c.size.ensures, c.if-self-from.false)
+    omega (arith, few, c.ranges.most.fits, length_numbered block.first block.jobs, c.from.ensures, c.from-in-Ok-Some.ensures, c.size.ensures, c.if-self-from.false)
 
 pub returns-in-Ok-Some-clause-block : goal.returns-in-Ok-Some-clause-block
 returns-in-Ok-Some-clause-block g c =
@@ -54,6 +54,6 @@ returns-in-Ok-Some-clause-block g c =
     let first = some_so c.in-Ok-Some.field-0 asked (λ (a : ℕ × LaneJobs). a.1.first ≡ count) is e.first in
     let due = some_so c.in-Ok-Some.field-0 asked (λ (a : ℕ × LaneJobs). after ≡ ring ++ due_of a.0 a.1 ∷ []) is e.due in
     let total : count + c.from-in-Ok-Some.result ≤ most_jobs =
-    omega (arith, few, c.ranges.most.fits, length-numbered block.first block.jobs, c.from.ensures, c.from-in-Ok-Some.ensures, c.size.ensures, c.if-self-from.false) in
+    omega (arith, few, c.ranges.most.fits, length_numbered block.first block.jobs, c.from.ensures, c.from-in-Ok-Some.ensures, c.size.ensures, c.if-self-from.false) in
     gives_block c.args.most count c.from-in-Ok-Some.result c.in-Ok-Some.lane ring after c.args.self.now.ended c.args.self.now.failed block c.requires.running
     due first some few (c.from-in-Ok-Some.ensures ∙ c.size.ensures) total

@@ -11,7 +11,7 @@ invariant_of-result c =
     let i = c.self.invariant in
     let long : length c.args.self.now ≡ b.count = rw (← c.self.view_is) (length_some b.rate (jobs_of b.block.block) b.first b.count b.number i.within) in
     let few : c.args.count ≤ b.count = let e = c.requires.few in omega (arith, long, e) in
-    subst (λ (js : List JobView). AreSomeHalves b.rate js b.counts.pilots b.counts.of_data b.first c.args.count b.number) (sym c.in-Some.ensures)
+    subst (λ (js : List JobView). AreSomeHalves b.rate js b.counts.pilots b.counts.of_data b.first c.args.count b.number) (sym (ap jobs_of c.in-Some.ensures))
     (record {
       rates = i.rates;
       counts = i.counts;
@@ -28,5 +28,5 @@ returns-in-Some c =
     let i = c.self.invariant in
     let long : length c.args.self.now ≡ b.count = rw (← c.self.view_is) (length_some b.rate (jobs_of b.block.block) b.first b.count b.number i.within) in
     let few : c.args.count ≤ b.count = let e = c.requires.few in omega (arith, long, e) in
-    ap (λ (js : List JobView). some_halves b.rate js b.first c.args.count b.number) c.in-Some.ensures
+    ap (λ (js : List JobView). some_halves b.rate js b.first c.args.count b.number) (ap jobs_of c.in-Some.ensures)
     ∙ rw (← c.self.view_is) (first_halves b.rate (jobs_of b.block.block) b.first b.count b.number c.args.count few)

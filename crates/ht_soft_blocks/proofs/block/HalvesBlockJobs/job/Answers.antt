@@ -3,7 +3,8 @@ use Rattle.std.specs.Prelude.{option_map, slice_get}
 use Rattle.ht_metric.specs.Jobs.{JobView}
 use Rattle.ht_capture.specs.Parts.{jobs_of}
 use Rattle.ht_soft_blocks.specs.Blocks.{IsOfRate}
-use Rattle.ht_soft_blocks.specs.Halved.{halves_of_all, with_number}
+use Rattle.ht_soft_blocks.specs.Halved.{halves_of_all}
+use Rattle.ht_feed.specs.Numbers.{with_number}
 use Rattle.ht_soft_blocks.proofs.Lists.{all_get}
 use Rattle.ht_soft_blocks.proofs.Parts.{get_half, length_some}
 use Rattle.ht_soft_blocks.proofs.Spots.{in_job, small}

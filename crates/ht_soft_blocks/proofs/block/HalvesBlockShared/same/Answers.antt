@@ -1,4 +1,4 @@
-use Rattle.std.proofs.Common.{◌≡◌, sym, ◌∙◌, arith}
+use Rattle.std.proofs.Common.{◌≡◌, sym, ap, ◌∙◌, arith}
 use Rattle.std.proofs.lemmas.Bool.Decides.{nat_tests}
 use Rattle.ht_capture.specs.Parts.{jobs_of}
 use Rattle.ht_soft_blocks.proofs.Parts.{same_halves}
@@ -28,7 +28,7 @@ returns-then-same_rate c = λ same.
               let numbers : a.number ≡ b.number = grind (arith, nat_tests) in
               rw (← c.self.view_is, ← c.other.view_is)
               (same_halves a.rate b.rate (jobs_of a.block.block) (jobs_of b.block.block) a.first b.first a.count b.count a.number b.number
-              (w3.same_rate.ensures.0 rate_test) (c.same.ensures same) w1.if-self-other.true counts numbers)
+              (w3.same_rate.ensures.0 rate_test) (ap jobs_of (c.same.ensures.0 same)) w1.if-self-other.true counts numbers)
           | else-self-other w1 ↦ let v = w1.value-is in let f = w1.if-self-other.false in let t = w2.if-self-other-2.true in absurd (grind (arith, nat_tests))
         ]
         | else-self-other-2 w2 ↦ let v = w2.value-is in let f = w2.if-self-other-2.false in let t = w3.if-self-other-3.true in absurd cc

@@ -1,0 +1,256 @@
+-- What the lanes of captures came to, capture by capture.
+use Rattle.std.specs.Prelude.{◌≡◌, ◌≢◌, ℕ, ◌<◌, ◌≤◌, List, [], ◌∷◌, length, map, get_or, Bool, true, false, nat_lt, Option, None, Result, Ok, Err, IfOk, MatchResult, OnErr}
+use Rattle.std.proofs.Common.{refl, ap, ◌∙◌, sym, subst, arith}
+use Rattle.std.proofs.lemmas.Bool.Decides.{nat_tests}
+use Rattle.std.proofs.lemmas.List.{get_or-map, get_or_past, length-map}
+use Rattle.ht_io.specs.Devices.{Device, IsLater}
+use Rattle.ht_io.proofs.Calls.{later-refl}
+use Rattle.ht_capture_blocks.specs.declared.reader.CaptureReader.{CaptureReader}
+use Rattle.ht_capture.specs.declared.items.FrameHead.{FrameHead}
+use Rattle.ht_runs.specs.declared.faults.StopFault.{StopFault}
+use Rattle.ht_runs.specs.declared.faults.StopFault.TheVariants.{Read, Write, NoMemory}
+use Rattle.ht_feed.specs.declared.ended.Ended.{Ended}
+use Rattle.ht_feed.specs.declared.ended.Ended.TheVariants.{Done, Refused}
+use Rattle.ht_feed.specs.declared.book_fault.BookFault.{BookFault}
+use Rattle.ht_feed.specs.Accounts.{Telling}
+use Rattle.ht_feed.specs.Desks.{DeskView, desk_view}
+use Rattle.ht_feed.specs.Leading.{tells_by-none}
+use Rattle.ht_feed.specs.Outcomes.{Comes}
+use Rattle.ht_feed.specs.Telling.{TellsBy, seen_by}
+use Rattle.ht_frames.specs.Gathering.{none_booked}
+use Rattle.ht_results.specs.Texts.{frame_lines_of, result_line, rx_text}
+use Rattle.ht_rx.specs.Frames.{results_in}
+use Rattle.ht_rx.specs.Outcomes.{StopsBy, TellsTo}
+use Rattle.ht_rx.proofs.Blocks.{comes_to}
+use Rattle.ht_rx.proofs.BlockBooking.{frames_told}
+use Rattle.ht_rx.proofs.Booking.{lines_told}
+use Rattle.ht_lanes.specs.DeskLanes.{lane_told}
+use Rattle.ht_lanes.specs.Lanes.{AreOver, HaveNone, Side, Sides, side_at}
+use Rattle.ht_lanes.proofs.LaneEnds.{lane_ends, lane_lacks, lane_puts_later, lane_reads_later, lane_steady}
+use Rattle.ht_fields.proofs.Putting.{on_err_then}
+use Rattle.ht_runs.proofs.Outcomes.{told_nothing}
+use Rattle.ht_capture.specs.Fields.{captures}
+use Rattle.ht_several.specs.declared.many_end.ManyEnd.{ManyEnd}
+use Rattle.ht_several.specs.Alone.{Heard, PutsPart}
+use Rattle.ht_several.specs.Several.{AreLater, EachEnds, EachHeard, EachInPart, answer_at, devices}
+use Rattle.ht_several.specs.LastLines.{EachFinishes, EachMayFinish, KeepSinks}
+use Rattle.ht_several.proofs.LastLines.{each_ends, each_in_part, last_later}
+use Rattle.ht_several.proofs.Ending.{heard_part}
+use Rattle.ht_many.specs.CaptureLanes.{AreNew, IsNew, Lane, LaneLeads, LanesLead, lane_answer, lane_due, lane_over, lane_rests, lane_seen, lines_left, reader_at, reader_means}
+
+-- what an answer says of the octets of a capture
+told_heard : (a b c d : Device ℕ) (answer : Result Ended StopFault) → MatchResult answer (TellsTo frame_lines_of a b c d) (StopsBy frame_lines_of a b c d)
+    → Heard a b c d answer
+told_heard a b c d (Ok (Done frames jobs)) l =
+    record { taken = l.taken; octets = l.octets; whole = l.whole; says = l.says.frames_are; put = l.put }
+told_heard a b c d (Ok (Refused fault)) l = l
+told_heard a b c d (Err Read) l = l
+told_heard a b c d (Err Write) l = l
+told_heard a b c d (Err NoMemory) l = l
+
+-- what follows from what is said of a value
+then_ok : {A E : Type 0} (P Q : A → Type 0) (result : Result A E) → ((x : A) → P x → Q x) → IfOk result P → IfOk result Q
+then_ok P Q (Ok x) follows holds = follows x holds
+then_ok P Q (Err e) follows holds = tt
+
+-- one of them, where there are some
+some_of : {X : Type 0} (xs : List X) (k : ℕ) → k < length xs → X
+some_of [] k few = absurd (omega (arith, few))
+some_of (x ∷ xs) k few = x
+
+-- beyond two lists of one length the same stands for none
+past_both : {X : Type 0} (xs ys : List X) (k : ℕ) (x : X) → length ys ≡ length xs → length xs ≤ k → get_or ys k x ≡ get_or xs k x
+past_both xs ys k x same high =
+    let beyond : length ys ≤ k = omega (arith, same, high) in
+    get_or_past ys k x beyond ∙ sym (get_or_past xs k x high)
+
+-- the devices of a lane are seen so
+module _ {S K : Type 0} (source : S → Device ℕ) (sink : K → Device ℕ) where
+  -- a new lane did this
+  module _ (a b : Side Lane S K) (new : IsNew a.lane) (leads : LaneLeads source sink a b) where
+    abbrev before : Telling FrameHead ℕ
+    before = lane_told lines_left a.lane.booking (sink a.sink)
+
+    abbrev after : Telling FrameHead ℕ
+    after = lane_told lines_left b.lane.booking (sink b.sink)
+
+    from_new : TellsBy None b.lane.failed
+        (seen_by reader_means reader_at (desk_view new.reader None new.head 0 [] 0) (source a.source) before) (lane_seen source sink b)
+    from_new =
+        subst (λ (d : DeskView CaptureReader FrameHead). TellsBy None b.lane.failed
+        (seen_by reader_means reader_at d (source a.source) before) (lane_seen source sink b)) new.desk
+        (subst (λ (f : Option BookFault). TellsBy f b.lane.failed (lane_seen source sink a) (lane_seen source sink b)) new.well leads)
+
+    nothing_left : after.pieces [] ≡ []
+    nothing_left = none_booked result_line (results_in b.lane.booking.under_way) refl
+
+    -- what a run of any reader and account came to is said of the octets of the capture
+    came_heard : (answer : Result Ended StopFault)
+        → Comes reader_means reader_at new.reader new.head (source a.source) (source b.source) before after answer
+        → Heard (source a.source) (source b.source) (sink a.sink) (sink b.sink) answer
+    came_heard answer came =
+        let none : a.lane.booking.under_way.left ≤ 0 = let e = new.none in omega (arith, e) in
+        told_heard (source a.source) (source b.source) (sink a.sink) (sink b.sink) answer
+        (lines_told answer (source a.source) (source b.source) (sink a.sink) (sink b.sink)
+        (frames_told result_line a.lane.booking.under_way answer (source a.source) (source b.source) (sink a.sink) (sink b.sink) none
+        (comes_to reader_means reader_at new.reader new.head (source a.source) (source b.source) before after answer
+        new.means new.at came)))
+
+    side_heard : lane_over b.lane ≡ true → (lane_rests b.lane ≡ false → lane_due b.lane ≡ [])
+        → Heard (source a.source) (source b.source) (sink a.sink) (sink b.sink) (lane_answer b.lane)
+    side_heard over taken =
+        came_heard (lane_answer b.lane)
+        (lane_ends reader_means reader_at new.reader new.head (source a.source) (source b.source) before after
+        b.lane.desk tt (λ w. nothing_left) b.lane.failed from_new over taken)
+
+    side_steady : lane_over b.lane ≡ true → (lane_rests b.lane ≡ false → lane_due b.lane ≡ []) → lane_answer b.lane ≢ Err Write
+        → (sink b.sink).faults ≡ (sink a.sink).faults
+    side_steady over taken other =
+        lane_steady reader_means reader_at new.reader new.head (source a.source) (source b.source) before after
+        b.lane.desk b.lane.failed from_new over taken other
+
+    -- memory lacked, here or elsewhere
+    side_part : PutsPart (source a.source) (source b.source) (sink a.sink) (sink b.sink)
+    side_part =
+        heard_part (source a.source) (source b.source) (sink a.sink) (Err NoMemory) (sink b.sink)
+        (came_heard (Err NoMemory)
+        (lane_lacks reader_means reader_at new.reader new.head (source a.source) (source b.source) before after
+        b.lane.desk tt (λ w. nothing_left) b.lane.failed from_new))
+
+    side_reads_later : IsLater (source a.source) (source b.source)
+    side_reads_later =
+        lane_reads_later reader_means reader_at new.reader new.head (source a.source) (source b.source) before after
+        b.lane.desk b.lane.failed from_new
+
+    side_puts_later : IsLater (sink a.sink) (sink b.sink)
+    side_puts_later =
+        lane_puts_later reader_means reader_at new.reader new.head (source a.source) (source b.source) before after
+        b.lane.desk b.lane.failed from_new
+
+  -- nothing was taken or put
+  pub none_taken : (sources : List S) (sinks : List K) → EachInPart source sink (devices sources sinks) (devices sources sinks)
+  none_taken sources sinks = λ k few s t. told_nothing captures (source (get_or sources k s)) rx_text (sink (get_or sinks k t))
+
+  -- lanes did nothing
+  pub lanes_stay : (a : Sides Lane S K) → LanesLead source sink a a
+  lanes_stay a = record {
+    lanes = refl;
+    sources = refl;
+    sinks = refl;
+    each = λ l s t k within. let x = side_at a l s t k in tells_by-none x.lane.failed (lane_seen source sink x);
+  }
+
+  -- new lanes did this, each with its own source and its own sink
+  module _ (a b : Sides Lane S K) (new : AreNew a.lanes) (leads : LanesLead source sink a b) (sources : length a.sources ≡ length a.lanes)
+      (sinks : length a.sinks ≡ length a.lanes) where
+    source_here : (k : ℕ) → k < length a.lanes → S
+    source_here k few = some_of a.sources k (omega (arith, few, sources))
+
+    sink_here : (k : ℕ) → k < length a.lanes → K
+    sink_here k few = some_of a.sinks k (omega (arith, few, sinks))
+
+    source_past : (k : ℕ) (s : S) → length a.lanes ≤ k → get_or b.sources k s ≡ get_or a.sources k s
+    source_past k s high = past_both a.sources b.sources k s leads.sources (omega (arith, high, sources))
+
+    sink_past : (k : ℕ) (t : K) → length a.lanes ≤ k → get_or b.sinks k t ≡ get_or a.sinks k t
+    sink_past k t high = past_both a.sinks b.sinks k t leads.sinks (omega (arith, high, sinks))
+
+    reads : (u : Bool) (k : ℕ) (s : S) → nat_lt k (length a.lanes) ≡ u → IsLater (source (get_or a.sources k s)) (source (get_or b.sources k s))
+    reads true k s e =
+        let few : k < length a.lanes = grind (arith, nat_tests, e) in
+        let l = some_of a.lanes k few in
+        let t = sink_here k few in
+        side_reads_later (side_at a l s t k) (side_at b l s t k) (new l k few) (leads.each l s t k few)
+    reads false k s e =
+        subst (λ (x : S). IsLater (source (get_or a.sources k s)) (source x)) (sym (source_past k s (grind (arith, nat_tests, e))))
+        (later-refl (source (get_or a.sources k s)))
+
+    puts : (u : Bool) (k : ℕ) (t : K) → nat_lt k (length a.lanes) ≡ u → IsLater (sink (get_or a.sinks k t)) (sink (get_or b.sinks k t))
+    puts true k t e =
+        let few : k < length a.lanes = grind (arith, nat_tests, e) in
+        let l = some_of a.lanes k few in
+        let s = source_here k few in
+        side_puts_later (side_at a l s t k) (side_at b l s t k) (new l k few) (leads.each l s t k few)
+    puts false k t e =
+        subst (λ (x : K). IsLater (sink (get_or a.sinks k t)) (sink x)) (sym (sink_past k t (grind (arith, nat_tests, e))))
+        (later-refl (sink (get_or a.sinks k t)))
+
+    pub lanes_later : AreLater source sink (devices a.sources a.sinks) (devices b.sources b.sinks)
+    lanes_later = record {
+      sources = leads.sources;
+      sinks = leads.sinks;
+      reads = λ k s. reads (nat_lt k (length a.lanes)) k s refl;
+      puts = λ k t. puts (nat_lt k (length a.lanes)) k t refl;
+    }
+
+    within : (k : ℕ) → k < length a.sources → k < length a.lanes
+    within k few = subst (λ (n : ℕ). k < n) sources few
+
+    -- memory lacked
+    pub lanes_part : EachInPart source sink (devices a.sources a.sinks) (devices b.sources b.sinks)
+    lanes_part = λ k few s t.
+        let low = within k few in
+        let l = some_of a.lanes k low in
+        side_part (side_at a l s t k) (side_at b l s t k) (new l k low) (leads.each l s t k low)
+
+    -- all are over, and none waits for answers
+    module _ (over : AreOver lane_over 0 b.lanes) (taken : HaveNone lane_due lane_rests b.lanes) where
+      still : (k : ℕ) → k < length a.lanes → k < length b.lanes
+      still k few = omega (arith, few, leads.lanes)
+
+      answer_is : (k : ℕ) (l : Lane) → k < length a.lanes → lane_answer (get_or b.lanes k l) ≡ answer_at (map lane_answer b.lanes) k
+      answer_is k l few = sym (get_or-map lane_answer b.lanes k l (Err Read) (still k few))
+
+      abbrev Steady : ℕ → K → Result Ended StopFault → Type 0
+      Steady k t answer = answer ≢ Err Write → (sink (get_or b.sinks k t)).faults ≡ (sink (get_or a.sinks k t)).faults
+
+      steady : (u : Bool) (k : ℕ) (t : K) → nat_lt k (length a.lanes) ≡ u → Steady k t (answer_at (map lane_answer b.lanes) k)
+      steady true k t e =
+          let few : k < length a.lanes = grind (arith, nat_tests, e) in
+          let l = some_of a.lanes k few in
+          let s = source_here k few in
+          subst (λ (r : Result Ended StopFault). Steady k t r) (answer_is k l few)
+          (side_steady (side_at a l s t k) (side_at b l s t k) (new l k few) (leads.each l s t k few) (over l k (omega arith) (still k few))
+          (taken l k (still k few)))
+      steady false k t e = λ other. ap (λ (x : K). (sink x).faults) (sink_past k t (grind (arith, nat_tests, e)))
+
+      pub lanes_heard : EachHeard source sink (devices a.sources a.sinks) (devices b.sources b.sinks) (map lane_answer b.lanes)
+      lanes_heard = record {
+        as_many = length-map b.lanes lane_answer ∙ (leads.lanes ∙ sym sources);
+        each = λ k few s t.
+            let low = within k few in
+            let l = some_of a.lanes k low in
+            let x = side_at a l s t k in
+            let y = side_at b l s t k in
+            subst (λ (r : Result Ended StopFault). Heard (source x.source) (source y.source) (sink x.sink) (sink y.sink) r) (answer_is k l low)
+            (side_heard x y (new l k low) (leads.each l s t k low) (over l k (omega arith) (still k low)) (taken l k (still k low)));
+        writes = λ k t. steady (nat_lt k (length a.lanes)) k t refl;
+      }
+
+      -- the lanes as they were seen then, and the sinks behind the last lines
+      module _ (lanes : List Lane) (seen : lanes ≡ b.lanes) (after : List K) (keep : KeepSinks sink b.sinks after) where
+        heard_by : EachHeard source sink (devices a.sources a.sinks) (devices b.sources b.sinks) (map lane_answer lanes)
+        heard_by =
+            subst (λ (ls : List Lane). EachHeard source sink (devices a.sources a.sinks) (devices b.sources b.sinks) (map lane_answer ls)) (sym seen) lanes_heard
+
+        pub all_later : AreLater source sink (devices a.sources a.sinks) (devices b.sources after)
+        all_later =
+            last_later source sink (devices a.sources a.sinks) (devices b.sources b.sinks) after (map lane_answer lanes) heard_by lanes_later keep
+
+        -- their last lines were put
+        pub all_end : {X E : Type 0} (ends : X → List ManyEnd) (result : Result X E)
+            → IfOk result (λ x. EachFinishes sink b.sinks after (map lane_answer lanes) (ends x))
+            → IfOk result (λ x. EachEnds source sink (devices a.sources a.sinks) (devices b.sources after) (ends x))
+        all_end ends result finishes =
+            then_ok (λ x. EachFinishes sink b.sinks after (map lane_answer lanes) (ends x))
+            (λ x. EachEnds source sink (devices a.sources a.sinks) (devices b.sources after) (ends x)) result
+            (λ x finish. each_ends source sink (devices a.sources a.sinks) (devices b.sources b.sinks) after (map lane_answer lanes) heard_by lanes_later
+            (ends x) finish keep (sinks ∙ sym sources)) finishes
+
+        -- memory lacked between them
+        pub all_part : {X E : Type 0} (result : Result X E) → OnErr result (EachMayFinish sink b.sinks after (map lane_answer lanes))
+            → OnErr result (EachInPart source sink (devices a.sources a.sinks) (devices b.sources after))
+        all_part result may =
+            on_err_then (EachMayFinish sink b.sinks after (map lane_answer lanes))
+            (EachInPart source sink (devices a.sources a.sinks) (devices b.sources after)) result
+            (λ m. each_in_part source sink (devices a.sources a.sinks) (devices b.sources b.sinks) after (map lane_answer lanes) heard_by lanes_later m) may

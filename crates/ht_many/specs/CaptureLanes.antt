@@ -1,0 +1,78 @@
+-- Lanes of captures, and what each does with its own devices.
+use Rattle.std.specs.Prelude.{◌≡◌, ℕ, ◌<◌, List, [], length, slice_index_or, None, Bool, is_some, Result}
+use Rattle.ht_io.specs.Devices.{Device}
+use Rattle.ht_fields.specs.Meanings.{Meaning}
+use Rattle.ht_metric.specs.Jobs.{JobView}
+use Rattle.ht_capture.specs.declared.items.FrameHead.{FrameHead}
+use Rattle.ht_capture.specs.Captures.{capture_of}
+use Rattle.ht_capture_blocks.specs.declared.block.CaptureBlock.{CaptureBlock}
+use Rattle.ht_capture_blocks.specs.declared.reader.CaptureReader.{CaptureReader}
+use Rattle.ht_capture_blocks.specs.Captures.{capture_at, capture_means, mapped}
+use Rattle.ht_runs.specs.declared.faults.StopFault.{StopFault}
+use Rattle.ht_feed.specs.declared.ended.Ended.{Ended}
+use Rattle.ht_feed.specs.Desks.{desk_view}
+use Rattle.ht_feed.specs.Dues.{jobs_in}
+use Rattle.ht_feed.specs.Items.{Headed, Item}
+use Rattle.ht_feed.specs.Telling.{Seen, TellsBy, seen_by}
+use Rattle.ht_frames.specs.Gathering.{booked_in}
+use Rattle.ht_results.specs.Texts.{result_line}
+use Rattle.ht_rx.specs.Frames.{results_in}
+use Rattle.ht_lanes.specs.declared.desk_lane.DeskLane.{DeskLane}
+use Rattle.ht_lanes.specs.DeskLanes.{ended_so, is_over, lane_told}
+use Rattle.ht_lanes.specs.Lanes.{AllLead, Side, Sides}
+use Rattle.ht_many.specs.declared.frame_lines.FrameLines.{FrameLines}
+
+-- a lane of a capture, as contracts see it
+abbrev pub Lane : Type 0
+Lane = DeskLane CaptureReader FrameLines FrameHead CaptureBlock
+
+-- what the octets mean that still come to a reader, and how many it read
+abbrev pub reader_means : CaptureReader → List ℕ → Meaning (Item FrameHead)
+reader_means it = capture_means it.reader
+
+abbrev pub reader_at : CaptureReader → ℕ
+reader_at it = capture_at it.reader
+
+-- it takes no answers any more; it gives no blocks any more; the blocks that it waits for
+abbrev pub lane_rests : Lane → Bool
+lane_rests l = is_some l.failed
+
+abbrev pub lane_over : Lane → Bool
+lane_over l = is_over l.failed l.desk.stop
+
+abbrev pub lane_due : Lane → List (List JobView)
+lane_due l = jobs_in l.desk.due
+
+-- what the receiving of its capture came to
+abbrev pub lane_answer : Lane → Result Ended StopFault
+lane_answer l = ended_so l.failed l.desk.stop l.desk.frames l.desk.count
+
+-- the lines that are put in all if the hits of exactly these jobs still come
+abbrev pub lines_left : FrameLines → List (Headed FrameHead) → List ℕ
+lines_left lines = booked_in result_line (results_in lines.under_way)
+
+-- the devices of a lane are seen so
+module _ {S K : Type 0} (source : S → Device ℕ) (sink : K → Device ℕ) where
+  abbrev pub lane_seen : Side Lane S K → Seen FrameHead ℕ
+  lane_seen a = seen_by reader_means reader_at a.lane.desk (source a.source) (lane_told lines_left a.lane.booking (sink a.sink))
+
+  -- what one lane did with its devices: what was read of its capture, which hits were taken, and which lines were put
+  abbrev pub LaneLeads : Side Lane S K → Side Lane S K → Type 0
+  LaneLeads a b = TellsBy a.lane.failed b.lane.failed (lane_seen a) (lane_seen b)
+
+  -- each lane did what its own devices and its own blocks made it do
+  abbrev pub LanesLead : Sides Lane S K → Sides Lane S K → Type 0
+  LanesLead = AllLead LaneLeads
+
+-- it has read nothing of its capture
+pub record IsNew (l : Lane) : Type 0 where
+  pub reader : CaptureReader
+  pub head : FrameHead
+  pub desk : l.desk ≡ desk_view reader None head 0 [] 0
+  pub means : (octets : List ℕ) → reader_means reader octets ≡ mapped (capture_of octets)
+  pub at : reader_at reader ≡ 0
+  pub none : l.booking.under_way.left ≡ 0
+  pub well : l.failed ≡ None
+
+abbrev pub AreNew : List Lane → Type 0
+AreNew lanes = (l : Lane) (k : ℕ) → k < length lanes → IsNew (slice_index_or lanes k l)

@@ -1,0 +1,50 @@
+//! A lane for each capture.
+ghost use Rattle.std.specs.Prelude.{◌≡◌, length, map, IfOk};
+ghost use Rattle.ht_lanes.specs.Lanes.{AreOver};
+ghost use Rattle.ht_many.specs.CaptureLanes.{AreNew, IsNew, lane_answer, lane_over};
+
+use crate::frame_lines::FrameLines;
+use ht_capture_blocks::CaptureReader;
+use ht_feed::Ended;
+use ht_lanes::DeskLane;
+use ht_results::no_head;
+use ht_runs::StopFault;
+use std::alloc::{AllocError, Global};
+
+/// What receives one capture among several: the reader of its octets, the blocks that are due, and the frame under way.
+pub(crate) type CaptureLane = DeskLane<CaptureReader, FrameLines>;
+
+// A lane that has read nothing. It has room for one block that is due, and takes more memory where more become due.
+fn open_lane(alloc: Global) -> Result<CaptureLane, AllocError>
+    ensures { IfOk result IsNew }
+{
+    let reader = CaptureReader::new(alloc)?;
+    DeskLane::new(alloc, reader, no_head(), 1, FrameLines::new(alloc))
+}
+
+/// This many lanes that have read nothing. The only error is lack of memory.
+pub(crate) fn open_lanes(alloc: Global, count: usize) -> Result<Vec<CaptureLane>, AllocError>
+    ensures as_many { IfOk result (λ lanes. length lanes.items ≡ count) }
+    ensures new { IfOk result (λ lanes. AreNew lanes.items) }
+{
+    let mut lanes = Vec::new(alloc);
+    for _index in 0..count {
+        lanes.push(open_lane(alloc)?)?;
+    }
+    Ok(lanes)
+}
+
+/// What the receiving of each capture came to, once all lanes are over. The only error is lack of memory.
+pub(crate) fn answers_of(
+    alloc: Global,
+    lanes: &[CaptureLane],
+) -> Result<Vec<Result<Ended, StopFault>>, AllocError>
+    requires over { AreOver lane_over 0 lanes.now }
+    ensures { IfOk result (λ answers. answers.items ≡ map lane_answer lanes.now) }
+{
+    let mut answers = Vec::new(alloc);
+    for lane in lanes {
+        answers.push(lane.end())?;
+    }
+    Ok(answers)
+}

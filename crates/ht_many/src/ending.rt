@@ -1,0 +1,30 @@
+//! How captures ended whose lanes are over.
+ghost use Rattle.std.specs.Prelude.{◌≡◌, length, map, IfOk, OnErr};
+ghost use Rattle.ht_lanes.specs.Lanes.{AreOver};
+ghost use Rattle.ht_several.specs.LastLines.{EachFinishes, EachMayFinish, KeepSinks};
+ghost use Rattle.ht_many.specs.CaptureLanes.{lane_answer, lane_over};
+
+use crate::capture_lane::{CaptureLane, answers_of};
+use ht_io::Sink;
+use ht_several::{ManyEnd, finish};
+use std::alloc::{AllocError, Global};
+
+/// Puts the last line of each capture, and tells how it ended, once all lanes are over. The only error is lack of
+/// memory.
+pub(crate) fn end_all<K: Sink>(
+    alloc: Global,
+    lanes: &[CaptureLane],
+    sinks: &mut [K],
+) -> Result<Vec<ManyEnd>, AllocError>
+    requires over { AreOver lane_over 0 lanes.now }
+    requires pairs { length sinks.old ≡ length lanes.now }
+    ensures finishes { IfOk result (λ ends. EachFinishes K.shown sinks.old sinks.new (map lane_answer lanes.now) ends.items) }
+    ensures memory { OnErr result (EachMayFinish K.shown sinks.old sinks.new (map lane_answer lanes.now)) }
+    ensures later { KeepSinks K.shown sinks.old sinks.new }
+{
+    let answers = match answers_of(alloc, lanes) {
+        Ok(answers) => answers,
+        Err(lack) => return Err(lack),
+    };
+    finish(alloc, &answers, sinks)
+}

@@ -1,0 +1,93 @@
+//! What becomes of the hits of one capture among several.
+ghost use Rattle.std.specs.Prelude.{◌≡◌, drop, slice_get, take, refl, Some, IfErr, OnErr, OnOk};
+ghost use Rattle.ht_io.specs.Devices.{IsLater, Rose};
+ghost use Rattle.ht_feed.specs.Accounts.{PutsBlock, PutsPartOf};
+ghost use Rattle.ht_feed.specs.Dues.{AreHits, all_due, jobs_in};
+ghost use Rattle.ht_frames.specs.Gathering.{booked_in, none_booked};
+ghost use Rattle.ht_capture.specs.Parts.{jobs_of};
+ghost use Rattle.ht_results.specs.Texts.{result_line};
+ghost use Rattle.ht_rx.specs.Frames.{results_in};
+ghost use Rattle.ht_many.specs.Renumbering.{hits_numberless};
+
+use ht_capture_blocks::{CaptureBlock, CaptureReader};
+use ht_feed::{BookFault, Desk, Desking, Hits};
+use ht_frames::{Book, Receiver, TextBook};
+use ht_io::Sink;
+use ht_lanes::Booking;
+use ht_results::FrameResult;
+use ht_rx::OpenFrame;
+use std::alloc::Global;
+
+/// Puts the line of each frame of a capture into the sink that it is handed, once the hit of its last job was taken.
+///
+/// Until then what its jobs come to is under way here, so that captures beside one another have a frame under way each.
+#[derive(Drop)]
+pub(crate) struct FrameLines {
+    alloc: Global,
+    under_way: OpenFrame,
+}
+
+impl FrameLines {
+    /// No frame is under way. It takes no memory.
+    pub(crate) fn new(alloc: Global) -> FrameLines
+        ensures { result.under_way.left ≡ 0 }
+    {
+        FrameLines {
+            alloc,
+            under_way: OpenFrame::new(alloc),
+        }
+    }
+
+    // Takes the hits of the first block due, and books the results of frames that are whole with them.
+    fn take_into<B: Book<FrameResult>>(
+        &mut self,
+        desk: &mut Desk<CaptureReader>,
+        block: &CaptureBlock,
+        hits: &Hits,
+        book: &mut B,
+    ) -> Result<(), BookFault>
+        requires right { AreHits hits.now.found.items (jobs_of block.now.block) }
+        requires first { slice_get (jobs_in desk.old.due) 0 ≡ Some (jobs_of block.now.block) }
+
+        // What was booked, and what is left to book.
+        ensures put { OnOk result (PutsBlock (B.shown book.old) (B.shown book.new) (booked_in B.booked (results_in self.old.under_way))
+            (booked_in B.booked (results_in self.new.under_way)) (all_due (take 1 desk.old.due))) }
+        ensures part { OnErr result (PutsPartOf (B.shown book.old) (B.shown book.new) (booked_in B.booked (results_in self.old.under_way))
+            (all_due (take 1 desk.old.due))) }
+
+        // What is due.
+        ensures due { OnOk result (desk.new ≡ record desk.old { due = drop 1 desk.old.due }) }
+        ensures stays { OnErr result (desk.new ≡ desk.old) }
+
+        // The book's device has counted a fault exactly where it failed.
+        ensures cause { IfErr result (λ fault. fault ≡ BookFault.Failed → Rose (B.shown book.old) (B.shown book.new)) }
+        ensures steady { OnOk result ((B.shown book.new).faults ≡ (B.shown book.old).faults) }
+        ensures unfailed { IfErr result (λ fault. fault ≡ BookFault.NoMemory → (B.shown book.new).faults ≡ (B.shown book.old).faults) }
+        ensures later { IsLater (B.shown book.old) (B.shown book.new) }
+        ensures same { B.lent book.new ≡ B.lent book.old }
+    {
+        let mut receiver = Receiver::new(self.alloc, &mut self.under_way, book);
+        desk.take(block, hits, &mut receiver)
+    }
+}
+
+impl<K: Sink> Booking<CaptureReader, K> for FrameLines {
+    type Answer = Hits;
+
+    ghost pieces = { λ l. booked_in result_line (results_in l.under_way) };
+
+    fn take(
+        &mut self,
+        desk: &mut Desk<CaptureReader>,
+        block: &CaptureBlock,
+        hits: &Hits,
+        sink: &mut K,
+    ) -> Result<(), BookFault> {
+        let mut book = TextBook::new(self.alloc, sink);
+        self.take_into(desk, block, hits, &mut book)
+    }
+
+    ghost none = { λ l. none_booked result_line (results_in l.under_way) refl };
+
+    ghost numberless = { λ hits n jobs right. hits_numberless hits.found.items n jobs right };
+}

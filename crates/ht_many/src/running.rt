@@ -1,0 +1,81 @@
+//! The jobs of all lanes, run in this thread or by one crew.
+ghost use Rattle.std.specs.Prelude.{◌≡◌, ◌≤◌, length, OnOk};
+ghost use Rattle.ht_lanes.specs.Lanes.{AreOver, HaveNone, sides_of};
+ghost use Rattle.ht_many.specs.CaptureLanes.{AreNew, LanesLead, lane_due, lane_over, lane_rests};
+
+use crate::capture_lane::CaptureLane;
+use circular_buffer::HeapCircularBuffer;
+use ht_crew::Gate;
+use ht_drive::drive;
+use ht_frames::HitWork;
+use ht_io::{Sink, Source};
+use ht_lanes::{Lanes, run_alone};
+use std::alloc::{AllocError, Global};
+use std::sync::Wait;
+use std::thread::Threads;
+
+/// Runs the jobs of all lanes in this thread, each between the two calls of the gate, until no lane gives a block any
+/// more. At most `window` jobs, 1 to 4096, are due at a time, of all lanes together. The only error is lack of memory.
+pub(crate) fn run_in_this_thread<S: Source, K: Sink, G: Gate>(
+    alloc: Global,
+    window: u16,
+    lanes: &mut [CaptureLane],
+    sources: &mut [S],
+    sinks: &mut [K],
+    gate: &G,
+) -> Result<(), AllocError>
+    requires some { 1 ≤ window }
+    requires few { window ≤ 4096 }
+    requires new { AreNew lanes.old }
+    requires sources { length sources.old ≡ length lanes.old }
+    requires sinks { length sinks.old ≡ length lanes.old }
+
+    // However it ends, each lane did what its own devices and its own blocks made it do.
+    ensures leads { LanesLead S.shown K.shown (sides_of lanes.old sources.old sinks.old) (sides_of lanes.new sources.new sinks.new) }
+
+    // Else all are over, and none that takes answers waits for one.
+    ensures over { OnOk result (AreOver lane_over 0 lanes.new) }
+    ensures taken { OnOk result (HaveNone lane_due lane_rests lanes.new) }
+{
+    let work = HitWork { alloc, gate };
+    run_alone::<CaptureLane, S, K, HitWork<G>>(alloc, window, &work, lanes, sources, sinks)
+}
+
+/// Does as [`run_in_this_thread`], and the jobs are run by a crew of 1 to 64 workers, of which the caller is one.
+pub(crate) fn run_in_crew<R: Threads + Wait + Sync, S: Source, K: Sink, G: Gate + Sync>(
+    rt: &R,
+    alloc: Global,
+    workers: u8,
+    window: u16,
+    lanes: &mut [CaptureLane],
+    sources: &mut [S],
+    sinks: &mut [K],
+    gate: &G,
+) -> Result<(), AllocError>
+    requires least { 1 ≤ workers }
+    requires most { workers ≤ 64 }
+    requires some { 1 ≤ window }
+    requires few { window ≤ 4096 }
+    requires new { AreNew lanes.old }
+    requires sources { length sources.old ≡ length lanes.old }
+    requires sinks { length sinks.old ≡ length lanes.old }
+    ensures leads { LanesLead S.shown K.shown (sides_of lanes.old sources.old sinks.old) (sides_of lanes.new sources.new sinks.new) }
+    ensures over { OnOk result (AreOver lane_over 0 lanes.new) }
+    ensures taken { OnOk result (HaveNone lane_due lane_rests lanes.new) }
+{
+    let Ok(mut due) = HeapCircularBuffer::with_capacity(alloc, 1) else {
+        return Err(AllocError);
+    };
+    let mut feed = Lanes::new(lanes, sources, sinks, &mut due);
+    match drive(
+        rt,
+        alloc,
+        workers,
+        window,
+        &HitWork { alloc, gate },
+        &mut feed,
+    ) {
+        Ok(_) => Ok(()),
+        Err(_) => Err(AllocError),
+    }
+}

@@ -1,0 +1,83 @@
+//! The last line of a capture.
+ghost use Rattle.std.specs.Prelude.{◌≡◌, ◌≢◌, ◌≤◌, ℕ, List, IfOk, OnErr};
+ghost use Rattle.ht_io.specs.Devices.{IsLater};
+ghost use Rattle.ht_io.specs.Kinds.{name_of};
+ghost use Rattle.ht_text.specs.Lines.{end_text, refused_text};
+ghost use Rattle.ht_several.specs.declared.many_end.ManyEnd.TheVariants.{Write as WriteEnd};
+ghost use Rattle.ht_several.specs.Alone.{Finishes, PutsLast};
+
+use crate::many_end::ManyEnd;
+use ht_feed::Ended;
+use ht_io::{FormatFault, Sink};
+use ht_runs::StopFault;
+use ht_text::{end_line, refused_line};
+use std::alloc::{AllocError, Global};
+
+// Puts the last line of a capture, which then ends so. Without memory for the line the sink is as before.
+fn put_last<K: Sink>(
+    line: Result<Vec<u8>, AllocError>,
+    then: ManyEnd,
+    sink: &mut K,
+) -> Result<ManyEnd, AllocError>
+    ensures puts { IfOk result (λ end. (text : List ℕ) → IfOk line (λ octets. octets.items ≡ text) → PutsLast text then (K.shown sink.old) (K.shown sink.new) end) }
+    ensures memory { OnErr result (sink.new ≡ sink.old) }
+    ensures writes { IfOk result (λ end. end ≢ WriteEnd → (K.shown sink.new).faults ≡ (K.shown sink.old).faults) }
+    ensures later { IsLater (K.shown sink.old) (K.shown sink.new) }
+{
+    let Ok(line) = line else {
+        return Err(AllocError);
+    };
+    match sink.put(&line) {
+        Ok(()) => Ok(then),
+        Err(_) => Ok(ManyEnd::Write),
+    }
+}
+
+// Ends a whole capture. One counts its frames by two octets, so there are never more of them.
+fn put_end<K: Sink>(alloc: Global, frames: u64, sink: &mut K) -> Result<ManyEnd, AllocError>
+    ensures puts { IfOk result (PutsLast (end_text frames) (ManyEnd.Done frames) (K.shown sink.old) (K.shown sink.new)) }
+    ensures memory { OnErr result (sink.new ≡ sink.old) }
+    ensures writes { IfOk result (λ end. end ≢ WriteEnd → (K.shown sink.new).faults ≡ (K.shown sink.old).faults) }
+    ensures later { IsLater (K.shown sink.old) (K.shown sink.new) }
+{
+    if frames > 65535 {
+        return Err(AllocError);
+    }
+    put_last(end_line(alloc, frames), ManyEnd::Done(frames as u16), sink)
+}
+
+// Ends a capture with this first fault.
+fn put_refused<K: Sink>(
+    alloc: Global,
+    fault: FormatFault,
+    sink: &mut K,
+) -> Result<ManyEnd, AllocError>
+    ensures puts { IfOk result (PutsLast (refused_text (name_of fault.kind) fault.offset) (ManyEnd.Refused fault) (K.shown sink.old) (K.shown sink.new)) }
+    ensures memory { OnErr result (sink.new ≡ sink.old) }
+    ensures writes { IfOk result (λ end. end ≢ WriteEnd → (K.shown sink.new).faults ≡ (K.shown sink.old).faults) }
+    ensures later { IsLater (K.shown sink.old) (K.shown sink.new) }
+{
+    let line = refused_line(alloc, fault.kind.name(), fault.offset);
+    put_last(line, ManyEnd::Refused(fault), sink)
+}
+
+/// Puts the last line behind the lines of a capture whose receiving answered this, and tells how the capture ended:
+/// with `Write` where a sink failed, this time or before. The only error is lack of memory, and then nothing was put.
+pub(crate) fn finish_one<K: Sink>(
+    alloc: Global,
+    answer: Result<Ended, StopFault>,
+    sink: &mut K,
+) -> Result<ManyEnd, AllocError>
+    ensures finishes { IfOk result (Finishes answer (K.shown sink.old) (K.shown sink.new)) }
+    ensures writes { IfOk result (λ end. end ≢ WriteEnd → (K.shown sink.new).faults ≡ (K.shown sink.old).faults) }
+    ensures memory { OnErr result (sink.new ≡ sink.old) }
+    ensures later { IsLater (K.shown sink.old) (K.shown sink.new) }
+{
+    match answer {
+        Ok(Ended::Done { frames, .. }) => put_end(alloc, frames, sink),
+        Ok(Ended::Refused(fault)) => put_refused(alloc, fault, sink),
+        Err(StopFault::Read) => Ok(ManyEnd::Read),
+        Err(StopFault::Write) => Ok(ManyEnd::Write),
+        Err(StopFault::NoMemory) => Err(AllocError),
+    }
+}

@@ -1,0 +1,167 @@
+//! The decoder of weights: all 64 states at once, with whole costs in lanes of 32 bits. Before these come to the
+//! lanes' end all are lowered by the same, on which no choice depends.
+ghost use Rattle.std.specs.Prelude.{◌≡◌, ◌+◌, ◌-◌, ◌*◌, ◌^◌, ◌<◌, ◌≤◌, ◌↔◌, ℕ, true, false, IfOk};
+ghost use Rattle.std.specs.Prelude.{length, drop, replicate, slice_index};
+ghost use Rattle.std.specs.Int.{bit_at};
+ghost use Rattle.ht_conv.specs.Puncturing.{sent_count};
+ghost use Rattle.ht_viterbi.specs.Inputs.{IsCheapest, cost_of, tail, weight_cost};
+ghost use Rattle.ht_viterbi.specs.Lanes.{AreWithin, HasLanes, IsLight, heaviest};
+ghost use Rattle.ht_viterbi.specs.Trellis.{way, chosen, lesser, least_from, AreChoices, word_steps};
+
+use crate::codeword::Cheapest;
+use crate::cost_lanes::{
+    after_one, after_zero, differences, lesser, negative, one_costs, pair_costs, sums, zero_costs,
+};
+use crate::decoder::TAIL;
+use crate::pairs::{StepCosts, costs_from, places_of};
+use crate::plain;
+use crate::walk::forwards;
+use ht_bits::Bits;
+use ht_conv::kept_at;
+use ht_rate::Pattern;
+use std::alloc::{AllocError, Global};
+use std::simd::prelude::*;
+
+// The size of the heaviest weight whose costs the lanes hold.
+const HEAVIEST: u32 = 65_535;
+
+// The cost of state 0 at which all costs are lowered.
+const LIMIT: u32 = 1 << 30;
+
+// By how much they are lowered.
+const FALL: u32 = 1 << 29;
+
+// Whether the lanes hold the costs of these weights.
+fn are_light(weights: &[i32]) -> bool
+    ensures { result ≡ true → AreWithin heaviest weights.now }
+{
+    weights
+        .iter()
+        .all(|weight| weight.unsigned_abs() <= HEAVIEST)
+}
+
+// No state costs anything at the end.
+#[inline(always)]
+fn no_costs() -> u32x64
+    ensures { result ≡ replicate 64 0 }
+{
+    u32x64::splat(0)
+}
+
+// The cost of state 0.
+#[inline(always)]
+fn first_lane(costs: u32x64) -> u32
+    ensures { result ≡ slice_index costs 0 }
+{
+    costs[0]
+}
+
+// One step of the trellis. The answer has the new costs, and the states at which a 1 is taken.
+#[inline(always)]
+fn step(costs: u32x64, branches: StepCosts, free: bool) -> (u32x64, u64)
+    requires few { (k : ℕ) → k < 64 → slice_index costs k < 2 ^ 30 + 2 ^ 20 }
+    requires light { IsLight (2 * heaviest) branches }
+    ensures costs { HasLanes result.0
+        (λ k. lesser free (way (slice_index costs) branches k false) (way (slice_index costs) branches k true)) }
+    ensures choices { (k : ℕ) → k < 64 → (bit_at result.1 k ≡ 1)
+        ↔ (chosen free (way (slice_index costs) branches k false) (way (slice_index costs) branches k true) ≡ true) }
+{
+    let pairs = pair_costs(branches);
+    let zero_ways = sums(after_zero(costs), zero_costs(pairs));
+    if free {
+        let one_ways = sums(after_one(costs), one_costs(pairs));
+        (
+            lesser(zero_ways, one_ways),
+            negative(differences(one_ways, zero_ways)),
+        )
+    } else {
+        (zero_ways, 0)
+    }
+}
+
+// The costs, all lowered where that of state 0 has come to the limit, and by how much.
+#[inline(always)]
+fn lowered(costs: u32x64) -> (u32x64, u64)
+    requires close { (k : ℕ) → k < 64 → slice_index costs 0 ≤ slice_index costs k + 2 ^ 20 }
+    requires few { slice_index costs 0 < 2 ^ 30 + 2 ^ 20 }
+    ensures costs { (k : ℕ) → k < 64 → slice_index result.0 k + result.1 ≡ slice_index costs k }
+    ensures low { slice_index result.0 0 < 2 ^ 30 }
+{
+    if first_lane(costs) < LIMIT {
+        (costs, 0)
+    } else {
+        (differences(costs, u32x64::splat(FALL)), u64::from(FALL))
+    }
+}
+
+// Fills in the choices of all steps, from the last to the first, and gives the least cost from state 0.
+fn backwards_in_lanes(pattern: Pattern, weights: &[i32], choices: &mut [u64]) -> u64
+    requires light { AreWithin heaviest weights.now }
+    requires count { length weights.now ≡ sent_count pattern (length choices.old) }
+    requires few { length choices.old ≤ 2 ^ 20 }
+    ensures choices { AreChoices (word_steps weight_cost pattern weights.now (length choices.old)) choices.new }
+    ensures least { result ≡ least_from (word_steps weight_cost pattern weights.now (length choices.old)) 0 }
+{
+    let steps = choices.len();
+    let mut costs = no_costs();
+    let mut fallen = 0u64;
+    let mut at = steps;
+    let mut start = weights.len();
+    while at > 0 {
+        at -= 1;
+        let kept = kept_at(pattern, at as u32);
+        start -= places_of(kept);
+        let (next, word) = step(costs, costs_from(weights, start, kept), steps - at > TAIL);
+        choices[at] = word;
+        let (low, fall) = lowered(next);
+        costs = low;
+        fallen += fall;
+    }
+    fallen + u64::from(first_lane(costs))
+}
+
+// The same for any weights: those that the lanes can't hold are left to the plain decoder.
+fn backwards(pattern: Pattern, weights: &[i32], choices: &mut [u64]) -> u64
+    requires count { length weights.now ≡ sent_count pattern (length choices.old) }
+    requires few { length choices.old ≤ 2 ^ 20 }
+    ensures choices { AreChoices (word_steps weight_cost pattern weights.now (length choices.old)) choices.new }
+    ensures least { result ≡ least_from (word_steps weight_cost pattern weights.now (length choices.old)) 0 }
+{
+    if are_light(weights) {
+        backwards_in_lanes(pattern, weights, choices)
+    } else {
+        plain::backwards(pattern, weights, choices)
+    }
+}
+
+/// Decodes a punctured codeword from weights: the first terminated input whose coded bits cost least at `weights`.
+///
+/// `steps` is the length of the input with its tail of six zeros, from 6 to 524302, and `weights` has those of the
+/// coded bits that `pattern` keeps of these steps, A before B. Any weights are decoded, and those from -65535 to
+/// 65535 at speed. The memory for all steps is taken first, eight octets a step and one for each bit of the answer;
+/// lack of it is the only error, and then nothing has changed.
+///
+/// IEEE Std 802.11-2012, clauses 18.3.5.6 and 20.3.11.6.
+pub fn decode_weights(
+    alloc: Global,
+    steps: u32,
+    pattern: Pattern,
+    weights: &[i32],
+) -> Result<Cheapest, AllocError>
+    requires least { tail ≤ steps }
+    requires most { steps ≤ 524302 }
+    requires weights { length weights.now ≡ sent_count pattern steps }
+    ensures input { IfOk result (λ c. IsCheapest weight_cost steps pattern weights.now c.input) }
+    ensures cost { IfOk result (λ c. c.cost ≡ cost_of weight_cost pattern weights.now c.input) }
+    ensures steps { IfOk result (λ c. length c.input ≡ steps) }
+    ensures ending { IfOk result (λ c. drop (steps - tail) c.input ≡ replicate tail false) }
+{
+    let mut choices = Vec::from_elem(alloc, 0u64, steps as usize)?;
+    let mut input = Vec::with_capacity(alloc, steps as usize)?;
+    let cost = backwards(pattern, weights, choices.as_mut_slice());
+    forwards(&choices, &mut input);
+    Ok(Cheapest {
+        input: Bits::from(input),
+        cost,
+    })
+}
