@@ -6,6 +6,7 @@ use ht_feed::{Answer, Jobs, Work};
 use ht_pool::work::Work as PoolWork;
 use std::alloc::AllocError;
 use std::marker::{Model, PhantomData};
+use std::sync::Wait;
 
 /// A block with its place in the order of the blocks. Contracts see its jobs.
 #[derive(Drop)]
@@ -129,5 +130,9 @@ impl<'w, B: Jobs + Drop + Send, A: Answer + Drop + Send, W: Work<B, Answer = A>>
 
     fn run(&self, task: Task<B>) -> Done<B, A> {
         task.run(self.work)
+    }
+
+    fn help<R: Wait>(&self, rt: &R) -> bool {
+        self.work.help(rt)
     }
 }

@@ -4,6 +4,7 @@ ghost use Rattle.ht_metric.specs.Jobs.{JobView};
 
 use crate::jobs::Jobs;
 use std::alloc::AllocError;
+use std::sync::Wait;
 
 /// What is found for the jobs of a block, in the form in which an account takes it.
 pub trait Answer {
@@ -26,6 +27,12 @@ pub trait Work<B: Jobs> {
     fn is_hard(&self, _block: &B, _answer: &Self::Answer) -> bool
         requires few { length (B.jobs _block.now) < 2 ^ 16 }
     {
+        false
+    }
+
+    /// Does what else is waiting for a worker, if anything is, and answers whether it did. A drive's workers do so before
+    /// each block, and its caller never does.
+    fn help<R: Wait>(&self, _rt: &R) -> bool {
         false
     }
 }

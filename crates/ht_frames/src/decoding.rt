@@ -1,36 +1,29 @@
 //! Whole frames that are being decoded.
 ghost use Rattle.std.specs.Prelude.{◌≡◌, IfOk};
+ghost use Rattle.std.specs.Arc.{arc_value};
 
+use crate::frames::Frames;
 use crate::whole_frame::WholeFrame;
 use std::alloc::{AllocError, Global};
 use std::marker::Model;
 use std::snapshot::Snapshot;
-use std::thread;
-use std::thread::{Promise, PromisedHandle, Threads};
-
-/// What the thread of a frame promises: the frame's result.
-#[derive(Drop)]
-pub(crate) struct ResultOf<W: WholeFrame>(Snapshot<W>);
-
-impl<W: WholeFrame> Promise<Result<W::Result, AllocError>> for ResultOf<W> {
-    ghost kept_by = { λ p outcome. IfOk outcome (λ r. r ≡ W.result_of p.0.value) };
-}
+use std::sync::{Arc, Wait};
+use std::thread::Threads;
 
 /// Where the result of a frame comes from.
 #[derive(Drop)]
-pub(crate) enum ResultSource<W: WholeFrame> {
-    /// A thread of the frame's own.
-    Thread(PromisedHandle<Result<W::Result, AllocError>, ResultOf<W>>),
+pub(crate) enum ResultSource<W, T> {
+    /// It was given to the workers, under this number.
+    Workers(u64, Arc<W, Global>),
     /// It is there.
-    Done(Result<W::Result, AllocError>),
+    Done(Result<T, AllocError>),
 }
 
 /// A whole frame whose result is being worked out, or was.
 #[derive(Drop)]
 pub struct Decoding<W: WholeFrame> {
     frame: Snapshot<W>,
-    octets: u16,
-    work: ResultSource<W>,
+    work: ResultSource<W, W::Result>,
 }
 
 impl<W: WholeFrame> Model for Decoding<W> {
@@ -44,50 +37,31 @@ impl<W: WholeFrame> Model for Decoding<W> {
 }
 
 impl<W: WholeFrame + Drop> Decoding<W> {
-    /// Begins to decode a frame in a thread of its own. Where no thread can be made the frame is decoded in this one.
-    pub fn begin<R: Threads>(rt: &R, alloc: Global, frame: W) -> Decoding<W>
-    where
-        W: Send + 'static,
-        W::Result: Send + 'static,
-        ensures { result ≡ frame }
+    /// Gives a frame to the workers. The only error is lack of memory.
+    pub(crate) fn apart<R: Wait>(
+        rt: &R,
+        alloc: Global,
+        frames: &Frames<W>,
+        frame: W,
+    ) -> Result<Decoding<W>, AllocError>
+        ensures { IfOk result (λ d. d ≡ frame) }
     {
-        let octets = frame.octets();
-        let promise = ResultOf(Snapshot::of(&frame));
         let seen = Snapshot::of(&frame);
-        let work = match thread::spawn_with(
-            rt,
-            promise,
-            move || -> Result<W::Result, AllocError>
-                ensures { IfOk result (λ r. r ≡ W.result_of frame) }
-            { frame.decode(alloc) },
-        ) {
-            Ok(handle) => ResultSource::Thread(handle),
-            Err(refused) => ResultSource::Done((refused.value)()),
-        };
-        Decoding {
+        let frame = Arc::new(alloc, frame)?;
+        let number = frames.give(rt, Arc::try_clone(&frame)?)?;
+        Ok(Decoding {
             frame: seen,
-            octets,
-            work,
-        }
+            work: ResultSource::Workers(number, frame),
+        })
     }
 
     /// Decodes a frame in this thread, where another may help.
     pub(crate) fn here<R: Threads>(rt: &R, alloc: Global, frame: W) -> Decoding<W>
         ensures { result ≡ frame }
     {
-        let octets = frame.octets();
         let seen = Snapshot::of(&frame);
         let work = ResultSource::Done(frame.decode_together(rt, alloc));
-        Decoding {
-            frame: seen,
-            octets,
-            work,
-        }
-    }
-
-    /// The number of its octets.
-    pub(crate) fn octets(&self) -> u16 {
-        self.octets
+        Decoding { frame: seen, work }
     }
 
     /// Whether its result is there without a wait.
@@ -96,16 +70,12 @@ impl<W: WholeFrame + Drop> Decoding<W> {
     }
 
     /// Waits for its result. The only error is lack of memory.
-    pub(crate) fn finish<R: Threads>(self, rt: &R) -> Result<W::Result, AllocError>
+    pub(crate) fn finish<R: Wait>(self, rt: &R, frames: &Frames<W>) -> Result<W::Result, AllocError>
         ensures { IfOk result (λ r. r ≡ W.result_of self) }
     {
-        let Decoding {
-            frame: _,
-            octets: _,
-            work,
-        } = self;
+        let Decoding { frame: _, work } = self;
         match work {
-            ResultSource::Thread(handle) => handle.join(rt),
+            ResultSource::Workers(number, frame) => frames.outcome_of(rt, number, &frame),
             ResultSource::Done(outcome) => outcome,
         }
     }

@@ -2,12 +2,17 @@
 ghost use Rattle.std.specs.Prelude.{◌≡◌, ◌^◌, ◌<◌};
 ghost use Rattle.ht_metric.specs.Jobs.{near};
 
+use crate::frames::Frames;
+use crate::whole_frame::WholeFrame;
 use ht_crew::Gate;
 use ht_feed::{Finder, Hits, Jobs, Work, detect, hits_of, is_last_hard};
 use ht_metric::{Found, Job};
 use std::alloc::{AllocError, Global};
+use std::sync::Wait;
 
-/// What is found for a job, which is run between the two calls of the gate.
+/// What is found for a job, which is run between the two calls of the gate. Each caller has a copy of it: a result that
+/// is written piece by piece and then copied as a whole waits for memory.
+#[inline(always)]
 pub fn pass<G: Gate>(gate: &G, job: &Job) -> Found
     ensures found { result ≡ near job.now }
     ensures below { result.distance < 2 ^ 66 }
@@ -29,6 +34,7 @@ pub struct HitWork<'g, G> {
 }
 
 impl<'g, G: Gate> Finder for HitWork<'g, G> {
+    #[inline(always)]
     fn find(&self, job: &Job) -> Found {
         pass(self.gate, job)
     }
@@ -44,5 +50,30 @@ impl<'g, B: Jobs, G: Gate> Work<B> for HitWork<'g, G> {
     /// Whether the last job, which speaks for all, was hard.
     fn is_hard(&self, block: &B, hits: &Hits) -> bool {
         is_last_hard(block, hits.found.as_slice())
+    }
+}
+
+/// A work whose workers decode whole frames before they look for blocks.
+#[derive(Drop)]
+pub struct BesideFrames<'f, K, W: WholeFrame> {
+    /// What runs blocks.
+    pub work: K,
+    /// The frames that wait for a worker.
+    pub frames: &'f Frames<W>,
+}
+
+impl<'f, B: Jobs, K: Work<B>, W: WholeFrame + Drop> Work<B> for BesideFrames<'f, K, W> {
+    type Answer = K::Answer;
+
+    fn run(&self, block: &B) -> Result<K::Answer, AllocError> {
+        self.work.run(block)
+    }
+
+    fn is_hard(&self, block: &B, answer: &K::Answer) -> bool {
+        self.work.is_hard(block, answer)
+    }
+
+    fn help<R: Wait>(&self, rt: &R) -> bool {
+        self.frames.help(rt)
     }
 }

@@ -1,4 +1,4 @@
-//! An account that decodes whole frames while more jobs come.
+//! An account that has whole frames decoded while more jobs come.
 ghost use Rattle.std.specs.Prelude.{◌≡◌, ◌-◌, ◌^◌, ◌<◌, ◌≤◌, ◌∷◌, [], true, OnErr, OnOk, drop};
 ghost use Rattle.ht_metric.specs.Jobs.{JobView, near};
 ghost use Rattle.ht_feed.specs.Accounts.{PutsBlock, PutsPartOf};
@@ -8,7 +8,8 @@ ghost use Rattle.ht_frames.specs.Gathering.{CountsFaults, WaitForJobs, booked_be
 
 use crate::book::Book;
 use crate::decoding::Decoding;
-use crate::gathering::{decode, finish};
+use crate::frames::Frames;
+use crate::gathering::{book_frames, decode};
 use crate::under_way::UnderWay;
 use crate::whole_frame::WholeFrame;
 use circular_buffer::HeapCircularBuffer;
@@ -16,23 +17,27 @@ use ht_feed::{Account, BlockReader, BookFault, DueBlock, Hits, Jobs};
 use ht_metric::{Found, Place};
 use std::alloc::Global;
 use std::collections::VecDeque;
+use std::sync::Wait;
 use std::thread::Threads;
 
-/// Books the result of each frame in a book, as a [`Receiver`](crate::Receiver) does, and decodes whole frames in
-/// threads of their own while it takes more hits.
+/// Books the result of each frame in a book, as a [`Receiver`](crate::Receiver) does, and has workers decode whole
+/// frames while it takes more hits.
 ///
-/// A frame of 400 octets or more is decoded in a thread of its own once its last job came; a shorter one is decoded by
+/// A frame of 100 octets or more is given to the workers once its last job came ([`Frames`]); a shorter one is decoded by
 /// the caller, at once. Results are booked in order, and that of a frame that the caller decoded as soon as it is the
 /// oldest.
 ///
-/// Behind each hit fewer frames than there are workers, of at most 131,072 octets together, have no booked result,
-/// besides the frame under way. Where one more is whole, it is begun, and then the caller waits for the oldest ones. As
-/// two of the longest frames have 131,070 octets, there are never more than three of the longest frames, the one under
-/// way among them. Where no other block is due, the caller decodes the frame that is whole then, and books all results.
+/// Behind each hit at most two frames for each worker beside the caller, of at most 131,072 octets together, have no
+/// booked result, besides the frame under way. Where one more is whole, it is given to the workers, and then the caller
+/// waits for the oldest ones, and decodes what no worker has begun. As two of the longest frames have 131,070 octets,
+/// there are never more than three of the longest frames, the one under way among them. Where no other block is due, the
+/// caller decodes the frame that is whole then, and books all results.
 #[derive(Drop)]
 pub struct Gatherer<'a, R, U: UnderWay, B> {
     rt: &'a R,
     alloc: Global,
+    // Where workers find whole frames.
+    frames: &'a Frames<U::Whole>,
     // How many frames are decoded while hits are taken.
     beside: u8,
     under_way: &'a mut U,
@@ -48,13 +53,16 @@ impl<'a, R, U: UnderWay, B> Gatherer<'a, R, U, B> {
         rt: &'a R,
         alloc: Global,
         workers: u8,
+        frames: &'a Frames<U::Whole>,
         under_way: &'a mut U,
         queue: &'a mut VecDeque<Decoding<U::Whole>>,
         book: &'a mut B,
     ) -> Gatherer<'a, R, U, B>
-        requires { 1 ≤ workers }
+        requires one { 1 ≤ workers }
+        requires many { workers ≤ 64 }
         ensures under_way { result.under_way.now ≡ under_way.old }
         ensures queue { result.queue.now ≡ queue.old }
+        ensures frame_name { result.under_way.ghost_name ≡ under_way.entry.ghost_name }
         ensures queue_name { result.queue.ghost_name ≡ queue.entry.ghost_name }
         ensures book { result.book.now ≡ book.old }
         ensures name { result.book.ghost_name ≡ book.entry.ghost_name }
@@ -62,7 +70,8 @@ impl<'a, R, U: UnderWay, B> Gatherer<'a, R, U, B> {
         Gatherer {
             rt,
             alloc,
-            beside: workers - 1,
+            frames,
+            beside: 2 * (workers - 1),
             under_way,
             queue,
             book,
@@ -82,10 +91,11 @@ fn another_is_due<R: BlockReader>(due: &HeapCircularBuffer<DueBlock<R>>) -> bool
 
 // Takes what was found for a job of the frame that is under way, or that begins with this head. A frame that is whole
 // then stands behind the others, of which at most `room` are left.
-fn take_found<R: Threads, U: UnderWay, B: Book<<U::Whole as WholeFrame>::Result>>(
+fn take_found<R: Threads + Wait, U: UnderWay, B: Book<<U::Whole as WholeFrame>::Result>>(
     rt: &R,
     alloc: Global,
     room: usize,
+    frames: &Frames<U::Whole>,
     under_way: &mut U,
     queue: &mut VecDeque<Decoding<U::Whole>>,
     book: &mut B,
@@ -103,18 +113,26 @@ fn take_found<R: Threads, U: UnderWay, B: Book<<U::Whole as WholeFrame>::Result>
 {
     if under_way.take(alloc, head, place, found)? {
         let frame = under_way.leave(alloc);
-        decode::<R, U>(rt, alloc, queue, frame, room > 0)?;
-        finish(rt, room, queue, book)
+        decode(rt, alloc, frames, queue, frame, room > 0)?;
+        book_frames(rt, frames, room, queue, book)
     } else {
         Ok(())
     }
 }
 
-// Takes what was found for the jobs of a block of the frame with this head.
-fn take_block<J: Jobs, R: Threads, U: UnderWay, B: Book<<U::Whole as WholeFrame>::Result>>(
+/// Takes what was found for the jobs of a block of the frame with this head, as a [`Gatherer`] does that keeps whole frames
+/// back: of those whose results aren't booked at most `room` are left behind each frame that becomes whole, as
+/// [`book_frames`] leaves them. Where `room` is 0 the caller decodes the frame, and all are booked.
+pub fn gather_block<
+    J: Jobs,
+    R: Threads + Wait,
+    U: UnderWay,
+    B: Book<<U::Whole as WholeFrame>::Result>,
+>(
     rt: &R,
     alloc: Global,
     room: usize,
+    frames: &Frames<U::Whole>,
     under_way: &mut U,
     queue: &mut VecDeque<Decoding<U::Whole>>,
     book: &mut B,
@@ -133,7 +151,7 @@ fn take_block<J: Jobs, R: Threads, U: UnderWay, B: Book<<U::Whole as WholeFrame>
     for at in 0..found.len() {
         let place = block.place_at(at as u16);
         take_found(
-            rt, alloc, room, under_way, queue, book, head, place, &found[at],
+            rt, alloc, room, frames, under_way, queue, book, head, place, &found[at],
         )?;
     }
     Ok(())
@@ -142,7 +160,7 @@ fn take_block<J: Jobs, R: Threads, U: UnderWay, B: Book<<U::Whole as WholeFrame>
 impl<
     'a,
     T: BlockReader<Head = U::Head>,
-    R: Threads,
+    R: Threads + Wait,
     U: UnderWay,
     B: Book<<U::Whole as WholeFrame>::Result>,
 > Account<T> for Gatherer<'a, R, U, B> {
@@ -152,7 +170,7 @@ impl<
 
     ghost shown = { λ r. B.shown r.book.now };
 
-    ghost lent = { λ r. r.book.ghost_name ∷ B.lent r.book.now };
+    ghost lent = { λ r. r.under_way.ghost_name ∷ r.queue.ghost_name ∷ r.book.ghost_name ∷ B.lent r.book.now };
 
     ghost pieces = { λ r. booked_behind U.Whole.result_of B.booked r.queue.now.items (U.results r.under_way.now) };
 
@@ -167,10 +185,11 @@ impl<
     ) -> Result<(), BookFault> {
         let more = another_is_due(due);
         let room = if more { usize::from(self.beside) } else { 0 };
-        take_block(
+        gather_block(
             self.rt,
             self.alloc,
             room,
+            self.frames,
             self.under_way,
             self.queue,
             self.book,
@@ -181,7 +200,7 @@ impl<
         if more {
             return Ok(());
         }
-        finish(self.rt, 0, self.queue, self.book)
+        book_frames(self.rt, self.frames, 0, self.queue, self.book)
     }
 
     ghost more_due = { λ r. wait_on r.queue.now.items };

@@ -1,84 +1,84 @@
 //! Whole frames are decoded while more jobs come, and their results are booked in order.
-ghost use Rattle.std.specs.Prelude.{◌≡◌, ◌≤◌, ◌∷◌, [], ◌++◌, false, None, length, option_to_list, OnErr, OnOk};
+ghost use Rattle.std.specs.Prelude.{◌≡◌, ◌≤◌, ◌∷◌, [], ◌++◌, false, None, length, option_to_list, IfOk, OnErr, OnOk};
 ghost use Rattle.ht_io.specs.Devices.{Grows, GrowsByPart};
 ghost use Rattle.ht_frames.specs.Gathering.{BooksFirst, CountsFaults, booked_whole};
 
 use crate::book::Book;
 use crate::decoding::Decoding;
-use crate::under_way::UnderWay;
+use crate::frames::Frames;
 use crate::whole_frame::WholeFrame;
 use ht_feed::BookFault;
 use std::alloc::{AllocError, Global};
 use std::collections::VecDeque;
+use std::sync::Wait;
 use std::thread::Threads;
 
-/// The fewest octets of a frame that is worth a thread of its own.
-const LEAST: u16 = 400;
+/// The fewest octets of a frame that is worth the way to another thread.
+const LEAST: u16 = 100;
 
 /// The most octets of frames that are decoded while more jobs come. Two of the longest frames have fewer.
-const MOST: u32 = 131072;
+const MOST: u64 = 131072;
 
-// Decodes a frame in a thread of its own, if it may have one and is worth it, or else in this thread.
-fn decoding<R: Threads, U: UnderWay>(
+// Has a frame decoded by a worker, if it may be and is worth it, or else in this thread.
+fn decoding<R: Threads + Wait, W: WholeFrame + Drop>(
     rt: &R,
     alloc: Global,
-    frame: U::Whole,
+    frames: &Frames<W>,
+    frame: W,
     apart: bool,
-) -> Decoding<U::Whole>
-    ensures { result ≡ frame }
+) -> Result<Decoding<W>, AllocError>
+    ensures { IfOk result (λ d. d ≡ frame) }
 {
     if apart && frame.octets() >= LEAST {
-        U::begin(rt, alloc, frame)
+        Decoding::apart(rt, alloc, frames, frame)
     } else {
-        Decoding::here(rt, alloc, frame)
+        Ok(Decoding::here(rt, alloc, frame))
     }
 }
 
-/// Decodes a whole frame behind the others: in a thread of its own, if it may have one and is worth it, or else in this
-/// thread. The only error is lack of memory.
-pub(crate) fn decode<R: Threads, U: UnderWay>(
+/// Decodes a whole frame behind the others: by a worker, if it may be and is worth it, or else in this thread. The only
+/// error is lack of memory.
+pub(crate) fn decode<R: Threads + Wait, W: WholeFrame + Drop>(
     rt: &R,
     alloc: Global,
-    queue: &mut VecDeque<Decoding<U::Whole>>,
-    frame: U::Whole,
+    frames: &Frames<W>,
+    queue: &mut VecDeque<Decoding<W>>,
+    frame: W,
     apart: bool,
 ) -> Result<(), AllocError>
     ensures { OnOk result (queue.new.items ≡ queue.old.items ++ frame ∷ []) }
 {
     queue.reserve(1)?;
-    queue.push_back_reserved(decoding::<R, U>(rt, alloc, frame, apart));
+    let decoding = decoding(rt, alloc, frames, frame, apart)?;
+    queue.push_back_reserved(decoding);
     Ok(())
 }
 
-// The octets of frames, all together.
-fn octets<W: WholeFrame + Drop>(queue: &VecDeque<Decoding<W>>) -> u32 {
-    let mut octets = 0u32;
-    for frame in queue {
-        octets = octets.saturating_add(u32::from(frame.octets()));
-    }
-    octets
-}
-
-// Whether the oldest frame is to be finished: there are more frames than may be decoded while more jobs come, or they
-// have too many octets, or its result is there.
-fn is_time<W: WholeFrame + Drop>(queue: &VecDeque<Decoding<W>>, room: usize) -> bool
+// Whether the oldest frame is to be finished: there are more frames than may be decoded while more jobs come, or those that
+// the workers have, of whichever queue, have too many octets, or its result is there.
+fn is_time<W: WholeFrame + Drop>(
+    frames: &Frames<W>,
+    queue: &VecDeque<Decoding<W>>,
+    room: usize,
+) -> bool
     ensures { result ≡ false → length queue.now.items ≤ room }
 {
     match queue.front() {
-        Some(oldest) => queue.len() > room || oldest.is_done() || octets(queue) > MOST,
+        Some(oldest) => queue.len() > room || oldest.is_done() || frames.octets() > MOST,
         None => false,
     }
 }
 
 // Takes the oldest frame out of the queue, if it is to be finished.
 fn take_oldest<W: WholeFrame + Drop>(
+    frames: &Frames<W>,
     queue: &mut VecDeque<Decoding<W>>,
     room: usize,
 ) -> Option<Decoding<W>>
     ensures items { queue.old.items ≡ option_to_list result ++ queue.new.items }
     ensures few { result ≡ None → length queue.new.items ≤ room }
 {
-    if is_time(queue, room) {
+    if is_time(frames, queue, room) {
         queue.pop_front()
     } else {
         None
@@ -86,8 +86,9 @@ fn take_oldest<W: WholeFrame + Drop>(
 }
 
 // Waits for the result of a frame, and books it.
-fn book_one<R: Threads, W: WholeFrame + Drop, B: Book<W::Result>>(
+fn book_one<R: Wait, W: WholeFrame + Drop, B: Book<W::Result>>(
     rt: &R,
+    frames: &Frames<W>,
     frame: Decoding<W>,
     book: &mut B,
 ) -> Result<(), BookFault>
@@ -95,15 +96,16 @@ fn book_one<R: Threads, W: WholeFrame + Drop, B: Book<W::Result>>(
     ensures part { OnErr result (GrowsByPart (B.shown book.old) (B.shown book.new) (B.booked (W.result_of frame))) }
     ensures faults { CountsFaults result (B.shown book.old) (B.shown book.new) (B.lent book.old) (B.lent book.new) }
 {
-    let result = frame.finish(rt)?;
+    let result = frame.finish(rt, frames)?;
     book.frame(result)?;
     Ok(())
 }
 
-/// Books the results of the oldest frames, until at most `room` frames are left, they have at most 131,072 octets
-/// together, and the oldest of them has a thread.
-pub(crate) fn finish<R: Threads, W: WholeFrame + Drop, B: Book<W::Result>>(
+/// Books the results of the oldest frames, until at most `room` frames are left and the oldest of them is with the
+/// workers, who have at most 131,072 octets of frames, those of other queues among them, or until none is left.
+pub fn book_frames<R: Wait, W: WholeFrame + Drop, B: Book<W::Result>>(
     rt: &R,
+    frames: &Frames<W>,
     room: usize,
     queue: &mut VecDeque<Decoding<W>>,
     book: &mut B,
@@ -113,15 +115,8 @@ pub(crate) fn finish<R: Threads, W: WholeFrame + Drop, B: Book<W::Result>>(
     ensures part { OnErr result (GrowsByPart (B.shown book.old) (B.shown book.new) (booked_whole W.result_of B.booked queue.old.items)) }
     ensures faults { CountsFaults result (B.shown book.old) (B.shown book.new) (B.lent book.old) (B.lent book.new) }
 {
-    while let Some(oldest) = take_oldest(queue, room) {
-        book_one(rt, oldest, book)?;
+    while let Some(oldest) = take_oldest(frames, queue, room) {
+        book_one(rt, frames, oldest, book)?;
     }
     Ok(())
-}
-
-/// Waits for frames whose results nobody wants any more, so that no thread is left behind.
-pub fn abandon<R: Threads, W: WholeFrame + Drop>(rt: &R, queue: VecDeque<Decoding<W>>) {
-    for frame in queue {
-        let _ = frame.finish(rt);
-    }
 }

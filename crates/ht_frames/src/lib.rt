@@ -3,11 +3,12 @@
 //! Whoever receives frames says by an [`UnderWay`] what their jobs come to: it takes what was found for one job after
 //! another, each with its place and the head of its frame. With its last job a frame is whole, and is decoded where it
 //! stands or leaves as a [`WholeFrame`]. All else is here. A [`Receiver`] decodes each whole frame and books its result
-//! in a [`Book`]; a [`Gatherer`] has them leave, and decodes long ones in threads of their own while more hits come.
+//! in a [`Book`]; a [`Gatherer`] has them leave, and has workers decode long ones ([`Frames`]) while more hits come.
 //! Both are accounts (`Account` of crate `ht_feed`): the jobs that come put what is booked of the results that they
-//! come to, `booked_in` in `specs/Gathering.antt`, whatever the blocks and the threads are. A [`ListBook`] keeps the
-//! results, and a [`TextBook`] puts the [`Line`] of each into a sink. [`HitWork`] finds the hits, each job between the
-//! two calls of a gate.
+//! come to, `booked_in` in `specs/Gathering.antt`, whatever the blocks and the threads are. Whoever keeps whole frames
+//! back longer than a gatherer does so by [`gather_block`] and [`book_frames`]. A [`ListBook`] keeps the results, and a
+//! [`TextBook`] puts the [`Line`] of each into a sink. [`HitWork`] finds the hits, each job between the two calls of a
+//! gate.
 //!
 //! Say a frame is whole with its second job, its result is the sum of the two distances, and its line is that number.
 //! Of five jobs with the distances 7, 7, 4, 0 and 9 a receiver with a [`TextBook`] puts `14` and `4`, and keeps the
@@ -16,6 +17,8 @@
 
 mod book;
 mod decoding;
+mod errand;
+mod frames;
 mod gated;
 mod gatherer;
 mod gathering;
@@ -28,9 +31,10 @@ mod whole_frame;
 
 pub use book::Book;
 pub use decoding::Decoding;
-pub use gated::{HitWork, pass};
-pub use gatherer::Gatherer;
-pub use gathering::abandon;
+pub use frames::Frames;
+pub use gated::{BesideFrames, HitWork, pass};
+pub use gatherer::{Gatherer, gather_block};
+pub use gathering::book_frames;
 pub use line::Line;
 pub use list_book::ListBook;
 pub use receiver::Receiver;

@@ -4,11 +4,9 @@ ghost use Rattle.ht_metric.specs.Jobs.{JobView, near};
 ghost use Rattle.ht_feed.specs.Items.{Headed, headed_of};
 ghost use Rattle.ht_frames.specs.Gathering.{finished};
 
-use crate::decoding::Decoding;
 use crate::whole_frame::WholeFrame;
 use ht_metric::{Found, Place};
 use std::alloc::{AllocError, Global};
-use std::thread::Threads;
 
 /// What the jobs of frames come to while they come: one frame is under way, or none.
 ///
@@ -57,11 +55,6 @@ pub trait UnderWay {
         requires whole { is_whole self.old }
         ensures value { Self.Whole.result_of result ≡ comes_to self.old }
         ensures kept { (more : List (Headed Self.Head)) → results self.new more ≡ results self.old more };
-
-    /// Begins to decode a whole frame in a thread of its own, or decodes it in this one where none can be made:
-    /// [`Decoding::begin`] of the type of the whole frames, which can't be called where that type isn't known.
-    fn begin<R: Threads>(rt: &R, alloc: Global, frame: Self::Whole) -> Decoding<Self::Whole>
-        ensures { result ≡ frame };
 
     /// Where no job comes, no frame is whole.
     ghost none: { (a : Self) → results a [] ≡ [] };

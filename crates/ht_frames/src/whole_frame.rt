@@ -1,5 +1,5 @@
 //! A frame whose last job came.
-ghost use Rattle.std.specs.Prelude.{◌≡◌, IfOk};
+ghost use Rattle.std.specs.Prelude.{◌≡◌, ℕ, IfOk, IsTrue};
 
 use std::alloc::{AllocError, Global};
 use std::thread::Threads;
@@ -9,14 +9,24 @@ pub trait WholeFrame {
     /// What it comes to.
     type Result: Drop;
 
+    /// What decodes frames, one after another, and keeps memory and tables from one to the next.
+    type Decoder: Drop;
+
     /// The result of a frame.
     ghost result_of: { Self → Self.Result };
 
-    /// The number of its octets, by which it is judged whether its decoding is worth a thread of its own.
-    fn octets(&self) -> u16;
+    /// The number of a frame's octets.
+    ghost length_of: { Self → ℕ };
+
+    /// The number of its octets, by which it is judged whether its decoding is worth the way to a worker.
+    fn octets(&self) -> u16
+        ensures { result ≡ length_of self.now };
+
+    /// A decoder that has seen no frame. It takes no memory.
+    fn decoder(alloc: Global) -> Self::Decoder;
 
     /// What it comes to, decoded in this thread. The only error is lack of memory.
-    fn decode(&self, alloc: Global) -> Result<Self::Result, AllocError>
+    fn decode(&self, alloc: Global, decoder: &mut Self::Decoder) -> Result<Self::Result, AllocError>
         ensures { IfOk result (λ r. r ≡ result_of self.now) };
 
     /// The same, where another thread may help.
@@ -27,6 +37,10 @@ pub trait WholeFrame {
     ) -> Result<Self::Result, AllocError>
         ensures { IfOk result (λ r. r ≡ result_of self.now) }
     {
-        self.decode(alloc)
+        self.decode(alloc, &mut Self::decoder(alloc))
     }
+
+    /// Whether both are known to come to the same.
+    fn same(&self, other: &Self) -> bool
+        ensures { IsTrue result → result_of self.now ≡ result_of other.now };
 }

@@ -1,19 +1,21 @@
 -- What the calls of a lane over a desk lead to.
 use Rattle.std.specs.Prelude.{◌≡◌, ℕ, List, [], ◌∷◌, ◌++◌, Option, Some, None, true, false, is_some, Result, Ok, Err, OnErr, OnOk}
-use Rattle.std.proofs.Common.{refl, ap, ◌∙◌, sym, subst}
+use Rattle.std.proofs.Common.{refl, ap, ◌∙◌, sym, subst, arith, append-nil}
 use Rattle.std.proofs.lemmas.Bool.{false≢true}
-use Rattle.ht_io.specs.Devices.{Device}
+use Rattle.ht_io.specs.Devices.{Device, IsLater, Rose}
+use Rattle.ht_io.proofs.Calls.{later-refl}
 use Rattle.ht_fields.specs.Meanings.{Meaning}
 use Rattle.ht_metric.specs.Jobs.{JobView}
 use Rattle.ht_feed.specs.declared.stop.Stop.{Stop}
 use Rattle.ht_feed.specs.declared.book_fault.BookFault.{BookFault}
-use Rattle.ht_feed.specs.Accounts.{Telling}
+use Rattle.ht_feed.specs.declared.book_fault.BookFault.TheVariants.{Failed, NoMemory}
+use Rattle.ht_feed.specs.Accounts.{PutsBlock, PutsPartOf, Telling}
 use Rattle.ht_feed.specs.Items.{Item, Headed}
-use Rattle.ht_feed.specs.Dues.{Due, jobs_in}
-use Rattle.ht_feed.specs.Desks.{AddsBlock, DeskView, ReadsMore}
-use Rattle.ht_feed.specs.Leading.{tells-none}
+use Rattle.ht_feed.specs.Dues.{Due, all_due, jobs_in}
+use Rattle.ht_feed.specs.Desks.{AddsBlock, DeskView, ReadsMore, standing}
+use Rattle.ht_feed.specs.Leading.{reads_none, tells-none}
 use Rattle.ht_feed.specs.Reading.{Counts}
-use Rattle.ht_feed.specs.Telling.{Tells, seen_by}
+use Rattle.ht_feed.specs.Telling.{Tells, TellsPart, seen_by}
 use Rattle.ht_feed.proofs.Filling.{jobs_in-append}
 use Rattle.ht_feed.proofs.Leads.{tells_given}
 use Rattle.ht_lanes.specs.DeskLanes.{is_over}
@@ -43,6 +45,43 @@ module _ {R H : Type 0} (means : R → List ℕ → Meaning (Item H)) (at : R �
       subst (λ (d : DeskView R H). Tells (seen_by means at old source account) (seen_by means at d after account)) (sym lacks.0)
       (subst (λ (s : Device ℕ). Tells (seen_by means at old source account) (seen_by means at old s account)) (sym lacks.1)
       (tells-none (seen_by means at old source account)))
+
+  module _ {P : Type 0} (desk : DeskView R H) (source : Device ℕ) (a b : Telling H P) (later : IsLater a.device b.device) where
+    -- what was kept back was put
+    pub finished : PutsBlock a.device b.device a.pieces b.pieces [] → (a.Waits (all_due desk.due) → b.Waits (all_due desk.due))
+        → b.device.faults ≡ a.device.faults → Tells (seen_by means at desk source a) (seen_by means at desk source b)
+    finished puts waits steady = record {
+      items = [];
+      taken = [];
+      put = puts.0;
+      reads = reads_none (standing means at desk.reader desk.stop source);
+      head = refl;
+      jobs = append-nil (all_due desk.due);
+      first = puts.2;
+      grows = puts.1;
+      waits = waits;
+      steady = steady;
+      frames = omega arith;
+      count = omega arith;
+      reads_later = later-refl source;
+      puts_later = later;
+    }
+
+    -- not all of it could be put, or made
+    pub unfinished : (fault : BookFault) → PutsPartOf a.device b.device a.pieces [] → (fault ≡ Failed → Rose a.device b.device)
+        → (fault ≡ NoMemory → b.device.faults ≡ a.device.faults) → TellsPart (seen_by means at desk source a) (seen_by means at desk source b) fault
+    unfinished fault part cause steady = record {
+      items = [];
+      taken = [];
+      rest = all_due desk.due;
+      reads = reads_none (standing means at desk.reader desk.stop source);
+      jobs = append-nil (all_due desk.due);
+      part = part;
+      reads_later = later-refl source;
+      puts_later = later;
+      cause = cause;
+      steady = steady;
+    }
 
 -- a block more is due
 pub one_more_due : {R H : Type 0} (counts : R → Counts) (most : ℕ) (old new : DeskView R H) (jobs : List JobView) → AddsBlock counts most old new jobs

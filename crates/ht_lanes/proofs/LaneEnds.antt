@@ -1,22 +1,23 @@
 -- What it comes to that a lane over a new desk ran to its end, or as far as memory lasted.
 use Rattle.std.specs.Prelude.{◌≡◌, ◌≢◌, ℕ, List, [], Option, Some, None, true, false, is_some, Result, Err}
-use Rattle.std.proofs.Common.{refl, ap}
-use Rattle.ht_io.specs.Devices.{Device, IsLater}
+use Rattle.std.proofs.Common.{refl, ap, sym, subst}
+use Rattle.ht_io.specs.Devices.{Device, GrowsByPart, IsLater}
+use Rattle.ht_io.proofs.Calls.{grows_by_part-front}
 use Rattle.ht_fields.specs.Meanings.{Meaning}
+use Rattle.ht_runs.proofs.Known.{by_part}
 use Rattle.ht_runs.specs.declared.faults.StopFault.{StopFault}
 use Rattle.ht_runs.specs.declared.faults.StopFault.TheVariants.{Write, NoMemory as StopMemory}
 use Rattle.ht_feed.specs.declared.ended.Ended.{Ended}
 use Rattle.ht_feed.specs.declared.book_fault.BookFault.{BookFault}
 use Rattle.ht_feed.specs.declared.book_fault.BookFault.TheVariants.{Failed, NoMemory}
 use Rattle.ht_feed.specs.declared.drive.DriveFault.{DriveFault}
-use Rattle.ht_feed.specs.declared.drive.DriveFault.TheVariants.{NoMemory as DriveMemory}
 use Rattle.ht_feed.specs.Items.{Item}
 use Rattle.ht_feed.specs.Accounts.{Telling}
-use Rattle.ht_feed.specs.Dues.{jobs_in}
+use Rattle.ht_feed.specs.Dues.{all_due, jobs_in}
 use Rattle.ht_feed.specs.Desks.{DeskView, desk_view}
 use Rattle.ht_feed.specs.Outcomes.{Comes}
 use Rattle.ht_feed.specs.Stops.{failed_by}
-use Rattle.ht_feed.specs.Telling.{Seen, TellsBy, seen_by}
+use Rattle.ht_feed.specs.Telling.{Seen, Tells, TellsBy, TellsPart, seen_by}
 use Rattle.ht_feed.proofs.Finishing.{Heard, heard, puts_later, reads_later, steady}
 use Rattle.ht_lanes.specs.DeskLanes.{driven_so, ended_so, is_over}
 
@@ -55,42 +56,73 @@ module _ {R H P : Type 0} (means : R → List ℕ → Meaning (Item H)) (at : R 
     lacking = λ is. refl;
   }
 
-  -- what a drive answers where memory lacked elsewhere
-  abbrev lacked : Result (Unit {0}) (DriveFault BookFault)
-  lacked = Err DriveMemory
+  -- what is put of hits that still come is all one where a call failed
+  abbrev silent : Telling H P
+  silent = record { device = b.device; pieces = λ jobs. []; Waits = λ due. Unit {0} }
 
-  -- none failed, and memory lacked elsewhere
-  lacking : TellsBy None None first last → Heard means at reader head source source' a b new None lacked
-  lacking told = record {
+  -- the same of any account in front of the same device
+  ill_silent : (fault : BookFault) → TellsPart first (seen_by means at new source' silent) fault
+      → Heard means at reader head source source' a silent new (Some fault) (driven_so (Some fault))
+  ill_silent fault told = record {
     leads = told;
     ended = tt;
     taken = tt;
     well = tt;
     fault = λ f is. ap (λ (r : Result (Unit {0}) (DriveFault BookFault)). failed_by r) is;
-    lacking = λ is. refl;
+    lacking = λ is. ap (λ (r : Result (Unit {0}) (DriveFault BookFault)). failed_by r) is;
   }
 
-  module _ (rests : a.Waits []) (nothing : b.Waits [] → b.pieces [] ≡ []) where
-    -- the lane is over, and waits for no answer, if it takes any
+  unheard : (fault : BookFault) → TellsPart first last fault → TellsPart first (seen_by means at new source' silent) fault
+  unheard fault told = record {
+    items = told.items;
+    taken = told.taken;
+    rest = told.rest;
+    reads = told.reads;
+    jobs = told.jobs;
+    part = told.part;
+    reads_later = told.reads_later;
+    puts_later = told.puts_later;
+    cause = told.cause;
+    steady = told.steady;
+  }
+
+  -- a call failed, and what was kept back is lost
+  failed_ends : (fault : BookFault) → a.Waits [] → TellsPart first last fault → Came (ended_so (Some fault) new.stop new.frames new.count)
+  failed_ends fault rests told =
+      heard means at reader head source source' a silent new (Some fault) (driven_so (Some fault)) (ended_so (Some fault) new.stop new.frames new.count)
+      (ill_silent fault (unheard fault told)) rests (λ w. refl) refl
+
+  -- memory lacked elsewhere, and what was kept back is lost
+  lacks_elsewhere : Tells first last → TellsPart first last NoMemory
+  lacks_elsewhere told = record {
+    items = told.items;
+    taken = told.taken;
+    rest = all_due new.due;
+    reads = told.reads;
+    jobs = told.jobs;
+    part = λ more. subst (λ (xs : List P). GrowsByPart a.device b.device xs) (sym (told.first more))
+        (grows_by_part-front a.device b.device told.put (b.pieces more) (by_part a.device b.device told.put told.grows));
+    reads_later = told.reads_later;
+    puts_later = told.puts_later;
+    cause = λ failed. cc;
+    steady = λ lack. told.steady;
+  }
+
+  module _ (rests : a.Waits []) where
+    -- the lane is over, and if it takes answers it waits for none and keeps nothing back
     pub lane_ends : (failed : Option BookFault) → TellsBy None failed first last → is_over failed new.stop ≡ true
-        → (is_some failed ≡ false → jobs_in new.due ≡ []) → Came (ended_so failed new.stop new.frames new.count)
-    lane_ends (Some fault) told over none =
-        heard means at reader head source source' a b new (Some fault) (driven_so (Some fault)) (ended_so (Some fault) new.stop new.frames new.count)
-        (ill fault told) rests nothing refl
-    lane_ends None told over none =
+        → (is_some failed ≡ false → jobs_in new.due ≡ []) → (is_some failed ≡ false → b.pieces [] ≡ [])
+        → Came (ended_so failed new.stop new.frames new.count)
+    lane_ends (Some fault) told over none nothing = failed_ends fault rests told
+    lane_ends None told over none nothing =
         heard means at reader head source source' a b new None (driven_so None) (ended_so None new.stop new.frames new.count)
-        (well told over (none refl)) rests nothing refl
+        (well told over (none refl)) rests (λ w. nothing refl) refl
 
     -- memory lacked, here or elsewhere
     pub lane_lacks : (failed : Option BookFault) → TellsBy None failed first last → Came (Err StopMemory)
-    lane_lacks (Some Failed) told =
-        (heard means at reader head source source' a b new (Some Failed) (driven_so (Some Failed)) (ended_so (Some Failed) new.stop new.frames new.count)
-        (ill Failed told) rests nothing refl).0
-    lane_lacks (Some NoMemory) told =
-        heard means at reader head source source' a b new (Some NoMemory) (driven_so (Some NoMemory)) (ended_so (Some NoMemory) new.stop new.frames new.count)
-        (ill NoMemory told) rests nothing refl
-    lane_lacks None told =
-        heard means at reader head source source' a b new None lacked (Err StopMemory) (lacking told) rests nothing refl
+    lane_lacks (Some Failed) told = (failed_ends Failed rests told).0
+    lane_lacks (Some NoMemory) told = failed_ends NoMemory rests told
+    lane_lacks None told = failed_ends NoMemory rests (lacks_elsewhere told)
 
   -- where the lane doesn't end with Write its sink never failed
   pub lane_steady : (failed : Option BookFault) → TellsBy None failed first last → is_over failed new.stop ≡ true

@@ -1,5 +1,6 @@
 pub mod Numbering
 pub mod Rings
 pub mod Asked
+pub mod Finished
 pub mod DeskCalls
 pub mod LaneEnds

@@ -122,6 +122,10 @@ AreFresh {L = L} due lanes = (l : L) (k : ℕ) → k < length lanes → due (sli
 abbrev pub HaveNone : {L : Type 0} → (L → List (List JobView)) → (L → Bool) → List L → Type 0
 HaveNone {L = L} due rests lanes = (l : L) (k : ℕ) → k < length lanes → rests (slice_index_or lanes k l) ≡ false → due (slice_index_or lanes k l) ≡ []
 
+-- each lane that takes answers keeps nothing back
+abbrev pub AreFinished : {L : Type 0} → (L → Type 0) → (L → Bool) → List L → Type 0
+AreFinished {L = L} finished rests lanes = (l : L) (k : ℕ) → k < length lanes → rests (slice_index_or lanes k l) ≡ false → finished (slice_index_or lanes k l)
+
 -- these blocks of a lane are due
 module _ {L : Type 0} (due : L → List (List JobView)) (over : L → Bool) where
   -- a lane is over, or may give as many jobs as are asked for

@@ -11,12 +11,13 @@ use ht_feed::{Answer, BlockReader, BookFault, Desk};
 use ht_io::Sink;
 
 /// What becomes of the hits of one lane, whose blocks come from a reader: octets, which it puts into a sink that it is
-/// handed at each call. It is an account (`Account` of crate `ht_feed`) that keeps no hold of its sink.
+/// handed at each call. It is like an account (`Account` of crate `ht_feed`), but keeps no hold of its sink, and may keep
+/// octets back until it is finished.
 pub trait Booking<R: BlockReader + Drop, K: Sink> {
     /// What it takes for a block.
     type Answer: Answer + Drop;
 
-    /// What is put in all if the hits of exactly these jobs still come.
+    /// What is put in all if the hits of exactly these jobs still come, with what is kept back until then.
     ghost pieces: { Self → List (Headed R.Head) → List ℕ };
 
     /// Takes the answer to the first block due of a desk, which is due no longer. Where it refuses, the desk stays as
@@ -45,8 +46,18 @@ pub trait Booking<R: BlockReader + Drop, K: Sink> {
         ensures unfailed { IfErr result (λ fault. fault ≡ BookFault.NoMemory → (K.shown sink.new).faults ≡ (K.shown sink.old).faults) }
         ensures later { IsLater (K.shown sink.old) (K.shown sink.new) };
 
-    /// Where no job comes, nothing is put.
-    ghost none: { (a : Self) → pieces a [] ≡ [] };
+    /// Puts all that is kept back, once no hits come any more.
+    fn finish(&mut self, sink: &mut K) -> Result<(), BookFault>
+        // What was put; nothing is left where no hits come.
+        ensures put { OnOk result (PutsBlock (K.shown sink.old) (K.shown sink.new) (pieces self.old) (pieces self.new) []) }
+        ensures part { OnErr result (PutsPartOf (K.shown sink.old) (K.shown sink.new) (pieces self.old) []) }
+        ensures none { OnOk result (pieces self.new [] ≡ []) }
+
+        // The sink has counted a fault exactly where it failed.
+        ensures cause { IfErr result (λ fault. fault ≡ BookFault.Failed → Rose (K.shown sink.old) (K.shown sink.new)) }
+        ensures steady { OnOk result ((K.shown sink.new).faults ≡ (K.shown sink.old).faults) }
+        ensures unfailed { IfErr result (λ fault. fault ≡ BookFault.NoMemory → (K.shown sink.new).faults ≡ (K.shown sink.old).faults) }
+        ensures later { IsLater (K.shown sink.old) (K.shown sink.new) };
 
     /// Whatever their numbers are, jobs have the same answer.
     ghost numberless: { (a : Self.Answer) (n : ℕ) (jobs : List JobView) → Self.Answer.answers a (numbered n jobs) → Self.Answer.answers a jobs };

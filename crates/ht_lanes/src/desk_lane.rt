@@ -80,6 +80,8 @@ impl<R: BlockReader + Drop, A: Booking<R, K>, S: Source, K: Sink> Lane<S, K> for
 
     ghost rests = { λ l. is_some l.failed };
 
+    ghost finished = { λ l. A.pieces l.booking [] ≡ [] };
+
     ghost over = { λ l. is_over l.failed l.desk.stop };
 
     ghost leads = { λ a b. TellsBy a.lane.failed b.lane.failed
@@ -118,6 +120,17 @@ impl<R: BlockReader + Drop, A: Booking<R, K>, S: Source, K: Sink> Lane<S, K> for
                 self.failed = Some(BookFault::NoMemory);
                 Err(AllocError)
             }
+        }
+    }
+
+    fn finish(&mut self, sink: &mut K) {
+        let failed = self.failed.is_some();
+        if failed {
+            return;
+        }
+        match self.booking.finish(sink) {
+            Ok(()) => {}
+            Err(fault) => self.failed = Some(fault),
         }
     }
 

@@ -1,5 +1,6 @@
 //! One lane among several.
-ghost use Rattle.std.specs.Prelude.{◌≡◌, ◌+◌, ◌-◌, ◌^◌, ◌<◌, ◌≤◌, ℕ, List, [], ◌∷◌, ◌++◌, Bool, true, false, drop, length, slice_get, Some, IfNone, IfOk, IfSome, OnErr, OnOk};
+ghost use Rattle.std.specs.Prelude.{◌≡◌, ◌+◌, ◌-◌, ◌^◌, ◌<◌, ◌≤◌, ℕ, List, [], ◌∷◌, ◌++◌, Bool, true, false, drop, length};
+ghost use Rattle.std.specs.Prelude.{slice_get, Some, IfNone, IfOk, IfSome, OnErr, OnOk};
 ghost use Rattle.ht_metric.specs.Jobs.{JobView};
 ghost use Rattle.ht_feed.specs.Dues.{count_in};
 ghost use Rattle.ht_feed.specs.Items.{Numbered};
@@ -32,6 +33,9 @@ pub trait Lane<S, K> {
 
     /// It gives no blocks any more.
     ghost over: { Self → Bool };
+
+    /// It keeps nothing back of what the answers that it took come to.
+    ghost finished: { Self → Type 0 };
 
     /// The calls of the lane may lead from the one to the other.
     ghost leads: { Side Self S K → Side Self S K → Type 0 };
@@ -77,6 +81,15 @@ pub trait Lane<S, K> {
         requires first { slice_get (due self.old) 0 ≡ Some (Self.Block.jobs block.now) }
         ensures due { OnOk result (rests self.new ≡ false → due self.new ≡ drop 1 (due self.old)) }
         ensures memory { OnErr result (rests self.new ≡ true) }
+        ensures over { over self.old ≡ true → over self.new ≡ true }
+        ensures leads { (source : S) → leads (side_of self.old source sink.old) (side_of self.new source sink.new) };
+
+    /// Puts what is kept back, unless it rests, once no answers come any more. Where the sink fails or memory runs out
+    /// the lane rests from then on.
+    fn finish(&mut self, sink: &mut K)
+        ensures finished { rests self.new ≡ false → finished self.new }
+        ensures rests { rests self.new ≡ false → rests self.old ≡ false }
+        ensures due { due self.new ≡ due self.old }
         ensures over { over self.old ≡ true → over self.new ≡ true }
         ensures leads { (source : S) → leads (side_of self.old source sink.old) (side_of self.new source sink.new) };
 

@@ -3,4 +3,5 @@ pub mod Framed
 pub mod Frames
 pub mod Folded
 pub mod Taking
+pub mod Same
 pub mod Telling

@@ -2,8 +2,10 @@
 //!
 //! An [`OpenLegacyFrame`] takes what a detector found for the jobs of a frame, one after another: the distances go into a
 //! sum of data subcarriers and one of pilots, and the label of each data subcarrier on its place. With the last job the
-//! frame is whole, and `ht_legacy_inverse` decodes its labels (IEEE Std 802.11-2012, clause 18.3.5 backwards): where it
-//! stands, or in a thread of its own, to which it leaves as a [`WholeLegacyFrame`].
+//! frame is whole, and `ht_legacy_inverse` decodes its labels (IEEE Std 802.11-2012, clause 18.3.5 backwards). One worker
+//! decodes it where it stands. With more workers it leaves as a [`WholeLegacyFrame`]: a frame of 100 octets or more is
+//! given to the workers, who decode it before they look for blocks, and a shorter one is decoded by the caller. At most two
+//! frames for each worker beside the caller, of at most 131,072 octets together, have no booked result while jobs are due.
 //!
 //! What the frames of a list of octets come to is a definition over the octets alone: `legacy_results_of`, and with their
 //! lines and the last line `legacy_text`, in `specs/Texts.antt`. It looks labels up place by place; the module [`laws`] says
@@ -27,4 +29,4 @@ mod whole_frame;
 
 pub use open_frame::OpenLegacyFrame;
 pub use receiving::{legacy_receive, legacy_receive_alone};
-pub use whole_frame::WholeLegacyFrame;
+pub use whole_frame::{LegacyDecoder, WholeLegacyFrame};

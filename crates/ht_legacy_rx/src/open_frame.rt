@@ -1,5 +1,5 @@
 //! A frame under way.
-ghost use Rattle.std.specs.Prelude.{◌≡◌, ◌+◌, ◌*◌, ◌^◌, ◌<◌, ◌≤◌, IfOk, OnOk, length, set};
+ghost use Rattle.std.specs.Prelude.{◌≡◌, ◌+◌, ◌*◌, ◌^◌, ◌<◌, ◌≤◌, IfOk, IsTrue, OnOk, length, set};
 ghost use Rattle.std.proofs.Common.{refl};
 ghost use Rattle.ht_clause18.specs.Carriers.{carrier_of};
 ghost use Rattle.ht_results.specs.Folding.{label_at};
@@ -12,7 +12,7 @@ ghost use Rattle.ht_legacy_rx.specs.Results.{first_label, legacy_plan, result_of
 
 use crate::whole_frame::WholeLegacyFrame;
 use ht_clause18::{LegacyRate, legacy_carrier};
-use ht_frames::{Decoding, UnderWay};
+use ht_frames::UnderWay;
 use ht_inverse::Decoded;
 use ht_legacy_blocks::LegacyFrameHead;
 use ht_legacy_inverse::legacy_decode_frame;
@@ -23,7 +23,6 @@ use ht_results::FrameResult;
 use std::alloc::{AllocError, Global};
 use std::marker::Model;
 use std::mem;
-use std::thread::Threads;
 
 /// The most octets of a frame.
 const MOST: u16 = 4095;
@@ -107,6 +106,20 @@ fn put_label(labels: &mut [u8], at: usize, label: u8)
     if at < labels.len() {
         labels[at] = label;
     }
+}
+
+// Whether both heads are the same, as `==` says too.
+fn same_head(head: &LegacyFrameHead, other: &LegacyFrameHead) -> bool
+    ensures { IsTrue result → head.now ≡ other.now }
+{
+    *head == *other
+}
+
+// Whether both have the same labels, as `==` says too.
+fn same_labels(labels: &[u8], other: &[u8]) -> bool
+    ensures { IsTrue result → labels.now ≡ other.now }
+{
+    labels == other
 }
 
 /// A head that stands for the one before the first.
@@ -208,6 +221,14 @@ impl OpenLegacyFrame {
             outcome,
         })
     }
+
+    // Whether both have the same head, sums and labels, so that they come to the same.
+    pub(crate) fn same(&self, other: &OpenLegacyFrame) -> bool
+        ensures { IsTrue result → result_of self.now ≡ result_of other.now }
+    {
+        let sums = self.data_sum == other.data_sum && self.pilot_sum == other.pilot_sum;
+        sums && same_head(&self.head, &other.head) && same_labels(&self.labels, &other.labels)
+    }
 }
 
 impl UnderWay for OpenLegacyFrame {
@@ -239,14 +260,6 @@ impl UnderWay for OpenLegacyFrame {
 
     fn leave(&mut self, alloc: Global) -> WholeLegacyFrame {
         WholeLegacyFrame::new(mem::replace(self, OpenLegacyFrame::new(alloc)))
-    }
-
-    fn begin<R: Threads>(
-        rt: &R,
-        alloc: Global,
-        frame: WholeLegacyFrame,
-    ) -> Decoding<WholeLegacyFrame> {
-        Decoding::begin(rt, alloc, frame)
     }
 
     ghost none = { λ a. refl };

@@ -19,7 +19,7 @@ use ht_crew::Gate;
 use ht_drive::tell;
 use ht_endings::put_end;
 use ht_feed::{BlockReader, Ended, Shared, tell_alone};
-use ht_frames::{Book, Gatherer, HitWork, Receiver, TextBook, abandon};
+use ht_frames::{BesideFrames, Book, Frames, Gatherer, HitWork, Receiver, TextBook};
 use ht_io::{Sink, Source};
 use ht_legacy_blocks::{LegacyFrameHead, LegacyReader};
 use ht_results::FrameResult;
@@ -185,11 +185,23 @@ where
     ensures books_later { IsLater (B.shown book.old) (B.shown book.new) }
     ensures same { B.lent book.new ≡ B.lent book.old }
 {
+    let frames = Frames::new(alloc);
     let mut under_way = OpenLegacyFrame::new(alloc);
     let mut queue = VecDeque::new(alloc);
-    let mut gatherer = Gatherer::new(rt, alloc, workers, &mut under_way, &mut queue, book);
-    let work = HitWork { alloc, gate };
-    let ended = tell(
+    let mut gatherer = Gatherer::new(
+        rt,
+        alloc,
+        workers,
+        &frames,
+        &mut under_way,
+        &mut queue,
+        book,
+    );
+    let work = BesideFrames {
+        work: HitWork { alloc, gate },
+        frames: &frames,
+    };
+    tell(
         rt,
         alloc,
         workers,
@@ -199,9 +211,7 @@ where
         &work,
         source,
         &mut gatherer,
-    );
-    abandon(rt, queue);
-    ended
+    )
 }
 
 // Puts their lines.
@@ -281,8 +291,9 @@ where
 /// Does as [`legacy_receive_alone`], and the jobs are run by 1 to 64 workers, of which the caller is one. The text is the
 /// same.
 ///
-/// A frame of 400 octets or more that is whole is decoded in a thread of its own, while the jobs behind it are read and
-/// run; a shorter one is decoded by the caller. However it ends, no thread is left behind.
+/// A frame of 100 octets or more that is whole is given to the workers, who decode it before they look for blocks; a
+/// shorter one is decoded by the caller. At most two frames for each worker beside the caller, of at most 131,072 octets
+/// together, have no booked result while jobs are due. However it ends, no thread is left behind.
 pub fn legacy_receive<R: Threads + Wait + Sync, S: Source, K: Sink, G: Gate + Sync>(
     rt: &R,
     alloc: Global,

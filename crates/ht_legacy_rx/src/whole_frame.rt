@@ -9,6 +9,10 @@ use ht_results::FrameResult;
 use std::alloc::{AllocError, Global};
 use std::marker::Model;
 
+/// What decodes frames one after another. It keeps nothing from one to the next.
+#[derive(Drop)]
+pub struct LegacyDecoder;
+
 /// A frame whose last job came: all of its labels are there, and it can be decoded.
 #[derive(Drop)]
 pub struct WholeLegacyFrame {
@@ -39,16 +43,26 @@ impl WholeLegacyFrame {
 impl WholeFrame for WholeLegacyFrame {
     type Result = FrameResult;
 
+    type Decoder = LegacyDecoder;
+
     ghost result_of = { result_of };
 
+    ghost length_of = { λ f. f.head.length };
+
     /// The number of its octets, as its head says.
-    fn octets(&self) -> u16
-        ensures { result ≡ self.now.head.length }
-    {
+    fn octets(&self) -> u16 {
         self.frame.head.length
     }
 
-    fn decode(&self, alloc: Global) -> Result<FrameResult, AllocError> {
+    fn decoder(_: Global) -> LegacyDecoder {
+        LegacyDecoder
+    }
+
+    fn decode(&self, alloc: Global, _: &mut LegacyDecoder) -> Result<FrameResult, AllocError> {
         self.frame.result(alloc)
+    }
+
+    fn same(&self, other: &WholeLegacyFrame) -> bool {
+        self.frame.same(&other.frame)
     }
 }

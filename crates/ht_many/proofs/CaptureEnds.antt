@@ -17,15 +17,13 @@ use Rattle.ht_feed.specs.Desks.{DeskView, desk_view}
 use Rattle.ht_feed.specs.Leading.{tells_by-none}
 use Rattle.ht_feed.specs.Outcomes.{Comes}
 use Rattle.ht_feed.specs.Telling.{TellsBy, seen_by}
-use Rattle.ht_frames.specs.Gathering.{none_booked}
 use Rattle.ht_results.specs.Texts.{frame_lines_of, result_line, rx_text}
-use Rattle.ht_rx.specs.Frames.{results_in}
 use Rattle.ht_rx.specs.Outcomes.{StopsBy, TellsTo}
 use Rattle.ht_rx.proofs.Blocks.{comes_to}
-use Rattle.ht_rx.proofs.BlockBooking.{frames_told}
+use Rattle.ht_rx.proofs.Gathered.{gathered_told}
 use Rattle.ht_rx.proofs.Booking.{lines_told}
 use Rattle.ht_lanes.specs.DeskLanes.{lane_told}
-use Rattle.ht_lanes.specs.Lanes.{AreOver, HaveNone, Side, Sides, side_at}
+use Rattle.ht_lanes.specs.Lanes.{AreFinished, AreOver, HaveNone, Side, Sides, side_at}
 use Rattle.ht_lanes.proofs.LaneEnds.{lane_ends, lane_lacks, lane_puts_later, lane_reads_later, lane_steady}
 use Rattle.ht_fields.proofs.Putting.{on_err_then}
 use Rattle.ht_runs.proofs.Outcomes.{told_nothing}
@@ -36,7 +34,8 @@ use Rattle.ht_several.specs.Several.{AreLater, EachEnds, EachHeard, EachInPart, 
 use Rattle.ht_several.specs.LastLines.{EachFinishes, EachMayFinish, KeepSinks}
 use Rattle.ht_several.proofs.LastLines.{each_ends, each_in_part, last_later}
 use Rattle.ht_several.proofs.Ending.{heard_part}
-use Rattle.ht_many.specs.CaptureLanes.{AreNew, IsNew, Lane, LaneLeads, LanesLead, lane_answer, lane_due, lane_over, lane_rests, lane_seen, lines_left, reader_at, reader_means}
+use Rattle.ht_many.specs.CaptureLanes.{AreNew, IsNew, Lane, LaneLeads, LanesLead, lane_answer, lane_due, lane_finished, lane_over, lane_rests, lane_seen, reader_at, reader_means}
+use Rattle.ht_many.specs.KeptFrames.{lines_left}
 
 -- what an answer says of the octets of a capture
 told_heard : (a b c d : Device ℕ) (answer : Result Ended StopFault) → MatchResult answer (TellsTo frame_lines_of a b c d) (StopsBy frame_lines_of a b c d)
@@ -81,9 +80,6 @@ module _ {S K : Type 0} (source : S → Device ℕ) (sink : K → Device ℕ) wh
         (seen_by reader_means reader_at d (source a.source) before) (lane_seen source sink b)) new.desk
         (subst (λ (f : Option BookFault). TellsBy f b.lane.failed (lane_seen source sink a) (lane_seen source sink b)) new.well leads)
 
-    nothing_left : after.pieces [] ≡ []
-    nothing_left = none_booked result_line (results_in b.lane.booking.under_way) refl
-
     -- what a run of any reader and account came to is said of the octets of the capture
     came_heard : (answer : Result Ended StopFault)
         → Comes reader_means reader_at new.reader new.head (source a.source) (source b.source) before after answer
@@ -92,16 +88,17 @@ module _ {S K : Type 0} (source : S → Device ℕ) (sink : K → Device ℕ) wh
         let none : a.lane.booking.under_way.left ≤ 0 = let e = new.none in omega (arith, e) in
         told_heard (source a.source) (source b.source) (sink a.sink) (sink b.sink) answer
         (lines_told answer (source a.source) (source b.source) (sink a.sink) (sink b.sink)
-        (frames_told result_line a.lane.booking.under_way answer (source a.source) (source b.source) (sink a.sink) (sink b.sink) none
+        (gathered_told result_line a.lane.booking.whole a.lane.booking.under_way answer (source a.source) (source b.source) (sink a.sink) (sink b.sink)
+        new.fresh none
         (comes_to reader_means reader_at new.reader new.head (source a.source) (source b.source) before after answer
         new.means new.at came)))
 
-    side_heard : lane_over b.lane ≡ true → (lane_rests b.lane ≡ false → lane_due b.lane ≡ [])
+    side_heard : lane_over b.lane ≡ true → (lane_rests b.lane ≡ false → lane_due b.lane ≡ []) → (lane_rests b.lane ≡ false → lane_finished b.lane)
         → Heard (source a.source) (source b.source) (sink a.sink) (sink b.sink) (lane_answer b.lane)
-    side_heard over taken =
+    side_heard over taken finished =
         came_heard (lane_answer b.lane)
         (lane_ends reader_means reader_at new.reader new.head (source a.source) (source b.source) before after
-        b.lane.desk tt (λ w. nothing_left) b.lane.failed from_new over taken)
+        b.lane.desk tt b.lane.failed from_new over taken finished)
 
     side_steady : lane_over b.lane ≡ true → (lane_rests b.lane ≡ false → lane_due b.lane ≡ []) → lane_answer b.lane ≢ Err Write
         → (sink b.sink).faults ≡ (sink a.sink).faults
@@ -115,7 +112,7 @@ module _ {S K : Type 0} (source : S → Device ℕ) (sink : K → Device ℕ) wh
         heard_part (source a.source) (source b.source) (sink a.sink) (Err NoMemory) (sink b.sink)
         (came_heard (Err NoMemory)
         (lane_lacks reader_means reader_at new.reader new.head (source a.source) (source b.source) before after
-        b.lane.desk tt (λ w. nothing_left) b.lane.failed from_new))
+        b.lane.desk tt b.lane.failed from_new))
 
     side_reads_later : IsLater (source a.source) (source b.source)
     side_reads_later =
@@ -193,64 +190,66 @@ module _ {S K : Type 0} (source : S → Device ℕ) (sink : K → Device ℕ) wh
         let l = some_of a.lanes k low in
         side_part (side_at a l s t k) (side_at b l s t k) (new l k low) (leads.each l s t k low)
 
-    -- all are over, and none waits for answers
-    module _ (over : AreOver lane_over 0 b.lanes) (taken : HaveNone lane_due lane_rests b.lanes) where
-      still : (k : ℕ) → k < length a.lanes → k < length b.lanes
-      still k few = omega (arith, few, leads.lanes)
+    -- all are over, and none that takes answers waits for one or keeps a line back
+    module _ (over : AreOver lane_over 0 b.lanes) (taken : HaveNone lane_due lane_rests b.lanes) (finished : AreFinished lane_finished lane_rests b.lanes)
+      where
+        still : (k : ℕ) → k < length a.lanes → k < length b.lanes
+        still k few = omega (arith, few, leads.lanes)
 
-      answer_is : (k : ℕ) (l : Lane) → k < length a.lanes → lane_answer (get_or b.lanes k l) ≡ answer_at (map lane_answer b.lanes) k
-      answer_is k l few = sym (get_or-map lane_answer b.lanes k l (Err Read) (still k few))
+        answer_is : (k : ℕ) (l : Lane) → k < length a.lanes → lane_answer (get_or b.lanes k l) ≡ answer_at (map lane_answer b.lanes) k
+        answer_is k l few = sym (get_or-map lane_answer b.lanes k l (Err Read) (still k few))
 
-      abbrev Steady : ℕ → K → Result Ended StopFault → Type 0
-      Steady k t answer = answer ≢ Err Write → (sink (get_or b.sinks k t)).faults ≡ (sink (get_or a.sinks k t)).faults
+        abbrev Steady : ℕ → K → Result Ended StopFault → Type 0
+        Steady k t answer = answer ≢ Err Write → (sink (get_or b.sinks k t)).faults ≡ (sink (get_or a.sinks k t)).faults
 
-      steady : (u : Bool) (k : ℕ) (t : K) → nat_lt k (length a.lanes) ≡ u → Steady k t (answer_at (map lane_answer b.lanes) k)
-      steady true k t e =
-          let few : k < length a.lanes = grind (arith, nat_tests, e) in
-          let l = some_of a.lanes k few in
-          let s = source_here k few in
-          subst (λ (r : Result Ended StopFault). Steady k t r) (answer_is k l few)
-          (side_steady (side_at a l s t k) (side_at b l s t k) (new l k few) (leads.each l s t k few) (over l k (omega arith) (still k few))
-          (taken l k (still k few)))
-      steady false k t e = λ other. ap (λ (x : K). (sink x).faults) (sink_past k t (grind (arith, nat_tests, e)))
+        steady : (u : Bool) (k : ℕ) (t : K) → nat_lt k (length a.lanes) ≡ u → Steady k t (answer_at (map lane_answer b.lanes) k)
+        steady true k t e =
+            let few : k < length a.lanes = grind (arith, nat_tests, e) in
+            let l = some_of a.lanes k few in
+            let s = source_here k few in
+            subst (λ (r : Result Ended StopFault). Steady k t r) (answer_is k l few)
+            (side_steady (side_at a l s t k) (side_at b l s t k) (new l k few) (leads.each l s t k few) (over l k (omega arith) (still k few))
+            (taken l k (still k few)))
+        steady false k t e = λ other. ap (λ (x : K). (sink x).faults) (sink_past k t (grind (arith, nat_tests, e)))
 
-      pub lanes_heard : EachHeard source sink (devices a.sources a.sinks) (devices b.sources b.sinks) (map lane_answer b.lanes)
-      lanes_heard = record {
-        as_many = length-map b.lanes lane_answer ∙ (leads.lanes ∙ sym sources);
-        each = λ k few s t.
-            let low = within k few in
-            let l = some_of a.lanes k low in
-            let x = side_at a l s t k in
-            let y = side_at b l s t k in
-            subst (λ (r : Result Ended StopFault). Heard (source x.source) (source y.source) (sink x.sink) (sink y.sink) r) (answer_is k l low)
-            (side_heard x y (new l k low) (leads.each l s t k low) (over l k (omega arith) (still k low)) (taken l k (still k low)));
-        writes = λ k t. steady (nat_lt k (length a.lanes)) k t refl;
-      }
+        pub lanes_heard : EachHeard source sink (devices a.sources a.sinks) (devices b.sources b.sinks) (map lane_answer b.lanes)
+        lanes_heard = record {
+          as_many = length-map b.lanes lane_answer ∙ (leads.lanes ∙ sym sources);
+          each = λ k few s t.
+              let low = within k few in
+              let l = some_of a.lanes k low in
+              let x = side_at a l s t k in
+              let y = side_at b l s t k in
+              subst (λ (r : Result Ended StopFault). Heard (source x.source) (source y.source) (sink x.sink) (sink y.sink) r) (answer_is k l low)
+              (side_heard x y (new l k low) (leads.each l s t k low) (over l k (omega arith) (still k low)) (taken l k (still k low))
+              (finished l k (still k low)));
+          writes = λ k t. steady (nat_lt k (length a.lanes)) k t refl;
+        }
 
-      -- the lanes as they were seen then, and the sinks behind the last lines
-      module _ (lanes : List Lane) (seen : lanes ≡ b.lanes) (after : List K) (keep : KeepSinks sink b.sinks after) where
-        heard_by : EachHeard source sink (devices a.sources a.sinks) (devices b.sources b.sinks) (map lane_answer lanes)
-        heard_by =
-            subst (λ (ls : List Lane). EachHeard source sink (devices a.sources a.sinks) (devices b.sources b.sinks) (map lane_answer ls)) (sym seen) lanes_heard
+        -- the lanes as they were seen then, and the sinks behind the last lines
+        module _ (lanes : List Lane) (seen : lanes ≡ b.lanes) (after : List K) (keep : KeepSinks sink b.sinks after) where
+          heard_by : EachHeard source sink (devices a.sources a.sinks) (devices b.sources b.sinks) (map lane_answer lanes)
+          heard_by =
+              subst (λ (ls : List Lane). EachHeard source sink (devices a.sources a.sinks) (devices b.sources b.sinks) (map lane_answer ls)) (sym seen) lanes_heard
 
-        pub all_later : AreLater source sink (devices a.sources a.sinks) (devices b.sources after)
-        all_later =
-            last_later source sink (devices a.sources a.sinks) (devices b.sources b.sinks) after (map lane_answer lanes) heard_by lanes_later keep
+          pub all_later : AreLater source sink (devices a.sources a.sinks) (devices b.sources after)
+          all_later =
+              last_later source sink (devices a.sources a.sinks) (devices b.sources b.sinks) after (map lane_answer lanes) heard_by lanes_later keep
 
-        -- their last lines were put
-        pub all_end : {X E : Type 0} (ends : X → List ManyEnd) (result : Result X E)
-            → IfOk result (λ x. EachFinishes sink b.sinks after (map lane_answer lanes) (ends x))
-            → IfOk result (λ x. EachEnds source sink (devices a.sources a.sinks) (devices b.sources after) (ends x))
-        all_end ends result finishes =
-            then_ok (λ x. EachFinishes sink b.sinks after (map lane_answer lanes) (ends x))
-            (λ x. EachEnds source sink (devices a.sources a.sinks) (devices b.sources after) (ends x)) result
-            (λ x finish. each_ends source sink (devices a.sources a.sinks) (devices b.sources b.sinks) after (map lane_answer lanes) heard_by lanes_later
-            (ends x) finish keep (sinks ∙ sym sources)) finishes
+          -- their last lines were put
+          pub all_end : {X E : Type 0} (ends : X → List ManyEnd) (result : Result X E)
+              → IfOk result (λ x. EachFinishes sink b.sinks after (map lane_answer lanes) (ends x))
+              → IfOk result (λ x. EachEnds source sink (devices a.sources a.sinks) (devices b.sources after) (ends x))
+          all_end ends result finishes =
+              then_ok (λ x. EachFinishes sink b.sinks after (map lane_answer lanes) (ends x))
+              (λ x. EachEnds source sink (devices a.sources a.sinks) (devices b.sources after) (ends x)) result
+              (λ x finish. each_ends source sink (devices a.sources a.sinks) (devices b.sources b.sinks) after (map lane_answer lanes) heard_by lanes_later
+              (ends x) finish keep (sinks ∙ sym sources)) finishes
 
-        -- memory lacked between them
-        pub all_part : {X E : Type 0} (result : Result X E) → OnErr result (EachMayFinish sink b.sinks after (map lane_answer lanes))
-            → OnErr result (EachInPart source sink (devices a.sources a.sinks) (devices b.sources after))
-        all_part result may =
-            on_err_then (EachMayFinish sink b.sinks after (map lane_answer lanes))
-            (EachInPart source sink (devices a.sources a.sinks) (devices b.sources after)) result
-            (λ m. each_in_part source sink (devices a.sources a.sinks) (devices b.sources b.sinks) after (map lane_answer lanes) heard_by lanes_later m) may
+          -- memory lacked between them
+          pub all_part : {X E : Type 0} (result : Result X E) → OnErr result (EachMayFinish sink b.sinks after (map lane_answer lanes))
+              → OnErr result (EachInPart source sink (devices a.sources a.sinks) (devices b.sources after))
+          all_part result may =
+              on_err_then (EachMayFinish sink b.sinks after (map lane_answer lanes))
+              (EachInPart source sink (devices a.sources a.sinks) (devices b.sources after)) result
+              (λ m. each_in_part source sink (devices a.sources a.sinks) (devices b.sources b.sinks) after (map lane_answer lanes) heard_by lanes_later m) may

@@ -12,19 +12,19 @@ use Rattle.ht_runs.specs.declared.faults.StopFault.{StopFault}
 use Rattle.ht_feed.specs.declared.ended.Ended.{Ended}
 use Rattle.ht_feed.specs.Desks.{desk_view}
 use Rattle.ht_feed.specs.Dues.{jobs_in}
-use Rattle.ht_feed.specs.Items.{Headed, Item}
+use Rattle.ht_feed.specs.Items.{Item}
 use Rattle.ht_feed.specs.Telling.{Seen, TellsBy, seen_by}
-use Rattle.ht_frames.specs.Gathering.{booked_in}
-use Rattle.ht_results.specs.Texts.{result_line}
-use Rattle.ht_rx.specs.Frames.{results_in}
 use Rattle.ht_lanes.specs.declared.desk_lane.DeskLane.{DeskLane}
 use Rattle.ht_lanes.specs.DeskLanes.{ended_so, is_over, lane_told}
 use Rattle.ht_lanes.specs.Lanes.{AllLead, Side, Sides}
-use Rattle.ht_many.specs.declared.frame_lines.FrameLines.{FrameLines}
+use Rattle.ht_many.specs.KeptFrames.{KeptFrames, lines_left}
 
--- a lane of a capture, as contracts see it
+-- a lane of a capture, as contracts see it, whatever it keeps of its frames
+abbrev pub LaneOf : Type 0 → Type 0
+LaneOf K = DeskLane CaptureReader K FrameHead CaptureBlock
+
 abbrev pub Lane : Type 0
-Lane = DeskLane CaptureReader FrameLines FrameHead CaptureBlock
+Lane = LaneOf KeptFrames
 
 -- what the octets mean that still come to a reader, and how many it read
 abbrev pub reader_means : CaptureReader → List ℕ → Meaning (Item FrameHead)
@@ -33,23 +33,24 @@ reader_means it = capture_means it.reader
 abbrev pub reader_at : CaptureReader → ℕ
 reader_at it = capture_at it.reader
 
--- it takes no answers any more; it gives no blocks any more; the blocks that it waits for
-abbrev pub lane_rests : Lane → Bool
-lane_rests l = is_some l.failed
+module _ {K : Type 0} where
+  -- it takes no answers any more; it gives no blocks any more; the blocks that it waits for
+  abbrev pub lane_rests : LaneOf K → Bool
+  lane_rests l = is_some l.failed
 
-abbrev pub lane_over : Lane → Bool
-lane_over l = is_over l.failed l.desk.stop
+  abbrev pub lane_over : LaneOf K → Bool
+  lane_over l = is_over l.failed l.desk.stop
 
-abbrev pub lane_due : Lane → List (List JobView)
-lane_due l = jobs_in l.desk.due
+  abbrev pub lane_due : LaneOf K → List (List JobView)
+  lane_due l = jobs_in l.desk.due
 
--- what the receiving of its capture came to
-abbrev pub lane_answer : Lane → Result Ended StopFault
-lane_answer l = ended_so l.failed l.desk.stop l.desk.frames l.desk.count
+  -- what the receiving of its capture came to
+  abbrev pub lane_answer : LaneOf K → Result Ended StopFault
+  lane_answer l = ended_so l.failed l.desk.stop l.desk.frames l.desk.count
 
--- the lines that are put in all if the hits of exactly these jobs still come
-abbrev pub lines_left : FrameLines → List (Headed FrameHead) → List ℕ
-lines_left lines = booked_in result_line (results_in lines.under_way)
+-- no line of a whole frame is still to be put
+abbrev pub lane_finished : Lane → Type 0
+lane_finished l = lines_left l.booking [] ≡ []
 
 -- the devices of a lane are seen so
 module _ {S K : Type 0} (source : S → Device ℕ) (sink : K → Device ℕ) where
@@ -72,6 +73,7 @@ pub record IsNew (l : Lane) : Type 0 where
   pub means : (octets : List ℕ) → reader_means reader octets ≡ mapped (capture_of octets)
   pub at : reader_at reader ≡ 0
   pub none : l.booking.under_way.left ≡ 0
+  pub fresh : l.booking.whole ≡ []
   pub well : l.failed ≡ None
 
 abbrev pub AreNew : List Lane → Type 0

@@ -1,15 +1,12 @@
 -- Jobs under other numbers have the same hits.
-use Rattle.std.specs.Prelude.{◌≡◌, ℕ, ◌+◌, List, [], ◌∷◌, map}
-use Rattle.std.proofs.Common.{refl, ap, ◌∙◌, arith}
+use Rattle.std.specs.Prelude.{◌≡◌, ℕ, List}
+use Rattle.std.proofs.Common.{◌∙◌, arith}
 use Rattle.ht_metric.specs.declared.found.Found.{Found}
-use Rattle.ht_metric.specs.Jobs.{JobView, near}
+use Rattle.ht_metric.specs.Jobs.{JobView}
 use Rattle.ht_feed.specs.Dues.{AreHits}
 use Rattle.ht_feed.specs.Numbers.{numbered}
 use Rattle.ht_feed.proofs.Numbering.{length_numbered}
-
-near-numbered : (n : ℕ) (jobs : List JobView) → map near (numbered n jobs) ≡ map near jobs
-near-numbered n [] = refl
-near-numbered n (job ∷ jobs) = ap (λ (fs : List Found). near job ∷ fs) (near-numbered (n + 1) jobs)
+use Rattle.ht_lanes.proofs.Numbering.{near-numbered}
 
 pub hits_numberless : (found : List Found) (n : ℕ) (jobs : List JobView) → AreHits found (numbered n jobs) → AreHits found jobs
 hits_numberless found n jobs right = record {

@@ -1,18 +1,25 @@
 //! A lane for each capture.
-ghost use Rattle.std.specs.Prelude.{◌≡◌, length, map, IfOk};
+ghost use Rattle.std.specs.Prelude.{◌≡◌, ◌≤◌, length, map, IfOk};
 ghost use Rattle.ht_lanes.specs.Lanes.{AreOver};
 ghost use Rattle.ht_many.specs.CaptureLanes.{AreNew, IsNew, lane_answer, lane_over};
 
 use crate::frame_lines::FrameLines;
+use crate::gathered_lines::GatheredLines;
 use ht_capture_blocks::CaptureReader;
 use ht_feed::Ended;
+use ht_frames::Frames;
 use ht_lanes::DeskLane;
 use ht_results::no_head;
 use ht_runs::StopFault;
+use ht_rx::WholeLabels;
 use std::alloc::{AllocError, Global};
 
-/// What receives one capture among several: the reader of its octets, the blocks that are due, and the frame under way.
+/// What receives one capture among several in one thread: the reader of its octets, the blocks that are due, and the
+/// frame under way.
 pub(crate) type CaptureLane = DeskLane<CaptureReader, FrameLines>;
+
+/// The same beside workers, who decode its whole frames.
+pub(crate) type CrewLane<'f, R> = DeskLane<CaptureReader, GatheredLines<'f, R>>;
 
 // A lane that has read nothing. It has room for one block that is due, and takes more memory where more become due.
 fn open_lane(alloc: Global) -> Result<CaptureLane, AllocError>
@@ -34,10 +41,47 @@ pub(crate) fn open_lanes(alloc: Global, count: usize) -> Result<Vec<CaptureLane>
     Ok(lanes)
 }
 
-/// What the receiving of each capture came to, once all lanes are over. The only error is lack of memory.
-pub(crate) fn answers_of(
+// A lane beside this many workers, who find its whole frames there.
+fn open_crew_lane<'f, R>(
+    rt: &'f R,
     alloc: Global,
-    lanes: &[CaptureLane],
+    workers: u8,
+    frames: &'f Frames<WholeLabels>,
+) -> Result<CrewLane<'f, R>, AllocError>
+    requires least { 1 ≤ workers }
+    requires most { workers ≤ 64 }
+    ensures { IfOk result IsNew }
+{
+    let reader = CaptureReader::new(alloc)?;
+    let lines = GatheredLines::new(rt, alloc, workers, frames);
+    DeskLane::new(alloc, reader, no_head(), 1, lines)
+}
+
+/// This many lanes that have read nothing, beside a crew of 1 to 64 workers, of which the caller is one. The workers find
+/// the whole frames of all of them there. The only error is lack of memory.
+pub(crate) fn open_crew_lanes<'f, R>(
+    rt: &'f R,
+    alloc: Global,
+    workers: u8,
+    frames: &'f Frames<WholeLabels>,
+    count: usize,
+) -> Result<Vec<CrewLane<'f, R>>, AllocError>
+    requires least { 1 ≤ workers }
+    requires most { workers ≤ 64 }
+    ensures as_many { IfOk result (λ lanes. length lanes.items ≡ count) }
+    ensures new { IfOk result (λ lanes. AreNew lanes.items) }
+{
+    let mut lanes = Vec::new(alloc);
+    for _index in 0..count {
+        lanes.push(open_crew_lane(rt, alloc, workers, frames)?)?;
+    }
+    Ok(lanes)
+}
+
+/// What the receiving of each capture came to, once all lanes are over. The only error is lack of memory.
+pub(crate) fn answers_of<A: Drop>(
+    alloc: Global,
+    lanes: &[DeskLane<CaptureReader, A>],
 ) -> Result<Vec<Result<Ended, StopFault>>, AllocError>
     requires over { AreOver lane_over 0 lanes.now }
     ensures { IfOk result (λ answers. answers.items ≡ map lane_answer lanes.now) }

@@ -19,7 +19,12 @@ use std::sync::Wait;
 use std::thread::Threads;
 
 /// Does as [`many_alone`](crate::many_alone), and the jobs of all captures are run by one crew of 1 to 64 workers, of
-/// which the caller is one. The caller alone reads the sources, decodes the frames and puts the lines.
+/// which the caller is one. The caller alone reads the sources and puts the lines.
+///
+/// A whole frame of 100 octets or more is given to the workers, who decode it before they look for jobs; the caller decodes
+/// all other frames. The lines of each capture are put in order. While jobs come, at most two whole frames of each capture
+/// for each worker beside the caller have no line yet, and those that the workers have are of at most 131,072 octets
+/// together. Once no capture gives a job any more, the lines of all whole frames are put.
 pub fn many<R: Threads + Wait + Sync, S: Source, K: Sink, G: Gate + Sync>(
     rt: &R,
     alloc: Global,

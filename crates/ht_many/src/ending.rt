@@ -4,16 +4,18 @@ ghost use Rattle.ht_lanes.specs.Lanes.{AreOver};
 ghost use Rattle.ht_several.specs.LastLines.{EachFinishes, EachMayFinish, KeepSinks};
 ghost use Rattle.ht_many.specs.CaptureLanes.{lane_answer, lane_over};
 
-use crate::capture_lane::{CaptureLane, answers_of};
+use crate::capture_lane::answers_of;
+use ht_capture_blocks::CaptureReader;
 use ht_io::Sink;
+use ht_lanes::DeskLane;
 use ht_several::{ManyEnd, finish};
 use std::alloc::{AllocError, Global};
 
 /// Puts the last line of each capture, and tells how it ended, once all lanes are over. The only error is lack of
 /// memory.
-pub(crate) fn end_all<K: Sink>(
+pub(crate) fn end_all<A: Drop, K: Sink>(
     alloc: Global,
-    lanes: &[CaptureLane],
+    lanes: &[DeskLane<CaptureReader, A>],
     sinks: &mut [K],
 ) -> Result<Vec<ManyEnd>, AllocError>
     requires over { AreOver lane_over 0 lanes.now }

@@ -1,12 +1,13 @@
-//! What becomes of the hits of one capture among several.
-ghost use Rattle.std.specs.Prelude.{◌≡◌, drop, slice_get, take, refl, Some, IfErr, OnErr, OnOk};
+//! What becomes of the hits of one capture among several, in one thread.
+ghost use Rattle.std.specs.Prelude.{◌≡◌, [], drop, slice_get, take, Some, IfErr, OnErr, OnOk};
 ghost use Rattle.ht_io.specs.Devices.{IsLater, Rose};
 ghost use Rattle.ht_feed.specs.Accounts.{PutsBlock, PutsPartOf};
 ghost use Rattle.ht_feed.specs.Dues.{AreHits, all_due, jobs_in};
-ghost use Rattle.ht_frames.specs.Gathering.{booked_in, none_booked};
+ghost use Rattle.ht_frames.specs.Gathering.{booked_behind};
 ghost use Rattle.ht_capture.specs.Parts.{jobs_of};
-ghost use Rattle.ht_results.specs.Texts.{result_line};
+ghost use Rattle.ht_results.specs.Folding.{result_of};
 ghost use Rattle.ht_rx.specs.Frames.{results_in};
+ghost use Rattle.ht_many.specs.KeptFrames.{lines_left};
 ghost use Rattle.ht_many.specs.Renumbering.{hits_numberless};
 
 use ht_capture_blocks::{CaptureBlock, CaptureReader};
@@ -17,25 +18,44 @@ use ht_lanes::Booking;
 use ht_results::FrameResult;
 use ht_rx::OpenFrame;
 use std::alloc::Global;
+use std::marker::Model;
 
 /// Puts the line of each frame of a capture into the sink that it is handed, once the hit of its last job was taken.
 ///
 /// Until then what its jobs come to is under way here, so that captures beside one another have a frame under way each.
+/// No whole frame waits.
 #[derive(Drop)]
 pub(crate) struct FrameLines {
     alloc: Global,
     under_way: OpenFrame,
 }
 
+impl Model for FrameLines {
+    ghost use Rattle.std.specs.Prelude.{[]};
+    ghost use Rattle.ht_many.specs.KeptFrames.{KeptFrames, kept_frames};
+
+    ghost Value = { KeptFrames };
+
+    ghost view = { λ l. kept_frames l.under_way [] };
+}
+
 impl FrameLines {
     /// No frame is under way. It takes no memory.
     pub(crate) fn new(alloc: Global) -> FrameLines
-        ensures { result.under_way.left ≡ 0 }
+        ensures idle { result.under_way.left ≡ 0 }
+        ensures none { result.whole ≡ [] }
     {
         FrameLines {
             alloc,
             under_way: OpenFrame::new(alloc),
         }
+    }
+
+    // No whole frame waits here.
+    fn none_waits(&self)
+        ensures { self.now.whole ≡ [] }
+    {
+        let _alloc = self.alloc;
     }
 
     // Takes the hits of the first block due, and books the results of frames that are whole with them.
@@ -50,10 +70,12 @@ impl FrameLines {
         requires first { slice_get (jobs_in desk.old.due) 0 ≡ Some (jobs_of block.now.block) }
 
         // What was booked, and what is left to book.
-        ensures put { OnOk result (PutsBlock (B.shown book.old) (B.shown book.new) (booked_in B.booked (results_in self.old.under_way))
-            (booked_in B.booked (results_in self.new.under_way)) (all_due (take 1 desk.old.due))) }
-        ensures part { OnErr result (PutsPartOf (B.shown book.old) (B.shown book.new) (booked_in B.booked (results_in self.old.under_way))
-            (all_due (take 1 desk.old.due))) }
+        ensures put { OnOk result (PutsBlock (B.shown book.old) (B.shown book.new)
+            (booked_behind result_of B.booked self.old.whole (results_in self.old.under_way))
+            (booked_behind result_of B.booked self.new.whole (results_in self.new.under_way)) (all_due (take 1 desk.old.due))) }
+        ensures part { OnErr result (PutsPartOf (B.shown book.old) (B.shown book.new)
+            (booked_behind result_of B.booked self.old.whole (results_in self.old.under_way)) (all_due (take 1 desk.old.due))) }
+        ensures none { self.new.whole ≡ [] }
 
         // What is due.
         ensures due { OnOk result (desk.new ≡ record desk.old { due = drop 1 desk.old.due }) }
@@ -74,7 +96,7 @@ impl FrameLines {
 impl<K: Sink> Booking<CaptureReader, K> for FrameLines {
     type Answer = Hits;
 
-    ghost pieces = { λ l. booked_in result_line (results_in l.under_way) };
+    ghost pieces = { lines_left };
 
     fn take(
         &mut self,
@@ -87,7 +109,10 @@ impl<K: Sink> Booking<CaptureReader, K> for FrameLines {
         self.take_into(desk, block, hits, &mut book)
     }
 
-    ghost none = { λ l. none_booked result_line (results_in l.under_way) refl };
+    fn finish(&mut self, _: &mut K) -> Result<(), BookFault> {
+        self.none_waits();
+        Ok(())
+    }
 
     ghost numberless = { λ hits n jobs right. hits_numberless hits.found.items n jobs right };
 }

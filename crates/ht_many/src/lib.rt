@@ -6,8 +6,9 @@
 //! `ht_several`, of each capture by its own octets and devices alone.
 //!
 //! Each capture has a lane (crate `ht_lanes`): a reader, the blocks of jobs that are due, and a frame under way. The
-//! lanes together are one feed of blocks, so that the captures share the window and the workers block by block. Once no
-//! lane gives a block any more, each capture gets its last line.
+//! lanes together are one feed of blocks, so that the captures share the window and the workers block by block. With a
+//! crew each lane has a queue of whole frames too, which the workers find in one place for all lanes. Once no lane gives a
+//! block any more, each puts the lines that it kept back, and then each capture gets its last line.
 //!
 //! The bundle `48 54 4d 42 01 01 00 00 00 02 48 58` of the capture `HX`, say, comes to `capture 0` and
 //! `refused BadMagic at 1`.
@@ -18,6 +19,8 @@ mod capture_lane;
 mod crews;
 mod ending;
 mod frame_lines;
+mod gathered_lines;
+mod keeping_lines;
 #[cfg(test)]
 mod offset_tests;
 mod receiving;

@@ -2,10 +2,11 @@
 ghost use Rattle.std.specs.Prelude.{◌≡◌, ◌≤◌, length, IfOk, OnErr};
 ghost use Rattle.ht_several.specs.Several.{AreLater, EachEnds, EachInPart, devices};
 
-use crate::capture_lane::open_lanes;
+use crate::capture_lane::{open_crew_lanes, open_lanes};
 use crate::ending::end_all;
 use crate::running::{run_in_crew, run_in_this_thread};
 use ht_crew::Gate;
+use ht_frames::Frames;
 use ht_io::{Sink, Source};
 use ht_several::ManyEnd;
 use std::alloc::{AllocError, Global};
@@ -38,7 +39,8 @@ pub(crate) fn receive_alone<S: Source, K: Sink, G: Gate>(
     end_all(alloc, &lanes, sinks)
 }
 
-/// Receives captures, whose jobs are run by one crew of 1 to 64 workers, of which the caller is one.
+/// Receives captures, whose jobs are run by one crew of 1 to 64 workers, of which the caller is one. The
+/// workers decode the whole frames of all captures, except where the caller is alone.
 pub(crate) fn receive<R: Threads + Wait + Sync, S: Source, K: Sink, G: Gate + Sync>(
     rt: &R,
     alloc: Global,
@@ -57,11 +59,17 @@ pub(crate) fn receive<R: Threads + Wait + Sync, S: Source, K: Sink, G: Gate + Sy
     ensures memory { OnErr result (EachInPart S.shown K.shown (devices sources.old sinks.old) (devices sources.new sinks.new)) }
     ensures later { AreLater S.shown K.shown (devices sources.old sinks.old) (devices sources.new sinks.new) }
 {
-    let mut lanes = match open_lanes(alloc, sources.len()) {
+    if workers == 1 {
+        return receive_alone(alloc, window, sources, sinks, gate);
+    }
+    let frames = Frames::new(alloc);
+    let mut lanes = match open_crew_lanes(rt, alloc, workers, &frames, sources.len()) {
         Ok(lanes) => lanes,
         Err(lack) => return Err(lack),
     };
-    match run_in_crew(rt, alloc, workers, window, &mut lanes, sources, sinks, gate) {
+    match run_in_crew(
+        rt, alloc, workers, window, &frames, &mut lanes, sources, sinks, gate,
+    ) {
         Ok(()) => {}
         Err(lack) => return Err(lack),
     }

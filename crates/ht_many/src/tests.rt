@@ -12,18 +12,25 @@ use std::thread::Threads;
 /// The text of the capture of zeros: of each of its 104 data jobs and 8 pilot jobs the distance is 100.
 const ZEROS: &str = "frame 0 data 10400 pilot 800 code 0 seed zero\nend 1 frames\n";
 
-// A capture of this many frames, each of one octet at 20 MHz, MCS 0, which has two symbols: the diagonal 10 on each
-// subcarrier, every sample 0.
-fn zeros(alloc: Global, frames: u8) -> Result<Vec<u8>, AllocError> {
+// How many symbols a frame of this length has at 20 MHz, MCS 0.
+fn symbols_of(length: u16) -> u32 {
+    (u32::from(length) * 8 + 22).div_ceil(26)
+}
+
+// A capture of frames of these lengths at 20 MHz, MCS 0: the diagonal 10 on each subcarrier, every sample 0.
+fn zeros(alloc: Global, lengths: &[u16]) -> Result<Vec<u8>, AllocError> {
     let mut octets = b"HTCP\x01\x00".to_vec(alloc)?;
-    octets.push(frames)?;
-    for _ in 0..frames {
-        octets.extend_from_slice(&[0, 0, 0, 1])?;
+    octets.push(u8::try_from(lengths.len()).unwrap_or(u8::MAX))?;
+    for length in lengths {
+        octets.extend_from_slice(&[0, 0])?;
+        octets.extend_from_slice(&length.to_be_bytes())?;
         for _ in 0..56u8 {
             octets.extend_from_slice(&[0, 10])?;
         }
-        for _ in 0..896u16 {
-            octets.push(0)?;
+        for _ in 0..symbols_of(*length) {
+            for _ in 0..448u16 {
+                octets.push(0)?;
+            }
         }
     }
     Ok(octets)
@@ -38,11 +45,11 @@ fn source(alloc: Global, octets: Vec<u8>, failing: &[u64]) -> Result<MemSource, 
 // zeros into a sink that fails, and of zeros.
 fn sources(alloc: Global) -> Result<Vec<MemSource>, AllocError> {
     let mut sources = Vec::new(alloc);
-    sources.push(source(alloc, zeros(alloc, 1)?, &[])?)?;
+    sources.push(source(alloc, zeros(alloc, &[1])?, &[])?)?;
     sources.push(source(alloc, b"HX".to_vec(alloc)?, &[])?)?;
-    sources.push(source(alloc, zeros(alloc, 2)?, &[1583])?)?;
-    sources.push(source(alloc, zeros(alloc, 1)?, &[])?)?;
-    sources.push(source(alloc, zeros(alloc, 1)?, &[])?)?;
+    sources.push(source(alloc, zeros(alloc, &[1, 1])?, &[1583])?)?;
+    sources.push(source(alloc, zeros(alloc, &[1])?, &[])?)?;
+    sources.push(source(alloc, zeros(alloc, &[1])?, &[])?)?;
     Ok(sources)
 }
 
@@ -113,10 +120,61 @@ fn with_a_crew(rt: HostRuntime) -> Result<(), Fail> {
     check(&rt, alloc, &ends, &sinks)
 }
 
+// Two captures of frames of which most are long enough for a worker.
+fn long_sources(alloc: Global) -> Result<Vec<MemSource>, AllocError> {
+    let mut sources = Vec::new(alloc);
+    sources.push(source(alloc, zeros(alloc, &[300, 1, 300])?, &[])?)?;
+    sources.push(source(alloc, zeros(alloc, &[200, 200])?, &[])?)?;
+    Ok(sources)
+}
+
+// Of frames of 94, 2 and 94 symbols, and of two of 63: each job has the distance 100.
+const LONG: &str =
+    "frame 0 data 488800 pilot 37600 code 0 seed zero\nframe 1 data 10400 pilot 800 code 0 seed zero\n\
+frame 2 data 488800 pilot 37600 code 0 seed zero\nend 3 frames\n";
+
+const SHORTER: &str =
+    "frame 0 data 327600 pilot 25200 code 0 seed zero\nframe 1 data 327600 pilot 25200 code 0 seed zero\n\
+end 2 frames\n";
+
+// Frames that wait for workers, by two to four of them: each capture has its own lines, in order.
+#[test]
+fn frames_for_workers(rt: HostRuntime) -> Result<(), Fail> {
+    let alloc = rt.alloc();
+    for workers in [2, 3, 4] {
+        let mut sources = long_sources(alloc)?;
+        let mut sinks = Vec::new(alloc);
+        for _ in 0..2u8 {
+            sinks.push(MemSink::new(Vec::with_capacity(alloc, 256)?, Vec::new(alloc)))?;
+        }
+        if sources.len() != 2 || sinks.len() != 2 {
+            return Err(Fail::from("two captures"));
+        }
+        let ends = many(
+            &rt,
+            alloc,
+            workers,
+            512,
+            &mut sources,
+            &mut sinks,
+            &OpenGate,
+        )?;
+        assert_eq!(rt;
+            ends.as_slice(),
+            [ManyEnd::Done(3), ManyEnd::Done(2)].as_slice()
+        );
+        if sinks.len() == 2 {
+            assert_eq!(rt; sinks[0].held(), LONG.as_bytes());
+            assert_eq!(rt; sinks[1].held(), SHORTER.as_bytes());
+        }
+    }
+    Ok(())
+}
+
 // The bundle of these captures: zeros, `HX`, and one of no octets.
 fn bundle(alloc: Global) -> Result<Vec<u8>, AllocError> {
     let mut octets = b"HTMB\x01\x03\x00\x00\x03\xfb".to_vec(alloc)?;
-    octets.extend_from_slice(&zeros(alloc, 1)?)?;
+    octets.extend_from_slice(&zeros(alloc, &[1])?)?;
     octets.extend_from_slice(b"\x00\x00\x00\x02HX\x00\x00\x00\x00")?;
     Ok(octets)
 }

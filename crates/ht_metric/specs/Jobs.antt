@@ -6,9 +6,7 @@ use Rattle.ht_pam.specs.declared.axes.Axes.{Axes}
 use Rattle.ht_pam.specs.declared.point.Point.{Point}
 use Rattle.ht_metric.specs.declared.place.Place.{Place}
 use Rattle.ht_metric.specs.declared.found.Found.{Found}
-use Rattle.ht_metric.specs.declared.sample.Sample.{Sample}
-use Rattle.ht_metric.specs.Arrays.{legs}
-use Rattle.ht_metric.specs.Rows.{Row, rows_of}
+use Rattle.ht_metric.specs.Rows.{Row}
 use Rattle.ht_metric.specs.Distance.{distance_of}
 use Rattle.ht_metric.specs.Vectors.{is_in, before, vectors}
 
@@ -23,15 +21,6 @@ pub record JobView : Type 0 where
 pub record IsJob (job : JobView) : Type 0 where
   pub grid : IsGrid job.grid
   pub streams : length job.grid ≡ length job.system
-
--- the job of the same subcarrier in another symbol, with what was received there
-abbrev pub heard : JobView → ℕ → ℕ → List Sample → JobView
-heard job number symbol y = record {
-  number = number;
-  place = record { frame = job.place.frame; symbol = symbol; carrier = job.place.carrier };
-  grid = job.grid;
-  system = rows_of (legs job.system) y;
-}
 
 -- the vector is in the job's grid, no vector of the grid is nearer, and none that is before it is as near
 abbrev pub IsNear : JobView → List Point → Type 0

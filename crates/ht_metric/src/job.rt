@@ -1,10 +1,8 @@
 //! What a detector is given.
-ghost use Rattle.std.specs.Prelude.{◌≡◌, ◌-◌, ◌↔◌, ⊤, length, drop, replicate, IsTrue};
-ghost use Rattle.ht_metric.specs.Jobs.{IsJob, heard};
-ghost use Rattle.ht_metric.specs.Rows.{no_sample};
+ghost use Rattle.std.specs.Prelude.{◌≡◌, ◌↔◌, ⊤, length, IsTrue};
+ghost use Rattle.ht_metric.specs.Jobs.{IsJob};
 
 use crate::place::Place;
-use crate::sample::Sample;
 use crate::system::System;
 use ht_pam::Grid;
 use std::alloc::AllocError;
@@ -43,18 +41,6 @@ impl Job {
             system,
             grid,
         }
-    }
-
-    /// Makes it the job of this number in another symbol, where these samples were received, the first row's first. Frame,
-    /// subcarrier, triangle and grid stay. The samples behind the last row are zero.
-    #[inline]
-    pub fn hear(&mut self, number: u64, symbol: u32, y: [Sample; 4])
-        requires unused { drop (length self.old.system) y ≡ replicate (4 - length self.old.system) no_sample }
-        ensures { self.new ≡ heard self.old number symbol y }
-    {
-        self.number = number;
-        self.place.symbol = symbol;
-        self.system.hear(y);
     }
 
     /// The number of the job, counted from 0 over a capture.

@@ -47,15 +47,6 @@ impl System {
         System { triangle, y }
     }
 
-    /// Receives other samples on the same triangle, the first row's first. Those behind the last row are zero.
-    #[inline]
-    pub fn hear(&mut self, y: [Sample; 4])
-        requires unused { drop (length self.old) y ≡ replicate (4 - length self.old) no_sample }
-        ensures { self.new ≡ rows_of (legs self.old) y }
-    {
-        self.y = y;
-    }
-
     /// The triangle without what was received.
     #[inline]
     pub fn triangle(&self) -> &Triangle

@@ -51,8 +51,8 @@ fn rest<R: Wait>(rt: &R, backoff: &Backoff, sleep: Option<Key<'_>>, looks: u32) 
     }
 }
 
-// Runs tasks and puts their answers on the queue, until no task comes any more and none is left. Answers how much was in
-// them.
+// Runs tasks and puts their answers on the queue, and helps with what else is waiting before each, until no task comes any
+// more and none is left. Answers how much was in the tasks.
 fn run_tasks<W: Work, R: Wait>(
     rt: &R,
     work: &W,
@@ -81,6 +81,9 @@ fn run_tasks<W: Work, R: Wait>(
     for _ in rt.forever() {
         if ran > FULL {
             return (pass, ran);
+        }
+        if work.help(rt) {
+            looks = 0;
         }
         let sleep = prepare_sleep(shared, looks);
         let last = shared.is_finished();

@@ -1,6 +1,8 @@
 //! What a pool does.
 ghost use Rattle.std.specs.Prelude.{◌≡◌, ℕ};
 
+use std::sync::Wait;
+
 /// The count above which a worker runs no task more, so that every count fits 64 bits.
 pub(crate) const FULL: u64 = 0xffff_ffff_0000_0000;
 
@@ -25,4 +27,10 @@ pub trait Work {
     /// Does a task. The answer is one of this very task.
     fn run(&self, task: Self::Task) -> Self::Answer
         ensures { asked result ≡ task };
+
+    /// Does what else is waiting for a worker, if anything is, and answers whether it did. Each worker does so before it
+    /// looks for a task, and the caller never does: what the caller does holds all others up.
+    fn help<R: Wait>(&self, _rt: &R) -> bool {
+        false
+    }
 }

@@ -1,5 +1,5 @@
 -- What the subcarriers of each bandwidth carry, by a test of every index.
-use Rattle.std.proofs.Common.{◌≡◌, ℕ, ◌+◌, ◌-◌, ◌==◌, ◌<◌, Bool, true, false, ◌&&◌, nat_eq, nat_lt, refl, sym, ap, ◌∙◌, position}
+use Rattle.std.proofs.Common.{◌≡◌, ℕ, ◌+◌, ◌<◌, Bool, true, false, ◌&&◌, nat_eq, nat_lt, refl, sym, ap, subst, ◌∙◌}
 use Rattle.std.proofs.lemmas.Bool.{agree_below, agree_below_at, and_parts, eqb-true, ltb-true}
 use Rattle.ht_rate.specs.declared.kinds.Bandwidth.{Bandwidth}
 use Rattle.ht_rate.specs.declared.kinds.Bandwidth.TheVariants.{Mhz20, Mhz40}
@@ -8,14 +8,14 @@ use Rattle.ht_rate.specs.declared.kinds.Carrier.TheVariants.{Data, Pilot}
 use Rattle.ht_rate.specs.declared.parts.Streams.{Streams}
 use Rattle.ht_rate.specs.declared.parts.Scheme.{Scheme}
 use Rattle.ht_rate.specs.declared.rates.Rate.{Rate}
-use Rattle.ht_rate.specs.Schemes.{data_count, pilot_count, pilot_places}
+use Rattle.ht_rate.specs.Schemes.{data_count, pilot_count}
 use Rattle.ht_rate.specs.Rates.{bandwidth_of, data_carriers_of, pilots_of, carriers_of}
-use Rattle.ht_rate.specs.Carriers.{carrier_among, carrier_at, carrier_of, pilots_below, data_before, index_of, IsAmong, IsInOrder}
+use Rattle.ht_rate.specs.Carriers.{carrier_at, carrier_of, data_before, index_of, IsAmong, IsInOrder}
 
 -- what stands at an index at the bandwidth of a rate
 pub carrier_is : (r : Rate) (b : Bandwidth) (index : ℕ) (c : Carrier) → bandwidth_of r ≡ b
-    → c ≡ carrier_among (position (λ p. p == index) (pilot_places b)) (index - pilots_below b index) → c ≡ carrier_of r index
-unfolding carrier_of carrier_at
+    → c ≡ carrier_at b index → c ≡ carrier_of r index
+unfolding carrier_of
 carrier_is r b index c e is = is ∙ ap (λ (w : Bandwidth). carrier_at w index) (sym e)
 
 -- the number of each subcarrier is below the count of its kind
@@ -133,3 +133,8 @@ found r c e = let parts = and_parts _ _ e in (ltb-true _ _ parts.0, same_carrier
 pub carrier_of-index_of : (r : Rate) (c : Carrier) → IsAmong r c → (index_of r c < carriers_of r) × (carrier_of r (index_of r c) ≡ c)
 carrier_of-index_of r (Data m) lt = found r (Data m) (agree_below_at (λ m. stands r (Data m)) (λ _. true) (data_carriers_of r) m (data_tests r) lt)
 carrier_of-index_of r (Pilot k) lt = found r (Pilot k) (agree_below_at (λ k. stands r (Pilot k)) (λ _. true) (pilots_of r) k (pilot_tests r) lt)
+
+-- at a bandwidth there are its subcarriers
+pub index-below : (r : Rate) (b : Bandwidth) (index : ℕ) → bandwidth_of r ≡ b → index < carriers_of r → index < data_count b + pilot_count b
+unfolding carriers_of data_carriers_of pilots_of bandwidth_of
+index-below r b index e lt = subst (λ (w : Bandwidth). index < data_count w + pilot_count w) e lt

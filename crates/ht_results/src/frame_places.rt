@@ -41,6 +41,7 @@ pub fn jobs_in(head: &FrameHead) -> u64
 }
 
 /// What a subcarrier carries. One that the rate doesn't have counts as a data subcarrier with its index as its number.
+#[inline]
 pub fn kind(rate: &Rate, carrier: u8) -> Carrier
     ensures { result ≡ kind_of rate.now carrier }
 {

@@ -1,5 +1,5 @@
 //! A frame under way.
-ghost use Rattle.std.specs.Prelude.{◌≡◌, ◌+◌, ◌-◌, ◌*◌, ◌^◌, ◌<◌, ◌≤◌, IfOk, OnOk, length, set};
+ghost use Rattle.std.specs.Prelude.{◌≡◌, ◌+◌, ◌-◌, ◌*◌, ◌^◌, ◌<◌, ◌≤◌, IfOk, IsTrue, OnOk, length, set};
 ghost use Rattle.ht_inverse.specs.Received.{labels_in_frame};
 ghost use Rattle.ht_results.specs.Folding.{frame_begun, frame_of, kind_of, label_at, label_place, put_labels, result_of, with_octets};
 ghost use Rattle.ht_rx.specs.Frames.{HasLabels, IsOpenFrame, KnowsCarriers, with_found};
@@ -109,6 +109,20 @@ fn put_vector(labels: &mut [u8], at: usize, modulation: Modulation, vector: &Vec
     }
 }
 
+// Whether both are the same head.
+fn is_head(head: &FrameHead, other: &FrameHead) -> bool
+    ensures { IsTrue result → head.now ≡ other.now }
+{
+    *head == *other
+}
+
+// Whether both are the same octets.
+fn are_equal(a: &[u8], b: &[u8]) -> bool
+    ensures { IsTrue result → a.now ≡ b.now }
+{
+    a == b
+}
+
 // The place of the first label of a data subcarrier.
 fn place_of(rate: &Rate, symbol: u32, m: u8) -> usize
     ensures value { result ≡ label_place rate.now symbol m }
@@ -142,8 +156,23 @@ impl OpenFrame {
     }
 
     /// The number of its octets, or of those of the frame before where none is under way.
-    pub(crate) fn octets(&self) -> u16 {
+    pub(crate) fn octets(&self) -> u16
+        ensures { result ≡ self.now.head.length }
+    {
         self.head.length
+    }
+
+    /// Whether both have the same head, sums and labels, and so come to the same.
+    pub(crate) fn same(&self, other: &OpenFrame) -> bool
+        ensures { IsTrue result → result_of self.now ≡ result_of other.now }
+    {
+        if !is_head(&self.head, &other.head) {
+            return false;
+        }
+        if self.data_sum != other.data_sum || self.pilot_sum != other.pilot_sum {
+            return false;
+        }
+        are_equal(&self.labels, &other.labels)
     }
 
     // Begins the frame with this head, of one octet at least. It is called once a frame, and kept out of line.

@@ -10,7 +10,7 @@ use crate::open_frame::OpenFrame;
 use crate::telling::{tell, tell_alone};
 use ht_crew::Gate;
 use ht_feed::Ended;
-use ht_frames::{Book, Gatherer, HitWork, Receiver, abandon};
+use ht_frames::{BesideFrames, Book, Frames, Gatherer, HitWork, Receiver};
 use ht_io::Source;
 use ht_results::FrameResult;
 use std::alloc::Global;
@@ -64,12 +64,13 @@ pub fn receive_alone<S: Source, B: Book<FrameResult>, G: Gate>(
 /// Does as [`receive_alone`], and the jobs are run by 1 to 64 workers, of which the caller is one. The results are the
 /// same, in the same order.
 ///
-/// A frame of 400 octets or more that is whole is decoded in a thread of its own, while the jobs behind it are read and
-/// run; a shorter one is decoded by the caller. Results are booked in order. While jobs are run, fewer frames than
-/// there are workers are being decoded, of at most 131,072 octets together, beside the frame under way; where one more
-/// is whole the caller waits for the oldest ones. So at most three of the longest frames are kept, whatever the
-/// workers. Where no job is due any more the caller waits for all of them. It decodes the frame that is whole then, and
-/// the codewords of two encoders in two threads. However it ends, no thread is left behind.
+/// A frame of 100 octets or more that is whole is given to the workers, who decode it before they look for jobs; a
+/// shorter one is decoded by the caller. Results are booked in order. While jobs are due, at most two frames for each
+/// worker beside the caller, of at most 131,072 octets together, have no booked result, beside the frame under way;
+/// where one more is whole the caller waits for the oldest ones, and decodes what no worker has begun. So at most three
+/// of the longest frames are kept, whatever the workers. Where no job is due any more the caller waits for all of them. It
+/// decodes the frame that is whole then, and the codewords of two encoders in two threads. However it ends, no thread is
+/// left behind.
 pub fn receive<R: Threads + Wait + Sync, S: Source, B: Book<FrameResult>, G: Gate + Sync>(
     rt: &R,
     alloc: Global,
@@ -98,11 +99,21 @@ pub fn receive<R: Threads + Wait + Sync, S: Source, B: Book<FrameResult>, G: Gat
     if workers == 1 {
         return receive_alone(alloc, window, source, book, gate);
     }
+    let frames = Frames::new(alloc);
     let mut under_way = OpenFrame::new(alloc);
     let mut queue = VecDeque::new(alloc);
-    let mut gatherer = Gatherer::new(rt, alloc, workers, &mut under_way, &mut queue, book);
-    let work = HitWork { alloc, gate };
-    let ended = tell(rt, alloc, workers, window, &work, source, &mut gatherer);
-    abandon(rt, queue);
-    ended
+    let mut gatherer = Gatherer::new(
+        rt,
+        alloc,
+        workers,
+        &frames,
+        &mut under_way,
+        &mut queue,
+        book,
+    );
+    let work = BesideFrames {
+        work: HitWork { alloc, gate },
+        frames: &frames,
+    };
+    tell(rt, alloc, workers, window, &work, source, &mut gatherer)
 }

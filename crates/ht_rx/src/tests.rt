@@ -106,7 +106,7 @@ fn is_of(found: &FrameResult, frame: u16, symbols: u8) -> bool {
         && matches!(&found.outcome, Outcome::SeedZero)
 }
 
-// Two frames that are long enough for a thread of their own and a short one between them, by one to four workers.
+// Two frames that are long enough to go to a worker and a short one between them, by one to four workers.
 #[test]
 fn frames_in_order(rt: HostRuntime) -> Result<(), Fail> {
     let alloc = rt.alloc();

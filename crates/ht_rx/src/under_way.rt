@@ -6,12 +6,11 @@ ghost use Rattle.ht_rx.specs.Frames.{IsWhole, results_in};
 use crate::open_frame::OpenFrame;
 use crate::whole_labels::WholeLabels;
 use ht_capture::FrameHead;
-use ht_frames::{Decoding, UnderWay};
+use ht_frames::UnderWay;
 use ht_metric::{Found, Place};
 use ht_results::FrameResult;
 use std::alloc::{AllocError, Global};
 use std::mem;
-use std::thread::Threads;
 
 impl UnderWay for OpenFrame {
     type Head = FrameHead;
@@ -42,10 +41,6 @@ impl UnderWay for OpenFrame {
 
     fn leave(&mut self, alloc: Global) -> WholeLabels {
         WholeLabels::new(mem::replace(self, OpenFrame::new(alloc)))
-    }
-
-    fn begin<R: Threads>(rt: &R, alloc: Global, frame: WholeLabels) -> Decoding<WholeLabels> {
-        Decoding::begin(rt, alloc, frame)
     }
 
     ghost none = { λ f. refl };

@@ -41,14 +41,26 @@ impl WholeLabels {
 impl WholeFrame for WholeLabels {
     type Result = FrameResult;
 
+    type Decoder = Alone;
+
     ghost result_of = { result_of };
+
+    ghost length_of = { λ frame. frame.head.length };
 
     fn octets(&self) -> u16 {
         self.frame.octets()
     }
 
-    fn decode(&self, alloc: Global) -> Result<FrameResult, AllocError> {
-        self.frame.result(alloc, &mut Alone::new())
+    fn decoder(_: Global) -> Alone {
+        Alone::new()
+    }
+
+    fn decode(&self, alloc: Global, decoder: &mut Alone) -> Result<FrameResult, AllocError> {
+        self.frame.result(alloc, decoder)
+    }
+
+    fn same(&self, other: &WholeLabels) -> bool {
+        self.frame.same(&other.frame)
     }
 
     fn decode_together<R: Threads>(

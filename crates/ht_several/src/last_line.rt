@@ -19,7 +19,8 @@ fn put_last<K: Sink>(
     then: ManyEnd,
     sink: &mut K,
 ) -> Result<ManyEnd, AllocError>
-    ensures puts { IfOk result (λ end. (text : List ℕ) → IfOk line (λ octets. octets.items ≡ text) → PutsLast text then (K.shown sink.old) (K.shown sink.new) end) }
+    ensures puts { IfOk result (λ end. (text : List ℕ) → IfOk line (λ octets. octets.items ≡ text)
+        → PutsLast text then (K.shown sink.old) (K.shown sink.new) end) }
     ensures memory { OnErr result (sink.new ≡ sink.old) }
     ensures writes { IfOk result (λ end. end ≢ WriteEnd → (K.shown sink.new).faults ≡ (K.shown sink.old).faults) }
     ensures later { IsLater (K.shown sink.old) (K.shown sink.new) }

@@ -24,7 +24,7 @@ pub(crate) struct Counts {
 }
 
 /// How many halves the job of a data subcarrier has, in a frame of this rate.
-pub(crate) fn halves_of_data(rate: &Rate) -> u16
+pub(crate) fn count_of_data(rate: &Rate) -> u16
     ensures number { result ≡ 2 * streams_of rate.now * label_bits_of rate.now }
     ensures some { 1 ≤ result }
     ensures few { result ≤ 48 }
@@ -101,7 +101,7 @@ impl Counts {
         Counts {
             pilots,
             lone: lone_in(pilots),
-            of_data: halves_of_data(rate),
+            of_data: count_of_data(rate),
         }
     }
 

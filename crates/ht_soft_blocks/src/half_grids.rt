@@ -8,7 +8,7 @@ ghost use Rattle.ht_feed.specs.Numbers.{with_number};
 ghost use Rattle.ht_soft_blocks.specs.Blocks.{AreHalfGrids, IsOfRate, half_grid_at, is_pilot};
 ghost use Rattle.ht_soft_blocks.specs.Halved.{halves_of};
 
-use crate::counts::halves_of_data;
+use crate::counts::count_of_data;
 use crate::side::Side;
 use ht_map::grid;
 use ht_metric::Job;
@@ -42,7 +42,7 @@ impl HalfGrids {
         ensures { IfOk result (λ grids. grids.rate ≡ rate.now) }
     {
         let full = grid(rate);
-        let count = halves_of_data(rate);
+        let count = count_of_data(rate);
         let mut grids = Vec::with_capacity(alloc, usize::from(count))?;
         for at in 0..count {
             grids.push_reserved(grid_of_half(rate, &full, at));

@@ -11,7 +11,7 @@ ghost use Rattle.ht_soft_blocks.specs.Halved.{halved};
 ghost use Rattle.ht_soft_blocks.specs.Readers.{soft_at, soft_counts, soft_means, soft_more};
 
 use crate::block::HalvesBlock;
-use crate::counts::halves_of_data;
+use crate::counts::count_of_data;
 use ht_capture::FrameHead;
 use ht_capture_blocks::CaptureReader;
 use ht_feed::{BlockReader, Came};
@@ -54,7 +54,7 @@ const JOBS: u16 = 16;
 fn jobs_for(rate: &Rate, most: u16) -> u16
     ensures some { 1 ≤ result }
 {
-    (most / halves_of_data(rate)).clamp(1, JOBS)
+    (most / count_of_data(rate)).clamp(1, JOBS)
 }
 
 impl HalvesReader {

@@ -14,13 +14,14 @@ ghost use Rattle.ht_soft_rx.specs.Texts.{soft_lines_of, soft_rx_text};
 
 use crate::soft_result::SoftResult;
 use crate::under_way::SoftUnderWay;
+use crate::whole::SoftWhole;
 use crate::work::HalvesWork;
 use ht_capture::FrameHead;
 use ht_crew::Gate;
 use ht_drive::tell;
 use ht_endings::put_end;
 use ht_feed::{Ended, tell_alone};
-use ht_frames::{Book, Gatherer, HitWork, Receiver, TextBook, abandon};
+use ht_frames::{BesideFrames, Book, Frames, Gatherer, HitWork, Receiver, TextBook};
 use ht_io::{Sink, Source};
 use ht_results::no_head;
 use ht_runs::{RunFault, StopFault};
@@ -60,7 +61,7 @@ fn book_alone<S: Source, B: Book<SoftResult>, G: Gate>(
     tell_alone(alloc, reader, head, window, &work, source, &mut receiver)
 }
 
-// The same, and the halves are run by 1 to 64 workers, of which the caller is one.
+// The same, and the halves are run by 1 to 64 workers, of which the caller is one. They decode whole frames too.
 fn gather<R: Threads + Wait + Sync, S: Source, B: Book<SoftResult>, G: Gate + Sync>(
     rt: &R,
     alloc: Global,
@@ -88,11 +89,15 @@ fn gather<R: Threads + Wait + Sync, S: Source, B: Book<SoftResult>, G: Gate + Sy
     ensures same { B.lent book.new ≡ B.lent book.old }
 {
     let mut queue = VecDeque::new(alloc);
-    let mut gatherer = Gatherer::new(rt, alloc, workers, under_way, &mut queue, book);
-    let work = HalvesWork {
-        work: HitWork { alloc, gate },
+    let frames = Frames::new(alloc);
+    let mut gatherer = Gatherer::new(rt, alloc, workers, &frames, under_way, &mut queue, book);
+    let work = BesideFrames {
+        work: HalvesWork {
+            work: HitWork { alloc, gate },
+        },
+        frames: &frames,
     };
-    let ended = tell(
+    tell(
         rt,
         alloc,
         workers,
@@ -102,9 +107,7 @@ fn gather<R: Threads + Wait + Sync, S: Source, B: Book<SoftResult>, G: Gate + Sy
         &work,
         source,
         &mut gatherer,
-    );
-    abandon(rt, queue);
-    ended
+    )
 }
 
 // The same, with the line of each result put into the sink.
@@ -226,9 +229,11 @@ pub fn receive_soft_alone<S: Source, K: Sink, G: Gate>(
 /// Does as [`receive_soft_alone`], and the jobs are run by 1 to 64 workers, of which the caller is one. The lines are the
 /// same, in the same order.
 ///
-/// Whole frames are decoded while the jobs behind them are read and run, as [`Gatherer`] does it: a frame of 400 octets or
-/// more in a thread of its own, a shorter one by the caller. So the weights of at most three of the longest frames are
-/// kept, 4.2 MB each, whatever the workers. However it ends, no thread is left behind.
+/// Whole frames are decoded while the jobs behind them are read and run, as [`Gatherer`] does it: a frame of 100 octets or
+/// more is given to the workers, who decode it before they look for blocks, and a shorter one is decoded by the caller.
+/// While jobs are due, at most two frames for each worker beside the caller, of at most 131,072 octets together, have no
+/// booked result, besides the frame under way. So the weights of at most three of the longest frames are kept, 4.2 MB each,
+/// whatever the workers. However it ends, no thread is left behind.
 pub fn receive_soft<R: Threads + Wait + Sync, S: Source, K: Sink, G: Gate + Sync>(
     rt: &R,
     alloc: Global,

@@ -13,7 +13,7 @@ ghost use Rattle.ht_soft_rx.specs.Weights.{weights_of_job};
 use crate::soft_result::SoftResult;
 use crate::whole::{SoftWhole, decoded};
 use ht_capture::FrameHead;
-use ht_frames::{Decoding, UnderWay};
+use ht_frames::UnderWay;
 use ht_metric::{Found, Place};
 use ht_rate::Carrier;
 use ht_results::{jobs_in, kind, no_head};
@@ -21,7 +21,6 @@ use ht_soft::weight;
 use std::alloc::{AllocError, Global};
 use std::marker::Model;
 use std::mem;
-use std::thread::Threads;
 
 /// The frame under way: the weights of its label bits so far, four octets each. The next frame has them in the same memory,
 /// where the whole frame was decoded here.
@@ -223,10 +222,6 @@ impl UnderWay for SoftUnderWay {
 
     fn leave(&mut self, alloc: Global) -> SoftWhole {
         self.taken_away(alloc)
-    }
-
-    fn begin<R: Threads>(rt: &R, alloc: Global, frame: SoftWhole) -> Decoding<SoftWhole> {
-        Decoding::begin(rt, alloc, frame)
     }
 
     ghost none = { λ frame. refl };

@@ -1,5 +1,5 @@
 //! A frame whose last job came.
-ghost use Rattle.std.specs.Prelude.{◌≡◌, IfOk};
+ghost use Rattle.std.specs.Prelude.{◌≡◌, IfOk, IsTrue};
 ghost use Rattle.ht_soft_rx.specs.Folding.{HasWeights};
 ghost use Rattle.ht_soft_rx.specs.Results.{result_of};
 
@@ -46,16 +46,34 @@ pub(crate) fn decoded(
     })
 }
 
+// Whether two lists have the same weights.
+fn same_weights(weights: &[i32], other: &[i32]) -> bool
+    ensures { IsTrue result → weights.now ≡ other.now }
+{
+    weights == other
+}
+
 impl WholeFrame for SoftWhole {
     type Result = SoftResult;
 
+    // Nothing stays from one frame to the next.
+    type Decoder = ();
+
     ghost result_of = { λ frame. result_of frame.head frame.weights.items };
+
+    ghost length_of = { λ frame. frame.head.length };
 
     fn octets(&self) -> u16 {
         self.head.length
     }
 
-    fn decode(&self, alloc: Global) -> Result<SoftResult, AllocError> {
+    fn decoder(_: Global) {}
+
+    fn decode(&self, alloc: Global, _: &mut ()) -> Result<SoftResult, AllocError> {
         decoded(alloc, &self.head, self.weights.as_slice())
+    }
+
+    fn same(&self, other: &SoftWhole) -> bool {
+        self.head == other.head && same_weights(self.weights.as_slice(), other.weights.as_slice())
     }
 }

@@ -4,7 +4,7 @@ ghost use Rattle.std.specs.Prelude.{◌^◌, ◌<◌, length};
 use ht_crew::Gate;
 use ht_feed::{Hits, Jobs, Work, is_hard};
 use ht_frames::HitWork;
-use ht_metric::Found;
+use ht_metric::{Found, Job};
 use ht_soft_blocks::HalvesBlock;
 use std::alloc::AllocError;
 
@@ -13,6 +13,12 @@ use std::alloc::AllocError;
 pub struct HalvesWork<'g, G> {
     /// What finds the hit of a half.
     pub work: HitWork<'g, G>,
+}
+
+// Whether a half takes some microseconds to search, and some a hundred times as long: four streams of 64-QAM.
+fn has_dear_halves(half: &Job) -> bool {
+    let grid = half.grid();
+    grid.streams() == 4 && grid.i_ladder(1).has(3)
 }
 
 // The least distance of the last three that were found.
@@ -31,10 +37,11 @@ impl<'g, G: Gate> Work<HalvesBlock> for HalvesWork<'g, G> {
         block.hits(self.work.alloc, &self.work)
     }
 
-    /// Whether the last job was hard. Of its halves only those that have its first nearest vector tell, and among three
-    /// halves that follow one another are both of one bit.
+    /// Whether the last job was hard, or has halves that are worth the way to another worker one by one. Of its halves
+    /// only those that have its first nearest vector tell, and among three halves that follow one another are both of one
+    /// bit.
     fn is_hard(&self, block: &HalvesBlock, hits: &Hits) -> bool {
         let last = block.job(block.count() - 1);
-        is_hard(&last, least_of_last(hits.found.as_slice()))
+        has_dear_halves(&last) || is_hard(&last, least_of_last(hits.found.as_slice()))
     }
 }

@@ -53,7 +53,8 @@ pub fn into_hit<L: Ledger>(job: Job, steps: &mut Steps<L>) -> Hit
 }
 
 /// The first nearest vector of a job and its distance, below 2^66, as [`nearest`] finds them, without the job.
-#[inline]
+/// Each caller has a copy of what is done for one stream, so that what is found there never waits for memory.
+#[inline(always)]
 pub fn find<L: Ledger>(job: &Job, steps: &mut Steps<L>) -> Found
     ensures found { result ≡ near job.now }
     ensures near { IsNear job.now result.vector }
@@ -62,12 +63,25 @@ pub fn find<L: Ledger>(job: &Job, steps: &mut Steps<L>) -> Found
 {
     match job.system().streams() {
         1 => found(job, 1, steps),
-        streams => found(job, streams, steps),
+        streams => found_among_several(job, streams, steps),
     }
 }
 
-// The same for a job of so many streams. Each caller has a copy of it, so that a count that is written there, as 1
-// above, leaves no loop over streams.
+// The same for a job of several streams, by a call.
+#[inline(never)]
+fn found_among_several<L: Ledger>(job: &Job, streams: u8, steps: &mut Steps<L>) -> Found
+    requires job { IsJob job.now }
+    requires streams { streams ≡ length job.now.system }
+    ensures found { result ≡ near job.now }
+    ensures near { IsNear job.now result.vector }
+    ensures bound { result.distance < 2 ^ 66 }
+    ensures steps { steps.new ≤ steps.old + 2 * inside_of job.now }
+{
+    found(job, streams, steps)
+}
+
+// The same for a job of this number of streams. Each caller has a copy of it, so that a number that is written there,
+// as 1 above, leaves no loop over streams.
 #[inline(always)]
 fn found<L: Ledger>(job: &Job, streams: u8, steps: &mut Steps<L>) -> Found
     requires job { IsJob job.now }
@@ -145,6 +159,7 @@ fn rounded<A: Look>(job: &Job, streams: u8, levels: &mut [i8]) -> Rounding
 }
 
 // The best of a vector and all others, and its distance.
+#[inline(never)]
 fn better<L: Ledger>(job: &Job, best: &mut [i8], distance: u128, steps: &mut Steps<L>) -> u128
     requires room { length best.old ≡ 2 * length job.now.system }
     ensures room { length best.new ≡ length best.old }

@@ -11,12 +11,12 @@ returns-in_ok-decode-clause-put g c =
     let mid = results c.take.new.self in
     let after = results c.leave-frame.new.self in
     let queue = c.args.queue.now.items in
-    puts_each result_of b.booked (b.shown c.args.book.now) (b.shown c.finish.new.book) queue c.decode.new.queue.items c.finish.new.queue.items
+    puts_each result_of b.booked (b.shown c.args.book.now) (b.shown c.book_frames.new.book) queue c.decode.new.queue.items c.book_frames.new.queue.items
     before after c.args.head.now c.args.place c.args.found.now
     (λ job here found. stands_behind result_of b.booked queue c.decode.new.queue.items c.leave-frame.result c.in_ok-take.field-0
     (g.U.UnderWay.comes_to c.take.new.self) before mid after (headed_of c.args.head.now job) c.if-branch.true c.leave-frame.ensures.value c.in_ok-decode.ensures
     (c.in_ok-take.ensures.results job here found) c.leave-frame.ensures.kept)
-    c.finish.result c.finish.ensures.put
+    c.book_frames.result c.book_frames.ensures.put
 
 pub returns-in_ok-decode-clause-part : goal.returns-in_ok-decode-clause-part
 returns-in_ok-decode-clause-part g c =
@@ -27,9 +27,9 @@ returns-in_ok-decode-clause-part g c =
     let mid = results c.take.new.self in
     let after = results c.leave-frame.new.self in
     let queue = c.args.queue.now.items in
-    part_each result_of b.booked (b.shown c.args.book.now) (b.shown c.finish.new.book) queue c.decode.new.queue.items c.finish.new.queue.items
+    part_each result_of b.booked (b.shown c.args.book.now) (b.shown c.book_frames.new.book) queue c.decode.new.queue.items c.book_frames.new.queue.items
     before after c.args.head.now c.args.place c.args.found.now
     (λ job here found. stands_behind result_of b.booked queue c.decode.new.queue.items c.leave-frame.result c.in_ok-take.field-0
     (g.U.UnderWay.comes_to c.take.new.self) before mid after (headed_of c.args.head.now job) c.if-branch.true c.leave-frame.ensures.value c.in_ok-decode.ensures
     (c.in_ok-take.ensures.results job here found) c.leave-frame.ensures.kept)
-    c.finish.result c.finish.ensures.part
+    c.book_frames.result c.book_frames.ensures.part

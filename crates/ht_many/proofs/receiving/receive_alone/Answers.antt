@@ -40,7 +40,7 @@ returns-clause-ends g c =
     let same : length left.lanes ≡ length c.in-Ok.lanes.items = search rules in
     let seen = c.deref.ensures.value ∙ written_back left.lanes c.in-Ok.lanes.items c.in-Ok.lanes.len size same in
     all_end g.S.Source.shown g.K.Sink.shown (sides_of lanes c.args.sources.now c.args.sinks.now) (sides_of left.lanes left.sources left.sinks)
-    new e.leads sources sinks e.over e.taken c.deref.result.now seen c.end_all.new.sinks c.end_all.ensures.later (λ ends. ends.items)
+    new e.leads sources sinks e.over e.taken e.finished c.deref.result.now seen c.end_all.new.sinks c.end_all.ensures.later (λ ends. ends.items)
     c.end_all.result c.end_all.ensures.finishes
 
 pub returns-clause-memory : goal.returns-clause-memory
@@ -55,7 +55,7 @@ returns-clause-memory g c =
     let same : length left.lanes ≡ length c.in-Ok.lanes.items = search rules in
     let seen = c.deref.ensures.value ∙ written_back left.lanes c.in-Ok.lanes.items c.in-Ok.lanes.len size same in
     all_part g.S.Source.shown g.K.Sink.shown (sides_of lanes c.args.sources.now c.args.sinks.now) (sides_of left.lanes left.sources left.sinks)
-    new e.leads sources sinks e.over e.taken c.deref.result.now seen c.end_all.new.sinks c.end_all.ensures.later c.end_all.result
+    new e.leads sources sinks e.over e.taken e.finished c.deref.result.now seen c.end_all.new.sinks c.end_all.ensures.later c.end_all.result
     c.end_all.ensures.memory
 
 pub returns-clause-later : goal.returns-clause-later
@@ -70,4 +70,4 @@ returns-clause-later g c =
     let same : length left.lanes ≡ length c.in-Ok.lanes.items = search rules in
     let seen = c.deref.ensures.value ∙ written_back left.lanes c.in-Ok.lanes.items c.in-Ok.lanes.len size same in
     all_later g.S.Source.shown g.K.Sink.shown (sides_of lanes c.args.sources.now c.args.sinks.now) (sides_of left.lanes left.sources left.sinks)
-    new e.leads sources sinks e.over e.taken c.deref.result.now seen c.end_all.new.sinks c.end_all.ensures.later
+    new e.leads sources sinks e.over e.taken e.finished c.deref.result.now seen c.end_all.new.sinks c.end_all.ensures.later

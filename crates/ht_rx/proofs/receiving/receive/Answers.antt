@@ -5,9 +5,9 @@ use Rattle.ht_rx.proofs.receiving.receive.Goals as goal
 pub returns-clause-receives : goal.returns-clause-receives
 returns-clause-receives g c =
     let before = c.new-gatherer.result in
-    let after = c.tell-ended.new.account in
+    let after = c.tell.new.account in
     let zero : before.under_way.now.left ≤ 0 = search rules in
     let none : before.queue.now.items ≡ [] = search rules in
-    let told = gathered_told g.B.Book.booked before.queue.now.items before.under_way.now c.tell-ended.result (g.S.Source.shown c.args.source.now)
-    (g.S.Source.shown c.tell-ended.new.source) (g.B.Book.shown before.book.now) (g.B.Book.shown after.book.now) none zero c.tell-ended.ensures.tells in
+    let told = gathered_told g.B.Book.booked before.queue.now.items before.under_way.now c.tell.result (g.S.Source.shown c.args.source.now)
+    (g.S.Source.shown c.tell.new.source) (g.B.Book.shown before.book.now) (g.B.Book.shown after.book.now) none zero c.tell.ensures.tells in
     search rules

@@ -13,10 +13,10 @@ returns-clause-put g c =
     let result_of = g.U.Whole.WholeFrame.result_of in
     let results = g.U.UnderWay.results in
     let self = c.args.self.now in
-    all_put result_of b.booked (b.shown self.book.now) (b.shown c.take_block.new.book) (b.shown c.finish.new.book)
-    (booked_behind result_of b.booked self.queue.now.items (results self.under_way.now)) c.take_block.new.queue.items c.finish.new.queue.items
-    (results c.take_block.new.under_way) (headed_due (due_of c.args.head.now (g.T.Block.Jobs.jobs c.args.block.now)))
-    c.in_ok-take_block.ensures.put c.finish.result c.finish.ensures.put
+    all_put result_of b.booked (b.shown self.book.now) (b.shown c.gather_block.new.book) (b.shown c.book_frames.new.book)
+    (booked_behind result_of b.booked self.queue.now.items (results self.under_way.now)) c.gather_block.new.queue.items c.book_frames.new.queue.items
+    (results c.gather_block.new.under_way) (headed_due (due_of c.args.head.now (g.T.Block.Jobs.jobs c.args.block.now)))
+    c.in_ok-gather_block.ensures.put c.book_frames.result c.book_frames.ensures.put
 
 pub returns-clause-part : goal.returns-clause-part
 returns-clause-part g c =
@@ -24,18 +24,18 @@ returns-clause-part g c =
     let result_of = g.U.Whole.WholeFrame.result_of in
     let results = g.U.UnderWay.results in
     let self = c.args.self.now in
-    all_part result_of b.booked (b.shown self.book.now) (b.shown c.take_block.new.book) (b.shown c.finish.new.book)
-    (booked_behind result_of b.booked self.queue.now.items (results self.under_way.now)) c.take_block.new.queue.items c.finish.new.queue.items
-    (results c.take_block.new.under_way) (headed_due (due_of c.args.head.now (g.T.Block.Jobs.jobs c.args.block.now)))
-    c.in_ok-take_block.ensures.put c.finish.result c.finish.ensures.part
+    all_part result_of b.booked (b.shown self.book.now) (b.shown c.gather_block.new.book) (b.shown c.book_frames.new.book)
+    (booked_behind result_of b.booked self.queue.now.items (results self.under_way.now)) c.gather_block.new.queue.items c.book_frames.new.queue.items
+    (results c.gather_block.new.under_way) (headed_due (due_of c.args.head.now (g.T.Block.Jobs.jobs c.args.block.now)))
+    c.in_ok-gather_block.ensures.put c.book_frames.result c.book_frames.ensures.part
 
 pub returns-clause-waits : goal.returns-clause-waits
 returns-clause-waits g c =
-    none_kept c.finish.result c.finish.new.queue.items (WaitForJobs c.args.self.now.queue.now.items (all_due c.args.due.now.items))
-    (all_due (drop 1 c.args.due.now.items)) c.finish.ensures.few
+    none_kept c.book_frames.result c.book_frames.new.queue.items (WaitForJobs c.args.self.now.queue.now.items (all_due c.args.due.now.items))
+    (all_due (drop 1 c.args.due.now.items)) c.book_frames.ensures.few
 
 pub returns-clause-cause : goal.returns-clause-cause
 returns-clause-cause g c =
     let b = g.B.Book in
-    failed_behind c.finish.result (b.shown c.args.self.now.book.now) (b.shown c.take_block.new.book) (b.shown c.finish.new.book)
-    c.take_block.ensures.faults.later c.finish.ensures.faults.cause
+    failed_behind c.book_frames.result (b.shown c.args.self.now.book.now) (b.shown c.gather_block.new.book) (b.shown c.book_frames.new.book)
+    c.gather_block.ensures.faults.later c.book_frames.ensures.faults.cause

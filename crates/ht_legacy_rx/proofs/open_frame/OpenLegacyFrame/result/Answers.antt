@@ -1,4 +1,4 @@
-use Rattle.std.proofs.Common.{◌≡◌, ◌∙◌, ℕ, List, ap, subst}
+use Rattle.std.proofs.Common.{◌≡◌, ℕ, List, subst}
 use Rattle.ht_legacy_inverse.specs.Decoding.{legacy_decoded_frame}
 use Rattle.ht_legacy_rx.specs.Results.{LegacySoFar}
 use Rattle.ht_legacy_rx.proofs.Taking.{result_is}

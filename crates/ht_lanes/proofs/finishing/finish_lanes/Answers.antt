@@ -1,0 +1,57 @@
+use Rattle.std.proofs.Common.{◌≡◌, [], length, arith}
+use Rattle.ht_lanes.specs.Lanes.{sides_of}
+use Rattle.ht_lanes.specs.Leading.{all-none}
+use Rattle.ht_lanes.proofs.Finished.{all_finished, leads_finished, none_yet, one_more, still_none, still_over}
+use Rattle.ht_lanes.proofs.finishing.finish_lanes.Goals as goal
+
+pub loop-at-init : goal.loop-at-init
+loop-at-init g c =
+    let lane = g.L.Lane in
+    let met = g.met.L.Lane in
+    record {
+      so = none_yet lane.due lane.rests lane.over lane.finished c.args.lanes.now;
+      leads = λ sources. all-none lane.leads met.stays met.goes_on (sides_of c.args.lanes.now sources c.args.sinks.now);
+    }
+
+pub finish_at-requires-clause-lane : goal.finish_at-requires-clause-lane
+finish_at-requires-clause-lane g c =
+    let e = (c.loop-at.invariant.leads []).lanes in
+    omega (arith, c.loop-at-test.true, e)
+
+pub finish_at-requires-clause-sink : goal.finish_at-requires-clause-sink
+finish_at-requires-clause-sink g c =
+    let e = (c.loop-at.invariant.leads []).sinks in
+    omega (arith, c.loop-at-test.true, e, c.requires.pairs)
+
+pub loop-at-preserved : goal.loop-at-preserved
+loop-at-preserved g c =
+    let lane = g.L.Lane in
+    let met = g.met.L.Lane in
+    let i = c.loop-at.invariant in
+    let e = c.finish_at.ensures in
+    record {
+      so = one_more lane.due lane.rests lane.over lane.finished c.args.lanes.now c.loop-at.lanes c.finish_at.new.lanes c.loop-at.at e.other_lanes i.so
+          (λ l. record { takes = e.rests l; waits = e.due l; stays = e.over l }) e.finished;
+      leads = λ sources. leads_finished lane.leads met.stays met.goes_on (sides_of c.args.lanes.now sources c.args.sinks.now) c.loop-at.lanes
+          c.finish_at.new.lanes sources c.loop-at.sinks c.finish_at.new.sinks c.loop-at.at (i.leads sources) e.as_many_lanes e.as_many_sinks
+          e.other_lanes e.other_sinks e.leads;
+    }
+
+pub returns-clause-finished : goal.returns-clause-finished
+returns-clause-finished g c =
+    let lane = g.L.Lane in
+    let i = c.loop-at.invariant in
+    let all : c.loop-at.at ≡ length c.args.lanes.now = omega (arith, c.loop-at-test.false, c.loop-at.auto.at-end) in
+    all_finished lane.due lane.rests lane.over lane.finished c.args.lanes.now c.loop-at.lanes c.loop-at.at (i.leads []).lanes i.so all
+
+pub returns-clause-over : goal.returns-clause-over
+returns-clause-over g c =
+    let lane = g.L.Lane in
+    let i = c.loop-at.invariant in
+    still_over lane.due lane.rests lane.over lane.finished c.args.lanes.now c.loop-at.lanes c.loop-at.at (i.leads []).lanes i.so
+
+pub returns-clause-taken : goal.returns-clause-taken
+returns-clause-taken g c =
+    let lane = g.L.Lane in
+    let i = c.loop-at.invariant in
+    still_none lane.due lane.rests lane.over lane.finished c.args.lanes.now c.loop-at.lanes c.loop-at.at (i.leads []).lanes i.so

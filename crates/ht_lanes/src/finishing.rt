@@ -1,0 +1,37 @@
+//! Lanes put what they kept back.
+ghost use Rattle.std.specs.Prelude.{◌≡◌, ◌≢◌, ◌<◌, ℕ, List, true, false, length, slice_index_or};
+ghost use Rattle.ht_lanes.specs.Lanes.{AllLead, AreFinished, AreOver, HaveNone, side_of, sides_of};
+
+use crate::lane::Lane;
+
+// Has the lane with this number put what it keeps back.
+fn finish_at<L: Lane<S, K>, S, K>(lanes: &mut [L], sinks: &mut [K], at: usize)
+    requires lane { at < length lanes.old }
+    requires sink { at < length sinks.old }
+    ensures finished { (l : L) → L.rests (slice_index_or lanes.new at l) ≡ false → L.finished (slice_index_or lanes.new at l) }
+    ensures rests { (l : L) → L.rests (slice_index_or lanes.new at l) ≡ false → L.rests (slice_index_or lanes.old at l) ≡ false }
+    ensures due { (l : L) → L.due (slice_index_or lanes.new at l) ≡ L.due (slice_index_or lanes.old at l) }
+    ensures over { (l : L) → L.over (slice_index_or lanes.old at l) ≡ true → L.over (slice_index_or lanes.new at l) ≡ true }
+    ensures leads { (l : L) (source : S) (t : K) → L.leads (side_of (slice_index_or lanes.old at l) source (slice_index_or sinks.old at t))
+        (side_of (slice_index_or lanes.new at l) source (slice_index_or sinks.new at t)) }
+    ensures other_lanes { (l : L) (k : ℕ) → k ≢ at → slice_index_or lanes.new k l ≡ slice_index_or lanes.old k l }
+    ensures other_sinks { (t : K) (k : ℕ) → k ≢ at → slice_index_or sinks.new k t ≡ slice_index_or sinks.old k t }
+    ensures as_many_lanes { length lanes.new ≡ length lanes.old }
+    ensures as_many_sinks { length sinks.new ≡ length sinks.old }
+{
+    lanes[at].finish(&mut sinks[at]);
+}
+
+/// Has each lane put what it keeps back into its own sink, in their order, once no answers come any more. A lane that
+/// rests puts nothing, and one whose sink fails or that runs out of memory rests from then on.
+pub fn finish_lanes<L: Lane<S, K>, S, K>(lanes: &mut [L], sinks: &mut [K])
+    requires pairs { length sinks.old ≡ length lanes.old }
+    ensures finished { AreFinished L.finished L.rests lanes.new }
+    ensures over { AreOver L.over 0 lanes.old → AreOver L.over 0 lanes.new }
+    ensures taken { HaveNone L.due L.rests lanes.old → HaveNone L.due L.rests lanes.new }
+    ensures leads { (sources : List S) → AllLead L.leads (sides_of lanes.old sources sinks.old) (sides_of lanes.new sources sinks.new) }
+{
+    for at in 0..lanes.len() {
+        finish_at::<L, S, K>(lanes, sinks, at);
+    }
+}

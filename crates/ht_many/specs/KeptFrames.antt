@@ -1,0 +1,20 @@
+-- What is kept of the frames of one capture: the one under way, and those that are whole and whose results are still to
+-- be put.
+use Rattle.std.specs.Prelude.{ℕ, List}
+use Rattle.ht_capture.specs.declared.items.FrameHead.{FrameHead}
+use Rattle.ht_feed.specs.Items.{Headed}
+use Rattle.ht_frames.specs.Gathering.{booked_behind}
+use Rattle.ht_results.specs.Folding.{FrameSoFar, result_of}
+use Rattle.ht_results.specs.Texts.{result_line}
+use Rattle.ht_rx.specs.Frames.{results_in}
+
+pub record KeptFrames : Type 0 where
+  pub under_way : FrameSoFar
+  pub whole : List FrameSoFar
+
+abbrev pub kept_frames : FrameSoFar → List FrameSoFar → KeptFrames
+kept_frames under_way whole = record { under_way = under_way; whole = whole }
+
+-- the lines that are put in all if the hits of exactly these jobs still come
+abbrev pub lines_left : KeptFrames → List (Headed FrameHead) → List ℕ
+lines_left kept = booked_behind result_of result_line kept.whole (results_in kept.under_way)

@@ -1,0 +1,166 @@
+//! What becomes of the hits of one capture among several, where workers decode whole frames.
+ghost use Rattle.std.specs.Prelude.{◌≡◌, ◌≤◌, [], drop, slice_get, take, Some, IfErr, OnErr, OnOk};
+ghost use Rattle.ht_io.specs.Devices.{IsLater, Rose};
+ghost use Rattle.ht_feed.specs.Accounts.{PutsBlock, PutsPartOf};
+ghost use Rattle.ht_feed.specs.Dues.{AreHits, all_due, jobs_in};
+ghost use Rattle.ht_frames.specs.Gathering.{booked_behind};
+ghost use Rattle.ht_capture.specs.Parts.{jobs_of};
+ghost use Rattle.ht_results.specs.Folding.{result_of};
+ghost use Rattle.ht_rx.specs.Frames.{results_in};
+ghost use Rattle.ht_many.specs.KeptFrames.{lines_left};
+ghost use Rattle.ht_many.specs.Renumbering.{hits_numberless};
+
+use crate::keeping_lines::KeepingLines;
+use ht_capture_blocks::{CaptureBlock, CaptureReader};
+use ht_feed::{BookFault, Desk, Desking, Hits};
+use ht_frames::{Book, Decoding, Frames, TextBook, book_frames};
+use ht_io::Sink;
+use ht_lanes::Booking;
+use ht_results::FrameResult;
+use ht_rx::{OpenFrame, WholeLabels};
+use std::alloc::Global;
+use std::collections::VecDeque;
+use std::marker::Model;
+use std::sync::Wait;
+use std::thread::Threads;
+
+/// Puts the line of each frame of a capture into the sink that it is handed, and has workers decode whole frames while
+/// more hits come, of this capture or of others. At most two frames for each worker beside the caller, of at most 131,072
+/// octets together, have no line behind each hit, besides the one under way; it keeps them until it is finished.
+///
+/// Captures beside one another have a frame under way each, and each its own whole frames, whose lines it puts in order.
+/// The workers find the frames of all captures in one place.
+#[derive(Drop)]
+pub(crate) struct GatheredLines<'f, R> {
+    rt: &'f R,
+    alloc: Global,
+    workers: u8,
+    // Where workers find whole frames.
+    frames: &'f Frames<WholeLabels>,
+    under_way: OpenFrame,
+    // The whole frames whose lines aren't put, in order.
+    queue: VecDeque<Decoding<WholeLabels>>,
+}
+
+impl<'f, R> Model for GatheredLines<'f, R> {
+    ghost use Rattle.std.specs.Prelude.{◌≤◌};
+    ghost use Rattle.ht_many.specs.KeptFrames.{KeptFrames, kept_frames};
+
+    ghost Value = { KeptFrames };
+
+    ghost view = { λ l. kept_frames l.under_way l.queue.items };
+
+    ghost invariant = { λ l. (1 ≤ l.workers) × (l.workers ≤ 64) };
+}
+
+impl<'f, R> GatheredLines<'f, R> {
+    /// No frame is under way, and none is whole. There are this many workers, of which the caller is one. It takes no
+    /// memory.
+    pub(crate) fn new(
+        rt: &'f R,
+        alloc: Global,
+        workers: u8,
+        frames: &'f Frames<WholeLabels>,
+    ) -> GatheredLines<'f, R>
+        requires least { 1 ≤ workers }
+        requires most { workers ≤ 64 }
+        ensures idle { result.under_way.left ≡ 0 }
+        ensures none { result.whole ≡ [] }
+    {
+        GatheredLines {
+            rt,
+            alloc,
+            workers,
+            frames,
+            under_way: OpenFrame::new(alloc),
+            queue: VecDeque::new(alloc),
+        }
+    }
+}
+
+impl<'f, R: Threads + Wait> GatheredLines<'f, R> {
+    // Takes the hits of the first block due, and books the results of the frames whose turn it is.
+    fn take_into<B: Book<FrameResult>>(
+        &mut self,
+        desk: &mut Desk<CaptureReader>,
+        block: &CaptureBlock,
+        hits: &Hits,
+        book: &mut B,
+    ) -> Result<(), BookFault>
+        requires right { AreHits hits.now.found.items (jobs_of block.now.block) }
+        requires first { slice_get (jobs_in desk.old.due) 0 ≡ Some (jobs_of block.now.block) }
+
+        // What was booked, and what is left to book.
+        ensures put { OnOk result (PutsBlock (B.shown book.old) (B.shown book.new)
+            (booked_behind result_of B.booked self.old.whole (results_in self.old.under_way))
+            (booked_behind result_of B.booked self.new.whole (results_in self.new.under_way)) (all_due (take 1 desk.old.due))) }
+        ensures part { OnErr result (PutsPartOf (B.shown book.old) (B.shown book.new)
+            (booked_behind result_of B.booked self.old.whole (results_in self.old.under_way)) (all_due (take 1 desk.old.due))) }
+
+        // What is due.
+        ensures due { OnOk result (desk.new ≡ record desk.old { due = drop 1 desk.old.due }) }
+        ensures stays { OnErr result (desk.new ≡ desk.old) }
+
+        // The book's device has counted a fault exactly where it failed.
+        ensures cause { IfErr result (λ fault. fault ≡ BookFault.Failed → Rose (B.shown book.old) (B.shown book.new)) }
+        ensures steady { OnOk result ((B.shown book.new).faults ≡ (B.shown book.old).faults) }
+        ensures unfailed { IfErr result (λ fault. fault ≡ BookFault.NoMemory → (B.shown book.new).faults ≡ (B.shown book.old).faults) }
+        ensures later { IsLater (B.shown book.old) (B.shown book.new) }
+        ensures same { B.lent book.new ≡ B.lent book.old }
+    {
+        let mut lines = KeepingLines::new(
+            self.rt,
+            self.alloc,
+            self.workers,
+            self.frames,
+            &mut self.under_way,
+            &mut self.queue,
+            book,
+        );
+        desk.take(block, hits, &mut lines)
+    }
+
+    // Books the results of all whole frames.
+    fn finish_into<B: Book<FrameResult>>(&mut self, book: &mut B) -> Result<(), BookFault>
+        // What was booked, and what is left to book.
+        ensures put { OnOk result (PutsBlock (B.shown book.old) (B.shown book.new)
+            (booked_behind result_of B.booked self.old.whole (results_in self.old.under_way))
+            (booked_behind result_of B.booked self.new.whole (results_in self.new.under_way)) []) }
+        ensures part { OnErr result (PutsPartOf (B.shown book.old) (B.shown book.new)
+            (booked_behind result_of B.booked self.old.whole (results_in self.old.under_way)) []) }
+        ensures none { OnOk result (self.new.whole ≡ []) }
+
+        // The book's device has counted a fault exactly where it failed.
+        ensures cause { IfErr result (λ fault. fault ≡ BookFault.Failed → Rose (B.shown book.old) (B.shown book.new)) }
+        ensures steady { OnOk result ((B.shown book.new).faults ≡ (B.shown book.old).faults) }
+        ensures unfailed { IfErr result (λ fault. fault ≡ BookFault.NoMemory → (B.shown book.new).faults ≡ (B.shown book.old).faults) }
+        ensures later { IsLater (B.shown book.old) (B.shown book.new) }
+        ensures same { B.lent book.new ≡ B.lent book.old }
+    {
+        book_frames(self.rt, self.frames, 0, &mut self.queue, book)
+    }
+}
+
+impl<'f, R: Threads + Wait, K: Sink> Booking<CaptureReader, K> for GatheredLines<'f, R> {
+    type Answer = Hits;
+
+    ghost pieces = { lines_left };
+
+    fn take(
+        &mut self,
+        desk: &mut Desk<CaptureReader>,
+        block: &CaptureBlock,
+        hits: &Hits,
+        sink: &mut K,
+    ) -> Result<(), BookFault> {
+        let mut book = TextBook::new(self.alloc, sink);
+        self.take_into(desk, block, hits, &mut book)
+    }
+
+    fn finish(&mut self, sink: &mut K) -> Result<(), BookFault> {
+        let mut book = TextBook::new(self.alloc, sink);
+        self.finish_into(&mut book)
+    }
+
+    ghost numberless = { λ hits n jobs right. hits_numberless hits.found.items n jobs right };
+}

@@ -1,0 +1,107 @@
+//! An account that keeps whole frames back also where no other block is due.
+ghost use Rattle.std.specs.Prelude.{◌≡◌, ◌≤◌, ◌∷◌, [], OnErr, OnOk};
+ghost use Rattle.ht_frames.specs.Gathering.{booked_behind};
+ghost use Rattle.ht_results.specs.Folding.{result_of};
+ghost use Rattle.ht_rx.specs.Frames.{results_in};
+
+use circular_buffer::HeapCircularBuffer;
+use ht_capture::FrameHead;
+use ht_capture_blocks::{CaptureBlock, CaptureReader};
+use ht_feed::{Account, BookFault, DueBlock, Hits};
+use ht_frames::{Book, Decoding, Frames, gather_block};
+use ht_results::FrameResult;
+use ht_rx::{OpenFrame, WholeLabels};
+use std::alloc::Global;
+use std::collections::VecDeque;
+use std::sync::Wait;
+use std::thread::Threads;
+
+/// Books the result of each frame in a book, and has workers decode whole frames, as a `Gatherer` of crate `ht_frames`
+/// does. But it keeps them back whether or not another block is due, since jobs of other captures may still come: so it
+/// never waits as an account for a whole drive does, and whoever has it books what it left in the queue.
+#[derive(Drop)]
+pub(crate) struct KeepingLines<'a, R, B> {
+    rt: &'a R,
+    alloc: Global,
+    // Where workers find whole frames.
+    frames: &'a Frames<WholeLabels>,
+    // How many frames are decoded while hits are taken.
+    beside: u8,
+    under_way: &'a mut OpenFrame,
+    // The whole frames whose results aren't booked, in order.
+    queue: &'a mut VecDeque<Decoding<WholeLabels>>,
+    book: &'a mut B,
+}
+
+impl<'a, R, B> KeepingLines<'a, R, B> {
+    /// One beside this number of workers, of which the caller is one. It books results in this book, and goes on from the
+    /// frame that is under way and those that are whole. It takes no memory.
+    pub(crate) fn new(
+        rt: &'a R,
+        alloc: Global,
+        workers: u8,
+        frames: &'a Frames<WholeLabels>,
+        under_way: &'a mut OpenFrame,
+        queue: &'a mut VecDeque<Decoding<WholeLabels>>,
+        book: &'a mut B,
+    ) -> KeepingLines<'a, R, B>
+        requires one { 1 ≤ workers }
+        requires many { workers ≤ 64 }
+        ensures under_way { result.under_way.now ≡ under_way.old }
+        ensures queue { result.queue.now ≡ queue.old }
+        ensures frame_name { result.under_way.ghost_name ≡ under_way.entry.ghost_name }
+        ensures queue_name { result.queue.ghost_name ≡ queue.entry.ghost_name }
+        ensures book { result.book.now ≡ book.old }
+        ensures name { result.book.ghost_name ≡ book.entry.ghost_name }
+    {
+        KeepingLines {
+            rt,
+            alloc,
+            frames,
+            beside: 2 * (workers - 1),
+            under_way,
+            queue,
+            book,
+        }
+    }
+}
+
+impl<'a, R: Threads + Wait, B: Book<FrameResult>> Account<CaptureReader>
+    for KeepingLines<'a, R, B> {
+    type Piece = B::Piece;
+
+    type Answer = Hits;
+
+    ghost shown = { λ r. B.shown r.book.now };
+
+    ghost lent = { λ r. r.under_way.ghost_name ∷ r.queue.ghost_name ∷ r.book.ghost_name ∷ B.lent r.book.now };
+
+    ghost pieces = { λ r. booked_behind result_of B.booked r.queue.now.items (results_in r.under_way.now) };
+
+    ghost waits = { λ r due. ⊥ };
+
+    fn take(
+        &mut self,
+        head: &FrameHead,
+        block: &CaptureBlock,
+        hits: &Hits,
+        _: &HeapCircularBuffer<DueBlock<CaptureReader>>,
+    ) -> Result<(), BookFault> {
+        gather_block(
+            self.rt,
+            self.alloc,
+            usize::from(self.beside),
+            self.frames,
+            self.under_way,
+            self.queue,
+            self.book,
+            head,
+            block,
+            hits.found.as_slice(),
+        )
+    }
+
+    ghost more_due = { λ r due h w. w };
+
+    ghost none_due = { λ r w. absurd w };
+}
