@@ -18,8 +18,6 @@
 mod bits;
 mod convert;
 pub mod laws;
-#[cfg(test)]
-mod tests;
 
 pub use bits::Bits;
 pub use convert::{bits_to_octets, octet_of, octets_to_bits};

@@ -1,5 +1,5 @@
 -- A field that is read in pieces.
-use Rattle.std.proofs.Common.{◌≡◌, ◌⊎◌, inl, inr, ℕ, ◌+◌, ◌-◌, ◌<◌, ◌≤◌, List, [], ◌++◌, length, take, replicate, refl, sym, ap, subst, ◌∙◌, length-append, arith}
+use Rattle.std.proofs.Common.{◌≡◌, ◌⊎◌, inl, inr, ℕ, ◌+◌, ◌-◌, ◌<◌, ◌≤◌, List, ◌++◌, length, take, replicate, sym, ap, subst, ◌∙◌, length-append, arith}
 use Rattle.std.proofs.lemmas.List.{append-nil, length-replicate, length-take-le}
 use Rattle.std.proofs.Math.Seq.{take-append-add}
 use Rattle.ht_io.specs.Devices.{Device, Takes, TakesAll, Rose, IsLater}
@@ -9,8 +9,6 @@ use Rattle.ht_io.specs.declared.faults.InFault.{InFault}
 use Rattle.ht_io.specs.declared.faults.InFault.TheVariants.{Format, Read, NoMemory}
 use Rattle.ht_io.proofs.Calls.{failed-later, takes-all, takes-append}
 use Rattle.ht_fields.specs.Lacking.{LacksField}
-use Rattle.ht_fields.specs.Reading.{ReadsField}
-use Rattle.ht_fields.specs.declared.read.Field.TheVariants.{Ended, Broken}
 
 -- of a field of this width these octets came
 padded : ℕ → List ℕ → List ℕ

@@ -17,8 +17,6 @@
 mod bundled;
 pub mod laws;
 mod reading;
-#[cfg(test)]
-mod tests;
 
 pub use bundled::Bundled;
 pub use reading::read_bundle;

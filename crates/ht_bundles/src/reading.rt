@@ -16,8 +16,8 @@ use ht_heads::{Limits, start};
 use ht_io::{InFault, Kind, Source};
 use std::alloc::Global;
 
-// How many octets of a capture are read at once.
-const PIECE: usize = 4096;
+// How many octets of a capture are read at once: more than a buffer of std holds, which passes such a read on.
+const PIECE: usize = 65536;
 
 // How a bundle counts its captures.
 fn capture_limits() -> Limits
@@ -46,42 +46,44 @@ fn size<S: Source>(source: &mut S, at: u64) -> Result<u32, InFault>
     }
 }
 
-// Room for a piece.
-fn no_piece() -> [u8; PIECE]
-    ensures { length result ≡ 4096 }
-{
-    [0u8; PIECE]
-}
-
-// Reads a piece of a capture, and appends it.
+// Reads a piece of a capture into the front of the room for one, and appends it.
 fn piece<S: Source>(
     source: &mut S,
     at: u64,
     count: usize,
+    piece: &mut [u8],
     octets: &mut Vec<u8>,
 ) -> Result<(), InFault>
-    requires few { count ≤ 4096 }
+    requires few { count ≤ length piece.old }
     requires room { at + count < 2 ^ 64 }
+    ensures piece { length piece.new ≡ length piece.old }
     ensures read { OnOk result ((piece : List ℕ) × (length piece ≡ count) × (octets.new.items ≡ octets.old.items ++ piece)
         × Takes (S.shown source.old) (S.shown source.new) piece) }
     ensures failed { IfErr result (λ fault. (fault ≡ NoMemory) ⊎ LacksField count at (S.shown source.old) (S.shown source.new) fault) }
     ensures later { IsLater (S.shown source.old) (S.shown source.new) }
 {
-    let mut room = no_piece();
-    let room = &mut room[..count];
-    match fill(source, at, room) {
+    let piece = &mut piece[..count];
+    match fill(source, at, piece) {
         Ok(()) => {}
         Err(fault) => return Err(fault),
     }
-    match octets.extend_from_slice(room) {
+    match octets.extend_from_slice(piece) {
         Ok(()) => Ok(()),
         Err(_) => Err(InFault::NoMemory),
     }
 }
 
-// Reads this number of octets. Memory is taken as they come.
-fn octets<S: Source>(alloc: Global, source: &mut S, at: u64, size: u32) -> Result<Vec<u8>, InFault>
+// Reads this number of octets, piece by piece. Memory is taken as they come.
+fn octets<S: Source>(
+    alloc: Global,
+    source: &mut S,
+    at: u64,
+    size: u32,
+    room: &mut [u8],
+) -> Result<Vec<u8>, InFault>
     requires room { at + size < 2 ^ 64 }
+    requires piece { length room.old ≡ 65536 }
+    ensures piece { length room.new ≡ length room.old }
     ensures whole { IfOk result (λ octets. Takes (S.shown source.old) (S.shown source.new) octets.items) }
     ensures size { IfOk result (λ octets. length octets.items ≡ size) }
     ensures failed { IfErr result (λ fault. (fault ≡ NoMemory) ⊎ LacksField size at (S.shown source.old) (S.shown source.new) fault) }
@@ -92,7 +94,7 @@ fn octets<S: Source>(alloc: Global, source: &mut S, at: u64, size: u32) -> Resul
     let mut read = 0;
     while read < size {
         let more = (size - read).min(PIECE);
-        match piece(source, at + read as u64, more, &mut octets) {
+        match piece(source, at + read as u64, more, room, &mut octets) {
             Ok(()) => read += more,
             Err(fault) => return Err(fault),
         }
@@ -101,8 +103,15 @@ fn octets<S: Source>(alloc: Global, source: &mut S, at: u64, size: u32) -> Resul
 }
 
 // Reads a capture, while captures are left.
-fn capture<S: Source>(alloc: Global, source: &mut S, at: u64) -> Result<Bundled, InFault>
+fn capture<S: Source>(
+    alloc: Global,
+    source: &mut S,
+    at: u64,
+    room: &mut [u8],
+) -> Result<Bundled, InFault>
     requires room { at + 4294967300 < 2 ^ 64 }
+    requires piece { length room.old ≡ 65536 }
+    ensures piece { length room.new ≡ length room.old }
     ensures whole { IfOk result (λ capture. Takes (S.shown source.old) (S.shown source.new) (sized_octets capture)) }
     ensures sized { IfOk result IsSized }
     ensures failed { (left : ℕ) → 0 < left
@@ -113,21 +122,20 @@ fn capture<S: Source>(alloc: Global, source: &mut S, at: u64) -> Result<Bundled,
         Ok(size) => size,
         Err(fault) => return Err(fault),
     };
-    match octets(alloc, source, at + 4, size) {
+    match octets(alloc, source, at + 4, size, room) {
         Ok(octets) => Ok(Bundled::new(octets)),
         Err(fault) => Err(fault),
     }
 }
 
-/// Reads a bundle to its end, and gives the octets of its captures, in order.
-///
-/// `Format` comes at the first fault of the bundle, `Read` where the source failed before any fault, and `NoMemory` where
-/// octets that came found no room.
-pub fn read_bundle<S: Source>(alloc: Global, source: &mut S) -> Result<Vec<Bundled>, InFault>
-    // What was left was the bundle of these captures, and is taken.
+// Reads a bundle to its end, its captures piece by piece through the room for one.
+fn captures<S: Source>(
+    alloc: Global,
+    source: &mut S,
+    room: &mut [u8],
+) -> Result<Vec<Bundled>, InFault>
+    requires piece { length room.old ≡ 65536 }
     ensures file { IfOk result (λ captures. ReadsWhole AreCaptures bundle_of (S.shown source.old) (S.shown source.new) captures.items) }
-
-    // A refusal is the first fault of the bundle, or its source failed within a bundle or behind it, or memory ran out.
     ensures refused { IfErr result (EndsEarly (reader_in bundles_format bundles_format.start 0 (S.shown source.old)) (S.shown source.new)) }
     ensures later { IsLater (S.shown source.old) (S.shown source.new) }
 {
@@ -138,7 +146,7 @@ pub fn read_bundle<S: Source>(alloc: Global, source: &mut S) -> Result<Vec<Bundl
     let mut at = 6;
     let mut captures = Vec::new(alloc);
     for _index in 0..count {
-        let capture = match capture(alloc, source, at) {
+        let capture = match capture(alloc, source, at, room) {
             Ok(capture) => capture,
             Err(fault) => return Err(fault),
         };
@@ -151,5 +159,23 @@ pub fn read_bundle<S: Source>(alloc: Global, source: &mut S) -> Result<Vec<Bundl
     match end(source, at) {
         Ok(()) => Ok(captures),
         Err(fault) => Err(fault),
+    }
+}
+
+/// Reads a bundle to its end, and gives the octets of its captures, in order.
+///
+/// `Format` comes at the first fault of the bundle, `Read` where the source failed before any fault, and `NoMemory` where
+/// octets that came found no room, or before any came.
+pub fn read_bundle<S: Source>(alloc: Global, source: &mut S) -> Result<Vec<Bundled>, InFault>
+    // What was left was the bundle of these captures, and is taken.
+    ensures file { IfOk result (λ captures. ReadsWhole AreCaptures bundle_of (S.shown source.old) (S.shown source.new) captures.items) }
+
+    // A refusal is the first fault of the bundle, or its source failed within a bundle or behind it, or memory ran out.
+    ensures refused { IfErr result (EndsEarly (reader_in bundles_format bundles_format.start 0 (S.shown source.old)) (S.shown source.new)) }
+    ensures later { IsLater (S.shown source.old) (S.shown source.new) }
+{
+    match vec![in alloc; 0u8; PIECE] {
+        Ok(mut room) => captures(alloc, source, &mut room),
+        Err(_) => Err(InFault::NoMemory),
     }
 }

@@ -21,8 +21,6 @@
 
 mod block;
 mod block_item;
-#[cfg(test)]
-mod block_tests;
 mod carriers;
 mod fields;
 mod frames;
@@ -40,11 +38,7 @@ mod shape;
 mod shared_symbol;
 mod stage;
 mod template;
-#[cfg(test)]
-mod tests;
 mod writing;
-#[cfg(test)]
-mod writing_tests;
 
 pub use block::SymbolBlock;
 pub use block_item::BlockItem;

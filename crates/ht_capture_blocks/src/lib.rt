@@ -13,8 +13,6 @@
 
 mod block;
 mod reader;
-#[cfg(test)]
-mod tests;
 
 pub use block::CaptureBlock;
 pub use reader::CaptureReader;

@@ -15,8 +15,6 @@ pub mod laws;
 mod making;
 mod putting;
 mod subcarriers;
-#[cfg(test)]
-mod tests;
 
 pub use certifying::certify_capture;
 pub use faults::CertFault;

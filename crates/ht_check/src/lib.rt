@@ -26,8 +26,6 @@ pub mod laws;
 mod lines;
 mod putting;
 mod tally;
-#[cfg(test)]
-mod tests;
 
 pub use checking::check_file;
 pub use faults::CertFault;

@@ -23,8 +23,6 @@ mod mapper;
 mod pilots;
 mod places;
 pub mod rates;
-#[cfg(test)]
-mod tests;
 mod transmitter;
 
 pub use carriers::legacy_carrier;

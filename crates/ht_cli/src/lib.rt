@@ -26,7 +26,7 @@
 //! (`ht_soft_rx`). `many` reads a bundle of captures whole, and writes for each the text of `rx` (`ht_many`).
 #![tactic(auto)]
 
-ghost use Rattle.std.specs.Prelude.{◌≡◌, ◌≢◌, None, IfSome};
+ghost use Rattle.std.specs.Prelude.{◌≡◌, ◌≢◌, ◌≤◌, None, IfSome};
 ghost use Rattle.ht_words.specs.Words.{IsWithinRanges, asked};
 ghost use Rattle.ht_cli.specs.Tasks.{Answered, ReadsNothing, plan_of};
 
@@ -34,8 +34,6 @@ mod commands;
 pub mod laws;
 mod lines;
 mod status;
-#[cfg(test)]
-mod tests;
 
 use commands::{send, upgrade};
 use ht_certify::certify_capture;
@@ -60,7 +58,7 @@ use std::thread::Threads;
 
 /// Runs the command that the words name, and answers how it ended.
 ///
-/// The words come without the program's name. The lines of a symbol are put once its jobs were run, and the line of a
+/// The words come without the program's name. The lines of a block are put once its jobs were run, and the line of a
 /// frame once all its jobs were. The clauses on octets speak of some octets that the call took: of those that the source
 /// had left, where they are known, as those in memory are; those of standard input and output aren't. The gate is called
 /// before and after each job.
@@ -107,7 +105,7 @@ pub fn run<R: Threads + Wait + Sync, S: Source, K: Sink, G: Gate + Sync>(
             settle(alloc, received, sink)
         }
         Some(Asked::Soft { workers, window }) if workers > 1 => {
-            let received = receive_soft(rt, alloc, workers, window, source, sink, gate);
+            let received = receive_soft(rt, alloc, workers, halves(window), source, sink, gate);
             settle(alloc, received, sink)
         }
         Some(Asked::LegacyRx { workers, window }) if workers > 1 => {
@@ -163,6 +161,16 @@ pub fn run_alone<S: Source, K: Sink, G: Gate>(
     }
 }
 
+// How many halves `soft` has under way for a window of this many jobs: sixteen for each, and at most 4096. Some take a
+// hundred times as long as others, so that a short window would wait for the oldest one.
+fn halves(window: u16) -> u16
+    requires some { 1 ≤ window }
+    ensures some { 1 ≤ result }
+    ensures few { result ≤ 4096 }
+{
+    window.saturating_mul(16).min(4096)
+}
+
 // Does what was asked in this thread, or puts the usage line where nothing was.
 fn carry_out<S: Source, K: Sink, G: Gate>(
     alloc: Global,
@@ -189,7 +197,7 @@ fn carry_out<S: Source, K: Sink, G: Gate>(
             settle(alloc, received, sink)
         }
         Some(Asked::Soft { window, .. }) => {
-            let received = receive_soft_alone(alloc, window, source, sink, gate);
+            let received = receive_soft_alone(alloc, halves(window), source, sink, gate);
             settle(alloc, received, sink)
         }
         Some(Asked::LegacyRx { window, .. }) => {

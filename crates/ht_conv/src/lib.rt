@@ -16,8 +16,6 @@ pub mod encoder;
 pub mod laws;
 pub mod puncture;
 mod register;
-#[cfg(test)]
-mod tests;
 
 pub use encoder::encode;
 pub use puncture::{Kept, kept_at, period, sent};

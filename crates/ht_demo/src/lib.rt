@@ -22,8 +22,6 @@ pub mod laws;
 mod line;
 mod plan;
 mod sent;
-#[cfg(test)]
-mod tests;
 
 pub use demonstration::{demo, demo_alone};
 pub use plan::Plan;

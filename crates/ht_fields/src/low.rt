@@ -119,38 +119,3 @@ pub fn fill_low<S: Source>(
     }
     Ok(())
 }
-
-#[cfg(test)]
-mod tests {
-    use super::*;
-    use ht_io::{FormatFault, MemSource};
-    use std::test::Fail;
-
-    // Octets in pieces, with one failure in front of the sixth, and one above behind the seventh.
-    #[test]
-    fn smoke(rt: HostRuntime) -> Result<(), Fail> {
-        let bytes = [1, 0, 1, 1, 0, 0, 1, 2, 1].to_vec(rt.alloc())?;
-        let cuts = [2].to_vec(rt.alloc())?;
-        let failing = [5].to_vec(rt.alloc())?;
-        let mut source = MemSource::new(bytes, cuts, failing);
-        let mut into = [7; 4];
-        let above = FormatFault {
-            kind: Kind::BadMark,
-            offset: 7,
-        };
-        let cases = [
-            (0, Ok(()), [1, 0, 1, 1]),
-            (4, Err(InFault::Read), [0, 0, 1, 1]),
-            (5, Err(InFault::Format(above)), [0, 1, 1, 1]),
-        ];
-        for (at, answer, octets) in cases {
-            assert_eq!(rt;
-                fill_low(&mut source, at, 1, Kind::BadMark, &mut into),
-                answer
-            );
-            assert_eq!(rt; into, octets, "at {at}");
-        }
-        assert_eq!(rt; source.at_hand(), [1u8].as_slice());
-        Ok(())
-    }
-}

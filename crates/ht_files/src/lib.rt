@@ -27,8 +27,6 @@ pub mod laws;
 mod points;
 mod starting;
 mod symbols;
-#[cfg(test)]
-mod tests;
 mod writing;
 
 pub use frames::read_frames;

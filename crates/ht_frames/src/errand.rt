@@ -55,7 +55,7 @@ impl<W: WholeFrame + Drop> Errand<W> {
         }
     }
 
-    /// What this frame came to, where it is known to be the one that was decoded, or else out of memory.
+    /// What this frame came to, where it is known to be the one that was decoded, or else lack of memory.
     pub(crate) fn outcome_of(self, frame: &W) -> Result<W::Result, AllocError>
         ensures { IfOk result (λ r. r ≡ W.result_of frame.now) }
     {

@@ -50,7 +50,8 @@ impl<W: WholeFrame + Drop> Frames<W> {
         }
     }
 
-    /// Decodes the frame that has waited longest for a worker, if one waits, and answers whether one did.
+    /// Decodes the frame that has waited longest for a worker, if one waits, and answers whether one did. Lack of memory
+    /// comes back with the frame.
     pub fn help<R: Wait>(&self, rt: &R) -> bool {
         if self.waiting.load(Ordering::SeqCst) == 0 {
             return false;
@@ -79,11 +80,12 @@ impl<W: WholeFrame + Drop> Frames<W> {
     /// Gives a frame to the workers, and answers the number under which it comes back. The only error is lack of memory.
     pub(crate) fn give<R: Wait>(&self, rt: &R, frame: Arc<W, Global>) -> Result<u64, AllocError> {
         let number = self.next.fetch_add(1, Ordering::SeqCst);
-        let out = self.out.fetch_add(1, Ordering::SeqCst).saturating_add(1);
-        self.octets
-            .fetch_add(u64::from(frame.octets()), Ordering::SeqCst);
+        let octets = u64::from(frame.octets());
+        let out = self.out.load(Ordering::SeqCst).saturating_add(1);
         self.done.lock(rt).reserve(out as usize)?;
         self.given.lock(rt).push_back(Errand::new(number, frame))?;
+        self.out.fetch_add(1, Ordering::SeqCst);
+        self.octets.fetch_add(octets, Ordering::SeqCst);
         self.waiting.fetch_add(1, Ordering::SeqCst);
         Ok(number)
     }
@@ -102,7 +104,7 @@ impl<W: WholeFrame + Drop> Frames<W> {
     }
 
     /// Waits for what the frame of this number comes to, and decodes others meanwhile, if any wait for a worker. The only
-    /// error is lack of memory.
+    /// error is lack of memory: a result that isn't known to be this frame's would count as lost so.
     pub(crate) fn outcome_of<R: Wait>(
         &self,
         rt: &R,

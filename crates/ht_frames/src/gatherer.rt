@@ -27,11 +27,12 @@ use std::thread::Threads;
 /// the caller, at once. Results are booked in order, and that of a frame that the caller decoded as soon as it is the
 /// oldest.
 ///
-/// Behind each hit at most two frames for each worker beside the caller, of at most 131,072 octets together, have no
-/// booked result, besides the frame under way. Where one more is whole, it is given to the workers, and then the caller
-/// waits for the oldest ones, and decodes what no worker has begun. As two of the longest frames have 131,070 octets,
-/// there are never more than three of the longest frames, the one under way among them. Where no other block is due, the
-/// caller decodes the frame that is whole then, and books all results.
+/// Behind each hit at most two frames for each worker beside the caller have no booked result, not counting the frame
+/// under way, and those with the workers have at most 131,072 octets together. Where one more is whole, it is given to the
+/// workers, and then the caller waits for the oldest ones, and decodes what no worker has begun. As two of the longest
+/// frames have 131,070 octets, there are never more than three of the longest frames, the one under way among them. Where
+/// no other block is due, the caller decodes the frame that is whole then, and books all results. Of these numbers no
+/// clause says anything, nor of threads.
 #[derive(Drop)]
 pub struct Gatherer<'a, R, U: UnderWay, B> {
     rt: &'a R,
@@ -122,7 +123,7 @@ fn take_found<R: Threads + Wait, U: UnderWay, B: Book<<U::Whole as WholeFrame>::
 
 /// Takes what was found for the jobs of a block of the frame with this head, as a [`Gatherer`] does that keeps whole frames
 /// back: of those whose results aren't booked at most `room` are left behind each frame that becomes whole, as
-/// [`book_frames`] leaves them. Where `room` is 0 the caller decodes the frame, and all are booked.
+/// [`book_frames`] leaves them; no clause says so here. Where `room` is 0 the caller decodes the frame, and all are booked.
 pub fn gather_block<
     J: Jobs,
     R: Threads + Wait,

@@ -101,8 +101,24 @@ fn book_one<R: Wait, W: WholeFrame + Drop, B: Book<W::Result>>(
     Ok(())
 }
 
+// Gives up the frames of a queue whose results nobody books any more: what the workers have of them comes back and is
+// dropped, so that it doesn't count against other queues.
+fn abandon<R: Wait, W: WholeFrame + Drop>(
+    rt: &R,
+    frames: &Frames<W>,
+    queue: &mut VecDeque<Decoding<W>>,
+) {
+    for _ in 0..queue.len() {
+        let Some(frame) = queue.pop_front() else {
+            return;
+        };
+        let _ = frame.finish(rt, frames);
+    }
+}
+
 /// Books the results of the oldest frames, until at most `room` frames are left and the oldest of them is with the
-/// workers, who have at most 131,072 octets of frames, those of other queues among them, or until none is left.
+/// workers, who have at most 131,072 octets of frames, those of other queues among them, or until none is left. Where a
+/// result can't be booked, the frames behind it are given up.
 pub fn book_frames<R: Wait, W: WholeFrame + Drop, B: Book<W::Result>>(
     rt: &R,
     frames: &Frames<W>,
@@ -116,7 +132,10 @@ pub fn book_frames<R: Wait, W: WholeFrame + Drop, B: Book<W::Result>>(
     ensures faults { CountsFaults result (B.shown book.old) (B.shown book.new) (B.lent book.old) (B.lent book.new) }
 {
     while let Some(oldest) = take_oldest(frames, queue, room) {
-        book_one(rt, frames, oldest, book)?;
+        if let Err(fault) = book_one(rt, frames, oldest, book) {
+            abandon(rt, frames, queue);
+            return Err(fault);
+        }
     }
     Ok(())
 }

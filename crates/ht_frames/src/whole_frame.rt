@@ -40,7 +40,8 @@ pub trait WholeFrame {
         self.decode(alloc, &mut Self::decoder(alloc))
     }
 
-    /// Whether both are known to come to the same.
+    /// Whether both are known to come to the same. Frames that are equal are; a frame that comes back from a worker counts
+    /// as lost where this is false.
     fn same(&self, other: &Self) -> bool
         ensures { IsTrue result → result_of self.now ≡ result_of other.now };
 }

@@ -18,8 +18,6 @@
 
 mod reading;
 mod starting;
-#[cfg(test)]
-mod tests;
 mod writing;
 
 pub use reading::{head, magic};

@@ -15,8 +15,6 @@ mod blocks;
 pub mod laws;
 mod places;
 mod table;
-#[cfg(test)]
-mod tests;
 
 pub use blocks::{deinterleave, interleave};
 pub use places::{origin, place};

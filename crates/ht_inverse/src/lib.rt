@@ -36,8 +36,6 @@ mod octets;
 mod outcome;
 mod share;
 mod table;
-#[cfg(test)]
-mod tests;
 mod together;
 
 pub use bits::{come_to, inputs_come_to};

@@ -20,7 +20,5 @@
 mod landings;
 pub mod laws;
 mod shares;
-#[cfg(test)]
-mod tests;
 
 pub use landings::Landing;

@@ -46,7 +46,7 @@ pub trait Booking<R: BlockReader + Drop, K: Sink> {
         ensures unfailed { IfErr result (λ fault. fault ≡ BookFault.NoMemory → (K.shown sink.new).faults ≡ (K.shown sink.old).faults) }
         ensures later { IsLater (K.shown sink.old) (K.shown sink.new) };
 
-    /// Puts all that is kept back, once no hits come any more.
+    /// Puts all that is kept back, once no hits come any more. Behind a refusal nothing is said of what is left.
     fn finish(&mut self, sink: &mut K) -> Result<(), BookFault>
         // What was put; nothing is left where no hits come.
         ensures put { OnOk result (PutsBlock (K.shown sink.old) (K.shown sink.new) (pieces self.old) (pieces self.new) []) }

@@ -58,7 +58,7 @@ pub fn run_alone<L: Lane<S, K>, S, K, W: Work<LaneBlock<L::Block>, Answer = L::A
     // However it ends, each lane did what its own devices and its own blocks made it do.
     ensures leads { AllLead L.leads (sides_of lanes.old sources.old sinks.old) (sides_of lanes.new sources.new sinks.new) }
 
-    // Else all are over, and none that takes answers waits for one or keeps something back.
+    // Where memory suffices, all are over, and none that takes answers waits for one or keeps something back.
     ensures over { OnOk result (AreOver L.over 0 lanes.new) }
     ensures taken { OnOk result (HaveNone L.due L.rests lanes.new) }
     ensures finished { OnOk result (AreFinished L.finished L.rests lanes.new) }

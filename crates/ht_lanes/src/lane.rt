@@ -13,8 +13,8 @@ use std::alloc::AllocError;
 /// What gives blocks out of a source of `S`, and puts what comes of their answers into a sink of `K`.
 ///
 /// A lane numbers its jobs from 0. It asks its own source and puts into its own sink alone: what its calls do with them
-/// is a relation of its own, `leads`, over itself, its source and its sink. Once its sink has failed it rests: it takes
-/// no answers and gives no blocks any more. The only error of a call is lack of memory.
+/// is a relation of its own, `leads`, over itself, its source and its sink. Once its sink has failed, or there was no memory
+/// for what it puts, it rests: it takes no answers and gives no blocks any more. The only error of a call is lack of memory.
 pub trait Lane<S, K> {
     /// What it gives.
     type Block: Jobs + Drop;

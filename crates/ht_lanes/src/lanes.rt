@@ -20,7 +20,9 @@ const MOST: u64 = u64::MAX - 1;
 ///
 /// It asks the lanes that aren't over in turn, a block each, and numbers the jobs of all of them from 0. An answer goes
 /// back to the lane of the oldest block that is due. A lane that rests gives no blocks, and what is still due of it is
-/// dropped; the others go on as if it weren't there. Only lack of memory ends the feed: from then on each call fails.
+/// dropped; the others go on as if it weren't there. The feed ends
+/// where all lanes are over. Lack of memory makes it fail, and so does a job of number 2^64 - 2: from then on each call
+/// fails.
 #[derive(Drop)]
 pub struct Lanes<'a, L: Lane<S, K>, S, K> {
     lanes: &'a mut [L],

@@ -3,7 +3,7 @@
 //! A [`Lane`] gives blocks out of a source of its own and puts what comes of their answers into a sink of its own.
 //! [`Lanes`] is a feed (`BlockFeed` of crate `ht_feed`) over lanes, sources and sinks that it borrows as slices: it
 //! asks the lanes that aren't over in turn, numbers the jobs of all of them from 0, and hands each answer to the lane
-//! of the oldest block that is due, whose own number the block ([`LaneBlock`]) carries too. A lane whose sink failed
+//! of the oldest block that is due; a block ([`LaneBlock`]) carries the number that its first job has in its lane, too. A lane whose sink failed
 //! rests: what is still due of it is dropped, and the others go on. What a lane keeps back it puts once no answers come any
 //! more ([`finish_lanes`]). [`run_alone`] runs all blocks of lanes in the calling thread, and finishes them.
 //!
@@ -11,7 +11,7 @@
 //! (`AllLead` in `specs/Lanes.antt`), so that nothing is said of an order, and no lane's share speaks of another.
 //!
 //! A [`DeskLane`] is a lane over the desk of a reader. Its relation is that of a feed over one desk (`TellsBy` of crate
-//! `ht_feed`), so that what a whole input, a fault, a source that fails and a full memory come to holds of it
+//! `ht_feed`), so that what is said of whole inputs, of faults, of sources that fail and of lack of memory holds of it
 //! unchanged; a [`Booking`] says what becomes of its hits.
 //!
 //! Of two lanes with three and one blocks of two jobs, say, the four blocks have the jobs 0 and 1, 2 and 3, 4 and 5,

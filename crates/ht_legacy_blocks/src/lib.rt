@@ -25,8 +25,6 @@ mod head;
 mod reader;
 mod stage;
 mod symbol;
-#[cfg(test)]
-mod tests;
 
 pub use block::LegacyBlock;
 pub use head::LegacyFrameHead;

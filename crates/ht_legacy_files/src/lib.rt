@@ -17,8 +17,6 @@
 
 pub mod laws;
 mod reading;
-#[cfg(test)]
-mod tests;
 mod writing;
 
 pub use reading::{length, rate, read_legacy_frames};

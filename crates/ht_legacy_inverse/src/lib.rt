@@ -21,7 +21,5 @@ mod decoder;
 mod gather;
 mod label_place;
 mod places;
-#[cfg(test)]
-mod tests;
 
 pub use decoder::legacy_decode_frame;

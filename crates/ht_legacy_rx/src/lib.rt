@@ -5,7 +5,8 @@
 //! frame is whole, and `ht_legacy_inverse` decodes its labels (IEEE Std 802.11-2012, clause 18.3.5 backwards). One worker
 //! decodes it where it stands. With more workers it leaves as a [`WholeLegacyFrame`]: a frame of 100 octets or more is
 //! given to the workers, who decode it before they look for blocks, and a shorter one is decoded by the caller. At most two
-//! frames for each worker beside the caller, of at most 131,072 octets together, have no booked result while jobs are due.
+//! frames for each worker beside the caller have no booked result while jobs are due, not counting the frame under way, and
+//! those with the workers have at most 131,072 octets together; no clause says so.
 //!
 //! What the frames of a list of octets come to is a definition over the octets alone: `legacy_results_of`, and with their
 //! lines and the last line `legacy_text`, in `specs/Texts.antt`. It looks labels up place by place; the module [`laws`] says
@@ -23,10 +24,8 @@
 pub mod laws;
 mod open_frame;
 mod receiving;
-#[cfg(test)]
-mod tests;
 mod whole_frame;
 
 pub use open_frame::OpenLegacyFrame;
 pub use receiving::{legacy_receive, legacy_receive_alone};
-pub use whole_frame::{LegacyDecoder, WholeLegacyFrame};
+pub use whole_frame::WholeLegacyFrame;

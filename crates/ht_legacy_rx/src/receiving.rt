@@ -292,8 +292,9 @@ where
 /// same.
 ///
 /// A frame of 100 octets or more that is whole is given to the workers, who decode it before they look for blocks; a
-/// shorter one is decoded by the caller. At most two frames for each worker beside the caller, of at most 131,072 octets
-/// together, have no booked result while jobs are due. However it ends, no thread is left behind.
+/// shorter one is decoded by the caller. At most two frames for each worker beside the caller have no booked result
+/// while jobs are due, not counting the frame under way, and those with the workers have at most 131,072 octets together.
+/// No clause says so of frames, octets and threads. However it ends, no thread is left behind.
 pub fn legacy_receive<R: Threads + Wait + Sync, S: Source, K: Sink, G: Gate + Sync>(
     rt: &R,
     alloc: Global,

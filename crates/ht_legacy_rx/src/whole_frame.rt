@@ -9,10 +9,6 @@ use ht_results::FrameResult;
 use std::alloc::{AllocError, Global};
 use std::marker::Model;
 
-/// What decodes frames one after another. It keeps nothing from one to the next.
-#[derive(Drop)]
-pub struct LegacyDecoder;
-
 /// A frame whose last job came: all of its labels are there, and it can be decoded.
 #[derive(Drop)]
 pub struct WholeLegacyFrame {
@@ -43,7 +39,8 @@ impl WholeLegacyFrame {
 impl WholeFrame for WholeLegacyFrame {
     type Result = FrameResult;
 
-    type Decoder = LegacyDecoder;
+    /// Nothing is kept from one frame to the next.
+    type Decoder = ();
 
     ghost result_of = { result_of };
 
@@ -54,11 +51,9 @@ impl WholeFrame for WholeLegacyFrame {
         self.frame.head.length
     }
 
-    fn decoder(_: Global) -> LegacyDecoder {
-        LegacyDecoder
-    }
+    fn decoder(_: Global) {}
 
-    fn decode(&self, alloc: Global, _: &mut LegacyDecoder) -> Result<FrameResult, AllocError> {
+    fn decode(&self, alloc: Global, _: &mut ()) -> Result<FrameResult, AllocError> {
         self.frame.result(alloc)
     }
 

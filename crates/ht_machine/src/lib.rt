@@ -20,8 +20,6 @@ mod finding;
 pub mod laws;
 mod machine;
 mod moves;
-#[cfg(test)]
-mod tests;
 pub mod window_laws;
 
 pub use enabling::enabled;

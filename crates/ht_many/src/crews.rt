@@ -22,9 +22,10 @@ use std::thread::Threads;
 /// which the caller is one. The caller alone reads the sources and puts the lines.
 ///
 /// A whole frame of 100 octets or more is given to the workers, who decode it before they look for jobs; the caller decodes
-/// all other frames. The lines of each capture are put in order. While jobs come, at most two whole frames of each capture
-/// for each worker beside the caller have no line yet, and those that the workers have are of at most 131,072 octets
-/// together. Once no capture gives a job any more, the lines of all whole frames are put.
+/// shorter ones, the last one of each capture, and while it waits those that no worker has begun. The lines of each capture
+/// are put in order. While jobs come, at most two whole frames of each capture for each worker beside the caller have no
+/// line yet, and those that were given to the workers have at most 131,072 octets together; no clause says so. Once no
+/// capture gives a job any more, the lines of all whole frames are put.
 pub fn many<R: Threads + Wait + Sync, S: Source, K: Sink, G: Gate + Sync>(
     rt: &R,
     alloc: Global,

@@ -22,7 +22,7 @@ use std::marker::Model;
 
 /// Puts the line of each frame of a capture into the sink that it is handed, once the hit of its last job was taken.
 ///
-/// Until then what its jobs come to is under way here, so that captures beside one another have a frame under way each.
+/// Until then it keeps what the jobs of the frame come to, so that captures beside one another have a frame under way each.
 /// No whole frame waits.
 #[derive(Drop)]
 pub(crate) struct FrameLines {

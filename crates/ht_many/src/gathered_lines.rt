@@ -25,8 +25,8 @@ use std::sync::Wait;
 use std::thread::Threads;
 
 /// Puts the line of each frame of a capture into the sink that it is handed, and has workers decode whole frames while
-/// more hits come, of this capture or of others. At most two frames for each worker beside the caller, of at most 131,072
-/// octets together, have no line behind each hit, besides the one under way; it keeps them until it is finished.
+/// more hits come, of this capture or of others. Behind each hit at most two frames for each worker beside the
+/// caller have no line, not counting the one under way. No clause says so.
 ///
 /// Captures beside one another have a frame under way each, and each its own whole frames, whose lines it puts in order.
 /// The workers find the frames of all captures in one place.
@@ -112,6 +112,7 @@ impl<'f, R: Threads + Wait> GatheredLines<'f, R> {
             self.rt,
             self.alloc,
             self.workers,
+            desk.stop().is_some(),
             self.frames,
             &mut self.under_way,
             &mut self.queue,

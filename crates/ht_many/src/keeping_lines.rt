@@ -1,5 +1,5 @@
-//! An account that keeps whole frames back also where no other block is due.
-ghost use Rattle.std.specs.Prelude.{◌≡◌, ◌≤◌, ◌∷◌, [], OnErr, OnOk};
+//! An account that keeps whole frames back also where no other block is due yet.
+ghost use Rattle.std.specs.Prelude.{◌≡◌, ◌≤◌, ◌∷◌};
 ghost use Rattle.ht_frames.specs.Gathering.{booked_behind};
 ghost use Rattle.ht_results.specs.Folding.{result_of};
 ghost use Rattle.ht_rx.specs.Frames.{results_in};
@@ -17,8 +17,9 @@ use std::sync::Wait;
 use std::thread::Threads;
 
 /// Books the result of each frame in a book, and has workers decode whole frames, as a `Gatherer` of crate `ht_frames`
-/// does. But it keeps them back whether or not another block is due, since jobs of other captures may still come: so it
-/// never waits as an account for a whole drive does, and whoever has it books what it left in the queue.
+/// does. But it keeps them back whether or not another block is due, as long as its capture is read: blocks of other captures
+/// come in between. So it may end with whole frames in the queue, and its owner books them. A frame that is whole with the
+/// last block of a capture has the caller decode it and book all, so that they don't count against other captures.
 #[derive(Drop)]
 pub(crate) struct KeepingLines<'a, R, B> {
     rt: &'a R,
@@ -27,6 +28,8 @@ pub(crate) struct KeepingLines<'a, R, B> {
     frames: &'a Frames<WholeLabels>,
     // How many frames are decoded while hits are taken.
     beside: u8,
+    // Whether its capture is read no more.
+    stopped: bool,
     under_way: &'a mut OpenFrame,
     // The whole frames whose results aren't booked, in order.
     queue: &'a mut VecDeque<Decoding<WholeLabels>>,
@@ -34,12 +37,13 @@ pub(crate) struct KeepingLines<'a, R, B> {
 }
 
 impl<'a, R, B> KeepingLines<'a, R, B> {
-    /// One beside this number of workers, of which the caller is one. It books results in this book, and goes on from the
-    /// frame that is under way and those that are whole. It takes no memory.
+    /// One beside this number of workers, of which the caller is one, for a capture that is read no more or still is. It
+    /// books results in this book, and goes on from the frame that is under way and those that are whole. It takes no memory.
     pub(crate) fn new(
         rt: &'a R,
         alloc: Global,
         workers: u8,
+        stopped: bool,
         frames: &'a Frames<WholeLabels>,
         under_way: &'a mut OpenFrame,
         queue: &'a mut VecDeque<Decoding<WholeLabels>>,
@@ -59,6 +63,7 @@ impl<'a, R, B> KeepingLines<'a, R, B> {
             alloc,
             frames,
             beside: 2 * (workers - 1),
+            stopped,
             under_way,
             queue,
             book,
@@ -85,12 +90,14 @@ impl<'a, R: Threads + Wait, B: Book<FrameResult>> Account<CaptureReader>
         head: &FrameHead,
         block: &CaptureBlock,
         hits: &Hits,
-        _: &HeapCircularBuffer<DueBlock<CaptureReader>>,
+        due: &HeapCircularBuffer<DueBlock<CaptureReader>>,
     ) -> Result<(), BookFault> {
+        let is_last = self.stopped && due.len() == 1;
+        let room = if is_last { 0 } else { usize::from(self.beside) };
         gather_block(
             self.rt,
             self.alloc,
-            usize::from(self.beside),
+            room,
             self.frames,
             self.under_way,
             self.queue,

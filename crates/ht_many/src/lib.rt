@@ -21,12 +21,8 @@ mod ending;
 mod frame_lines;
 mod gathered_lines;
 mod keeping_lines;
-#[cfg(test)]
-mod offset_tests;
 mod receiving;
 mod running;
-#[cfg(test)]
-mod tests;
 
 pub use calls::{many_alone, many_bundle_alone};
 pub use crews::{many, many_bundle};

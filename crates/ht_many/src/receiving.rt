@@ -39,8 +39,8 @@ pub(crate) fn receive_alone<S: Source, K: Sink, G: Gate>(
     end_all(alloc, &lanes, sinks)
 }
 
-/// Receives captures, whose jobs are run by one crew of 1 to 64 workers, of which the caller is one. The
-/// workers decode the whole frames of all captures, except where the caller is alone.
+/// Receives captures, whose jobs are run by one crew of 1 to 64 workers, of which the caller is one. The workers decode the
+/// whole frames of all captures, except where the caller is the only worker.
 pub(crate) fn receive<R: Threads + Wait + Sync, S: Source, K: Sink, G: Gate + Sync>(
     rt: &R,
     alloc: Global,

@@ -36,7 +36,7 @@ pub(crate) fn run_in_this_thread<S: Source, K: Sink, G: Gate>(
     // However it ends, each lane did what its own devices and its own blocks made it do.
     ensures leads { LanesLead S.shown K.shown (sides_of lanes.old sources.old sinks.old) (sides_of lanes.new sources.new sinks.new) }
 
-    // Else all are over, and none that takes answers waits for one or keeps a line back.
+    // Where memory suffices, all are over, and none that takes answers waits for one or keeps a line back.
     ensures over { OnOk result (AreOver lane_over 0 lanes.new) }
     ensures taken { OnOk result (HaveNone lane_due lane_rests lanes.new) }
     ensures finished { OnOk result (AreFinished lane_finished lane_rests lanes.new) }

@@ -21,8 +21,6 @@ mod axis;
 mod constellation;
 pub mod laws;
 mod mapping;
-#[cfg(test)]
-mod tests;
 
 pub use constellation::grid;
 pub use mapping::{label, point};

@@ -101,36 +101,3 @@ fn unused() -> Axes
     let zero = Ladder::of(1, 1);
     Axes { i: zero, q: zero }
 }
-
-#[cfg(test)]
-mod tests {
-    use super::Grid;
-    use crate::ladder::Ladder;
-
-    #[test]
-    fn smoke(rt: HostRuntime) {
-        let zero = Ladder::of(1, 1);
-        let ends = Ladder::of(8, 129);
-        let grid = Grid::one(ends, zero).and(zero, ends);
-        assert_eq!(rt; grid.streams(), 2);
-        assert_eq!(rt; grid.i_ladder(1), ends);
-        assert_eq!(rt; grid.q_ladder(1), zero);
-        assert_eq!(rt; grid, Grid::one(ends, zero).and(zero, ends));
-        assert!(rt; grid.same(&Grid::one(ends, zero).and(zero, ends)));
-        assert!(rt; !grid.same(&Grid::one(ends, zero).and(ends, zero)));
-    }
-
-    #[test]
-    fn levels(rt: HostRuntime) {
-        for (ladder, level, has) in [
-            (Ladder::of(1, 1), 0, true),
-            (Ladder::of(2, 1), 1, false),
-            (Ladder::of(4, 15), -3, true),
-            (Ladder::of(4, 15), 2, false),
-            (Ladder::of(8, 129), 7, true),
-            (Ladder::of(8, 129), 5, false),
-        ] {
-            assert_eq!(rt; ladder.has(level), has, "level {level}");
-        }
-    }
-}

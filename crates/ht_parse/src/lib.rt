@@ -18,8 +18,6 @@ pub mod laws;
 mod layout;
 pub mod pair;
 pub mod streams;
-#[cfg(test)]
-mod tests;
 
 pub use encoders::{join_encoders, split_encoders};
 pub use pair::Pair;

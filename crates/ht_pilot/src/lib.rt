@@ -13,7 +13,5 @@
 #![tactic(auto)]
 
 mod pilots;
-#[cfg(test)]
-mod tests;
 
 pub use pilots::pilot;

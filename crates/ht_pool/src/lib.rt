@@ -36,6 +36,4 @@ mod seating;
 mod serve;
 pub mod shared;
 pub mod space;
-#[cfg(test)]
-mod tests;
 pub mod work;

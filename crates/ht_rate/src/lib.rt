@@ -19,8 +19,6 @@ pub mod laws;
 mod lengths;
 mod parts;
 pub mod rates;
-#[cfg(test)]
-mod tests;
 
 pub use kinds::{Bandwidth, Carrier, Modulation, Pattern};
 pub use rates::{Rate, RateFault};

@@ -40,8 +40,6 @@ mod pieces;
 mod receiving;
 mod receiving_text;
 mod telling;
-#[cfg(test)]
-mod tests;
 mod under_way;
 mod whole_labels;
 

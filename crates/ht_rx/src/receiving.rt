@@ -66,11 +66,11 @@ pub fn receive_alone<S: Source, B: Book<FrameResult>, G: Gate>(
 ///
 /// A frame of 100 octets or more that is whole is given to the workers, who decode it before they look for jobs; a
 /// shorter one is decoded by the caller. Results are booked in order. While jobs are due, at most two frames for each
-/// worker beside the caller, of at most 131,072 octets together, have no booked result, beside the frame under way;
-/// where one more is whole the caller waits for the oldest ones, and decodes what no worker has begun. So at most three
-/// of the longest frames are kept, whatever the workers. Where no job is due any more the caller waits for all of them. It
-/// decodes the frame that is whole then, and the codewords of two encoders in two threads. However it ends, no thread is
-/// left behind.
+/// worker beside the caller have no booked result, not counting the frame under way, and those with the workers have at
+/// most 131,072 octets together; where one more is whole the caller waits for the oldest ones, and decodes what no worker
+/// has begun. So at most three of the longest frames are kept, whatever the workers. Where no job is due any more the
+/// caller waits for all of them. It decodes the frame that is whole then, and the codewords of two encoders in two threads.
+/// No clause says so of frames, octets and threads. However it ends, no thread is left behind.
 pub fn receive<R: Threads + Wait + Sync, S: Source, B: Book<FrameResult>, G: Gate + Sync>(
     rt: &R,
     alloc: Global,

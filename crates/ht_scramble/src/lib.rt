@@ -14,8 +14,6 @@ pub mod laws;
 mod polarity_signs;
 mod scrambler;
 mod seed;
-#[cfg(test)]
-mod tests;
 
 pub use polarity_signs::polarity;
 pub use scrambler::{recover, scramble};

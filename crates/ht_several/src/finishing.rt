@@ -34,8 +34,8 @@ fn finish_at<K: Sink>(
 /// Puts the last line of each of several captures behind its other lines, where the receiving of each answered this,
 /// and tells how each ended, in their order: with `Write` where its sink failed, this time or before.
 ///
-/// The only error is lack of memory, and then the last lines of the first captures were put and those of the others
-/// weren't.
+/// The only error is lack of memory, and then the last lines of some captures were put, each whole or, where its sink
+/// failed, in part. An answer that is lack of memory is handed on so.
 pub fn finish<K: Sink>(
     alloc: Global,
     answers: &[Result<Ended, StopFault>],

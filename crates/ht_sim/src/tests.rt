@@ -3,7 +3,6 @@ ghost use Rattle.std.specs.Prelude.{◌≡◌, ◌*◌, ◌≤◌, length, true}
 ghost use Rattle.ht_rate.specs.Rates.{carriers_of, streams_of, symbols_of};
 
 use crate::captures::capture;
-use crate::samples::sample_frames;
 use crate::words::Words;
 use ht_capture::read_captures;
 use ht_io::MemSource;
@@ -127,23 +126,6 @@ fn passes(rt: HostRuntime) -> Result<(), Fail> {
         assert_eq!(rt; captured.erased, frame.erased);
         assert_eq!(rt; captured.triangles.as_slice(), frame.triangles.as_slice());
         assert_eq!(rt; captured.samples.as_slice(), frame.samples.as_slice());
-    }
-    Ok(())
-}
-
-// The first frame of the seed 42: its scrambler's seed and its first octets.
-#[test]
-fn samples(rt: HostRuntime) -> Result<(), Fail> {
-    let alloc = rt.alloc();
-    let Ok(rate) = Rate::of(0, 0) else {
-        assert!(rt; false);
-        return Ok(());
-    };
-    let frames = sample_frames(alloc, 42, &rate, 5, 1)?;
-    assert_eq!(rt; frames.len(), 1);
-    for frame in &frames {
-        assert_eq!(rt; frame.seed().value(), 66);
-        assert_eq!(rt; frame.octets(), [0x09, 0x30, 0x93, 0x4b, 0x6e].as_slice());
     }
     Ok(())
 }

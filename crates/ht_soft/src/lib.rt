@@ -20,8 +20,6 @@ mod codewords;
 mod frames;
 mod halves;
 mod soft_decoded;
-#[cfg(test)]
-mod tests;
 mod weights;
 
 pub use codewords::soft_decode;

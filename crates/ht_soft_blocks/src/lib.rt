@@ -19,8 +19,6 @@ mod half_grids;
 mod halves;
 mod reader;
 mod side;
-#[cfg(test)]
-mod tests;
 mod turn;
 
 pub use block::HalvesBlock;

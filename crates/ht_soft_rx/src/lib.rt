@@ -26,8 +26,6 @@ pub mod laws;
 mod line;
 mod receiving;
 mod soft_result;
-#[cfg(test)]
-mod tests;
 mod under_way;
 mod whole;
 mod work;

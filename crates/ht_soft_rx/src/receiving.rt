@@ -14,7 +14,6 @@ ghost use Rattle.ht_soft_rx.specs.Texts.{soft_lines_of, soft_rx_text};
 
 use crate::soft_result::SoftResult;
 use crate::under_way::SoftUnderWay;
-use crate::whole::SoftWhole;
 use crate::work::HalvesWork;
 use ht_capture::FrameHead;
 use ht_crew::Gate;
@@ -193,8 +192,8 @@ fn put_lines<R: Threads + Wait + Sync, S: Source, K: Sink, G: Gate + Sync>(
 /// of the inputs that cost least at these weights.
 ///
 /// The halves of data jobs and the pilot jobs run in this thread, each between the two calls of the gate, by their numbers
-/// from 0. At most `window` of them, 1 to 4096, were read and not yet taken at any moment. Of the frames the weights of
-/// one are kept, four octets each.
+/// from 0. At most `window` of them, 1 to 4096, were given to be run and not yet taken at any moment; behind them one symbol
+/// is read. Of the frames the weights of one are kept, four octets each.
 ///
 /// It refuses with the first fault of an input that is no capture, whose line it leaves to the caller; with `Read` where
 /// the source failed, having put the lines of the frames that were read whole; with `Write` where the sink failed, also
@@ -231,9 +230,10 @@ pub fn receive_soft_alone<S: Source, K: Sink, G: Gate>(
 ///
 /// Whole frames are decoded while the jobs behind them are read and run, as [`Gatherer`] does it: a frame of 100 octets or
 /// more is given to the workers, who decode it before they look for blocks, and a shorter one is decoded by the caller.
-/// While jobs are due, at most two frames for each worker beside the caller, of at most 131,072 octets together, have no
-/// booked result, besides the frame under way. So the weights of at most three of the longest frames are kept, 4.2 MB each,
-/// whatever the workers. However it ends, no thread is left behind.
+/// While jobs are due, at most two frames for each worker beside the caller have no booked result, not counting the frame
+/// under way, and those with the workers have at most 131,072 octets together. So the weights of at most three of the
+/// longest frames are kept, 4.2 MB each, whatever the workers. No clause says so of frames, octets and threads. However it
+/// ends, no thread is left behind.
 pub fn receive_soft<R: Threads + Wait + Sync, S: Source, K: Sink, G: Gate + Sync>(
     rt: &R,
     alloc: Global,

@@ -15,10 +15,11 @@ pub struct HalvesWork<'g, G> {
     pub work: HitWork<'g, G>,
 }
 
-// Whether a half takes some microseconds to search, and some a hundred times as long: four streams of 64-QAM.
+// Whether some halves may take a hundred times as long as others: with four streams of 64-QAM. A half leaves out levels of
+// one stream alone, so one of the first two streams has all of them.
 fn has_dear_halves(half: &Job) -> bool {
     let grid = half.grid();
-    grid.streams() == 4 && grid.i_ladder(1).has(3)
+    grid.streams() == 4 && (grid.i_ladder(1).has(5) || grid.i_ladder(2).has(5))
 }
 
 // The least distance of the last three that were found.
@@ -38,7 +39,7 @@ impl<'g, G: Gate> Work<HalvesBlock> for HalvesWork<'g, G> {
     }
 
     /// Whether the last job was hard, or has halves that are worth the way to another worker one by one. Of its halves
-    /// only those that have its first nearest vector tell, and among three halves that follow one another are both of one
+    /// only those that have its first nearest vector show it, and among three halves that follow one another are both of one
     /// bit.
     fn is_hard(&self, block: &HalvesBlock, hits: &Hits) -> bool {
         let last = block.job(block.count() - 1);

@@ -20,8 +20,6 @@ mod look;
 pub mod remainder;
 mod round;
 mod search;
-#[cfg(test)]
-mod tests;
 mod vectors;
 
 pub use detector::{find, into_hit, nearest};

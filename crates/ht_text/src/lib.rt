@@ -22,8 +22,6 @@ mod frame;
 mod job;
 mod room;
 mod sums;
-#[cfg(test)]
-mod tests;
 mod verdict;
 
 pub use demo::demo_line;

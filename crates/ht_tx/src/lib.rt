@@ -24,8 +24,6 @@ mod points;
 mod sending;
 mod sources;
 mod symbols;
-#[cfg(test)]
-mod tests;
 mod transmitter;
 
 pub use frames::Frame;

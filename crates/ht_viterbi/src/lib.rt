@@ -34,8 +34,6 @@ mod place;
 mod plain;
 mod received_bit;
 mod rows;
-#[cfg(test)]
-mod tests;
 mod walk;
 mod weights;
 mod words;

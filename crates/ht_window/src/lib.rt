@@ -10,8 +10,6 @@
 #![tactic(auto)]
 
 mod slot;
-#[cfg(test)]
-mod tests;
 mod window;
 
 pub use window::{Accepted, Window};

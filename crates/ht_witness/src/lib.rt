@@ -27,8 +27,6 @@ mod marking;
 mod marks;
 mod off_grid;
 mod stop;
-#[cfg(test)]
-mod tests;
 mod walk;
 
 pub use certificate::Certificate;

@@ -17,7 +17,5 @@ pub mod laws;
 mod plain;
 mod read;
 mod setting;
-#[cfg(test)]
-mod tests;
 
 pub use asked::Asked;

@@ -1,8 +1,6 @@
 use Rattle.std.proofs.Common.{rules, ◌≡◌, ◌∷◌, ◌∙◌, List, length, arith, ap, refl, subst}
-use Rattle.ht_io.specs.Devices.{GrowsByPart}
 use Rattle.ht_io.proofs.Calls.{later-later, later-refl}
-use Rattle.ht_frames.specs.Gathering.{BooksFirst, booked_whole}
-use Rattle.ht_frames.proofs.Taking.{err_so}
+use Rattle.ht_frames.specs.Gathering.{BooksFirst}
 use Rattle.ht_frames.proofs.Gathered.{books_next, books_next_part, books_none}
 use Rattle.ht_frames.proofs.gathering.book_frames.Goals as goal
 
@@ -32,7 +30,7 @@ loop-oldest-preserved g c =
     let f = c.in-Some.oldest in
     let left = c.take_oldest.new.queue.items in
     let is : c.loop-oldest.queue.items ≡ f ∷ left = search rules in
-    let e = c.in_ok-book_one.ensures in
+    let e = c.in_default-book_one.ensures in
     record {
       put = books_next result_of b.booked start before now c.args.queue.now.items c.loop-oldest.queue.items left f c.loop-oldest.invariant.put is e.put;
       steady = e.faults.steady ∙ c.loop-oldest.invariant.steady;
@@ -40,8 +38,8 @@ loop-oldest-preserved g c =
       same = c.book_one.ensures.faults.same ∙ c.loop-oldest.invariant.same;
     }
 
-pub returns-in_err-book_one-clause-part : goal.returns-in_err-book_one-clause-part
-returns-in_err-book_one-clause-part g c =
+pub returns-in-Err-clause-part : goal.returns-in-Err-clause-part
+returns-in-Err-clause-part g c =
     let b = g.B.Book in
     let result_of = g.W.WholeFrame.result_of in
     let start = b.shown c.args.book.now in
@@ -50,9 +48,8 @@ returns-in_err-book_one-clause-part g c =
     let f = c.in-Some.oldest in
     let left = c.take_oldest.new.queue.items in
     let is : c.loop-oldest.queue.items ≡ f ∷ left = search rules in
-    err_so c.from_residual.result (GrowsByPart start now (booked_whole result_of b.booked c.args.queue.now.items))
-    (books_next_part result_of b.booked start before now c.args.queue.now.items c.loop-oldest.queue.items left f c.loop-oldest.invariant.put is
-    c.in_err-book_one.ensures.part)
+    books_next_part result_of b.booked start before now c.args.queue.now.items c.loop-oldest.queue.items left f c.loop-oldest.invariant.put is
+    c.in-Err.ensures.part
 
 pub returns-clause-put : goal.returns-clause-put
 returns-clause-put g c =

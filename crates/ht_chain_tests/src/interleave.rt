@@ -1,0 +1,69 @@
+//! Outside values, through the public calls.
+use ht_interleave::{deinterleave, interleave, origin, place};
+use ht_rate::Rate;
+
+// The code of the bandwidth, the MCS index, the stream, a bit and its place.
+static PLACES: [(u8, u8, u8, u16, u16); 10] = [
+    (0, 24, 1, 1, 4),
+    (0, 24, 2, 1, 34),
+    (0, 24, 3, 1, 45),
+    (0, 24, 4, 1, 23),
+    (0, 13, 1, 1, 26),
+    (0, 13, 2, 1, 206),
+    (1, 31, 3, 1, 512),
+    (1, 31, 4, 1, 164),
+    (1, 31, 3, 647, 471),
+    (1, 31, 4, 647, 123),
+];
+
+#[test]
+fn smoke(rt: HostRuntime) {
+    for &(bw, mcs, stream, k, r) in &PLACES {
+        let Ok(rate) = Rate::of(bw, mcs) else {
+            assert!(rt; false, "MCS {mcs}");
+            return;
+        };
+        assert!(rt; 1 <= stream && stream <= rate.streams());
+        assert!(rt; k < rate.stream_bits() && r < rate.stream_bits());
+        assert_eq!(rt; place(&rate, stream, k), r, "MCS {mcs}, stream {stream}");
+        assert_eq!(rt; origin(&rate, stream, r), k, "MCS {mcs}, stream {stream}");
+    }
+}
+
+// Coded bits of two symbols of BPSK at 20 MHz, and the same interleaved.
+static BLOCKS: [(&[u8; 52], &[u8; 52]); 2] = [
+    (
+        b"0000000011100101111100111010010010111000000100010010",
+        b"0110000001000110010101000110000010111110111001010000",
+    ),
+    (
+        b"0111000011011111111100001000111101001101011100000100",
+        b"0101110011111111011101100100001010001000001111101000",
+    ),
+];
+
+#[test]
+fn vectors(rt: HostRuntime) {
+    let Ok(rate) = Rate::of(0, 0) else {
+        assert!(rt; false);
+        return;
+    };
+    assert_eq!(rt; (rate.streams(), rate.stream_bits()), (1, 52));
+    for (before, after) in &BLOCKS {
+        let (coded, want) = (bits(before), bits(after));
+        let mut places = [false; 52];
+        interleave(&rate, 1, &coded, &mut places);
+        assert_eq!(rt; places, want);
+        let mut again = [false; 52];
+        deinterleave(&rate, 1, &places, &mut again);
+        assert_eq!(rt; again, coded);
+    }
+}
+
+fn bits(text: &[u8; 52]) -> [bool; 52] {
+    let mut bits = [false; 52];
+    for (i, digit) in text.iter().enumerate() {
+        bits[i] = *digit == b'1';
+    }
+    bits
+}

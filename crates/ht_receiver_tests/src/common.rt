@@ -1,0 +1,90 @@
+//! What the tests of several crates are given: a small job, captures of zeros, and one that other programs made.
+ghost use Rattle.std.specs.Prelude.{◌≡◌};
+
+use ht_metric::{Job, Place, Sample, System, Tap, Triangle};
+use ht_pam::{Grid, Ladder};
+use std::alloc::{AllocError, Global};
+
+pub(crate) const NO_SAMPLE: Sample = Sample { re: 0, im: 0 };
+
+// A BPSK job of one stream whose sample is this one.
+pub(crate) fn job(number: u64, re: i32) -> Job
+    ensures { result.number ≡ number }
+{
+    let triangle = Triangle::new(1, [10, 0, 0, 0], [Tap { re: 0, im: 0 }; 6]);
+    let y = [Sample { re, im: 0 }, NO_SAMPLE, NO_SAMPLE, NO_SAMPLE];
+    let grid = Grid::one(Ladder::of(2, 3), Ladder::of(1, 1));
+    Job::new(number, Place::default(), grid, System::new(triangle, y))
+}
+
+// How many symbols a frame of this length has at 20 MHz, MCS 0.
+fn symbols_of(length: u16) -> u32 {
+    (u32::from(length) * 8 + 22).div_ceil(26)
+}
+
+// A capture of frames of these lengths at 20 MHz, MCS 0: the diagonal 10 on each subcarrier, every sample 0.
+pub(crate) fn zeros(alloc: Global, lengths: &[u16]) -> Result<Vec<u8>, AllocError> {
+    let mut octets = b"HTCP\x01\x00".to_vec(alloc)?;
+    octets.push(u8::try_from(lengths.len()).unwrap_or(u8::MAX))?;
+    for length in lengths {
+        octets.extend_from_slice(&[0, 0])?;
+        octets.extend_from_slice(&length.to_be_bytes())?;
+        for _ in 0..56u8 {
+            octets.extend_from_slice(&[0, 10])?;
+        }
+        for _ in 0..symbols_of(*length) {
+            for _ in 0..448u16 {
+                octets.push(0)?;
+            }
+        }
+    }
+    Ok(octets)
+}
+
+/// The capture of the octet a5 at MCS 0 and 20 MHz with seed 127, through the channel of seed 42 without noise.
+static A5: [&str; 22] = [
+    "485443500100010000000100f7004900f0005300cb006e00ed006d009a009000be00b900e600dd0097008b006a00a300",
+    "d20046007000d700d100d900bb00c500b600c40064006d0095008f007c004900460093007000f700fe00f20077006a00",
+    "54005600c700630083008b0061005100b200a8009a00ec00df0073ffffff09000000000000004900000000000000f000",
+    "000000ffffffad00000000ffffff3500000000ffffff9200000000ffffff13000000000000006d00000000ffffff6600",
+    "000000ffffff7000000000000000be00000000ffffff4700000000ffffff1a00000000ffffff23000000000000009700",
+    "0000000000008b00000000ffffff9600000000ffffff5d00000000000000d200000000ffffffba000000000000007000",
+    "000000000000d700000000ffffff2f00000000000000d900000000ffffff4500000000ffffff3b00000000ffffff4a00",
+    "000000000000c4000000000000006400000000ffffff9300000000ffffff6b00000000ffffff7100000000ffffff8400",
+    "000000ffffffb70000000000000046000000000000009300000000ffffff9000000000000000f700000000000000fe00",
+    "000000000000f20000000000000077000000000000006a00000000ffffffac000000000000005600000000000000c700",
+    "0000000000006300000000ffffff7d00000000ffffff7500000000ffffff9f000000000000005100000000ffffff4e00",
+    "000000000000a800000000ffffff6600000000ffffff1400000000ffffff2100000000ffffff8d00000000ffffff0900",
+    "0000000000004900000000ffffff10000000000000005300000000000000cb000000000000006e00000000ffffff1300",
+    "000000ffffff9300000000ffffff66000000000000009000000000000000be00000000000000b900000000000000e600",
+    "000000000000dd0000000000000097000000000000008b000000000000006a00000000ffffff5d00000000000000d200",
+    "00000000000046000000000000007000000000ffffff2900000000ffffff2f00000000000000d900000000000000bb00",
+    "000000ffffff3b00000000ffffff4a00000000000000c400000000ffffff9c00000000ffffff9300000000ffffff6b00",
+    "000000ffffff71000000000000007c00000000ffffffb70000000000000046000000000000009300000000ffffff9000",
+    "000000ffffff0900000000ffffff0200000000000000f200000000ffffff8900000000ffffff9600000000ffffffac00",
+    "000000ffffffaa00000000ffffff3900000000000000630000000000000083000000000000008b00000000ffffff9f00",
+    "0000000000005100000000000000b200000000ffffff58000000000000009a00000000ffffff1400000000ffffff2100",
+    "000000ffffff8d00000000",
+];
+
+/// The value of a hexadecimal digit, in lower case.
+fn value(digit: u8) -> u8 {
+    match digit {
+        b'0'..=b'9' => digit - b'0',
+        b'a'..=b'f' => digit - b'a' + 10,
+        _ => 0,
+    }
+}
+
+/// The octets of this capture.
+pub(crate) fn a5(alloc: Global) -> Result<Vec<u8>, AllocError> {
+    let mut octets = Vec::new(alloc);
+    for line in A5 {
+        let digits = line.as_bytes();
+        for place in 0..digits.len() / 2 {
+            let high = value(digits[2 * place]) % 16;
+            octets.push(high * 16 + value(digits[2 * place + 1]) % 16)?;
+        }
+    }
+    Ok(octets)
+}

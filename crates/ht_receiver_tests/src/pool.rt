@@ -1,0 +1,179 @@
+//! Squares of the first numbers by one, two and four threads, which all run a task at the same time at first.
+ghost use Rattle.std.specs.Prelude.{◌≡◌, ◌+◌, ◌*◌, ◌≤◌, [], length, map, IfOk, IfSome, vec_len, vec_capacity};
+ghost use Rattle.std.specs.List.{All};
+ghost use Rattle.ht_pool.specs.Helms.{unused, IsSettled, IsSameHelm};
+ghost use Rattle.ht_pool.specs.Members.{berth_of, berths, HasYetToServe};
+ghost use Rattle.ht_pool.specs.Pools.{IsVacant};
+
+use ht_pool::close::close;
+use ht_pool::crew::beside;
+use ht_pool::helm::Helm;
+use ht_pool::member::Member;
+use ht_pool::pool::Pool;
+use ht_pool::post::Post;
+use ht_pool::shared::Shared;
+use ht_pool::space::Space;
+use ht_pool::work::Work;
+use std::alloc::{AllocError, Global};
+use std::sync::Wait;
+use std::sync::atomic::{AtomicU64, Ordering};
+use std::test::Fail;
+use std::thread;
+use std::thread::Threads;
+
+// A number and its square.
+#[derive(Drop)]
+struct Squared {
+    number: u32,
+    square: u64,
+    ghost squared: { square ≡ number * number },
+}
+
+// Squares of numbers. The first `together` tasks are held until all of them are being run.
+#[derive(Drop)]
+struct Squares {
+    together: u64,
+    entered: AtomicU64,
+    strays: AtomicU64,
+}
+
+impl Squares {
+    fn together(threads: u64) -> Squares {
+        Squares {
+            together: threads,
+            entered: AtomicU64::new(0),
+            strays: AtomicU64::new(0),
+        }
+    }
+
+    // Gives up after a million turns.
+    fn enter(&self) {
+        self.entered.fetch_add(1, Ordering::SeqCst);
+        for _ in 0..1_000_000u64 {
+            if self.entered.load(Ordering::SeqCst) >= self.together {
+                return;
+            }
+            thread::yield_now();
+        }
+        self.strays.fetch_add(1, Ordering::SeqCst);
+    }
+}
+
+impl Work for Squares {
+    type Task = u32;
+
+    type Answer = Squared;
+
+    ghost asked = { λ squared. squared.number };
+
+    ghost weight = { λ number. 1 };
+
+    fn weigh(&self, _task: &u32) -> u32 {
+        1
+    }
+
+    fn run(&self, task: u32) -> Squared {
+        self.enter();
+        let wide = u64::from(task);
+        Squared {
+            number: task,
+            square: wide * wide,
+        }
+    }
+}
+
+// An answer that has come, or that of a task that no worker took.
+fn next(helm: &mut Helm<'_, Squares>) -> Option<Squared>
+    ensures same { IsSameHelm helm.old helm.new }
+    ensures given { helm.new.given ≡ helm.old.given }
+    ensures some { IfSome result (λ _. length helm.new.taken + length helm.new.answers ≡ length helm.old.taken + length helm.old.answers + 1) }
+    ensures more { length helm.old.taken + length helm.old.answers ≤ length helm.new.taken + length helm.new.answers }
+{
+    let received = helm.receive();
+    if received.is_some() {
+        return received;
+    }
+    helm.run_one()
+}
+
+// Gives the numbers below 1000 to the pool, and adds up their squares.
+fn lead<R: Wait>(rt: &R, work: &Squares, helm: &mut Helm<'_, Squares>) -> u64
+    requires { helm.old.given ≡ [] }
+    ensures same { IsSameHelm helm.old helm.new }
+    ensures settled { IsSettled helm.new }
+{
+    let mut sum = 0u64;
+    let mut waiting = 0u32;
+    for number in 0..1000 {
+        match helm.give(number) {
+            Ok(()) => waiting += 1,
+            Err(back) => sum = sum.wrapping_add(work.run(back).square),
+        }
+    }
+    for _ in rt.forever() {
+        if waiting == 0 {
+            return sum;
+        }
+        match next(helm) {
+            Some(answer) => {
+                sum = sum.wrapping_add(answer.square);
+                waiting -= 1;
+            }
+            None => thread::yield_now(),
+        }
+    }
+    unreachable!()
+}
+
+// The sum of the squares, and the number of tasks that each has run.
+fn add_up<R: Threads + Wait + Sync>(
+    rt: &R,
+    work: &Squares,
+    shared: &Shared<Squared>,
+    post: Post<u32, Squared>,
+    members: Vec<Member<u32, Squared>>,
+    space: Space<u32>,
+) -> (u64, Vec<u64>)
+    requires post { post ≡ unused 1024 post.deques shared.now }
+    requires fresh { All (HasYetToServe shared.now) members.items }
+    requires berths { map berth_of members.items ≡ berths post.deques }
+    requires seats { vec_len members ≤ vec_capacity members }
+    requires space { IsVacant (length post.deques) space }
+    ensures { vec_len result.1 ≡ vec_len members + 1 }
+{
+    let mut helm = Helm::new(post, shared, work);
+    let (members, sum) = beside(rt, work, shared, members, &mut || lead(rt, work, &mut helm));
+    (sum, close(helm, members, space).ran)
+}
+
+fn run_squares<R: Threads + Wait + Sync>(
+    rt: &R,
+    alloc: Global,
+    work: &Squares,
+    helpers: u8,
+) -> Result<(u64, Vec<u64>), AllocError>
+    requires { helpers ≤ 63 }
+{
+    let Pool {
+        shared,
+        post,
+        members,
+        space,
+    } = Pool::open(alloc, helpers, 1024)?;
+    Ok(add_up(rt, work, &shared, post, members, space))
+}
+
+#[test]
+fn smoke(rt: HostRuntime) -> Result<(), Fail> {
+    for helpers in [0, 1, 3] {
+        let work = Squares::together(u64::from(helpers) + 1);
+        let (sum, ran) = run_squares(&rt, rt.alloc(), &work, helpers)?;
+        assert_eq!(rt; work.strays.load(Ordering::SeqCst), 0);
+        assert_eq!(rt; sum, 332_833_500);
+        assert_eq!(rt; ran.len(), usize::from(helpers) + 1);
+        assert!(rt; ran.as_slice().iter().all(|n| *n > 0));
+        let all = ran.as_slice().iter().fold(0u64, |a, n| a.wrapping_add(*n));
+        assert_eq!(rt; all, 1000);
+    }
+    Ok(())
+}
