@@ -16,7 +16,11 @@ const BEYOND: u64 = 48 << 20;
 const STEP: u64 = 512 << 10;
 
 /// The commands with workers and an input, beside those that receive a capture.
-const RECEIVING: [(&str, &str); 2] = [("lrx", "vectors/legacy/rate0-0.lgcp"), ("many", "vectors/worked/three.htmb")];
+const RECEIVING: [(&str, &str); 3] = [
+    ("lrx", "vectors/legacy/rate0-0.lgcp"),
+    ("many", "vectors/worked/three.htmb"),
+    ("many", "vectors/worked/alike.htmb"),
+];
 
 /// The commands that receive a capture.
 const OF_CAPTURES: [&str; 3] = ["rx", "detect", "soft"];

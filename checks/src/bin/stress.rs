@@ -32,11 +32,12 @@ const CAPTURES: [&str; 11] = [
 ];
 
 /// Captures of clause 18 frames, and bundles.
-const OTHERS: [(&str, &str, &str); 7] = [
+const OTHERS: [(&str, &str, &str); 8] = [
     ("lrx", "legacy/many-frames", "lgcp"),
     ("lrx", "legacy/rate0-1", "lgcp"),
     ("lrx", "legacy/rate7-1", "lgcp"),
     ("many", "worked/three", "htmb"),
+    ("many", "worked/alike", "htmb"),
     ("many", "bundles/b1", "htmb"),
     ("many", "bundles/b5", "htmb"),
     ("many", "bundles/b9", "htmb"),

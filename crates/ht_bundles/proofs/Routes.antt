@@ -1,44 +1,38 @@
 -- How the octets of captures lead through the fields of a bundle, and why they don't.
-use Rattle.std.proofs.Common.{◌≡◌, ◌⊎◌, inl, inr, ℕ, ◌+◌, ◌-◌, ◌^◌, ◌<◌, ◌≤◌, List, [], ◌∷◌, ◌++◌, length, flat_map, All}
-use Rattle.std.proofs.Common.{nat_eq, true, false, refl, sym, ap, subst, ◌∙◌, length-append, arith}
+use Rattle.std.proofs.Common.{◌≡◌, ◌⊎◌, inl, inr, ℕ, ◌+◌, ◌-◌, ◌^◌, ◌<◌, List, [], ◌∷◌, ◌++◌, length}
+use Rattle.std.proofs.Common.{nat_eq, false, refl, sym, ap, subst, ◌∙◌, length-append, arith}
 use Rattle.std.proofs.lemmas.Bool.Decides.{nat_tests}
 use Rattle.std.proofs.lemmas.List.{append-nil}
-use Rattle.std.proofs.lemmas.List.Elements.{All-head, All-tail}
 use Rattle.byteorder.specs.Endian.{big_bytes, big_number}
 use Rattle.byteorder.specs.Numbers.{big_number-reads_back, length-bytes_high_first}
-use Rattle.ht_io.specs.Devices.{Device, Takes, TakesAll, IsLater}
+use Rattle.ht_io.specs.Devices.{Device, Takes, IsLater}
 use Rattle.ht_io.specs.declared.faults.InFault.{InFault}
 use Rattle.ht_io.specs.declared.faults.InFault.TheVariants.{Format, Read, NoMemory}
-use Rattle.ht_io.proofs.Calls.{takes-append, takes-all}
+use Rattle.ht_io.proofs.Calls.{takes-append}
 use Rattle.ht_fields.specs.Cases.{IsFile}
 use Rattle.ht_fields.specs.Grammar.{Verdict, Good}
 use Rattle.ht_fields.specs.Lacking.{LacksField}
 use Rattle.ht_fields.specs.Readers.{reader_in}
 use Rattle.ht_fields.specs.WholeFiles.{EndsEarly}
-use Rattle.ht_fields.proofs.Answered.{file_items}
-use Rattle.ht_fields.proofs.Choices.{when_true, when_false}
+use Rattle.ht_fields.proofs.Choices.{when_false}
 use Rattle.ht_fields.proofs.Endings.{halts_ends, memory_ends, route_ends}
 use Rattle.ht_fields.proofs.Halting.{lacks_halts}
 use Rattle.ht_fields.proofs.Putting.{takes_as}
 use Rattle.ht_fields.proofs.Readers.{field_is, width_is}
-use Rattle.ht_fields.proofs.Routes.{Route, route_field, route_file, route_from, route_none, route_then, route_to}
-use Rattle.ht_heads.specs.declared.starting.Limits.{Limits}
-use Rattle.ht_heads.specs.Starts.{StartState, StartedFails, Body, Over, magic_due, started_octets}
-use Rattle.ht_heads.proofs.Started.{route_started, started_halts}
-use Rattle.ht_bundles.specs.Formats.{CaptureState, Size, Octets, bundled, bundles, bundle_magic, captures_due, capture_limits, octets_due, size_given}
+use Rattle.ht_fields.proofs.Routes.{Route, route_field, route_from, route_then, route_to}
+use Rattle.ht_heads.specs.Starts.{StartState, Body}
+use Rattle.ht_counted.specs.Counted.{IsCount, IsCounted}
+use Rattle.ht_counted.proofs.Counting.{entry_is, leads_by, same, written}
+use Rattle.ht_bundles.specs.Formats.{CaptureState, Size, Octets, bundled, bundles, captures_due, capture_limits, octets_due, size_given}
 use Rattle.ht_bundles.specs.Formats.{good_octets, good_size}
 use Rattle.ht_bundles.specs.Files.{AreCaptures, IsSized, bundle_of, sized_octets}
 
 abbrev State : Type 0
 State = StartState CaptureState
 
-pub capture_is : (left : ℕ) → 0 < left → captures_due left ≡ Body (Size left)
-unfolding captures_due
-capture_is left some = let t : nat_eq left 0 ≡ false = grind (arith, nat_tests) in when_false _ _ _ t
-
-pub over_is : (left : ℕ) → left ≡ 0 → captures_due left ≡ Over
-unfolding captures_due
-over_is left none = let t : nat_eq left 0 ≡ true = grind (arith, nat_tests) in when_true _ _ _ t
+-- the number of captures
+pub is_count : IsCount capture_limits
+is_count = record { some = omega arith; few = omega arith; range = omega arith; small = omega arith; named = (λ e. cc, λ e. cc) }
 
 pub octets_are : (left size : ℕ) → 0 < size → octets_due left size ≡ Body (Octets left size)
 unfolding octets_due
@@ -47,34 +41,6 @@ octets_are left size some = let t : nat_eq size 0 ≡ false = grind (arith, nat_
 none_given : (size : ℕ) → 0 < size → size_given size ≡ []
 unfolding size_given
 none_given size some = let t : nat_eq size 0 ≡ false = grind (arith, nat_tests) in when_false _ _ _ t
-
--- what stands in front of the captures
-pub route_start : (count : ℕ) → 1 ≤ count → count ≤ 16 → Route bundles (magic_due bundle_magic) (captures_due count) (started_octets bundle_magic 1 count) []
-route_start count some few =
-    let small : count < 256 ^ 1 = omega (arith, few) in
-    route_started bundled count (omega arith) small some few
-
-pub start_ends : (limits : Limits) (source after : Device ℕ) (fault : InFault) → limits ≡ capture_limits
-    → StartedFails bundle_magic limits source after fault → EndsEarly (reader_in bundles (magic_due bundle_magic) 0 source) after fault
-start_ends limits source after fault is fails =
-    halts_ends (reader_in bundles (magic_due bundle_magic) 0 source) after fault
-    (started_halts bundled source after fault (omega arith) (λ e. cc, λ e. cc)
-    (subst (λ (l : Limits). StartedFails bundle_magic l source after fault) is fails))
-
-pub takes_start : (limits : Limits) (count : ℕ) (source after : Device ℕ) → limits ≡ capture_limits
-    → Takes source after (started_octets bundle_magic limits.width count) → Takes source after (started_octets bundle_magic 1 count)
-takes_start limits count source after is taken =
-    subst (λ (l : Limits). Takes source after (started_octets bundle_magic l.width count)) is taken
-
-pub some_captures : (limits : Limits) (count : ℕ) → limits ≡ capture_limits → limits.least ≤ count → 1 ≤ count
-some_captures limits count is some = subst (λ (l : Limits). l.least ≤ count) is some
-
-pub few_captures : (limits : Limits) (count : ℕ) → limits ≡ capture_limits → count ≤ limits.most → count ≤ 16
-few_captures limits count is few = subst (λ (l : Limits). count ≤ l.most) is few
-
-pub length_start : (count : ℕ) → length (started_octets bundle_magic 1 count) ≡ 6
-unfolding started_octets
-length_start count = refl
 
 -- the size of a capture
 size_is : (left : ℕ) (octets : List ℕ) (size : ℕ) → big_number 4 octets ≡ size → good_size left octets ≡ Good (octets_due left size) (size_given size)
@@ -87,7 +53,7 @@ route_size left size some few =
     let octets = big_bytes 4 size in
     let small : size < 256 ^ 4 = omega (arith, few) in
     let back : big_number 4 octets ≡ size = ap (big_number 4) (sym (append-nil octets)) ∙ big_number-reads_back 4 size [] small in
-    route_from bundles (captures_due left) (Body (Size left)) (octets_due left size) octets (size_given size) (capture_is left some)
+    route_from bundles (captures_due left) (Body (Size left)) (octets_due left size) octets (size_given size) (entry_is Size left some)
     (route_field bundles (Body (Size left)) (octets_due left size) octets (size_given size)
     (length-bytes_high_first 4 size, size_is left octets size back))
 
@@ -112,41 +78,27 @@ route_capture left (x ∷ xs) some is =
     (route_field bundles s (captures_due (left - 1)) (x ∷ xs) ((x ∷ xs) ∷ [])
     (field_is size (good_octets left) (x ∷ xs) _ (omega arith) refl refl))
 
--- a number of captures
-route_captures : (cs : List (List ℕ)) (left : ℕ) → length cs ≤ left → All IsSized cs
-    → Route bundles (captures_due left) (captures_due (left - length cs)) (flat_map sized_octets cs) cs
-route_captures [] left few fit = route_none bundles _ _ (ap captures_due (let e : left ≡ left - 0 = omega arith in e))
-route_captures (c ∷ cs) left few fit =
-    let front = route_capture left c (omega (arith, few)) (All-head IsSized c cs fit) in
-    let rest = route_captures cs (left - 1) (omega (arith, few)) (All-tail IsSized c cs fit) in
-    let end : left - 1 - length cs ≡ left - length (c ∷ cs) = omega arith in
-    route_to bundles (captures_due left) _ _ _ _ (ap captures_due end)
-    (route_then bundles (captures_due left) (captures_due (left - 1)) (captures_due (left - 1 - length cs))
-    (sized_octets c) (flat_map sized_octets cs) (c ∷ []) cs front rest)
+pub length_capture : (c : List ℕ) (n : ℕ) → n ≡ length c → 4 + n ≡ length (sized_octets c)
+unfolding sized_octets
+length_capture c n is = omega (arith, is, length-append (big_bytes 4 (length c)) c, length-bytes_high_first 4 (length c))
 
--- the beginning of a bundle, and a number of its captures
-pub route_so_far : (count : ℕ) (cs : List (List ℕ)) → 1 ≤ count → count ≤ 16 → length cs ≤ count → All IsSized cs
-    → Route bundles (magic_due bundle_magic) (captures_due (count - length cs)) (started_octets bundle_magic 1 count ++ flat_map sized_octets cs) cs
-route_so_far count cs some small few fit =
-    route_then bundles (magic_due bundle_magic) (captures_due count) (captures_due (count - length cs)) (started_octets bundle_magic 1 count)
-    (flat_map sized_octets cs) [] cs (route_start count some small) (route_captures cs count few fit)
-
--- the whole bundle, and then its end
-pub route_over : (count : ℕ) (cs : List (List ℕ)) → 1 ≤ count → count ≤ 16 → length cs ≡ count → All IsSized cs
-    → Route bundles (magic_due bundle_magic) Over (started_octets bundle_magic 1 count ++ flat_map sized_octets cs) cs
-route_over count cs some small size fit =
-    let none : count - length cs ≡ 0 = omega (arith, size) in
-    route_to bundles (magic_due bundle_magic) _ Over _ cs (over_is (count - length cs) none)
-    (route_so_far count cs some small (omega (arith, size)) fit)
+-- what the format owes to the reading of bundles
+pub are_counted : IsCounted bundled sized_octets IsSized 4294967300
+are_counted = record {
+  count = is_count;
+  leads = λ left c some is. leads_by bundles (captures_due left) (captures_due (left - 1)) (sized_octets c) (c ∷ []) (route_capture left c some is);
+  short = λ c is. omega (arith, length_capture c (length c) refl, is);
+  room = omega arith;
+}
 
 pub bundle_written : (cs : List (List ℕ)) → AreCaptures cs → IsFile bundles (bundle_of cs) cs
 unfolding bundle_of
-bundle_written cs are = route_file bundles Over _ cs (route_over (length cs) cs are.some are.few refl are.sized) tt
+bundle_written = written bundled sized_octets IsSized 4294967300 are_counted
 
 -- captures of one bundle
 pub captures_same : (cs ds : List (List ℕ)) → AreCaptures cs → AreCaptures ds → bundle_of cs ≡ bundle_of ds → cs ≡ ds
-captures_same cs ds are also same =
-    file_items bundles (bundle_of ds) cs ds (subst (λ (z : List ℕ). IsFile bundles z cs) same (bundle_written cs are)) (bundle_written ds also)
+unfolding bundle_of
+captures_same = same bundled sized_octets IsSized 4294967300 are_counted
 
 -- a capture, as it was read
 pub takes_capture : (c octets : List ℕ) (size : ℕ) (a b d : Device ℕ) → c ≡ octets → length octets ≡ size
@@ -157,15 +109,11 @@ takes_capture c octets size a b d is len x y =
     ap (λ n. big_bytes 4 n ++ octets) (sym len) ∙ ap (λ (o : List ℕ). big_bytes 4 (length o) ++ o) (sym is) in
     takes_as a d _ _ whole (takes-append a b d (big_bytes 4 size) octets x y)
 
-pub length_capture : (c : List ℕ) (n : ℕ) → n ≡ length c → 4 + n ≡ length (sized_octets c)
-unfolding sized_octets
-length_capture c n is = omega (arith, is, length-append (big_bytes 4 (length c)) c, length-bytes_high_first 4 (length c))
-
 -- the size of a capture was not read, or its octets
 pub size_ends : (left at : ℕ) (source after : Device ℕ) (fault : InFault) → 0 < left → LacksField 4 at source after fault
     → EndsEarly (reader_in bundles (captures_due left) at source) after fault
 size_ends left at source after fault some lacks =
-    subst (λ (s : State). EndsEarly (reader_in bundles s at source) after fault) (sym (capture_is left some))
+    subst (λ (s : State). EndsEarly (reader_in bundles s at source) after fault) (sym (entry_is Size left some))
     (halts_ends (reader_in bundles (Body (Size left)) at source) after fault
     (lacks_halts bundles (Body (Size left)) at 4 source after fault (width_is 4 (good_size left) (omega arith)) lacks))
 
@@ -186,13 +134,3 @@ octets_end left size at a b z fault left_some few taken later (inr lacks) =
     route_ends bundles (captures_due left) s (big_bytes 4 size) [] at (at + 4) a b z fault (route_some left size left_some some few) place taken later
     (halts_ends (reader_in bundles s (at + 4) b) z fault
     (lacks_halts bundles s (at + 4) size b z fault (width_is size (good_octets left) some) lacks))
-
--- the bundle that was read
-pub takes_bundle : (cs : List (List ℕ)) (count : ℕ) (before mid after : Device ℕ) → length cs ≡ count
-    → Takes before mid (started_octets bundle_magic 1 count ++ flat_map sized_octets cs) → TakesAll mid after []
-    → TakesAll before after (bundle_of cs)
-unfolding bundle_of
-takes_bundle cs count before mid after size taken end =
-    let whole : (started_octets bundle_magic 1 count ++ flat_map sized_octets cs) ++ [] ≡ started_octets bundle_magic 1 (length cs) ++ flat_map sized_octets cs =
-    append-nil _ ∙ ap (λ (n : ℕ). started_octets bundle_magic 1 n ++ flat_map sized_octets cs) (sym size) in
-    subst (λ (z : List ℕ). TakesAll before after z) whole (takes-all before mid after _ [] taken end)

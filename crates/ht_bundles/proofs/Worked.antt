@@ -4,7 +4,8 @@ use Rattle.ht_io.specs.declared.faults.Kind.TheVariants.{BadCount, BadVersion, T
 use Rattle.ht_fields.specs.Meanings.{Meaning, meaning, meaning_of}
 use Rattle.ht_fields.specs.Tests.{checked}
 use Rattle.ht_heads.specs.Starts.{good_count, good_magic, good_version, is_outside, started_octets}
-use Rattle.ht_bundles.specs.Formats.{bundles, captures_due, good_octets, good_size, octets_due, size_given}
+use Rattle.ht_counted.specs.Counted.{entries_due}
+use Rattle.ht_bundles.specs.Formats.{bundles, good_octets, good_size, octets_due, size_given}
 use Rattle.ht_bundles.specs.Files.{bundle_of, sized_octets}
 
 -- magic, version, and then these octets
@@ -30,15 +31,15 @@ means : List ℕ → Meaning (List ℕ)
 means octets = meaning bundles bundles.start 0 octets
 
 a_bundle : means (two_octets []) ≡ record { items = two; fault = None }
-unfolding means meaning meaning_of checked is_outside good_magic good_version good_count captures_due octets_due size_given good_size good_octets
+unfolding means meaning meaning_of checked is_outside good_magic good_version good_count entries_due octets_due size_given good_size good_octets
 a_bundle = refl
 
 one_more : means (two_octets (0 ∷ [])) ≡ record { items = two; fault = Some (record { kind = Trailing; offset = 16 }) }
-unfolding means meaning meaning_of checked is_outside good_magic good_version good_count captures_due octets_due size_given good_size good_octets
+unfolding means meaning meaning_of checked is_outside good_magic good_version good_count entries_due octets_due size_given good_size good_octets
 one_more = refl
 
 cut_short : means (behind_version (1 ∷ 0 ∷ 0 ∷ 0 ∷ 2 ∷ 0x48 ∷ [])) ≡ record { items = []; fault = Some (record { kind = Truncated; offset = 11 }) }
-unfolding means meaning meaning_of checked is_outside good_magic good_version good_count captures_due octets_due size_given good_size
+unfolding means meaning meaning_of checked is_outside good_magic good_version good_count entries_due octets_due size_given good_size
 cut_short = refl
 
 none : (means (behind_version (0 ∷ []))).fault ≡ Some (record { kind = BadCount; offset = 5 })

@@ -4,7 +4,8 @@ use Rattle.byteorder.specs.Endian.{big_number}
 use Rattle.ht_io.specs.declared.faults.Kind.TheVariants.{BadCount}
 use Rattle.ht_fields.specs.Grammar.{Grammar, Due, field, Verdict, Good}
 use Rattle.ht_heads.specs.declared.starting.Limits.{Limits}
-use Rattle.ht_heads.specs.Starts.{StartState, Body, Over, StartedFormat, started}
+use Rattle.ht_heads.specs.Starts.{StartState, Body}
+use Rattle.ht_counted.specs.Counted.{CountedFormat, counted, entries_due}
 
 -- which field of a capture is due: its size, by the number of captures that are left, this one among them; or its octets,
 -- by their number
@@ -21,8 +22,8 @@ abbrev pub capture_limits : Limits
 capture_limits = record { width = 1; least = 1; most = 16; kind = BadCount }
 
 -- where captures are left, the next one begins with its size; else the file ends
-unfoldable pub captures_due : ℕ → StartState CaptureState
-captures_due left = if nat_eq left 0 then Over else Body (Size left)
+abbrev pub captures_due : ℕ → StartState CaptureState
+captures_due = entries_due Size
 
 -- behind the size of a capture its octets are due; a capture of no octets is whole at once
 unfoldable pub octets_due : ℕ → ℕ → StartState CaptureState
@@ -43,9 +44,9 @@ abbrev pub capture_due : CaptureState → Due (StartState CaptureState) (List �
 capture_due (Size left) = field 4 (good_size left)
 capture_due (Octets left size) = field size (good_octets left)
 
-abbrev pub bundled : StartedFormat CaptureState (List ℕ)
-bundled = record { magic = bundle_magic; limits = capture_limits; first = captures_due; due = capture_due }
+abbrev pub bundled : CountedFormat CaptureState (List ℕ)
+bundled = record { magic = bundle_magic; limits = capture_limits; first = Size; due = capture_due }
 
 -- the format
 abbrev pub bundles : Grammar (StartState CaptureState) (List ℕ)
-bundles = started bundled
+bundles = counted bundled

@@ -6,13 +6,14 @@ ghost use Rattle.ht_io.specs.declared.faults.InFault.TheVariants.{NoMemory};
 ghost use Rattle.ht_fields.specs.Lacking.{LacksField};
 ghost use Rattle.ht_fields.specs.Readers.{reader_in};
 ghost use Rattle.ht_fields.specs.WholeFiles.{EndsEarly, ReadsWhole};
-ghost use Rattle.ht_bundles.specs.Formats.{bundles as bundles_format, captures_due, capture_limits as capture_limits_of};
+ghost use Rattle.ht_bundles.specs.Formats.{CaptureState, bundled, bundles as bundles_format, captures_due, capture_limits as capture_limits_of};
 ghost use Rattle.ht_bundles.specs.Files.{AreCaptures, IsSized, bundle_of, sized_octets};
 
 use crate::bundled::Bundled;
 use byteorder::{BigEndian, ByteOrder};
-use ht_fields::{end, fill};
-use ht_heads::{Limits, start};
+use ht_counted::{Entries, read_whole};
+use ht_fields::fill;
+use ht_heads::Limits;
 use ht_io::{InFault, Kind, Source};
 use std::alloc::Global;
 
@@ -128,37 +129,34 @@ fn capture<S: Source>(
     }
 }
 
-// Reads a bundle to its end, its captures piece by piece through the room for one.
-fn captures<S: Source>(
+// The captures of a bundle, one by one, each piece by piece through the room for one.
+#[derive(Drop)]
+struct Captures {
     alloc: Global,
-    source: &mut S,
-    room: &mut [u8],
-) -> Result<Vec<Bundled>, InFault>
-    requires piece { length room.old ≡ 65536 }
-    ensures file { IfOk result (λ captures. ReadsWhole AreCaptures bundle_of (S.shown source.old) (S.shown source.new) captures.items) }
-    ensures refused { IfErr result (EndsEarly (reader_in bundles_format bundles_format.start 0 (S.shown source.old)) (S.shown source.new)) }
-    ensures later { IsLater (S.shown source.old) (S.shown source.new) }
-{
-    let count = match start(source, b"HTMB", &capture_limits()) {
-        Ok(count) => count,
-        Err(fault) => return Err(fault),
-    };
-    let mut at = 6;
-    let mut captures = Vec::new(alloc);
-    for _index in 0..count {
-        let capture = match capture(alloc, source, at, room) {
-            Ok(capture) => capture,
-            Err(fault) => return Err(fault),
-        };
-        at += 4 + capture.octets().len() as u64;
-        match captures.push(capture) {
-            Ok(()) => {}
-            Err(_) => return Err(InFault::NoMemory),
-        }
+    room: Vec<u8>,
+}
+
+impl Entries for Captures {
+    type Entry = Bundled;
+
+    ghost State = { CaptureState };
+
+    ghost format = { bundled };
+
+    ghost octets = { sized_octets };
+
+    ghost fits = { IsSized };
+
+    ghost most = { 4294967300 };
+
+    ghost ready = { λ captures. length captures.room.items ≡ 65536 };
+
+    fn read<S: Source>(&mut self, source: &mut S, at: u64) -> Result<Bundled, InFault> {
+        capture(self.alloc, source, at, &mut self.room)
     }
-    match end(source, at) {
-        Ok(()) => Ok(captures),
-        Err(fault) => Err(fault),
+
+    fn size(capture: &Bundled) -> u64 {
+        4 + capture.octets().len() as u64
     }
 }
 
@@ -175,7 +173,10 @@ pub fn read_bundle<S: Source>(alloc: Global, source: &mut S) -> Result<Vec<Bundl
     ensures later { IsLater (S.shown source.old) (S.shown source.new) }
 {
     match vec![in alloc; 0u8; PIECE] {
-        Ok(mut room) => captures(alloc, source, &mut room),
+        Ok(room) => {
+            let mut captures = Captures { alloc, room };
+            read_whole(alloc, b"HTMB", &capture_limits(), &mut captures, source)
+        }
         Err(_) => Err(InFault::NoMemory),
     }
 }

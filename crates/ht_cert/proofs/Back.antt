@@ -1,20 +1,19 @@
 -- Each file of certificates is the one that is written of its records: what was read up to any field.
 use Rattle.std.specs.Prelude.{⊤}
-use Rattle.std.proofs.Common.{◌≡◌, inl, inr, ℕ, zero, suc, ◌+◌, ◌-◌, ◌<◌, ◌≤◌, List, [], ◌∷◌, ◌++◌, length, map, flat_map, Bool, true, false, nat_eq, nat_lt, ◌||◌}
-use Rattle.std.proofs.Common.{if◌then◌else◌, refl, sym, ap, subst, ◌∙◌, append_assoc, length-append, arith}
+use Rattle.std.proofs.Common.{◌≡◌, inl, inr, ℕ, zero, suc, ◌+◌, ◌-◌, ◌<◌, ◌≤◌, List, [], ◌∷◌, ◌++◌, length, map, flat_map, Bool, nat_eq, nat_lt}
+use Rattle.std.proofs.Common.{refl, sym, ap, subst, ◌∙◌, append_assoc, length-append, arith}
 use Rattle.std.proofs.lemmas.Bool.{cases_Bool}
 use Rattle.std.proofs.lemmas.Bool.Decides.{nat_tests}
 use Rattle.std.proofs.lemmas.List.{append-nil, map-append}
 use Rattle.std.proofs.lemmas.Grind.{flat_map-append}
 use Rattle.byteorder.specs.Endian.{big_bytes, big_number}
-use Rattle.ht_io.specs.declared.faults.Kind.{Kind}
 use Rattle.ht_io.specs.declared.faults.Kind.TheVariants.{BadMagic, BadVersion, BadLength, BadModulation, BadStreams, BadMark}
-use Rattle.ht_fields.specs.Grammar.{Verdict, Good, Bad}
+use Rattle.ht_fields.specs.Grammar.{Good}
 use Rattle.ht_fields.specs.Cases.{IsEnd, IsField, IsFile, Leads, octets_of_fields}
-use Rattle.ht_fields.specs.Tests.{AreBytes, checked, differs, is_above, octet_of}
+use Rattle.ht_fields.specs.Tests.{AreBytes, differs, is_above, octet_of}
 use Rattle.ht_heads.specs.Starts.{StartState, Magic, Version, Count, Body, Over, good_count, good_magic, good_version, is_outside, magic_due, started_octets}
-use Rattle.ht_heads.specs.declared.starting.Limits.{Limits}
 use Rattle.ht_heads.proofs.Counts.{bytes_back_as}
+use Rattle.ht_counted.proofs.Passing.{at_most, bytes_behind, bytes_front, neither, not_none, passed, same_good, single, wanted_is, within}
 use Rattle.ht_rate.specs.declared.kinds.Modulation.{Modulation}
 use Rattle.ht_cert.specs.declared.record.Record.{Record}
 use Rattle.ht_cert.specs.declared.turn.Turn.{Turn}
@@ -27,24 +26,6 @@ use Rattle.ht_cert.proofs.Routes.{mark_back, mark_is, none_given, one_given, ove
 
 abbrev State : Type 0
 State = StartState RecordState
-
--- a good verdict of a field that a test judges
-good_same : (s t : State) (xs ys : List Record) → (let v : Verdict State Record = Good s xs in v) ≡ Good t ys → (s ≡ t) × (xs ≡ ys)
-good_same s t xs ys e = (cc, cc)
-
-chosen : (b : Bool) (kind : Kind) (v : Verdict State Record) (t : State) (ys : List Record) → (if b then Bad kind else v) ≡ Good t ys → (b ≡ false) × (v ≡ Good t ys)
-chosen true kind v t ys e = absurd cc
-chosen false kind v t ys e = (refl, e)
-
-passed : (kind : Kind) (refused : List ℕ → Bool) (good : List ℕ → Verdict State Record) (x : List ℕ) (t : State) (ys : List Record)
-    → checked kind refused good x ≡ Good t ys → (refused x ≡ false) × (good x ≡ Good t ys)
-unfolding checked
-passed kind refused good x t ys e = chosen (refused x) kind (good x) t ys e
-
-single : (x : List ℕ) → length x ≡ 1 → x ≡ octet_of x ∷ []
-single [] size = absurd (omega (arith, size))
-single (a ∷ []) size = refl
-single (a ∷ b ∷ x) size = absurd (omega (arith, size))
 
 -- the octets of the record under way that were read
 abbrev done : RecordState → List ℕ
@@ -164,34 +145,12 @@ came_marks turn r left octets records some fits few i =
           (come_none (Body (Mark turn r left)) octets records ((fits, more, few), some, i))
     ]
 
--- octets that are octets, in two parts
-bytes_front : (xs ys : List ℕ) → AreBytes (xs ++ ys) → AreBytes xs
-bytes_front [] ys bytes i = omega arith
-bytes_front (x ∷ xs) ys bytes zero = bytes 0
-bytes_front (x ∷ xs) ys bytes (suc i) = bytes_front xs ys (λ j. bytes (suc j)) i
-
-bytes_behind : (xs ys : List ℕ) → AreBytes (xs ++ ys) → AreBytes ys
-bytes_behind [] ys bytes = bytes
-bytes_behind (x ∷ xs) ys bytes = bytes_behind xs ys (λ j. bytes (suc j))
-
 code_back : (code : ℕ) → code ≤ 3 → code_of (modulation_at code) ≡ code
 code_back zero low = refl
 code_back (suc zero) low = refl
 code_back (suc (suc zero)) low = refl
 code_back (suc (suc (suc zero))) low = refl
 code_back (suc (suc (suc (suc n)))) low = absurd (omega (arith, low))
-
-neither : (a b : Bool) → (a || b) ≡ false → (a ≡ false) × (b ≡ false)
-neither true b e = absurd cc
-neither false b e = (refl, e)
-
--- a count that passes
-low_count : (limits : Limits) (octets : List ℕ) → is_outside limits octets ≡ false → big_number limits.width octets ≤ limits.most
-unfolding is_outside
-low_count limits octets e =
-    let n = big_number limits.width octets in
-    let high : nat_lt limits.most n ≡ false = (neither (nat_lt n limits.least) (nat_lt limits.most n) e).1 in
-    grind (arith, nat_tests)
 
 -- a field of a record
 step_modulation : (turn : Turn) (x octets : List ℕ) (t : State) (records here : List Record) → Came (Body (Modulated turn)) octets records
@@ -200,9 +159,9 @@ unfolding good_modulation
 step_modulation turn x octets t records here (held, some, i) (size, good) =
     let p = passed BadModulation (is_above 3) (good_modulation turn) x t here good in
     let code = octet_of x in
-    let low : code ≤ 3 = let high : nat_lt 3 code ≡ false = p.0 in grind (arith, nat_tests) in
+    let low : code ≤ 3 = at_most 3 code p.0 in
     let s = Body (Streams turn (modulation_at code)) in
-    let same = good_same s t [] here p.1 in
+    let same = same_good s t [] here p.1 in
     let e : [] ++ x ≡ code_of (modulation_at code) ∷ [] = single x size ∙ ap (λ c. c ∷ []) (sym (code_back code low)) in
     arrive s t (octets ++ x) records [] here same.0 same.1
     (come_none s (octets ++ x) records (tt, some, in_more turn octets records [] x (code_of (modulation_at code) ∷ []) e i))
@@ -214,10 +173,10 @@ step_streams turn m x octets t records here (held, some, i) (size, good) =
     let p = passed BadStreams is_no_streams (good_streams turn m) x t here good in
     let n = octet_of x in
     let both = neither (nat_eq n 0) (nat_lt 4 n) p.0 in
-    let low : 1 ≤ n = let none : nat_eq n 0 ≡ false = both.0 in grind (arith, nat_tests) in
-    let few : n ≤ 4 = let high : nat_lt 4 n ≡ false = both.1 in grind (arith, nat_tests) in
+    let low : 1 ≤ n = not_none n both.0 in
+    let few : n ≤ 4 = at_most 4 n both.1 in
     let s = Body (Claim turn m n) in
-    let same = good_same s t [] here p.1 in
+    let same = same_good s t [] here p.1 in
     let e : (code_of m ∷ []) ++ x ≡ code_of m ∷ n ∷ [] = ap (λ (z : List ℕ). code_of m ∷ z) (single x size) in
     arrive s t (octets ++ x) records [] here same.0 same.1
     (come_none s (octets ++ x) records ((low, few), some, in_more turn octets records (code_of m ∷ []) x (code_of m ∷ n ∷ []) e i))
@@ -231,7 +190,7 @@ step_claim turn m streams x octets t records here bytes (held, some, i) (size, g
     let enc = claim_encoded turn.number m streams x held.0 held.1 wide bytes in
     let r = claimed turn.number m streams x in
     let s = Body (Marks turn r) in
-    let same = good_same s t [] here good in
+    let same = same_good s t [] here good in
     let e : (code_of m ∷ streams ∷ []) ++ x ≡ code_of m ∷ length r.job.system ∷ claim_octets r =
     ap (λ n. code_of m ∷ n ∷ x) (sym enc.1) ∙ ap (λ (z : List ℕ). code_of m ∷ length r.job.system ∷ z) (sym enc.2) in
     arrive s t (octets ++ x) records [] here same.0 same.1
@@ -245,8 +204,8 @@ step_marks turn r x octets t records here bytes (held, some, i) (size, good) =
     let p = passed BadLength (is_outside mark_limits) (good_marks turn r) x t here good in
     let n = big_number 4 x in
     let marks = r.certificate.marks in
-    let few : n ≤ 33554432 = low_count mark_limits x p.0 in
-    let same = good_same (marks_due turn r n) t (marks_given r n) here p.1 in
+    let few : n ≤ 33554432 = (within mark_limits x p.0).1 in
+    let same = same_good (marks_due turn r n) t (marks_given r n) here p.1 in
     let none : length marks ≡ 0 = ap length held.1 in
     let all : length marks + n ≡ n = omega (arith, none) in
     let back : big_bytes 4 n ≡ x = bytes_back_as x 4 n size refl bytes in
@@ -281,11 +240,11 @@ unfolding good_mark with_marks claim_octets
 step_mark turn r left x octets t records here (held, some, i) (size, good) =
     let p = passed BadMark (is_above 1) (good_mark turn r left) x t here good in
     let mark = octet_of x in
-    let low : mark ≤ 1 = let high : nat_lt 1 mark ≡ false = p.0 in grind (arith, nat_tests) in
+    let low : mark ≤ 1 = at_most 1 mark p.0 in
     let bit = nat_eq mark 1 in
     let marks = r.certificate.marks in
     let next = with_marks r (bit ∷ []) in
-    let same = good_same (marks_due turn next (left - 1)) t (marks_given next (left - 1)) here p.1 in
+    let same = same_good (marks_due turn next (left - 1)) t (marks_given next (left - 1)) here p.1 in
     let more : length (marks ++ bit ∷ []) ≡ length marks + 1 = length-append marks (bit ∷ []) in
     let total : length (marks ++ bit ∷ []) + (left - 1) ≡ length marks + left = omega (arith, more, held.1) in
     let front : ℕ → List ℕ = λ n. code_of r.modulation ∷ length r.job.system ∷ (claim_octets r ++ big_bytes 4 n) in
@@ -302,13 +261,6 @@ step_mark turn r left x octets t records here (held, some, i) (size, good) =
     (omega (arith, total, held.2)) (in_more turn octets records (done (Mark turn r left)) x (done (Mark turn next (left - 1))) e i))
 
 -- a field in front of the records
-same_test : (b : Bool) → (if b then false else true) ≡ false → b ≡ true
-same_test true e = refl
-same_test false e = absurd cc
-
-same_octet_of : (a b : ℕ) → (if nat_eq a b then false else true) ≡ false → a ≡ b
-same_octet_of a b e = let t : nat_eq a b ≡ true = same_test (nat_eq a b) e in grind (arith, nat_tests)
-
 magic_left : (ys octets : List ℕ) (records : List Record) → octets ++ ys ≡ certificates_magic → records ≡ [] → Came (magic_due ys) octets records
 magic_left [] octets records is none = (sym (append-nil octets) ∙ is, none)
 magic_left (y ∷ ys) octets records is none = (is, none)
@@ -318,9 +270,8 @@ step_magic : (y : ℕ) (ys x octets : List ℕ) (t : State) (records here : List
 unfolding good_magic
 step_magic y ys x octets t records here (is, none) (size, good) =
     let p = passed BadMagic (differs y) (good_magic ys) x t here good in
-    let same = good_same (magic_due ys) t [] here p.1 in
-    let first : octet_of x ≡ y = same_octet_of (octet_of x) y p.0 in
-    let octet : x ≡ y ∷ [] = single x size ∙ ap (λ c. c ∷ []) first in
+    let same = same_good (magic_due ys) t [] here p.1 in
+    let octet : x ≡ y ∷ [] = wanted_is y x size p.0 in
     let all : (octets ++ x) ++ ys ≡ certificates_magic =
     append_assoc octets x ys ∙ (ap (λ (z : List ℕ). octets ++ (z ++ ys)) octet ∙ is) in
     arrive (magic_due ys) t (octets ++ x) records [] here same.0 same.1
@@ -331,9 +282,8 @@ step_version : (x octets : List ℕ) (t : State) (records here : List Record) �
 unfolding good_version
 step_version x octets t records here (is, none) (size, good) =
     let p = passed BadVersion (differs 1) good_version x t here good in
-    let same = good_same Count t [] here p.1 in
-    let first : octet_of x ≡ 1 = same_octet_of (octet_of x) 1 p.0 in
-    let octet : x ≡ 1 ∷ [] = single x size ∙ ap (λ c. c ∷ []) first in
+    let same = same_good Count t [] here p.1 in
+    let octet : x ≡ 1 ∷ [] = wanted_is 1 x size p.0 in
     arrive Count t (octets ++ x) records [] here same.0 same.1
     (come_none Count (octets ++ x) records (ap (λ (z : List ℕ). z ++ x) is ∙ ap (λ (z : List ℕ). certificates_magic ++ z) octet, none))
 
@@ -343,9 +293,9 @@ unfolding good_count started_octets
 step_count x octets t records here bytes (is, none) (size, good) =
     let p = passed BadLength (is_outside record_limits) (good_count recorded) x t here good in
     let n = big_number 8 x in
-    let few : n ≤ 137438953472 = low_count record_limits x p.0 in
+    let few : n ≤ 137438953472 = (within record_limits x p.0).1 in
     let turn : Turn = record { left = n; number = 0 } in
-    let same = good_same (first_due n) t [] here p.1 in
+    let same = same_good (first_due n) t [] here p.1 in
     let back : big_bytes 8 n ≡ x = bytes_back_as x 8 n size refl bytes in
     let all : octets ++ x ≡ (records_start n ++ flat_map record_octets []) ++ [] =
     ap (λ (z : List ℕ). z ++ x) is

@@ -26,10 +26,15 @@ use Rattle.ht_rate.specs.declared.kinds.Modulation.TheVariants.{Bpsk, Qpsk, Qam1
 use Rattle.ht_cert.specs.declared.record.Record.{Record}
 use Rattle.ht_cert.specs.declared.turn.Turn.{Turn}
 use Rattle.ht_cert.specs.Records.{claim_width, claimed, code_of, modulation_at, with_marks}
-use Rattle.ht_cert.specs.Formats.{RecordState, Modulated, Streams, Claim, Marks, Mark, certificates, is_no_streams, mark_limits}
+use Rattle.ht_counted.specs.Counted.{IsCount}
+use Rattle.ht_cert.specs.Formats.{record_limits, RecordState, Modulated, Streams, Claim, Marks, Mark, certificates, is_no_streams, mark_limits}
 use Rattle.ht_cert.specs.Formats.{good_claim, good_mark, good_marks, good_modulation, good_streams, marks_due, marks_given, next_turn, records_due}
 use Rattle.ht_cert.specs.Files.{mark_octet}
 use Rattle.ht_cert.specs.Readers.{Fails, here}
+
+-- the number of records
+pub is_count : IsCount record_limits
+is_count = record { some = omega arith; few = omega arith; range = omega arith; small = omega arith; named = (λ e. cc, λ e. cc) }
 
 pub over_is : (turn : Turn) → turn.left ≡ 0 → records_due turn ≡ Over
 unfolding records_due

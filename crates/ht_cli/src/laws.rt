@@ -44,7 +44,7 @@ ghost use Rattle.ht_cli.specs.Tasks.{Answered, IsPlanLine, ReadsNothing, command
 
 use crate::run_alone;
 use crate::status::Status;
-use ht_crew::OpenGate;
+use ht_feed::OpenGate;
 use ht_io::{SureSink, SureSource};
 use ht_words::Asked;
 use std::alloc::Global;

@@ -38,9 +38,9 @@ mod status;
 use commands::{send, upgrade};
 use ht_certify::certify_capture;
 use ht_check::check_file;
-use ht_crew::Gate;
 use ht_demo::{Plan, demo, demo_alone};
 use ht_endings::put_end;
+use ht_feed::Gate;
 use ht_io::{Sink, Source};
 use ht_legacy_rx::{legacy_receive, legacy_receive_alone};
 use ht_legacy_sim::legacy_channel;
@@ -63,7 +63,7 @@ use std::thread::Threads;
 /// had left, where they are known, as those in memory are; those of standard input and output aren't. The gate is called
 /// before and after each job.
 ///
-/// Where the words ask for two workers or more, the jobs are run in as many threads, of which the caller's is one, and
+/// Where the words ask for two workers or more, the jobs are run in at most as many threads, of which the caller's is one, and
 /// the call waits for them; else it does as [`run_alone`]. Where memory runs out before it is known what the words ask
 /// for, nothing is read and nothing put.
 ///

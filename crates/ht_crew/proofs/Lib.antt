@@ -1,15 +1,4 @@
-mod Lots
 mod Giving
-mod Answering
-mod Filling
-mod Delivering
-mod Coming
-mod Running
 mod Whole
-mod Values
-mod Booking
-mod Issuing
-mod Supplied
-mod Leading
-mod Keeping
-mod Settling
+mod InBlocks
+mod Delivered

@@ -1,7 +1,8 @@
 -- What is seen of a feed of jobs, and what each answer of it means.
-use Rattle.std.specs.Prelude.{◌≡◌, ◌↔◌, ℕ, ◌+◌, ◌<◌, List, [], ◌∷◌, ◌++◌, drop, Option, Some, None, IsSome, Bool, true, false}
+use Rattle.std.specs.Prelude.{◌≡◌, ◌↔◌, ℕ, ◌+◌, ◌-◌, ◌<◌, ◌≤◌, List, [], ◌∷◌, ◌++◌, length, take, drop, Option, Some, None, IsSome, Bool, true, false}
 use Rattle.ht_io.specs.Causes.{HasRisen}
 use Rattle.ht_metric.specs.Jobs.{JobView}
+use Rattle.ht_feed.specs.Items.{Numbered}
 
 -- all that is seen of a feed at one moment, for its type of fault
 pub record FeedView (Fault : Type 0) : Type 0 where
@@ -70,6 +71,7 @@ module _ {Fault : Type 0} where
     pub count : new.count ≡ old.count
     pub due : new.due ≡ old.due
     pub known : IsSome new.left ↔ IsSome old.left
+    pub ended : new.ended ≡ old.ended
 
   -- the feed gives what it would have given
   pub record GivesAsBefore (old new : FeedView Fault) : Type 0 where
@@ -77,3 +79,15 @@ module _ {Fault : Type 0} where
     pub left : new.left ≡ old.left
     pub more : new.more ≡ old.more
     pub ended : new.ended ≡ old.ended
+
+  -- a call of the feed failed between the two moments, and this is what the last such call answered
+  pub record CallFailed (old new : FeedView Fault) (fault : Fault) : Type 0 where
+    pub rose : HasRisen old.faults new.faults
+    pub failed : new.failed ≡ Some fault
+
+  -- the jobs due are the last of those given, by their numbers; and by what they are, where the feed's jobs were known
+  -- at the start
+  pub record IsInTurn (known : Option (List JobView)) (feed : FeedView Fault) : Type 0 where
+    pub within : length feed.due ≤ feed.count
+    pub numbers : Numbered (feed.count - length feed.due) feed.due
+    pub jobs : (all : List JobView) → known ≡ Some all → feed.due ≡ drop (feed.count - length feed.due) (take feed.count all)

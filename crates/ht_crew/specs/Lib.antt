@@ -1,8 +1,6 @@
 pub mod Feeds
 pub mod Lists
 pub mod Turns
-pub mod Driving
-pub mod Lots
-pub mod Tallying
-pub mod Supplying
+pub mod Singles
+pub mod Noting
 pub mod Reports

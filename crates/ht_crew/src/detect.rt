@@ -1,31 +1,27 @@
-//! Detection as a kind of work.
-ghost use Rattle.std.specs.Prelude.{◌≡◌, length, map};
+//! Detection as the work on a block of one job.
+use ht_feed::{Gate, OneHit, OneJob, Work, detect};
+use std::alloc::AllocError;
 
-use crate::gate::Gate;
-use crate::lot::{Lot, LotHits};
-use ht_pool::work::Work;
-
-/// A task is a lot of jobs, and its answer is the same jobs with what was found for each, which contracts see as their
-/// hits. A lot counts as many as it has jobs. The gate is called before and after each job.
+/// Finds the hit of a job. The gate is called before and after.
 #[derive(Drop)]
 pub(crate) struct Detect<'a, G> {
     pub(crate) gate: &'a G,
 }
 
-impl<'a, G: Gate> Work for Detect<'a, G> {
-    type Task = Lot;
+impl<'a, G: Gate> Work<OneJob> for Detect<'a, G> {
+    type Answer = OneHit;
 
-    type Answer = LotHits;
-
-    ghost asked = { λ hits. map (λ hit. hit.job) hits };
-
-    ghost weight = { λ lot. length lot };
-
-    fn weigh(&self, task: &Lot) -> u32 {
-        task.len()
+    /// Takes no memory.
+    fn run(&self, block: &OneJob) -> Result<OneHit, AllocError> {
+        let number = block.job.number();
+        self.gate.enter(number);
+        let found = detect(&block.job);
+        self.gate.leave(number);
+        Ok(OneHit { found })
     }
 
-    fn run(&self, task: Lot) -> LotHits {
-        task.run(self.gate)
+    /// Always, since no block has two jobs: so a drive fills its whole window, and waits for room for none but the next.
+    fn is_hard(&self, _block: &OneJob, _answer: &OneHit) -> bool {
+        true
     }
 }

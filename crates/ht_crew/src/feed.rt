@@ -17,7 +17,7 @@ use ht_metric::{Hit, Job};
 /// afterwards that the state at the call leads to the one that comes back.
 pub trait Feed {
     /// What a call that fails answers.
-    type Fault;
+    type Fault: Drop;
 
     /// What is seen of the feed.
     ghost shown: { Self → FeedView Self.Fault };

@@ -5,7 +5,7 @@ ghost use Rattle.ht_demo.specs.Demos.{IsDemoLine, returned_line};
 use crate::line::line;
 use crate::plan::Plan;
 use crate::sent::capture;
-use ht_crew::Gate;
+use ht_feed::Gate;
 use ht_frames::ListBook;
 use ht_io::SureSource;
 use ht_rx::{receive, receive_alone};

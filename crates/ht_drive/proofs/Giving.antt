@@ -1,12 +1,12 @@
 -- Blocks that are given to the pool, or stay with the caller.
-use Rattle.std.proofs.Common.{◌≡◌, ℕ, zero, suc, ◌+◌, ◌<◌, ◌≤◌, List, [], ◌∷◌, ◌++◌, length, drop, slice_get, Some, false}
+use Rattle.std.proofs.Common.{◌≡◌, ℕ, zero, suc, ◌+◌, ◌≤◌, List, [], ◌∷◌, ◌++◌, length, drop, slice_get, Some, false}
 use Rattle.std.proofs.Common.{if◌then◌else◌, ◌==◌, nat_lt, refl, ap, sym, subst, ◌∙◌, arith}
 use Rattle.std.specs.List.{sum_by}
 use Rattle.std.proofs.lemmas.Bool.Decides.{nat_tests}
 use Rattle.std.proofs.lemmas.List.{length-append, drop-drop}
 use Rattle.std.proofs.lemmas.List.Sums.{sum_by-append, sum_by-cons, sum_by_push}
 use Rattle.ht_metric.specs.Jobs.{JobView}
-use Rattle.ht_crew.specs.Tallying.{AreTold, HaveNumbers, is_below, is_number}
+use Rattle.ht_feed.specs.OwnNumbers.{AreTold, HaveNumbers, is_below, is_number}
 use Rattle.ht_feed.specs.Dues.{NoneEmpty, all_in}
 use Rattle.ht_feed.specs.Feeds.{FeedView, GivesBlock, IsAlong}
 use Rattle.ht_feed.specs.Items.{Numbered}

@@ -1,8 +1,7 @@
 -- Where every block was taken, the pool has run all that it was given.
 use Rattle.std.proofs.Common.{◌≡◌, ℕ, ◌+◌, ◌<◌, ◌≤◌, ◌++◌, List, [], ◌∷◌, length, map, sum, min, drop}
 use Rattle.std.proofs.Common.{ap, ◌∙◌, sym, refl, arith, subst}
-use Rattle.std.specs.List.{flat_map, sum_by}
-use Rattle.std.proofs.lemmas.List.{length-map}
+use Rattle.std.specs.List.{flat_map}
 use Rattle.std.proofs.lemmas.List.Sums.{sum_by-append, sum_by-cons}
 use Rattle.ht_counts.specs.Counts.{SameCounts}
 use Rattle.ht_metric.specs.Jobs.{JobView}
@@ -11,8 +10,8 @@ use Rattle.ht_pool.specs.Members.{answers_of, answered_weight}
 use Rattle.ht_pool.specs.Pools.{HasRun, moved_on, taken_on}
 use Rattle.ht_pool.specs.declared.closed.Closed.{Closed}
 use Rattle.ht_pool.specs.declared.member.Member.{Member}
-use Rattle.ht_crew.specs.Tallying.{HaveNumbers}
-use Rattle.ht_feed.specs.Dues.{NoneEmpty, all_in, count_in}
+use Rattle.ht_feed.specs.OwnNumbers.{HaveNumbers}
+use Rattle.ht_feed.specs.Dues.{NoneEmpty, all_in}
 use Rattle.ht_drive.specs.Blocks.{BlockHelm, jobs_in, jobs_of, task_of}
 use Rattle.ht_drive.specs.Driving.{Tallies}
 use Rattle.ht_drive.specs.Reports.{HasRunInPool, IsShared, Passes, Report, blocks_pushed, came_back, deques_of}

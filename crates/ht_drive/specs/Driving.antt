@@ -1,11 +1,10 @@
 -- How the window of a drive, its counts and its feed stand to each other.
-use Rattle.std.specs.Prelude.{◌≡◌, ◌+◌, ◌<◌, ◌≤◌, List, [], length, Bool, not, false, Some, None}
-use Rattle.ht_metric.specs.Jobs.{JobView}
-use Rattle.ht_crew.specs.Tallying.{HaveNumbers}
+use Rattle.std.specs.Prelude.{◌≡◌, ◌+◌, ◌<◌, ◌≤◌, [], length, Bool, not, false, Some, None}
+use Rattle.ht_feed.specs.OwnNumbers.{HaveNumbers}
 use Rattle.ht_feed.specs.Dues.{NoneEmpty, all_in, count_in}
 use Rattle.ht_feed.specs.Feeds.{FeedView, IsLeft}
 use Rattle.ht_feed.specs.declared.drive.DriveFault.{DriveFault}
-use Rattle.ht_feed.specs.declared.drive.DriveFault.TheVariants.{Feed, NoMemory}
+use Rattle.ht_feed.specs.declared.drive.DriveFault.TheVariants.{Feed, NoMemory, Work}
 use Rattle.ht_drive.specs.Blocks.{BlockHelm, WindowView, jobs_of}
 use Rattle.ht_drive.specs.declared.tally.Tally.{Tally}
 
@@ -39,7 +38,9 @@ module _ {Fault : Type 0} where
     pub left : running ≡ false → IsLeft feed.left []
     pub well : feed.failed ≡ None
 
-  -- a drive refuses with what a call of the feed answered, or no call of it failed
-  abbrev pub Refuses : FeedView Fault → DriveFault Fault → Type 0
-  Refuses feed (Feed fault) = feed.failed ≡ Some fault
-  Refuses feed NoMemory = feed.failed ≡ None
+  -- once its feed was called a drive refuses with what a call of it answered; or no call failed, and there was no memory
+  -- for the work on a block or for a copy, where either may lack it
+  abbrev pub Refuses : Type 0 → FeedView Fault → DriveFault Fault → Type 0
+  Refuses MayLack feed (Feed fault) = feed.failed ≡ Some fault
+  Refuses MayLack feed NoMemory = ⊥
+  Refuses MayLack feed Work = (feed.failed ≡ None) × MayLack

@@ -7,7 +7,7 @@ use Rattle.ht_counts.specs.Counts.{SameCounts}
 use Rattle.ht_pool.specs.Pools.{IsEmptied, moved_on, taken_on}
 use Rattle.ht_pool.specs.Through.{first_of, through}
 use Rattle.ht_pool.specs.declared.hand.Hand.{Hand}
-use Rattle.ht_crew.specs.Tallying.{HaveNumbers}
+use Rattle.ht_feed.specs.OwnNumbers.{HaveNumbers}
 use Rattle.ht_feed.specs.Dues.{NoneEmpty, all_in}
 use Rattle.ht_drive.specs.Blocks.{jobs_of}
 use Rattle.ht_drive.specs.declared.report.Passes.{Passes as PassesOf}

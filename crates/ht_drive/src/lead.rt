@@ -1,7 +1,7 @@
 //! The caller's part of a drive.
-ghost use Rattle.std.specs.Prelude.{◌≡◌, ◌≤◌, [], List, None, true, false, Some, IfErr, IfOk, OnOk};
+ghost use Rattle.std.specs.Prelude.{◌≡◌, ◌≤◌, ◌⊎◌, [], List, None, true, false, Some, IfErr, IfOk, OnOk};
 ghost use Rattle.ht_metric.specs.Jobs.{JobView};
-ghost use Rattle.ht_crew.specs.Tallying.{AreTold};
+ghost use Rattle.ht_feed.specs.OwnNumbers.{AreTold};
 ghost use Rattle.ht_feed.specs.Dues.{all_in, count_in};
 ghost use Rattle.ht_feed.specs.Feeds.{IsFreshFeed, IsInTurn, IsLeft};
 ghost use Rattle.ht_pool.specs.Helms.{IsSameHelm, IsSettled};
@@ -9,13 +9,13 @@ ghost use Rattle.ht_drive.specs.Driving.{Refuses, Tallies};
 
 use crate::deliver::deliver;
 use crate::helm::BlockHelm;
-use crate::pace::Pace;
 use crate::supply::supply;
 use crate::tally::Tally;
 use crate::task::Runner;
 use crate::turn::turn;
 use crate::window::Window;
 use ht_feed::{Answer, BlockFeed, DriveFault, Shared, Work};
+use ht_pace::Pace;
 use std::sync::Wait;
 
 /// Leads all blocks of a feed through an empty window and a pool to which nothing was given, and hands the feed their
@@ -49,7 +49,7 @@ pub(crate) fn lead<
     ensures taken { OnOk result ((F.shown feed.new).due ≡ []) }
     ensures left { OnOk result (IsLeft (F.shown feed.new).left []) }
     ensures well { OnOk result ((F.shown feed.new).failed ≡ None) }
-    ensures refuses { IfErr result (Refuses (F.shown feed.new)) }
+    ensures refuses { IfErr result (Refuses (A.may_lack ⊎ B.may_lack) (F.shown feed.new)) }
 
     ensures jobs { OnOk result (tally.new.issued ≡ (F.shown feed.new).count) }
     ensures tallies { OnOk result (Tallies tally.new helm.new) }
@@ -70,7 +70,7 @@ pub(crate) fn lead<
             return Ok(());
         }
         if turn(runner.work, window, helm, pace).is_err() {
-            return Err(DriveFault::NoMemory);
+            return Err(DriveFault::Work);
         }
     }
     unreachable!()
@@ -107,7 +107,8 @@ pub(crate) fn lead_into<
     ensures left { IfOk result (λ enough. enough ≡ true → IsLeft (F.shown feed.new).left []) }
     ensures well { IfOk result (λ enough. enough ≡ true → (F.shown feed.new).failed ≡ None) }
     ensures fault { IfErr result (λ fault. (F.shown feed.new).failed ≡ Some fault) }
-    ensures memory { IfOk result (λ enough. enough ≡ false → (F.shown feed.new).failed ≡ None) }
+    ensures work { IfOk result (λ enough. enough ≡ false → (F.shown feed.new).failed ≡ None) }
+    ensures lacks { IfOk result (λ enough. enough ≡ false → A.may_lack ⊎ B.may_lack) }
 
     ensures jobs { IfOk result (λ enough. enough ≡ true → tally.new.issued ≡ (F.shown feed.new).count) }
     ensures tallies { IfOk result (λ enough. enough ≡ true → Tallies tally.new helm.new) }
@@ -118,7 +119,7 @@ pub(crate) fn lead_into<
 {
     match lead(rt, runner, window, helm, tally, pace, feed) {
         Ok(()) => Ok(true),
-        Err(DriveFault::NoMemory) => Ok(false),
+        Err(DriveFault::NoMemory | DriveFault::Work) => Ok(false),
         Err(DriveFault::Feed(fault)) => Err(fault),
     }
 }

@@ -15,15 +15,12 @@
 mod deliver;
 mod helm;
 mod lead;
-mod pace;
 mod report;
 mod slot;
 mod supply;
 mod tally;
 mod task;
 mod telling;
-#[cfg(test)]
-mod tests;
 mod threaded;
 mod turn;
 mod window;

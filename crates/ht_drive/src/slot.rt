@@ -62,7 +62,8 @@ impl<B: Shared + Drop, A: Answer + Drop> Slot<B, A> {
 
     /// Runs the block where it is. The only error is lack of memory.
     pub(crate) fn run<W: Work<B, Answer = A>>(&mut self, work: &W) -> Result<(), AllocError>
-        ensures { self.new ≡ self.old }
+        ensures same { self.new ≡ self.old }
+        ensures lacks { OnErr result A.may_lack }
     {
         let answer = work.run(&self.block)?;
         self.answer = Some(answer);

@@ -1,7 +1,7 @@
 //! How a caller fills its window and gives blocks to its pool.
-ghost use Rattle.std.specs.Prelude.{◌≡◌, ◌+◌, ◌-◌, ◌<◌, ◌≤◌, ◌^◌, ◌++◌, ◌∷◌, [], length, List, Option, Some, IfErr, IfOk, OnOk};
+ghost use Rattle.std.specs.Prelude.{◌≡◌, ◌⊎◌, ◌+◌, ◌-◌, ◌<◌, ◌≤◌, ◌^◌, ◌++◌, ◌∷◌, [], length, List, Option, Some, IfErr, IfOk, OnErr, OnOk};
 ghost use Rattle.ht_metric.specs.Jobs.{JobView};
-ghost use Rattle.ht_crew.specs.Tallying.{AreTold};
+ghost use Rattle.ht_feed.specs.OwnNumbers.{AreTold};
 ghost use Rattle.ht_feed.specs.Dues.{all_in, count_in};
 ghost use Rattle.ht_feed.specs.Feeds.{IsAlong, IsInTurn};
 ghost use Rattle.ht_feed.specs.Items.{Numbered};
@@ -35,6 +35,7 @@ fn issue<B: Shared + Drop + Send, A: Answer + Drop + Send, W: Work<B, Answer = A
         → AreTold all (all_in helm.new.given)) }
     ensures issued { tally.new.issued ≡ tally.old.issued + length (B.jobs block) }
     ensures same { IsSameHelm helm.old helm.new }
+    ensures lacks { OnErr result B.may_lack }
 {
     let size = u64::from(block.size());
     let copy = block.copy();
@@ -85,7 +86,7 @@ pub(crate) fn supply<
         → AreTold all (all_in helm.new.given)) }
 
     ensures running { IfOk result (λ on. IsUnderWay on (F.shown feed.new)) }
-    ensures refuses { IfErr result (Refuses (F.shown feed.new)) }
+    ensures refuses { IfErr result (Refuses (A.may_lack ⊎ B.may_lack) (F.shown feed.new)) }
     ensures leads { F.leads feed.old feed.new }
 {
     let mut running = running;
@@ -93,7 +94,7 @@ pub(crate) fn supply<
         match feed.next(size) {
             Ok(Some(block)) => {
                 if issue(window, helm, tally, block).is_err() {
-                    return Err(DriveFault::NoMemory);
+                    return Err(DriveFault::Work);
                 }
             }
             Ok(None) => running = false,

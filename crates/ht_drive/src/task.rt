@@ -1,5 +1,5 @@
 //! Blocks as the tasks of a pool.
-ghost use Rattle.std.specs.Prelude.{◌≡◌, IfErr, IfOk};
+ghost use Rattle.std.specs.Prelude.{◌≡◌, IfErr, IfOk, OnErr};
 ghost use Rattle.ht_drive.specs.Blocks.{IsBlock, jobs_in, task_of};
 
 use ht_feed::{Answer, Jobs, Work};
@@ -56,7 +56,8 @@ impl<B: Jobs + Drop> Task<B> {
     }
 }
 
-/// A block that was run, with what the work answered. Contracts see its jobs, and that the answer is one to these.
+/// A block that was run, with what the work answered. Contracts see its jobs, that the answer is one to these, and that
+/// it's there where no such answer is ever lacking.
 #[derive(Drop)]
 pub struct Done<B: Jobs, A: Answer> {
     number: u64,
@@ -65,7 +66,7 @@ pub struct Done<B: Jobs, A: Answer> {
 }
 
 impl<B: Jobs, A: Answer> Model for Done<B, A> {
-    ghost use Rattle.std.specs.Prelude.{List, IfOk};
+    ghost use Rattle.std.specs.Prelude.{List, IfOk, OnErr};
     ghost use Rattle.ht_metric.specs.Jobs.{JobView};
     ghost use Rattle.ht_drive.specs.Blocks.{IsBlock};
 
@@ -73,7 +74,8 @@ impl<B: Jobs, A: Answer> Model for Done<B, A> {
 
     ghost view = { λ d. B.jobs d.block };
 
-    ghost invariant = { λ d. IsBlock (B.jobs d.block) × IfOk d.found (λ answer. A.answers answer (B.jobs d.block)) };
+    ghost invariant = { λ d. IsBlock (B.jobs d.block) × IfOk d.found (λ answer. A.answers answer (B.jobs d.block))
+        × OnErr d.found A.may_lack };
 }
 
 impl<B: Jobs + Drop, A: Answer> Done<B, A> {
@@ -94,6 +96,7 @@ impl<B: Jobs + Drop, A: Answer> Done<B, A> {
     pub(crate) fn into_parts(self) -> Result<(B, A), AllocError>
         ensures block { IfOk result (λ parts. B.jobs parts.0 ≡ self) }
         ensures right { IfOk result (λ parts. A.answers parts.1 self) }
+        ensures lacks { OnErr result A.may_lack }
     {
         let Done {
             number: _,

@@ -57,6 +57,7 @@ where
     ensures well { OnOk result (failed.new ≡ None) }
     ensures fault { (fault : BookFault) → result ≡ Err (DriveFault.Feed fault) → failed.new ≡ Some fault }
     ensures memory { result ≡ Err DriveFault.NoMemory → failed.new ≡ None }
+    ensures work { result ≡ Err DriveFault.Work → failed.new ≡ None }
     ensures same { A.lent account.new ≡ A.lent account.old }
 {
     let mut feed = DeskFeed::new(desk, source, account, failed);

@@ -1,9 +1,9 @@
 //! The drive of a feed of blocks.
-ghost use Rattle.std.specs.Prelude.{◌≡◌, ◌+◌, ◌-◌, ◌<◌, ◌≤◌, [], List, length, map, true, vec_len, vec_capacity};
+ghost use Rattle.std.specs.Prelude.{◌≡◌, ◌⊎◌, ◌+◌, ◌-◌, ◌<◌, ◌≤◌, [], List, length, map, true, vec_len, vec_capacity};
 ghost use Rattle.std.specs.Prelude.{Err, None, Some, IfErr, IfOk, IfSome, IsSome, OnOk};
 ghost use Rattle.std.specs.List.{All};
 ghost use Rattle.ht_metric.specs.Jobs.{JobView};
-ghost use Rattle.ht_crew.specs.Tallying.{AreTold};
+ghost use Rattle.ht_feed.specs.OwnNumbers.{AreTold};
 ghost use Rattle.ht_feed.specs.Dues.{all_in, count_in};
 ghost use Rattle.ht_feed.specs.Feeds.{IsFreshFeed, IsInTurn, IsLeft};
 ghost use Rattle.ht_pool.specs.Helms.{IsSettled, unused};
@@ -15,12 +15,12 @@ ghost use Rattle.ht_drive.specs.Reports.{HasRunAlone, HasRunInPool, blocks_pushe
 
 use crate::helm::BlockHelm;
 use crate::lead::lead_into;
-use crate::pace::Pace;
 use crate::report::{Passes, Report};
 use crate::tally::Tally;
 use crate::task::{Done, Runner, Task};
 use crate::window::Window;
 use ht_feed::{Answer, BlockFeed, DriveFault, Jobs, Shared, Work, drive_alone};
+use ht_pace::Pace;
 use ht_pool::close::close;
 use ht_pool::closed::Closed;
 use ht_pool::crew::beside;
@@ -38,14 +38,14 @@ use std::thread::Threads;
 /// Runs all blocks of a feed by 1 to 64 workers, of which the caller is one, and hands it their answers in the order of
 /// the blocks.
 ///
-/// The feed has given nothing yet. The caller asks it for blocks until `window` jobs are due, 1 to 4096, or it has
-/// ended, and gives a copy of each to the pool, from which the other workers take them, each in a thread of its own. So
-/// whichever call of the feed fails, no more than `window` jobs are due. Blocks begin with single jobs and grow with
-/// each answer that comes back, up to half a worker's share of a full window, `window / (2 * workers)` jobs, at least 1
-/// and at most 57; where the work calls a block hard they are single jobs again. With one worker it is
-/// [`drive_alone`](ht_feed::drive_alone).
+/// The feed has given nothing yet. The caller asks it for blocks until a whole one finds no room among the `window` jobs
+/// that may be due, 1 to 4096, or it has ended, and gives a copy of each to the pool, from which the other workers take
+/// them, each in a thread of its own. So whichever call of the feed fails, no more than `window` jobs are due. Blocks
+/// begin with single jobs and grow with each answer that comes back, at the [`Pace`] of crate `ht_pace`, up to half a
+/// worker's share of a full window, `window / (2 * workers)` jobs, at least 1 and at most 57; where the work calls a block
+/// hard they are single jobs again. With one worker it is [`drive_alone`](ht_feed::drive_alone).
 ///
-/// It refuses with the feed's fault, or with `NoMemory`: before the first call of the feed, or where there was no
+/// It refuses with the feed's fault; with `NoMemory` before the first call of the feed; or with `Work`, where there was no
 /// memory for a copy or for the work. Threads that can't be started leave more to the caller.
 pub fn drive<R: Threads + Wait + Sync, F: BlockFeed, W: Work<F::Block, Answer = F::Answer> + Sync>(
     rt: &R,
@@ -85,7 +85,9 @@ where
 
     // What it refuses with.
     ensures fault { (fault : F.Fault) → result ≡ Err (DriveFault.Feed fault) → (F.shown feed.new).failed ≡ Some fault }
-    ensures memory { result ≡ Err DriveFault.NoMemory → (F.shown feed.new).failed ≡ None }
+    ensures memory { result ≡ Err DriveFault.NoMemory → feed.new ≡ feed.old }
+    ensures work { result ≡ Err DriveFault.Work → (F.shown feed.new).failed ≡ None }
+    ensures lacks { result ≡ Err DriveFault.Work → F.Answer.may_lack ⊎ F.Block.may_lack }
 {
     if workers == 1 {
         return run_alone(alloc, window, work, feed);
@@ -119,7 +121,9 @@ fn run_alone<F: BlockFeed, W: Work<F::Block, Answer = F::Answer>>(
     ensures jobs { IfOk result (λ report. report.jobs ≡ (F.shown feed.new).count) }
     ensures alone { IfOk result HasRunAlone }
     ensures fault { (fault : F.Fault) → result ≡ Err (DriveFault.Feed fault) → (F.shown feed.new).failed ≡ Some fault }
-    ensures memory { result ≡ Err DriveFault.NoMemory → (F.shown feed.new).failed ≡ None }
+    ensures memory { result ≡ Err DriveFault.NoMemory → feed.new ≡ feed.old }
+    ensures work { result ≡ Err DriveFault.Work → (F.shown feed.new).failed ≡ None }
+    ensures lacks { result ≡ Err DriveFault.Work → F.Answer.may_lack }
 {
     match drive_alone(window, work, feed) {
         Ok(jobs) => Ok(Report {
@@ -165,7 +169,7 @@ fn in_pool<
     ensures ran { IfOk result (λ report. IfSome report.passes (HasRunInPool (length pool.post.deques) window.capacity report)) }
     ensures told { (all : List JobView) → (F.shown feed.old).left ≡ Some all
         → IfOk result (λ report. IfSome report.passes (λ passes. AreTold all (all_in (blocks_pushed passes)))) }
-    ensures refuses { IfErr result (Refuses (F.shown feed.new)) }
+    ensures refuses { IfErr result (Refuses (A.may_lack ⊎ B.may_lack) (F.shown feed.new)) }
 {
     let Pool {
         shared,
@@ -205,7 +209,7 @@ fn in_pool<
     );
     match answer {
         Ok(true) => Ok(finish(tally, helm, members, space)),
-        Ok(false) => Err(DriveFault::NoMemory),
+        Ok(false) => Err(DriveFault::Work),
         Err(fault) => Err(DriveFault::Feed(fault)),
     }
 }

@@ -1,11 +1,11 @@
 //! What a caller does while it waits.
-ghost use Rattle.std.specs.Prelude.{◌≡◌};
+ghost use Rattle.std.specs.Prelude.{◌≡◌, OnErr};
 ghost use Rattle.ht_pool.specs.Helms.{IsSameHelm};
 
 use crate::helm::BlockHelm;
-use crate::pace::Pace;
 use crate::window::Window;
 use ht_feed::{Answer, Shared, Work};
+use ht_pace::Pace;
 use std::alloc::AllocError;
 use std::thread;
 
@@ -21,6 +21,7 @@ pub(crate) fn turn<B: Shared + Drop + Send, A: Answer + Drop + Send, W: Work<B, 
     ensures window { window.new ≡ window.old }
     ensures given { helm.new.given ≡ helm.old.given }
     ensures same { IsSameHelm helm.old helm.new }
+    ensures lacks { OnErr result A.may_lack }
 {
     if let Some(done) = helm.next() {
         pace.see(done.is_hard(work));

@@ -1,5 +1,5 @@
 //! The window of a drive.
-ghost use Rattle.std.specs.Prelude.{◌≡◌, ◌+◌, ◌<◌, ◌≤◌, ◌++◌, ◌∷◌, [], length, drop, slice_get, true, Some, None, IfOk, IfNone, IfSome, IsTrue};
+ghost use Rattle.std.specs.Prelude.{◌≡◌, ◌+◌, ◌<◌, ◌≤◌, ◌++◌, ◌∷◌, [], length, drop, slice_get, true, Some, None, IfOk, IfNone, IfSome, IsTrue, OnErr};
 ghost use Rattle.circular_buffer.specs.Buffer.{buffer};
 ghost use Rattle.ht_feed.specs.Dues.{count_in};
 ghost use Rattle.ht_drive.specs.Blocks.{IsBlock, IsFirst, IsWindow, window_view};
@@ -78,7 +78,8 @@ impl<B: Shared + Drop, A: Answer + Drop> Window<B, A> {
     /// Keeps what came of a task, where its block is due and waits for an answer. The only error is that the work
     /// lacked memory.
     pub(crate) fn accept(&mut self, done: Done<B, A>) -> Result<(), AllocError>
-        ensures { self.new ≡ self.old }
+        ensures same { self.new ≡ self.old }
+        ensures lacks { OnErr result A.may_lack }
     {
         let at = done.number().wrapping_sub(self.front);
         let (block, answer) = done.into_parts()?;
@@ -90,7 +91,8 @@ impl<B: Shared + Drop, A: Answer + Drop> Window<B, A> {
 
     /// Runs the first block, where one is due that waits for its answer. The only error is lack of memory.
     pub(crate) fn run_first<W: Work<B, Answer = A>>(&mut self, work: &W) -> Result<(), AllocError>
-        ensures { self.new ≡ self.old }
+        ensures same { self.new ≡ self.old }
+        ensures lacks { OnErr result A.may_lack }
     {
         run_first(&mut self.slots, work)
     }
@@ -146,7 +148,8 @@ fn run_first<B: Shared + Drop, A: Answer + Drop, W: Work<B, Answer = A>>(
     slots: &mut HeapCircularBuffer<Slot<B, A>>,
     work: &W,
 ) -> Result<(), AllocError>
-    ensures { slots.new ≡ slots.old }
+    ensures same { slots.new ≡ slots.old }
+    ensures lacks { OnErr result A.may_lack }
 {
     match slots.get_mut(0) {
         Some(slot) if !slot.is_answered() => slot.run(work),

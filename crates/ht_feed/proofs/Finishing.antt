@@ -15,7 +15,7 @@ use Rattle.ht_feed.specs.declared.book_fault.BookFault.{BookFault}
 use Rattle.ht_feed.specs.declared.book_fault.BookFault.TheVariants.{Failed, NoMemory}
 use Rattle.ht_feed.specs.declared.ended.Ended.{Ended}
 use Rattle.ht_feed.specs.declared.drive.DriveFault.{DriveFault}
-use Rattle.ht_feed.specs.declared.drive.DriveFault.TheVariants.{Feed, NoMemory as DriveMemory}
+use Rattle.ht_feed.specs.declared.drive.DriveFault.TheVariants.{Feed, NoMemory as DriveMemory, Work}
 use Rattle.ht_feed.specs.Items.{Item, headed, frames_of, jobs_of}
 use Rattle.ht_feed.specs.Accounts.{Telling}
 use Rattle.ht_feed.specs.Dues.{all_due, jobs_in}
@@ -119,6 +119,7 @@ module _ {R H P : Type 0} (means : R → List ℕ → Meaning (Item H)) (at : R 
       pub well : OnOk driven (failed ≡ None)
       pub fault : (fault : BookFault) → driven ≡ Err (Feed fault) → failed ≡ Some fault
       pub lacking : driven ≡ Err DriveMemory → failed ≡ None
+      pub worked : driven ≡ Err Work → failed ≡ None
 
     none_due : {X : Type 0} (driven : Result X (DriveFault BookFault)) → OnOk driven (new.due ≡ []) → OnOk driven (jobs_in new.due ≡ [])
     none_due (Ok done) none = ap jobs_in none
@@ -135,7 +136,15 @@ module _ {R H P : Type 0} (means : R → List ℕ → Meaning (Item H)) (at : R 
           well = none_failed driven;
           fault = λ fault is. ap (λ (r : Result X (DriveFault BookFault)). failed_by r) is;
           lacking = λ is. ap (λ (r : Result X (DriveFault BookFault)). failed_by r) is;
+          worked = λ is. ap (λ (r : Result X (DriveFault BookFault)). failed_by r) is;
         }
+
+    -- where memory lacked before all was read, a part was put
+    told_in_part : Tells first last → TellsPieces start pieces source' a.device b.device
+    told_in_part tells =
+        in_part start a.pieces head source' a.device b.device last.standing.reader tells.items new.stop tells.taken (all_due new.due) refl tells.reads tells.jobs
+        (λ more. subst (λ (xs : List P). GrowsByPart a.device b.device xs) (sym (tells.first more))
+        (grows_by_part-front a.device b.device tells.put (b.pieces more) (by_part a.device b.device tells.put tells.grows)))
 
     told_well : (failed : Option BookFault) → failed ≡ None → TellsBy None failed first last → Tells first last
     told_well failed is told = subst (λ (f : Option BookFault). TellsBy None f first last) is told
@@ -159,6 +168,7 @@ module _ {R H P : Type 0} (means : R → List ℕ → Meaning (Item H)) (at : R 
     steady_by failed (Err (Feed Failed)) h other = absurd (other refl)
     steady_by failed (Err (Feed NoMemory)) h other = (told_ill failed NoMemory (h.fault NoMemory refl) h.leads).steady refl
     steady_by failed (Err DriveMemory) h other = (told_well failed (h.lacking refl) h.leads).steady
+    steady_by failed (Err Work) h other = (told_well failed (h.worked refl) h.leads).steady
 
     pub steady : {X : Type 0} (failed : Option BookFault) (driven : Result X (DriveFault BookFault)) (result : Result Ended StopFault)
         → Heard failed driven → result ≡ ended_by new.stop new.frames new.count driven → result ≢ Err Write → b.device.faults ≡ a.device.faults
@@ -169,11 +179,8 @@ module _ {R H P : Type 0} (means : R → List ℕ → Meaning (Item H)) (at : R 
     heard_by failed (Ok done) h rests nothing =
         ends (told_well failed h.well h.leads) (ap all_due (none_in new.due h.taken)) rests nothing new.stop refl h.ended
     heard_by failed (Err (Feed fault)) h rests nothing = stops_as fault (told_ill failed fault (h.fault fault refl) h.leads)
-    heard_by failed (Err DriveMemory) h rests nothing =
-        let tells = told_well failed (h.lacking refl) h.leads in
-        in_part start a.pieces head source' a.device b.device last.standing.reader tells.items new.stop tells.taken (all_due new.due) refl tells.reads tells.jobs
-        (λ more. subst (λ (xs : List P). GrowsByPart a.device b.device xs) (sym (tells.first more))
-        (grows_by_part-front a.device b.device tells.put (b.pieces more) (by_part a.device b.device tells.put tells.grows)))
+    heard_by failed (Err DriveMemory) h rests nothing = told_in_part (told_well failed (h.lacking refl) h.leads)
+    heard_by failed (Err Work) h rests nothing = told_in_part (told_well failed (h.worked refl) h.leads)
 
     -- the end of the reading, as its drive and its desk tell it
     pub heard : {X : Type 0} (failed : Option BookFault) (driven : Result X (DriveFault BookFault)) (result : Result Ended StopFault)

@@ -16,7 +16,7 @@ pub record FeedView (Fault : Type 0) : Type 0 where
   pub more : ℕ
   -- it has said that no block comes any more
   pub ended : Bool
-  -- what the first call that failed answered
+  -- what the last call that failed answered, if one failed
   pub failed : Option Fault
 
 -- where the jobs still to come are known, they are these

@@ -1,5 +1,6 @@
 pub mod Items
 pub mod Numbers
+pub mod OwnNumbers
 pub mod Reading
 pub mod Dues
 pub mod Accounts

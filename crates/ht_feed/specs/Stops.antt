@@ -11,7 +11,7 @@ use Rattle.ht_feed.specs.declared.book_fault.BookFault.TheVariants.{Failed as Bo
 use Rattle.ht_feed.specs.declared.ended.Ended.{Ended}
 use Rattle.ht_feed.specs.declared.ended.Ended.TheVariants.{Done, Refused as EndedRefused}
 use Rattle.ht_feed.specs.declared.drive.DriveFault.{DriveFault}
-use Rattle.ht_feed.specs.declared.drive.DriveFault.TheVariants.{Feed, NoMemory as DriveMemory}
+use Rattle.ht_feed.specs.declared.drive.DriveFault.TheVariants.{Feed, NoMemory as DriveMemory, Work}
 
 -- how the reading stops where a reader halts
 abbrev pub stop_of : InFault → Stop
@@ -37,9 +37,11 @@ abbrev pub ended_by : {X : Type 0} → Option Stop → ℕ → ℕ → Result X 
 ended_by stop frames jobs (Ok done) = ended_at stop frames jobs
 ended_by stop frames jobs (Err (Feed fault)) = Err (fault_of fault)
 ended_by stop frames jobs (Err DriveMemory) = Err StopMemory
+ended_by stop frames jobs (Err Work) = Err StopMemory
 
 -- what a call of the desk or of its account failed with, where the drive answered this
 abbrev pub failed_by : {X : Type 0} → Result X (DriveFault BookFault) → Option BookFault
 failed_by (Ok done) = None
 failed_by (Err (Feed fault)) = Some fault
 failed_by (Err DriveMemory) = None
+failed_by (Err Work) = None

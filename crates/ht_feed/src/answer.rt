@@ -1,5 +1,5 @@
 //! What is answered of the jobs of a block.
-ghost use Rattle.std.specs.Prelude.{◌^◌, ◌<◌, List, length, IfOk};
+ghost use Rattle.std.specs.Prelude.{◌^◌, ◌<◌, ⊤, List, length, IfOk, OnErr};
 ghost use Rattle.ht_metric.specs.Jobs.{JobView};
 
 use crate::jobs::Jobs;
@@ -10,6 +10,10 @@ use std::sync::Wait;
 pub trait Answer {
     /// It is the answer to these jobs.
     ghost answers: { Self → List JobView → Type 0 };
+
+    /// An answer may be lacking where there was no memory for it. Of an answer that takes none its type says that none
+    /// is ever lacking.
+    ghost may_lack: { Type 0 } = { ⊤ };
 }
 
 /// What finds the answers to the jobs of a block.
@@ -20,7 +24,8 @@ pub trait Work<B: Jobs> {
     /// The answer to the jobs of a block. The only error is lack of memory.
     fn run(&self, block: &B) -> Result<Self::Answer, AllocError>
         requires few { length (B.jobs block.now) < 2 ^ 16 }
-        ensures right { IfOk result (λ answer. Self.Answer.answers answer (B.jobs block.now)) };
+        ensures right { IfOk result (λ answer. Self.Answer.answers answer (B.jobs block.now)) }
+        ensures lacks { OnErr result Self.Answer.may_lack };
 
     /// Whether the block of this answer took so long that the next ones are better given job by job. Nothing but the
     /// size of blocks rests on it.

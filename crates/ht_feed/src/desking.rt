@@ -30,8 +30,8 @@ pub trait Desking<R: BlockReader + Drop> {
         ensures memory { OnErr result ((seen self.new ≡ seen self.old) × (source.new ≡ source.old)) }
         ensures sound { IsSoundDesk R.counts (seen self.new) };
 
-    /// Hands an account the answer to the first block due, which is due no longer. Where the account refuses, all stays as
-    /// it was.
+    /// Hands an account the answer to the first block due, which is due no longer. Where the account refuses, the desk
+    /// stays as it was; of the account that isn't said.
     fn take<A: Account<R>>(
         &mut self,
         block: &R::Block,

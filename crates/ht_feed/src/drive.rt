@@ -14,9 +14,12 @@ pub enum DriveFault<F> {
     /// A call of the feed failed with this.
     #[error("the feed failed")]
     Feed(F),
-    /// Out of memory.
+    /// Out of memory before the first call of the feed.
     #[error("out of memory")]
     NoMemory,
+    /// In mid-run: the work on a block, or the copy of a block that goes to another worker, was out of memory.
+    #[error("out of memory for a block")]
+    Work,
 }
 
 /// Runs all blocks of a feed, in this thread, and hands it their answers in the order of the blocks. It answers how
@@ -24,7 +27,7 @@ pub enum DriveFault<F> {
 ///
 /// The feed has given nothing yet. One block is due at a time, of at most `window` jobs, 1 to 4096.
 ///
-/// It refuses with the feed's fault, or where the work was out of memory.
+/// It refuses with the feed's fault, or with `Work` where the work was out of memory. It takes no memory of its own.
 pub fn drive_alone<F: BlockFeed, W: Work<F::Block, Answer = F::Answer>>(
     window: u16,
     work: &W,
@@ -48,7 +51,9 @@ pub fn drive_alone<F: BlockFeed, W: Work<F::Block, Answer = F::Answer>>(
 
     // What it refuses with.
     ensures fault { (fault : F.Fault) → result ≡ Err (DriveFault.Feed fault) → (F.shown feed.new).failed ≡ Some fault }
-    ensures memory { result ≡ Err DriveFault.NoMemory → (F.shown feed.new).failed ≡ None }
+    ensures memory { result ≡ Err DriveFault.NoMemory → feed.new ≡ feed.old }
+    ensures work { result ≡ Err DriveFault.Work → (F.shown feed.new).failed ≡ None }
+    ensures lacks { result ≡ Err DriveFault.Work → F.Answer.may_lack }
 {
     let mut jobs = 0u64;
     loop {
@@ -59,7 +64,7 @@ pub fn drive_alone<F: BlockFeed, W: Work<F::Block, Answer = F::Answer>>(
         };
         jobs += u64::from(block.size());
         let Ok(answer) = work.run(&block) else {
-            return Err(DriveFault::NoMemory);
+            return Err(DriveFault::Work);
         };
         if let Err(fault) = feed.take(&block, &answer) {
             return Err(DriveFault::Feed(fault));

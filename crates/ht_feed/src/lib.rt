@@ -12,9 +12,10 @@
 //! What a run comes to is said once for all readers and accounts: for an input that is whole, for one with a first
 //! fault, where the source or the account's device failed, and where memory lacked (`specs/Outcomes.antt`).
 //!
-//! A block may be [one job](OneJob); [`Hits`] are the answers of the [`Detector`]; and a [`Meter`] puts an octet for
-//! each. So of two symbols with 56 jobs each, whose diagonals are 10 and whose samples are 0, [`tell_alone`] puts 112
-//! octets of 100, whatever the blocks are, and answers `Done { frames: 1, jobs: 112 }`.
+//! A block may be [one job](OneJob), whose answer is [one hit](OneHit); [`Hits`] are the answers of the [`Detector`]; a
+//! [`Meter`] puts an octet for each; and a [`Gate`] is called before and after a job, by whoever runs it. So of a frame of
+//! two BPSK symbols with 56 subcarriers in one spatial stream, whose diagonals are 10 and whose samples are 0,
+//! [`tell_alone`] puts 112 octets of 100, whatever the blocks are, and answers `Done { frames: 1, jobs: 112 }`.
 #![tactic(auto)]
 
 mod account;
@@ -29,6 +30,7 @@ mod due_block;
 mod ended;
 mod feed;
 mod feeding;
+mod gate;
 mod hard;
 mod hits;
 mod jobs;
@@ -52,11 +54,12 @@ pub use drive::{DriveFault, drive_alone};
 pub use due_block::DueBlock;
 pub use ended::Ended;
 pub use feed::BlockFeed;
+pub use gate::{Gate, OpenGate};
 pub use hard::{is_hard, is_last_hard};
 pub use hits::{Detector, Finder, Hits, detect, hits_of};
 pub use jobs::Jobs;
 pub use meter::Meter;
-pub use one_job::OneJob;
+pub use one_job::{OneHit, OneJob};
 pub use reader::BlockReader;
 pub use room::make_room;
 pub use shared::Shared;

@@ -1,21 +1,28 @@
 //! Blocks that two threads can have.
-ghost use Rattle.std.specs.Prelude.{◌≡◌, ◌↔◌, Some, IfSome, IsTrue};
+ghost use Rattle.std.specs.Prelude.{◌≡◌, ◌↔◌, ⊤, Some, IfNone, IfSome, IsTrue};
 
 use crate::jobs::Jobs;
 use crate::one_job::OneJob;
 
 /// A block that a drive can keep while another thread runs it, and compare with the one that comes back.
 pub trait Shared: Jobs {
+    /// A copy may be lacking where there was no memory for it. Of blocks whose copies take none their type says that none
+    /// is ever lacking.
+    ghost may_lack: { Type 0 } = { ⊤ };
+
     /// Whether both are known to stand for the same jobs. Two blocks that do aren't always known to.
     fn same(&self, other: &Self) -> bool
         ensures { IsTrue result → Self.jobs self.now ≡ Self.jobs other.now };
 
     /// Another block of the same jobs, or none where there is no memory for it.
     fn copy(&self) -> Option<Self>
-        ensures { IfSome result (λ copy. Self.jobs copy ≡ Self.jobs self.now) };
+        ensures copied { IfSome result (λ copy. Self.jobs copy ≡ Self.jobs self.now) }
+        ensures lacks { IfNone result may_lack };
 }
 
 impl Shared for OneJob {
+    ghost may_lack = { ⊥ };
+
     /// Whether both have the same job.
     fn same(&self, other: &OneJob) -> bool
         ensures { IsTrue result ↔ (self.now ≡ other.now) }

@@ -32,7 +32,7 @@ pub fn end_of<R: BlockReader + Drop, T: Drop>(
     match driven {
         Ok(_) => {}
         Err(DriveFault::Feed(fault)) => return Err(fault.into()),
-        Err(DriveFault::NoMemory) => return Err(StopFault::NoMemory),
+        Err(DriveFault::NoMemory | DriveFault::Work) => return Err(StopFault::NoMemory),
     }
     match desk.stop() {
         Some(Stop::Whole) => Ok(Ended::Done {
@@ -72,7 +72,7 @@ fn run_desk<R: BlockReader + Drop, S: Source, A: Account<R>, W: Work<R::Block, A
             Err(_) => return Err(DriveFault::Feed(BookFault::NoMemory)),
         };
         let Ok(answer) = work.run(&block) else {
-            return Err(DriveFault::NoMemory);
+            return Err(DriveFault::Work);
         };
         if let Err(fault) = desk.take(&block, &answer, account) {
             return Err(DriveFault::Feed(fault));

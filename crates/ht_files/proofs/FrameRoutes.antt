@@ -1,14 +1,12 @@
 -- How the octets of frames lead through the fields of a file.
 use Rattle.std.proofs.Common.{◌≡◌, ℕ, ◌+◌, ◌-◌, ◌^◌, ◌<◌, ◌≤◌, List, [], ◌∷◌, ◌++◌, length, take}
-use Rattle.std.proofs.Common.{nat_eq, nat_lt, Bool, false, ◌||◌, refl, sym, ap, subst, ◌∙◌, append_assoc, arith}
-use Rattle.std.proofs.lemmas.Bool.Decides.{nat_tests}
+use Rattle.std.proofs.Common.{refl, sym, ap, subst, ◌∙◌, append_assoc, arith}
 use Rattle.std.proofs.lemmas.List.{append-nil}
 use Rattle.std.proofs.Math.Seq.{take-append-add}
 use Rattle.ht_io.specs.Devices.{Device, Takes}
 use Rattle.ht_io.proofs.Calls.{takes-append}
 use Rattle.ht_io.specs.declared.faults.Kind.TheVariants.{BadSeed}
 use Rattle.ht_fields.specs.Cases.{IsFile}
-use Rattle.ht_fields.proofs.Answered.{file_items}
 use Rattle.ht_fields.proofs.Choices.{checked_good}
 use Rattle.ht_fields.proofs.Putting.{takes_as}
 use Rattle.ht_fields.proofs.Readers.{field_is}
@@ -17,30 +15,28 @@ use Rattle.ht_rate.specs.declared.rates.Rate.{Rate}
 use Rattle.ht_scramble.specs.Sequence.{IsSeed}
 use Rattle.ht_tx.specs.Frames.{FrameView}
 use Rattle.ht_heads.specs.Heads.{head_octets}
-use Rattle.ht_files.specs.HeadedFormats.{HeadState, Body, frame_due}
-use Rattle.ht_files.specs.Frames.{FrameState, Seed, Octets, framed, frames, good_octets, good_seed, is_no_seed}
+use Rattle.ht_counted.specs.Counted.{IsCounted}
+use Rattle.ht_counted.specs.Seeds.{is_no_seed}
+use Rattle.ht_counted.proofs.Counting.{leads_by, same, written}
+use Rattle.ht_counted.proofs.Seeded.{seed_passes}
+use Rattle.ht_files.specs.HeadedFormats.{HeadState, behind_head, frame_due, headed}
+use Rattle.ht_files.specs.Frames.{FrameState, Seed, Octets, framed, frames, good_octets, good_seed}
 use Rattle.ht_tx.specs.Symbols.{SymbolsView}
 use Rattle.ht_tx.specs.Transmitted.{AreTransmitted}
 use Rattle.ht_tx.proofs.Single.{all_transmitted}
 use Rattle.ht_files.specs.Files.{AreFrames, IsFrame, frames_file_of, frame_octets}
 use Rattle.ht_files.specs.SymbolFiles.{symbols_file_of}
-use Rattle.ht_files.proofs.HeadRoutes.{file_written, route_head}
-
-is_seed : (seed : ℕ) → IsSeed seed → is_no_seed (seed ∷ []) ≡ false
-is_seed seed is =
-    let a : nat_eq seed 0 ≡ false = grind (arith, nat_tests) in
-    let b : nat_lt 127 seed ≡ false = grind (arith, nat_tests) in
-    ap (λ (c : Bool). c || nat_lt 127 seed) a ∙ b
+use Rattle.ht_files.proofs.HeadRoutes.{is_count, route_head}
 
 -- the head of a frame and the seed
 pub route_seed : (left : ℕ) (rate : Rate) (len seed : ℕ) → 0 < left → 1 ≤ len → len < 2 ^ 16 → IsSeed seed
-    → Route frames (frame_due left) (Body (Octets left rate len seed)) (head_octets rate len ++ (seed ∷ [])) []
+    → Route frames (frame_due left) (behind_head (Octets left rate len seed)) (head_octets rate len ++ (seed ∷ [])) []
 unfolding good_seed
 route_seed left rate len seed left_some some small is =
-    route_then frames (frame_due left) (Body (Seed left rate len)) (Body (Octets left rate len seed)) (head_octets rate len) (seed ∷ []) [] []
+    route_then frames (frame_due left) (behind_head (Seed left rate len)) (behind_head (Octets left rate len seed)) (head_octets rate len) (seed ∷ []) [] []
     (route_head framed left rate len left_some some small)
-    (route_field frames (Body (Seed left rate len)) (Body (Octets left rate len seed)) (seed ∷ []) []
-    (refl, checked_good BadSeed is_no_seed (good_seed left rate len) (seed ∷ []) _ (is_seed seed is) refl))
+    (route_field frames (behind_head (Seed left rate len)) (behind_head (Octets left rate len seed)) (seed ∷ []) []
+    (refl, checked_good BadSeed is_no_seed (good_seed left rate len) (seed ∷ []) _ (seed_passes seed is) refl))
 
 -- a frame
 pub route_frame : (left : ℕ) (f : FrameView) → 0 < left → IsFrame f → Route frames (frame_due left) (frame_due (left - 1)) (frame_octets f) (f ∷ [])
@@ -48,22 +44,35 @@ unfolding frame_octets good_octets
 route_frame left f some is =
     let len = length f.octets in
     let small : len < 2 ^ 16 = omega (arith, is.octets.1) in
-    let s : HeadState FrameState = Body (Octets left f.rate len f.seed) in
+    let s : HeadState FrameState = behind_head (Octets left f.rate len f.seed) in
     let octets : Route frames s (frame_due (left - 1)) f.octets (f ∷ []) =
     route_field frames s (frame_due (left - 1)) f.octets (f ∷ []) (field_is len (good_octets left f.rate f.seed) f.octets _ is.octets.0 refl refl) in
     route_as frames (frame_due left) (frame_due (left - 1)) _ _ (f ∷ []) (append_assoc (head_octets f.rate len) (f.seed ∷ []) f.octets)
     (route_then frames (frame_due left) s (frame_due (left - 1)) (head_octets f.rate len ++ (f.seed ∷ [])) f.octets [] (f ∷ [])
     (route_seed left f.rate len f.seed some is.octets.0 small is.seed) octets)
 
+pub length_frame : (f : FrameView) (n : ℕ) → n ≡ length f.octets → 5 + n ≡ length (frame_octets f)
+unfolding frame_octets
+length_frame f n is = omega (arith, is)
+
+-- what the format owes to the reading of its files
+pub frames_counted : IsCounted (headed framed) frame_octets IsFrame 65540
+frames_counted = record {
+  count = is_count;
+  leads = λ left f some is. leads_by frames (frame_due left) (frame_due (left - 1)) (frame_octets f) (f ∷ []) (route_frame left f some is);
+  short = λ f is. omega (arith, length_frame f (length f.octets) refl, is.octets.1);
+  room = omega arith;
+}
+
 -- the whole file
 pub frames_written : (fs : List FrameView) → AreFrames fs → IsFile frames (frames_file_of fs) fs
 unfolding frames_file_of
-frames_written fs are = file_written framed frame_octets IsFrame route_frame fs are.few are.fit
+frames_written = written (headed framed) frame_octets IsFrame 65540 frames_counted
 
 -- frames of one file
 pub frames_same : (fs gs : List FrameView) → AreFrames fs → AreFrames gs → frames_file_of fs ≡ frames_file_of gs → fs ≡ gs
-frames_same fs gs are also same =
-    file_items frames (frames_file_of gs) fs gs (subst (λ (z : List ℕ). IsFile frames z fs) same (frames_written fs are)) (frames_written gs also)
+unfolding frames_file_of
+frames_same = same (headed framed) frame_octets IsFrame 65540 frames_counted
 
 -- a frame, as it was read
 pub takes_frame : (f : FrameView) (rate : Rate) (len seed : ℕ) (octets : List ℕ) (a b c d : Device ℕ)
@@ -75,17 +84,13 @@ takes_frame f rate len seed octets a b c d is size x y z =
     ap (λ n. head_octets rate n ++ (seed ∷ octets)) (sym size) ∙ ap (λ (g : FrameView). head_octets g.rate (length g.octets) ++ (g.seed ∷ g.octets)) (sym is) in
     takes_as a d _ _ whole (takes-append a b d (head_octets rate len) (seed ∷ octets) x (takes-append b c d (seed ∷ []) octets y z))
 
-pub length_frame : (f : FrameView) (n : ℕ) → n ≡ length f.octets → 5 + n ≡ length (frame_octets f)
-unfolding frame_octets
-length_frame f n is = omega (arith, is)
-
 pub seed_size : (rate : Rate) (len seed at : ℕ) → at + 5 ≡ at + length (head_octets rate len ++ (seed ∷ []))
 seed_size rate len seed at = refl
 
 pub seed_as : (left : ℕ) (rate : Rate) (len wide seed : ℕ) → wide ≡ len
-    → Route frames (frame_due left) (Body (Octets left rate len seed)) (head_octets rate len ++ (seed ∷ [])) []
-    → Route frames (frame_due left) (Body (Octets left rate wide seed)) (head_octets rate len ++ (seed ∷ [])) []
-seed_as left rate len wide seed is r = route_to frames _ _ _ _ [] (ap (λ n. let s : HeadState FrameState = Body (Octets left rate n seed) in s) (sym is)) r
+    → Route frames (frame_due left) (behind_head (Octets left rate len seed)) (head_octets rate len ++ (seed ∷ [])) []
+    → Route frames (frame_due left) (behind_head (Octets left rate wide seed)) (head_octets rate len ++ (seed ∷ [])) []
+seed_as left rate len wide seed is r = route_to frames _ _ _ _ [] (ap (λ n. let s : HeadState FrameState = behind_head (Octets left rate n seed) in s) (sym is)) r
 
 -- a frame whose room was filled
 pub frame_filled : (f : FrameView) (rate : Rate) (seed n : ℕ) (into rest : List ℕ)

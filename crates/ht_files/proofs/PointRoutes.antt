@@ -17,7 +17,6 @@ use Rattle.ht_fields.specs.Cases.{IsField, IsFile}
 use Rattle.ht_fields.specs.Grammar.{Verdict, Good}
 use Rattle.ht_fields.specs.Readers.{reader_in}
 use Rattle.ht_fields.specs.WholeFiles.{EndsEarly}
-use Rattle.ht_fields.proofs.Answered.{file_items}
 use Rattle.ht_fields.proofs.Choices.{when_true, when_false, checked_good}
 use Rattle.ht_fields.proofs.Blocks.{block_broke, block_ended, block_refused}
 use Rattle.ht_fields.proofs.Endings.{route_ends}
@@ -36,13 +35,15 @@ use Rattle.ht_pam.specs.declared.point.Point.{Point}
 use Rattle.ht_tx.specs.Symbols.{Fits, IsSymbols, SymbolsView, index_of_point, origin, pilot_point, points_of}
 use Rattle.ht_tx.proofs.Places.{digits, digits-below, parts-again, parts-below}
 use Rattle.ht_heads.specs.Heads.{head_octets}
-use Rattle.ht_files.specs.HeadedFormats.{HeadState, Body, frame_due}
+use Rattle.ht_counted.specs.Counted.{IsCounted}
+use Rattle.ht_counted.proofs.Counting.{leads_by, same, written}
+use Rattle.ht_files.specs.HeadedFormats.{HeadState, behind_head, frame_due, headed}
 use Rattle.ht_files.specs.Places.{AreFitting, FitsPlace, carrier_at_place, stream_at_place, symbol_at_place}
 use Rattle.ht_files.specs.Points.{AddsPoints, MeetsMisfit, PointDue, TakesSymbol, first_point, fits_carrier, good_point, kind_on, misfits, misfits_place}
 use Rattle.ht_files.specs.Points.{point_in, point_octets, points_due}
 use Rattle.ht_files.specs.Points.{pointed, symbols}
 use Rattle.ht_files.specs.SymbolFiles.{AreSymbolFrames, IsSymbolFrame, symbols_file_of, symbols_octets}
-use Rattle.ht_files.proofs.HeadRoutes.{file_written, head_size, route_head}
+use Rattle.ht_files.proofs.HeadRoutes.{head_size, is_count, route_head}
 use Rattle.ht_files.proofs.Levels.{point_back}
 use Rattle.ht_files.proofs.Walks.{length-points}
 
@@ -72,13 +73,13 @@ back_at : (r : Rate) (place : ℕ) (p : Point) → FitsPlace r place p → point
 back_at r place p fits = point_back r (symbol_at_place r place) (carrier_at_place r place) (stream_at_place r place) p fits
 
 next_point : (due : PointDue) (p : Point) → FitsPlace due.rate (length due.points) p → length due.points + 1 < points_of due.rate due.length
-    → good_point due (point_octets p) ≡ Good (Body (points_due due.left due.rate due.length (due.points ++ p ∷ []))) []
+    → good_point due (point_octets p) ≡ Good (behind_head (points_due due.left due.rate due.length (due.points ++ p ∷ []))) []
 unfolding good_point
 next_point due p fits few =
     let t : nat_eq (length due.points + 1) (points_of due.rate due.length) ≡ false = grind (arith, nat_tests) in
     when_false _ _ _ t
     ∙ ap (λ (z : Point). let v : Verdict (HeadState PointDue) SymbolsView =
-    Good (Body (points_due due.left due.rate due.length (due.points ++ z ∷ []))) [] in v)
+    Good (behind_head (points_due due.left due.rate due.length (due.points ++ z ∷ []))) [] in v)
     (back_at due.rate (length due.points) p fits)
 
 last_point : (due : PointDue) (p : Point) → FitsPlace due.rate (length due.points) p → length due.points + 1 ≡ points_of due.rate due.length
@@ -92,7 +93,7 @@ last_point due p fits all =
     (back_at due.rate (length due.points) p fits)
 
 point_field : (due : PointDue) (p : Point) (verdict : Verdict (HeadState PointDue) SymbolsView) → FitsPlace due.rate (length due.points) p
-    → good_point due (point_octets p) ≡ verdict → IsField (symbols.due (Body due)) (point_octets p) verdict
+    → good_point due (point_octets p) ≡ verdict → IsField (symbols.due (behind_head due)) (point_octets p) verdict
 point_field due p verdict fits is = (
   refl,
   checked_good (kind_on (carrier_at_place due.rate (length due.points))) (misfits_place due.rate (length due.points)) (good_point due) (point_octets p) verdict
@@ -115,39 +116,39 @@ one_longer xs y = length-append xs (y ∷ [])
 -- points that fit, all but the last of a frame at most
 pub route_points : (ys : List Point) (left : ℕ) (rate : Rate) (len : ℕ) (xs all : List Point) → all ≡ xs ++ ys → AreFitting rate all
     → length all < points_of rate len
-    → Route symbols (Body (points_due left rate len xs)) (Body (points_due left rate len all)) (flat_map point_octets ys) []
+    → Route symbols (behind_head (points_due left rate len xs)) (behind_head (points_due left rate len all)) (flat_map point_octets ys) []
 route_points [] left rate len xs all is fitting few =
-    route_none symbols _ _ (ap (λ (z : List Point). let s : HeadState PointDue = Body (points_due left rate len z) in s) (sym (is ∙ append-nil xs)))
+    route_none symbols _ _ (ap (λ (z : List Point). let s : HeadState PointDue = behind_head (points_due left rate len z) in s) (sym (is ∙ append-nil xs)))
 route_points (y ∷ ys) left rate len xs all is fitting few =
     let due = points_due left rate len xs in
     let fits = fits_next rate all xs ys y is fitting in
     let few_now : length xs + 1 < points_of rate len = omega (arith, few, ap length is, length-append xs (y ∷ ys)) in
-    route_then symbols (Body due) (Body (points_due left rate len (xs ++ y ∷ []))) (Body (points_due left rate len all))
+    route_then symbols (behind_head due) (behind_head (points_due left rate len (xs ++ y ∷ []))) (behind_head (points_due left rate len all))
     (point_octets y) (flat_map point_octets ys) [] []
-    (route_field symbols (Body due) (Body (points_due left rate len (xs ++ y ∷ []))) (point_octets y) []
+    (route_field symbols (behind_head due) (behind_head (points_due left rate len (xs ++ y ∷ []))) (point_octets y) []
     (point_field due y _ fits (next_point due y fits few_now)))
     (route_points ys left rate len (xs ++ y ∷ []) all (more_behind all xs ys y is) fitting few)
 
 -- all points of a frame
 route_frame_points : (ys : List Point) (y : Point) (left : ℕ) (rate : Rate) (len : ℕ) (xs all : List Point) → all ≡ xs ++ y ∷ ys → AreFitting rate all
     → length all ≡ points_of rate len
-    → Route symbols (Body (points_due left rate len xs)) (frame_due (left - 1)) (flat_map point_octets (y ∷ ys)) (frame_with rate len all ∷ [])
+    → Route symbols (behind_head (points_due left rate len xs)) (frame_due (left - 1)) (flat_map point_octets (y ∷ ys)) (frame_with rate len all ∷ [])
 route_frame_points [] y left rate len xs all is fitting whole =
     let due = points_due left rate len xs in
     let fits = fits_next rate all xs [] y is fitting in
     let last : length xs + 1 ≡ points_of rate len = omega (arith, whole, ap length is, length-append xs (y ∷ [])) in
-    let field : Route symbols (Body due) (frame_due (left - 1)) (point_octets y) (frame_with rate len (xs ++ y ∷ []) ∷ []) =
-    route_field symbols (Body due) (frame_due (left - 1)) (point_octets y) (frame_with rate len (xs ++ y ∷ []) ∷ [])
+    let field : Route symbols (behind_head due) (frame_due (left - 1)) (point_octets y) (frame_with rate len (xs ++ y ∷ []) ∷ []) =
+    route_field symbols (behind_head due) (frame_due (left - 1)) (point_octets y) (frame_with rate len (xs ++ y ∷ []) ∷ [])
     (point_field due y _ fits (last_point due y fits last)) in
-    subst (λ (z : List Point). Route symbols (Body due) (frame_due (left - 1)) (flat_map point_octets (y ∷ [])) (frame_with rate len z ∷ [])) (sym is)
-    (route_as symbols (Body due) (frame_due (left - 1)) (point_octets y) _ (frame_with rate len (xs ++ y ∷ []) ∷ []) (sym (append-nil (point_octets y))) field)
+    subst (λ (z : List Point). Route symbols (behind_head due) (frame_due (left - 1)) (flat_map point_octets (y ∷ [])) (frame_with rate len z ∷ [])) (sym is)
+    (route_as symbols (behind_head due) (frame_due (left - 1)) (point_octets y) _ (frame_with rate len (xs ++ y ∷ []) ∷ []) (sym (append-nil (point_octets y))) field)
 route_frame_points (z ∷ ys) y left rate len xs all is fitting whole =
     let due = points_due left rate len xs in
     let fits = fits_next rate all xs (z ∷ ys) y is fitting in
     let few : length xs + 1 < points_of rate len = omega (arith, whole, ap length is, length-append xs (y ∷ (z ∷ ys))) in
-    route_then symbols (Body due) (Body (points_due left rate len (xs ++ y ∷ []))) (frame_due (left - 1))
+    route_then symbols (behind_head due) (behind_head (points_due left rate len (xs ++ y ∷ []))) (frame_due (left - 1))
     (point_octets y) (flat_map point_octets (z ∷ ys)) [] (frame_with rate len all ∷ [])
-    (route_field symbols (Body due) (Body (points_due left rate len (xs ++ y ∷ []))) (point_octets y) []
+    (route_field symbols (behind_head due) (behind_head (points_due left rate len (xs ++ y ∷ []))) (point_octets y) []
     (point_field due y _ fits (next_point due y fits few)))
     (route_frame_points ys z left rate len (xs ++ y ∷ []) all (more_behind all xs (z ∷ ys) y is) fitting whole)
 
@@ -213,10 +214,10 @@ points_some f is = omega (arith, is.whole, points_of-some f.rate f.length)
 
 all_points : (points : List Point) (left : ℕ) (f : SymbolsView) → AreFitting f.rate points → points ≡ f.points
     → length points ≡ points_of f.rate f.length → 0 < length points
-    → Route symbols (Body (first_point left f.rate f.length)) (frame_due (left - 1)) (flat_map point_octets points) (f ∷ [])
+    → Route symbols (behind_head (first_point left f.rate f.length)) (frame_due (left - 1)) (flat_map point_octets points) (f ∷ [])
 all_points [] left f fitting same whole some = absurd (omega (arith, some))
 all_points (y ∷ ys) left f fitting same whole some =
-    subst (λ (z : List Point). Route symbols (Body (first_point left f.rate f.length)) (frame_due (left - 1)) (flat_map point_octets (y ∷ ys))
+    subst (λ (z : List Point). Route symbols (behind_head (first_point left f.rate f.length)) (frame_due (left - 1)) (flat_map point_octets (y ∷ ys))
     (frame_with f.rate f.length z ∷ [])) same
     (route_frame_points ys y left f.rate f.length [] (y ∷ ys) refl fitting whole)
 
@@ -226,20 +227,10 @@ pub route_symbols : (left : ℕ) (f : SymbolsView) → 0 < left → IsSymbolFram
 unfolding symbols_octets
 route_symbols left f some is =
     let small : f.length < 2 ^ 16 = omega (arith, is.bounded) in
-    route_then symbols (frame_due left) (Body (first_point left f.rate f.length)) (frame_due (left - 1)) (head_octets f.rate f.length)
+    route_then symbols (frame_due left) (behind_head (first_point left f.rate f.length)) (frame_due (left - 1)) (head_octets f.rate f.length)
     (flat_map point_octets f.points) [] (f ∷ [])
     (route_head pointed left f.rate f.length some is.some small)
     (all_points f.points left f (fitting_all f.rate f.length f.points is) refl is.whole (points_some f is))
-
--- the whole file
-pub symbols_written : (fs : List SymbolsView) → AreSymbolFrames fs → IsFile symbols (symbols_file_of fs) fs
-unfolding symbols_file_of
-symbols_written fs are = file_written pointed symbols_octets IsSymbolFrame route_symbols fs are.few are.fit
-
--- symbols of one file
-pub symbols_same : (fs gs : List SymbolsView) → AreSymbolFrames fs → AreSymbolFrames gs → symbols_file_of fs ≡ symbols_file_of gs → fs ≡ gs
-symbols_same fs gs are also same =
-    file_items symbols (symbols_file_of gs) fs gs (subst (λ (z : List ℕ). IsFile symbols z fs) same (symbols_written fs are)) (symbols_written gs also)
 
 kind_named : (carrier : Carrier) → IsNamed (kind_on carrier)
 kind_named (Data m) = (λ e. cc, λ e. cc)
@@ -248,21 +239,21 @@ kind_named (Pilot k) = (λ e. cc, λ e. cc)
 -- what ended the reading of a frame's points ended that of the frame
 pub points_end : (left : ℕ) (rate : Rate) (len at : ℕ) (source mid after : Device ℕ) (fault : InFault)
     → 0 < left → 1 ≤ len → len < 2 ^ 16 → Takes source mid (head_octets rate len) → IsLater source mid
-    → EndsEarly (reader_in symbols (Body (first_point left rate len)) (at + 4) mid) after fault
+    → EndsEarly (reader_in symbols (behind_head (first_point left rate len)) (at + 4) mid) after fault
     → EndsEarly (reader_in symbols (frame_due left) at source) after fault
 points_end left rate len at source mid after fault left_some some small taken later ends =
-    route_ends symbols (frame_due left) (Body (first_point left rate len)) (head_octets rate len) [] at (at + 4) source mid after fault
+    route_ends symbols (frame_due left) (behind_head (first_point left rate len)) (head_octets rate len) [] at (at + 4) source mid after fault
     (route_head pointed left rate len left_some some small) (head_size rate len at) taken later ends
 
 -- what ended it in a symbol ended it behind the symbols before
 pub symbols_end : (left : ℕ) (rate : Rate) (len start at : ℕ) (points : List Point) (source mid after : Device ℕ) (fault : InFault)
     → AreFitting rate points → length points < points_of rate len → at ≡ start + 2 * length points
     → Takes source mid (flat_map point_octets points) → IsLater source mid
-    → EndsEarly (reader_in symbols (Body (points_due left rate len points)) at mid) after fault
-    → EndsEarly (reader_in symbols (Body (first_point left rate len)) start source) after fault
+    → EndsEarly (reader_in symbols (behind_head (points_due left rate len points)) at mid) after fault
+    → EndsEarly (reader_in symbols (behind_head (first_point left rate len)) start source) after fault
 symbols_end left rate len start at points source mid after fault fitting few place taken later ends =
     let behind : at ≡ start + length (flat_map point_octets points) = omega (arith, place, length-points points) in
-    route_ends symbols (Body (first_point left rate len)) (Body (points_due left rate len points)) (flat_map point_octets points) [] start at
+    route_ends symbols (behind_head (first_point left rate len)) (behind_head (points_due left rate len points)) (flat_map point_octets points) [] start at
     source mid after fault (route_points points left rate len [] points refl fitting few) behind taken later ends
 
 -- the sizes of the points that were added
@@ -279,23 +270,23 @@ added_size old new added octets rest is split =
     )
 
 added_route : (left : ℕ) (r : Rate) (len : ℕ) (old new added : List Point) → new ≡ old ++ added → AreFitting r new → length new < points_of r len
-    → Route symbols (Body (points_due left r len old)) (Body (points_due left r len new)) (flat_map point_octets added) []
+    → Route symbols (behind_head (points_due left r len old)) (behind_head (points_due left r len new)) (flat_map point_octets added) []
 added_route left r len old new added is fitting few = route_points added left r len old new is fitting few
 
 -- a point of a symbol was at fault
 pub symbol_misfit : (left : ℕ) (r : Rate) (len at w : ℕ) (old new : List Point) (octets : List ℕ) (source after : Device ℕ) (fault : InFault)
     → AreFitting r new → length octets ≤ 2 * w → length old + w ≤ points_of r len → Takes source after octets → MeetsMisfit r at old new octets fault
-    → EndsEarly (reader_in symbols (Body (points_due left r len old)) at source) after fault
+    → EndsEarly (reader_in symbols (behind_head (points_due left r len old)) at source) after fault
 symbol_misfit left r len at w old new octets source after fault fitting most room taken meets =
     let due = points_due left r len new in
     let place = length new in
     let bad = meets.bad in
     let few : length new < points_of r len =
     omega (arith, added_size old new meets.added octets (bad ++ meets.rest) meets.points meets.split, length-append bad meets.rest, meets.two, most, room) in
-    let judge = judges_checked symbols (Body due) 2 (kind_on (carrier_at_place r place)) (misfits_place r place) (good_point due) refl (omega arith)
+    let judge = judges_checked symbols (behind_head due) 2 (kind_on (carrier_at_place r place)) (misfits_place r place) (good_point due) refl (omega arith)
     (kind_named (carrier_at_place r place)) in
-    subst (λ (f : InFault). EndsEarly (reader_in symbols (Body (points_due left r len old)) at source) after f) (sym meets.fault_is)
-    (block_refused symbols (Body (points_due left r len old)) (Body due) (flat_map point_octets meets.added) bad meets.rest at
+    subst (λ (f : InFault). EndsEarly (reader_in symbols (behind_head (points_due left r len old)) at source) after f) (sym meets.fault_is)
+    (block_refused symbols (behind_head (points_due left r len old)) (behind_head due) (flat_map point_octets meets.added) bad meets.rest at
     (kind_on (carrier_at_place r place)) source after (added_route left r len old new meets.added meets.points fitting few)
     (judge.bad bad meets.two meets.misfit)
     (takes_as source after octets (flat_map point_octets meets.added ++ (bad ++ meets.rest)) meets.split taken))
@@ -304,25 +295,25 @@ symbol_misfit left r len at w old new octets source after fault fitting most roo
 pub symbol_ended : (left : ℕ) (r : Rate) (len at w : ℕ) (old new : List Point) (octets : List ℕ) (source after : Device ℕ) (fault : InFault)
     → AreFitting r new → length octets < 2 * w → length old + w ≤ points_of r len → TakesAll source after octets → AddsPoints old new octets
     → fault ≡ Format (record { kind = Truncated; offset = at + length octets })
-    → EndsEarly (reader_in symbols (Body (points_due left r len old)) at source) after fault
+    → EndsEarly (reader_in symbols (behind_head (points_due left r len old)) at source) after fault
 symbol_ended left r len at w old new octets source after fault fitting most room taken adds is =
     let few : length new < points_of r len =
     omega (arith, added_size old new adds.added octets adds.rest adds.points adds.split, adds.short, most, room) in
-    subst (λ (f : InFault). EndsEarly (reader_in symbols (Body (points_due left r len old)) at source) after f) (sym is)
-    (subst (λ (z : List ℕ). EndsEarly (reader_in symbols (Body (points_due left r len old)) at source) after
+    subst (λ (f : InFault). EndsEarly (reader_in symbols (behind_head (points_due left r len old)) at source) after f) (sym is)
+    (subst (λ (z : List ℕ). EndsEarly (reader_in symbols (behind_head (points_due left r len old)) at source) after
     (Format (record { kind = Truncated; offset = at + length z }))) (sym adds.split)
-    (block_ended symbols (Body (points_due left r len old)) (Body (points_due left r len new)) (flat_map point_octets adds.added) adds.rest at source after
+    (block_ended symbols (behind_head (points_due left r len old)) (behind_head (points_due left r len new)) (flat_map point_octets adds.added) adds.rest at source after
     (added_route left r len old new adds.added adds.points fitting few) adds.short
     (subst (λ (z : List ℕ). TakesAll source after z) adds.split taken)))
 
 -- the source failed within a symbol
 pub symbol_broke : (left : ℕ) (r : Rate) (len at w : ℕ) (old new : List Point) (octets : List ℕ) (source after : Device ℕ)
     → AreFitting r new → length octets < 2 * w → length old + w ≤ points_of r len → Takes source after octets → AddsPoints old new octets
-    → Rose source after → EndsEarly (reader_in symbols (Body (points_due left r len old)) at source) after Read
+    → Rose source after → EndsEarly (reader_in symbols (behind_head (points_due left r len old)) at source) after Read
 symbol_broke left r len at w old new octets source after fitting most room taken adds rose =
     let few : length new < points_of r len =
     omega (arith, added_size old new adds.added octets adds.rest adds.points adds.split, adds.short, most, room) in
-    block_broke symbols (Body (points_due left r len old)) (Body (points_due left r len new)) (flat_map point_octets adds.added) adds.rest at source after
+    block_broke symbols (behind_head (points_due left r len old)) (behind_head (points_due left r len new)) (flat_map point_octets adds.added) adds.rest at source after
     (added_route left r len old new adds.added adds.points fitting few) adds.short
     (takes_as source after octets (flat_map point_octets adds.added ++ adds.rest) adds.split taken) rose
 
@@ -384,6 +375,25 @@ points_of-few r len bounded =
 
 pub points_few : (r : Rate) (len : ℕ) (points : List Point) → IsSymbols r len points → length points ≤ 9195696
 points_few r len points is = omega (arith, is.whole, points_of-few r len is.bounded)
+
+-- what the format owes to the reading of its files
+pub symbols_counted : IsCounted (headed pointed) symbols_octets IsSymbolFrame 18391396
+symbols_counted = record {
+  count = is_count;
+  leads = λ left f some is. leads_by symbols (frame_due left) (frame_due (left - 1)) (symbols_octets f) (f ∷ []) (route_symbols left f some is);
+  short = λ f is. omega (arith, length_symbols f f.points refl, points_few f.rate f.length f.points is);
+  room = omega arith;
+}
+
+-- the whole file
+pub symbols_written : (fs : List SymbolsView) → AreSymbolFrames fs → IsFile symbols (symbols_file_of fs) fs
+unfolding symbols_file_of
+symbols_written = written (headed pointed) symbols_octets IsSymbolFrame 18391396 symbols_counted
+
+-- symbols of one file
+pub symbols_same : (fs gs : List SymbolsView) → AreSymbolFrames fs → AreSymbolFrames gs → symbols_file_of fs ≡ symbols_file_of gs → fs ≡ gs
+unfolding symbols_file_of
+symbols_same = same (headed pointed) symbols_octets IsSymbolFrame 18391396 symbols_counted
 
 pub count_is : (r : Rate) (len n a b : ℕ) → n ≡ symbols_of r len → a ≡ carriers_of r → b ≡ streams_of r → n * (a * b) ≡ points_of r len
 unfolding points_of

@@ -1,11 +1,12 @@
 -- Files of frames as lists of fields.
-use Rattle.std.specs.Prelude.{ℕ, ◌-◌, List, [], ◌∷◌, nat_eq, nat_lt, Bool, ◌||◌}
+use Rattle.std.specs.Prelude.{ℕ, ◌-◌, List, [], ◌∷◌}
 use Rattle.ht_io.specs.declared.faults.Kind.TheVariants.{BadSeed}
 use Rattle.ht_fields.specs.Grammar.{Grammar, Due, field, Verdict, Good}
 use Rattle.ht_fields.specs.Tests.{checked, octet_of}
 use Rattle.ht_rate.specs.declared.rates.Rate.{Rate}
 use Rattle.ht_tx.specs.Frames.{FrameView}
-use Rattle.ht_files.specs.HeadedFormats.{HeadState, HeadedFormat, Body, frame_due, grammar_of}
+use Rattle.ht_counted.specs.Seeds.{is_no_seed}
+use Rattle.ht_files.specs.HeadedFormats.{HeadState, HeadedFormat, behind_head, frame_due, grammar_of}
 
 -- which field is due behind the head of a frame: the seed, or the octets of the PSDU
 pub data FrameState : Type 0 where
@@ -16,12 +17,8 @@ pub data FrameState : Type 0 where
 abbrev pub frames_magic : List ℕ
 frames_magic = 72 ∷ 84 ∷ 84 ∷ 88 ∷ []
 
--- the octet is no seed
-abbrev pub is_no_seed : List ℕ → Bool
-is_no_seed octets = nat_eq (octet_of octets) 0 || nat_lt 127 (octet_of octets)
-
 unfoldable pub good_seed : ℕ → Rate → ℕ → List ℕ → Verdict (HeadState FrameState) FrameView
-good_seed left rate len octets = Good (Body (Octets left rate len (octet_of octets))) []
+good_seed left rate len octets = Good (behind_head (Octets left rate len (octet_of octets))) []
 
 -- behind its octets the frame is whole
 unfoldable pub good_octets : ℕ → Rate → ℕ → List ℕ → Verdict (HeadState FrameState) FrameView

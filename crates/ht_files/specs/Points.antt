@@ -18,7 +18,7 @@ use Rattle.ht_rate.specs.Rates.{carriers_of, modulation_of, streams_of}
 use Rattle.ht_pam.specs.declared.point.Point.{Point}
 use Rattle.ht_map.specs.Gray.{label_of}
 use Rattle.ht_tx.specs.Symbols.{SymbolsView, pilot_point, points_of}
-use Rattle.ht_files.specs.HeadedFormats.{HeadState, HeadedFormat, Body, frame_due, grammar_of}
+use Rattle.ht_files.specs.HeadedFormats.{HeadState, HeadedFormat, behind_head, frame_due, grammar_of}
 use Rattle.ht_files.specs.Places.{symbol_at_place, carrier_at_place, stream_at_place}
 
 -- behind the head of a frame the next point is due: the frames that are left, this one among them, its rate and length,
@@ -102,7 +102,7 @@ unfoldable pub good_point : PointDue → List ℕ → Verdict (HeadState PointDu
 good_point due octets =
     if nat_eq (length due.points + 1) (points_of due.rate due.length)
     then Good (frame_due (due.left - 1)) (record { rate = due.rate; length = due.length; points = points_with due octets } ∷ [])
-    else Good (Body (record { left = due.left; rate = due.rate; length = due.length; points = points_with due octets })) []
+    else Good (behind_head (record { left = due.left; rate = due.rate; length = due.length; points = points_with due octets })) []
 
 -- a point is one field of two octets
 abbrev pub point_due : PointDue → Due (HeadState PointDue) SymbolsView

@@ -1,7 +1,9 @@
 -- The octets of a file of symbols. All numbers are big-endian, signed ones in two's complement.
-use Rattle.std.specs.Prelude.{ℕ, ◌≤◌, List, ◌++◌, length, flat_map, All}
+use Rattle.std.specs.Prelude.{ℕ, List, ◌++◌, flat_map}
 use Rattle.ht_tx.specs.Symbols.{SymbolsView, IsSymbols}
-use Rattle.ht_heads.specs.Heads.{start_octets, head_octets}
+use Rattle.ht_heads.specs.Heads.{head_octets}
+use Rattle.ht_counted.specs.Counted.{AreCounted, counted_octets}
+use Rattle.ht_files.specs.HeadedFormats.{frame_limits}
 use Rattle.ht_files.specs.Points.{point_octets, symbols_magic}
 
 -- the symbols of a frame: bandwidth, MCS and length, and the points in the order symbol, subcarrier, stream
@@ -10,13 +12,12 @@ symbols_octets f = head_octets f.rate f.length ++ flat_map point_octets f.points
 
 -- the file of the symbols of frames
 unfoldable pub symbols_file_of : List SymbolsView → List ℕ
-symbols_file_of frames = start_octets symbols_magic 1 (length frames) ++ flat_map symbols_octets frames
+symbols_file_of frames = counted_octets symbols_magic 2 symbols_octets frames
 
 -- all points of a PSDU of 1 to 65535 octets, each fitting its subcarrier
 abbrev pub IsSymbolFrame : SymbolsView → Type 0
 IsSymbolFrame f = IsSymbols f.rate f.length f.points
 
 -- frames of whose symbols a file can be written: at most 65535
-pub record AreSymbolFrames (frames : List SymbolsView) : Type 0 where
-  pub few : length frames ≤ 65535
-  pub fit : All IsSymbolFrame frames
+abbrev pub AreSymbolFrames : List SymbolsView → Type 0
+AreSymbolFrames = AreCounted frame_limits IsSymbolFrame

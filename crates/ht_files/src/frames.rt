@@ -1,53 +1,22 @@
 //! Files of frames that are read whole.
-ghost use Rattle.std.specs.Prelude.{◌≡◌, ◌<◌, ◌+◌, ◌^◌, ℕ, [], ◌∷◌, length, IfOk, IfErr};
+ghost use Rattle.std.specs.Prelude.{◌≡◌, ◌<◌, ◌+◌, ◌^◌, ℕ, IfOk, IfErr};
 ghost use Rattle.ht_io.specs.Devices.{Takes, IsLater};
-ghost use Rattle.ht_io.specs.declared.faults.Kind.TheVariants.{BadSeed};
-ghost use Rattle.ht_io.specs.declared.faults.InFault.TheVariants.{NoMemory};
-ghost use Rattle.ht_fields.specs.Lacking.{FailsField};
 ghost use Rattle.ht_fields.specs.Readers.{reader_in};
 ghost use Rattle.ht_fields.specs.WholeFiles.{EndsEarly, ReadsWhole};
-ghost use Rattle.ht_scramble.specs.Sequence.{IsSeed};
 ghost use Rattle.ht_tx.specs.Frames.{IsPsdu};
-ghost use Rattle.ht_files.specs.HeadedFormats.{frame_due};
-ghost use Rattle.ht_files.specs.Frames.{frames as frames_format, is_no_seed};
+ghost use Rattle.ht_files.specs.HeadedFormats.{HeadBody, frame_due, headed};
+ghost use Rattle.ht_files.specs.Frames.{FrameState, framed, frames as frames_format};
 ghost use Rattle.ht_files.specs.Files.{AreFrames, IsFrame, frame_octets, frames_file_of};
 
-use crate::starting::start;
-use ht_fields::{bad, end, fill, octet};
+use crate::limits::frame_limits;
+use ht_counted::{Entries, read_whole, seed, zeros};
+use ht_fields::fill;
 use ht_heads::head;
-use ht_io::{InFault, Kind, Source};
+use ht_io::{InFault, Source};
 use ht_rate::Rate;
 use ht_scramble::Seed;
 use ht_tx::Frame;
 use std::alloc::Global;
-
-// Reads the seed of a frame, 1 to 127.
-fn seed<S: Source>(source: &mut S, at: u64) -> Result<Seed, InFault>
-    requires room { at + 1 < 2 ^ 64 }
-    ensures whole { IfOk result (λ seed. Takes (S.shown source.old) (S.shown source.new) (seed ∷ [])) }
-    ensures seed { IfOk result (λ seed. IsSeed seed) }
-    ensures failed { IfErr result (FailsField 1 BadSeed is_no_seed at (S.shown source.old) (S.shown source.new)) }
-    ensures later { IsLater (S.shown source.old) (S.shown source.new) }
-{
-    match octet(source, at) {
-        Ok(value) => match Seed::new(value) {
-            Some(seed) => Ok(seed),
-            None => Err(bad(Kind::BadSeed, at)),
-        },
-        Err(fault) => Err(fault),
-    }
-}
-
-// Room for octets.
-fn zeros(alloc: Global, count: u16) -> Result<Vec<u8>, InFault>
-    ensures size { IfOk result (λ octets. length octets.items ≡ count) }
-    ensures memory { IfErr result (λ fault. fault ≡ NoMemory) }
-{
-    match vec![in alloc; 0u8; count as usize] {
-        Ok(octets) => Ok(octets),
-        Err(_) => Err(InFault::NoMemory),
-    }
-}
 
 // The frame of these octets.
 fn made(rate: Rate, seed: Seed, octets: Vec<u8>) -> Frame
@@ -87,6 +56,36 @@ fn frame<S: Source>(alloc: Global, source: &mut S, at: u64) -> Result<Frame, InF
     }
 }
 
+// The frames of a file, one by one.
+#[derive(Drop)]
+struct Frames {
+    alloc: Global,
+}
+
+impl Entries for Frames {
+    type Entry = Frame;
+
+    ghost State = { HeadBody FrameState };
+
+    ghost format = { headed framed };
+
+    ghost octets = { frame_octets };
+
+    ghost fits = { IsFrame };
+
+    ghost most = { 65540 };
+
+    ghost ready = { λ _. Unit {0} };
+
+    fn read<S: Source>(&mut self, source: &mut S, at: u64) -> Result<Frame, InFault> {
+        frame(self.alloc, source, at)
+    }
+
+    fn size(frame: &Frame) -> u64 {
+        5 + frame.octets().len() as u64
+    }
+}
+
 /// Reads a file of frames (HTTX) to its end, and gives its frames.
 ///
 /// `Format` comes at the first fault of the file, and `Read` where the source failed before any fault.
@@ -98,25 +97,6 @@ pub fn read_frames<S: Source>(alloc: Global, source: &mut S) -> Result<Vec<Frame
     ensures refused { IfErr result (EndsEarly (reader_in frames_format frames_format.start 0 (S.shown source.old)) (S.shown source.new)) }
     ensures later { IsLater (S.shown source.old) (S.shown source.new) }
 {
-    let count = match start(source, b"HTTX") {
-        Ok(count) => count,
-        Err(fault) => return Err(fault),
-    };
-    let mut at = 7;
-    let mut frames = Vec::new(alloc);
-    for _index in 0..count {
-        let frame = match frame(alloc, source, at) {
-            Ok(frame) => frame,
-            Err(fault) => return Err(fault),
-        };
-        at += 5 + frame.octets().len() as u64;
-        match frames.push(frame) {
-            Ok(()) => {}
-            Err(_) => return Err(InFault::NoMemory),
-        }
-    }
-    match end(source, at) {
-        Ok(()) => Ok(frames),
-        Err(fault) => Err(fault),
-    }
+    let frames = &mut Frames { alloc };
+    read_whole(alloc, b"HTTX", &frame_limits(), frames, source)
 }

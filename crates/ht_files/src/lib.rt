@@ -24,8 +24,8 @@
 
 mod frames;
 pub mod laws;
+mod limits;
 mod points;
-mod starting;
 mod symbols;
 mod writing;
 

@@ -7,7 +7,7 @@ ghost use Rattle.ht_fields.specs.WholeFiles.{EndsEarly};
 ghost use Rattle.ht_rate.specs.Carriers.{IsAmong};
 ghost use Rattle.ht_rate.specs.Rates.{carriers_of, streams_of};
 ghost use Rattle.ht_tx.specs.Symbols.{IsSymbols, points_of};
-ghost use Rattle.ht_files.specs.HeadedFormats.{Body};
+ghost use Rattle.ht_files.specs.HeadedFormats.{behind_head};
 ghost use Rattle.ht_files.specs.Places.{AreFitting};
 ghost use Rattle.ht_files.specs.Points.{AddsPoints, AreCarriers, MeetsMisfit, TakesSymbol, first_point, fits_carrier, kind_on};
 ghost use Rattle.ht_files.specs.Points.{point_in, point_octets, points_due, symbols};
@@ -135,7 +135,7 @@ fn symbol<S: Source>(
     ensures fitting { AreFitting rate.now points.new.items }
     ensures whole { OnOk result (TakesSymbol rate.now points.old.items points.new.items (S.shown source.old) (S.shown source.new)) }
     ensures failed { (left len : ℕ) → length points.old.items + carriers_of rate.now * streams_of rate.now ≤ points_of rate.now len
-        → IfErr result (EndsEarly (reader_in symbols (Body (points_due left rate.now len points.old.items)) at (S.shown source.old))
+        → IfErr result (EndsEarly (reader_in symbols (behind_head (points_due left rate.now len points.old.items)) at (S.shown source.old))
         (S.shown source.new)) }
     ensures room { vec_capacity points.new ≡ vec_capacity points.old }
     ensures later { IsLater (S.shown source.old) (S.shown source.new) }
@@ -203,7 +203,7 @@ pub fn read_points<S: Source>(
     requires room { points_of rate.now length ≤ vec_capacity points.old }
     ensures whole { OnOk result (Takes (S.shown source.old) (S.shown source.new) (flat_map point_octets points.new.items)) }
     ensures fits { OnOk result (IsSymbols rate.now length points.new.items) }
-    ensures failed { (left : ℕ) → IfErr result (EndsEarly (reader_in symbols (Body (first_point left rate.now length)) at (S.shown source.old))
+    ensures failed { (left : ℕ) → IfErr result (EndsEarly (reader_in symbols (behind_head (first_point left rate.now length)) at (S.shown source.old))
         (S.shown source.new)) }
     ensures later { IsLater (S.shown source.old) (S.shown source.new) }
 {

@@ -3,13 +3,13 @@ ghost use Rattle.std.specs.Prelude.{◌<◌, ◌+◌, ◌^◌, ℕ, IfOk, IfErr}
 ghost use Rattle.ht_io.specs.Devices.{Takes, IsLater};
 ghost use Rattle.ht_fields.specs.Readers.{reader_in};
 ghost use Rattle.ht_fields.specs.WholeFiles.{EndsEarly, ReadsWhole};
-ghost use Rattle.ht_files.specs.HeadedFormats.{frame_due};
-ghost use Rattle.ht_files.specs.Points.{symbols as symbols_format};
+ghost use Rattle.ht_files.specs.HeadedFormats.{HeadBody, frame_due, headed};
+ghost use Rattle.ht_files.specs.Points.{PointDue, pointed, symbols as symbols_format};
 ghost use Rattle.ht_files.specs.SymbolFiles.{AreSymbolFrames, IsSymbolFrame, symbols_octets, symbols_file_of};
 
+use crate::limits::frame_limits;
 use crate::points::{read_points, room};
-use crate::starting::start;
-use ht_fields::end;
+use ht_counted::{Entries, read_whole};
 use ht_heads::head;
 use ht_io::{InFault, Source};
 use ht_tx::{Points, Symbols};
@@ -38,6 +38,36 @@ fn frame<S: Source>(alloc: Global, source: &mut S, at: u64) -> Result<Symbols, I
     }
 }
 
+// The symbols of the frames of a file, frame by frame.
+#[derive(Drop)]
+struct SymbolFrames {
+    alloc: Global,
+}
+
+impl Entries for SymbolFrames {
+    type Entry = Symbols;
+
+    ghost State = { HeadBody PointDue };
+
+    ghost format = { headed pointed };
+
+    ghost octets = { symbols_octets };
+
+    ghost fits = { IsSymbolFrame };
+
+    ghost most = { 18391396 };
+
+    ghost ready = { λ _. Unit {0} };
+
+    fn read<S: Source>(&mut self, source: &mut S, at: u64) -> Result<Symbols, InFault> {
+        frame(self.alloc, source, at)
+    }
+
+    fn size(frame: &Symbols) -> u64 {
+        4 + 2 * frame.points().len() as u64
+    }
+}
+
 /// Reads a file of symbols (HTSY) to its end, and gives the symbols of its frames.
 ///
 /// `Format` comes at the first fault of the file, and `Read` where the source failed before any fault.
@@ -49,25 +79,6 @@ pub fn read_symbols<S: Source>(alloc: Global, source: &mut S) -> Result<Vec<Symb
     ensures refused { IfErr result (EndsEarly (reader_in symbols_format symbols_format.start 0 (S.shown source.old)) (S.shown source.new)) }
     ensures later { IsLater (S.shown source.old) (S.shown source.new) }
 {
-    let count = match start(source, b"HTSY") {
-        Ok(count) => count,
-        Err(fault) => return Err(fault),
-    };
-    let mut at = 7;
-    let mut frames = Vec::new(alloc);
-    for _index in 0..count {
-        let frame = match frame(alloc, source, at) {
-            Ok(frame) => frame,
-            Err(fault) => return Err(fault),
-        };
-        at += 4 + 2 * frame.points().len() as u64;
-        match frames.push(frame) {
-            Ok(()) => {}
-            Err(_) => return Err(InFault::NoMemory),
-        }
-    }
-    match end(source, at) {
-        Ok(()) => Ok(frames),
-        Err(fault) => Err(fault),
-    }
+    let frames = &mut SymbolFrames { alloc };
+    read_whole(alloc, b"HTSY", &frame_limits(), frames, source)
 }

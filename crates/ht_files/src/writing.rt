@@ -6,8 +6,9 @@ ghost use Rattle.ht_files.specs.Files.{frames_file_of, frame_octets};
 ghost use Rattle.ht_files.specs.Points.{point_octets};
 ghost use Rattle.ht_files.specs.SymbolFiles.{symbols_file_of, symbols_octets};
 
+use ht_counted::{Putter, write_whole};
 use ht_fields::Chunk;
-use ht_heads::{head_of, start_of};
+use ht_heads::head_of;
 use ht_io::{Failed, Sink};
 use ht_pam::Point;
 use ht_tx::{Frame, Symbols};
@@ -37,6 +38,20 @@ fn put_frame<K: Sink>(frame: &Frame, sink: &mut K) -> Result<(), Failed>
     sink.put(frame.octets())
 }
 
+// Frames, put one by one.
+#[derive(Drop)]
+struct Frames;
+
+impl Putter for Frames {
+    type Entry = Frame;
+
+    ghost octets = { frame_octets };
+
+    fn put<K: Sink>(&mut self, frame: &Frame, sink: &mut K) -> Result<(), Failed> {
+        put_frame(frame, sink)
+    }
+}
+
 /// Puts the file of these frames (HTTX). It takes no memory.
 ///
 /// Where the sink fails, a part of the file from its front was put.
@@ -49,12 +64,7 @@ pub fn write_frames<K: Sink>(frames: &[Frame], sink: &mut K) -> Result<(), Faile
     ensures cause { OnErr result (Rose (K.shown sink.old) (K.shown sink.new)) }
     ensures later { IsLater (K.shown sink.old) (K.shown sink.new) }
 {
-    let start = start_of(b"HTTX", 1, frames.len() as u16);
-    sink.put(&start)?;
-    for frame in frames {
-        put_frame(frame, sink)?;
-    }
-    Ok(())
+    write_whole(b"HTTX", frames, &mut Frames, sink)
 }
 
 // The octets of a point.
@@ -109,6 +119,22 @@ fn put_symbols<K: Sink>(frame: &Symbols, chunk: &mut Chunk, sink: &mut K) -> Res
     put_points(frame.points(), chunk, sink)
 }
 
+// The symbols of frames, put frame by frame by way of a chunk.
+#[derive(Drop)]
+struct SymbolFrames {
+    chunk: Chunk,
+}
+
+impl Putter for SymbolFrames {
+    type Entry = Symbols;
+
+    ghost octets = { symbols_octets };
+
+    fn put<K: Sink>(&mut self, frame: &Symbols, sink: &mut K) -> Result<(), Failed> {
+        put_symbols(frame, &mut self.chunk, sink)
+    }
+}
+
 /// Puts the file of the symbols of these frames (HTSY). It takes no memory.
 ///
 /// Where the sink fails, a part of the file from its front was put.
@@ -121,11 +147,8 @@ pub fn write_symbols<K: Sink>(frames: &[Symbols], sink: &mut K) -> Result<(), Fa
     ensures cause { OnErr result (Rose (K.shown sink.old) (K.shown sink.new)) }
     ensures later { IsLater (K.shown sink.old) (K.shown sink.new) }
 {
-    let start = start_of(b"HTSY", 1, frames.len() as u16);
-    sink.put(&start)?;
-    let mut chunk = Chunk::new();
-    for frame in frames {
-        put_symbols(frame, &mut chunk, sink)?;
-    }
-    Ok(())
+    let mut putter = SymbolFrames {
+        chunk: Chunk::new(),
+    };
+    write_whole(b"HTSY", frames, &mut putter, sink)
 }

@@ -4,12 +4,10 @@ use Rattle.std.proofs.Common.{is_some, true, false, refl, sym, ap, subst, ◌∙
 use Rattle.std.specs.Ordering.{int_eq}
 use Rattle.std.proofs.lemmas.Bool.{and_from, cases_Bool}
 use Rattle.std.proofs.lemmas.Bool.Decides.{Decides-int_eq}
-use Rattle.std.proofs.lemmas.List.Elements.{All-from_recursion}
 use Rattle.std.specs.List.{AllByRecursion}
 use Rattle.ht_fields.specs.Grammar.{Good}
 use Rattle.ht_fields.specs.Cases.{CanEnd, IsEnd, IsField, IsFile}
-use Rattle.ht_fields.specs.Tests.{AreBytes, checked}
-use Rattle.ht_fields.proofs.Answered.{file_items}
+use Rattle.ht_fields.specs.Tests.{AreBytes}
 use Rattle.ht_fields.proofs.Choices.{checked_good, when_false, when_true}
 use Rattle.ht_rate.specs.declared.kinds.Carrier.{Carrier}
 use Rattle.ht_rate.specs.declared.kinds.Carrier.TheVariants.{Data, Pilot}
@@ -22,15 +20,17 @@ use Rattle.ht_map.specs.Gray.{point_of}
 use Rattle.ht_map.proofs.LabelFacts.{label_of-point_of}
 use Rattle.ht_pam.specs.declared.point.Point.{Point}
 use Rattle.ht_tx.specs.Symbols.{Fits, SymbolsView, origin, pilot_point, points_of}
-use Rattle.ht_files.specs.HeadedFormats.{HeadState, Body, frame_due}
+use Rattle.ht_counted.proofs.Ends.{field_first}
+use Rattle.ht_counted.proofs.Passing.{other_way, passed, same_good, same_number}
+use Rattle.ht_files.specs.HeadedFormats.{HeadState, behind_head, frame_due}
 use Rattle.ht_files.specs.Places.{FitsPlace, carrier_at_place, stream_at_place, symbol_at_place}
 use Rattle.ht_files.specs.Points.{PointDue, first_point, fits_carrier, good_point, kind_on, misfits, misfits_place, point_in, point_octets, pointed, symbols}
 use Rattle.ht_files.specs.SymbolFiles.{AreSymbolFrames, IsSymbolFrame, symbols_file_of, symbols_octets}
 use Rattle.ht_files.proofs.Levels.{fits_true, octets_back, point_back}
-use Rattle.ht_files.proofs.PointRoutes.{points_of-some, symbols_all, symbols_written}
-use Rattle.ht_files_laws.proofs.Back.{BodyTail, Wrote, file_back, frames_back}
-use Rattle.ht_files_laws.proofs.Ends.{HasAnEnd, Sound, can_end, due_end, due_sound, field_first}
-use Rattle.ht_files_laws.proofs.Passing.{other_number, other_way, passes, same_good, same_number, still_less}
+use Rattle.ht_files.proofs.PointRoutes.{points_of-some, symbols_all, symbols_counted}
+use Rattle.ht_files_laws.proofs.Back.{BodyTail, Wrote_file, frames_back, of_frames_of, same_state}
+use Rattle.ht_files_laws.proofs.Ends.{HasEnd, IsSound, frames_end, frames_sound, heads_can_end}
+use Rattle.ht_files_laws.proofs.Passing.{other_number, still_less}
 
 abbrev rate : SymbolsView → Rate
 rate f = f.rate
@@ -50,7 +50,10 @@ wrote_body due octets =
     × (length fs ≡ due.left - 1) × AllByRecursion IsSymbolFrame fs
 
 abbrev Written : HeadState PointDue → List ℕ → Type 0
-Written s octets = Wrote pointed rate size body IsSymbolFrame wrote_body s octets
+Written s octets = Wrote_file pointed rate size body IsSymbolFrame wrote_body s octets
+
+as_state : (s t : HeadState PointDue) (rest : List ℕ) → s ≡ t → Written t rest → Written s rest
+as_state = same_state pointed rate size body IsSymbolFrame wrote_body
 
 first_back : (left : ℕ) (r : Rate) (len : ℕ) (octets : List ℕ) → 1 ≤ len → len < 2 ^ 16
     → wrote_body (first_point left r len) octets → BodyTail pointed rate size body IsSymbolFrame wrote_body left r len octets
@@ -114,42 +117,31 @@ more_back due x rest is fits w =
 
 body_back : (due : PointDue) (next : HeadState PointDue) (x : List ℕ) (here : List SymbolsView) (rest : List ℕ) → AreBytes x
     → IsField (pointed.due due) x (Good next here) → Written next rest → wrote_body due (x ++ rest)
-unfolding checked good_point
+unfolding good_point
 body_back due next x here rest bytes good w =
     let n = length due.points in
     let p : Point = point_in x in
     let f : SymbolsView = record { rate = due.rate; length = due.length; points = due.points ++ p ∷ [] } in
-    let passed = passes (kind_on (carrier_at_place due.rate n)) (misfits_place due.rate n x) (good_point due x) next here good.1 in
+    let fine = passed (kind_on (carrier_at_place due.rate n)) (misfits_place due.rate n) (good_point due) x next here good.1 in
     let is = octets_back x good.0 bytes in
-    let fits = fits_there due.rate n x passed.0 in
+    let fits = fits_there due.rate n x fine.0 in
     elim (cases_Bool (nat_eq (n + 1) (points_of due.rate due.length))) [
       | inl e ↦
-          let same = same_good (frame_due (due.left - 1)) next (f ∷ []) here (sym (when_true _ _ _ e) ∙ passed.1) in
+          let same = same_good (frame_due (due.left - 1)) next (f ∷ []) here (sym (when_true _ _ _ e) ∙ fine.1) in
           last_back due x rest is fits (same_number (n + 1) (points_of due.rate due.length) e)
-          (subst (λ (s : HeadState PointDue). Written s rest) (sym same.0) w)
+          (as_state (frame_due (due.left - 1)) next rest same.0 w)
       | inr e ↦
-          let same = same_good (Body (more_due due p)) next [] here (sym (when_false _ _ _ e) ∙ passed.1) in
-          more_back due x rest is fits (subst (λ (s : HeadState PointDue). Written s rest) (sym same.0) w)
+          let same = same_good (behind_head (more_due due p)) next [] here (sym (when_false _ _ _ e) ∙ fine.1) in
+          more_back due x rest is fits (as_state (behind_head (more_due due p)) next rest same.0 w)
     ]
 
 no_end : (due : PointDue) → IsEnd (pointed.due due) → ⊥
 no_end due e = e
 
-written_of : (octets : List ℕ) (fs : List SymbolsView) → AreBytes octets → IsFile symbols octets fs
-    → (gs : List SymbolsView) × AreSymbolFrames gs × (octets ≡ symbols_file_of gs)
-unfolding symbols_file_of symbols_octets
-written_of octets fs bytes file =
-    let b = file_back pointed rate size body IsSymbolFrame wrote_body first_back body_back no_end octets fs bytes file in
-    let are : AreSymbolFrames b.0 = record { few = omega (arith, b.2); fit = All-from_recursion IsSymbolFrame b.0 b.3 } in
-    (b.0, are, b.1)
-
 -- The symbols of a file can be written, and it is the file of them.
 pub of_symbols : (octets : List ℕ) (fs : List SymbolsView) → AreBytes octets → IsFile symbols octets fs → AreSymbolFrames fs × (octets ≡ symbols_file_of fs)
-of_symbols octets fs bytes file =
-    let w = written_of octets fs bytes file in
-    let same : w.0 ≡ fs = file_items symbols octets w.0 fs
-    (subst (λ (o : List ℕ). IsFile symbols o w.0) (sym w.2) (symbols_written w.0 w.1)) file in
-    (subst AreSymbolFrames same w.1, w.2 ∙ ap symbols_file_of same)
+unfolding symbols_file_of symbols_octets
+of_symbols = of_frames_of pointed rate size body IsSymbolFrame wrote_body first_back body_back no_end 18391396 symbols_counted
 
 int_same : (a b : ℤ) → a ≡ b → int_eq a b ≡ true
 int_same a b e = (Decides-int_eq a b).1 e
@@ -194,13 +186,13 @@ unfolding good_point
 good_last due x e = when_true _ _ _ e
 
 good_more : (due : PointDue) (x : List ℕ) → nat_eq (length due.points + 1) (points_of due.rate due.length) ≡ false
-    → good_point due x ≡ Good (Body (more_due due (point_in x))) []
+    → good_point due x ≡ Good (behind_head (more_due due (point_in x))) []
 unfolding good_point
 good_more due x e = when_false _ _ _ e
 
 -- from a point that is due to the end
 points_end : (n : ℕ) (due : PointDue) → length due.points < points_of due.rate due.length → points_of due.rate due.length ≤ length due.points + n
-    → HasAnEnd pointed (frame_due (due.left - 1)) → HasAnEnd pointed (Body due)
+    → HasEnd pointed (frame_due (due.left - 1)) → HasEnd pointed (behind_head due)
 points_end zero due lt few rest = absurd (omega (arith, lt, few))
 points_end (suc n) due lt few rest =
     let count = length due.points in
@@ -208,50 +200,46 @@ points_end (suc n) due lt few rest =
     let x = some_octets due.rate count in
     elim (cases_Bool (nat_eq (count + 1) total)) [
       | inl e ↦
-          field_first pointed (Body due) (frame_due (due.left - 1)) x.0
+          field_first symbols (behind_head due) (frame_due (due.left - 1)) x.0
           (record { rate = due.rate; length = due.length; points = due.points ++ point_in x.0 ∷ [] } ∷ [])
           (x.1, checked_good (kind_on (carrier_at_place due.rate count)) (misfits_place due.rate count) (good_point due) x.0 _ x.2 (good_last due x.0 e)) rest
       | inr e ↦
           let one : length (due.points ++ point_in x.0 ∷ []) ≡ count + 1 = length-append due.points (point_in x.0 ∷ []) in
           let other = other_number (count + 1) total e in
           let less : count + 1 < total = still_less count total lt other in
-          field_first pointed (Body due) (Body (more_due due (point_in x.0))) x.0 []
+          field_first symbols (behind_head due) (behind_head (more_due due (point_in x.0))) x.0 []
           (x.1, checked_good (kind_on (carrier_at_place due.rate count)) (misfits_place due.rate count) (good_point due) x.0 _ x.2 (good_more due x.0 e))
           (points_end n (more_due due (point_in x.0)) (omega (arith, one, less)) (omega (arith, one, few)) rest)
     ]
 
-first_ends : (left : ℕ) (r : Rate) (len : ℕ) → 1 ≤ len → HasAnEnd pointed (frame_due (left - 1)) → HasAnEnd pointed (Body (first_point left r len))
+first_ends : (left : ℕ) (r : Rate) (len : ℕ) → 1 ≤ len → HasEnd pointed (frame_due (left - 1)) → HasEnd pointed (behind_head (first_point left r len))
 first_ends left r len some rest = points_end (points_of r len) (first_point left r len) (points_of-some r len) (omega arith) rest
 
 -- a point is due where some are left
 abbrev some_left : PointDue → Type 0
 some_left due = length due.points < points_of due.rate due.length
 
-body_ends : (due : PointDue) → some_left due → HasAnEnd pointed (Body due)
-body_ends due sound = points_end (points_of due.rate due.length) due sound (omega arith) (due_end pointed first_ends (due.left - 1))
-
-abbrev IsSound : HeadState PointDue → Type 0
-IsSound s = Sound pointed first_ends some_left (λ left r len. points_of-some r len) body_ends s
+body_ends : (due : PointDue) → some_left due → HasEnd pointed (behind_head due)
+body_ends due sound = points_end (points_of due.rate due.length) due sound (omega arith) (frames_end pointed first_ends (due.left - 1))
 
 body_sound : (due : PointDue) (next : HeadState PointDue) (x : List ℕ) (here : List SymbolsView)
-    → IsField (pointed.due due) x (Good next here) → some_left due → IsSound next
-unfolding checked
+    → IsField (pointed.due due) x (Good next here) → some_left due → IsSound pointed some_left next
 body_sound due next x here good lt =
     let count = length due.points in
     let total = points_of due.rate due.length in
     let f : SymbolsView = record { rate = due.rate; length = due.length; points = due.points ++ point_in x ∷ [] } in
-    let passed = passes (kind_on (carrier_at_place due.rate count)) (misfits_place due.rate count x) (good_point due x) next here good.1 in
+    let fine = passed (kind_on (carrier_at_place due.rate count)) (misfits_place due.rate count) (good_point due) x next here good.1 in
     elim (cases_Bool (nat_eq (count + 1) total)) [
       | inl e ↦
-          let same = same_good (frame_due (due.left - 1)) next (f ∷ []) here (sym (good_last due x e) ∙ passed.1) in
-          subst IsSound same.0 (due_sound pointed first_ends some_left (λ left r len. points_of-some r len) body_ends (due.left - 1))
+          let same = same_good (frame_due (due.left - 1)) next (f ∷ []) here (sym (good_last due x e) ∙ fine.1) in
+          subst (IsSound pointed some_left) same.0 (frames_sound pointed some_left (due.left - 1))
       | inr e ↦
-          let same = same_good (Body (more_due due (point_in x))) next [] here (sym (good_more due x e) ∙ passed.1) in
+          let same = same_good (behind_head (more_due due (point_in x))) next [] here (sym (good_more due x e) ∙ fine.1) in
           let one : length (due.points ++ point_in x ∷ []) ≡ count + 1 = length-append due.points (point_in x ∷ []) in
           let less : count + 1 < total = still_less count total lt (other_number (count + 1) total e) in
           let left : length (due.points ++ point_in x ∷ []) < total = omega (arith, one, less) in
-          subst IsSound same.0 left
+          subst (IsSound pointed some_left) same.0 left
     ]
 
 pub symbols_can_end : CanEnd symbols
-symbols_can_end = can_end pointed first_ends some_left (λ left r len. points_of-some r len) body_ends body_sound
+symbols_can_end = heads_can_end pointed some_left first_ends body_ends (λ left r len. points_of-some r len) body_sound

@@ -103,8 +103,8 @@ impl<W: WholeFrame + Drop> Frames<W> {
         Some(errand)
     }
 
-    /// Waits for what the frame of this number comes to, and decodes others meanwhile, if any wait for a worker. The only
-    /// error is lack of memory: a result that isn't known to be this frame's would count as lost so.
+    /// Waits for what the frame of this number comes to, and meanwhile decodes frames that wait for a worker, of which this
+    /// may be one. The only error is lack of memory: a result that isn't known to be this frame's would count as lost so.
     pub(crate) fn outcome_of<R: Wait>(
         &self,
         rt: &R,

@@ -4,8 +4,7 @@ ghost use Rattle.ht_metric.specs.Jobs.{near};
 
 use crate::frames::Frames;
 use crate::whole_frame::WholeFrame;
-use ht_crew::Gate;
-use ht_feed::{Finder, Hits, Jobs, Work, detect, hits_of, is_last_hard};
+use ht_feed::{Finder, Gate, Hits, Jobs, Work, detect, hits_of, is_last_hard};
 use ht_metric::{Found, Job};
 use std::alloc::{AllocError, Global};
 use std::sync::Wait;

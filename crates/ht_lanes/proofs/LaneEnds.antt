@@ -43,6 +43,7 @@ module _ {R H P : Type 0} (means : R → List ℕ → Meaning (Item H)) (at : R 
     well = tt;
     fault = λ f is. ap (λ (r : Result (Unit {0}) (DriveFault BookFault)). failed_by r) is;
     lacking = λ is. ap (λ (r : Result (Unit {0}) (DriveFault BookFault)). failed_by r) is;
+    worked = λ is. ap (λ (r : Result (Unit {0}) (DriveFault BookFault)). failed_by r) is;
   }
 
   -- none failed, and the reading stopped
@@ -54,6 +55,7 @@ module _ {R H P : Type 0} (means : R → List ℕ → Meaning (Item H)) (at : R 
     well = refl;
     fault = λ f is. ap (λ (r : Result (Unit {0}) (DriveFault BookFault)). failed_by r) is;
     lacking = λ is. refl;
+    worked = λ is. refl;
   }
 
   -- what is put of hits that still come is all one where a call failed
@@ -70,6 +72,7 @@ module _ {R H P : Type 0} (means : R → List ℕ → Meaning (Item H)) (at : R 
     well = tt;
     fault = λ f is. ap (λ (r : Result (Unit {0}) (DriveFault BookFault)). failed_by r) is;
     lacking = λ is. ap (λ (r : Result (Unit {0}) (DriveFault BookFault)). failed_by r) is;
+    worked = λ is. ap (λ (r : Result (Unit {0}) (DriveFault BookFault)). failed_by r) is;
   }
 
   unheard : (fault : BookFault) → TellsPart first last fault → TellsPart first (seen_by means at new source' silent) fault

@@ -82,6 +82,8 @@ impl<B: Jobs> Jobs for LaneBlock<B> {
 }
 
 impl<B: Shared> Shared for LaneBlock<B> {
+    ghost may_lack = { B.may_lack };
+
     fn same(&self, other: &LaneBlock<B>) -> bool {
         self.own == other.own && self.first == other.first && self.block.same(&other.block)
     }

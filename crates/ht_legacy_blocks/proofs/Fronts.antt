@@ -16,12 +16,14 @@ use Rattle.ht_clause18.specs.Carriers.{carriers}
 use Rattle.ht_clause18.specs.Rates.{index_of, symbols_of}
 use Rattle.ht_heads.specs.Starts.{Body, StartedFails, is_outside, started_octets}
 use Rattle.ht_heads.proofs.Started.{started_halts}
+use Rattle.ht_counted.specs.Counted.{counted_format}
+use Rattle.ht_counted.proofs.Counting.{entry_is, route_start}
 use Rattle.ht_legacy_files.specs.Formats.{frame_limits, length_limits}
-use Rattle.ht_legacy_captures.specs.Formats.{Length, Diagonals, Samples, captured, captures, captures_due, captures_magic, symbols_due}
+use Rattle.ht_legacy_captures.specs.Formats.{Index, Length, Diagonals, Samples, captured, captures, captures_due, captures_magic, symbols_due}
 use Rattle.ht_legacy_captures.specs.Formats.{good_diagonals, good_index, good_length, good_samples}
 use Rattle.ht_legacy_captures.specs.Items.{LegacyHead, Begins, Symbol}
 use Rattle.ht_legacy_blocks.specs.Jobs.{diagonals_of, samples_of}
-use Rattle.ht_legacy_captures.proofs.Routes.{State, frame_is, route_length, route_rate, route_start, symbol_is}
+use Rattle.ht_legacy_captures.proofs.Routes.{State, route_length, route_rate, symbol_is}
 
 -- what stands in front of the frames
 length_start : (count : ℕ) → 7 ≡ 0 + length (started_octets captures_magic 2 count)
@@ -32,11 +34,11 @@ pub start_gives : (count : ℕ) (source after : Device ℕ) → count ≤ 65535 
     → Gives (reader_in captures captures.start 0 source) (reader_in captures (captures_due count) 7 after) []
 start_gives count source after few taken =
     route_gives captures captures.start (captures_due count) (started_octets captures_magic 2 count) [] 0 7 source after
-    (route_start count few) (length_start count) taken
+    (route_start captured count (record { some = omega arith; small = omega (arith, few); least = omega arith; most = few })) (length_start count) taken
 
 pub start_halts : (source after : Device ℕ) (fault : InFault) → StartedFails captures_magic frame_limits source after fault
     → Halts (reader_in captures captures.start 0 source) after fault
-start_halts source after fault fails = started_halts captured source after fault (omega arith) (λ e. cc, λ e. cc) fails
+start_halts source after fault fails = started_halts (counted_format captured) source after fault (omega arith) (λ e. cc, λ e. cc) fails
 
 -- what stands in front of the symbols of a frame
 abbrev pub front_octets : LegacyRate → ℕ → List ℕ → List ℕ
@@ -70,7 +72,7 @@ module _ (left at : ℕ) (source after : Device ℕ) (fault : InFault) (some : 0
   rate_halts fails =
       fails_halts captures (captures_due left) at 1 BadMcs (is_above 7) source after fault
       (judges_checked captures (captures_due left) 1 BadMcs (is_above 7) (good_index left)
-      (ap captures.due (frame_is left some)) (omega arith) (λ e. cc, λ e. cc))
+      (ap captures.due (entry_is Index left some)) (omega arith) (λ e. cc, λ e. cc))
       fails
 
   pub length_halts : (r : LegacyRate) → FailsBehind (index_of r ∷ []) 2 BadLength (is_outside length_limits) at source after fault

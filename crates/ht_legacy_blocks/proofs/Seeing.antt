@@ -20,9 +20,10 @@ use Rattle.ht_feed.specs.declared.came.Came.TheVariants.{Head, Block, End}
 use Rattle.ht_feed.specs.Items.{Item, Begins, One, Numbered}
 use Rattle.ht_feed.specs.Reading.{Completes, Counts, CountsCame, GivesCame, Halts}
 use Rattle.ht_heads.specs.Starts.{Over}
-use Rattle.ht_legacy_captures.specs.Formats.{captures, captures_due, symbols_due}
+use Rattle.ht_counted.proofs.Counting.{over_is}
+use Rattle.ht_legacy_captures.specs.Formats.{Index, captures, captures_due, symbols_due}
 use Rattle.ht_legacy_captures.specs.Items.{LegacyHead, LegacyItem, Begins as BeginsFrame, Symbol}
-use Rattle.ht_legacy_captures.proofs.Routes.{State, behind_is, over_is}
+use Rattle.ht_legacy_captures.proofs.Routes.{State, behind_is}
 use Rattle.ht_legacy_blocks.specs.declared.head.LegacyFrameHead.{LegacyFrameHead}
 use Rattle.ht_legacy_blocks.specs.declared.stage.Stage.{Stage}
 use Rattle.ht_legacy_blocks.specs.declared.stage.Stage.TheVariants.{Start, Due}
@@ -135,10 +136,10 @@ pub finish_told : (r : Progress) (source after : Device ℕ) (result : Result (U
     → OnOk result (TakesAll source after []) → IfErr result (GoesFurther r.at source after)
     → MatchResult result (λ _. Completes (seen r source) after) (Halts (seen r source) after)
 finish_told r source after (Ok u) is none all further =
-    completes_seen r r.course Over r.at (record { course = refl; state = ap state_of is ∙ (next_frame 0 ∙ over_is 0 refl); at = refl }) source after none
+    completes_seen r r.course Over r.at (record { course = refl; state = ap state_of is ∙ (next_frame 0 ∙ over_is Index 0 refl); at = refl }) source after none
     (ended_finishes captures Over r.at source after tt all)
 finish_told r source after (Err fault) is none all further =
-    halts_seen r r.course Over r.at (record { course = refl; state = ap state_of is ∙ (next_frame 0 ∙ over_is 0 refl); at = refl }) source after fault none
+    halts_seen r r.course Over r.at (record { course = refl; state = ap state_of is ∙ (next_frame 0 ∙ over_is Index 0 refl); at = refl }) source after fault none
     (further_halts captures Over r.at source after fault tt further)
 
 -- some of the jobs that are left are given

@@ -13,7 +13,7 @@ use Rattle.ht_fields.specs.Tests.{is_above}
 use Rattle.ht_fields.proofs.Choices.{when_true, when_false, checked_good}
 use Rattle.ht_fields.proofs.Putting.{map_split}
 use Rattle.ht_fields.proofs.Readers.{field_is}
-use Rattle.ht_fields.proofs.Routes.{Route, route_as, route_field, route_file, route_from, route_none, route_then, route_to}
+use Rattle.ht_fields.proofs.Routes.{Route, route_as, route_field, route_from, route_none, route_then, route_to}
 use Rattle.ht_metric.specs.declared.sample.Sample.{Sample}
 use Rattle.ht_capture.specs.Contents.{AreSamples}
 use Rattle.ht_capture.specs.Files.{sample_octets}
@@ -22,26 +22,19 @@ use Rattle.ht_capture.proofs.Filed.{samples_before, samples_behind}
 use Rattle.ht_clause18.specs.declared.rates.LegacyRate.{LegacyRate}
 use Rattle.ht_clause18.specs.Carriers.{carriers}
 use Rattle.ht_clause18.specs.Rates.{index_of, symbols_of}
-use Rattle.ht_heads.specs.Starts.{StartState, Body, Over, is_outside, magic_due, started_octets}
+use Rattle.ht_heads.specs.Starts.{StartState, Body, is_outside}
 use Rattle.ht_heads.proofs.Leading.{not_above}
-use Rattle.ht_heads.proofs.Started.{inside, route_started}
+use Rattle.ht_heads.proofs.Started.{inside}
+use Rattle.ht_counted.proofs.Counting.{entry_is, file_written}
 use Rattle.ht_legacy_files.specs.Formats.{length_limits}
-use Rattle.ht_legacy_files.proofs.Routes.{low_index, rate_back}
-use Rattle.ht_legacy_captures.specs.Formats.{CaptureState, Index, Length, Diagonals, Samples, captured, captures, captures_due, captures_magic}
+use Rattle.ht_legacy_files.proofs.Routes.{is_count, low_index, rate_back}
+use Rattle.ht_legacy_captures.specs.Formats.{CaptureState, Index, Length, Diagonals, Samples, captured, captures, captures_due}
 use Rattle.ht_legacy_captures.specs.Formats.{good_diagonals, good_index, good_length, good_samples, numbers_from, samples_from, symbols_due}
 use Rattle.ht_legacy_captures.specs.Files.{AreCaptures, IsCapture, LegacyCapture, capture_items, capture_octets, captures_file_of, head_octets, items_of, symbols_from}
 use Rattle.ht_legacy_captures.specs.Items.{LegacyHead, LegacyItem, Begins, Symbol}
 
 abbrev pub State : Type 0
 State = StartState CaptureState
-
-pub frame_is : (left : ℕ) → 0 < left → captures_due left ≡ Body (Index left)
-unfolding captures_due
-frame_is left some = let t : nat_eq left 0 ≡ false = grind (arith, nat_tests) in when_false _ _ _ t
-
-pub over_is : (left : ℕ) → left ≡ 0 → captures_due left ≡ Over
-unfolding captures_due
-over_is left none = let t : nat_eq left 0 ≡ true = grind (arith, nat_tests) in when_true _ _ _ t
 
 pub symbol_is : (left n : ℕ) → 0 < n → symbols_due left n ≡ Body (Samples left n)
 unfolding symbols_due
@@ -51,18 +44,12 @@ pub behind_is : (left n : ℕ) → n ≡ 0 → symbols_due left n ≡ captures_d
 unfolding symbols_due
 behind_is left n none = let t : nat_eq n 0 ≡ true = grind (arith, nat_tests) in when_true _ _ _ t
 
--- what stands in front of the frames
-pub route_start : (count : ℕ) → count ≤ 65535
-    → Route captures (magic_due captures_magic) (captures_due count) (started_octets captures_magic 2 count) []
-route_start count few =
-    let small : count < 256 ^ 2 = omega (arith, few) in
-    route_started captured count (omega arith) small (omega arith) few
-
+-- the index of a rate
 pub route_rate : (left : ℕ) (r : LegacyRate) → 0 < left → Route captures (captures_due left) (Body (Length left r)) (index_of r ∷ []) []
 unfolding good_index
 route_rate left r some =
     let state : LegacyRate → Verdict State LegacyItem = λ q. Good (Body (Length left q)) [] in
-    route_from captures (captures_due left) (Body (Index left)) (Body (Length left r)) (index_of r ∷ []) [] (frame_is left some)
+    route_from captures (captures_due left) (Body (Index left)) (Body (Length left r)) (index_of r ∷ []) [] (entry_is Index left some)
     (route_field captures (Body (Index left)) (Body (Length left r)) (index_of r ∷ []) [] (
       refl,
       checked_good BadMcs (is_above 7) (good_index left) (index_of r ∷ []) _ (not_above (index_of r) 7 (low_index r)) (ap state (rate_back r)),
@@ -183,18 +170,6 @@ route_capture left c some is =
     (Begins c.head ∷ []) (symbols_from n c.samples)
     (route_head left c.head some is.some is.few is.diagonals is.small) (route_symbols n left c.samples is.samples is.typed)
 
--- a number of frames
-route_captures : (cs : List LegacyCapture) (left : ℕ) → length cs ≡ left → All IsCapture cs
-    → Route captures (captures_due left) Over (flat_map capture_octets cs) (items_of cs)
-route_captures [] left count fit = route_none captures _ _ (over_is left (sym count))
-route_captures (c ∷ cs) left count fit =
-    route_then captures (captures_due left) (captures_due (left - 1)) Over (capture_octets c) (flat_map capture_octets cs) (capture_items c) (items_of cs)
-    (route_capture left c (omega (arith, count)) (All-head IsCapture c cs fit))
-    (route_captures cs (left - 1) (omega (arith, count)) (All-tail IsCapture c cs fit))
-
 pub captures_written : (cs : List LegacyCapture) → AreCaptures cs → IsFile captures (captures_file_of cs) (items_of cs)
 unfolding captures_file_of
-captures_written cs are =
-    route_file captures Over _ _
-    (route_then captures (magic_due captures_magic) (captures_due (length cs)) Over (started_octets captures_magic 2 (length cs))
-    (flat_map capture_octets cs) [] (items_of cs) (route_start (length cs) are.few) (route_captures cs (length cs) refl are.fit)) tt
+captures_written = file_written captured capture_octets capture_items IsCapture is_count route_capture

@@ -6,7 +6,8 @@ use Rattle.ht_capture.specs.Contents.{AreSamples}
 use Rattle.ht_capture.specs.Files.{sample_octets}
 use Rattle.ht_clause18.specs.Carriers.{carriers}
 use Rattle.ht_clause18.specs.Rates.{index_of, symbols_of}
-use Rattle.ht_heads.specs.Starts.{started_octets}
+use Rattle.ht_counted.specs.Counted.{AreCounted, counted_octets}
+use Rattle.ht_legacy_files.specs.Formats.{frame_limits}
 use Rattle.ht_legacy_captures.specs.Formats.{captures_magic}
 use Rattle.ht_legacy_captures.specs.Items.{LegacyHead, LegacyItem, Begins, Symbol}
 
@@ -24,7 +25,7 @@ capture_octets c = head_octets c.head ++ flat_map sample_octets c.samples
 
 -- the file of frames
 unfoldable pub captures_file_of : List LegacyCapture → List ℕ
-captures_file_of frames = started_octets captures_magic 2 (length frames) ++ flat_map capture_octets frames
+captures_file_of frames = counted_octets captures_magic 2 capture_octets frames
 
 -- the symbols of samples, this number of them
 abbrev pub symbols_from : ℕ → List Sample → List LegacyItem
@@ -49,6 +50,5 @@ pub record IsCapture (c : LegacyCapture) : Type 0 where
   pub typed : AreSamples c.samples
 
 -- frames of which a capture can be written: at most 65535
-pub record AreCaptures (frames : List LegacyCapture) : Type 0 where
-  pub few : length frames ≤ 65535
-  pub fit : All IsCapture frames
+abbrev pub AreCaptures : List LegacyCapture → Type 0
+AreCaptures = AreCounted frame_limits IsCapture

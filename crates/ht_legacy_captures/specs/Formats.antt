@@ -4,7 +4,8 @@ use Rattle.byteorder.specs.Endian.{big_number}
 use Rattle.ht_io.specs.declared.faults.Kind.TheVariants.{BadLength, BadMcs}
 use Rattle.ht_fields.specs.Grammar.{Grammar, Due, field, Verdict, Good}
 use Rattle.ht_fields.specs.Tests.{checked, is_above, octet_of}
-use Rattle.ht_heads.specs.Starts.{StartState, Body, Over, StartedFormat, is_outside, started}
+use Rattle.ht_heads.specs.Starts.{StartState, Body, is_outside}
+use Rattle.ht_counted.specs.Counted.{CountedFormat, counted, entries_due}
 use Rattle.ht_metric.specs.declared.sample.Sample.{Sample}
 use Rattle.ht_capture.specs.Numbers.{sample_at}
 use Rattle.ht_clause18.specs.declared.rates.LegacyRate.{LegacyRate}
@@ -37,8 +38,8 @@ samples_from zero octets = []
 samples_from (suc n) octets = sample_at octets 0 ∷ samples_from n (drop 8 octets)
 
 -- where frames are left, the next one begins with the index of its rate; else the file ends
-unfoldable pub captures_due : ℕ → StartState CaptureState
-captures_due left = if nat_eq left 0 then Over else Body (Index left)
+abbrev pub captures_due : ℕ → StartState CaptureState
+captures_due = entries_due Index
 
 -- where symbols are left, the samples of the next one; else the next frame
 unfoldable pub symbols_due : ℕ → ℕ → StartState CaptureState
@@ -66,9 +67,9 @@ capture_due (Length left rate) = field 2 (checked BadLength (is_outside length_l
 capture_due (Diagonals left rate len) = field (carriers * 2) (good_diagonals left rate len)
 capture_due (Samples left symbols) = field (carriers * 8) (good_samples left symbols)
 
-abbrev pub captured : StartedFormat CaptureState LegacyItem
-captured = record { magic = captures_magic; limits = frame_limits; first = captures_due; due = capture_due }
+abbrev pub captured : CountedFormat CaptureState LegacyItem
+captured = record { magic = captures_magic; limits = frame_limits; first = Index; due = capture_due }
 
 -- the format
 abbrev pub captures : Grammar (StartState CaptureState) LegacyItem
-captures = started captured
+captures = counted captured

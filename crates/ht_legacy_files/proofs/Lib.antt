@@ -1,6 +1,5 @@
 pub mod Back
 pub mod Ends
-pub mod Lists
 pub mod Putting
 pub mod Routes
 mod Values

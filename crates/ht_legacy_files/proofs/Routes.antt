@@ -1,77 +1,48 @@
 -- How the octets of frames lead through the fields of a file, and why they don't.
-use Rattle.std.proofs.Common.{◌≡◌, ℕ, ◌+◌, ◌-◌, ◌^◌, ◌<◌, ◌≤◌, List, [], ◌∷◌, ◌++◌, length, take, flat_map, All}
-use Rattle.std.proofs.Common.{nat_eq, nat_lt, Bool, true, false, ◌||◌, refl, sym, ap, subst, ◌∙◌, arith}
-use Rattle.std.proofs.lemmas.Bool.Decides.{nat_tests}
+use Rattle.std.proofs.Common.{◌≡◌, ℕ, ◌+◌, ◌-◌, ◌^◌, ◌<◌, ◌≤◌, List, [], ◌∷◌, ◌++◌, length, take}
+use Rattle.std.proofs.Common.{false, refl, sym, ap, subst, ◌∙◌, arith}
 use Rattle.std.proofs.lemmas.List.{append-nil}
-use Rattle.std.proofs.lemmas.List.Elements.{All-head, All-tail}
 use Rattle.std.proofs.Math.Seq.{take-append-add}
 use Rattle.byteorder.specs.Endian.{big_bytes, big_number}
 use Rattle.byteorder.specs.Numbers.{big_number-reads_back}
-use Rattle.ht_io.specs.Devices.{Device, Takes, TakesAll}
+use Rattle.ht_io.specs.Devices.{Device, Takes}
 use Rattle.ht_io.specs.declared.faults.InFault.{InFault}
 use Rattle.ht_io.specs.declared.faults.Kind.TheVariants.{BadLength, BadMcs, BadSeed}
-use Rattle.ht_io.proofs.Calls.{takes-append, takes-all}
+use Rattle.ht_io.proofs.Calls.{takes-append}
 use Rattle.ht_fields.specs.Cases.{IsFile}
 use Rattle.ht_fields.specs.Grammar.{Verdict, Good}
 use Rattle.ht_fields.specs.Lacking.{FailsBehind, FailsField}
 use Rattle.ht_fields.specs.Readers.{reader_in}
 use Rattle.ht_fields.specs.Tests.{is_above}
 use Rattle.ht_fields.specs.WholeFiles.{EndsEarly}
-use Rattle.ht_fields.proofs.Answered.{file_items}
-use Rattle.ht_fields.proofs.Choices.{when_true, when_false, checked_good}
+use Rattle.ht_fields.proofs.Choices.{checked_good}
 use Rattle.ht_fields.proofs.Endings.{halts_ends}
 use Rattle.ht_fields.proofs.Halting.{Judges, behind_halts, fails_halts, judges_checked}
 use Rattle.ht_fields.proofs.Putting.{takes_as}
 use Rattle.ht_fields.proofs.Readers.{field_is}
-use Rattle.ht_fields.proofs.Routes.{Route, route_field, route_file, route_from, route_none, route_then, route_to}
+use Rattle.ht_fields.proofs.Routes.{Route, route_field, route_from, route_then, route_to}
 use Rattle.ht_scramble.specs.Sequence.{IsSeed}
 use Rattle.ht_clause18.specs.declared.rates.LegacyRate.{LegacyRate}
 use Rattle.ht_clause18.specs.declared.rates.LegacyRate.TheVariants.{Mbit6, Mbit9, Mbit12, Mbit18, Mbit24, Mbit36, Mbit48, Mbit54}
 use Rattle.ht_clause18.specs.Frames.{LegacyFrameView}
 use Rattle.ht_clause18.specs.Rates.{index_of}
-use Rattle.ht_heads.specs.declared.starting.Limits.{Limits}
-use Rattle.ht_heads.specs.Starts.{StartState, StartedFails, Body, Over, is_outside, magic_due, started_octets}
+use Rattle.ht_heads.specs.Starts.{StartState, Body, is_outside}
 use Rattle.ht_heads.proofs.Leading.{not_above}
-use Rattle.ht_heads.proofs.Started.{inside, route_started, started_halts}
-use Rattle.ht_legacy_files.specs.Formats.{FrameState, Index, Length, Seed, Octets, framed, frames, frames_due, frames_magic, frame_limits, length_limits}
-use Rattle.ht_legacy_files.specs.Formats.{good_index, good_length, good_octets, good_seed, is_no_seed, rate_at}
+use Rattle.ht_heads.proofs.Started.{inside}
+use Rattle.ht_counted.specs.Counted.{IsCount, IsCounted}
+use Rattle.ht_counted.specs.Seeds.{is_no_seed}
+use Rattle.ht_counted.proofs.Seeded.{seed_passes}
+use Rattle.ht_counted.proofs.Counting.{entry_is, leads_by, same, written}
+use Rattle.ht_legacy_files.specs.Formats.{FrameState, Index, Length, Seed, Octets, framed, frames, frames_due, frame_limits, length_limits}
+use Rattle.ht_legacy_files.specs.Formats.{good_index, good_length, good_octets, good_seed, rate_at}
 use Rattle.ht_legacy_files.specs.Files.{AreFrames, IsFrame, frames_file_of, frame_octets}
 
 abbrev State : Type 0
 State = StartState FrameState
 
-pub frame_is : (left : ℕ) → 0 < left → frames_due left ≡ Body (Index left)
-unfolding frames_due
-frame_is left some = let t : nat_eq left 0 ≡ false = grind (arith, nat_tests) in when_false _ _ _ t
-
-pub over_is : (left : ℕ) → left ≡ 0 → frames_due left ≡ Over
-unfolding frames_due
-over_is left none = let t : nat_eq left 0 ≡ true = grind (arith, nat_tests) in when_true _ _ _ t
-
--- what stands in front of the frames
-pub route_start : (count : ℕ) → count ≤ 65535 → Route frames (magic_due frames_magic) (frames_due count) (started_octets frames_magic 2 count) []
-route_start count few =
-    let small : count < 256 ^ 2 = omega (arith, few) in
-    route_started framed count (omega arith) small (omega arith) few
-
-pub start_ends : (limits : Limits) (source after : Device ℕ) (fault : InFault) → limits ≡ frame_limits
-    → StartedFails frames_magic limits source after fault → EndsEarly (reader_in frames (magic_due frames_magic) 0 source) after fault
-start_ends limits source after fault is fails =
-    halts_ends (reader_in frames (magic_due frames_magic) 0 source) after fault
-    (started_halts framed source after fault (omega arith) (λ e. cc, λ e. cc)
-    (subst (λ (l : Limits). StartedFails frames_magic l source after fault) is fails))
-
-pub takes_start : (limits : Limits) (count : ℕ) (source after : Device ℕ) → limits ≡ frame_limits
-    → Takes source after (started_octets frames_magic limits.width count) → Takes source after (started_octets frames_magic 2 count)
-takes_start limits count source after is taken =
-    subst (λ (l : Limits). Takes source after (started_octets frames_magic l.width count)) is taken
-
-pub few_frames : (limits : Limits) (count : ℕ) → limits ≡ frame_limits → count ≤ limits.most → count ≤ 65535
-few_frames limits count is few = subst (λ (l : Limits). count ≤ l.most) is few
-
-pub length_start : (count : ℕ) → length (started_octets frames_magic 2 count) ≡ 7
-unfolding started_octets
-length_start count = refl
+-- the number of frames
+pub is_count : IsCount frame_limits
+is_count = record { some = omega arith; few = omega arith; range = omega arith; small = omega arith; named = (λ e. cc, λ e. cc) }
 
 -- the index of a rate
 pub rate_back : (r : LegacyRate) → rate_at (index_of r) ≡ r
@@ -98,7 +69,7 @@ route_rate : (left : ℕ) (r : LegacyRate) → 0 < left → Route frames (frames
 unfolding good_index
 route_rate left r some =
     let state : LegacyRate → Verdict State LegacyFrameView = λ q. Good (Body (Length left q)) [] in
-    route_from frames (frames_due left) (Body (Index left)) (Body (Length left r)) (index_of r ∷ []) [] (frame_is left some)
+    route_from frames (frames_due left) (Body (Index left)) (Body (Length left r)) (index_of r ∷ []) [] (entry_is Index left some)
     (route_field frames (Body (Index left)) (Body (Length left r)) (index_of r ∷ []) [] (
       refl,
       checked_good BadMcs (is_above 7) (good_index left) (index_of r ∷ []) _ (not_above (index_of r) 7 (low_index r)) (ap state (rate_back r)),
@@ -121,12 +92,6 @@ route_length left r len left_some some few =
     (route_field frames (Body (Length left r)) (Body (Seed left r len)) octets []
     (refl, checked_good BadLength (is_outside length_limits) (good_length left r) octets _ pass (length_is left r octets len back)))
 
-is_seed : (seed : ℕ) → IsSeed seed → is_no_seed (seed ∷ []) ≡ false
-is_seed seed is =
-    let a : nat_eq seed 0 ≡ false = grind (arith, nat_tests) in
-    let b : nat_lt 127 seed ≡ false = grind (arith, nat_tests) in
-    ap (λ (c : Bool). c || nat_lt 127 seed) a ∙ b
-
 -- what stands in front of the octets of a frame
 abbrev pub front_octets : LegacyRate → ℕ → ℕ → List ℕ
 front_octets r len seed = index_of r ∷ (big_bytes 2 len ++ (seed ∷ []))
@@ -138,7 +103,7 @@ route_seed left r len seed left_some some few is =
     route_then frames (frames_due left) (Body (Seed left r len)) (Body (Octets left r len seed)) (index_of r ∷ big_bytes 2 len) (seed ∷ []) [] []
     (route_length left r len left_some some few)
     (route_field frames (Body (Seed left r len)) (Body (Octets left r len seed)) (seed ∷ []) []
-    (refl, checked_good BadSeed is_no_seed (good_seed left r len) (seed ∷ []) _ (is_seed seed is) refl))
+    (refl, checked_good BadSeed is_no_seed (good_seed left r len) (seed ∷ []) _ (seed_passes seed is) refl))
 
 -- a frame
 pub route_frame : (left : ℕ) (f : LegacyFrameView) → 0 < left → IsFrame f → Route frames (frames_due left) (frames_due (left - 1)) (frame_octets f) (f ∷ [])
@@ -150,41 +115,24 @@ route_frame left f some is =
     (route_seed left f.rate len f.seed some is.octets.0 is.octets.1 is.seed)
     (route_field frames s (frames_due (left - 1)) f.octets (f ∷ []) (field_is len (good_octets left f.rate f.seed) f.octets _ is.octets.0 refl refl))
 
--- a number of frames
-route_frames : (fs : List LegacyFrameView) (left : ℕ) → length fs ≤ left → All IsFrame fs
-    → Route frames (frames_due left) (frames_due (left - length fs)) (flat_map frame_octets fs) fs
-route_frames [] left few fit = route_none frames _ _ (ap frames_due (let e : left ≡ left - 0 = omega arith in e))
-route_frames (f ∷ fs) left few fit =
-    let front = route_frame left f (omega (arith, few)) (All-head IsFrame f fs fit) in
-    let rest = route_frames fs (left - 1) (omega (arith, few)) (All-tail IsFrame f fs fit) in
-    let end : left - 1 - length fs ≡ left - length (f ∷ fs) = omega arith in
-    route_to frames (frames_due left) _ _ _ _ (ap frames_due end)
-    (route_then frames (frames_due left) (frames_due (left - 1)) (frames_due (left - 1 - length fs))
-    (frame_octets f) (flat_map frame_octets fs) (f ∷ []) fs front rest)
-
--- the beginning of a file, and a number of its frames
-pub route_so_far : (count : ℕ) (fs : List LegacyFrameView) → count ≤ 65535 → length fs ≤ count → All IsFrame fs
-    → Route frames (magic_due frames_magic) (frames_due (count - length fs)) (started_octets frames_magic 2 count ++ flat_map frame_octets fs) fs
-route_so_far count fs small few fit =
-    route_then frames (magic_due frames_magic) (frames_due count) (frames_due (count - length fs)) (started_octets frames_magic 2 count)
-    (flat_map frame_octets fs) [] fs (route_start count small) (route_frames fs count few fit)
-
--- the whole file, and then its end
-pub route_over : (count : ℕ) (fs : List LegacyFrameView) → count ≤ 65535 → length fs ≡ count → All IsFrame fs
-    → Route frames (magic_due frames_magic) Over (started_octets frames_magic 2 count ++ flat_map frame_octets fs) fs
-route_over count fs small size fit =
-    let none : count - length fs ≡ 0 = omega (arith, size) in
-    route_to frames (magic_due frames_magic) _ Over _ fs (over_is (count - length fs) none)
-    (route_so_far count fs small (omega (arith, size)) fit)
+-- what the format owes to the reading of its files
+pub are_counted : IsCounted framed frame_octets IsFrame 4103
+unfolding frame_octets
+are_counted = record {
+  count = is_count;
+  leads = λ left f some is. leads_by frames (frames_due left) (frames_due (left - 1)) (frame_octets f) (f ∷ []) (route_frame left f some is);
+  short = λ f is. omega (arith, is.octets.1);
+  room = omega arith;
+}
 
 pub frames_written : (fs : List LegacyFrameView) → AreFrames fs → IsFile frames (frames_file_of fs) fs
 unfolding frames_file_of
-frames_written fs are = route_file frames Over _ fs (route_over (length fs) fs are.few refl are.fit) tt
+frames_written = written framed frame_octets IsFrame 4103 are_counted
 
 -- frames of one file
 pub frames_same : (fs gs : List LegacyFrameView) → AreFrames fs → AreFrames gs → frames_file_of fs ≡ frames_file_of gs → fs ≡ gs
-frames_same fs gs are also same =
-    file_items frames (frames_file_of gs) fs gs (subst (λ (z : List ℕ). IsFile frames z fs) same (frames_written fs are)) (frames_written gs also)
+unfolding frames_file_of
+frames_same = same framed frame_octets IsFrame 4103 are_counted
 
 -- a frame, as it was read
 pub takes_frame : (f : LegacyFrameView) (r : LegacyRate) (len seed : ℕ) (octets : List ℕ) (a b c d e : Device ℕ)
@@ -229,7 +177,7 @@ pub rate_ends : (left at : ℕ) (source after : Device ℕ) (fault : InFault) �
     → EndsEarly (reader_in frames (frames_due left) at source) after fault
 rate_ends left at source after fault some fails =
     let judges : Judges frames (frames_due left) 1 BadMcs (is_above 7) =
-    subst (λ (s : State). Judges frames s 1 BadMcs (is_above 7)) (sym (frame_is left some))
+    subst (λ (s : State). Judges frames s 1 BadMcs (is_above 7)) (sym (entry_is Index left some))
     (judges_checked frames (Body (Index left)) 1 BadMcs (is_above 7) (good_index left) refl (omega arith) (λ e. cc, λ e. cc)) in
     halts_ends (reader_in frames (frames_due left) at source) after fault
     (fails_halts frames (frames_due left) at 1 BadMcs (is_above 7) source after fault judges fails)
@@ -251,12 +199,3 @@ seed_ends left at r len source after fault left_some some few fails =
     (behind_halts frames (frames_due left) (Body (Seed left r len)) (index_of r ∷ big_bytes 2 len) at 1 BadSeed is_no_seed source after fault
     (route_length left r len left_some some few)
     (judges_checked frames (Body (Seed left r len)) 1 BadSeed is_no_seed (good_seed left r len) refl (omega arith) (λ e. cc, λ e. cc)) fails)
-
--- the file that was read
-pub takes_file : (fs : List LegacyFrameView) (count : ℕ) (before mid after : Device ℕ) → length fs ≡ count
-    → Takes before mid (started_octets frames_magic 2 count ++ flat_map frame_octets fs) → TakesAll mid after []
-    → TakesAll before after (started_octets frames_magic 2 (length fs) ++ flat_map frame_octets fs)
-takes_file fs count before mid after size taken end =
-    let whole : (started_octets frames_magic 2 count ++ flat_map frame_octets fs) ++ [] ≡ started_octets frames_magic 2 (length fs) ++ flat_map frame_octets fs =
-    append-nil _ ∙ ap (λ (n : ℕ). started_octets frames_magic 2 n ++ flat_map frame_octets fs) (sym size) in
-    subst (λ (z : List ℕ). TakesAll before after z) whole (takes-all before mid after _ [] taken end)

@@ -1,11 +1,13 @@
 -- Files of clause 18 frames as lists of fields.
-use Rattle.std.specs.Prelude.{ℕ, ◌-◌, List, [], ◌∷◌, nat_eq, nat_lt, Bool, ◌||◌, if◌then◌else◌, slice_index_or}
+use Rattle.std.specs.Prelude.{ℕ, ◌-◌, List, [], ◌∷◌, slice_index_or}
 use Rattle.byteorder.specs.Endian.{big_number}
 use Rattle.ht_io.specs.declared.faults.Kind.TheVariants.{BadLength, BadMcs, BadSeed}
 use Rattle.ht_fields.specs.Grammar.{Grammar, Due, field, Verdict, Good}
 use Rattle.ht_fields.specs.Tests.{checked, is_above, octet_of}
 use Rattle.ht_heads.specs.declared.starting.Limits.{Limits}
-use Rattle.ht_heads.specs.Starts.{StartState, Body, Over, StartedFormat, is_outside, started}
+use Rattle.ht_heads.specs.Starts.{StartState, Body, is_outside}
+use Rattle.ht_counted.specs.Counted.{CountedFormat, counted, entries_due}
+use Rattle.ht_counted.specs.Seeds.{is_no_seed}
 use Rattle.ht_clause18.specs.declared.rates.LegacyRate.{LegacyRate}
 use Rattle.ht_clause18.specs.declared.rates.LegacyRate.TheVariants.{Mbit54}
 use Rattle.ht_clause18.specs.Frames.{LegacyFrameView}
@@ -34,13 +36,9 @@ length_limits = record { width = 2; least = 1; most = 4095; kind = BadLength }
 abbrev pub rate_at : ℕ → LegacyRate
 rate_at index = slice_index_or all_rates index Mbit54
 
--- the octet is no seed
-abbrev pub is_no_seed : List ℕ → Bool
-is_no_seed octets = nat_eq (octet_of octets) 0 || nat_lt 127 (octet_of octets)
-
 -- where frames are left, the next one begins with the index of its rate; else the file ends
-unfoldable pub frames_due : ℕ → StartState FrameState
-frames_due left = if nat_eq left 0 then Over else Body (Index left)
+abbrev pub frames_due : ℕ → StartState FrameState
+frames_due = entries_due Index
 
 -- what the octets of a field mean that are not at fault
 unfoldable pub good_index : ℕ → List ℕ → Verdict (StartState FrameState) LegacyFrameView
@@ -64,9 +62,9 @@ frame_due (Length left rate) = field 2 (checked BadLength (is_outside length_lim
 frame_due (Seed left rate len) = field 1 (checked BadSeed is_no_seed (good_seed left rate len))
 frame_due (Octets left rate len seed) = field len (good_octets left rate seed)
 
-abbrev pub framed : StartedFormat FrameState LegacyFrameView
-framed = record { magic = frames_magic; limits = frame_limits; first = frames_due; due = frame_due }
+abbrev pub framed : CountedFormat FrameState LegacyFrameView
+framed = record { magic = frames_magic; limits = frame_limits; first = Index; due = frame_due }
 
 -- the format
 abbrev pub frames : Grammar (StartState FrameState) LegacyFrameView
-frames = started framed
+frames = counted framed

@@ -2,23 +2,22 @@
 ghost use Rattle.std.specs.Prelude.{◌≡◌, ◌<◌, ◌≤◌, ◌+◌, ◌^◌, ℕ, [], ◌∷◌, length, IfOk, IfErr};
 ghost use Rattle.byteorder.specs.Endian.{big_bytes};
 ghost use Rattle.ht_io.specs.Devices.{Takes, IsLater};
-ghost use Rattle.ht_io.specs.declared.faults.Kind.TheVariants.{BadLength, BadMcs, BadSeed};
-ghost use Rattle.ht_io.specs.declared.faults.InFault.TheVariants.{NoMemory};
+ghost use Rattle.ht_io.specs.declared.faults.Kind.TheVariants.{BadLength, BadMcs};
 ghost use Rattle.ht_fields.specs.Lacking.{FailsField};
 ghost use Rattle.ht_fields.specs.Readers.{reader_in};
 ghost use Rattle.ht_fields.specs.Tests.{is_above};
 ghost use Rattle.ht_fields.specs.WholeFiles.{EndsEarly, ReadsWhole};
 ghost use Rattle.ht_heads.specs.Starts.{is_outside};
-ghost use Rattle.ht_scramble.specs.Sequence.{IsSeed};
 ghost use Rattle.ht_clause18.specs.Frames.{IsLegacyPsdu};
 ghost use Rattle.ht_clause18.specs.Rates.{index_of};
-ghost use Rattle.ht_legacy_files.specs.Formats.{frames as frames_format, frames_due, is_no_seed};
+ghost use Rattle.ht_legacy_files.specs.Formats.{FrameState, framed, frames as frames_format, frames_due};
 ghost use Rattle.ht_legacy_files.specs.Formats.{frame_limits as frame_limits_of, length_limits as length_limits_of};
 ghost use Rattle.ht_legacy_files.specs.Files.{AreFrames, IsFrame, frame_octets, frames_file_of};
 
 use ht_clause18::{LegacyFrame, LegacyRate};
-use ht_fields::{bad, end, fill, octet};
-use ht_heads::{Limits, count, start};
+use ht_counted::{Entries, read_whole, seed, zeros};
+use ht_fields::{bad, fill, octet};
+use ht_heads::{Limits, count};
 use ht_io::{InFault, Kind, Source};
 use ht_scramble::Seed;
 use std::alloc::Global;
@@ -78,34 +77,6 @@ pub fn length<S: Source>(source: &mut S, at: u64) -> Result<u16, InFault>
     }
 }
 
-// Reads the seed of a frame, 1 to 127.
-fn seed<S: Source>(source: &mut S, at: u64) -> Result<Seed, InFault>
-    requires room { at + 1 < 2 ^ 64 }
-    ensures whole { IfOk result (λ seed. Takes (S.shown source.old) (S.shown source.new) (seed ∷ [])) }
-    ensures seed { IfOk result (λ seed. IsSeed seed) }
-    ensures failed { IfErr result (FailsField 1 BadSeed is_no_seed at (S.shown source.old) (S.shown source.new)) }
-    ensures later { IsLater (S.shown source.old) (S.shown source.new) }
-{
-    match octet(source, at) {
-        Ok(value) => match Seed::new(value) {
-            Some(seed) => Ok(seed),
-            None => Err(bad(Kind::BadSeed, at)),
-        },
-        Err(fault) => Err(fault),
-    }
-}
-
-// Room for octets.
-fn zeros(alloc: Global, count: u16) -> Result<Vec<u8>, InFault>
-    ensures size { IfOk result (λ octets. length octets.items ≡ count) }
-    ensures memory { IfErr result (λ fault. fault ≡ NoMemory) }
-{
-    match vec![in alloc; 0u8; count as usize] {
-        Ok(octets) => Ok(octets),
-        Err(_) => Err(InFault::NoMemory),
-    }
-}
-
 // The frame of these octets.
 fn made(rate: LegacyRate, seed: Seed, octets: Vec<u8>) -> LegacyFrame
     requires { IsLegacyPsdu octets.items }
@@ -148,6 +119,36 @@ fn frame<S: Source>(alloc: Global, source: &mut S, at: u64) -> Result<LegacyFram
     }
 }
 
+// The frames of a file, one by one.
+#[derive(Drop)]
+struct Frames {
+    alloc: Global,
+}
+
+impl Entries for Frames {
+    type Entry = LegacyFrame;
+
+    ghost State = { FrameState };
+
+    ghost format = { framed };
+
+    ghost octets = { frame_octets };
+
+    ghost fits = { IsFrame };
+
+    ghost most = { 4103 };
+
+    ghost ready = { λ _. Unit {0} };
+
+    fn read<S: Source>(&mut self, source: &mut S, at: u64) -> Result<LegacyFrame, InFault> {
+        frame(self.alloc, source, at)
+    }
+
+    fn size(frame: &LegacyFrame) -> u64 {
+        4 + frame.octets().len() as u64
+    }
+}
+
 /// Reads a file of frames (LGTX) to its end, and gives its frames.
 ///
 /// `Format` comes at the first fault of the file, and `Read` where the source failed before any fault.
@@ -162,25 +163,11 @@ pub fn read_legacy_frames<S: Source>(
     ensures refused { IfErr result (EndsEarly (reader_in frames_format frames_format.start 0 (S.shown source.old)) (S.shown source.new)) }
     ensures later { IsLater (S.shown source.old) (S.shown source.new) }
 {
-    let count = match start(source, b"LGTX", &frame_limits()) {
-        Ok(count) => count,
-        Err(fault) => return Err(fault),
-    };
-    let mut at = 7;
-    let mut frames = Vec::new(alloc);
-    for _index in 0..count {
-        let frame = match frame(alloc, source, at) {
-            Ok(frame) => frame,
-            Err(fault) => return Err(fault),
-        };
-        at += 4 + frame.octets().len() as u64;
-        match frames.push(frame) {
-            Ok(()) => {}
-            Err(_) => return Err(InFault::NoMemory),
-        }
-    }
-    match end(source, at) {
-        Ok(()) => Ok(frames),
-        Err(fault) => Err(fault),
-    }
+    read_whole(
+        alloc,
+        b"LGTX",
+        &frame_limits(),
+        &mut Frames { alloc },
+        source,
+    )
 }

@@ -6,7 +6,7 @@ ghost use Rattle.ht_clause18.specs.Rates.{index_of};
 ghost use Rattle.ht_legacy_files.specs.Files.{frames_file_of, frame_octets};
 
 use ht_clause18::LegacyFrame;
-use ht_heads::start_of;
+use ht_counted::{Putter, write_whole};
 use ht_io::{Failed, Sink};
 
 // What stands in front of the octets of a frame.
@@ -31,6 +31,20 @@ fn put_frame<K: Sink>(frame: &LegacyFrame, sink: &mut K) -> Result<(), Failed>
     sink.put(frame.octets())
 }
 
+// Frames, put one by one.
+#[derive(Drop)]
+struct Frames;
+
+impl Putter for Frames {
+    type Entry = LegacyFrame;
+
+    ghost octets = { frame_octets };
+
+    fn put<K: Sink>(&mut self, frame: &LegacyFrame, sink: &mut K) -> Result<(), Failed> {
+        put_frame(frame, sink)
+    }
+}
+
 /// Puts the file of these frames (LGTX). It takes no memory.
 ///
 /// Where the sink fails, a part of the file from its front was put.
@@ -43,10 +57,5 @@ pub fn write_legacy_frames<K: Sink>(frames: &[LegacyFrame], sink: &mut K) -> Res
     ensures cause { OnErr result (Rose (K.shown sink.old) (K.shown sink.new)) }
     ensures later { IsLater (K.shown sink.old) (K.shown sink.new) }
 {
-    let start = start_of(b"LGTX", 1, frames.len() as u16);
-    sink.put(&start)?;
-    for frame in frames {
-        put_frame(frame, sink)?;
-    }
-    Ok(())
+    write_whole(b"LGTX", frames, &mut Frames, sink)
 }

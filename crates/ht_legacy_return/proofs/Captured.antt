@@ -55,7 +55,7 @@ unfolding captures_of
 captured_fit seed noise frames few are =
     let size = length-each (capture_drawn noise) frames (first seed) in
     let most = are.few in
-    record { few = omega (arith, size, most); fit = all_fit noise frames (first seed) few are.fit }
+    record { some = omega arith; few = omega (arith, size, most); fit = all_fit noise frames (first seed) few are.fit }
 
 -- the file has no other frames than these
 pub passed_is : (seed noise : ℕ) (frames : List LegacyFrameView) (output : List ℕ) → AreFrames frames → PassesTo seed noise (frames_file_of frames) output

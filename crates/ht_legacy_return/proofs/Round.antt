@@ -229,7 +229,7 @@ pub exact_written : (frames : List LegacyFrameView) (captured : List LegacyCaptu
 exact_written frames captured good exact =
     let few = good.few in
     let count = counted frames captured exact in
-    record { few = omega (arith, few, count); fit = all_fit frames captured good.fit exact }
+    record { some = omega arith; few = omega (arith, few, count); fit = all_fit frames captured good.fit exact }
 
 -- what their file means
 meant : (captured : List LegacyCapture) → AreCaptures captured → legacy_meaning (captures_file_of captured) ≡ record { items = items_of captured; fault = None }

@@ -12,6 +12,7 @@ use Rattle.ht_fields.proofs.Answered.{found}
 use Rattle.ht_heads.specs.Starts.{StartState, Magic, Version, Count, Body, Over, good_count, good_magic, good_version, is_outside, magic_due}
 use Rattle.ht_clause18.specs.Rates.{symbols_of}
 use Rattle.ht_legacy_files.specs.Formats.{length_limits}
+use Rattle.ht_counted.specs.Counted.{counted_format, entries_due}
 use Rattle.ht_legacy_captures.specs.Formats.{CaptureState, Index, Length, Diagonals, Samples, captures, captured, captures_due, symbols_due}
 use Rattle.ht_legacy_captures.specs.Formats.{good_diagonals, good_index, good_length, good_samples}
 use Rattle.ht_legacy_captures.specs.Items.{LegacyItem, Begins, Symbol}
@@ -70,7 +71,7 @@ frames_sound true left = (tt, refl)
 frames_sound false left = (tt, refl)
 
 captures_sound : (left : ℕ) → IsSound (captures_due left) × (due_in (captures_due left) ≡ 0)
-unfolding captures_due
+unfolding entries_due
 captures_sound left = frames_sound (nat_eq left 0) left
 
 symbols_by : (b : Bool) (left symbols : ℕ) → nat_eq symbols 0 ≡ b
@@ -110,7 +111,7 @@ steps (Magic y ys) next x here sound field =
 steps Version next x here sound field =
     subst (StepsBy Version) field.1 (by_test Version _ _ (good_version x) (λ _. silent Version Count refl (tt, refl)))
 steps Count next x here sound field =
-    subst (StepsBy Count) field.1 (by_test Count _ _ (good_count captured x) (λ _. silent Count (captures_due (big_number 2 x)) refl
+    subst (StepsBy Count) field.1 (by_test Count _ _ (good_count (counted_format captured) x) (λ _. silent Count (captures_due (big_number 2 x)) refl
     (captures_sound (big_number 2 x))))
 steps (Body (Index left)) next x here sound field =
     subst (StepsBy (Body (Index left))) field.1 (by_test (Body (Index left)) _ _ (good_index left x) (λ _. record { sound = tt; framed = λ later are. are }))

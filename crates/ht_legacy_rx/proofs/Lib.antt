@@ -3,5 +3,4 @@ pub mod Framed
 pub mod Frames
 pub mod Folded
 pub mod Taking
-pub mod Same
 pub mod Telling

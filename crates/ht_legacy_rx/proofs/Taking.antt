@@ -12,8 +12,9 @@ use Rattle.ht_feed.specs.Items.{Headed, headed_of}
 use Rattle.ht_frames.specs.Gathering.{finished}
 use Rattle.ht_results.specs.declared.frame_result.FrameResult.{FrameResult}
 use Rattle.ht_results.specs.Plans.{begun_by, with_hit_by, with_kind_by}
+use Rattle.ht_results.proofs.Taking.{begins_alike, result_is as result_so, same_result, takes}
 use Rattle.ht_legacy_blocks.specs.declared.head.LegacyFrameHead.{LegacyFrameHead}
-use Rattle.ht_legacy_rx.specs.Folding.{frame_for, legacy_results_from, with_job, with_octets}
+use Rattle.ht_legacy_rx.specs.Folding.{frame_for, legacy_fold, legacy_results_from, with_job, with_octets}
 use Rattle.ht_legacy_rx.specs.Frames.{with_found, with_found_as}
 use Rattle.ht_inverse.specs.declared.decoded.Decoded.{Decoded}
 use Rattle.ht_legacy_inverse.specs.Decoding.{legacy_decoded_frame}
@@ -49,27 +50,22 @@ begins_anew h f g none over =
     ∙ sym (ap (λ (x : Bool). with_kind_by legacy_plan h.job (if x then start else g)) b)
 
 pub anew : (f g : LegacySoFar) (jobs : List (Headed LegacyFrameHead)) → f.left ≡ 0 → g.left ≡ 0 → legacy_results_from f jobs ≡ legacy_results_from g jobs
-anew f g [] none over = refl
-anew f g (h ∷ jobs) none over =
-    ap (λ (z : LegacySoFar). (if z.left == 0 then result_of z ∷ [] else []) ++ legacy_results_from z jobs) (begins_anew h f g none over)
+anew f g jobs none over = begins_alike legacy_fold f g (λ h. begins_anew h f g none over) jobs
 
 -- one more job: with a frame's last one comes the frame's result
-by_last : (b : Bool) (r : FrameResult) (more : List FrameResult) → (if b then r ∷ [] else []) ++ more ≡ finished b r ++ more
-by_last true r more = refl
-by_last false r more = refl
-
 pub taken : (head : LegacyFrameHead) (place : Place) (found : Found) (job : JobView) (old mid new : LegacySoFar) (last : Bool)
     (more : List (Headed LegacyFrameHead)) → mid ≡ frame_for head old → new ≡ with_found place found mid → job.place ≡ place → found ≡ near job
     → last ≡ (new.left == 0) → legacy_results_from old (headed_of head job ∷ more) ≡ finished last (result_of new) ++ legacy_results_from new more
 taken head place found job old mid new last more entered added at is over =
-    let step = found_is head place found job old mid new entered added at is in
-    let rest : LegacySoFar → Bool → List FrameResult = λ z b. (if b then result_of z ∷ [] else []) ++ legacy_results_from z more in
-    ap (λ (z : LegacySoFar). rest z (z.left == 0)) (sym step)
-    ∙ (ap (rest new) (sym over) ∙ by_last last (result_of new) (legacy_results_from new more))
+    takes legacy_fold old new last (headed_of head job) more (found_is head place found job old mid new entered added at is) over
 
 -- the result of a whole frame
 pub result_is : (f g : LegacySoFar) (d : Decoded) → g ≡ f → d ≡ legacy_decoded_frame g.head.rate g.head.length g.labels → result_by g d ≡ result_of f
 unfolding result_of
-result_is f g d same is =
-    ap (λ (x : Decoded). result_by g x) is
-    ∙ ap (λ (h : LegacySoFar). result_by h (legacy_decoded_frame h.head.rate h.head.length h.labels)) same
+result_is = result_so (λ (h : LegacyFrameHead). h.frame) (λ h labels. legacy_decoded_frame h.rate h.length labels)
+
+-- frames that have the same head, sums and labels come to the same
+pub same_results : (f g : LegacySoFar) → f.head ≡ g.head → f.data_sum ≡ g.data_sum → f.pilot_sum ≡ g.pilot_sum → f.labels ≡ g.labels
+    → result_of f ≡ result_of g
+unfolding result_of
+same_results = same_result (λ (h : LegacyFrameHead). h.frame) (λ h labels. legacy_decoded_frame h.rate h.length labels)

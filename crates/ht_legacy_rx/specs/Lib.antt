@@ -2,4 +2,3 @@ pub mod Results
 pub mod Folding
 pub mod Texts
 pub mod Frames
-pub mod Telling

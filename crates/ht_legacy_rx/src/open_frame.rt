@@ -2,7 +2,6 @@
 ghost use Rattle.std.specs.Prelude.{◌≡◌, ◌+◌, ◌*◌, ◌^◌, ◌<◌, ◌≤◌, IfOk, IsTrue, OnOk, length, set};
 ghost use Rattle.std.proofs.Common.{refl};
 ghost use Rattle.ht_clause18.specs.Carriers.{carrier_of};
-ghost use Rattle.ht_results.specs.Folding.{label_at};
 ghost use Rattle.ht_results.specs.Plans.{begun_by};
 ghost use Rattle.ht_legacy_inverse.specs.Received.{label_number, labels_in_frame};
 ghost use Rattle.ht_legacy_blocks.specs.Frames.{no_head};
@@ -16,10 +15,9 @@ use ht_frames::UnderWay;
 use ht_inverse::Decoded;
 use ht_legacy_blocks::LegacyFrameHead;
 use ht_legacy_inverse::legacy_decode_frame;
-use ht_map::label;
 use ht_metric::{Found, Place, Vector};
 use ht_rate::{Carrier, Modulation};
-use ht_results::FrameResult;
+use ht_results::{FrameResult, label_for, put_kept, same_labels};
 use std::alloc::{AllocError, Global};
 use std::marker::Model;
 use std::mem;
@@ -89,23 +87,13 @@ fn kind(carrier: u8) -> Carrier
 }
 
 // The label of the one stream of a vector.
-fn label_for(modulation: Modulation, vector: &Vector) -> u8
+fn vector_label(modulation: Modulation, vector: &Vector) -> u8
     ensures { result ≡ first_label modulation vector.now }
 {
     if vector.len() == 0 {
         return 0;
     }
-    label(modulation, vector.point(1)).unwrap_or(0)
-}
-
-// Puts a label on its place, where the frame has one.
-#[tactic(auto, using(std::proofs::lemmas::List::set_past))]
-fn put_label(labels: &mut [u8], at: usize, label: u8)
-    ensures { labels.new ≡ set labels.old at label }
-{
-    if at < labels.len() {
-        labels[at] = label;
-    }
+    label_for(modulation, vector.point(1))
 }
 
 // Whether both heads are the same, as `==` says too.
@@ -113,13 +101,6 @@ fn same_head(head: &LegacyFrameHead, other: &LegacyFrameHead) -> bool
     ensures { IsTrue result → head.now ≡ other.now }
 {
     *head == *other
-}
-
-// Whether both have the same labels, as `==` says too.
-fn same_labels(labels: &[u8], other: &[u8]) -> bool
-    ensures { IsTrue result → labels.now ≡ other.now }
-{
-    labels == other
 }
 
 /// A head that stands for the one before the first.
@@ -191,9 +172,9 @@ impl OpenLegacyFrame {
         match kind(place.carrier) {
             Carrier::Data(m) => {
                 let at = place.symbol as usize * LABELS + usize::from(m);
-                let label = label_for(self.head.rate.modulation(), &found.vector);
+                let label = vector_label(self.head.rate.modulation(), &found.vector);
                 self.data_sum += found.distance;
-                put_label(&mut self.labels, at, label);
+                put_kept(&mut self.labels, at, label);
             }
             Carrier::Pilot(_) => {
                 self.pilot_sum += found.distance;
@@ -226,8 +207,13 @@ impl OpenLegacyFrame {
     pub(crate) fn same(&self, other: &OpenLegacyFrame) -> bool
         ensures { IsTrue result → result_of self.now ≡ result_of other.now }
     {
-        let sums = self.data_sum == other.data_sum && self.pilot_sum == other.pilot_sum;
-        sums && same_head(&self.head, &other.head) && same_labels(&self.labels, &other.labels)
+        if self.data_sum != other.data_sum || self.pilot_sum != other.pilot_sum {
+            return false;
+        }
+        if !same_head(&self.head, &other.head) {
+            return false;
+        }
+        same_labels(&self.labels, &other.labels)
     }
 }
 

@@ -1,123 +1,33 @@
 //! Receiving the frames of a capture as lines of text.
-ghost use Rattle.std.specs.Prelude.{◌≡◌, ◌≢◌, ◌-◌, ◌^◌, ◌<◌, ◌≤◌, ℕ, List, Err, true};
+ghost use Rattle.std.specs.Prelude.{◌≡◌, ◌≢◌, ◌-◌, ◌^◌, ◌<◌, ◌≤◌, Err, true};
 ghost use Rattle.ht_io.specs.Devices.{IsLater};
 ghost use Rattle.ht_runs.specs.Formats.{filter};
 ghost use Rattle.ht_runs.specs.Streamed.{Streamed};
 ghost use Rattle.ht_runs.specs.declared.faults.RunFault.TheVariants.{Write};
 ghost use Rattle.ht_runs.specs.declared.faults.StopFault.TheVariants.{Write as WriteStop};
 ghost use Rattle.ht_feed.specs.Outcomes.{Comes};
-ghost use Rattle.ht_endings.specs.Endings.{HasFrames, seen_as};
+ghost use Rattle.ht_endings.specs.Endings.{HasFrames};
 ghost use Rattle.ht_legacy_captures.specs.Formats.{captures};
 ghost use Rattle.ht_legacy_blocks.specs.Frames.{no_head};
-ghost use Rattle.ht_results.specs.Texts.{result_line};
-ghost use Rattle.ht_legacy_rx.specs.Folding.{no_frame};
-ghost use Rattle.ht_legacy_rx.specs.Telling.{told_from};
-ghost use Rattle.ht_legacy_rx.specs.Texts.{legacy_items, legacy_lines_of, legacy_meaning, legacy_text};
+ghost use Rattle.ht_legacy_blocks.specs.Readers.{legacy_at, legacy_counts, legacy_means};
+ghost use Rattle.ht_receive.specs.Receiving.{books};
+ghost use Rattle.ht_legacy_rx.specs.Folding.{legacy_results_from, no_frame};
+ghost use Rattle.ht_legacy_rx.specs.Texts.{legacy_items, legacy_lines_of, legacy_text};
 
 use crate::open_frame::{OpenLegacyFrame, first_head};
-use ht_crew::Gate;
 use ht_drive::tell;
 use ht_endings::put_end;
-use ht_feed::{BlockReader, Ended, Shared, tell_alone};
-use ht_frames::{BesideFrames, Book, Frames, Gatherer, HitWork, Receiver, TextBook};
+use ht_feed::{Ended, Gate};
+use ht_frames::{BesideFrames, Book, Frames, Gatherer, HitWork, TextBook};
 use ht_io::{Sink, Source};
-use ht_legacy_blocks::{LegacyFrameHead, LegacyReader};
+use ht_legacy_blocks::LegacyReader;
+use ht_receive::put_frames_alone;
 use ht_results::FrameResult;
 use ht_runs::{RunFault, StopFault};
 use std::alloc::Global;
 use std::collections::VecDeque;
 use std::sync::Wait;
 use std::thread::Threads;
-
-// Books the result of each frame that is whole, from a reader in front of a capture.
-fn book_frames<
-    R: BlockReader<Head = LegacyFrameHead> + Drop,
-    S: Source,
-    B: Book<FrameResult>,
-    G: Gate,
->(
-    alloc: Global,
-    reader: R,
-    window: u16,
-    source: &mut S,
-    book: &mut B,
-    gate: &G,
-) -> Result<Ended, StopFault>
-    requires some { 1 ≤ window }
-    requires few { window ≤ 4096 }
-    requires going { (R.counts reader).going ≡ true }
-    requires fresh { (R.counts reader).given ≡ 0 }
-    requires bounded { (R.counts reader).more < 2 ^ 64 - 1 }
-    ensures tells { Comes R.means R.at reader no_head (S.shown source.old) (S.shown source.new)
-        (told_from B.booked no_frame (B.shown book.old)) (told_from B.booked no_frame (B.shown book.new)) result }
-    ensures writes { result ≢ Err WriteStop → (B.shown book.new).faults ≡ (B.shown book.old).faults }
-    ensures reads_later { IsLater (S.shown source.old) (S.shown source.new) }
-    ensures books_later { IsLater (B.shown book.old) (B.shown book.new) }
-    ensures same { B.lent book.new ≡ B.lent book.old }
-{
-    let mut under_way = OpenLegacyFrame::new(alloc);
-    let mut receiver = Receiver::new(alloc, &mut under_way, book);
-    let work = HitWork { alloc, gate };
-    tell_alone(
-        alloc,
-        reader,
-        first_head(),
-        window,
-        &work,
-        source,
-        &mut receiver,
-    )
-}
-
-// Puts their lines.
-fn put_lines<R: BlockReader<Head = LegacyFrameHead> + Drop, S: Source, K: Sink, G: Gate>(
-    alloc: Global,
-    reader: R,
-    window: u16,
-    source: &mut S,
-    sink: &mut K,
-    gate: &G,
-) -> Result<Ended, StopFault>
-    requires some { 1 ≤ window }
-    requires few { window ≤ 4096 }
-    requires going { (R.counts reader).going ≡ true }
-    requires fresh { (R.counts reader).given ≡ 0 }
-    requires bounded { (R.counts reader).more < 2 ^ 64 - 1 }
-    ensures tells { Comes R.means R.at reader no_head (S.shown source.old) (S.shown source.new)
-        (told_from result_line no_frame (K.shown sink.old)) (told_from result_line no_frame (K.shown sink.new)) result }
-    ensures writes { result ≢ Err WriteStop → (K.shown sink.new).faults ≡ (K.shown sink.old).faults }
-    ensures reads_later { IsLater (S.shown source.old) (S.shown source.new) }
-    ensures puts_later { IsLater (K.shown sink.old) (K.shown sink.new) }
-{
-    let mut book = TextBook::new(alloc, sink);
-    book_frames(alloc, reader, window, source, &mut book, gate)
-}
-
-// Puts the lines and the end line of a capture, from a reader in front of it.
-fn put_text<R: BlockReader<Head = LegacyFrameHead> + Drop, S: Source, K: Sink, G: Gate>(
-    alloc: Global,
-    reader: R,
-    window: u16,
-    source: &mut S,
-    sink: &mut K,
-    gate: &G,
-) -> Result<u64, RunFault>
-    requires some { 1 ≤ window }
-    requires few { window ≤ 4096 }
-    requires means { (octets : List ℕ) → R.means reader octets ≡ seen_as legacy_items (legacy_meaning octets) }
-    requires at { R.at reader ≡ 0 }
-    requires going { (R.counts reader).going ≡ true }
-    requires fresh { (R.counts reader).given ≡ 0 }
-    requires bounded { (R.counts reader).more < 2 ^ 64 - 1 }
-    ensures receives { Streamed (filter captures legacy_text legacy_lines_of) (S.shown source.old) (S.shown source.new)
-        (K.shown sink.old) (K.shown sink.new) (HasFrames captures legacy_items) result }
-    ensures writes { result ≢ Err Write → (K.shown sink.new).faults ≡ (K.shown sink.old).faults }
-    ensures reads_later { IsLater (S.shown source.old) (S.shown source.new) }
-    ensures puts_later { IsLater (K.shown sink.old) (K.shown sink.new) }
-{
-    let ended = put_lines(alloc, reader, window, source, sink, gate);
-    put_end(alloc, ended, sink)
-}
 
 /// Reads a capture of clause 18 frames (LGCP) from the source, and puts the line of each frame that is whole before the
 /// capture's first fault into the sink, and behind the lines of a whole capture `end N frames`. The answer is N.
@@ -149,37 +59,40 @@ pub fn legacy_receive_alone<S: Source, K: Sink, G: Gate>(
     ensures puts_later { IsLater (K.shown sink.old) (K.shown sink.new) }
 {
     let reader = LegacyReader::new(alloc)?;
-    put_text(alloc, reader, window, source, sink, gate)
+    let under_way = OpenLegacyFrame::new(alloc);
+    let work = HitWork { alloc, gate };
+    put_frames_alone(
+        alloc,
+        reader,
+        first_head(),
+        window,
+        &work,
+        source,
+        under_way,
+        sink,
+    )
 }
 
-// Does as [`book_frames`], and the blocks are run by workers.
-fn book_frames_by<
-    T: Threads + Wait + Sync,
-    R: BlockReader<Head = LegacyFrameHead> + Drop,
-    S: Source,
-    B: Book<FrameResult>,
-    G: Gate + Sync,
->(
-    rt: &T,
+// Books the result of each frame that is whole, from a reader in front of a capture whose jobs are run by workers.
+fn book_frames<R: Threads + Wait + Sync, S: Source, B: Book<FrameResult>, G: Gate + Sync>(
+    rt: &R,
     alloc: Global,
     workers: u8,
-    reader: R,
+    reader: LegacyReader,
     window: u16,
     source: &mut S,
     book: &mut B,
     gate: &G,
 ) -> Result<Ended, StopFault>
-where
-    R::Block: Shared + Send + Sync,
     requires one { 1 ≤ workers }
     requires many { workers ≤ 64 }
     requires some { 1 ≤ window }
     requires few { window ≤ 4096 }
-    requires going { (R.counts reader).going ≡ true }
-    requires fresh { (R.counts reader).given ≡ 0 }
-    requires bounded { (R.counts reader).more < 2 ^ 64 - 1 }
-    ensures tells { Comes R.means R.at reader no_head (S.shown source.old) (S.shown source.new)
-        (told_from B.booked no_frame (B.shown book.old)) (told_from B.booked no_frame (B.shown book.new)) result }
+    requires going { (legacy_counts reader).going ≡ true }
+    requires fresh { (legacy_counts reader).given ≡ 0 }
+    requires bounded { (legacy_counts reader).more < 2 ^ 64 - 1 }
+    ensures tells { Comes legacy_means legacy_at reader no_head (S.shown source.old) (S.shown source.new)
+        (books B.booked (legacy_results_from no_frame) (B.shown book.old)) (books B.booked (legacy_results_from no_frame) (B.shown book.new)) result }
     ensures writes { result ≢ Err WriteStop → (B.shown book.new).faults ≡ (B.shown book.old).faults }
     ensures reads_later { IsLater (S.shown source.old) (S.shown source.new) }
     ensures books_later { IsLater (B.shown book.old) (B.shown book.new) }
@@ -212,80 +125,6 @@ where
         source,
         &mut gatherer,
     )
-}
-
-// Puts their lines.
-fn put_lines_by<
-    T: Threads + Wait + Sync,
-    R: BlockReader<Head = LegacyFrameHead> + Drop,
-    S: Source,
-    K: Sink,
-    G: Gate + Sync,
->(
-    rt: &T,
-    alloc: Global,
-    workers: u8,
-    reader: R,
-    window: u16,
-    source: &mut S,
-    sink: &mut K,
-    gate: &G,
-) -> Result<Ended, StopFault>
-where
-    R::Block: Shared + Send + Sync,
-    requires one { 1 ≤ workers }
-    requires many { workers ≤ 64 }
-    requires some { 1 ≤ window }
-    requires few { window ≤ 4096 }
-    requires going { (R.counts reader).going ≡ true }
-    requires fresh { (R.counts reader).given ≡ 0 }
-    requires bounded { (R.counts reader).more < 2 ^ 64 - 1 }
-    ensures tells { Comes R.means R.at reader no_head (S.shown source.old) (S.shown source.new)
-        (told_from result_line no_frame (K.shown sink.old)) (told_from result_line no_frame (K.shown sink.new)) result }
-    ensures writes { result ≢ Err WriteStop → (K.shown sink.new).faults ≡ (K.shown sink.old).faults }
-    ensures reads_later { IsLater (S.shown source.old) (S.shown source.new) }
-    ensures puts_later { IsLater (K.shown sink.old) (K.shown sink.new) }
-{
-    let mut book = TextBook::new(alloc, sink);
-    book_frames_by(rt, alloc, workers, reader, window, source, &mut book, gate)
-}
-
-// Puts the lines and the end line of a capture, and the blocks are run by workers.
-fn put_text_by<
-    T: Threads + Wait + Sync,
-    R: BlockReader<Head = LegacyFrameHead> + Drop,
-    S: Source,
-    K: Sink,
-    G: Gate + Sync,
->(
-    rt: &T,
-    alloc: Global,
-    workers: u8,
-    reader: R,
-    window: u16,
-    source: &mut S,
-    sink: &mut K,
-    gate: &G,
-) -> Result<u64, RunFault>
-where
-    R::Block: Shared + Send + Sync,
-    requires one { 1 ≤ workers }
-    requires many { workers ≤ 64 }
-    requires some { 1 ≤ window }
-    requires few { window ≤ 4096 }
-    requires means { (octets : List ℕ) → R.means reader octets ≡ seen_as legacy_items (legacy_meaning octets) }
-    requires at { R.at reader ≡ 0 }
-    requires going { (R.counts reader).going ≡ true }
-    requires fresh { (R.counts reader).given ≡ 0 }
-    requires bounded { (R.counts reader).more < 2 ^ 64 - 1 }
-    ensures receives { Streamed (filter captures legacy_text legacy_lines_of) (S.shown source.old) (S.shown source.new)
-        (K.shown sink.old) (K.shown sink.new) (HasFrames captures legacy_items) result }
-    ensures writes { result ≢ Err Write → (K.shown sink.new).faults ≡ (K.shown sink.old).faults }
-    ensures reads_later { IsLater (S.shown source.old) (S.shown source.new) }
-    ensures puts_later { IsLater (K.shown sink.old) (K.shown sink.new) }
-{
-    let ended = put_lines_by(rt, alloc, workers, reader, window, source, sink, gate);
-    put_end(alloc, ended, sink)
 }
 
 /// Does as [`legacy_receive_alone`], and the jobs are run by 1 to 64 workers, of which the caller is one. The text is the
@@ -322,5 +161,7 @@ pub fn legacy_receive<R: Threads + Wait + Sync, S: Source, K: Sink, G: Gate + Sy
         return legacy_receive_alone(alloc, window, source, sink, gate);
     }
     let reader = LegacyReader::new(alloc)?;
-    put_text_by(rt, alloc, workers, reader, window, source, sink, gate)
+    let mut book = TextBook::new(alloc, sink);
+    let ended = book_frames(rt, alloc, workers, reader, window, source, &mut book, gate);
+    put_end(alloc, ended, sink)
 }

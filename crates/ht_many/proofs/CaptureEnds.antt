@@ -48,7 +48,7 @@ told_heard a b c d (Err Write) l = l
 told_heard a b c d (Err NoMemory) l = l
 
 -- what follows from what is said of a value
-then_ok : {A E : Type 0} (P Q : A → Type 0) (result : Result A E) → ((x : A) → P x → Q x) → IfOk result P → IfOk result Q
+pub then_ok : {A E : Type 0} (P Q : A → Type 0) (result : Result A E) → ((x : A) → P x → Q x) → IfOk result P → IfOk result Q
 then_ok P Q (Ok x) follows holds = follows x holds
 then_ok P Q (Err e) follows holds = tt
 

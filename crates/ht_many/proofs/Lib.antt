@@ -1,3 +1,4 @@
 pub mod Parts
 pub mod Opened
 pub mod CaptureEnds
+pub mod TextsApart

@@ -1,3 +1,4 @@
 pub mod Renumbering
 pub mod KeptFrames
 pub mod CaptureLanes
+pub mod Apart

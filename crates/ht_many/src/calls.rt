@@ -10,7 +10,7 @@ ghost use Rattle.ht_several.specs.Several.{AreLater, EachEnds, EachInPart, devic
 
 use crate::receiving::receive_alone;
 use ht_bundles::{Bundled, read_bundle};
-use ht_crew::Gate;
+use ht_feed::Gate;
 use ht_io::{GrowSink, Sink, Source};
 use ht_runs::RunFault;
 use ht_several::{ManyEnd, have_text, put_texts, sinks_of, sources_of};
@@ -51,8 +51,8 @@ pub fn many_alone<S: Source, K: Sink, G: Gate>(
     receive_alone(alloc, window, sources, sinks, gate)
 }
 
-// The text of each capture. These sources never fail, and these sinks only for lack of memory.
-fn texts<G: Gate>(
+/// The text of each capture. These sources never fail, and these sinks only for lack of memory.
+pub(crate) fn texts<G: Gate>(
     alloc: Global,
     window: u16,
     captures: Vec<Bundled>,
@@ -73,7 +73,7 @@ fn texts<G: Gate>(
     }
 }
 
-/// Reads a bundle of captures (HTMB) to its end, receives all of them beside one another, and puts for each the line
+/// Reads a bundle of captures (HTMB) to its end, receives all of them, and puts for each the line
 /// `capture K` and what the command `rx` writes for it, the line of a fault at its end where it has one.
 ///
 /// Every job is run in this thread, and at most `window` jobs, 1 to 4096, are due at a time. Nothing is put before the

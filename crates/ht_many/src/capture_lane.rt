@@ -18,7 +18,7 @@ use std::alloc::{AllocError, Global};
 /// frame under way.
 pub(crate) type CaptureLane = DeskLane<CaptureReader, FrameLines>;
 
-/// The same beside workers, who decode its whole frames.
+/// The same beside workers, who decode whole frames of it.
 pub(crate) type CrewLane<'f, R> = DeskLane<CaptureReader, GatheredLines<'f, R>>;
 
 // A lane that has read nothing. It has room for one block that is due, and takes more memory where more become due.
@@ -58,7 +58,7 @@ fn open_crew_lane<'f, R>(
 }
 
 /// This many lanes that have read nothing, beside a crew of 1 to 64 workers, of which the caller is one. The workers find
-/// the whole frames of all of them there. The only error is lack of memory.
+/// whole frames of all of them there. The only error is lack of memory.
 pub(crate) fn open_crew_lanes<'f, R>(
     rt: &'f R,
     alloc: Global,

@@ -19,7 +19,8 @@ use std::thread::Threads;
 /// Books the result of each frame in a book, and has workers decode whole frames, as a `Gatherer` of crate `ht_frames`
 /// does. But it keeps them back whether or not another block is due, as long as its capture is read: blocks of other captures
 /// come in between. So it may end with whole frames in the queue, and its owner books them. A frame that is whole with the
-/// last block of a capture has the caller decode it and book all, so that they don't count against other captures.
+/// last block due of a capture whose end was read has the caller decode it and book all, so that they don't count against
+/// other captures.
 #[derive(Drop)]
 pub(crate) struct KeepingLines<'a, R, B> {
     rt: &'a R,

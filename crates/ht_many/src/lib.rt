@@ -1,8 +1,8 @@
-//! Several captures, received beside one another, in this thread or by one crew of workers.
+//! Several captures, received beside one another, in this thread or by one crew of workers, or each whole by one worker.
 //!
 //! [`many`] takes a source and a sink for each of 1 to 16 captures, receives them by one crew, and answers for each how
 //! it ended; [`many_alone`] promises the same, and runs every job in the calling thread. [`many_bundle`] and
-//! [`many_bundle_alone`] do so for a bundle of captures (HTMB). What they promise is said in the words of crate
+//! [`many_bundle_alone`] receive the captures of a bundle (HTMB). What they promise is said in the words of crate
 //! `ht_several`, of each capture by its own octets and devices alone.
 //!
 //! Each capture has a lane (crate `ht_lanes`): a reader, the blocks of jobs that are due, and a frame under way. The
@@ -10,10 +10,14 @@
 //! crew each lane has a queue of whole frames too, which the workers find in one place for all lanes. Once no lane gives a
 //! block any more, each puts the lines that it kept back, and then each capture gets its last line.
 //!
+//! The sizes of the captures of a bundle are known. Where those dealt to each worker have about as many octets, each worker
+//! receives its own, one after the other.
+//!
 //! The bundle `48 54 4d 42 01 01 00 00 00 02 48 58` of the capture `HX`, say, comes to `capture 0` and
 //! `refused BadMagic at 1`.
 #![tactic(auto)]
 
+mod apart;
 mod calls;
 mod capture_lane;
 mod crews;

@@ -5,7 +5,7 @@ ghost use Rattle.ht_several.specs.Several.{AreLater, EachEnds, EachInPart, devic
 use crate::capture_lane::{open_crew_lanes, open_lanes};
 use crate::ending::end_all;
 use crate::running::{run_in_crew, run_in_this_thread};
-use ht_crew::Gate;
+use ht_feed::Gate;
 use ht_frames::Frames;
 use ht_io::{Sink, Source};
 use ht_several::ManyEnd;
@@ -40,7 +40,7 @@ pub(crate) fn receive_alone<S: Source, K: Sink, G: Gate>(
 }
 
 /// Receives captures, whose jobs are run by one crew of 1 to 64 workers, of which the caller is one. The workers decode the
-/// whole frames of all captures, except where the caller is the only worker.
+/// whole frames of 100 octets or more of all captures, but those that the caller decodes, except where it is the only worker.
 pub(crate) fn receive<R: Threads + Wait + Sync, S: Source, K: Sink, G: Gate + Sync>(
     rt: &R,
     alloc: Global,

@@ -5,9 +5,8 @@ ghost use Rattle.ht_many.specs.CaptureLanes.{AreNew, LanesLead, lane_due, lane_f
 
 use crate::capture_lane::{CaptureLane, CrewLane};
 use circular_buffer::HeapCircularBuffer;
-use ht_crew::Gate;
 use ht_drive::drive;
-use ht_feed::{Shared, Work};
+use ht_feed::{Gate, Shared, Work};
 use ht_frames::{BesideFrames, Frames, HitWork};
 use ht_io::{Sink, Source};
 use ht_lanes::{Lane, LaneBlock, Lanes, finish_lanes, run_alone};

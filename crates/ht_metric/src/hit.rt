@@ -45,7 +45,7 @@ impl Hit {
         ensures vector { result.vector ≡ found.vector }
         ensures distance { result.distance ≡ found.distance }
     {
-        let _grid = job.grid();
+        let _grid = job.grid(); // at least one level on each ladder, which only the proof asks for
         Hit::of(job, found.vector, found.distance)
     }
 

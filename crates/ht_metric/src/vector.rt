@@ -1,5 +1,5 @@
 //! A point for each stream.
-ghost use Rattle.std.specs.Prelude.{◌≡◌, ◌+◌, ◌-◌, ◌<◌, ◌≤◌, ◌++◌, [], ◌∷◌, length, slice_index_or};
+ghost use Rattle.std.specs.Prelude.{◌≡◌, ◌+◌, ◌-◌, ◌<◌, ◌≤◌, ◌++◌, [], ◌∷◌, length, take, drop, replicate, slice_index_or};
 ghost use Rattle.ht_metric.specs.Vectors.{before, no_point};
 
 use ht_pam::Point;
@@ -9,7 +9,8 @@ use std::marker::Model;
 #[derive(Clone, Copy, Debug, PartialEq, Eq)]
 pub struct Vector {
     points: [Point; 4],
-    len: u8,
+    // A whole word, so that a vector is two of them and has no padding to be copied.
+    len: usize,
 }
 
 impl Model for Vector {
@@ -42,12 +43,25 @@ impl Vector {
         }
     }
 
+    /// The vector of `n` streams, at most 4, whose points come first in the array. The places that `n` streams don't use
+    /// are zero.
+    pub fn of(n: u8, points: [Point; 4]) -> Vector
+        requires few { n ≤ 4 }
+        requires unused { drop n points ≡ replicate (4 - n) no_point }
+        ensures { result ≡ take n points }
+    {
+        Vector {
+            points,
+            len: usize::from(n),
+        }
+    }
+
     /// Adds the point of one more stream behind the others, of which there are at most three.
     pub fn push(&mut self, point: Point)
         requires { length self.old < 4 }
         ensures { self.new ≡ self.old ++ point ∷ [] }
     {
-        self.points[usize::from(self.len)] = point;
+        self.points[self.len] = point;
         self.len += 1;
     }
 
@@ -56,7 +70,7 @@ impl Vector {
         ensures number { result ≡ length self.now }
         ensures few { result ≤ 4 }
     {
-        self.len
+        self.len as u8
     }
 
     /// The point of a stream, the first one being stream 1.
@@ -81,6 +95,6 @@ impl Vector {
     pub(crate) fn points(&self) -> &[Point]
         ensures { result.now ≡ self.now }
     {
-        &self.points[..usize::from(self.len)]
+        &self.points[..self.len]
     }
 }

@@ -7,7 +7,7 @@
 #![tactic(auto)]
 
 use ht_cli::{Status, run};
-use ht_crew::OpenGate;
+use ht_feed::OpenGate;
 use ht_io::{StdSink, StdSource};
 use std::env;
 use std::io::{BufReader, ErrorKind, writer};

@@ -3,7 +3,7 @@
 //! What each command writes for a whole input and for one at fault is tried by `.ci/vectors`, and with many workers and
 //! windows by `checks/stress`.
 use ht_cli::{Status, laws, run, run_alone};
-use ht_crew::{Gate, OpenGate};
+use ht_feed::{Gate, OpenGate};
 use ht_frames::ListBook;
 use ht_inverse::Outcome;
 use ht_io::{MemSink, MemSource, SureSink, SureSource};

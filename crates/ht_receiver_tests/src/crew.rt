@@ -193,48 +193,21 @@ fn threads_meet(rt: HostRuntime) -> Result<(), Fail> {
     Ok(())
 }
 
-// Two workers run 300 jobs. The caller has given the pool no more than the window beyond 192 when it has seen as many hits,
-// all of which are cheap, and then it keeps the others.
-#[test]
-fn cheap_jobs_are_kept(rt: HostRuntime) -> Result<(), Fail> {
-    for window in [1, 2] {
-        let mut feed = ListFeed::new(rt.alloc(), jobs(rt.alloc(), 300)?, Vec::new(rt.alloc()))?;
-        let Ok(report) = drive(&rt, rt.alloc(), 2, window, &OpenGate, &mut feed) else {
-            assert!(rt; false, "window {window}");
-            return Ok(());
-        };
-        assert_eq!(rt; report.jobs, 300);
-        assert!(rt; report.own >= 108 - u64::from(window), "window {window}");
-        assert_eq!(rt; feed.taken().len(), 300);
-        expect_first(&rt, feed.taken());
-    }
-    Ok(())
-}
-
-// How many hits were taken before this call, where one thread runs the jobs: calls of `next` and of `take` alternate, behind
-// a second job where two may be due.
-fn taken_before(call: u64, window: u16) -> u64 {
-    call.saturating_add(1)
-        .saturating_sub(u64::from(window.min(2)))
-        / 2
-}
-
-// With threads, too, a call fails where it is to fail. Answers how many hits were taken.
+// With threads, too, a call fails where it is to fail.
 fn expect_failing<R: Threads + Wait + Abort + Sync>(
     rt: &R,
     alloc: Global,
-    count: u64,
     workers: u8,
     window: u16,
     call: u64,
-) -> Result<u64, AllocError>
+) -> Result<(), AllocError>
     requires one { 1 ≤ workers }
     requires many { workers ≤ 64 }
     requires some { 1 ≤ window }
     requires few { window ≤ 4096 }
 {
     let failing = vec![in alloc; call]?;
-    let mut feed = ListFeed::new(alloc, jobs(alloc, count)?, failing)?;
+    let mut feed = ListFeed::new(alloc, jobs(alloc, 112)?, failing)?;
     let fault = drive(rt, alloc, workers, window, &OpenGate, &mut feed).err();
     assert_eq!(rt;
         fault,
@@ -242,10 +215,10 @@ fn expect_failing<R: Threads + Wait + Abort + Sync>(
         "{workers} {window} {call}"
     );
     expect_first(rt, feed.taken());
-    Ok(feed.taken().len() as u64)
+    Ok(())
 }
 
-// A run has 113 calls of `next` and 112 of `take`.
+// A run has 113 calls of `next` and 112 of `take`; in one thread they alternate.
 #[test]
 fn each_call_fails(rt: HostRuntime) -> Result<(), Fail> {
     for window in [1, 2, 256] {
@@ -258,26 +231,10 @@ fn each_call_fails(rt: HostRuntime) -> Result<(), Fail> {
                 Some(DriveFault::Feed(ListFault { call })),
                 "{window} {call}"
             );
-            assert_eq!(rt;
-                feed.taken().len() as u64,
-                taken_before(call, window),
-                "{window} {call}"
-            );
+            assert_eq!(rt; feed.taken().len() as u64, call / 2, "{window} {call}");
             expect_first(&rt, feed.taken());
-            expect_failing(&rt, rt.alloc(), 112, 2, window, call)?;
-            expect_failing(&rt, rt.alloc(), 112, 4, window, call)?;
-        }
-    }
-    Ok(())
-}
-
-// From job 194 on jobs are kept, and as many are due at a call as in one thread, up to the last call, that of number 600.
-#[test]
-fn calls_fail_where_jobs_are_kept(rt: HostRuntime) -> Result<(), Fail> {
-    for window in [1, 2] {
-        for call in [388, 389, 390, 391, 599, 600] {
-            let taken = expect_failing(&rt, rt.alloc(), 300, 2, window, call)?;
-            assert_eq!(rt; taken, taken_before(call, window), "{window} {call}");
+            expect_failing(&rt, rt.alloc(), 2, window, call)?;
+            expect_failing(&rt, rt.alloc(), 4, window, call)?;
         }
     }
     Ok(())

@@ -1,8 +1,8 @@
 //! Plans whose lines are known, without threads and with.
 ghost use Rattle.std.specs.Prelude.{◌≤◌};
 
-use ht_crew::OpenGate;
 use ht_demo::{Plan, demo, demo_alone};
+use ht_feed::OpenGate;
 use ht_rate::Rate;
 use std::alloc::{AllocError, Global};
 use std::process::Abort;

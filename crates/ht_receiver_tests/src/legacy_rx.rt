@@ -1,6 +1,6 @@
 //! A capture of the transmitter's points, with a wrong sample, by one worker and by several.
 use ht_clause18::{LegacyFrame, LegacyRate, legacy_transmit};
-use ht_crew::OpenGate;
+use ht_feed::OpenGate;
 use ht_io::{MemSink, MemSource};
 use ht_legacy_rx::legacy_receive;
 use ht_scramble::Seed;

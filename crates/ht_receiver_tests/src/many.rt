@@ -1,6 +1,6 @@
 //! Captures beside one another: whole ones, one that is none, a source that fails, and a sink that does.
 use crate::common::{a5, zeros};
-use ht_crew::OpenGate;
+use ht_feed::OpenGate;
 use ht_io::{FormatFault, GrowSink, Kind, MemSink, MemSource, SureSource};
 use ht_many::{ManyEnd, many, many_alone, many_bundle, many_bundle_alone};
 use ht_runs::RunFault;

@@ -1,7 +1,7 @@
 //! Three captures at once, of which one is cut, one has a source that fails, and one a sink that does: at each offset, in
 //! each order.
 use crate::common;
-use ht_crew::OpenGate;
+use ht_feed::OpenGate;
 use ht_io::{FormatFault, Kind, MemSink, MemSource};
 use ht_many::{ManyEnd, many, many_alone};
 use std::alloc::{AllocError, Global};
@@ -10,14 +10,18 @@ use std::sync::Wait;
 use std::test::Fail;
 use std::thread::Threads;
 
-/// The text of the capture: of each of its 104 data jobs and 8 pilot jobs the distance is 100.
-const TEXT: &str = "frame 0 data 10400 pilot 800 code 0 seed zero\nend 1 frames\n";
+/// The text of the capture: of each of the 104 data jobs and 8 pilot jobs of a frame the distance is 100.
+const TEXT: &str = "frame 0 data 10400 pilot 800 code 0 seed zero\n\
+    frame 1 data 10400 pilot 800 code 0 seed zero\nend 2 frames\n";
 
-/// The octets of its line.
+/// The octets of a frame's line.
 const LINE: usize = 46;
 
+/// The octets up to the end of the first frame.
+const FIRST: u64 = 1019;
+
 /// The octets of the capture.
-const OCTETS: u64 = 1019;
+const OCTETS: u64 = 2031;
 
 /// What befalls a capture.
 #[derive(Clone, Copy)]
@@ -30,10 +34,10 @@ enum Harm {
     Sink(u64),
 }
 
-// The first octets of a capture of one frame of one octet at 20 MHz, MCS 0, which has two symbols: the diagonal 10 on
-// each subcarrier, every sample 0.
+// The first octets of a capture of two frames of one octet at 20 MHz, MCS 0, which have two symbols each: the diagonal 10
+// on each subcarrier, every sample 0.
 fn zeros(alloc: Global, count: usize) -> Result<Vec<u8>, AllocError> {
-    let mut octets = common::zeros(alloc, &[1])?;
+    let mut octets = common::zeros(alloc, &[1, 1])?;
     octets.truncate(count);
     Ok(octets)
 }
@@ -74,10 +78,27 @@ impl Harm {
     // What is written of it.
     fn text(self, alloc: Global) -> Result<Vec<u8>, AllocError> {
         match self {
-            Harm::Cut(at) => Ok(format!(in alloc; "refused Truncated at {at}\n")?.into_bytes()),
-            Harm::Source(at) => first_octets(alloc, if at < OCTETS { 0 } else { LINE }),
+            Harm::Cut(at) => {
+                let mut text = first_octets(alloc, lines_before(at))?;
+                text.extend_from_slice(format!(in alloc;
+                    "refused Truncated at {at}\n"
+                )?.as_bytes())?;
+                Ok(text)
+            }
+            Harm::Source(at) => first_octets(alloc, lines_before(at)),
             Harm::Sink(at) => first_octets(alloc, at as usize),
         }
+    }
+}
+
+// The octets of the lines of the frames that are whole in front of an offset.
+fn lines_before(at: u64) -> usize {
+    if at < FIRST {
+        0
+    } else if at < OCTETS {
+        LINE
+    } else {
+        2 * LINE
     }
 }
 
@@ -177,7 +198,7 @@ fn at_each_offset(rt: HostRuntime) -> Result<(), Fail> {
 
 #[test]
 fn at_some_offsets_by_a_crew(rt: HostRuntime) -> Result<(), Fail> {
-    for at in [0, 10, 122, 123, 500, 1018, 1019] {
+    for at in [0, 10, 122, 123, 500, 1018, 1019, 1500, 2030, 2031] {
         for harms in orders(at) {
             by_two(&rt, rt.alloc(), harms)?;
         }

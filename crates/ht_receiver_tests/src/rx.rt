@@ -1,6 +1,6 @@
 //! Captures of zeros, whose jobs are run by the caller alone and by several workers: their lines and their frames.
 use crate::common;
-use ht_crew::OpenGate;
+use ht_feed::OpenGate;
 use ht_frames::ListBook;
 use ht_inverse::Outcome;
 use ht_io::{MemSink, MemSource};

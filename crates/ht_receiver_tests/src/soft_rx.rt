@@ -1,6 +1,6 @@
 //! Captures of zeros.
 use crate::common;
-use ht_crew::OpenGate;
+use ht_feed::OpenGate;
 use ht_io::{MemSink, MemSource};
 use ht_soft_rx::{receive_soft, receive_soft_alone};
 use std::alloc::{AllocError, Global};

@@ -9,3 +9,4 @@ pub mod Instances
 pub mod Folded
 mod Worked
 pub mod Present
+pub mod Taking

@@ -25,7 +25,11 @@ pub drawn_frames : (seed : ℕ) (rate : Rate) (len count : ℕ) → 1 ≤ len �
 unfolding frames_drawn
 drawn_frames seed rate len count some few many =
     let size = length-several (sample_frame_drawn rate len) count (first seed) in
-    record { few = omega (arith, size, many); fit = All-several IsFrame (sample_frame_drawn rate len) count (first seed) (λ z. frame_is rate len z some few) }
+    record {
+      some = omega arith;
+      few = omega (arith, size, many);
+      fit = All-several IsFrame (sample_frame_drawn rate len) count (first seed) (λ z. frame_is rate len z some few);
+    }
 
 pub drawn_octets : (seed : ℕ) (rate : Rate) (len count : ℕ) → HoldOctets (frames_drawn seed rate len count)
 unfolding frames_drawn

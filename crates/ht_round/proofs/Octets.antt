@@ -2,7 +2,8 @@
 use Rattle.std.proofs.Common.{suc, ◌<◌, ◌^◌, List, [], ◌∷◌, length, flat_map}
 use Rattle.std.proofs.lemmas.List.Elements.{All-cons, All-from_get_or, All-nil}
 use Rattle.ht_fields.specs.Tests.{AreBytes}
-use Rattle.ht_heads.specs.Heads.{head_octets, start_octets}
+use Rattle.ht_heads.specs.Heads.{head_octets}
+use Rattle.ht_heads.specs.Starts.{started_octets}
 use Rattle.ht_capture_laws.proofs.Lists.{bytes_behind, bytes_front}
 use Rattle.ht_tx.specs.Frames.{FrameView}
 use Rattle.ht_files.specs.Files.{frame_octets, frames_file_of}
@@ -24,4 +25,4 @@ frames_bytes (f ∷ frames) bytes =
 
 pub file_octets : (frames : List FrameView) → AreBytes (frames_file_of frames) → HoldOctets frames
 unfolding frames_file_of
-file_octets frames bytes = frames_bytes frames (bytes_behind (start_octets frames_magic 1 (length frames)) (flat_map frame_octets frames) bytes)
+file_octets frames bytes = frames_bytes frames (bytes_behind (started_octets frames_magic 2 (length frames)) (flat_map frame_octets frames) bytes)

@@ -28,7 +28,7 @@ pub sent_frames : (frames : List FrameView) (sent : List SymbolsView) → AreFra
 sent_frames frames sent good out =
     let few = good.few in
     let count = length-sent frames sent out in
-    record { few = omega (arith, few, count); fit = all_symbols frames sent out }
+    record { some = omega arith; few = omega (arith, few, count); fit = all_symbols frames sent out }
 
 -- the file has no other symbols than these
 pub passed_is : (seed : ℕ) (frames : List FrameView) (sent : List SymbolsView) (output : List ℕ) → AreFrames frames → AreTransmitted frames sent

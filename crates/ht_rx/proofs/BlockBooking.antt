@@ -22,6 +22,13 @@ use Rattle.ht_rx.specs.Blocks.{in_block, out_of_block, told_of}
 use Rattle.ht_frames.specs.Gathering.{booked_in}
 use Rattle.ht_rx.specs.Frames.{booked_of, results_in, with_found, with_found_as}
 use Rattle.ht_rx.specs.Outcomes.{StopsBy, TellsTo}
+use Rattle.ht_feed.specs.Items.{Item}
+use Rattle.ht_feed.specs.Outcomes.{Comes}
+use Rattle.ht_fields.specs.Meanings.{Meaning}
+use Rattle.ht_capture.specs.Captures.{capture_of}
+use Rattle.ht_capture_blocks.specs.Captures.{mapped}
+use Rattle.ht_receive.specs.Receiving.{books}
+use Rattle.ht_rx.proofs.Blocks.{comes_to}
 
 found_as : (job : JobView) (carrier : Carrier) (f : FrameSoFar) → with_found_as job.place (near job) carrier f ≡ with_hit_by label_plan job carrier f
 found_as job (Data m) f = refl
@@ -54,3 +61,13 @@ frames_told {P = P} booked f result source source' book book' none told =
     ap (λ (hs : List Headed). flat_map booked (results_from f hs)) (out-in (headed_jobs octets))
     ∙ ap (λ (rs : List FrameResult). flat_map booked rs) (folds octets f zero)) in
     subst (λ (g : List ℕ → List P). MatchResult result (TellsTo g source source' book book') (StopsBy g source source' book book')) same told
+
+-- a receiver that begins with no frame under way books the results of the octets
+pub received : {R P : Type 0} (means : R → List ℕ → Meaning (Item FrameHead)) (at : R → ℕ) (reader : R) (head : FrameHead) (booked : FrameResult → List P)
+    (f : FrameSoFar) (source source' : Device ℕ) (book book' : Device P) (result : Result Ended StopFault)
+    → ((octets : List ℕ) → means reader octets ≡ mapped (capture_of octets)) → at reader ≡ 0 → f.left ≡ 0
+    → Comes means at reader head source source' (books booked (results_in f) book) (books booked (results_in f) book') result
+    → MatchResult result (TellsTo (booked_of booked) source source' book book') (StopsBy (booked_of booked) source source' book book')
+received means at reader head booked f source source' book book' result same zero none came =
+    frames_told booked f result source source' book book' (omega (arith, none))
+    (comes_to means at reader head source source' (books booked (results_in f) book) (books booked (results_in f) book') result same zero came)

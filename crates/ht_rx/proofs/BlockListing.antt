@@ -12,15 +12,20 @@ use Rattle.ht_metric.specs.Jobs.{JobView, near}
 use Rattle.ht_capture.specs.declared.items.FrameHead.{FrameHead}
 use Rattle.ht_runs.specs.declared.faults.StopFault.{StopFault}
 use Rattle.ht_feed.specs.declared.ended.Ended.{Ended}
-use Rattle.ht_feed.specs.Accounts.{PutsBlock, PutsPartOf}
+use Rattle.ht_feed.specs.Accounts.{PutsBlock, PutsPartOf, Telling}
 use Rattle.ht_feed.specs.Dues.{due_of, headed_due}
-use Rattle.ht_feed.specs.Items.{Headed as BlockHeaded}
+use Rattle.ht_feed.specs.Items.{Headed as BlockHeaded, Item}
+use Rattle.ht_feed.specs.Outcomes.{Comes}
+use Rattle.ht_fields.specs.Meanings.{Meaning}
+use Rattle.ht_capture.specs.Captures.{capture_of}
+use Rattle.ht_capture_blocks.specs.Captures.{mapped}
 use Rattle.ht_results.specs.declared.headed.Headed.{Headed}
 use Rattle.ht_results.specs.Heads.{headed_jobs}
 use Rattle.ht_rx.specs.Blocks.{in_block, jobs_in_blocks, told_of}
 use Rattle.ht_rx.specs.Heads.{jobs_alone}
 use Rattle.ht_rx.specs.Outcomes.{StopsBy, TellsTo}
 use Rattle.ht_rx.specs.Texts.{job_line_of, job_lines, line_at, lines_of}
+use Rattle.ht_rx.proofs.Blocks.{comes_to}
 use Rattle.ht_rx.proofs.Heading.{jobs_of_octets}
 
 job_lines-append : (xs ys : List JobView) → job_lines (xs ++ ys) ≡ job_lines xs ++ job_lines ys
@@ -75,11 +80,16 @@ lines_are : (octets : List ℕ) → told_of (λ js. job_lines (jobs_in_blocks js
 unfolding lines_of
 lines_are octets = ap job_lines (alone-in (headed_jobs octets) ∙ jobs_of_octets octets)
 
+-- an account that puts the lines of the jobs that still come
+abbrev pub lists : Device ℕ → Telling FrameHead ℕ
+lists sink = record { device = sink; pieces = λ jobs. job_lines (jobs_in_blocks jobs); Waits = λ due. Unit {0} }
+
 -- the lines of all jobs are the lines of the octets
-pub blocks_told : (result : Result Ended StopFault) (source source' sink sink' : Device ℕ)
-    → MatchResult result (TellsTo (told_of (λ js. job_lines (jobs_in_blocks js))) source source' sink sink')
-    (StopsBy (told_of (λ js. job_lines (jobs_in_blocks js))) source source' sink sink')
+pub listed : {R : Type 0} (means : R → List ℕ → Meaning (Item FrameHead)) (at : R → ℕ) (reader : R) (head : FrameHead)
+    (source source' sink sink' : Device ℕ) (result : Result Ended StopFault)
+    → ((octets : List ℕ) → means reader octets ≡ mapped (capture_of octets)) → at reader ≡ 0
+    → Comes means at reader head source source' (lists sink) (lists sink') result
     → MatchResult result (TellsTo lines_of source source' sink sink') (StopsBy lines_of source source' sink sink')
-blocks_told result source source' sink sink' told =
+listed means at reader head source source' sink sink' result same zero came =
     subst (λ (f : List ℕ → List ℕ). MatchResult result (TellsTo f source source' sink sink') (StopsBy f source source' sink sink'))
-    (fun_ext lines_are) told
+    (fun_ext lines_are) (comes_to means at reader head source source' (lists sink) (lists sink') result same zero came)

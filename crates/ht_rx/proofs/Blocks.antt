@@ -1,5 +1,5 @@
 -- What a run of the feed over blocks comes to, said of the octets of a capture.
-use Rattle.std.specs.Prelude.{◌≡◌, ℕ, ◌+◌, ◌<◌, List, [], ◌∷◌, ◌++◌, length, map, take, Option, None, Some, IfSome, Result, Ok, Err, MatchResult}
+use Rattle.std.specs.Prelude.{◌≡◌, ℕ, ◌+◌, ◌<◌, List, [], ◌∷◌, ◌++◌, length, map, take, Option, None, Some, IfSome, Result, Ok, Err, IsErr, IsErrAnd, MatchResult}
 use Rattle.std.proofs.Common.{refl, ap, ◌∙◌, sym, subst, inl, inr, arith, length-take}
 use Rattle.std.proofs.Math.Path.{fun_ext}
 use Rattle.ht_io.specs.Devices.{Device}
@@ -12,6 +12,8 @@ use Rattle.ht_capture.specs.declared.items.Item.{Item as CaptureItem}
 use Rattle.ht_capture.specs.declared.items.Item.TheVariants.{Frame, Job, Done}
 use Rattle.ht_capture.specs.Captures.{capture_of}
 use Rattle.ht_capture.specs.Fields.{captures}
+use Rattle.ht_runs.proofs.Outcomes.{told_nothing}
+use Rattle.ht_feed.proofs.Finishing.{stops_with}
 use Rattle.ht_capture_laws.specs.Items.{FrameJobs, frames_in, items_in}
 use Rattle.ht_capture_laws.proofs.Parts.{frames_of as parts_of}
 use Rattle.ht_runs.specs.declared.faults.StopFault.{StopFault}
@@ -26,17 +28,8 @@ use Rattle.ht_capture_blocks.specs.Captures.{items_of, mapped}
 use Rattle.ht_feed.specs.Items.{Item, Begins, One, Headed as BlockHeaded}
 use Rattle.ht_feed.specs.Items.{headed as block_headed, headed_of as block_headed_of, frames_of as block_frames, jobs_of as block_jobs}
 use Rattle.ht_feed.specs.Reading.{view}
-use Rattle.ht_feed.specs.Outcomes.{
-  Comes,
-  EndsWith,
-  StopsBy as BlockStops,
-  TellsBroken as BlockBroken,
-  TellsPieces as BlockPieces,
-  TellsRefused as BlockRefused,
-  TellsTo as BlockTells,
-  TellsWhole as BlockWhole,
-  pieces_of,
-}
+use Rattle.ht_feed.specs.Outcomes.{Comes, StopsBy as BlockStops, TellsTo as BlockTells}
+use Rattle.ht_endings.proofs.Runs.{broken, from_front, front, in_part, refused, whole}
 use Rattle.ht_results.specs.declared.headed.Headed.{Headed}
 use Rattle.ht_results.specs.Heads.{headed, headed_jobs}
 use Rattle.ht_results.specs.Texts.{frames_of}
@@ -98,74 +91,26 @@ jobs-items (Done ∷ items) = jobs-items items
 headed-octets : (head : FrameHead) (octets : List ℕ) → block_headed head (items_of (capture_of octets).items) ≡ map in_block (headed_jobs octets)
 headed-octets head octets = headed-items head (capture_of octets).items ∙ ap (λ (hs : List Headed). map in_block hs) (headed_is octets head)
 
--- a reader in front of a capture
-abbrev front : Device ℕ → ReaderView (Item FrameHead)
-front source = record { means = λ octets. mapped (capture_of octets); at = 0; source = source }
-
-comes_from : (left : Option (List ℕ)) (taken : List ℕ) → IfSome left (λ all. mapped (capture_of all) ≡ mapped (capture_of taken))
-    → IfSome left (λ all. capture_of all ≡ capture_of taken)
-comes_from None taken is = tt
-comes_from (Some all) taken is = same_meaning all taken is
-
 -- these pieces are put of octets; the source and the device, before and after
 module _ {P : Type 0} (pieces : List ℕ → List P) (source source' : Device ℕ) (device device' : Device P) where
-  front_is : (taken : List ℕ) (n : ℕ) → n < length taken → IsEarly n (capture_of (take n taken)).fault → IsFrontOf captures (take n taken)
-  front_is taken n few early =
-      let long : length (take n taken) ≡ n = omega (arith, few, length-take n taken) in
-      subst (λ k. IsEarly k (capture_of (take n taken)).fault) (sym long) early
+  abbrev start : ReaderView (Item FrameHead)
+  start = front captures items_of source
 
-  ends : (taken : List ℕ) (fault : FormatFault) (n : ℕ) → (capture_of taken).fault ≡ Some fault
-      → EndsWith (front source) pieces source' device device' taken fault → n < length taken → IsFrontOf captures (take n taken)
-  ends taken fault n is (inl e) few =
-      let at : EndsAt (start_of captures source) taken fault =
-      record { kind = e.kind; behind = e.behind; within = e.within; early = e.early; trailing = e.trailing } in
-      front_is taken n few (before_end captures (start_of captures source) taken fault n refl (λ xs. refl) is at few)
-  ends taken fault n is (inr e) few =
-      let place : fault.offset ≡ 0 + length taken = ap (λ (f : FormatFault). f.offset) e in
-      front_is taken n few (before_fault captures taken fault n is (omega (arith, few, place)) few)
-
-  whole : (frames jobs : ℕ) → BlockWhole (front source) pieces source' device device' frames jobs
-      → TellsWhole captures pieces source source' device device' (HasCounts frames jobs)
-  whole frames jobs w =
-      record {
-        taken = w.taken;
-        octets = w.octets;
-        whole = w.whole;
-        says = record {
-          frames_are = w.frames_are ∙ frames-items (capture_of w.taken).items;
-          jobs_are = w.jobs_are ∙ ap (λ (js : List JobView). length js) (jobs-items (capture_of w.taken).items);
-        };
-        put = w.put;
-      }
-
-  refused : (fault : FormatFault) → BlockRefused (front source) pieces source' device device' fault
-      → TellsRefused captures pieces source source' device device' fault
-  refused fault r =
-      record {
-        taken = r.taken;
-        octets = r.octets;
-        refused = r.refused;
-        ends = λ n few. ends r.taken fault n r.refused r.ends few;
-        comes = comes_from source.known r.taken r.comes;
-        put = r.put;
-      }
-
-  broken : BlockBroken (front source) pieces source' device device' → TellsBroken captures pieces source source' device device'
-  broken b =
-      let place : 0 + length b.taken ≡ length b.taken = omega arith in
-      record { taken = b.taken; octets = b.octets; front = subst (λ n. IsEarly n (capture_of b.taken).fault) place b.front; put = b.put }
-
-  in_part : BlockPieces (front source) pieces source' device device' → TellsPieces captures pieces source source' device device'
-  in_part p = record { taken = p.taken; octets = p.octets; put = p.put; of_all = p.of_all }
+  counted : (frames jobs : ℕ) (octets : List ℕ) → frames ≡ block_frames (items_of (capture_of octets).items)
+      → jobs ≡ length (block_jobs (items_of (capture_of octets).items)) → HasCounts frames jobs octets
+  counted frames jobs octets begun all =
+      let items = (capture_of octets).items in
+      record { frames_are = begun ∙ frames-items items; jobs_are = all ∙ ap (λ (js : List JobView). length js) (jobs-items items) }
 
   told : (result : Result Ended StopFault)
-      → MatchResult result (BlockTells (front source) pieces source' device device') (BlockStops (front source) pieces source' device device')
+      → MatchResult result (BlockTells start pieces source' device device') (BlockStops start pieces source' device device')
       → MatchResult result (TellsTo pieces source source' device device') (StopsBy pieces source source' device device')
-  told (Ok (EndedDone frames jobs)) t = whole frames jobs t
-  told (Ok (EndedRefused fault)) t = refused fault t
-  told (Err Read) t = (broken t.0, t.1)
-  told (Err Write) t = (in_part t.0, t.1)
-  told (Err NoMemory) t = in_part t
+  told (Ok (EndedDone frames jobs)) t =
+      whole captures items_of pieces source source' device device' (HasCounts frames jobs) frames jobs (counted frames jobs) t
+  told (Ok (EndedRefused fault)) t = refused captures items_of pieces source source' device device' same_meaning fault t
+  told (Err Read) t = (broken captures items_of pieces source source' device device' t.0, t.1)
+  told (Err Write) t = (in_part captures items_of pieces source source' device device' t.0, t.1)
+  told (Err NoMemory) t = in_part captures items_of pieces source source' device device' t
 
 -- a run from a reader in front of a capture
 pub comes_to : {R P : Type 0} (means : R → List ℕ → Meaning (Item FrameHead)) (at : R → ℕ) (reader : R) (head : FrameHead)
@@ -173,15 +118,15 @@ pub comes_to : {R P : Type 0} (means : R → List ℕ → Meaning (Item FrameHea
     → ((octets : List ℕ) → means reader octets ≡ mapped (capture_of octets)) → at reader ≡ 0
     → Comes means at reader head source source' a b result
     → MatchResult result (TellsTo (told_of a.pieces) source source' a.device b.device) (StopsBy (told_of a.pieces) source source' a.device b.device)
-comes_to {P = P} means at reader head source source' a b result same zero came =
-    let is : view means at reader source ≡ front source =
-    ap (λ (m : List ℕ → Meaning (Item FrameHead)). let v : ReaderView (Item FrameHead) = record { means = m; at = at reader; source = source } in v)
-    (fun_ext same)
-    ∙ ap (λ (n : ℕ). let v : ReaderView (Item FrameHead) = record { means = λ octets. mapped (capture_of octets); at = n; source = source } in v) zero in
-    let pieces_same : pieces_of a.pieces head (front source) ≡ told_of a.pieces = fun_ext (λ octets. ap a.pieces (headed-octets head octets)) in
+comes_to means at reader head source source' a b result same zero came =
     told (told_of a.pieces) source source' a.device b.device result
-    (subst (λ (g : List ℕ → List P).
-    MatchResult result (BlockTells (front source) g source' a.device b.device) (BlockStops (front source) g source' a.device b.device)) pieces_same
-    (subst (λ (v : ReaderView (Item FrameHead)).
-    MatchResult result (BlockTells v (pieces_of a.pieces head v) source' a.device b.device)
-    (BlockStops v (pieces_of a.pieces head v) source' a.device b.device)) is came))
+    (from_front captures items_of means at reader head (told_of a.pieces) source source' a b result same zero
+    (λ octets. ap a.pieces (headed-octets head octets)) came)
+
+-- without memory for a reader nothing is taken, and nothing put
+pub lacks : {P : Type 0} (pieces : List ℕ → List P) (source : Device ℕ) (device : Device P) (result : Result Ended StopFault)
+    → IsErr result → IsErrAnd result (λ r. r ≡ NoMemory)
+    → MatchResult result (TellsTo pieces source source device device) (StopsBy pieces source source device device)
+lacks pieces source device result failed memory =
+    stops_with result (TellsTo pieces source source device device) (StopsBy pieces source source device device) (λ r. r ≡ NoMemory) failed memory
+    (λ r is. subst (λ (x : StopFault). StopsBy pieces source source device device x) (sym is) (told_nothing captures source pieces device))

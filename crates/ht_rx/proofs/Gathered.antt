@@ -5,7 +5,8 @@ use Rattle.ht_io.specs.Devices.{Device}
 use Rattle.ht_capture.specs.declared.items.FrameHead.{FrameHead}
 use Rattle.ht_results.specs.declared.frame_result.FrameResult.{FrameResult}
 use Rattle.ht_results.specs.declared.headed.Headed.{Headed}
-use Rattle.ht_results.specs.Folding.{FrameSoFar, frame_begun, frame_of, result_if, result_of, results_from, with_job, with_kind, with_octets}
+use Rattle.ht_results.specs.Folding.{FrameSoFar, frame_begun, frame_of, label_fold, result_of, results_from, with_job, with_kind, with_octets}
+use Rattle.ht_results.proofs.Taking.{begins_alike, takes}
 use Rattle.ht_feed.specs.declared.ended.Ended.{Ended}
 use Rattle.ht_runs.specs.declared.faults.StopFault.{StopFault}
 use Rattle.ht_rx.specs.Blocks.{told_of}
@@ -14,18 +15,10 @@ use Rattle.ht_rx.proofs.BlockBooking.{frames_told}
 use Rattle.ht_rx.specs.Outcomes.{StopsBy, TellsTo}
 use Rattle.ht_frames.specs.Gathering.{booked_behind, finished}
 
-finished_if : (last : Bool) (result : FrameResult) → (if last then result ∷ [] else []) ≡ finished last result
-finished_if true result = refl
-finished_if false result = refl
-
 -- behind the hit of a job the frame is whole with its last one, and else goes on
 pub gathers : (before after : FrameSoFar) (last : Bool) (h : Headed) (more : List Headed) → after ≡ with_job h before → last ≡ (after.left == 0)
     → results_from before (h ∷ more) ≡ finished last (result_of after) ++ results_from after more
-gathers before after last h more is left =
-    let result = result_of after in
-    ap (λ (f : FrameSoFar). result_if f ++ results_from f more) (sym is)
-    ∙ ap (λ (rs : List FrameResult). rs ++ results_from after more)
-    (finished_if (after.left == 0) result ∙ ap (λ (b : Bool). finished b result) (sym left))
+gathers = takes label_fold
 
 -- where no frame is under way, the next job begins one
 begins : (head : FrameHead) (f : FrameSoFar) → f.left ≡ 0 → frame_of head f ≡ frame_begun (with_octets head)
@@ -37,8 +30,7 @@ begins_as h f g a b = ap (with_kind h.job) (begins h.head f a ∙ sym (begins h.
 
 -- so it doesn't matter which frame was whole before
 pub begin_as : (f g : FrameSoFar) (jobs : List Headed) → f.left ≡ 0 → g.left ≡ 0 → results_from f jobs ≡ results_from g jobs
-begin_as f g [] a b = refl
-begin_as f g (h ∷ hs) a b = ap (λ (x : FrameSoFar). result_if x ++ results_from x hs) (begins_as h f g a b)
+begin_as f g jobs a b = begins_alike label_fold f g (λ h. begins_as h f g a b) jobs
 
 -- where no frame waits and none is under way, the results are those of the octets
 pub gathered_told : {P : Type 0} (booked : FrameResult → List P) (whole : List FrameSoFar) (f : FrameSoFar) (result : Result Ended StopFault)

@@ -6,4 +6,3 @@ pub mod BlockListing
 pub mod Gathered
 pub mod Stamping
 pub mod Writing
-pub mod Comparing

@@ -4,8 +4,7 @@ ghost use Rattle.ht_rx.specs.Texts.{job_lines};
 
 use crate::front::Front;
 use crate::lines::{LINE, write_line};
-use ht_crew::Gate;
-use ht_feed::{Answer, Jobs, Work, is_hard};
+use ht_feed::{Answer, Gate, Jobs, Work, is_hard};
 use ht_frames::pass;
 use ht_metric::{Found, Job};
 use std::alloc::{AllocError, Global};

@@ -39,7 +39,6 @@ mod open_frame;
 mod pieces;
 mod receiving;
 mod receiving_text;
-mod telling;
 mod under_way;
 mod whole_labels;
 

@@ -8,10 +8,11 @@ ghost use Rattle.ht_runs.specs.declared.faults.StopFault.TheVariants.{Write};
 use crate::block_lines::LineWork;
 use crate::faults::RxFault;
 use crate::lister::Lister;
-use crate::telling::{tell, tell_alone};
-use ht_crew::Gate;
-use ht_feed::Ended;
+use ht_capture_blocks::CaptureReader;
+use ht_drive::tell;
+use ht_feed::{Ended, Gate, tell_alone};
 use ht_io::{Sink, Source};
+use ht_results::no_head;
 use std::alloc::Global;
 use std::sync::Wait;
 use std::thread::Threads;
@@ -46,14 +47,10 @@ pub fn list_alone<S: Source, K: Sink, G: Gate>(
     ensures reads_later { IsLater (S.shown source.old) (S.shown source.new) }
     ensures puts_later { IsLater (K.shown sink.old) (K.shown sink.new) }
 {
+    let reader = CaptureReader::new(alloc)?;
     let mut lister = Lister::new(sink);
-    tell_alone(
-        alloc,
-        window,
-        &LineWork { alloc, gate },
-        source,
-        &mut lister,
-    )
+    let work = LineWork { alloc, gate };
+    tell_alone(alloc, reader, no_head(), window, &work, source, &mut lister)
 }
 
 /// Does as [`list_alone`], and the jobs are run by 1 to 64 workers, of which the caller is one. The lines are the same,
@@ -85,7 +82,18 @@ pub fn list<R: Threads + Wait + Sync, S: Source, K: Sink, G: Gate + Sync>(
     if workers == 1 {
         return list_alone(alloc, window, source, sink, gate);
     }
+    let reader = CaptureReader::new(alloc)?;
     let mut lister = Lister::new(sink);
     let work = LineWork { alloc, gate };
-    tell(rt, alloc, workers, window, &work, source, &mut lister)
+    tell(
+        rt,
+        alloc,
+        workers,
+        window,
+        reader,
+        no_head(),
+        &work,
+        source,
+        &mut lister,
+    )
 }

@@ -6,11 +6,11 @@ ghost use Rattle.ht_rx.specs.Frames.{HasLabels, IsOpenFrame, KnowsCarriers, with
 
 use ht_capture::FrameHead;
 use ht_inverse::{Alone, Decoded, Decoder};
-use ht_map::label;
 use ht_metric::{Found, Place, Vector};
-use ht_pam::Point;
 use ht_rate::{Carrier, Modulation, Rate};
-use ht_results::{FrameResult, jobs_in, kind, no_head};
+use ht_results::{
+    FrameResult, jobs_in, kind, label_for, no_head, put_kept, same_head, same_labels,
+};
 use std::alloc::{AllocError, Global};
 use std::marker::Model;
 use std::mem;
@@ -80,23 +80,6 @@ fn noted_kind(carriers: &[Carrier], rate: &Rate, carrier: u8) -> Carrier
     }
 }
 
-// The label of a point of the constellation.
-fn label_for(modulation: Modulation, point: Point) -> u8
-    ensures { result ≡ label_at modulation point }
-{
-    label(modulation, point).unwrap_or(0)
-}
-
-// Puts a label on its place, where the frame has one.
-#[tactic(auto, using(std::proofs::lemmas::List::set_past))]
-fn put_label(labels: &mut [u8], at: usize, label: u8)
-    ensures { labels.new ≡ set labels.old at label }
-{
-    if at < labels.len() {
-        labels[at] = label;
-    }
-}
-
 // Puts the labels of a vector's points on their places, stream by stream.
 #[tactic(auto, using(crate::proofs::Stamping::labels_step))]
 fn put_vector(labels: &mut [u8], at: usize, modulation: Modulation, vector: &Vector)
@@ -105,22 +88,8 @@ fn put_vector(labels: &mut [u8], at: usize, modulation: Modulation, vector: &Vec
 {
     for k in 0..vector.len() {
         let label = label_for(modulation, vector.point(k + 1));
-        put_label(labels, at + usize::from(k), label);
+        put_kept(labels, at + usize::from(k), label);
     }
-}
-
-// Whether both are the same head.
-fn is_head(head: &FrameHead, other: &FrameHead) -> bool
-    ensures { IsTrue result → head.now ≡ other.now }
-{
-    *head == *other
-}
-
-// Whether both are the same octets.
-fn are_equal(a: &[u8], b: &[u8]) -> bool
-    ensures { IsTrue result → a.now ≡ b.now }
-{
-    a == b
 }
 
 // The place of the first label of a data subcarrier.
@@ -166,13 +135,13 @@ impl OpenFrame {
     pub(crate) fn same(&self, other: &OpenFrame) -> bool
         ensures { IsTrue result → result_of self.now ≡ result_of other.now }
     {
-        if !is_head(&self.head, &other.head) {
-            return false;
-        }
         if self.data_sum != other.data_sum || self.pilot_sum != other.pilot_sum {
             return false;
         }
-        are_equal(&self.labels, &other.labels)
+        if !same_head(&self.head, &other.head) {
+            return false;
+        }
+        same_labels(&self.labels, &other.labels)
     }
 
     // Begins the frame with this head, of one octet at least. It is called once a frame, and kept out of line.

@@ -7,12 +7,12 @@ ghost use Rattle.ht_runs.specs.declared.faults.StopFault.TheVariants.{Write};
 
 use crate::faults::RxFault;
 use crate::open_frame::OpenFrame;
-use crate::telling::{tell, tell_alone};
-use ht_crew::Gate;
-use ht_feed::Ended;
-use ht_frames::{BesideFrames, Book, Frames, Gatherer, HitWork, Receiver};
+use ht_capture_blocks::CaptureReader;
+use ht_drive::tell;
+use ht_feed::{Ended, Gate};
+use ht_frames::{BesideFrames, Book, Frames, Gatherer, HitWork};
 use ht_io::Source;
-use ht_results::FrameResult;
+use ht_results::{FrameResult, no_head};
 use std::alloc::Global;
 use std::collections::VecDeque;
 use std::sync::Wait;
@@ -50,14 +50,18 @@ pub fn receive_alone<S: Source, B: Book<FrameResult>, G: Gate>(
     ensures books_later { IsLater (B.shown book.old) (B.shown book.new) }
     ensures same { B.lent book.new ≡ B.lent book.old }
 {
-    let mut under_way = OpenFrame::new(alloc);
-    let mut receiver = Receiver::new(alloc, &mut under_way, book);
-    tell_alone(
+    let reader = CaptureReader::new(alloc)?;
+    let under_way = OpenFrame::new(alloc);
+    let work = HitWork { alloc, gate };
+    ht_receive::receive_alone(
         alloc,
+        reader,
+        no_head(),
         window,
-        &HitWork { alloc, gate },
+        &work,
         source,
-        &mut receiver,
+        under_way,
+        book,
     )
 }
 
@@ -99,6 +103,7 @@ pub fn receive<R: Threads + Wait + Sync, S: Source, B: Book<FrameResult>, G: Gat
     if workers == 1 {
         return receive_alone(alloc, window, source, book, gate);
     }
+    let reader = CaptureReader::new(alloc)?;
     let frames = Frames::new(alloc);
     let mut under_way = OpenFrame::new(alloc);
     let mut queue = VecDeque::new(alloc);
@@ -115,5 +120,15 @@ pub fn receive<R: Threads + Wait + Sync, S: Source, B: Book<FrameResult>, G: Gat
         work: HitWork { alloc, gate },
         frames: &frames,
     };
-    tell(rt, alloc, workers, window, &work, source, &mut gatherer)
+    tell(
+        rt,
+        alloc,
+        workers,
+        window,
+        reader,
+        no_head(),
+        &work,
+        source,
+        &mut gatherer,
+    )
 }

@@ -7,8 +7,7 @@ ghost use Rattle.ht_runs.specs.declared.faults.StopFault.TheVariants.{Write};
 
 use crate::faults::RxFault;
 use crate::receiving::{receive, receive_alone};
-use ht_crew::Gate;
-use ht_feed::Ended;
+use ht_feed::{Ended, Gate};
 use ht_frames::TextBook;
 use ht_io::{Sink, Source};
 use std::alloc::Global;

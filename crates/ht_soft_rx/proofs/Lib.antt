@@ -3,6 +3,5 @@ pub mod Placed
 pub mod Bits
 pub mod Folded
 pub mod Taken
-pub mod Booked
 pub mod Told
 mod Worked

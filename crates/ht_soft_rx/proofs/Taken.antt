@@ -1,18 +1,15 @@
 -- What was found for a half was taken.
-use Rattle.std.proofs.Common.{◌≡◌, ◌==◌, List, [], ◌∷◌, ◌++◌, map, Bool, true, false, if◌then◌else◌, refl, sym, ap, ◌∙◌}
+use Rattle.std.proofs.Common.{◌≡◌, ◌==◌, List, ◌∷◌, ◌++◌, map, sym, ap, ◌∙◌}
 use Rattle.ht_metric.specs.declared.found.Found.{Found}
 use Rattle.ht_metric.specs.declared.place.Place.{Place}
 use Rattle.ht_metric.specs.Jobs.{JobView, near}
 use Rattle.ht_capture.specs.declared.items.FrameHead.{FrameHead}
 use Rattle.ht_feed.specs.Items.{Headed, headed_of}
 use Rattle.ht_frames.specs.Gathering.{finished}
+use Rattle.ht_results.proofs.Taking.{finished_if}
 use Rattle.ht_soft_rx.specs.declared.soft_result.SoftResult.{SoftResult}
 use Rattle.ht_soft_rx.specs.Folding.{Weighing, result_if, results_from, taken_of, weighing_of, with_found, with_half}
 use Rattle.ht_soft_rx.specs.Results.{result_of}
-
-finishes : (b : Bool) (r : SoftResult) → (if b then r ∷ [] else []) ≡ finished b r
-finishes true r = refl
-finishes false r = refl
 
 module _ (head : FrameHead) (job : JobView) (place : Place) (found : Found) (old entered added : Weighing) (here : job.place ≡ place) (is : found ≡ near job)
     (enters : entered ≡ weighing_of head old) (adds : added ≡ with_found place found.distance entered) where
@@ -30,4 +27,4 @@ module _ (head : FrameHead) (job : JobView) (place : Place) (found : Found) (old
   pub is_taken : (more : List (Headed FrameHead)) → results_from old (map taken_of (headed_of head job ∷ more))
       ≡ finished (added.left == 0) (result_of added.head added.weights) ++ results_from added (map taken_of more)
   is_taken more =
-      first more ∙ ap (λ (rs : List SoftResult). rs ++ results_from added (map taken_of more)) (finishes (added.left == 0) (result_of added.head added.weights))
+      first more ∙ ap (λ (rs : List SoftResult). rs ++ results_from added (map taken_of more)) (finished_if (added.left == 0) (result_of added.head added.weights))

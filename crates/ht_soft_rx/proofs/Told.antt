@@ -1,7 +1,7 @@
 -- The lines of frames are told of the halves of a capture's jobs.
 use Rattle.std.proofs.Common.{◌≡◌, ℕ, ◌+◌, List, [], ◌∷◌, ◌++◌, map, Option, None, Some, Result, Ok, Err, refl, ap, ◌∙◌, arith}
 use Rattle.std.specs.List.{flat_map}
-use Rattle.ht_io.specs.Devices.{Device, IsLater}
+use Rattle.ht_io.specs.Devices.{Device}
 use Rattle.ht_io.specs.declared.faults.FormatFault.{FormatFault}
 use Rattle.ht_fields.specs.Meanings.{Meaning}
 use Rattle.ht_metric.specs.Jobs.{JobView}
@@ -11,22 +11,21 @@ use Rattle.ht_capture.specs.declared.items.Item.TheVariants.{Frame, Job, Done}
 use Rattle.ht_capture.specs.Captures.{capture_of}
 use Rattle.ht_capture.specs.Fields.{captures}
 use Rattle.ht_capture_blocks.specs.Captures.{items_of, mapped}
-use Rattle.ht_feed.specs.declared.ended.Ended.{Ended}
 use Rattle.ht_runs.specs.declared.faults.RunFault.{RunFault}
-use Rattle.ht_runs.specs.declared.faults.StopFault.{StopFault}
 use Rattle.ht_runs.specs.Streamed.{Streamed}
 use Rattle.ht_soft_blocks.specs.Readers.{HalvesView, soft_at, soft_means}
-use Rattle.ht_soft_rx.specs.Booking.{PutsLines, booked_in, telling}
 use Rattle.ht_capture_laws.specs.Items.{whole_frames}
-use Rattle.ht_endings.specs.Endings.{HasFrames as BlockFrames, IsTold, PutsEnd, end_as}
-use Rattle.ht_endings.proofs.Endings.{ends}
-use Rattle.ht_feed.specs.Items.{Headed, Item, Begins, One, frames_of as block_frames, headed as block_headed}
+use Rattle.ht_endings.specs.Endings.{HasFrames as BlockFrames, IsTold, end_as}
+use Rattle.ht_receive.specs.Receiving.{PutsFrames}
+use Rattle.ht_receive.proofs.Streaming.{streams}
+use Rattle.ht_feed.specs.Items.{Item, Begins, One, frames_of as block_frames, headed as block_headed}
 use Rattle.ht_results.specs.Texts.{frames_of, last_line, last_of}
 use Rattle.ht_runs.specs.Formats.{filter, last_text}
 use Rattle.ht_soft_blocks.specs.Halved.{halved, halves_of, in_halves, numbered_items}
 use Rattle.ht_text.specs.Lines.{end_text}
 use Rattle.ht_soft_rx.specs.declared.soft_result.SoftResult.{SoftResult}
-use Rattle.ht_soft_rx.specs.Folding.{Weighing, results_from, taken_of}
+use Rattle.ht_frames.specs.Gathering.{booked_in}
+use Rattle.ht_soft_rx.specs.Folding.{Weighing, results_from, results_in, taken_of}
 use Rattle.ht_soft_rx.specs.Halved.{HasFrames, halved_items}
 use Rattle.ht_soft_rx.specs.Results.{soft_result, soft_results_of}
 use Rattle.ht_soft_rx.specs.Texts.{soft_line, soft_lines_of, soft_rx_text}
@@ -73,7 +72,7 @@ unfolding soft_lines_of
 lines_are head w octets none = ap (λ (rs : List SoftResult). flat_map soft_line rs) (halves_give octets head w none)
 
 pub soft_told : (head : FrameHead) (w : Weighing) → w.left ≡ 0
-    → IsTold captures (halved_items head) head (λ (jobs : List (Headed FrameHead)). flat_map soft_line (results_from w (map taken_of jobs)))
+    → IsTold captures (halved_items head) head (booked_in soft_line (results_in w))
     soft_rx_text soft_lines_of
 soft_told head w none = record {
   lined = record { text_is = text_is head; same = same_lines };
@@ -87,14 +86,12 @@ framed : (head : FrameHead) (source source' sink sink' : Device ℕ) (result : R
 framed head source source' sink sink' (Ok frames) run = (run.0, run.1 ∙ frames_same head (capture_of run.0.taken).items)
 framed head source source' sink sink' (Err fault) run = run
 
--- lines were put of all halves, and then the end line
-pub finished : (reader : HalvesView) (head : FrameHead) (source source' sink mid sink' : Device ℕ) (ended_so : Result Ended StopFault)
-    (result : Result ℕ RunFault)
-    → ((octets : List ℕ) → soft_means reader octets ≡ halved head (mapped (capture_of octets))) → soft_at reader ≡ 0
-    → PutsLines reader head source source' sink mid ended_so → IsLater sink mid → PutsEnd ended_so mid sink' result
+-- the lines of frames were put, from where no frame was under way, and then the end line
+pub finished : (reader : HalvesView) (head : FrameHead) (w : Weighing) (source source' sink sink' : Device ℕ) (result : Result ℕ RunFault)
+    → ((octets : List ℕ) → soft_means reader octets ≡ halved head (mapped (capture_of octets))) → soft_at reader ≡ 0 → w.left ≡ 0
+    → PutsFrames soft_means soft_at reader head soft_line (results_in w) source source' sink sink' result
     → Streamed (filter captures soft_rx_text soft_lines_of) source source' sink sink' HasFrames result
-finished reader head source source' sink mid sink' ended_so result means at puts later last =
+finished reader head w source source' sink sink' result means at idle puts =
     framed head source source' sink sink' result
-    (ends captures (halved_items head) head (booked_in soft_line puts.before) soft_rx_text soft_lines_of (soft_told head puts.before puts.idle)
-    soft_means soft_at reader source source' (telling soft_line sink puts.before) (telling soft_line mid puts.after) ended_so sink' result
-    means at refl puts.comes later last)
+    (streams captures (halved_items head) soft_means soft_at reader head soft_line (results_in w)
+    soft_rx_text soft_lines_of source source' sink sink' result (soft_told head w idle) means at puts)

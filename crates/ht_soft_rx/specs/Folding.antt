@@ -1,7 +1,7 @@
 -- The results of frames, from the halves of a capture's jobs one after another: a frame's result comes with its last job.
 --
 -- The halves of a data job come bit by bit, the one where the bit is 0 first. The definitions hold for any halves.
-use Rattle.std.specs.Prelude.{ℕ, ◌≡◌, ◌<◌, ◌≤◌, ◌+◌, ◌-◌, ◌*◌, ◌==◌, max, ℤ, pos, List, [], ◌∷◌, ◌++◌, length, set, replicate}
+use Rattle.std.specs.Prelude.{ℕ, ◌≡◌, ◌<◌, ◌≤◌, ◌+◌, ◌-◌, ◌*◌, ◌==◌, max, ℤ, pos, List, [], ◌∷◌, ◌++◌, length, map, set, replicate}
 use Rattle.std.specs.Prelude.{Option, None, Some, if◌then◌else◌}
 use Rattle.ht_rate.specs.declared.kinds.Carrier.{Carrier}
 use Rattle.ht_rate.specs.declared.kinds.Carrier.TheVariants.{Data, Pilot}
@@ -87,6 +87,10 @@ result_if w = if w.left == 0 then result_of w.head w.weights ∷ [] else []
 abbrev pub results_from : Weighing → List Half → List SoftResult
 results_from w [] = []
 results_from w (h ∷ hs) = result_if (with_half h w) ++ results_from (with_half h w) hs
+
+-- the results that the halves of blocks give
+abbrev pub results_in : Weighing → List (Headed FrameHead) → List SoftResult
+results_in w halves = results_from w (map taken_of halves)
 
 -- the frame that is under way behind them
 abbrev pub weighing_after : Weighing → List Half → Weighing

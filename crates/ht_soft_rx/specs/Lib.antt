@@ -4,4 +4,3 @@ pub mod Texts
 pub mod Folding
 pub mod Jobs
 pub mod Halved
-pub mod Booking

@@ -3,25 +3,26 @@ ghost use Rattle.std.specs.Prelude.{◌≡◌, ◌≢◌, ◌<◌, ◌≤◌, �
 ghost use Rattle.ht_io.specs.Devices.{IsLater};
 ghost use Rattle.ht_capture.specs.Fields.{captures};
 ghost use Rattle.ht_feed.specs.Outcomes.{Comes};
-ghost use Rattle.ht_runs.specs.declared.faults.RunFault.TheVariants.{Write};
+ghost use Rattle.ht_receive.specs.Receiving.{PutsFrames, books};
 ghost use Rattle.ht_runs.specs.declared.faults.StopFault.TheVariants.{Write as FailedWrite};
+ghost use Rattle.ht_runs.specs.declared.faults.RunFault.TheVariants.{Write};
 ghost use Rattle.ht_runs.specs.Formats.{filter};
 ghost use Rattle.ht_runs.specs.Streamed.{Streamed};
-ghost use Rattle.ht_soft_rx.specs.Halved.{HasFrames};
 ghost use Rattle.ht_soft_blocks.specs.Readers.{soft_at, soft_counts, soft_means};
-ghost use Rattle.ht_soft_rx.specs.Booking.{PutsLines, telling};
-ghost use Rattle.ht_soft_rx.specs.Texts.{soft_lines_of, soft_rx_text};
+ghost use Rattle.ht_soft_rx.specs.Folding.{results_in};
+ghost use Rattle.ht_soft_rx.specs.Halved.{HasFrames};
+ghost use Rattle.ht_soft_rx.specs.Texts.{soft_line, soft_lines_of, soft_rx_text};
 
 use crate::soft_result::SoftResult;
 use crate::under_way::SoftUnderWay;
 use crate::work::HalvesWork;
 use ht_capture::FrameHead;
-use ht_crew::Gate;
 use ht_drive::tell;
 use ht_endings::put_end;
-use ht_feed::{Ended, tell_alone};
-use ht_frames::{BesideFrames, Book, Frames, Gatherer, HitWork, Receiver, TextBook};
+use ht_feed::{Ended, Gate};
+use ht_frames::{BesideFrames, Book, Frames, Gatherer, HitWork, TextBook};
 use ht_io::{Sink, Source};
+use ht_receive::put_frames_alone;
 use ht_results::no_head;
 use ht_runs::{RunFault, StopFault};
 use ht_soft_blocks::HalvesReader;
@@ -29,159 +30,6 @@ use std::alloc::Global;
 use std::collections::VecDeque;
 use std::sync::Wait;
 use std::thread::Threads;
-
-// Reads the halves of a capture from the source in this thread, and books the result of each frame that is whole.
-fn book_alone<S: Source, B: Book<SoftResult>, G: Gate>(
-    alloc: Global,
-    reader: HalvesReader,
-    head: FrameHead,
-    window: u16,
-    source: &mut S,
-    under_way: &mut SoftUnderWay,
-    book: &mut B,
-    gate: &G,
-) -> Result<Ended, StopFault>
-    requires some { 1 ≤ window }
-    requires few { window ≤ 4096 }
-    requires going { (soft_counts reader).going ≡ true }
-    requires fresh { (soft_counts reader).given ≡ 0 }
-    requires bounded { (soft_counts reader).more < 2 ^ 64 - 1 }
-    ensures tells { Comes soft_means soft_at reader head (S.shown source.old) (S.shown source.new)
-        (telling B.booked (B.shown book.old) under_way.old) (telling B.booked (B.shown book.new) under_way.new) result }
-    ensures writes { result ≢ Err FailedWrite → (B.shown book.new).faults ≡ (B.shown book.old).faults }
-    ensures reads_later { IsLater (S.shown source.old) (S.shown source.new) }
-    ensures books_later { IsLater (B.shown book.old) (B.shown book.new) }
-    ensures same { B.lent book.new ≡ B.lent book.old }
-{
-    let mut receiver = Receiver::new(alloc, under_way, book);
-    let work = HalvesWork {
-        work: HitWork { alloc, gate },
-    };
-    tell_alone(alloc, reader, head, window, &work, source, &mut receiver)
-}
-
-// The same, and the halves are run by 1 to 64 workers, of which the caller is one. They decode whole frames too.
-fn gather<R: Threads + Wait + Sync, S: Source, B: Book<SoftResult>, G: Gate + Sync>(
-    rt: &R,
-    alloc: Global,
-    workers: u8,
-    reader: HalvesReader,
-    head: FrameHead,
-    window: u16,
-    source: &mut S,
-    under_way: &mut SoftUnderWay,
-    book: &mut B,
-    gate: &G,
-) -> Result<Ended, StopFault>
-    requires one { 1 ≤ workers }
-    requires many { workers ≤ 64 }
-    requires some { 1 ≤ window }
-    requires few { window ≤ 4096 }
-    requires going { (soft_counts reader).going ≡ true }
-    requires fresh { (soft_counts reader).given ≡ 0 }
-    requires bounded { (soft_counts reader).more < 2 ^ 64 - 1 }
-    ensures tells { Comes soft_means soft_at reader head (S.shown source.old) (S.shown source.new)
-        (telling B.booked (B.shown book.old) under_way.old) (telling B.booked (B.shown book.new) under_way.new) result }
-    ensures writes { result ≢ Err FailedWrite → (B.shown book.new).faults ≡ (B.shown book.old).faults }
-    ensures reads_later { IsLater (S.shown source.old) (S.shown source.new) }
-    ensures books_later { IsLater (B.shown book.old) (B.shown book.new) }
-    ensures same { B.lent book.new ≡ B.lent book.old }
-{
-    let mut queue = VecDeque::new(alloc);
-    let frames = Frames::new(alloc);
-    let mut gatherer = Gatherer::new(rt, alloc, workers, &frames, under_way, &mut queue, book);
-    let work = BesideFrames {
-        work: HalvesWork {
-            work: HitWork { alloc, gate },
-        },
-        frames: &frames,
-    };
-    tell(
-        rt,
-        alloc,
-        workers,
-        window,
-        reader,
-        head,
-        &work,
-        source,
-        &mut gatherer,
-    )
-}
-
-// The same, with the line of each result put into the sink.
-fn put_lines_alone<S: Source, K: Sink, G: Gate>(
-    alloc: Global,
-    reader: HalvesReader,
-    head: FrameHead,
-    window: u16,
-    source: &mut S,
-    sink: &mut K,
-    gate: &G,
-) -> Result<Ended, StopFault>
-    requires some { 1 ≤ window }
-    requires few { window ≤ 4096 }
-    requires going { (soft_counts reader).going ≡ true }
-    requires fresh { (soft_counts reader).given ≡ 0 }
-    requires bounded { (soft_counts reader).more < 2 ^ 64 - 1 }
-    ensures tells { PutsLines reader head (S.shown source.old) (S.shown source.new) (K.shown sink.old) (K.shown sink.new) result }
-    ensures writes { result ≢ Err FailedWrite → (K.shown sink.new).faults ≡ (K.shown sink.old).faults }
-    ensures reads_later { IsLater (S.shown source.old) (S.shown source.new) }
-    ensures puts_later { IsLater (K.shown sink.old) (K.shown sink.new) }
-{
-    let mut under_way = SoftUnderWay::new(alloc);
-    let mut book = TextBook::new(alloc, sink);
-    book_alone(
-        alloc,
-        reader,
-        head,
-        window,
-        source,
-        &mut under_way,
-        &mut book,
-        gate,
-    )
-}
-
-// The same by 1 to 64 workers.
-fn put_lines<R: Threads + Wait + Sync, S: Source, K: Sink, G: Gate + Sync>(
-    rt: &R,
-    alloc: Global,
-    workers: u8,
-    reader: HalvesReader,
-    head: FrameHead,
-    window: u16,
-    source: &mut S,
-    sink: &mut K,
-    gate: &G,
-) -> Result<Ended, StopFault>
-    requires one { 1 ≤ workers }
-    requires many { workers ≤ 64 }
-    requires some { 1 ≤ window }
-    requires few { window ≤ 4096 }
-    requires going { (soft_counts reader).going ≡ true }
-    requires fresh { (soft_counts reader).given ≡ 0 }
-    requires bounded { (soft_counts reader).more < 2 ^ 64 - 1 }
-    ensures tells { PutsLines reader head (S.shown source.old) (S.shown source.new) (K.shown sink.old) (K.shown sink.new) result }
-    ensures writes { result ≢ Err FailedWrite → (K.shown sink.new).faults ≡ (K.shown sink.old).faults }
-    ensures reads_later { IsLater (S.shown source.old) (S.shown source.new) }
-    ensures puts_later { IsLater (K.shown sink.old) (K.shown sink.new) }
-{
-    let mut under_way = SoftUnderWay::new(alloc);
-    let mut book = TextBook::new(alloc, sink);
-    gather(
-        rt,
-        alloc,
-        workers,
-        reader,
-        head,
-        window,
-        source,
-        &mut under_way,
-        &mut book,
-        gate,
-    )
-}
 
 /// Reads a capture from the source, and puts the line `soft N cost C octets HEX`, or `soft N cost C seed zero`, of each
 /// frame that is whole before the capture's first fault into the sink, each in one put, and behind them the line
@@ -221,7 +69,101 @@ pub fn receive_soft_alone<S: Source, K: Sink, G: Gate>(
 {
     let head = no_head();
     let reader = HalvesReader::new(alloc, head)?;
-    let ended = put_lines_alone(alloc, reader, head, window, source, sink, gate);
+    let under_way = SoftUnderWay::new(alloc);
+    let work = HalvesWork {
+        work: HitWork { alloc, gate },
+    };
+    put_frames_alone(alloc, reader, head, window, &work, source, under_way, sink)
+}
+
+// Books the result of each frame that is whole, from a reader in front of a capture whose halves are run by workers.
+fn book_frames<R: Threads + Wait + Sync, S: Source, B: Book<SoftResult>, G: Gate + Sync>(
+    rt: &R,
+    alloc: Global,
+    workers: u8,
+    reader: HalvesReader,
+    head: FrameHead,
+    window: u16,
+    source: &mut S,
+    under_way: SoftUnderWay,
+    book: &mut B,
+    gate: &G,
+) -> Result<Ended, StopFault>
+    requires one { 1 ≤ workers }
+    requires many { workers ≤ 64 }
+    requires some { 1 ≤ window }
+    requires few { window ≤ 4096 }
+    requires going { (soft_counts reader).going ≡ true }
+    requires fresh { (soft_counts reader).given ≡ 0 }
+    requires bounded { (soft_counts reader).more < 2 ^ 64 - 1 }
+    ensures tells { Comes soft_means soft_at reader head (S.shown source.old) (S.shown source.new)
+        (books B.booked (results_in under_way) (B.shown book.old)) (books B.booked (results_in under_way) (B.shown book.new)) result }
+    ensures writes { result ≢ Err FailedWrite → (B.shown book.new).faults ≡ (B.shown book.old).faults }
+    ensures reads_later { IsLater (S.shown source.old) (S.shown source.new) }
+    ensures books_later { IsLater (B.shown book.old) (B.shown book.new) }
+    ensures same { B.lent book.new ≡ B.lent book.old }
+{
+    let frames = Frames::new(alloc);
+    let mut under_way = under_way;
+    let mut queue = VecDeque::new(alloc);
+    let mut gatherer = Gatherer::new(
+        rt,
+        alloc,
+        workers,
+        &frames,
+        &mut under_way,
+        &mut queue,
+        book,
+    );
+    let work = BesideFrames {
+        work: HalvesWork {
+            work: HitWork { alloc, gate },
+        },
+        frames: &frames,
+    };
+    tell(
+        rt,
+        alloc,
+        workers,
+        window,
+        reader,
+        head,
+        &work,
+        source,
+        &mut gatherer,
+    )
+}
+
+// Puts their lines, and behind those of a whole capture the end line.
+fn put_frames<R: Threads + Wait + Sync, S: Source, K: Sink, G: Gate + Sync>(
+    rt: &R,
+    alloc: Global,
+    workers: u8,
+    reader: HalvesReader,
+    head: FrameHead,
+    window: u16,
+    source: &mut S,
+    under_way: SoftUnderWay,
+    sink: &mut K,
+    gate: &G,
+) -> Result<u64, RunFault>
+    requires one { 1 ≤ workers }
+    requires many { workers ≤ 64 }
+    requires some { 1 ≤ window }
+    requires few { window ≤ 4096 }
+    requires going { (soft_counts reader).going ≡ true }
+    requires fresh { (soft_counts reader).given ≡ 0 }
+    requires bounded { (soft_counts reader).more < 2 ^ 64 - 1 }
+    ensures puts { PutsFrames soft_means soft_at reader head soft_line (results_in under_way)
+        (S.shown source.old) (S.shown source.new) (K.shown sink.old) (K.shown sink.new) result }
+    ensures writes { result ≢ Err Write → (K.shown sink.new).faults ≡ (K.shown sink.old).faults }
+    ensures reads_later { IsLater (S.shown source.old) (S.shown source.new) }
+    ensures puts_later { IsLater (K.shown sink.old) (K.shown sink.new) }
+{
+    let mut book = TextBook::new(alloc, sink);
+    let ended = book_frames(
+        rt, alloc, workers, reader, head, window, source, under_way, &mut book, gate,
+    );
     put_end(alloc, ended, sink)
 }
 
@@ -262,6 +204,8 @@ pub fn receive_soft<R: Threads + Wait + Sync, S: Source, K: Sink, G: Gate + Sync
     }
     let head = no_head();
     let reader = HalvesReader::new(alloc, head)?;
-    let ended = put_lines(rt, alloc, workers, reader, head, window, source, sink, gate);
-    put_end(alloc, ended, sink)
+    let under_way = SoftUnderWay::new(alloc);
+    put_frames(
+        rt, alloc, workers, reader, head, window, source, under_way, sink, gate,
+    )
 }

@@ -5,7 +5,7 @@ ghost use Rattle.ht_feed.specs.Items.{Headed, headed_of};
 ghost use Rattle.ht_frames.specs.Gathering.{finished};
 ghost use Rattle.ht_results.specs.Folding.{jobs_in_frame, with_octets};
 ghost use Rattle.ht_soft.specs.Weights.{weight_of};
-ghost use Rattle.ht_soft_rx.specs.Folding.{HasWeights, IsUnderWay, IsWhole, results_from, taken_of, weight_place};
+ghost use Rattle.ht_soft_rx.specs.Folding.{HasWeights, IsUnderWay, IsWhole, results_in, weight_place};
 ghost use Rattle.ht_soft_rx.specs.Folding.{weighing_begun, weighing_of, weights_in_frame};
 ghost use Rattle.ht_soft_rx.specs.Folding.{with_distance, with_found};
 ghost use Rattle.ht_soft_rx.specs.Results.{result_of};
@@ -17,7 +17,7 @@ use ht_capture::FrameHead;
 use ht_frames::UnderWay;
 use ht_metric::{Found, Place};
 use ht_rate::Carrier;
-use ht_results::{jobs_in, kind, no_head};
+use ht_results::{jobs_in, kind, no_head, put_kept};
 use ht_soft::weight;
 use std::alloc::{AllocError, Global};
 use std::marker::Model;
@@ -79,16 +79,6 @@ fn place_of(head: &FrameHead, symbol: u32, m: u8) -> usize
     (symbol as usize * carriers + usize::from(m)) * usize::from(weights_of_job(head))
 }
 
-// Puts a weight on its place, where the frame has one.
-#[tactic(auto, using(std::proofs::lemmas::List::set_past))]
-fn put_weight(weights: &mut [i32], at: usize, weight: i32)
-    ensures { weights.new ≡ set weights.old at weight }
-{
-    if at < weights.len() {
-        weights[at] = weight;
-    }
-}
-
 impl SoftUnderWay {
     /// No frame is under way. It takes no memory.
     pub fn new(alloc: Global) -> SoftUnderWay
@@ -148,7 +138,7 @@ impl SoftUnderWay {
         };
         let of_job = weights_of_job(&self.head);
         let at = at + usize::from(self.bits);
-        put_weight(&mut self.weights, at, weight(zero, distance));
+        put_kept(&mut self.weights, at, weight(zero, distance));
         self.zero = None;
         let bits = self.bits + 1;
         if bits == of_job {
@@ -199,7 +189,7 @@ impl UnderWay for SoftUnderWay {
 
     type Whole = SoftWhole;
 
-    ghost results = { λ frame halves. results_from frame (map taken_of halves) };
+    ghost results = { results_in };
 
     ghost is_whole = { IsWhole };
 

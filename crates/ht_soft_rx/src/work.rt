@@ -1,8 +1,7 @@
 //! What finds the hits of halves.
 ghost use Rattle.std.specs.Prelude.{◌^◌, ◌<◌, length};
 
-use ht_crew::Gate;
-use ht_feed::{Hits, Jobs, Work, is_hard};
+use ht_feed::{Gate, Hits, Jobs, Work, is_hard};
 use ht_frames::HitWork;
 use ht_metric::{Found, Job};
 use ht_soft_blocks::HalvesBlock;

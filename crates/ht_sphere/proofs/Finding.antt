@@ -12,7 +12,9 @@ use Rattle.ht_pam.specs.declared.point.Point.{Point}
 use Rattle.ht_metric.specs.Rows.{Row}
 use Rattle.ht_metric.specs.Distance.{distance_of}
 use Rattle.ht_metric.specs.Vectors.{is_in, levels_of, before}
-use Rattle.ht_metric.specs.Jobs.{JobView, IsJob, IsNear}
+use Rattle.ht_metric.specs.declared.found.Found.{Found}
+use Rattle.ht_metric.specs.Jobs.{JobView, IsJob, IsNear, near}
+use Rattle.ht_metric.proofs.Finding.{near_is, found_same}
 use Rattle.ht_sphere.specs.Coordinates.{Real, from_last, points_from, quadrature, in_phase}
 use Rattle.ht_sphere.specs.Tree.{Reached, rounding}
 use Rattle.ht_sphere.specs.Searching.{leaves, better, IsBestOf, Among}
@@ -81,6 +83,13 @@ answered job items levels d vector is all best points =
       subst (λ (y : List Point). IsNear job y) (sym same) (is_near job v is.streams mine x lead.within lead.is),
       ap (λ (u : Reached). u.1) lead.is ∙ ap (λ (y : List Point). distance_of job.system y) (sym same),
     )
+
+pub found_is : (job : JobView) (levels : List ℤ) (d : ℕ) (vector : List Point) → IsJob job
+    → IsBestOf (rounding (from_last job.system job.grid) [] 0) (leaves (from_last job.system job.grid) [] 0) (levels, d)
+    → vector ≡ points_from levels → (let f : Found = record { vector = vector; distance = d } in f ≡ near job) × IsNear job vector
+found_is job levels d vector is best points =
+    let a = answered job (from_last job.system job.grid) levels d vector is refl best points in
+    (sym (near_is job vector a.0 ∙ found_same job vector vector d d job.system refl refl a.1 refl), a.0)
 
 -- no coordinate is behind the last one
 pub none_behind : (xs : List ℤ) (items : List Real) → length xs ≡ length items → drop (length items) xs ≡ []

@@ -1,14 +1,13 @@
 -- Coordinates, weight by weight, and points, level by level.
-use Rattle.std.proofs.Common.{◌≡◌, ℕ, zero, suc, ◌+◌, ◌*◌, ◌-◌, ◌<◌, ◌≤◌, ℤ, pos, ◌-ℤ◌, List, [], ◌∷◌, ◌++◌, length}
-use Rattle.std.proofs.Common.{drop, get_or, length-append, append_assoc, add-one, arith, refl, ap, sym, ◌∙◌}
+use Rattle.std.proofs.Common.{◌≡◌, ℕ, zero, suc, ◌+◌, ◌*◌, ◌-◌, ◌≤◌, ℤ, pos, ◌-ℤ◌, List, [], ◌∷◌, ◌++◌, length}
+use Rattle.std.proofs.Common.{drop, get_or, length-append, append_assoc, arith, refl, ap, sym, ◌∙◌}
 use Rattle.std.proofs.lemmas.List.{length-drop}
 use Rattle.std.proofs.Math.Seq.{drop-cons}
 use Rattle.ht_pam.specs.declared.axes.Axes.{Axes}
-use Rattle.ht_pam.specs.declared.point.Point.{Point}
 use Rattle.ht_pam.specs.Grids.{no_axes}
 use Rattle.ht_metric.specs.declared.tap.Tap.{Tap}
 use Rattle.ht_metric.specs.Rows.{Row, no_tap, no_row}
-use Rattle.ht_sphere.specs.Coordinates.{Real, entries_behind, weights_of_i, weights_of_q, in_phase, quadrature, from_last, points_from}
+use Rattle.ht_sphere.specs.Coordinates.{Real, entries_behind, weights_of_i, weights_of_q, in_phase, quadrature, from_last}
 
 abbrev pushed : Real → ℤ → Real
 pushed c w = record { ladder = c.ladder; diagonal = c.diagonal; sample = c.sample; weights = c.weights ++ w ∷ [] }
@@ -105,26 +104,3 @@ stream_more rows grid k items one two q i some within same e f g p r =
     ∙ ap (λ (z : Real). from_last (drop k rows) (drop k grid) ++ quadrature (length rows - k) row a ∷ z ∷ []) g
     ∙ ap at (sym left)
     ∙ sym (ap (λ (xs : List Row). from_last xs (drop j grid)) rows_here ∙ ap (λ (ys : List Axes). from_last (row ∷ drop k rows) ys) grid_here)
-
--- one more point
-points_next : (xs : List ℤ) (m : ℕ) → m + 1 < length xs
-    → points_from (drop m xs) ≡ (let p : Point = record { i = get_or xs m (pos 0); q = get_or xs (m + 1) (pos 0) } in p ∷ points_from (drop (m + 2) xs))
-points_next xs m below =
-    let one : drop m xs ≡ get_or xs m (pos 0) ∷ drop (m + 1) xs = rw add-one (drop-cons xs m (pos 0) (omega arith)) in
-    let e : suc (m + 1) ≡ m + 2 = omega arith in
-    let two : drop (m + 1) xs ≡ get_or xs (m + 1) (pos 0) ∷ drop (m + 2) xs =
-    drop-cons xs (m + 1) (pos 0) below ∙ ap (λ (n : ℕ). get_or xs (m + 1) (pos 0) ∷ drop n xs) e in
-    ap points_from (one ∙ ap (λ (ys : List ℤ). get_or xs m (pos 0) ∷ ys) two)
-
-pub point_more : (xs : List ℤ) (k : ℕ) (vector next all : List Point) (p : Point) → 2 * k + 1 < length xs → next ≡ vector ++ p ∷ []
-    → (let r : Point = record { i = get_or xs (2 * k) (pos 0); q = get_or xs (2 * k + 1) (pos 0) } in p ≡ r)
-    → vector ++ points_from (drop (2 * k) xs) ≡ all → next ++ points_from (drop (2 * (k + 1)) xs) ≡ all
-point_more xs k vector next all p below more is e =
-    let step : 2 * (k + 1) ≡ 2 * k + 2 = omega arith in
-    let r : Point = record { i = get_or xs (2 * k) (pos 0); q = get_or xs (2 * k + 1) (pos 0) } in
-    ap (λ (n : ℕ). next ++ points_from (drop n xs)) step
-    ∙ ap (λ (v : List Point). v ++ points_from (drop (2 * k + 2) xs)) more
-    ∙ append_assoc vector (p ∷ []) (points_from (drop (2 * k + 2) xs))
-    ∙ ap (λ (z : Point). vector ++ z ∷ points_from (drop (2 * k + 2) xs)) is
-    ∙ ap (λ (ys : List Point). vector ++ ys) (sym (points_next xs (2 * k) below))
-    ∙ e

@@ -1,6 +1,6 @@
 -- How much more the other levels of a coordinate cost than its nearest one.
 use Rattle.std.proofs.Common.{◌≡◌, ◌⊎◌, ℕ, zero, suc, ◌+◌, ◌-◌, ◌*◌, ◌<◌, ◌≤◌, ℤ, pos, ◌+ℤ◌, ◌-ℤ◌, ◌*ℤ◌, List, [], ◌∷◌}
-use Rattle.std.proofs.Common.{◌++◌, get_or, Bool, true, false, unsigned_abs, Option, None, Some, length, arith, inl, inr, refl, ap, sym, ◌∙◌, subst}
+use Rattle.std.proofs.Common.{◌++◌, get_or, Bool, true, false, unsigned_abs, Option, None, Some, length, arith, inl, inr, ap, sym, ◌∙◌, subst}
 use Rattle.std.specs.Prelude.{◌==◌, if◌then◌else◌}
 use Rattle.std.specs.Option.{MatchOption}
 use Rattle.std.specs.Int.{bit_at}
@@ -9,7 +9,7 @@ use Rattle.std.proofs.Math.Nat.{mul-le-mul, mul-add, add-mul, mul_comm, mul_asso
 use Rattle.std.proofs.lemmas.Bool.{cases_lt}
 use Rattle.std.proofs.lemmas.Int.{ints}
 use Rattle.ht_nearest.proofs.Bests as bests
-use Rattle.ht_pam.specs.Ladders.{Rungs, IsLadder, level, lowest, levels, has}
+use Rattle.ht_pam.specs.Ladders.{Rungs, IsLadder, level, lowest, levels}
 use Rattle.ht_pam.specs.Zigzags.{gap, nearest_first, From, Ascending}
 use Rattle.ht_pam.proofs.EndLemmas.{times_less}
 use Rattle.ht_pam.proofs.ZigzagLemmas.{ascending}

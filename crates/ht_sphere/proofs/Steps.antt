@@ -1,5 +1,6 @@
 -- One level more.
-use Rattle.std.proofs.Common.{◌≡◌, ℕ, ◌+◌, ◌-◌, ◌*◌, ◌<◌, ◌≤◌, ℤ, pos, ◌-ℤ◌, ◌*ℤ◌, List, ◌∷◌, length, drop, set, get_or, arith, ap, sym, ◌∙◌, subst}
+use Rattle.std.proofs.Common.{refl, ◌≡◌, ℕ, zero, suc, [], ◌+◌, ◌-◌, ◌*◌, ◌<◌, ◌≤◌, ℤ, pos, ◌-ℤ◌, ◌*ℤ◌, List, ◌∷◌, length, drop, set, arith, ap, sym, ◌∙◌, subst}
+use borrow.Rule.Slice.PartMut.{put_mid}
 use Rattle.std.proofs.lemmas.List.{drop-set}
 use Rattle.std.proofs.Math.ListN.{length-set}
 use Rattle.ht_pam.specs.Ladders.{Rungs}
@@ -8,7 +9,19 @@ use Rattle.ht_sphere.specs.Coordinates.{Real, target, cost, cost_at, first_of, I
 use Rattle.ht_sphere.proofs.Margins.{squares}
 use Rattle.ht_sphere.proofs.Others.{AreChosen}
 
--- both levels of a stream are written
+pair_put : (xs : List ℤ) (at : ℕ) (a b : ℤ) → at + 2 ≤ length xs → put_mid at 2 xs (a ∷ b ∷ []) ≡ set (set xs (suc at) b) at a
+pair_put [] at a b room = absurd (omega arith)
+pair_put (x ∷ []) at a b room = absurd (omega arith)
+pair_put (x ∷ y ∷ xs) zero a b room = refl
+pair_put (x ∷ y ∷ xs) (suc at) a b room = ap (λ (l : List ℤ). x ∷ l) (pair_put (y ∷ xs) at a b (omega arith))
+
+-- both levels of a stream are written, as a pair and one by one
+pub both_put : (xs : List ℤ) (at next count : ℕ) (pair : List ℤ) (a b : ℤ) → next ≡ suc at → count ≡ 2 → pair ≡ a ∷ b ∷ [] → at + 2 ≤ length xs
+    → put_mid at count xs pair ≡ set (set xs next b) at a
+both_put xs at next count pair a b n c p room =
+    ap (λ (k : ℕ). put_mid at k xs pair) c ∙ ap (λ (ys : List ℤ). put_mid at 2 xs ys) p
+    ∙ pair_put xs at a b room ∙ ap (λ (m : ℕ). set (set xs m b) at a) (sym n)
+
 pub two_set : (xs : List ℤ) (k at : ℕ) (a b x y : ℤ) → at + 2 ≡ 2 * k → at + 2 ≤ length xs → a ≡ x → b ≡ y
     → drop (2 * (k - 1)) (set (set xs (at + 1) a) at b) ≡ y ∷ x ∷ drop (2 * k) xs
 two_set xs k at a b x y here room e f =

@@ -26,11 +26,7 @@ pub fn nearest<L: Ledger>(job: &Job, steps: &mut Steps<L>) -> Hit
     ensures near { near job.now ≡ record { vector = result.vector; distance = result.distance } }
     ensures steps { steps.new ≤ steps.old + 2 * inside_of job.now }
 {
-    let streams = job.system().streams();
-    let mut levels = [0i8; 8];
-    let levels = &mut levels[..2 * usize::from(streams)];
-    let distance = best_levels(job, streams, levels, steps);
-    let vector = vector_of(levels);
+    let Found { vector, distance } = find(job, steps);
     Hit {
         job: job.copy(),
         vector,
@@ -53,7 +49,9 @@ pub fn into_hit<L: Ledger>(job: Job, steps: &mut Steps<L>) -> Hit
 }
 
 /// The first nearest vector of a job and its distance, below 2^66, as [`nearest`] finds them, without the job.
-/// Each caller has a copy of what is done for one stream, so that what is found there never waits for memory.
+/// Each caller has a copy of what is done for one stream and of how the vector is put together. Successive rounding
+/// writes both levels of a stream at once, and the vector is written at once too, so that whoever reads them next doesn't
+/// wait until narrower writes have reached memory.
 #[inline(always)]
 pub fn find<L: Ledger>(job: &Job, steps: &mut Steps<L>) -> Found
     ensures found { result ≡ near job.now }
@@ -63,25 +61,12 @@ pub fn find<L: Ledger>(job: &Job, steps: &mut Steps<L>) -> Found
 {
     match job.system().streams() {
         1 => found(job, 1, steps),
-        streams => found_among_several(job, streams, steps),
+        streams => found(job, streams, steps),
     }
 }
 
-// The same for a job of several streams, by a call.
-#[inline(never)]
-fn found_among_several<L: Ledger>(job: &Job, streams: u8, steps: &mut Steps<L>) -> Found
-    requires job { IsJob job.now }
-    requires streams { streams ≡ length job.now.system }
-    ensures found { result ≡ near job.now }
-    ensures near { IsNear job.now result.vector }
-    ensures bound { result.distance < 2 ^ 66 }
-    ensures steps { steps.new ≤ steps.old + 2 * inside_of job.now }
-{
-    found(job, streams, steps)
-}
-
-// The same for a job of this number of streams. Each caller has a copy of it, so that a number that is written there,
-// as 1 above, leaves no loop over streams.
+// The same for a job of this number of streams. Each caller has a copy of it, so that a number that is written there, as 1
+// above, leaves no loop over streams.
 #[inline(always)]
 fn found<L: Ledger>(job: &Job, streams: u8, steps: &mut Steps<L>) -> Found
     requires job { IsJob job.now }
@@ -95,16 +80,54 @@ fn found<L: Ledger>(job: &Job, streams: u8, steps: &mut Steps<L>) -> Found
     let levels = &mut levels[..2 * usize::from(streams)];
     let distance = best_levels(job, streams, levels, steps);
     Found {
-        vector: vector_of(levels),
+        vector: vector_of(streams, levels),
         distance,
     }
 }
 
-// The levels of the best vector, and its distance. Successive rounding comes first, and ends the search where no other
-// vector can be as near. For one stream a second look tells all but ties; for several it would leave too many to the
-// search. Each caller has a copy of it, without a call.
+// The levels of the best vector, and its distance: for one stream as a copy, for several by a call.
 #[inline(always)]
 fn best_levels<L: Ledger>(job: &Job, streams: u8, levels: &mut [i8], steps: &mut Steps<L>) -> u128
+    requires job { IsJob job.now }
+    requires streams { streams ≡ length job.now.system }
+    requires room { length levels.old ≡ 2 * length job.now.system }
+    requires levels { All (λ x. unsigned_abs x ≤ 7) levels.old }
+    ensures room { length levels.new ≡ length levels.old }
+    ensures best { IsBestOf (rounding (from_last job.now.system job.now.grid) [] 0) (leaves (from_last job.now.system job.now.grid) [] 0) (levels.new, result) }
+    ensures bound { result < 2 ^ 66 }
+    ensures steps { steps.new + 1 ≤ steps.old + 2 * inside_of job.now }
+{
+    match streams {
+        1 => best_of(job, streams, levels, steps),
+        _ => best_of_several(job, streams, levels, steps),
+    }
+}
+
+// The same for a job of several streams, by a call.
+#[inline(never)]
+fn best_of_several<L: Ledger>(
+    job: &Job,
+    streams: u8,
+    levels: &mut [i8],
+    steps: &mut Steps<L>,
+) -> u128
+    requires job { IsJob job.now }
+    requires streams { streams ≡ length job.now.system }
+    requires room { length levels.old ≡ 2 * length job.now.system }
+    requires levels { All (λ x. unsigned_abs x ≤ 7) levels.old }
+    ensures room { length levels.new ≡ length levels.old }
+    ensures best { IsBestOf (rounding (from_last job.now.system job.now.grid) [] 0) (leaves (from_last job.now.system job.now.grid) [] 0) (levels.new, result) }
+    ensures bound { result < 2 ^ 66 }
+    ensures steps { steps.new + 1 ≤ steps.old + 2 * inside_of job.now }
+{
+    best_of(job, streams, levels, steps)
+}
+
+// The same for a job of this number of streams. Successive rounding comes first, and ends the search where no other
+// vector can be as near. For one stream a second look tells all but ties; for several it would leave too many to the
+// search. Each caller has a copy of it, so that a number that is written there, as 1 above, leaves no loop over streams.
+#[inline(always)]
+fn best_of<L: Ledger>(job: &Job, streams: u8, levels: &mut [i8], steps: &mut Steps<L>) -> u128
     requires job { IsJob job.now }
     requires streams { streams ≡ length job.now.system }
     requires room { length levels.old ≡ 2 * length job.now.system }

@@ -1,5 +1,5 @@
 //! Successive rounding.
-ghost use Rattle.std.specs.Prelude.{◌≡◌, ◌⊎◌, ◌+◌, ◌*◌, ◌^◌, ◌<◌, ◌≤◌, length, drop, unsigned_abs};
+ghost use Rattle.std.specs.Prelude.{◌≡◌, ◌⊎◌, ◌+◌, ◌*◌, ◌^◌, ◌<◌, ◌≤◌, length, drop, slice_set, unsigned_abs};
 ghost use Rattle.std.specs.List.{All};
 ghost use Rattle.ht_sphere.specs.Coordinates.{down};
 ghost use Rattle.ht_sphere.specs.Tree.{Reached, rounding};
@@ -41,11 +41,18 @@ pub(crate) fn round<A: Look>(
     let q = A::nearest(job.grid().q_ladder(k), left.im, left.d);
     let i = A::nearest(job.grid().i_ladder(k), left.re, left.d);
     let cost = cost(left.d, left.im, q.level) + cost(left.d, left.re, i.level);
-    levels[at + 1] = q.level;
-    levels[at] = i.level;
+    set_both(levels, at, i.level, q.level);
     *distance += u128::from(cost);
     *spare = lesser(spare.saturating_sub(cost), lesser(q.margin, i.margin));
     round::<A>(job, k - 1, levels, distance, spare);
+}
+
+// Sets both levels of a stream by one write: a read of both would wait for two.
+fn set_both(levels: &mut [i8], at: usize, i: i8, q: i8)
+    requires { at + 2 ≤ length levels.old }
+    ensures { levels.new ≡ slice_set (slice_set levels.old (at + 1) q) at i }
+{
+    levels[at..at + 2].copy_from_slice(&[i, q]);
 }
 
 // The lesser of two numbers.

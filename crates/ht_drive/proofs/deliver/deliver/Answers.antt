@@ -1,7 +1,6 @@
-use Rattle.std.proofs.Common.{◌≡◌, rules}
+use Rattle.std.proofs.Common.{rules}
 use Rattle.ht_feed.specs.Feeds.{TakesBlock}
 use Rattle.ht_feed.proofs.Turning.{along_less, in_turn_failed}
-use Rattle.ht_drive.specs.Driving.{Holds, OnlyTakes}
 use Rattle.ht_drive.proofs.deliver.deliver.Goals as goal
 
 pub returns-in_err-take-clause-in_turn : goal.returns-in_err-take-clause-in_turn

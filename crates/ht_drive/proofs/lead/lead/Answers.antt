@@ -1,6 +1,6 @@
-use Rattle.std.proofs.Common.{◌≡◌, Option, Some, List, ap, sym, subst, ◌∙◌, rules}
+use Rattle.std.proofs.Common.{Option, List, ap, sym, subst, ◌∙◌}
 use Rattle.ht_metric.specs.Jobs.{JobView}
-use Rattle.ht_crew.specs.Tallying.{AreTold}
+use Rattle.ht_feed.specs.OwnNumbers.{AreTold}
 use Rattle.ht_feed.specs.Dues.{all_in}
 use Rattle.ht_feed.specs.Feeds.{IsAlong}
 use Rattle.ht_drive.specs.Blocks.{WindowView}

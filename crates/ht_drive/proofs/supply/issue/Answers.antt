@@ -1,6 +1,5 @@
-use Rattle.std.proofs.Common.{◌≡◌, ◌+◌, length, ap, sym, subst, ◌∙◌, refl, arith, rules, List}
-use Rattle.ht_metric.specs.Jobs.{JobView}
-use Rattle.ht_crew.specs.Tallying.{AreTold}
+use Rattle.std.proofs.Common.{◌≡◌, ◌+◌, length, sym, subst, refl, rules}
+use Rattle.ht_feed.specs.OwnNumbers.{AreTold}
 use Rattle.ht_feed.specs.Dues.{all_in}
 use Rattle.ht_pool.specs.Helms.{gave}
 use Rattle.ht_drive.specs.Blocks.{BlockHelm}

@@ -1,7 +1,7 @@
 use Rattle.std.proofs.Common.{◌≡◌, ◌+◌, ◌≤◌, length, List, Some, false, ap, sym, ◌∙◌, arith, rules}
 use Rattle.std.specs.Result.{is_err}
 use Rattle.ht_metric.specs.Jobs.{JobView}
-use Rattle.ht_crew.specs.Tallying.{AreTold}
+use Rattle.ht_feed.specs.OwnNumbers.{AreTold}
 use Rattle.ht_feed.specs.Dues.{all_in, count_in}
 use Rattle.ht_feed.specs.Feeds.{EndsBlocks, GivesBlock}
 use Rattle.ht_feed.proofs.Turning.{along_end, along_more, in_turn_failed}

@@ -42,6 +42,7 @@ returns-clause-tells g c =
       well = e.well;
       fault = e.fault;
       lacking = e.memory;
+      worked = e.work;
     } in
     heard r.means r.at c.args.reader c.args.head source source' before after left.desk left.failed driven c.end_of.result
     h c.requires.rests (g.met.A.Account.none_due left.account) c.end_of.ensures
@@ -67,6 +68,7 @@ returns-clause-writes g c =
       well = e.well;
       fault = e.fault;
       lacking = e.memory;
+      worked = e.work;
     } in
     steady r.means r.at c.args.reader c.args.head source source' before after left.desk left.failed driven c.end_of.result h c.end_of.ensures
 

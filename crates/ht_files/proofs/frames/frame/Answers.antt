@@ -6,8 +6,9 @@ use Rattle.ht_fields.specs.Readers.{reader_in}
 use Rattle.ht_fields.proofs.Endings.{halts_ends, route_ends}
 use Rattle.ht_fields.proofs.Halting.{behind_halts, judges_checked, lacks_halts}
 use Rattle.ht_heads.specs.Heads.{head_octets}
-use Rattle.ht_files.specs.HeadedFormats.{Body, frame_due}
-use Rattle.ht_files.specs.Frames.{Octets, Seed, framed, frames, good_octets, good_seed, is_no_seed}
+use Rattle.ht_counted.specs.Seeds.{is_no_seed}
+use Rattle.ht_files.specs.HeadedFormats.{behind_head, frame_due}
+use Rattle.ht_files.specs.Frames.{Octets, Seed, framed, frames, good_octets, good_seed}
 use Rattle.ht_files.proofs.HeadRoutes.{head_ends, route_head}
 use Rattle.ht_files.proofs.FrameRoutes.{frame_filled, route_seed, seed_as, seed_size, takes_frame}
 use Rattle.ht_files.proofs.frames.frame.Goals as goal
@@ -24,9 +25,9 @@ returns-in-Err-seed-clause-failed g c = λ left some.
     let b = g.S.Source.shown c.head.new.source in
     let z = g.S.Source.shown c.seed.new.source in
     halts_ends (reader_in frames (frame_due left) c.args.at a) z c.in-Err-seed.fault
-    (behind_halts frames (frame_due left) (Body (Seed left rate len)) (head_octets rate len) c.args.at 1 BadSeed is_no_seed a z c.in-Err-seed.fault
+    (behind_halts frames (frame_due left) (behind_head (Seed left rate len)) (head_octets rate len) c.args.at 1 BadSeed is_no_seed a z c.in-Err-seed.fault
     (route_head framed left rate len some c.in-Ok.ensures.some c.in-Ok.ensures.small)
-    (judges_checked frames (Body (Seed left rate len)) 1 BadSeed is_no_seed (good_seed left rate len) refl (omega arith) (λ e. cc, λ e. cc))
+    (judges_checked frames (behind_head (Seed left rate len)) 1 BadSeed is_no_seed (good_seed left rate len) refl (omega arith) (λ e. cc, λ e. cc))
     (b, c.in-Ok.ensures.whole, c.in-Ok.ensures.later, c.in-Err-seed.ensures.failed))
 
 pub returns-in-Err-fill-clause-failed : goal.returns-in-Err-fill-clause-failed
@@ -41,14 +42,14 @@ returns-in-Err-fill-clause-failed g c = λ left some.
     let z = g.S.Source.shown c.fill.new.source in
     let size : wide ≡ len = omega (arith, c.in-Ok-zeros.ensures.size) in
     let low : 0 < wide = omega (arith, size, c.in-Ok.ensures.some) in
-    route_ends frames (frame_due left) (Body (Octets left rate wide seed)) (head_octets rate len ++ (seed ∷ [])) [] c.args.at (c.args.at + 5)
+    route_ends frames (frame_due left) (behind_head (Octets left rate wide seed)) (head_octets rate len ++ (seed ∷ [])) [] c.args.at (c.args.at + 5)
     a m z c.in-Err-fill.fault
     (seed_as left rate len wide seed size (route_seed left rate len seed some c.in-Ok.ensures.some c.in-Ok.ensures.small c.in-Ok-seed.ensures.seed))
     (seed_size rate len seed c.args.at)
     (takes-append a b m (head_octets rate len) (seed ∷ []) c.in-Ok.ensures.whole c.in-Ok-seed.ensures.whole)
     (later-later a b m c.in-Ok.ensures.later c.in-Ok-seed.ensures.later)
-    (halts_ends (reader_in frames (Body (Octets left rate wide seed)) (c.args.at + 5) m) z c.in-Err-fill.fault
-    (lacks_halts frames (Body (Octets left rate wide seed)) (c.args.at + 5) wide m z c.in-Err-fill.fault
+    (halts_ends (reader_in frames (behind_head (Octets left rate wide seed)) (c.args.at + 5) m) z c.in-Err-fill.fault
+    (lacks_halts frames (behind_head (Octets left rate wide seed)) (c.args.at + 5) wide m z c.in-Err-fill.fault
     (width_is wide (good_octets left rate seed) low) c.in-Err-fill.ensures.lacking))
 
 pub returns-in-Ok-fill-clause-whole : goal.returns-in-Ok-fill-clause-whole

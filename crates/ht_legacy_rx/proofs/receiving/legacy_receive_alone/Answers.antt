@@ -5,7 +5,9 @@ use Rattle.ht_runs.specs.declared.faults.RunFault.TheVariants.{NoMemory}
 use Rattle.ht_endings.specs.Endings.{HasFrames}
 use Rattle.ht_endings.proofs.Nothing.{nothing_put}
 use Rattle.ht_legacy_captures.specs.Formats.{captures}
+use Rattle.ht_legacy_blocks.specs.Readers.{legacy_at, legacy_means}
 use Rattle.ht_legacy_rx.specs.Texts.{legacy_items, legacy_lines_of, legacy_text}
+use Rattle.ht_legacy_rx.proofs.Telling.{streamed}
 use Rattle.ht_legacy_rx.proofs.receiving.legacy_receive_alone.Goals as goal
 
 pub returns-in_err-reader-clause-receives : goal.returns-in_err-reader-clause-receives
@@ -15,3 +17,10 @@ returns-in_err-reader-clause-receives g c =
     let is : c.from_residual.result ≡ Err NoMemory = search rules in
     subst (λ r. Streamed (filter captures legacy_text legacy_lines_of) source source sink sink (HasFrames captures legacy_items) r) (sym is)
     (nothing_put legacy_lines_of source sink)
+
+pub returns-clause-receives : goal.returns-clause-receives
+returns-clause-receives g c =
+    let r = c.in_ok-reader in
+    streamed legacy_means legacy_at r.reader c.first_head.result c.new-under_way.result (g.S.Source.shown c.args.source.now)
+    (g.S.Source.shown c.put_frames_alone.new.source) (g.K.Sink.shown c.args.sink.now) (g.K.Sink.shown c.put_frames_alone.new.sink) c.put_frames_alone.result
+    r.ensures.means r.ensures.at c.new-under_way.ensures c.put_frames_alone.ensures.puts

@@ -1,9 +1,19 @@
 use Rattle.std.proofs.Common.{rules}
-use Rattle.ht_rx.proofs.BlockListing.{blocks_told}
+use Rattle.ht_capture_blocks.specs.Captures.{capture_at, capture_means}
+use Rattle.ht_rx.specs.Texts.{lines_of}
+use Rattle.ht_rx.proofs.Blocks.{lacks}
+use Rattle.ht_rx.proofs.BlockListing.{listed}
 use Rattle.ht_rx.proofs.listing.list_alone.Goals as goal
+
+pub returns-in_err-reader-clause-lists : goal.returns-in_err-reader-clause-lists
+returns-in_err-reader-clause-lists g c =
+    let e = c.from_residual.ensures in
+    lacks lines_of (g.S.Source.shown c.args.source.now) (g.K.Sink.shown c.args.sink.now) c.from_residual.result e.0 e.1
 
 pub returns-clause-lists : goal.returns-clause-lists
 returns-clause-lists g c =
-    let told = blocks_told c.tell_alone.result (g.S.Source.shown c.args.source.now) (g.S.Source.shown c.tell_alone.new.source)
-    (g.K.Sink.shown c.new-lister.result.sink.now) (g.K.Sink.shown c.tell_alone.new.account.sink.now) c.tell_alone.ensures.tells in
+    let r = c.in_ok-reader in
+    let told = listed (λ it. capture_means it.reader) (λ it. capture_at it.reader) r.reader c.no_head.result (g.S.Source.shown c.args.source.now)
+    (g.S.Source.shown c.tell_alone.new.source) (g.K.Sink.shown c.new-lister.result.sink.now) (g.K.Sink.shown c.tell_alone.new.account.sink.now) c.tell_alone.result
+    r.ensures.means r.ensures.at c.tell_alone.ensures.tells in
     search rules

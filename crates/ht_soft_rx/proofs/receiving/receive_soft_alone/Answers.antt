@@ -18,8 +18,7 @@ returns-in_err-reader-clause-streams g c =
 
 pub returns-clause-streams : goal.returns-clause-streams
 returns-clause-streams g c =
-    let e = c.put_lines_alone-ended in
     let r = c.in_ok-reader in
-    finished c.in_ok-reader.reader c.no_head-head.result (g.S.Source.shown c.args.source.now) (g.S.Source.shown e.new.source) (g.K.Sink.shown c.args.sink.now)
-    (g.K.Sink.shown e.new.sink) (g.K.Sink.shown c.put_end.new.sink) e.result c.put_end.result r.ensures.means r.ensures.at e.ensures.tells
-    e.ensures.puts_later c.put_end.ensures.puts
+    finished r.reader c.no_head-head.result c.new-under_way.result (g.S.Source.shown c.args.source.now) (g.S.Source.shown c.put_frames_alone.new.source)
+    (g.K.Sink.shown c.args.sink.now) (g.K.Sink.shown c.put_frames_alone.new.sink) c.put_frames_alone.result r.ensures.means r.ensures.at c.new-under_way.ensures
+    c.put_frames_alone.ensures.puts

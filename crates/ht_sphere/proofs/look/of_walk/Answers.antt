@@ -1,7 +1,6 @@
-use Rattle.std.proofs.Common.{rules, ◌≡◌, ◌+◌, ◌*◌, ◌-◌, ◌≤◌, ◌<◌, ◌-ℤ◌, ◌*ℤ◌, ◌∷◌, [], length, List, ℤ, ℕ, pos, ◌∙◌, refl, sym, ap, subst, w8, w64, SFits, to_z, of_z, to_z-of_z, arith}
+use Rattle.std.proofs.Common.{rules, ◌≡◌, ◌-◌, ◌<◌, ◌∷◌, length, List, ℤ, ℕ, ◌∙◌, refl, sym, ap, subst, w8, w64, SFits, to_z, of_z, to_z-of_z, arith}
 use Rattle.ht_pam.specs.Ladders.{levels}
 use Rattle.ht_pam.specs.Zigzags.{gap, nearest_first}
-use Rattle.ht_metric.specs.Distance.{square}
 use Rattle.ht_sphere.proofs.Bests.{walk_some}
 use Rattle.ht_sphere.proofs.Margins.{squares, walk_from, margin_at_two, margin_of_one, second_costs}
 use Rattle.ht_sphere.proofs.look.of_walk.Goals.{in-Some, in-None}

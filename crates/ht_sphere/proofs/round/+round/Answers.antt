@@ -1,10 +1,11 @@
-use Rattle.std.proofs.Common.{rules, ◌≡◌, ◌∷◌, ◌+◌, ◌-◌, ◌*◌, ◌<◌, ◌≤◌, ℕ, ℤ, List, drop, set, get_or, length, w8}
+use Rattle.std.proofs.Common.{rules, ◌≡◌, ◌∷◌, ◌+◌, ◌-◌, ◌*◌, ◌≤◌, ℤ, List, drop, set, get_or, length, w8}
 use Rattle.std.proofs.Common.{w64, SFits, to_z, of_z, to_z-of_z, unsigned_abs, ap, sym, ◌∙◌, subst, arith}
+use Rattle.std.specs.List.{All}
 use Rattle.std.proofs.lemmas.List.Elements.{All-set}
 use Rattle.std.proofs.Math.ListN.{length-set}
 use Rattle.ht_pam.specs.Grids.{no_axes}
 use Rattle.ht_pam.specs.declared.axes.Axes.{Axes}
-use Rattle.ht_sphere.specs.Coordinates.{Real, target, down, from_q, q_at, i_at}
+use Rattle.ht_sphere.specs.Coordinates.{Real, down, from_q, q_at, i_at}
 use Rattle.ht_sphere.specs.Tree.{Reached, rounding}
 use Rattle.ht_sphere.proofs.Down.{down_more}
 use Rattle.ht_sphere.proofs.Others.{AreChosen, OthersFrom, others_two, round_two}
@@ -31,10 +32,11 @@ round-requires g t c =
         (
           omega (arith, c.requires.last),
           (
-            same2 ∙ same ∙ c.requires.room,
+            ap (λ (l : List ℤ). length l) c.set_both.ensures ∙ same2 ∙ same ∙ c.requires.room,
             (
-              All-set (λ z. unsigned_abs z ≤ 7) one at (to_z w8 (of_z w8 y)) y_small
-                  (All-set (λ z. unsigned_abs z ≤ 7) ls (at + 1) (to_z w8 (of_z w8 x)) x_small c.requires.levels),
+              subst (λ (l : List ℤ). All (λ z. unsigned_abs z ≤ 7) l) (sym c.set_both.ensures)
+                  (All-set (λ z. unsigned_abs z ≤ 7) one at (to_z w8 (of_z w8 y)) y_small
+                  (All-set (λ z. unsigned_abs z ≤ 7) ls (at + 1) (to_z w8 (of_z w8 x)) x_small c.requires.levels)),
               omega (arith, c.requires.small, c.from-2.ensures, c.cost.ensures.bound, c.cost-2.ensures.bound),
             ),
           ),
@@ -71,7 +73,7 @@ returns-clause-found g t c =
     let at = 2 * c.from.result - 2 in
     let here : at + 2 ≡ 2 * k = omega (arith, c.from.ensures, c.if-k-eq0.false) in
     let room : at + 2 ≤ length c.args.levels.now = omega (arith, here, c.requires.room, c.requires.last) in
-    let list = two_set c.args.levels.now k at _ _ x y here room (to_z-of_z x_fits) (to_z-of_z y_fits) in
+    let list = ap (λ (l : List ℤ). drop (2 * j) l) c.set_both.ensures ∙ two_set c.args.levels.now k at _ _ x y here room (to_z-of_z x_fits) (to_z-of_z y_fits) in
     let next : rounding (down rows grid j) (y ∷ x ∷ s) n ≡ w = ap (λ (l : List ℤ). rounding (down rows grid j) l n) (sym list) ∙ c.round.ensures.found in
     ap (λ (cs : List Real). rounding cs s p) (down_more rows grid k (omega arith))
     ∙ round_two q i (down rows grid j) s p n _ _ x y _ w both next
@@ -106,7 +108,7 @@ returns-clause-others g t c some =
     let at = 2 * c.from.result - 2 in
     let here : at + 2 ≡ 2 * k = omega (arith, c.from.ensures, c.if-k-eq0.false) in
     let room : at + 2 ≤ length c.args.levels.now = omega (arith, here, c.requires.room, c.requires.last) in
-    let list = two_set c.args.levels.now k at _ _ x y here room (to_z-of_z x_fits) (to_z-of_z y_fits) in
+    let list = ap (λ (l : List ℤ). drop (2 * j) l) c.set_both.ensures ∙ two_set c.args.levels.now k at _ _ x y here room (to_z-of_z x_fits) (to_z-of_z y_fits) in
     let less = c.round.ensures.less some in
     let rest : OthersFrom (down rows grid j) (y ∷ x ∷ s) n w off =
     subst (λ (l : List ℤ). OthersFrom (down rows grid j) l n w off) list (c.round.ensures.others some) in

@@ -1,4 +1,4 @@
-use Rattle.std.proofs.Common.{◌≡◌, [], List, ap, sym}
+use Rattle.std.proofs.Common.{◌≡◌, [], ap, sym}
 use Rattle.ht_io.proofs.Calls.{grows-none}
 use Rattle.ht_frames.specs.Gathering.{booked_behind}
 use Rattle.ht_frames.proofs.Gathered.{all_part, all_put}

@@ -1,5 +1,5 @@
 use Rattle.std.proofs.Common.{rules, ◌≡◌}
-use Rattle.ht_rx.proofs.Comparing.{same_result}
+use Rattle.ht_rx.proofs.Booking.{same_result}
 use Rattle.ht_rx.proofs.open_frame.OpenFrame.same.Goals as goal
 
 pub returns : goal.returns

@@ -1,0 +1,7 @@
+pub mod Back
+pub mod Counting
+pub mod Ends
+pub mod Lasting
+pub mod Lists
+pub mod Passing
+pub mod Seeded

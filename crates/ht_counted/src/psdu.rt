@@ -1,0 +1,41 @@
+//! What the frames of files have behind their heads: the seed of the scrambler, and the octets of the PSDU.
+ghost use Rattle.std.specs.Prelude.{◌≡◌, ◌<◌, ◌+◌, ◌^◌, [], ◌∷◌, length, IfOk, IfErr};
+ghost use Rattle.ht_io.specs.Devices.{Takes, IsLater};
+ghost use Rattle.ht_io.specs.declared.faults.InFault.TheVariants.{NoMemory};
+ghost use Rattle.ht_io.specs.declared.faults.Kind.TheVariants.{BadSeed};
+ghost use Rattle.ht_fields.specs.Lacking.{FailsField};
+ghost use Rattle.ht_scramble.specs.Sequence.{IsSeed};
+ghost use Rattle.ht_counted.specs.Seeds.{is_no_seed};
+
+use ht_fields::{bad, octet};
+use ht_io::{InFault, Kind, Source};
+use ht_scramble::Seed;
+use std::alloc::Global;
+
+/// Reads the seed of a frame, 1 to 127 (IEEE Std 802.11-2012, clause 18.3.5.5).
+pub fn seed<S: Source>(source: &mut S, at: u64) -> Result<Seed, InFault>
+    requires room { at + 1 < 2 ^ 64 }
+    ensures whole { IfOk result (λ seed. Takes (S.shown source.old) (S.shown source.new) (seed ∷ [])) }
+    ensures seed { IfOk result (λ seed. IsSeed seed) }
+    ensures failed { IfErr result (FailsField 1 BadSeed is_no_seed at (S.shown source.old) (S.shown source.new)) }
+    ensures later { IsLater (S.shown source.old) (S.shown source.new) }
+{
+    match octet(source, at) {
+        Ok(value) => match Seed::new(value) {
+            Some(seed) => Ok(seed),
+            None => Err(bad(Kind::BadSeed, at)),
+        },
+        Err(fault) => Err(fault),
+    }
+}
+
+/// Room for the octets of a PSDU.
+pub fn zeros(alloc: Global, count: u16) -> Result<Vec<u8>, InFault>
+    ensures size { IfOk result (λ octets. length octets.items ≡ count) }
+    ensures memory { IfErr result (λ fault. fault ≡ NoMemory) }
+{
+    match vec![in alloc; 0u8; count as usize] {
+        Ok(octets) => Ok(octets),
+        Err(_) => Err(InFault::NoMemory),
+    }
+}

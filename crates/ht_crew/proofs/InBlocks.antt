@@ -1,0 +1,48 @@
+-- What is due in blocks of one job.
+use Rattle.std.proofs.Common.{◌≡◌, ℕ, ◌+◌, ◌-◌, ◌<◌, ◌≤◌, List, [], ◌∷◌, Option, Some, Bool, length, map, take, drop, slice_get, refl, ap, sym, subst, ◌∙◌, arith}
+use Rattle.std.proofs.lemmas.List.{nil_from_length, length-map}
+use Rattle.std.proofs.lemmas.Option.{same_Some, slice_get_within}
+use Rattle.ht_metric.specs.Jobs.{JobView}
+use Rattle.ht_crew.specs.Feeds.{FeedView, IsInTurn}
+use Rattle.ht_feed.specs.Dues.{all_in, count_in}
+use Rattle.ht_feed.specs.Feeds.{IsInTurn as AreInTurn}
+use Rattle.ht_feed.specs.Items.{Numbered}
+use Rattle.ht_crew.specs.Singles.{block_of, block_view}
+
+all_in_blocks : (jobs : List JobView) → all_in (map block_of jobs) ≡ jobs
+all_in_blocks [] = refl
+all_in_blocks (job ∷ jobs) = ap (λ (js : List JobView). job ∷ js) (all_in_blocks jobs)
+
+count_blocks : (jobs : List JobView) → count_in (map block_of jobs) ≡ length jobs
+count_blocks [] = refl
+count_blocks (job ∷ jobs) = let e = count_blocks jobs in omega (arith, e)
+
+-- as few jobs are due as blocks have
+pub few_jobs : (jobs : List JobView) (most room : ℕ) → count_in (map block_of jobs) + most ≤ room → 1 ≤ most → length jobs < room
+few_jobs jobs most room few some = let e = count_blocks jobs in omega (arith, e, few, some)
+
+pub few_due : (jobs : List JobView) (room : ℕ) → count_in (map block_of jobs) ≤ room → length jobs ≤ room
+few_due jobs room few = let e = count_blocks jobs in omega (arith, e, few)
+
+-- the job of the first block is the first one
+pub first_job : (jobs : List JobView) (job : JobView) → slice_get (map block_of jobs) 0 ≡ Some (block_of job) → slice_get jobs 0 ≡ Some job
+first_job [] job first = absurd (omega (arith, slice_get_within {A = List JobView} [] 0 (block_of job) first))
+first_job (other ∷ jobs) job first = ap (λ (block : List JobView). slice_get block 0) (same_Some (block_of other) (block_of job) first)
+
+pub none_due : (jobs : List JobView) → map block_of jobs ≡ [] → jobs ≡ []
+none_due jobs none = nil_from_length jobs (sym (length-map jobs block_of) ∙ ap length none)
+
+module _ {Fault : Type 0} where
+  -- jobs are in turn whose blocks are
+  pub in_turn : (known : Option (List JobView)) (noted : Bool) (feed : FeedView Fault) → AreInTurn known (block_view noted feed) → IsInTurn known feed
+  in_turn known noted feed are =
+      let all_is = all_in_blocks feed.due in
+      let count_is = count_blocks feed.due in
+      let from : feed.count - count_in (map block_of feed.due) ≡ feed.count - length feed.due = ap (λ (n : ℕ). feed.count - n) count_is in
+      let w = are.within in
+      record {
+        within = omega (arith, w, count_is);
+        numbers = subst (λ (n : ℕ). Numbered n feed.due) from
+            (subst (λ (jobs : List JobView). Numbered (feed.count - count_in (map block_of feed.due)) jobs) all_is are.numbers);
+        jobs = λ all is. sym all_is ∙ (are.jobs all is ∙ ap (λ (n : ℕ). drop n (take feed.count all)) from);
+      }

@@ -1,0 +1,58 @@
+//! Results of frames, booked.
+ghost use Rattle.std.specs.Prelude.{◌≡◌, ◌≢◌, ◌-◌, ◌^◌, ◌<◌, ◌≤◌, Err, true};
+ghost use Rattle.ht_io.specs.Devices.{IsLater};
+ghost use Rattle.ht_runs.specs.declared.faults.StopFault.TheVariants.{Write};
+ghost use Rattle.ht_feed.specs.Outcomes.{Comes};
+ghost use Rattle.ht_receive.specs.Receiving.{books};
+
+use ht_feed::{BlockReader, Ended, Hits, Work, tell_alone};
+use ht_frames::{Book, Receiver, UnderWay, WholeFrame};
+use ht_io::Source;
+use ht_runs::StopFault;
+use std::alloc::Global;
+
+/// Reads an input from the source, and books the result of each frame that is whole before its first fault.
+///
+/// The reader gave nothing yet, and until a head comes `head` stands for the one that came last. The results are those that
+/// the frame under way gives of the jobs that the reader means. Every block is run in this thread, by the work, and has at
+/// most `window` jobs, 1 to 4096. Of the frames one is kept.
+///
+/// It answers `Done` for a whole input, and `Refused` with the first fault of another. It refuses with `Read` where the
+/// source failed, having booked the frames that were read whole; with `Write` where the book failed, also if the source did;
+/// and with `NoMemory`. In the last two cases a part of the frames was booked.
+pub fn receive_alone<
+    U: UnderWay + Drop,
+    R: BlockReader<Head = U::Head> + Drop,
+    W: Work<R::Block, Answer = Hits>,
+    S: Source,
+    B: Book<<U::Whole as WholeFrame>::Result>,
+>(
+    alloc: Global,
+    reader: R,
+    head: U::Head,
+    window: u16,
+    work: &W,
+    source: &mut S,
+    under_way: U,
+    book: &mut B,
+) -> Result<Ended, StopFault>
+    requires some { 1 ≤ window }
+    requires few { window ≤ 4096 }
+    requires going { (R.counts reader).going ≡ true }
+    requires fresh { (R.counts reader).given ≡ 0 }
+    requires bounded { (R.counts reader).more < 2 ^ 64 - 1 }
+    ensures tells { Comes R.means R.at reader head (S.shown source.old) (S.shown source.new)
+        (books B.booked (U.results under_way) (B.shown book.old)) (books B.booked (U.results under_way) (B.shown book.new)) result }
+
+    // Where the book failed the answer is `Write`, whatever else failed.
+    ensures writes { result ≢ Err Write → (B.shown book.new).faults ≡ (B.shown book.old).faults }
+
+    // However it ends, the devices are the same, and take back no fault.
+    ensures reads_later { IsLater (S.shown source.old) (S.shown source.new) }
+    ensures books_later { IsLater (B.shown book.old) (B.shown book.new) }
+    ensures same { B.lent book.new ≡ B.lent book.old }
+{
+    let mut under_way = under_way;
+    let mut receiver = Receiver::new(alloc, &mut under_way, book);
+    tell_alone(alloc, reader, head, window, work, source, &mut receiver)
+}

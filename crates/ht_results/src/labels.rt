@@ -1,0 +1,33 @@
+//! Labels of a frame, by their places.
+ghost use Rattle.std.specs.Prelude.{◌≡◌, IsTrue, set};
+ghost use Rattle.ht_results.specs.Folding.{label_at};
+
+use ht_map::label;
+use ht_pam::Point;
+use ht_rate::Modulation;
+
+/// The label of a point of the constellation, and 0 for any other point.
+#[inline]
+pub fn label_for(modulation: Modulation, point: Point) -> u8
+    ensures { result ≡ label_at modulation point }
+{
+    label(modulation, point).unwrap_or(0)
+}
+
+/// Puts a label, or what else is kept of a job, on its place, where the frame has one.
+#[inline]
+#[tactic(auto, using(std::proofs::lemmas::List::set_past))]
+pub fn put_kept<T: Copy>(kept: &mut [T], at: usize, value: T)
+    ensures { kept.new ≡ set kept.old at value }
+{
+    if at < kept.len() {
+        kept[at] = value;
+    }
+}
+
+/// Whether both have the same labels, as `==` says too.
+pub fn same_labels(labels: &[u8], other: &[u8]) -> bool
+    ensures { IsTrue result → labels.now ≡ other.now }
+{
+    labels == other
+}

@@ -1,0 +1,20 @@
+use Rattle.std.proofs.Common.{rules, ◌≡◌, [], ap}
+use Rattle.ht_soft_blocks.specs.Readers.{soft_at, soft_means}
+use Rattle.ht_receive.specs.Receiving.{books}
+use Rattle.ht_receive.proofs.Booked.{gathered}
+use Rattle.ht_soft_rx.specs.declared.whole.SoftWhole.{SoftWhole}
+use Rattle.ht_soft_rx.specs.Folding.{results_in}
+use Rattle.ht_soft_rx.specs.Results.{result_of}
+use Rattle.ht_soft_rx.proofs.receiving.book_frames.Goals as goal
+
+pub returns-clause-tells : goal.returns-clause-tells
+returns-clause-tells g c =
+    let b = g.B.Book in
+    let before = c.new-gatherer.result in
+    let frame = c.args.under_way in
+    let none : before.queue.now.items ≡ [] = search rules in
+    let told = gathered soft_means soft_at c.args.reader c.args.head (g.S.Source.shown c.args.source.now) (g.S.Source.shown c.tell.new.source) b.booked
+    results_in (λ (f : SoftWhole). result_of f.head f.weights.items) before.queue.now.items (b.shown before.book.now) (b.shown c.args.book.now)
+    before.under_way.now frame (books b.booked (results_in frame) (b.shown c.tell.new.account.book.now)) c.tell.result none
+    (ap b.shown c.new-gatherer.ensures.book) c.new-gatherer.ensures.under_way c.tell.ensures.tells in
+    search rules
