@@ -516,12 +516,14 @@ def test_pictures_of_recordings(here, tmp_path, kind):
 
 def test_the_table_of_rates():
     """Of the page: one packet in ten may be wrong at the standard's least sensitivity, and the loss is at most 2 dB."""
-    row = r"^\| (20|40) MHz \| (\d+) \| [^|]+ \| (\d) \| [\d.]+ \| (\d+) % \| ([\d.]+) \| ([\d.]+) \| ([\d.]+) \|$"
+    row = r"^\| (20|40) MHz \| ([^|]+) \| ([\d.]+) \| (\d+) % \|((?: [\d.]+, [\d.]+ \|){4})$"
     rows = re.findall(row, (TOP / "docs" / "RECORDINGS.md").read_text(), re.MULTILINE)
-    assert [int(mcs) for bandwidth, mcs, *_ in rows if bandwidth == "20"] == list(range(32)) and len(rows) == 36
-    for _, mcs, streams, wrong, recorded, known, loss in rows:
-        assert int(streams) == int(mcs) // 8 + 1 and int(wrong) <= 10
-        assert float(loss) <= 2 and float(recorded) - float(known) == pytest.approx(float(loss), abs=0.11)
+    kinds = [Rate(20, scheme) for scheme in range(8)] + [Rate(40, 7)]
+    assert [(int(bandwidth), kind) for bandwidth, kind, *_ in rows] == [(rate.bandwidth, f"{rate.modulation} {rate.coding_rate}") for rate in kinds]
+    for *_, least, wrong, cells in rows:
+        assert int(wrong) <= 10
+        for recorded, loss in re.findall(r"([\d.]+), ([\d.]+)", cells):
+            assert float(recorded) < float(least) and float(loss) <= 2
 
 
 def test_the_page_of_recordings():

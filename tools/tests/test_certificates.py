@@ -1,4 +1,4 @@
-"""Certificates: the vectors, the job that docs/CERTIFICATES.md works by hand, the page's own checker, and the judge on them."""
+"""Certificates: the vectors, the job that docs/CERTIFICATES.md works by hand, the checker of the examples, and the judge on them."""
 
 import json
 import re
@@ -63,14 +63,13 @@ def test_the_octets_of_the_page():
     assert (TOP / command).with_suffix(".check").read_text() == "".join(lines)
 
 
-def test_the_checker_of_the_page(tmp_path):
+def test_the_checker_of_the_examples():
     """It says yes and no as the vectors do, in all files that aren't at fault."""
-    (code,) = re.findall(r"```python\n(.*?)```", PAGE, re.DOTALL)
-    assert code.count("\n") <= 30
-    (tmp_path / "own.py").write_text(code)
+    checker = TOP / "examples" / "check.py"
+    assert checker.read_text().count("\n") <= 32 and "examples/check.py" in PAGE
     whole = [path for path in FILES if "refused" not in path.with_suffix(".check").read_text()]
-    joined = "import runpy, sys\nfor path in sys.argv[1:]:\n    sys.argv[1] = path\n    runpy.run_path('own.py')\n"
-    done = subprocess.run([sys.executable, "-c", joined, *map(str, whole)], capture_output=True, text=True, cwd=tmp_path, check=True)
+    joined = f"import runpy, sys\nfor path in sys.argv[1:]:\n    sys.argv[1] = path\n    runpy.run_path({str(checker)!r})\n"
+    done = subprocess.run([sys.executable, "-c", joined, *map(str, whole)], capture_output=True, text=True, check=True)
     wanted = [line.split(" no ")[0] + " no" if " no " in line else line for path in whole for line in path.with_suffix(".check").read_text().splitlines()]
     assert done.stdout.splitlines() == [line for line in wanted if not line.startswith("end")] and " no\n" in done.stdout
 

@@ -55,11 +55,11 @@ def test_the_judges_lines_of_the_first_page(command):
     assert made[1].stderr.decode().strip() in page
 
 
-def test_the_planted_mistakes_are_those_of_the_page():
-    """tools/README.md has a row for each, and what is mistaken stands once in its module."""
-    page = (TOP / "tools" / "README.md").read_text()
-    for name, module, old, new, tests in runpy.run_path(str(TOP / "tools" / "plant"))["MISTAKES"]:
-        assert f"| {name} | `{module}` | {', '.join(tests.split())} |" in page
+def test_the_planted_mistakes():
+    """tools/README.md has their number, what is mistaken stands once in its module, and there are the tests that have to find it."""
+    mistakes = runpy.run_path(str(TOP / "tools" / "plant"))["MISTAKES"]
+    assert f"plants {len(mistakes)} mistakes" in (TOP / "tools" / "README.md").read_text()
+    for _, module, old, new, tests in mistakes:
         text = (TOP / "tools" / "src" / "mizgaure" / module).read_text()
         assert text.count(old) == 1 and new != old
         assert all((TOP / "tools" / "tests" / f"test_{test}.py").exists() for test in tests.split())
