@@ -23,11 +23,11 @@ use Rattle.ht_capture.specs.declared.places.Turn.{Turn}
 use Rattle.ht_capture.specs.declared.places.SymbolTurn.{SymbolTurn}
 use Rattle.ht_capture.specs.declared.stage.Stage.{Stage}
 use Rattle.ht_capture.specs.declared.stage.Stage.TheVariants.{Giving, NextFrame, NextSymbol}
-use Rattle.ht_capture.specs.Blocks.{GivesBlock, IsPartOf, KeepsLent, Lends, LendsFrame, StopsBlocks, items_in}
+use Rattle.ht_capture.specs.Blocks.{CountsPart, GivesBlock, IsPartOf, KeepsLent, Lends, LendsFrame, StopsBlocks, items_in}
 use Rattle.ht_capture.specs.Fields.{captures, next_symbol, next_turn, symbol_due}
 use Rattle.ht_capture.specs.Parts.{SymbolPart, part_of, symbol_part}
 use Rattle.ht_capture.specs.Reading.{AreSeen}
-use Rattle.ht_capture.specs.Readers.{Progress, SymbolFits, jobs_left, shown_at, shown_by, stage_after, symbol_octets}
+use Rattle.ht_capture.specs.Readers.{Counts, Progress, SymbolFits, counted, counts, counts_at, jobs_left, shown_at, shown_by, stage_after, symbol_octets}
 use Rattle.ht_capture.proofs.Sharing.{part_first, part_length}
 use Rattle.ht_capture.proofs.Turns.{gives_completes}
 
@@ -112,6 +112,30 @@ placed_part due k count at old symbol part fits inside within is made =
       carriers = subst (λ n. AreSeen due.head.rate n (take count (drop k (take due.count old.present)))) (sym count_is)
           (seen_part due.head.rate due.count k count old.present inside fits.seen);
     })
+
+-- it has as many as were asked for
+pub part_size : (due : SymbolTurn) (k count : ℕ) (old : Progress) (symbol part : SymbolPart) → k + count ≤ due.count → due.count ≤ length old.present
+    → symbol ≡ symbol_part due old.present old.samples → part ≡ part_of symbol k count → length part.present ≡ count
+part_size due k count old symbol part inside within is made =
+    let whole : part ≡ part_of (symbol_part due old.present old.samples) k count = made ∙ ap (λ (s : SymbolPart). part_of s k count) is in
+    let size : length (take due.count old.present) ≡ due.count = length-take-le due.count old.present within in
+    ap (λ (p : SymbolPart). length p.present) whole ∙ part_length (take due.count old.present) k count (omega (arith, size, inside))
+
+-- and is numbered on
+pub counted_part : (due : SymbolTurn) (k count most : ℕ) (old new : Progress) (symbol part : SymbolPart) → old.stage ≡ Giving due k → 1 ≤ count
+    → count ≤ most → symbol ≡ symbol_part due old.present old.samples → part ≡ part_of symbol k count → length part.present ≡ count
+    → counts new ≡ counted (due.turn.frame + 1) (due.turn.number + (k + count)) → CountsPart most (counts old) (counts new) part
+counted_part due k count most old new symbol part stage some few is made size behind =
+    let whole : part ≡ part_of (symbol_part due old.present old.samples) k count = made ∙ ap (λ (s : SymbolPart). part_of s k count) is in
+    let before : counts old ≡ counted (due.turn.frame + 1) (due.turn.number + k) = ap (λ (s : Stage). counts_at s) stage in
+    let jobs : due.turn.number + (k + count) ≡ due.turn.number + k + length part.present = omega (arith, size) in
+    record {
+      some = omega (arith, size, some);
+      few = omega (arith, size, few);
+      number = ap (λ (p : SymbolPart). p.number) whole ∙ sym (ap (λ (c : Counts). c.jobs) before);
+      given = behind ∙ (ap (λ (n : ℕ). counted (due.turn.frame + 1) n) jobs
+          ∙ sym (ap (λ (c : Counts). counted c.frames (c.jobs + length part.present)) before));
+    }
 
 gives_block_item : (old mid new : ReaderView Item) (item : BlockItem) → Gives old mid [] → GivesBlock mid new item → GivesBlock old new item
 gives_block_item old mid new (Frame head) a b = gives_more old mid new [] (FrameItem head ∷ []) a b

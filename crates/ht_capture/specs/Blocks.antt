@@ -1,6 +1,7 @@
 -- What a reader of captures does when it gives jobs in blocks.
-use Rattle.std.specs.Prelude.{◌≡◌, ℕ, ◌+◌, ◌<◌, ◌≤◌, List, [], ◌∷◌, length, map, take, Option, Some, None, Result, Ok, Err}
+use Rattle.std.specs.Prelude.{◌≡◌, ℕ, ◌+◌, ◌<◌, ◌≤◌, List, [], ◌∷◌, length, map, take, Option, Some, None, Result, Ok, Err, MatchResult, IfOk}
 use Rattle.std.specs.Arc.{arc_value}
+use Rattle.ht_io.specs.Devices.{Device, IsLater}
 use Rattle.ht_io.specs.declared.faults.InFault.{InFault}
 use Rattle.ht_io.specs.declared.faults.InFault.TheVariants.{Format, Read, NoMemory}
 use Rattle.ht_fields.specs.Readers.{ReaderView, Gives}
@@ -19,7 +20,8 @@ use Rattle.ht_capture.specs.declared.stage.Stage.{Stage}
 use Rattle.ht_capture.specs.declared.stage.Stage.TheVariants.{Begin, NextFrame, NextSymbol, Giving, Ended, Stopped}
 use Rattle.ht_capture.specs.Parts.{SymbolPart, jobs_of, symbol_part}
 use Rattle.ht_capture.specs.Reading.{AreSeen}
-use Rattle.ht_capture.specs.Readers.{Completes, Counted, Counts, IsPlaced, Progress, StaysInFrame, counted, finished}
+use Rattle.ht_capture.specs.Readers.{Completes, Counted, Counts, IsPlaced, Progress, StaysInFrame, counted, counts, finished, more, shown_by}
+use Rattle.ht_capture.specs.Readers.{symbol_under_way}
 
 -- the jobs of a part, as items
 abbrev pub items_in : SymbolPart → List Item
@@ -87,6 +89,37 @@ Repeats (Ok (FrameItem head)) answer = Unit {0}
 Repeats (Ok (JobItem job)) answer = Unit {0}
 Repeats (Ok DoneItem) answer = answer ≡ Ok Done
 Repeats (Err fault) answer = answer ≡ Err fault
+
+-- what a call that gives the next head, the end or a block of at most so many jobs does to a reader and to its source, whose
+-- device `shown` tells
+pub record AnswersBlock {S : Type 0} (shown : S → Device ℕ) (most : ℕ) (old new : Progress) (source source' : S) (result : Result BlockItem InFault) : Type 0 where
+  -- what the octets that this call took mean
+  pub told : finished old ≡ None → MatchResult result
+      (GivesBlock (shown_by old (shown source)) (shown_by new (shown source')))
+      (StopsBlocks (shown_by old (shown source)) (shown_by new (shown source')))
+  -- heads and jobs are numbered from 0
+  pub counted : IfOk result (CountsBlock most (counts old) (counts new))
+  -- a block's jobs are some of the symbol that was due
+  pub placed : IfOk result (PlacesBlock (symbol_under_way old) (symbol_under_way new))
+  -- whether the reader goes on
+  pub going : GoesOnBy new result
+  -- the device is the same, and takes back no fault
+  pub later : IsLater (shown source) (shown source')
+  -- a reader that finished answers the same again, and takes nothing
+  pub again : (answer : Result Item InFault) → finished old ≡ Some answer → Repeats answer result × (new ≡ old) × (source' ≡ source)
+  -- how many heads and jobs still come, at most: over every source fewer behind each of them
+  pub fewer : FallsBy (more old) (more new) result
+
+-- what giving the next jobs of the symbol that was read, at most so many, does to a reader
+pub record GivesPart (most : ℕ) (old new : Progress) (part : SymbolPart) : Type 0 where
+  -- the jobs are the next items
+  pub told : (source : Device ℕ) → Gives (shown_by old source) (shown_by new source) (items_in part)
+  -- they are numbered from 0, and are some of the symbol that was due
+  pub counted : CountsPart most (counts old) (counts new) part
+  pub placed : PlacesPart (symbol_under_way old) (symbol_under_way new) part
+  -- the reader goes on, and fewer heads and jobs come
+  pub going : finished new ≡ None
+  pub fewer : more new + length part.present ≤ more old
 
 -- a symbol of the frame with this head and these subcarriers
 pub record IsOfFrame (frame : FrameHead) (subcarriers : List Present) (part : SymbolPart) : Type 0 where

@@ -1,11 +1,12 @@
 -- What a reader of captures still gives.
 use Rattle.std.specs.Prelude.{◌≡◌, ℕ, ◌+◌, ◌-◌, ◌*◌, ◌<◌, ◌≤◌, List, [], ◌∷◌, length, take, drop, nat_lt, if◌then◌else◌, Bool, true, false, Option, Some}
-use Rattle.std.specs.Prelude.{None, Result, Ok, Err}
+use Rattle.std.specs.Prelude.{None, Result, Ok, Err, MatchResult, IfOk, IfErr}
 use Rattle.ht_io.specs.declared.faults.InFault.{InFault}
 use Rattle.ht_io.specs.declared.faults.InFault.TheVariants.{Format, Read, NoMemory}
 use Rattle.ht_fields.specs.Meanings.{Meaning, before, ended, refused, meaning}
 use Rattle.ht_fields.specs.Readers.{ReaderView, Gives}
-use Rattle.ht_io.specs.Devices.{Device, TakesAll}
+use Rattle.ht_fields.specs.WholeFiles.{Halts}
+use Rattle.ht_io.specs.Devices.{Device, TakesAll, IsLater}
 use Rattle.ht_rate.specs.Rates.{carriers_of, symbols_of}
 use Rattle.ht_map.specs.Constellation.{grid_of}
 use Rattle.ht_pam.specs.declared.axes.Axes.{Axes}
@@ -200,6 +201,60 @@ abbrev pub IsPlaced : Option SymbolTurn → Option SymbolTurn → Item → Type 
 IsPlaced old new (Frame head) = (due : SymbolTurn) × (new ≡ Some due) × (due.head ≡ head) × (due.symbol ≡ 0)
 IsPlaced old new (Job job) = (due : SymbolTurn) × (old ≡ Some due) × IsOfSymbol due job × StaysInFrame due new
 IsPlaced old new Done = Unit {0}
+
+-- what a call that gives the next item does to a reader and to its source, whose device `shown` tells
+pub record AnswersItem {S : Type 0} (shown : S → Device ℕ) (old new : Progress) (source source' : S) (result : Result Item InFault) : Type 0 where
+  -- what the octets that this call took mean
+  pub told : finished old ≡ None → MatchResult result
+      (GivesItem (shown_by old (shown source)) (shown_by new (shown source')))
+      (Halts (shown_by old (shown source)) (shown source'))
+  -- heads and jobs are numbered from 0
+  pub counted : IfOk result (Counted (counts old) (counts new))
+  -- a job is one of the symbol that was due, on a subcarrier of its frame's rate
+  pub placed : IfOk result (IsPlaced (symbol_under_way old) (symbol_under_way new))
+  -- behind a head or a job the reader goes on
+  pub going : IfOk result (GoesOn new)
+  -- the device is the same, and takes back no fault
+  pub later : IsLater (shown source) (shown source')
+  -- a reader that finished answers the same again, and takes nothing
+  pub again : (answer : Result Item InFault) → finished old ≡ Some answer → (result ≡ answer) × (new ≡ old) × (source' ≡ source)
+  -- behind a fault and behind the end it has finished
+  pub stopped : IfErr result (λ fault. finished new ≡ Some (Err fault))
+  pub done : result ≡ Ok Done → finished new ≡ Some (Ok Done)
+  -- how many heads and jobs still come, at most: over every source fewer behind each of them
+  pub fewer : Falls (more old) (more new) result
+  -- memory never lacks
+  pub memory : result ≡ Err NoMemory → ⊥
+
+-- what reading a frame's head or the end of the input does, where a reader meant this, over its source, had given so many
+-- heads and jobs, and had at most so many to give
+pub record ReadsFrame (before : ReaderView Item) (given : Counts) (most : ℕ) (new : Progress) (after : Device ℕ) (result : Result Item InFault) : Type 0 where
+  -- what the octets that this call took mean
+  pub told : MatchResult result (GivesItem before (shown_by new after)) (Halts before after)
+  -- behind a fault the reader has stopped, and behind the end it has ended
+  pub stopped : IfErr result (λ fault. new.stage ≡ Stopped fault)
+  pub done : result ≡ Ok Done → new.stage ≡ Ended
+  -- memory never lacks
+  pub memory : IfErr result (λ fault. fault ≡ NoMemory → ⊥)
+  -- the head is numbered from 0, and its frame's first symbol is due
+  pub counted : IfOk result (Counted given (counts new))
+  pub placed : IfOk result (IsPlaced None (symbol_under_way new))
+  -- behind a head the reader goes on, and fewer heads and jobs come
+  pub on : IfOk result (GoesOn new)
+  pub fewer : Falls most (more new) result
+  -- the device is the same, and takes back no fault
+  pub later : IsLater before.source after
+
+-- what giving the next job of the symbol that was read does to a reader
+pub record GivesJob (old new : Progress) (job : JobView) : Type 0 where
+  -- the job is the next item
+  pub told : (source : Device ℕ) → Gives (shown_by old source) (shown_by new source) (Job job ∷ [])
+  -- it is numbered from 0, and is one of the symbol that was due
+  pub counted : Counted (counts old) (counts new) (Job job)
+  pub placed : IsPlaced (symbol_under_way old) (symbol_under_way new) (Job job)
+  -- the reader goes on, and fewer heads and jobs come
+  pub going : finished new ≡ None
+  pub fewer : more new < more old
 
 -- the offset and the numbers stay far below the ends of their types: a frame has at most 73,569,334 octets and 2,298,924 jobs
 pub record TurnFits (turn : Turn) (at : ℕ) : Type 0 where

@@ -3,6 +3,7 @@ ghost use Rattle.std.specs.Prelude.{◌≡◌, ◌+◌, ◌<◌, ◌≤◌, ◌�
 ghost use Rattle.std.specs.Arc.{arc_value};
 ghost use Rattle.ht_capture.specs.Parts.{jobs_of, part_of};
 
+use crate::items::FrameHead;
 use crate::shared_symbol::SharedSymbol;
 use ht_metric::{Job, Place};
 use std::alloc::{AllocError, Global};
@@ -55,6 +56,14 @@ impl SymbolBlock {
         ensures few { result ≤ 114 }
     {
         self.count
+    }
+
+    /// The head of its frame.
+    #[inline]
+    pub fn head(&self) -> &FrameHead
+        ensures { result.now ≡ self.now.head }
+    {
+        self.symbol.head()
     }
 
     /// The place of its first job.

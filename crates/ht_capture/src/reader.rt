@@ -9,13 +9,12 @@ ghost use Rattle.ht_map.specs.Constellation.{grid_of};
 ghost use Rattle.ht_pam.specs.declared.axes.Axes.{Axes};
 ghost use Rattle.std.specs.Arc.{arc_value};
 ghost use Rattle.ht_capture.specs.declared.items.Item.{Item as ItemValue};
-ghost use Rattle.ht_capture.specs.declared.items.Item.TheVariants.{Job as JobItem, Done};
+ghost use Rattle.ht_capture.specs.declared.items.Item.TheVariants.{Job as JobItem};
 ghost use Rattle.ht_capture.specs.Fields.{Symbol, captures, turn_due, capture_magic, capture_magic_due};
 ghost use Rattle.ht_capture.specs.Parts.{symbol_part};
 ghost use Rattle.ht_capture.specs.Reading.{here};
-ghost use Rattle.ht_capture.specs.Blocks.{CountsBlock, CountsPart, FallsBy, GivesBlock, GoesOnBy, PlacesBlock, PlacesPart, Repeats, StopsBlocks, items_in};
-ghost use Rattle.ht_capture.specs.Readers.{Counted, Falls, KeepsGrid, StaysInFrame, GivesItem, GoesOn, IsOfSymbol, IsPlaced, IsReady, StageFits, SymbolFits};
-ghost use Rattle.ht_capture.specs.Readers.{TurnFits};
+ghost use Rattle.ht_capture.specs.Blocks.{AnswersBlock, GivesPart};
+ghost use Rattle.ht_capture.specs.Readers.{AnswersItem, GivesJob, IsOfSymbol, IsReady, KeepsGrid, ReadsFrame, StageFits, StaysInFrame, SymbolFits, TurnFits};
 ghost use Rattle.ht_capture.specs.Readers.{counted, counts, counts_at, finished, finished_stage, has_job, more, more_at, most_of};
 ghost use Rattle.ht_capture.specs.Readers.{shown_at, shown_by, stage_after, symbol_at, symbol_under_way};
 ghost use Rattle.ht_fields.specs.WholeFiles.{Halts};
@@ -177,30 +176,7 @@ impl Reader {
     /// Where the octets of the source are known, what is given is what they mean; where they are not, it is what some
     /// octets mean, so that number, place and grid of each job are those that come next.
     pub fn next<S: Source>(&mut self, source: &mut S) -> Result<Item, InFault>
-        // What the octets that this call took mean.
-        ensures told { finished self.old ≡ None → MatchResult result
-            (GivesItem (shown_by self.old (S.shown source.old)) (shown_by self.new (S.shown source.new)))
-            (Halts (shown_by self.old (S.shown source.old)) (S.shown source.new)) }
-
-        // Heads and jobs are numbered from 0.
-        ensures counted { IfOk result (Counted (counts self.old) (counts self.new)) }
-
-        // A job is one of the symbol that was due, on a subcarrier of its frame's rate.
-        ensures placed { IfOk result (IsPlaced (symbol_under_way self.old) (symbol_under_way self.new)) }
-
-        // What stays.
-        ensures going { IfOk result (GoesOn self.new) }
-        ensures later { IsLater (S.shown source.old) (S.shown source.new) }
-        ensures again { (answer : Result ItemValue InFaultValue) → finished self.old ≡ Some answer
-            → (result ≡ answer) × (self.new ≡ self.old) × (source.new ≡ source.old) }
-        ensures stopped { IfErr result (λ fault. finished self.new ≡ Some (Err fault)) }
-        ensures done { result ≡ Ok Done → finished self.new ≡ Some (Ok Done) }
-
-        // How many heads and jobs still come, at most: over every source fewer behind each of them.
-        ensures fewer { Falls (more self.old) (more self.new) result }
-
-        // Memory never lacks.
-        ensures memory { result ≡ Err NoMemory → ⊥ }
+        ensures { AnswersItem S.shown self.old self.new source.old source.new result }
     {
         self.ready(source)?;
         self.answer(source)
@@ -211,12 +187,8 @@ impl Reader {
     pub fn ready_job(&mut self) -> Option<Job>
         ensures due { is_some result ≡ has_job self.old.stage }
 
-        // The job is the next item.
-        ensures told { IfSome result (λ job. (source : Device ℕ) → Gives (shown_by self.old source) (shown_by self.new source) (JobItem job ∷ [])) }
-        ensures counted { IfSome result (λ job. Counted (counts self.old) (counts self.new) (JobItem job)) }
-        ensures placed { IfSome result (λ job. IsPlaced (symbol_under_way self.old) (symbol_under_way self.new) (JobItem job)) }
-        ensures going { IfSome result (λ _. finished self.new ≡ None) }
-        ensures fewer { IfSome result (λ _. more self.new < more self.old) }
+        // It is the next item.
+        ensures given { IfSome result (GivesJob self.old self.new) }
 
         ensures none { IfNone result (self.new ≡ self.old) }
     {
@@ -233,25 +205,7 @@ impl Reader {
     pub fn next_block<S: Source>(&mut self, most: u16, source: &mut S) -> Result<BlockItem, InFault>
         requires some { 1 ≤ most }
 
-        // What the octets that this call took mean.
-        ensures told { finished self.old ≡ None → MatchResult result
-            (GivesBlock (shown_by self.old (S.shown source.old)) (shown_by self.new (S.shown source.new)))
-            (StopsBlocks (shown_by self.old (S.shown source.old)) (shown_by self.new (S.shown source.new))) }
-
-        // Heads and jobs are numbered from 0.
-        ensures counted { IfOk result (CountsBlock most (counts self.old) (counts self.new)) }
-
-        // A block's jobs are some of the symbol that was due.
-        ensures placed { IfOk result (PlacesBlock (symbol_under_way self.old) (symbol_under_way self.new)) }
-
-        // What stays.
-        ensures going { GoesOnBy self.new result }
-        ensures later { IsLater (S.shown source.old) (S.shown source.new) }
-        ensures again { (answer : Result ItemValue InFaultValue) → finished self.old ≡ Some answer
-            → Repeats answer result × (self.new ≡ self.old) × (source.new ≡ source.old) }
-
-        // How many heads and jobs still come, at most: over every source fewer behind each of them.
-        ensures fewer { FallsBy (more self.old) (more self.new) result }
+        ensures { AnswersBlock S.shown most self.old self.new source.old source.new result }
     {
         self.ready(source)?;
         self.answer_block(most, source)
@@ -263,13 +217,8 @@ impl Reader {
     pub fn ready_block(&mut self, most: u16) -> Option<SymbolBlock>
         requires some { 1 ≤ most }
 
-        // The jobs are the next items.
-        ensures told { IfSome result (λ block. (source : Device ℕ) → Gives (shown_by self.old source) (shown_by self.new source) (items_in block)) }
-        ensures counted { IfSome result (CountsPart most (counts self.old) (counts self.new)) }
-        ensures placed { IfSome result (PlacesPart (symbol_under_way self.old) (symbol_under_way self.new)) }
-        ensures going { IfSome result (λ _. finished self.new ≡ None) }
-        ensures fewer { IfSome result (λ block. more self.new + length block.present ≤ more self.old) }
-
+        // Its jobs are the next items.
+        ensures given { IfSome result (GivesPart most self.old self.new) }
         ensures none { IfNone result (self.new ≡ self.old) }
     {
         match self.stage {
@@ -285,16 +234,7 @@ impl Reader {
     fn answer_block<S: Source>(&mut self, most: u16, source: &mut S) -> Result<BlockItem, InFault>
         requires ready { IsReady self.old.stage }
         requires some { 1 ≤ most }
-        ensures told { finished self.old ≡ None → MatchResult result
-            (GivesBlock (shown_by self.old (S.shown source.old)) (shown_by self.new (S.shown source.new)))
-            (StopsBlocks (shown_by self.old (S.shown source.old)) (shown_by self.new (S.shown source.new))) }
-        ensures counted { IfOk result (CountsBlock most (counts self.old) (counts self.new)) }
-        ensures placed { IfOk result (PlacesBlock (symbol_under_way self.old) (symbol_under_way self.new)) }
-        ensures going { GoesOnBy self.new result }
-        ensures later { IsLater (S.shown source.old) (S.shown source.new) }
-        ensures again { (answer : Result ItemValue InFaultValue) → finished self.old ≡ Some answer
-            → Repeats answer result × (self.new ≡ self.old) × (source.new ≡ source.old) }
-        ensures fewer { FallsBy (more self.old) (more self.new) result }
+        ensures { AnswersBlock S.shown most self.old self.new source.old source.new result }
     {
         match self.stage {
             Stage::Giving(due, k) => match self.give_block(&due, k, most) {
@@ -309,16 +249,7 @@ impl Reader {
     fn answer_joint<S: Source>(&mut self, source: &mut S) -> Result<BlockItem, InFault>
         requires ready { IsReady self.old.stage }
         requires none { has_job self.old.stage ≡ false }
-        ensures told { finished self.old ≡ None → MatchResult result
-            (GivesBlock (shown_by self.old (S.shown source.old)) (shown_by self.new (S.shown source.new)))
-            (StopsBlocks (shown_by self.old (S.shown source.old)) (shown_by self.new (S.shown source.new))) }
-        ensures counted { (most : ℕ) → IfOk result (CountsBlock most (counts self.old) (counts self.new)) }
-        ensures placed { IfOk result (PlacesBlock (symbol_under_way self.old) (symbol_under_way self.new)) }
-        ensures going { GoesOnBy self.new result }
-        ensures later { IsLater (S.shown source.old) (S.shown source.new) }
-        ensures again { (answer : Result ItemValue InFaultValue) → finished self.old ≡ Some answer
-            → Repeats answer result × (self.new ≡ self.old) × (source.new ≡ source.old) }
-        ensures fewer { FallsBy (more self.old) (more self.new) result }
+        ensures { (most : ℕ) → AnswersBlock S.shown most self.old self.new source.old source.new result }
     {
         match self.answer(source) {
             Ok(Item::Frame(head)) => Ok(BlockItem::Frame(head)),
@@ -331,11 +262,7 @@ impl Reader {
     // Gives the next job of the symbol that was read.
     fn give(&mut self, due: &SymbolTurn, k: usize) -> Job
         requires stage { self.old.stage ≡ Stage.Giving due.now k }
-        ensures told { (source : Device ℕ) → Gives (shown_by self.old source) (shown_by self.new source) (JobItem result ∷ []) }
-        ensures counted { Counted (counts self.old) (counts self.new) (JobItem result) }
-        ensures placed { IsPlaced (symbol_under_way self.old) (symbol_under_way self.new) (JobItem result) }
-        ensures going { finished self.new ≡ None }
-        ensures fewer { more self.new < more self.old }
+        ensures { GivesJob self.old self.new result }
     {
         let job = job_of(due, k, self.at, &self.present, &self.grid, &self.samples);
         self.pass(due, k, 1);
@@ -367,19 +294,7 @@ impl Reader {
     // Gives what comes next, where no symbol has to be read before.
     fn answer<S: Source>(&mut self, source: &mut S) -> Result<Item, InFault>
         requires ready { IsReady self.old.stage }
-        ensures told { finished self.old ≡ None → MatchResult result
-            (GivesItem (shown_by self.old (S.shown source.old)) (shown_by self.new (S.shown source.new)))
-            (Halts (shown_by self.old (S.shown source.old)) (S.shown source.new)) }
-        ensures again { (answer : Result ItemValue InFaultValue) → finished self.old ≡ Some answer
-            → (result ≡ answer) × (self.new ≡ self.old) × (source.new ≡ source.old) }
-        ensures stopped { IfErr result (λ fault. finished self.new ≡ Some (Err fault)) }
-        ensures done { result ≡ Ok Done → finished self.new ≡ Some (Ok Done) }
-        ensures memory { IfErr result (λ fault. fault ≡ NoMemory → ⊥) }
-        ensures counted { IfOk result (Counted (counts self.old) (counts self.new)) }
-        ensures placed { IfOk result (IsPlaced (symbol_under_way self.old) (symbol_under_way self.new)) }
-        ensures on { IfOk result (GoesOn self.new) }
-        ensures fewer { Falls (more self.old) (more self.new) result }
-        ensures later { IsLater (S.shown source.old) (S.shown source.new) }
+        ensures { AnswersItem S.shown self.old self.new source.old source.new result }
     {
         match self.stage {
             Stage::Begin => self.begin(source),
@@ -394,17 +309,8 @@ impl Reader {
     // Reads what stands in front of the frames, and then as `frame` does.
     #[inline(never)]
     fn begin<S: Source>(&mut self, source: &mut S) -> Result<Item, InFault>
-        ensures told { MatchResult result
-            (GivesItem (here (capture_magic_due capture_magic) 0 (S.shown source.old)) (shown_by self.new (S.shown source.new)))
-            (Halts (here (capture_magic_due capture_magic) 0 (S.shown source.old)) (S.shown source.new)) }
-        ensures stopped { IfErr result (λ fault. self.new.stage ≡ Stage.Stopped fault) }
-        ensures memory { IfErr result (λ fault. fault ≡ NoMemory → ⊥) }
-        ensures done { result ≡ Ok Done → self.new.stage ≡ Stage.Ended }
-        ensures counted { IfOk result (Counted (counted 0 0) (counts self.new)) }
-        ensures placed { IfOk result (IsPlaced None (symbol_under_way self.new)) }
-        ensures on { IfOk result (GoesOn self.new) }
-        ensures later { IsLater (S.shown source.old) (S.shown source.new) }
-        ensures fewer { Falls (most_of 65535) (more self.new) result }
+        ensures { ReadsFrame (here (capture_magic_due capture_magic) 0 (S.shown source.old)) (counted 0 0) (most_of 65535)
+            self.new (S.shown source.new) result }
     {
         match heads::start(source) {
             Ok(turn) => {
@@ -421,17 +327,8 @@ impl Reader {
     fn frame<S: Source>(&mut self, source: &mut S, turn: Turn) -> Result<Item, InFault>
         requires stage { self.old.stage ≡ Stage.NextFrame turn }
         requires fits { TurnFits turn self.old.at }
-        ensures told { MatchResult result
-            (GivesItem (here (turn_due turn) self.old.at (S.shown source.old)) (shown_by self.new (S.shown source.new)))
-            (Halts (here (turn_due turn) self.old.at (S.shown source.old)) (S.shown source.new)) }
-        ensures stopped { IfErr result (λ fault. self.new.stage ≡ Stage.Stopped fault) }
-        ensures memory { IfErr result (λ fault. fault ≡ NoMemory → ⊥) }
-        ensures done { result ≡ Ok Done → self.new.stage ≡ Stage.Ended }
-        ensures counted { IfOk result (Counted (counts_at (Stage.NextFrame turn)) (counts self.new)) }
-        ensures placed { IfOk result (IsPlaced None (symbol_under_way self.new)) }
-        ensures on { IfOk result (GoesOn self.new) }
-        ensures fewer { Falls (most_of turn.left) (more self.new) result }
-        ensures later { IsLater (S.shown source.old) (S.shown source.new) }
+        ensures { ReadsFrame (here (turn_due turn) self.old.at (S.shown source.old)) (counts_at (Stage.NextFrame turn)) (most_of turn.left)
+            self.new (S.shown source.new) result }
     {
         if turn.left == 0 {
             match parts::finish(source, self.at) {
@@ -527,11 +424,7 @@ impl Reader {
     ) -> Result<SymbolBlock, AllocError>
         requires stage { self.old.stage ≡ Stage.Giving due.now k }
         requires some { 1 ≤ most }
-        ensures told { IfOk result (λ block. (source : Device ℕ) → Gives (shown_by self.old source) (shown_by self.new source) (items_in block)) }
-        ensures counted { IfOk result (CountsPart most (counts self.old) (counts self.new)) }
-        ensures placed { IfOk result (PlacesPart (symbol_under_way self.old) (symbol_under_way self.new)) }
-        ensures going { IfOk result (λ _. finished self.new ≡ None) }
-        ensures fewer { IfOk result (λ block. more self.new + length block.present ≤ more self.old) }
+        ensures given { IfOk result (GivesPart most self.old self.new) }
         ensures none { IfErr result (λ _. self.new ≡ self.old) }
     {
         let symbol = self.lend(due, k)?;

@@ -4,6 +4,7 @@ ghost use Rattle.ht_capture.specs.declared.places.Present.{Present as PresentVal
 ghost use Rattle.ht_capture.specs.Frames.{carrier_octets, job_at};
 ghost use Rattle.ht_capture.specs.Parts.{IsSymbol, moved, part_of};
 
+use crate::items::FrameHead;
 use crate::parts::width;
 use crate::shape::Shape;
 use ht_metric::{Job, Place};
@@ -103,6 +104,14 @@ impl SharedSymbol {
         self.symbol = symbol;
         self.number = number;
         self.octets.copy_from_slice(octets);
+    }
+
+    /// The head of its frame.
+    #[inline]
+    pub fn head(&self) -> &FrameHead
+        ensures { result.now ≡ self.now.head }
+    {
+        self.shape.head()
     }
 
     /// The place of a subcarrier's job.

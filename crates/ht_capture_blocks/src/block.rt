@@ -2,8 +2,8 @@
 ghost use Rattle.std.specs.Prelude.{◌≡◌, ◌↔◌, IfSome, IsTrue};
 ghost use Rattle.ht_capture.specs.Parts.{jobs_of};
 
-use ht_capture::SymbolBlock;
-use ht_feed::{Jobs, Shared};
+use ht_capture::{FrameHead, SymbolBlock};
+use ht_feed::{InFrame, Jobs, Shared};
 use ht_metric::{Job, Place};
 
 /// Some of the jobs of one symbol of a capture, in a handle of a few words: triangles and samples stay where the symbol
@@ -35,6 +35,16 @@ impl Jobs for CaptureBlock {
     #[inline(always)]
     fn job(&self, at: u16) -> Job {
         self.block.job(at)
+    }
+}
+
+impl InFrame for CaptureBlock {
+    type Head = FrameHead;
+
+    fn head(&self) -> &FrameHead
+        ensures { result.now ≡ self.now.block.head }
+    {
+        self.block.head()
     }
 }
 

@@ -1,6 +1,6 @@
 -- Records that are put piece by piece.
-use Rattle.std.proofs.Common.{◌≡◌, ℕ, suc, ◌+◌, ◌-◌, ◌<◌, ◌≤◌, List, [], ◌∷◌, ◌++◌, length, drop, take, map, flat_map, slice_index_or, sym, ap, ◌∙◌, append_assoc, arith, Bool}
-use Rattle.std.proofs.lemmas.List.{append-nil, drop_all, length-drop, length-map, map-append, take-append-drop}
+use Rattle.std.proofs.Common.{◌≡◌, ℕ, suc, ◌+◌, ◌-◌, ◌<◌, ◌≤◌, List, [], ◌∷◌, ◌++◌, length, drop, map, flat_map, slice_index_or, refl, sym, ap, ◌∙◌, append_assoc, arith, Bool}
+use Rattle.std.proofs.lemmas.List.{append-nil, drop_all, length-drop, length-map}
 use Rattle.std.proofs.Math.Seq.{drop-cons}
 use Rattle.byteorder.specs.Endian.{big_bytes}
 use Rattle.ht_metric.specs.declared.sample.Sample.{Sample}
@@ -9,9 +9,6 @@ use Rattle.ht_metric.specs.Rows.{Row, no_row}
 use Rattle.ht_capture.specs.Files.{leg_octets, legs_octets, sample_octets}
 use Rattle.ht_cert.specs.declared.record.Record.{Record}
 use Rattle.ht_cert.specs.Records.{code_of}
-use Rattle.ht_io.specs.Pieces.{KnownGrown, KnownGrownByPart}
-use Rattle.ht_fields.proofs.Putting.{part_next}
-use Rattle.std.proofs.Common.{Option}
 use Rattle.ht_cert.specs.Files.{claim_octets, front_octets, leg_of, mark_octet, point_octets, record_octets}
 
 -- the rows from one on
@@ -62,10 +59,6 @@ front_made r a t s p d c ea et es ep ed ec =
     ∙ ap (λ z. head ++ z) (append_assoc x1 (x2 ++ x3) x4 ∙ ap (λ z. x1 ++ z) (append_assoc x2 x3 x4)))) in
     ec ∙ (ap (λ z. z ++ x5) e4 ∙ append_assoc head (x1 ++ (x2 ++ (x3 ++ x4))) x5)
 
--- marks in two parts
-pub marks_split : (marks : List Bool) (k : ℕ) → map mark_octet (take k marks) ++ map mark_octet (drop k marks) ≡ map mark_octet marks
-marks_split marks k = sym (map-append mark_octet (take k marks) (drop k marks)) ∙ ap (λ (m : List Bool). map mark_octet m) (take-append-drop k marks)
-
 -- a sample more
 pub sample_put : (chunk next old : List ℕ) (rows : List Row) (s : Sample) (k : ℕ) → k < length rows → s ≡ (slice_index_or rows k no_row).sample
     → next ≡ chunk ++ sample_octets s → chunk ++ flat_map sample_octets (samples (drop k rows)) ≡ old ++ flat_map sample_octets (samples rows)
@@ -76,13 +69,15 @@ sample_put chunk next old rows s k lt is put eq =
     samples_next rows k lt ∙ ap (λ (x : Sample). sample_octets x ++ rest) (sym is) in
     ap (λ z. z ++ rest) put ∙ (append_assoc chunk (sample_octets s) rest ∙ (ap (λ z. chunk ++ z) (sym here) ∙ eq))
 
--- a part of what is put behind the first marks
-pub part_record : (r : Record) (held mid new : Option (List ℕ)) (front put : List ℕ) (marks : List Bool) (k : ℕ)
-    → front ≡ front_octets r → marks ≡ r.certificate.marks → put ≡ front ++ map mark_octet (take k marks)
-    → KnownGrown held mid put → KnownGrownByPart mid new (map mark_octet (drop k marks)) → KnownGrownByPart held new (record_octets r)
+-- each mark is one octet
+each_mark : (marks : List Bool) → flat_map (λ (m : Bool). mark_octet m ∷ []) marks ≡ map mark_octet marks
+each_mark [] = refl
+each_mark (m ∷ marks) = ap (λ (z : List ℕ). mark_octet m ∷ z) (each_mark marks)
+
+-- what is put of a record
+pub record_put : (r : Record) (front : List ℕ) (marks : List Bool) → front ≡ front_octets r → marks ≡ r.certificate.marks
+    → front ++ flat_map (λ (m : Bool). mark_octet m ∷ []) marks ≡ record_octets r
 unfolding record_octets
-part_record r held mid new front put marks k is same all a b =
-    part_next held mid new put (map mark_octet (drop k marks)) _
-    (ap (λ z. z ++ map mark_octet (drop k marks)) all
-    ∙ (append_assoc front (map mark_octet (take k marks)) (map mark_octet (drop k marks))
-    ∙ (ap (λ z. front ++ z) (marks_split marks k) ∙ (ap (λ z. z ++ map mark_octet marks) is ∙ ap (λ (m : List Bool). front_octets r ++ map mark_octet m) same)))) a b
+record_put r front marks is same =
+    ap (λ (z : List ℕ). front ++ z) (each_mark marks)
+    ∙ (ap (λ (z : List ℕ). z ++ map mark_octet marks) is ∙ ap (λ (m : List Bool). front_octets r ++ map mark_octet m) same)

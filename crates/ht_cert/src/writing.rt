@@ -1,5 +1,5 @@
 //! Files of certificates as they are written.
-ghost use Rattle.std.specs.Prelude.{◌≡◌, ◌≤◌, ◌<◌, ◌+◌, ◌*◌, ◌-◌, ◌++◌, length, map, flat_map, slice_index_or, OnOk, OnErr};
+ghost use Rattle.std.specs.Prelude.{◌≡◌, ◌≤◌, ◌<◌, ◌+◌, ◌*◌, ◌-◌, [], ◌∷◌, ◌++◌, length, map, flat_map, slice_index_or, OnOk, OnErr};
 ghost use Rattle.byteorder.specs.Endian.{big_bytes};
 ghost use Rattle.ht_io.specs.Devices.{Grows, GrowsByPart, Rose, IsLater};
 ghost use Rattle.ht_metric.specs.Arrays.{legs, samples};
@@ -9,16 +9,11 @@ ghost use Rattle.ht_cert.specs.Records.{code_of};
 ghost use Rattle.ht_cert.specs.Files.{front_octets, leg_of, mark_octet, point_octets, record_octets, records_start};
 
 use crate::record::Record;
+use ht_counted::{Packer, put_packed};
 use ht_fields::Chunk;
 use ht_io::{Failed, Sink};
 use ht_metric::{Sample, System, Tap, Vector};
 use ht_rate::Modulation;
-
-/// The number of marks that are put at once: as many as fill a chunk.
-const MARKS: usize = 4096;
-
-/// The number of marks that are put with what stands in front of them.
-const FIRST_MARKS: usize = 3978;
 
 // The code of a modulation.
 fn code(modulation: Modulation) -> u8
@@ -141,23 +136,21 @@ pub(crate) fn add_marks(chunk: &mut Chunk, marks: &[bool])
     }
 }
 
-// Puts marks, as many at once as fill the chunk.
-fn put_marks<K: Sink>(marks: &[bool], chunk: &mut Chunk, sink: &mut K) -> Result<(), Failed>
-    ensures grown { OnOk result (Grows (K.shown sink.old) (K.shown sink.new) (map mark_octet marks.now)) }
-    ensures steady { OnOk result ((K.shown sink.new).faults ≡ (K.shown sink.old).faults) }
-    ensures part { OnErr result (GrowsByPart (K.shown sink.old) (K.shown sink.new) (map mark_octet marks.now)) }
-    ensures cause { OnErr result (Rose (K.shown sink.old) (K.shown sink.new)) }
-    ensures later { IsLater (K.shown sink.old) (K.shown sink.new) }
-{
-    let mut rest = marks;
-    while !rest.is_empty() {
-        let (now, later) = rest.split_at(rest.len().min(MARKS));
-        chunk.clear();
-        add_marks(chunk, now);
-        sink.put(chunk.as_slice())?;
-        rest = later;
+// Marks, packed one by one.
+struct Marks;
+
+impl Packer for Marks {
+    type Item = bool;
+
+    ghost octets = { λ mark. mark_octet mark ∷ [] };
+
+    fn size(_mark: &bool) -> usize {
+        1
     }
-    Ok(())
+
+    fn add(mark: &bool, chunk: &mut Chunk) {
+        chunk.add(&[u8::from(*mark)]);
+    }
 }
 
 // What stands in front of this number of records.
@@ -199,8 +192,5 @@ pub fn write_record<K: Sink>(recorded: &Record, sink: &mut K) -> Result<(), Fail
     let mut chunk = Chunk::new();
     front(&mut chunk, recorded);
     let marks = recorded.certificate.marks.as_slice();
-    let (first, rest) = marks.split_at(marks.len().min(FIRST_MARKS));
-    add_marks(&mut chunk, first);
-    sink.put(chunk.as_slice())?;
-    put_marks(rest, &mut chunk, sink)
+    put_packed::<Marks, K>(marks, &mut chunk, sink)
 }

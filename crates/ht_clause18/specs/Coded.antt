@@ -1,23 +1,19 @@
 -- From the octets of a frame to its coded bits (IEEE Std 802.11-2012, clauses 18.3.5.2 to 18.3.5.6).
-use Rattle.std.specs.Prelude.{ℕ, ◌+◌, ◌*◌, List, ◌++◌, take, drop, replicate, length, Bool, false}
-use Rattle.ht_bits.specs.Bits.{bits_of}
+use Rattle.std.specs.Prelude.{ℕ, ◌+◌, ◌*◌, List, take, drop, length, Bool}
 use Rattle.ht_scramble.specs.Sequence.{scrambled}
 use Rattle.ht_conv.specs.Code.{sent_bits}
+use Rattle.ht_data.specs.Data.{service_and_octets as octets_end, data_of as data_bits, zeroed}
 use Rattle.ht_clause18.specs.Frames.{LegacyFrameView}
 use Rattle.ht_clause18.specs.Rates.{coded_bits_of, pads_of, pattern_of}
 
 -- SERVICE and the octets: 16 bits, and 8 for each octet
 abbrev pub service_and_octets : LegacyFrameView → ℕ
-service_and_octets f = 16 + 8 * length f.octets
+service_and_octets f = octets_end f.octets
 
 -- the DATA bits: the 16 zeros of SERVICE, the octets with the least significant bit first, six tail bits and the pads, all
 -- zeros
 unfoldable pub data_of : LegacyFrameView → List Bool
-data_of f = (replicate 16 false ++ bits_of f.octets) ++ replicate (6 + pads_of f.rate (length f.octets)) false
-
--- zeros in the place of some bits, from a place on
-abbrev pub zeroed : ℕ → ℕ → List Bool → List Bool
-zeroed at count bits = (take at bits ++ replicate count false) ++ drop (at + count) bits
+data_of f = data_bits f.octets (6 + pads_of f.rate (length f.octets))
 
 -- what the encoder takes: the scrambled bits, with zeros again in the places of the six tail bits
 unfoldable pub coder_input : LegacyFrameView → List Bool

@@ -1,11 +1,11 @@
 -- The points that are sent of a frame, in the order symbol, subcarrier (IEEE Std 802.11-2012, clauses 18.3.5.8 to 18.3.5.10).
-use Rattle.std.specs.Prelude.{ℕ, zero, suc, ◌+◌, ◌*◌, pos, List, map, length, Bool, false, slice_index_or}
+use Rattle.std.specs.Prelude.{ℕ, ◌+◌, ◌*◌, pos, List, map, length, Bool, false, slice_index_or}
 use Rattle.std.specs.List.{flat_map, range_with_len}
-use Rattle.std.specs.Int.{from_bool}
 use Rattle.ht_rate.specs.declared.kinds.Carrier.{Carrier}
 use Rattle.ht_rate.specs.declared.kinds.Carrier.TheVariants.{Data, Pilot}
 use Rattle.ht_pam.specs.declared.point.Point.{Point}
 use Rattle.ht_map.specs.Gray.{point_of}
+use Rattle.ht_data.specs.Labels.{written}
 use Rattle.ht_clause18.specs.declared.rates.LegacyRate.{LegacyRate}
 use Rattle.ht_clause18.specs.Carriers.{carriers, carrier_of}
 use Rattle.ht_clause18.specs.Coded.{symbol_bits}
@@ -13,11 +13,6 @@ use Rattle.ht_clause18.specs.Frames.{LegacyFrameView}
 use Rattle.ht_clause18.specs.Interleaver.{interleaved}
 use Rattle.ht_clause18.specs.Pilots.{pilot_of}
 use Rattle.ht_clause18.specs.Rates.{label_bits_of, modulation_of, symbols_of}
-
--- the number that a count of bits writes, the first one the most significant
-abbrev pub written : (ℕ → Bool) → ℕ → ℕ
-written bits zero = 0
-written bits (suc count) = 2 * written bits count + from_bool (bits count)
 
 -- the label of data subcarrier m: the N_BPSC bits from place m * N_BPSC on
 unfoldable pub label_at : LegacyRate → List Bool → ℕ → ℕ

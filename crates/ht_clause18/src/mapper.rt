@@ -1,44 +1,22 @@
 //! From the coded bits of a symbol to its points (IEEE Std 802.11-2012, clauses 18.3.5.7 to 18.3.5.10).
-ghost use Rattle.std.specs.Prelude.{◌≡◌, ◌+◌, ◌*◌, ◌^◌, ◌<◌, ◌≤◌, ◌++◌, ℕ, false, length, slice_index_or, vec_len, vec_capacity};
-ghost use Rattle.std.specs.Int.{from_bool};
+ghost use Rattle.std.specs.Prelude.{◌≡◌, ◌+◌, ◌<◌, ◌≤◌, ◌++◌, length, vec_len, vec_capacity};
 ghost use Rattle.ht_map.specs.Gray.{point_of};
 ghost use Rattle.ht_clause18.specs.Carriers.{carriers, IsAmong};
 ghost use Rattle.ht_clause18.specs.Interleaver.{interleaved};
-ghost use Rattle.ht_clause18.specs.Points.{written, label_at, carried, symbol_points};
+ghost use Rattle.ht_clause18.specs.Points.{label_at, carried, symbol_points};
 ghost use Rattle.ht_clause18.specs.Rates.{coded_bits_of, modulation_of};
 ghost use Rattle.ht_clause18.specs.Sources.{AreSources};
 
 use crate::carriers::{CARRIERS, legacy_carrier};
 use crate::pilots::legacy_pilot;
 use crate::rates::LegacyRate;
+use ht_data::label;
 use ht_map::point;
 use ht_pam::Point;
 use ht_rate::Carrier;
 
-// The label of the bits at these places, the first one the most significant.
-fn label(sources: &[u16], bits: &[bool]) -> u8
-    requires few { length sources.now ≤ 6 }
-    requires inside { (e : ℕ) → e < length sources.now → slice_index_or sources.now e 0 < length bits.now }
-    ensures value { result ≡ written (λ e. slice_index_or bits.now (slice_index_or sources.now e 0) false) (length sources.now) }
-    ensures below { result < 2 ^ length sources.now }
-{
-    let mut label = 0;
-    for source in sources {
-        label = with_bit(label, bits[usize::from(*source)]);
-    }
-    label
-}
-
-// A label with one bit more, the least significant.
-fn with_bit(label: u8, bit: bool) -> u8
-    requires { label < 64 }
-    ensures { result ≡ 2 * label + from_bool bit }
-{
-    2 * label + u8::from(bit)
-}
-
 // The point of data subcarrier m.
-fn data_point(rate: LegacyRate, sources: &[u16], bits: &[bool], m: u8) -> Point
+fn data_point(rate: LegacyRate, sources: &[u32], bits: &[bool], m: u8) -> Point
     requires sources { AreSources rate sources.now }
     requires bits { length bits.now ≡ coded_bits_of rate }
     requires carrier { m < 48 }
@@ -55,7 +33,7 @@ fn data_point(rate: LegacyRate, sources: &[u16], bits: &[bool], m: u8) -> Point
 // The point of a subcarrier.
 fn point_for(
     rate: LegacyRate,
-    sources: &[u16],
+    sources: &[u32],
     bits: &[bool],
     symbol: u32,
     carrier: Carrier,
@@ -78,7 +56,7 @@ fn point_for(
 pub(crate) fn push_symbol(
     points: &mut Vec<Point>,
     rate: LegacyRate,
-    sources: &[u16],
+    sources: &[u32],
     bits: &[bool],
     symbol: u32,
 )

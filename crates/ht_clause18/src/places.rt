@@ -75,12 +75,12 @@ fn by_rows(rate: LegacyRate, i: u16) -> u16
 
 /// For each place of a symbol the coded bit that goes there. A frame needs this table once, so that its symbols take no
 /// division for a bit.
-pub(crate) fn sources(rate: LegacyRate) -> [u16; 288]
+pub(crate) fn sources(rate: LegacyRate) -> [u32; 288]
     ensures { AreSources rate result }
 {
     let mut sources = [0; MOST];
     for j in 0..rate.coded_bits() {
-        sources[usize::from(j)] = legacy_origin(rate, j);
+        sources[usize::from(j)] = u32::from(legacy_origin(rate, j));
     }
     sources
 }

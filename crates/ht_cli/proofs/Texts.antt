@@ -16,7 +16,7 @@ use Rattle.ht_legacy_captures.specs.Formats.{captures as legacy_captures}
 use Rattle.ht_legacy_rx.specs.Texts.{end_of_legacy, legacy_lines_of, legacy_text, lines_in}
 use Rattle.ht_soft_rx.specs.Results.{soft_result, soft_results_of}
 use Rattle.ht_soft_rx.specs.Texts.{soft_line, soft_lines_of, soft_rx_text}
-use Rattle.ht_rx.specs.Texts.{detect_text, job_lines, jobs_of, lines_of}
+use Rattle.ht_results.specs.JobTexts.{detect_text, job_lines, jobs_of, lines_of}
 use Rattle.ht_text.specs.Lines.{end_text}
 
 -- the line that ends the lines of a capture

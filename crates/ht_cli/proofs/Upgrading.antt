@@ -20,7 +20,7 @@ use Rattle.ht_capture.proofs.Equal.{file_same}
 use Rattle.ht_results.specs.Results.{frame_result, results_of}
 use Rattle.ht_results.specs.Texts.{frame_lines_of, frames_of, last_line, last_of, result_lines, rx_text}
 use Rattle.ht_capture_laws.specs.Items.{whole_frames}
-use Rattle.ht_rx.specs.Texts.{detect_text, job_lines, jobs_of, lines_of}
+use Rattle.ht_results.specs.JobTexts.{detect_text, job_lines, jobs_of, lines_of}
 use Rattle.ht_cli.specs.declared.status.Status.TheVariants.{Done}
 use Rattle.ht_words.specs.declared.asked.Asked.TheVariants.{Upgrade}
 use Rattle.ht_cli.specs.Converting.{UpgradesTo, upgrading}

@@ -30,7 +30,7 @@ ghost use Rattle.ht_round.specs.Exact.{AreExact, HoldOctets};
 ghost use Rattle.ht_round.specs.Returned.{returned_text};
 ghost use Rattle.ht_text.specs.Lines.{usage_text};
 ghost use Rattle.ht_results.specs.Texts.{frame_lines_of, rx_text};
-ghost use Rattle.ht_rx.specs.Texts.{detect_text, lines_of};
+ghost use Rattle.ht_results.specs.JobTexts.{detect_text, lines_of};
 ghost use Rattle.ht_soft_rx.specs.Texts.{soft_lines_of, soft_rx_text};
 ghost use Rattle.ht_rate.specs.declared.rates.Rate.{Rate as RateValue};
 ghost use Rattle.ht_demo.specs.Demos.{returned_line};

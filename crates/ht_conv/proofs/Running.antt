@@ -2,7 +2,7 @@
 use Rattle.std.proofs.Common.{◌≡◌, ℕ, zero, suc, ◌+◌, ◌-◌, ◌%◌, ◌<◌, ◌≤◌, List, [], ◌∷◌, ◌++◌, length, take, drop}
 use Rattle.std.proofs.Common.{get_or, replicate, Bool, false, refl, ap, sym, ◌∙◌, arith, add-one, append_assoc}
 use Rattle.std.proofs.Math.Seq.{drop-cons}
-use Rattle.std.proofs.lemmas.List.{get_or-take}
+use Rattle.std.proofs.lemmas.List.{get_or-replicate, get_or-take, get_or_past}
 use Rattle.ht_rate.specs.declared.kinds.Pattern.{Pattern}
 use Rattle.ht_rate.specs.declared.kinds.Pattern.TheVariants.{Half, TwoThirds, ThreeQuarters, FiveSixths}
 use Rattle.ht_conv.specs.declared.puncture.Kept.{Kept}
@@ -13,13 +13,7 @@ use Rattle.ht_conv.specs.Continued.{tapped, step_bits, sent_from}
 use Rattle.ht_conv.proofs.MidStream.{Agree, sent_bits-from, sent_from-agree}
 
 zeros : Agree (replicate 6 false) []
-zeros zero lt = refl
-zeros (suc zero) lt = refl
-zeros (suc (suc zero)) lt = refl
-zeros (suc (suc (suc zero))) lt = refl
-zeros (suc (suc (suc (suc zero)))) lt = refl
-zeros (suc (suc (suc (suc (suc zero))))) lt = refl
-zeros (suc (suc (suc (suc (suc (suc d)))))) lt = absurd (omega arith)
+zeros d lt = get_or-replicate 6 d false false lt ∙ sym (get_or_past [] d false (omega arith))
 
 -- a register of zeros is no earlier input
 pub starts : (p : Pattern) (u before sent : List Bool) → sent ≡ [] → before ≡ replicate 6 false → sent ++ sent_from p 0 before u ≡ sent_bits p u

@@ -20,7 +20,7 @@ use Rattle.ht_fields.proofs.Routes.{Route, route_file, route_none, route_then, r
 use Rattle.ht_heads.specs.declared.starting.Limits.{Limits}
 use Rattle.ht_heads.specs.Starts.{StartedFails, Body, Over, magic_due, started_octets}
 use Rattle.ht_heads.proofs.Started.{route_started, started_halts}
-use Rattle.ht_counted.specs.Counted.{AreCounted, CountedFormat, IsCount, IsCounted, LeadsBy, counted, counted_format, counted_octets, entries_due}
+use Rattle.ht_counted.specs.Counted.{AreCounted, CountedFormat, IsCount, IsCounted, LeadsBy, counted, counted_format, counted_octets, entries_due, frame_limits}
 
 pub entry_is : {B : Type 0} (first : ℕ → B) (left : ℕ) → 0 < left → entries_due first left ≡ Body (first left)
 unfolding entries_due
@@ -29,6 +29,10 @@ entry_is first left some = let t : nat_eq left 0 ≡ false = grind (arith, nat_t
 pub over_is : {B : Type 0} (first : ℕ → B) (left : ℕ) → left ≡ 0 → entries_due first left ≡ Over
 unfolding entries_due
 over_is first left none = let t : nat_eq left 0 ≡ true = grind (arith, nat_tests) in when_true _ _ _ t
+
+-- the number of frames
+pub is_count : IsCount frame_limits
+is_count = record { some = omega arith; few = omega arith; range = omega arith; small = omega arith; named = (λ e. cc, λ e. cc) }
 
 -- a route by the name that specs have for it, and back
 pub route_of : {S I : Type 0} (f : Grammar S I) (s t : S) (octets : List ℕ) (items : List I) → LeadsBy f s t octets items → Route f s t octets items

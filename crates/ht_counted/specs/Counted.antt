@@ -1,10 +1,14 @@
 -- Files that count their entries: a magic, the version 1, the count, the entries one after another, and nothing more.
 use Rattle.std.specs.Prelude.{◌≡◌, ℕ, ◌+◌, ◌-◌, ◌*◌, ◌^◌, ◌<◌, ◌≤◌, List, [], ◌∷◌, ◌++◌, length, flat_map, All, nat_eq, if◌then◌else◌}
-use Rattle.ht_io.specs.declared.faults.Kind.TheVariants.{Truncated, Trailing}
+use Rattle.ht_io.specs.declared.faults.Kind.TheVariants.{BadLength, Truncated, Trailing}
 use Rattle.ht_fields.specs.Cases.{Leads, octets_of_fields}
 use Rattle.ht_fields.specs.Grammar.{Grammar, Due}
 use Rattle.ht_heads.specs.declared.starting.Limits.{Limits}
 use Rattle.ht_heads.specs.Starts.{StartState, StartedFormat, Body, Over, started, started_octets}
+
+-- any number of two octets of frames
+abbrev pub frame_limits : Limits
+frame_limits = record { width = 2; least = 0; most = 65535; kind = BadLength }
 
 -- a format: its magic, how it counts its entries, the first field of an entry by the number of entries that are left, this
 -- one among them, and what is due in each state within an entry

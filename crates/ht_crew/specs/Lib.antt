@@ -4,3 +4,4 @@ pub mod Turns
 pub mod Singles
 pub mod Noting
 pub mod Reports
+pub mod Drives

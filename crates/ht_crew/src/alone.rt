@@ -1,6 +1,8 @@
 //! The drive without threads.
-ghost use Rattle.std.specs.Prelude.{◌≡◌, ◌≤◌, [], length, true, Err, None, IfOk, OnOk};
-ghost use Rattle.ht_crew.specs.Feeds.{CallFailed, IsFreshFeed, IsInTurn, IsLeft};
+ghost use Rattle.std.specs.Prelude.{◌≡◌, ◌≤◌, IfOk, OnOk};
+ghost use Rattle.ht_drive.specs.Reports.{HasRunAlone};
+ghost use Rattle.ht_crew.specs.Drives.{IsThrough, LeavesInTurn, RefusesBy};
+ghost use Rattle.ht_crew.specs.Feeds.{IsFreshFeed};
 
 use crate::detect::Detect;
 use crate::drive_fault::DriveFault;
@@ -28,24 +30,15 @@ pub fn drive_alone<F: Feed, G: Gate>(
     requires fresh { IsFreshFeed (F.shown feed.old) }
 
     // However it ends.
-    ensures leads { F.leads feed.old feed.new }
-    ensures due { length (F.shown feed.new).due ≤ window }
-    ensures in_turn { IsInTurn (F.shown feed.old).left (F.shown feed.new) }
-    ensures later { (F.shown feed.old).faults ≤ (F.shown feed.new).faults }
+    ensures leaves { LeavesInTurn F.shown F.leads window feed.old feed.new }
 
     // When the feed has ended, every job was run and taken, and no call failed.
-    ensures ended { OnOk result ((F.shown feed.new).ended ≡ true) }
-    ensures taken { OnOk result ((F.shown feed.new).due ≡ []) }
-    ensures left { OnOk result (IsLeft (F.shown feed.new).left []) }
-    ensures unfailed { OnOk result ((F.shown feed.new).failed ≡ (F.shown feed.old).failed) }
+    ensures through { OnOk result (IsThrough (F.shown feed.old) (F.shown feed.new)) }
     ensures jobs { IfOk result (λ report. report.jobs ≡ (F.shown feed.new).count) }
-    ensures own { IfOk result (λ report. report.own ≡ report.jobs) }
-    ensures ran { IfOk result (λ report. report.ran.items ≡ []) }
-    ensures passes { IfOk result (λ report. report.passes ≡ None) }
+    ensures alone { IfOk result HasRunAlone }
 
     // What it refuses with.
-    ensures fault { (fault : F.Fault) → result ≡ Err (DriveFault.Feed fault) → CallFailed (F.shown feed.old) (F.shown feed.new) fault }
-    ensures memory { result ≡ Err DriveFault.NoMemory → feed.new ≡ feed.old }
+    ensures refuses { RefusesBy F.shown feed.old feed.new result }
 {
     let mut failed = false;
     let mut singles = Singles::new(feed, &mut failed);

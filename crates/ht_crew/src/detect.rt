@@ -12,7 +12,7 @@ impl<'a, G: Gate> Work<OneJob> for Detect<'a, G> {
     type Answer = OneHit;
 
     /// Takes no memory.
-    fn run(&self, block: &OneJob) -> Result<OneHit, AllocError> {
+    fn answer_to(&self, block: &OneJob) -> Result<OneHit, AllocError> {
         let number = block.job.number();
         self.gate.enter(number);
         let found = detect(&block.job);

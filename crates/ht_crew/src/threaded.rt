@@ -1,9 +1,10 @@
 //! The drive with threads.
-ghost use Rattle.std.specs.Prelude.{◌≡◌, ◌≤◌, [], List, length, true, Err, Some, IfOk, IfSome, IsSome, OnOk};
+ghost use Rattle.std.specs.Prelude.{◌≡◌, ◌≤◌, List, Some, IfOk, IfSome, IsSome, OnOk};
 ghost use Rattle.ht_metric.specs.Jobs.{JobView};
 ghost use Rattle.ht_feed.specs.OwnNumbers.{AreTold};
 ghost use Rattle.ht_drive.specs.Reports.{HasRunAlone, HasRunInPool};
-ghost use Rattle.ht_crew.specs.Feeds.{CallFailed, IsFreshFeed, IsInTurn, IsLeft};
+ghost use Rattle.ht_crew.specs.Drives.{IsThrough, LeavesInTurn, RefusesBy};
+ghost use Rattle.ht_crew.specs.Feeds.{IsFreshFeed};
 ghost use Rattle.ht_crew.specs.Reports.{HasDelivered, jobs_pushed};
 
 use crate::detect::Detect;
@@ -43,16 +44,10 @@ pub fn drive<R: Threads + Wait + Sync, F: Feed, G: Gate + Sync>(
     requires fresh { IsFreshFeed (F.shown feed.old) }
 
     // However it ends.
-    ensures leads { F.leads feed.old feed.new }
-    ensures due { length (F.shown feed.new).due ≤ window }
-    ensures in_turn { IsInTurn (F.shown feed.old).left (F.shown feed.new) }
-    ensures later { (F.shown feed.old).faults ≤ (F.shown feed.new).faults }
+    ensures leaves { LeavesInTurn F.shown F.leads window feed.old feed.new }
 
     // When the feed has ended, every job was run and taken, and no call failed.
-    ensures ended { OnOk result ((F.shown feed.new).ended ≡ true) }
-    ensures taken { OnOk result ((F.shown feed.new).due ≡ []) }
-    ensures left { OnOk result (IsLeft (F.shown feed.new).left []) }
-    ensures unfailed { OnOk result ((F.shown feed.new).failed ≡ (F.shown feed.old).failed) }
+    ensures through { OnOk result (IsThrough (F.shown feed.old) (F.shown feed.new)) }
     ensures jobs { IfOk result (λ report. report.jobs ≡ (F.shown feed.new).count) }
 
     // What the workers did.
@@ -64,8 +59,7 @@ pub fn drive<R: Threads + Wait + Sync, F: Feed, G: Gate + Sync>(
         → IfOk result (λ report. IfSome report.passes (λ passes. AreTold jobs (jobs_pushed passes))) }
 
     // What it refuses with.
-    ensures fault { (fault : F.Fault) → result ≡ Err (DriveFault.Feed fault) → CallFailed (F.shown feed.old) (F.shown feed.new) fault }
-    ensures memory { result ≡ Err DriveFault.NoMemory → feed.new ≡ feed.old }
+    ensures refuses { RefusesBy F.shown feed.old feed.new result }
 {
     let mut failed = false;
     let work = Detect { gate };

@@ -69,7 +69,7 @@ module _ (t : Tally) (h : BlockHelm) (members : List (Member (List JobView) (Lis
     others = blocks_by members;
     delivered = run.delivered ∙ all_delivered members;
     once = subst (λ (blocks : List (List JobView)). SameCounts (h.taken ++ delivered) blocks) (sym run.pushed)
-        (subst (λ (blocks : List (List JobView)). SameCounts (h.taken ++ blocks) h.given) (same_blocks delivered) run.run);
+        (subst (λ (blocks : List (List JobView)). SameCounts (h.taken ++ blocks) h.given) (same_blocks delivered) run.each_once);
     numbers = run.numbers ∙ ap (λ (ns : List ℕ). jobs_of h.taken ∷ ns) (counted members);
   }
 

@@ -2,8 +2,9 @@
 ghost use Rattle.std.specs.Prelude.{◌≡◌, ◌≤◌, ◌⊎◌, [], List, None, true, false, Some, IfErr, IfOk, OnOk};
 ghost use Rattle.ht_metric.specs.Jobs.{JobView};
 ghost use Rattle.ht_feed.specs.OwnNumbers.{AreTold};
-ghost use Rattle.ht_feed.specs.Dues.{all_in, count_in};
-ghost use Rattle.ht_feed.specs.Feeds.{IsFreshFeed, IsInTurn, IsLeft};
+ghost use Rattle.ht_feed.specs.Dues.{all_in};
+ghost use Rattle.ht_feed.specs.Drives.{IsThrough, LeavesInTurn};
+ghost use Rattle.ht_feed.specs.Feeds.{IsFreshFeed};
 ghost use Rattle.ht_pool.specs.Helms.{IsSameHelm, IsSettled};
 ghost use Rattle.ht_drive.specs.Driving.{Refuses, Tallies};
 
@@ -42,13 +43,8 @@ pub(crate) fn lead<
     requires own { tally.old.own ≡ 0 }
     requires issued { tally.old.issued ≡ 0 }
 
-    ensures leads { F.leads feed.old feed.new }
-    ensures due { count_in (F.shown feed.new).due ≤ window.old.capacity }
-    ensures in_turn { IsInTurn (F.shown feed.old).left (F.shown feed.new) }
-    ensures ended { OnOk result ((F.shown feed.new).ended ≡ true) }
-    ensures taken { OnOk result ((F.shown feed.new).due ≡ []) }
-    ensures left { OnOk result (IsLeft (F.shown feed.new).left []) }
-    ensures well { OnOk result ((F.shown feed.new).failed ≡ None) }
+    ensures leaves { LeavesInTurn F.shown F.leads window.old.capacity feed.old feed.new }
+    ensures through { OnOk result (IsThrough (F.shown feed.new)) }
     ensures refuses { IfErr result (Refuses (A.may_lack ⊎ B.may_lack) (F.shown feed.new)) }
 
     ensures jobs { OnOk result (tally.new.issued ≡ (F.shown feed.new).count) }
@@ -99,13 +95,8 @@ pub(crate) fn lead_into<
     requires own { tally.old.own ≡ 0 }
     requires issued { tally.old.issued ≡ 0 }
 
-    ensures leads { F.leads feed.old feed.new }
-    ensures due { count_in (F.shown feed.new).due ≤ window.old.capacity }
-    ensures in_turn { IsInTurn (F.shown feed.old).left (F.shown feed.new) }
-    ensures ended { IfOk result (λ enough. enough ≡ true → (F.shown feed.new).ended ≡ true) }
-    ensures taken { IfOk result (λ enough. enough ≡ true → (F.shown feed.new).due ≡ []) }
-    ensures left { IfOk result (λ enough. enough ≡ true → IsLeft (F.shown feed.new).left []) }
-    ensures well { IfOk result (λ enough. enough ≡ true → (F.shown feed.new).failed ≡ None) }
+    ensures leaves { LeavesInTurn F.shown F.leads window.old.capacity feed.old feed.new }
+    ensures through { IfOk result (λ enough. enough ≡ true → IsThrough (F.shown feed.new)) }
     ensures fault { IfErr result (λ fault. (F.shown feed.new).failed ≡ Some fault) }
     ensures work { IfOk result (λ enough. enough ≡ false → (F.shown feed.new).failed ≡ None) }
     ensures lacks { IfOk result (λ enough. enough ≡ false → A.may_lack ⊎ B.may_lack) }

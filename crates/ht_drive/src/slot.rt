@@ -65,7 +65,7 @@ impl<B: Shared + Drop, A: Answer + Drop> Slot<B, A> {
         ensures same { self.new ≡ self.old }
         ensures lacks { OnErr result A.may_lack }
     {
-        let answer = work.run(&self.block)?;
+        let answer = work.answer_to(&self.block)?;
         self.answer = Some(answer);
         Ok(())
     }

@@ -47,7 +47,7 @@ impl<B: Jobs + Drop> Task<B> {
     fn run<W: Work<B>>(self, work: &W) -> Done<B, W::Answer>
         ensures { result ≡ self }
     {
-        let found = work.run(&self.block);
+        let found = work.answer_to(&self.block);
         Done {
             number: self.number,
             block: self.block,
@@ -131,7 +131,7 @@ impl<'w, B: Jobs + Drop + Send, A: Answer + Drop + Send, W: Work<B, Answer = A>>
         u32::from(task.size())
     }
 
-    fn run(&self, task: Task<B>) -> Done<B, A> {
+    fn answer_to(&self, task: Task<B>) -> Done<B, A> {
         task.run(self.work)
     }
 

@@ -1,11 +1,12 @@
 //! The drive of a feed of blocks.
-ghost use Rattle.std.specs.Prelude.{◌≡◌, ◌⊎◌, ◌+◌, ◌-◌, ◌<◌, ◌≤◌, [], List, length, map, true, vec_len, vec_capacity};
-ghost use Rattle.std.specs.Prelude.{Err, None, Some, IfErr, IfOk, IfSome, IsSome, OnOk};
+ghost use Rattle.std.specs.Prelude.{◌≡◌, ◌⊎◌, ◌+◌, ◌-◌, ◌<◌, ◌≤◌, [], List, length, map, vec_len, vec_capacity};
+ghost use Rattle.std.specs.Prelude.{Some, IfErr, IfOk, IfSome, IsSome, OnOk};
 ghost use Rattle.std.specs.List.{All};
 ghost use Rattle.ht_metric.specs.Jobs.{JobView};
 ghost use Rattle.ht_feed.specs.OwnNumbers.{AreTold};
-ghost use Rattle.ht_feed.specs.Dues.{all_in, count_in};
-ghost use Rattle.ht_feed.specs.Feeds.{IsFreshFeed, IsInTurn, IsLeft};
+ghost use Rattle.ht_feed.specs.Dues.{all_in};
+ghost use Rattle.ht_feed.specs.Drives.{IsThrough, LeavesInTurn, RefusesBy};
+ghost use Rattle.ht_feed.specs.Feeds.{IsFreshFeed};
 ghost use Rattle.ht_pool.specs.Helms.{IsSettled, unused};
 ghost use Rattle.ht_pool.specs.Members.{HasServed, HasYetToServe, berth_of, berths};
 ghost use Rattle.ht_pool.specs.Pools.{IsOpened, IsVacant};
@@ -65,15 +66,10 @@ where
     requires fresh { IsFreshFeed (F.shown feed.old) }
 
     // However it ends.
-    ensures leads { F.leads feed.old feed.new }
-    ensures due { count_in (F.shown feed.new).due ≤ window }
-    ensures in_turn { IsInTurn (F.shown feed.old).left (F.shown feed.new) }
+    ensures leaves { LeavesInTurn F.shown F.leads window feed.old feed.new }
 
     // When the feed has ended, every block was run and taken, and no call failed.
-    ensures ended { OnOk result ((F.shown feed.new).ended ≡ true) }
-    ensures taken { OnOk result ((F.shown feed.new).due ≡ []) }
-    ensures left { OnOk result (IsLeft (F.shown feed.new).left []) }
-    ensures well { OnOk result ((F.shown feed.new).failed ≡ None) }
+    ensures through { OnOk result (IsThrough (F.shown feed.new)) }
     ensures jobs { IfOk result (λ report. report.jobs ≡ (F.shown feed.new).count) }
 
     // What the workers did.
@@ -84,10 +80,7 @@ where
         → IfOk result (λ report. IfSome report.passes (λ passes. AreTold all (all_in (blocks_pushed passes)))) }
 
     // What it refuses with.
-    ensures fault { (fault : F.Fault) → result ≡ Err (DriveFault.Feed fault) → (F.shown feed.new).failed ≡ Some fault }
-    ensures memory { result ≡ Err DriveFault.NoMemory → feed.new ≡ feed.old }
-    ensures work { result ≡ Err DriveFault.Work → (F.shown feed.new).failed ≡ None }
-    ensures lacks { result ≡ Err DriveFault.Work → F.Answer.may_lack ⊎ F.Block.may_lack }
+    ensures refuses { RefusesBy F.shown (F.Answer.may_lack ⊎ F.Block.may_lack) feed.old feed.new result }
 {
     if workers == 1 {
         return run_alone(alloc, window, work, feed);
@@ -111,19 +104,11 @@ fn run_alone<F: BlockFeed, W: Work<F::Block, Answer = F::Answer>>(
     requires some { 1 ≤ window }
     requires few { window ≤ 4096 }
     requires fresh { IsFreshFeed (F.shown feed.old) }
-    ensures leads { F.leads feed.old feed.new }
-    ensures due { count_in (F.shown feed.new).due ≤ window }
-    ensures in_turn { IsInTurn (F.shown feed.old).left (F.shown feed.new) }
-    ensures ended { OnOk result ((F.shown feed.new).ended ≡ true) }
-    ensures taken { OnOk result ((F.shown feed.new).due ≡ []) }
-    ensures left { OnOk result (IsLeft (F.shown feed.new).left []) }
-    ensures well { OnOk result ((F.shown feed.new).failed ≡ None) }
+    ensures leaves { LeavesInTurn F.shown F.leads window feed.old feed.new }
+    ensures through { OnOk result (IsThrough (F.shown feed.new)) }
     ensures jobs { IfOk result (λ report. report.jobs ≡ (F.shown feed.new).count) }
     ensures alone { IfOk result HasRunAlone }
-    ensures fault { (fault : F.Fault) → result ≡ Err (DriveFault.Feed fault) → (F.shown feed.new).failed ≡ Some fault }
-    ensures memory { result ≡ Err DriveFault.NoMemory → feed.new ≡ feed.old }
-    ensures work { result ≡ Err DriveFault.Work → (F.shown feed.new).failed ≡ None }
-    ensures lacks { result ≡ Err DriveFault.Work → F.Answer.may_lack }
+    ensures refuses { RefusesBy F.shown F.Answer.may_lack feed.old feed.new result }
 {
     match drive_alone(window, work, feed) {
         Ok(jobs) => Ok(Report {
@@ -157,13 +142,8 @@ fn in_pool<
     requires empty { window.due ≡ [] }
     requires fresh { IsFreshFeed (F.shown feed.old) }
 
-    ensures leads { F.leads feed.old feed.new }
-    ensures due { count_in (F.shown feed.new).due ≤ window.capacity }
-    ensures in_turn { IsInTurn (F.shown feed.old).left (F.shown feed.new) }
-    ensures ended { OnOk result ((F.shown feed.new).ended ≡ true) }
-    ensures taken { OnOk result ((F.shown feed.new).due ≡ []) }
-    ensures left { OnOk result (IsLeft (F.shown feed.new).left []) }
-    ensures well { OnOk result ((F.shown feed.new).failed ≡ None) }
+    ensures leaves { LeavesInTurn F.shown F.leads window.capacity feed.old feed.new }
+    ensures through { OnOk result (IsThrough (F.shown feed.new)) }
     ensures jobs { IfOk result (λ report. report.jobs ≡ (F.shown feed.new).count) }
     ensures passes { IfOk result (λ report. IsSome report.passes) }
     ensures ran { IfOk result (λ report. IfSome report.passes (HasRunInPool (length pool.post.deques) window.capacity report)) }

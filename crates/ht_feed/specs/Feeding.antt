@@ -35,9 +35,9 @@ module _ {R D S A : Type 0} where
 -- this is seen of a desk of D, and its reader of R means this; a source of S shows these devices, and an account of A
 -- tells this, to whose device these borrows lead
 module _ {R D S A H P : Type 0} (seen : D → DeskView R H) (means : R → List ℕ → Meaning (Item H)) (at : R → ℕ) (source : S → Device ℕ) (lent : A → List ℕ)
-    (told : A → Telling H P) where
+    (telling : A → Telling H P) where
   abbrev pub seen_of : DeskFeed R D S A → Seen H P
-  seen_of f = seen_by means at (seen f.desk.now) (source f.source.now) (told f.account.now)
+  seen_of f = seen_by means at (seen f.desk.now) (source f.source.now) (telling f.account.now)
 
   -- it has the same desk, source and account, and went on
   abbrev pub FeedsOn : DeskFeed R D S A → DeskFeed R D S A → Type 0

@@ -69,7 +69,8 @@ module _ {Fault : Type 0} where
     pub ended : new.ended ≡ old.ended
     pub failed : new.failed ≡ old.failed
 
-  -- the feed answered this fault: no block was given, and those that are due stay due
+  -- the feed answered this fault: no block was given, those that are due stay due, and it may be asked again if it might
+  -- before
   pub record Fails (old new : FeedView Fault) (fault : Fault) : Type 0 where
     pub failed : new.failed ≡ Some fault
     pub count : new.count ≡ old.count

@@ -12,3 +12,5 @@ pub mod Feeding
 pub mod Stops
 pub mod Outcomes
 pub mod Meters
+pub mod Drives
+pub mod Inputs

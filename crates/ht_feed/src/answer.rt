@@ -22,7 +22,7 @@ pub trait Work<B: Jobs> {
     type Answer: Answer + Drop;
 
     /// The answer to the jobs of a block. The only error is lack of memory.
-    fn run(&self, block: &B) -> Result<Self::Answer, AllocError>
+    fn answer_to(&self, block: &B) -> Result<Self::Answer, AllocError>
         requires few { length (B.jobs block.now) < 2 ^ 16 }
         ensures right { IfOk result (λ answer. Self.Answer.answers answer (B.jobs block.now)) }
         ensures lacks { OnErr result Self.Answer.may_lack };

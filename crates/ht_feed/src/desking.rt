@@ -23,7 +23,7 @@ pub trait Desking<R: BlockReader + Drop> {
     fn next<S: Source>(&mut self, most: u16, source: &mut S) -> Result<Option<R::Block>, AllocError>
         requires going { (seen self.old).stop ≡ None }
         requires some { 1 ≤ most }
-        requires room { count_in (jobs_in (seen self.old).due) + most ≤ 4096 }
+        requires few_due { count_in (jobs_in (seen self.old).due) + most ≤ 4096 }
         ensures block { IfOk result (λ given. IfSome given (λ block. AddsBlock R.counts most (seen self.old) (seen self.new) (R.Block.jobs block))) }
         ensures none { IfOk result (λ given. IfNone given (AddsNone (seen self.old) (seen self.new))) }
         ensures reads { OnOk result (ReadsMore R.means R.at (seen self.old) (seen self.new) (S.shown source.old) (S.shown source.new)) }

@@ -1,7 +1,7 @@
 //! The drive of a feed of blocks without threads.
-ghost use Rattle.std.specs.Prelude.{◌≡◌, ◌≤◌, [], true, Err, None, Some, IfOk, OnOk};
-ghost use Rattle.ht_feed.specs.Dues.{count_in};
-ghost use Rattle.ht_feed.specs.Feeds.{IsFreshFeed, IsInTurn, IsLeft};
+ghost use Rattle.std.specs.Prelude.{◌≡◌, ◌≤◌, IfOk, OnOk};
+ghost use Rattle.ht_feed.specs.Drives.{IsThrough, LeavesInTurn, RefusesBy};
+ghost use Rattle.ht_feed.specs.Feeds.{IsFreshFeed};
 
 use crate::answer::Work;
 use crate::feed::BlockFeed;
@@ -38,22 +38,14 @@ pub fn drive_alone<F: BlockFeed, W: Work<F::Block, Answer = F::Answer>>(
     requires fresh { IsFreshFeed (F.shown feed.old) }
 
     // However it ends.
-    ensures leads { F.leads feed.old feed.new }
-    ensures due { count_in (F.shown feed.new).due ≤ window }
-    ensures in_turn { IsInTurn (F.shown feed.old).left (F.shown feed.new) }
+    ensures leaves { LeavesInTurn F.shown F.leads window feed.old feed.new }
 
     // When the feed has ended, every block was run and taken, and no call failed.
-    ensures ended { OnOk result ((F.shown feed.new).ended ≡ true) }
-    ensures taken { OnOk result ((F.shown feed.new).due ≡ []) }
-    ensures left { OnOk result (IsLeft (F.shown feed.new).left []) }
-    ensures well { OnOk result ((F.shown feed.new).failed ≡ None) }
+    ensures through { OnOk result (IsThrough (F.shown feed.new)) }
     ensures jobs { IfOk result (λ jobs. jobs ≡ (F.shown feed.new).count) }
 
     // What it refuses with.
-    ensures fault { (fault : F.Fault) → result ≡ Err (DriveFault.Feed fault) → (F.shown feed.new).failed ≡ Some fault }
-    ensures memory { result ≡ Err DriveFault.NoMemory → feed.new ≡ feed.old }
-    ensures work { result ≡ Err DriveFault.Work → (F.shown feed.new).failed ≡ None }
-    ensures lacks { result ≡ Err DriveFault.Work → F.Answer.may_lack }
+    ensures refuses { RefusesBy F.shown F.Answer.may_lack feed.old feed.new result }
 {
     let mut jobs = 0u64;
     loop {
@@ -63,7 +55,7 @@ pub fn drive_alone<F: BlockFeed, W: Work<F::Block, Answer = F::Answer>>(
             Err(fault) => return Err(DriveFault::Feed(fault)),
         };
         jobs += u64::from(block.size());
-        let Ok(answer) = work.run(&block) else {
+        let Ok(answer) = work.answer_to(&block) else {
             return Err(DriveFault::Work);
         };
         if let Err(fault) = feed.take(&block, &answer) {

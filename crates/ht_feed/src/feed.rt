@@ -36,7 +36,7 @@ pub trait BlockFeed {
     fn next(&mut self, most: u16) -> Result<Option<Self::Block>, Self::Fault>
         requires running { (shown self.old).ended ≡ false }
         requires some { 1 ≤ most }
-        requires room { count_in (shown self.old).due + most ≤ 4096 }
+        requires few_due { count_in (shown self.old).due + most ≤ 4096 }
         ensures block { IfOk result (λ given. IfSome given (λ block. GivesBlock most (shown self.old) (shown self.new) (Self.Block.jobs block))) }
         ensures none { IfOk result (λ given. IfNone given (EndsBlocks (shown self.old) (shown self.new))) }
         ensures fault { IfErr result (Fails (shown self.old) (shown self.new)) }

@@ -84,7 +84,7 @@ impl Finder for Detector {
 impl<B: Jobs> Work<B> for Detector {
     type Answer = Hits;
 
-    fn run(&self, block: &B) -> Result<Hits, AllocError> {
+    fn answer_to(&self, block: &B) -> Result<Hits, AllocError> {
         hits_of(self.alloc, block, self)
     }
 

@@ -1,9 +1,7 @@
 //! A whole input, and what becomes of its hits.
-ghost use Rattle.std.specs.Prelude.{◌≡◌, ◌≢◌, ◌^◌, ◌-◌, ◌<◌, ◌≤◌, [], Err, None, true, is_some, OnOk};
-ghost use Rattle.ht_io.specs.Devices.{IsLater};
-ghost use Rattle.ht_runs.specs.declared.faults.StopFault.TheVariants.{Write};
+ghost use Rattle.std.specs.Prelude.{◌≡◌, ◌^◌, ◌-◌, ◌<◌, ◌≤◌, [], None, true, is_some, OnOk};
 ghost use Rattle.ht_feed.specs.Accounts.{told_by};
-ghost use Rattle.ht_feed.specs.Outcomes.{Comes};
+ghost use Rattle.ht_feed.specs.Inputs.{TellsInput};
 ghost use Rattle.ht_feed.specs.Reading.{Counts};
 ghost use Rattle.ht_feed.specs.Stops.{ended_by, failed_by};
 ghost use Rattle.ht_feed.specs.Telling.{TellsBy, seen_by};
@@ -71,7 +69,7 @@ fn run_desk<R: BlockReader + Drop, S: Source, A: Account<R>, W: Work<R::Block, A
             Ok(None) => return Ok(()),
             Err(_) => return Err(DriveFault::Feed(BookFault::NoMemory)),
         };
-        let Ok(answer) = work.run(&block) else {
+        let Ok(answer) = work.answer_to(&block) else {
             return Err(DriveFault::Work);
         };
         if let Err(fault) = desk.take(&block, &answer, account) {
@@ -110,16 +108,9 @@ pub fn tell_alone<
     requires fresh { (R.counts reader).given ≡ 0 }
     requires bounded { (R.counts reader).more < 2 ^ 64 - 1 }
     requires rests { A.waits account.old [] }
-    ensures tells { Comes R.means R.at reader head (S.shown source.old) (S.shown source.new)
-        (told_by A.shown A.pieces A.waits account.old) (told_by A.shown A.pieces A.waits account.new) result }
-
-    // Where the device failed the answer is `Write`, whatever else failed.
-    ensures writes { result ≢ Err Write → (A.shown account.new).faults ≡ (A.shown account.old).faults }
-
-    // However it ends, the devices are the same, and take back no fault.
-    ensures reads_later { IsLater (S.shown source.old) (S.shown source.new) }
-    ensures puts_later { IsLater (A.shown account.old) (A.shown account.new) }
-    ensures same { A.lent account.new ≡ A.lent account.old }
+    ensures { TellsInput R.means R.at reader head (S.shown source.old) (S.shown source.new)
+        (told_by A.shown A.pieces A.waits account.old) (told_by A.shown A.pieces A.waits account.new)
+        (A.lent account.old) (A.lent account.new) result }
 {
     let mut desk = Desk::new(alloc, reader, head, 1)?;
     let driven = run_desk(window, work, &mut desk, source, account);

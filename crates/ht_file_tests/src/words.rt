@@ -2,6 +2,7 @@
 use ht_rate::Rate;
 use ht_words::Asked;
 use std::alloc::{AllocError, Global};
+use std::process::Abort;
 use std::test::Fail;
 
 // Words, workers and window.
@@ -58,252 +59,45 @@ static FOR_CHANNEL: [(&str, u64, u16); 20] = [
     ("|--noise|10|--seed|20", 20, 10),
 ];
 
-/// The numbers of a demonstration, with the bandwidth's code.
-struct Row {
-    seed: u64,
-    noise: u16,
-    frames: u16,
-    bandwidth: u8,
-    mcs: u8,
-    length: u16,
-    workers: u8,
-    window: u16,
-}
+// The numbers of a demonstration: seed, noise, frames, the bandwidth's code and the MCS, length, workers and window.
+type Demo = (u64, u16, u16, (u8, u8), u16, u8, u16);
 
-static DEMOS: [(&str, Row); 18] = [
-    (
-        "",
-        Row {
-            seed: 42,
-            noise: 0,
-            frames: 8,
-            bandwidth: 0,
-            mcs: 0,
-            length: 100,
-            workers: 4,
-            window: 256,
-        },
-    ),
-    (
-        "|--frames|1",
-        Row {
-            seed: 42,
-            noise: 0,
-            frames: 1,
-            bandwidth: 0,
-            mcs: 0,
-            length: 100,
-            workers: 4,
-            window: 256,
-        },
-    ),
-    (
-        "|--frames|64",
-        Row {
-            seed: 42,
-            noise: 0,
-            frames: 64,
-            bandwidth: 0,
-            mcs: 0,
-            length: 100,
-            workers: 4,
-            window: 256,
-        },
-    ),
-    (
-        "|--frames|08",
-        Row {
-            seed: 42,
-            noise: 0,
-            frames: 8,
-            bandwidth: 0,
-            mcs: 0,
-            length: 100,
-            workers: 4,
-            window: 256,
-        },
-    ),
-    (
-        "|--mcs|0",
-        Row {
-            seed: 42,
-            noise: 0,
-            frames: 8,
-            bandwidth: 0,
-            mcs: 0,
-            length: 100,
-            workers: 4,
-            window: 256,
-        },
-    ),
-    (
-        "|--mcs|31",
-        Row {
-            seed: 42,
-            noise: 0,
-            frames: 8,
-            bandwidth: 0,
-            mcs: 31,
-            length: 100,
-            workers: 4,
-            window: 256,
-        },
-    ),
-    (
-        "|--mcs|015",
-        Row {
-            seed: 42,
-            noise: 0,
-            frames: 8,
-            bandwidth: 0,
-            mcs: 15,
-            length: 100,
-            workers: 4,
-            window: 256,
-        },
-    ),
-    (
-        "|--bandwidth|20",
-        Row {
-            seed: 42,
-            noise: 0,
-            frames: 8,
-            bandwidth: 0,
-            mcs: 0,
-            length: 100,
-            workers: 4,
-            window: 256,
-        },
-    ),
-    (
-        "|--bandwidth|40",
-        Row {
-            seed: 42,
-            noise: 0,
-            frames: 8,
-            bandwidth: 1,
-            mcs: 0,
-            length: 100,
-            workers: 4,
-            window: 256,
-        },
-    ),
-    (
-        "|--bandwidth|00040",
-        Row {
-            seed: 42,
-            noise: 0,
-            frames: 8,
-            bandwidth: 1,
-            mcs: 0,
-            length: 100,
-            workers: 4,
-            window: 256,
-        },
-    ),
-    (
-        "|--length|1",
-        Row {
-            seed: 42,
-            noise: 0,
-            frames: 8,
-            bandwidth: 0,
-            mcs: 0,
-            length: 1,
-            workers: 4,
-            window: 256,
-        },
-    ),
-    (
-        "|--length|65535",
-        Row {
-            seed: 42,
-            noise: 0,
-            frames: 8,
-            bandwidth: 0,
-            mcs: 0,
-            length: 65535,
-            workers: 4,
-            window: 256,
-        },
-    ),
+static DEMOS: [(&str, Demo); 18] = [
+    ("", (42, 0, 8, (0, 0), 100, 4, 256)),
+    ("|--frames|1", (42, 0, 1, (0, 0), 100, 4, 256)),
+    ("|--frames|64", (42, 0, 64, (0, 0), 100, 4, 256)),
+    ("|--frames|08", (42, 0, 8, (0, 0), 100, 4, 256)),
+    ("|--mcs|0", (42, 0, 8, (0, 0), 100, 4, 256)),
+    ("|--mcs|31", (42, 0, 8, (0, 31), 100, 4, 256)),
+    ("|--mcs|015", (42, 0, 8, (0, 15), 100, 4, 256)),
+    ("|--bandwidth|20", (42, 0, 8, (0, 0), 100, 4, 256)),
+    ("|--bandwidth|40", (42, 0, 8, (1, 0), 100, 4, 256)),
+    ("|--bandwidth|00040", (42, 0, 8, (1, 0), 100, 4, 256)),
+    ("|--length|1", (42, 0, 8, (0, 0), 1, 4, 256)),
+    ("|--length|65535", (42, 0, 8, (0, 0), 65535, 4, 256)),
     (
         "|--seed|18446744073709551615|--noise|65535",
-        Row {
-            seed: 18446744073709551615,
-            noise: 65535,
-            frames: 8,
-            bandwidth: 0,
-            mcs: 0,
-            length: 100,
-            workers: 4,
-            window: 256,
-        },
+        (18446744073709551615, 65535, 8, (0, 0), 100, 4, 256),
     ),
     (
         "|--workers|64|--window|4096",
-        Row {
-            seed: 42,
-            noise: 0,
-            frames: 8,
-            bandwidth: 0,
-            mcs: 0,
-            length: 100,
-            workers: 64,
-            window: 4096,
-        },
+        (42, 0, 8, (0, 0), 100, 64, 4096),
     ),
     (
         "|--frames|64|--length|1|--window|4096",
-        Row {
-            seed: 42,
-            noise: 0,
-            frames: 64,
-            bandwidth: 0,
-            mcs: 0,
-            length: 1,
-            workers: 4,
-            window: 4096,
-        },
+        (42, 0, 64, (0, 0), 1, 4, 4096),
     ),
     (
         "|--seed|1|--noise|2|--frames|3|--mcs|4|--bandwidth|40|--length|6|--workers|7|--window|8",
-        Row {
-            seed: 1,
-            noise: 2,
-            frames: 3,
-            bandwidth: 1,
-            mcs: 4,
-            length: 6,
-            workers: 7,
-            window: 8,
-        },
+        (1, 2, 3, (1, 4), 6, 7, 8),
     ),
     (
         "|--window|8|--workers|7|--length|6|--bandwidth|40|--mcs|4|--frames|3|--noise|2|--seed|1",
-        Row {
-            seed: 1,
-            noise: 2,
-            frames: 3,
-            bandwidth: 1,
-            mcs: 4,
-            length: 6,
-            workers: 7,
-            window: 8,
-        },
+        (1, 2, 3, (1, 4), 6, 7, 8),
     ),
     (
         "|--mcs|9|--window|16|--seed|0|--bandwidth|20|--workers|1|--noise|0|--length|9|--frames|2",
-        Row {
-            seed: 0,
-            noise: 0,
-            frames: 2,
-            bandwidth: 0,
-            mcs: 9,
-            length: 9,
-            workers: 1,
-            window: 16,
-        },
+        (0, 0, 2, (0, 9), 9, 1, 16),
     ),
 ];
 
@@ -498,7 +292,7 @@ static REFUSED: [&str; 188] = [
     "rx|--workers|0|--window|8",
 ];
 
-/// What words that a text names ask for.
+// What words that a text names ask for.
 fn asked(alloc: Global, text: &str) -> Result<Option<Asked>, AllocError> {
     let mut words = Vec::new(alloc);
     for word in text.split('|') {
@@ -507,53 +301,80 @@ fn asked(alloc: Global, text: &str) -> Result<Option<Asked>, AllocError> {
     Asked::of(alloc, &words)
 }
 
-/// What the options that a text names ask for behind a command.
-fn behind(alloc: Global, command: &str, options: &str) -> Result<Option<Asked>, AllocError> {
+// Holds that a command with these options asks for this.
+fn accepts(
+    rt: &impl Abort,
+    alloc: Global,
+    (command, options): (&str, &str),
+    want: Asked,
+) -> Result<(), Fail> {
     let text = format!(in alloc; "{command}{options}")?;
-    asked(alloc, &text)
+    assert_eq!(rt; asked(alloc, &text)?, Some(want), "{text}");
+    Ok(())
+}
+
+// Holds that these words aren't accepted.
+fn refuses(rt: &impl Abort, alloc: Global, text: &str) -> Result<(), Fail> {
+    assert_eq!(rt; asked(alloc, text)?, None, "{text}");
+    Ok(())
 }
 
 #[test]
-fn accepts_the_plain_form(rt: HostRuntime) -> Result<(), Fail> {
-    let alloc = rt.alloc();
-    for (text, workers, window) in &FOR_WORKERS {
-        let (workers, window) = (*workers, *window);
-        let detect = Some(Asked::Detect { workers, window });
-        let rx = Some(Asked::Rx { workers, window });
-        assert_eq!(rt; behind(alloc, "detect", text)?, detect, "detect{text}");
-        assert_eq!(rt; behind(alloc, "rx", text)?, rx, "rx{text}");
-        let soft = Some(Asked::Soft { workers, window });
-        assert_eq!(rt; behind(alloc, "soft", text)?, soft, "soft{text}");
-        let many = Some(Asked::Many { workers, window });
-        assert_eq!(rt; behind(alloc, "many", text)?, many, "many{text}");
-        let legacy = Some(Asked::LegacyRx { workers, window });
-        assert_eq!(rt; behind(alloc, "lrx", text)?, legacy, "lrx{text}");
+fn accepts_workers(rt: HostRuntime) -> Result<(), Fail> {
+    for &(options, workers, window) in &FOR_WORKERS {
+        for (command, want) in [
+            ("detect", Asked::Detect { workers, window }),
+            ("rx", Asked::Rx { workers, window }),
+            ("soft", Asked::Soft { workers, window }),
+            ("many", Asked::Many { workers, window }),
+            ("lrx", Asked::LegacyRx { workers, window }),
+        ] {
+            accepts(&rt, rt.alloc(), (command, options), want)?;
+        }
     }
-    for (text, seed, noise) in &FOR_CHANNEL {
-        let (seed, noise) = (*seed, *noise);
-        let channel = Some(Asked::Channel { seed, noise });
-        assert_eq!(rt; behind(alloc, "channel", text)?, channel, "channel{text}");
-        let legacy = Some(Asked::LegacyChannel { seed, noise });
-        assert_eq!(rt; behind(alloc, "lchannel", text)?, legacy, "lchannel{text}");
+    Ok(())
+}
+
+#[test]
+fn accepts_channels(rt: HostRuntime) -> Result<(), Fail> {
+    for &(options, seed, noise) in &FOR_CHANNEL {
+        for (command, want) in [
+            ("channel", Asked::Channel { seed, noise }),
+            ("lchannel", Asked::LegacyChannel { seed, noise }),
+        ] {
+            accepts(&rt, rt.alloc(), (command, options), want)?;
+        }
     }
-    for (text, row) in &DEMOS {
-        let rate = Rate::of(row.bandwidth, row.mcs).ok();
-        let demo = rate.map(|rate| Asked::Demo {
-            seed: row.seed,
-            noise: row.noise,
-            frames: row.frames,
-            rate,
-            length: row.length,
-            workers: row.workers,
-            window: row.window,
-        });
-        assert!(rt; demo.is_some());
-        assert_eq!(rt; behind(alloc, "demo", text)?, demo, "demo{text}");
+    Ok(())
+}
+
+#[test]
+fn accepts_demonstrations(rt: HostRuntime) -> Result<(), Fail> {
+    for &(options, (seed, noise, frames, (bandwidth, mcs), length, workers, window)) in &DEMOS {
+        let demo = Asked::Demo {
+            seed,
+            noise,
+            frames,
+            rate: Rate::of(bandwidth, mcs)?,
+            length,
+            workers,
+            window,
+        };
+        accepts(&rt, rt.alloc(), ("demo", options), demo)?;
     }
-    assert_eq!(rt; asked(alloc, "tx")?, Some(Asked::Tx));
-    assert_eq!(rt; asked(alloc, "upgrade")?, Some(Asked::Upgrade));
-    assert_eq!(rt; asked(alloc, "certify")?, Some(Asked::Certify));
-    assert_eq!(rt; asked(alloc, "check")?, Some(Asked::Check));
+    Ok(())
+}
+
+#[test]
+fn accepts_bare_commands(rt: HostRuntime) -> Result<(), Fail> {
+    for (command, want) in [
+        ("tx", Asked::Tx),
+        ("upgrade", Asked::Upgrade),
+        ("certify", Asked::Certify),
+        ("check", Asked::Check),
+    ] {
+        accepts(&rt, rt.alloc(), (command, ""), want)?;
+    }
     Ok(())
 }
 
@@ -562,13 +383,13 @@ fn refuses_other_words(rt: HostRuntime) -> Result<(), Fail> {
     let alloc = rt.alloc();
     assert_eq!(rt; Asked::of(alloc, &[])?, None);
     for text in &REFUSED {
-        assert_eq!(rt; asked(alloc, text)?, None, "{text}");
+        refuses(&rt, alloc, text)?;
     }
     Ok(())
 }
 
-/// An option: its name, its least and its greatest value, a number above that, and two spellings of the least value, of
-/// 20 digits and of 21.
+// An option: its name, its least and its greatest value, a number above that, and two spellings of the least value, of
+// 20 digits and of 21.
 struct Edges {
     name: &'static str,
     least: &'static str,
@@ -664,6 +485,31 @@ static COMMANDS: [(&str, &str); 12] = [
     ),
 ];
 
+// The good spellings of an option and its number, and the bad ones: `N` stands for the name, `L`, `M`, `A`, `P` and `Q`
+// for the least and the greatest value, the number above, and the least value in 20 digits and in 21.
+static GOOD: [&str; 3] = ["N|L", "N|M", "N|P"];
+
+static BAD: [&str; 10] = [
+    "N|A", "N|Q", "N|+L", "N|-L", "N|L ", "N|", "N", "N=L", "N|L|N|L", "L|N",
+];
+
+// An option behind a command, in this spelling.
+fn spelled(alloc: Global, command: &str, edges: &Edges, form: &str) -> Result<String, AllocError> {
+    let mut text = format!(in alloc; "{command}|")?;
+    for c in form.chars() {
+        match c {
+            'N' => text.push_str(edges.name)?,
+            'L' => text.push_str(edges.least)?,
+            'M' => text.push_str(edges.most)?,
+            'A' => text.push_str(edges.above)?,
+            'P' => text.push_str(edges.padded)?,
+            'Q' => text.push_str(edges.long)?,
+            _ => text.push(c)?,
+        }
+    }
+    Ok(text)
+}
+
 // Each option behind each command, in three good spellings and in ten bad ones.
 #[test]
 fn takes_its_own_options(rt: HostRuntime) -> Result<(), Fail> {
@@ -671,25 +517,12 @@ fn takes_its_own_options(rt: HostRuntime) -> Result<(), Fail> {
     for (command, options) in &COMMANDS {
         for edges in &EDGES {
             let has = options.split(' ').any(|option| option == edges.name);
-            let (name, least) = (edges.name, edges.least);
-            for digits in [least, edges.most, edges.padded] {
-                let text = format!(in alloc; "{command}|{name}|{digits}")?;
+            for form in GOOD {
+                let text = spelled(alloc, command, edges, form)?;
                 assert_eq!(rt; asked(alloc, &text)?.is_some(), has, "{text}");
             }
-            let bad = [
-                format!(in alloc; "{command}|{name}|{}", edges.above)?,
-                format!(in alloc; "{command}|{name}|{}", edges.long)?,
-                format!(in alloc; "{command}|{name}|+{least}")?,
-                format!(in alloc; "{command}|{name}|-{least}")?,
-                format!(in alloc; "{command}|{name}|{least} ")?,
-                format!(in alloc; "{command}|{name}|")?,
-                format!(in alloc; "{command}|{name}")?,
-                format!(in alloc; "{command}|{name}={least}")?,
-                format!(in alloc; "{command}|{name}|{least}|{name}|{least}")?,
-                format!(in alloc; "{command}|{least}|{name}")?,
-            ];
-            for text in &bad {
-                assert_eq!(rt; asked(alloc, text)?, None, "{text}");
+            for form in BAD {
+                refuses(&rt, alloc, &spelled(alloc, command, edges, form)?)?;
             }
         }
     }

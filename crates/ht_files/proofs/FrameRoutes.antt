@@ -1,24 +1,28 @@
 -- How the octets of frames lead through the fields of a file.
-use Rattle.std.proofs.Common.{◌≡◌, ℕ, ◌+◌, ◌-◌, ◌^◌, ◌<◌, ◌≤◌, List, [], ◌∷◌, ◌++◌, length, take}
+use Rattle.std.proofs.Common.{◌≡◌, ℕ, ◌+◌, ◌-◌, ◌^◌, ◌<◌, ◌≤◌, List, [], ◌∷◌, ◌++◌, length}
 use Rattle.std.proofs.Common.{refl, sym, ap, subst, ◌∙◌, append_assoc, arith}
-use Rattle.std.proofs.lemmas.List.{append-nil}
-use Rattle.std.proofs.Math.Seq.{take-append-add}
-use Rattle.ht_io.specs.Devices.{Device, Takes}
+use Rattle.ht_io.specs.Devices.{Device, Takes, IsLater}
+use Rattle.ht_io.specs.declared.faults.InFault.{InFault}
 use Rattle.ht_io.proofs.Calls.{takes-append}
 use Rattle.ht_io.specs.declared.faults.Kind.TheVariants.{BadSeed}
 use Rattle.ht_fields.specs.Cases.{IsFile}
+use Rattle.ht_fields.specs.Lacking.{FailsBehind}
+use Rattle.ht_fields.specs.Readers.{reader_in}
+use Rattle.ht_fields.specs.WholeFiles.{EndsEarly}
 use Rattle.ht_fields.proofs.Choices.{checked_good}
+use Rattle.ht_fields.proofs.Endings.{halts_ends}
+use Rattle.ht_fields.proofs.Halting.{behind_halts, judges_checked}
 use Rattle.ht_fields.proofs.Putting.{takes_as}
-use Rattle.ht_fields.proofs.Readers.{field_is}
-use Rattle.ht_fields.proofs.Routes.{Route, route_as, route_field, route_then, route_to}
+use Rattle.ht_fields.proofs.Readers.{field_is, width_is}
+use Rattle.ht_fields.proofs.Routes.{Route, route_as, route_field, route_then}
 use Rattle.ht_rate.specs.declared.rates.Rate.{Rate}
 use Rattle.ht_scramble.specs.Sequence.{IsSeed}
 use Rattle.ht_tx.specs.Frames.{FrameView}
 use Rattle.ht_heads.specs.Heads.{head_octets}
 use Rattle.ht_counted.specs.Counted.{IsCounted}
-use Rattle.ht_counted.specs.Seeds.{is_no_seed}
-use Rattle.ht_counted.proofs.Counting.{leads_by, same, written}
-use Rattle.ht_counted.proofs.Seeded.{seed_passes}
+use Rattle.ht_counted.specs.Seeds.{LacksOctets, is_no_seed}
+use Rattle.ht_counted.proofs.Counting.{is_count, leads_by, same, written}
+use Rattle.ht_counted.proofs.Seeded.{octets_end, seed_passes}
 use Rattle.ht_files.specs.HeadedFormats.{HeadState, behind_head, frame_due, headed}
 use Rattle.ht_files.specs.Frames.{FrameState, Seed, Octets, framed, frames, good_octets, good_seed}
 use Rattle.ht_tx.specs.Symbols.{SymbolsView}
@@ -26,7 +30,7 @@ use Rattle.ht_tx.specs.Transmitted.{AreTransmitted}
 use Rattle.ht_tx.proofs.Single.{all_transmitted}
 use Rattle.ht_files.specs.Files.{AreFrames, IsFrame, frames_file_of, frame_octets}
 use Rattle.ht_files.specs.SymbolFiles.{symbols_file_of}
-use Rattle.ht_files.proofs.HeadRoutes.{is_count, route_head}
+use Rattle.ht_files.proofs.HeadRoutes.{route_head}
 
 -- the head of a frame and the seed
 pub route_seed : (left : ℕ) (rate : Rate) (len seed : ℕ) → 0 < left → 1 ≤ len → len < 2 ^ 16 → IsSeed seed
@@ -84,21 +88,23 @@ takes_frame f rate len seed octets a b c d is size x y z =
     ap (λ n. head_octets rate n ++ (seed ∷ octets)) (sym size) ∙ ap (λ (g : FrameView). head_octets g.rate (length g.octets) ++ (g.seed ∷ g.octets)) (sym is) in
     takes_as a d _ _ whole (takes-append a b d (head_octets rate len) (seed ∷ octets) x (takes-append b c d (seed ∷ []) octets y z))
 
-pub seed_size : (rate : Rate) (len seed at : ℕ) → at + 5 ≡ at + length (head_octets rate len ++ (seed ∷ []))
-seed_size rate len seed at = refl
+-- the seed of a frame was not read
+pub seed_ends : (left at : ℕ) (rate : Rate) (len : ℕ) (source after : Device ℕ) (fault : InFault) → 0 < left → 1 ≤ len → len < 2 ^ 16
+    → FailsBehind (head_octets rate len) 1 BadSeed is_no_seed at source after fault
+    → EndsEarly (reader_in frames (frame_due left) at source) after fault
+seed_ends left at rate len source after fault left_some some small fails =
+    halts_ends (reader_in frames (frame_due left) at source) after fault
+    (behind_halts frames (frame_due left) (behind_head (Seed left rate len)) (head_octets rate len) at 1 BadSeed is_no_seed source after fault
+    (route_head framed left rate len left_some some small)
+    (judges_checked frames (behind_head (Seed left rate len)) 1 BadSeed is_no_seed (good_seed left rate len) refl (omega arith) (λ e. cc, λ e. cc)) fails)
 
-pub seed_as : (left : ℕ) (rate : Rate) (len wide seed : ℕ) → wide ≡ len
-    → Route frames (frame_due left) (behind_head (Octets left rate len seed)) (head_octets rate len ++ (seed ∷ [])) []
-    → Route frames (frame_due left) (behind_head (Octets left rate wide seed)) (head_octets rate len ++ (seed ∷ [])) []
-seed_as left rate len wide seed is r = route_to frames _ _ _ _ [] (ap (λ n. let s : HeadState FrameState = behind_head (Octets left rate n seed) in s) (sym is)) r
-
--- a frame whose room was filled
-pub frame_filled : (f : FrameView) (rate : Rate) (seed n : ℕ) (into rest : List ℕ)
-    → f ≡ record { rate = rate; seed = seed; octets = take n (into ++ rest) } → n ≡ length into → f ≡ record { rate = rate; seed = seed; octets = into }
-frame_filled f rate seed n into rest is wide =
-    let all : n ≡ length into + 0 = omega (arith, wide) in
-    let same : take n (into ++ rest) ≡ into = ap (λ k. take k (into ++ rest)) all ∙ (take-append-add into rest 0 ∙ append-nil into) in
-    is ∙ ap (λ (o : List ℕ). let g : FrameView = record { rate = rate; seed = seed; octets = o } in g) same
+-- or its octets
+pub octets_ends : (left at : ℕ) (rate : Rate) (len seed : ℕ) (source between after : Device ℕ) (fault : InFault) → 0 < left → 1 ≤ len → len < 2 ^ 16
+    → IsSeed seed → Takes source between (head_octets rate len ++ (seed ∷ [])) → IsLater source between → LacksOctets len (at + 5) between after fault
+    → EndsEarly (reader_in frames (frame_due left) at source) after fault
+octets_ends left at rate len seed source between after fault left_some some small is taken later lacks =
+    octets_end frames (frame_due left) (behind_head (Octets left rate len seed)) (head_octets rate len ++ (seed ∷ [])) at (at + 5) len source between after fault
+    (route_seed left rate len seed left_some some small is) (width_is len (good_octets left rate seed) some) refl taken later lacks
 
 -- the symbols that are sent for the frames of one file
 pub one_sent : (fs gs : List FrameView) (ss ts : List SymbolsView) → AreFrames fs → AreFrames gs → frames_file_of fs ≡ frames_file_of gs

@@ -21,14 +21,9 @@ use Rattle.ht_rate.proofs.RateFacts.{mcs_of-range}
 use Rattle.ht_heads.specs.Heads.{HeadFails, head_octets, rate_octets}
 use Rattle.ht_heads.specs.Starts.{Body}
 use Rattle.ht_heads.proofs.Leading.{HasHead, head_halts, not_above, some_length}
-use Rattle.ht_counted.specs.Counted.{IsCount}
 use Rattle.ht_counted.proofs.Counting.{entry_is}
-use Rattle.ht_files.specs.HeadedFormats.{HeadState, Bandwidth, Mcs, Length, HeadedFormat, behind_head, frame_due, frame_limits}
+use Rattle.ht_files.specs.HeadedFormats.{HeadState, Bandwidth, Mcs, Length, HeadedFormat, behind_head, frame_due}
 use Rattle.ht_files.specs.HeadedFormats.{good_bandwidth, good_length, good_mcs, grammar_of}
-
--- the number of frames
-pub is_count : IsCount frame_limits
-is_count = record { some = omega arith; few = omega arith; range = omega arith; small = omega arith; named = (λ e. cc, λ e. cc) }
 
 -- the bandwidth of a frame
 route_bandwidth : {B I : Type 0} (h : HeadedFormat B I) (left code : ℕ) → 0 < left → code ≤ 1

@@ -36,21 +36,22 @@ use Rattle.ht_tx.specs.Symbols.{Fits, IsSymbols, SymbolsView, index_of_point, or
 use Rattle.ht_tx.proofs.Places.{digits, digits-below, parts-again, parts-below}
 use Rattle.ht_heads.specs.Heads.{head_octets}
 use Rattle.ht_counted.specs.Counted.{IsCounted}
-use Rattle.ht_counted.proofs.Counting.{leads_by, same, written}
+use Rattle.ht_counted.proofs.Counting.{is_count, leads_by, same, written}
 use Rattle.ht_files.specs.HeadedFormats.{HeadState, behind_head, frame_due, headed}
 use Rattle.ht_files.specs.Places.{AreFitting, FitsPlace, carrier_at_place, stream_at_place, symbol_at_place}
 use Rattle.ht_files.specs.Points.{AddsPoints, MeetsMisfit, PointDue, TakesSymbol, first_point, fits_carrier, good_point, kind_on, misfits, misfits_place}
 use Rattle.ht_files.specs.Points.{point_in, point_octets, points_due}
 use Rattle.ht_files.specs.Points.{pointed, symbols}
 use Rattle.ht_files.specs.SymbolFiles.{AreSymbolFrames, IsSymbolFrame, symbols_file_of, symbols_octets}
-use Rattle.ht_files.proofs.HeadRoutes.{head_size, is_count, route_head}
+use Rattle.ht_files.proofs.HeadRoutes.{head_size, route_head}
 use Rattle.ht_files.proofs.Levels.{point_back}
 use Rattle.ht_files.proofs.Walks.{length-points}
 
 int_same : (a b : ℤ) → a ≡ b → int_eq a b ≡ true
 int_same a b e = (Decides-int_eq a b).1 e
 
-fits_test : (r : Rate) (symbol : ℕ) (carrier : Carrier) (stream : ℕ) (p : Point) → Fits r symbol carrier stream p
+-- a point that fits passes the test
+pub fits_test : (r : Rate) (symbol : ℕ) (carrier : Carrier) (stream : ℕ) (p : Point) → Fits r symbol carrier stream p
     → fits_carrier r symbol carrier stream p ≡ true
 fits_test r symbol (Data m) stream p fits = fits
 fits_test r symbol (Pilot k) stream p fits =

@@ -3,8 +3,7 @@ use Rattle.std.specs.Prelude.{ℕ, List, ◌∷◌, ◌++◌, length}
 use Rattle.ht_scramble.specs.Sequence.{IsSeed}
 use Rattle.ht_tx.specs.Frames.{FrameView, IsPsdu}
 use Rattle.ht_heads.specs.Heads.{head_octets}
-use Rattle.ht_counted.specs.Counted.{AreCounted, counted_octets}
-use Rattle.ht_files.specs.HeadedFormats.{frame_limits}
+use Rattle.ht_counted.specs.Counted.{AreCounted, counted_octets, frame_limits}
 use Rattle.ht_files.specs.Frames.{frames_magic}
 
 -- a frame: bandwidth, MCS and length, the seed, and the octets of the PSDU

@@ -6,9 +6,8 @@ use Rattle.ht_fields.specs.Grammar.{Grammar, Due, field, Verdict, Good}
 use Rattle.ht_fields.specs.Tests.{checked, is_above, is_zero, octet_of}
 use Rattle.ht_rate.specs.declared.rates.Rate.{Rate}
 use Rattle.ht_rate.specs.Rates.{rate_at}
-use Rattle.ht_heads.specs.declared.starting.Limits.{Limits}
 use Rattle.ht_heads.specs.Starts.{StartState, Body}
-use Rattle.ht_counted.specs.Counted.{CountedFormat, counted, entries_due}
+use Rattle.ht_counted.specs.Counted.{CountedFormat, counted, entries_due, frame_limits}
 
 -- which field of a frame is due: one of its head, by the number of frames that are left, this one among them; or one
 -- behind the head
@@ -31,10 +30,6 @@ pub record HeadedFormat (B I : Type 0) : Type 0 where
   pub magic : List ℕ
   pub first : ℕ → Rate → ℕ → B
   pub due : B → Due (HeadState B) I
-
--- any number of two octets of frames
-abbrev pub frame_limits : Limits
-frame_limits = record { width = 2; least = 0; most = 65535; kind = BadLength }
 
 -- where frames are left, the next one begins with its bandwidth; else the file ends
 abbrev pub frame_due : {B : Type 0} → ℕ → HeadState B

@@ -2,8 +2,7 @@
 use Rattle.std.specs.Prelude.{ℕ, List, ◌++◌, flat_map}
 use Rattle.ht_tx.specs.Symbols.{SymbolsView, IsSymbols}
 use Rattle.ht_heads.specs.Heads.{head_octets}
-use Rattle.ht_counted.specs.Counted.{AreCounted, counted_octets}
-use Rattle.ht_files.specs.HeadedFormats.{frame_limits}
+use Rattle.ht_counted.specs.Counted.{AreCounted, counted_octets, frame_limits}
 use Rattle.ht_files.specs.Points.{point_octets, symbols_magic}
 
 -- the symbols of a frame: bandwidth, MCS and length, and the points in the order symbol, subcarrier, stream

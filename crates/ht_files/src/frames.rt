@@ -8,9 +8,7 @@ ghost use Rattle.ht_files.specs.HeadedFormats.{HeadBody, frame_due, headed};
 ghost use Rattle.ht_files.specs.Frames.{FrameState, framed, frames as frames_format};
 ghost use Rattle.ht_files.specs.Files.{AreFrames, IsFrame, frame_octets, frames_file_of};
 
-use crate::limits::frame_limits;
-use ht_counted::{Entries, read_whole, seed, zeros};
-use ht_fields::fill;
+use ht_counted::{Entries, frame_limits, octets, read_whole, seed};
 use ht_heads::head;
 use ht_io::{InFault, Source};
 use ht_rate::Rate;
@@ -46,12 +44,8 @@ fn frame<S: Source>(alloc: Global, source: &mut S, at: u64) -> Result<Frame, InF
         Ok(seed) => seed,
         Err(fault) => return Err(fault),
     };
-    let mut octets = match zeros(alloc, length) {
-        Ok(octets) => octets,
-        Err(fault) => return Err(fault),
-    };
-    match fill(source, at + 5, &mut octets) {
-        Ok(()) => Ok(made(rate, seed, octets)),
+    match octets(alloc, source, at + 5, length) {
+        Ok(octets) => Ok(made(rate, seed, octets)),
         Err(fault) => Err(fault),
     }
 }

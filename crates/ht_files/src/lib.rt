@@ -24,7 +24,6 @@
 
 mod frames;
 pub mod laws;
-mod limits;
 mod points;
 mod symbols;
 mod writing;

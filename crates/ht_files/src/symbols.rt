@@ -7,9 +7,8 @@ ghost use Rattle.ht_files.specs.HeadedFormats.{HeadBody, frame_due, headed};
 ghost use Rattle.ht_files.specs.Points.{PointDue, pointed, symbols as symbols_format};
 ghost use Rattle.ht_files.specs.SymbolFiles.{AreSymbolFrames, IsSymbolFrame, symbols_octets, symbols_file_of};
 
-use crate::limits::frame_limits;
 use crate::points::{read_points, room};
-use ht_counted::{Entries, read_whole};
+use ht_counted::{Entries, frame_limits, read_whole};
 use ht_heads::head;
 use ht_io::{InFault, Source};
 use ht_tx::{Points, Symbols};

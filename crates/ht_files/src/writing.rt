@@ -6,15 +6,12 @@ ghost use Rattle.ht_files.specs.Files.{frames_file_of, frame_octets};
 ghost use Rattle.ht_files.specs.Points.{point_octets};
 ghost use Rattle.ht_files.specs.SymbolFiles.{symbols_file_of, symbols_octets};
 
-use ht_counted::{Putter, write_whole};
+use ht_counted::{Packer, Putter, put_both, put_packed, write_whole};
 use ht_fields::Chunk;
 use ht_heads::head_of;
 use ht_io::{Failed, Sink};
 use ht_pam::Point;
 use ht_tx::{Frame, Symbols};
-
-/// The number of points that are put at once: as many as fill a chunk.
-const POINTS: usize = 2048;
 
 // What stands in front of the octets of a frame's PSDU.
 fn front(frame: &Frame) -> [u8; 5]
@@ -33,9 +30,7 @@ fn put_frame<K: Sink>(frame: &Frame, sink: &mut K) -> Result<(), Failed>
     ensures cause { OnErr result (Rose (K.shown sink.old) (K.shown sink.new)) }
     ensures later { IsLater (K.shown sink.old) (K.shown sink.new) }
 {
-    let head = front(frame);
-    sink.put(&head)?;
-    sink.put(frame.octets())
+    put_both(&front(frame), frame.octets(), sink)
 }
 
 // Frames, put one by one.
@@ -76,33 +71,21 @@ fn octets_of_point(point: &Point) -> [u8; 2]
     [i[0], q[0]]
 }
 
-// Fills the chunk with points.
-fn fill(chunk: &mut Chunk, points: &[Point])
-    requires few { length points.now ≤ 2048 }
-    ensures { chunk.new ≡ flat_map point_octets points.now }
-{
-    chunk.clear();
-    for point in points {
+// Points, packed one by one.
+struct Points;
+
+impl Packer for Points {
+    type Item = Point;
+
+    ghost octets = { point_octets };
+
+    fn size(_point: &Point) -> usize {
+        2
+    }
+
+    fn add(point: &Point, chunk: &mut Chunk) {
         chunk.add(&octets_of_point(point));
     }
-}
-
-// Puts points, as many at once as fill the chunk.
-fn put_points<K: Sink>(points: &[Point], chunk: &mut Chunk, sink: &mut K) -> Result<(), Failed>
-    ensures grown { OnOk result (Grows (K.shown sink.old) (K.shown sink.new) (flat_map point_octets points.now)) }
-    ensures steady { OnOk result ((K.shown sink.new).faults ≡ (K.shown sink.old).faults) }
-    ensures part { OnErr result (GrowsByPart (K.shown sink.old) (K.shown sink.new) (flat_map point_octets points.now)) }
-    ensures cause { OnErr result (Rose (K.shown sink.old) (K.shown sink.new)) }
-    ensures later { IsLater (K.shown sink.old) (K.shown sink.new) }
-{
-    let mut rest = points;
-    while !rest.is_empty() {
-        let (now, later) = rest.split_at(rest.len().min(POINTS));
-        fill(chunk, now);
-        sink.put(chunk.as_slice())?;
-        rest = later;
-    }
-    Ok(())
 }
 
 // Puts the symbols of a frame.
@@ -114,9 +97,9 @@ fn put_symbols<K: Sink>(frame: &Symbols, chunk: &mut Chunk, sink: &mut K) -> Res
     ensures cause { OnErr result (Rose (K.shown sink.old) (K.shown sink.new)) }
     ensures later { IsLater (K.shown sink.old) (K.shown sink.new) }
 {
-    let head = head_of(&frame.rate(), frame.length());
-    sink.put(&head)?;
-    put_points(frame.points(), chunk, sink)
+    chunk.clear();
+    chunk.add(&head_of(&frame.rate(), frame.length()));
+    put_packed::<Points, K>(frame.points(), chunk, sink)
 }
 
 // The symbols of frames, put frame by frame by way of a chunk.

@@ -12,10 +12,10 @@ use Rattle.ht_rate.specs.Rates.{bandwidth_of, mcs_of, rate_at}
 use Rattle.ht_rate.proofs.Numbers.{rate_at-bandwidth, rate_at-mcs}
 use Rattle.ht_heads.specs.Heads.{head_octets}
 use Rattle.ht_heads.specs.Starts.{Body}
-use Rattle.ht_counted.specs.Counted.{AreCounted, IsCounted, counted_octets}
+use Rattle.ht_counted.specs.Counted.{AreCounted, IsCounted, counted_octets, frame_limits}
 use Rattle.ht_counted.proofs.Back.{EntriesTail, Wrote, entries_back, of_file, wrote_as}
 use Rattle.ht_counted.proofs.Passing.{at_most, not_none, passed, same_good, single}
-use Rattle.ht_files.specs.HeadedFormats.{HeadBody, HeadState, Bandwidth, Mcs, Length, Behind, HeadedFormat, behind_head, frame_due, frame_limits}
+use Rattle.ht_files.specs.HeadedFormats.{HeadBody, HeadState, Bandwidth, Mcs, Length, Behind, HeadedFormat, behind_head, frame_due}
 use Rattle.ht_files.specs.HeadedFormats.{good_bandwidth, good_length, good_mcs, grammar_of, head_due, headed}
 use Rattle.ht_files_laws.proofs.Passing.{pair}
 

@@ -10,12 +10,12 @@ use Rattle.ht_rate.specs.declared.rates.Rate.{Rate}
 use Rattle.ht_rate.specs.Rates.{rate_at}
 use Rattle.ht_heads.specs.Starts.{Body}
 use Rattle.ht_counted.specs.Counted.{counted_format}
+use Rattle.ht_counted.proofs.Counting.{is_count}
 use Rattle.ht_counted.proofs.Ends.{HasAnEnd, Sound, field_first, sound_can_end}
 use Rattle.ht_counted.proofs.Lasting.{due_end, due_sound}
 use Rattle.ht_counted.proofs.Passing.{passed, same_good}
 use Rattle.ht_files.specs.HeadedFormats.{HeadBody, HeadState, Bandwidth, Mcs, Length, Behind, HeadedFormat, behind_head, frame_due}
 use Rattle.ht_files.specs.HeadedFormats.{good_bandwidth, good_length, good_mcs, grammar_of, head_due, headed}
-use Rattle.ht_files.proofs.HeadRoutes.{is_count}
 
 -- which states of a frame good fields lead to, by those behind a head
 abbrev pub SoundHead : {B : Type 0} → (B → Type 0) → HeadBody B → Type 0

@@ -12,13 +12,13 @@ use Rattle.ht_scramble.specs.Sequence.{IsSeed}
 use Rattle.ht_tx.specs.Frames.{FrameView}
 use Rattle.ht_counted.specs.Counted.{counted_format}
 use Rattle.ht_counted.specs.Seeds.{is_no_seed}
+use Rattle.ht_counted.proofs.Counting.{is_count}
 use Rattle.ht_counted.proofs.Ends.{can_end, field_first}
 use Rattle.ht_counted.proofs.Passing.{passed, same_good, single}
 use Rattle.ht_counted.proofs.Seeded.{seed_passed}
 use Rattle.ht_files.specs.HeadedFormats.{HeadState, behind_head, frame_due, headed}
 use Rattle.ht_files.specs.Frames.{FrameState, Seed, Octets, framed, frames, good_octets, good_seed}
 use Rattle.ht_files.specs.Files.{AreFrames, IsFrame, frame_octets, frames_file_of}
-use Rattle.ht_files.proofs.HeadRoutes.{is_count}
 use Rattle.ht_files.proofs.FrameRoutes.{frames_counted}
 use Rattle.ht_files_laws.proofs.Back.{BodyTail, Wrote_file, frames_back, of_frames_of, same_state}
 use Rattle.ht_files_laws.proofs.Ends.{HasEnd, each_head_ends, frames_end}

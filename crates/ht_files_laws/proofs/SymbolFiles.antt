@@ -1,9 +1,7 @@
 -- Files of symbols: each is what is written of its symbols, and each clean beginning can end.
-use Rattle.std.proofs.Common.{◌≡◌, inl, inr, ℕ, zero, suc, ◌+◌, ◌-◌, ◌^◌, ◌<◌, ◌≤◌, ℤ, List, [], ◌∷◌, ◌++◌, length, flat_map, get_or, nat_eq}
+use Rattle.std.proofs.Common.{◌≡◌, inl, inr, ℕ, zero, suc, ◌+◌, ◌-◌, ◌^◌, ◌<◌, ◌≤◌, List, [], ◌∷◌, ◌++◌, length, flat_map, get_or, nat_eq}
 use Rattle.std.proofs.Common.{is_some, true, false, refl, sym, ap, subst, ◌∙◌, length-append, arith}
-use Rattle.std.specs.Ordering.{int_eq}
-use Rattle.std.proofs.lemmas.Bool.{and_from, cases_Bool}
-use Rattle.std.proofs.lemmas.Bool.Decides.{Decides-int_eq}
+use Rattle.std.proofs.lemmas.Bool.{cases_Bool}
 use Rattle.std.specs.List.{AllByRecursion}
 use Rattle.ht_fields.specs.Grammar.{Good}
 use Rattle.ht_fields.specs.Cases.{CanEnd, IsEnd, IsField, IsFile}
@@ -27,7 +25,7 @@ use Rattle.ht_files.specs.Places.{FitsPlace, carrier_at_place, stream_at_place, 
 use Rattle.ht_files.specs.Points.{PointDue, first_point, fits_carrier, good_point, kind_on, misfits, misfits_place, point_in, point_octets, pointed, symbols}
 use Rattle.ht_files.specs.SymbolFiles.{AreSymbolFrames, IsSymbolFrame, symbols_file_of, symbols_octets}
 use Rattle.ht_files.proofs.Levels.{fits_true, octets_back, point_back}
-use Rattle.ht_files.proofs.PointRoutes.{points_of-some, symbols_all, symbols_counted}
+use Rattle.ht_files.proofs.PointRoutes.{fits_test, points_of-some, symbols_all, symbols_counted}
 use Rattle.ht_files_laws.proofs.Back.{BodyTail, Wrote_file, frames_back, of_frames_of, same_state}
 use Rattle.ht_files_laws.proofs.Ends.{HasEnd, IsSound, frames_end, frames_sound, heads_can_end}
 use Rattle.ht_files_laws.proofs.Passing.{other_number, still_less}
@@ -142,16 +140,6 @@ no_end due e = e
 pub of_symbols : (octets : List ℕ) (fs : List SymbolsView) → AreBytes octets → IsFile symbols octets fs → AreSymbolFrames fs × (octets ≡ symbols_file_of fs)
 unfolding symbols_file_of symbols_octets
 of_symbols = of_frames_of pointed rate size body IsSymbolFrame wrote_body first_back body_back no_end 18391396 symbols_counted
-
-int_same : (a b : ℤ) → a ≡ b → int_eq a b ≡ true
-int_same a b e = (Decides-int_eq a b).1 e
-
-fits_test : (r : Rate) (symbol : ℕ) (carrier : Carrier) (stream : ℕ) (p : Point) → Fits r symbol carrier stream p
-    → fits_carrier r symbol carrier stream p ≡ true
-fits_test r symbol (Data m) stream p fits = fits
-fits_test r symbol (Pilot k) stream p fits =
-    let v = pilot_point r symbol k stream in
-    and_from (int_eq p.i v.i) (int_eq p.q v.q) (int_same p.i v.i (ap (λ (z : Point). z.i) fits)) (int_same p.q v.q (ap (λ (z : Point). z.q) fits))
 
 below : (m : Modulation) → 0 < 2 ^ bits_of m
 below Bpsk = omega arith

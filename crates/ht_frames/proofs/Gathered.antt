@@ -7,14 +7,11 @@ use Rattle.std.specs.List.{flat_map}
 use Rattle.std.proofs.lemmas.Grind.{flat_map-append}
 use Rattle.ht_io.specs.Devices.{Device, Grows, GrowsByPart, IsLater, Rose}
 use Rattle.ht_io.proofs.Calls.{failed-later, grows-append, grows-none, grows_by_part-append, grows_by_part-front}
-use Rattle.ht_metric.specs.Jobs.{JobView, near}
-use Rattle.ht_metric.specs.declared.found.Found.{Found}
-use Rattle.ht_metric.specs.declared.place.Place.{Place}
 use Rattle.ht_feed.specs.declared.book_fault.BookFault.{BookFault}
 use Rattle.ht_feed.specs.declared.book_fault.BookFault.TheVariants.{Failed}
 use Rattle.ht_feed.specs.Accounts.{PutsBlock, PutsPartOf}
-use Rattle.ht_feed.specs.Items.{Headed, headed_of}
-use Rattle.ht_frames.specs.Gathering.{BooksFirst, WaitForJobs, booked_behind, booked_whole, finished}
+use Rattle.ht_feed.specs.Items.{Headed}
+use Rattle.ht_frames.specs.Gathering.{BooksFirst, WaitForJobs, behind_one, booked_behind, booked_whole, finished}
 
 -- where the book failed behind others that didn't, it failed
 pub failed_behind : {P : Type 0} (result : Result (Unit {0}) BookFault) (a b c : Device P) → IsLater a b
@@ -32,6 +29,15 @@ pub none_kept : {W X : Type 0} (result : Result (Unit {0}) BookFault) (whole : L
     → OnOk result (length whole ≤ 0) → OnOk result (Waits → WaitForJobs whole due)
 none_kept (Ok x) whole Waits due few = λ w is. none_longer whole few
 none_kept (Err e) whole Waits due few = tt
+
+-- what follows of what a call leaves
+pub ok_as : {A E X Y : Type 0} (result : Result A E) → (X → Y) → OnOk result X → OnOk result Y
+ok_as (Ok x) follows holds = follows holds
+ok_as (Err e) follows holds = tt
+
+pub err_as : {A E X Y : Type 0} (result : Result A E) → (X → Y) → OnErr result X → OnErr result Y
+err_as (Ok x) follows holds = tt
+err_as (Err e) follows holds = follows holds
 
 module _ {W T P : Type 0} (result_of : W → T) (booked : T → List P) where
   -- no result was booked yet
@@ -81,54 +87,61 @@ module _ {W T P : Type 0} (result_of : W → T) (booked : T → List P) where
         ∙ (ap (flat_map booked) (append_assoc (map result_of done) (map result_of left) rest)
         ∙ behind_whole done (map result_of left ++ rest)))
 
-    -- the hit of a job was taken, with which frames are whole that weren't
-    module _ (a b : Device P) (whole whole' : List W) (before after : List (Headed H) → List T) (h : Headed H)
-        (goes : (more : List (Headed H)) → map result_of whole ++ before (h ∷ more) ≡ map result_of whole' ++ after more) where
-      pub puts_first : (left : List W) → BooksFirst result_of booked a b whole' left
-          → PutsBlock a b (booked_behind result_of booked whole before) (booked_behind result_of booked left after) (h ∷ [])
-      puts_first left books = (
+    -- jobs were taken, with which frames are whole that weren't
+    module _ (a b : Device P) (whole whole' : List W) (before after : List (Headed H) → List T) (hs : List (Headed H))
+        (goes : (more : List (Headed H)) → map result_of whole ++ before (hs ++ more) ≡ map result_of whole' ++ after more) where
+      pub puts_first : {A E : Type 0} (result : Result A E) (left : List W) → OnOk result (BooksFirst result_of booked a b whole' left)
+          → OnOk result (PutsBlock a b (booked_behind result_of booked whole before) (booked_behind result_of booked left after) hs)
+      puts_first (Ok x) left books = (
         booked_whole result_of booked books.0,
         books.2,
         λ more. ap (flat_map booked) (goes more) ∙ first_booked whole' after books.0 left more books.1,
       )
+      puts_first (Err e) left books = tt
 
       -- a part of what waited was booked
-      pub part_first : GrowsByPart a b (booked_whole result_of booked whole') → PutsPartOf a b (booked_behind result_of booked whole before) (h ∷ [])
-      part_first part = λ more.
+      pub part_first : {A E : Type 0} (result : Result A E) → OnErr result (GrowsByPart a b (booked_whole result_of booked whole'))
+          → OnErr result (PutsPartOf a b (booked_behind result_of booked whole before) hs)
+      part_first (Ok x) part = tt
+      part_first (Err e) part = λ more.
           subst (λ (ps : List P). GrowsByPart a b ps) (sym (ap (flat_map booked) (goes more) ∙ behind_whole whole' (after more)))
           (grows_by_part-front a b (booked_whole result_of booked whole') (flat_map booked (after more)) part)
 
     -- a frame whose last job came stands behind the others, and what the jobs that still come give is the same
-    pub stands_behind : (whole whole' : List W) (f : W) (last : Bool) (one : T) (before mid after : List (Headed H) → List T) (h : Headed H)
-        → last ≡ true → result_of f ≡ one → whole' ≡ whole ++ f ∷ []
-        → ((more : List (Headed H)) → before (h ∷ more) ≡ finished last one ++ mid more) → ((more : List (Headed H)) → after more ≡ mid more)
-        → (more : List (Headed H)) → map result_of whole ++ before (h ∷ more) ≡ map result_of whole' ++ after more
-    stands_behind whole whole' f last one before mid after h is same stands goes kept more =
+    pub stands_behind : (whole whole' : List W) (f : W) (one : T) (mid after : List (Headed H) → List T)
+        → result_of f ≡ one → whole' ≡ whole ++ f ∷ [] → ((more : List (Headed H)) → after more ≡ mid more)
+        → (more : List (Headed H)) → map result_of whole ++ behind_one one mid more ≡ map result_of whole' ++ after more
+    stands_behind whole whole' f one mid after same stands kept more =
         let rest = after more in
-        let come : before (h ∷ more) ≡ result_of f ∷ rest =
-        goes more
-        ∙ (ap (λ (b : Bool). finished b one ++ mid more) is
-        ∙ (ap (λ (r : T). r ∷ mid more) (sym same) ∙ ap (λ (rs : List T). result_of f ∷ rs) (sym (kept more)))) in
+        let come : behind_one one mid more ≡ result_of f ∷ rest =
+        ap (λ (r : T). r ∷ mid more) (sym same) ∙ ap (λ (rs : List T). result_of f ∷ rs) (sym (kept more)) in
         ap (λ (rs : List T). map result_of whole ++ rs) come
         ∙ (sym (append_assoc (map result_of whole) (result_of f ∷ []) rest)
         ∙ (ap (λ (rs : List T). rs ++ rest) (sym (map-append result_of whole (f ∷ [])))
         ∙ ap (λ (fs : List W). map result_of fs ++ rest) (sym stands)))
 
-    -- what comes of a job from this place, of which this was found
-    module _ (a b : Device P) (whole whole' left : List W) (before after : List (Headed H) → List T) (head : H) (place : Place) (found : Found)
-        (goes : (job : JobView) → job.place ≡ place → found ≡ near job → (more : List (Headed H))
-        → map result_of whole ++ before (headed_of head job ∷ more) ≡ map result_of whole' ++ after more) where
-      pub puts_each : {A E : Type 0} (result : Result A E) → OnOk result (BooksFirst result_of booked a b whole' left)
-          → OnOk result ((job : JobView) → job.place ≡ place → found ≡ near job
-          → PutsBlock a b (booked_behind result_of booked whole before) (booked_behind result_of booked left after) (headed_of head job ∷ []))
-      puts_each (Ok x) books = λ job here is. puts_first a b whole whole' before after (headed_of head job) (goes job here is) left books
-      puts_each (Err e) books = tt
+    -- with these jobs a frame is whole, and then its result stands behind the others
+    module _ (a b : Device P) (whole : List W) (one : T) (before mid : List (Headed H) → List T) (hs : List (Headed H)) (last : Bool)
+        (goes : (more : List (Headed H)) → before (hs ++ more) ≡ finished last one ++ mid more) (is : last ≡ true) where
+      comes : (more : List (Headed H)) → booked_behind result_of booked whole before (hs ++ more) ≡ booked_behind result_of booked whole (behind_one one mid) more
+      comes more = ap (λ (rs : List T). flat_map booked (map result_of whole ++ rs)) (goes more ∙ ap (λ (b : Bool). finished b one ++ mid more) is)
 
-      pub part_each : {A E : Type 0} (result : Result A E) → OnErr result (GrowsByPart a b (booked_whole result_of booked whole'))
-          → OnErr result ((job : JobView) → job.place ≡ place → found ≡ near job
-          → PutsPartOf a b (booked_behind result_of booked whole before) (headed_of head job ∷ []))
-      part_each (Ok x) part = tt
-      part_each (Err e) part = λ job here is. part_first a b whole whole' before after (headed_of head job) (goes job here is) part
+      pub part_whole : PutsPartOf a b (booked_behind result_of booked whole (behind_one one mid)) []
+          → PutsPartOf a b (booked_behind result_of booked whole before) hs
+      part_whole part = λ more. subst (λ (ps : List P). GrowsByPart a b ps) (sym (comes more)) (part more)
+
+    -- frames under way to which these jobs are the same
+    module _ (a b : Device P) (whole : List W) (before same : List (Headed H) → List T) (hs : List (Headed H))
+        (alike : (more : List (Headed H)) → same (hs ++ more) ≡ before (hs ++ more)) where
+      alike_behind : (more : List (Headed H)) → booked_behind result_of booked whole same (hs ++ more) ≡ booked_behind result_of booked whole before (hs ++ more)
+      alike_behind more = ap (λ (rs : List T). flat_map booked (map result_of whole ++ rs)) (alike more)
+
+      pub puts_alike : (end : List (Headed H) → List P) → PutsBlock a b (booked_behind result_of booked whole same) end hs
+          → PutsBlock a b (booked_behind result_of booked whole before) end hs
+      puts_alike end puts = (puts.0, puts.1, λ more. sym (alike_behind more) ∙ puts.2 more)
+
+      pub part_alike : PutsPartOf a b (booked_behind result_of booked whole same) hs → PutsPartOf a b (booked_behind result_of booked whole before) hs
+      part_alike part = λ more. subst (λ (ps : List P). GrowsByPart a b ps) (alike_behind more) (part more)
 
     -- the hits of a block were taken, and then results are booked that wait
     module _ (a b c : Device P) (start : List (Headed H) → List P) (mid new : List W) (results : List (Headed H) → List T) (hs : List (Headed H))

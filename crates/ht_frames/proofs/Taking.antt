@@ -1,6 +1,6 @@
 -- What was found for the jobs of a block is taken, one job after another.
 use Rattle.std.proofs.Common.{◌≡◌, ℕ, zero, suc, ◌+◌, List, [], ◌∷◌, ◌++◌, map, take, drop, slice_get, Some, Result, Ok, Err, OnErr}
-use Rattle.std.proofs.Common.{refl, sym, ap, ◌∙◌, subst, append_assoc}
+use Rattle.std.proofs.Common.{refl, sym, ap, ◌∙◌, subst, append_assoc, arith, ◌<◌, length, IfSome}
 use Rattle.std.proofs.lemmas.List.{map-append, take-append-drop, take_more}
 use Rattle.std.proofs.lemmas.Option.{get_or_from_slice_get, none-some, same_Some, slice_get_within}
 use Rattle.ht_io.specs.Devices.{Device, GrowsByPart}
@@ -23,6 +23,21 @@ pub job_there : (jobs : List JobView) (at : ℕ) (place : Place) (found : Found)
 job_there [] at place found here is = absurd (none-some found is)
 job_there (job ∷ jobs) zero place found here is = (job, refl, here, sym (same_Some (near job) found is))
 job_there (job ∷ jobs) (suc at) place found here is = job_there jobs at place found here is
+
+-- the job that has so many others before it, its place, and what was found for it
+pub job_within : (jobs : List JobView) (at : ℕ) (place : Place) (found : Found) → at < length jobs → IsPlaceAt place jobs at
+    → IfSome (slice_get jobs at) (λ job. found ≡ near job)
+    → (job : JobView) × (slice_get jobs at ≡ Some job) × (job.place ≡ place) × (found ≡ near job)
+job_within [] at place found within here is = absurd (omega (arith, within))
+job_within (job ∷ jobs) zero place found within here is = (job, refl, here, is)
+job_within (job ∷ jobs) (suc at) place found within here is = job_within jobs at place found (omega (arith, within)) here is
+
+-- what stands there among the hits was found for the job there
+pub found_there : (jobs : List JobView) (at : ℕ) (found : Found) → slice_get (map near jobs) at ≡ Some found
+    → IfSome (slice_get jobs at) (λ job. found ≡ near job)
+found_there [] at found is = tt
+found_there (job ∷ jobs) zero found is = sym (same_Some (near job) found is)
+found_there (job ∷ jobs) (suc at) found is = found_there jobs at found is
 
 module _ {H : Type 0} (head : H) where
   abbrev pub heads : List JobView → List (Headed H)

@@ -22,6 +22,10 @@ abbrev pub finished : {T : Type 0} → Bool → T → List T
 finished true result = result ∷ []
 finished false result = []
 
+-- the results of jobs that still come, behind that of a frame whose last job came
+abbrev pub behind_one : {H T : Type 0} → T → (List (Headed H) → List T) → List (Headed H) → List T
+behind_one result results jobs = result ∷ results jobs
+
 -- what is booked in all of jobs that still come, where they come to these results
 abbrev pub booked_in : {H T P : Type 0} → (T → List P) → (List (Headed H) → List T) → List (Headed H) → List P
 booked_in booked results jobs = flat_map booked (results jobs)

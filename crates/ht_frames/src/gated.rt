@@ -42,7 +42,7 @@ impl<'g, G: Gate> Finder for HitWork<'g, G> {
 impl<'g, B: Jobs, G: Gate> Work<B> for HitWork<'g, G> {
     type Answer = Hits;
 
-    fn run(&self, block: &B) -> Result<Hits, AllocError> {
+    fn answer_to(&self, block: &B) -> Result<Hits, AllocError> {
         hits_of(self.alloc, block, self)
     }
 
@@ -64,8 +64,8 @@ pub struct BesideFrames<'f, K, W: WholeFrame> {
 impl<'f, B: Jobs, K: Work<B>, W: WholeFrame + Drop> Work<B> for BesideFrames<'f, K, W> {
     type Answer = K::Answer;
 
-    fn run(&self, block: &B) -> Result<K::Answer, AllocError> {
-        self.work.run(block)
+    fn answer_to(&self, block: &B) -> Result<K::Answer, AllocError> {
+        self.work.answer_to(block)
     }
 
     fn is_hard(&self, block: &B, answer: &K::Answer) -> bool {

@@ -2,18 +2,19 @@
 ghost use Rattle.std.specs.Prelude.{◌≡◌, ◌-◌, ◌^◌, ◌<◌, ◌≤◌, ◌∷◌, [], true, OnErr, OnOk, drop};
 ghost use Rattle.ht_metric.specs.Jobs.{JobView, near};
 ghost use Rattle.ht_feed.specs.Accounts.{PutsBlock, PutsPartOf};
-ghost use Rattle.ht_feed.specs.Dues.{AreHits, all_due, due_of, headed_due};
+ghost use Rattle.ht_feed.specs.Dues.{all_due, due_of, headed_due};
 ghost use Rattle.ht_feed.specs.Items.{headed_of};
-ghost use Rattle.ht_frames.specs.Gathering.{CountsFaults, WaitForJobs, booked_behind, none_behind, wait_on};
+ghost use Rattle.ht_frames.specs.Gathering.{CountsFaults, WaitForJobs, behind_one, booked_behind, none_behind, wait_on};
 
 use crate::book::Book;
 use crate::decoding::Decoding;
 use crate::frames::Frames;
 use crate::gathering::{book_frames, decode};
+use crate::takes_blocks::{EachFound, TakesBlocks};
 use crate::under_way::UnderWay;
 use crate::whole_frame::WholeFrame;
 use circular_buffer::HeapCircularBuffer;
-use ht_feed::{Account, BlockReader, BookFault, DueBlock, Hits, Jobs};
+use ht_feed::{Account, BlockReader, BookFault, DueBlock, Jobs};
 use ht_metric::{Found, Place};
 use std::alloc::Global;
 use std::collections::VecDeque;
@@ -90,8 +91,30 @@ fn another_is_due<R: BlockReader>(due: &HeapCircularBuffer<DueBlock<R>>) -> bool
     }
 }
 
-// Takes what was found for a job of the frame that is under way, or that begins with this head. A frame that is whole
-// then stands behind the others, of which at most `room` are left.
+// The whole frame leaves, and stands behind the others, of which at most `room` are left.
+fn finish_frame<R: Threads + Wait, U: UnderWay, B: Book<<U::Whole as WholeFrame>::Result>>(
+    rt: &R,
+    alloc: Global,
+    room: usize,
+    frames: &Frames<U::Whole>,
+    under_way: &mut U,
+    queue: &mut VecDeque<Decoding<U::Whole>>,
+    book: &mut B,
+) -> Result<(), BookFault>
+    requires whole { U.is_whole under_way.old }
+    ensures put { OnOk result (PutsBlock (B.shown book.old) (B.shown book.new)
+        (booked_behind U.Whole.result_of B.booked queue.old.items (behind_one (U.comes_to under_way.old) (U.results under_way.old)))
+        (booked_behind U.Whole.result_of B.booked queue.new.items (U.results under_way.new)) []) }
+    ensures part { OnErr result (PutsPartOf (B.shown book.old) (B.shown book.new)
+        (booked_behind U.Whole.result_of B.booked queue.old.items (behind_one (U.comes_to under_way.old) (U.results under_way.old))) []) }
+    ensures faults { CountsFaults result (B.shown book.old) (B.shown book.new) (B.lent book.old) (B.lent book.new) }
+{
+    let frame = under_way.leave(alloc);
+    decode(rt, alloc, frames, queue, frame, room > 0)?;
+    book_frames(rt, frames, room, queue, book)
+}
+
+// Takes what was found for a job of the frame that is under way, or that begins with this head.
 fn take_found<R: Threads + Wait, U: UnderWay, B: Book<<U::Whole as WholeFrame>::Result>>(
     rt: &R,
     alloc: Global,
@@ -113,19 +136,16 @@ fn take_found<R: Threads + Wait, U: UnderWay, B: Book<<U::Whole as WholeFrame>::
     ensures faults { CountsFaults result (B.shown book.old) (B.shown book.new) (B.lent book.old) (B.lent book.new) }
 {
     if under_way.take(alloc, head, place, found)? {
-        let frame = under_way.leave(alloc);
-        decode(rt, alloc, frames, queue, frame, room > 0)?;
-        book_frames(rt, frames, room, queue, book)
+        finish_frame(rt, alloc, room, frames, under_way, queue, book)
     } else {
         Ok(())
     }
 }
 
-/// Takes what was found for the jobs of a block of the frame with this head, as a [`Gatherer`] does that keeps whole frames
-/// back: of those whose results aren't booked at most `room` are left behind each frame that becomes whole, as
-/// [`book_frames`] leaves them; no clause says so here. Where `room` is 0 the caller decodes the frame, and all are booked.
-pub fn gather_block<
+// Takes what was found for the jobs of a block, one by one.
+fn gather_jobs<
     J: Jobs,
+    A: EachFound,
     R: Threads + Wait,
     U: UnderWay,
     B: Book<<U::Whole as WholeFrame>::Result>,
@@ -139,9 +159,9 @@ pub fn gather_block<
     book: &mut B,
     head: &U::Head,
     block: &J,
-    found: &[Found],
+    answer: &A,
 ) -> Result<(), BookFault>
-    requires right { AreHits found.now (J.jobs block.now) }
+    requires right { A.answers answer.now (J.jobs block.now) }
     ensures put { OnOk result (PutsBlock (B.shown book.old) (B.shown book.new)
         (booked_behind U.Whole.result_of B.booked queue.old.items (U.results under_way.old))
         (booked_behind U.Whole.result_of B.booked queue.new.items (U.results under_way.new)) (headed_due (due_of head.now (J.jobs block.now)))) }
@@ -149,25 +169,63 @@ pub fn gather_block<
         (booked_behind U.Whole.result_of B.booked queue.old.items (U.results under_way.old)) (headed_due (due_of head.now (J.jobs block.now)))) }
     ensures faults { CountsFaults result (B.shown book.old) (B.shown book.new) (B.lent book.old) (B.lent book.new) }
 {
-    for at in 0..found.len() {
-        let place = block.place_at(at as u16);
+    for at in 0..answer.size(block) {
+        let place = block.place_at(at);
+        let found = answer.found(block, at);
         take_found(
-            rt, alloc, room, frames, under_way, queue, book, head, place, &found[at],
+            rt, alloc, room, frames, under_way, queue, book, head, place, &found,
         )?;
     }
     Ok(())
+}
+
+/// Takes what a worker made of a block of the frame with this head, as a [`Gatherer`] does that keeps whole frames back: of
+/// those whose results aren't booked at most `room` are left behind each frame that becomes whole, as [`book_frames`] leaves
+/// them; no clause says so here. Where `room` is 0 the caller decodes the frame, and all are booked.
+pub fn gather_block<
+    J: Jobs,
+    R: Threads + Wait,
+    U: TakesBlocks,
+    B: Book<<U::Whole as WholeFrame>::Result>,
+>(
+    rt: &R,
+    alloc: Global,
+    room: usize,
+    frames: &Frames<U::Whole>,
+    under_way: &mut U,
+    queue: &mut VecDeque<Decoding<U::Whole>>,
+    book: &mut B,
+    head: &U::Head,
+    block: &J,
+    answer: &U::Answer,
+) -> Result<(), BookFault>
+    requires right { U.Answer.answers answer.now (J.jobs block.now) }
+    ensures put { OnOk result (PutsBlock (B.shown book.old) (B.shown book.new)
+        (booked_behind U.Whole.result_of B.booked queue.old.items (U.results under_way.old))
+        (booked_behind U.Whole.result_of B.booked queue.new.items (U.results under_way.new)) (headed_due (due_of head.now (J.jobs block.now)))) }
+    ensures part { OnErr result (PutsPartOf (B.shown book.old) (B.shown book.new)
+        (booked_behind U.Whole.result_of B.booked queue.old.items (U.results under_way.old)) (headed_due (due_of head.now (J.jobs block.now)))) }
+    ensures faults { CountsFaults result (B.shown book.old) (B.shown book.new) (B.lent book.old) (B.lent book.new) }
+{
+    match under_way.take_block(alloc, head, block, answer)? {
+        Some(true) => finish_frame(rt, alloc, room, frames, under_way, queue, book),
+        Some(false) => Ok(()),
+        None => gather_jobs(
+            rt, alloc, room, frames, under_way, queue, book, head, block, answer,
+        ),
+    }
 }
 
 impl<
     'a,
     T: BlockReader<Head = U::Head>,
     R: Threads + Wait,
-    U: UnderWay,
+    U: TakesBlocks,
     B: Book<<U::Whole as WholeFrame>::Result>,
 > Account<T> for Gatherer<'a, R, U, B> {
     type Piece = B::Piece;
 
-    type Answer = Hits;
+    type Answer = U::Answer;
 
     ghost shown = { λ r. B.shown r.book.now };
 
@@ -181,7 +239,7 @@ impl<
         &mut self,
         head: &U::Head,
         block: &T::Block,
-        hits: &Hits,
+        answer: &U::Answer,
         due: &HeapCircularBuffer<DueBlock<T>>,
     ) -> Result<(), BookFault> {
         let more = another_is_due(due);
@@ -196,7 +254,7 @@ impl<
             self.book,
             head,
             block,
-            hits.found.as_slice(),
+            answer,
         )?;
         if more {
             return Ok(());

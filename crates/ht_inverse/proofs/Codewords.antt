@@ -162,6 +162,14 @@ pub joined-length : (r : Rate) (octets : ℕ) (first second : List Bool) (bits :
 joined-length r octets first second bits long is =
     is.whole ∙ (ap (λ k. encoders_of r * k) (untailed-length first (steps_of r octets) long) ∙ data-bits r octets (encoders_of r) refl)
 
+-- they are SERVICE and whole octets, told of lists that are the inputs without their tails
+pub joined-whole : (r : Rate) (octets : ℕ) (first second bits front back joined : List Bool) → front ≡ untailed first → back ≡ untailed second
+    → IsParsed r bits front back → length first ≡ steps_of r octets → joined ≡ bits → (16 ≤ length joined) × ((length joined - 16) % 8 ≡ 0)
+joined-whole r octets first second bits front back joined e f is long same =
+    let all : length joined ≡ 16 + 8 * octets =
+    ap (λ (xs : List Bool). length xs) same ∙ joined-length r octets first second bits long (parsed-by r bits first second front back e f is) in
+    (omega (arith, all), omega (arith, all))
+
 -- the cheapest input at given places, with its cost
 pub cheapest-answer : {P : Type 0} (cost : P → Bool → ℕ) (steps s : ℕ) (p q : Pattern) (received places : List P) (input : List Bool) (n : ℕ)
     → steps ≡ s → p ≡ q → received ≡ places → tail ≤ steps → IsCheapest cost steps p received input → n ≡ cost_of cost p received input

@@ -117,6 +117,14 @@ label-within r erased j symbol i symbols per place there is within wide =
       subst (λ (p : LabelBit). p.shift < 6) (sym is) bounds.1,
     )
 
+-- the label of a place that is listed
+pub label-inside : (r : Rate) (erased j symbol i symbols per : ℕ) (places : List LabelBit) (past : LabelBit) → j < encoders_of r
+    → places ≡ label_bits_to r erased j (share_of r) → i < share_of r → symbol < symbols → per ≡ labels_per_symbol r
+    → symbol * per + (slice_index_or places i past).label < symbols * labels_per_symbol r
+label-inside r erased j symbol i symbols per places past there are below within wide =
+    let is = place-is r erased j i places past are below in
+    (label-within r erased j symbol i symbols per (slice_index_or places i past) there is within wide).0
+
 -- what is known of a place is known of its coded bit in each symbol
 known-there : {V : Type 0} (known : ℕ → LabelBit → V) (r : Rate) (erased j n i : ℕ) → i < share_of r
     → known_at known r erased j (n * share_of r + i) ≡ known (n * labels_per_symbol r + (label_bit_of r erased j i).label) (label_bit_of r erased j i)

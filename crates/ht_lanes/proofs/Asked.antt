@@ -4,7 +4,7 @@ use Rattle.std.specs.Prelude.{IfNone, IfSome}
 use Rattle.std.proofs.Common.{refl, ap, ◌∙◌, sym, subst, arith}
 use Rattle.std.proofs.lemmas.Bool.{false≢true}
 use Rattle.ht_metric.specs.Jobs.{JobView}
-use Rattle.ht_lanes.specs.Lanes.{AllLead, AreOver, HasRoom, HaveRoom, OneMoreAt, SameBook, SameBooks, Side, Sides, side_of, sides_of}
+use Rattle.ht_lanes.specs.Lanes.{AllLead, AreOver, HasFewDue, HaveFewDue, OneMoreAt, SameBook, SameBooks, Side, Sides, side_of, sides_of}
 use Rattle.ht_lanes.specs.Leading.{all-on, all-one, other_number, same_number}
 
 -- what is said of an answer that is there, and of one that isn't
@@ -47,15 +47,15 @@ module _ {L : Type 0} (b c : List L) (at : ℕ) (others : (l : L) (k : ℕ) → 
     }
 
   module _ (over : L → Bool) (ended : (l : L) → over (get_or c at l) ≡ true) where
-    room_as : (due : L → List (List JobView)) (most : ℕ) → HaveRoom due over most b → (t : Bool) (l : L) (k : ℕ) → nat_eq k at ≡ t → k < length b
-        → HasRoom due over most (get_or c k l)
-    room_as due most room true l k e few going =
+    few_due_as : (due : L → List (List JobView)) (most : ℕ) → HaveFewDue due over most b → (t : Bool) (l : L) (k : ℕ) → nat_eq k at ≡ t → k < length b
+        → HasFewDue due over most (get_or c k l)
+    few_due_as due most room true l k e few going =
         absurd (false≢true (sym going ∙ (ap (λ (n : ℕ). over (get_or c n l)) (same_number at k e) ∙ ended l)))
-    room_as due most room false l k e few going =
-        subst (λ (x : L). HasRoom due over most x) (sym (others l k (other_number at k e))) (room l k few) going
+    few_due_as due most room false l k e few going =
+        subst (λ (x : L). HasFewDue due over most x) (sym (others l k (other_number at k e))) (room l k few) going
 
-    pub room_none : (due : L → List (List JobView)) (most : ℕ) → length c ≡ length b → HaveRoom due over most b → HaveRoom due over most c
-    room_none due most as_many room l k few = room_as due most room (nat_eq k at) l k refl (subst (λ (n : ℕ). k < n) as_many few)
+    pub few_due_none : (due : L → List (List JobView)) (most : ℕ) → length c ≡ length b → HaveFewDue due over most b → HaveFewDue due over most c
+    few_due_none due most as_many room l k few = few_due_as due most room (nat_eq k at) l k refl (subst (λ (n : ℕ). k < n) as_many few)
 
     over_as : (from : ℕ) → ((l : L) (k : ℕ) → from ≤ k → k < at → over (get_or b k l) ≡ true)
         → (t : Bool) (l : L) (k : ℕ) → nat_eq k at ≡ t → from ≤ k → k < at + 1 → over (get_or c k l) ≡ true

@@ -8,7 +8,7 @@ use Rattle.ht_metric.specs.Jobs.{JobView}
 use Rattle.ht_feed.specs.Items.{Numbered}
 use Rattle.ht_feed.specs.Dues.{count_in}
 use Rattle.ht_feed.specs.Feeds.{GivesBlock}
-use Rattle.ht_lanes.specs.Lanes.{AreBooked, AreFresh, DueOf, HaveNone, HaveRoom, IsBooked, IsFeed, LaneJobs, OneMoreAt, SameBooks, Within, due_at, due_of, lanes_view, most_jobs, whole_due, whole_jobs}
+use Rattle.ht_lanes.specs.Lanes.{AreBooked, AreFresh, DueOf, HaveNone, HaveFewDue, IsBooked, IsFeed, LaneJobs, OneMoreAt, SameBooks, Within, due_at, due_of, lanes_view, most_jobs, whole_due, whole_jobs}
 use Rattle.ht_lanes.specs.Leading.{other_number, same_number}
 use Rattle.ht_feed.proofs.Numbering.{are_numbered, length_numbered}
 use Rattle.ht_lanes.proofs.Numbering.{same_jobs}
@@ -99,10 +99,10 @@ not_both a false is so = refl
 not_both a true is so = absurd (false≢true (sym is ∙ so refl))
 
 module _ {L : Type 0} (due : L → List (List JobView)) (rests : L → Bool) where
-  -- so each lane has room that takes answers
-  pub have_room : (over : L → Bool) (lanes : List L) (ring : List DueOf) (most : ℕ) → IsBooked due rests lanes ring
-      → ((l : L) → rests l ≡ true → over l ≡ true) → count_in (whole_due ring) + most ≤ 4096 → HaveRoom due over most lanes
-  have_room over lanes ring most booked resting few l k within going =
+  -- so each lane that takes answers has as few jobs due
+  pub have_few_due : (over : L → Bool) (lanes : List L) (ring : List DueOf) (most : ℕ) → IsBooked due rests lanes ring
+      → ((l : L) → rests l ≡ true → over l ≡ true) → count_in (whole_due ring) + most ≤ 4096 → HaveFewDue due over most lanes
+  have_few_due over lanes ring most booked resting few l k within going =
       let x = get_or lanes k l in
       let takes = not_both (over x) (rests x) going (resting x) in
       let is = ap count_in (booked.booked l k within takes) in

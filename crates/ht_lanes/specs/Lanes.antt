@@ -129,11 +129,11 @@ AreFinished {L = L} finished rests lanes = (l : L) (k : ℕ) → k < length lane
 -- these blocks of a lane are due
 module _ {L : Type 0} (due : L → List (List JobView)) (over : L → Bool) where
   -- a lane is over, or may give as many jobs as are asked for
-  abbrev pub HasRoom : ℕ → L → Type 0
-  HasRoom most l = over l ≡ false → count_in (due l) + most ≤ 4096
+  abbrev pub HasFewDue : ℕ → L → Type 0
+  HasFewDue most l = over l ≡ false → count_in (due l) + most ≤ 4096
 
-  abbrev pub HaveRoom : ℕ → List L → Type 0
-  HaveRoom most lanes = (l : L) (k : ℕ) → k < length lanes → HasRoom most (slice_index_or lanes k l)
+  abbrev pub HaveFewDue : ℕ → List L → Type 0
+  HaveFewDue most lanes = (l : L) (k : ℕ) → k < length lanes → HasFewDue most (slice_index_or lanes k l)
 
 -- a lane that rests takes no answers any more
 module _ {L : Type 0} (due : L → List (List JobView)) (rests : L → Bool) where

@@ -1,6 +1,6 @@
 //! Lanes are asked for a block.
 ghost use Rattle.std.specs.Prelude.{◌≡◌, ◌≢◌, ◌+◌, ◌^◌, ◌<◌, ◌≤◌, ℕ, List, [], ◌∷◌, ◌++◌, true, length, slice_index_or, IfNone, IfOk, IfSome, OnErr};
-ghost use Rattle.ht_lanes.specs.Lanes.{AllLead, HasRoom, HaveRoom, OneLeads, OneMoreAt, SameBook, SameBooks, side_of, sides_of};
+ghost use Rattle.ht_lanes.specs.Lanes.{AllLead, HasFewDue, HaveFewDue, OneLeads, OneMoreAt, SameBook, SameBooks, side_of, sides_of};
 
 use crate::lane::Lane;
 use crate::lane_block::LaneBlock;
@@ -15,7 +15,7 @@ fn ask<L: Lane<S, K>, S, K>(
 ) -> Result<Option<LaneBlock<L::Block>>, AllocError>
     requires some { 1 ≤ most }
     requires bound { first + most < 2 ^ 64 }
-    requires room { HasRoom L.due L.over most lane.old }
+    requires few_due { HasFewDue L.due L.over most lane.old }
     ensures due { IfOk result (λ given. IfSome given (λ block. L.due lane.new ≡ L.due lane.old ++ block.jobs ∷ [])) }
     ensures first { IfOk result (λ given. IfSome given (λ block. block.first ≡ first)) }
     ensures some { IfOk result (λ given. IfSome given (λ block. 1 ≤ length block.jobs)) }
@@ -49,7 +49,7 @@ fn ask_at<L: Lane<S, K>, S, K>(
     requires source { at < length sources.old }
     requires some { 1 ≤ most }
     requires bound { first + most < 2 ^ 64 }
-    requires room { (l : L) → HasRoom L.due L.over most (slice_index_or lanes.old at l) }
+    requires few_due { (l : L) → HasFewDue L.due L.over most (slice_index_or lanes.old at l) }
     ensures due { IfOk result (λ given. IfSome given (λ block. (l : L)
         → L.due (slice_index_or lanes.new at l) ≡ L.due (slice_index_or lanes.old at l) ++ block.jobs ∷ [])) }
     ensures first { IfOk result (λ given. IfSome given (λ block. block.first ≡ first)) }
@@ -80,7 +80,7 @@ pub(crate) fn ask_from<L: Lane<S, K>, S, K>(
     requires pairs { length sources.old ≡ length lanes.old }
     requires some { 1 ≤ most }
     requires bound { first + most < 2 ^ 64 }
-    requires room { HaveRoom L.due L.over most lanes.old }
+    requires few_due { HaveFewDue L.due L.over most lanes.old }
     ensures lane { IfOk result (λ given. IfSome given (λ asked. asked.0 < length lanes.old)) }
     ensures due { IfOk result (λ given. IfSome given (λ asked. OneMoreAt L.due L.rests lanes.old lanes.new asked.0 asked.1.jobs)) }
     ensures first { IfOk result (λ given. IfSome given (λ asked. asked.1.first ≡ first)) }

@@ -27,7 +27,7 @@ pub(crate) fn give<L: Lane<S, K>, S, K>(
     requires booked { IsBooked L.due L.rests lanes.old due.old.items }
     requires some { 1 ≤ most }
     requires bound { first + most < 2 ^ 64 }
-    requires room { count_in (whole_due due.old.items) + most ≤ 4096 }
+    requires few_due { count_in (whole_due due.old.items) + most ≤ 4096 }
     ensures lane { IfOk result (λ given. IfSome given (λ asked. asked.0 < length lanes.old)) }
     ensures due { IfOk result (λ given. IfSome given (λ asked. due.new.items ≡ due.old.items ++ due_of asked.0 asked.1 ∷ [])) }
     ensures first { IfOk result (λ given. IfSome given (λ asked. asked.1.first ≡ first)) }
@@ -63,7 +63,7 @@ fn give_from<L: Lane<S, K>, S, K>(
     requires booked { IsBooked L.due L.rests lanes.old due.old.items }
     requires some { 1 ≤ most }
     requires bound { first + most < 2 ^ 64 }
-    requires room { count_in (whole_due due.old.items) + most ≤ 4096 }
+    requires few_due { count_in (whole_due due.old.items) + most ≤ 4096 }
     requires space { length due.old.items < due.old.capacity }
     ensures lane { IfOk result (λ given. IfSome given (λ asked. asked.0 < length lanes.old)) }
     ensures due { IfOk result (λ given. IfSome given (λ asked. due.new.items ≡ due.old.items ++ due_of asked.0 asked.1 ∷ [])) }

@@ -57,7 +57,7 @@ pub trait Lane<S, K> {
     fn next(&mut self, most: u16, source: &mut S) -> Result<Option<Self::Block>, AllocError>
         requires going { over self.old ≡ false }
         requires some { 1 ≤ most }
-        requires room { count_in (due self.old) + most ≤ 4096 }
+        requires few_due { count_in (due self.old) + most ≤ 4096 }
         ensures due { IfOk result (λ given. IfSome given (λ block. due self.new ≡ due self.old ++ Self.Block.jobs block ∷ [])) }
         ensures numbers { IfOk result (λ given. IfSome given (λ block. Numbered (count self.old) (Self.Block.jobs block))) }
         ensures some { IfOk result (λ given. IfSome given (λ block. 1 ≤ length (Self.Block.jobs block))) }
@@ -65,6 +65,7 @@ pub trait Lane<S, K> {
         ensures none { IfOk result (λ given. IfNone given (due self.new ≡ due self.old)) }
         ensures over { IfOk result (λ given. IfNone given (over self.new ≡ true)) }
         ensures memory { OnErr result (due self.new ≡ due self.old) }
+        ensures unread { OnErr result (source.new ≡ source.old) }
         ensures rests { rests self.new ≡ rests self.old }
         ensures leads { (sink : K) → leads (side_of self.old source.old sink) (side_of self.new source.new sink) };
 

@@ -3,7 +3,7 @@ ghost use Rattle.std.specs.Prelude.{◌≡◌, ◌+◌, ◌^◌, ◌<◌, ◌≤
 ghost use Rattle.ht_feed.specs.Items.{Numbered};
 ghost use Rattle.ht_lanes.specs.Lanes.{lane_jobs, whole_jobs};
 
-use ht_feed::{Jobs, Shared};
+use ht_feed::{InFrame, Jobs, Shared};
 use ht_metric::{Job, Place};
 use std::marker::Model;
 
@@ -78,6 +78,14 @@ impl<B: Jobs> Jobs for LaneBlock<B> {
             *job.grid(),
             *job.system(),
         )
+    }
+}
+
+impl<B: InFrame> InFrame for LaneBlock<B> {
+    type Head = B::Head;
+
+    fn head(&self) -> &B::Head {
+        self.block.head()
     }
 }
 

@@ -1,29 +1,28 @@
 -- How the octets of a capture lead to its first frame, to the next head and to the next symbol, and why they don't.
-use Rattle.std.proofs.Common.{◌≡◌, ℕ, ◌+◌, ◌-◌, ◌*◌, ◌<◌, ◌≤◌, List, [], ◌∷◌, ◌++◌, length, refl, sym, ap, subst, arith}
+use Rattle.std.proofs.Common.{◌≡◌, ℕ, ◌+◌, ◌-◌, ◌*◌, ◌<◌, ◌≤◌, List, [], ◌∷◌, ◌++◌, length, refl, sym, subst, arith}
 use Rattle.byteorder.specs.Endian.{big_bytes}
 use Rattle.ht_io.specs.Devices.{Device, Takes, IsLater}
 use Rattle.ht_io.specs.declared.faults.InFault.{InFault}
-use Rattle.ht_io.specs.declared.faults.Kind.TheVariants.{BadLength, BadMcs}
-use Rattle.ht_fields.specs.Lacking.{FailsBehind, FailsField, LacksField}
+use Rattle.ht_fields.specs.Lacking.{LacksField}
 use Rattle.ht_fields.specs.Readers.{Gives, reader_in}
-use Rattle.ht_fields.specs.Tests.{is_above}
 use Rattle.ht_fields.specs.WholeFiles.{Halts}
-use Rattle.ht_fields.proofs.Halting.{behind_halts, fails_halts, gives_halts, judges_checked, lacks_halts}
+use Rattle.ht_fields.proofs.Halting.{gives_halts, lacks_halts}
 use Rattle.ht_fields.proofs.Readers.{field_is, width_is}
 use Rattle.ht_fields.proofs.Routes.{Route, route_field, route_from, route_gives, route_then}
 use Rattle.ht_clause18.specs.declared.rates.LegacyRate.{LegacyRate}
 use Rattle.ht_clause18.specs.Carriers.{carriers}
 use Rattle.ht_clause18.specs.Rates.{index_of, symbols_of}
-use Rattle.ht_heads.specs.Starts.{Body, StartedFails, is_outside, started_octets}
+use Rattle.ht_heads.specs.Starts.{StartedFails, started_octets}
 use Rattle.ht_heads.proofs.Started.{started_halts}
-use Rattle.ht_counted.specs.Counted.{counted_format}
-use Rattle.ht_counted.proofs.Counting.{entry_is, route_start}
-use Rattle.ht_legacy_files.specs.Formats.{frame_limits, length_limits}
-use Rattle.ht_legacy_captures.specs.Formats.{Index, Length, Diagonals, Samples, captured, captures, captures_due, captures_magic, symbols_due}
-use Rattle.ht_legacy_captures.specs.Formats.{good_diagonals, good_index, good_length, good_samples}
+use Rattle.ht_counted.specs.Counted.{counted_format, frame_limits}
+use Rattle.ht_counted.proofs.Counting.{route_start}
+use Rattle.ht_legacy_files.specs.HeadedFormats.{behind_head, headed}
+use Rattle.ht_legacy_files.proofs.HeadRoutes.{route_head}
+use Rattle.ht_legacy_captures.specs.Formats.{Diagonals, Samples, captured, captures, captures_due, captures_magic, symbols_due}
+use Rattle.ht_legacy_captures.specs.Formats.{good_diagonals, good_samples}
 use Rattle.ht_legacy_captures.specs.Items.{LegacyHead, Begins, Symbol}
 use Rattle.ht_legacy_blocks.specs.Jobs.{diagonals_of, samples_of}
-use Rattle.ht_legacy_captures.proofs.Routes.{State, route_length, route_rate, symbol_is}
+use Rattle.ht_legacy_captures.proofs.Routes.{State, symbol_is}
 
 -- what stands in front of the frames
 length_start : (count : ℕ) → 7 ≡ 0 + length (started_octets captures_magic 2 count)
@@ -34,11 +33,11 @@ pub start_gives : (count : ℕ) (source after : Device ℕ) → count ≤ 65535 
     → Gives (reader_in captures captures.start 0 source) (reader_in captures (captures_due count) 7 after) []
 start_gives count source after few taken =
     route_gives captures captures.start (captures_due count) (started_octets captures_magic 2 count) [] 0 7 source after
-    (route_start captured count (record { some = omega arith; small = omega (arith, few); least = omega arith; most = few })) (length_start count) taken
+    (route_start (headed captured) count (record { some = omega arith; small = omega (arith, few); least = omega arith; most = few })) (length_start count) taken
 
 pub start_halts : (source after : Device ℕ) (fault : InFault) → StartedFails captures_magic frame_limits source after fault
     → Halts (reader_in captures captures.start 0 source) after fault
-start_halts source after fault fails = started_halts (counted_format captured) source after fault (omega arith) (λ e. cc, λ e. cc) fails
+start_halts source after fault fails = started_halts (counted_format (headed captured)) source after fault (omega arith) (λ e. cc, λ e. cc) fails
 
 -- what stands in front of the symbols of a frame
 abbrev pub front_octets : LegacyRate → ℕ → List ℕ → List ℕ
@@ -51,10 +50,10 @@ route_front : (left : ℕ) (r : LegacyRate) (len : ℕ) (octets : List ℕ) → 
     → Route captures (captures_due left) (symbols_due left (symbols_of r len)) (front_octets r len octets) (Begins (head_read r len octets) ∷ [])
 unfolding good_diagonals diagonals_of
 route_front left r len octets left_some some few wide =
-    let s : State = Body (Diagonals left r len) in
+    let s : State = behind_head (Diagonals left r len) in
     let t : State = symbols_due left (symbols_of r len) in
     route_then captures (captures_due left) s t (index_of r ∷ big_bytes 2 len) octets [] (Begins (head_read r len octets) ∷ [])
-    (route_length left r len left_some some few)
+    (route_head captured left r len left_some some few)
     (route_field captures s t octets (Begins (head_read r len octets) ∷ [])
     (field_is (carriers * 2) (good_diagonals left r len) octets _ (omega arith) wide refl))
 
@@ -62,38 +61,23 @@ route_samples : (left n : ℕ) (octets : List ℕ) → 0 < n → length octets �
     → Route captures (symbols_due left n) (symbols_due left (n - 1)) octets (Symbol (samples_of octets) ∷ [])
 unfolding good_samples samples_of
 route_samples left n octets some wide =
-    route_from captures (symbols_due left n) (Body (Samples left n)) (symbols_due left (n - 1)) octets (Symbol (samples_of octets) ∷ [])
+    route_from captures (symbols_due left n) (behind_head (Samples left n)) (symbols_due left (n - 1)) octets (Symbol (samples_of octets) ∷ [])
     (symbol_is left n some)
-    (route_field captures (Body (Samples left n)) (symbols_due left (n - 1)) octets (Symbol (samples_of octets) ∷ [])
+    (route_field captures (behind_head (Samples left n)) (symbols_due left (n - 1)) octets (Symbol (samples_of octets) ∷ [])
     (field_is (carriers * 8) (good_samples left n) octets _ (omega arith) wide refl))
 
-module _ (left at : ℕ) (source after : Device ℕ) (fault : InFault) (some : 0 < left) where
-  pub rate_halts : FailsField 1 BadMcs (is_above 7) at source after fault → Halts (reader_in captures (captures_due left) at source) after fault
-  rate_halts fails =
-      fails_halts captures (captures_due left) at 1 BadMcs (is_above 7) source after fault
-      (judges_checked captures (captures_due left) 1 BadMcs (is_above 7) (good_index left)
-      (ap captures.due (entry_is Index left some)) (omega arith) (λ e. cc, λ e. cc))
-      fails
-
-  pub length_halts : (r : LegacyRate) → FailsBehind (index_of r ∷ []) 2 BadLength (is_outside length_limits) at source after fault
-      → Halts (reader_in captures (captures_due left) at source) after fault
-  length_halts r fails =
-      behind_halts captures (captures_due left) (Body (Length left r)) (index_of r ∷ []) at 2 BadLength (is_outside length_limits) source after fault
-      (route_rate left r some)
-      (judges_checked captures (Body (Length left r)) 2 BadLength (is_outside length_limits) (good_length left r) refl (omega arith) (λ e. cc, λ e. cc)) fails
-
-  -- the diagonals did not come whole
-  pub diagonals_halts : (r : LegacyRate) (len width : ℕ) (between : Device ℕ) → 1 ≤ len → len ≤ 4095 → width ≡ 104
-      → Takes source between (index_of r ∷ big_bytes 2 len) → IsLater source between → LacksField width (at + 3) between after fault
-      → Halts (reader_in captures (captures_due left) at source) after fault
-  diagonals_halts r len width between least most wide taken later lacks =
-      let s : State = Body (Diagonals left r len) in
-      let place : at + 3 ≡ at + length (index_of r ∷ big_bytes 2 len) = refl in
-      gives_halts (reader_in captures (captures_due left) at source) (reader_in captures s (at + 3) between) after fault
-      (route_gives captures (captures_due left) s (index_of r ∷ big_bytes 2 len) [] at (at + 3) source between
-      (route_length left r len some least most) place taken) later
-      (lacks_halts captures s (at + 3) 104 between after fault (width_is 104 (good_diagonals left r len) (omega arith))
-      (subst (λ n. LacksField n (at + 3) between after fault) wide lacks))
+-- the diagonals did not come whole
+pub diagonals_halts : (left at : ℕ) (source after : Device ℕ) (fault : InFault) (r : LegacyRate) (len width : ℕ) (between : Device ℕ) → 0 < left → 1 ≤ len → len ≤ 4095 → width ≡ 104
+    → Takes source between (index_of r ∷ big_bytes 2 len) → IsLater source between → LacksField width (at + 3) between after fault
+    → Halts (reader_in captures (captures_due left) at source) after fault
+diagonals_halts left at source after fault r len width between some least most wide taken later lacks =
+    let s : State = behind_head (Diagonals left r len) in
+    let place : at + 3 ≡ at + length (index_of r ∷ big_bytes 2 len) = refl in
+    gives_halts (reader_in captures (captures_due left) at source) (reader_in captures s (at + 3) between) after fault
+    (route_gives captures (captures_due left) s (index_of r ∷ big_bytes 2 len) [] at (at + 3) source between
+    (route_head captured left r len some least most) place taken) later
+    (lacks_halts captures s (at + 3) 104 between after fault (width_is 104 (good_diagonals left r len) (omega arith))
+    (subst (λ n. LacksField n (at + 3) between after fault) wide lacks))
 
 pub front_gives : (left at : ℕ) (source after : Device ℕ) (r : LegacyRate) (len : ℕ) (octets : List ℕ) → 0 < left → 1 ≤ len → len ≤ 4095
     → length octets ≡ 104 → Takes source after (front_octets r len octets)
@@ -117,5 +101,5 @@ pub samples_halts : (left n at width : ℕ) (source after : Device ℕ) (fault :
     → Halts (reader_in captures (symbols_due left n) at source) after fault
 samples_halts left n at width source after fault some wide lacks =
     subst (λ (s : State). Halts (reader_in captures s at source) after fault) (sym (symbol_is left n some))
-    (lacks_halts captures (Body (Samples left n)) at 416 source after fault (width_is 416 (good_samples left n) (omega arith))
+    (lacks_halts captures (behind_head (Samples left n)) at 416 source after fault (width_is 416 (good_samples left n) (omega arith))
     (subst (λ k. LacksField k at source after fault) wide lacks))

@@ -21,7 +21,8 @@ use Rattle.ht_feed.specs.Items.{Item, Begins, One, Numbered}
 use Rattle.ht_feed.specs.Reading.{Completes, Counts, CountsCame, GivesCame, Halts}
 use Rattle.ht_heads.specs.Starts.{Over}
 use Rattle.ht_counted.proofs.Counting.{over_is}
-use Rattle.ht_legacy_captures.specs.Formats.{Index, captures, captures_due, symbols_due}
+use Rattle.ht_legacy_files.specs.HeadedFormats.{Index}
+use Rattle.ht_legacy_captures.specs.Formats.{captures, captures_due, symbols_due}
 use Rattle.ht_legacy_captures.specs.Items.{LegacyHead, LegacyItem, Begins as BeginsFrame, Symbol}
 use Rattle.ht_legacy_captures.proofs.Routes.{State, behind_is}
 use Rattle.ht_legacy_blocks.specs.declared.head.LegacyFrameHead.{LegacyFrameHead}

@@ -10,9 +10,9 @@ ghost use Rattle.ht_legacy_blocks.specs.Jobs.{diagonals_of};
 
 use crate::symbol::DIAGONALS;
 use ht_clause18::LegacyRate;
+use ht_counted::frame_limits;
 use ht_fields::fill;
-use ht_heads::Limits;
-use ht_io::{InFault, Kind, Source};
+use ht_io::{InFault, Source};
 use ht_legacy_files::{length, rate};
 
 /// What stands in front of a frame's symbols.
@@ -33,13 +33,7 @@ pub fn start<S: Source>(source: &mut S) -> Result<u16, InFault>
         (Halts (reader_in captures captures.start 0 (S.shown source.old)) (S.shown source.new)) }
     ensures later { IsLater (S.shown source.old) (S.shown source.new) }
 {
-    let limits = Limits {
-        width: 2,
-        least: 0,
-        most: 65535,
-        kind: Kind::BadLength,
-    };
-    match ht_heads::start(source, b"LGCP", &limits) {
+    match ht_heads::start(source, b"LGCP", &frame_limits()) {
         Ok(count) => Ok(count as u16),
         Err(fault) => Err(fault),
     }

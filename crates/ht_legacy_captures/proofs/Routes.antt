@@ -4,13 +4,11 @@ use Rattle.std.proofs.Common.{nat_eq, true, false, refl, sym, ap, ◌∙◌, ari
 use Rattle.std.proofs.lemmas.Bool.Decides.{nat_tests}
 use Rattle.std.proofs.lemmas.List.{length-drop, length-take-le}
 use Rattle.std.proofs.lemmas.List.Elements.{All-head, All-tail}
-use Rattle.byteorder.specs.Endian.{big_bytes, big_number}
+use Rattle.byteorder.specs.Endian.{big_bytes}
 use Rattle.byteorder.specs.Numbers.{big_number-reads_back}
-use Rattle.ht_io.specs.declared.faults.Kind.TheVariants.{BadLength, BadMcs}
 use Rattle.ht_fields.specs.Cases.{IsFile}
 use Rattle.ht_fields.specs.Grammar.{Verdict, Good}
-use Rattle.ht_fields.specs.Tests.{is_above}
-use Rattle.ht_fields.proofs.Choices.{when_true, when_false, checked_good}
+use Rattle.ht_fields.proofs.Choices.{when_true, when_false}
 use Rattle.ht_fields.proofs.Putting.{map_split}
 use Rattle.ht_fields.proofs.Readers.{field_is}
 use Rattle.ht_fields.proofs.Routes.{Route, route_as, route_field, route_from, route_none, route_then, route_to}
@@ -19,58 +17,26 @@ use Rattle.ht_capture.specs.Contents.{AreSamples}
 use Rattle.ht_capture.specs.Files.{sample_octets}
 use Rattle.ht_capture.proofs.Decoded.{length-samples, sample_read}
 use Rattle.ht_capture.proofs.Filed.{samples_before, samples_behind}
-use Rattle.ht_clause18.specs.declared.rates.LegacyRate.{LegacyRate}
 use Rattle.ht_clause18.specs.Carriers.{carriers}
 use Rattle.ht_clause18.specs.Rates.{index_of, symbols_of}
-use Rattle.ht_heads.specs.Starts.{StartState, Body, is_outside}
-use Rattle.ht_heads.proofs.Leading.{not_above}
-use Rattle.ht_heads.proofs.Started.{inside}
-use Rattle.ht_counted.proofs.Counting.{entry_is, file_written}
-use Rattle.ht_legacy_files.specs.Formats.{length_limits}
-use Rattle.ht_legacy_files.proofs.Routes.{is_count, low_index, rate_back}
-use Rattle.ht_legacy_captures.specs.Formats.{CaptureState, Index, Length, Diagonals, Samples, captured, captures, captures_due}
-use Rattle.ht_legacy_captures.specs.Formats.{good_diagonals, good_index, good_length, good_samples, numbers_from, samples_from, symbols_due}
+use Rattle.ht_counted.proofs.Counting.{file_written, is_count}
+use Rattle.ht_legacy_files.specs.HeadedFormats.{HeadState, behind_head, headed}
+use Rattle.ht_legacy_files.proofs.HeadRoutes.{route_head as route_front}
+use Rattle.ht_legacy_captures.specs.Formats.{CaptureBody, Diagonals, Samples, captured, captures, captures_due}
+use Rattle.ht_legacy_captures.specs.Formats.{good_diagonals, good_samples, numbers_from, samples_from, symbols_due}
 use Rattle.ht_legacy_captures.specs.Files.{AreCaptures, IsCapture, LegacyCapture, capture_items, capture_octets, captures_file_of, head_octets, items_of, symbols_from}
 use Rattle.ht_legacy_captures.specs.Items.{LegacyHead, LegacyItem, Begins, Symbol}
 
 abbrev pub State : Type 0
-State = StartState CaptureState
+State = HeadState CaptureBody
 
-pub symbol_is : (left n : ℕ) → 0 < n → symbols_due left n ≡ Body (Samples left n)
+pub symbol_is : (left n : ℕ) → 0 < n → symbols_due left n ≡ behind_head (Samples left n)
 unfolding symbols_due
 symbol_is left n some = let t : nat_eq n 0 ≡ false = grind (arith, nat_tests) in when_false _ _ _ t
 
 pub behind_is : (left n : ℕ) → n ≡ 0 → symbols_due left n ≡ captures_due (left - 1)
 unfolding symbols_due
 behind_is left n none = let t : nat_eq n 0 ≡ true = grind (arith, nat_tests) in when_true _ _ _ t
-
--- the index of a rate
-pub route_rate : (left : ℕ) (r : LegacyRate) → 0 < left → Route captures (captures_due left) (Body (Length left r)) (index_of r ∷ []) []
-unfolding good_index
-route_rate left r some =
-    let state : LegacyRate → Verdict State LegacyItem = λ q. Good (Body (Length left q)) [] in
-    route_from captures (captures_due left) (Body (Index left)) (Body (Length left r)) (index_of r ∷ []) [] (entry_is Index left some)
-    (route_field captures (Body (Index left)) (Body (Length left r)) (index_of r ∷ []) [] (
-      refl,
-      checked_good BadMcs (is_above 7) (good_index left) (index_of r ∷ []) _ (not_above (index_of r) 7 (low_index r)) (ap state (rate_back r)),
-    ))
-
--- the number of octets
-length_is : (left : ℕ) (r : LegacyRate) (octets : List ℕ) (len : ℕ) → big_number 2 octets ≡ len
-    → good_length left r octets ≡ Good (Body (Diagonals left r len)) []
-unfolding good_length
-length_is left r octets len is = ap (λ (n : ℕ). let v : Verdict State LegacyItem = Good (Body (Diagonals left r n)) [] in v) is
-
-pub route_length : (left : ℕ) (r : LegacyRate) (len : ℕ) → 0 < left → 1 ≤ len → len ≤ 4095
-    → Route captures (captures_due left) (Body (Diagonals left r len)) (index_of r ∷ big_bytes 2 len) []
-route_length left r len left_some some few =
-    let octets = big_bytes 2 len in
-    let small : len < 256 ^ 2 = omega (arith, few) in
-    let back : big_number 2 octets ≡ len = big_number-reads_back 2 len [] small in
-    let pass : is_outside length_limits octets ≡ false = inside length_limits octets len back some few in
-    route_then captures (captures_due left) (Body (Length left r)) (Body (Diagonals left r len)) (index_of r ∷ []) octets [] [] (route_rate left r left_some)
-    (route_field captures (Body (Length left r)) (Body (Diagonals left r len)) octets []
-    (refl, checked_good BadLength (is_outside length_limits) (good_length left r) octets _ pass (length_is left r octets len back)))
 
 -- numbers of two octets that were written
 length-numbers : (ds : List ℕ) → length (flat_map (big_bytes 2) ds) ≡ length ds * 2
@@ -110,12 +76,12 @@ route_head : (left : ℕ) (h : LegacyHead) → 0 < left → 1 ≤ h.length → h
     → Route captures (captures_due left) (symbols_due left (symbols_of h.rate h.length)) (head_octets h) (Begins h ∷ [])
 unfolding head_octets
 route_head left h left_some some few count small =
-    let s : State = Body (Diagonals left h.rate h.length) in
+    let s : State = behind_head (Diagonals left h.rate h.length) in
     let t : State = symbols_due left (symbols_of h.rate h.length) in
     let octets : List ℕ = flat_map (big_bytes 2) h.diagonals in
     let wide : length octets ≡ carriers * 2 = length-numbers h.diagonals ∙ ap (λ n. n * 2) count in
     route_then captures (captures_due left) s t (index_of h.rate ∷ big_bytes 2 h.length) octets [] (Begins h ∷ [])
-    (route_length left h.rate h.length left_some some few)
+    (route_front captured left h.rate h.length left_some some few)
     (route_field captures s t octets (Begins h ∷ [])
     (field_is (carriers * 2) (good_diagonals left h.rate h.length) octets _ (omega arith) wide (head_is left h count small)))
 
@@ -133,8 +99,8 @@ route_symbol : (left n : ℕ) (ss : List Sample) → 0 < n → length ss ≡ car
 route_symbol left n ss some count typed =
     let octets : List ℕ = flat_map sample_octets ss in
     let wide : length octets ≡ carriers * 8 = omega (arith, length-samples ss, count) in
-    route_from captures (symbols_due left n) (Body (Samples left n)) (symbols_due left (n - 1)) octets (Symbol ss ∷ []) (symbol_is left n some)
-    (route_field captures (Body (Samples left n)) (symbols_due left (n - 1)) octets (Symbol ss ∷ [])
+    route_from captures (symbols_due left n) (behind_head (Samples left n)) (symbols_due left (n - 1)) octets (Symbol ss ∷ []) (symbol_is left n some)
+    (route_field captures (behind_head (Samples left n)) (symbols_due left (n - 1)) octets (Symbol ss ∷ [])
     (field_is (carriers * 8) (good_samples left n) octets _ (omega arith) wide (symbol_read left n ss count typed)))
 
 no_samples : (ss : List Sample) → length ss ≡ 0 → ss ≡ []
@@ -172,4 +138,4 @@ route_capture left c some is =
 
 pub captures_written : (cs : List LegacyCapture) → AreCaptures cs → IsFile captures (captures_file_of cs) (items_of cs)
 unfolding captures_file_of
-captures_written = file_written captured capture_octets capture_items IsCapture is_count route_capture
+captures_written = file_written (headed captured) capture_octets capture_items IsCapture is_count route_capture

@@ -6,8 +6,7 @@ use Rattle.ht_capture.specs.Contents.{AreSamples}
 use Rattle.ht_capture.specs.Files.{sample_octets}
 use Rattle.ht_clause18.specs.Carriers.{carriers}
 use Rattle.ht_clause18.specs.Rates.{index_of, symbols_of}
-use Rattle.ht_counted.specs.Counted.{AreCounted, counted_octets}
-use Rattle.ht_legacy_files.specs.Formats.{frame_limits}
+use Rattle.ht_counted.specs.Counted.{AreCounted, counted_octets, frame_limits}
 use Rattle.ht_legacy_captures.specs.Formats.{captures_magic}
 use Rattle.ht_legacy_captures.specs.Items.{LegacyHead, LegacyItem, Begins, Symbol}
 

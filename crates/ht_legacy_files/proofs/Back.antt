@@ -11,19 +11,20 @@ use Rattle.ht_scramble.specs.Sequence.{IsSeed}
 use Rattle.ht_clause18.specs.declared.rates.LegacyRate.{LegacyRate}
 use Rattle.ht_clause18.specs.Frames.{LegacyFrameView}
 use Rattle.ht_clause18.specs.Rates.{index_of}
-use Rattle.ht_heads.specs.Starts.{StartState, Body, is_outside}
+use Rattle.ht_heads.specs.Starts.{Body, is_outside}
 use Rattle.ht_heads.proofs.Counts.{bytes_back_as}
 use Rattle.ht_counted.specs.Seeds.{is_no_seed}
 use Rattle.ht_counted.proofs.Back.{Wrote, entries_back, of_file, wrote_as}
 use Rattle.ht_counted.proofs.Passing.{at_most, passed, same_good, single, within}
 use Rattle.ht_counted.proofs.Seeded.{seed_passed}
-use Rattle.ht_legacy_files.specs.Formats.{FrameState, Index, Length, Seed, Octets, framed, frames, frames_due, length_limits}
-use Rattle.ht_legacy_files.specs.Formats.{good_index, good_length, good_octets, good_seed, rate_at}
+use Rattle.ht_legacy_files.specs.HeadedFormats.{HeadBody, HeadState, Index, Length, Behind, behind_head, frames_due, good_index, good_length}
+use Rattle.ht_legacy_files.specs.HeadedFormats.{headed, length_limits, rate_at}
+use Rattle.ht_legacy_files.specs.Formats.{FrameState, Seed, Octets, framed, frames, good_octets, good_seed}
 use Rattle.ht_legacy_files.specs.Files.{AreFrames, IsFrame, frames_file_of, frame_octets}
 use Rattle.ht_legacy_files.proofs.Routes.{are_counted}
 
 abbrev State : Type 0
-State = StartState FrameState
+State = HeadState FrameState
 
 index_back : (n : ℕ) → n ≤ 7 → index_of (rate_at n) ≡ n
 index_back zero le = refl
@@ -51,21 +52,21 @@ abbrev SeedTail : ℕ → LegacyRate → ℕ → List ℕ → Type 0
 SeedTail left r len octets = (seed : ℕ) × (rest : List ℕ) × (octets ≡ seed ∷ rest) × IsSeed seed × OctetsTail left r len seed rest
 
 -- what is written from a state within a frame on
-abbrev FromBody : FrameState → List ℕ → Type 0
+abbrev FromBody : HeadBody FrameState → List ℕ → Type 0
 FromBody (Index left) octets = HasTail left frame_octets (λ f. Unit {0}) octets
 FromBody (Length left r) octets = HasTail left (λ f. big_bytes 2 (length f.octets) ++ (f.seed ∷ f.octets)) (λ f. f.rate ≡ r) octets
-FromBody (Seed left r len) octets = SeedTail left r len octets
-FromBody (Octets left r len seed) octets = OctetsTail left r len seed octets
+FromBody (Behind (Seed left r len)) octets = SeedTail left r len octets
+FromBody (Behind (Octets left r len seed)) octets = OctetsTail left r len seed octets
 
 -- and from any state
 abbrev From : State → List ℕ → Type 0
-From = Wrote framed frame_octets IsFrame FromBody
+From = Wrote (headed framed) frame_octets IsFrame FromBody
 
 first_back : (left : ℕ) (octets : List ℕ) → FromBody (Index left) octets → HasTail left frame_octets (λ f. Unit {0}) octets
 first_back left octets t = t
 
 as_state : (s t : State) (rest : List ℕ) → s ≡ t → From t rest → From s rest
-as_state = wrote_as framed frame_octets IsFrame FromBody
+as_state = wrote_as (headed framed) frame_octets IsFrame FromBody
 
 index_written : (left index : ℕ) (x rest : List ℕ) → x ≡ index ∷ [] → index ≤ 7 → FromBody (Length left (rate_at index)) rest
     → FromBody (Index left) (x ++ rest)
@@ -100,39 +101,41 @@ length_written left len r x rest wide bytes is low high (seed, later, begins, se
     )
 
 -- each good field within a frame
-body_back : (b : FrameState) (next : State) (x : List ℕ) (here : List LegacyFrameView) (rest : List ℕ) → AreBytes x
-    → IsField (framed.due b) x (Good next here) → From next rest → FromBody b (x ++ rest)
+body_back : (b : HeadBody FrameState) (next : State) (x : List ℕ) (here : List LegacyFrameView) (rest : List ℕ) → AreBytes x
+    → IsField ((headed framed).due b) x (Good next here) → From next rest → FromBody b (x ++ rest)
 unfolding good_index good_length good_seed good_octets
 body_back (Index left) next x here rest bytes good w =
     let p = passed BadMcs (is_above 7) (good_index left) x next here good.1 in
     let state : State = Body (Length left (rate_at (octet_of x))) in
     index_written left (octet_of x) x rest (single x good.0) (at_most 7 (octet_of x) p.0) (as_state state next rest (same_good state next [] here p.1).0 w)
 body_back (Length left r) next x here rest bytes good w =
-    let p = passed BadLength (is_outside length_limits) (good_length left r) x next here good.1 in
-    let state : State = Body (Seed left r (big_number 2 x)) in
+    let p = passed BadLength (is_outside length_limits) (good_length framed left r) x next here good.1 in
+    let state : State = behind_head (Seed left r (big_number 2 x)) in
     let range = within length_limits x p.0 in
     length_written left (big_number 2 x) r x rest good.0 bytes refl range.0 range.1 (as_state state next rest (same_good state next [] here p.1).0 w)
-body_back (Seed left r len) next x here rest bytes good w =
+body_back (Behind (Seed left r len)) next x here rest bytes good w =
     let p = passed BadSeed is_no_seed (good_seed left r len) x next here good.1 in
-    let state : State = Body (Octets left r len (octet_of x)) in (
+    let state : State = behind_head (Octets left r len (octet_of x)) in (
       octet_of x,
       rest,
       ap (λ (z : List ℕ). z ++ rest) (single x good.0),
       seed_passed x p.0,
       as_state state next rest (same_good state next [] here p.1).0 w,
     )
-body_back (Octets left r len seed) next x here rest bytes good w =
+body_back (Behind (Octets left r len seed)) next x here rest bytes good w =
     let f : LegacyFrameView = record { rate = r; seed = seed; octets = x } in
-    let t = entries_back framed frame_octets IsFrame FromBody first_back (left - 1) rest (as_state (frames_due (left - 1)) next rest (same_good (frames_due (left - 1)) next (f ∷ []) here good.1).0 w) in
+    let state : State = frames_due (left - 1) in
+    let t = entries_back (headed framed) frame_octets IsFrame FromBody first_back (left - 1) rest
+    (as_state state next rest (same_good state next (f ∷ []) here good.1).0 w) in
     (x, t.0, ap (λ (z : List ℕ). x ++ z) t.1, good.0, t.2, t.3)
 
-no_end : (b : FrameState) → IsEnd (framed.due b) → ⊥
+no_end : (b : HeadBody FrameState) → IsEnd ((headed framed).due b) → ⊥
 no_end (Index left) e = e
 no_end (Length left r) e = e
-no_end (Seed left r len) e = e
-no_end (Octets left r len seed) e = e
+no_end (Behind (Seed left r len)) e = e
+no_end (Behind (Octets left r len seed)) e = e
 
 -- each file is the one that is written of its frames, and they can be written
 pub of_frames : (octets : List ℕ) (fs : List LegacyFrameView) → AreBytes octets → IsFile frames octets fs → AreFrames fs × (octets ≡ frames_file_of fs)
 unfolding frames_file_of
-of_frames = of_file framed frame_octets IsFrame FromBody 4103 are_counted first_back body_back no_end
+of_frames = of_file (headed framed) frame_octets IsFrame FromBody 4103 are_counted first_back body_back no_end

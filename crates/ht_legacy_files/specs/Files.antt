@@ -4,8 +4,8 @@ use Rattle.byteorder.specs.Endian.{big_bytes}
 use Rattle.ht_scramble.specs.Sequence.{IsSeed}
 use Rattle.ht_clause18.specs.Frames.{IsLegacyPsdu, LegacyFrameView}
 use Rattle.ht_clause18.specs.Rates.{index_of}
-use Rattle.ht_counted.specs.Counted.{AreCounted, counted_octets}
-use Rattle.ht_legacy_files.specs.Formats.{frame_limits, frames_magic}
+use Rattle.ht_counted.specs.Counted.{AreCounted, counted_octets, frame_limits}
+use Rattle.ht_legacy_files.specs.Formats.{frames_magic}
 
 -- a frame: the index of its rate, the number of its octets, the seed, and the octets
 unfoldable pub frame_octets : LegacyFrameView → List ℕ

@@ -1,2 +1,3 @@
+pub mod HeadedFormats
 pub mod Formats
 pub mod Files

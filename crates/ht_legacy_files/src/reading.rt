@@ -10,29 +10,17 @@ ghost use Rattle.ht_fields.specs.WholeFiles.{EndsEarly, ReadsWhole};
 ghost use Rattle.ht_heads.specs.Starts.{is_outside};
 ghost use Rattle.ht_clause18.specs.Frames.{IsLegacyPsdu};
 ghost use Rattle.ht_clause18.specs.Rates.{index_of};
-ghost use Rattle.ht_legacy_files.specs.Formats.{FrameState, framed, frames as frames_format, frames_due};
-ghost use Rattle.ht_legacy_files.specs.Formats.{frame_limits as frame_limits_of, length_limits as length_limits_of};
+ghost use Rattle.ht_legacy_files.specs.HeadedFormats.{HeadBody, frames_due, headed, length_limits as length_limits_of};
+ghost use Rattle.ht_legacy_files.specs.Formats.{FrameState, framed, frames as frames_format};
 ghost use Rattle.ht_legacy_files.specs.Files.{AreFrames, IsFrame, frame_octets, frames_file_of};
 
 use ht_clause18::{LegacyFrame, LegacyRate};
-use ht_counted::{Entries, read_whole, seed, zeros};
-use ht_fields::{bad, fill, octet};
+use ht_counted::{Entries, frame_limits, octets, read_whole, seed};
+use ht_fields::{bad, octet};
 use ht_heads::{Limits, count};
 use ht_io::{InFault, Kind, Source};
 use ht_scramble::Seed;
 use std::alloc::Global;
-
-// How a file counts its frames.
-fn frame_limits() -> Limits
-    ensures { result ≡ frame_limits_of }
-{
-    Limits {
-        width: 2,
-        least: 0,
-        most: 65535,
-        kind: Kind::BadLength,
-    }
-}
 
 // How a frame counts its octets.
 fn length_limits() -> Limits
@@ -109,12 +97,8 @@ fn frame<S: Source>(alloc: Global, source: &mut S, at: u64) -> Result<LegacyFram
         Ok(seed) => seed,
         Err(fault) => return Err(fault),
     };
-    let mut octets = match zeros(alloc, length) {
-        Ok(octets) => octets,
-        Err(fault) => return Err(fault),
-    };
-    match fill(source, at + 4, &mut octets) {
-        Ok(()) => Ok(made(rate, seed, octets)),
+    match octets(alloc, source, at + 4, length) {
+        Ok(octets) => Ok(made(rate, seed, octets)),
         Err(fault) => Err(fault),
     }
 }
@@ -128,9 +112,9 @@ struct Frames {
 impl Entries for Frames {
     type Entry = LegacyFrame;
 
-    ghost State = { FrameState };
+    ghost State = { HeadBody FrameState };
 
-    ghost format = { framed };
+    ghost format = { headed framed };
 
     ghost octets = { frame_octets };
 

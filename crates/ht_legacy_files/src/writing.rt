@@ -6,7 +6,7 @@ ghost use Rattle.ht_clause18.specs.Rates.{index_of};
 ghost use Rattle.ht_legacy_files.specs.Files.{frames_file_of, frame_octets};
 
 use ht_clause18::LegacyFrame;
-use ht_counted::{Putter, write_whole};
+use ht_counted::{Putter, put_both, write_whole};
 use ht_io::{Failed, Sink};
 
 // What stands in front of the octets of a frame.
@@ -26,9 +26,7 @@ fn put_frame<K: Sink>(frame: &LegacyFrame, sink: &mut K) -> Result<(), Failed>
     ensures cause { OnErr result (Rose (K.shown sink.old) (K.shown sink.new)) }
     ensures later { IsLater (K.shown sink.old) (K.shown sink.new) }
 {
-    let front = front(frame);
-    sink.put(&front)?;
-    sink.put(frame.octets())
+    put_both(&front(frame), frame.octets(), sink)
 }
 
 // Frames, put one by one.

@@ -1,27 +1,26 @@
 -- What the places of a symbol say of the coded bits of each symbol.
-use Rattle.std.proofs.Common.{◌≡◌, ℕ, ◌+◌, ◌-◌, ◌*◌, ◌/◌, ◌%◌, ◌<◌, ◌≤◌, List, ◌∷◌, [], ◌++◌, map, length, take, drop, replicate, slice_index_or}
-use Rattle.std.proofs.Common.{Bool, false, Option, Some, refl, sym, ap, ◌∙◌, subst, arith, min, ⊎_elim}
+use Rattle.std.proofs.Common.{◌≡◌, ℕ, ◌+◌, ◌-◌, ◌*◌, ◌/◌, ◌%◌, ◌<◌, ◌≤◌, List, ◌∷◌, [], ◌++◌, map, length, replicate, slice_index_or}
+use Rattle.std.proofs.Common.{Bool, Option, Some, refl, sym, ap, ◌∙◌, subst, arith, min, ⊎_elim}
 use Rattle.std.specs.Prelude.{◌==◌}
 use Rattle.std.specs.Int.{bit_at}
 use Rattle.std.specs.List.{range_with_len}
 use Rattle.std.proofs.lemmas.Bool.{cases_lt}
-use Rattle.std.proofs.lemmas.List.{length-append, length-replicate, length-take, length-drop, map-append}
+use Rattle.std.proofs.lemmas.List.{length-replicate, map-append}
 use Rattle.std.proofs.Math.Nat.{add-mul, div-eq_of_lt-le, div-lt_iff_lt-mul, min-eq_left, min-eq_right, mod-eq-sub-div-mul}
 use Rattle.ht_conv.specs.Puncturing.{sent_count}
 use Rattle.ht_conv.proofs.MidStream.{length-sent_bits}
 use Rattle.ht_map.specs.Gray.{label_bit}
-use Rattle.ht_scramble.specs.Sequence.{scrambled}
 use Rattle.ht_viterbi.proofs.Sending.{sent-grows}
 use Rattle.ht_viterbi.specs.declared.received_bit.ReceivedBit.{ReceivedBit}
 use Rattle.ht_viterbi.specs.Received.{known_of}
 use Rattle.ht_clause18.specs.declared.rates.LegacyRate.{LegacyRate}
-use Rattle.ht_clause18.specs.Coded.{coded_of, coder_input, data_of, service_and_octets}
+use Rattle.ht_clause18.specs.Coded.{coded_of, coder_input}
 use Rattle.ht_clause18.specs.Frames.{LegacyFrameView}
 use Rattle.ht_clause18.specs.Interleaver.{place_of}
 use Rattle.ht_clause18.specs.Rates.{coded_bits_of, label_bits_of, needed_bits, pattern_of, symbols_of}
-use Rattle.ht_clause18.proofs.Coding.{length-coded_of, tail-fits}
+use Rattle.ht_clause18.proofs.Coding.{length-coded_of, length-coder_input}
 use Rattle.ht_clause18.proofs.Interleaving.{place_of-bound}
-use Rattle.ht_clause18.proofs.RateFacts.{coded_bits_of-is, label_bits_of-is, label_bits_of-range}
+use Rattle.ht_clause18.proofs.RateFacts.{coded_bits_of-is, label_bits_of-is, label_bits_of-range, pads_of-fills}
 use Rattle.ht_inverse.proofs.Gathered.{value-added}
 use Rattle.ht_legacy_inverse.specs.declared.label_place.LabelPlace.{LabelPlace}
 use Rattle.ht_legacy_inverse.specs.Places.{AreLabelPlaces, label_place_of, no_place}
@@ -41,19 +40,7 @@ place-bounds r k below = let bits = label_bits_of-range r in (
 
 -- what the encoder of a frame takes has the needed bits
 input-holds : (f : LegacyFrameView) → needed_bits (length f.octets) ≤ length (coder_input f)
-unfolding coder_input
-input-holds f =
-    let bits = scrambled f.seed (data_of f) in
-    let at = service_and_octets f in
-    omega (
-      arith,
-      length-append (take at bits ++ replicate 6 false) (drop (at + 6) bits),
-      length-append (take at bits) (replicate 6 false),
-      length-take at bits,
-      length-replicate 6 false,
-      length-drop (at + 6) bits,
-      tail-fits f (data_of f) bits f.octets f.seed refl refl refl,
-    )
+input-holds f = omega (arith, length-coder_input f, pads_of-fills f.rate (length f.octets))
 
 -- the coded bits of a codeword fit into the symbols
 pub coded-fit : (r : LegacyRate) (octets : ℕ) → sent_count (pattern_of r) (needed_bits octets) ≤ symbols_of r octets * coded_bits_of r
@@ -87,6 +74,10 @@ symbol-below n k size symbols below within =
     subst (λ (m : ℕ). m < symbols) (at-symbol n k size below).0
     ((div-lt_iff_lt-mul {k = size} {x = n * size + k} {y = symbols} (omega (arith, below))).1 within)
 
+-- where bits are left, their symbol is one of the frame's
+pub symbol-left : (n left count size symbols : ℕ) → 1 ≤ size → 1 ≤ left → n * size + left ≡ count → count ≤ symbols * size → n < symbols
+symbol-left n left count size symbols some more whole within = symbol-below n 0 size symbols (omega arith) (omega arith)
+
 -- of what is left, a whole symbol is taken where more is left behind it
 pub whole-symbol : (n left size : ℕ) → 1 ≤ left - min left size → (n + 1) * size + (left - min left size) ≡ n * size + left
 whole-symbol n left size more = ⊎_elim
@@ -98,6 +89,11 @@ whole-symbol n left size more = ⊎_elim
 pub place-is : (r : LegacyRate) (places : List LabelPlace) (k : ℕ) → AreLabelPlaces r places → k < coded_bits_of r
     → slice_index_or places k no_place ≡ label_place_of r k
 place-is r places k are below = are.each k below
+
+-- and by its number as it was counted
+pub place-found : (r : LegacyRate) (places : List LabelPlace) (k at : ℕ) → at ≡ k → AreLabelPlaces r places → k < coded_bits_of r
+    → slice_index_or places at no_place ≡ label_place_of r k
+place-found r places k at same are below = ap (λ (n : ℕ). slice_index_or places n no_place) same ∙ place-is r places k are below
 
 -- its label stands among those of a symbol, and its bit in the label
 pub bit-within : (r : LegacyRate) (place : LabelPlace) (k : ℕ) → place ≡ label_place_of r k → k < coded_bits_of r

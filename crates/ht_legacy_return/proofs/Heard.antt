@@ -32,7 +32,7 @@ use Rattle.ht_clause18.specs.Interleaver.{interleaved}
 use Rattle.ht_clause18.specs.Pilots.{pilot_of}
 use Rattle.ht_clause18.specs.Points.{carried, label_at, points_of, sent_points}
 use Rattle.ht_clause18.specs.Rates.{label_bits_of, modulation_of, symbols_of}
-use Rattle.ht_clause18.proofs.Mapping.{written-below}
+use Rattle.ht_data.proofs.Written.{written-below}
 use Rattle.ht_clause18.proofs.RateFacts.{label_bits_of-is}
 use Rattle.ht_clause18.proofs.Sent.{length-sent_points, sent_points-at}
 use Rattle.ht_legacy_captures.specs.Files.{LegacyCapture}

@@ -11,10 +11,10 @@ use Rattle.ht_fields.specs.Tests.{checked}
 use Rattle.ht_fields.proofs.Answered.{found}
 use Rattle.ht_heads.specs.Starts.{StartState, Magic, Version, Count, Body, Over, good_count, good_magic, good_version, is_outside, magic_due}
 use Rattle.ht_clause18.specs.Rates.{symbols_of}
-use Rattle.ht_legacy_files.specs.Formats.{length_limits}
+use Rattle.ht_legacy_files.specs.HeadedFormats.{Index, Length, Behind, behind_head, good_index, good_length, headed, length_limits}
 use Rattle.ht_counted.specs.Counted.{counted_format, entries_due}
-use Rattle.ht_legacy_captures.specs.Formats.{CaptureState, Index, Length, Diagonals, Samples, captures, captured, captures_due, symbols_due}
-use Rattle.ht_legacy_captures.specs.Formats.{good_diagonals, good_index, good_length, good_samples}
+use Rattle.ht_legacy_captures.specs.Formats.{CaptureState, Diagonals, Samples, captures, captured, captures_due, symbols_due}
+use Rattle.ht_legacy_captures.specs.Formats.{good_diagonals, good_samples}
 use Rattle.ht_legacy_captures.specs.Items.{LegacyItem, Begins, Symbol}
 use Rattle.ht_legacy_rx.specs.Texts.{legacy_meaning}
 
@@ -37,8 +37,8 @@ due_in Version = 0
 due_in Count = 0
 due_in (Body (Index left)) = 0
 due_in (Body (Length left rate)) = 0
-due_in (Body (Diagonals left rate len)) = 0
-due_in (Body (Samples left symbols)) = symbols
+due_in (Body (Behind (Diagonals left rate len))) = 0
+due_in (Body (Behind (Samples left symbols))) = symbols
 due_in Over = 0
 
 -- a state that can be reached
@@ -48,8 +48,8 @@ IsSound Version = Unit {0}
 IsSound Count = Unit {0}
 IsSound (Body (Index left)) = Unit {0}
 IsSound (Body (Length left rate)) = Unit {0}
-IsSound (Body (Diagonals left rate len)) = HasOctets len
-IsSound (Body (Samples left symbols)) = 1 ≤ symbols
+IsSound (Body (Behind (Diagonals left rate len))) = HasOctets len
+IsSound (Body (Behind (Samples left symbols))) = 1 ≤ symbols
 IsSound Over = Unit {0}
 
 -- a field leads from one state to another, and gives items that go with both
@@ -75,7 +75,7 @@ unfolding entries_due
 captures_sound left = frames_sound (nat_eq left 0) left
 
 symbols_by : (b : Bool) (left symbols : ℕ) → nat_eq symbols 0 ≡ b
-    → (let s : StartState CaptureState = if b then captures_due (left - 1) else Body (Samples left symbols) in IsSound s × (due_in s ≡ symbols))
+    → (let s : StartState CaptureState = if b then captures_due (left - 1) else behind_head (Samples left symbols) in IsSound s × (due_in s ≡ symbols))
 symbols_by true left symbols is = ((captures_sound (left - 1)).0, (captures_sound (left - 1)).1 ∙ sym (eqb-true symbols 0 is))
 symbols_by false left symbols is = (grind (arith, nat_tests), refl)
 
@@ -111,24 +111,24 @@ steps (Magic y ys) next x here sound field =
 steps Version next x here sound field =
     subst (StepsBy Version) field.1 (by_test Version _ _ (good_version x) (λ _. silent Version Count refl (tt, refl)))
 steps Count next x here sound field =
-    subst (StepsBy Count) field.1 (by_test Count _ _ (good_count (counted_format captured) x) (λ _. silent Count (captures_due (big_number 2 x)) refl
+    subst (StepsBy Count) field.1 (by_test Count _ _ (good_count (counted_format (headed captured)) x) (λ _. silent Count (captures_due (big_number 2 x)) refl
     (captures_sound (big_number 2 x))))
 steps (Body (Index left)) next x here sound field =
     subst (StepsBy (Body (Index left))) field.1 (by_test (Body (Index left)) _ _ (good_index left x) (λ _. record { sound = tt; framed = λ later are. are }))
 steps (Body (Length left rate)) next x here sound field =
     subst (StepsBy (Body (Length left rate))) field.1
-    (by_test (Body (Length left rate)) _ _ (good_length left rate x) (λ is. record { sound = unfolds_outside x is; framed = λ later are. are }))
-steps (Body (Diagonals left rate len)) next x here sound field =
+    (by_test (Body (Length left rate)) _ _ (good_length captured left rate x) (λ is. record { sound = unfolds_outside x is; framed = λ later are. are }))
+steps (Body (Behind (Diagonals left rate len))) next x here sound field =
     let due = symbols_sound left (symbols_of rate len) in
-    subst (StepsBy (Body (Diagonals left rate len))) field.1
-    (let h : Steps (Body (Diagonals left rate len)) (symbols_due left (symbols_of rate len)) _ =
+    subst (StepsBy (Body (Behind (Diagonals left rate len)))) field.1
+    (let h : Steps (Body (Behind (Diagonals left rate len))) (symbols_due left (symbols_of rate len)) _ =
     record { sound = due.0; framed = λ later are. (sound, subst (AreFramed later) due.1 are) } in h)
-steps (Body (Samples left zero)) next x here sound field = absurd (omega (arith, sound))
-steps (Body (Samples left (suc symbols))) next x here sound field =
+steps (Body (Behind (Samples left zero))) next x here sound field = absurd (omega (arith, sound))
+steps (Body (Behind (Samples left (suc symbols)))) next x here sound field =
     let due = symbols_sound left (suc symbols - 1) in
     let one : suc symbols - 1 ≡ symbols = omega arith in
-    subst (StepsBy (Body (Samples left (suc symbols)))) field.1
-    (let h : Steps (Body (Samples left (suc symbols))) (symbols_due left (suc symbols - 1)) _ =
+    subst (StepsBy (Body (Behind (Samples left (suc symbols))))) field.1
+    (let h : Steps (Body (Behind (Samples left (suc symbols)))) (symbols_due left (suc symbols - 1)) _ =
     record { sound = due.0; framed = λ later are. subst (AreFramed later) (due.1 ∙ one) are } in h)
 steps Over next x here sound field = absurd field
 

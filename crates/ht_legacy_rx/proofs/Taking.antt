@@ -1,5 +1,5 @@
 -- What was found for one more job, and the results that jobs give.
-use Rattle.std.proofs.Common.{◌≡◌, ℕ, ◌+◌, ◌-◌, ◌*◌, ◌==◌, List, [], ◌∷◌, ◌++◌, set, Bool, true, false, if◌then◌else◌, refl, sym, ap, ◌∙◌, arith}
+use Rattle.std.proofs.Common.{◌≡◌, ℕ, ◌+◌, ◌-◌, ◌*◌, ◌==◌, List, ◌∷◌, ◌++◌, set, Bool, true, if◌then◌else◌, refl, sym, ap, ◌∙◌, arith}
 use Rattle.std.proofs.lemmas.Bool.Decides.{nat_tests}
 use Rattle.ht_rate.specs.declared.kinds.Carrier.{Carrier}
 use Rattle.ht_rate.specs.declared.kinds.Carrier.TheVariants.{Data, Pilot}
@@ -10,7 +10,6 @@ use Rattle.ht_clause18.specs.Carriers.{carrier_of}
 use Rattle.ht_clause18.specs.Rates.{modulation_of}
 use Rattle.ht_feed.specs.Items.{Headed, headed_of}
 use Rattle.ht_frames.specs.Gathering.{finished}
-use Rattle.ht_results.specs.declared.frame_result.FrameResult.{FrameResult}
 use Rattle.ht_results.specs.Plans.{begun_by, with_hit_by, with_kind_by}
 use Rattle.ht_results.proofs.Taking.{begins_alike, result_is as result_so, same_result, takes}
 use Rattle.ht_legacy_blocks.specs.declared.head.LegacyFrameHead.{LegacyFrameHead}

@@ -6,7 +6,7 @@ use Rattle.ht_runs.specs.Formats.{IsLined, filter}
 use Rattle.ht_runs.specs.Streamed.{Streamed}
 use Rattle.ht_runs.specs.declared.faults.RunFault.{RunFault}
 use Rattle.ht_runs.proofs.Streaming.{lined}
-use Rattle.ht_feed.specs.Items.{Headed, Item}
+use Rattle.ht_feed.specs.Items.{Item}
 use Rattle.ht_endings.specs.Endings.{HasFrames, IsTold, end_as, seen_as}
 use Rattle.ht_frames.specs.Gathering.{booked_in}
 use Rattle.ht_results.specs.Texts.{result_line, result_lines}

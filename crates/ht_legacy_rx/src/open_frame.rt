@@ -11,7 +11,8 @@ ghost use Rattle.ht_legacy_rx.specs.Results.{first_label, legacy_plan, result_of
 
 use crate::whole_frame::WholeLegacyFrame;
 use ht_clause18::{LegacyRate, legacy_carrier};
-use ht_frames::UnderWay;
+use ht_feed::Hits;
+use ht_frames::{TakesBlocks, UnderWay};
 use ht_inverse::Decoded;
 use ht_legacy_blocks::LegacyFrameHead;
 use ht_legacy_inverse::legacy_decode_frame;
@@ -249,4 +250,9 @@ impl UnderWay for OpenLegacyFrame {
     }
 
     ghost none = { λ a. refl };
+}
+
+/// Its jobs are taken one by one.
+impl TakesBlocks for OpenLegacyFrame {
+    type Answer = Hits;
 }

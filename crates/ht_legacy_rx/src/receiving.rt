@@ -1,15 +1,12 @@
 //! Receiving the frames of a capture as lines of text.
-ghost use Rattle.std.specs.Prelude.{◌≡◌, ◌≢◌, ◌-◌, ◌^◌, ◌<◌, ◌≤◌, Err, true};
-ghost use Rattle.ht_io.specs.Devices.{IsLater};
+ghost use Rattle.std.specs.Prelude.{◌≡◌, ◌-◌, ◌^◌, ◌<◌, ◌≤◌, true};
 ghost use Rattle.ht_runs.specs.Formats.{filter};
-ghost use Rattle.ht_runs.specs.Streamed.{Streamed};
-ghost use Rattle.ht_runs.specs.declared.faults.RunFault.TheVariants.{Write};
-ghost use Rattle.ht_runs.specs.declared.faults.StopFault.TheVariants.{Write as WriteStop};
-ghost use Rattle.ht_feed.specs.Outcomes.{Comes};
+ghost use Rattle.ht_feed.specs.Inputs.{TellsInput};
 ghost use Rattle.ht_endings.specs.Endings.{HasFrames};
 ghost use Rattle.ht_legacy_captures.specs.Formats.{captures};
 ghost use Rattle.ht_legacy_blocks.specs.Frames.{no_head};
 ghost use Rattle.ht_legacy_blocks.specs.Readers.{legacy_at, legacy_counts, legacy_means};
+ghost use Rattle.ht_receive.specs.Ends.{StreamsText};
 ghost use Rattle.ht_receive.specs.Receiving.{books};
 ghost use Rattle.ht_legacy_rx.specs.Folding.{legacy_results_from, no_frame};
 ghost use Rattle.ht_legacy_rx.specs.Texts.{legacy_items, legacy_lines_of, legacy_text};
@@ -48,15 +45,8 @@ pub fn legacy_receive_alone<S: Source, K: Sink, G: Gate>(
 ) -> Result<u64, RunFault>
     requires some { 1 ≤ window }
     requires few { window ≤ 4096 }
-    ensures receives { Streamed (filter captures legacy_text legacy_lines_of) (S.shown source.old) (S.shown source.new)
-        (K.shown sink.old) (K.shown sink.new) (HasFrames captures legacy_items) result }
-
-    // Where the sink failed the answer is `Write`, whatever else failed.
-    ensures writes { result ≢ Err Write → (K.shown sink.new).faults ≡ (K.shown sink.old).faults }
-
-    // However it ends, the devices are the same, and take back no fault.
-    ensures reads_later { IsLater (S.shown source.old) (S.shown source.new) }
-    ensures puts_later { IsLater (K.shown sink.old) (K.shown sink.new) }
+    ensures { StreamsText (filter captures legacy_text legacy_lines_of) (HasFrames captures legacy_items) (S.shown source.old) (S.shown source.new)
+        (K.shown sink.old) (K.shown sink.new) result }
 {
     let reader = LegacyReader::new(alloc)?;
     let under_way = OpenLegacyFrame::new(alloc);
@@ -91,12 +81,9 @@ fn book_frames<R: Threads + Wait + Sync, S: Source, B: Book<FrameResult>, G: Gat
     requires going { (legacy_counts reader).going ≡ true }
     requires fresh { (legacy_counts reader).given ≡ 0 }
     requires bounded { (legacy_counts reader).more < 2 ^ 64 - 1 }
-    ensures tells { Comes legacy_means legacy_at reader no_head (S.shown source.old) (S.shown source.new)
-        (books B.booked (legacy_results_from no_frame) (B.shown book.old)) (books B.booked (legacy_results_from no_frame) (B.shown book.new)) result }
-    ensures writes { result ≢ Err WriteStop → (B.shown book.new).faults ≡ (B.shown book.old).faults }
-    ensures reads_later { IsLater (S.shown source.old) (S.shown source.new) }
-    ensures books_later { IsLater (B.shown book.old) (B.shown book.new) }
-    ensures same { B.lent book.new ≡ B.lent book.old }
+    ensures { TellsInput legacy_means legacy_at reader no_head (S.shown source.old) (S.shown source.new)
+        (books B.booked (legacy_results_from no_frame) (B.shown book.old)) (books B.booked (legacy_results_from no_frame) (B.shown book.new))
+        (B.lent book.old) (B.lent book.new) result }
 {
     let frames = Frames::new(alloc);
     let mut under_way = OpenLegacyFrame::new(alloc);
@@ -147,15 +134,8 @@ pub fn legacy_receive<R: Threads + Wait + Sync, S: Source, K: Sink, G: Gate + Sy
     requires many { workers ≤ 64 }
     requires some { 1 ≤ window }
     requires few { window ≤ 4096 }
-    ensures receives { Streamed (filter captures legacy_text legacy_lines_of) (S.shown source.old) (S.shown source.new)
-        (K.shown sink.old) (K.shown sink.new) (HasFrames captures legacy_items) result }
-
-    // Where the sink failed the answer is `Write`, whatever else failed.
-    ensures writes { result ≢ Err Write → (K.shown sink.new).faults ≡ (K.shown sink.old).faults }
-
-    // However it ends, the devices are the same, and take back no fault.
-    ensures reads_later { IsLater (S.shown source.old) (S.shown source.new) }
-    ensures puts_later { IsLater (K.shown sink.old) (K.shown sink.new) }
+    ensures { StreamsText (filter captures legacy_text legacy_lines_of) (HasFrames captures legacy_items) (S.shown source.old) (S.shown source.new)
+        (K.shown sink.old) (K.shown sink.new) result }
 {
     if workers == 1 {
         return legacy_receive_alone(alloc, window, source, sink, gate);

@@ -8,7 +8,7 @@ use Rattle.ht_metric.specs.Jobs.{JobView}
 use Rattle.ht_metric.specs.declared.hit.Hit.{Hit}
 use Rattle.ht_machine.specs.declared.event.Event.{Event}
 use Rattle.ht_machine.specs.declared.event.Event.TheVariants.{Push, Pop, Accept, Emit}
-use Rattle.ht_machine.specs.Machine.{CoreView, IsEnabled, IsLegal, after, run, empty, hand, deque, hit_of}
+use Rattle.ht_machine.specs.Machine.{CoreView, IsEnabled, IsLegal, after, after_all, empty, hand, deque, hit_of}
 use Rattle.std.specs.List.{All}
 use Rattle.std.proofs.lemmas.List.Elements.{All-nil, All-replicate}
 use Rattle.std.proofs.lemmas.Option.{none-some}
@@ -66,7 +66,7 @@ can_go_on c w lt =
     ∙ beyond n 0 (take n c.issued) (taken_from c.issued n (from_zero c w)) (omega (arith, length-take n c.issued)) in
     with_place c w n refl _ refl _ refl _ refl _ refl (omega (arith, weighed c w.once (one_of n), all, out))
 
-pub run_kept : (es : List Event) (c : CoreView) → IsCore c → IsLegal c es → IsCore (run c es)
+pub run_kept : (es : List Event) (c : CoreView) → IsCore c → IsLegal c es → IsCore (after_all c es)
 run_kept [] c w legal = w
 run_kept (e ∷ es) c w legal = run_kept es (after c e) (kept c e w legal.0) legal.1
 

@@ -69,7 +69,7 @@ window_is c w few =
     record {
       some = w.wide;
       few = w.narrow;
-      room = omega (arith, room, long, rest);
+      within = omega (arith, room, long, rest);
       last = omega (arith, few, long, rest, before);
       numbered = λ k s e. (
           let p = slot_at c.booked (left c) k s e in
@@ -83,8 +83,8 @@ window_is c w few =
 slots_long : (c : CoreView) → length (window_of c).slots ≡ length c.issued - length c.emitted
 slots_long c = slots_length c.booked (left c) ∙ length-drop (length c.emitted) c.issued
 
-pub issue_room : (c : CoreView) (job : JobView) → IsCore c → IsEnabled c (Issue job) → length (window_of c).slots < (window_of c).capacity
-issue_room c job w on = let room = on.1 in let wide = w.wide in omega (arith, slots_long c, room, wide)
+pub issue_free : (c : CoreView) (job : JobView) → IsCore c → IsEnabled c (Issue job) → length (window_of c).slots < (window_of c).capacity
+issue_free c job w on = let room = on.1 in let wide = w.wide in omega (arith, slots_long c, room, wide)
 
 pub issue_next : (c : CoreView) (job : JobView) → IsCore c → IsEnabled c (Issue job) → job.number ≡ (window_of c).front + length (window_of c).slots
 issue_next c job w on = let number = on.2 in omega (arith, slots_long c, number, emitted_few c w)

@@ -5,7 +5,7 @@ use Rattle.ht_metric.specs.Jobs.{JobView}
 use Rattle.ht_metric.specs.declared.hit.Hit.{Hit}
 use Rattle.ht_machine.specs.declared.event.Event.TheVariants.{Issue, Push, Pop, Steal, Finish}
 use Rattle.ht_machine.specs.declared.event.Spot.TheVariants.{Hand, Deque, Results}
-use Rattle.ht_machine.specs.Machine.{CoreView, after, run, empty, hit_of, without}
+use Rattle.ht_machine.specs.Machine.{CoreView, after, after_all, empty, hit_of, without}
 use Rattle.ht_machine.specs.Facts.{places, jobs_at}
 
 abbrev none_yet : CoreView
@@ -14,12 +14,12 @@ none_yet = record { workers = 2; window = 2; issued = []; hands = None ∷ None 
 begins : empty 2 2 ≡ none_yet
 begins = refl
 
-issued : (a : JobView) → run (empty 2 2) (Issue a ∷ [])
+issued : (a : JobView) → after_all (empty 2 2) (Issue a ∷ [])
     ≡ record { workers = 2; window = 2; issued = a ∷ []; hands = Some a ∷ None ∷ []; deques = [] ∷ [] ∷ []; results = []; booked = []; emitted = [] }
 issued a = refl
 
 abbrev pushed : JobView → JobView → CoreView
-pushed a b = run (empty 2 2) (Issue a ∷ Push 0 ∷ Issue b ∷ Push 0 ∷ [])
+pushed a b = after_all (empty 2 2) (Issue a ∷ Push 0 ∷ Issue b ∷ Push 0 ∷ [])
 
 -- what is pushed later is behind
 in_order : (a b : JobView) → (pushed a b).deques ≡ (a ∷ b ∷ []) ∷ [] ∷ []
@@ -36,7 +36,7 @@ popped : (a b : JobView) → (after (pushed a b) (Pop 0)).hands ≡ Some a ∷ N
 popped a b = refl
 
 abbrev both : JobView → JobView → Hit → CoreView
-both a b hit = run (pushed a b) (Steal 1 0 ∷ Pop 0 ∷ Finish 0 hit ∷ [])
+both a b hit = after_all (pushed a b) (Steal 1 0 ∷ Pop 0 ∷ Finish 0 hit ∷ [])
 
 finished : (a b : JobView) (hit : Hit) → (both a b hit).results ≡ hit ∷ []
 finished a b hit = refl

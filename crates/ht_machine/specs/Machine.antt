@@ -135,9 +135,9 @@ empty workers window = record {
 }
 
 -- the state after these events, and whether each is enabled in its turn
-abbrev pub run : CoreView → List Event → CoreView
-run c [] = c
-run c (e ∷ es) = run (after c e) es
+abbrev pub after_all : CoreView → List Event → CoreView
+after_all c [] = c
+after_all c (e ∷ es) = after_all (after c e) es
 
 abbrev pub IsLegal : CoreView → List Event → Type 0
 IsLegal c [] = ⊤

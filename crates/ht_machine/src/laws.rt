@@ -4,7 +4,7 @@ ghost use Rattle.ht_machine.specs.declared.event.Event.{Event as EventValue};
 ghost use Rattle.ht_machine.specs.declared.event.Spot.{Spot as SpotValue};
 ghost use Rattle.ht_metric.specs.Hits.{found_of};
 ghost use Rattle.ht_metric.specs.Jobs.{near};
-ghost use Rattle.ht_machine.specs.Machine.{CoreView, run, empty, IsLegal};
+ghost use Rattle.ht_machine.specs.Machine.{CoreView, after_all, empty, IsLegal};
 ghost use Rattle.ht_machine.specs.Facts.{IsCore, CanGoOn, jobs_at, numbered};
 
 /// What holds after every list of events, begun with the empty core, of which each is enabled in its turn.
@@ -12,11 +12,11 @@ pub fn after_legal_events()
     ensures core { (workers window : ℕ) (events : List EventValue)
         → 1 ≤ workers → workers ≤ 64 → 1 ≤ window → window ≤ 4096
         → IsLegal (empty workers window) events
-        → IsCore (run (empty workers window) events) }
+        → IsCore (after_all (empty workers window) events) }
     ensures going { (workers window : ℕ) (events : List EventValue)
         → 1 ≤ workers → workers ≤ 64 → 1 ≤ window → window ≤ 4096
         → IsLegal (empty workers window) events
-        → CanGoOn (run (empty workers window) events) }
+        → CanGoOn (after_all (empty workers window) events) }
 {}
 
 /// The emitted hits have the first nearest vectors of the first issued jobs, in order.

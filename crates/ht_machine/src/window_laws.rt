@@ -16,10 +16,10 @@ pub fn is_window()
     ensures { (c : CoreView) → IsCore c → length c.issued < 2 ^ 64 → IsWindow (window_of c) }
 {}
 
-/// `Issue` is `issue`: where it may come there is room and the job's number is the next one, and the job is then the
+/// `Issue` is `issue`: where it may come there is a free slot and the job's number is the next one, and the job is then the
 /// last slot, and waits.
 pub fn issue()
-    ensures room { (c : CoreView) (job : JobView) → IsCore c → IsEnabled c (Issue job) → length (window_of c).slots < (window_of c).capacity }
+    ensures free_slot { (c : CoreView) (job : JobView) → IsCore c → IsEnabled c (Issue job) → length (window_of c).slots < (window_of c).capacity }
     ensures next { (c : CoreView) (job : JobView) → IsCore c → IsEnabled c (Issue job) → job.number ≡ (window_of c).front + length (window_of c).slots }
     ensures issued { (c : CoreView) (job : JobView) → IsCore c → IsEnabled c (Issue job) → window_of (after c (Issue job)) ≡ record {
       capacity = (window_of c).capacity;

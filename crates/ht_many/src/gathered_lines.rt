@@ -1,23 +1,24 @@
-//! What becomes of the hits of one capture among several, where workers decode whole frames.
+//! What becomes of the tallies of one capture among several, where workers decode whole frames.
 ghost use Rattle.std.specs.Prelude.{◌≡◌, ◌≤◌, [], drop, slice_get, take, Some, IfErr, OnErr, OnOk};
 ghost use Rattle.ht_io.specs.Devices.{IsLater, Rose};
 ghost use Rattle.ht_feed.specs.Accounts.{PutsBlock, PutsPartOf};
-ghost use Rattle.ht_feed.specs.Dues.{AreHits, all_due, jobs_in};
+ghost use Rattle.ht_feed.specs.Dues.{all_due, jobs_in};
 ghost use Rattle.ht_frames.specs.Gathering.{booked_behind};
 ghost use Rattle.ht_capture.specs.Parts.{jobs_of};
 ghost use Rattle.ht_results.specs.Folding.{result_of};
 ghost use Rattle.ht_rx.specs.Frames.{results_in};
+ghost use Rattle.ht_rx.specs.Tallies.{IsTally};
 ghost use Rattle.ht_many.specs.KeptFrames.{lines_left};
-ghost use Rattle.ht_many.specs.Renumbering.{hits_numberless};
+ghost use Rattle.ht_rx.proofs.Tallying.{numberless};
 
 use crate::keeping_lines::KeepingLines;
 use ht_capture_blocks::{CaptureBlock, CaptureReader};
-use ht_feed::{BookFault, Desk, Desking, Hits};
+use ht_feed::{BookFault, Desk, Desking};
 use ht_frames::{Book, Decoding, Frames, TextBook, book_frames};
 use ht_io::Sink;
 use ht_lanes::Booking;
 use ht_results::FrameResult;
-use ht_rx::{OpenFrame, WholeLabels};
+use ht_rx::{OpenFrame, Tally, WholeLabels};
 use std::alloc::Global;
 use std::collections::VecDeque;
 use std::marker::Model;
@@ -25,7 +26,7 @@ use std::sync::Wait;
 use std::thread::Threads;
 
 /// Puts the line of each frame of a capture into the sink that it is handed, and has workers decode whole frames while
-/// more hits come, of this capture or of others. Behind each hit at most two frames for each worker beside the
+/// more tallies come, of this capture or of others. Behind each tally at most two frames for each worker beside the
 /// caller have no line, not counting the one under way. No clause says so.
 ///
 /// Captures beside one another have a frame under way each, and each its own whole frames, whose lines it puts in order.
@@ -79,15 +80,15 @@ impl<'f, R> GatheredLines<'f, R> {
 }
 
 impl<'f, R: Threads + Wait> GatheredLines<'f, R> {
-    // Takes the hits of the first block due, and books the results of the frames whose turn it is.
+    // Takes the tally of the first block due, and books the results of the frames whose turn it is.
     fn take_into<B: Book<FrameResult>>(
         &mut self,
         desk: &mut Desk<CaptureReader>,
         block: &CaptureBlock,
-        hits: &Hits,
+        tally: &Tally,
         book: &mut B,
     ) -> Result<(), BookFault>
-        requires right { AreHits hits.now.found.items (jobs_of block.now.block) }
+        requires right { IsTally tally.now.rate (jobs_of block.now.block) tally.now }
         requires first { slice_get (jobs_in desk.old.due) 0 ≡ Some (jobs_of block.now.block) }
 
         // What was booked, and what is left to book.
@@ -118,7 +119,7 @@ impl<'f, R: Threads + Wait> GatheredLines<'f, R> {
             &mut self.queue,
             book,
         );
-        desk.take(block, hits, &mut lines)
+        desk.take(block, tally, &mut lines)
     }
 
     // Books the results of all whole frames.
@@ -143,7 +144,7 @@ impl<'f, R: Threads + Wait> GatheredLines<'f, R> {
 }
 
 impl<'f, R: Threads + Wait, K: Sink> Booking<CaptureReader, K> for GatheredLines<'f, R> {
-    type Answer = Hits;
+    type Answer = Tally;
 
     ghost pieces = { lines_left };
 
@@ -151,11 +152,11 @@ impl<'f, R: Threads + Wait, K: Sink> Booking<CaptureReader, K> for GatheredLines
         &mut self,
         desk: &mut Desk<CaptureReader>,
         block: &CaptureBlock,
-        hits: &Hits,
+        tally: &Tally,
         sink: &mut K,
     ) -> Result<(), BookFault> {
         let mut book = TextBook::new(self.alloc, sink);
-        self.take_into(desk, block, hits, &mut book)
+        self.take_into(desk, block, tally, &mut book)
     }
 
     fn finish(&mut self, sink: &mut K) -> Result<(), BookFault> {
@@ -163,5 +164,5 @@ impl<'f, R: Threads + Wait, K: Sink> Booking<CaptureReader, K> for GatheredLines
         self.finish_into(&mut book)
     }
 
-    ghost numberless = { λ hits n jobs right. hits_numberless hits.found.items n jobs right };
+    ghost numberless = { λ tally n jobs right. numberless tally n jobs right };
 }

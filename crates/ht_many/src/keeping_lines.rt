@@ -7,10 +7,10 @@ ghost use Rattle.ht_rx.specs.Frames.{results_in};
 use circular_buffer::HeapCircularBuffer;
 use ht_capture::FrameHead;
 use ht_capture_blocks::{CaptureBlock, CaptureReader};
-use ht_feed::{Account, BookFault, DueBlock, Hits};
+use ht_feed::{Account, BookFault, DueBlock};
 use ht_frames::{Book, Decoding, Frames, gather_block};
 use ht_results::FrameResult;
-use ht_rx::{OpenFrame, WholeLabels};
+use ht_rx::{OpenFrame, Tally, WholeLabels};
 use std::alloc::Global;
 use std::collections::VecDeque;
 use std::sync::Wait;
@@ -27,7 +27,7 @@ pub(crate) struct KeepingLines<'a, R, B> {
     alloc: Global,
     // Where workers find whole frames.
     frames: &'a Frames<WholeLabels>,
-    // How many frames are decoded while hits are taken.
+    // How many frames are decoded while tallies are taken.
     beside: u8,
     // Whether its capture is read no more.
     stopped: bool,
@@ -76,7 +76,7 @@ impl<'a, R: Threads + Wait, B: Book<FrameResult>> Account<CaptureReader>
     for KeepingLines<'a, R, B> {
     type Piece = B::Piece;
 
-    type Answer = Hits;
+    type Answer = Tally;
 
     ghost shown = { λ r. B.shown r.book.now };
 
@@ -90,7 +90,7 @@ impl<'a, R: Threads + Wait, B: Book<FrameResult>> Account<CaptureReader>
         &mut self,
         head: &FrameHead,
         block: &CaptureBlock,
-        hits: &Hits,
+        tally: &Tally,
         due: &HeapCircularBuffer<DueBlock<CaptureReader>>,
     ) -> Result<(), BookFault> {
         let is_last = self.stopped && due.len() == 1;
@@ -105,7 +105,7 @@ impl<'a, R: Threads + Wait, B: Book<FrameResult>> Account<CaptureReader>
             self.book,
             head,
             block,
-            hits.found.as_slice(),
+            tally,
         )
     }
 

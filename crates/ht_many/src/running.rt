@@ -10,7 +10,7 @@ use ht_feed::{Gate, Shared, Work};
 use ht_frames::{BesideFrames, Frames, HitWork};
 use ht_io::{Sink, Source};
 use ht_lanes::{Lane, LaneBlock, Lanes, finish_lanes, run_alone};
-use ht_rx::WholeLabels;
+use ht_rx::{TallyWork, WholeLabels};
 use std::alloc::{AllocError, Global};
 use std::sync::Wait;
 use std::thread::Threads;
@@ -153,10 +153,10 @@ pub(crate) fn run_in_crew<R: Threads + Wait + Sync, S: Source, K: Sink, G: Gate 
     ensures finished { OnOk result (AreFinished lane_finished lane_rests lanes.new) }
 {
     let work = BesideFrames {
-        work: HitWork { alloc, gate },
+        work: TallyWork { alloc, gate },
         frames,
     };
-    run_lanes::<R, CrewLane<R>, S, K, BesideFrames<HitWork<G>, WholeLabels>>(
+    run_lanes::<R, CrewLane<R>, S, K, BesideFrames<TallyWork<G>, WholeLabels>>(
         rt, alloc, workers, window, &work, lanes, sources, sinks,
     )
 }

@@ -30,17 +30,18 @@ fn axes(modulation: Modulation) -> Axes
             i: Ladder::of(2, 0b11),
             q: Ladder::of(1, 0b1),
         },
-        Modulation::Qpsk => Axes {
-            i: Ladder::of(2, 0b11),
-            q: Ladder::of(2, 0b11),
-        },
-        Modulation::Qam16 => Axes {
-            i: Ladder::of(4, 0xf),
-            q: Ladder::of(4, 0xf),
-        },
-        Modulation::Qam64 => Axes {
-            i: Ladder::of(8, 0xff),
-            q: Ladder::of(8, 0xff),
-        },
+        Modulation::Qpsk => square(Ladder::of(2, 0b11)),
+        Modulation::Qam16 => square(Ladder::of(4, 0xf)),
+        Modulation::Qam64 => square(Ladder::of(8, 0xff)),
+    }
+}
+
+// One ladder for both I and Q.
+fn square(ladder: Ladder) -> Axes
+    ensures { result ≡ record { i = ladder; q = ladder } }
+{
+    Axes {
+        i: ladder,
+        q: ladder,
     }
 }

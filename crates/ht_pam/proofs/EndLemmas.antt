@@ -10,8 +10,10 @@ use Rattle.std.proofs.Math.IntN.{suc_ℤ-*ℤ, zero-*ℤ}
 use Rattle.ht_pam.specs.Ladders.{Rungs, IsLadder, level, levels}
 use Rattle.ht_pam.specs.Zigzags.{gap, put, nearest_first, From, Ascending}
 use Rattle.ht_pam.specs.Ends.{levels_in, top, bottom, both, Under, Descending, IsZigzag}
+use Rattle.ht_pam.specs.declared.zigzag.Zigzag.TheInside.{Inside as Fields}
 use Rattle.ht_pam.proofs.ZigzagLemmas.{put_behind, put_first, from-weaker, from-nearest_first}
-use Rattle.ht_pam.proofs.EndTables.{IsSize, ends, parts, lower_part, nothing, over, under, spaced}
+use Rattle.ht_pam.proofs.Tables.{IsSize}
+use Rattle.ht_pam.proofs.EndTables.{ends, parts, lower_part, nothing, over, under, spaced}
 
 -- products with a diagonal
 times_sum : (d : ℕ) (x y : ℤ) → pos d *ℤ (x +ℤ y) ≡ (pos d *ℤ x) +ℤ (pos d *ℤ y)
@@ -31,12 +33,15 @@ times_most (suc d) x y h =
     let e = times_most d x y h in
     omega (arith, ints)
 
+times_one : (d : ℕ) → pos d *ℤ pos 1 ≡ pos d
+times_one zero = refl
+times_one (suc d) = let b = suc_ℤ-*ℤ (pos d) (pos 1) in let e = times_one d in omega (arith, ints)
+
 pub times_less : (d : ℕ) (x y : ℤ) → x <ℤ y → ((pos d *ℤ x) +ℤ pos d) ≤ℤ (pos d *ℤ y)
-times_less zero x y h = let b = zero-*ℤ x in let c = zero-*ℤ y in omega (arith, ints)
-times_less (suc d) x y h =
-    let b = suc_ℤ-*ℤ (pos d) x in
-    let c = suc_ℤ-*ℤ (pos d) y in
-    let e = times_less d x y h in
+times_less d x y h =
+    let sum = times_sum d x (pos 1) in
+    let one = times_one d in
+    let most = times_most d (x +ℤ pos 1) y (omega (arith, ints)) in
     omega (arith, ints)
 
 -- of two levels the lower one is at least as near where their middle is not below the target
@@ -161,6 +166,13 @@ starts t d size mask at low is some within diagonal below under_it over_it same 
       },
       p.all,
     ))
+
+-- the same where a call was passed the target
+pub starts_passed : (t u : ℤ) (d size mask at low : ℕ) → u ≡ t → IsSize size → 0 < mask → mask < 2 ^ size → 0 < d → at < size
+    → (0 < at → (pos d *ℤ (level size at -ℤ pos 1)) <ℤ u) → (at + 1 < size → u ≤ℤ (pos d *ℤ (level size at +ℤ pos 1)))
+    → low ≡ lower_part mask at → Starts t d size mask low
+starts_passed t u d size mask at low e is some within diagonal below under_it over_it same =
+    subst (λ (v : ℤ). Starts v d size mask low) e (starts u d size mask at low is some within diagonal below under_it over_it same)
 
 -- a level that costs less than those before it, and at most what those behind it do, is the first
 module _ (cost : ℤ → ℕ) where
@@ -350,6 +362,33 @@ pub passed_higher : (t u : ℤ) (d size below above : ℕ) → u ≡ t → IsZig
     → Gives t d size below above (level size (bottom above)) below (above - 2 ^ bottom above)
 passed_higher t u d size below above e z some h =
     gives_higher t d size below above z some (subst (λ (v : ℤ). 0 < below → gap v d (level size (bottom above)) < gap v d (level size (top below))) e h)
+
+-- a walk that gave the level at a place goes on with what is left
+takes_at : (t : ℤ) (d size low high l h low' high' at place : ℕ) {now : List ℤ} → nearest_first (gap t d) (both size low high) ≡ now
+    → Gives t d size low high (level size place) l h → low' ≡ l → high' ≡ h → at ≡ place
+    → IsZigzag t d size low' high' × ((x : ℤ) → x ≡ level size at → now ≡ x ∷ nearest_first (gap t d) (both size low' high'))
+takes_at t d size low high l h low' high' at place view given e f same =
+    let left : both size l h ≡ both size low' high' = ap (λ (m : ℕ). both size m h) (sym e) ∙ ap (λ (m : ℕ). both size low' m) (sym f) in (
+      subst (λ (m : ℕ). IsZigzag t d size low' m) (sym f) (subst (λ (m : ℕ). IsZigzag t d size m h) (sym e) given.0),
+      λ x is. sym view ∙ given.1 ∙ ap (λ (y : ℤ). y ∷ nearest_first (gap t d) (both size l h)) (sym (is ∙ ap (level size) same))
+          ∙ ap (λ (ys : List ℤ). x ∷ nearest_first (gap t d) ys) left,
+    )
+
+pub takes_lower : (z : Fields) {u : ℤ} {at left : ℕ} {now : List ℤ} → u ≡ z.target → nearest_first (gap z.target z.d) (both z.size z.below z.above) ≡ now
+    → IsZigzag z.target z.d z.size z.below z.above → 0 < z.below
+    → (0 < z.above → gap u z.d (level z.size (top z.below)) ≤ gap u z.d (level z.size (bottom z.above))) → left ≡ z.below - 2 ^ at → at ≡ top z.below
+    → IsZigzag z.target z.d z.size left z.above × ((x : ℤ) → x ≡ level z.size at → now ≡ x ∷ nearest_first (gap z.target z.d) (both z.size left z.above))
+takes_lower z {u} {at} {left} shows view is some near is_left place =
+    takes_at z.target z.d z.size z.below z.above (z.below - 2 ^ top z.below) z.above left z.above at (top z.below) view
+    (passed_lower z.target u z.d z.size z.below z.above shows is some near) (less_place z.below at (top z.below) left is_left place) refl place
+
+pub takes_higher : (z : Fields) {u : ℤ} {at left : ℕ} {now : List ℤ} → u ≡ z.target → nearest_first (gap z.target z.d) (both z.size z.below z.above) ≡ now
+    → IsZigzag z.target z.d z.size z.below z.above → 0 < z.above
+    → (0 < z.below → gap u z.d (level z.size (bottom z.above)) < gap u z.d (level z.size (top z.below))) → left ≡ z.above - 2 ^ at → at ≡ bottom z.above
+    → IsZigzag z.target z.d z.size z.below left × ((x : ℤ) → x ≡ level z.size at → now ≡ x ∷ nearest_first (gap z.target z.d) (both z.size z.below left))
+takes_higher z {u} {at} {left} shows view is some far is_left place =
+    takes_at z.target z.d z.size z.below z.above z.below (z.above - 2 ^ bottom z.above) z.below left at (bottom z.above) view
+    (passed_higher z.target u z.d z.size z.below z.above shows is some far) refl (less_place z.above at (bottom z.above) left is_left place) place
 
 -- an allowed level that is the nearest of all levels is the first
 pub nearest_at : (t : ℤ) (d size mask at : ℕ) → IsSize size → 0 < mask → mask < 2 ^ size → 0 < d → at < size

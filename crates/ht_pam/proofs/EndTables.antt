@@ -1,6 +1,6 @@
 -- What masks allow, mask by mask.
-use Rattle.std.proofs.Common.{◌∙◌, ◌≡◌, ◌⊎◌, ℕ, zero, suc, ◌+◌, ◌-◌, ◌*◌, ◌^◌, ◌<◌, ◌≤◌, ℤ, pos, ◌+ℤ◌, List}
-use Rattle.std.proofs.Common.{[], ◌∷◌, ◌++◌, length, Bool, true, ◌&&◌, refl, sym, arith, inl, inr, subst}
+use Rattle.std.proofs.Common.{◌∙◌, ◌≡◌, ℕ, zero, suc, ◌+◌, ◌-◌, ◌*◌, ◌^◌, ◌<◌, ◌≤◌, ℤ, pos, ◌+ℤ◌, List}
+use Rattle.std.proofs.Common.{[], ◌∷◌, ◌++◌, length, Bool, true, ◌&&◌, refl, sym, arith, subst}
 use Rattle.std.specs.Prelude.{nat_lt, ◌==◌, if◌then◌else◌}
 use Rattle.std.specs.Int.{bit_at}
 use Rattle.std.specs.Int.Bits.{bit_and}
@@ -12,7 +12,7 @@ use lib.Count.{count_leading_zeros, count_trailing_zeros}
 use lib.Pointwise.{pointwise}
 use Rattle.ht_pam.specs.Ladders.{level}
 use Rattle.ht_pam.specs.Ends.{levels_in, top, bottom}
-use Rattle.ht_pam.proofs.Tables.{all_below, at_below}
+use Rattle.ht_pam.proofs.Tables.{IsSize, AllMasks, of_sizes, of_mask, all_below, at_below}
 
 abbrev same : List ℤ → List ℤ → Bool
 same xs ys = pointwise int_eq xs ys
@@ -35,21 +35,9 @@ ended size less =
     && (same (levels_in size mask) (level size (bottom mask) ∷ levels_in size (mask - 2 ^ bottom mask))
     && (before (mask - 2 ^ top mask) (top mask) && behind (mask - 2 ^ bottom mask) (bottom mask)))))))
 
-ended_1 : all_below (ended 1) 1 ≡ true
+all_ended : AllMasks ended
 unfolding all_below ended count_leading_zeros count_trailing_zeros
-ended_1 = refl
-
-ended_2 : all_below (ended 2) 3 ≡ true
-unfolding all_below ended count_leading_zeros count_trailing_zeros
-ended_2 = refl
-
-ended_4 : all_below (ended 4) 15 ≡ true
-unfolding all_below ended count_leading_zeros count_trailing_zeros
-ended_4 = refl
-
-ended_8 : all_below (ended 8) 255 ≡ true
-unfolding all_below ended count_leading_zeros count_trailing_zeros
-ended_8 = refl
+all_ended = (refl, refl, refl, refl)
 
 pub record HasEnds (size mask : ℕ) : Type 0 where
   pub top_within : top mask < size
@@ -93,31 +81,11 @@ shown size less h =
       higher = behind_is (mask - 2 ^ bottom mask) (bottom mask) g.1;
     }
 
-abbrev pub IsSize : ℕ → Type 0
-IsSize size = (size ≡ 1) ⊎ (size ≡ 2) ⊎ (size ≡ 4) ⊎ (size ≡ 8)
-
-of_size : (P : ℕ → ℕ → Bool) → all_below (P 1) 1 ≡ true → all_below (P 2) 3 ≡ true → all_below (P 4) 15 ≡ true → all_below (P 8) 255 ≡ true
-    → (size mask : ℕ) → IsSize size → 0 < mask → mask < 2 ^ size → P size (mask - 1) ≡ true
-of_size P p1 p2 p4 p8 size mask is some within = elim is [
-  | inl e ↦ let w : mask < 2 ^ 1 = subst (λ (n : ℕ). mask < 2 ^ n) e within in
-      subst (λ (n : ℕ). P n (mask - 1) ≡ true) (sym e) (at_below (P 1) 1 (mask - 1) p1 (omega arith))
-  | inr rest ↦ elim rest [
-    | inl e ↦ let w : mask < 2 ^ 2 = subst (λ (n : ℕ). mask < 2 ^ n) e within in
-        subst (λ (n : ℕ). P n (mask - 1) ≡ true) (sym e) (at_below (P 2) 3 (mask - 1) p2 (omega arith))
-    | inr more ↦ elim more [
-      | inl e ↦ let w : mask < 2 ^ 4 = subst (λ (n : ℕ). mask < 2 ^ n) e within in
-          subst (λ (n : ℕ). P n (mask - 1) ≡ true) (sym e) (at_below (P 4) 15 (mask - 1) p4 (omega arith))
-      | inr e ↦ let w : mask < 2 ^ 8 = subst (λ (n : ℕ). mask < 2 ^ n) e within in
-          subst (λ (n : ℕ). P n (mask - 1) ≡ true) (sym e) (at_below (P 8) 255 (mask - 1) p8 (omega arith))
-    ]
-  ]
-]
-
 -- each mask with a level has a highest and a lowest one
 pub ends : (size mask : ℕ) → IsSize size → 0 < mask → mask < 2 ^ size → HasEnds size mask
 ends size mask is some within =
     let back : suc (mask - 1) ≡ mask = omega arith in
-    subst (HasEnds size) back (shown size (mask - 1) (of_size ended ended_1 ended_2 ended_4 ended_8 size mask is some within))
+    subst (HasEnds size) back (shown size (mask - 1) (of_mask ended all_ended size mask is some within))
 
 -- a place cuts a mask in two
 abbrev pub lower_part : ℕ → ℕ → ℕ
@@ -153,21 +121,9 @@ parted at size less =
 unfoldable parted_at : ℕ → ℕ → ℕ → Bool
 parted_at size n less = all_below (λ at. parted at size less) n
 
-parted_1 : all_below (parted_at 1 1) 1 ≡ true
+all_parted : AllMasks (λ n less. parted_at n n less)
 unfolding all_below parted_at parted count_leading_zeros count_trailing_zeros
-parted_1 = refl
-
-parted_2 : all_below (parted_at 2 2) 3 ≡ true
-unfolding all_below parted_at parted count_leading_zeros count_trailing_zeros
-parted_2 = refl
-
-parted_4 : all_below (parted_at 4 4) 15 ≡ true
-unfolding all_below parted_at parted count_leading_zeros count_trailing_zeros
-parted_4 = refl
-
-parted_8 : all_below (parted_at 8 8) 255 ≡ true
-unfolding all_below parted_at parted count_leading_zeros count_trailing_zeros
-parted_8 = refl
+all_parted = (refl, refl, refl, refl)
 
 pub record IsParted (size mask at low : ℕ) : Type 0 where
   pub within : low ≤ mask
@@ -225,18 +181,9 @@ pub parts : (size mask at : ℕ) → IsSize size → 0 < mask → mask < 2 ^ siz
 unfolding parted_at
 parts size mask at is some within below =
     let back : suc (mask - 1) ≡ mask = omega arith in
-    let row : parted_at size size (mask - 1) ≡ true = of_size (λ n less. parted_at n n less) parted_1 parted_2 parted_4 parted_8 size mask is some within in
+    let row : parted_at size size (mask - 1) ≡ true = of_mask (λ n less. parted_at n n less) all_parted size mask is some within in
     subst (λ (m : ℕ). IsParted size m at (lower_part m at)) back (seen size (mask - 1) at (at_below (λ (k : ℕ). parted k size (mask - 1)) size at row below))
 
 -- no level is left of none
 pub nothing : (size : ℕ) → IsSize size → levels_in size 0 ≡ []
-nothing size is = elim is [
-  | inl e ↦ subst (λ (n : ℕ). levels_in n 0 ≡ []) (sym e) refl
-  | inr rest ↦ elim rest [
-    | inl e ↦ subst (λ (n : ℕ). levels_in n 0 ≡ []) (sym e) refl
-    | inr more ↦ elim more [
-      | inl e ↦ subst (λ (n : ℕ). levels_in n 0 ≡ []) (sym e) refl
-      | inr e ↦ subst (λ (n : ℕ). levels_in n 0 ≡ []) (sym e) refl
-    ]
-  ]
-]
+nothing = of_sizes (λ n. levels_in n 0 ≡ []) (refl, refl, refl, refl)

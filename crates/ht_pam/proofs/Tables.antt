@@ -1,6 +1,6 @@
 -- All ladders, one by one.
-use Rattle.std.proofs.Common.{◌≡◌, ℕ, zero, suc, ◌^◌, ◌<◌, ◌≤◌, ℤ, pos, negsuc, unsigned_abs, Bool, true, false, ◌&&◌}
-use Rattle.std.proofs.Common.{List, [], ◌∷◌, ◌++◌, ◌-◌, length, length-append, refl, sym, ap, ◌∙◌, subst, arith, inl, inr}
+use Rattle.std.proofs.Common.{◌≡◌, ◌⊎◌, ℕ, zero, suc, ◌^◌, ◌<◌, ◌≤◌, ℤ, pos, negsuc, unsigned_abs, Bool, true, false, ◌&&◌}
+use Rattle.std.proofs.Common.{List, [], ◌∷◌, ◌++◌, ◌-◌, length, length-append, refl, sym, ap, subst, arith, inl, inr}
 use Rattle.std.specs.Prelude.{nat_lt, ◌==◌, if◌then◌else◌}
 use Rattle.std.specs.Int.{bit_at}
 use Rattle.std.specs.List.{All, filter}
@@ -34,21 +34,39 @@ at_below p (suc n) k h below =
       | inr more ↦ let e : n ≡ k = omega arith in subst (λ (j : ℕ). p j ≡ true) e parts.0
     ]
 
-of_1 : all_below (good 1) 1 ≡ true
-unfolding all_below good
-of_1 = refl
+abbrev pub IsSize : ℕ → Type 0
+IsSize size = (size ≡ 1) ⊎ (size ≡ 2) ⊎ (size ≡ 4) ⊎ (size ≡ 8)
 
-of_2 : all_below (good 2) 3 ≡ true
-unfolding all_below good
-of_2 = refl
+-- what holds of the four sizes holds of each
+pub of_sizes : (P : ℕ → Type 0) → P 1 × P 2 × P 4 × P 8 → (size : ℕ) → IsSize size → P size
+of_sizes P ps size is = elim is [
+  | inl one ↦ subst P (sym one) ps.0
+  | inr rest ↦ elim rest [
+    | inl two ↦ subst P (sym two) ps.1
+    | inr more ↦ elim more [
+      | inl four ↦ subst P (sym four) ps.2
+      | inr eight ↦ subst P (sym eight) ps.3
+    ]
+  ]
+]
 
-of_4 : all_below (good 4) 15 ≡ true
-unfolding all_below good
-of_4 = refl
+-- a test of each mask with a level, of each size
+abbrev pub AllMasks : (ℕ → ℕ → Bool) → Type 0
+AllMasks p = (all_below (p 1) 1 ≡ true) × (all_below (p 2) 3 ≡ true) × (all_below (p 4) 15 ≡ true) × (all_below (p 8) 255 ≡ true)
 
-of_8 : all_below (good 8) 255 ≡ true
+pub of_mask : (p : ℕ → ℕ → Bool) → AllMasks p → (size mask : ℕ) → IsSize size → 0 < mask → mask < 2 ^ size → p size (mask - 1) ≡ true
+of_mask p tests size mask is some within =
+    of_sizes (λ n. mask < 2 ^ n → p n (mask - 1) ≡ true) (
+      λ lt. at_below (p 1) 1 (mask - 1) tests.0 (omega arith),
+      λ lt. at_below (p 2) 3 (mask - 1) tests.1 (omega arith),
+      λ lt. at_below (p 4) 15 (mask - 1) tests.2 (omega arith),
+      λ lt. at_below (p 8) 255 (mask - 1) tests.3 (omega arith),
+    )
+    size is within
+
+all_tests : AllMasks good
 unfolding all_below good
-of_8 = refl
+all_tests = (refl, refl, refl, refl)
 
 -- what was seen of each
 record IsGood (l : Rungs) : Type 0 where
@@ -62,24 +80,11 @@ seen size mask h =
     let parts = and_parts (pointwise int_eq (levels l) (filter (has l) every)) (nat_lt 0 (length (levels l))) h in
     record { list = (signed_items (levels l) (filter (has l) every)).0 parts.0; some = ltb-true 0 (length (levels l)) parts.1 }
 
-among : (size n : ℕ) → all_below (good size) n ≡ true → (l : Rungs) → l.size ≡ size → 0 < l.mask → l.mask ≤ n → IsGood l
-among size n table l e some within =
-    let one : suc (l.mask - 1) ≡ l.mask = omega arith in
-    let at : ℕ → ℕ → Rungs = λ s m. record { size = s; mask = m } in
-    subst IsGood (ap (λ s. at s (suc (l.mask - 1))) (sym e) ∙ ap (λ m. at l.size m) one)
-    (seen size (l.mask - 1) (at_below (good size) n (l.mask - 1) table (omega arith)))
-
 all_good : (l : Rungs) → IsLadder l → IsGood l
-all_good l ladder = elim ladder.size [
-  | inl one ↦ among 1 1 of_1 l one ladder.some (let w : l.mask < 2 ^ 1 = subst (λ (n : ℕ). l.mask < 2 ^ n) one ladder.within in omega arith)
-  | inr rest ↦ elim rest [
-    | inl two ↦ among 2 3 of_2 l two ladder.some (let w : l.mask < 2 ^ 2 = subst (λ (n : ℕ). l.mask < 2 ^ n) two ladder.within in omega arith)
-    | inr more ↦ elim more [
-      | inl four ↦ among 4 15 of_4 l four ladder.some (let w : l.mask < 2 ^ 4 = subst (λ (n : ℕ). l.mask < 2 ^ n) four ladder.within in omega arith)
-      | inr eight ↦ among 8 255 of_8 l eight ladder.some (let w : l.mask < 2 ^ 8 = subst (λ (n : ℕ). l.mask < 2 ^ n) eight ladder.within in omega arith)
-    ]
-  ]
-]
+all_good l ladder =
+    let one : suc (l.mask - 1) ≡ l.mask = omega (arith, ladder.some) in
+    let at : ℕ → Rungs = λ m. record { size = l.size; mask = m } in
+    subst IsGood (ap at one) (seen l.size (l.mask - 1) (of_mask good all_tests l.size l.mask ladder.size ladder.some ladder.within))
 
 -- a ladder's levels are those of all levels that it has
 pub levels-filter : (l : Rungs) → IsLadder l → levels l ≡ filter (has l) every
@@ -98,19 +103,11 @@ length-lowest l (suc j) = one_longer (bit_at l.mask j == 1) (lowest l j) (level 
     one_longer true xs x n le = omega (arith, length-append xs (x ∷ []))
     one_longer false xs x n le = omega arith
 
+pub size_few : (l : Rungs) → IsLadder l → l.size ≤ 8
+size_few l ladder = of_sizes (λ n. n ≤ 8) (omega arith, omega arith, omega arith, omega arith) l.size ladder.size
+
 pub levels_few : (l : Rungs) → IsLadder l → length (levels l) ≤ 8
-levels_few l ladder =
-    let le = length-lowest l l.size in
-    elim ladder.size [
-      | inl one ↦ omega arith
-      | inr rest ↦ elim rest [
-        | inl two ↦ omega arith
-        | inr more ↦ elim more [
-          | inl four ↦ omega arith
-          | inr eight ↦ omega arith
-        ]
-      ]
-    ]
+levels_few l ladder = omega (arith, length-lowest l l.size, size_few l ladder)
 
 -- every level of a ladder is from -7 to 7
 every_small : All (λ x. unsigned_abs x ≤ 7) every

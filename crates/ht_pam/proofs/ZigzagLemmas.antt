@@ -10,7 +10,7 @@ use Rattle.std.proofs.lemmas.Bool.Decides.{nat_tests}
 use Rattle.std.proofs.lemmas.List.Elements.{All-append, All-take, All-drop}
 use Rattle.ht_pam.specs.Ladders.{Rungs, IsLadder, level, lowest}
 use Rattle.ht_pam.specs.Zigzags.{gap, put, nearest_first, From, Ascending, occurrences}
-use Rattle.ht_pam.proofs.Tables.{length-lowest}
+use Rattle.ht_pam.proofs.Tables.{length-lowest, size_few}
 
 -- one more level of a ladder
 lowest_step : (l : Rungs) (j : ℕ) → lowest l (j + 1) ≡ (if bit_at l.mask j == 1 then lowest l j ++ level l.size j ∷ [] else lowest l j)
@@ -32,18 +32,6 @@ lowest_left size mask now j items allowed view before is denies =
     (λ e. e ∙ sym (cond-false (bit_at mask j == 1) (lowest (record { size = size; mask = mask }) j ++ level size j ∷ [])
     (lowest (record { size = size; mask = mask }) j) (sym is ∙ denies)) ∙ sym (lowest_step (record { size = size; mask = mask }) j))
     before
-
-size_few : (l : Rungs) → IsLadder l → l.size ≤ 8
-size_few l ladder = elim ladder.size [
-  | inl one ↦ omega arith
-  | inr rest ↦ elim rest [
-    | inl two ↦ omega arith
-    | inr more ↦ elim more [
-      | inl four ↦ omega arith
-      | inr eight ↦ omega arith
-    ]
-  ]
-]
 
 pub lowest_room : (size mask : ℕ) (now : Rungs) (j : ℕ) (items : List ℤ)
     → IsLadder (record { size = size; mask = mask }) → j < size → items ≡ lowest now j → length items < 8

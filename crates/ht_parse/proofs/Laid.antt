@@ -11,19 +11,21 @@ use Rattle.ht_parse.proofs.Filled.{follows-more}
 use Rattle.ht_parse.proofs.Places.{run-place, place-below}
 use Rattle.ht_parse.proofs.Sizes.{sizes-stream}
 
+-- the place of a run in its row, where the rate's numbers of runs and of places are given as others
+sized-place : (runs size n s q j x k : ℕ) → runs ≡ n → size ≡ s → j < n → x < s → k ≡ n * s * q + j * s + x
+    → (k / size % runs ≡ j) × (k / (runs * size) ≡ q) × (k % size ≡ x)
+sized-place runs size n s q j x k is_runs is_size lj lx e =
+    run-place runs size q j x k (omega arith) (omega arith)
+    (e ∙ ap (λ (y : ℕ). y * s * q + j * s + x) (sym is_runs) ∙ ap (λ (y : ℕ). runs * y * q + j * y + x) (sym is_size))
+
 -- the bit that a place of a stream comes from
 pub source-at : (r : Rate) (e n s m t q j x k : ℕ) → AreSizes r e n s m → j < e
     → x < s → k ≡ e * s * q + j * s + x → source_of r (t + 1) k ≡ (j, (q * n + t) * s + x)
 unfolding source_of
 source-at r e n s m t q j x k a lj lx is =
-    let de = a.encoders_is in let dn = a.streams_is in let ds = a.run_is in
-    let lj' : j < encoders_of r = omega arith in
-    let lx' : x < axis_bits_of r = omega arith in
-    let is' : k ≡ encoders_of r * axis_bits_of r * q + j * axis_bits_of r + x = cc in
-    let parts = run-place (encoders_of r) (axis_bits_of r) q j x k lj' lx' is' in
-    let encoder : k / axis_bits_of r % encoders_of r ≡ j = parts.0 in
-    let row : k / (encoders_of r * axis_bits_of r) ≡ q = parts.1 in
-    let rest : k % axis_bits_of r ≡ x = parts.2 in
+    let dn = a.streams_is in let ds = a.run_is in
+    let parts = sized-place (encoders_of r) (axis_bits_of r) e s q j x k (sym a.encoders_is) (sym ds) lj lx is in
+    let encoder = parts.0 in let row = parts.1 in let rest = parts.2 in
     let back : t + 1 - 1 ≡ t = omega arith in
     let sum : t * s + n * s * q + x ≡ (q * n + t) * s + x = omega arith in
     cc
@@ -33,14 +35,9 @@ pub place-at : (r : Rate) (e n s m t q j x i : ℕ) → AreSizes r e n s m → t
     → i ≡ n * s * q + t * s + x → stream_place_of r j i ≡ (t + 1, e * s * q + j * s + x)
 unfolding stream_place_of
 place-at r e n s m t q j x i a lt lx is =
-    let de = a.encoders_is in let dn = a.streams_is in let ds = a.run_is in
-    let lt' : t < streams_of r = omega arith in
-    let lx' : x < axis_bits_of r = omega arith in
-    let is' : i ≡ streams_of r * axis_bits_of r * q + t * axis_bits_of r + x = cc in
-    let parts = run-place (streams_of r) (axis_bits_of r) q t x i lt' lx' is' in
-    let stream : i / axis_bits_of r % streams_of r ≡ t = parts.0 in
-    let row : i / (streams_of r * axis_bits_of r) ≡ q = parts.1 in
-    let rest : i % axis_bits_of r ≡ x = parts.2 in
+    let de = a.encoders_is in let ds = a.run_is in
+    let parts = sized-place (streams_of r) (axis_bits_of r) n s q t x i (sym a.streams_is) (sym ds) lt lx is in
+    let stream = parts.0 in let row = parts.1 in let rest = parts.2 in
     cc
 
 -- what stands in the symbol at a place of an encoder's run

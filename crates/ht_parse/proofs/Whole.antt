@@ -30,21 +30,25 @@ pub streams-from : (P : ℕ → Type 0) (n : ℕ) → ((t : ℕ) → t < n → P
 streams-from P n each zero low high = absurd (omega arith)
 streams-from P n each (suc t) low high = let same : t + 1 ≡ suc t = omega arith in subst P same (each t (omega arith))
 
-pub laid-whole : (r : Rate) (bits first second : List Bool) → length bits ≡ coded_bits_of r → length first ≡ share_of r → AreShares r first second
-    → FollowsRule (laid_bit r first second) bits → IsLaid r bits first second
-laid-whole r bits first second whole share shares follows = record {
+-- the places of a symbol, if those of each stream are as laid down
+whole-from : (r : Rate) (bits first second : List Bool) → length bits ≡ coded_bits_of r → length first ≡ share_of r → AreShares r first second
+    → ((t k : ℕ) → t < streams_of r → k < stream_bits_of r → get_or bits (t * stream_bits_of r + k) false
+    ≡ get_or (list_of first second (source_of r (t + 1) k).0) (source_of r (t + 1) k).1 false) → IsLaid r bits first second
+whole-from r bits first second whole share shares each = record {
   whole = whole;
   share = share;
   shares = shares;
   places = λ stream k low high lk.
       streams-from (λ s. get_or bits ((s - 1) * stream_bits_of r + k) false
       ≡ get_or (list_of first second (source_of r s k).0) (source_of r s k).1 false) (streams_of r)
-      (λ t lt.
-      let back : t + 1 - 1 ≡ t = omega arith in
-      ap (λ (y : ℕ). get_or bits (y * stream_bits_of r + k) false) back
-      ∙ (follows (t * stream_bits_of r + k) (omega (arith, symbol-below r t k lt lk)) ∙ laid-place r first second t k lk))
-      stream low high;
+      (λ t lt. let back : t + 1 - 1 ≡ t = omega arith in ap (λ (y : ℕ). get_or bits (y * stream_bits_of r + k) false) back ∙ each t k lt lk) stream low high;
 }
+
+pub laid-whole : (r : Rate) (bits first second : List Bool) → length bits ≡ coded_bits_of r → length first ≡ share_of r → AreShares r first second
+    → FollowsRule (laid_bit r first second) bits → IsLaid r bits first second
+laid-whole r bits first second whole share shares follows =
+    whole-from r bits first second whole share shares
+    (λ t k lt lk. follows (t * stream_bits_of r + k) (omega (arith, symbol-below r t k lt lk)) ∙ laid-place r first second t k lk)
 
 -- each encoder's list follows its rule
 gathered-list : (r : Rate) (bits first second : List Bool) (j : ℕ) → j < encoders_of r
@@ -63,24 +67,15 @@ gathered-place r bits t k j i place =
 
 pub gathered-whole : (r : Rate) (bits first second : List Bool) → length bits ≡ coded_bits_of r → length first ≡ share_of r → AreShares r first second
     → FollowsRule (gathered_bit r bits 0) first → (1 < encoders_of r → FollowsRule (gathered_bit r bits 1) second) → IsLaid r bits first second
-gathered-whole r bits first second whole share shares follows_first follows_second = record {
-  whole = whole;
-  share = share;
-  shares = shares;
-  places = λ stream k low high lk.
-      streams-from (λ s. get_or bits ((s - 1) * stream_bits_of r + k) false
-      ≡ get_or (list_of first second (source_of r s k).0) (source_of r s k).1 false) (streams_of r)
-      (λ t lt.
-      let back : t + 1 - 1 ≡ t = omega arith in
-      let found : IsStreamPlace r t k (source_of r (t + 1) k).0 (source_of r (t + 1) k).1 = from-place r t k lt lk in
-      let len : length (list_of first second (source_of r (t + 1) k).0) ≡ share_of r =
-      length-list_of r first second (share_of r) (source_of r (t + 1) k).0 share shares found.encoder_below in
-      let bit = gathered-list r bits first second (source_of r (t + 1) k).0 found.encoder_below follows_first follows_second
-      (source_of r (t + 1) k).1 (omega (arith, len, found.bit_below)) in
-      ap (λ (y : ℕ). get_or bits (y * stream_bits_of r + k) false) back
-      ∙ sym (bit ∙ gathered-place r bits t k (source_of r (t + 1) k).0 (source_of r (t + 1) k).1 found.place))
-      stream low high;
-}
+gathered-whole r bits first second whole share shares follows_first follows_second =
+    whole-from r bits first second whole share shares
+    (λ t k lt lk.
+    let found : IsStreamPlace r t k (source_of r (t + 1) k).0 (source_of r (t + 1) k).1 = from-place r t k lt lk in
+    let len : length (list_of first second (source_of r (t + 1) k).0) ≡ share_of r =
+    length-list_of r first second (share_of r) (source_of r (t + 1) k).0 share shares found.encoder_below in
+    let bit = gathered-list r bits first second (source_of r (t + 1) k).0 found.encoder_below follows_first follows_second
+    (source_of r (t + 1) k).1 (omega (arith, len, found.bit_below)) in
+    sym (bit ∙ gathered-place r bits t k (source_of r (t + 1) k).0 (source_of r (t + 1) k).1 found.place))
 
 -- with one encoder
 pub gathered-one : (r at : Rate) (e n s m : ℕ) (bits first second list : List Bool) → AreSizes at e n s m → at ≡ r → e ≡ 1 → first ≡ list → second ≡ []

@@ -1,12 +1,44 @@
 -- Seats are joined into the owners' ends, deque by deque.
-use Rattle.std.proofs.Common.{◌≡◌, ℕ, zero, suc, ◌+◌, ◌<◌, ◌≤◌, List, [], ◌∷◌, ◌++◌, length, map, set, get_or, take, drop, ap, ◌∙◌, sym, refl, arith}
-use Rattle.std.specs.List.{AllByRecursion, flat_map, sum_by}
-use Rattle.std.proofs.lemmas.List.{length-append, length-map, length-take}
+use Rattle.std.proofs.Common.{◌≡◌, ℕ, suc, ◌+◌, ◌<◌, List, [], ◌∷◌, ◌++◌, length, set, get_or, take, drop, Some, ap, ◌∙◌, sym, refl, arith}
+use Rattle.std.specs.Global.{Vec}
+use Rattle.std.specs.List.{All, AllByRecursion, flat_map, sum_by}
+use Rattle.std.proofs.lemmas.List.{length-append, length-map, length-take, map-append}
+use Rattle.std.proofs.lemmas.List.Elements.{All-pop}
 use Rattle.std.proofs.lemmas.List.Sums.{sum_by-append}
 use Rattle.std.proofs.Math.Seq.{map-set_same}
 use Rattle.ht_pool.specs.Seats.{DequeId, SeatView, OwnView, took_in, deques_at, taken_at}
 use Rattle.ht_pool.specs.Opening.{own_deques}
-use Rattle.ht_pool.specs.Gathering.{joined_row, joined_rows}
+use Rattle.ht_pool.specs.Gathering.{joined_row, joined_rows, rows_of}
+
+-- one behind none, and others behind it
+pub put_first : {X : Type 0} {none put all others : List X} (x : X) → none ≡ [] → put ≡ none ++ x ∷ [] → all ≡ put ++ others → all ≡ x ∷ others
+put_first {X} {none} {put} {all} {others} x is_none is_put is_all =
+    is_all ∙ ap (λ (xs : List X). xs ++ others) (is_put ∙ ap (λ (xs : List X). xs ++ x ∷ []) is_none)
+
+module _ {T : Type 0} where
+  -- the same for seats in vectors
+  pub rows_first : (none put all : List (Vec (SeatView T))) (seats : Vec (SeatView T)) (others : List (List (SeatView T))) → none ≡ []
+      → put ≡ none ++ seats ∷ [] → rows_of all ≡ rows_of put ++ others → rows_of all ≡ seats.items ∷ others
+  rows_first none put all seats others is_none is_put is_all =
+      is_all ∙ ap (λ (rs : List (Vec (SeatView T))). rows_of rs ++ others) (is_put ∙ ap (λ (rs : List (Vec (SeatView T))). rs ++ seats ∷ []) is_none)
+
+  -- joined, where the owners and the seats are these
+  pub joined_same : (owners os : List (OwnView T)) (rows : List (Vec (SeatView T))) (rs : List (List (SeatView T))) (joined : List (OwnView T))
+      → owners ≡ os → rows_of rows ≡ rs → joined ≡ joined_rows owners (rows_of rows) → joined ≡ joined_rows os rs
+  joined_same owners os rows rs joined owners_are rows_are is =
+      is ∙ (ap (λ (xs : List (OwnView T)). joined_rows xs (rows_of rows)) owners_are ∙ ap (λ (xs : List (List (SeatView T))). joined_rows os xs) rows_are)
+
+  -- the last vector of seats apart
+  pub rows_last : (rows rest : List (Vec (SeatView T))) (seats : Vec (SeatView T)) → rows ≡ rest ++ seats ∷ []
+      → rows_of rows ≡ rows_of rest ++ seats.items ∷ []
+  rows_last rows rest seats is =
+      ap (λ (rs : List (Vec (SeatView T))). rows_of rs) is ∙ map-append (λ (r : Vec (SeatView T)). r.items) rest (seats ∷ [])
+
+  pub rows_at_last : (owners : List (OwnView T)) (rows rest : List (Vec (SeatView T))) (seats : Vec (SeatView T)) → rows ≡ rest ++ seats ∷ []
+      → All (λ (ss : List (SeatView T)). deques_at ss ≡ own_deques owners) (rows_of rows)
+      → All (λ (ss : List (SeatView T)). deques_at ss ≡ own_deques owners) (rows_of rest) × (deques_at seats.items ≡ own_deques owners)
+  rows_at_last owners rows rest seats is at =
+      All-pop (λ (ss : List (SeatView T)). deques_at ss ≡ own_deques owners) (rows_of rows) (rows_of rest) (Some seats.items) (rows_last rows rest seats is) at
 
 module _ {T : Type 0} where
   -- what all owners took, and what they pushed

@@ -10,7 +10,7 @@ use Rattle.ht_pool.specs.Seats.{DequeId, SeatView, OwnView, fresh_seat, fresh_ow
 use Rattle.ht_pool.specs.Opening.{AreReady, own_deques, lent}
 use Rattle.ht_pool.specs.Members.{Berth, AnswersTo, HasYetToServe, berth, berth_of, answers_of, tasks_of}
 use Rattle.ht_pool.specs.declared.member.Member.{Member}
-use Rattle.ht_pool.proofs.Lists.{all_first}
+use Rattle.ht_pool.proofs.Lists.{all_first, written_back}
 
 fresh-parts : (T : Type 0) (room : ℕ) (ids : List DequeId) → AllByRecursion (λ (o : OwnView T). o.parts ≡ 1024) (map (fresh_own 1024 room) ids)
 fresh-parts T room [] = tt
@@ -116,6 +116,22 @@ module _ {T : Type 0} where
         },
         rooms,
       )
+
+  module _ (len : ℕ) (os new : List (OwnView T)) where
+    -- a vector of owners, into which they were written back
+    abbrev back : List (OwnView T)
+    back = take len (new ++ drop (length new) os)
+
+    pub seated : (room n : ℕ) (value : List (OwnView T)) (rows : List (Vec (SeatView T))) → os ≡ map (fresh_own 1024 room) (own_deques os)
+        → length os ≡ n → n ≤ 64 → length os ≡ len → value ≡ os → new ≡ lent (length value) value
+        → All (λ (ss : Vec (SeatView T)). ss.items ≡ map fresh_seat (own_deques value)) rows
+        → AreReady (own_deques back) back rows × All (λ (o : OwnView T). o.room ≡ room) back
+    seated room n value rows fresh count few all is lent_is rows_are =
+        let lent_all : new ≡ lent (length os) os = lent_is ∙ ap (λ (xs : List (OwnView T)). lent (length xs) xs) is in
+        let long : length new ≡ length os = ap (λ (xs : List (OwnView T)). length xs) lent_all ∙ length-map os (less (length os)) in
+        let made : back ≡ lent n os = written_back len os new all long ∙ (lent_all ∙ ap (λ (k : ℕ). lent k os) count) in
+        let at_owners = subst (λ (xs : List (OwnView T)). All (λ (ss : Vec (SeatView T)). ss.items ≡ map fresh_seat (own_deques xs)) rows) is rows_are in
+        all_ready room n os back rows fresh count few made at_owners
 
   taken-fresh : (ids : List DequeId) → taken_at (map (fresh_seat {T = T}) ids) ≡ []
   taken-fresh [] = refl

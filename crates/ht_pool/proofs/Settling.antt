@@ -1,16 +1,15 @@
 -- What is known once all that the workers did is joined.
-use Rattle.std.proofs.Common.{◌≡◌, ℕ, zero, suc, ◌+◌, ◌-◌, ◌≤◌, List, [], ◌∷◌, ◌++◌, length, map, drop, get_or, sum, ap, ◌∙◌, sym, refl, subst, arith}
+use Rattle.std.proofs.Common.{◌≡◌, ℕ, ◌+◌, ◌-◌, ◌≤◌, List, [], ◌∷◌, ◌++◌, length, map, drop, get_or, sum, ap, ◌∙◌, sym, refl, subst, arith}
 use Rattle.std.specs.List.{All, AllByRecursion, flat_map, sum_by}
-use Rattle.std.proofs.lemmas.List.{map-append, append-nil, length-append, length-map}
+use Rattle.std.proofs.lemmas.List.{map-append, length-map}
 use Rattle.std.proofs.lemmas.List.Sums.{sum_by-append, sum_by-cons}
 use Rattle.std.proofs.lemmas.List.Elements.{All-from_recursion, recursion_from_All}
-use Rattle.crossbeam_queue.specs.Passes.{view as answer_view}
 use Rattle.ht_counts.specs.Counts.{SameCounts}
 use Rattle.atomic_table.specs.Seated.{TableId}
-use Rattle.ht_pool.specs.Hands.{hand, AddsUp}
+use Rattle.ht_pool.specs.Hands.{AddsUp}
 use Rattle.ht_pool.specs.Seats.{DequeId, SeatView, OwnView, deques_at, taken_at}
 use Rattle.ht_pool.specs.Through.{through, first_of}
-use Rattle.ht_pool.specs.Members.{Berth, berth, berths, berth_of, answers_of, answered_weight, tasks_of, HasServed}
+use Rattle.ht_pool.specs.Members.{Berth, berth, berths, berth_of, answers_of, answered_weight, HasServed}
 use Rattle.ht_pool.specs.Helms.{HelmView, IsSettled, helm_view}
 use Rattle.ht_pool.specs.Gathering.{Collects, IsAccounted, answered_by, ended, joined_row, joined_rows}
 use Rattle.ht_pool.specs.Pools.{HasRun, IsEmptied, taken_on, moved_on, through_deques, through_queue}
@@ -321,8 +320,8 @@ module _ {T A : Type 0} (asked : A → T) (weight : T → ℕ) (queue : TableId)
         emptied : AllByRecursion IsEmptied hands
         emptied = all_emptied hands whole enough
 
-        run : SameCounts (helm.taken ++ map asked after.pushed) helm.given
-        run h = omega (
+        each_once : SameCounts (helm.taken ++ map asked after.pushed) helm.given
+        each_once h = omega (
           arith,
           all_taken h,
           all_pushed h,
@@ -333,7 +332,7 @@ module _ {T A : Type 0} (asked : A → T) (weight : T → ℕ) (queue : TableId)
         none_waits : length waiting ≡ 0
         none_waits = omega (
           arith,
-          run (λ (x : T). 1),
+          each_once (λ (x : T). 1),
           sum_by-append (λ (x : T). 1) helm.taken (map asked after.pushed),
           asks,
           ones helm.given,
@@ -369,7 +368,7 @@ module _ {T A : Type 0} (asked : A → T) (weight : T → ℕ) (queue : TableId)
                 ap (sum_by h) first_pushed,
                 sum_by-append h helm.given (moved_on hands),
               ));
-              run = subst (λ (v : Hand A). SameCounts (helm.taken ++ map asked v.pushed) helm.given) (sym of') run;
+              each_once = subst (λ (v : Hand A). SameCounts (helm.taken ++ map asked v.pushed) helm.given) (sym of') each_once;
               delivered = ap (λ (v : Hand A). v.pushed) of' ∙ answered;
               received = ap (λ (v : Hand A). v.taken) of' ∙ answers;
               answers = subst (λ (v : Hand A). SameCounts v.taken v.pushed) (sym of') (λ h. omega (
@@ -393,7 +392,7 @@ module _ {T A : Type 0} (asked : A → T) (weight : T → ℕ) (queue : TableId)
                 sum_by-cons (λ (n : ℕ). n) (sum_by weight helm.taken) (map (answered_weight asked weight) members),
                 numbers members,
                 ap (λ xs. sum_by weight (map asked xs)) answered,
-                run weight,
+                each_once weight,
                 sum_by-append weight helm.taken (map asked after.pushed),
               );
             }

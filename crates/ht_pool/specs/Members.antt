@@ -1,5 +1,5 @@
 -- What is known of a worker before its thread begins, and once it has ended.
-use Rattle.std.specs.Prelude.{◌≡◌, ◌++◌, ◌-◌, ◌≤◌, ℕ, List, [], ◌∷◌, length, map, drop, Option}
+use Rattle.std.specs.Prelude.{◌≡◌, ◌++◌, ◌-◌, ◌≤◌, ℕ, List, [], length, map, drop, Option}
 use Rattle.std.specs.List.{All, sum_by}
 use Rattle.atomic_table.specs.Seated.{TableId}
 use Rattle.crossbeam_queue.specs.Passes.{Pass, view as answer_view}

@@ -4,7 +4,7 @@ use Rattle.std.specs.List.{All, flat_map, sum_by}
 use Rattle.crossbeam_queue.specs.Passes.{view as answer_view}
 use Rattle.ht_counts.specs.Counts.{SameCounts}
 use Rattle.ht_pool.specs.Through.{through, first_of}
-use Rattle.ht_pool.specs.Members.{Berth, berth_of, berths, answered_weight, HasYetToServe}
+use Rattle.ht_pool.specs.Members.{berth_of, berths, answered_weight, HasYetToServe}
 use Rattle.ht_pool.specs.Gathering.{answered_by}
 use Rattle.ht_pool.specs.Helms.{HelmView, unused}
 use Rattle.ht_pool.specs.declared.hand.Hand.{Hand}
@@ -59,8 +59,8 @@ module _ {T A : Type 0} where
     pub emptied : All IsEmptied (through_deques c)
     -- the tasks run, which are those taken less those moved on, are those that were given, each once
     pub taken : SameCounts (taken_on (through_deques c)) (helm.given ++ moved_on (through_deques c))
-    -- each was run by the caller or by a worker, who pushed its answer
-    pub run : SameCounts (helm.taken ++ map asked (through_queue c).pushed) helm.given
+    -- each was run once, by the caller or by a worker, who pushed its answer
+    pub each_once : SameCounts (helm.taken ++ map asked (through_queue c).pushed) helm.given
     pub delivered : (through_queue c).pushed ≡ answered_by helpers
     -- all answers were received
     pub received : (through_queue c).taken ≡ helm.answers

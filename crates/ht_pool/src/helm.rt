@@ -80,7 +80,7 @@ impl<'a, W: Work> Helm<'a, W> {
         }
         let task = self.post.take()?;
         self.ran += u64::from(self.work.weigh(&task));
-        Some(self.work.run(task))
+        Some(self.work.answer_to(task))
     }
 
     /// Receives an answer of a worker, if there is one.

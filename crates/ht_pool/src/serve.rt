@@ -91,7 +91,7 @@ fn run_tasks<W: Work, R: Wait>(
             Some(task) => {
                 drop(sleep);
                 let weight = work.weigh(&task);
-                pass = shared.deliver(rt, pass, work.run(task));
+                pass = shared.deliver(rt, pass, work.answer_to(task));
                 ran += u64::from(weight);
                 looks = 0;
                 backoff.reset();

@@ -25,7 +25,7 @@ pub trait Work {
         ensures { result ≡ weight task.now };
 
     /// Does a task. The answer is one of this very task.
-    fn run(&self, task: Self::Task) -> Self::Answer
+    fn answer_to(&self, task: Self::Task) -> Self::Answer
         ensures { asked result ≡ task };
 
     /// Does what else is waiting for a worker, if anything is, and answers whether it did. Each worker does so before it

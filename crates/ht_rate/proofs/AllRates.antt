@@ -10,7 +10,7 @@ use Rattle.ht_rate.specs.declared.parts.Scheme.TheVariants.{BpskHalf, QpskHalf, 
 use Rattle.ht_rate.specs.declared.parts.Scheme.TheVariants.{Qam64TwoThirds, Qam64ThreeQuarters, Qam64FiveSixths}
 use Rattle.ht_rate.specs.declared.rates.Rate.{Rate}
 
--- a test of and_parts bandwidths
+-- a test of both bandwidths
 unfoldable pub each_bandwidth : (Bandwidth → Bool) → Bool
 each_bandwidth p = p Mhz20 && p Mhz40
 
@@ -19,16 +19,36 @@ unfolding each_bandwidth
 at_bandwidth p e Mhz20 = (and_parts _ _ e).0
 at_bandwidth p e Mhz40 = (and_parts _ _ e).1
 
+-- what holds of each of the four numbers of streams holds of any
+pub of_streams : (P : Streams → Type 0) → P One → P Two → P Three → P Four → (n : Streams) → P n
+of_streams P a b c d One = a
+of_streams P a b c d Two = b
+of_streams P a b c d Three = c
+of_streams P a b c d Four = d
+
 -- a test of all four numbers of streams
 unfoldable pub each_streams : (Streams → Bool) → Bool
 each_streams p = (p One && p Two) && (p Three && p Four)
 
 pub at_streams : (p : Streams → Bool) → each_streams p ≡ true → (n : Streams) → p n ≡ true
 unfolding each_streams
-at_streams p e One = (and_parts _ _ (and_parts _ _ e).0).0
-at_streams p e Two = (and_parts _ _ (and_parts _ _ e).0).1
-at_streams p e Three = (and_parts _ _ (and_parts _ _ e).1).0
-at_streams p e Four = (and_parts _ _ (and_parts _ _ e).1).1
+at_streams p e =
+    let halves = and_parts (p One && p Two) (p Three && p Four) e in
+    let low = and_parts (p One) (p Two) halves.0 in
+    let high = and_parts (p Three) (p Four) halves.1 in
+    of_streams (λ n. p n ≡ true) low.0 low.1 high.0 high.1
+
+-- and what holds of each of the eight schemes
+pub of_scheme : (P : Scheme → Type 0) → P BpskHalf → P QpskHalf → P QpskThreeQuarters → P Qam16Half
+    → P Qam16ThreeQuarters → P Qam64TwoThirds → P Qam64ThreeQuarters → P Qam64FiveSixths → (s : Scheme) → P s
+of_scheme P a b c d e f g h BpskHalf = a
+of_scheme P a b c d e f g h QpskHalf = b
+of_scheme P a b c d e f g h QpskThreeQuarters = c
+of_scheme P a b c d e f g h Qam16Half = d
+of_scheme P a b c d e f g h Qam16ThreeQuarters = e
+of_scheme P a b c d e f g h Qam64TwoThirds = f
+of_scheme P a b c d e f g h Qam64ThreeQuarters = g
+of_scheme P a b c d e f g h Qam64FiveSixths = h
 
 -- a test of all eight schemes
 unfoldable pub each_scheme : (Scheme → Bool) → Bool
@@ -36,28 +56,19 @@ each_scheme p =
     ((p BpskHalf && p QpskHalf) && (p QpskThreeQuarters && p Qam16Half))
     && ((p Qam16ThreeQuarters && p Qam64TwoThirds) && (p Qam64ThreeQuarters && p Qam64FiveSixths))
 
-halves : (p : Scheme → Bool) → each_scheme p ≡ true →
-    (((p BpskHalf && p QpskHalf) ≡ true) × ((p QpskThreeQuarters && p Qam16Half) ≡ true))
-    × (((p Qam16ThreeQuarters && p Qam64TwoThirds) ≡ true) × ((p Qam64ThreeQuarters && p Qam64FiveSixths) ≡ true))
-unfolding each_scheme
-halves p e =
-    let whole =
-    and_parts ((p BpskHalf && p QpskHalf) && (p QpskThreeQuarters && p Qam16Half))
-    ((p Qam16ThreeQuarters && p Qam64TwoThirds) && (p Qam64ThreeQuarters && p Qam64FiveSixths)) e in (
-      and_parts (p BpskHalf && p QpskHalf) (p QpskThreeQuarters && p Qam16Half) whole.0,
-      and_parts (p Qam16ThreeQuarters && p Qam64TwoThirds) (p Qam64ThreeQuarters && p Qam64FiveSixths) whole.1,
-    )
-
 pub at_scheme : (p : Scheme → Bool) → each_scheme p ≡ true → (s : Scheme) → p s ≡ true
 unfolding each_scheme
-at_scheme p e BpskHalf = (and_parts _ (p QpskHalf) (halves p e).0.0).0
-at_scheme p e QpskHalf = (and_parts (p BpskHalf) _ (halves p e).0.0).1
-at_scheme p e QpskThreeQuarters = (and_parts _ (p Qam16Half) (halves p e).0.1).0
-at_scheme p e Qam16Half = (and_parts (p QpskThreeQuarters) _ (halves p e).0.1).1
-at_scheme p e Qam16ThreeQuarters = (and_parts _ (p Qam64TwoThirds) (halves p e).1.0).0
-at_scheme p e Qam64TwoThirds = (and_parts (p Qam16ThreeQuarters) _ (halves p e).1.0).1
-at_scheme p e Qam64ThreeQuarters = (and_parts _ (p Qam64FiveSixths) (halves p e).1.1).0
-at_scheme p e Qam64FiveSixths = (and_parts (p Qam64ThreeQuarters) _ (halves p e).1.1).1
+at_scheme p e =
+    let low = (p BpskHalf && p QpskHalf) && (p QpskThreeQuarters && p Qam16Half) in
+    let high = (p Qam16ThreeQuarters && p Qam64TwoThirds) && (p Qam64ThreeQuarters && p Qam64FiveSixths) in
+    let halves = and_parts low high e in
+    let lower = and_parts (p BpskHalf && p QpskHalf) (p QpskThreeQuarters && p Qam16Half) halves.0 in
+    let upper = and_parts (p Qam16ThreeQuarters && p Qam64TwoThirds) (p Qam64ThreeQuarters && p Qam64FiveSixths) halves.1 in
+    let first = and_parts (p BpskHalf) (p QpskHalf) lower.0 in
+    let second = and_parts (p QpskThreeQuarters) (p Qam16Half) lower.1 in
+    let third = and_parts (p Qam16ThreeQuarters) (p Qam64TwoThirds) upper.0 in
+    let fourth = and_parts (p Qam64ThreeQuarters) (p Qam64FiveSixths) upper.1 in
+    of_scheme (λ s. p s ≡ true) first.0 first.1 second.0 second.1 third.0 third.1 fourth.0 fourth.1
 
 -- a test of all 64 rates
 unfoldable pub each_rate : (Rate → Bool) → Bool

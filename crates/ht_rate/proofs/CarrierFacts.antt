@@ -1,5 +1,5 @@
 -- What the subcarriers of each bandwidth carry, by a test of every index.
-use Rattle.std.proofs.Common.{◌≡◌, ℕ, ◌+◌, ◌<◌, Bool, true, false, ◌&&◌, nat_eq, nat_lt, refl, sym, ap, subst, ◌∙◌}
+use Rattle.std.proofs.Common.{◌≡◌, ℕ, ◌+◌, ◌<◌, Bool, true, false, ◌&&◌, nat_eq, nat_lt, refl, sym, ap, subst}
 use Rattle.std.proofs.lemmas.Bool.{agree_below, agree_below_at, and_parts, eqb-true, ltb-true}
 use Rattle.ht_rate.specs.declared.kinds.Bandwidth.{Bandwidth}
 use Rattle.ht_rate.specs.declared.kinds.Bandwidth.TheVariants.{Mhz20, Mhz40}
@@ -11,12 +11,6 @@ use Rattle.ht_rate.specs.declared.rates.Rate.{Rate}
 use Rattle.ht_rate.specs.Schemes.{data_count, pilot_count}
 use Rattle.ht_rate.specs.Rates.{bandwidth_of, data_carriers_of, pilots_of, carriers_of}
 use Rattle.ht_rate.specs.Carriers.{carrier_at, carrier_of, data_before, index_of, IsAmong, IsInOrder}
-
--- what stands at an index at the bandwidth of a rate
-pub carrier_is : (r : Rate) (b : Bandwidth) (index : ℕ) (c : Carrier) → bandwidth_of r ≡ b
-    → c ≡ carrier_at b index → c ≡ carrier_of r index
-unfolding carrier_of
-carrier_is r b index c e is = is ∙ ap (λ (w : Bandwidth). carrier_at w index) (sym e)
 
 -- the number of each subcarrier is below the count of its kind
 is_among : Bandwidth → Carrier → Bool
@@ -40,6 +34,16 @@ carrier_of-among r index lt =
     (agree_below_at (λ i. is_among r.bandwidth (carrier_at r.bandwidth i)) (λ _. true)
     (data_count r.bandwidth + pilot_count r.bandwidth) index (tests r.bandwidth) lt)
 
+-- what holds at both bandwidths, whatever the streams and the scheme, holds of any rate
+at_both : (P : Rate → Type 0)
+    → ((n : Streams) (s : Scheme) → P (record { bandwidth = Mhz20; streams = n; scheme = s }))
+    → ((n : Streams) (s : Scheme) → P (record { bandwidth = Mhz40; streams = n; scheme = s })) → (r : Rate) → P r
+at_both P narrow wide r = by_width r.bandwidth r.streams r.scheme
+  where
+    by_width : (b : Bandwidth) (n : Streams) (s : Scheme) → P (record { bandwidth = b; streams = n; scheme = s })
+    by_width Mhz20 = narrow
+    by_width Mhz40 = wide
+
 -- subcarriers are numbered in order, and those for data are counted
 is_in_order : Rate → ℕ → Carrier → Bool
 is_in_order r index (Data m) = nat_eq m (data_before r index)
@@ -47,13 +51,7 @@ is_in_order r index (Pilot k) = nat_eq (k + data_before r index) index
 
 order_tests : (r : Rate) → agree_below (λ i. is_in_order r i (carrier_of r i)) (λ _. true) (carriers_of r) ≡ true
 unfolding is_in_order data_before carrier_of carrier_at carriers_of data_carriers_of pilots_of bandwidth_of
-order_tests r = by_width r.bandwidth r.streams r.scheme
-  where
-    by_width : (b : Bandwidth) (n : Streams) (s : Scheme)
-        → let r : Rate = record { bandwidth = b; streams = n; scheme = s } in
-        agree_below (λ i. is_in_order r i (carrier_of r i)) (λ _. true) (carriers_of r) ≡ true
-    by_width Mhz20 n s = refl
-    by_width Mhz40 n s = refl
+order_tests = at_both (λ r. agree_below (λ i. is_in_order r i (carrier_of r i)) (λ _. true) (carriers_of r) ≡ true) (λ n s. refl) (λ n s. refl)
 
 ordered : (r : Rate) (index : ℕ) (c : Carrier) → is_in_order r index c ≡ true → IsInOrder r index c
 unfolding is_in_order
@@ -66,12 +64,7 @@ carrier_of-in_order r index lt =
 
 pub data_before-all : (r : Rate) → data_before r (carriers_of r) ≡ data_carriers_of r
 unfolding data_before carrier_of carrier_at carriers_of data_carriers_of pilots_of bandwidth_of
-data_before-all r = by_width r.bandwidth r.streams r.scheme
-  where
-    by_width : (b : Bandwidth) (n : Streams) (s : Scheme)
-        → let r : Rate = record { bandwidth = b; streams = n; scheme = s } in data_before r (carriers_of r) ≡ data_carriers_of r
-    by_width Mhz20 n s = refl
-    by_width Mhz40 n s = refl
+data_before-all = at_both (λ r. data_before r (carriers_of r) ≡ data_carriers_of r) (λ n s. refl) (λ n s. refl)
 
 -- an index has a subcarrier, and that subcarrier this index
 returns_to : Rate → ℕ → Bool
@@ -79,12 +72,7 @@ returns_to r index = nat_eq (index_of r (carrier_of r index)) index
 
 index_tests : (r : Rate) → agree_below (returns_to r) (λ _. true) (carriers_of r) ≡ true
 unfolding returns_to index_of carrier_of carrier_at carriers_of data_carriers_of pilots_of bandwidth_of
-index_tests r = by_width r.bandwidth r.streams r.scheme
-  where
-    by_width : (b : Bandwidth) (n : Streams) (s : Scheme)
-        → let r : Rate = record { bandwidth = b; streams = n; scheme = s } in agree_below (returns_to r) (λ _. true) (carriers_of r) ≡ true
-    by_width Mhz20 n s = refl
-    by_width Mhz40 n s = refl
+index_tests = at_both (λ r. agree_below (returns_to r) (λ _. true) (carriers_of r) ≡ true) (λ n s. refl) (λ n s. refl)
 
 pub index_of-carrier_of : (r : Rate) (index : ℕ) → index < carriers_of r → index_of r (carrier_of r index) ≡ index
 unfolding returns_to
@@ -106,35 +94,25 @@ same_carrier-true (Pilot k) (Data m) e = cc
 stands : Rate → Carrier → Bool
 stands r c = nat_lt (index_of r c) (carriers_of r) && same_carrier (carrier_of r (index_of r c)) c
 
-data_tests : (r : Rate) → agree_below (λ m. stands r (Data m)) (λ _. true) (data_carriers_of r) ≡ true
-unfolding stands same_carrier index_of carrier_of carrier_at carriers_of data_carriers_of pilots_of bandwidth_of
-data_tests r = by_width r.bandwidth r.streams r.scheme
-  where
-    by_width : (b : Bandwidth) (n : Streams) (s : Scheme)
-        → let r : Rate = record { bandwidth = b; streams = n; scheme = s } in
-        agree_below (λ m. stands r (Data m)) (λ _. true) (data_carriers_of r) ≡ true
-    by_width Mhz20 n s = refl
-    by_width Mhz40 n s = refl
+-- each subcarrier for data, and each pilot
+AreTested : Rate → Type 0
+AreTested r =
+    (agree_below (λ m. stands r (Data m)) (λ _. true) (data_carriers_of r) ≡ true) × (agree_below (λ k. stands r (Pilot k)) (λ _. true) (pilots_of r) ≡ true)
 
-pilot_tests : (r : Rate) → agree_below (λ k. stands r (Pilot k)) (λ _. true) (pilots_of r) ≡ true
-unfolding stands same_carrier index_of carrier_of carrier_at carriers_of data_carriers_of pilots_of bandwidth_of
-pilot_tests r = by_width r.bandwidth r.streams r.scheme
-  where
-    by_width : (b : Bandwidth) (n : Streams) (s : Scheme)
-        → let r : Rate = record { bandwidth = b; streams = n; scheme = s } in
-        agree_below (λ k. stands r (Pilot k)) (λ _. true) (pilots_of r) ≡ true
-    by_width Mhz20 n s = refl
-    by_width Mhz40 n s = refl
+stand_tests : (r : Rate) → AreTested r
+unfolding AreTested stands same_carrier index_of carrier_of carrier_at carriers_of data_carriers_of pilots_of bandwidth_of
+stand_tests = at_both AreTested (λ n s. (refl, refl)) (λ n s. (refl, refl))
 
 found : (r : Rate) (c : Carrier) → stands r c ≡ true → (index_of r c < carriers_of r) × (carrier_of r (index_of r c) ≡ c)
 unfolding stands
 found r c e = let parts = and_parts _ _ e in (ltb-true _ _ parts.0, same_carrier-true _ _ parts.1)
 
 pub carrier_of-index_of : (r : Rate) (c : Carrier) → IsAmong r c → (index_of r c < carriers_of r) × (carrier_of r (index_of r c) ≡ c)
-carrier_of-index_of r (Data m) lt = found r (Data m) (agree_below_at (λ m. stands r (Data m)) (λ _. true) (data_carriers_of r) m (data_tests r) lt)
-carrier_of-index_of r (Pilot k) lt = found r (Pilot k) (agree_below_at (λ k. stands r (Pilot k)) (λ _. true) (pilots_of r) k (pilot_tests r) lt)
+unfolding AreTested
+carrier_of-index_of r (Data m) lt = found r (Data m) (agree_below_at (λ m. stands r (Data m)) (λ _. true) (data_carriers_of r) m (stand_tests r).0 lt)
+carrier_of-index_of r (Pilot k) lt = found r (Pilot k) (agree_below_at (λ k. stands r (Pilot k)) (λ _. true) (pilots_of r) k (stand_tests r).1 lt)
 
--- at a bandwidth there are its subcarriers
-pub index-below : (r : Rate) (b : Bandwidth) (index : ℕ) → bandwidth_of r ≡ b → index < carriers_of r → index < data_count b + pilot_count b
+-- at the bandwidth of a rate there are its subcarriers
+pub index-below : (r : Rate) (b : Bandwidth) (index : ℕ) → b ≡ bandwidth_of r → index < carriers_of r → index < data_count b + pilot_count b
 unfolding carriers_of data_carriers_of pilots_of bandwidth_of
-index-below r b index e lt = subst (λ (w : Bandwidth). index < data_count w + pilot_count w) e lt
+index-below r b index e lt = subst (λ (w : Bandwidth). index < data_count w + pilot_count w) (sym e) lt

@@ -5,16 +5,13 @@ use Rattle.std.proofs.lemmas.Bool.Decides.{nat_tests}
 use Rattle.ht_rate.specs.declared.kinds.Bandwidth.{Bandwidth}
 use Rattle.ht_rate.specs.declared.kinds.Bandwidth.TheVariants.{Mhz20, Mhz40}
 use Rattle.ht_rate.specs.declared.parts.Streams.{Streams}
-use Rattle.ht_rate.specs.declared.parts.Streams.TheVariants.{One, Two, Three, Four}
 use Rattle.ht_rate.specs.declared.parts.Scheme.{Scheme}
-use Rattle.ht_rate.specs.declared.parts.Scheme.TheVariants.{BpskHalf, QpskHalf, QpskThreeQuarters, Qam16Half, Qam16ThreeQuarters}
-use Rattle.ht_rate.specs.declared.parts.Scheme.TheVariants.{Qam64TwoThirds, Qam64ThreeQuarters, Qam64FiveSixths}
 use Rattle.ht_rate.specs.declared.rates.Rate.{Rate}
 use Rattle.ht_rate.specs.declared.rates.RateFault.{RateFault}
 use Rattle.ht_rate.specs.Rates.{rate_of, rate_at, bandwidth_of, streams_of, mcs_of}
 use Rattle.ht_rate.specs.Schemes.{bandwidth_at, bandwidth_code, streams_at, scheme_at, count_of, number_of}
 use Rattle.ht_rate.proofs.RateFacts.{mcs_of-range}
-use Rattle.ht_rate.proofs.AllRates.{each_bandwidth, each_streams, each_scheme, each_rate, at_rate}
+use Rattle.ht_rate.proofs.AllRates.{of_streams, of_scheme, each_bandwidth, each_streams, each_scheme, each_rate, at_rate}
 
 -- three parts at a code and an index are the rate there
 pub made : (bw mcs : ℕ) (b : Bandwidth) (n : Streams) (s : Scheme) → b ≡ bandwidth_at bw → n ≡ streams_at (mcs / 8) → s ≡ scheme_at (mcs % 8) →
@@ -46,20 +43,10 @@ rate_at-given bw mcs low high = (rate_at-bandwidth bw mcs (omega arith), rate_at
 
 -- and each rate is made so from its own
 pub streams_at-count : (n : Streams) → streams_at (count_of n - 1) ≡ n
-streams_at-count One = refl
-streams_at-count Two = refl
-streams_at-count Three = refl
-streams_at-count Four = refl
+streams_at-count = of_streams (λ n. streams_at (count_of n - 1) ≡ n) refl refl refl refl
 
 pub scheme_at-number : (s : Scheme) → scheme_at (number_of s) ≡ s
-scheme_at-number BpskHalf = refl
-scheme_at-number QpskHalf = refl
-scheme_at-number QpskThreeQuarters = refl
-scheme_at-number Qam16Half = refl
-scheme_at-number Qam16ThreeQuarters = refl
-scheme_at-number Qam64TwoThirds = refl
-scheme_at-number Qam64ThreeQuarters = refl
-scheme_at-number Qam64FiveSixths = refl
+scheme_at-number = of_scheme (λ s. scheme_at (number_of s) ≡ s) refl refl refl refl refl refl refl refl
 
 pub bandwidth_at-code : (b : Bandwidth) → bandwidth_at (bandwidth_code b) ≡ b
 bandwidth_at-code Mhz20 = refl

@@ -10,16 +10,8 @@ use Rattle.ht_rate.specs.declared.kinds.Pattern.TheVariants.{Half, TwoThirds, Th
 use Rattle.ht_rate.specs.declared.parts.Streams.{Streams}
 use Rattle.ht_rate.specs.declared.parts.Streams.TheVariants.{One, Two, Three, Four}
 use Rattle.ht_rate.specs.declared.parts.Scheme.{Scheme}
-use Rattle.ht_rate.specs.declared.parts.Scheme.TheVariants.{
-  BpskHalf,
-  QpskHalf,
-  QpskThreeQuarters,
-  Qam16Half,
-  Qam16ThreeQuarters,
-  Qam64TwoThirds,
-  Qam64ThreeQuarters,
-  Qam64FiveSixths,
-}
+use Rattle.ht_rate.specs.declared.parts.Scheme.TheVariants.{BpskHalf, QpskHalf, QpskThreeQuarters, Qam16Half, Qam16ThreeQuarters}
+use Rattle.ht_rate.specs.declared.parts.Scheme.TheVariants.{Qam64TwoThirds, Qam64ThreeQuarters, Qam64FiveSixths}
 
 -- N_SS, the number of spatial streams
 abbrev pub count_of : Streams → ℕ

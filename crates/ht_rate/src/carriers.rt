@@ -1,6 +1,7 @@
 //! What each subcarrier carries (clauses 20.3.11.10 and 20.3.11.11).
-ghost use Rattle.std.specs.Prelude.{◌≡◌, ◌<◌};
+ghost use Rattle.std.specs.Prelude.{◌≡◌, ◌+◌, ◌<◌};
 ghost use Rattle.ht_rate.specs.declared.kinds.Bandwidth.TheVariants.{Mhz20, Mhz40};
+ghost use Rattle.ht_rate.specs.Schemes.{data_count, pilot_count};
 ghost use Rattle.ht_rate.specs.Carriers.{carrier_at, carrier_of, IsAmong};
 ghost use Rattle.ht_rate.specs.Rates.{carriers_of};
 
@@ -47,14 +48,23 @@ impl Rate {
         ensures value { result ≡ carrier_of self.now index }
         ensures within { IsAmong self.now result }
     {
-        match self.bandwidth() {
-            Bandwidth::Mhz20 => carrier_20(index),
-            Bandwidth::Mhz40 => carrier_40(index),
-        }
+        carrier(self.bandwidth(), index)
     }
 }
 
-// What a subcarrier carries at 20 MHz.
+// What a subcarrier carries at a bandwidth.
+#[inline]
+fn carrier(bandwidth: Bandwidth, index: u8) -> Carrier
+    requires { index < data_count bandwidth + pilot_count bandwidth }
+    ensures { result ≡ carrier_at bandwidth index }
+{
+    match bandwidth {
+        Bandwidth::Mhz20 => carrier_20(index),
+        Bandwidth::Mhz40 => carrier_40(index),
+    }
+}
+
+// The same at 20 MHz.
 fn carrier_20(index: u8) -> Carrier
     requires { index < 56 }
     ensures { result ≡ carrier_at Mhz20 index }

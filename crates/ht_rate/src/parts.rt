@@ -1,13 +1,7 @@
 //! What an MCS index is made of: a number of spatial streams and a scheme of modulation and coding.
 ghost use Rattle.std.specs.Prelude.{◌≡◌, ◌<◌, ◌≤◌};
-ghost use Rattle.ht_rate.specs.Schemes.{
-  count_of,
-  streams_at,
-  number_of,
-  scheme_at,
-  scheme_modulation,
-  scheme_pattern,
-};
+ghost use Rattle.ht_rate.specs.Schemes.{count_of, streams_at, number_of, scheme_at};
+ghost use Rattle.ht_rate.specs.Schemes.{scheme_modulation, scheme_pattern};
 
 use crate::kinds::{Modulation, Pattern};
 

@@ -1,8 +1,6 @@
 //! Lines of frames, put, and the end line.
-ghost use Rattle.std.specs.Prelude.{◌≡◌, ◌≢◌, ◌-◌, ◌^◌, ◌<◌, ◌≤◌, Err, true};
-ghost use Rattle.ht_io.specs.Devices.{IsLater};
-ghost use Rattle.ht_runs.specs.declared.faults.RunFault.TheVariants.{Write};
-ghost use Rattle.ht_receive.specs.Receiving.{PutsFrames};
+ghost use Rattle.std.specs.Prelude.{◌≡◌, ◌-◌, ◌^◌, ◌<◌, ◌≤◌, true};
+ghost use Rattle.ht_receive.specs.Ends.{PutsToEnd};
 
 use crate::receiving::receive_alone;
 use ht_endings::put_end;
@@ -41,15 +39,8 @@ where
     requires going { (R.counts reader).going ≡ true }
     requires fresh { (R.counts reader).given ≡ 0 }
     requires bounded { (R.counts reader).more < 2 ^ 64 - 1 }
-    ensures puts { PutsFrames R.means R.at reader head U.Whole.Result.line (U.results under_way)
+    ensures { PutsToEnd R.means R.at reader head U.Whole.Result.line (U.results under_way)
         (S.shown source.old) (S.shown source.new) (K.shown sink.old) (K.shown sink.new) result }
-
-    // Where the sink failed the answer is `Write`, whatever else failed.
-    ensures writes { result ≢ Err Write → (K.shown sink.new).faults ≡ (K.shown sink.old).faults }
-
-    // However it ends, the devices are the same, and take back no fault.
-    ensures reads_later { IsLater (S.shown source.old) (S.shown source.new) }
-    ensures puts_later { IsLater (K.shown sink.old) (K.shown sink.new) }
 {
     let mut book = TextBook::new(alloc, sink);
     let ended = receive_alone(

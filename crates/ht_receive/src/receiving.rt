@@ -1,8 +1,6 @@
 //! Results of frames, booked.
-ghost use Rattle.std.specs.Prelude.{◌≡◌, ◌≢◌, ◌-◌, ◌^◌, ◌<◌, ◌≤◌, Err, true};
-ghost use Rattle.ht_io.specs.Devices.{IsLater};
-ghost use Rattle.ht_runs.specs.declared.faults.StopFault.TheVariants.{Write};
-ghost use Rattle.ht_feed.specs.Outcomes.{Comes};
+ghost use Rattle.std.specs.Prelude.{◌≡◌, ◌-◌, ◌^◌, ◌<◌, ◌≤◌, true};
+ghost use Rattle.ht_feed.specs.Inputs.{TellsInput};
 ghost use Rattle.ht_receive.specs.Receiving.{books};
 
 use ht_feed::{BlockReader, Ended, Hits, Work, tell_alone};
@@ -41,16 +39,9 @@ pub fn receive_alone<
     requires going { (R.counts reader).going ≡ true }
     requires fresh { (R.counts reader).given ≡ 0 }
     requires bounded { (R.counts reader).more < 2 ^ 64 - 1 }
-    ensures tells { Comes R.means R.at reader head (S.shown source.old) (S.shown source.new)
-        (books B.booked (U.results under_way) (B.shown book.old)) (books B.booked (U.results under_way) (B.shown book.new)) result }
-
-    // Where the book failed the answer is `Write`, whatever else failed.
-    ensures writes { result ≢ Err Write → (B.shown book.new).faults ≡ (B.shown book.old).faults }
-
-    // However it ends, the devices are the same, and take back no fault.
-    ensures reads_later { IsLater (S.shown source.old) (S.shown source.new) }
-    ensures books_later { IsLater (B.shown book.old) (B.shown book.new) }
-    ensures same { B.lent book.new ≡ B.lent book.old }
+    ensures { TellsInput R.means R.at reader head (S.shown source.old) (S.shown source.new)
+        (books B.booked (U.results under_way) (B.shown book.old)) (books B.booked (U.results under_way) (B.shown book.new))
+        (B.lent book.old) (B.lent book.new) result }
 {
     let mut under_way = under_way;
     let mut receiver = Receiver::new(alloc, &mut under_way, book);

@@ -72,7 +72,7 @@ impl Work for Squares {
         1
     }
 
-    fn run(&self, task: u32) -> Squared {
+    fn answer_to(&self, task: u32) -> Squared {
         self.enter();
         let wide = u64::from(task);
         Squared {
@@ -107,7 +107,7 @@ fn lead<R: Wait>(rt: &R, work: &Squares, helm: &mut Helm<'_, Squares>) -> u64
     for number in 0..1000 {
         match helm.give(number) {
             Ok(()) => waiting += 1,
-            Err(back) => sum = sum.wrapping_add(work.run(back).square),
+            Err(back) => sum = sum.wrapping_add(work.answer_to(back).square),
         }
     }
     for _ in rt.forever() {

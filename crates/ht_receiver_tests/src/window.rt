@@ -76,7 +76,7 @@ fn two_slots(rt: HostRuntime) -> Result<(), Fail> {
 #[test]
 fn without_slots(rt: HostRuntime) -> Result<(), Fail> {
     let mut window = Window::new(rt.alloc(), 1, 7)?;
-    window.pass(2);
+    window.skip(2);
     window.issue(job(9, 3));
     assert_eq!(rt; accept(&mut window, 9, 3), Accepted::Booked);
     assert_eq!(rt; number_of(window.emit()), Some(9));

@@ -10,3 +10,4 @@ pub mod Folded
 mod Worked
 pub mod Present
 pub mod Taking
+pub mod Runs

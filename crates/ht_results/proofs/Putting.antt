@@ -15,7 +15,7 @@ arranged row columns column w =
 
 module _ {V : Type 0} where
   -- behind a front the front stays
-  put_behind : (vs xs ys : List V) (n at : ℕ) → length xs ≡ n → put_values (xs ++ ys) (n + at) vs ≡ xs ++ put_values ys at vs
+  pub put_behind : (vs xs ys : List V) (n at : ℕ) → length xs ≡ n → put_values (xs ++ ys) (n + at) vs ≡ xs ++ put_values ys at vs
   put_behind [] xs ys n at is = refl
   put_behind (v ∷ vs) xs ys n at is =
       let here : n + at - n ≡ at = omega arith in

@@ -1,9 +1,13 @@
 -- One job more of a frame that is under way, for whatever is kept of jobs.
-use Rattle.std.proofs.Common.{◌≡◌, ℕ, ◌==◌, List, [], ◌∷◌, ◌++◌, Bool, true, false, if◌then◌else◌, refl, sym, ap, ◌∙◌}
+use Rattle.std.proofs.Common.{◌≡◌, ℕ, ◌==◌, ◌≤◌, List, [], ◌∷◌, ◌++◌, length, map, Bool, true, false, if◌then◌else◌}
+use Rattle.std.proofs.Common.{refl, sym, ap, ◌∙◌, arith}
+use Rattle.std.proofs.lemmas.Bool.Decides.{nat_tests}
 use Rattle.ht_frames.specs.Gathering.{finished}
 use Rattle.ht_inverse.specs.declared.decoded.Decoded.{Decoded}
+use Rattle.ht_metric.specs.Jobs.{JobView}
 use Rattle.ht_results.specs.declared.frame_result.FrameResult.{FrameResult}
-use Rattle.ht_results.specs.Plans.{Fold, SoFar, given_from, given_if}
+use Rattle.ht_results.specs.Plans.{Fold, Plan, SoFar, given_from, given_if, with_kind_by}
+use Rattle.ht_results.proofs.Steps.{left_after, with_all}
 
 pub finished_if : {R : Type 0} (last : Bool) (result : R) → (if last then result ∷ [] else []) ≡ finished last result
 finished_if true result = refl
@@ -22,6 +26,29 @@ module _ {X H V R : Type 0} (fold : Fold X H V R) where
   pub begins_alike : (f g : SoFar H V) → ((x : X) → fold.step x f ≡ fold.step x g) → (jobs : List X) → given_from fold f jobs ≡ given_from fold g jobs
   begins_alike f g same [] = refl
   begins_alike f g same (x ∷ xs) = ap (λ (z : SoFar H V). given_if fold z ++ given_from fold z xs) (same x)
+
+-- some are left
+pub some_left : (n : ℕ) → 1 ≤ n → n == 0 ≡ false
+some_left n some = grind (arith, nat_tests)
+
+-- jobs of the frame that is under way, no more than are still to come: its result comes with its last job
+module _ {X H V R : Type 0} (fold : Fold X H V R) (plan : Plan H V) (headed : JobView → X)
+    (goes_on : (job : JobView) (f : SoFar H V) → 1 ≤ f.left → fold.step (headed job) f ≡ with_kind_by plan job f) where
+  pub takes_all : (jobs : List JobView) (f : SoFar H V) (more : List X) → 1 ≤ length jobs → length jobs ≤ f.left
+      → given_from fold f (map headed jobs ++ more)
+      ≡ finished ((with_all plan f jobs).left == 0) (fold.result (with_all plan f jobs)) ++ given_from fold (with_all plan f jobs) more
+  takes_all [] f more some few = absurd (omega (arith, some))
+  takes_all (job ∷ []) f more some few =
+      let g : SoFar H V = with_kind_by plan job f in
+      takes fold f g (g.left == 0) (headed job) more (sym (goes_on job f (omega (arith, few)))) refl
+  takes_all (job ∷ next ∷ jobs) f more some few =
+      let g : SoFar H V = with_kind_by plan job f in
+      let rest : List X = map headed (next ∷ jobs) ++ more in
+      let left = left_after plan job f in
+      let other : g.left == 0 ≡ false = some_left g.left (omega (arith, few, left)) in
+      takes fold f g (g.left == 0) (headed job) rest (sym (goes_on job f (omega (arith, few)))) refl
+      ∙ (ap (λ (b : Bool). finished b (fold.result g) ++ given_from fold g rest) other
+      ∙ takes_all (next ∷ jobs) g more (omega arith) (omega (arith, few, left)))
 
 -- a frame of this number, whose labels are decoded so
 module _ {H : Type 0} (number : H → ℕ) (decoded : H → List ℕ → Decoded) where

@@ -3,6 +3,8 @@ pub mod Heads
 pub mod Labels
 pub mod Results
 pub mod Texts
+pub mod JobTexts
 pub mod Captured
 pub mod Folding
 pub mod Distances
+pub mod PlacedLabels

@@ -1,5 +1,5 @@
 //! The places of a frame.
-ghost use Rattle.std.specs.Prelude.{◌≡◌, ◌<◌, ◌≤◌, IsTrue};
+ghost use Rattle.std.specs.Prelude.{◌≡◌, ◌↔◌, ◌<◌, ◌≤◌, IsTrue};
 ghost use Rattle.ht_capture.specs.Files.{is_erased as erased_at, present_among};
 ghost use Rattle.ht_rate.specs.Rates.{carriers_of};
 ghost use Rattle.ht_results.specs.Folding.{jobs_in_frame, kind_of};
@@ -68,7 +68,7 @@ pub fn no_head() -> FrameHead {
 
 /// Whether both are the same head, as `==` says too.
 pub fn same_head(head: &FrameHead, other: &FrameHead) -> bool
-    ensures { IsTrue result → head.now ≡ other.now }
+    ensures { IsTrue result ↔ (head.now ≡ other.now) }
 {
     *head == *other
 }

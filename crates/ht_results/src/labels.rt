@@ -1,5 +1,5 @@
 //! Labels of a frame, by their places.
-ghost use Rattle.std.specs.Prelude.{◌≡◌, IsTrue, set};
+ghost use Rattle.std.specs.Prelude.{◌≡◌, ◌↔◌, IsTrue, set};
 ghost use Rattle.ht_results.specs.Folding.{label_at};
 
 use ht_map::label;
@@ -27,7 +27,7 @@ pub fn put_kept<T: Copy>(kept: &mut [T], at: usize, value: T)
 
 /// Whether both have the same labels, as `==` says too.
 pub fn same_labels(labels: &[u8], other: &[u8]) -> bool
-    ensures { IsTrue result → labels.now ≡ other.now }
+    ensures { IsTrue result ↔ (labels.now ≡ other.now) }
 {
     labels == other
 }

@@ -5,7 +5,8 @@
 //! Its sums are those of the distances of the nearest vectors, over the data subcarriers and over the pilots
 //! (`data_sum_of`, `pilot_sum_of`), and its labels are looked up place by place (`frame_labels` in `specs/Labels.antt`)
 //! and decoded (`decoded_frame` of `ht_inverse`). `rx_text` in `specs/Texts.antt` is the text of it, with the last line.
-//! None of these goes over the jobs in the order in which a receiver takes them.
+//! None of these goes over the jobs in the order in which a receiver takes them. Beside it `detect_text` in
+//! `specs/JobTexts.antt` is the text that has a line for each job (`lines_of`), with the same last line.
 //!
 //! `results_from` in `specs/Folding.antt` does: from a frame under way, each job adds its distance to a sum and puts its
 //! labels on their places, and a frame's last job gives its result. The module [`laws`] says that both come to the same,
@@ -27,8 +28,10 @@ mod headed;
 mod labels;
 pub mod laws;
 mod line;
+mod placed_labels;
 
 pub use frame_places::{jobs_in, kind, no_head, same_head};
 pub use frame_result::FrameResult;
 pub use headed::Headed;
 pub use labels::{label_for, put_kept, same_labels};
+pub use placed_labels::PlacedLabels;

@@ -3,7 +3,7 @@ use Rattle.std.proofs.Common.{◌≡◌, ℕ, suc, ◌+◌, ◌-◌, ◌*◌, �
 use Rattle.std.proofs.Common.{Bool, true, false, true≢false, refl, sym, ap, ◌∙◌, arith, length-append, length-drop}
 use Rattle.std.specs.Prelude.{not}
 use Rattle.std.specs.List.{list_all}
-use Rattle.std.proofs.lemmas.List.{get_or_append_left, get_or-append_right, get_or-drop, get_or-replicate, get_or-take, length-replicate, length-take}
+use Rattle.std.proofs.lemmas.List.{get_or_append_left, get_or-drop, get_or-take}
 use Rattle.std.proofs.lemmas.List.{length-take-le, take-append-drop}
 use Rattle.std.proofs.lemmas.List.FromFn.{length-map-range_with_len, get_or-map-range_with_len}
 use Rattle.std.proofs.Math.Nat.{mul-div_cancel_left, mul-le-mul_left, mul_assoc, mul_comm, mul-add}
@@ -17,32 +17,13 @@ use Rattle.ht_rate.proofs.RateFacts.{data_bits_of-shared, encoders_of-range}
 use Rattle.ht_scramble.specs.Sequence.{scrambled, sequence}
 use Rattle.ht_scramble.proofs.Lists.{length-scrambled_from, scrambled-at}
 use Rattle.ht_conv.specs.Code.{sent_bits}
+use Rattle.ht_data.proofs.Scrambled.{zeroed-at}
 use Rattle.ht_tx.specs.Frames.{FrameView}
-use Rattle.ht_tx.specs.Coded.{coded_of, coder_input, data_of, part_of, service_and_octets, tail_of, zeroed}
+use Rattle.ht_tx.specs.Coded.{coded_of, coder_input, data_of, part_of, service_and_octets, tail_of}
 use Rattle.ht_tx.proofs.Coded.{length-coder_input, length-data_of, tail-within}
 use Rattle.ht_viterbi.proofs.Nearest.{terminated-from, ends-test}
 use Rattle.ht_inverse.specs.Sent.{AreCodedOf}
 use Rattle.ht_inverse.proofs.Codewords.{data-bits, steps-some}
-
--- before the zeroed places bits are as they were
-zeroed-before : (bits : List Bool) (at count k : ℕ) → at + count ≤ length bits → k < at → get_or (zeroed at count bits) k false ≡ get_or bits k false
-zeroed-before bits at count k le lt =
-    let low : length (take at bits) ≡ at = omega (arith, length-take at bits) in
-    let mid : length (take at bits ++ replicate count false) ≡ at + count =
-    omega (arith, length-append (take at bits) (replicate count false), length-replicate count false, low) in
-    get_or_append_left (take at bits ++ replicate count false) (drop (at + count) bits) false k (omega (arith, mid, lt))
-    ∙ (get_or_append_left (take at bits) (replicate count false) false k (omega (arith, low, lt))
-    ∙ get_or-take at bits k false lt)
-
--- and there they are 0
-zeroed-there : (bits : List Bool) (at count k : ℕ) → at + count ≤ length bits → at ≤ k → k < at + count → get_or (zeroed at count bits) k false ≡ false
-zeroed-there bits at count k le ge lt =
-    let low : length (take at bits) ≡ at = omega (arith, length-take at bits) in
-    let mid : length (take at bits ++ replicate count false) ≡ at + count =
-    omega (arith, length-append (take at bits) (replicate count false), length-replicate count false, low) in
-    get_or_append_left (take at bits ++ replicate count false) (drop (at + count) bits) false k (omega (arith, mid, lt))
-    ∙ (get_or-append_right (take at bits) (replicate count false) at k false low ge
-    ∙ get_or-replicate count (k - at) false false (omega (arith, ge, lt)))
 
 -- a scrambled bit doesn't depend on what follows it
 scrambled-front : (seed : ℕ) (a b : List Bool) (k : ℕ) → k < length a → get_or (scrambled seed (a ++ b)) k false ≡ get_or (scrambled seed a) k false
@@ -67,7 +48,7 @@ given-before f k lt =
     let b = length-data_of f in
     let c = tail-within f in
     omega (arith, a, b, c) in
-    zeroed-before (scrambled f.seed (plain_of f ++ rest)) (service_and_octets f) (tail_of f) k long lt
+    (zeroed-at (scrambled f.seed (plain_of f ++ rest)) (service_and_octets f) (tail_of f) k long).0 lt
     ∙ scrambled-front f.seed (plain_of f) rest k (omega (arith, lt, length-plain f))
 
 given-there : (f : FrameView) (k : ℕ) → 16 + 8 * length f.octets ≤ k → k < 16 + 8 * length f.octets + 6 * encoders_of f.rate
@@ -79,7 +60,7 @@ given-there f k ge lt =
     let b = length-data_of f in
     let c = tail-within f in
     omega (arith, a, b, c) in
-    zeroed-there (scrambled f.seed (data_of f)) (service_and_octets f) (tail_of f) k long ge lt
+    (zeroed-at (scrambled f.seed (data_of f)) (service_and_octets f) (tail_of f) k long).1 ge lt
 
 -- the part of an encoder has all steps of its codeword
 steps-within : (f : FrameView) → steps_of f.rate (length f.octets) ≤ length (coder_input f) / encoders_of f.rate

@@ -24,7 +24,7 @@ use Rattle.ht_results.specs.Heads.{headed_jobs}
 use Rattle.ht_rx.specs.Blocks.{in_block, jobs_in_blocks, told_of}
 use Rattle.ht_rx.specs.Heads.{jobs_alone}
 use Rattle.ht_rx.specs.Outcomes.{StopsBy, TellsTo}
-use Rattle.ht_rx.specs.Texts.{job_line_of, job_lines, line_at, lines_of}
+use Rattle.ht_results.specs.JobTexts.{job_line_of, job_lines, line_at, lines_of}
 use Rattle.ht_rx.proofs.Blocks.{comes_to}
 use Rattle.ht_rx.proofs.Heading.{jobs_of_octets}
 

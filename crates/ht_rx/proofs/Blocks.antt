@@ -1,11 +1,10 @@
 -- What a run of the feed over blocks comes to, said of the octets of a capture.
-use Rattle.std.specs.Prelude.{◌≡◌, ℕ, ◌+◌, ◌<◌, List, [], ◌∷◌, ◌++◌, length, map, take, Option, None, Some, IfSome, Result, Ok, Err, IsErr, IsErrAnd, MatchResult}
-use Rattle.std.proofs.Common.{refl, ap, ◌∙◌, sym, subst, inl, inr, arith, length-take}
-use Rattle.std.proofs.Math.Path.{fun_ext}
+use Rattle.std.specs.Prelude.{◌≡◌, ℕ, ◌+◌, List, [], ◌∷◌, ◌++◌, length, map, Option, Result, Ok, Err, IsErr, IsErrAnd, MatchResult}
+use Rattle.std.proofs.Common.{refl, ap, ◌∙◌, sym, subst, arith}
 use Rattle.ht_io.specs.Devices.{Device}
 use Rattle.ht_io.specs.declared.faults.FormatFault.{FormatFault}
 use Rattle.ht_fields.specs.Meanings.{Meaning}
-use Rattle.ht_fields.specs.Readers.{EndsAt, IsEarly, ReaderView}
+use Rattle.ht_fields.specs.Readers.{ReaderView}
 use Rattle.ht_metric.specs.Jobs.{JobView}
 use Rattle.ht_capture.specs.declared.items.FrameHead.{FrameHead}
 use Rattle.ht_capture.specs.declared.items.Item.{Item as CaptureItem}
@@ -18,16 +17,12 @@ use Rattle.ht_capture_laws.specs.Items.{FrameJobs, frames_in, items_in}
 use Rattle.ht_capture_laws.proofs.Parts.{frames_of as parts_of}
 use Rattle.ht_runs.specs.declared.faults.StopFault.{StopFault}
 use Rattle.ht_runs.specs.declared.faults.StopFault.TheVariants.{Read, Write, NoMemory}
-use Rattle.ht_runs.specs.Outcomes.{IsFrontOf, TellsBroken, TellsPieces, TellsRefused, TellsWhole}
-use Rattle.ht_runs.proofs.Fronts.{before_end, before_fault}
-use Rattle.ht_runs.proofs.Outcomes.{start as start_of}
 use Rattle.ht_feed.specs.declared.ended.Ended.{Ended}
 use Rattle.ht_feed.specs.declared.ended.Ended.TheVariants.{Done as EndedDone, Refused as EndedRefused}
 use Rattle.ht_feed.specs.Accounts.{Telling}
 use Rattle.ht_capture_blocks.specs.Captures.{items_of, mapped}
 use Rattle.ht_feed.specs.Items.{Item, Begins, One, Headed as BlockHeaded}
 use Rattle.ht_feed.specs.Items.{headed as block_headed, headed_of as block_headed_of, frames_of as block_frames, jobs_of as block_jobs}
-use Rattle.ht_feed.specs.Reading.{view}
 use Rattle.ht_feed.specs.Outcomes.{Comes, StopsBy as BlockStops, TellsTo as BlockTells}
 use Rattle.ht_endings.proofs.Runs.{broken, from_front, front, in_part, refused, whole}
 use Rattle.ht_results.specs.declared.headed.Headed.{Headed}
@@ -36,7 +31,7 @@ use Rattle.ht_results.specs.Texts.{frames_of}
 use Rattle.ht_results.proofs.Folded.{headed_is}
 use Rattle.ht_rx.specs.Blocks.{in_block, told_of}
 use Rattle.ht_rx.specs.Outcomes.{HasCounts, StopsBy, TellsTo}
-use Rattle.ht_rx.specs.Texts.{jobs_of}
+use Rattle.ht_results.specs.JobTexts.{jobs_of}
 
 -- the items of a capture out of its heads and jobs
 abbrev items_again : List (Item FrameHead) → List CaptureItem

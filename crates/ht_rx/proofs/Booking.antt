@@ -1,6 +1,6 @@
 -- The result of a frame, and the line of each.
 use Rattle.std.proofs.Common.{◌≡◌, ℕ, List, Result, MatchResult}
-use Rattle.std.proofs.Common.{refl, ap, ◌∙◌, subst}
+use Rattle.std.proofs.Common.{refl, subst}
 use Rattle.ht_io.specs.Devices.{Device}
 use Rattle.ht_inverse.specs.declared.decoded.Decoded.{Decoded}
 use Rattle.ht_inverse.specs.Decoding.{decoded_frame}

@@ -9,7 +9,7 @@ use Rattle.ht_capture.specs.Captures.{capture_of}
 use Rattle.ht_results.specs.Heads.{headed, headed_jobs}
 use Rattle.ht_results.proofs.Folded.{headed_is as headed_octets}
 use Rattle.ht_rx.specs.Heads.{jobs_alone}
-use Rattle.ht_rx.specs.Texts.{jobs_of}
+use Rattle.ht_results.specs.JobTexts.{jobs_of}
 use Rattle.ht_capture.specs.declared.items.Item.TheVariants.{Frame, Done}
 
 pub headed_is : (head : FrameHead) (octets : List ℕ) (items : List Item) → (capture_of octets).items ≡ items → headed head items ≡ headed_jobs octets

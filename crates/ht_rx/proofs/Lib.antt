@@ -6,3 +6,4 @@ pub mod BlockListing
 pub mod Gathered
 pub mod Stamping
 pub mod Writing
+pub mod Tallying

@@ -9,7 +9,7 @@ use Rattle.ht_runs.specs.declared.faults.StopFault.{StopFault}
 use Rattle.ht_runs.specs.declared.faults.StopFault.TheVariants.{Read, Write, NoMemory}
 use Rattle.ht_feed.specs.declared.ended.Ended.{Ended}
 use Rattle.ht_feed.specs.declared.ended.Ended.TheVariants.{Done, Refused}
-use Rattle.ht_rx.specs.Texts.{jobs_of}
+use Rattle.ht_results.specs.JobTexts.{jobs_of}
 
 -- a capture has this number of frames and of jobs
 pub record HasCounts (frames jobs : ℕ) (octets : List ℕ) : Type 0 where

@@ -1,6 +1,6 @@
 //! The lines of the jobs of a block.
 ghost use Rattle.std.specs.Prelude.{◌≡◌, ◌*◌, ◌^◌, ◌<◌, ◌≤◌, drop, length, IfOk};
-ghost use Rattle.ht_rx.specs.Texts.{job_lines};
+ghost use Rattle.ht_results.specs.JobTexts.{job_lines};
 
 use crate::front::Front;
 use crate::lines::{LINE, write_line};
@@ -49,7 +49,7 @@ pub(crate) struct LineWork<'g, G> {
 impl<'g, B: Jobs, G: Gate> Work<B> for LineWork<'g, G> {
     type Answer = Lines;
 
-    fn run(&self, block: &B) -> Result<Lines, AllocError> {
+    fn answer_to(&self, block: &B) -> Result<Lines, AllocError> {
         let mut octets = zeros(self.alloc, LINE * usize::from(block.size()))?;
         let (start, hard) = write_lines(&mut octets, block, self.gate);
         Ok(Lines {

@@ -1,6 +1,6 @@
 //! What the lines of a symbol's jobs begin with.
 ghost use Rattle.std.specs.Prelude.{◌≡◌, ◌+◌, ◌≤◌, ◌++◌, drop, length};
-ghost use Rattle.ht_rx.specs.Texts.{front_of};
+ghost use Rattle.ht_results.specs.JobTexts.{front_of};
 
 use crate::pieces::write_octet;
 use ht_metric::Place;

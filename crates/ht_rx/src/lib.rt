@@ -4,7 +4,8 @@
 //! an account (`Account` of crate `ht_feed`). What becomes of them is the account's alone: a [`Lister`] puts the lines
 //! of each block; the receivers of crate `ht_frames` book the [`FrameResult`] of each frame in a book once its last hit
 //! came. They ask an [`OpenFrame`], which keeps the labels of the frame under way. With the frame's last job it decodes
-//! them, or the frame leaves as [`WholeLabels`]. What an account puts in all is a function of the jobs that come, so
+//! them, or the frame leaves as [`WholeLabels`]. With several workers a block comes back as its [`Tally`], with the labels
+//! looked up and the distances summed by the worker who ran it; whoever takes it copies labels and adds two numbers. What an account puts in all is a function of the jobs that come, so
 //! that one set of lemmas says for every account what a whole capture, a fault, a source that fails and a full memory
 //! come to (`specs/Outcomes.antt`).
 //!
@@ -14,8 +15,8 @@
 //! 802.11-2012, clause 20.3.11, for symbols and subcarriers) the first nearest vector is found; the labels of a frame's
 //! data subcarriers are decoded by crate `ht_inverse`.
 //!
-//! What must be put for a list of octets is a definition over the octets alone: `lines_of`, and with the last line
-//! `detect_text`, in `specs/Texts.antt`; `frame_lines_of` and `rx_text` in `specs/Texts.antt` of `ht_results`.
+//! What must be put for a list of octets is a definition over the octets alone, in crate `ht_results`: `lines_of`, and with
+//! the last line `detect_text`, in its `specs/JobTexts.antt`; `frame_lines_of` and `rx_text` in its `specs/Texts.antt`.
 //!
 //! The capture `examples/z.htcp` has one frame of two symbols; its lines are
 //!
@@ -39,6 +40,7 @@ mod open_frame;
 mod pieces;
 mod receiving;
 mod receiving_text;
+mod tally;
 mod under_way;
 mod whole_labels;
 
@@ -51,4 +53,5 @@ pub use listing::{list, list_alone};
 pub use open_frame::OpenFrame;
 pub use receiving::{receive, receive_alone};
 pub use receiving_text::{receive_text, receive_text_alone};
+pub use tally::{Tally, TallyWork};
 pub use whole_labels::WholeLabels;

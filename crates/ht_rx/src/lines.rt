@@ -1,7 +1,7 @@
 //! The line of a job that was detected.
 ghost use Rattle.std.specs.Prelude.{◌≡◌, ◌+◌, ◌≤◌, ◌++◌, drop, length};
 ghost use Rattle.ht_text.specs.Lines.{spaced};
-ghost use Rattle.ht_rx.specs.Texts.{levels_of, line_at};
+ghost use Rattle.ht_results.specs.JobTexts.{levels_of, line_at};
 
 use crate::front::Front;
 use crate::pieces::{write_distance, write_level, write_octet};

@@ -1,7 +1,7 @@
 //! An account that puts the lines of each block.
 ghost use Rattle.std.specs.Prelude.{◌≡◌, ◌∷◌, [], refl};
 ghost use Rattle.ht_rx.specs.Blocks.{jobs_in_blocks};
-ghost use Rattle.ht_rx.specs.Texts.{job_lines};
+ghost use Rattle.ht_results.specs.JobTexts.{job_lines};
 
 use crate::block_lines::Lines;
 use circular_buffer::HeapCircularBuffer;

@@ -1,9 +1,7 @@
 //! Listing the jobs of a capture.
-ghost use Rattle.std.specs.Prelude.{◌≡◌, ◌≢◌, ◌≤◌, Err, MatchResult};
-ghost use Rattle.ht_io.specs.Devices.{IsLater};
-ghost use Rattle.ht_rx.specs.Outcomes.{StopsBy, TellsTo};
-ghost use Rattle.ht_rx.specs.Texts.{lines_of};
-ghost use Rattle.ht_runs.specs.declared.faults.StopFault.TheVariants.{Write};
+ghost use Rattle.std.specs.Prelude.{◌≤◌};
+ghost use Rattle.ht_rx.specs.Telling.{TellsCapture};
+ghost use Rattle.ht_results.specs.JobTexts.{lines_of};
 
 use crate::block_lines::LineWork;
 use crate::faults::RxFault;
@@ -36,16 +34,7 @@ pub fn list_alone<S: Source, K: Sink, G: Gate>(
 ) -> Result<Ended, RxFault>
     requires some { 1 ≤ window }
     requires few { window ≤ 4096 }
-    ensures lists { MatchResult result
-        (TellsTo lines_of (S.shown source.old) (S.shown source.new) (K.shown sink.old) (K.shown sink.new))
-        (StopsBy lines_of (S.shown source.old) (S.shown source.new) (K.shown sink.old) (K.shown sink.new)) }
-
-    // Where the sink failed the answer is `Write`, whatever else failed.
-    ensures writes { result ≢ Err Write → (K.shown sink.new).faults ≡ (K.shown sink.old).faults }
-
-    // However it ends, the devices are the same, and take back no fault.
-    ensures reads_later { IsLater (S.shown source.old) (S.shown source.new) }
-    ensures puts_later { IsLater (K.shown sink.old) (K.shown sink.new) }
+    ensures { TellsCapture lines_of (S.shown source.old) (S.shown source.new) (K.shown sink.old) (K.shown sink.new) result }
 {
     let reader = CaptureReader::new(alloc)?;
     let mut lister = Lister::new(sink);
@@ -68,16 +57,7 @@ pub fn list<R: Threads + Wait + Sync, S: Source, K: Sink, G: Gate + Sync>(
     requires many { workers ≤ 64 }
     requires some { 1 ≤ window }
     requires few { window ≤ 4096 }
-    ensures lists { MatchResult result
-        (TellsTo lines_of (S.shown source.old) (S.shown source.new) (K.shown sink.old) (K.shown sink.new))
-        (StopsBy lines_of (S.shown source.old) (S.shown source.new) (K.shown sink.old) (K.shown sink.new)) }
-
-    // Where the sink failed the answer is `Write`, whatever else failed.
-    ensures writes { result ≢ Err Write → (K.shown sink.new).faults ≡ (K.shown sink.old).faults }
-
-    // However it ends, the devices are the same, and take back no fault.
-    ensures reads_later { IsLater (S.shown source.old) (S.shown source.new) }
-    ensures puts_later { IsLater (K.shown sink.old) (K.shown sink.new) }
+    ensures { TellsCapture lines_of (S.shown source.old) (S.shown source.new) (K.shown sink.old) (K.shown sink.new) result }
 {
     if workers == 1 {
         return list_alone(alloc, window, source, sink, gate);

@@ -1,9 +1,11 @@
 //! A frame under way.
-ghost use Rattle.std.specs.Prelude.{◌≡◌, ◌+◌, ◌-◌, ◌*◌, ◌^◌, ◌<◌, ◌≤◌, IfOk, IsTrue, OnOk, length, set};
+ghost use Rattle.std.specs.Prelude.{◌≡◌, ◌+◌, ◌-◌, ◌*◌, ◌^◌, ◌<◌, ◌≤◌, IfOk, IsTrue, OnOk, length, set, true};
 ghost use Rattle.ht_inverse.specs.Received.{labels_in_frame};
 ghost use Rattle.ht_results.specs.Folding.{frame_begun, frame_of, kind_of, label_at, label_place, put_labels, result_of, with_octets};
 ghost use Rattle.ht_rx.specs.Frames.{HasLabels, IsOpenFrame, KnowsCarriers, with_found};
+ghost use Rattle.ht_rx.specs.Tallies.{with_tally};
 
+use crate::tally::Tally;
 use ht_capture::FrameHead;
 use ht_inverse::{Alone, Decoded, Decoder};
 use ht_metric::{Found, Place, Vector};
@@ -92,8 +94,8 @@ fn put_vector(labels: &mut [u8], at: usize, modulation: Modulation, vector: &Vec
     }
 }
 
-// The place of the first label of a data subcarrier.
-fn place_of(rate: &Rate, symbol: u32, m: u8) -> usize
+/// The place of the first label of a data subcarrier.
+pub(crate) fn place_of(rate: &Rate, symbol: u32, m: u8) -> usize
     ensures value { result ≡ label_place rate.now symbol m }
     ensures bound { result < 2 ^ 63 }
 {
@@ -200,6 +202,31 @@ impl OpenFrame {
                 self.pilot_sum += found.distance;
             }
         }
+    }
+
+    /// Whether these may be the next jobs of the frame that is under way: they were looked up by its rate, and they are no
+    /// more than are still to come.
+    pub(crate) fn fits(&self, tally: &Tally) -> bool
+        ensures rate { result ≡ true → tally.now.rate ≡ self.now.head.rate }
+        ensures few { result ≡ true → tally.now.jobs ≤ self.now.left }
+    {
+        tally.rate == self.head.rate && u64::from(tally.jobs) <= self.left
+    }
+
+    /// Takes what was made of jobs of the frame that is under way.
+    #[inline]
+    #[tactic(auto, using(ht_results::proofs::Runs::length_put_each))]
+    pub(crate) fn add_tally(&mut self, tally: &Tally)
+        requires ready { IsOpenFrame self.old }
+        requires few { tally.now.jobs ≤ self.old.left }
+        requires bounded { tally.now.data_sum + tally.now.pilot_sum ≤ tally.now.jobs * 2 ^ 66 }
+        ensures added { self.new ≡ with_tally tally.now self.old }
+        ensures kept { HasLabels self.new }
+    {
+        self.left -= u64::from(tally.jobs);
+        self.data_sum += tally.data_sum;
+        self.pilot_sum += tally.pilot_sum;
+        tally.labels.put_into(&mut self.labels);
     }
 
     /// The result of a frame whose last job came. The only error is lack of memory.

@@ -1,12 +1,11 @@
 //! Receiving the frames of a capture.
-ghost use Rattle.std.specs.Prelude.{◌≡◌, ◌≢◌, ◌≤◌, Err, MatchResult};
-ghost use Rattle.ht_io.specs.Devices.{IsLater};
+ghost use Rattle.std.specs.Prelude.{◌≡◌, ◌≤◌};
 ghost use Rattle.ht_rx.specs.Frames.{booked_of};
-ghost use Rattle.ht_rx.specs.Outcomes.{StopsBy, TellsTo};
-ghost use Rattle.ht_runs.specs.declared.faults.StopFault.TheVariants.{Write};
+ghost use Rattle.ht_rx.specs.Telling.{TellsCapture};
 
 use crate::faults::RxFault;
 use crate::open_frame::OpenFrame;
+use crate::tally::TallyWork;
 use ht_capture_blocks::CaptureReader;
 use ht_drive::tell;
 use ht_feed::{Ended, Gate};
@@ -38,16 +37,7 @@ pub fn receive_alone<S: Source, B: Book<FrameResult>, G: Gate>(
 ) -> Result<Ended, RxFault>
     requires some { 1 ≤ window }
     requires few { window ≤ 4096 }
-    ensures receives { MatchResult result
-        (TellsTo (booked_of B.booked) (S.shown source.old) (S.shown source.new) (B.shown book.old) (B.shown book.new))
-        (StopsBy (booked_of B.booked) (S.shown source.old) (S.shown source.new) (B.shown book.old) (B.shown book.new)) }
-
-    // Where the book failed the answer is `Write`, whatever else failed.
-    ensures writes { result ≢ Err Write → (B.shown book.new).faults ≡ (B.shown book.old).faults }
-
-    // However it ends, the devices are the same, and take back no fault.
-    ensures reads_later { IsLater (S.shown source.old) (S.shown source.new) }
-    ensures books_later { IsLater (B.shown book.old) (B.shown book.new) }
+    ensures receives { TellsCapture (booked_of B.booked) (S.shown source.old) (S.shown source.new) (B.shown book.old) (B.shown book.new) result }
     ensures same { B.lent book.new ≡ B.lent book.old }
 {
     let reader = CaptureReader::new(alloc)?;
@@ -88,16 +78,7 @@ pub fn receive<R: Threads + Wait + Sync, S: Source, B: Book<FrameResult>, G: Gat
     requires many { workers ≤ 64 }
     requires some { 1 ≤ window }
     requires few { window ≤ 4096 }
-    ensures receives { MatchResult result
-        (TellsTo (booked_of B.booked) (S.shown source.old) (S.shown source.new) (B.shown book.old) (B.shown book.new))
-        (StopsBy (booked_of B.booked) (S.shown source.old) (S.shown source.new) (B.shown book.old) (B.shown book.new)) }
-
-    // Where the book failed the answer is `Write`, whatever else failed.
-    ensures writes { result ≢ Err Write → (B.shown book.new).faults ≡ (B.shown book.old).faults }
-
-    // However it ends, the devices are the same, and take back no fault.
-    ensures reads_later { IsLater (S.shown source.old) (S.shown source.new) }
-    ensures books_later { IsLater (B.shown book.old) (B.shown book.new) }
+    ensures receives { TellsCapture (booked_of B.booked) (S.shown source.old) (S.shown source.new) (B.shown book.old) (B.shown book.new) result }
     ensures same { B.lent book.new ≡ B.lent book.old }
 {
     if workers == 1 {
@@ -117,7 +98,7 @@ pub fn receive<R: Threads + Wait + Sync, S: Source, B: Book<FrameResult>, G: Gat
         book,
     );
     let work = BesideFrames {
-        work: HitWork { alloc, gate },
+        work: TallyWork { alloc, gate },
         frames: &frames,
     };
     tell(

@@ -1,9 +1,7 @@
 //! Receiving the frames of a capture as lines of text.
-ghost use Rattle.std.specs.Prelude.{◌≡◌, ◌≢◌, ◌≤◌, Err, MatchResult};
-ghost use Rattle.ht_io.specs.Devices.{IsLater};
+ghost use Rattle.std.specs.Prelude.{◌≤◌};
 ghost use Rattle.ht_results.specs.Texts.{frame_lines_of};
-ghost use Rattle.ht_rx.specs.Outcomes.{StopsBy, TellsTo};
-ghost use Rattle.ht_runs.specs.declared.faults.StopFault.TheVariants.{Write};
+ghost use Rattle.ht_rx.specs.Telling.{TellsCapture};
 
 use crate::faults::RxFault;
 use crate::receiving::{receive, receive_alone};
@@ -25,16 +23,7 @@ pub fn receive_text_alone<S: Source, K: Sink, G: Gate>(
 ) -> Result<Ended, RxFault>
     requires some { 1 ≤ window }
     requires few { window ≤ 4096 }
-    ensures receives { MatchResult result
-        (TellsTo frame_lines_of (S.shown source.old) (S.shown source.new) (K.shown sink.old) (K.shown sink.new))
-        (StopsBy frame_lines_of (S.shown source.old) (S.shown source.new) (K.shown sink.old) (K.shown sink.new)) }
-
-    // Where the sink failed the answer is `Write`, whatever else failed.
-    ensures writes { result ≢ Err Write → (K.shown sink.new).faults ≡ (K.shown sink.old).faults }
-
-    // However it ends, the devices are the same, and take back no fault.
-    ensures reads_later { IsLater (S.shown source.old) (S.shown source.new) }
-    ensures puts_later { IsLater (K.shown sink.old) (K.shown sink.new) }
+    ensures { TellsCapture frame_lines_of (S.shown source.old) (S.shown source.new) (K.shown sink.old) (K.shown sink.new) result }
 {
     let mut book = TextBook::new(alloc, sink);
     receive_alone(alloc, window, source, &mut book, gate)
@@ -55,16 +44,7 @@ pub fn receive_text<R: Threads + Wait + Sync, S: Source, K: Sink, G: Gate + Sync
     requires many { workers ≤ 64 }
     requires some { 1 ≤ window }
     requires few { window ≤ 4096 }
-    ensures receives { MatchResult result
-        (TellsTo frame_lines_of (S.shown source.old) (S.shown source.new) (K.shown sink.old) (K.shown sink.new))
-        (StopsBy frame_lines_of (S.shown source.old) (S.shown source.new) (K.shown sink.old) (K.shown sink.new)) }
-
-    // Where the sink failed the answer is `Write`, whatever else failed.
-    ensures writes { result ≢ Err Write → (K.shown sink.new).faults ≡ (K.shown sink.old).faults }
-
-    // However it ends, the devices are the same, and take back no fault.
-    ensures reads_later { IsLater (S.shown source.old) (S.shown source.new) }
-    ensures puts_later { IsLater (K.shown sink.old) (K.shown sink.new) }
+    ensures { TellsCapture frame_lines_of (S.shown source.old) (S.shown source.new) (K.shown sink.old) (K.shown sink.new) result }
 {
     let mut book = TextBook::new(alloc, sink);
     receive(rt, alloc, workers, window, source, &mut book, gate)

@@ -4,9 +4,11 @@ ghost use Rattle.ht_results.specs.Folding.{result_of};
 ghost use Rattle.ht_rx.specs.Frames.{IsWhole, results_in};
 
 use crate::open_frame::OpenFrame;
+use crate::tally::Tally;
 use crate::whole_labels::WholeLabels;
 use ht_capture::FrameHead;
-use ht_frames::UnderWay;
+use ht_feed::Jobs;
+use ht_frames::{TakesBlocks, UnderWay};
 use ht_metric::{Found, Place};
 use ht_results::FrameResult;
 use std::alloc::{AllocError, Global};
@@ -44,4 +46,28 @@ impl UnderWay for OpenFrame {
     }
 
     ghost none = { λ f. refl };
+}
+
+impl TakesBlocks for OpenFrame {
+    type Answer = Tally;
+
+    /// A tally of no job isn't known to fit, nor one that was made by another rate than the frame's, nor one of more jobs
+    /// than the frame has still to come.
+    fn take_block<J: Jobs>(
+        &mut self,
+        _: Global,
+        head: &FrameHead,
+        _: &J,
+        tally: &Tally,
+    ) -> Result<Option<bool>, AllocError> {
+        if tally.jobs == 0 {
+            return Ok(None);
+        }
+        self.enter(head)?;
+        if !self.fits(tally) {
+            return Ok(None);
+        }
+        self.add_tally(tally);
+        Ok(Some(self.left() == 0))
+    }
 }

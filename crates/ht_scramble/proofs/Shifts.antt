@@ -10,16 +10,12 @@ use Rattle.ht_scramble.specs.Sequence.{delayed, sequence}
 use Rattle.ht_scramble.specs.Register.{register_at}
 
 -- the seven bits of the register, the latest one first
+abbrev latest : ℕ → ℕ → ℕ → List Bool → List Bool
+latest zero seed t earlier = earlier
+latest (suc count) seed t earlier = latest count seed (suc t) (delayed seed t ∷ earlier)
+
 unfoldable pub latest_first : ℕ → ℕ → List Bool
-latest_first seed t =
-    delayed seed (suc (suc (suc (suc (suc (suc t))))))
-    ∷ delayed seed (suc (suc (suc (suc (suc t)))))
-    ∷ delayed seed (suc (suc (suc (suc t))))
-    ∷ delayed seed (suc (suc (suc t)))
-    ∷ delayed seed (suc (suc t))
-    ∷ delayed seed (suc t)
-    ∷ delayed seed t
-    ∷ []
+latest_first seed t = latest 7 seed t []
 
 pub register_at-is : (seed t : ℕ) → register_at seed t ≡ number_of (latest_first seed t)
 unfolding register_at latest_first

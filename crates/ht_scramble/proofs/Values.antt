@@ -1,5 +1,5 @@
 -- The definitions at given values, by computation.
-use Rattle.std.proofs.Common.{◌≡◌, ℕ, List, [], ◌∷◌, true, false, pos, negsuc, map, refl}
+use Rattle.std.proofs.Common.{◌≡◌, ℕ, List, [], ◌∷◌, true, false, pos, negsuc, map, replicate, refl}
 use Rattle.std.specs.List.{range_with_len}
 use Rattle.std.specs.Int.{from_bool}
 use mathlib.Core.Bool.{xor}
@@ -17,13 +17,9 @@ unfolding xor bits_from sequence delayed
 all_ones = refl
 
 -- the last seven of 127 are ones, and then the sequence begins again
-last_seven : bits_from 127 120 7 ≡ 1 ∷ 1 ∷ 1 ∷ 1 ∷ 1 ∷ 1 ∷ 1 ∷ []
+ends : bits_from 127 120 15 ≡ 1 ∷ 1 ∷ 1 ∷ 1 ∷ 1 ∷ 1 ∷ 1 ∷ 0 ∷ 0 ∷ 0 ∷ 0 ∷ 1 ∷ 1 ∷ 1 ∷ 0 ∷ []
 unfolding xor bits_from sequence delayed
-last_seven = refl
-
-begins_again : bits_from 127 127 8 ≡ 0 ∷ 0 ∷ 0 ∷ 0 ∷ 1 ∷ 1 ∷ 1 ∷ 0 ∷ []
-unfolding xor bits_from sequence delayed
-begins_again = refl
+ends = refl
 
 -- SERVICE and the octet a5 from the all-ones state: 00001110 11110010 01101100
 service_and_a5 : scrambled 127
@@ -39,28 +35,12 @@ unfolding xor sequence delayed
 first_of_127 = refl
 
 -- zeros become the sequence, and the sequence zeros
-eight_zeros : scrambled 127 (false ∷ false ∷ false ∷ false ∷ false ∷ false ∷ false ∷ false ∷ [])
-    ≡ false ∷ false ∷ false ∷ false ∷ true ∷ true ∷ true ∷ false ∷ []
+there_and_back : (scrambled 127 (replicate 8 false) ≡ false ∷ false ∷ false ∷ false ∷ true ∷ true ∷ true ∷ false ∷ [])
+    × (scrambled 127 (false ∷ false ∷ false ∷ false ∷ true ∷ true ∷ true ∷ []) ≡ replicate 7 false)
 unfolding xor sequence delayed
-eight_zeros = refl
-
-seven_back : scrambled 127 (false ∷ false ∷ false ∷ false ∷ true ∷ true ∷ true ∷ []) ≡ false ∷ false ∷ false ∷ false ∷ false ∷ false ∷ false ∷ []
-unfolding xor sequence delayed
-seven_back = refl
+there_and_back = (refl, refl)
 
 -- the polarity of the symbols 0, 3, 4 and 126
-polarity_0 : polarity_at 0 ≡ pos 1
+polarities : map polarity_at (0 ∷ 3 ∷ 4 ∷ 126 ∷ []) ≡ pos 1 ∷ pos 1 ∷ negsuc 0 ∷ negsuc 0 ∷ []
 unfolding xor polarity_at sequence delayed
-polarity_0 = refl
-
-polarity_3 : polarity_at 3 ≡ pos 1
-unfolding xor polarity_at sequence delayed
-polarity_3 = refl
-
-polarity_4 : polarity_at 4 ≡ negsuc 0
-unfolding xor polarity_at sequence delayed
-polarity_4 = refl
-
-polarity_126 : polarity_at 126 ≡ negsuc 0
-unfolding xor polarity_at sequence delayed
-polarity_126 = refl
+polarities = refl

@@ -1,13 +1,10 @@
 //! Receiving the frames of a capture by soft decisions.
-ghost use Rattle.std.specs.Prelude.{◌≡◌, ◌≢◌, ◌<◌, ◌≤◌, ◌-◌, ◌^◌, Err, true};
-ghost use Rattle.ht_io.specs.Devices.{IsLater};
+ghost use Rattle.std.specs.Prelude.{◌≡◌, ◌<◌, ◌≤◌, ◌-◌, ◌^◌, true};
 ghost use Rattle.ht_capture.specs.Fields.{captures};
-ghost use Rattle.ht_feed.specs.Outcomes.{Comes};
-ghost use Rattle.ht_receive.specs.Receiving.{PutsFrames, books};
-ghost use Rattle.ht_runs.specs.declared.faults.StopFault.TheVariants.{Write as FailedWrite};
-ghost use Rattle.ht_runs.specs.declared.faults.RunFault.TheVariants.{Write};
+ghost use Rattle.ht_feed.specs.Inputs.{TellsInput};
+ghost use Rattle.ht_receive.specs.Ends.{PutsToEnd, StreamsText};
+ghost use Rattle.ht_receive.specs.Receiving.{books};
 ghost use Rattle.ht_runs.specs.Formats.{filter};
-ghost use Rattle.ht_runs.specs.Streamed.{Streamed};
 ghost use Rattle.ht_soft_blocks.specs.Readers.{soft_at, soft_counts, soft_means};
 ghost use Rattle.ht_soft_rx.specs.Folding.{results_in};
 ghost use Rattle.ht_soft_rx.specs.Halved.{HasFrames};
@@ -57,15 +54,8 @@ pub fn receive_soft_alone<S: Source, K: Sink, G: Gate>(
 ) -> Result<u64, RunFault>
     requires some { 1 ≤ window }
     requires few { window ≤ 4096 }
-    ensures streams { Streamed (filter captures soft_rx_text soft_lines_of) (S.shown source.old) (S.shown source.new) (K.shown sink.old) (K.shown sink.new)
-        HasFrames result }
-
-    // Where the sink failed the answer is `Write`, whatever else failed.
-    ensures writes { result ≢ Err Write → (K.shown sink.new).faults ≡ (K.shown sink.old).faults }
-
-    // However it ends, the devices are the same, and take back no fault.
-    ensures reads_later { IsLater (S.shown source.old) (S.shown source.new) }
-    ensures puts_later { IsLater (K.shown sink.old) (K.shown sink.new) }
+    ensures { StreamsText (filter captures soft_rx_text soft_lines_of) HasFrames (S.shown source.old) (S.shown source.new)
+        (K.shown sink.old) (K.shown sink.new) result }
 {
     let head = no_head();
     let reader = HalvesReader::new(alloc, head)?;
@@ -96,12 +86,9 @@ fn book_frames<R: Threads + Wait + Sync, S: Source, B: Book<SoftResult>, G: Gate
     requires going { (soft_counts reader).going ≡ true }
     requires fresh { (soft_counts reader).given ≡ 0 }
     requires bounded { (soft_counts reader).more < 2 ^ 64 - 1 }
-    ensures tells { Comes soft_means soft_at reader head (S.shown source.old) (S.shown source.new)
-        (books B.booked (results_in under_way) (B.shown book.old)) (books B.booked (results_in under_way) (B.shown book.new)) result }
-    ensures writes { result ≢ Err FailedWrite → (B.shown book.new).faults ≡ (B.shown book.old).faults }
-    ensures reads_later { IsLater (S.shown source.old) (S.shown source.new) }
-    ensures books_later { IsLater (B.shown book.old) (B.shown book.new) }
-    ensures same { B.lent book.new ≡ B.lent book.old }
+    ensures { TellsInput soft_means soft_at reader head (S.shown source.old) (S.shown source.new)
+        (books B.booked (results_in under_way) (B.shown book.old)) (books B.booked (results_in under_way) (B.shown book.new))
+        (B.lent book.old) (B.lent book.new) result }
 {
     let frames = Frames::new(alloc);
     let mut under_way = under_way;
@@ -154,11 +141,8 @@ fn put_frames<R: Threads + Wait + Sync, S: Source, K: Sink, G: Gate + Sync>(
     requires going { (soft_counts reader).going ≡ true }
     requires fresh { (soft_counts reader).given ≡ 0 }
     requires bounded { (soft_counts reader).more < 2 ^ 64 - 1 }
-    ensures puts { PutsFrames soft_means soft_at reader head soft_line (results_in under_way)
+    ensures { PutsToEnd soft_means soft_at reader head soft_line (results_in under_way)
         (S.shown source.old) (S.shown source.new) (K.shown sink.old) (K.shown sink.new) result }
-    ensures writes { result ≢ Err Write → (K.shown sink.new).faults ≡ (K.shown sink.old).faults }
-    ensures reads_later { IsLater (S.shown source.old) (S.shown source.new) }
-    ensures puts_later { IsLater (K.shown sink.old) (K.shown sink.new) }
 {
     let mut book = TextBook::new(alloc, sink);
     let ended = book_frames(
@@ -189,15 +173,8 @@ pub fn receive_soft<R: Threads + Wait + Sync, S: Source, K: Sink, G: Gate + Sync
     requires many { workers ≤ 64 }
     requires some { 1 ≤ window }
     requires few { window ≤ 4096 }
-    ensures streams { Streamed (filter captures soft_rx_text soft_lines_of) (S.shown source.old) (S.shown source.new) (K.shown sink.old) (K.shown sink.new)
-        HasFrames result }
-
-    // Where the sink failed the answer is `Write`, whatever else failed.
-    ensures writes { result ≢ Err Write → (K.shown sink.new).faults ≡ (K.shown sink.old).faults }
-
-    // However it ends, the devices are the same, and take back no fault.
-    ensures reads_later { IsLater (S.shown source.old) (S.shown source.new) }
-    ensures puts_later { IsLater (K.shown sink.old) (K.shown sink.new) }
+    ensures { StreamsText (filter captures soft_rx_text soft_lines_of) HasFrames (S.shown source.old) (S.shown source.new)
+        (K.shown sink.old) (K.shown sink.new) result }
 {
     if workers == 1 {
         return receive_soft_alone(alloc, window, source, sink, gate);

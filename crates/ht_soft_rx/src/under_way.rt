@@ -14,7 +14,8 @@ ghost use Rattle.ht_soft_rx.specs.Weights.{weights_of_job};
 use crate::soft_result::SoftResult;
 use crate::whole::{SoftWhole, decoded};
 use ht_capture::FrameHead;
-use ht_frames::UnderWay;
+use ht_feed::Hits;
+use ht_frames::{TakesBlocks, UnderWay};
 use ht_metric::{Found, Place};
 use ht_rate::Carrier;
 use ht_results::{jobs_in, kind, no_head, put_kept};
@@ -216,4 +217,9 @@ impl UnderWay for SoftUnderWay {
     }
 
     ghost none = { λ frame. refl };
+}
+
+/// What was found for halves is taken one by one.
+impl TakesBlocks for SoftUnderWay {
+    type Answer = Hits;
 }

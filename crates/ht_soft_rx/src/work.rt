@@ -33,7 +33,7 @@ fn least_of_last(found: &[Found]) -> u128 {
 impl<'g, G: Gate> Work<HalvesBlock> for HalvesWork<'g, G> {
     type Answer = Hits;
 
-    fn run(&self, block: &HalvesBlock) -> Result<Hits, AllocError> {
+    fn answer_to(&self, block: &HalvesBlock) -> Result<Hits, AllocError> {
         block.hits(self.work.alloc, &self.work)
     }
 

@@ -1,6 +1,6 @@
 -- Points in order, each the one that its subcarrier carries.
-use Rattle.std.proofs.Common.{◌≡◌, ℕ, zero, suc, ◌+◌, ◌-◌, ◌*◌, ◌/◌, ◌%◌, ◌<◌, ◌≤◌, List, [], ◌∷◌, ◌++◌, length}
-use Rattle.std.proofs.Common.{get_or, is_some, refl, ap, sym, ◌∙◌, subst, arith, inl, inr, w8, to_z, of_z}
+use Rattle.std.proofs.Common.{◌≡◌, ℕ, ◌+◌, ◌-◌, ◌*◌, ◌/◌, ◌%◌, ◌<◌, ◌≤◌, List, [], ◌∷◌, ◌++◌, length}
+use Rattle.std.proofs.Common.{get_or, is_some, ap, sym, ◌∙◌, subst, arith, inl, inr, w8, to_z, of_z}
 use Rattle.std.proofs.lemmas.List.{length-append, get_or_append_left, get_or_push}
 use Rattle.std.proofs.lemmas.Bool.{cases_lt}
 use Rattle.std.proofs.Math.Nat.{mul_assoc}
@@ -13,7 +13,8 @@ use Rattle.ht_map.specs.Gray.{label_of}
 use Rattle.ht_map.proofs.LabelFacts.{label_of-point_of}
 use Rattle.ht_pam.specs.declared.point.Point.{Point}
 use Rattle.ht_pilot.specs.Pilots.{pilot_of}
-use Rattle.std.specs.Prelude.{ℤ, pos, negsuc, unsigned_abs}
+use Rattle.std.specs.Prelude.{ℤ, pos, unsigned_abs}
+use Rattle.ht_data.proofs.Written.{unit-fits}
 use Rattle.ht_tx.specs.Frames.{FrameView, IsPsdu}
 use Rattle.ht_tx.specs.Symbols.{Fits, IsSymbols, SymbolsView, index_of_point, origin, point_at, points_of, pilot_point}
 use Rattle.ht_tx.specs.Transmitted.{Carries, IsTransmitted}
@@ -97,13 +98,6 @@ transmitted f octets points sent e len carried is_rate is_length is_points = rec
 }
 
 -- the value of a pilot is a level
-unit-fits : (v : ℤ) → unsigned_abs v ≡ 1 → to_z w8 (of_z w8 v) ≡ v
-unit-fits (pos zero) e = absurd (omega arith)
-unit-fits (pos (suc zero)) e = refl
-unit-fits (pos (suc (suc n))) e = absurd (omega arith)
-unit-fits (negsuc zero) e = refl
-unit-fits (negsuc (suc n)) e = absurd (omega arith)
-
 pub pilot-carried : (f : FrameView) (symbol : ℕ) (carrier : Carrier) (k stream : ℕ) (r : Rate) (v : ℤ) → carrier ≡ Pilot k → r ≡ f.rate
     → v ≡ pilot_of r symbol k stream → unsigned_abs v ≡ 1 → Carries f symbol carrier stream (record { i = to_z w8 (of_z w8 v); q = pos 0 })
 unfolding pilot_point

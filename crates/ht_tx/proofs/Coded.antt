@@ -1,128 +1,62 @@
 -- The coded bits of a frame.
-use Rattle.std.proofs.Common.{◌≡◌, ℕ, zero, suc, ◌+◌, ◌-◌, ◌*◌, ◌/◌, ◌%◌, ◌<◌, ◌≤◌, List, [], ◌∷◌, ◌++◌, map, take, drop}
-use Rattle.std.proofs.Common.{replicate, length, Bool, false, get_or, refl, ap, sym, ◌∙◌, subst, arith, inl, inr}
-use Rattle.std.proofs.lemmas.Bool.{cases_lt}
+use Rattle.std.proofs.Common.{◌≡◌, ℕ, zero, suc, ◌+◌, ◌-◌, ◌*◌, ◌/◌, ◌%◌, ◌<◌, ◌≤◌, List, [], ◌∷◌, ◌++◌, map}
+use Rattle.std.proofs.Common.{length, Bool, false, get_or, refl, ap, sym, ◌∙◌, subst, arith}
 use Rattle.std.specs.List.{range_with_len}
-use Rattle.std.proofs.Math.Nat.{mul_comm, mul_assoc, mul-div_cancel_left}
-use Rattle.std.proofs.lemmas.Grind.{div_ceil_times}
-use Rattle.std.proofs.lemmas.List.{ext_get_or, length-append, length-replicate, length-take, length-drop, get_or_append_left}
-use Rattle.std.proofs.lemmas.List.{get_or-append-add, get_or-append_right, get_or-take, get_or-drop, get_or-replicate}
+use Rattle.std.proofs.Math.Nat.{mul-div_cancel_left}
+use Rattle.std.proofs.lemmas.List.{ext_get_or, length-append, get_or_append_left, get_or-append-add}
 use Rattle.std.proofs.lemmas.List.FromFn.{get_or-map-range_with_len, length-map-range_with_len}
 use Rattle.ht_rate.specs.declared.rates.Rate.{Rate}
 use Rattle.ht_rate.specs.declared.kinds.Pattern.{Pattern}
-use Rattle.ht_rate.specs.declared.kinds.Pattern.TheVariants.{Half, TwoThirds, ThreeQuarters, FiveSixths}
 use Rattle.ht_rate.specs.Rates.{data_bits_of, encoders_of, pattern_of, symbols_of, pads_of, needed_bits_of}
-use Rattle.ht_rate.specs.Schemes.{denominator_of, numerator_of}
 use Rattle.ht_rate.proofs.RateFacts.{encoders_of-range, data_bits_of-shared}
 use Rattle.ht_rate.proofs.LengthFacts.{data_share-coded, data_share-periods, pads_of-fills}
-use Rattle.ht_bits.specs.Bits.{bits_of}
-use Rattle.ht_bits.proofs.Octets.{length-bits_of}
-use Rattle.ht_scramble.specs.Sequence.{scrambled}
-use Rattle.ht_scramble.proofs.Lists.{length-scrambled_from}
 use Rattle.ht_conv.specs.Puncturing.{sent_count}
 use Rattle.ht_conv.specs.Code.{sent_bits}
-use Rattle.ht_conv.proofs.Counts.{sent_count-ceil}
-use Rattle.ht_conv.proofs.Fitting.{moved, products, some_numerator}
 use Rattle.ht_conv.proofs.MidStream.{length-sent_bits}
+use Rattle.ht_data.specs.Data.{scrambled_data_of}
+use Rattle.ht_data.proofs.Periods.{part-whole, sent_symbols}
+use Rattle.ht_data.proofs.Scrambled.{length-data_of as length-data_bits, length-scrambled_data_of}
 use Rattle.ht_parse.specs.Encoders.{list_of, IsParsed}
 use Rattle.ht_parse.specs.Streams.{share_of}
 use Rattle.ht_tx.specs.Frames.{FrameView}
-use Rattle.ht_tx.specs.Coded.{service_and_octets, tail_of, data_of, zeroed, coder_input, part_of, coded_of, reach_of}
+use Rattle.ht_tx.specs.Coded.{service_and_octets, tail_of, data_of, coder_input, part_of, coded_of, reach_of}
 use Rattle.ht_tx.specs.Sources.{AreCoded}
-
--- zeros behind a list
-pub resized : (xs ys : List Bool) (n len count : ℕ) → len ≡ length xs → n ≡ len + count
-    → ys ≡ take n xs ++ replicate (n - len) false → ys ≡ xs ++ replicate count false
-resized xs ys n len count dl dn e =
-    let rest : n - len ≡ count = omega arith in
-    let long : take n xs ≡ xs = all xs n (omega arith) in
-    e ∙ ap (λ (l : List Bool). l ++ replicate (n - len) false) long ∙ ap (λ (k : ℕ). xs ++ replicate k false) rest
-  where
-    all : (xs : List Bool) (n : ℕ) → length xs ≤ n → take n xs ≡ xs
-    all [] zero le = refl
-    all [] (suc n) le = refl
-    all (x ∷ xs) zero le = absurd (omega arith)
-    all (x ∷ xs) (suc n) le = ap (λ (l : List Bool). x ∷ l) (all xs n (omega arith))
-
-pub data-built : (f : FrameView) (none service both psdu out : List Bool) (n len count : ℕ) → none ≡ [] → service ≡ none ++ replicate 16 false
-    → both ≡ service ++ psdu → psdu ≡ bits_of f.octets → len ≡ length both → n ≡ len + count → out ≡ take n both ++ replicate (n - len) false
-    → count ≡ tail_of f + pads_of f.rate (length f.octets) → out ≡ data_of f
-unfolding data_of
-data-built f none service both psdu out n len count is_none is_service is_both is_psdu is_len is_n is_out is_count =
-    let start : service ≡ replicate 16 false = is_service ∙ ap (λ (l : List Bool). l ++ replicate 16 false) is_none in
-    let octets : both ≡ replicate 16 false ++ bits_of f.octets =
-    is_both ∙ ap (λ (l : List Bool). l ++ psdu) start ∙ ap (λ (l : List Bool). replicate 16 false ++ l) is_psdu in
-    resized both out n len count is_len is_n is_out
-    ∙ ap (λ (l : List Bool). l ++ replicate count false) octets
-    ∙ ap (λ (k : ℕ). (replicate 16 false ++ bits_of f.octets) ++ replicate k false) is_count
 
 -- the bits of a frame fill its symbols
 pub length-data_of : (f : FrameView) → length (data_of f) ≡ symbols_of f.rate (length f.octets) * data_bits_of f.rate
 unfolding data_of needed_bits_of
 length-data_of f =
-    let count = tail_of f + pads_of f.rate (length f.octets) in
-    omega (
-      arith,
-      length-append (replicate 16 false ++ bits_of f.octets) (replicate count false),
-      length-append (replicate 16 false) (bits_of f.octets),
-      length-replicate 16 false,
-      length-replicate count false,
-      length-bits_of f.octets,
-      pads_of-fills f.rate (length f.octets),
-    )
+    omega (arith, length-data_bits f.octets (tail_of f + pads_of f.rate (length f.octets)), pads_of-fills f.rate (length f.octets))
 
 pub tail-within : (f : FrameView) → service_and_octets f + tail_of f ≤ symbols_of f.rate (length f.octets) * data_bits_of f.rate
 unfolding needed_bits_of
 tail-within f = omega (arith, pads_of-fills f.rate (length f.octets))
 
-length-zeroed : (at count : ℕ) (bits : List Bool) → at + count ≤ length bits → length (zeroed at count bits) ≡ length bits
-length-zeroed at count bits le =
-    omega (
-      arith,
-      length-append (take at bits ++ replicate count false) (drop (at + count) bits),
-      length-append (take at bits) (replicate count false),
-      length-replicate count false,
-      length-take at bits,
-      length-drop (at + count) bits,
-    )
-
 pub length-coder_input : (f : FrameView) → length (coder_input f) ≡ symbols_of f.rate (length f.octets) * data_bits_of f.rate
-unfolding coder_input
+unfolding coder_input data_of needed_bits_of
 length-coder_input f =
-    let same : length (scrambled f.seed (data_of f)) ≡ symbols_of f.rate (length f.octets) * data_bits_of f.rate =
-    length-scrambled_from f.seed 0 (data_of f) ∙ length-data_of f in
-    length-zeroed (service_and_octets f) (tail_of f) (scrambled f.seed (data_of f)) (omega (arith, tail-within f)) ∙ same
+    let pads = pads_of f.rate (length f.octets) in
+    omega (arith, length-scrambled_data_of f.seed f.octets (tail_of f) pads, pads_of-fills f.rate (length f.octets))
+
+-- what the encoders take together, told of what the calls give
+pub input-is : (f : FrameView) (r : Rate) (octets : List ℕ) (seed tail pads : ℕ) → r ≡ f.rate → octets ≡ f.octets → seed ≡ f.seed → tail ≡ tail_of f
+    → pads ≡ pads_of r (length octets) → scrambled_data_of seed octets tail pads ≡ coder_input f
+unfolding coder_input data_of
+input-is f r octets seed tail pads dr d_o ds dt dp =
+    ap (λ (x : ℕ). scrambled_data_of x octets tail pads) ds
+    ∙ ap (λ (x : ℕ). scrambled_data_of f.seed octets x pads) dt
+    ∙ ap (λ (x : ℕ). scrambled_data_of f.seed octets (tail_of f) x) (dp ∙ ap (λ (x : Rate). pads_of x (length octets)) dr)
+    ∙ ap (λ (l : List ℕ). scrambled_data_of f.seed l (tail_of f) (pads_of f.rate (length l))) d_o
 
 -- each encoder takes its part of each symbol's bits
-part-whole : (symbols e part all : ℕ) → e * part ≡ all → symbols * all ≡ e * (symbols * part)
-part-whole symbols e part all h =
-    ap (λ (x : ℕ). symbols * x) (sym h) ∙ sym (mul_assoc symbols e part) ∙ ap (λ (x : ℕ). x * part) (mul_comm symbols e) ∙ mul_assoc e symbols part
-
 input-whole : (f : FrameView) → length (coder_input f) ≡ encoders_of f.rate * (symbols_of f.rate (length f.octets) * (data_bits_of f.rate / encoders_of f.rate))
 input-whole f = length-coder_input f ∙ part-whole (symbols_of f.rate (length f.octets)) (encoders_of f.rate) _ _ (data_bits_of-shared f.rate)
 
--- what an encoder sends of whole periods
-periods_keep : (p : Pattern) (k : ℕ) → sent_count p (numerator_of p * k) ≡ denominator_of p * k
-periods_keep Half k = omega (arith, (div_ceil_times (1 * k) 1 (omega arith)).0, (div_ceil_times (1 * k) 1 (omega arith)).1, sent_count-ceil Half (1 * k))
-periods_keep TwoThirds k =
-    omega (arith, (div_ceil_times (2 * k) 2 (omega arith)).0, (div_ceil_times (2 * k) 2 (omega arith)).1, sent_count-ceil TwoThirds (2 * k))
-periods_keep ThreeQuarters k =
-    omega (arith, (div_ceil_times (3 * k) 3 (omega arith)).0, (div_ceil_times (3 * k) 3 (omega arith)).1, sent_count-ceil ThreeQuarters (3 * k))
-periods_keep FiveSixths k =
-    omega (arith, (div_ceil_times (5 * k) 5 (omega arith)).0, (div_ceil_times (5 * k) 5 (omega arith)).1, sent_count-ceil FiveSixths (5 * k))
-
+-- what an encoder sends of whole symbols
 sent_share : (r : Rate) (symbols : ℕ) → sent_count (pattern_of r) (symbols * (data_bits_of r / encoders_of r)) ≡ symbols * share_of r
 unfolding share_of
 sent_share r symbols =
-    let p = pattern_of r in
-    let n = numerator_of p in
-    let d = denominator_of p in
-    let part = data_bits_of r / encoders_of r in
-    let w = part / n in
-    let whole : n * w ≡ part = data_share-periods r in
-    let regrouped : symbols * part ≡ n * (symbols * w) = part-whole symbols n w part whole in
-    let coded : w * d ≡ share_of r = products n w d (share_of r) part (some_numerator p) whole (data_share-coded r) in
-    ap (sent_count p) regrouped ∙ (periods_keep p (symbols * w) ∙ moved d symbols w (share_of r) coded)
+    sent_symbols (pattern_of r) symbols (data_bits_of r / encoders_of r) (share_of r) (data_share-periods r) (data_share-coded r)
 
 -- the input of an encoder that the rate has is its part
 part-at : (r : Rate) (bits first second : List Bool) (j : ℕ) → IsParsed r bits first second → j < encoders_of r → length (list_of first second j) ≡ length first
@@ -252,53 +186,3 @@ no_rest (suc (suc (suc e))) k n low high h = absurd (omega arith)
 pub shared : (f : FrameView) (r : Rate) (items bits : List Bool) → r ≡ f.rate → items ≡ coder_input f → bits ≡ items → length bits % encoders_of r ≡ 0
 shared f r items bits dr di db =
     rw dr (no_rest (encoders_of f.rate) _ (length bits) (encoders_of-range f.rate).0 (encoders_of-range f.rate).1 (ap length (db ∙ di) ∙ input-whole f))
-
--- bits with zeros in the place of some
-pub zeroed-at : (bits : List Bool) (at count k : ℕ) → at + count ≤ length bits
-    → ((k < at → get_or (zeroed at count bits) k false ≡ get_or bits k false)
-    × (at ≤ k → k < at + count → get_or (zeroed at count bits) k false ≡ false)
-    × (at + count ≤ k → get_or (zeroed at count bits) k false ≡ get_or bits k false))
-zeroed-at bits at count k le =
-    let low : length (take at bits) ≡ at = omega (arith, length-take at bits) in
-    let mid : length (take at bits ++ replicate count false) ≡ at + count =
-    omega (arith, length-append (take at bits) (replicate count false), length-replicate count false) in (
-      λ lt.
-          get_or_append_left (take at bits ++ replicate count false) (drop (at + count) bits) false k (omega arith)
-          ∙ get_or_append_left (take at bits) (replicate count false) false k (omega arith)
-          ∙ get_or-take at bits k false lt,
-      λ ge lt.
-          get_or_append_left (take at bits ++ replicate count false) (drop (at + count) bits) false k (omega arith)
-          ∙ get_or-append_right (take at bits) (replicate count false) at k false low ge
-          ∙ get_or-replicate count (k - at) false false (omega arith),
-      λ ge.
-          let back : at + count + (k - (at + count)) ≡ k = omega arith in
-          get_or-append_right (take at bits ++ replicate count false) (drop (at + count) bits) (at + count) k false mid ge
-          ∙ get_or-drop (at + count) bits (k - (at + count)) false
-          ∙ ap (λ (x : ℕ). get_or bits x false) back,
-    )
-
-pub zeroed-done : (old new : List Bool) (at count : ℕ) → at + count ≤ length old → length new ≡ length old
-    → ((k : ℕ) → k < at → get_or new k false ≡ get_or old k false)
-    → ((k : ℕ) → at ≤ k → k < at + count → get_or new k false ≡ false)
-    → ((k : ℕ) → at + count ≤ k → get_or new k false ≡ get_or old k false)
-    → new ≡ zeroed at count old
-zeroed-done old new at count le len before done after =
-    ext_get_or false new (zeroed at count old) (len ∙ sym (length-zeroed at count old le)) each
-  where
-    each : (k : ℕ) → k < length new → get_or new k false ≡ get_or (zeroed at count old) k false
-    each k lt = elim (cases_lt k at) [
-      | inl low ↦ before k low ∙ sym ((zeroed-at old at count k le).0 low)
-      | inr high ↦ elim (cases_lt k (at + count)) [
-        | inl mid ↦ done k (omega arith) mid ∙ sym ((zeroed-at old at count k le).1 (omega arith) mid)
-        | inr past ↦ after k (omega arith) ∙ sym ((zeroed-at old at count k le).2 (omega arith))
-      ]
-    ]
-
--- the tail is among the scrambled bits
-pub tail-fits : (f : FrameView) (bits new : List Bool) (octets : List ℕ) (seed tail : ℕ) → bits ≡ data_of f → new ≡ scrambled seed bits → octets ≡ f.octets
-    → tail ≡ tail_of f → 16 + 8 * length octets + tail ≤ length new
-tail-fits f bits new octets seed tail db dn d_o dt =
-    let len : length new ≡ symbols_of f.rate (length f.octets) * data_bits_of f.rate =
-    ap length dn ∙ length-scrambled_from seed 0 bits ∙ ap length db ∙ length-data_of f in
-    let same : length octets ≡ length f.octets = ap length d_o in
-    omega (arith, tail-within f)

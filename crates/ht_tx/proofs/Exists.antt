@@ -1,9 +1,8 @@
 -- Each frame has symbols that are sent for it.
-use Rattle.std.proofs.Common.{◌≡◌, ℕ, zero, suc, ◌+◌, ◌-◌, ◌*◌, ◌/◌, ◌%◌, ◌^◌, ◌<◌, List, [], ◌∷◌, ◌==◌, Bool, false, length, get_or, map}
+use Rattle.std.proofs.Common.{◌≡◌, ℕ, ◌+◌, ◌/◌, ◌%◌, List, [], ◌∷◌, Bool, false, length, get_or, map}
 use Rattle.std.proofs.Common.{refl, sym, ap, subst, ◌∙◌, arith}
 use Rattle.std.specs.Prelude.{All}
 use Rattle.std.specs.List.{range_with_len}
-use Rattle.std.specs.Int.{bit_at, from_bool}
 use Rattle.std.proofs.lemmas.List.Elements.{All-head, All-tail}
 use Rattle.std.proofs.lemmas.List.FromFn.{get_or-map-range_with_len, length-map-range_with_len}
 use Rattle.ht_rate.specs.declared.kinds.Carrier.{Carrier}
@@ -12,6 +11,8 @@ use Rattle.ht_rate.specs.Carriers.{carrier_of}
 use Rattle.ht_rate.specs.Rates.{carriers_of, label_bits_of, modulation_of, streams_of}
 use Rattle.ht_pam.specs.declared.point.Point.{Point}
 use Rattle.ht_map.specs.Gray.{label_bit, point_of}
+use Rattle.ht_data.specs.Labels.{written}
+use Rattle.ht_data.proofs.Written.{written-below, written-bit}
 use Rattle.ht_landing.specs.Landings.{coded_bit_of}
 use Rattle.ht_landing.proofs.Landed.{coded_bit_of-only}
 use Rattle.ht_tx.specs.Frames.{FrameView, IsPsdu}
@@ -19,28 +20,7 @@ use Rattle.ht_tx.specs.Symbols.{IsSymbols, SymbolsView, origin, pilot_point, poi
 use Rattle.ht_tx.specs.Coded.{coded_of}
 use Rattle.ht_tx.specs.Transmitted.{AreTransmitted, Carries, IsLabelOf, IsTransmitted, label_bit_at}
 use Rattle.ht_tx.specs.Sources.{AreCarried}
-use Rattle.ht_tx.proofs.Labels.{below_more, bits_more}
 use Rattle.ht_tx.proofs.Carried.{are_symbols, transmitted}
-
--- the number of the first bits, the first one the most significant
-number : (ℕ → Bool) → ℕ → ℕ
-number bits zero = 0
-number bits (suc k) = 2 * number bits k + from_bool (bits k)
-
-number-below : (bits : ℕ → Bool) (k : ℕ) → number bits k < 2 ^ k
-unfolding number
-number-below bits zero = omega arith
-number-below bits (suc k) =
-    let more : k + 1 ≡ suc k = omega arith in
-    subst (λ (n : ℕ). number bits (suc k) < 2 ^ n) more (below_more k (number bits k) (bits k) (number-below bits k))
-
-number-bits : (bits : ℕ → Bool) (k e : ℕ) → e < k → (bit_at (number bits k) (k - 1 - e) == 1) ≡ bits e
-unfolding number
-number-bits bits zero e lt = absurd (omega arith)
-number-bits bits (suc k) e lt =
-    let more : k + 1 ≡ suc k = omega arith in
-    subst (λ (n : ℕ). (bit_at (number bits (suc k)) (n - 1 - e) == 1) ≡ bits e) more
-    (bits_more bits k (number bits k) (number bits (suc k)) (bits k) refl refl (number-bits bits k) e (omega arith))
 
 -- the coded bit that lands at a label bit
 landed : FrameView → ℕ → ℕ → ℕ → ℕ → Bool
@@ -49,15 +29,15 @@ landed f symbol carrier stream bit =
     get_or (coded_of f from.0) from.1 false
 
 label_for : FrameView → ℕ → ℕ → ℕ → ℕ
-label_for f symbol carrier stream = number (landed f symbol carrier stream) (label_bits_of f.rate)
+label_for f symbol carrier stream = written (landed f symbol carrier stream) (label_bits_of f.rate)
 
 is_label : (f : FrameView) (symbol carrier stream : ℕ) → IsLabelOf f symbol carrier stream (label_for f symbol carrier stream)
 unfolding label_bit label_bits_of landed label_for
 is_label f symbol carrier stream = record {
-  below = number-below (landed f symbol carrier stream) (label_bits_of f.rate);
+  below = written-below (landed f symbol carrier stream) (label_bits_of f.rate);
   bits = λ j q bit lands.
       let from = coded_bit_of-only f.rate (label_bit_at symbol carrier stream bit) j q lands in
-      number-bits (landed f symbol carrier stream) (label_bits_of f.rate) bit lands.label.bit
+      written-bit (landed f symbol carrier stream) (label_bits_of f.rate) bit lands.label.bit
       ∙ ap (λ (z : ℕ × ℕ). get_or (coded_of f z.0) z.1 false) (sym from);
 }
 

@@ -1,7 +1,6 @@
 pub mod Carried
 pub mod Coded
 pub mod Exists
-pub mod Labels
 pub mod Parsed
 pub mod Places
 pub mod Sequences

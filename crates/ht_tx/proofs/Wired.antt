@@ -1,9 +1,9 @@
 -- Each label bit of each symbol finds its coded bit.
 use Rattle.std.proofs.Common.{◌≡◌, ℕ, ◌+◌, ◌-◌, ◌*◌, ◌/◌, ◌%◌, ◌^◌, ◌<◌, ◌≤◌, List, Bool, false}
-use Rattle.std.proofs.Common.{◌==◌, drop, take, slice_range, length, get_or, refl, ap, sym, ◌∙◌, subst, arith}
+use Rattle.std.proofs.Common.{◌==◌, drop, slice_range, length, get_or, refl, ap, sym, ◌∙◌, subst, arith}
 use Rattle.std.specs.Int.{bit_at}
 use Rattle.std.proofs.Math.Nat.{mul-le-mul_right}
-use Rattle.std.proofs.lemmas.List.{get_or-drop, get_or-take, length-drop, length-take}
+use Rattle.std.proofs.lemmas.List.{get_or-drop, length-drop}
 use Rattle.ht_rate.specs.declared.rates.Rate.{Rate}
 use Rattle.ht_rate.specs.declared.kinds.Modulation.{Modulation}
 use Rattle.ht_rate.specs.Schemes.{bits_of}
@@ -11,6 +11,7 @@ use Rattle.ht_rate.specs.Rates.{encoders_of, streams_of, data_carriers_of, label
 use Rattle.ht_rate.proofs.RateFacts.{streams_of-range, label_bits_of-range, encoders_of-range}
 use Rattle.ht_map.specs.Gray.{label_bit, point_of}
 use Rattle.ht_pam.specs.declared.point.Point.{Point}
+use Rattle.ht_data.proofs.Written.{part-get, part-length}
 use Rattle.ht_parse.specs.Streams.{share_of, source_of}
 use Rattle.ht_parse.proofs.Maps.{source_of-place}
 use Rattle.ht_interleave.specs.Interleaver.{origin_of}
@@ -112,13 +113,6 @@ wired f symbol all coded sources ls are_coded is_coded len table = record {
         ∙ ap (λ (x : ℕ). get_or (coded_of f x) (symbol * share_of f.rate + i) false) (sym from.2)
         ∙ ap (λ (x : ℕ). get_or (coded_of f (coded_bit_of f.rate (label_bit_at symbol carrier stream bit)).0) x false) (sym from.3)
 
--- the sources of a label are a part of the table
-pub part-get : (sources : List ℕ) (from bits e : ℕ) → e < bits → get_or (slice_range sources from (from + bits)) e 0 ≡ get_or sources (from + e) 0
-part-get sources from bits e lt =
-    let width : from + bits - from ≡ bits = omega arith in
-    ap (λ (n : ℕ). get_or (take n (drop from sources)) e 0) width
-    ∙ (get_or-take bits (drop from sources) e 0 lt ∙ get_or-drop from sources e 0)
-
 -- a label that is read so has the coded bits that land there
 pub label-landed : (f : FrameView) (symbol carrier stream label : ℕ) (coded : List Bool) (sources part : List ℕ) → AreWired f symbol coded sources
     → carrier < data_carriers_of f.rate → 1 ≤ stream → stream ≤ streams_of f.rate
@@ -157,10 +151,6 @@ label-within r carrier stream slot b n lc low high db dn ds =
     let total : data_carriers_of r * n * b ≡ data_carriers_of r * streams_of r * label_bits_of r =
     ap (λ (x : ℕ). data_carriers_of r * x * b) dn ∙ ap (λ (x : ℕ). data_carriers_of r * streams_of r * x) db in
     omega (arith, digits-below carrier (stream - 1) (b - 1) (data_carriers_of r) n b lc st last)
-
-pub part-length : (sources : List ℕ) (from bits : ℕ) → from + bits ≤ length sources → length (slice_range sources from (from + bits)) ≡ bits
-part-length sources from bits le =
-    omega (arith, length-take (from + bits - from) (drop from sources), length-drop from sources)
 
 pub part-inside : (f : FrameView) (symbol carrier stream : ℕ) (coded : List Bool) (sources part : List ℕ) (slot b n : ℕ) → AreWired f symbol coded sources
     → carrier < data_carriers_of f.rate → 1 ≤ stream → stream ≤ streams_of f.rate

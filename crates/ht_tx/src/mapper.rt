@@ -1,39 +1,16 @@
 //! From coded bits to points.
-ghost use Rattle.std.specs.Prelude.{◌≡◌, ◌+◌, ◌-◌, ◌*◌, ◌^◌, ◌<◌, ◌≤◌, ◌==◌, ℕ, false, length, slice_index_or, vec_len, vec_capacity};
-ghost use Rattle.std.specs.Int.{bit_at, from_bool};
+ghost use Rattle.std.specs.Prelude.{◌≡◌, ◌+◌, ◌*◌, ◌<◌, ◌≤◌, vec_len, vec_capacity};
 ghost use Rattle.ht_rate.specs.Carriers.{IsAmong, carrier_of};
 ghost use Rattle.ht_rate.specs.Rates.{data_carriers_of, streams_of, carriers_of};
 ghost use Rattle.ht_tx.specs.Transmitted.{Carries, IsPointOf};
 ghost use Rattle.ht_tx.specs.Sources.{AreCarried, AreWired};
 
 use crate::frames::Frame;
+use ht_data::label;
 use ht_map::point;
 use ht_pam::Point;
 use ht_pilot::pilot;
 use ht_rate::Carrier;
-
-// The label of the bits at these places, the first one the most significant.
-fn label(sources: &[u32], coded: &[bool]) -> u8
-    requires few { length sources.now ≤ 6 }
-    requires inside { (e : ℕ) → e < length sources.now → slice_index_or sources.now e 0 < length coded.now }
-    ensures below { result < 2 ^ length sources.now }
-    ensures bits { (e : ℕ) → e < length sources.now
-        → (bit_at result (length sources.now - 1 - e) == 1) ≡ slice_index_or coded.now (slice_index_or sources.now e 0) false }
-{
-    let mut label = 0;
-    for source in sources {
-        label = with_bit(label, coded[*source as usize]);
-    }
-    label
-}
-
-// A label with one bit more, the least significant.
-fn with_bit(label: u8, bit: bool) -> u8
-    requires { label < 64 }
-    ensures { result ≡ 2 * label + from_bool bit }
-{
-    2 * label + u8::from(bit)
-}
 
 // The point of a data subcarrier.
 fn data_point(

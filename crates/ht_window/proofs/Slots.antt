@@ -52,10 +52,10 @@ length_put (x ∷ xs) (suc at) new = ap (λ (n : ℕ). suc n) (length_put xs at 
 pub issued : (capacity front : ℕ) (slots : List Slot) (job : JobView) → IsWindow (record { capacity = capacity; front = front; slots = slots })
     → length slots < capacity → job.number ≡ front + length slots → job.number < 2 ^ 64 - 1
     → IsWindow (record { capacity = capacity; front = front; slots = slots ++ unbooked job ∷ [] })
-issued capacity front slots job w room next last = record {
+issued capacity front slots job w free next last = record {
   some = w.some;
   few = w.few;
-  room = omega (arith, room, length-append slots (unbooked job ∷ []));
+  within = omega (arith, free, length-append slots (unbooked job ∷ []));
   last = omega (arith, next, last, length-append slots (unbooked job ∷ []));
   numbered = λ k s e. slice_get-more slots (unbooked job) k s (λ i t. t.job.number ≡ front + i) w.numbered next e;
   own = λ k s found e f. slice_get-more slots (unbooked job) k s (λ i t. (other : Found) → t.found ≡ Some other → other ≡ near t.job)
@@ -69,7 +69,7 @@ emitted capacity front [] w some = absurd (omega (arith, some))
 emitted capacity front (x ∷ xs) w some = record {
   some = w.some;
   few = w.few;
-  room = let room = w.room in omega (arith, room);
+  within = let within = w.within in omega (arith, within);
   last = let last = w.last in omega (arith, last);
   numbered = λ k s e. let is = w.numbered (suc k) s e in omega (arith, is);
   own = λ k s found e f. w.own (suc k) s found e f;
@@ -82,7 +82,7 @@ pub accepted : (capacity front at : ℕ) (slots : List Slot) (job : JobView) →
 accepted capacity front at slots job w is = record {
   some = w.some;
   few = w.few;
-  room = let room = w.room in omega (arith, room, length_put slots at (booked job));
+  within = let within = w.within in omega (arith, within, length_put slots at (booked job));
   last = let last = w.last in omega (arith, last, length_put slots at (booked job));
   numbered = λ k s e. slice_get-put slots at (booked job) k s (λ i t. t.job.number ≡ front + i) w.numbered (w.numbered at (unbooked job) is) e;
   own = λ k s found e f. slice_get-put slots at (booked job) k s (λ i t. (other : Found) → t.found ≡ Some other → other ≡ near t.job)

@@ -38,12 +38,12 @@ abbrev pub first_unbooked : List Slot → Option JobView
 first_unbooked [] = None
 first_unbooked (s ∷ rest) = job_without s.found s.job (first_unbooked rest)
 
--- what holds of every window: its slots are no more than it has room for, their jobs are numbered from the front on,
+-- what holds of every window: its slots are no more than its capacity, their jobs are numbered from the front on,
 -- and what is in a slot is the first nearest vector of its job
 pub record IsWindow (w : WindowView) : Type 0 where
   pub some : 1 ≤ w.capacity
   pub few : w.capacity ≤ 4096
-  pub room : length w.slots ≤ w.capacity
+  pub within : length w.slots ≤ w.capacity
   pub last : w.front + length w.slots < 2 ^ 64
   pub numbered : (k : ℕ) (s : Slot) → slice_get w.slots k ≡ Some s → s.job.number ≡ w.front + k
   pub own : (k : ℕ) (s : Slot) (found : Found) → slice_get w.slots k ≡ Some s → s.found ≡ Some found → found ≡ near s.job

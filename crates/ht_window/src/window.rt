@@ -63,16 +63,16 @@ impl Window {
     /// Whether there are fewer slots than the capacity, so that another job can be issued.
     #[must_use]
     pub fn has_room(&self) -> bool
-        ensures room { result ≡ nat_lt (length self.now.slots) self.now.capacity }
+        ensures free_slot { result ≡ nat_lt (length self.now.slots) self.now.capacity }
         ensures window { IsWindow self.now }
     {
         !self.slots.is_full()
     }
 
-    /// Issues a job: it gets a new last slot, which waits for its answer. There is room, and the job's number is the next
+    /// Issues a job: it gets a new last slot, which waits for its answer. There is a free slot, and the job's number is the next
     /// one, below 2^64 - 1.
     pub fn issue(&mut self, job: Job)
-        requires room { length self.old.slots < self.old.capacity }
+        requires free_slot { length self.old.slots < self.old.capacity }
         requires next { job.number ≡ self.old.front + length self.old.slots }
         requires last { job.number < 2 ^ 64 - 1 }
         ensures issued { self.new ≡ record {
@@ -147,10 +147,10 @@ impl Window {
 
     /// Counts jobs that were run elsewhere, with no slot of theirs: the number of the front rises by `count`, to less than
     /// 2^64. The window is empty before and after.
-    pub fn pass(&mut self, count: u64)
+    pub fn skip(&mut self, count: u64)
         requires empty { self.old.slots ≡ [] }
         requires last { self.old.front + count < 2 ^ 64 }
-        ensures passed { self.new ≡ record {
+        ensures skipped { self.new ≡ record {
           capacity = self.old.capacity;
           front = self.old.front + count;
           slots = [];

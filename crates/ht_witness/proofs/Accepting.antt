@@ -1,5 +1,5 @@
 -- The marks of a walk that cuts as early as it may are those of a walk.
-use Rattle.std.proofs.Common.{◌≡◌, ℕ, ◌+◌, ◌<◌, ◌≤◌, ℤ, List, [], ◌∷◌, ◌++◌, map, Bool, true, false, ◌&&◌, ◌||◌, not, nat_lt}
+use Rattle.std.proofs.Common.{◌≡◌, ℕ, ◌+◌, ◌<◌, ◌≤◌, ℤ, List, [], ◌∷◌, ◌++◌, map, Bool, true, false, ◌&&◌, ◌||◌, not, nat_lt, if◌then◌else◌}
 use Rattle.std.proofs.Common.{append_assoc, append-nil, inl, inr, refl, ap, sym, ◌∙◌, subst, arith}
 use Rattle.std.proofs.lemmas.Bool.{cases_Bool, cond-true, cond-false}
 use Rattle.std.proofs.lemmas.Bool.Decides.{nat_tests}
@@ -18,7 +18,7 @@ use Rattle.ht_sphere.proofs.Rows.{leads}
 use Rattle.ht_witness.specs.declared.certificate.Certificate.{Certificate}
 use Rattle.ht_witness.specs.Walks.{Suffix, longer, below, beats, IsWalk}
 use Rattle.ht_witness.specs.Certificates.{Checked, claim_of, roots}
-use Rattle.ht_witness.specs.Marking.{marks_by, marks_of}
+use Rattle.ht_witness.specs.Marking.{marks_by, marks_of, marks_through}
 use Rattle.ht_witness.proofs.Faults.{less_from}
 
 -- nothing that ends in these levels is better than the claim
@@ -107,35 +107,36 @@ accepted job certificate is near distance marks =
           (subst (λ (m : List Bool). IsWalk claim (roots job ++ nothing) m) (append-nil (marks_of certificate.distance all [] 0) ∙ sym marks) walk);
     }
 
--- one more level of a walk that is marked
-module _ (d : ℕ) (c : Real) (cs : List Real) (s : List ℤ) (p : ℕ) where
-  abbrev under_marks : List ℤ → ℕ → List Bool
-  under_marks = marks_of d cs
+-- the marks of all that is below a suffix are those of a walk through what is below it
+marks-through : (d : ℕ) (xs ys : List Suffix) → marks_through d (xs ++ ys) ≡ marks_through d xs ++ marks_through d ys
+marks-through d [] ys = refl
+marks-through d (s ∷ xs) ys =
+    let mine : List Bool = if nat_lt d s.partial then false ∷ [] else true ∷ marks_of d s.ahead s.levels s.partial in
+    ap (λ (m : List Bool). mine ++ m) (marks-through d xs ys) ∙ sym (append_assoc mine (marks_through d xs) (marks_through d ys))
 
-  abbrev pub left_marks : List ℤ → List Bool
-  left_marks xs = marks_by d under_marks c s p xs
+marks-by : (d : ℕ) (c : Real) (cs : List Real) (s : List ℤ) (p : ℕ) (xs : List ℤ)
+    → marks_by d (marks_of d cs) c s p xs ≡ marks_through d (map (longer c cs s p) xs)
+marks-by d c cs s p [] = refl
+marks-by d c cs s p (x ∷ xs) =
+    let q = p + cost c s x in
+    let mine : List Bool = if nat_lt d q then false ∷ [] else true ∷ marks_of d cs (x ∷ s) q in
+    ap (λ (m : List Bool). mine ++ m) (marks-by d c cs s p xs)
 
-  pub cut_more : (before after all : List Bool) (walk xs : List ℤ) (x : ℤ) → walk ≡ x ∷ xs → d < p + cost c s x → after ≡ before ++ false ∷ []
-      → before ++ left_marks walk ≡ all → after ++ left_marks xs ≡ all
-  cut_more before after all walk xs x e far added h =
-      let q = p + cost c s x in
-      let test : nat_lt d q ≡ true = grind (arith, nat_tests) in
-      let shut : List Bool = false ∷ [] in
-      ap (λ (m : List Bool). m ++ left_marks xs) added ∙ append_assoc before shut (left_marks xs)
-      ∙ ap (λ (m : List Bool). before ++ (m ++ left_marks xs)) (sym (cond-true (nat_lt d q) shut (true ∷ under_marks (x ∷ s) q) test))
-      ∙ ap (λ (l : List ℤ). before ++ left_marks l) (sym e) ∙ h
+pub marks-below : (d : ℕ) (cs : List Real) (s : List ℤ) (p : ℕ) → marks_of d cs s p ≡ marks_through d (below cs s p)
+marks-below d [] s p = refl
+marks-below d (c ∷ cs) s p = marks-by d c cs s p (allowed c.ladder)
 
-  pub open_more : (before next after under all : List Bool) (walk xs : List ℤ) (x : ℤ) → walk ≡ x ∷ xs → p + cost c s x ≤ d
-      → next ≡ before ++ true ∷ [] → after ≡ next ++ under → under ≡ under_marks (x ∷ s) (p + cost c s x)
-      → before ++ left_marks walk ≡ all → after ++ left_marks xs ≡ all
-  open_more before next after under all walk xs x e near added more is h =
-      let q = p + cost c s x in
-      let test : nat_lt d q ≡ false = grind (arith, nat_tests) in
-      let shut : List Bool = false ∷ [] in
-      let one : List Bool = true ∷ [] in
-      let deep = under_marks (x ∷ s) q in
-      ap (λ (m : List Bool). m ++ left_marks xs) (more ∙ ap (λ (m : List Bool). m ++ under) added ∙ ap (λ (m : List Bool). (before ++ one) ++ m) is
-      ∙ append_assoc before one deep)
-      ∙ append_assoc before (true ∷ deep) (left_marks xs)
-      ∙ ap (λ (m : List Bool). before ++ (m ++ left_marks xs)) (sym (cond-false (nat_lt d q) shut (true ∷ deep) test))
-      ∙ ap (λ (l : List ℤ). before ++ left_marks l) (sym e) ∙ h
+-- a suffix that is open is marked, and what is below it comes next
+pub open_more : (d : ℕ) (s : Suffix) (rest : List Suffix) (before after : List Bool) → s.partial ≤ d → after ≡ before ++ true ∷ []
+    → before ++ marks_through d (s ∷ rest) ≡ after ++ marks_through d (below s.ahead s.levels s.partial ++ rest)
+open_more d s rest before after near added =
+    let test : nat_lt d s.partial ≡ false = grind (arith, nat_tests) in
+    let shut : List Bool = false ∷ [] in
+    let one : List Bool = true ∷ [] in
+    let more = marks_through d rest in
+    let under = below s.ahead s.levels s.partial in
+    let deep = marks_of d s.ahead s.levels s.partial in
+    ap (λ (m : List Bool). before ++ (m ++ more)) (cond-false (nat_lt d s.partial) shut (true ∷ deep) test)
+    ∙ sym (append_assoc before one (deep ++ more)) ∙ ap (λ (m : List Bool). m ++ (deep ++ more)) (sym added)
+    ∙ ap (λ (m : List Bool). after ++ (m ++ more)) (marks-below d s.ahead s.levels s.partial)
+    ∙ ap (λ (m : List Bool). after ++ m) (sym (marks-through d under rest))

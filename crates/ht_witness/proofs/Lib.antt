@@ -1,6 +1,6 @@
 pub mod Trusting
 pub mod Faults
 pub mod Walking
-pub mod Stages
 pub mod Accepting
+pub mod Stages
 pub mod Values

@@ -1,5 +1,6 @@
 -- The walk of a certificate through the tree of suffixes, mark by mark.
-use Rattle.std.specs.Prelude.{◌≡◌, ⊤, ℕ, suc, ◌+◌, ◌<◌, ℤ, List, [], ◌∷◌, ◌++◌, map, Bool, true, false, nat_lt, if◌then◌else◌, Option, Some, None}
+use Rattle.std.specs.Prelude.{◌≡◌, ⊤, ℕ, suc, ◌+◌, ◌<◌, ℤ, List, [], ◌∷◌, ◌++◌, map, length, drop, Bool, true, false, nat_lt, if◌then◌else◌}
+use Rattle.std.specs.Prelude.{Option, Some, None, Result, Ok, Err}
 use Rattle.ht_pam.specs.Ladders.{levels as allowed}
 use Rattle.ht_sphere.specs.Coordinates.{Real, cost}
 use Rattle.ht_sphere.specs.Tree.{Reached}
@@ -21,6 +22,28 @@ longer c ahead levels partial x = record { ahead = ahead; levels = x ∷ levels;
 abbrev pub below : List Real → List ℤ → ℕ → List Suffix
 below [] levels partial = []
 below (c ∷ ahead) levels partial = map (longer c ahead levels partial) (allowed c.ladder)
+
+-- the suffix of this partial distance that has this number of coordinates in front, and the levels from that place on
+pub record IsAt (count : ℕ) (all : List ℤ) (distance : ℕ) (s : Suffix) : Type 0 where
+  pub ahead : length s.ahead ≡ count
+  pub levels : s.levels ≡ drop count all
+  pub partial : s.partial ≡ distance
+
+-- what is to be walked of a suffix that is open, or cut
+abbrev pub entered : Bool → Suffix → List Suffix
+entered true s = below s.ahead s.levels s.partial
+entered false s = []
+
+-- What comes of a walk by its state and the suffixes that are left, and when it may stop. One that goes on through some of them
+-- leaves what comes of it as it is
+module _ {State Stop Outcome : Type 0} (outcome : State → List Suffix → Outcome) (stops : Outcome → State → Stop → Type 0) where
+  abbrev pub Walked : State → List Suffix → State → List Suffix → Result (Unit {0}) Stop → Type 0
+  Walked old before new after (Ok done) = outcome old before ≡ outcome new after
+  Walked old before new after (Err stop) = stops (outcome old before) new stop
+
+  abbrev pub Visited : State → Suffix → List Suffix → State → Result Bool Stop → Type 0
+  Visited old s rest new (Ok is_open) = outcome old (s ∷ rest) ≡ outcome new (entered is_open s ++ rest)
+  Visited old s rest new (Err stop) = stops (outcome old (s ∷ rest)) new stop
 
 -- a whole vector is nearer than the claimed one, or as near and before it
 abbrev pub beats : Reached → List Real → List ℤ → ℕ → Bool

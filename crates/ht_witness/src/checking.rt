@@ -8,10 +8,11 @@ ghost use Rattle.ht_witness.specs.Certificates.{Checked, claim_of, fault_of, roo
 
 use crate::certificate::Certificate;
 use crate::check_fault::CheckFault;
+use crate::claim::Claim;
 use crate::levels::levels_of;
 use crate::off_grid::off_grid;
 use crate::stop::Stop;
-use crate::walk::Walk;
+use crate::walk::walk;
 use ht_metric::{Job, distance};
 
 /// Checks a certificate of a job: that its vector is of the grid, that the distance is its own, and that the marks are
@@ -56,20 +57,16 @@ fn fault_of_walk(job: &Job, certificate: &Certificate) -> Option<CheckFault>
     requires { length certificate.now.vector ≡ length job.now.system }
     ensures { result ≡ walk_fault (claim_of certificate.now) (roots job.now) 0 certificate.now.marks }
 {
-    let streams = job.system().streams();
-    let coordinates = 2 * usize::from(streams);
+    let levels = 2 * usize::from(certificate.vector.len());
     let claimed = levels_of(&certificate.vector);
     let marks = certificate.marks.as_slice();
-    let walk = Walk {
-        job,
-        claimed: &claimed[..coordinates],
+    let claim = Claim {
+        claimed: &claimed[..levels],
         distance: certificate.distance,
         marks,
     };
-    let mut levels = [0i8; 8];
-    let levels = &mut levels[..coordinates];
     let mut at = 0;
-    if let Err(stop) = walk.quadrature(streams, levels, 0, &mut at) {
+    if let Err(stop) = walk(job, &claim, &mut at) {
         return Some(fault_at(stop, at as u64));
     }
     if at < marks.len() {

@@ -21,12 +21,14 @@ mod certificate;
 mod certifying;
 mod check_fault;
 mod checking;
+mod claim;
 pub mod laws;
 mod levels;
 mod marking;
 mod marks;
 mod off_grid;
 mod stop;
+mod visitor;
 mod walk;
 
 pub use certificate::Certificate;

@@ -5,6 +5,7 @@ ghost use Rattle.ht_sphere.specs.Coordinates.{from_last};
 ghost use Rattle.ht_witness.specs.Marking.{marks_of};
 
 use crate::marking::Marking;
+use crate::walk::walk;
 use ht_metric::Job;
 use std::alloc::AllocError;
 use std::marker::Model;
@@ -48,12 +49,8 @@ impl Marks {
         ensures written { OnOk result (self.new ≡ marks_of distance (from_last job.now.system job.now.grid) [] 0) }
         ensures job { IsJob job.now }
     {
-        let streams = job.system().streams();
-        let mut levels = [0i8; 8];
-        let levels = &mut levels[..2 * usize::from(streams)];
         self.marks.clear();
-        let marking = Marking { job, distance };
-        marking.quadrature(streams, levels, 0, &mut self.marks)?;
+        walk(job, &Marking { distance }, &mut self.marks)?;
         Ok(())
     }
 

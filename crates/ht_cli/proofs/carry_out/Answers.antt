@@ -2,7 +2,7 @@ use Rattle.std.specs.Prelude.{◌≡◌, ℕ, Vec}
 use Rattle.std.specs.Global.{Global}
 use Rattle.std.proofs.Common.{ap, refl, rules}
 use Rattle.ht_io.proofs.Calls.{later-later}
-use Rattle.ht_rx.specs.Texts.{detect_text, lines_of}
+use Rattle.ht_results.specs.JobTexts.{detect_text, lines_of}
 use Rattle.ht_results.specs.Texts.{frame_lines_of, rx_text}
 use Rattle.ht_runs.specs.Filters.{SaysNothing}
 use Rattle.ht_sim.specs.Passing.{passing}
@@ -31,14 +31,14 @@ pub returns-in-Some-Detect-clause-answered : goal.returns-in-Some-Detect-clause-
 returns-in-Some-Detect-clause-answered g c =
     let asked = c.in-Some-Detect.field-0-is in
     let run = ends detect_text lines_of detects _ _ _ c.list_alone-heard.result _ _ _ c.put_end-listed.result c.settle.result
-    c.list_alone-heard.ensures.lists c.list_alone-heard.ensures.puts_later c.put_end-listed.ensures.puts
+    c.list_alone-heard.ensures.tells c.list_alone-heard.ensures.puts_later c.put_end-listed.ensures.puts
     (later-later _ _ _ c.list_alone-heard.ensures.puts_later c.put_end-listed.ensures.later) c.settle.ensures.settles in search rules
 
 pub returns-in-Some-Rx-clause-answered : goal.returns-in-Some-Rx-clause-answered
 returns-in-Some-Rx-clause-answered g c =
     let asked = c.in-Some-Rx.field-0-is in
     let run = ends rx_text frame_lines_of receives _ _ _ c.receive_text_alone-heard.result _ _ _ c.put_end-received.result
-    c.settle-in-Some-Rx.result c.receive_text_alone-heard.ensures.receives c.receive_text_alone-heard.ensures.puts_later
+    c.settle-in-Some-Rx.result c.receive_text_alone-heard.ensures.tells c.receive_text_alone-heard.ensures.puts_later
     c.put_end-received.ensures.puts (later-later _ _ _ c.receive_text_alone-heard.ensures.puts_later c.put_end-received.ensures.later)
     c.settle-in-Some-Rx.ensures.settles in search rules
 
@@ -53,7 +53,7 @@ pub returns-in-Some-LegacyRx-clause-answered : goal.returns-in-Some-LegacyRx-cla
 returns-in-Some-LegacyRx-clause-answered g c =
     let asked = c.in-Some-LegacyRx.field-0-is in
     let run = streams (filter legacy_captures legacy_text legacy_lines_of) legacy_ends _ _ _ (HasFrames legacy_captures legacy_items) c.legacy_receive_alone-received.result _ _ c.settle-in-Some-LegacyRx.result
-    c.legacy_receive_alone-received.ensures.receives c.legacy_receive_alone-received.ensures.puts_later
+    c.legacy_receive_alone-received.ensures.streams c.legacy_receive_alone-received.ensures.puts_later
     c.settle-in-Some-LegacyRx.ensures.settles in search rules
 
 pub returns-in-Some-Many-clause-answered : goal.returns-in-Some-Many-clause-answered

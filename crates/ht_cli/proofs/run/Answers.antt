@@ -2,7 +2,7 @@ use Rattle.std.specs.Prelude.{◌≡◌, ℕ, Vec}
 use Rattle.std.specs.Global.{Global}
 use Rattle.std.proofs.Common.{ap, refl, rules}
 use Rattle.ht_io.proofs.Calls.{later-later}
-use Rattle.ht_rx.specs.Texts.{detect_text, lines_of}
+use Rattle.ht_results.specs.JobTexts.{detect_text, lines_of}
 use Rattle.ht_results.specs.Texts.{frame_lines_of, rx_text}
 use Rattle.ht_words.specs.Words.{asked}
 use Rattle.ht_demo.specs.Demos.{IsDemoLine, returned_line}
@@ -29,7 +29,7 @@ returns-in-Err-clause-answered g c =
 
 pub returns-in-Some-Detect-clause-answered : goal.returns-in-Some-Detect-clause-answered
 returns-in-Some-Detect-clause-answered g c =
-    let run = ends detect_text lines_of detects _ _ _ c.list-heard.result _ _ _ c.put_end-listed.result c.settle.result c.list-heard.ensures.lists
+    let run = ends detect_text lines_of detects _ _ _ c.list-heard.result _ _ _ c.put_end-listed.result c.settle.result c.list-heard.ensures.tells
     c.list-heard.ensures.puts_later c.put_end-listed.ensures.puts (later-later _ _ _ c.list-heard.ensures.puts_later c.put_end-listed.ensures.later)
     c.settle.ensures.settles in
     let words = c.in-Ok.ensures.value in search rules
@@ -37,7 +37,7 @@ returns-in-Some-Detect-clause-answered g c =
 pub returns-in-Some-Rx-clause-answered : goal.returns-in-Some-Rx-clause-answered
 returns-in-Some-Rx-clause-answered g c =
     let run = ends rx_text frame_lines_of receives _ _ _ c.receive_text-heard.result _ _ _ c.put_end-received.result c.settle-in-Some-Rx.result
-    c.receive_text-heard.ensures.receives c.receive_text-heard.ensures.puts_later c.put_end-received.ensures.puts
+    c.receive_text-heard.ensures.tells c.receive_text-heard.ensures.puts_later c.put_end-received.ensures.puts
     (later-later _ _ _ c.receive_text-heard.ensures.puts_later c.put_end-received.ensures.later) c.settle-in-Some-Rx.ensures.settles in
     let words = c.in-Ok.ensures.value in search rules
 
@@ -50,7 +50,7 @@ returns-in-Some-Soft-clause-answered g c =
 pub returns-in-Some-LegacyRx-clause-answered : goal.returns-in-Some-LegacyRx-clause-answered
 returns-in-Some-LegacyRx-clause-answered g c =
     let run = streams (filter legacy_captures legacy_text legacy_lines_of) legacy_ends _ _ _ (HasFrames legacy_captures legacy_items)
-    c.legacy_receive-received.result _ _ c.settle-in-Some-LegacyRx.result c.legacy_receive-received.ensures.receives
+    c.legacy_receive-received.result _ _ c.settle-in-Some-LegacyRx.result c.legacy_receive-received.ensures.streams
     c.legacy_receive-received.ensures.puts_later c.settle-in-Some-LegacyRx.ensures.settles in
     let words = c.in-Ok.ensures.value in search rules
 

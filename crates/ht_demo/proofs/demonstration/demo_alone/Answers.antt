@@ -13,13 +13,13 @@ capture-requires g c = planned_few c.args.plan.now c.deref.result.now (c.deref.e
 pub line-requires-clause-room : goal.line-requires-clause-room
 line-requires-clause-room g c =
     let same = received_results c.new-source.result c.receive_alone.new.source c.new-book.result.results.items
-    c.receive_alone.new.book.results.items c.in-Ok.field-0 c.new-book.ensures c.in-Ok.ensures.receives in
+    c.receive_alone.new.book.results.items c.in-Ok.field-0 c.new-book.ensures c.in-Ok.ensures.receives.tells in
     subst HaveRoom (sym (c.results.ensures ∙ same ∙ ap results_of c.new-source.ensures)) c.in_ok-capture.ensures.room
 
 pub returns-in-Ok-clause-line : goal.returns-in-Ok-clause-line
 returns-in-Ok-clause-line g c =
     let same = received_results c.new-source.result c.receive_alone.new.source c.new-book.result.results.items
-    c.receive_alone.new.book.results.items c.in-Ok.field-0 c.new-book.ensures c.in-Ok.ensures.receives in
+    c.receive_alone.new.book.results.items c.in-Ok.field-0 c.new-book.ensures c.in-Ok.ensures.receives.tells in
     IfOk-weaker c.line.result _ _
     (λ line. demo_line c.args.plan.now c.deref.result.now c.in_ok-capture.field-0.items c.results.result.now line.items
     (c.deref.ensures.value ∙ c.in_ok-frames.ensures) c.in_ok-capture.ensures.passed (c.results.ensures ∙ same ∙ ap results_of c.new-source.ensures))

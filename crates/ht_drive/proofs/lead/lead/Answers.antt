@@ -1,4 +1,4 @@
-use Rattle.std.proofs.Common.{Option, List, ap, sym, subst, ◌∙◌}
+use Rattle.std.proofs.Common.{Option, List, ap, sym, subst, ◌∙◌, rules}
 use Rattle.ht_metric.specs.Jobs.{JobView}
 use Rattle.ht_feed.specs.OwnNumbers.{AreTold}
 use Rattle.ht_feed.specs.Dues.{all_in}
@@ -9,23 +9,40 @@ use Rattle.ht_drive.proofs.Giving.{same_on, tallies_still}
 use Rattle.ht_drive.proofs.Supplying.{goes_on_taken}
 use Rattle.ht_drive.proofs.lead.lead.Goals as goal
 
-pub returns-in-Err-clause-in_turn : goal.returns-in-Err-clause-in_turn
-returns-in-Err-clause-in_turn g c = c.supply.ensures.in_turn (g.F.BlockFeed.shown c.args.feed.now).left c.loop.invariant.along
+pub returns-in-Err-clause-leaves : goal.returns-in-Err-clause-leaves
+returns-in-Err-clause-leaves g c =
+    record {
+      leads = g.met.F.BlockFeed.goes_on c.args.feed.now c.loop.feed c.supply.new.feed c.loop.invariant.leads c.supply.ensures.leads;
+      due = search rules;
+      in_turn = c.supply.ensures.in_turn (g.F.BlockFeed.shown c.args.feed.now).left c.loop.invariant.along;
+    }
 
-pub returns-in-Err-deliver-clause-in_turn : goal.returns-in-Err-deliver-clause-in_turn
-returns-in-Err-deliver-clause-in_turn g c =
+pub returns-in-Err-deliver-clause-leaves : goal.returns-in-Err-deliver-clause-leaves
+returns-in-Err-deliver-clause-leaves g c =
     let known = (g.F.BlockFeed.shown c.args.feed.now).left in
-    c.deliver.ensures.in_turn known (c.in-Ok.ensures.along known c.loop.invariant.along)
+    let feeds = g.met.F.BlockFeed.goes_on in
+    record {
+      leads = feeds c.args.feed.now c.supply.new.feed c.deliver.new.feed
+          (feeds c.args.feed.now c.loop.feed c.supply.new.feed c.loop.invariant.leads c.supply.ensures.leads) c.deliver.ensures.leads;
+      due = search rules;
+      in_turn = c.deliver.ensures.in_turn known (c.in-Ok.ensures.along known c.loop.invariant.along);
+    }
 
 pub returns-then-is_home-clause-told : goal.returns-then-is_home-clause-told
 returns-then-is_home-clause-told g c = λ all is.
     let now = g.F.BlockFeed.shown c.loop.feed in
     c.in-Ok.ensures.told all (subst (λ (known : Option (List JobView)). IsAlong known now) is c.loop.invariant.along) (c.loop.invariant.told all is)
 
-pub returns-then-is_err-clause-in_turn : goal.returns-then-is_err-clause-in_turn
-returns-then-is_err-clause-in_turn g c =
+pub returns-then-is_err-clause-leaves : goal.returns-then-is_err-clause-leaves
+returns-then-is_err-clause-leaves g c =
     let known = (g.F.BlockFeed.shown c.args.feed.now).left in
-    (c.in_default.ensures.along known (c.in-Ok.ensures.along known c.loop.invariant.along)).in_turn
+    let feeds = g.met.F.BlockFeed.goes_on in
+    record {
+      leads = feeds c.args.feed.now c.supply.new.feed c.deliver.new.feed
+          (feeds c.args.feed.now c.loop.feed c.supply.new.feed c.loop.invariant.leads c.supply.ensures.leads) c.deliver.ensures.leads;
+      due = search rules;
+      in_turn = (c.in_default.ensures.along known (c.in-Ok.ensures.along known c.loop.invariant.along)).in_turn;
+    }
 
 pub loop-preserved : goal.loop-preserved
 loop-preserved g c =

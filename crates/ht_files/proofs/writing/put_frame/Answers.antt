@@ -1,12 +1,18 @@
-use Rattle.ht_fields.proofs.Putting.{on_err, on_err_then}
-use Rattle.ht_files.proofs.Putting.{part_behind, part_front}
+use Rattle.std.proofs.Common.{ℕ, List, OnErr, OnOk, subst}
+use Rattle.ht_io.specs.Devices.{Grows, GrowsByPart}
+use Rattle.ht_files.proofs.Putting.{frame_put}
 use Rattle.ht_files.proofs.writing.put_frame.Goals as goal
 
-pub returns-in_err-put-clause-part : goal.returns-in_err-put-clause-part
-returns-in_err-put-clause-part g c = on_err _ _ (part_front c.args.frame.now _ _ c.front-head.result c.front-head.ensures c.in_err-put.ensures.part)
+pub returns-clause-grown : goal.returns-clause-grown
+returns-clause-grown g c =
+    let a = g.K.Sink.shown c.args.sink.now in
+    let z = g.K.Sink.shown c.put_both.new.sink in
+    subst (λ (put : List ℕ). OnOk c.put_both.result (Grows a z put))
+    (frame_put c.args.frame.now c.front.result c.octets.result.now c.front.ensures c.octets.ensures.value) c.put_both.ensures.grown
 
 pub returns-clause-part : goal.returns-clause-part
 returns-clause-part g c =
-    on_err_then _ _ _
-    (part_behind c.args.frame.now _ _ _ c.front-head.result c.octets.result.now c.front-head.ensures c.octets.ensures.value c.in_ok-put.ensures.grown)
-    c.put-2.ensures.part
+    let a = g.K.Sink.shown c.args.sink.now in
+    let z = g.K.Sink.shown c.put_both.new.sink in
+    subst (λ (put : List ℕ). OnErr c.put_both.result (GrowsByPart a z put))
+    (frame_put c.args.frame.now c.front.result c.octets.result.now c.front.ensures c.octets.ensures.value) c.put_both.ensures.part

@@ -1,49 +1,50 @@
-use Rattle.std.proofs.Common.{◌<◌, List, length, slice_get, refl, ap, ◌∙◌, sym, rules}
-use Rattle.std.proofs.lemmas.Option.{slice_get_read}
-use Rattle.ht_metric.specs.declared.found.Found.{Found}
-use Rattle.ht_io.proofs.Calls.{later-later}
-use Rattle.ht_feed.specs.Accounts.{PutsPartOf}
-use Rattle.ht_frames.specs.Gathering.{booked_behind}
-use Rattle.ht_frames.proofs.Taking.{err_so, heads, job_there, one_more, one_part}
+use Rattle.std.proofs.Common.{subst}
+use Rattle.std.specs.Prelude.{◌≡◌, ◌++◌, List, IfNone, IfSome}
+use Rattle.ht_feed.specs.Dues.{due_of, headed_due}
+use Rattle.ht_feed.specs.Items.{Headed}
+use Rattle.ht_frames.specs.Gathering.{finished}
+use Rattle.ht_frames.proofs.Gathered.{err_as, ok_as, part_alike, part_whole, puts_alike}
 use Rattle.ht_frames.proofs.gatherer.gather_block.Goals as goal
 
-pub returns-in_err-take_found-clause-part : goal.returns-in_err-take_found-clause-part
-returns-in_err-take_found-clause-part g c =
+pub returns-in-Some-true-clause-part : goal.returns-in-Some-true-clause-part
+returns-in-Some-true-clause-part g c =
     let b = g.B.Book in
-    let l = c.loop-at in
-    let head = c.args.head.now in
-    let jobs = g.J.Jobs.jobs c.args.block.now in
-    let found = c.index-found-at.result in
-    let within : l.at < length c.args.found.now = search rules in
-    let there = slice_get_read c.args.found.now (length c.args.found.now) l.at found refl within c.index-found-at.is in
-    let j = job_there jobs l.at c.place_at-place.result found c.place_at-place.ensures
-    (sym (ap (λ (fs : List Found). slice_get fs l.at) c.requires.right.are) ∙ there) in
-    let start = booked_behind g.U.Whole.WholeFrame.result_of b.booked c.args.queue.now.items (g.U.UnderWay.results c.args.under_way.now) in
-    let before = booked_behind g.U.Whole.WholeFrame.result_of b.booked l.queue.items (g.U.UnderWay.results l.under_way) in
-    let now = b.shown c.take_found.new.book in
-    err_so c.from_residual.result (PutsPartOf (b.shown c.args.book.now) now start (heads head jobs))
-    (one_part head (b.shown c.args.book.now) (b.shown l.book) now start before jobs l.at j.0 j.1 l.invariant.puts
-    (c.in_err-take_found.ensures.part j.0 j.2 j.3))
+    let results = g.U.UnderWay.results in
+    let after = c.take_block.new.self in
+    let jobs = headed_due (due_of c.args.head.now (g.J.Jobs.jobs c.args.block.now)) in
+    err_as c.finish_frame.result
+    (part_whole g.U.Whole.WholeFrame.result_of b.booked (b.shown c.args.book.now) (b.shown c.finish_frame.new.book) c.args.queue.now.items
+    (g.U.UnderWay.comes_to after) (results c.args.under_way.now) (results after) jobs c.in-Some-true.field-0
+    (subst (λ given. IfSome given (λ last. (more : List (Headed g.row.U-Head.Denot)) → results c.args.under_way.now (jobs ++ more)
+    ≡ finished last (g.U.UnderWay.comes_to after) ++ results after more)) c.in-Some-true.is c.in_ok-take_block.ensures.results)
+    c.in-Some-true.field-0-test)
+    c.finish_frame.ensures.part
 
-pub loop-at-preserved : goal.loop-at-preserved
-loop-at-preserved g c =
+pub returns-in-None-clause-put : goal.returns-in-None-clause-put
+returns-in-None-clause-put g c =
     let b = g.B.Book in
-    let l = c.loop-at in
-    let head = c.args.head.now in
-    let jobs = g.J.Jobs.jobs c.args.block.now in
-    let found = c.index-found-at.result in
-    let within : l.at < length c.args.found.now = search rules in
-    let there = slice_get_read c.args.found.now (length c.args.found.now) l.at found refl within c.index-found-at.is in
-    let j = job_there jobs l.at c.place_at-place.result found c.place_at-place.ensures
-    (sym (ap (λ (fs : List Found). slice_get fs l.at) c.requires.right.are) ∙ there) in
-    let e = c.in_ok-take_found.ensures in
-    let start = booked_behind g.U.Whole.WholeFrame.result_of b.booked c.args.queue.now.items (g.U.UnderWay.results c.args.under_way.now) in
-    let before = booked_behind g.U.Whole.WholeFrame.result_of b.booked l.queue.items (g.U.UnderWay.results l.under_way) in
-    let after = booked_behind g.U.Whole.WholeFrame.result_of b.booked c.take_found.new.queue.items (g.U.UnderWay.results c.take_found.new.under_way) in
-    let now = b.shown c.take_found.new.book in
-    record {
-      puts = one_more head (b.shown c.args.book.now) (b.shown l.book) now start before jobs l.at j.0 j.1 l.invariant.puts after (e.put j.0 j.2 j.3);
-      steady = e.faults.steady ∙ l.invariant.steady;
-      later = later-later (b.shown c.args.book.now) (b.shown l.book) now l.invariant.later c.take_found.ensures.faults.later;
-      same = c.take_found.ensures.faults.same ∙ l.invariant.same;
-    }
+    let results = g.U.UnderWay.results in
+    let result_of = g.U.Whole.WholeFrame.result_of in
+    let before = results c.args.under_way.now in
+    let same = results c.take_block.new.self in
+    let jobs = headed_due (due_of c.args.head.now (g.J.Jobs.jobs c.args.block.now)) in
+    ok_as c.gather_jobs.result
+    (puts_alike result_of b.booked (b.shown c.args.book.now) (b.shown c.gather_jobs.new.book) c.args.queue.now.items before same jobs
+    (subst (λ given. IfNone given ((more : List (Headed g.row.U-Head.Denot)) → same (jobs ++ more) ≡ before (jobs ++ more))) c.in-None.is
+    c.in_ok-take_block.ensures.none)
+    _)
+    c.gather_jobs.ensures.put
+
+pub returns-in-None-clause-part : goal.returns-in-None-clause-part
+returns-in-None-clause-part g c =
+    let b = g.B.Book in
+    let results = g.U.UnderWay.results in
+    let result_of = g.U.Whole.WholeFrame.result_of in
+    let before = results c.args.under_way.now in
+    let same = results c.take_block.new.self in
+    let jobs = headed_due (due_of c.args.head.now (g.J.Jobs.jobs c.args.block.now)) in
+    err_as c.gather_jobs.result
+    (part_alike result_of b.booked (b.shown c.args.book.now) (b.shown c.gather_jobs.new.book) c.args.queue.now.items before same jobs
+    (subst (λ given. IfNone given ((more : List (Headed g.row.U-Head.Denot)) → same (jobs ++ more) ≡ before (jobs ++ more))) c.in-None.is
+    c.in_ok-take_block.ensures.none))
+    c.gather_jobs.ensures.part

@@ -1,9 +1,9 @@
-use Rattle.std.proofs.Common.{◌≡◌, ◌∙◌, List, Bool, length, refl, ap, arith}
+use Rattle.std.proofs.Common.{◌≡◌, ◌∙◌, refl, ap}
 use Rattle.std.proofs.lemmas.Result.{IfOk-weaker}
 use Rattle.ht_rate.specs.Rates.{encoders_of, steps_of}
 use Rattle.ht_parse.specs.Encoders.{list_of}
 use Rattle.ht_inverse.specs.Decoding.{joined_bits, outcome_of}
-use Rattle.ht_inverse.proofs.Codewords.{joined-is, joined-length, parsed-by, untailed-shares}
+use Rattle.ht_inverse.proofs.Codewords.{joined-is, joined-whole, parsed-by, untailed-shares}
 use Rattle.ht_inverse.proofs.bits.inputs_come_to.Goals as goal
 
 pub join_encoders-requires : goal.join_encoders-requires
@@ -14,19 +14,15 @@ join_encoders-requires c =
 
 pub come_to-requires-clause-service : goal.come_to-requires-clause-service
 come_to-requires-clause-service c =
-    let is = parsed-by c.args.rate.now c.in_ok-bits.bits.items c.args.first.now c.args.second.now c.without_tail.result.now c.without_tail-2.result.now
-    c.without_tail.ensures c.without_tail-2.ensures c.in_ok-bits.ensures in
-    let h = joined-length c.args.rate.now c.args.octets c.args.first.now c.args.second.now c.in_ok-bits.bits.items c.requires.first is in
-    let same = ap (λ (bits : List Bool). length bits) c.as_mut_slice.ensures.value in
-    omega (arith, h, same)
+    (joined-whole c.args.rate.now c.args.octets c.args.first.now c.args.second.now c.in_ok-bits.bits.items c.without_tail.result.now
+    c.without_tail-2.result.now c.as_mut_slice.result.now c.without_tail.ensures c.without_tail-2.ensures c.in_ok-bits.ensures c.requires.first
+    c.as_mut_slice.ensures.value).0
 
 pub come_to-requires-clause-octets : goal.come_to-requires-clause-octets
 come_to-requires-clause-octets c =
-    let is = parsed-by c.args.rate.now c.in_ok-bits.bits.items c.args.first.now c.args.second.now c.without_tail.result.now c.without_tail-2.result.now
-    c.without_tail.ensures c.without_tail-2.ensures c.in_ok-bits.ensures in
-    let h = joined-length c.args.rate.now c.args.octets c.args.first.now c.args.second.now c.in_ok-bits.bits.items c.requires.first is in
-    let same = ap (λ (bits : List Bool). length bits) c.as_mut_slice.ensures.value in
-    omega (arith, h, same)
+    (joined-whole c.args.rate.now c.args.octets c.args.first.now c.args.second.now c.in_ok-bits.bits.items c.without_tail.result.now
+    c.without_tail-2.result.now c.as_mut_slice.result.now c.without_tail.ensures c.without_tail-2.ensures c.in_ok-bits.ensures c.requires.first
+    c.as_mut_slice.ensures.value).1
 
 pub returns : goal.returns
 returns c =

@@ -1,6 +1,6 @@
 use Rattle.std.proofs.Common.{◌≡◌, [], ◌∷◌, ◌++◌, get_or, true, refl, arith}
 use Rattle.ht_lanes.specs.Lanes.{sides_of}
-use Rattle.ht_lanes.proofs.Asked.{leads_asked, none_so, one_more, over_none, room_none, same_none, some_so}
+use Rattle.ht_lanes.proofs.Asked.{leads_asked, none_so, one_more, over_none, few_due_none, same_none, some_so}
 use Rattle.ht_lanes.specs.Leading.{all-none}
 use Rattle.ht_lanes.proofs.asking.ask_from.Goals as goal
 
@@ -9,7 +9,7 @@ loop-at-init g c =
     let lane = g.met.L.Lane in
     record {
       same = λ l k few. (refl, refl);
-      room = c.requires.room;
+      few_due = c.requires.few_due;
       over = λ x k high low. absurd (omega (arith, high, low));
       leads = λ sinks. all-none g.L.Lane.leads lane.stays lane.goes_on (sides_of c.args.lanes.now c.args.sources.now sinks);
     }
@@ -25,10 +25,10 @@ ask_at-requires-clause-source g c =
     let f = e.sources in
     omega (arith, c.loop-at-test.true, f, c.requires.pairs)
 
-pub ask_at-requires-clause-room : goal.ask_at-requires-clause-room
-ask_at-requires-clause-room g c = λ l.
+pub ask_at-requires-clause-few_due : goal.ask_at-requires-clause-few_due
+ask_at-requires-clause-few_due g c = λ l.
     let e = (c.loop-at.invariant.leads []).lanes in
-    c.loop-at.invariant.room l c.loop-at.at (omega (arith, c.loop-at-test.true, e))
+    c.loop-at.invariant.few_due l c.loop-at.at (omega (arith, c.loop-at-test.true, e))
 
 pub returns-in-Ok-Some-clause-due : goal.returns-in-Ok-Some-clause-due
 returns-in-Ok-Some-clause-due g c =
@@ -73,7 +73,7 @@ loop-at-preserved g c =
     none_so c.in-Ok-None.field-0 ((l : g.row.L.Denot) → g.L.Lane.over (get_or c.ask_at.new.lanes at l) ≡ true) c.in-Ok-None.field-0-is e.over in
     record {
       same = same_none c.loop-at.lanes c.ask_at.new.lanes c.loop-at.at e.other_lanes g.L.Lane.due g.L.Lane.rests c.args.lanes.now i.same e.rests none;
-      room = room_none c.loop-at.lanes c.ask_at.new.lanes c.loop-at.at e.other_lanes g.L.Lane.over over g.L.Lane.due c.args.most e.as_many_lanes i.room;
+      few_due = few_due_none c.loop-at.lanes c.ask_at.new.lanes c.loop-at.at e.other_lanes g.L.Lane.over over g.L.Lane.due c.args.most e.as_many_lanes i.few_due;
       over = over_none c.loop-at.lanes c.ask_at.new.lanes c.loop-at.at e.other_lanes g.L.Lane.over over c.args.from i.over;
       leads = λ sinks. leads_asked g.L.Lane.leads lane.stays lane.goes_on (sides_of c.args.lanes.now c.args.sources.now sinks)
           c.loop-at.lanes c.ask_at.new.lanes c.loop-at.sources c.ask_at.new.sources sinks c.loop-at.at (i.leads sinks) e.as_many_lanes e.as_many_sources

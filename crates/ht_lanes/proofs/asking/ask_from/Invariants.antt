@@ -1,5 +1,5 @@
 use Rattle.std.proofs.Common.{◌≡◌, ◌≤◌, ◌<◌, ℕ, List, true, get_or}
-use Rattle.ht_lanes.specs.Lanes.{AllLead, HaveRoom, SameBooks, sides_of}
+use Rattle.ht_lanes.specs.Lanes.{AllLead, HaveFewDue, SameBooks, sides_of}
 use Rattle.ht_lanes.proofs.asking.ask_from.Given as goal
 
 -- the lanes asked so far are over
@@ -8,7 +8,7 @@ invariant-loop-at g l =
     let lane = g.L.Lane in
     record {
       same : SameBooks lane.due lane.rests l.fn.lanes l.lanes;
-      room : HaveRoom lane.due lane.over l.most l.lanes;
+      few_due : HaveFewDue lane.due lane.over l.most l.lanes;
       over : (x : g.row.L.Denot) (k : ℕ) → l.from ≤ k → k < l.at → lane.over (get_or l.lanes k x) ≡ true;
       leads : (sinks : List g.row.K.Denot) → AllLead lane.leads (sides_of l.fn.lanes l.fn.sources sinks) (sides_of l.lanes l.sources sinks);
     }

@@ -1,12 +1,12 @@
 use Rattle.std.proofs.Common.{◌≡◌, ◌<◌, ◌≤◌, ℕ, [], ◌∷◌, ◌++◌, length, ap}
 use Rattle.ht_lanes.specs.Lanes.{LaneJobs, OneMoreAt, SameBooks, due_of}
 use Rattle.ht_lanes.proofs.Asked.{none_so, some_so}
-use Rattle.ht_lanes.proofs.Rings.{booked_more, booked_same, have_room}
+use Rattle.ht_lanes.proofs.Rings.{booked_more, booked_same, have_few_due}
 use Rattle.ht_lanes.proofs.giving.give_from.Goals as goal
 
-pub ask_from-requires-clause-room : goal.ask_from-requires-clause-room
-ask_from-requires-clause-room g c =
-    have_room g.L.Lane.due g.L.Lane.rests g.L.Lane.over c.args.lanes.now c.args.due.now.items c.args.most c.requires.booked g.met.L.Lane.resting c.requires.room
+pub ask_from-requires-clause-few_due : goal.ask_from-requires-clause-few_due
+ask_from-requires-clause-few_due g c =
+    have_few_due g.L.Lane.due g.L.Lane.rests g.L.Lane.over c.args.lanes.now c.args.due.now.items c.args.most c.requires.booked g.met.L.Lane.resting c.requires.few_due
 
 pub returns-in-Ok-None-clause-booked : goal.returns-in-Ok-None-clause-booked
 returns-in-Ok-None-clause-booked g c =

@@ -1,10 +1,10 @@
-use Rattle.std.proofs.Common.{rules, ◌≡◌, ℕ, ◌+◌, ◌-◌, ◌*◌, ◌<◌, ◌≤◌, ◌∙◌, ap, arith, map, min, subst}
+use Rattle.std.proofs.Common.{rules, ◌≡◌, ℕ, ◌+◌, ◌-◌, ◌*◌, ◌≤◌, ◌∙◌, ap, arith, map, min, subst}
 use Rattle.std.specs.List.{range_with_len}
 use Rattle.std.proofs.Math.Nat.{min-le_left}
 use Rattle.ht_clause18.specs.Rates.{coded_bits_of, symbols_of}
 use Rattle.ht_viterbi.specs.Received.{known_of}
 use Rattle.ht_legacy_inverse.specs.Received.{received_at}
-use Rattle.ht_legacy_inverse.proofs.Gathered.{all-bits, symbol-below, whole-symbol}
+use Rattle.ht_legacy_inverse.proofs.Gathered.{all-bits, symbol-left, whole-symbol}
 use Rattle.ht_legacy_inverse.proofs.gather.received.Goals as goal
 
 pub loop-left-init : goal.loop-left-init
@@ -21,13 +21,9 @@ loop-left-init c =
 
 pub push_symbol-requires-clause-labels : goal.push_symbol-requires-clause-labels
 push_symbol-requires-clause-labels c =
-    let size = coded_bits_of c.args.rate in
     let low = c.coded_bits-size.ensures in
-    let within = c.coded_bits-count.ensures.within in
-    let at = c.loop-left.invariant.before c.loop-left-test.true in
-    let below : c.loop-left.symbol < symbols_of c.args.rate c.args.octets =
-    symbol-below c.loop-left.symbol 0 size (symbols_of c.args.rate c.args.octets) (omega (arith, low.value, low.low))
-    (omega (arith, within, at, c.loop-left-test.true)) in
+    let below = symbol-left c.loop-left.symbol c.loop-left.left c.coded_bits-count.result (coded_bits_of c.args.rate) (symbols_of c.args.rate c.args.octets)
+    (omega (arith, low.value, low.low)) c.loop-left-test.true (c.loop-left.invariant.before c.loop-left-test.true) c.coded_bits-count.ensures.within in
     omega (arith, below, c.requires.labels)
 
 pub push_symbol-requires-clause-room : goal.push_symbol-requires-clause-room
@@ -43,13 +39,9 @@ push_symbol-requires-clause-before c =
 
 pub overflow_add-symbol : goal.overflow_add-symbol
 overflow_add-symbol c =
-    let size = coded_bits_of c.args.rate in
     let low = c.coded_bits-size.ensures in
-    let within = c.coded_bits-count.ensures.within in
-    let at = c.loop-left.invariant.before c.loop-left-test.true in
-    let below : c.loop-left.symbol < symbols_of c.args.rate c.args.octets =
-    symbol-below c.loop-left.symbol 0 size (symbols_of c.args.rate c.args.octets) (omega (arith, low.value, low.low))
-    (omega (arith, within, at, c.loop-left-test.true)) in
+    let below = symbol-left c.loop-left.symbol c.loop-left.left c.coded_bits-count.result (coded_bits_of c.args.rate) (symbols_of c.args.rate c.args.octets)
+    (omega (arith, low.value, low.low)) c.loop-left-test.true (c.loop-left.invariant.before c.loop-left-test.true) c.coded_bits-count.ensures.within in
     omega (arith, below, c.symbols-symbols.ensures.value, c.symbols-symbols.ensures.high)
 
 pub loop-left-preserved : goal.loop-left-preserved

@@ -1,6 +1,5 @@
 use Rattle.std.proofs.Common.{rules, ◌≡◌, ◌∙◌, [], ap, subst}
 use Rattle.ht_feed.specs.Outcomes.{Comes}
-use Rattle.ht_legacy_blocks.specs.Frames.{no_head}
 use Rattle.ht_legacy_blocks.specs.Readers.{legacy_at, legacy_means}
 use Rattle.ht_legacy_blocks.specs.declared.head.LegacyFrameHead.{LegacyFrameHead}
 use Rattle.ht_receive.specs.Receiving.{books}
@@ -9,8 +8,8 @@ use Rattle.ht_legacy_rx.specs.Folding.{legacy_results_from, no_frame}
 use Rattle.ht_legacy_rx.specs.Results.{result_of}
 use Rattle.ht_legacy_rx.proofs.receiving.book_frames.Goals as goal
 
-pub returns-clause-tells : goal.returns-clause-tells
-returns-clause-tells g c =
+pub returns : goal.returns
+returns g c =
     let b = g.B.Book in
     let before = c.new-gatherer.result in
     let source = g.S.Source.shown c.args.source.now in

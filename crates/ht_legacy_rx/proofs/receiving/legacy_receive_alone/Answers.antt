@@ -10,17 +10,27 @@ use Rattle.ht_legacy_rx.specs.Texts.{legacy_items, legacy_lines_of, legacy_text}
 use Rattle.ht_legacy_rx.proofs.Telling.{streamed}
 use Rattle.ht_legacy_rx.proofs.receiving.legacy_receive_alone.Goals as goal
 
-pub returns-in_err-reader-clause-receives : goal.returns-in_err-reader-clause-receives
-returns-in_err-reader-clause-receives g c =
+pub returns-in_err-reader : goal.returns-in_err-reader
+returns-in_err-reader g c =
     let source = g.S.Source.shown c.args.source.now in
     let sink = g.K.Sink.shown c.args.sink.now in
     let is : c.from_residual.result ≡ Err NoMemory = search rules in
-    subst (λ r. Streamed (filter captures legacy_text legacy_lines_of) source source sink sink (HasFrames captures legacy_items) r) (sym is)
-    (nothing_put legacy_lines_of source sink)
+    record {
+      streams = subst (λ r. Streamed (filter captures legacy_text legacy_lines_of) source source sink sink (HasFrames captures legacy_items) r) (sym is)
+          (nothing_put legacy_lines_of source sink);
+      writes = search rules;
+      reads_later = search rules;
+      puts_later = search rules;
+    }
 
-pub returns-clause-receives : goal.returns-clause-receives
-returns-clause-receives g c =
+pub returns : goal.returns
+returns g c =
     let r = c.in_ok-reader in
-    streamed legacy_means legacy_at r.reader c.first_head.result c.new-under_way.result (g.S.Source.shown c.args.source.now)
-    (g.S.Source.shown c.put_frames_alone.new.source) (g.K.Sink.shown c.args.sink.now) (g.K.Sink.shown c.put_frames_alone.new.sink) c.put_frames_alone.result
-    r.ensures.means r.ensures.at c.new-under_way.ensures c.put_frames_alone.ensures.puts
+    record {
+      streams = streamed legacy_means legacy_at r.reader c.first_head.result c.new-under_way.result (g.S.Source.shown c.args.source.now)
+          (g.S.Source.shown c.put_frames_alone.new.source) (g.K.Sink.shown c.args.sink.now) (g.K.Sink.shown c.put_frames_alone.new.sink) c.put_frames_alone.result
+          r.ensures.means r.ensures.at c.new-under_way.ensures c.put_frames_alone.ensures.puts;
+      writes = search rules;
+      reads_later = search rules;
+      puts_later = search rules;
+    }

@@ -1,4 +1,4 @@
-use Rattle.ht_machine.specs.Machine.{run, empty}
+use Rattle.ht_machine.specs.Machine.{after_all, empty}
 use Rattle.ht_machine.proofs.Going.{can_go_on, run_kept, empty_core}
 use Rattle.ht_machine.proofs.laws.after_legal_events.Goals as goal
 
@@ -8,4 +8,4 @@ returns-clause-core c = λ workers window events some few wide narrow legal.
 
 pub returns-clause-going : goal.returns-clause-going
 returns-clause-going c = λ workers window events some few wide narrow legal.
-    can_go_on (run (empty workers window) events) (run_kept events (empty workers window) (empty_core workers window some few wide narrow) legal)
+    can_go_on (after_all (empty workers window) events) (run_kept events (empty workers window) (empty_core workers window some few wide narrow) legal)

@@ -2,11 +2,11 @@ use Rattle.std.proofs.Common.{List, ap}
 use Rattle.ht_window.specs.declared.slot.Slot.{Slot}
 use Rattle.ht_window.specs.Windows.{WindowView}
 use Rattle.std.specs.Prelude.{length}
-use Rattle.ht_machine.proofs.Shows.{issue_room, issue_next, issue_shown}
+use Rattle.ht_machine.proofs.Shows.{issue_free, issue_next, issue_shown}
 use Rattle.ht_machine.proofs.window_laws.issue.Goals as goal
 
-pub returns-clause-room : goal.returns-clause-room
-returns-clause-room c = issue_room
+pub returns-clause-free_slot : goal.returns-clause-free_slot
+returns-clause-free_slot c = issue_free
 
 pub returns-clause-next : goal.returns-clause-next
 returns-clause-next c = issue_next

@@ -12,5 +12,5 @@ pub returns-in-Ok-drive-clause-taken : goal.returns-in-Ok-drive-clause-taken
 returns-in-Ok-drive-clause-taken g c =
     let f = c.drive.new.feed in
     let none : HaveNone g.L.Lane.due g.L.Lane.rests f.lanes.now =
-    none_left g.L.Lane.due g.L.Lane.rests f.lanes.now f.due.now.items f.feed.rings c.in-Ok-drive.ensures.taken in
+    none_left g.L.Lane.due g.L.Lane.rests f.lanes.now f.due.now.items f.feed.rings c.in-Ok-drive.ensures.through.taken in
     search rules

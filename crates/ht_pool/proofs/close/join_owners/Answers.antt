@@ -1,4 +1,4 @@
-use Rattle.std.proofs.Common.{◌≡◌, ◌∙◌, List, length, ap, sym, rules}
+use Rattle.std.proofs.Common.{◌≡◌, ◌∙◌, List, length, ap, rules}
 use Rattle.ht_pool.specs.Seats.{OwnView}
 use Rattle.ht_pool.specs.Gathering.{joined_rows, rows_of}
 use Rattle.ht_pool.proofs.Lists.{written_back}

@@ -1,4 +1,4 @@
-use Rattle.std.proofs.Common.{◌≡◌, length, map, take}
+use Rattle.std.proofs.Common.{◌≡◌, length, take}
 use Rattle.ht_pool.specs.Seats.{deques_at}
 use Rattle.ht_pool.specs.Gathering.{joined_row}
 use Rattle.ht_pool.specs.Opening.{own_deques}

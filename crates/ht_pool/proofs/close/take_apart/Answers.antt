@@ -1,8 +1,8 @@
-use Rattle.std.proofs.Common.{◌≡◌, ◌∙◌, ◌+◌, ◌++◌, ◌∷◌, [], ℕ, List, length, map, ap, sym, arith}
+use Rattle.std.proofs.Common.{◌≡◌, ◌∙◌, ◌+◌, ◌++◌, ◌∷◌, [], List, length, map, ap, arith}
 use Rattle.std.proofs.lemmas.List.{append-nil, map-append, length-append}
 use Rattle.std.specs.Global.{Vec}
 use Rattle.crossbeam_queue.specs.Passes.{view}
-use Rattle.ht_pool.specs.Seats.{SeatView, OwnView}
+use Rattle.ht_pool.specs.Seats.{SeatView}
 use Rattle.ht_pool.specs.Members.{HasServed, answers_of}
 use Rattle.ht_pool.specs.Gathering.{rows_of, answered_by}
 use Rattle.ht_pool.specs.declared.hand.Hand.{Hand}

@@ -1,4 +1,4 @@
-use Rattle.std.proofs.Common.{◌≡◌, ◌+◌, ◌++◌, ◌<◌, ◌≤◌, length, map, vec_len, vec_capacity}
+use Rattle.std.proofs.Common.{◌≡◌, ◌+◌, ◌++◌, ◌<◌, ◌≤◌, length, map, vec_capacity}
 use Rattle.std.specs.List.{All}
 use Rattle.crossbeam_queue.specs.Passes.{view}
 use Rattle.ht_pool.specs.Members.{IsOnQueue, HasServed}

@@ -14,7 +14,7 @@ loop-preserved-in-Some-next_task g c =
     let gets = subst (λ (task : Option g.row.W-Task.Denot). Gets c.loop.seats c.loop.own c.next_task.new.seats c.next_task.new.own task)
     c.in-Some-next_task.is c.next_task.ensures in
     let gave = c.deliver-pass.ensures.pushed in
-    let more : (answer_view c.deliver-pass.result).pushed ≡ (answer_view c.loop.pass).pushed ++ c.run.result ∷ [] =
+    let more : (answer_view c.deliver-pass.result).pushed ≡ (answer_view c.loop.pass).pushed ++ c.answer_to.result ∷ [] =
     ap (λ (v : Hand g.row.W-Answer.Denot). v.pushed) gave in
     record {
       same = search rules;
@@ -25,14 +25,14 @@ loop-preserved-in-Some-next_task g c =
       part = ap (λ (v : Hand g.row.W-Answer.Denot). v.parts) gave ∙ was.part;
       none_received = ap (λ (v : Hand g.row.W-Answer.Denot). v.taken) gave ∙ was.none_received;
       balanced = balances-ran g.W.Work.asked c.loop.seats c.next_task.new.seats c.loop.own c.next_task.new.own (answer_view c.loop.pass).pushed
-          (answer_view c.deliver-pass.result).pushed c.in-Some-next_task.task c.run.result gets c.run.ensures more was.balanced;
+          (answer_view c.deliver-pass.result).pushed c.in-Some-next_task.task c.answer_to.result gets c.answer_to.ensures more was.balanced;
       ran = omega (
         arith,
         was.ran,
         ap (λ (xs : List g.row.W-Answer.Denot). sum_by g.W.Work.weight (map g.W.Work.asked xs)) more,
-        ap (sum_by g.W.Work.weight) (map-append g.W.Work.asked (answer_view c.loop.pass).pushed (c.run.result ∷ [])),
-        sum_by-append g.W.Work.weight (map g.W.Work.asked (answer_view c.loop.pass).pushed) (g.W.Work.asked c.run.result ∷ []),
-        ap g.W.Work.weight c.run.ensures,
+        ap (sum_by g.W.Work.weight) (map-append g.W.Work.asked (answer_view c.loop.pass).pushed (c.answer_to.result ∷ [])),
+        sum_by-append g.W.Work.weight (map g.W.Work.asked (answer_view c.loop.pass).pushed) (g.W.Work.asked c.answer_to.result ∷ []),
+        ap g.W.Work.weight c.answer_to.ensures,
         c.weigh-weight.ensures,
       );
     }

@@ -1,5 +1,5 @@
 use Rattle.std.proofs.Common.{◌≡◌, ◌*◌, ◌≤◌, drop, length}
-use Rattle.ht_rx.specs.Texts.{job_lines}
+use Rattle.ht_results.specs.JobTexts.{job_lines}
 use Rattle.ht_rx.proofs.block_lines.write_lines.Given as goal
 
 -- the lines of the jobs behind those that are left are there, and room for the others

@@ -1,6 +1,6 @@
 use Rattle.std.proofs.Common.{◌≡◌, ◌+◌, ◌*◌, ◌≤◌, ◌++◌, drop, length}
 use Rattle.ht_text.specs.Lines.{spaced}
-use Rattle.ht_rx.specs.Texts.{levels_of}
+use Rattle.ht_results.specs.JobTexts.{levels_of}
 use Rattle.ht_rx.proofs.lines.write_levels.Given as goal
 
 -- the levels of the points behind those that are left

@@ -11,7 +11,12 @@ use Rattle.ht_rx.proofs.receiving.receive.Goals as goal
 pub returns-in_err-reader-clause-receives : goal.returns-in_err-reader-clause-receives
 returns-in_err-reader-clause-receives g c =
     let e = c.from_residual.ensures in
-    lacks (booked_of g.B.Book.booked) (g.S.Source.shown c.args.source.now) (g.B.Book.shown c.args.book.now) c.from_residual.result e.0 e.1
+    record {
+      tells = lacks (booked_of g.B.Book.booked) (g.S.Source.shown c.args.source.now) (g.B.Book.shown c.args.book.now) c.from_residual.result e.0 e.1;
+      writes = search rules;
+      reads_later = search rules;
+      puts_later = search rules;
+    }
 
 pub returns-clause-receives : goal.returns-clause-receives
 returns-clause-receives g c =

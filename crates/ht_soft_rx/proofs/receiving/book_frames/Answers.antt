@@ -7,8 +7,8 @@ use Rattle.ht_soft_rx.specs.Folding.{results_in}
 use Rattle.ht_soft_rx.specs.Results.{result_of}
 use Rattle.ht_soft_rx.proofs.receiving.book_frames.Goals as goal
 
-pub returns-clause-tells : goal.returns-clause-tells
-returns-clause-tells g c =
+pub returns : goal.returns
+returns g c =
     let b = g.B.Book in
     let before = c.new-gatherer.result in
     let frame = c.args.under_way in
@@ -17,4 +17,10 @@ returns-clause-tells g c =
     results_in (λ (f : SoftWhole). result_of f.head f.weights.items) before.queue.now.items (b.shown before.book.now) (b.shown c.args.book.now)
     before.under_way.now frame (books b.booked (results_in frame) (b.shown c.tell.new.account.book.now)) c.tell.result none
     (ap b.shown c.new-gatherer.ensures.book) c.new-gatherer.ensures.under_way c.tell.ensures.tells in
-    search rules
+    record {
+      tells = search rules;
+      writes = search rules;
+      reads_later = search rules;
+      puts_later = search rules;
+      same = search rules;
+    }

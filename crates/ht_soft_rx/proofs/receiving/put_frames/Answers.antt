@@ -8,8 +8,8 @@ use Rattle.ht_soft_rx.specs.Folding.{results_in}
 use Rattle.ht_soft_rx.specs.Texts.{soft_line}
 use Rattle.ht_soft_rx.proofs.receiving.put_frames.Goals as goal
 
-pub returns-clause-puts : goal.returns-clause-puts
-returns-clause-puts g c =
+pub returns : goal.returns
+returns g c =
     let e = c.book_frames-ended in
     let source = g.S.Source.shown c.args.source.now in
     let source' = g.S.Source.shown e.new.source in
@@ -19,13 +19,18 @@ returns-clause-puts g c =
     let first : shown c.new-book.result.sink.now ≡ shown c.args.sink.now = ap shown c.new-book.ensures.sink in
     let told : Comes soft_means soft_at c.args.reader c.args.head source source' (books soft_line results (shown c.new-book.result.sink.now))
     (books soft_line results mid) e.result = e.ensures.tells in
-    let later : IsLater (shown c.new-book.result.sink.now) mid = e.ensures.books_later in
+    let later : IsLater (shown c.new-book.result.sink.now) mid = e.ensures.puts_later in
     let last : PutsEnd e.result mid (shown c.put_end.new.sink) c.put_end.result = search rules in
     record {
-      ended = e.result;
-      mid = mid;
-      comes = subst (λ (d : Device ℕ). Comes soft_means soft_at c.args.reader c.args.head source source' (books soft_line results d)
-          (books soft_line results mid) e.result) first told;
-      later = subst (λ (d : Device ℕ). IsLater d mid) first later;
-      last = last;
+      puts = record {
+        ended = e.result;
+        mid = mid;
+        comes = subst (λ (d : Device ℕ). Comes soft_means soft_at c.args.reader c.args.head source source' (books soft_line results d)
+            (books soft_line results mid) e.result) first told;
+        later = subst (λ (d : Device ℕ). IsLater d mid) first later;
+        last = last;
+      };
+      writes = search rules;
+      reads_later = search rules;
+      puts_later = search rules;
     }

@@ -9,16 +9,26 @@ use Rattle.ht_endings.proofs.Nothing.{nothing_put}
 use Rattle.ht_soft_rx.proofs.Told.{finished}
 use Rattle.ht_soft_rx.proofs.receiving.receive_soft_alone.Goals as goal
 
-pub returns-in_err-reader-clause-streams : goal.returns-in_err-reader-clause-streams
-returns-in_err-reader-clause-streams g c =
+pub returns-in_err-reader : goal.returns-in_err-reader
+returns-in_err-reader g c =
     let source = g.S.Source.shown c.args.source.now in
     let sink = g.K.Sink.shown c.args.sink.now in
     let is : c.from_residual.result ≡ Err NoMemory = search rules in
-    subst (λ r. Streamed (filter captures soft_rx_text soft_lines_of) source source sink sink HasFrames r) (sym is) (nothing_put soft_lines_of source sink)
+    record {
+      streams = subst (λ r. Streamed (filter captures soft_rx_text soft_lines_of) source source sink sink HasFrames r) (sym is) (nothing_put soft_lines_of source sink);
+      writes = search rules;
+      reads_later = search rules;
+      puts_later = search rules;
+    }
 
-pub returns-clause-streams : goal.returns-clause-streams
-returns-clause-streams g c =
+pub returns : goal.returns
+returns g c =
     let r = c.in_ok-reader in
-    finished r.reader c.no_head-head.result c.new-under_way.result (g.S.Source.shown c.args.source.now) (g.S.Source.shown c.put_frames_alone.new.source)
-    (g.K.Sink.shown c.args.sink.now) (g.K.Sink.shown c.put_frames_alone.new.sink) c.put_frames_alone.result r.ensures.means r.ensures.at c.new-under_way.ensures
-    c.put_frames_alone.ensures.puts
+    record {
+      streams = finished r.reader c.no_head-head.result c.new-under_way.result (g.S.Source.shown c.args.source.now) (g.S.Source.shown c.put_frames_alone.new.source)
+          (g.K.Sink.shown c.args.sink.now) (g.K.Sink.shown c.put_frames_alone.new.sink) c.put_frames_alone.result r.ensures.means r.ensures.at c.new-under_way.ensures
+          c.put_frames_alone.ensures.puts;
+      writes = search rules;
+      reads_later = search rules;
+      puts_later = search rules;
+    }

@@ -8,7 +8,7 @@ pub make_room-requires : goal.make_room-requires
 make_room-requires g c =
     let due : c.self.inside.due.items ≡ c.args.self.now.due = ap (λ (d : DeskView g.row.R.Denot g.row.R-Head.Denot). d.due) c.self.view_is in
     room_for c.self.inside.due.items c.args.most c.self.invariant.full c.requires.some
-    (subst (λ (ds : List (Due g.row.R-Head.Denot)). count_in (jobs_in ds) + c.args.most ≤ 4096) (sym due) c.requires.room)
+    (subst (λ (ds : List (Due g.row.R-Head.Denot)). count_in (jobs_in ds) + c.args.most ≤ 4096) (sym due) c.requires.few_due)
 
 pub invariant_of-self-in-Ok : goal.invariant_of-self-in-Ok
 invariant_of-self-in-Ok g c =

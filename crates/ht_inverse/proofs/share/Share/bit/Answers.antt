@@ -1,6 +1,6 @@
 use Rattle.std.proofs.Common.{◌*◌, ◌+◌, ◌∙◌, false, arith, slice_index_or}
 use Rattle.ht_inverse.specs.declared.label_bit.LabelBit.{LabelBit}
-use Rattle.ht_inverse.proofs.Gathered.{few-labels, has-is, known-is, label-within, place-is, places-length, share-few}
+use Rattle.ht_inverse.proofs.Gathered.{few-labels, has-is, known-is, label-inside, place-is, places-length, share-few}
 use Rattle.ht_inverse.proofs.share.Share.bit.Goals as goal
 
 abbrev no_place : LabelBit
@@ -19,22 +19,17 @@ bounds-places-place g c =
 pub overflow_add-symbol : goal.overflow_add-symbol
 overflow_add-symbol g c =
     let s = c.args.self.now in
-    let is = place-is s.rate s.erased s.encoder c.args.place c.args.places.now no_place (c.requires.places ∙ s.places_are) c.requires.place in
     let place : LabelBit = slice_index_or c.args.places.now c.args.place no_place in
-    let w = label-within s.rate s.erased s.encoder c.args.symbol c.args.place c.args.symbols c.args.per_symbol place s.there is c.requires.symbol
-    c.requires.per_symbol in
-    let inside = w.0 in
+    let inside = label-inside s.rate s.erased s.encoder c.args.symbol c.args.place c.args.symbols c.args.per_symbol c.args.places.now no_place s.there
+    (c.requires.places ∙ s.places_are) c.requires.place c.requires.symbol c.requires.per_symbol in
     let few = few-labels s.rate c.args.symbols (c.args.symbol * c.args.per_symbol + place.label) c.requires.few (omega (arith, inside)) in
     omega (arith, few, c.from.ensures)
 
 pub overflow_mul-symbol : goal.overflow_mul-symbol
 overflow_mul-symbol g c =
     let s = c.args.self.now in
-    let is = place-is s.rate s.erased s.encoder c.args.place c.args.places.now no_place (c.requires.places ∙ s.places_are) c.requires.place in
-    let place : LabelBit = slice_index_or c.args.places.now c.args.place no_place in
-    let w = label-within s.rate s.erased s.encoder c.args.symbol c.args.place c.args.symbols c.args.per_symbol place s.there is c.requires.symbol
-    c.requires.per_symbol in
-    let inside = w.0 in
+    let inside = label-inside s.rate s.erased s.encoder c.args.symbol c.args.place c.args.symbols c.args.per_symbol c.args.places.now no_place s.there
+    (c.requires.places ∙ s.places_are) c.requires.place c.requires.symbol c.requires.per_symbol in
     omega (arith, few-labels s.rate c.args.symbols (c.args.symbol * c.args.per_symbol) c.requires.few (omega (arith, inside)))
 
 pub known-requires : goal.known-requires

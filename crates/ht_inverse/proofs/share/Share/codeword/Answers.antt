@@ -26,27 +26,24 @@ returns-clause-value c =
     let steps = c.codeword_steps-steps.result in
     let p = c.pattern.result in
     let received = map known_of c.deref.result.now in
-    let low = c.codeword_steps-steps.ensures.low in
     both-ok c.decode_received.result (λ codeword. IsDecoded steps p received codeword.input)
     (λ codeword. codeword.distance ≡ distance p received codeword.input)
     (λ codeword. codeword ≡ codeword_of s.rate c.args.octets s.erased c.args.labels.now s.encoder)
     (λ codeword is far.
     codeword-is s.rate c.args.octets s.erased s.encoder steps c.args.labels.now p received codeword c.codeword_steps-steps.ensures.value c.pattern.ensures
-    (is-received c.deref.ensures.value c.in_ok-received.ensures) (omega (arith, low)) is far)
+    (is-received c.deref.ensures.value c.in_ok-received.ensures) (omega (arith, c.codeword_steps-steps.ensures.low)) is far)
     c.decode_received.ensures.input c.decode_received.ensures.distance
 
 pub returns-clause-few : goal.returns-clause-few
 returns-clause-few c =
     let s = c.args.self.now in
-    let steps = c.codeword_steps-steps.result in
     let p = c.pattern.result in
     let received = map known_of c.deref.result.now in
-    let high = c.codeword_steps-steps.ensures.high in
     let many =
-    received-length s.rate c.args.octets s.erased s.encoder steps c.args.labels.now p received c.codeword_steps-steps.ensures.value c.pattern.ensures
+    received-length s.rate c.args.octets s.erased s.encoder c.codeword_steps-steps.result c.args.labels.now p received c.codeword_steps-steps.ensures.value c.pattern.ensures
     (is-received c.deref.ensures.value c.in_ok-received.ensures) in
     IfOk-weaker c.decode_received.result (λ codeword. codeword.distance ≡ distance p received codeword.input) (λ codeword. codeword.distance ≤ 1073741824)
     (λ codeword far.
-    let low = distance-low p received codeword.input steps many in
-    omega (arith, far, low, high))
+    let low = distance-low p received codeword.input c.codeword_steps-steps.result many in
+    omega (arith, far, low, c.codeword_steps-steps.ensures.high))
     c.decode_received.ensures.distance

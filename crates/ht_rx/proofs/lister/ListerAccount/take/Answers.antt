@@ -2,7 +2,7 @@ use Rattle.std.proofs.Common.{◌∙◌}
 use Rattle.ht_feed.specs.Accounts.{PutsPartOf}
 use Rattle.ht_feed.specs.Dues.{due_of, headed_due}
 use Rattle.ht_rx.specs.Blocks.{jobs_in_blocks}
-use Rattle.ht_rx.specs.Texts.{job_lines}
+use Rattle.ht_results.specs.JobTexts.{job_lines}
 use Rattle.ht_rx.proofs.BlockListing.{part, puts}
 use Rattle.ht_frames.proofs.Taking.{err_so}
 use Rattle.ht_rx.proofs.lister.ListerAccount.take.Goals as goal

@@ -10,9 +10,9 @@ pub invariant_of-self : goal.invariant_of-self
 invariant_of-self c =
     let slots = c.self.inside.slots in
     let all = slots.items ++ unbooked c.args.job ∷ [] in
-    let room = subst (λ (w : WindowView). length w.slots < w.capacity) (sym c.self.view_is) c.requires.room in
+    let free = subst (λ (w : WindowView). length w.slots < w.capacity) (sym c.self.view_is) c.requires.free_slot in
     let next = subst (λ (w : WindowView). c.args.job.number ≡ w.front + length w.slots) (sym c.self.view_is) c.requires.next in
-    let few : length all ≤ slots.capacity = omega (arith, room, length-append slots.items (unbooked c.args.job ∷ [])) in
+    let few : length all ≤ slots.capacity = omega (arith, free, length-append slots.items (unbooked c.args.job ∷ [])) in
     let pushed : c.push_back.new.self ≡ buffer all slots.capacity =
     c.push_back.ensures.items ∙ ap (λ (xs : List Slot). buffer xs slots.capacity) (keep_all slots.capacity all few) in
-    rw pushed (issued slots.capacity c.self.inside.front slots.items c.args.job c.self.invariant room next c.requires.last)
+    rw pushed (issued slots.capacity c.self.inside.front slots.items c.args.job c.self.invariant free next c.requires.last)

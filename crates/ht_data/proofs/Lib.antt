@@ -1,0 +1,3 @@
+pub mod Periods
+pub mod Scrambled
+pub mod Written
