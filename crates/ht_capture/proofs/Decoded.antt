@@ -1,12 +1,13 @@
 -- What octets that were written read as.
 use Rattle.std.proofs.Common.{◌≡◌, ℕ, ℤ, pos, negsuc, ◌+◌, ◌*◌, ◌<◌, ◌≤◌, ◌^◌, List, [], ◌∷◌, ◌++◌, length}
 use Rattle.std.proofs.Common.{drop, flat_map, refl, sym, ap, ◌∙◌, append_assoc, arith, w16, w32, FitsSigned}
+use mir.Syntax.{Width}
 use Rattle.std.proofs.lemmas.Int.{to_z-of_z}
 use Rattle.std.proofs.lemmas.List.{append-nil, drop-drop}
 use Rattle.std.proofs.Math.Seq.{drop-append_seam}
 use Rattle.std.specs.Int.{cast_signed, cast_unsigned}
 use Rattle.byteorder.specs.Endian.{big_number, big_bytes}
-use Rattle.byteorder.specs.Numbers.{big_number-reads_back}
+use Rattle.byteorder.specs.Numbers.{big_number-reads_back, length-bytes_high_first}
 use Rattle.ht_metric.specs.declared.tap.Tap.{Tap}
 use Rattle.ht_metric.specs.declared.sample.Sample.{Sample}
 use Rattle.ht_metric.specs.Rows.{Leg, Row, rows_of}
@@ -31,6 +32,22 @@ wide_fits : (z : ℤ) → FitsSigned w32 z → cast_unsigned w32 z < 256 ^ 4
 wide_fits (pos n) f = omega (arith, f)
 wide_fits (negsuc n) f = omega (arith, f)
 
+-- two signed numbers of so many octets, one behind the other
+both_read : (w : Width) (n : ℕ) (octets rest : List ℕ) (at : ℕ) (a b : ℤ)
+    → drop at octets ≡ (big_bytes n (cast_unsigned w a) ++ big_bytes n (cast_unsigned w b)) ++ rest → FitsSigned w a → FitsSigned w b
+    → cast_unsigned w a < 256 ^ n → cast_unsigned w b < 256 ^ n
+    → (cast_signed w (big_number n (drop at octets)) ≡ a) × (cast_signed w (big_number n (drop (at + n) octets)) ≡ b)
+both_read w n octets rest at a b is f g few small =
+    let x : List ℕ = big_bytes n (cast_unsigned w a) in
+    let y : List ℕ = big_bytes n (cast_unsigned w b) in
+    let first : drop at octets ≡ x ++ (y ++ rest) = is ∙ append_assoc x y rest in
+    let second : drop (at + n) octets ≡ y ++ rest = behind_more octets x (y ++ rest) at n first (length-bytes_high_first n (cast_unsigned w a)) in (
+      ap (λ o. cast_signed w (big_number n o)) first
+          ∙ (ap (cast_signed w) (big_number-reads_back n (cast_unsigned w a) (y ++ rest) few) ∙ to_z-of_z w a f),
+      ap (λ o. cast_signed w (big_number n o)) second
+          ∙ (ap (cast_signed w) (big_number-reads_back n (cast_unsigned w b) rest small) ∙ to_z-of_z w b g),
+    )
+
 tap_made : (tap : Tap) (re im : ℤ) → re ≡ tap.re → im ≡ tap.im → (let t : Tap = record { re = re; im = im } in t) ≡ tap
 tap_made tap re im p q = ap (λ (a : ℤ). let t : Tap = record { re = a; im = im } in t) p ∙ ap (λ (b : ℤ). let t : Tap = record { re = tap.re; im = b } in t) q
 
@@ -38,15 +55,7 @@ pub tap_read : (octets rest : List ℕ) (at : ℕ) (tap : Tap) → drop at octet
     → FitsSigned w16 tap.re → FitsSigned w16 tap.im → tap_at octets at ≡ tap
 unfolding tap_at
 tap_read octets rest at tap is f g =
-    let re : List ℕ = big_bytes 2 (cast_unsigned w16 tap.re) in
-    let im : List ℕ = big_bytes 2 (cast_unsigned w16 tap.im) in
-    let first : drop at octets ≡ re ++ (im ++ rest) = is in
-    let second : drop (at + 2) octets ≡ im ++ rest = behind_more octets re (im ++ rest) at 2 first refl in
-    tap_made tap _ _
-    (ap (λ o. cast_signed w16 (big_number 2 o)) first
-    ∙ (ap (cast_signed w16) (big_number-reads_back 2 (cast_unsigned w16 tap.re) (im ++ rest) (unsigned_fits tap.re f)) ∙ to_z-of_z w16 tap.re f))
-    (ap (λ o. cast_signed w16 (big_number 2 o)) second
-    ∙ (ap (cast_signed w16) (big_number-reads_back 2 (cast_unsigned w16 tap.im) rest (unsigned_fits tap.im g)) ∙ to_z-of_z w16 tap.im g))
+    let both = both_read w16 2 octets rest at tap.re tap.im is f g (unsigned_fits tap.re f) (unsigned_fits tap.im g) in tap_made tap _ _ both.0 both.1
 
 sample_made : (s : Sample) (re im : ℤ) → re ≡ s.re → im ≡ s.im → (let t : Sample = record { re = re; im = im } in t) ≡ s
 sample_made s re im p q =
@@ -56,15 +65,7 @@ pub sample_read : (octets rest : List ℕ) (at : ℕ) (s : Sample) → drop at o
     → FitsSigned w32 s.re → FitsSigned w32 s.im → sample_at octets at ≡ s
 unfolding sample_at
 sample_read octets rest at s is f g =
-    let re : List ℕ = big_bytes 4 (cast_unsigned w32 s.re) in
-    let im : List ℕ = big_bytes 4 (cast_unsigned w32 s.im) in
-    let first : drop at octets ≡ re ++ (im ++ rest) = is in
-    let second : drop (at + 4) octets ≡ im ++ rest = behind_more octets re (im ++ rest) at 4 first refl in
-    sample_made s _ _
-    (ap (λ o. cast_signed w32 (big_number 4 o)) first
-    ∙ (ap (cast_signed w32) (big_number-reads_back 4 (cast_unsigned w32 s.re) (im ++ rest) (wide_fits s.re f)) ∙ to_z-of_z w32 s.re f))
-    (ap (λ o. cast_signed w32 (big_number 4 o)) second
-    ∙ (ap (cast_signed w32) (big_number-reads_back 4 (cast_unsigned w32 s.im) rest (wide_fits s.im g)) ∙ to_z-of_z w32 s.im g))
+    let both = both_read w32 4 octets rest at s.re s.im is f g (wide_fits s.re f) (wide_fits s.im g) in sample_made s _ _ both.0 both.1
 
 -- so many entries that were written
 taps_read : (right : List Tap) (octets rest : List ℕ) (at : ℕ)

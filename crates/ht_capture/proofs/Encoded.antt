@@ -1,20 +1,21 @@
 -- Octets that were read are those of what was read.
 use Rattle.std.proofs.Common.{◌≡◌, ℕ, zero, suc, ◌+◌, ◌*◌, ◌-◌, ◌<◌, ◌≤◌, ◌^◌, ◌/◌, ◌%◌, List, [], ◌∷◌, ◌++◌, length, drop, get_or, flat_map}
 use Rattle.std.proofs.Common.{refl, sym, ap, subst, ◌∙◌, append_assoc, arith, w16, w32, FitsSigned, Bool, true, false, ◌&&◌, ◌||◌, nat_eq, nat_lt}
+use mir.Syntax.{Width}
 use Rattle.std.proofs.lemmas.Bool.Decides.{nat_tests}
 use Rattle.ht_rate.specs.Rates.{carriers_of}
 use Rattle.ht_capture.proofs.Grids.{length-legs_at}
 use Rattle.ht_capture.specs.declared.items.FrameHead.{FrameHead}
 use Rattle.ht_capture.specs.Fields.{bad_flag}
 use Rattle.std.proofs.lemmas.Int.{of_z-to_z, ints}
-use Rattle.std.proofs.lemmas.List.{append-nil, drop_more, drop_all}
+use Rattle.std.proofs.lemmas.List.{append-nil, drop_more, drop_all, get_or-drop}
 use Rattle.std.proofs.lemmas.Grind.{flat_map-append}
 use Rattle.std.specs.Int.{cast_signed, cast_unsigned}
 use Rattle.byteorder.specs.Endian.{big_number, big_bytes}
 use Rattle.ht_metric.specs.declared.sample.Sample.{Sample}
 use Rattle.ht_metric.specs.Rows.{Leg}
 use Rattle.ht_capture.specs.Numbers.{tap_at, sample_at}
-use Rattle.ht_capture.specs.Systems.{taps_at, legs_at, triangle_of, triangle_octets}
+use Rattle.ht_capture.specs.Systems.{samples_at, taps_at, legs_at, triangle_of, triangle_octets}
 use Rattle.ht_capture.specs.Files.{tap_octets, sample_octets, taps_octets, leg_octets, legs_octets}
 use Rattle.ht_capture.specs.Contents.{AreTaps, AreSamples, AreLegs}
 use Rattle.ht_fields.specs.Tests.{AreBytes}
@@ -52,12 +53,32 @@ unsigned_back octets at enough bytes =
           ∙ (ap (λ (z : List ℕ). z ++ drop (at + 2) octets) (pair_back x y (drop (at + 2) octets) (bytes at) (bytes (at + 1))) ∙ sym more),
     )
 
+-- two parts of octets, one behind the other
+pub fronts_joined : (first second octets : List ℕ) (a b c d : ℕ) → first ++ drop b octets ≡ drop a octets
+    → second ++ drop c octets ≡ drop b octets → c ≡ d → (first ++ second) ++ drop d octets ≡ drop a octets
+fronts_joined first second octets a b c d one two e =
+    append_assoc first second (drop d octets) ∙ (ap (λ (z : List ℕ). first ++ z) (ap (λ k. second ++ drop k octets) (sym e) ∙ two) ∙ one)
+
+-- the number of these octets at a place is what it is written as
+abbrev IsBack : Width → ℕ → List ℕ → ℕ → Type 0
+IsBack w n octets at = FitsSigned w (cast_signed w (big_number n (drop at octets)))
+    × (big_bytes n (cast_unsigned w (cast_signed w (big_number n (drop at octets)))) ++ drop (at + n) octets ≡ drop at octets)
+
+-- two such numbers, one behind the other
+both_back : (w : Width) (n : ℕ) (octets : List ℕ) (at : ℕ) → IsBack w n octets at → IsBack w n octets (at + n)
+    → FitsSigned w (cast_signed w (big_number n (drop at octets))) × FitsSigned w (cast_signed w (big_number n (drop (at + n) octets)))
+    × ((big_bytes n (cast_unsigned w (cast_signed w (big_number n (drop at octets))))
+    ++ big_bytes n (cast_unsigned w (cast_signed w (big_number n (drop (at + n) octets))))) ++ drop (at + (n + n)) octets ≡ drop at octets)
+both_back w n octets at re im =
+    let first : List ℕ = big_bytes n (cast_unsigned w (cast_signed w (big_number n (drop at octets)))) in
+    let second : List ℕ = big_bytes n (cast_unsigned w (cast_signed w (big_number n (drop (at + n) octets)))) in
+    (re.0, im.0, fronts_joined first second octets at (at + n) (at + n + n) (at + (n + n)) re.1 im.1 (omega arith))
+
 signed_fits : (n : ℕ) → n < 2 ^ 16 → FitsSigned w16 (cast_signed w16 n)
 signed_fits n small = omega (arith, ints, small)
 
 -- a signed number of two octets
-signed_back : (octets : List ℕ) (at : ℕ) → at + 2 ≤ length octets → AreBytes octets → FitsSigned w16 (cast_signed w16 (big_number 2 (drop at octets)))
-    × (big_bytes 2 (cast_unsigned w16 (cast_signed w16 (big_number 2 (drop at octets)))) ++ drop (at + 2) octets ≡ drop at octets)
+signed_back : (octets : List ℕ) (at : ℕ) → at + 2 ≤ length octets → AreBytes octets → IsBack w16 2 octets at
 signed_back octets at enough bytes =
     let u = unsigned_back octets at enough bytes in
     (signed_fits (big_number 2 (drop at octets)) u.0, ap (λ n. big_bytes 2 n ++ drop (at + 2) octets) (of_z-to_z w16 (big_number 2 (drop at octets)) u.0) ∙ u.1)
@@ -67,12 +88,7 @@ tap_back : (octets : List ℕ) (at : ℕ) → at + 4 ≤ length octets → AreBy
     → FitsSigned w16 (tap_at octets at).re × FitsSigned w16 (tap_at octets at).im × (tap_octets (tap_at octets at) ++ drop (at + 4) octets ≡ drop at octets)
 unfolding tap_at
 tap_back octets at enough bytes =
-    let re = signed_back octets at (omega (arith, enough)) bytes in
-    let im = signed_back octets (at + 2) (omega (arith, enough)) bytes in
-    let e : at + 2 + 2 ≡ at + 4 = omega arith in
-    let first : List ℕ = big_bytes 2 (cast_unsigned w16 (cast_signed w16 (big_number 2 (drop at octets)))) in
-    let second : List ℕ = big_bytes 2 (cast_unsigned w16 (cast_signed w16 (big_number 2 (drop (at + 2) octets)))) in
-    (re.0, im.0, append_assoc first second (drop (at + 4) octets) ∙ (ap (λ (z : List ℕ). first ++ z) (ap (λ n. second ++ drop n octets) (sym e) ∙ im.1) ∙ re.1))
+    both_back w16 2 octets at (signed_back octets at (omega (arith, enough)) bytes) (signed_back octets (at + 2) (omega (arith, enough)) bytes)
 
 taps_back : (n : ℕ) (octets : List ℕ) (at : ℕ) → at + 4 * n ≤ length octets → AreBytes octets
     → AreTaps (taps_at n octets at) × (length (taps_at n octets at) ≡ n) × (taps_octets n (taps_at n octets at) ++ drop (at + 4 * n) octets ≡ drop at octets)
@@ -162,8 +178,7 @@ wide_fits : (n : ℕ) → n < 2 ^ 32 → FitsSigned w32 (cast_signed w32 n)
 wide_fits n small = omega (arith, ints, small)
 
 -- a signed number of four octets
-wide_back : (octets : List ℕ) (at : ℕ) → at + 4 ≤ length octets → AreBytes octets → FitsSigned w32 (cast_signed w32 (big_number 4 (drop at octets)))
-    × (big_bytes 4 (cast_unsigned w32 (cast_signed w32 (big_number 4 (drop at octets)))) ++ drop (at + 4) octets ≡ drop at octets)
+wide_back : (octets : List ℕ) (at : ℕ) → at + 4 ≤ length octets → AreBytes octets → IsBack w32 4 octets at
 wide_back octets at enough bytes =
     let more = four_more octets at enough in
     let quad = quad_back (get_or octets at 0) (get_or octets (at + 1) 0) (get_or octets (at + 2) 0)
@@ -181,12 +196,45 @@ pub sample_back : (octets : List ℕ) (at : ℕ) → at + 8 ≤ length octets �
     × (sample_octets (sample_at octets at) ++ drop (at + 8) octets ≡ drop at octets)
 unfolding sample_at
 sample_back octets at enough bytes =
-    let re = wide_back octets at (omega (arith, enough)) bytes in
-    let im = wide_back octets (at + 4) (omega (arith, enough)) bytes in
-    let e : at + 4 + 4 ≡ at + 8 = omega arith in
-    let first : List ℕ = big_bytes 4 (cast_unsigned w32 (cast_signed w32 (big_number 4 (drop at octets)))) in
-    let second : List ℕ = big_bytes 4 (cast_unsigned w32 (cast_signed w32 (big_number 4 (drop (at + 4) octets)))) in
-    (re.0, im.0, append_assoc first second (drop (at + 8) octets) ∙ (ap (λ (z : List ℕ). first ++ z) (ap (λ n. second ++ drop n octets) (sym e) ∙ im.1) ∙ re.1))
+    both_back w32 4 octets at (wide_back octets at (omega (arith, enough)) bytes) (wide_back octets (at + 4) (omega (arith, enough)) bytes)
+
+-- Values of one width, one behind another: where each is what its octets are written as, all are.
+module _ {A : Type 0} (octets_of : A → List ℕ) (width : ℕ) (octets : List ℕ) (value_at : ℕ → A) (values_at : ℕ → ℕ → List A)
+    (none : (at : ℕ) → values_at 0 at ≡ []) (next : (n at : ℕ) → values_at (suc n) at ≡ value_at at ∷ values_at n (at + width))
+    (AreTyped : List A → Type 0) (typed_none : AreTyped []) where
+  pub values_back : (one : (at : ℕ) (later : List A) → at + width ≤ length octets → AreTyped later
+      → AreTyped (value_at at ∷ later) × (octets_of (value_at at) ++ drop (at + width) octets ≡ drop at octets))
+      → (n at : ℕ) → at + width * n ≤ length octets
+      → AreTyped (values_at n at) × (flat_map octets_of (values_at n at) ++ drop (at + width * n) octets ≡ drop at octets)
+  values_back one zero at enough =
+      let e : at + width * 0 ≡ at = omega arith in (
+        subst AreTyped (sym (none at)) typed_none,
+        ap (λ (vs : List A). flat_map octets_of vs ++ drop (at + width * 0) octets) (none at) ∙ ap (λ k. drop k octets) e,
+      )
+  values_back one (suc n) at enough =
+      let e : at + width + width * n ≡ at + width * suc n = omega arith in
+      let rest = values_back one n (at + width) (omega (arith, enough, e)) in
+      let first = one at (values_at n (at + width)) (omega (arith, enough, e)) rest.0 in (
+        subst AreTyped (sym (next n at)) first.0,
+        ap (λ (vs : List A). flat_map octets_of vs ++ drop (at + width * suc n) octets) (next n at)
+            ∙ fronts_joined (octets_of (value_at at)) (flat_map octets_of (values_at n (at + width))) octets at (at + width)
+            (at + width + width * n) (at + width * suc n) first.1 rest.1 e,
+      )
+
+-- samples, one behind another
+pub length-samples_at : (n : ℕ) (octets : List ℕ) (at : ℕ) → length (samples_at n octets at) ≡ n
+length-samples_at zero octets at = refl
+length-samples_at (suc n) octets at = ap suc (length-samples_at n octets (at + 8))
+
+pub samples_back : (n : ℕ) (octets : List ℕ) (at : ℕ) → at + 8 * n ≤ length octets → AreBytes octets
+    → AreSamples (samples_at n octets at) × (flat_map sample_octets (samples_at n octets at) ++ drop (at + 8 * n) octets ≡ drop at octets)
+samples_back n octets at enough bytes =
+    values_back sample_octets 8 octets (λ k. sample_at octets k) (λ m k. samples_at m octets k) (λ k. refl) (λ m k. refl) AreSamples tt
+    (λ k later le typed. let s = sample_back octets k le bytes in ((s.0, s.1, typed), s.2)) n at enough
+
+-- octets that are octets, from a place on, and up to one
+pub bytes_drop : (n : ℕ) (octets : List ℕ) → AreBytes octets → AreBytes (drop n octets)
+bytes_drop n octets bytes i = subst (λ x. x < 256) (sym (get_or-drop n octets i 0)) (bytes (n + i))
 
 -- one sample more
 pub samples_more : (xs : List Sample) (s : Sample) → AreSamples xs → FitsSigned w32 s.re → FitsSigned w32 s.im → AreSamples (xs ++ s ∷ [])

@@ -1,7 +1,7 @@
 -- Subcarriers that are read one after another.
 use Rattle.std.proofs.Common.{◌≡◌, inl, inr, ℕ, zero, suc, ◌+◌, ◌<◌, ◌^◌, List, [], ◌∷◌, ◌++◌, length, flat_map, nat_eq}
 use Rattle.std.proofs.Common.{Bool, true, false, if◌then◌else◌, refl, sym, ap, subst, ◌∙◌, append_assoc, length-append, arith}
-use Rattle.ht_io.specs.Devices.{Device}
+use Rattle.ht_io.specs.Devices.{Device, Takes}
 use Rattle.std.proofs.lemmas.Bool.Decides.{nat_tests}
 use Rattle.std.proofs.lemmas.List.{append-nil, map-append}
 use Rattle.std.proofs.lemmas.Grind.{flat_map-append}
@@ -13,9 +13,9 @@ use Rattle.ht_metric.specs.Rows.{Leg}
 use Rattle.ht_capture.specs.declared.items.FrameHead.{FrameHead}
 use Rattle.ht_capture.specs.declared.places.Present.{Present}
 use Rattle.ht_capture.specs.Frames.{erase}
-use Rattle.ht_capture.specs.Files.{triangles_behind, carriers_octets, flagged, flagged_octets, is_erased, legs_octets, present_among}
+use Rattle.ht_capture.specs.Files.{triangles_behind, carriers_octets, flag_octet, flagged, flagged_octets, is_erased, legs_octets, present_among}
 use Rattle.ht_capture.specs.Contents.{AreLegs, AreTriangles}
-use Rattle.ht_capture.specs.Taking.{Adds, AreRead, kept_flag, triangles_of}
+use Rattle.ht_capture.specs.Taking.{Adds, AreRead, Keeps, TakesFlag, kept_flag, triangles_of}
 use Rattle.ht_capture.proofs.Marks.{clear_above, or_above, set_before, set_now, twice}
 use Rattle.ht_capture.proofs.Octets.{takes_as}
 use Rattle.ht_capture.proofs.Routes.{behind_length}
@@ -189,3 +189,16 @@ read_more version k old new present after left mid later r same (inr (is, (legs,
 pub read_end : (version k count : ℕ) (rate : Rate) (e : ℕ) (ts : List (List Leg)) (left later : Device ℕ)
     → k ≡ count → AreRead version k rate e ts left later → AreRead version count rate e ts left later
 read_end version k count rate e ts left later is r = subst (λ (n : ℕ). AreRead version n rate e ts left later) is r
+
+-- a flag of version 2 that was taken
+pub takes_flag : (version : ℕ) (b : Bool) (source later : Device ℕ) → version ≡ 2 → Takes source later (flag_octet b ∷ []) → TakesFlag version source later b
+takes_flag version true source later two taken = (two, taken)
+takes_flag version false source later two taken =
+    let t : nat_eq version 2 ≡ true = grind (arith, nat_tests) in
+    takes_as source.known later.known (0 ∷ []) (kept_flag version) (sym (ap (λ (b : Bool). if b then 0 ∷ [] else []) t)) taken
+
+-- behind its flag a triangle was read
+pub adds_kept : (version carrier : ℕ) (head : FrameHead) (present after : List Present) (source mid later : Device ℕ) → TakesFlag version source mid false
+    → Keeps (streams_of head.rate) [] carrier present after mid later → Adds version carrier head head present after source later
+adds_kept version carrier head present after source mid later flag (legs, len, is, typed, taken) =
+    inr (refl, (legs, len, is, typed, takes-append source mid later (kept_flag version) (legs_octets legs) flag taken))

@@ -4,12 +4,12 @@ use Rattle.ht_io.specs.Devices.{Device, Takes}
 use Rattle.ht_io.specs.declared.faults.Kind.{Kind}
 use Rattle.ht_io.specs.declared.faults.InFault.{InFault}
 use Rattle.ht_io.specs.declared.faults.InFault.TheVariants.{Format}
-use Rattle.ht_fields.specs.Grammar.{Good, Bad}
+use Rattle.ht_fields.specs.Grammar.{Due, End, Wants, Verdict, Good, Bad}
 use Rattle.ht_fields.specs.Cases.{IsField}
 use Rattle.ht_fields.specs.Readers.{Gives}
 use Rattle.ht_fields.specs.WholeFiles.{Halts}
 use Rattle.ht_fields.proofs.Halting.{halts_as}
-use Rattle.ht_fields.proofs.Readers.{IsNamed, field_gives, field_refuses}
+use Rattle.ht_fields.proofs.Readers.{HasWidth, IsNamed, field_gives, field_refuses}
 use Rattle.ht_capture.specs.declared.items.Item.{Item}
 use Rattle.ht_capture.specs.Fields.{CaptureState, captures, capture_due}
 use Rattle.ht_capture.specs.Reading.{here}
@@ -27,3 +27,8 @@ pub good_gives : (s t : CaptureState) (at behind : ℕ) (items : List Item) (sou
     → Gives (here s at source) (here t behind after) items
 good_gives s t at behind items source after x good taken is =
     field_gives captures s t at behind items source after x taken good is
+
+-- a field that is due has the width of its octets
+pub field_width : (d : Due CaptureState Item) (x : List ℕ) (v : Verdict CaptureState Item) → IsField d x v → HasWidth d (length x)
+field_width End x v p = p
+field_width (Wants beyond judge) x v p = p.0

@@ -108,9 +108,9 @@ placed_part due k count at old symbol part fits inside within is made =
     subst (IsPartOf due) (sym whole) (record {
       head = refl;
       symbol = refl;
-      symbols = subst (λ n. due.symbol < n) fits.whole fits.symbol;
+      symbols = subst (λ n. due.symbol < n) fits.frame.whole fits.symbol;
       carriers = subst (λ n. AreSeen due.head.rate n (take count (drop k (take due.count old.present)))) (sym count_is)
-          (seen_part due.head.rate due.count k count old.present inside fits.seen);
+          (seen_part due.head.rate due.count k count old.present inside fits.frame.seen);
     })
 
 -- it has as many as were asked for

@@ -18,7 +18,7 @@ use Rattle.ht_capture.specs.declared.items.Item.TheVariants.{Job}
 use Rattle.ht_capture.specs.declared.places.Present.{Present}
 use Rattle.ht_capture.specs.Frames.{carrier_octets, grid_at, job_at, jobs_at}
 use Rattle.ht_capture.specs.Numbers.{sample_at}
-use Rattle.ht_capture.specs.Parts.{SymbolPart, jobs_of, part_of, views_at}
+use Rattle.ht_capture.specs.Parts.{SymbolPart, job_in, jobs_of, part_of, views_at}
 use Rattle.ht_capture.specs.Systems.{samples_at}
 
 -- a number looks at its own octets alone
@@ -221,17 +221,11 @@ pub decides_as : {A : Type 0} (x y u v : A) (b : Bool) → x ≡ u → y ≡ v �
 decides_as x y u v b p q d = Decides-like b (λ e. sym p ∙ (e ∙ q)) (λ e. p ∙ (e ∙ sym q)) d
 
 -- a job's place is one of the whole
-pub part_place : (whole seen : SymbolPart) (first count at k : ℕ) (place : Place) → first + count ≤ length whole.present
-    → at < length (jobs_of (part_of whole first count)) → seen ≡ whole → k ≡ first + at
-    → ((d : Present) → place ≡ record { frame = seen.head.frame; symbol = seen.symbol; carrier = (get_or seen.present k d).carrier })
-    → IfSome (slice_get (jobs_of (part_of whole first count)) at) (λ job. job.place ≡ place)
+pub part_placed : (job : Option JobView) (seen : SymbolPart) (k : ℕ) (d : Present) (place : Place) → job ≡ Some (job_in seen k d)
+    → place ≡ record { frame = seen.head.frame; symbol = seen.symbol; carrier = (get_or seen.present k d).carrier }
+    → IfSome job (λ job. job.place ≡ place)
 unfolding job_at
-part_place whole seen first count at k place within lt same index is =
-    let d : Present = record { carrier = 0; triangle = [] } in
-    let found : SymbolPart → ℕ → Place = λ s n. record { frame = s.head.frame; symbol = s.symbol; carrier = (get_or s.present n d).carrier } in
-    let there : place ≡ found whole (first + at) = is d ∙ (ap (λ s. found s k) same ∙ ap (λ n. found whole n) index) in
-    subst (λ (o : Option JobView). IfSome o (λ job. job.place ≡ place))
-    (sym (part_get whole first count within at d (omega (arith, lt, jobs_length whole first count within)))) (sym there)
+part_placed job seen k d place is there = subst (λ (o : Option JobView). IfSome o (λ job. job.place ≡ place)) (sym is) (sym there)
 
 -- parts are the same exactly where all that they show is
 pub parts_decide : (a b : SymbolPart) (heads symbols numbers octets shapes : Bool) → Decides heads (a.head ≡ b.head) → Decides symbols (a.symbol ≡ b.symbol)
@@ -264,14 +258,10 @@ longer_part a b first other m n within other_within e =
     ∙ (ap (λ (x : SymbolPart). length x.present) e ∙ part_length b.present other n other_within)
 
 -- a job of a part is one of the whole
-pub part_job : (whole seen : SymbolPart) (first count at k : ℕ) (job : JobView) → first + count ≤ length whole.present
+pub part_job : (whole seen : SymbolPart) (first count at k : ℕ) (d : Present) → first + count ≤ length whole.present
     → at < length (jobs_of (part_of whole first count)) → seen ≡ whole → k ≡ first + at
-    → ((d : Present) → job ≡ job_at seen.head seen.symbol (seen.number + k) (get_or seen.present k d) seen.octets (k * carrier_octets seen.head.rate))
-    → (let o : Option JobView = Some job in o) ≡ slice_get (jobs_of (part_of whole first count)) at
-part_job whole seen first count at k job within lt same place is =
-    let d : Present = record { carrier = 0; triangle = [] } in
-    let found : SymbolPart → ℕ → Option JobView = λ s n.
-    Some (job_at s.head s.symbol (s.number + n) (get_or s.present n d) s.octets (n * carrier_octets s.head.rate)) in
-    ap (λ j. let o : Option JobView = Some j in o) (is d)
-    ∙ (ap (λ s. found s k) same ∙ (ap (λ n. found whole n) place
-    ∙ sym (part_get whole first count within at d (omega (arith, lt, jobs_length whole first count within)))))
+    → slice_get (jobs_of (part_of whole first count)) at ≡ Some (job_in seen k d)
+part_job whole seen first count at k d within lt same place =
+    let found : SymbolPart → ℕ → Option JobView = λ s n. Some (job_in s n d) in
+    part_get whole first count within at d (omega (arith, lt, jobs_length whole first count within))
+    ∙ sym (ap (λ s. found s k) same ∙ ap (λ n. found whole n) place)

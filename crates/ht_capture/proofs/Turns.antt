@@ -1,6 +1,6 @@
 -- What is due at the joints of a capture.
 use Rattle.std.specs.Prelude.{Result, Ok, Err, MatchResult}
-use Rattle.std.proofs.Common.{◌≡◌, ℕ, ◌+◌, ◌<◌, ◌≤◌, List, [], ◌∷◌, ◌++◌, length, take}
+use Rattle.std.proofs.Common.{◌≡◌, ℕ, ◌+◌, ◌<◌, ◌≤◌, List, [], ◌∷◌, ◌++◌, length}
 use Rattle.std.proofs.Common.{nat_eq, nat_lt, Bool, true, false, refl, sym, ap, subst, ◌∙◌, arith}
 use Rattle.std.proofs.lemmas.Bool.Decides.{nat_tests}
 use Rattle.ht_io.specs.declared.faults.InFault.{InFault}
@@ -9,9 +9,12 @@ use Rattle.ht_io.specs.declared.faults.InFault.TheVariants.{NoMemory}
 use Rattle.ht_fields.specs.Readers.{ReaderView, Gives, Finishes}
 use Rattle.ht_fields.proofs.Joins.{gives_none, gives_more}
 use Rattle.ht_io.proofs.Calls.{takes-all}
-use Rattle.ht_io.specs.Devices.{Device, Takes, IsLater}
+use Rattle.ht_io.specs.Devices.{Device, IsLater}
 use Rattle.ht_fields.specs.Meanings.{before}
-use Rattle.ht_rate.specs.Rates.{carriers_of, symbols_of}
+use Rattle.ht_metric.specs.Rows.{Leg}
+use Rattle.ht_rate.specs.declared.rates.Rate.{Rate}
+use Rattle.ht_rate.specs.Rates.{carriers_of, streams_of, symbols_of}
+use Rattle.ht_capture.specs.Systems.{triangle_octets, triangle_of}
 use Rattle.ht_capture.specs.declared.items.FrameHead.{FrameHead}
 use Rattle.ht_capture.specs.declared.items.Item.{Item}
 use Rattle.ht_capture.specs.declared.items.Item.TheVariants.{Frame, Job, Done}
@@ -22,9 +25,9 @@ use Rattle.ht_capture.specs.Frames.{erase, jobs_at}
 use Rattle.ht_capture.specs.Fields.{CaptureState, Bandwidth, Flag, Triangle, Symbol, Over, turn_due}
 use Rattle.ht_capture.specs.Fields.{carrier_due, carriers_due, first_symbol, head_given, judge_symbol, next_symbol, symbol_due}
 use Rattle.ht_capture.specs.Readers.{Completes, GivesItem, symbol_octets}
-use Rattle.ht_capture.proofs.Halting.{good_gives}
-use Rattle.ht_capture.proofs.Grids.{ones}
-use Rattle.ht_capture.specs.Reading.{Flagged, SameFrame, here}
+use Rattle.ht_capture.proofs.Grids.{asks_legs, ones}
+use Rattle.ht_capture.proofs.Judges.{good_triangle}
+use Rattle.ht_capture.specs.Reading.{Flagged, IsGood, ReachesCarrier, SameFrame, here}
 use Rattle.ht_fields.proofs.Halting.{gives_halts}
 use Rattle.ht_fields.specs.WholeFiles.{Caused, Halts}
 use Rattle.ht_fields.proofs.Choices.{when_true, when_false}
@@ -87,16 +90,16 @@ pub gives_items : (old new : ReaderView Item) (items others : List Item) → ite
 gives_items old new items others e g = subst (λ (x : List Item). Gives old new x) e g
 
 -- what was read of a flag, by its value
-pub flagged_true : (turn : Turn) (head : FrameHead) (carrier : ℕ) (present : List Present) (at later : ℕ) (left after : Device ℕ) (b : Bool) → b ≡ true
-    → Flagged turn head carrier present at later left after b
-    → Gives (here (Flag turn head carrier present) at left)
-    (here (carriers_due turn (erase head carrier) (carrier + 1) present) later after) (head_given (erase head carrier) (carrier + 1))
-flagged_true turn head carrier present at later left after b e g = subst (λ (x : Bool). Flagged turn head carrier present at later left after x) e g
+pub flagged_true : (due : CaptureState) (turn : Turn) (head : FrameHead) (carrier : ℕ) (present : List Present) (at later : ℕ) (left after : Device ℕ)
+    (b : Bool) → b ≡ true → Flagged due turn head carrier present at later left after b
+    → ReachesCarrier (here due at left) turn (erase head carrier) (carrier + 1) present later after
+flagged_true due turn head carrier present at later left after b e g = subst (λ (x : Bool). Flagged due turn head carrier present at later left after x) e g
 
-pub flagged_false : (turn : Turn) (head : FrameHead) (carrier : ℕ) (present : List Present) (at later : ℕ) (left after : Device ℕ) (b : Bool) → b ≡ false
-    → Flagged turn head carrier present at later left after b
-    → Gives (here (Flag turn head carrier present) at left) (here (Triangle turn head carrier present) later after) []
-flagged_false turn head carrier present at later left after b e g = subst (λ (x : Bool). Flagged turn head carrier present at later left after x) e g
+pub flagged_false : (due : CaptureState) (turn : Turn) (head : FrameHead) (carrier : ℕ) (present : List Present) (at later : ℕ) (left after : Device ℕ)
+    (b : Bool) → b ≡ false → Flagged due turn head carrier present at later left after b
+    → Gives (here due at left) (here (Triangle turn head carrier present) later after) []
+flagged_false due turn head carrier present at later left after b e g =
+    subst (λ (x : Bool). Flagged due turn head carrier present at later left after x) e g
 
 -- behind all subcarriers
 pub carriers_over : (old : ReaderView Item) (turn : Turn) (head : FrameHead) (carrier count : ℕ) (present : List Present) (at : ℕ) (left : Device ℕ)
@@ -135,17 +138,23 @@ completes_over turn at left after none f =
 pub halts_real : (old : ReaderView Item) (after : Device ℕ) (fault : InFault) → Halts old after fault → fault ≡ NoMemory → ⊥
 halts_real old after fault h e = subst (λ (f : InFault). Caused old.source after f) e h.1
 
--- the samples of a symbol were read to the front of a list
-pub symbol_read : (due : SymbolTurn) (present : List Present) (at behind : ℕ) (left after : Device ℕ) (into samples : List ℕ)
-    → length into ≡ symbol_octets due → 1 ≤ length into
-    → take (symbol_octets due) samples ≡ into → Takes left after into → behind ≡ at + length into
-    → Gives (here (Symbol due present) at left) (here (symbol_due (next_symbol due) present) behind after)
-    (jobs_at due.head due.symbol due.turn.number present (take (symbol_octets due) samples) 0)
-symbol_read due present at behind left after into samples size some front taken place =
-    subst (λ (o : List ℕ). Gives (here (Symbol due present) at left) (here (symbol_due (next_symbol due) present) behind after)
-    (jobs_at due.head due.symbol due.turn.number present o 0)) (sym front)
-    (good_gives (Symbol due present) (symbol_due (next_symbol due) present) at behind _ left after into
-    (ones (length into) _ size some, symbol_good due present into) taken place)
+-- the samples of a symbol are a good field
+pub symbol_field : (due : SymbolTurn) (present : List Present) (octets samples : List ℕ) → octets ≡ samples
+    → length octets ≡ symbol_octets due → 1 ≤ length octets
+    → IsGood (Symbol due present) octets (symbol_due (next_symbol due) present) (jobs_at due.head due.symbol due.turn.number present samples 0)
+symbol_field due present octets samples same size some = (
+  ones (length octets) _ size some,
+  symbol_good due present octets
+      ∙ ap (λ (o : List ℕ). Good (symbol_due (next_symbol due) present) (jobs_at due.head due.symbol due.turn.number present o 0)) same,
+)
+
+-- the octets of a triangle are a good field
+pub triangle_field : (turn : Turn) (head : FrameHead) (carrier : ℕ) (present : List Present) (octets : List ℕ) (legs : List Leg) (rate : Rate)
+    → head.rate ≡ rate → length octets ≡ triangle_octets (streams_of rate) → 2 ≤ length octets → legs ≡ triangle_of (streams_of rate) octets
+    → IsGood (Triangle turn head carrier present) octets
+    (carriers_due turn head (carrier + 1) (present ++ record { carrier = carrier; triangle = legs } ∷ [])) (head_given head (carrier + 1))
+triangle_field turn head carrier present octets legs rate same width some is =
+    (asks_legs (length octets) head.rate rate width same some, good_triangle turn head carrier present octets legs rate same is)
 
 pub gives_completes : (old mid : ReaderView Item) (after : Device ℕ) → Gives old mid [] → Completes mid after → Completes old after
 gives_completes old mid after a b = record {

@@ -1,5 +1,5 @@
 -- The jobs of some subcarriers of a symbol that was read.
-use Rattle.std.specs.Prelude.{◌≡◌, ℕ, ◌+◌, ◌*◌, ◌≤◌, ◌<◌, ◌^◌, List, [], ◌∷◌, length, map, take, drop}
+use Rattle.std.specs.Prelude.{◌≡◌, ℕ, ◌+◌, ◌*◌, ◌≤◌, ◌<◌, ◌^◌, List, [], ◌∷◌, length, get_or, map, take, drop}
 use Rattle.std.specs.List.{All}
 use Rattle.ht_rate.specs.Carriers.{IsAmong, carrier_of}
 use Rattle.ht_rate.specs.Rates.{carriers_of, streams_of}
@@ -29,6 +29,10 @@ pub record SymbolPart : Type 0 where
 -- the jobs that it stands for
 abbrev pub jobs_of : SymbolPart → List JobView
 jobs_of part = views_at part.head part.symbol part.number part.present part.octets 0
+
+-- the job of one of its subcarriers
+abbrev pub job_in : SymbolPart → ℕ → Present → JobView
+job_in part k d = job_at part.head part.symbol (part.number + k) (get_or part.present k d) part.octets (k * carrier_octets part.head.rate)
 
 -- of a part that begins behind this number of subcarriers and has that many
 abbrev pub part_of : SymbolPart → ℕ → ℕ → SymbolPart

@@ -1,5 +1,5 @@
 -- What a reader of captures still gives.
-use Rattle.std.specs.Prelude.{◌≡◌, ℕ, ◌+◌, ◌-◌, ◌*◌, ◌<◌, ◌≤◌, List, [], ◌∷◌, length, take, drop, nat_lt, if◌then◌else◌, Bool, true, false, Option, Some}
+use Rattle.std.specs.Prelude.{◌≡◌, ℕ, ◌+◌, ◌-◌, ◌*◌, ◌^◌, ◌<◌, ◌≤◌, List, [], ◌∷◌, length, take, drop, nat_lt, if◌then◌else◌, Bool, true, false, Option, Some}
 use Rattle.std.specs.Prelude.{None, Result, Ok, Err, MatchResult, IfOk, IfErr}
 use Rattle.ht_io.specs.declared.faults.InFault.{InFault}
 use Rattle.ht_io.specs.declared.faults.InFault.TheVariants.{Format, Read, NoMemory}
@@ -11,6 +11,7 @@ use Rattle.ht_rate.specs.Rates.{carriers_of, symbols_of}
 use Rattle.ht_map.specs.Constellation.{grid_of}
 use Rattle.ht_pam.specs.declared.axes.Axes.{Axes}
 use Rattle.ht_metric.specs.Jobs.{JobView}
+use Rattle.ht_capture.specs.declared.items.FrameHead.{FrameHead}
 use Rattle.ht_capture.specs.declared.items.Item.{Item}
 use Rattle.ht_capture.specs.declared.items.Item.TheVariants.{Frame, Job, Done}
 use Rattle.ht_capture.specs.declared.places.Present.{Present}
@@ -25,6 +26,13 @@ use Rattle.ht_capture.specs.Reading.{AreSeen}
 -- the octets of a symbol
 abbrev pub symbol_octets : SymbolTurn → ℕ
 symbol_octets due = due.count * carrier_octets due.head.rate
+
+-- a buffer holds the octets of any symbol, and this symbol has some and ends at an offset that fits
+pub record HasRoom (due : SymbolTurn) (at : ℕ) (buffer : List ℕ) : Type 0 where
+  pub room : at + 3648 < 2 ^ 64
+  pub space : length buffer ≡ 3648
+  pub some : 1 ≤ due.count
+  pub few : due.count ≤ 114
 
 -- the jobs of a symbol from one on, out of the octets of all of them
 unfoldable pub jobs_left : SymbolTurn → ℕ → List Present → List ℕ → List Item
@@ -262,19 +270,23 @@ pub record TurnFits (turn : Turn) (at : ℕ) : Type 0 where
   pub place : at ≤ 7 + 73569334 * turn.frame
   pub number : turn.number ≤ 2298924 * turn.frame
 
+-- what holds of a frame from its first symbol to its last
+pub record FrameFits (frame frames_left : ℕ) (head : FrameHead) (last carriers : ℕ) (present : List Present) : Type 0 where
+  pub frames : frame + frames_left ≤ 65535
+  pub left : 1 ≤ frames_left
+  pub count : 1 ≤ carriers
+  pub few : carriers ≤ carriers_of head.rate
+  pub places : carriers ≤ 114
+  pub symbols : last ≤ 20166
+  pub whole : last ≡ symbols_of head.rate head.length
+  pub seen : AreSeen head.rate carriers present
+
 -- in a frame, where the symbols before the one that is due and this number more were read
 pub record SymbolFits (due : SymbolTurn) (more at : ℕ) (present : List Present) : Type 0 where
-  pub frames : due.turn.frame + due.turn.left ≤ 65535
-  pub left : 1 ≤ due.turn.left
-  pub count : 1 ≤ due.count
-  pub few : due.count ≤ carriers_of due.head.rate
-  pub places : due.count ≤ 114
+  pub frame : FrameFits due.turn.frame due.turn.left due.head due.symbols due.count present
   pub symbol : due.symbol < due.symbols
-  pub symbols : due.symbols ≤ 20166
-  pub whole : due.symbols ≡ symbols_of due.head.rate due.head.length
   pub place : at ≤ 7 + 73569334 * due.turn.frame + 3766 + 3648 * (due.symbol + more)
   pub number : due.turn.number ≤ 2298924 * due.turn.frame + 114 * due.symbol
-  pub seen : AreSeen due.head.rate due.count present
 
 abbrev pub StageFits : Stage → ℕ → List Present → Type 0
 StageFits Begin at present = at ≡ 0

@@ -1,5 +1,5 @@
 -- What reading the frames of a capture whole does to its source.
-use Rattle.std.specs.Prelude.{◌≡◌, ◌⊎◌, ℕ, ◌+◌, ◌-◌, ◌≤◌, ◌<◌, ◌^◌, List, [], ◌∷◌, ◌++◌, length, map, flat_map, nat_eq, if◌then◌else◌}
+use Rattle.std.specs.Prelude.{◌≡◌, ◌⊎◌, ℕ, ◌+◌, ◌-◌, ◌≤◌, ◌<◌, ◌^◌, List, [], ◌∷◌, ◌++◌, length, map, flat_map, nat_eq, Bool, true, false, if◌then◌else◌}
 use Rattle.ht_io.specs.Devices.{Device, Takes}
 use Rattle.ht_fields.specs.WholeFiles.{ReadsWhole}
 use Rattle.ht_rate.specs.declared.rates.Rate.{Rate}
@@ -17,6 +17,11 @@ use Rattle.ht_capture.specs.Contents.{AreLegs, AreSamples, AreTriangles, AreType
 -- the flag of a subcarrier that is present, in version 2
 abbrev pub kept_flag : ℕ → List ℕ
 kept_flag version = if nat_eq version 2 then 0 ∷ [] else []
+
+-- the flag of a subcarrier was taken, where the version has flags: a subcarrier is erased in version 2 alone
+abbrev pub TakesFlag : ℕ → Device ℕ → Device ℕ → Bool → Type 0
+TakesFlag version source later true = (version ≡ 2) × Takes source later (1 ∷ [])
+TakesFlag version source later false = Takes source later (kept_flag version)
 
 -- a subcarrier that is present was read behind these octets: it has a triangle, and stands behind those that were kept
 abbrev pub Keeps : ℕ → List ℕ → ℕ → List Present → List Present → Device ℕ → Device ℕ → Type 0

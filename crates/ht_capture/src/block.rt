@@ -1,7 +1,8 @@
 //! Blocks of jobs.
 ghost use Rattle.std.specs.Prelude.{◌≡◌, ◌+◌, ◌<◌, ◌≤◌, ◌↔◌, Some, length, slice_get, IfOk, IfSome, IsTrue};
 ghost use Rattle.std.specs.Arc.{arc_value};
-ghost use Rattle.ht_capture.specs.Parts.{jobs_of, part_of};
+ghost use Rattle.ht_capture.specs.declared.places.Present.{Present as PresentValue};
+ghost use Rattle.ht_capture.specs.Parts.{job_in, jobs_of, part_of};
 
 use crate::items::FrameHead;
 use crate::shared_symbol::SharedSymbol;
@@ -66,6 +67,17 @@ impl SymbolBlock {
         self.symbol.head()
     }
 
+    // The symbol, and the subcarrier of it whose job has `at` others before it.
+    #[inline]
+    fn subcarrier(&self, at: u16) -> (&SharedSymbol, usize)
+        requires { at < length (jobs_of self.now) }
+        ensures inside { result.1 < length result.0.now.present }
+        ensures job { (d : PresentValue) → slice_get (jobs_of self.now) at ≡ Some (job_in result.0.now result.1 d) }
+    {
+        let symbol: &SharedSymbol = &self.symbol;
+        (symbol, usize::from(self.first + at))
+    }
+
     /// The place of its first job.
     pub fn place(&self) -> Place
         ensures { IfSome (slice_get (jobs_of self.now) 0) (λ job. job.place ≡ result) }
@@ -79,7 +91,8 @@ impl SymbolBlock {
         requires { at < length (jobs_of self.now) }
         ensures { IfSome (slice_get (jobs_of self.now) at) (λ job. job.place ≡ result) }
     {
-        self.symbol.place(usize::from(self.first + at))
+        let (symbol, subcarrier) = self.subcarrier(at);
+        symbol.place(subcarrier)
     }
 
     /// The job that has `at` others before it.
@@ -88,7 +101,8 @@ impl SymbolBlock {
         requires { at < length (jobs_of self.now) }
         ensures { Some result ≡ slice_get (jobs_of self.now) at }
     {
-        self.symbol.job(usize::from(self.first + at))
+        let (symbol, subcarrier) = self.subcarrier(at);
+        symbol.job(subcarrier)
     }
 
     /// The same block, which shares the symbol. The only error is lack of memory.

@@ -1,18 +1,17 @@
 //! The subcarriers of a frame, with their triangles.
-ghost use Rattle.std.specs.Prelude.{◌≡◌, ◌<◌, ◌≤◌, ◌+◌, ◌*◌, ◌^◌, ℕ, List, [], ◌∷◌, length, take, MatchResult, IfOk};
+ghost use Rattle.std.specs.Prelude.{◌≡◌, ◌<◌, ◌≤◌, ◌+◌, ◌*◌, ◌^◌, ℕ, List, [], Ok, true, length, take, MatchResult, IfOk};
 ghost use Rattle.ht_io.specs.Devices.{IsLater};
-ghost use Rattle.ht_fields.specs.Readers.{Gives};
 ghost use Rattle.ht_rate.specs.Rates.{carriers_of, streams_of};
-ghost use Rattle.ht_capture.specs.declared.items.Item.TheVariants.{Frame};
+ghost use Rattle.ht_capture.specs.declared.places.Present.{Present as PresentValue};
 ghost use Rattle.ht_capture.specs.Frames.{erase};
-ghost use Rattle.ht_capture.specs.Fields.{Flag, Triangle, Symbol, carrier_due, carriers_due, first_symbol, head_given};
-ghost use Rattle.ht_capture.specs.Reading.{AreSeen, SameFrame, here};
-ghost use Rattle.ht_capture.specs.Taking.{Adds, AreRead, Keeps, triangles_of};
+ghost use Rattle.ht_capture.specs.Fields.{Triangle, carriers_due, first_symbol};
+ghost use Rattle.ht_capture.specs.Reading.{AreSeen, Flagged, ReachesCarrier, ReachesSymbol, SameFrame, here};
+ghost use Rattle.ht_capture.specs.Taking.{Adds, AreRead, Keeps, TakesFlag, triangles_of};
 ghost use Rattle.ht_fields.specs.WholeFiles.{Halts};
 
-use crate::fields;
 use crate::items::FrameHead;
 use crate::places::{Present, Turn};
+use crate::{fields, numbers};
 use ht_io::{InFault, Source};
 
 /// How far the subcarriers of a frame were read: the number of those that are present, and the offset behind them.
@@ -48,9 +47,8 @@ fn plain<S: Source>(
     requires carrier { carrier < carriers_of head.now.rate }
     requires seen { AreSeen head.now.rate so_far.count present.old }
     ensures told { MatchResult result
-        (λ g. Gives (here (Triangle turn.now head.now carrier (take so_far.count present.old)) so_far.at (S.shown source.old))
-        (here (carriers_due turn.now head.now (carrier + 1) (take g.count present.new)) g.at (S.shown source.new))
-        (head_given head.now (carrier + 1)))
+        (λ g. ReachesCarrier (here (Triangle turn.now head.now carrier (take so_far.count present.old)) so_far.at (S.shown source.old))
+        turn.now head.now (carrier + 1) (take g.count present.new) g.at (S.shown source.new))
         (Halts (here (Triangle turn.now head.now carrier (take so_far.count present.old)) so_far.at (S.shown source.old)) (S.shown source.new)) }
     ensures count { IfOk result (λ g. g.count ≡ so_far.count + 1) }
     ensures place { IfOk result (λ g. g.at ≤ so_far.at + 32) }
@@ -59,7 +57,7 @@ fn plain<S: Source>(
         (take so_far.count present.old) (take g.count present.new) (S.shown source.old) (S.shown source.new)) }
     ensures later { IsLater (S.shown source.old) (S.shown source.new) }
 {
-    let width = fields::triangle_width(head.rate.streams());
+    let width = numbers::triangle_width(head.rate.streams());
     match fields::triangle(source, so_far.at, &head.rate) {
         Ok(triangle) => {
             present[so_far.count] = Present { carrier, triangle };
@@ -72,51 +70,38 @@ fn plain<S: Source>(
     }
 }
 
-// Reads the flag of a subcarrier, and its triangle where it is present.
-fn flagged<S: Source>(
+// Whether a subcarrier is erased: reads its flag, where the version has flags.
+fn is_erased<S: Source>(
     source: &mut S,
+    at: &mut u64,
     turn: &Turn,
-    head: &mut FrameHead,
+    head: &FrameHead,
     carrier: u8,
-    present: &mut [Present],
-    so_far: Gathered,
-) -> Result<Gathered, InFault>
-    requires room { so_far.at + 33 < 2 ^ 64 }
-    requires space { so_far.count < length present.old }
-    requires carrier { carrier < carriers_of head.old.rate }
-    requires few { carriers_of head.old.rate ≤ 114 }
-    requires seen { AreSeen head.old.rate so_far.count present.old }
-    ensures told { MatchResult result
-        (λ g. Gives (here (Flag turn.now head.old carrier (take so_far.count present.old)) so_far.at (S.shown source.old))
-        (here (carriers_due turn.now head.new (carrier + 1) (take g.count present.new)) g.at (S.shown source.new)) (head_given head.new (carrier + 1)))
-        (Halts (here (Flag turn.now head.old carrier (take so_far.count present.old)) so_far.at (S.shown source.old)) (S.shown source.new)) }
-    ensures same { SameFrame head.new head.old }
-    ensures count { IfOk result (λ g. (so_far.count ≤ g.count) × (g.count ≤ so_far.count + 1)) }
-    ensures some { IfOk result (λ g. carrier + 1 ≡ carriers_of head.old.rate → 0 < g.count) }
-    ensures place { IfOk result (λ g. g.at ≤ so_far.at + 33) }
-    ensures seen { IfOk result (λ g. AreSeen head.old.rate g.count present.new) }
-    ensures added { IfOk result (λ g. Adds 2 carrier head.old head.new
-        (take so_far.count present.old) (take g.count present.new) (S.shown source.old) (S.shown source.new)) }
+    count: usize,
+) -> Result<bool, InFault>
+    requires room { at.old + 1 < 2 ^ 64 }
+    requires carrier { carrier < carriers_of head.now.rate }
+    ensures told { (present : List PresentValue) → length present ≡ count → MatchResult result
+        (Flagged (carriers_due turn.now head.now carrier present) turn.now head.now carrier present at.old at.new (S.shown source.old) (S.shown source.new))
+        (Halts (here (carriers_due turn.now head.now carrier present) at.old (S.shown source.old)) (S.shown source.new)) }
+    ensures some { result ≡ Ok true → (carrier + 1 ≡ carriers_of head.now.rate) → 0 < count }
+    ensures place { at.new ≤ at.old + 1 }
+    ensures octets { IfOk result (TakesFlag turn.now.version (S.shown source.old) (S.shown source.new)) }
     ensures later { IsLater (S.shown source.old) (S.shown source.new) }
 {
-    let behind = Gathered {
-        count: so_far.count,
-        at: so_far.at + 1,
-    };
-    match fields::flag(source, so_far.at, head, carrier, so_far.count) {
-        Ok(true) => {
-            *head = erased(head, carrier);
-            Ok(behind)
+    if turn.version != 2 {
+        return Ok(false);
+    }
+    match fields::flag(source, *at, head, carrier, count) {
+        Ok(erased) => {
+            *at += 1;
+            Ok(erased)
         }
-        Ok(false) => match plain(source, turn, head, carrier, present, behind) {
-            Ok(gathered) => Ok(gathered),
-            Err(fault) => Err(fault),
-        },
         Err(fault) => Err(fault),
     }
 }
 
-// Reads a subcarrier, in either version.
+// Reads a subcarrier, in either version: its flag, and its triangle where it is present.
 fn carrier<S: Source>(
     source: &mut S,
     turn: &Turn,
@@ -131,8 +116,8 @@ fn carrier<S: Source>(
     requires few { carriers_of head.old.rate ≤ 114 }
     requires seen { AreSeen head.old.rate so_far.count present.old }
     ensures told { MatchResult result
-        (λ g. Gives (here (carriers_due turn.now head.old carrier (take so_far.count present.old)) so_far.at (S.shown source.old))
-        (here (carriers_due turn.now head.new (carrier + 1) (take g.count present.new)) g.at (S.shown source.new)) (head_given head.new (carrier + 1)))
+        (λ g. ReachesCarrier (here (carriers_due turn.now head.old carrier (take so_far.count present.old)) so_far.at (S.shown source.old))
+        turn.now head.new (carrier + 1) (take g.count present.new) g.at (S.shown source.new))
         (Halts (here (carriers_due turn.now head.old carrier (take so_far.count present.old)) so_far.at (S.shown source.old)) (S.shown source.new)) }
     ensures same { SameFrame head.new head.old }
     ensures count { IfOk result (λ g. (so_far.count ≤ g.count) × (g.count ≤ so_far.count + 1)) }
@@ -143,16 +128,24 @@ fn carrier<S: Source>(
         (take so_far.count present.old) (take g.count present.new) (S.shown source.old) (S.shown source.new)) }
     ensures later { IsLater (S.shown source.old) (S.shown source.new) }
 {
-    if turn.version == 2 {
-        match flagged(source, turn, head, carrier, present, so_far) {
+    let mut at = so_far.at;
+    match is_erased(source, &mut at, turn, head, carrier, so_far.count) {
+        Ok(true) => {
+            *head = erased(head, carrier);
+            Ok(Gathered { at, ..so_far })
+        }
+        Ok(false) => match plain(
+            source,
+            turn,
+            head,
+            carrier,
+            present,
+            Gathered { at, ..so_far },
+        ) {
             Ok(gathered) => Ok(gathered),
             Err(fault) => Err(fault),
-        }
-    } else {
-        match plain(source, turn, head, carrier, present, so_far) {
-            Ok(gathered) => Ok(gathered),
-            Err(fault) => Err(fault),
-        }
+        },
+        Err(fault) => Err(fault),
     }
 }
 
@@ -168,8 +161,8 @@ pub fn carriers<S: Source>(
     requires space { length present.old ≡ 114 }
     requires none { head.old.erased ≡ 0 }
     ensures told { MatchResult result
-        (λ g. Gives (here (carriers_due turn.now head.old 0 []) at (S.shown source.old))
-        (here (Symbol (first_symbol turn.now head.new g.count) (take g.count present.new)) g.at (S.shown source.new)) (Frame head.new ∷ []))
+        (λ g. ReachesSymbol (here (carriers_due turn.now head.old 0 []) at (S.shown source.old))
+        (first_symbol turn.now head.new g.count) present.new g.at (S.shown source.new))
         (Halts (here (carriers_due turn.now head.old 0 []) at (S.shown source.old)) (S.shown source.new)) }
     ensures same { SameFrame head.new head.old }
     ensures some { IfOk result (λ g. 0 < g.count) }

@@ -1,19 +1,21 @@
 //! The fields that only captures have, each read whole and judged.
-ghost use Rattle.std.specs.Prelude.{◌≡◌, ◌<◌, ◌≤◌, ◌+◌, ◌^◌, ℕ, List, [], ◌∷◌, ◌++◌, true, Ok, length, MatchResult, IfOk};
+ghost use Rattle.std.specs.Prelude.{◌≡◌, ◌<◌, ◌≤◌, ◌+◌, ◌^◌, ℕ, List, [], ◌∷◌, ◌++◌, true, Ok, length, take, MatchResult, IfOk, OnOk};
 ghost use Rattle.byteorder.specs.Endian.{big_bytes};
 ghost use Rattle.ht_io.specs.Devices.{Takes, IsLater};
 ghost use Rattle.ht_fields.specs.Readers.{Gives};
+ghost use Rattle.ht_fields.specs.Tests.{AreBytes};
 ghost use Rattle.ht_fields.specs.WholeFiles.{Halts};
 ghost use Rattle.ht_rate.specs.Rates.{carriers_of, streams_of};
 ghost use Rattle.ht_capture.specs.declared.items.FrameHead.{FrameHead as FrameHeadValue};
+ghost use Rattle.ht_capture.specs.declared.items.Item.{Item as ItemValue};
 ghost use Rattle.ht_capture.specs.declared.places.Present.{Present as PresentValue};
 ghost use Rattle.ht_capture.specs.declared.places.Turn.{Turn as TurnValue};
-ghost use Rattle.ht_capture.specs.Fields.{Version, Count, Flag, Triangle as TriangleState};
+ghost use Rattle.ht_capture.specs.Fields.{CaptureState, Version, Count, Flag, Triangle as TriangleState};
 ghost use Rattle.ht_capture.specs.Fields.{turn_due, carriers_due, head_given, known_version, bad_flag};
 ghost use Rattle.ht_capture.specs.Files.{flag_octet, legs_octets};
 ghost use Rattle.ht_capture.specs.Contents.{AreLegs};
 ghost use Rattle.ht_capture.specs.Systems.{triangle_octets};
-ghost use Rattle.ht_capture.specs.Reading.{Flagged, here};
+ghost use Rattle.ht_capture.specs.Reading.{Flagged, IsGood, here};
 
 use crate::items::FrameHead;
 use crate::numbers;
@@ -95,7 +97,7 @@ pub fn flag<S: Source>(
     requires room { at + 1 < 2 ^ 64 }
     requires carrier { carrier < carriers_of head.now.rate }
     ensures told { (turn : TurnValue) (present : List PresentValue) → length present ≡ count → MatchResult result
-        (Flagged turn head.now carrier present at (at + 1) (S.shown source.old) (S.shown source.new))
+        (Flagged (Flag turn head.now carrier present) turn head.now carrier present at (at + 1) (S.shown source.old) (S.shown source.new))
         (Halts (here (Flag turn head.now carrier present) at (S.shown source.old)) (S.shown source.new)) }
     ensures some { result ≡ Ok true → (carrier + 1 ≡ carriers_of head.now.rate) → 0 < count }
     ensures octets { IfOk result (λ erased. Takes (S.shown source.old) (S.shown source.new) (flag_octet erased ∷ [])) }
@@ -115,19 +117,26 @@ pub fn flag<S: Source>(
     }
 }
 
-/// The number of octets of a triangle of one to four streams: 2, 8, 18 or 32.
-pub fn triangle_width(streams: u8) -> usize
-    requires some { 1 ≤ streams }
-    requires few { streams ≤ 4 }
-    ensures value { result ≡ triangle_octets streams }
-    ensures low { 2 ≤ result }
-    ensures high { result ≤ 32 }
+/// Reads the field that is due, of `width` octets, to the front of the buffer.
+pub fn field<S: Source>(
+    source: &mut S,
+    at: u64,
+    width: usize,
+    buffer: &mut [u8],
+) -> Result<(), InFault>
+    requires room { at + width < 2 ^ 64 }
+    requires space { width ≤ length buffer.old }
+    ensures told { (due next : CaptureState) (items : List ItemValue) → IsGood due (take width buffer.new) next items → MatchResult result
+        (λ _. Gives (here due at (S.shown source.old)) (here next (at + width) (S.shown source.new)) items)
+        (Halts (here due at (S.shown source.old)) (S.shown source.new)) }
+    ensures octets { OnOk result (Takes (S.shown source.old) (S.shown source.new) (take width buffer.new)) }
+    ensures size { length (take width buffer.new) ≡ width }
+    ensures bytes { AreBytes (take width buffer.new) }
+    ensures later { IsLater (S.shown source.old) (S.shown source.new) }
 {
-    match streams {
-        1 => 2,
-        2 => 8,
-        3 => 18,
-        _ => 32,
+    match fill(source, at, &mut buffer[..width]) {
+        Ok(()) => Ok(()),
+        Err(fault) => Err(fault),
     }
 }
 
@@ -146,10 +155,10 @@ pub fn triangle<S: Source>(source: &mut S, at: u64, rate: &Rate) -> Result<Trian
     ensures later { IsLater (S.shown source.old) (S.shown source.new) }
 {
     let streams = rate.streams();
-    let width = triangle_width(streams);
+    let width = numbers::triangle_width(streams);
     let mut octets = [0u8; 32];
-    match fill(source, at, &mut octets[..width]) {
-        Ok(_) => Ok(numbers::triangle(streams, &octets[..width])),
+    match field(source, at, width, &mut octets) {
+        Ok(()) => Ok(numbers::triangle(streams, &octets[..width])),
         Err(fault) => Err(fault),
     }
 }

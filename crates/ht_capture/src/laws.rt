@@ -1,7 +1,8 @@
 //! What holds of captures.
-ghost use Rattle.std.specs.Prelude.{◌≡◌, ◌↔◌, ◌<◌, ◌≤◌, ℕ, List, [], ◌∷◌, ◌++◌, drop};
+ghost use Rattle.std.specs.Prelude.{◌≡◌, ◌↔◌, ◌<◌, ◌≤◌, ℕ, List, ◌∷◌, drop};
 ghost use Rattle.std.specs.Int.{bit_at};
 ghost use Rattle.ht_fields.specs.Cases.{IsFile};
+ghost use Rattle.ht_fields.specs.FormatLaws.{IsPrefixFree};
 ghost use Rattle.ht_fields.specs.Meanings.{meaning};
 ghost use Rattle.ht_rate.specs.Rates.{carriers_of, streams_of};
 ghost use Rattle.ht_capture.specs.declared.items.FrameHead.{FrameHead};
@@ -17,10 +18,7 @@ ghost use Rattle.ht_capture.specs.Contents.{AreTyped, IsVersion, items_of};
 
 /// No capture is a prefix of another, and equal captures have equal items.
 pub fn no_prefix()
-    ensures prefix { (octets more : List ℕ) (items others : List Item)
-        → IsFile captures octets items → IsFile captures (octets ++ more) others → more ≡ [] }
-    ensures equal { (octets : List ℕ) (items others : List Item)
-        → IsFile captures octets items → IsFile captures octets others → items ≡ others }
+    ensures { IsPrefixFree captures }
 {}
 
 /// Bit c of a head's `erased` is set exactly where subcarrier c of the frame is erased. The subcarriers stand behind the

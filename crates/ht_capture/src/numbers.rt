@@ -1,10 +1,12 @@
-//! Triangles and samples from their octets, big-endian.
+//! Triangles and samples from their octets, and as octets, big-endian.
 ghost use Rattle.std.specs.Prelude.{◌≡◌, ◌+◌, ◌*◌, ◌≤◌, ◌-◌, ◌++◌, length, replicate};
 ghost use Rattle.ht_metric.specs.Rows.{no_sample};
+ghost use Rattle.ht_capture.specs.Files.{tap_octets};
 ghost use Rattle.ht_capture.specs.Numbers.{sample_at, tap_at, unsigned_at};
 ghost use Rattle.ht_capture.specs.Systems.{samples_at, triangle_octets, triangle_of};
 
 use byteorder::{BigEndian, ByteOrder};
+use ht_fields::Chunk;
 use ht_metric::{Sample, Tap, Triangle};
 
 /// The entry in the unused places of a triangle.
@@ -42,6 +44,22 @@ pub fn sample(octets: &[u8], at: usize) -> Sample
     Sample {
         re: BigEndian::read_i32(&octets[at..]),
         im: BigEndian::read_i32(&octets[at + 4..]),
+    }
+}
+
+/// The number of octets of a triangle of one to four streams: 2, 8, 18 or 32.
+pub fn triangle_width(streams: u8) -> usize
+    requires some { 1 ≤ streams }
+    requires few { streams ≤ 4 }
+    ensures value { result ≡ triangle_octets streams }
+    ensures low { 2 ≤ result }
+    ensures high { result ≤ 32 }
+{
+    match streams {
+        1 => 2,
+        2 => 8,
+        3 => 18,
+        _ => 32,
     }
 }
 
@@ -151,4 +169,13 @@ pub fn samples(streams: u8, octets: &[u8], at: usize) -> [Sample; 4]
             sample(octets, at + 24),
         ],
     }
+}
+
+/// Adds the octets of an entry of a triangle.
+pub fn add_tap(chunk: &mut Chunk, tap: Tap)
+    requires { length chunk.old + 4 ≤ 4096 }
+    ensures { chunk.new ≡ chunk.old ++ tap_octets tap }
+{
+    chunk.add(&tap.re.to_be_bytes());
+    chunk.add(&tap.im.to_be_bytes());
 }

@@ -1,20 +1,20 @@
 //! The parts of a capture that a reader reads at once.
-ghost use Rattle.std.specs.Prelude.{◌≡◌, ◌<◌, ◌≤◌, ◌+◌, ◌*◌, ◌^◌, List, [], ◌∷◌, length, take, MatchResult, IfOk};
-ghost use Rattle.ht_io.specs.Devices.{IsLater};
+ghost use Rattle.std.specs.Prelude.{◌≡◌, ◌<◌, ◌≤◌, ◌+◌, ◌*◌, ◌^◌, List, length, take, MatchResult, IfOk};
+ghost use Rattle.ht_io.specs.Devices.{Takes, IsLater};
 ghost use Rattle.ht_fields.specs.Readers.{Finishes, Gives};
 ghost use Rattle.ht_rate.specs.Rates.{carriers_of, symbols_of};
-ghost use Rattle.ht_capture.specs.declared.items.Item.TheVariants.{Frame};
 ghost use Rattle.ht_capture.specs.declared.places.Present.{Present as PresentValue};
 ghost use Rattle.ht_capture.specs.Frames.{jobs_at};
 ghost use Rattle.ht_capture.specs.Fields.{Over, Symbol, turn_due, next_symbol, symbol_due};
-ghost use Rattle.ht_capture.specs.Reading.{AreSeen, here};
-ghost use Rattle.ht_capture.specs.Readers.{symbol_octets};
+ghost use Rattle.ht_capture.specs.Reading.{AreSeen, ReachesSymbol, here};
+ghost use Rattle.ht_capture.specs.Readers.{HasRoom, symbol_octets};
 ghost use Rattle.ht_fields.specs.WholeFiles.{Halts};
 
 use crate::carriers::carriers;
+use crate::fields::field;
 use crate::heads::head;
 use crate::places::{Present, SymbolTurn, Turn};
-use ht_fields::{end, fill};
+use ht_fields::end;
 use ht_io::{InFault, Source};
 
 /// Sees that the input ends.
@@ -41,8 +41,7 @@ pub fn frame<S: Source>(
     requires left { 0 < turn.now.left }
     requires space { length present.old ≡ 114 }
     ensures told { MatchResult result
-        (λ got. Gives (here (turn_due turn.now) at (S.shown source.old))
-        (here (Symbol got.0 (take got.0.count present.new)) got.1 (S.shown source.new)) (Frame got.0.head ∷ []))
+        (λ got. ReachesSymbol (here (turn_due turn.now) at (S.shown source.old)) got.0 present.new got.1 (S.shown source.new))
         (Halts (here (turn_due turn.now) at (S.shown source.old)) (S.shown source.new)) }
     ensures turn { IfOk result (λ got. (got.0.turn ≡ turn.now) × (got.0.symbol ≡ 0)) }
     ensures number { IfOk result (λ got. got.0.head.frame ≡ turn.now.frame) }
@@ -91,6 +90,16 @@ pub fn width(count: usize, streams: u8) -> usize
     }
 }
 
+/// The number of octets of a symbol's samples.
+pub fn symbol_width(due: &SymbolTurn) -> usize
+    requires { due.now.count ≤ 114 }
+    ensures value { result ≡ symbol_octets due.now }
+    ensures bound { result ≤ 3648 }
+    ensures low { 8 * due.now.count ≤ result }
+{
+    width(due.count, due.head.rate.streams())
+}
+
 /// Reads the samples of a symbol to the front of the slice.
 pub fn symbol<S: Source>(
     source: &mut S,
@@ -98,20 +107,19 @@ pub fn symbol<S: Source>(
     due: &SymbolTurn,
     samples: &mut [u8],
 ) -> Result<u64, InFault>
-    requires room { at + 3648 < 2 ^ 64 }
-    requires space { length samples.old ≡ 3648 }
-    requires some { 1 ≤ due.now.count }
-    requires few { due.now.count ≤ 114 }
+    requires { HasRoom due.now at samples.old }
     ensures told { (present : List PresentValue) → MatchResult result
         (λ behind. Gives (here (Symbol due.now present) at (S.shown source.old))
         (here (symbol_due (next_symbol due.now) present) behind (S.shown source.new))
         (jobs_at due.now.head due.now.symbol due.now.turn.number present (take (symbol_octets due.now) samples.new) 0))
         (Halts (here (Symbol due.now present) at (S.shown source.old)) (S.shown source.new)) }
+    ensures octets { IfOk result (λ _. Takes (S.shown source.old) (S.shown source.new) (take (symbol_octets due.now) samples.new)) }
+    ensures size { IfOk result (λ _. length (take (symbol_octets due.now) samples.new) ≡ symbol_octets due.now) }
     ensures place { IfOk result (λ behind. behind ≤ at + 3648) }
     ensures later { IsLater (S.shown source.old) (S.shown source.new) }
 {
-    let octets = width(due.count, due.head.rate.streams());
-    match fill(source, at, &mut samples[..octets]) {
+    let octets = symbol_width(due);
+    match field(source, at, octets, samples) {
         Ok(()) => Ok(at + octets as u64),
         Err(fault) => Err(fault),
     }

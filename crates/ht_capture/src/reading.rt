@@ -7,6 +7,7 @@ ghost use Rattle.ht_capture.specs.declared.places.Present.{Present as PresentVal
 ghost use Rattle.ht_capture.specs.Fields.{Symbol, captures, turn_due, next_symbol, next_turn, symbol_due};
 ghost use Rattle.ht_capture.specs.Files.{FitsFrame, HasAllCarriers, capture_frame_octets, sample_octets};
 ghost use Rattle.ht_capture.specs.Contents.{AreSamples, IsTyped};
+ghost use Rattle.ht_capture.specs.Readers.{HasRoom};
 ghost use Rattle.ht_capture.specs.Reading.{here};
 ghost use Rattle.ht_capture.specs.Taking.{AddsSamples, IsBehind, ReadsCaptures, SameTurn, triangles_of};
 ghost use Rattle.ht_fields.specs.WholeFiles.{EndsEarly, GivesFields};
@@ -15,9 +16,8 @@ use crate::carriers::carriers;
 use crate::frames::{CaptureFrame, Samples, Triangles};
 use crate::heads::{head, start};
 use crate::numbers;
-use crate::parts::{finish, width};
+use crate::parts::{self, finish, symbol_width};
 use crate::places::{Present, SymbolTurn, Turn};
-use ht_fields::fill;
 use ht_io::{InFault, Source};
 use ht_metric::{Sample, Tap, Triangle};
 use std::alloc::Global;
@@ -51,10 +51,7 @@ fn symbol<S: Source>(
     buffer: &mut [u8],
     samples: &mut Vec<Sample>,
 ) -> Result<u64, InFault>
-    requires room { at + 3648 < 2 ^ 64 }
-    requires space { length buffer.old ≡ 3648 }
-    requires some { 1 ≤ due.now.count }
-    requires few { due.now.count ≤ 114 }
+    requires { HasRoom due.now at buffer.old }
     ensures told { (present : List PresentValue) → MatchResult result
         (λ behind. GivesFields (here (Symbol due.now present) at (S.shown source.old))
         (here (symbol_due (next_symbol due.now) present) behind (S.shown source.new)))
@@ -64,10 +61,9 @@ fn symbol<S: Source>(
     ensures place { IfOk result (λ behind. behind ≤ at + 3648) }
     ensures later { IsLater (S.shown source.old) (S.shown source.new) }
 {
-    let width = width(due.count, due.head.rate.streams());
-    match fill(source, at, &mut buffer[..width]) {
-        Ok(()) => match add_samples(samples, &buffer[..width]) {
-            Ok(()) => Ok(at + width as u64),
+    match parts::symbol(source, at, due, buffer) {
+        Ok(behind) => match add_samples(samples, &buffer[..symbol_width(due)]) {
+            Ok(()) => Ok(behind),
             Err(fault) => Err(fault),
         },
         Err(fault) => Err(fault),

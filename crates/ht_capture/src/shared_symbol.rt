@@ -1,8 +1,8 @@
 //! Symbols whose jobs are shared.
 ghost use Rattle.std.specs.Prelude.{◌≡◌, ◌+◌, ◌*◌, ◌^◌, ◌<◌, ◌≤◌, ◌↔◌, length, get_or, IfOk, IsTrue};
 ghost use Rattle.ht_capture.specs.declared.places.Present.{Present as PresentValue};
-ghost use Rattle.ht_capture.specs.Frames.{carrier_octets, job_at};
-ghost use Rattle.ht_capture.specs.Parts.{IsSymbol, moved, part_of};
+ghost use Rattle.ht_capture.specs.Frames.{carrier_octets};
+ghost use Rattle.ht_capture.specs.Parts.{IsSymbol, job_in, moved, part_of};
 
 use crate::items::FrameHead;
 use crate::parts::width;
@@ -132,8 +132,7 @@ impl SharedSymbol {
     #[inline]
     pub fn job(&self, k: usize) -> Job
         requires { k < length self.now.present }
-        ensures { (d : PresentValue) → result ≡ job_at self.now.head self.now.symbol (self.now.number + k)
-            (get_or self.now.present k d) self.now.octets (k * carrier_octets self.now.head.rate) }
+        ensures { (d : PresentValue) → result ≡ job_in self.now k d }
     {
         let at = width(k, self.shape.head().rate.streams());
         self.shape

@@ -5,25 +5,17 @@ ghost use Rattle.ht_rate.specs.Rates.{carriers_of};
 ghost use Rattle.ht_metric.specs.Rows.{no_leg};
 ghost use Rattle.ht_capture.specs.Files.{AreCaptureFrames, FitsFrame, HasAllCarriers, triangles_behind};
 ghost use Rattle.ht_capture.specs.Files.{capture_file_of, flagged, flagged_octets, capture_frame_octets};
-ghost use Rattle.ht_capture.specs.Files.{front_octets, is_erased as erased_at, leg_octets, legs_octets, present_of, sample_octets, capture_start, tap_octets};
+ghost use Rattle.ht_capture.specs.Files.{front_octets, is_erased as erased_at, leg_octets, legs_octets, present_of, sample_octets, capture_start};
 
 use crate::frames::CaptureFrame;
+use crate::numbers;
 use ht_fields::Chunk;
 use ht_heads::{head_of, start_of};
 use ht_io::{Failed, Sink};
-use ht_metric::{Sample, Tap, Triangle};
+use ht_metric::{Sample, Triangle};
 
 /// The number of samples that are put at once: the most of a symbol.
 const SAMPLES: usize = 456;
-
-// Adds an entry of a triangle.
-fn add_tap(chunk: &mut Chunk, tap: Tap)
-    requires { length chunk.old + 4 ≤ 4096 }
-    ensures { chunk.new ≡ chunk.old ++ tap_octets tap }
-{
-    chunk.add(&tap.re.to_be_bytes());
-    chunk.add(&tap.im.to_be_bytes());
-}
 
 // Adds a row of a triangle.
 fn add_row(chunk: &mut Chunk, triangle: &Triangle, row: u8)
@@ -34,7 +26,7 @@ fn add_row(chunk: &mut Chunk, triangle: &Triangle, row: u8)
     let below = triangle.streams() - row - 1;
     chunk.add(&triangle.diagonal(row + 1).to_be_bytes());
     for entry in 0..below {
-        add_tap(chunk, triangle.above(row + 1, row + 2 + entry));
+        numbers::add_tap(chunk, triangle.above(row + 1, row + 2 + entry));
     }
 }
 

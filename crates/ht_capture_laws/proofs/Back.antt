@@ -29,7 +29,6 @@ use Rattle.ht_capture.specs.Files.{AreCaptureFrames, FitsFrame, triangles_behind
 use Rattle.ht_capture.specs.Files.{capture_file_of, flagged, flagged_octets, capture_frame_octets}
 use Rattle.ht_capture.specs.Files.{front_octets, is_erased, legs_octets, present_among, sample_octets}
 use Rattle.ht_capture.specs.Frames.{carrier_octets, erase}
-use Rattle.ht_capture.specs.Numbers.{sample_at}
 use Rattle.ht_capture.specs.Systems.{samples_at, triangle_octets, triangle_of}
 use Rattle.ht_capture.specs.Fields.{CaptureState, Magic, Version, Count, Bandwidth, Mcs, Length, Flag, Triangle, Symbol, Over, bad_flag}
 use Rattle.ht_capture.specs.Fields.{captures, carriers_due, capture_due, first_symbol, turn_due, judge_bandwidth, judge_count}
@@ -38,14 +37,15 @@ use Rattle.ht_capture.specs.Fields.{known_version, capture_magic, capture_magic_
 use Rattle.ht_capture.proofs.Framed.{typed_all}
 use Rattle.ht_capture.proofs.Endings.{samples_append}
 use Rattle.ht_capture.proofs.Marks.{clear_above, set_before, set_now}
-use Rattle.ht_capture.proofs.Encoded.{only_one, pair_back, pair_small, sample_back, triangle_back}
+use Rattle.ht_capture.proofs.Encoded.{length-samples_at, only_one, pair_back, pair_small, samples_back, triangle_back}
 use Rattle.ht_capture.proofs.Endings.{frame_is_due, symbol_is_due}
 use Rattle.ht_capture.proofs.Filed.{file_written, many}
 use Rattle.ht_capture.proofs.Grids.{length-triangle_of}
 use Rattle.ht_capture.proofs.Judges.{some_left}
-use Rattle.ht_capture.proofs.Turns.{flag_is, frame_is, over_is, symbol_is, triangle_is}
+use Rattle.ht_capture.proofs.Turns.{frame_is, over_is}
 use Rattle.ht_capture_laws.specs.Items.{symbols_in}
 use Rattle.ht_capture_laws.specs.Written.{IsFileOf}
+use Rattle.ht_capture_laws.proofs.Due.{by_carrier}
 use Rattle.ht_capture_laws.proofs.Given.{AtSymbol, Gathered, Sound}
 use Rattle.ht_capture_laws.proofs.Lists.{bytes_behind, bytes_front}
 use Rattle.ht_capture_laws.proofs.Stages.{erased_more, first_gathered, good_else, good_is}
@@ -66,25 +66,6 @@ pair [] size bytes = absurd (omega (arith, size))
 pair (a ∷ []) size bytes = absurd (omega (arith, size))
 pair (a ∷ b ∷ []) size bytes = (pair_small a b [] (bytes 0) (bytes 1), pair_back a b [] (bytes 0) (bytes 1))
 pair (a ∷ b ∷ c ∷ x) size bytes = absurd (omega (arith, size))
-
--- samples
-length-samples_at : (n : ℕ) (octets : List ℕ) (at : ℕ) → length (samples_at n octets at) ≡ n
-length-samples_at zero octets at = refl
-length-samples_at (suc n) octets at = ap suc (length-samples_at n octets (at + 8))
-
-samples_back : (n : ℕ) (octets : List ℕ) (at : ℕ) → at + 8 * n ≤ length octets → AreBytes octets
-    → AreSamples (samples_at n octets at) × (flat_map sample_octets (samples_at n octets at) ++ drop (at + 8 * n) octets ≡ drop at octets)
-samples_back zero octets at enough bytes = let e : at + 8 * 0 ≡ at = omega arith in (tt, ap (λ k. drop k octets) e)
-samples_back (suc n) octets at enough bytes =
-    let s = sample_back octets at (omega (arith, enough)) bytes in
-    let rest = samples_back n octets (at + 8) (omega (arith, enough)) bytes in
-    let e : at + 8 * suc n ≡ at + 8 + 8 * n = omega arith in
-    let here : List ℕ = sample_octets (sample_at octets at) in
-    let later : List ℕ = flat_map sample_octets (samples_at n octets (at + 8)) in (
-      (s.0, s.1, rest.0),
-      append_assoc here later (drop (at + 8 * suc n) octets)
-          ∙ (ap (λ (z : List ℕ). here ++ z) (ap (λ k. later ++ drop k octets) e ∙ rest.1) ∙ s.2),
-    )
 
 -- all samples of octets
 samples_all : (n : ℕ) (x : List ℕ) → length x ≡ 8 * n → AreBytes x → AreSamples (samples_at n x 0) × (flat_map sample_octets (samples_at n x 0) ≡ x)
@@ -262,27 +243,12 @@ carriers_back : (turn : Turn) (head : FrameHead) (carrier : ℕ) (present : List
     → (carrier ≡ carriers_of head.rate → 1 ≤ length present) → Wrote (carriers_due turn head carrier present) octets
     → CarriersTail turn head carrier (length present) octets
 carriers_back turn head carrier present octets g within some w =
-    elim (cases_Bool (nat_lt carrier (carriers_of head.rate))) [
-      | inl e ↦
-          let lt : carrier < carriers_of head.rate = grind (arith, nat_tests) in
-          elim (cases_Bool (nat_eq turn.version 2)) [
-            | inl v ↦
-                let two : turn.version ≡ 2 = grind (arith, nat_tests) in
-                let tail : turn.version ≡ 2 → CarriersTail turn head carrier (length present) octets =
-                subst (λ (s : CaptureState). Wrote s octets) (flag_is turn head carrier present lt two) w in tail two
-            | inr v ↦
-                let one : turn.version ≡ 2 → ⊥ = λ z. grind (arith, nat_tests) in
-                let tail : TriangleTail turn head carrier (length present) octets =
-                subst (λ (s : CaptureState). Wrote s octets) (triangle_is turn head carrier present lt one) w in
-                plain_back turn head carrier (length present) octets one g.marks tail
-          ]
-      | inr e ↦
-          let le : carriers_of head.rate ≤ carrier = grind (arith, nat_tests) in
-          let all : carrier ≡ carriers_of head.rate = omega (arith, le, within) in
-          let tail : SamplesTail (first_symbol turn head (length present)) octets =
-          subst (λ (s : CaptureState). Wrote s octets) (symbol_is turn head carrier present le) w in
-          no_carrier_left turn head carrier present octets g all (some all) tail
-    ]
+    by_carrier (λ (s : CaptureState). Wrote s octets → CarriersTail turn head carrier (length present) octets) turn head carrier present
+    (λ le (tail : SamplesTail (first_symbol turn head (length present)) octets).
+    let all : carrier ≡ carriers_of head.rate = omega (arith, le, within) in
+    no_carrier_left turn head carrier present octets g all (some all) tail)
+    (λ two (tail : turn.version ≡ 2 → CarriersTail turn head carrier (length present) octets). tail two)
+    (λ one (tail : TriangleTail turn head carrier (length present) octets). plain_back turn head carrier (length present) octets one g.marks tail) w
 
 -- the samples of a symbol
 symbol_samples : (count streams : ℕ) (x : List ℕ) → 1 ≤ count → 1 ≤ streams → length x ≡ count * (8 * streams) - 1 + 1 → length x ≡ 8 * (count * streams)

@@ -1,5 +1,5 @@
 -- From every state of a capture good fields lead to its end.
-use Rattle.std.proofs.Common.{◌≡◌, inl, inr, ℕ, zero, suc, ◌+◌, ◌-◌, ◌*◌, ◌<◌, ◌≤◌, List, [], ◌∷◌, ◌++◌, replicate, nat_eq, nat_lt, refl, sym, subst, arith}
+use Rattle.std.proofs.Common.{◌≡◌, inl, inr, ℕ, zero, suc, ◌+◌, ◌-◌, ◌*◌, ◌<◌, ◌≤◌, List, [], ◌∷◌, ◌++◌, replicate, nat_lt, refl, sym, subst, arith}
 use Rattle.std.proofs.lemmas.Bool.{cases_Bool}
 use Rattle.std.proofs.lemmas.Bool.Decides.{nat_tests}
 use Rattle.std.proofs.lemmas.List.{length-replicate}
@@ -18,7 +18,8 @@ use Rattle.ht_capture.specs.Fields.{CaptureState, Magic, Version, Count, Bandwid
 use Rattle.ht_capture.specs.Fields.{carriers_due, capture_due, turn_due, capture_magic_due, judge_mcs, next_symbol, next_turn, symbol_due}
 use Rattle.ht_capture.proofs.Judges.{good_magic, good_version, good_count, good_bandwidth, good_length, good_triangle, zero_flag}
 use Rattle.ht_capture.proofs.Endings.{frame_is_due, symbol_is_due}
-use Rattle.ht_capture.proofs.Turns.{flag_is, frame_is, over_is, symbol_good, symbol_is, triangle_is}
+use Rattle.ht_capture.proofs.Turns.{frame_is, over_is, symbol_good, symbol_is}
+use Rattle.ht_capture_laws.proofs.Due.{by_carrier}
 
 -- good fields lead from the state to the end of a capture
 abbrev pub HasAnEnd : CaptureState → Type 0
@@ -83,21 +84,8 @@ carriers_end zero turn head carrier present few rest =
 carriers_end (suc n) turn head carrier present few rest =
     let next : (seen : List Present) → HasAnEnd (carriers_due turn head (carrier + 1) seen) =
     λ seen. carriers_end n turn head (carrier + 1) seen (omega (arith, few)) rest in
-    elim (cases_Bool (nat_lt carrier (carriers_of head.rate))) [
-      | inl t ↦
-          let lt : carrier < carriers_of head.rate = grind (arith, nat_tests) in
-          elim (cases_Bool (nat_eq turn.version 2)) [
-            | inl v ↦
-                let two : turn.version ≡ 2 = grind (arith, nat_tests) in
-                same_as _ _ (flag_is turn head carrier present lt two) (flag_ends turn head carrier present next)
-            | inr v ↦
-                let one : turn.version ≡ 2 → ⊥ = λ e. grind (arith, nat_tests) in
-                same_as _ _ (triangle_is turn head carrier present lt one) (triangle_ends turn head carrier present next)
-          ]
-      | inr f ↦
-          let le : carriers_of head.rate ≤ carrier = grind (arith, nat_tests) in
-          same_as _ _ (symbol_is turn head carrier present le) (symbol_ends_at _ present rest)
-    ]
+    by_carrier HasAnEnd turn head carrier present (λ le. symbol_ends_at _ present rest)
+    (λ two. flag_ends turn head carrier present next) (λ one. triangle_ends turn head carrier present next)
 
 all_carriers : (turn : Turn) (head : FrameHead) (carrier : ℕ) (present : List Present) → FramesEnd turn → HasAnEnd (carriers_due turn head carrier present)
 all_carriers turn head carrier present rest = carriers_end (carriers_of head.rate) turn head carrier present (omega arith) rest

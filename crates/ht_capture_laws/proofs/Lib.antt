@@ -1,3 +1,4 @@
+pub mod Due
 pub mod Ends
 pub mod Lists
 pub mod Given

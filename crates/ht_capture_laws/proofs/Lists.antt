@@ -1,8 +1,10 @@
 -- Ranges, filters, maps and octets.
 use Rattle.std.proofs.Common.{◌≡◌, ℕ, zero, suc, ◌+◌, ◌*◌, ◌<◌, List, [], ◌∷◌, ◌++◌, length, map, flat_map}
-use Rattle.std.proofs.Common.{Bool, true, false, if◌then◌else◌, refl, ap, ◌∙◌, length-append, arith}
+use Rattle.std.proofs.Common.{Bool, true, false, if◌then◌else◌, refl, ap, subst, ◌∙◌, length-append, arith}
 use Rattle.std.specs.List.{filter, range_with_len, AllByRecursion}
+use Rattle.std.proofs.Math.Seq.{drop-append_seam}
 use Rattle.ht_fields.specs.Tests.{AreBytes}
+use Rattle.ht_capture.proofs.Encoded.{bytes_drop}
 
 pub range_append : (a n m : ℕ) → range_with_len a (n + m) ≡ range_with_len a n ++ range_with_len (a + n) m
 range_append a zero m =
@@ -70,5 +72,4 @@ bytes_front (x ∷ xs) ys bytes zero = bytes 0
 bytes_front (x ∷ xs) ys bytes (suc i) = bytes_front xs ys (λ j. bytes (suc j)) i
 
 pub bytes_behind : (xs ys : List ℕ) → AreBytes (xs ++ ys) → AreBytes ys
-bytes_behind [] ys bytes = bytes
-bytes_behind (x ∷ xs) ys bytes = bytes_behind xs ys (λ j. bytes (suc j))
+bytes_behind xs ys bytes = subst AreBytes (drop-append_seam xs ys) (bytes_drop (length xs) (xs ++ ys) bytes)

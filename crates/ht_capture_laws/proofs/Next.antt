@@ -18,25 +18,26 @@ use Rattle.ht_capture_laws.proofs.Lists.{range_append}
 use Rattle.ht_capture_laws.proofs.Given.{AreCaptureFrames, IsFrame, made_of}
 use Rattle.ht_capture_laws.proofs.Parts.{frames_back, frames_of, symbols_had}
 
--- the frame that a head begins
-record AtHead (fs : List FrameJobs) (front : List Item) (head : FrameHead) : Type 0 where
+-- a frame among frames
+record AtFrame (fs : List FrameJobs) : Type 0 where
   gs : List FrameJobs
   g : FrameJobs
   hs : List FrameJobs
   is : fs ≡ gs ++ g ∷ hs
-  front_is : front ≡ items_in gs
-  head_is : g.head ≡ head
+
+-- the frame that a head begins
+record AtHead (fs : List FrameJobs) (front : List Item) (head : FrameHead) : Type 0 where
+  frame : AtFrame fs
+  front_is : front ≡ items_in frame.gs
+  head_is : frame.g.head ≡ head
 
 -- the frame of a job, with the jobs in front of it
 record AtJob (fs : List FrameJobs) (front : List Item) (job : JobView) : Type 0 where
-  gs : List FrameJobs
-  g : FrameJobs
-  hs : List FrameJobs
+  frame : AtFrame fs
   js : List JobView
   ks : List JobView
-  is : fs ≡ gs ++ g ∷ hs
-  jobs_are : g.jobs ≡ js ++ job ∷ ks
-  front_is : front ≡ items_in gs ++ (Frame g.head ∷ map Job js)
+  jobs_are : frame.g.jobs ≡ js ++ job ∷ ks
+  front_is : front ≡ items_in frame.gs ++ (Frame frame.g.head ∷ map Job js)
 
 nothing : (front back : List Item) (item : Item) → [] ≡ front ++ item ∷ back → ⊥
 nothing [] back item e = cc
@@ -69,33 +70,31 @@ behind_frame i f front later gs rest first a b =
     (front_as front (map Job f.jobs) later (items_in gs ++ rest) a b ∙ sym (append_assoc (map Job f.jobs) (items_in gs) rest))
 
 -- a frame more in front
+abbrev frame_behind : (f : FrameJobs) (fs : List FrameJobs) → AtFrame fs → AtFrame (f ∷ fs)
+frame_behind f fs a = record { gs = f ∷ a.gs; g = a.g; hs = a.hs; is = ap (λ (z : List FrameJobs). f ∷ z) a.is }
+
 head_behind : (f : FrameJobs) (fs : List FrameJobs) (i : Item) (front later : List Item) (head : FrameHead)
     → Frame f.head ≡ i → front ≡ map Job f.jobs ++ later → AtHead fs later head → AtHead (f ∷ fs) (i ∷ front) head
 head_behind f fs i front later head first passed a = record {
-  gs = f ∷ a.gs;
-  g = a.g;
-  hs = a.hs;
-  is = ap (λ (z : List FrameJobs). f ∷ z) a.is;
-  front_is = one_more i (Frame f.head) front (map Job f.jobs ++ items_in a.gs) first (front_as front (map Job f.jobs) later (items_in a.gs) passed a.front_is);
+  frame = frame_behind f fs a.frame;
+  front_is = one_more i (Frame f.head) front (map Job f.jobs ++ items_in a.frame.gs) first
+      (front_as front (map Job f.jobs) later (items_in a.frame.gs) passed a.front_is);
   head_is = a.head_is;
 }
 
 job_behind : (f : FrameJobs) (fs : List FrameJobs) (i : Item) (front later : List Item) (job : JobView)
     → Frame f.head ≡ i → front ≡ map Job f.jobs ++ later → AtJob fs later job → AtJob (f ∷ fs) (i ∷ front) job
 job_behind f fs i front later job first passed a = record {
-  gs = f ∷ a.gs;
-  g = a.g;
-  hs = a.hs;
+  frame = frame_behind f fs a.frame;
   js = a.js;
   ks = a.ks;
-  is = ap (λ (z : List FrameJobs). f ∷ z) a.is;
   jobs_are = a.jobs_are;
-  front_is = behind_frame i f front later a.gs (Frame a.g.head ∷ map Job a.js) first passed a.front_is;
+  front_is = behind_frame i f front later a.frame.gs (Frame a.frame.g.head ∷ map Job a.js) first passed a.front_is;
 }
 
 at_head : (fs : List FrameJobs) (front back : List Item) (head : FrameHead) → items_in fs ≡ front ++ Frame head ∷ back → AtHead fs front head
 at_head [] front back head e = absurd (nothing front back (Frame head) e)
-at_head (f ∷ fs) [] back head e = record { gs = []; g = f; hs = fs; is = refl; front_is = refl; head_is = cc }
+at_head (f ∷ fs) [] back head e = record { frame = record { gs = []; g = f; hs = fs; is = refl }; front_is = refl; head_is = cc }
 at_head (f ∷ fs) (i ∷ front) back head e =
     let first : Frame f.head ≡ i = cc in
     let others : map Job f.jobs ++ items_in fs ≡ front ++ Frame head ∷ back = cc in
@@ -125,14 +124,10 @@ at_job (f ∷ fs) (i ∷ front) back job e =
     let others : map Job f.jobs ++ items_in fs ≡ front ++ Job job ∷ back = cc in
     elim (among_jobs f.jobs (items_in fs) front back job others) [
       | inl a ↦ record {
-        gs = [];
-        g = f;
-        hs = fs;
+        frame = record { gs = []; g = f; hs = fs; is = refl };
         js = a.0;
         ks = a.1;
-        is = refl;
-        jobs_are =
-            a.2;
+        jobs_are = a.2;
         front_is = one_more i (Frame f.head) front (map Job a.0) first a.3;
       }
       | inr a ↦ job_behind f fs i front a.0 job first a.1 (at_job fs a.0 back job a.2)
@@ -221,12 +216,13 @@ pub next_head : (octets : List ℕ) (front back : List Item) (head : FrameHead)
 next_head octets front back head e =
     let f = frames_of octets in
     let fs = frames_in (capture_of octets).items in
-    let a = at_head fs front back head (sym f.all ∙ e) in
+    let at = at_head fs front back head (sym f.all ∙ e) in
+    let a = at.frame in
     let b = before f.last 0 0 a.gs a.hs a.g (subst (AreCaptureFrames f.last 0 0) a.is f.are) in
-    let seen : a.gs ≡ frames_in front = sym (ap frames_in a.front_is ∙ frames_back a.gs) in
+    let seen : a.gs ≡ frames_in front = sym (ap frames_in at.front_is ∙ frames_back a.gs) in
     let next : IsNextHead a.gs a.g.head =
     record { number = let named = b.is.named in omega (arith, named); whole = All-from_recursion _ a.gs b.whole; good = b.is.head } in
-    subst (λ (h : FrameHead). IsNextHead (frames_in front) h) a.head_is (subst (λ (z : List FrameJobs). IsNextHead z a.g.head) seen next)
+    subst (λ (h : FrameHead). IsNextHead (frames_in front) h) at.head_is (subst (λ (z : List FrameJobs). IsNextHead z a.g.head) seen next)
 
 place_next : (js ks : List JobView) (job : JobView) (all some more : List Place) → all ≡ some ++ more → map (λ (j : JobView). j.place) (js ++ job ∷ ks) ≡ some
     → all ≡ map (λ (j : JobView). j.place) js ++ job.place ∷ (map (λ (j : JobView). j.place) ks ++ more)
@@ -265,7 +261,8 @@ pub next_job : (octets : List ℕ) (front back : List Item) (job : JobView)
     → (capture_of octets).items ≡ front ++ Job job ∷ back → IsNextJob (frames_in front) job
 next_job octets front back job e =
     let f = frames_of octets in
-    let a = at_job (frames_in (capture_of octets).items) front back job (sym f.all ∙ e) in
+    let at = at_job (frames_in (capture_of octets).items) front back job (sym f.all ∙ e) in
+    let a = at.frame in
     let b = before f.last 0 0 a.gs a.hs a.g (subst (AreCaptureFrames f.last 0 0) a.is f.are) in
-    subst (λ (z : List FrameJobs). IsNextJob z job) (sym (ap frames_in a.front_is ∙ in_front a.gs a.g.head a.js))
-    (is_next_job a.gs a.g a.js a.ks job b a.jobs_are)
+    subst (λ (z : List FrameJobs). IsNextJob z job) (sym (ap frames_in at.front_is ∙ in_front a.gs a.g.head at.js))
+    (is_next_job a.gs a.g at.js at.ks job b at.jobs_are)

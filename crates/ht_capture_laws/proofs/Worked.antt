@@ -23,68 +23,20 @@ two_frames_length : length (two_frames 0 16) ≡ 163
 unfolding two_frames frame_with
 two_frames_length = refl
 
--- all of it
-all_items : length (capture_of (two_frames 0 16)).items ≡ 6
-unfolding two_frames frame_with meaning meaning_of judge_magic judge_version judge_count turn_due judge_bandwidth judge_mcs judge_length carriers_due
-    judge_flag bad_flag judge_triangle head_given erase symbol_due judge_symbol next_symbol next_turn jobs_at job_at rate_at carriers_of
-    data_carriers_of pilots_of streams_of symbols_of needed_bits_of data_bits_of encoders_of mcs_of bandwidth_of coded_bits_of stream_bits_of
-    label_bits_of modulation_of pattern_of
-all_items = refl
+-- what its octets show: all of them, those without the last one, and those with MCS 32 in the second head
+record IsShown : Type 0 where
+  all : (length (capture_of (two_frames 0 16)).items ≡ 6) × (length (whole_frames (capture_of (two_frames 0 16)).items) ≡ 2)
+      × (cut_frames (capture_of (two_frames 0 16)).items ≡ [])
+  shorter : (length (whole_frames (capture_of (two_frames 0 15)).items) ≡ 1)
+      × (map (λ (j : JobView). j.place) (jobs_in (cut_frames (capture_of (two_frames 0 15)).items)) ≡ record { frame = 1; symbol = 0; carrier = 0 } ∷ [])
+      × ((capture_of (two_frames 0 15)).fault ≡ Some (record { kind = Truncated; offset = 162 }))
+  bad_head : ((capture_of (two_frames 32 16)).fault ≡ Some (record { kind = BadMcs; offset = 86 }))
+      × (length (whole_frames (capture_of (two_frames 32 16)).items) ≡ 1)
+      × (length (frames_in (capture_of (two_frames 32 16)).items) ≡ 1)
 
-both_whole : length (whole_frames (capture_of (two_frames 0 16)).items) ≡ 2
+is_shown : IsShown
 unfolding two_frames frame_with meaning meaning_of judge_magic judge_version judge_count turn_due judge_bandwidth judge_mcs judge_length carriers_due
     judge_flag bad_flag judge_triangle head_given erase symbol_due judge_symbol next_symbol next_turn jobs_at job_at rate_at carriers_of
     data_carriers_of pilots_of streams_of symbols_of needed_bits_of data_bits_of encoders_of mcs_of bandwidth_of coded_bits_of stream_bits_of
     label_bits_of modulation_of pattern_of
-both_whole = refl
-
-none_cut : cut_frames (capture_of (two_frames 0 16)).items ≡ []
-unfolding two_frames frame_with meaning meaning_of judge_magic judge_version judge_count turn_due judge_bandwidth judge_mcs judge_length carriers_due
-    judge_flag bad_flag judge_triangle head_given erase symbol_due judge_symbol next_symbol next_turn jobs_at job_at rate_at carriers_of
-    data_carriers_of pilots_of streams_of symbols_of needed_bits_of data_bits_of encoders_of mcs_of bandwidth_of coded_bits_of stream_bits_of
-    label_bits_of modulation_of pattern_of
-none_cut = refl
-
--- without its last octet
-one_whole : length (whole_frames (capture_of (two_frames 0 15)).items) ≡ 1
-unfolding two_frames frame_with meaning meaning_of judge_magic judge_version judge_count turn_due judge_bandwidth judge_mcs judge_length carriers_due
-    judge_flag bad_flag judge_triangle head_given erase symbol_due judge_symbol next_symbol next_turn jobs_at job_at rate_at carriers_of
-    data_carriers_of pilots_of streams_of symbols_of needed_bits_of data_bits_of encoders_of mcs_of bandwidth_of coded_bits_of stream_bits_of
-    label_bits_of modulation_of pattern_of
-one_whole = refl
-
-one_cut : map (λ (j : JobView). j.place) (jobs_in (cut_frames (capture_of (two_frames 0 15)).items)) ≡ record { frame = 1; symbol = 0; carrier = 0 } ∷ []
-unfolding two_frames frame_with meaning meaning_of judge_magic judge_version judge_count turn_due judge_bandwidth judge_mcs judge_length carriers_due
-    judge_flag bad_flag judge_triangle head_given erase symbol_due judge_symbol next_symbol next_turn jobs_at job_at rate_at carriers_of
-    data_carriers_of pilots_of streams_of symbols_of needed_bits_of data_bits_of encoders_of mcs_of bandwidth_of coded_bits_of stream_bits_of
-    label_bits_of modulation_of pattern_of
-one_cut = refl
-
-cut_early : (capture_of (two_frames 0 15)).fault ≡ Some (record { kind = Truncated; offset = 162 })
-unfolding two_frames frame_with meaning meaning_of judge_magic judge_version judge_count turn_due judge_bandwidth judge_mcs judge_length carriers_due
-    judge_flag bad_flag judge_triangle head_given erase symbol_due judge_symbol next_symbol next_turn jobs_at job_at rate_at carriers_of
-    data_carriers_of pilots_of streams_of symbols_of needed_bits_of data_bits_of encoders_of mcs_of bandwidth_of coded_bits_of stream_bits_of
-    label_bits_of modulation_of pattern_of
-cut_early = refl
-
--- with MCS 32 in the second head
-bad_head : (capture_of (two_frames 32 16)).fault ≡ Some (record { kind = BadMcs; offset = 86 })
-unfolding two_frames frame_with meaning meaning_of judge_magic judge_version judge_count turn_due judge_bandwidth judge_mcs judge_length carriers_due
-    judge_flag bad_flag judge_triangle head_given erase symbol_due judge_symbol next_symbol next_turn jobs_at job_at rate_at carriers_of
-    data_carriers_of pilots_of streams_of symbols_of needed_bits_of data_bits_of encoders_of mcs_of bandwidth_of coded_bits_of stream_bits_of
-    label_bits_of modulation_of pattern_of
-bad_head = refl
-
-first_whole : length (whole_frames (capture_of (two_frames 32 16)).items) ≡ 1
-unfolding two_frames frame_with meaning meaning_of judge_magic judge_version judge_count turn_due judge_bandwidth judge_mcs judge_length carriers_due
-    judge_flag bad_flag judge_triangle head_given erase symbol_due judge_symbol next_symbol next_turn jobs_at job_at rate_at carriers_of
-    data_carriers_of pilots_of streams_of symbols_of needed_bits_of data_bits_of encoders_of mcs_of bandwidth_of coded_bits_of stream_bits_of
-    label_bits_of modulation_of pattern_of
-first_whole = refl
-
-nothing_cut : length (frames_in (capture_of (two_frames 32 16)).items) ≡ 1
-unfolding two_frames frame_with meaning meaning_of judge_magic judge_version judge_count turn_due judge_bandwidth judge_mcs judge_length carriers_due
-    judge_flag bad_flag judge_triangle head_given erase symbol_due judge_symbol next_symbol next_turn jobs_at job_at rate_at carriers_of
-    data_carriers_of pilots_of streams_of symbols_of needed_bits_of data_bits_of encoders_of mcs_of bandwidth_of coded_bits_of stream_bits_of
-    label_bits_of modulation_of pattern_of
-nothing_cut = refl
+is_shown = record { all = (refl, refl, refl); shorter = (refl, refl, refl); bad_head = (refl, refl, refl) }

@@ -1,7 +1,5 @@
 //! Which octets a capture can begin with.
-ghost use Rattle.std.specs.Prelude.{ℕ, List};
-ghost use Rattle.ht_fields.specs.Cases.{CanEnd, IsClean, IsCut};
-ghost use Rattle.ht_capture.specs.declared.items.Item.{Item};
+ghost use Rattle.ht_fields.specs.FormatLaws.{CleanCanEnd};
 ghost use Rattle.ht_capture.specs.Fields.{captures};
 
 /// What is clean so far can end as a capture: good fields, wherever they lead, are followed by more good fields up to
@@ -11,7 +9,5 @@ ghost use Rattle.ht_capture.specs.Fields.{captures};
 /// `48 54 43 50 02 00 03` is clean, and so it begins a capture, here one of three frames. `48 54 43 50 03` isn't: no
 /// capture begins with it.
 pub fn clean_can_end()
-    ensures ends { CanEnd captures }
-    ensures clean { (octets : List ℕ) (items : List Item) → IsClean captures octets items → IsCut captures octets }
-    ensures cut { (octets : List ℕ) → IsCut captures octets → (items : List Item) × IsClean captures octets items }
+    ensures { CleanCanEnd captures }
 {}

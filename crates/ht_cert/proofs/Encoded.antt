@@ -1,8 +1,8 @@
 -- The octets of a record that was read are those that are written of it.
 use Rattle.std.proofs.Common.{◌≡◌, ℕ, zero, suc, ◌+◌, ◌*◌, ◌<◌, ◌≤◌, ◌^◌, List, ◌∷◌, ◌++◌, length, drop, flat_map, slice_index}
-use Rattle.std.proofs.Common.{refl, sym, ap, subst, ◌∙◌, append_assoc, arith, w8, FitsSigned}
+use Rattle.std.proofs.Common.{refl, sym, ap, subst, ◌∙◌, arith, w8, FitsSigned}
 use Rattle.std.proofs.lemmas.Int.{of_z-to_z, ints}
-use Rattle.std.proofs.lemmas.List.{drop_more, get_or-drop, length-drop, take_all}
+use Rattle.std.proofs.lemmas.List.{drop_more, length-drop, take_all}
 use Rattle.std.specs.Int.{cast_signed, cast_unsigned}
 use Rattle.byteorder.specs.Endian.{big_number, big_bytes}
 use Rattle.byteorder.specs.Numbers.{big_from-lt}
@@ -12,32 +12,13 @@ use Rattle.ht_rate.specs.declared.kinds.Modulation.{Modulation}
 use Rattle.ht_metric.specs.declared.sample.Sample.{Sample}
 use Rattle.ht_metric.specs.Rows.{Leg, rows_of}
 use Rattle.ht_metric.specs.Arrays.{legs, samples, legs-rows_of, length-rows_of, samples-rows_of}
-use Rattle.ht_capture.specs.Numbers.{sample_at}
 use Rattle.ht_capture.specs.Systems.{samples_at, triangle_of}
 use Rattle.ht_capture.specs.Files.{legs_octets, sample_octets}
 use Rattle.ht_capture.specs.Contents.{AreLegs, AreSamples}
-use Rattle.ht_capture.proofs.Encoded.{legs_back, sample_back}
+use Rattle.ht_capture.proofs.Encoded.{bytes_drop, legs_back, length-samples_at, samples_back, values_back}
 use Rattle.ht_capture.proofs.Grids.{length-legs_at}
 use Rattle.ht_cert.specs.Records.{claim_width, claimed, distance_begins, full_grid, point_at, points_at, points_begin, samples_begin}
 use Rattle.ht_cert.specs.Files.{ArePoints, IsRecord, claim_octets, point_octets}
-
-length-samples_at : (n : ℕ) (octets : List ℕ) (at : ℕ) → length (samples_at n octets at) ≡ n
-length-samples_at zero octets at = refl
-length-samples_at (suc n) octets at = ap suc (length-samples_at n octets (at + 8))
-
-samples_back : (n : ℕ) (octets : List ℕ) (at : ℕ) → at + 8 * n ≤ length octets → AreBytes octets
-    → AreSamples (samples_at n octets at) × (flat_map sample_octets (samples_at n octets at) ++ drop (at + 8 * n) octets ≡ drop at octets)
-samples_back zero octets at enough bytes = let e : at + 8 * 0 ≡ at = omega arith in (tt, ap (λ k. drop k octets) e)
-samples_back (suc n) octets at enough bytes =
-    let s = sample_back octets at (omega (arith, enough)) bytes in
-    let rest = samples_back n octets (at + 8) (omega (arith, enough)) bytes in
-    let e : at + 8 * suc n ≡ at + 8 + 8 * n = omega arith in
-    let first : List ℕ = sample_octets (sample_at octets at) in
-    let more : List ℕ = flat_map sample_octets (samples_at n octets (at + 8)) in (
-      (s.0, s.1, rest.0),
-      append_assoc first more (drop (at + 8 * suc n) octets)
-          ∙ (ap (λ (z : List ℕ). first ++ z) (ap (λ k. more ++ drop k octets) e ∙ rest.1) ∙ s.2),
-    )
 
 -- points
 small_fits : (n : ℕ) → n < 2 ^ 8 → FitsSigned w8 (cast_signed w8 n)
@@ -65,20 +46,9 @@ length-points_at (suc n) octets at = ap suc (length-points_at n octets (at + 2))
 
 points_back : (n : ℕ) (octets : List ℕ) (at : ℕ) → at + 2 * n ≤ length octets → AreBytes octets
     → ArePoints (points_at n octets at) × (flat_map point_octets (points_at n octets at) ++ drop (at + 2 * n) octets ≡ drop at octets)
-points_back zero octets at enough bytes = let e : at + 2 * 0 ≡ at = omega arith in (tt, ap (λ k. drop k octets) e)
-points_back (suc n) octets at enough bytes =
-    let p = point_back octets at (omega (arith, enough)) bytes in
-    let rest = points_back n octets (at + 2) (omega (arith, enough)) bytes in
-    let e : at + 2 * suc n ≡ at + 2 + 2 * n = omega arith in
-    let first : List ℕ = point_octets (point_at octets at) in
-    let more : List ℕ = flat_map point_octets (points_at n octets (at + 2)) in (
-      (p.0, p.1, rest.0),
-      append_assoc first more (drop (at + 2 * suc n) octets)
-          ∙ (ap (λ (z : List ℕ). first ++ z) (ap (λ k. more ++ drop k octets) e ∙ rest.1) ∙ p.2),
-    )
-
-bytes_drop : (n : ℕ) (octets : List ℕ) → AreBytes octets → AreBytes (drop n octets)
-bytes_drop n octets bytes i = subst (λ x. x < 256) (sym (get_or-drop n octets i 0)) (bytes (n + i))
+points_back n octets at enough bytes =
+    values_back point_octets 2 octets (λ k. point_at octets k) (λ m k. points_at m octets k) (λ k. refl) (λ m k. refl) ArePoints tt
+    (λ k later le typed. let p = point_back octets k le bytes in ((p.0, p.1, typed), p.2)) n at enough
 
 -- what was read of such octets is a record, and has these octets
 pub claim_encoded : (number : ℕ) (m : Modulation) (streams : ℕ) (x : List ℕ) → 1 ≤ streams → streams ≤ 4 → length x ≡ claim_width streams → AreBytes x

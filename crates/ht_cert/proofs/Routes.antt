@@ -61,17 +61,11 @@ unfolding marks_given
 one_given r left none = let t : nat_eq left 0 ≡ true = grind (arith, nat_tests) in when_true _ _ _ t
 
 -- each field, where it is good
-modulation_back : (m : Modulation) → modulation_at (code_of m) ≡ m
-modulation_back Bpsk = refl
-modulation_back Qpsk = refl
-modulation_back Qam16 = refl
-modulation_back Qam64 = refl
-
-low_code : (m : Modulation) → code_of m ≤ 3
-low_code Bpsk = omega arith
-low_code Qpsk = omega arith
-low_code Qam16 = omega arith
-low_code Qam64 = omega arith
+code_back : (m : Modulation) → (modulation_at (code_of m) ≡ m) × (code_of m ≤ 3)
+code_back Bpsk = (refl, omega arith)
+code_back Qpsk = (refl, omega arith)
+code_back Qam16 = (refl, omega arith)
+code_back Qam64 = (refl, omega arith)
 
 pub route_modulation : (turn : Turn) (m : Modulation) → Route certificates (Body (Modulated turn)) (Body (Streams turn m)) (code_of m ∷ []) []
 unfolding good_modulation
@@ -79,7 +73,7 @@ route_modulation turn m =
     let state : Modulation → Verdict (StartState RecordState) Record = λ n. Good (Body (Streams turn n)) [] in
     route_field certificates (Body (Modulated turn)) (Body (Streams turn m)) (code_of m ∷ []) [] (
       refl,
-      checked_good BadModulation (is_above 3) (good_modulation turn) (code_of m ∷ []) _ (not_above (code_of m) 3 (low_code m)) (ap state (modulation_back m)),
+      checked_good BadModulation (is_above 3) (good_modulation turn) (code_of m ∷ []) _ (not_above (code_of m) 3 (code_back m).1) (ap state (code_back m).0),
     )
 
 pub streams_pass : (streams : ℕ) → 1 ≤ streams → streams ≤ 4 → is_no_streams (streams ∷ []) ≡ false

@@ -12,6 +12,7 @@ use Rattle.ht_heads.specs.Starts.{StartState}
 use Rattle.ht_cert.specs.declared.record.Record.{Record}
 use Rattle.ht_cert.specs.declared.reader.Came.{Came}
 use Rattle.ht_cert.specs.declared.reader.Came.TheVariants.{Whole, End}
+use Rattle.ht_cert.specs.declared.turn.Turn.{Turn}
 use Rattle.ht_cert.specs.declared.turn.Stage.{Stage}
 use Rattle.ht_cert.specs.declared.turn.Stage.TheVariants.{Begin, Next, Ended, Stopped}
 use Rattle.ht_rate.specs.declared.kinds.Modulation.{Modulation}
@@ -102,22 +103,23 @@ finished_stage (Stopped fault) = Some (Err fault)
 abbrev pub finished : Progress → Option (Result Came InFault)
 finished reader = finished_stage reader.stage
 
+-- a number of a stage: at first, and while records are read; behind that it is 0
+abbrev pub in_stage : ℕ → (Turn → ℕ) → Stage → ℕ
+in_stage first of Begin = first
+in_stage first of (Next turn) = of turn
+in_stage first of Ended = 0
+in_stage first of (Stopped fault) = 0
+
 -- how many records may still come
 abbrev pub more_at : Stage → ℕ
-more_at Begin = 137438953472
-more_at (Next turn) = turn.left
-more_at Ended = 0
-more_at (Stopped fault) = 0
+more_at stage = in_stage 137438953472 (λ turn. turn.left) stage
 
 abbrev pub more : Progress → ℕ
 more reader = more_at reader.stage
 
 -- the number of the next record
 abbrev pub number_at : Stage → ℕ
-number_at Begin = 0
-number_at (Next turn) = turn.number
-number_at Ended = 0
-number_at (Stopped fault) = 0
+number_at stage = in_stage 0 (λ turn. turn.number) stage
 
 abbrev pub number : Progress → ℕ
 number reader = number_at reader.stage

@@ -1,6 +1,5 @@
 //! The parts of a record from their octets.
 ghost use Rattle.std.specs.Prelude.{◌≡◌, ◌+◌, ◌*◌, ◌≤◌, [], length};
-ghost use Rattle.ht_capture.specs.Systems.{triangle_octets};
 ghost use Rattle.ht_cert.specs.Records.{claim_width as claim_width_of, claimed, code_of, full_grid, modulation_at, point_at, points_at};
 ghost use Rattle.ht_cert.specs.Schemes.{scheme_of};
 
@@ -80,21 +79,6 @@ fn points(streams: u8, octets: &[u8], at: usize) -> Vector
     points
 }
 
-// The octets of the triangle of one to four streams.
-fn triangle_width(streams: u8) -> usize
-    requires some { 1 ≤ streams }
-    requires few { streams ≤ 4 }
-    ensures value { result ≡ triangle_octets streams }
-    ensures high { result ≤ 32 }
-{
-    match streams {
-        1 => 2,
-        2 => 8,
-        3 => 18,
-        _ => 32,
-    }
-}
-
 /// The octets of triangle, samples, points and distance of one to four streams.
 pub fn claim_width(streams: u8) -> usize
     requires some { 1 ≤ streams }
@@ -102,7 +86,7 @@ pub fn claim_width(streams: u8) -> usize
     ensures value { result ≡ claim_width_of streams }
     ensures high { result ≤ 88 }
 {
-    triangle_width(streams) + 10 * usize::from(streams) + 16
+    numbers::triangle_width(streams) + 10 * usize::from(streams) + 16
 }
 
 // No marks, in the memory of some.
@@ -130,7 +114,7 @@ pub fn fill_record(
     requires whole { length octets.now ≡ claim_width_of streams }
     ensures { into.new ≡ claimed number modulation streams octets.now }
 {
-    let samples_at = triangle_width(streams);
+    let samples_at = numbers::triangle_width(streams);
     let points_at = samples_at + 8 * usize::from(streams);
     let distance_at = points_at + 2 * usize::from(streams);
     let triangle = numbers::triangle(streams, octets);

@@ -1,6 +1,7 @@
 //! What holds of files of certificates.
-ghost use Rattle.std.specs.Prelude.{◌≡◌, ℕ, List, [], ◌++◌};
-ghost use Rattle.ht_fields.specs.Cases.{CanEnd, IsClean, IsCut, IsFile};
+ghost use Rattle.std.specs.Prelude.{◌≡◌, ℕ, List};
+ghost use Rattle.ht_fields.specs.Cases.{IsFile};
+ghost use Rattle.ht_fields.specs.FormatLaws.{CleanCanEnd, IsPrefixFree};
 ghost use Rattle.ht_fields.specs.Tests.{AreBytes};
 ghost use Rattle.ht_cert.specs.declared.record.Record.{Record};
 ghost use Rattle.ht_cert.specs.Formats.{certificates};
@@ -8,18 +9,13 @@ ghost use Rattle.ht_cert.specs.Files.{AreRecords, certificates_file_of};
 
 /// No file of certificates is a prefix of another, and equal files have equal records.
 pub fn no_prefix()
-    ensures prefix { (octets more : List ℕ) (records others : List Record)
-        → IsFile certificates octets records → IsFile certificates (octets ++ more) others → more ≡ [] }
-    ensures equal { (octets : List ℕ) (records others : List Record)
-        → IsFile certificates octets records → IsFile certificates octets others → records ≡ others }
+    ensures { IsPrefixFree certificates }
 {}
 
 /// What is clean so far can end as a file: good fields, wherever they lead, are followed by more good fields up to the end
 /// of some file. So octets are clean exactly where they are the beginning of some file that is cut off within a field.
 pub fn clean_can_end()
-    ensures ends { CanEnd certificates }
-    ensures clean { (octets : List ℕ) (records : List Record) → IsClean certificates octets records → IsCut certificates octets }
-    ensures cut { (octets : List ℕ) → IsCut certificates octets → (records : List Record) × IsClean certificates octets records }
+    ensures { CleanCanEnd certificates }
 {}
 
 /// The file written of records is a file, and has these records.

@@ -4,15 +4,16 @@ ghost use Rattle.byteorder.specs.Endian.{big_bytes};
 ghost use Rattle.ht_io.specs.Devices.{Grows, GrowsByPart, Rose, IsLater};
 ghost use Rattle.ht_metric.specs.Arrays.{legs, samples};
 ghost use Rattle.ht_metric.specs.Rows.{no_row};
-ghost use Rattle.ht_capture.specs.Files.{leg_octets, legs_octets, sample_octets, tap_octets};
+ghost use Rattle.ht_capture.specs.Files.{leg_octets, legs_octets, sample_octets};
 ghost use Rattle.ht_cert.specs.Records.{code_of};
 ghost use Rattle.ht_cert.specs.Files.{front_octets, leg_of, mark_octet, point_octets, record_octets, records_start};
 
 use crate::record::Record;
+use ht_capture::numbers;
 use ht_counted::{Packer, put_packed};
 use ht_fields::Chunk;
 use ht_io::{Failed, Sink};
-use ht_metric::{Sample, System, Tap, Vector};
+use ht_metric::{Sample, System, Vector};
 use ht_rate::Modulation;
 
 // The code of a modulation.
@@ -27,15 +28,6 @@ fn code(modulation: Modulation) -> u8
     }
 }
 
-// Adds an entry of a triangle.
-fn add_tap(chunk: &mut Chunk, tap: Tap)
-    requires { length chunk.old + 4 ≤ 4096 }
-    ensures { chunk.new ≡ chunk.old ++ tap_octets tap }
-{
-    chunk.add(&tap.re.to_be_bytes());
-    chunk.add(&tap.im.to_be_bytes());
-}
-
 // Adds the diagonal of a row and the entries to its right.
 fn add_row(chunk: &mut Chunk, system: &System, row: u8)
     requires row { row < length system.now }
@@ -46,7 +38,7 @@ fn add_row(chunk: &mut Chunk, system: &System, row: u8)
     let below = system.streams() - row - 1;
     chunk.add(&system.diagonal(row + 1).to_be_bytes());
     for entry in 0..below {
-        add_tap(chunk, system.above(row + 1, row + 2 + entry));
+        numbers::add_tap(chunk, system.above(row + 1, row + 2 + entry));
     }
 }
 

@@ -1,5 +1,6 @@
 -- How many records frames have.
-use Rattle.std.proofs.Common.{◌≡◌, ℕ, zero, suc, ◌+◌, ◌*◌, ◌≤◌, List, [], ◌∷◌, ◌++◌, length, take, drop, count_by, cond, Bool, true, false, if◌then◌else◌, refl, sym, ◌∙◌, arith}
+use Rattle.std.proofs.Common.{◌≡◌, ℕ, zero, suc, ◌+◌, ◌*◌, ◌<◌, ◌≤◌, List, [], ◌∷◌, ◌++◌, length, take, drop}
+use Rattle.std.proofs.Common.{count_by, cond, Bool, true, false, if◌then◌else◌, refl, sym, subst, ◌∙◌, arith}
 use Rattle.std.proofs.lemmas.List.{length-append}
 use Rattle.std.proofs.lemmas.List.Sums.{count_by-le-length, sum_by-cons}
 use Rattle.ht_rate.specs.declared.kinds.Modulation.{Modulation}
@@ -10,7 +11,9 @@ use Rattle.ht_certify.specs.declared.subcarriers.Subcarrier.{Subcarrier}
 use Rattle.ht_certify.specs.Certifying.{record_of}
 use Rattle.ht_certify.specs.Making.{job_on, records_of_frame, records_of_symbol, records_of_symbols, subcarriers_of}
 use Rattle.ht_capture.specs.declared.frames.CaptureFrame.{CaptureFrame}
-use Rattle.ht_rate.specs.Rates.{modulation_of, streams_of, symbols_of}
+use Rattle.ht_rate.specs.declared.rates.Rate.{Rate}
+use Rattle.ht_rate.specs.Rates.{carriers_of, data_bits_of, modulation_of, needed_bits_of, streams_of, symbols_of}
+use Rattle.ht_capture.proofs.Bounds.{jobs_few}
 use Rattle.ht_map.specs.Constellation.{grid_of}
 
 -- the subcarriers that carry data
@@ -49,3 +52,10 @@ length-frame f =
 
 pub data_few : (ss : List Subcarrier) → data_among ss ≤ length ss
 data_few ss = count_by-le-length (λ (s : Subcarrier). s.carries_data) ss
+
+-- a record for each symbol and each subcarrier that carries data
+pub records_few : (r : Rate) (len n symbols : ℕ) (ss : List Subcarrier) → len ≤ 65535 → n ≡ symbols → symbols ≤ 20166
+    → symbols * data_bits_of r < needed_bits_of r len + data_bits_of r → length ss ≤ carriers_of r → n * data_among ss ≤ 1129296
+records_few r len n symbols ss most is high least few =
+    jobs_few r len n (data_among ss) most (omega (arith, is, high)) (subst (λ k. k * data_bits_of r < needed_bits_of r len + data_bits_of r) (sym is) least)
+    (omega (arith, data_few ss, few))

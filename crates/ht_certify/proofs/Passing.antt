@@ -4,7 +4,7 @@ use Rattle.ht_io.specs.Devices.{Device, Grows, GrowsByPart, IsLater, Rose}
 use Rattle.ht_io.proofs.Calls.{failed-later, grows-append, grows-none, grows_by_part-append, grows_by_part-front, grows_by_part-none, later-later, later-refl}
 use Rattle.ht_runs.specs.declared.faults.RunFault.{RunFault}
 use Rattle.ht_runs.specs.declared.faults.RunFault.TheVariants.{Format, Read, Write, NoMemory}
-use Rattle.ht_certify.specs.Writing.{Breaks, IsCause, Passes}
+use Rattle.ht_certify.specs.Writing.{Breaks, IsCause, Passes, PassesFront}
 
 -- nothing was given
 pub passes_none : (waits : List ℕ) (sink : Device ℕ) → Passes waits sink sink [] waits
@@ -52,15 +52,15 @@ pub breaks_before : (w given : List ℕ) (sink : Device ℕ) → Breaks w sink s
 breaks_before w given sink = record { part = grows_by_part-none sink (w ++ given); cause = refl; later = later-refl sink }
 
 -- what was left was a piece and less, and the piece was given
-pub one_more : (w x y done piece left less whole : List ℕ) (a b c : Device ℕ) → left ≡ piece ++ less → done ++ left ≡ whole
-    → Passes w a b done x → Passes x b c piece y → (given : List ℕ) × Passes w a c given y × (given ++ less ≡ whole)
-one_more w x y done piece left less whole a b c is all p q =
+pub one_more : (w x y piece left less whole : List ℕ) (a b c : Device ℕ) → PassesFront w a b left whole x → left ≡ piece ++ less
+    → Passes x b c piece y → PassesFront w a c less whole y
+one_more w x y piece left less whole a b c (done, p, all) is q =
     (done ++ piece, passes_more w x y done piece a b c p q, append_assoc done piece less ∙ (ap (λ z. done ++ z) (sym is) ∙ all))
 
 -- and a part of the piece was put
-pub one_breaks : (w x done piece left less whole : List ℕ) (a b c : Device ℕ) (fault : RunFault) → left ≡ piece ++ less → done ++ left ≡ whole
-    → Passes w a b done x → Breaks x b c piece fault → Breaks w a c whole fault
-one_breaks w x done piece left less whole a b c fault is all p q =
+pub one_breaks : (w x piece left less whole : List ℕ) (a b c : Device ℕ) (fault : RunFault) → PassesFront w a b left whole x → left ≡ piece ++ less
+    → Breaks x b c piece fault → Breaks w a c whole fault
+one_breaks w x piece left less whole a b c fault (done, p, all) is q =
     breaks_later w x done piece less whole a b c fault (ap (λ z. done ++ z) (sym is) ∙ all) p q
 
 -- nothing is left

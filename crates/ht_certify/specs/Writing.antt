@@ -30,3 +30,7 @@ module _ (waits : List ℕ) (sink sink' : Device ℕ) (given : List ℕ) where
   abbrev pub Writes : List ℕ → Result (Unit {0}) RunFault → Type 0
   Writes waits' (Ok done) = Passes waits'
   Writes waits' (Err fault) = Breaks fault
+
+-- a front of the whole was given, and this of it is left
+abbrev pub PassesFront : List ℕ → Device ℕ → Device ℕ → List ℕ → List ℕ → List ℕ → Type 0
+PassesFront waits sink sink' left whole waits' = (done : List ℕ) × Passes waits sink sink' done waits' × (done ++ left ≡ whole)

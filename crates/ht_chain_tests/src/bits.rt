@@ -1,4 +1,5 @@
 //! Octets of the standard's order, each call with ample memory.
+use crate::equal::equal;
 use ht_bits::{bits_to_octets, octet_of, octets_to_bits};
 use std::test::Fail;
 
@@ -10,16 +11,15 @@ fn vectors(rt: HostRuntime) -> Result<(), Fail> {
         false, false,
     ];
     let octets = [0xa5u8, 0x03];
-    assert_eq!(rt;
-        octets_to_bits(rt.alloc(), &octets)?.as_slice(),
-        bits.as_slice()
-    );
-    assert_eq!(rt;
-        bits_to_octets(rt.alloc(), &bits)?.as_slice(),
-        octets.as_slice()
-    );
-    assert_eq!(rt; octet_of(&[]), 0);
-    assert_eq!(rt; octet_of(&[true, true, false]), 3);
-    assert_eq!(rt; octet_of(&bits[..8]), 0xa5);
+    let read = octets_to_bits(rt.alloc(), &octets)?;
+    equal(&rt, read.as_slice(), bits.as_slice());
+    let written = bits_to_octets(rt.alloc(), &bits)?;
+    equal(&rt, written.as_slice(), octets.as_slice());
+    let single = [
+        octet_of(&[]),
+        octet_of(&[true, true, false]),
+        octet_of(&bits[..8]),
+    ];
+    equal(&rt, single, [0, 3, 0xa5]);
     Ok(())
 }

@@ -1,5 +1,6 @@
 //! Frames whose points are known, each call with ample memory.
-use ht_clause18::{LegacyFrame, LegacyRate, legacy_origin, legacy_place, legacy_transmit};
+use crate::equal::equal;
+use ht_clause18::{LegacyFrame, LegacyRate, legacy_transmit};
 use ht_pam::Point;
 use ht_scramble::Seed;
 use std::test::Fail;
@@ -86,9 +87,9 @@ fn sent(rt: &HostRuntime, index: u8, seed: u8, octets: &[u8]) -> Result<Vec<Poin
 #[test]
 fn annex(rt: HostRuntime) -> Result<(), Fail> {
     let points = sent(&rt, 5, 0b1011101, &EXAMPLE)?;
-    assert_eq!(rt; points.len(), 6 * 52);
-    for (point, (i, q)) in points.iter().zip(&EXAMPLE_POINTS) {
-        assert_eq!(rt; *point, Point { i: *i, q: *q });
+    equal(&rt, points.len(), 6 * 52);
+    for (k, (point, (i, q))) in points.iter().zip(&EXAMPLE_POINTS).enumerate() {
+        equal(&rt, (k, *point), (k, Point { i: *i, q: *q }));
     }
     Ok(())
 }
@@ -96,7 +97,7 @@ fn annex(rt: HostRuntime) -> Result<(), Fail> {
 #[test]
 fn one_octet(rt: HostRuntime) -> Result<(), Fail> {
     let points = sent(&rt, 0, 127, &[0xa5])?;
-    assert_eq!(rt; points.len(), 2 * 52);
+    equal(&rt, points.len(), 2 * 52);
     let pilots = [5, 19, 32, 46];
     let mut data = points
         .iter()
@@ -104,8 +105,8 @@ fn one_octet(rt: HostRuntime) -> Result<(), Fail> {
         .filter(|(k, _)| !pilots.contains(k));
     for bit in &ONE_OCTET {
         let i = if *bit == b'1' { 1 } else { -1 };
-        let (_, point) = data.next().ok_or("a point")?;
-        assert_eq!(rt; *point, Point { i, q: 0 });
+        let (k, point) = data.next().ok_or("a point")?;
+        equal(&rt, (k, *point), (k, Point { i, q: 0 }));
     }
     Ok(())
 }

@@ -1,4 +1,5 @@
 //! Outside values, through the public calls.
+use crate::equal::equal;
 use ht_interleave::{deinterleave, interleave, origin, place};
 use ht_rate::Rate;
 
@@ -16,17 +17,20 @@ static PLACES: [(u8, u8, u8, u16, u16); 10] = [
     (1, 31, 4, 647, 123),
 ];
 
+// Where bit k of a stream lands, and from where the bit at r comes, if the rate has them.
+fn ways(bw: u8, mcs: u8, stream: u8, k: u16, r: u16) -> Option<(u16, u16)> {
+    let rate = Rate::of(bw, mcs).ok()?;
+    if 1 <= stream && stream <= rate.streams() && k < rate.stream_bits() && r < rate.stream_bits() {
+        return Some((place(&rate, stream, k), origin(&rate, stream, r)));
+    }
+    None
+}
+
 #[test]
 fn smoke(rt: HostRuntime) {
     for &(bw, mcs, stream, k, r) in &PLACES {
-        let Ok(rate) = Rate::of(bw, mcs) else {
-            assert!(rt; false, "MCS {mcs}");
-            return;
-        };
-        assert!(rt; 1 <= stream && stream <= rate.streams());
-        assert!(rt; k < rate.stream_bits() && r < rate.stream_bits());
-        assert_eq!(rt; place(&rate, stream, k), r, "MCS {mcs}, stream {stream}");
-        assert_eq!(rt; origin(&rate, stream, r), k, "MCS {mcs}, stream {stream}");
+        let answer = ways(bw, mcs, stream, k, r);
+        equal(&rt, (mcs, stream, answer), (mcs, stream, Some((r, k))));
     }
 }
 
@@ -50,13 +54,12 @@ fn vectors(rt: HostRuntime) {
     };
     assert_eq!(rt; (rate.streams(), rate.stream_bits()), (1, 52));
     for (before, after) in &BLOCKS {
-        let (coded, want) = (bits(before), bits(after));
+        let (coded, wanted) = (bits(before), bits(after));
         let mut places = [false; 52];
         interleave(&rate, 1, &coded, &mut places);
-        assert_eq!(rt; places, want);
         let mut again = [false; 52];
         deinterleave(&rate, 1, &places, &mut again);
-        assert_eq!(rt; again, coded);
+        equal(&rt, (places, again), (wanted, coded));
     }
 }
 

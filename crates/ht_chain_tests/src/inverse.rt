@@ -3,31 +3,32 @@
 ghost use Rattle.std.specs.Prelude.{◌≡◌, ◌≤◌};
 ghost use Rattle.ht_inverse.specs.Received.{labels_in_frame};
 
+use crate::equal::equal;
 use ht_inverse::{Alone, Decoder, Outcome, Together, decode_frame, decode_frame_together};
 use ht_rate::Rate;
 use std::test::Fail;
 
 // The octet a5 with seed 127 at MCS 0 of 20 MHz.
-static ONE_OCTET: [&str; 2] = [
+const ONE_OCTET: &[&str] = &[
     "0110000001000110010101000110000010111110111001010000010111001111111101110110010000101000100000111110",
     "1000",
 ];
 
 // The same with four wrong labels: those of data subcarriers 1 and 4 in both symbols. Data subcarrier 1 of symbol 1 has a
 // bit behind the tail.
-static FOUR_WRONG: [&str; 2] = [
+const FOUR_WRONG: &[&str] = &[
     "0010100001000110010101000110000010111110111001010000000101001111111101110110010000101000100000111110",
     "1000",
 ];
 
 // Three streams of QPSK, rate 3/4.
-static THREE_STREAMS: [&str; 2] = [
+const THREE_STREAMS: &[&str] = &[
     "0203310031320313213102031012203302230131312313211000310111333221001103333333333021002323213102112213",
     "11110033130332210001303002022100333112030023020203010222",
 ];
 
 // Four streams of 16-QAM, rate 3/4, at 40 MHz with two encoders.
-static TWO_ENCODERS: [&str; 5] = [
+const TWO_ENCODERS: &[&str] = &[
     "<25285:;17014?51<3==2><==<3<755>2271=:401>0==426;;17795949;;84<058;??1<>54?<9<063>1:84?01?28361;1?5:",
     "=98070617<5<67:;6413<80:05=6=::=>84<358088=8108?85?97060>615>=73472<>7>:36:>=1:0<:;2:9?4:33=?5125824",
     "7>9630;>546993747?:8474;291<8;57<6=117855:756>3?32;9<484520>=;154929;:>687?1488?:0?3?190<2?:<??>692<",
@@ -36,19 +37,19 @@ static TWO_ENCODERS: [&str; 5] = [
 ];
 
 // Points of any kind on two streams of 16-QAM.
-static NO_SEED: [&str; 2] = [
+const NO_SEED: &[&str] = &[
     "12952;;:90:02:2004<:<68226060>0;>>0?0<21010=04866948070141>?:925=441084400<2;502800000007802<1023?80",
     ":=89",
 ];
 
 // Points of any kind on three streams of QPSK.
-static MANY_WRONG: [&str; 2] = [
+const MANY_WRONG: &[&str] = &[
     "0230110031311330111032212120032001210110112210333200233032010232030312132013113330013000310110020000",
     "01331311213330010300000033130120201011303023312222011030",
 ];
 
 // Four streams of 64-QAM, rate 5/6, at 40 MHz with two encoders, where nine subcarriers are erased.
-static NINE_ERASED: [&str; 5] = [
+const NINE_ERASED: &[&str] = &[
     "lVd2k1n9nlI[b_28a@9TVR[mNB`@ClhGH<JWm=jF70E53NKfeJTRdaoi>K@EcLRX8QBUA4lM\\W8gOZ_m0000Ro;>VbR<1`Kf9^E",
     "S6d`hW1TLT=mmNN@Ma4G;E[WU00004bE4[lol^kIjonISkbbQLaPXQoZ30000WZH`ZVV=g0^MQ[\\:3gI]j\\]2_X7GkM`QkYh3J",
     "W2j_oZ_0000AR0FCV[;B1Yll[210000n@BDbRnmaB8@;l?G>89WCEPOH0JUmNjf7JER\\aKieOlEdQ_D>E@ec^RM8@BgNRlm7CGU",
@@ -107,98 +108,99 @@ fn is_outcome(outcome: &Outcome, octets: &[u8]) -> bool {
     }
 }
 
+static CASES: [Case; 8] = [
+    Case {
+        bandwidth: 0,
+        mcs: 0,
+        length: 1,
+        erased: 0,
+        labels: ONE_OCTET,
+        code: 0,
+        octets: &[0xa5],
+    },
+    Case {
+        bandwidth: 0,
+        mcs: 0,
+        length: 1,
+        erased: 0,
+        labels: FOUR_WRONG,
+        code: 3,
+        octets: &[0xa5],
+    },
+    Case {
+        bandwidth: 0,
+        mcs: 0,
+        length: 1,
+        erased: 1 << 4,
+        labels: FOUR_WRONG,
+        code: 1,
+        octets: &[0xa5],
+    },
+    Case {
+        bandwidth: 0,
+        mcs: 18,
+        length: 16,
+        erased: 0,
+        labels: THREE_STREAMS,
+        code: 0,
+        octets: &[
+            0xa0, 0x7d, 0x69, 0x56, 0xd1, 0x92, 0x2f, 0x14, 0xb3, 0xd3, 0x39, 0x17, 0xca, 0x3d,
+            0x1a, 0xbe,
+        ],
+    },
+    Case {
+        bandwidth: 1,
+        mcs: 28,
+        length: 19,
+        erased: 0,
+        labels: TWO_ENCODERS,
+        code: 0,
+        octets: &[
+            0x52, 0x89, 0x0f, 0xc3, 0xed, 0xbd, 0x91, 0x0a, 0x58, 0x46, 0x42, 0x6f, 0xc0, 0xb2,
+            0xf8, 0xc8, 0x0a, 0x67, 0x3a,
+        ],
+    },
+    Case {
+        bandwidth: 0,
+        mcs: 11,
+        length: 1,
+        erased: 0,
+        labels: NO_SEED,
+        code: 12,
+        octets: &[],
+    },
+    Case {
+        bandwidth: 0,
+        mcs: 17,
+        length: 1,
+        erased: 0,
+        labels: MANY_WRONG,
+        code: 12,
+        octets: &[0x12],
+    },
+    Case {
+        bandwidth: 1,
+        mcs: 31,
+        length: 14,
+        erased: 0x204104000000840020100200000,
+        labels: NINE_ERASED,
+        code: 0,
+        octets: &[
+            0x51, 0xf0, 0xcd, 0xe6, 0x89, 0x92, 0xeb, 0x78, 0xfb, 0x04, 0x7c, 0x92, 0xe7, 0xc2,
+        ],
+    },
+];
+
 #[test]
 fn vectors(rt: HostRuntime) -> Result<(), Fail> {
-    let cases = [
-        Case {
-            bandwidth: 0,
-            mcs: 0,
-            length: 1,
-            erased: 0,
-            labels: &ONE_OCTET,
-            code: 0,
-            octets: &[0xa5],
-        },
-        Case {
-            bandwidth: 0,
-            mcs: 0,
-            length: 1,
-            erased: 0,
-            labels: &FOUR_WRONG,
-            code: 3,
-            octets: &[0xa5],
-        },
-        Case {
-            bandwidth: 0,
-            mcs: 0,
-            length: 1,
-            erased: 1 << 4,
-            labels: &FOUR_WRONG,
-            code: 1,
-            octets: &[0xa5],
-        },
-        Case {
-            bandwidth: 0,
-            mcs: 18,
-            length: 16,
-            erased: 0,
-            labels: &THREE_STREAMS,
-            code: 0,
-            octets: &[
-                0xa0, 0x7d, 0x69, 0x56, 0xd1, 0x92, 0x2f, 0x14, 0xb3, 0xd3, 0x39, 0x17, 0xca, 0x3d,
-                0x1a, 0xbe,
-            ],
-        },
-        Case {
-            bandwidth: 1,
-            mcs: 28,
-            length: 19,
-            erased: 0,
-            labels: &TWO_ENCODERS,
-            code: 0,
-            octets: &[
-                0x52, 0x89, 0x0f, 0xc3, 0xed, 0xbd, 0x91, 0x0a, 0x58, 0x46, 0x42, 0x6f, 0xc0, 0xb2,
-                0xf8, 0xc8, 0x0a, 0x67, 0x3a,
-            ],
-        },
-        Case {
-            bandwidth: 0,
-            mcs: 11,
-            length: 1,
-            erased: 0,
-            labels: &NO_SEED,
-            code: 12,
-            octets: &[],
-        },
-        Case {
-            bandwidth: 0,
-            mcs: 17,
-            length: 1,
-            erased: 0,
-            labels: &MANY_WRONG,
-            code: 12,
-            octets: &[0x12],
-        },
-        Case {
-            bandwidth: 1,
-            mcs: 31,
-            length: 14,
-            erased: 0x204104000000840020100200000,
-            labels: &NINE_ERASED,
-            code: 0,
-            octets: &[
-                0x51, 0xf0, 0xcd, 0xe6, 0x89, 0x92, 0xeb, 0x78, 0xfb, 0x04, 0x7c, 0x92, 0xe7, 0xc2,
-            ],
-        },
-    ];
     let mut alone = Alone::new();
     let mut together = Together::new(&rt);
-    for (number, case) in cases.iter().enumerate() {
-        assert!(rt; meets(&rt, &mut alone, case)?, "case {number}");
-        assert!(rt;
+    for (number, case) in CASES.iter().enumerate() {
+        let met = (
+            meets(&rt, &mut alone, case)?,
             meets(&rt, &mut together, case)?,
-            "case {number} in two threads"
         );
+        equal(&rt, (number, met), (number, (true, true)));
     }
     Ok(())
 }
@@ -207,11 +209,17 @@ fn vectors(rt: HostRuntime) -> Result<(), Fail> {
 fn zeros(rt: HostRuntime) -> Result<(), Fail> {
     let rate = Rate::of(0, 8)?;
     let labels = Vec::from_elem(rt.alloc(), 0u8, count_of(&rate, 1))?;
-    assert_eq!(rt; labels.len(), 104);
+    equal(&rt, labels.len(), 104);
     let alone = decode_frame(rt.alloc(), &rate, 1, 0, &labels)?;
     let together = decode_frame_together(&rt, rt.alloc(), &rate, 1, 0, &labels)?;
-    assert_eq!(rt; (alone.code, together.code), (0, 0));
-    assert!(rt; is_outcome(&alone.outcome, &[]));
-    assert!(rt; is_outcome(&together.outcome, &[]));
+    let no_seeds = [
+        is_outcome(&alone.outcome, &[]),
+        is_outcome(&together.outcome, &[]),
+    ];
+    equal(
+        &rt,
+        (alone.code, together.code, no_seeds),
+        (0, 0, [true, true]),
+    );
     Ok(())
 }

@@ -2,6 +2,7 @@
 ghost use Rattle.std.specs.Prelude.{◌≡◌, ◌≤◌};
 ghost use Rattle.ht_legacy_inverse.specs.Received.{labels_in_frame};
 
+use crate::equal::equal;
 use ht_clause18::{LegacyFrame, LegacyRate, legacy_transmit};
 use ht_inverse::Outcome;
 use ht_legacy_inverse::legacy_decode_frame;
@@ -56,11 +57,12 @@ fn come_back(rt: HostRuntime) -> Result<(), Fail> {
     for index in 0..8 {
         let rate = LegacyRate::of(index).ok_or("a rate")?;
         let mut labels = sent_labels(&rt, rate)?;
-        assert_eq!(rt; decoded(&rt, rate, &labels)?, (true, 0), "rate {index}");
+        let right = decoded(&rt, rate, &labels)?;
         if labels.len() > 7 {
             labels[7] ^= 1;
         }
-        assert_eq!(rt; decoded(&rt, rate, &labels)?, (true, 1), "rate {index}");
+        let wrong = decoded(&rt, rate, &labels)?;
+        equal(&rt, (index, right, wrong), (index, (true, 0), (true, 1)));
     }
     Ok(())
 }
@@ -69,7 +71,7 @@ fn come_back(rt: HostRuntime) -> Result<(), Fail> {
 fn no_seed(rt: HostRuntime) -> Result<(), Fail> {
     let labels = Vec::from_elem(rt.alloc(), 0u8, count_of(LegacyRate::Mbit24, 3))?;
     let frame = legacy_decode_frame(rt.alloc(), LegacyRate::Mbit24, 3, &labels)?;
-    assert_eq!(rt; frame.code, 0);
-    assert!(rt; matches!(frame.outcome, Outcome::SeedZero));
+    let no_seed = matches!(frame.outcome, Outcome::SeedZero);
+    equal(&rt, (frame.code, no_seed), (0, true));
     Ok(())
 }

@@ -17,6 +17,8 @@ mod clause18;
 #[cfg(test)]
 mod conv;
 #[cfg(test)]
+mod equal;
+#[cfg(test)]
 mod heads;
 #[cfg(test)]
 mod interleave;

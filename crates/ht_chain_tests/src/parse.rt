@@ -1,3 +1,4 @@
+use crate::equal::equal;
 use ht_parse::{from_streams, join_encoders, split_encoders, to_streams};
 use ht_rate::Rate;
 use std::test::Fail;
@@ -6,18 +7,22 @@ use std::test::Fail;
 #[test]
 fn smoke(rt: HostRuntime) -> Result<(), Fail> {
     let rate = Rate::of(1, 31)?;
-    assert_eq!(rt; rate.encoders(), 2);
+    equal(&rt, rate.encoders(), 2);
     let bits = [false, true, true, false];
     let pair = split_encoders(rt.alloc(), &rate, &bits)?;
-    assert_eq!(rt; pair.first.as_slice(), [false, true].as_slice());
-    assert_eq!(rt; pair.second.as_slice(), [true, false].as_slice());
+    let parts = (pair.first.as_slice(), pair.second.as_slice());
+    equal(
+        &rt,
+        parts,
+        ([false, true].as_slice(), [true, false].as_slice()),
+    );
     let joined = join_encoders(
         rt.alloc(),
         &rate,
         pair.first.as_slice(),
         pair.second.as_slice(),
     )?;
-    assert_eq!(rt; joined.as_slice(), bits.as_slice());
+    equal(&rt, joined.as_slice(), bits.as_slice());
     Ok(())
 }
 
@@ -35,12 +40,16 @@ fn vectors(rt: HostRuntime) -> Result<(), Fail> {
     first[16] = true;
     second[3] = true;
     let symbol = to_streams(rt.alloc(), &rate, &first, &second)?;
-    assert_eq!(rt; symbol.len(), 2592);
+    equal(&rt, symbol.len(), 2592);
     for (place, bit) in symbol.iter().enumerate() {
-        assert_eq!(rt; *bit, place == 648 + 3 || place == 648 + 7, "at {place}");
+        equal(
+            &rt,
+            (place, *bit),
+            (place, place == 648 + 3 || place == 648 + 7),
+        );
     }
     let pair = from_streams(rt.alloc(), &rate, &symbol)?;
-    assert_eq!(rt; pair.first.into_vec().as_slice(), first.as_slice());
-    assert_eq!(rt; pair.second.into_vec().as_slice(), second.as_slice());
+    equal(&rt, pair.first.into_vec(), first);
+    equal(&rt, pair.second.into_vec(), second);
     Ok(())
 }

@@ -6,6 +6,7 @@ ghost use Rattle.ht_rate.specs.Schemes.{bits_of};
 ghost use Rattle.ht_map.specs.Constellation.{axes_of};
 ghost use Rattle.ht_inverse.specs.Received.{labels_in_frame};
 
+use crate::equal::equal;
 use ht_inverse::Outcome;
 use ht_map::grid;
 use ht_metric::{Job, Place, Sample, System, Tap, Triangle, plain_nearest};
@@ -208,7 +209,7 @@ fn bits(rt: HostRuntime) -> Result<(), Fail> {
     for received in [(10, 3, -4), (10, 0, 0), (40000, 40000, 0), (40000, -1, 7)] {
         push_weights(&mut weights, &rate, received)?;
     }
-    assert_eq!(rt; weights.as_slice(), [120, 0, 65535, -65535].as_slice());
+    equal(&rt, weights.as_slice(), [120, 0, 65535, -65535].as_slice());
     Ok(())
 }
 
@@ -217,8 +218,8 @@ fn codeword(rt: HostRuntime) -> Result<(), Fail> {
     let weights = [9, 9, -1, 9, 9, 9, -1, -1, -1, -1, -1, -1, -1, -1];
     let cheapest = soft_decode(rt.alloc(), 7, Pattern::Half, &weights)?;
     let input = [true, false, false, false, false, false, false];
-    assert_eq!(rt; cheapest.input.as_slice(), input.as_slice());
-    assert_eq!(rt; cheapest.cost, 5);
+    let answer = (cheapest.input.as_slice(), cheapest.cost);
+    equal(&rt, answer, (input.as_slice(), 5));
     Ok(())
 }
 
@@ -230,7 +231,8 @@ fn captures(rt: HostRuntime) -> Result<(), Fail> {
         for at in received.iter() {
             push_weights(&mut weights, &rate, *at)?;
         }
-        assert!(rt; meets(&rt, &rate, &weights, cost, &[octets])?, "mcs {mcs}");
+        let met = meets(&rt, &rate, &weights, cost, &[octets])?;
+        equal(&rt, (mcs, met), (mcs, true));
     }
     Ok(())
 }
@@ -244,8 +246,11 @@ fn noiseless(rt: HostRuntime) -> Result<(), Fail> {
             weights.push(if *digit == b'1' { 400 } else { -400 })?;
         }
     }
-    assert!(rt; meets(&rt, &rate, &weights, 0, &[0xa5])?);
     let zeros = Vec::from_elem(rt.alloc(), 0i32, weights.len())?;
-    assert!(rt; meets(&rt, &rate, &zeros, 0, &[])?);
+    let met = [
+        meets(&rt, &rate, &weights, 0, &[0xa5])?,
+        meets(&rt, &rate, &zeros, 0, &[])?,
+    ];
+    equal(&rt, met, [true, true]);
     Ok(())
 }

@@ -1,8 +1,10 @@
 //! Frames whose points are known, each call with ample memory.
+use crate::equal::equal;
 use ht_pam::Point;
 use ht_rate::Rate;
 use ht_scramble::Seed;
 use ht_tx::{Frame, transmit};
+use std::alloc::AllocError;
 use std::test::Fail;
 
 // The octet a5 with seed 127 at MCS 0 of 20 MHz, by the labels and pilots of its two symbols.
@@ -78,20 +80,16 @@ fn level(high: u8, low: u8) -> i8 {
     }
 }
 
-// The points that the digits of their octets give, four digits each.
-fn points(rt: &HostRuntime, lines: &[&str]) -> Result<Vec<Point>, Fail> {
-    let mut points = Vec::new(rt.alloc());
-    for line in lines {
-        for digits in line.as_bytes().chunks(4) {
-            if let [a, b, c, d] = digits {
-                points.push(Point {
-                    i: level(*a, *b),
-                    q: level(*c, *d),
-                })?;
-            }
-        }
+// Adds the points that the digits of their octets give, four digits each.
+fn push_points(points: &mut Vec<Point>, line: &str) -> Result<(), AllocError> {
+    let digits = line.as_bytes();
+    for place in 0..digits.len() / 4 {
+        points.push(Point {
+            i: level(digits[4 * place], digits[4 * place + 1]),
+            q: level(digits[4 * place + 2], digits[4 * place + 3]),
+        })?;
     }
-    Ok(points)
+    Ok(())
 }
 
 // Whether a frame of this rate, seed and octets is sent as these points.
@@ -105,63 +103,46 @@ fn meets(
     let seed = Seed::new(seed).ok_or("a seed")?;
     let frame = Frame::new(rate, seed, octets.to_vec(rt.alloc())?).ok_or("a frame")?;
     let sent = transmit(rt.alloc(), &frame)?;
-    let points = points(rt, lines)?;
+    let mut points = Vec::new(rt.alloc());
+    for line in lines {
+        push_points(&mut points, line)?;
+    }
     Ok(usize::from(sent.length()) == octets.len() && sent.points() == points.as_slice())
 }
 
-#[test]
-fn one_octet_sent(rt: HostRuntime) -> Result<(), Fail> {
-    assert!(rt; meets(&rt, (0, 0, 127), &[0xa5], &ONE_OCTET)?);
-    Ok(())
-}
+// A frame: the code of its bandwidth, its MCS, its seed and its octets; and its points.
+type Row = ((u8, u8, u8), &'static [u8], &'static [&'static str]);
 
 #[test]
-fn two_streams_sent(rt: HostRuntime) -> Result<(), Fail> {
-    assert!(rt;
-        meets(
-            &rt,
+fn vectors(rt: HostRuntime) -> Result<(), Fail> {
+    let rows: [Row; 5] = [
+        ((0, 0, 127), &[0xa5], &ONE_OCTET),
+        (
             (0, 15, 55),
             &[0x3c, 0x41, 0x12, 0xd3, 0x0f, 0xf4, 0x5e, 0x02, 0x80, 0x99],
             &TWO_STREAMS,
-        )?
-    );
-    Ok(())
-}
-
-#[test]
-fn three_streams_sent(rt: HostRuntime) -> Result<(), Fail> {
-    assert!(rt;
-        meets(
-            &rt,
+        ),
+        (
             (0, 18, 106),
             &[
                 0xa0, 0x7d, 0x69, 0x56, 0xd1, 0x92, 0x2f, 0x14, 0xb3, 0xd3, 0x39, 0x17, 0xca, 0x3d,
                 0x1a, 0xbe,
             ],
             &THREE_STREAMS,
-        )?
-    );
-    Ok(())
-}
-
-#[test]
-fn four_streams_sent(rt: HostRuntime) -> Result<(), Fail> {
-    assert!(rt; meets(&rt, (0, 31, 125), &[0xf4], &FOUR_STREAMS)?);
-    Ok(())
-}
-
-#[test]
-fn two_encoders_sent(rt: HostRuntime) -> Result<(), Fail> {
-    assert!(rt;
-        meets(
-            &rt,
+        ),
+        ((0, 31, 125), &[0xf4], &FOUR_STREAMS),
+        (
             (1, 31, 56),
             &[
                 0x51, 0xf0, 0xcd, 0xe6, 0x89, 0x92, 0xeb, 0x78, 0xfb, 0x04, 0x7c, 0x92, 0xe7, 0xc2,
             ],
             &TWO_ENCODERS,
-        )?
-    );
+        ),
+    ];
+    for (asked, octets, lines) in rows {
+        let met = meets(&rt, asked, octets, lines)?;
+        equal(&rt, (asked, met), (asked, true));
+    }
     Ok(())
 }
 
@@ -169,9 +150,9 @@ fn two_encoders_sent(rt: HostRuntime) -> Result<(), Fail> {
 fn refusals(rt: HostRuntime) -> Result<(), Fail> {
     let rate = Rate::of(0, 0)?;
     let seed = Seed::new(127).ok_or("a seed")?;
-    assert!(rt; Frame::new(rate, seed, Vec::new(rt.alloc())).is_none());
-    let mut octets = Vec::new(rt.alloc());
-    octets.resize(65536, 0)?;
-    assert!(rt; Frame::new(rate, seed, octets).is_none());
+    let short = Frame::new(rate, seed, Vec::new(rt.alloc())).is_none();
+    let octets = Vec::from_elem(rt.alloc(), 0u8, 65536)?;
+    let long = Frame::new(rate, seed, octets).is_none();
+    equal(&rt, (short, long), (true, true));
     Ok(())
 }

@@ -1,6 +1,7 @@
 //! Worked words, and all inputs of short words tried in turn. Each call has ample memory.
 ghost use Rattle.std.specs.Prelude.{◌<◌, length};
 
+use crate::equal::equal;
 use ht_conv::{Kept, encode, kept_at, sent};
 use ht_rate::Pattern;
 use ht_viterbi::{Cheapest, Codeword, decode, decode_places, decode_weights, plain_decode};
@@ -69,11 +70,9 @@ fn vectors(rt: HostRuntime) -> Result<(), Fail> {
         let received = places(rt.alloc(), received)?;
         for is_plain in [false, true] {
             let codeword = answer(rt.alloc(), is_plain, steps, Pattern::Half, &received)?;
-            assert_eq!(rt;
-                codeword.input.as_slice(),
-                bits(rt.alloc(), input)?.as_slice()
-            );
-            assert_eq!(rt; codeword.distance, distance);
+            let wanted = bits(rt.alloc(), input)?;
+            let answer = (codeword.input.as_slice(), codeword.distance);
+            equal(&rt, answer, (wanted.as_slice(), distance));
         }
     }
     Ok(())
@@ -116,12 +115,10 @@ fn weights(rt: HostRuntime) -> Result<(), Fail> {
     ];
     for (weights, input, cost) in table {
         for is_plain in [false, true] {
-            let answer = cheapest(rt.alloc(), is_plain, 7, Pattern::Half, weights)?;
-            assert_eq!(rt;
-                answer.input.as_slice(),
-                bits(rt.alloc(), input)?.as_slice()
-            );
-            assert_eq!(rt; answer.cost, cost);
+            let cheapest = cheapest(rt.alloc(), is_plain, 7, Pattern::Half, weights)?;
+            let wanted = bits(rt.alloc(), input)?;
+            let answer = (cheapest.input.as_slice(), cheapest.cost);
+            equal(&rt, answer, (wanted.as_slice(), cost));
         }
     }
     Ok(())
@@ -159,6 +156,13 @@ fn distance_of(input: &[bool], pattern: Pattern, received: &[Option<bool>]) -> u
     distance
 }
 
+// The next state of a generator, whose top bits are random.
+fn next(state: u64) -> u64 {
+    state
+        .wrapping_mul(6_364_136_223_846_793_005)
+        .wrapping_add(1_442_695_040_888_963_407)
+}
+
 // A word of places at random: the generator's top bits choose 0, 1 or, at one place of `rare`, an erasure.
 fn random_places(
     alloc: Global,
@@ -171,9 +175,7 @@ fn random_places(
     let mut places = Vec::new(alloc);
     let mut state = seed;
     for place in 0..count {
-        state = (state ^ place as u64)
-            .wrapping_mul(6_364_136_223_846_793_005)
-            .wrapping_add(1_442_695_040_888_963_407);
+        state = next(state ^ place as u64);
         let draw = state >> 40;
         places.push(if draw % rare == 0 {
             None
@@ -204,8 +206,8 @@ fn ties(rt: HostRuntime) -> Result<(), Fail> {
             }
             for is_plain in [false, true] {
                 let codeword = answer(rt.alloc(), is_plain, 14, pattern, &received)?;
-                assert_eq!(rt; codeword.input.as_slice(), best.0.as_slice(), "seed {seed}");
-                assert_eq!(rt; codeword.distance, best.1, "seed {seed}");
+                let answer = (seed, codeword.input.as_slice(), codeword.distance);
+                equal(&rt, answer, (seed, best.0.as_slice(), best.1));
             }
         }
     }
@@ -220,20 +222,16 @@ fn sent_with_errors(
     percent: u64,
 ) -> Result<(Vec<bool>, Vec<Option<bool>>), AllocError> {
     let mut state = u64::from(steps);
-    let mut draw = || {
-        state = state
-            .wrapping_mul(6_364_136_223_846_793_005)
-            .wrapping_add(1_442_695_040_888_963_407);
-        state >> 33
-    };
     let free = steps.saturating_sub(6);
     let mut input = Vec::new(alloc);
     for step in 0..steps {
-        input.push(draw() & 1 == 1 && step < free)?;
+        state = next(state);
+        input.push(state >> 33 & 1 == 1 && step < free)?;
     }
     let mut received = Vec::new(alloc);
     for bit in &encode(alloc, &input, pattern)? {
-        received.push(Some(*bit != (draw() % 100 < percent)))?;
+        state = next(state);
+        received.push(Some(*bit != ((state >> 33) % 100 < percent)))?;
     }
     Ok((input, received))
 }
@@ -246,14 +244,11 @@ fn alike(rt: HostRuntime) -> Result<(), Fail> {
                 let (input, received) = sent_with_errors(rt.alloc(), steps, pattern, percent)?;
                 let fast = answer(rt.alloc(), false, steps, pattern, &received)?;
                 let plain = answer(rt.alloc(), true, steps, pattern, &received)?;
-                assert_eq!(rt; fast.distance, plain.distance, "{steps} steps");
-                assert_eq!(rt;
-                    fast.input.as_slice(),
-                    plain.input.as_slice(),
-                    "{steps} steps"
-                );
+                let found = plain.input.as_slice();
+                let answer = (steps, fast.input.as_slice(), fast.distance);
+                equal(&rt, answer, (steps, found, plain.distance));
                 if percent == 0 {
-                    assert_eq!(rt; fast.input.as_slice(), input.as_slice());
+                    equal(&rt, (steps, found), (steps, input.as_slice()));
                 }
             }
         }
@@ -270,9 +265,7 @@ fn random_weights(
     let mut weights = Vec::new(alloc);
     let mut state = received.len() as u64;
     for place in received {
-        state = state
-            .wrapping_mul(6_364_136_223_846_793_005)
-            .wrapping_add(1_442_695_040_888_963_407);
+        state = next(state);
         let size = if is_heaviest {
             65_535
         } else {
@@ -298,12 +291,8 @@ fn weights_alike(rt: HostRuntime) -> Result<(), Fail> {
                 let weights = random_weights(rt.alloc(), &received, is_heaviest)?;
                 let fast = cheapest(rt.alloc(), false, steps, pattern, &weights)?;
                 let plain = cheapest(rt.alloc(), true, steps, pattern, &weights)?;
-                assert_eq!(rt; fast.cost, plain.cost, "{steps} steps");
-                assert_eq!(rt;
-                    fast.input.as_slice(),
-                    plain.input.as_slice(),
-                    "{steps} steps"
-                );
+                let answer = (steps, fast.input.as_slice(), fast.cost);
+                equal(&rt, answer, (steps, plain.input.as_slice(), plain.cost));
             }
         }
     }
@@ -317,8 +306,8 @@ fn erased(rt: HostRuntime) -> Result<(), Fail> {
             let received = Vec::from_elem(rt.alloc(), None, sent(pattern, steps) as usize)?;
             for is_plain in [false, true] {
                 let codeword = answer(rt.alloc(), is_plain, steps, pattern, &received)?;
-                assert_eq!(rt; codeword.distance, 0);
-                assert!(rt; !codeword.input.as_slice().contains(&true));
+                let has_ones = codeword.input.as_slice().contains(&true);
+                equal(&rt, (steps, codeword.distance, has_ones), (steps, 0, false));
             }
         }
     }
@@ -327,11 +316,9 @@ fn erased(rt: HostRuntime) -> Result<(), Fail> {
 
 #[test]
 fn longest(rt: HostRuntime) -> Result<(), Fail> {
-    for steps in [524_302] {
-        let (input, received) = sent_with_errors(rt.alloc(), steps, Pattern::Half, 1)?;
-        let codeword = answer(rt.alloc(), false, steps, Pattern::Half, &received)?;
-        let decoded = codeword.input;
-        assert_eq!(rt; decoded.into_vec().as_slice(), input.as_slice());
-    }
+    let steps = 524_302;
+    let (input, received) = sent_with_errors(rt.alloc(), steps, Pattern::Half, 1)?;
+    let codeword = answer(rt.alloc(), false, steps, Pattern::Half, &received)?;
+    equal(&rt, codeword.input.as_slice() == input.as_slice(), true);
     Ok(())
 }

@@ -9,8 +9,9 @@ use Rattle.ht_rate.specs.declared.kinds.Pattern.TheVariants.{Half, TwoThirds, Th
 use Rattle.ht_clause18.specs.declared.rates.LegacyRate.{LegacyRate}
 use Rattle.ht_clause18.specs.declared.rates.LegacyRate.TheVariants.{Mbit6, Mbit9, Mbit12, Mbit18, Mbit24, Mbit36, Mbit48, Mbit54}
 
--- a row of the table: modulation, coding rate R, and the bits N_BPSC, N_CBPS and N_DBPS
+-- a row of the table: its number, counted from 0, modulation, coding rate R, and the bits N_BPSC, N_CBPS and N_DBPS
 pub record Row : Type 0 where
+  pub index : ℕ
   pub modulation : Modulation
   pub pattern : Pattern
   pub label_bits : ℕ
@@ -19,14 +20,14 @@ pub record Row : Type 0 where
 
 -- table 18-4, the columns for 20 MHz
 abbrev pub row_of : LegacyRate → Row
-row_of Mbit6 = record { modulation = Bpsk; pattern = Half; label_bits = 1; coded_bits = 48; data_bits = 24 }
-row_of Mbit9 = record { modulation = Bpsk; pattern = ThreeQuarters; label_bits = 1; coded_bits = 48; data_bits = 36 }
-row_of Mbit12 = record { modulation = Qpsk; pattern = Half; label_bits = 2; coded_bits = 96; data_bits = 48 }
-row_of Mbit18 = record { modulation = Qpsk; pattern = ThreeQuarters; label_bits = 2; coded_bits = 96; data_bits = 72 }
-row_of Mbit24 = record { modulation = Qam16; pattern = Half; label_bits = 4; coded_bits = 192; data_bits = 96 }
-row_of Mbit36 = record { modulation = Qam16; pattern = ThreeQuarters; label_bits = 4; coded_bits = 192; data_bits = 144 }
-row_of Mbit48 = record { modulation = Qam64; pattern = TwoThirds; label_bits = 6; coded_bits = 288; data_bits = 192 }
-row_of Mbit54 = record { modulation = Qam64; pattern = ThreeQuarters; label_bits = 6; coded_bits = 288; data_bits = 216 }
+row_of Mbit6 = record { index = 0; modulation = Bpsk; pattern = Half; label_bits = 1; coded_bits = 48; data_bits = 24 }
+row_of Mbit9 = record { index = 1; modulation = Bpsk; pattern = ThreeQuarters; label_bits = 1; coded_bits = 48; data_bits = 36 }
+row_of Mbit12 = record { index = 2; modulation = Qpsk; pattern = Half; label_bits = 2; coded_bits = 96; data_bits = 48 }
+row_of Mbit18 = record { index = 3; modulation = Qpsk; pattern = ThreeQuarters; label_bits = 2; coded_bits = 96; data_bits = 72 }
+row_of Mbit24 = record { index = 4; modulation = Qam16; pattern = Half; label_bits = 4; coded_bits = 192; data_bits = 96 }
+row_of Mbit36 = record { index = 5; modulation = Qam16; pattern = ThreeQuarters; label_bits = 4; coded_bits = 192; data_bits = 144 }
+row_of Mbit48 = record { index = 6; modulation = Qam64; pattern = TwoThirds; label_bits = 6; coded_bits = 288; data_bits = 192 }
+row_of Mbit54 = record { index = 7; modulation = Qam64; pattern = ThreeQuarters; label_bits = 6; coded_bits = 288; data_bits = 216 }
 
 -- the constellation
 unfoldable pub modulation_of : LegacyRate → Modulation
@@ -52,16 +53,9 @@ data_bits_of r = (row_of r).data_bits
 unfoldable pub axis_bits_of : LegacyRate → ℕ
 axis_bits_of r = max 1 (label_bits_of r / 2)
 
--- the index by which files name a rate: its row, counted from 0
+-- the index by which files name a rate
 abbrev pub index_of : LegacyRate → ℕ
-index_of Mbit6 = 0
-index_of Mbit9 = 1
-index_of Mbit12 = 2
-index_of Mbit18 = 3
-index_of Mbit24 = 4
-index_of Mbit36 = 5
-index_of Mbit48 = 6
-index_of Mbit54 = 7
+index_of r = (row_of r).index
 
 -- the rows in their order
 abbrev pub all_rates : List LegacyRate

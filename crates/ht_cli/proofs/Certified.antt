@@ -4,8 +4,8 @@ use Rattle.std.proofs.Common.{Bool, true, false, if◌then◌else◌, All, inl, 
 use Rattle.std.specs.List.{AllByRecursion}
 use Rattle.std.proofs.Math.Nat.{mul-le-mul_right}
 use Rattle.std.proofs.lemmas.Int.{fits_signed_from_abs, ints}
-use Rattle.std.proofs.lemmas.List.{length-append, length-replicate}
-use Rattle.std.proofs.lemmas.List.Elements.{All-head, All-tail, All-replicate}
+use Rattle.std.proofs.lemmas.List.{length-append}
+use Rattle.std.proofs.lemmas.List.Elements.{All-head, All-tail}
 use Rattle.ht_fields.specs.Cases.{File, IsFile}
 use Rattle.ht_fields.specs.Meanings.{Meaning}
 use Rattle.ht_fields.specs.Tests.{AreBytes}
@@ -18,10 +18,10 @@ use Rattle.ht_rate.specs.Carriers.{carrier_of, one_for}
 use Rattle.ht_rate.specs.Rates.{carriers_of, modulation_of, streams_of, symbols_of}
 use Rattle.ht_rate.proofs.LengthFacts.{symbols_of-holds}
 use Rattle.ht_rate.proofs.RateFacts.{streams_of-range}
-use Rattle.ht_map.specs.Constellation.{axes_of, grid_of}
+use Rattle.ht_map.specs.Constellation.{grid_of}
 use Rattle.ht_pam.specs.declared.axes.Axes.{Axes}
 use Rattle.ht_pam.specs.declared.point.Point.{Point}
-use Rattle.ht_pam.specs.Grids.{AreLadders, IsGrid}
+use Rattle.ht_pam.specs.Grids.{IsGrid}
 use Rattle.ht_metric.specs.declared.sample.Sample.{Sample}
 use Rattle.ht_metric.specs.Arrays.{legs-rows_of, length-rows_of, samples}
 use Rattle.ht_metric.specs.Distance.{IsInRange}
@@ -68,24 +68,8 @@ use Rattle.ht_certify.proofs.Listed.{are_few}
 use Rattle.ht_certify.proofs.Numberless.{bare}
 use Rattle.ht_certify.proofs.Shown.{of_frames}
 use Rattle.ht_cli.specs.Streaming.{IsCapture}
-use Rattle.ht_results.proofs.Vectors.{ladders}
+use Rattle.ht_results.proofs.Vectors.{grid_good, grid_length}
 use Rattle.ht_demo.proofs.Small.{rows_small}
-
--- the grid of a rate
-grid_length : (r : Rate) → length (grid_of r) ≡ streams_of r
-unfolding grid_of
-grid_length r = length-replicate (streams_of r) (axes_of (modulation_of r))
-
-grid_good : (r : Rate) → IsGrid (grid_of r)
-unfolding grid_of
-grid_good r =
-    let long = length-replicate (streams_of r) (axes_of (modulation_of r)) in
-    let range = streams_of-range r in
-    record {
-      some = omega (arith, long, range);
-      few = omega (arith, long, range);
-      ladders = All-replicate AreLadders (streams_of r) (axes_of (modulation_of r)) (ladders (modulation_of r));
-    }
 
 grid_full : (r : Rate) → grid_of r ≡ full_grid (modulation_of r) (streams_of r)
 unfolding grid_of

@@ -10,11 +10,6 @@ use Rattle.ht_cli.specs.Putting.{PutsLine}
 pub done_is_not : Done ≡ NoMemory → ⊥
 done_is_not is = cc
 
--- two facts of a good answer
-pub both : {V E : Type 0} (P Q : V → Type 0) (r : Result V E) → IfOk r P → IfOk r Q → IfOk r (λ v. P v × Q v)
-both P Q (Ok v) p q = (p, q)
-both P Q (Err e) p q = tt
-
 module _ (IsText : List ℕ → Type 0) (a b c d : Device ℕ) where
   put_text : (text : List ℕ) (status : Status) → IsText text → PutsLine text Done c d status → Answers (Makes IsText) a b c d status
   put_text text status made (inl (is, put)) = subst (λ s. Answers (Makes IsText) a b c d s) (sym is) (record { text = text; made = made; put = put })

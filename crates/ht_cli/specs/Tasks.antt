@@ -1,11 +1,12 @@
 -- The command that the words ask for, and what its run promises.
-use Rattle.std.specs.Prelude.{◌≡◌, ℕ, List, Option, Some, None}
+use Rattle.std.specs.Prelude.{◌≡◌, ◌≢◌, ℕ, List, Option, Some, None}
 use Rattle.ht_io.specs.Devices.{Device}
 use Rattle.ht_capture.specs.Fields.{captures}
 use Rattle.ht_text.specs.Lines.{usage_text}
 use Rattle.ht_results.specs.JobTexts.{detect_text, lines_of}
 use Rattle.ht_results.specs.Texts.{frame_lines_of, rx_text}
 use Rattle.ht_cli.specs.declared.status.Status.{Status}
+use Rattle.ht_cli.specs.declared.status.Status.TheVariants.{NoMemory, WriteFault}
 use Rattle.ht_words.specs.declared.asked.Asked.{Asked}
 use Rattle.ht_words.specs.declared.asked.Asked.TheVariants.{Detect, Rx, Soft, LegacyRx, Many, Tx, Channel, Upgrade, Certify, Check, LegacyChannel, Demo}
 use Rattle.ht_cli.specs.Commands.{Command, Reads, Converts, Makes, Answers, Rejects}
@@ -24,15 +25,11 @@ use Rattle.ht_soft_rx.specs.Texts.{soft_lines_of, soft_rx_text}
 use Rattle.ht_several.specs.Bundles.{receiving}
 use Rattle.ht_rate.specs.declared.rates.Rate.{Rate}
 use Rattle.ht_demo.specs.declared.plan.Plan.{Plan}
-use Rattle.ht_demo.specs.Demos.{IsDemoLine, returned_line}
+use Rattle.ht_demo.specs.Demos.{Demonstrates}
 
 -- what a demonstration is to do
 abbrev pub plan_of : ℕ → ℕ → ℕ → Rate → ℕ → Plan
 plan_of seed noise count rate length = record { seed = seed; noise = noise; frames = count; rate = rate; length = length }
-
--- the line of a demonstration; without noise it says that every frame came back, with sums of 0
-abbrev pub IsPlanLine : Plan → List ℕ → Type 0
-IsPlanLine plan line = IsDemoLine plan line × (plan.noise ≡ 0 → line ≡ returned_line plan)
 
 -- What each command reads and writes. How many workers there are, and how large their window is, changes nothing of it.
 abbrev pub command_of : Asked → Command
@@ -47,7 +44,7 @@ command_of Upgrade = whole captures UpgradesTo
 command_of Certify = Converts certifying
 command_of Check = streaming certificates check_text check_lines
 command_of (LegacyChannel seed noise) = Converts (legacy_passing seed noise)
-command_of (Demo seed noise count rate length workers window) = Makes (IsPlanLine (plan_of seed noise count rate length))
+command_of (Demo seed noise count rate length workers window) = Makes (Demonstrates (plan_of seed noise count rate length))
 
 -- what each status says of a run: first the source before and after it, then the sink
 abbrev pub Answered : Option Asked → Device ℕ → Device ℕ → Device ℕ → Device ℕ → Status → Type 0
@@ -64,3 +61,16 @@ IsMaker (Makes IsText) = Unit {0}
 abbrev pub ReadsNothing : Option Asked → Type 0
 ReadsNothing (Some asked) = IsMaker (command_of asked)
 ReadsNothing None = Unit {0}
+
+-- What a run promises: as devices of these kinds are shown, from what the words ask for, the source and the sink, before and
+-- after, and the status.
+pub record CarriesOut {S K : Type 0} (reads : S → Device ℕ) (puts : K → Device ℕ) (asked : Option Asked) (source source' : S) (sink sink' : K)
+    (status : Status) : Type 0 where
+  -- what the words ask for is done, or why it can't be is said
+  pub answered : Answered asked (reads source) (reads source') (puts sink) (puts sink') status
+  -- a command that reads nothing leaves its source alone, and so do words that aren't accepted
+  pub reads_nothing : ReadsNothing asked → source' ≡ source
+  -- where the words aren't accepted and there is no memory for the usage line, nothing is put
+  pub puts_nothing : asked ≡ None → status ≡ NoMemory → sink' ≡ sink
+  -- where the sink failed the answer is WriteFault, whatever else failed
+  pub writes : status ≢ WriteFault → (puts sink').faults ≡ (puts sink).faults

@@ -33,14 +33,14 @@ ghost use Rattle.ht_results.specs.Texts.{frame_lines_of, rx_text};
 ghost use Rattle.ht_results.specs.JobTexts.{detect_text, lines_of};
 ghost use Rattle.ht_soft_rx.specs.Texts.{soft_lines_of, soft_rx_text};
 ghost use Rattle.ht_rate.specs.declared.rates.Rate.{Rate as RateValue};
-ghost use Rattle.ht_demo.specs.Demos.{returned_line};
+ghost use Rattle.ht_demo.specs.Demos.{Demonstrates, returned_line};
 ghost use Rattle.ht_words.specs.Accepted.{IsAccepted};
 ghost use Rattle.ht_words.specs.Words.{asked};
 ghost use Rattle.ht_cli.specs.Commands.{MakesPart, MakesText};
 ghost use Rattle.ht_cli.specs.Converting.{SendsTo, UpgradesTo};
 ghost use Rattle.ht_cli.specs.Streaming.{IsCapture, StreamsAs, StreamsFront, StreamsLines, StreamsPart, StreamsRefused, StreamsWhole};
 ghost use Rattle.ht_cli.specs.Exactly.{WritesExactly, sure_sink, sure_source};
-ghost use Rattle.ht_cli.specs.Tasks.{Answered, IsPlanLine, ReadsNothing, command_of, plan_of};
+ghost use Rattle.ht_cli.specs.Tasks.{Answered, ReadsNothing, command_of, plan_of};
 
 use crate::run_alone;
 use crate::status::Status;
@@ -244,10 +244,10 @@ pub fn clauses_of_demo()
     // Done: the line of the plan was put. WriteFault: a part of such a line. NoMemory: nothing.
     ensures done { (seed noise count length workers window : ℕ) (rate : RateValue) (a b c d : Device ℕ)
         → Answered (Some (Asked.Demo seed noise count rate length workers window)) a b c d Status.Done
-        → MakesText (IsPlanLine (plan_of seed noise count rate length)) c d }
+        → MakesText (Demonstrates (plan_of seed noise count rate length)) c d }
     ensures part { (seed noise count length workers window : ℕ) (rate : RateValue) (a b c d : Device ℕ)
         → Answered (Some (Asked.Demo seed noise count rate length workers window)) a b c d Status.WriteFault
-        → MakesPart (IsPlanLine (plan_of seed noise count rate length)) c d }
+        → MakesPart (Demonstrates (plan_of seed noise count rate length)) c d }
     ensures memory { (seed noise count length workers window : ℕ) (rate : RateValue) (a b c d : Device ℕ)
         → Answered (Some (Asked.Demo seed noise count rate length workers window)) a b c d Status.NoMemory → d ≡ c }
 

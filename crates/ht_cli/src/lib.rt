@@ -26,9 +26,9 @@
 //! (`ht_soft_rx`). `many` reads a bundle of captures whole, and writes for each the text of `rx` (`ht_many`).
 #![tactic(auto)]
 
-ghost use Rattle.std.specs.Prelude.{◌≡◌, ◌≢◌, ◌≤◌, None, IfSome};
+ghost use Rattle.std.specs.Prelude.{◌≡◌, ◌≤◌, IfSome};
 ghost use Rattle.ht_words.specs.Words.{IsWithinRanges, asked};
-ghost use Rattle.ht_cli.specs.Tasks.{Answered, ReadsNothing, plan_of};
+ghost use Rattle.ht_cli.specs.Tasks.{CarriesOut, plan_of};
 
 mod commands;
 pub mod laws;
@@ -67,8 +67,8 @@ use std::thread::Threads;
 /// the call waits for them; else it does as [`run_alone`]. Where memory runs out before it is known what the words ask
 /// for, nothing is read and nothing put.
 ///
-/// `Answered` says what each status means, for each command; [`laws`] spells it out for `detect`, `rx`, `soft`, `upgrade`,
-/// `certify`, `check` and `demo`.
+/// `CarriesOut` is what a run promises: its field `answered` says what each status means, for each command, and [`laws`]
+/// spells that out for `detect`, `rx`, `soft`, `upgrade`, `certify`, `check` and `demo`.
 pub fn run<R: Threads + Wait + Sync, S: Source, K: Sink, G: Gate + Sync>(
     rt: &R,
     alloc: Global,
@@ -77,17 +77,7 @@ pub fn run<R: Threads + Wait + Sync, S: Source, K: Sink, G: Gate + Sync>(
     sink: &mut K,
     gate: &G,
 ) -> Status
-    // What the words ask for is done, or why it can't be is said.
-    ensures answered { Answered (asked words.now) (S.shown source.old) (S.shown source.new) (K.shown sink.old) (K.shown sink.new) result }
-
-    // A command that reads nothing leaves its source alone, and so do words that aren't accepted.
-    ensures reads_nothing { ReadsNothing (asked words.now) → source.new ≡ source.old }
-
-    // Where the words aren't accepted and there is no memory for the usage line, nothing is put.
-    ensures puts_nothing { asked words.now ≡ None → result ≡ Status.NoMemory → sink.new ≡ sink.old }
-
-    // Where the sink failed the answer is WriteFault, whatever else failed.
-    ensures writes { result ≢ Status.WriteFault → (K.shown sink.new).faults ≡ (K.shown sink.old).faults }
+    ensures { CarriesOut S.shown K.shown (asked words.now) source.old source.new sink.old sink.new result }
 {
     let asked = match Asked::of(alloc, words) {
         Ok(asked) => asked,
@@ -143,17 +133,7 @@ pub fn run_alone<S: Source, K: Sink, G: Gate>(
     sink: &mut K,
     gate: &G,
 ) -> Status
-    // What the words ask for is done, or why it can't be is said.
-    ensures answered { Answered (asked words.now) (S.shown source.old) (S.shown source.new) (K.shown sink.old) (K.shown sink.new) result }
-
-    // A command that reads nothing leaves its source alone, and so do words that aren't accepted.
-    ensures reads_nothing { ReadsNothing (asked words.now) → source.new ≡ source.old }
-
-    // Where the words aren't accepted and there is no memory for the usage line, nothing is put.
-    ensures puts_nothing { asked words.now ≡ None → result ≡ Status.NoMemory → sink.new ≡ sink.old }
-
-    // Where the sink failed the answer is WriteFault, whatever else failed.
-    ensures writes { result ≢ Status.WriteFault → (K.shown sink.new).faults ≡ (K.shown sink.old).faults }
+    ensures { CarriesOut S.shown K.shown (asked words.now) source.old source.new sink.old sink.new result }
 {
     match Asked::of(alloc, words) {
         Ok(asked) => carry_out(alloc, asked, source, sink, gate),
@@ -180,10 +160,7 @@ fn carry_out<S: Source, K: Sink, G: Gate>(
     gate: &G,
 ) -> Status
     requires ranges { IfSome asked IsWithinRanges }
-    ensures answered { Answered asked (S.shown source.old) (S.shown source.new) (K.shown sink.old) (K.shown sink.new) result }
-    ensures reads_nothing { ReadsNothing asked → source.new ≡ source.old }
-    ensures puts_nothing { asked ≡ None → result ≡ Status.NoMemory → sink.new ≡ sink.old }
-    ensures writes { result ≢ Status.WriteFault → (K.shown sink.new).faults ≡ (K.shown sink.old).faults }
+    ensures { CarriesOut S.shown K.shown asked source.old source.new sink.old sink.new result }
 {
     match asked {
         Some(Asked::Detect { window, .. }) => {

@@ -1,6 +1,9 @@
 pub mod Back
 pub mod Counting
 pub mod Ends
+pub mod FrameBack
+pub mod FrameEnds
+pub mod FrameRoutes
 pub mod Lasting
 pub mod Lists
 pub mod Packed

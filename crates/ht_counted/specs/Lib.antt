@@ -1,3 +1,4 @@
 pub mod Counted
+pub mod Framed
 pub mod Packing
 pub mod Seeds

@@ -1,4 +1,4 @@
-//! Octets that are put one after another: those of two slices, or those of many items, as many at once as a chunk holds.
+//! The octets of many items, put one after another, as many at once as a chunk holds.
 ghost use Rattle.std.specs.Prelude.{◌≡◌, ◌≤◌, ◌+◌, ◌++◌, [], ℕ, List, length, flat_map, OnOk, OnErr};
 ghost use Rattle.ht_io.specs.Devices.{Grows, GrowsByPart, Rose, IsLater};
 ghost use Rattle.ht_counted.specs.Packing.{Moves};
@@ -8,20 +8,6 @@ use ht_io::{Failed, Sink};
 
 /// The most octets of a chunk.
 const ROOM: usize = 4096;
-
-/// Puts octets, and then others. It takes no memory.
-///
-/// Where the sink fails, a part of them from their front was put.
-pub fn put_both<K: Sink>(front: &[u8], rest: &[u8], sink: &mut K) -> Result<(), Failed>
-    ensures grown { OnOk result (Grows (K.shown sink.old) (K.shown sink.new) (front.now ++ rest.now)) }
-    ensures steady { OnOk result ((K.shown sink.new).faults ≡ (K.shown sink.old).faults) }
-    ensures part { OnErr result (GrowsByPart (K.shown sink.old) (K.shown sink.new) (front.now ++ rest.now)) }
-    ensures cause { OnErr result (Rose (K.shown sink.old) (K.shown sink.new)) }
-    ensures later { IsLater (K.shown sink.old) (K.shown sink.new) }
-{
-    sink.put(front)?;
-    sink.put(rest)
-}
 
 /// What adds items to a chunk, one by one.
 pub trait Packer {

@@ -7,7 +7,10 @@ use Rattle.ht_crew.specs.Feeds.{FeedView, IsInTurn}
 use Rattle.ht_feed.specs.Dues.{all_in, count_in}
 use Rattle.ht_feed.specs.Feeds.{IsInTurn as AreInTurn}
 use Rattle.ht_feed.specs.Items.{Numbered}
-use Rattle.ht_crew.specs.Singles.{block_of, block_view}
+use Rattle.ht_feed.specs.Drives.{LeavesInTurn as BlocksLeave}
+use Rattle.ht_crew.specs.Drives.{LeavesInTurn}
+use Rattle.ht_crew.specs.Singles.{LeadsOn, block_of, block_view, in_blocks}
+use Rattle.ht_crew.specs.declared.singles.Singles.{Singles}
 
 all_in_blocks : (jobs : List JobView) → all_in (map block_of jobs) ≡ jobs
 all_in_blocks [] = refl
@@ -46,3 +49,13 @@ module _ {Fault : Type 0} where
             (subst (λ (jobs : List JobView). Numbered (feed.count - count_in (map block_of feed.due)) jobs) all_is are.numbers);
         jobs = λ all is. sym all_is ∙ (are.jobs all is ∙ ap (λ (n : ℕ). drop n (take feed.count all)) from);
       }
+
+-- a feed is left in turn whose blocks are
+pub leaves : {F Fault : Type 0} (shown : F → FeedView Fault) (leads : F → F → Type 0) (window : ℕ) (a b : Singles F)
+    → BlocksLeave (in_blocks shown) (LeadsOn leads shown) window a b → LeavesInTurn shown leads window a.feed.now b.feed.now
+leaves shown leads window a b left = record {
+  leads = left.leads.on;
+  due = few_due (shown b.feed.now).due window left.due;
+  in_turn = in_turn (shown a.feed.now).left b.failed.now (shown b.feed.now) left.in_turn;
+  later = left.leads.later;
+}

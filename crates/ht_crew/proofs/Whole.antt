@@ -3,7 +3,7 @@ use Rattle.std.proofs.Common.{◌≡◌, ℕ, ◌≤◌, List, [], ◌++◌, len
 use Rattle.std.proofs.lemmas.List.{length-drop, length-take, take_all}
 use Rattle.ht_metric.specs.Jobs.{JobView}
 use Rattle.ht_metric.specs.declared.hit.Hit.{Hit}
-use Rattle.ht_crew.specs.Feeds.{IsLeft}
+use Rattle.ht_feed.specs.Feeds.{IsLeft}
 use Rattle.ht_crew.specs.Lists.{nearest_answer, answer_of, Listed, shown, TakesInTurn}
 
 pub takes_first : (old new : Listed) → old.taken ≡ [] → TakesInTurn old new → map answer_of new.taken ≡ map nearest_answer (take (length new.taken) old.jobs)

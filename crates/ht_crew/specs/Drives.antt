@@ -1,8 +1,10 @@
 -- What a drive does with its feed of jobs.
-use Rattle.std.specs.Prelude.{◌≡◌, ◌≤◌, ℕ, [], length, true, Result, Err}
+use Rattle.std.specs.Prelude.{◌≡◌, ◌≤◌, ℕ, [], length, true, Result, Err, IfOk, OnOk}
+use Rattle.ht_feed.specs.Feeds.{IsLeft}
+use Rattle.ht_drive.specs.Reports.{Report}
 use Rattle.ht_crew.specs.declared.drive_fault.DriveFault.{DriveFault}
 use Rattle.ht_crew.specs.declared.drive_fault.DriveFault.TheVariants.{Feed, NoMemory}
-use Rattle.ht_crew.specs.Feeds.{CallFailed, FeedView, IsInTurn, IsLeft}
+use Rattle.ht_crew.specs.Feeds.{CallFailed, FeedView, IsInTurn}
 
 module _ {Fault : Type 0} where
   -- how a drive with a window of so many jobs leaves its feed, however it ends
@@ -33,3 +35,15 @@ module _ {Fault : Type 0} where
     pub fault : (fault : Fault) → result ≡ Err (Feed fault) → CallFailed (shown old) (shown new) fault
     -- with `NoMemory` before the first call
     pub memory : result ≡ Err NoMemory → new ≡ old
+
+  -- what a drive with a window of so many jobs does with its feed, and what it answers
+  pub record DrivesFeed {F : Type 0} (shown : F → FeedView Fault) (Leads : F → F → Type 0) (window : ℕ) (old new : F)
+      (result : Result Report (DriveFault Fault)) : Type 0 where
+    -- however it ends
+    pub leaves : LeavesInTurn shown Leads window old new
+    -- when the feed has ended, every job was run and taken, and no call failed
+    pub through : OnOk result (IsThrough (shown old) (shown new))
+    -- the report says how many jobs the feed gave
+    pub jobs : IfOk result (λ report. report.jobs ≡ (shown new).count)
+    -- what it refuses with
+    pub refuses : RefusesBy shown old new result

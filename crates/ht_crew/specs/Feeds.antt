@@ -1,7 +1,8 @@
 -- What is seen of a feed of jobs, and what each answer of it means.
-use Rattle.std.specs.Prelude.{◌≡◌, ◌↔◌, ℕ, ◌+◌, ◌-◌, ◌<◌, ◌≤◌, List, [], ◌∷◌, ◌++◌, length, take, drop, Option, Some, None, IsSome, Bool, true, false}
+use Rattle.std.specs.Prelude.{◌≡◌, ◌↔◌, ℕ, ◌+◌, ◌-◌, ◌<◌, ◌≤◌, List, [], ◌∷◌, ◌++◌, length, take, drop, Option, Some, IsSome, Bool, true, false}
 use Rattle.ht_io.specs.Causes.{HasRisen}
 use Rattle.ht_metric.specs.Jobs.{JobView}
+use Rattle.ht_feed.specs.Feeds.{ComeFirst, IsLeft}
 use Rattle.ht_feed.specs.Items.{Numbered}
 
 -- all that is seen of a feed at one moment, for its type of fault
@@ -21,18 +22,6 @@ pub record FeedView (Fault : Type 0) : Type 0 where
   -- what the last call that failed answered
   pub failed : Option Fault
 
--- where the jobs still to come are known, they are these
-abbrev pub IsLeft : Option (List JobView) → List JobView → Type 0
-IsLeft None jobs = Unit {0}
-IsLeft (Some left) jobs = left ≡ jobs
-
--- the jobs still to come are known exactly where they were known before, and the job was the first of them
-abbrev pub ComesFirst : Option (List JobView) → Option (List JobView) → JobView → Type 0
-ComesFirst None None job = Unit {0}
-ComesFirst None (Some after) job = ⊥
-ComesFirst (Some before) None job = ⊥
-ComesFirst (Some before) (Some after) job = before ≡ job ∷ after
-
 module _ {Fault : Type 0} where
   -- a feed that has given nothing yet
   pub record IsFreshFeed (feed : FeedView Fault) : Type 0 where
@@ -47,7 +36,7 @@ module _ {Fault : Type 0} where
     pub count : new.count ≡ old.count + 1
     pub due : new.due ≡ old.due ++ job ∷ []
     pub more : new.more < old.more
-    pub left : ComesFirst old.left new.left job
+    pub left : ComeFirst old.left new.left (job ∷ [])
     pub failed : new.failed ≡ old.failed
 
   -- the feed said that no job comes any more

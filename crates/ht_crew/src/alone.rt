@@ -1,7 +1,7 @@
 //! The drive without threads.
-ghost use Rattle.std.specs.Prelude.{◌≡◌, ◌≤◌, IfOk, OnOk};
+ghost use Rattle.std.specs.Prelude.{◌≡◌, ◌≤◌, IfOk};
 ghost use Rattle.ht_drive.specs.Reports.{HasRunAlone};
-ghost use Rattle.ht_crew.specs.Drives.{IsThrough, LeavesInTurn, RefusesBy};
+ghost use Rattle.ht_crew.specs.Drives.{DrivesFeed};
 ghost use Rattle.ht_crew.specs.Feeds.{IsFreshFeed};
 
 use crate::detect::Detect;
@@ -28,17 +28,8 @@ pub fn drive_alone<F: Feed, G: Gate>(
     requires some { 1 ≤ window }
     requires few { window ≤ 4096 }
     requires fresh { IsFreshFeed (F.shown feed.old) }
-
-    // However it ends.
-    ensures leaves { LeavesInTurn F.shown F.leads window feed.old feed.new }
-
-    // When the feed has ended, every job was run and taken, and no call failed.
-    ensures through { OnOk result (IsThrough (F.shown feed.old) (F.shown feed.new)) }
-    ensures jobs { IfOk result (λ report. report.jobs ≡ (F.shown feed.new).count) }
+    ensures drives { DrivesFeed F.shown F.leads window feed.old feed.new result }
     ensures alone { IfOk result HasRunAlone }
-
-    // What it refuses with.
-    ensures refuses { RefusesBy F.shown feed.old feed.new result }
 {
     let mut failed = false;
     let mut singles = Singles::new(feed, &mut failed);

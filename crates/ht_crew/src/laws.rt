@@ -1,6 +1,6 @@
 //! What follows for a feed over a list. None of these functions does anything.
 ghost use Rattle.std.specs.Prelude.{◌≡◌, [], length, map, take};
-ghost use Rattle.ht_crew.specs.Feeds.{IsLeft};
+ghost use Rattle.ht_feed.specs.Feeds.{IsLeft};
 ghost use Rattle.ht_crew.specs.Lists.{Listed, nearest_answer, answer_of, shown, TakesInTurn};
 
 /// A feed over a list that had taken nothing, and of which nothing is due or left, has taken the first nearest

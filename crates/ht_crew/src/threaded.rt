@@ -1,9 +1,9 @@
 //! The drive with threads.
-ghost use Rattle.std.specs.Prelude.{◌≡◌, ◌≤◌, List, Some, IfOk, IfSome, IsSome, OnOk};
+ghost use Rattle.std.specs.Prelude.{◌≡◌, ◌≤◌, List, Some, IfOk, IfSome, IsSome};
 ghost use Rattle.ht_metric.specs.Jobs.{JobView};
 ghost use Rattle.ht_feed.specs.OwnNumbers.{AreTold};
 ghost use Rattle.ht_drive.specs.Reports.{HasRunAlone, HasRunInPool};
-ghost use Rattle.ht_crew.specs.Drives.{IsThrough, LeavesInTurn, RefusesBy};
+ghost use Rattle.ht_crew.specs.Drives.{DrivesFeed};
 ghost use Rattle.ht_crew.specs.Feeds.{IsFreshFeed};
 ghost use Rattle.ht_crew.specs.Reports.{HasDelivered, jobs_pushed};
 
@@ -42,13 +42,7 @@ pub fn drive<R: Threads + Wait + Sync, F: Feed, G: Gate + Sync>(
     requires some { 1 ≤ window }
     requires few { window ≤ 4096 }
     requires fresh { IsFreshFeed (F.shown feed.old) }
-
-    // However it ends.
-    ensures leaves { LeavesInTurn F.shown F.leads window feed.old feed.new }
-
-    // When the feed has ended, every job was run and taken, and no call failed.
-    ensures through { OnOk result (IsThrough (F.shown feed.old) (F.shown feed.new)) }
-    ensures jobs { IfOk result (λ report. report.jobs ≡ (F.shown feed.new).count) }
+    ensures drives { DrivesFeed F.shown F.leads window feed.old feed.new result }
 
     // What the workers did.
     ensures alone { workers ≡ 1 → IfOk result HasRunAlone }
@@ -57,9 +51,6 @@ pub fn drive<R: Threads + Wait + Sync, F: Feed, G: Gate + Sync>(
     ensures delivered { 2 ≤ workers → IfOk result (λ report. IfSome report.passes HasDelivered) }
     ensures told { (jobs : List JobView) → (F.shown feed.old).left ≡ Some jobs
         → IfOk result (λ report. IfSome report.passes (λ passes. AreTold jobs (jobs_pushed passes))) }
-
-    // What it refuses with.
-    ensures refuses { RefusesBy F.shown feed.old feed.new result }
 {
     let mut failed = false;
     let work = Detect { gate };

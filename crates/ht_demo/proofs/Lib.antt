@@ -1,4 +1,5 @@
 pub mod Bounded
+pub mod Demonstrating
 pub mod Matching
 pub mod Passing
 pub mod Returning

@@ -45,16 +45,23 @@ same_results : (octets others : List ℕ) → capture_of octets ≡ capture_of o
 unfolding results_of
 same_results octets others same = ap (λ (m : Meaning Item). map frame_result (whole_frames m.items)) same
 
-abbrev device : {P : Type 0} → List P → Device P
+abbrev pub device : {P : Type 0} → List P → Device P
 device known = record { known = Some known; faults = 0; borrow = 0 }
 
-pub received_results : (octets left : List ℕ) (start held : List FrameResult) (ended : Ended) → start ≡ []
+received_results : (octets left : List ℕ) (start held : List FrameResult) (ended : Ended) → start ≡ []
     → TellsTo (booked_of (λ frame. frame ∷ [])) (device octets) (device left) (device start) (device held) ended
     → held ≡ results_of octets
 received_results octets left start held (Done frames jobs) none tells =
     grown_results tells.taken start held none tells.put ∙ ap results_of (sym tells.octets.0)
 received_results octets left start held (Refused fault) none tells =
     grown_results tells.taken start held none tells.put ∙ same_results tells.taken octets (sym tells.comes)
+
+-- what the book shows once a source of these octets was received, into a book without results
+pub booked_results : (octets source left : List ℕ) (start held shown : List FrameResult) (ended : Ended) → source ≡ octets → start ≡ []
+    → TellsTo (booked_of (λ frame. frame ∷ [])) (device source) (device left) (device start) (device held) ended
+    → shown ≡ held → shown ≡ results_of octets
+booked_results octets source left start held shown ended of none tells is =
+    is ∙ received_results source left start held ended none tells ∙ ap results_of of
 
 -- the line of the results that a receiver of the capture booked
 pub demo_line : (plan : Plan) (frames : List FrameView) (octets : List ℕ) (results : List FrameResult) (line : List ℕ)

@@ -73,6 +73,11 @@ pub record IsDemoLine (plan : Plan) (line : List ℕ) : Type 0 where
 unfoldable pub returned_line : Plan → List ℕ
 returned_line plan = demo_text plan.frames (all_symbols plan) (all_jobs plan) plan.frames 0 0 0
 
+-- what a demonstration gives: the line of its plan; without noise every frame comes back, and all sums are 0
+pub record Demonstrates (plan : Plan) (line : List ℕ) : Type 0 where
+  pub of_plan : IsDemoLine plan line
+  pub noiseless : plan.noise ≡ 0 → line ≡ returned_line plan
+
 -- the frames of a capture are what frames are captured as
 abbrev pub ArePassed : Plan → List FrameView → List CaptureFrame → Type 0
 ArePassed plan frames captured = (sent : List SymbolsView) × AreTransmitted frames sent × (captured ≡ captures_of plan.seed plan.noise sent)

@@ -1,6 +1,6 @@
 //! The whole way: sample frames are sent, pass the channel and are received.
-ghost use Rattle.std.specs.Prelude.{◌≡◌, ◌≤◌, IfOk};
-ghost use Rattle.ht_demo.specs.Demos.{IsDemoLine, returned_line};
+ghost use Rattle.std.specs.Prelude.{◌≤◌, IfOk};
+ghost use Rattle.ht_demo.specs.Demos.{Demonstrates};
 
 use crate::line::line;
 use crate::plan::Plan;
@@ -29,10 +29,7 @@ pub fn demo_alone<G: Gate>(
     requires some { 1 ≤ window }
     requires few { window ≤ 4096 }
     requires octets { 1 ≤ plan.now.length }
-    ensures line { IfOk result (λ line. IsDemoLine plan.now line.items) }
-
-    // Without noise every frame comes back, and all sums are 0.
-    ensures noiseless { IfOk result (λ line. plan.now.noise ≡ 0 → line.items ≡ returned_line plan.now) }
+    ensures { IfOk result (λ line. Demonstrates plan.now line.items) }
 {
     let frames = sample_frames(alloc, plan.seed, &plan.rate, plan.length, plan.frames)?;
     let mut source = SureSource::new(capture(alloc, plan, &frames)?);
@@ -58,10 +55,7 @@ pub fn demo<R: Threads + Wait + Sync, G: Gate + Sync>(
     requires some { 1 ≤ window }
     requires few { window ≤ 4096 }
     requires octets { 1 ≤ plan.now.length }
-    ensures line { IfOk result (λ line. IsDemoLine plan.now line.items) }
-
-    // Without noise every frame comes back, and all sums are 0.
-    ensures noiseless { IfOk result (λ line. plan.now.noise ≡ 0 → line.items ≡ returned_line plan.now) }
+    ensures { IfOk result (λ line. Demonstrates plan.now line.items) }
 {
     let frames = sample_frames(alloc, plan.seed, &plan.rate, plan.length, plan.frames)?;
     let mut source = SureSource::new(capture(alloc, plan, &frames)?);

@@ -15,7 +15,7 @@ ghost use Rattle.ht_drive.specs.Driving.{Refuses, Tallies};
 ghost use Rattle.ht_drive.specs.Reports.{HasRunAlone, HasRunInPool, blocks_pushed};
 
 use crate::helm::BlockHelm;
-use crate::lead::lead_into;
+use crate::lead::lead;
 use crate::report::{Passes, Report};
 use crate::tally::Tally;
 use crate::task::{Done, Runner, Task};
@@ -83,7 +83,15 @@ where
     ensures refuses { RefusesBy F.shown (F.Answer.may_lack ⊎ F.Block.may_lack) feed.old feed.new result }
 {
     if workers == 1 {
-        return run_alone(alloc, window, work, feed);
+        return match drive_alone(window, work, feed) {
+            Ok(jobs) => Ok(Report {
+                jobs,
+                own: jobs,
+                ran: Vec::new(alloc),
+                passes: None,
+            }),
+            Err(fault) => Err(fault),
+        };
     }
     let Ok(due) = Window::new(alloc, window) else {
         return Err(DriveFault::NoMemory);
@@ -92,33 +100,6 @@ where
         return Err(DriveFault::NoMemory);
     };
     in_pool(rt, pool, due, Pace::new(workers, window), work, feed)
-}
-
-// Runs all blocks of a feed in this thread.
-fn run_alone<F: BlockFeed, W: Work<F::Block, Answer = F::Answer>>(
-    alloc: Global,
-    window: u16,
-    work: &W,
-    feed: &mut F,
-) -> Result<Report<Task<F::Block>, Done<F::Block, F::Answer>>, DriveFault<F::Fault>>
-    requires some { 1 ≤ window }
-    requires few { window ≤ 4096 }
-    requires fresh { IsFreshFeed (F.shown feed.old) }
-    ensures leaves { LeavesInTurn F.shown F.leads window feed.old feed.new }
-    ensures through { OnOk result (IsThrough (F.shown feed.new)) }
-    ensures jobs { IfOk result (λ report. report.jobs ≡ (F.shown feed.new).count) }
-    ensures alone { IfOk result HasRunAlone }
-    ensures refuses { RefusesBy F.shown F.Answer.may_lack feed.old feed.new result }
-{
-    match drive_alone(window, work, feed) {
-        Ok(jobs) => Ok(Report {
-            jobs,
-            own: jobs,
-            ran: Vec::new(alloc),
-            passes: None,
-        }),
-        Err(fault) => Err(fault),
-    }
 }
 
 // Runs all blocks of a feed in a pool that was opened, and through an empty window.
@@ -176,7 +157,7 @@ fn in_pool<
             requires { (window.capacity ≤ 4096) × (window.due ≡ []) × IsFreshFeed (F.shown feed.now) × (helm.given ≡ [])
                 × (tally.own ≡ 0) × (tally.issued ≡ 0) }
         {
-            lead_into(
+            lead(
                 rt,
                 runner,
                 &mut window,

@@ -3,12 +3,12 @@ use Rattle.std.specs.Prelude.{◌≡◌, ◌≢◌, ℕ, List, [], ◌++◌, len
 use Rattle.std.proofs.Common.{refl, ap, ◌∙◌, sym, subst, append-nil, arith}
 use Rattle.std.proofs.lemmas.Bool.{false≢true}
 use Rattle.ht_io.specs.Devices.{Device, Grows, GrowsByPart, IsLater}
-use Rattle.ht_io.proofs.Calls.{failed-later, grows_by_part-front}
+use Rattle.ht_io.proofs.Calls.{failed-later, grows_by_part-front, later-refl}
 use Rattle.ht_fields.specs.Meanings.{Meaning}
 use Rattle.ht_fields.specs.Readers.{ReaderView}
 use Rattle.ht_runs.proofs.Known.{by_part}
 use Rattle.ht_runs.specs.declared.faults.StopFault.{StopFault}
-use Rattle.ht_runs.specs.declared.faults.StopFault.TheVariants.{Write}
+use Rattle.ht_runs.specs.declared.faults.StopFault.TheVariants.{Write, NoMemory as StopMemory}
 use Rattle.ht_feed.specs.declared.stop.Stop.{Stop}
 use Rattle.ht_feed.specs.declared.stop.Stop.TheVariants.{Whole, Refused, Broken, Lacking}
 use Rattle.ht_feed.specs.declared.book_fault.BookFault.{BookFault}
@@ -23,8 +23,9 @@ use Rattle.ht_feed.specs.Desks.{DeskView, desk_view}
 use Rattle.ht_feed.specs.Reading.{ClosesBehind, ReadsBy, view}
 use Rattle.ht_feed.specs.Stops.{ended_at, ended_by, failed_by, fault_of}
 use Rattle.ht_feed.specs.Telling.{Seen, Tells, TellsBy, TellsPart, seen_by}
-use Rattle.ht_feed.specs.Outcomes.{Comes, StopsBy, TellsPieces, pieces_of}
-use Rattle.ht_feed.proofs.Ending.{broken, in_part, refused, whole}
+use Rattle.ht_feed.specs.Inputs.{TellsInput}
+use Rattle.ht_feed.specs.Outcomes.{Comes, StopsBy, TellsPieces, TellsTo, pieces_of}
+use Rattle.ht_feed.proofs.Ending.{broken, in_part, refused, told_nothing, whole}
 use Rattle.ht_feed.proofs.Filling.{none_in}
 
 jobs_taken : {X : Type 0} (last taken jobs : List X) → last ≡ [] → jobs ≡ taken ++ last → jobs ≡ taken
@@ -192,3 +193,32 @@ pub stops_with : (result : Result Ended StopFault) (P : Ended → Type 0) (R Q :
     → MatchResult result P R
 stops_with (Ok x) P R Q is and so = absurd (false≢true is)
 stops_with (Err e) P R Q is and so = so e and
+
+module _ {R H P : Type 0} {means : R → List ℕ → Meaning (Item H)} {at : R → ℕ} {reader : R} {head : H} where
+  -- memory lacked before the first call of a desk
+  pub told_lacking : {source : Device ℕ} {a : Telling H P} {lent : List ℕ} {result : Result Ended StopFault}
+      → IsErr result → IsErrAnd result (λ f. f ≡ StopMemory) → TellsInput means at reader head source source a a lent lent result
+  told_lacking {source} {a} {lent} {result} is and =
+      let start = view means at reader source in
+      let pieces = pieces_of a.pieces head start in
+      record {
+        tells = stops_with result (TellsTo start pieces source a.device a.device) (StopsBy start pieces source a.device a.device) (λ f. f ≡ StopMemory) is and
+            (λ f same. subst (λ (fault : StopFault). StopsBy start pieces source a.device a.device fault) (sym same) (told_nothing start pieces a.device));
+        writes = λ other. refl;
+        reads_later = later-refl source;
+        puts_later = later-refl a.device;
+        same = refl;
+      }
+
+  -- what a drive and its desk say of an input
+  pub told_input : {X : Type 0} {source source' : Device ℕ} {a b : Telling H P} {new : DeskView R H} {failed : Option BookFault}
+      {driven : Result X (DriveFault BookFault)} {lent lent' : List ℕ} {result : Result Ended StopFault}
+      → Heard means at reader head source source' a b new failed driven → a.Waits [] → (b.Waits [] → b.pieces [] ≡ [])
+      → result ≡ ended_by new.stop new.frames new.count driven → lent' ≡ lent → TellsInput means at reader head source source' a b lent lent' result
+  told_input {X} {source} {source'} {a} {b} {new} {failed} {driven} {lent} {lent'} {result} h rests nothing is same = record {
+    tells = heard means at reader head source source' a b new failed driven result h rests nothing is;
+    writes = steady means at reader head source source' a b new failed driven result h is;
+    reads_later = reads_later means at reader head source source' a b new failed h.leads;
+    puts_later = puts_later means at reader head source source' a b new failed h.leads;
+    same = same;
+  }

@@ -54,13 +54,6 @@ module _ {R H P : Type 0} (means : R → List ℕ → Meaning (Item H)) (at : R 
         puts_later = later-refl account.device;
       }
 
-  -- and so it has gone on from where it began
-  pub tells_read : (first : Seen H P) (old new : DeskView R H) (source after : Device ℕ) (account : Telling H P)
-      → ((due : List (Headed H)) (h : Headed H) → account.Waits due → account.Waits (due ++ h ∷ []))
-      → Tells first (seen_by means at old source account) → ReadsMore means at old new source after → Tells first (seen_by means at new after account)
-  tells_read first old new source after account more told r =
-      tells-on first (seen_by means at old source account) (seen_by means at new after account) told (tells_given old new source after account more r)
-
   -- memory lacked before anything was read
   pub tells_lacking : (old new : DeskView R H) (source after : Device ℕ) (account : Telling H P) → new ≡ old → after ≡ source
       → TellsPart (seen_by means at old source account) (seen_by means at new after account) NoMemory
@@ -124,6 +117,14 @@ module _ {R H P : Type 0} (means : R → List ℕ → Meaning (Item H)) (at : R 
         cause = cause;
         steady = steady;
       })
+
+module _ {R H P : Type 0} {means : R → List ℕ → Meaning (Item H)} {at : R → ℕ} where
+  -- the desk read on, and so it has gone on from where it began
+  pub read_on : {first : Seen H P} {old new : DeskView R H} {source after : Device ℕ} {account : Telling H P}
+      → ReadsMore means at old new source after → Tells first (seen_by means at old source account)
+      → ((due : List (Headed H)) (h : Headed H) → account.Waits due → account.Waits (due ++ h ∷ [])) → Tells first (seen_by means at new after account)
+  read_on {first} {old} {new} {source} {after} {account} r told more =
+      tells-on first (seen_by means at old source account) (seen_by means at new after account) told (tells_given means at old new source after account more r)
 
 -- none failed before
 pub well : {H P : Type 0} (x y : Option BookFault) (old new : Seen H P) → x ≡ None → y ≡ x → Tells old new → TellsBy x y old new

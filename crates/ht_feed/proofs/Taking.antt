@@ -5,6 +5,7 @@ use Rattle.ht_io.specs.Devices.{Device}
 use Rattle.ht_metric.specs.Jobs.{JobView}
 use Rattle.ht_feed.specs.Items.{Headed}
 use Rattle.ht_feed.specs.Accounts.{PutsBlock, PutsPartOf}
+use Rattle.ht_feed.specs.Desks.{DeskView}
 use Rattle.ht_feed.specs.Dues.{Due, all_due, due_of, headed_due, jobs_in}
 
 module _ {H : Type 0} where
@@ -20,6 +21,12 @@ module _ {H : Type 0} where
       let heads : b.head ≡ head = ap (λ (y : Due H). y.head) (same_Some b d first) ∙ sym is in
       let same : b.jobs ≡ jobs = same_Some b.jobs jobs asked in
       ap (λ (h : H). due_of h b.jobs ∷ bs) heads ∙ ap (λ (js : List JobView). due_of head js ∷ bs) same
+
+  -- so it is in a desk that is seen so
+  pub first_of : {R : Type 0} (inside seen : DeskView R H) (d : Due H) (head : H) (jobs : List JobView) → inside ≡ seen → Some d ≡ slice_get inside.due 0
+      → head ≡ d.head → slice_get (jobs_in seen.due) 0 ≡ Some jobs → seen.due ≡ due_of head jobs ∷ drop 1 seen.due
+  first_of {R} inside seen d head jobs same first is asked =
+      first_due seen.due d head jobs (ap (λ (desk : DeskView R H). slice_get desk.due 0) (sym same) ∙ sym first) is asked
 
   pub first_get : (due : List (Due H)) (d : Due H) → due ≡ d ∷ drop 1 due → slice_get due 0 ≡ Some d
   first_get due d is = ap (λ (bs : List (Due H)). slice_get bs 0) is

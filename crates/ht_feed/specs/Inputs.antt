@@ -19,7 +19,7 @@ pub record TellsInput {R H P : Type 0} (means : R → List ℕ → Meaning (Item
   pub writes : result ≢ Err Write → new.device.faults ≡ old.device.faults
   -- however it ends, the source is the same, and takes back no fault
   pub reads_later : IsLater source source'
-  -- so does the account's device
+  -- the account's device is the same, too, and takes back none
   pub puts_later : IsLater old.device new.device
   -- the account borrows what it borrowed
   pub same : lent' ≡ lent

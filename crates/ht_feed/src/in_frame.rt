@@ -7,6 +7,6 @@ pub trait InFrame: Jobs {
     type Head: Copy + Drop;
 
     /// The head of the frame. No clause says that it is the one that came before the block: whoever takes what was made
-    /// by it compares the two.
+    /// by it sees whether it fits the frame, from the rate that it was made by and the number of its jobs.
     fn head(&self) -> &Self::Head;
 }

@@ -3,6 +3,7 @@ pub mod Blocks
 pub mod Choices
 pub mod Cuts
 pub mod Endings
+pub mod FormatLaws
 pub mod Halting
 pub mod Joins
 mod LowOctets

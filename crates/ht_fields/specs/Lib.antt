@@ -1,4 +1,5 @@
 pub mod Cases
+pub mod FormatLaws
 pub mod Grammar
 pub mod Lacking
 pub mod Meanings

@@ -1,5 +1,5 @@
 -- How the octets of a head lead through the fields of a file, in any format with heads.
-use Rattle.std.proofs.Common.{◌≡◌, ℕ, ◌+◌, ◌^◌, ◌<◌, ◌≤◌, [], ◌∷◌, length, refl, sym, ap, subst, arith}
+use Rattle.std.proofs.Common.{◌≡◌, ℕ, ◌+◌, ◌^◌, ◌<◌, ◌≤◌, [], ◌∷◌, length, Result, Ok, Err, IfErr, refl, sym, ap, subst, arith}
 use Rattle.byteorder.specs.Endian.{big_bytes}
 use Rattle.byteorder.specs.Numbers.{big_number-reads_back}
 use Rattle.ht_io.specs.Devices.{Device}
@@ -82,6 +82,11 @@ pub head_ends : {B I : Type 0} (h : HeadedFormat B I) (left at : ℕ) (source af
 head_ends h left at source after fault some fails =
     halts_ends (reader_in (grammar_of h) (frame_due left) at source) after fault
     (head_halts (grammar_of h) (frame_due left) (λ code. Body (Mcs left code)) (λ rate. Body (Length left rate)) at source after fault (has_head h left some) fails)
+
+pub heads_end : {B I A : Type 0} (h : HeadedFormat B I) (left at : ℕ) (source after : Device ℕ) (result : Result A InFault) → 0 < left
+    → IfErr result (HeadFails at source after) → IfErr result (EndsEarly (reader_in (grammar_of h) (frame_due left) at source) after)
+heads_end h left at source after (Ok head) some fails = tt
+heads_end h left at source after (Err fault) some fails = head_ends h left at source after fault some fails
 
 pub head_size : (rate : Rate) (len at : ℕ) → at + 4 ≡ at + length (head_octets rate len)
 head_size rate len at = refl

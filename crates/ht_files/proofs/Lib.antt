@@ -3,4 +3,3 @@ pub mod FrameRoutes
 pub mod Levels
 pub mod PointRoutes
 pub mod Walks
-pub mod Putting

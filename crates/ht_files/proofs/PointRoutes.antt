@@ -1,10 +1,10 @@
 -- How the octets of points lead through the fields of a file.
 use Rattle.std.proofs.Common.{◌≡◌, inl, inr, ℕ, zero, suc, ◌+◌, ◌-◌, ◌*◌, ◌/◌, ◌%◌, ◌^◌}
-use Rattle.std.proofs.Common.{◌<◌, ◌≤◌, ℤ, List, [], ◌∷◌, ◌++◌, length, flat_map, get_or}
+use Rattle.std.proofs.Common.{◌<◌, ◌≤◌, ℤ, List, [], ◌∷◌, ◌++◌, length, flat_map, get_or, take}
 use Rattle.std.proofs.Common.{nat_eq, true, false, refl, sym, ap, subst, ◌∙◌, append_assoc, length-append, arith}
 use Rattle.std.specs.Ordering.{int_eq}
 use Rattle.std.proofs.lemmas.Bool.Decides.{Decides-int_eq, nat_tests}
-use Rattle.std.proofs.lemmas.List.{append-nil}
+use Rattle.std.proofs.lemmas.List.{append-nil, length-take-le}
 use Rattle.std.proofs.lemmas.Bool.{and_from, cases_lt}
 use Rattle.std.proofs.Math.Nat.{add-mul, mul-le-mul, mul_assoc}
 use Rattle.std.proofs.Math.Seq.{get_or-append_seam}
@@ -275,7 +275,7 @@ added_route : (left : ℕ) (r : Rate) (len : ℕ) (old new added : List Point) �
 added_route left r len old new added is fitting few = route_points added left r len old new is fitting few
 
 -- a point of a symbol was at fault
-pub symbol_misfit : (left : ℕ) (r : Rate) (len at w : ℕ) (old new : List Point) (octets : List ℕ) (source after : Device ℕ) (fault : InFault)
+symbol_misfit : (left : ℕ) (r : Rate) (len at w : ℕ) (old new : List Point) (octets : List ℕ) (source after : Device ℕ) (fault : InFault)
     → AreFitting r new → length octets ≤ 2 * w → length old + w ≤ points_of r len → Takes source after octets → MeetsMisfit r at old new octets fault
     → EndsEarly (reader_in symbols (behind_head (points_due left r len old)) at source) after fault
 symbol_misfit left r len at w old new octets source after fault fitting most room taken meets =
@@ -293,7 +293,7 @@ symbol_misfit left r len at w old new octets source after fault fitting most roo
     (takes_as source after octets (flat_map point_octets meets.added ++ (bad ++ meets.rest)) meets.split taken))
 
 -- the input ended within a symbol
-pub symbol_ended : (left : ℕ) (r : Rate) (len at w : ℕ) (old new : List Point) (octets : List ℕ) (source after : Device ℕ) (fault : InFault)
+symbol_ended : (left : ℕ) (r : Rate) (len at w : ℕ) (old new : List Point) (octets : List ℕ) (source after : Device ℕ) (fault : InFault)
     → AreFitting r new → length octets < 2 * w → length old + w ≤ points_of r len → TakesAll source after octets → AddsPoints old new octets
     → fault ≡ Format (record { kind = Truncated; offset = at + length octets })
     → EndsEarly (reader_in symbols (behind_head (points_due left r len old)) at source) after fault
@@ -308,7 +308,7 @@ symbol_ended left r len at w old new octets source after fault fitting most room
     (subst (λ (z : List ℕ). TakesAll source after z) adds.split taken)))
 
 -- the source failed within a symbol
-pub symbol_broke : (left : ℕ) (r : Rate) (len at w : ℕ) (old new : List Point) (octets : List ℕ) (source after : Device ℕ)
+symbol_broke : (left : ℕ) (r : Rate) (len at w : ℕ) (old new : List Point) (octets : List ℕ) (source after : Device ℕ)
     → AreFitting r new → length octets < 2 * w → length old + w ≤ points_of r len → Takes source after octets → AddsPoints old new octets
     → Rose source after → EndsEarly (reader_in symbols (behind_head (points_due left r len old)) at source) after Read
 symbol_broke left r len at w old new octets source after fitting most room taken adds rose =
@@ -317,6 +317,34 @@ symbol_broke left r len at w old new octets source after fitting most room taken
     block_broke symbols (behind_head (points_due left r len old)) (behind_head (points_due left r len new)) (flat_map point_octets adds.added) adds.rest at source after
     (added_route left r len old new adds.added adds.points fitting few) adds.short
     (takes_as source after octets (flat_map point_octets adds.added ++ adds.rest) adds.split taken) rose
+
+-- The front of a symbol's block was filled, and its points were added.
+module _ (left : ℕ) (r : Rate) (len at n : ℕ) (old new : List Point) (into : List ℕ) (source after : Device ℕ)
+    (block : length into ≡ 2 * (carriers_of r * streams_of r)) (room : length old + carriers_of r * streams_of r ≤ points_of r len)
+    (fitting : AreFitting r new) where
+  -- a point of it was at fault
+  pub front_misfit : (fault : InFault) → n ≤ length into → Takes source after (take n into) → MeetsMisfit r at old new (take n into) fault
+      → EndsEarly (reader_in symbols (behind_head (points_due left r len old)) at source) after fault
+  front_misfit fault within taken meets =
+      symbol_misfit left r len at (carriers_of r * streams_of r) old new (take n into) source after fault fitting
+      (omega (arith, length-take-le n into within, within, block)) room taken meets
+
+  -- it was all that was left
+  pub front_ended : (fault : InFault) → n < length into → TakesAll source after (take n into) → AddsPoints old new (take n into)
+      → fault ≡ Format (record { kind = Truncated; offset = at + n })
+      → EndsEarly (reader_in symbols (behind_head (points_due left r len old)) at source) after fault
+  front_ended fault within taken adds is =
+      let size : length (take n into) ≡ n = length-take-le n into (omega (arith, within)) in
+      symbol_ended left r len at (carriers_of r * streams_of r) old new (take n into) source after fault fitting
+      (omega (arith, size, within, block)) room taken adds
+      (is ∙ ap (λ (k : ℕ). let f : InFault = Format (record { kind = Truncated; offset = at + k }) in f) (sym size))
+
+  -- the source failed behind it
+  pub front_broke : n < length into → Takes source after (take n into) → AddsPoints old new (take n into) → Rose source after
+      → EndsEarly (reader_in symbols (behind_head (points_due left r len old)) at source) after Read
+  front_broke within taken adds rose =
+      symbol_broke left r len at (carriers_of r * streams_of r) old new (take n into) source after fitting
+      (omega (arith, length-take-le n into (omega (arith, within)), within, block)) room taken adds rose
 
 no_rest : (xs : List ℕ) → length xs ≡ 0 → xs ≡ []
 no_rest [] e = refl

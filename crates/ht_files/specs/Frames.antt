@@ -1,38 +1,34 @@
 -- Files of frames as lists of fields.
-use Rattle.std.specs.Prelude.{ℕ, ◌-◌, List, [], ◌∷◌}
-use Rattle.ht_io.specs.declared.faults.Kind.TheVariants.{BadSeed}
-use Rattle.ht_fields.specs.Grammar.{Grammar, Due, field, Verdict, Good}
-use Rattle.ht_fields.specs.Tests.{checked, octet_of}
+use Rattle.std.specs.Prelude.{ℕ, List, [], ◌∷◌}
+use Rattle.ht_fields.specs.Grammar.{Grammar}
 use Rattle.ht_rate.specs.declared.rates.Rate.{Rate}
 use Rattle.ht_tx.specs.Frames.{FrameView}
-use Rattle.ht_counted.specs.Seeds.{is_no_seed}
-use Rattle.ht_files.specs.HeadedFormats.{HeadState, HeadedFormat, behind_head, frame_due, grammar_of}
-
--- which field is due behind the head of a frame: the seed, or the octets of the PSDU
-pub data FrameState : Type 0 where
-  Seed : ℕ → Rate → ℕ → FrameState
-  Octets : ℕ → Rate → ℕ → ℕ → FrameState
+use Rattle.ht_heads.specs.Heads.{head_octets}
+use Rattle.ht_counted.specs.Framed.{FrameState, Seed, Framing, framed_due}
+use Rattle.ht_files.specs.HeadedFormats.{HeadBody, HeadState, Bandwidth, Behind, HeadedFormat, grammar_of}
 
 -- `HTTX`
 abbrev pub frames_magic : List ℕ
 frames_magic = 72 ∷ 84 ∷ 84 ∷ 88 ∷ []
 
-unfoldable pub good_seed : ℕ → Rate → ℕ → List ℕ → Verdict (HeadState FrameState) FrameView
-good_seed left rate len octets = Good (behind_head (Octets left rate len (octet_of octets))) []
+-- which field of a frame is due
+abbrev pub FrameBody : Type 0
+FrameBody = HeadBody (FrameState Rate)
 
--- behind its octets the frame is whole
-unfoldable pub good_octets : ℕ → Rate → ℕ → List ℕ → Verdict (HeadState FrameState) FrameView
-good_octets left rate seed octets =
-    Good (frame_due (left - 1)) (record { rate = rate; seed = seed; octets = octets } ∷ [])
+-- how frames stand in a file: behind a head of four octets, with 1 to 65535 octets
+abbrev pub framing : Framing FrameBody Rate FrameView
+framing = record {
+  head = head_octets;
+  width = 4;
+  most = 65535;
+  behind = Behind;
+  frame = λ p. record { rate = p.rate; seed = p.seed; octets = p.octets };
+  parts = λ f. record { rate = f.rate; seed = f.seed; octets = f.octets };
+}
 
--- The octets of a frame are one field, since none of them can be at fault.
-abbrev pub body_due : FrameState → Due (HeadState FrameState) FrameView
-body_due (Seed left rate len) = field 1 (checked BadSeed is_no_seed (good_seed left rate len))
-body_due (Octets left rate len seed) = field len (good_octets left rate seed)
-
-abbrev pub framed : HeadedFormat FrameState FrameView
-framed = record { magic = frames_magic; first = Seed; due = body_due }
+abbrev pub framed : HeadedFormat (FrameState Rate) FrameView
+framed = record { magic = frames_magic; first = Seed; due = framed_due Bandwidth framing }
 
 -- the format
-abbrev pub frames : Grammar (HeadState FrameState) FrameView
+abbrev pub frames : Grammar (HeadState (FrameState Rate)) FrameView
 frames = grammar_of framed

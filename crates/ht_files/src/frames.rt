@@ -1,88 +1,72 @@
-//! Files of frames that are read whole.
-ghost use Rattle.std.specs.Prelude.{◌≡◌, ◌<◌, ◌+◌, ◌^◌, ℕ, IfOk, IfErr};
-ghost use Rattle.ht_io.specs.Devices.{Takes, IsLater};
+//! Files of frames, read whole and written.
+ghost use Rattle.std.specs.Prelude.{◌≡◌, ◌≤◌, ◌++◌, ◌∷◌, [], length, IfOk, IfErr, OnOk, OnErr};
+ghost use Rattle.ht_io.specs.Devices.{Grows, GrowsByPart, Rose, IsLater};
 ghost use Rattle.ht_fields.specs.Readers.{reader_in};
 ghost use Rattle.ht_fields.specs.WholeFiles.{EndsEarly, ReadsWhole};
-ghost use Rattle.ht_tx.specs.Frames.{IsPsdu};
-ghost use Rattle.ht_files.specs.HeadedFormats.{HeadBody, frame_due, headed};
-ghost use Rattle.ht_files.specs.Frames.{FrameState, framed, frames as frames_format};
-ghost use Rattle.ht_files.specs.Files.{AreFrames, IsFrame, frame_octets, frames_file_of};
+ghost use Rattle.ht_heads.specs.Heads.{head_octets};
+ghost use Rattle.ht_files.specs.HeadedFormats.{headed};
+ghost use Rattle.ht_files.specs.Frames.{FrameBody, framed, frames as frames_format, framing};
+ghost use Rattle.ht_files.specs.Files.{AreFrames, frames_file_of};
 
-use ht_counted::{Entries, frame_limits, octets, read_whole, seed};
-use ht_heads::head;
-use ht_io::{InFault, Source};
+use ht_counted::{Framed, read_framed, write_framed};
+use ht_heads::{head, head_of};
+use ht_io::{Failed, InFault, Sink, Source};
 use ht_rate::Rate;
 use ht_scramble::Seed;
 use ht_tx::Frame;
 use std::alloc::Global;
 
-// The frame of these octets.
-fn made(rate: Rate, seed: Seed, octets: Vec<u8>) -> Frame
-    requires { IsPsdu octets.items }
-    ensures { result ≡ record { rate = rate; seed = seed; octets = octets.items } }
+// What stands in front of the octets of a frame's PSDU.
+fn front(frame: &Frame) -> [u8; 5]
+    ensures { result ≡ head_octets frame.now.rate (length frame.now.octets) ++ (frame.now.seed ∷ []) }
 {
-    match Frame::new(rate, seed, octets) {
-        Some(frame) => frame,
-        None => unreachable!(),
-    }
+    let head = head_of(&frame.rate(), frame.octets().len() as u16);
+    [head[0], head[1], head[2], head[3], frame.seed().value()]
 }
 
-// Reads a frame, while frames are left.
-fn frame<S: Source>(alloc: Global, source: &mut S, at: u64) -> Result<Frame, InFault>
-    requires room { at + 65540 < 2 ^ 64 }
-    ensures whole { IfOk result (λ frame. Takes (S.shown source.old) (S.shown source.new) (frame_octets frame)) }
-    ensures fits { IfOk result IsFrame }
-    ensures failed { (left : ℕ) → 0 < left
-        → IfErr result (EndsEarly (reader_in frames_format (frame_due left) at (S.shown source.old)) (S.shown source.new)) }
-    ensures later { IsLater (S.shown source.old) (S.shown source.new) }
-{
-    let (rate, length) = match head(source, at) {
-        Ok(head) => head,
-        Err(fault) => return Err(fault),
-    };
-    let seed = match seed(source, at + 4) {
-        Ok(seed) => seed,
-        Err(fault) => return Err(fault),
-    };
-    match octets(alloc, source, at + 5, length) {
-        Ok(octets) => Ok(made(rate, seed, octets)),
-        Err(fault) => Err(fault),
-    }
-}
+// The frames of a file.
+struct Frames;
 
-// The frames of a file, one by one.
-#[derive(Drop)]
-struct Frames {
-    alloc: Global,
-}
+impl Framed for Frames {
+    type Frame = Frame;
 
-impl Entries for Frames {
-    type Entry = Frame;
+    type Rate = Rate;
 
-    ghost State = { HeadBody FrameState };
+    ghost State = { FrameBody };
 
     ghost format = { headed framed };
 
-    ghost octets = { frame_octets };
+    ghost framing = { framing };
 
-    ghost fits = { IsFrame };
-
-    ghost most = { 65540 };
-
-    ghost ready = { λ _. Unit {0} };
-
-    fn read<S: Source>(&mut self, source: &mut S, at: u64) -> Result<Frame, InFault> {
-        frame(self.alloc, source, at)
+    fn magic() -> [u8; 4] {
+        *b"HTTX"
     }
 
-    fn size(frame: &Frame) -> u64 {
-        5 + frame.octets().len() as u64
+    fn width() -> u64 {
+        4
+    }
+
+    fn head<S: Source>(source: &mut S, at: u64) -> Result<(Rate, u16), InFault> {
+        head(source, at)
+    }
+
+    fn frame(rate: Rate, seed: Seed, octets: Vec<u8>) -> Option<Frame> {
+        Frame::new(rate, seed, octets)
+    }
+
+    fn put_front<K: Sink>(frame: &Frame, sink: &mut K) -> Result<(), Failed> {
+        sink.put(&front(frame))
+    }
+
+    fn octets(frame: &Frame) -> &[u8] {
+        frame.octets()
     }
 }
 
 /// Reads a file of frames (HTTX) to its end, and gives its frames.
 ///
 /// `Format` comes at the first fault of the file, and `Read` where the source failed before any fault.
+#[tactic(auto, unfolding(crate::specs::Files::frame_octets, crate::specs::Files::frames_file_of))]
 pub fn read_frames<S: Source>(alloc: Global, source: &mut S) -> Result<Vec<Frame>, InFault>
     // What was left was the file of these frames, and is taken.
     ensures file { IfOk result (λ frames. ReadsWhole AreFrames frames_file_of (S.shown source.old) (S.shown source.new) frames.items) }
@@ -91,6 +75,20 @@ pub fn read_frames<S: Source>(alloc: Global, source: &mut S) -> Result<Vec<Frame
     ensures refused { IfErr result (EndsEarly (reader_in frames_format frames_format.start 0 (S.shown source.old)) (S.shown source.new)) }
     ensures later { IsLater (S.shown source.old) (S.shown source.new) }
 {
-    let frames = &mut Frames { alloc };
-    read_whole(alloc, b"HTTX", &frame_limits(), frames, source)
+    read_framed::<Frames, S>(alloc, source)
+}
+
+/// Puts the file of these frames (HTTX). It takes no memory.
+///
+/// Where the sink fails, a part of the file from its front was put.
+#[tactic(auto, unfolding(crate::specs::Files::frame_octets, crate::specs::Files::frames_file_of))]
+pub fn write_frames<K: Sink>(frames: &[Frame], sink: &mut K) -> Result<(), Failed>
+    requires few { length frames.now ≤ 65535 }
+    ensures grown { OnOk result (Grows (K.shown sink.old) (K.shown sink.new) (frames_file_of frames.now)) }
+    ensures steady { OnOk result ((K.shown sink.new).faults ≡ (K.shown sink.old).faults) }
+    ensures part { OnErr result (GrowsByPart (K.shown sink.old) (K.shown sink.new) (frames_file_of frames.now)) }
+    ensures cause { OnErr result (Rose (K.shown sink.old) (K.shown sink.new)) }
+    ensures later { IsLater (K.shown sink.old) (K.shown sink.new) }
+{
+    write_framed::<Frames, K>(frames, sink)
 }

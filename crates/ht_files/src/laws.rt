@@ -1,6 +1,6 @@
 //! What holds of files of frames and of files of symbols.
-ghost use Rattle.std.specs.Prelude.{◌≡◌, ℕ, List, [], ◌++◌};
-ghost use Rattle.ht_fields.specs.Cases.{IsFile};
+ghost use Rattle.std.specs.Prelude.{◌≡◌, List};
+ghost use Rattle.ht_fields.specs.FormatLaws.{IsPrefixFree, ReadsBack, WritesFiles};
 ghost use Rattle.ht_tx.specs.Frames.{FrameView};
 ghost use Rattle.ht_files.specs.Frames.{frames as frames_format};
 ghost use Rattle.ht_files.specs.Files.{AreFrames, frames_file_of};
@@ -11,39 +11,32 @@ ghost use Rattle.ht_tx.specs.Transmitted.{AreTransmitted};
 
 /// No file is a prefix of another, and equal files have equal frames.
 pub fn no_prefix()
-    ensures prefix { (octets more : List ℕ) (frames others : List FrameView)
-        → IsFile frames_format octets frames → IsFile frames_format (octets ++ more) others → more ≡ [] }
-    ensures equal { (octets : List ℕ) (frames others : List FrameView)
-        → IsFile frames_format octets frames → IsFile frames_format octets others → frames ≡ others }
+    ensures { IsPrefixFree frames_format }
 {}
 
 /// The file written of frames is a file, and holds these frames.
 pub fn written()
-    ensures { (frames : List FrameView) → AreFrames frames → IsFile frames_format (frames_file_of frames) frames }
+    ensures { WritesFiles frames_format AreFrames frames_file_of }
 {}
 
 /// Frames of which the same file is written are the same: what is read of a file that was written are its frames.
 pub fn read_back()
-    ensures { (frames others : List FrameView) → AreFrames frames → AreFrames others → frames_file_of frames ≡ frames_file_of others → frames ≡ others }
+    ensures { ReadsBack AreFrames frames_file_of }
 {}
 
 /// No file of symbols is a prefix of another, and equal files have equal symbols.
 pub fn no_symbols_prefix()
-    ensures prefix { (octets more : List ℕ) (frames others : List SymbolsView)
-        → IsFile symbols_format octets frames → IsFile symbols_format (octets ++ more) others → more ≡ [] }
-    ensures equal { (octets : List ℕ) (frames others : List SymbolsView)
-        → IsFile symbols_format octets frames → IsFile symbols_format octets others → frames ≡ others }
+    ensures { IsPrefixFree symbols_format }
 {}
 
 /// The file written of symbols is a file, and holds these symbols.
 pub fn symbols_written()
-    ensures { (frames : List SymbolsView) → AreSymbolFrames frames → IsFile symbols_format (symbols_file_of frames) frames }
+    ensures { WritesFiles symbols_format AreSymbolFrames symbols_file_of }
 {}
 
 /// Symbols of which the same file is written are the same: what is read of a file that was written are its symbols.
 pub fn symbols_read_back()
-    ensures { (frames others : List SymbolsView) → AreSymbolFrames frames → AreSymbolFrames others
-        → symbols_file_of frames ≡ symbols_file_of others → frames ≡ others }
+    ensures { ReadsBack AreSymbolFrames symbols_file_of }
 {}
 
 /// For a file of frames one file of symbols is sent.

@@ -28,6 +28,6 @@ mod points;
 mod symbols;
 mod writing;
 
-pub use frames::read_frames;
+pub use frames::{read_frames, write_frames};
 pub use symbols::read_symbols;
-pub use writing::{write_frames, write_symbols};
+pub use writing::write_symbols;

@@ -1,66 +1,15 @@
-//! Files of frames and of symbols as they are written.
-ghost use Rattle.std.specs.Prelude.{◌≡◌, ◌≤◌, ◌++◌, [], ◌∷◌, length, flat_map, OnOk, OnErr};
+//! Files of symbols as they are written.
+ghost use Rattle.std.specs.Prelude.{◌≡◌, ◌≤◌, length, OnOk, OnErr};
 ghost use Rattle.ht_io.specs.Devices.{Grows, GrowsByPart, Rose, IsLater};
-ghost use Rattle.ht_heads.specs.Heads.{head_octets};
-ghost use Rattle.ht_files.specs.Files.{frames_file_of, frame_octets};
 ghost use Rattle.ht_files.specs.Points.{point_octets};
 ghost use Rattle.ht_files.specs.SymbolFiles.{symbols_file_of, symbols_octets};
 
-use ht_counted::{Packer, Putter, put_both, put_packed, write_whole};
+use ht_counted::{Packer, Putter, put_packed, write_whole};
 use ht_fields::Chunk;
 use ht_heads::head_of;
 use ht_io::{Failed, Sink};
 use ht_pam::Point;
-use ht_tx::{Frame, Symbols};
-
-// What stands in front of the octets of a frame's PSDU.
-fn front(frame: &Frame) -> [u8; 5]
-    ensures { result ≡ head_octets frame.now.rate (length frame.now.octets) ++ (frame.now.seed ∷ []) }
-{
-    let head = head_of(&frame.rate(), frame.octets().len() as u16);
-    [head[0], head[1], head[2], head[3], frame.seed().value()]
-}
-
-// Puts a frame.
-#[tactic(auto, unfolding(crate::specs::Files::frame_octets))]
-fn put_frame<K: Sink>(frame: &Frame, sink: &mut K) -> Result<(), Failed>
-    ensures grown { OnOk result (Grows (K.shown sink.old) (K.shown sink.new) (frame_octets frame.now)) }
-    ensures steady { OnOk result ((K.shown sink.new).faults ≡ (K.shown sink.old).faults) }
-    ensures part { OnErr result (GrowsByPart (K.shown sink.old) (K.shown sink.new) (frame_octets frame.now)) }
-    ensures cause { OnErr result (Rose (K.shown sink.old) (K.shown sink.new)) }
-    ensures later { IsLater (K.shown sink.old) (K.shown sink.new) }
-{
-    put_both(&front(frame), frame.octets(), sink)
-}
-
-// Frames, put one by one.
-#[derive(Drop)]
-struct Frames;
-
-impl Putter for Frames {
-    type Entry = Frame;
-
-    ghost octets = { frame_octets };
-
-    fn put<K: Sink>(&mut self, frame: &Frame, sink: &mut K) -> Result<(), Failed> {
-        put_frame(frame, sink)
-    }
-}
-
-/// Puts the file of these frames (HTTX). It takes no memory.
-///
-/// Where the sink fails, a part of the file from its front was put.
-#[tactic(auto, unfolding(crate::specs::Files::frames_file_of))]
-pub fn write_frames<K: Sink>(frames: &[Frame], sink: &mut K) -> Result<(), Failed>
-    requires few { length frames.now ≤ 65535 }
-    ensures grown { OnOk result (Grows (K.shown sink.old) (K.shown sink.new) (frames_file_of frames.now)) }
-    ensures steady { OnOk result ((K.shown sink.new).faults ≡ (K.shown sink.old).faults) }
-    ensures part { OnErr result (GrowsByPart (K.shown sink.old) (K.shown sink.new) (frames_file_of frames.now)) }
-    ensures cause { OnErr result (Rose (K.shown sink.old) (K.shown sink.new)) }
-    ensures later { IsLater (K.shown sink.old) (K.shown sink.new) }
-{
-    write_whole(b"HTTX", frames, &mut Frames, sink)
-}
+use ht_tx::Symbols;
 
 // The octets of a point.
 fn octets_of_point(point: &Point) -> [u8; 2]

@@ -50,7 +50,7 @@ module _ {B V : Type 0} (h : HeadedFormat B V) (rate : V → Rate) (size : V →
   pub same_state : (s t : HeadState B) (rest : List ℕ) → s ≡ t → Wrote_file t rest → Wrote_file s rest
   same_state = wrote_as (headed h) whole Fit Wrote_head
 
-  whole_frame : (left : ℕ) (octets : List ℕ) → Wrote_head (Bandwidth left) octets → FrameTail left (λ v. head_octets (rate v) (size v)) (λ v. Unit {0}) octets
+  pub whole_frame : (left : ℕ) (octets : List ℕ) → Wrote_head (Bandwidth left) octets → FrameTail left (λ v. head_octets (rate v) (size v)) (λ v. Unit {0}) octets
   whole_frame left octets t = t
 
   pub frames_back : (left : ℕ) (octets : List ℕ) → Wrote_file (frame_due left) octets → EntriesTail (headed h) whole Fit Wrote_head left octets

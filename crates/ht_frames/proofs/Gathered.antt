@@ -1,5 +1,5 @@
 -- The hit of one more job is taken where the results of whole frames are still to be booked.
-use Rattle.std.proofs.Common.{◌≡◌, ◌≤◌, List, [], ◌∷◌, ◌++◌, Result, Ok, Err, OnErr, OnOk, map, length}
+use Rattle.std.proofs.Common.{◌≡◌, ◌≤◌, ℕ, List, [], ◌∷◌, ◌++◌, Result, Ok, Err, OnErr, OnOk, map, length}
 use Rattle.std.specs.Prelude.{IfErr, Bool, true}
 use Rattle.std.proofs.Common.{arith, refl, sym, ap, ◌∙◌, subst, append-nil, append_assoc}
 use Rattle.std.proofs.lemmas.List.{map-append}
@@ -11,7 +11,7 @@ use Rattle.ht_feed.specs.declared.book_fault.BookFault.{BookFault}
 use Rattle.ht_feed.specs.declared.book_fault.BookFault.TheVariants.{Failed}
 use Rattle.ht_feed.specs.Accounts.{PutsBlock, PutsPartOf}
 use Rattle.ht_feed.specs.Items.{Headed}
-use Rattle.ht_frames.specs.Gathering.{BooksFirst, WaitForJobs, behind_one, booked_behind, booked_whole, finished}
+use Rattle.ht_frames.specs.Gathering.{BooksFirst, BooksJobs, WaitForJobs, behind_one, booked_behind, booked_whole, finished}
 
 -- where the book failed behind others that didn't, it failed
 pub failed_behind : {P : Type 0} (result : Result (Unit {0}) BookFault) (a b c : Device P) → IsLater a b
@@ -126,9 +126,18 @@ module _ {W T P : Type 0} (result_of : W → T) (booked : T → List P) where
       comes : (more : List (Headed H)) → booked_behind result_of booked whole before (hs ++ more) ≡ booked_behind result_of booked whole (behind_one one mid) more
       comes more = ap (λ (rs : List T). flat_map booked (map result_of whole ++ rs)) (goes more ∙ ap (λ (b : Bool). finished b one ++ mid more) is)
 
-      pub part_whole : PutsPartOf a b (booked_behind result_of booked whole (behind_one one mid)) []
+      part_whole : PutsPartOf a b (booked_behind result_of booked whole (behind_one one mid)) []
           → PutsPartOf a b (booked_behind result_of booked whole before) hs
       part_whole part = λ more. subst (λ (ps : List P). GrowsByPart a b ps) (sym (comes more)) (part more)
+
+      pub books_whole : {A : Type 0} {answer : Result A BookFault} {end : List (Headed H) → List P} {lent lent' : List ℕ}
+          → BooksJobs answer a b (booked_behind result_of booked whole (behind_one one mid)) end [] lent lent'
+          → BooksJobs answer a b (booked_behind result_of booked whole before) end hs lent lent'
+      books_whole {answer = answer} books = record {
+        put = ok_as answer (λ puts. (puts.0, puts.1, λ more. comes more ∙ puts.2 more)) books.put;
+        part = err_as answer part_whole books.part;
+        faults = books.faults;
+      }
 
     -- frames under way to which these jobs are the same
     module _ (a b : Device P) (whole : List W) (before same : List (Headed H) → List T) (hs : List (Headed H))
@@ -136,12 +145,14 @@ module _ {W T P : Type 0} (result_of : W → T) (booked : T → List P) where
       alike_behind : (more : List (Headed H)) → booked_behind result_of booked whole same (hs ++ more) ≡ booked_behind result_of booked whole before (hs ++ more)
       alike_behind more = ap (λ (rs : List T). flat_map booked (map result_of whole ++ rs)) (alike more)
 
-      pub puts_alike : (end : List (Headed H) → List P) → PutsBlock a b (booked_behind result_of booked whole same) end hs
-          → PutsBlock a b (booked_behind result_of booked whole before) end hs
-      puts_alike end puts = (puts.0, puts.1, λ more. sym (alike_behind more) ∙ puts.2 more)
-
-      pub part_alike : PutsPartOf a b (booked_behind result_of booked whole same) hs → PutsPartOf a b (booked_behind result_of booked whole before) hs
-      part_alike part = λ more. subst (λ (ps : List P). GrowsByPart a b ps) (alike_behind more) (part more)
+      pub books_alike : {A : Type 0} {answer : Result A BookFault} {end : List (Headed H) → List P} {lent lent' : List ℕ}
+          → BooksJobs answer a b (booked_behind result_of booked whole same) end hs lent lent'
+          → BooksJobs answer a b (booked_behind result_of booked whole before) end hs lent lent'
+      books_alike {answer = answer} books = record {
+        put = ok_as answer (λ puts. (puts.0, puts.1, λ more. sym (alike_behind more) ∙ puts.2 more)) books.put;
+        part = err_as answer (λ part. λ more. subst (λ (ps : List P). GrowsByPart a b ps) (alike_behind more) (part more)) books.part;
+        faults = books.faults;
+      }
 
     -- the hits of a block were taken, and then results are booked that wait
     module _ (a b c : Device P) (start : List (Headed H) → List P) (mid new : List W) (results : List (Headed H) → List T) (hs : List (Headed H))

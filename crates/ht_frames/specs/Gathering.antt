@@ -1,11 +1,12 @@
 -- Whole frames whose results are still to be booked, and what is booked of them and of the frames that are whole later.
-use Rattle.std.specs.Prelude.{◌≡◌, ℕ, Bool, true, false, Result, IfErr, OnOk, List, [], ◌∷◌, ◌++◌, map, slice_get}
+use Rattle.std.specs.Prelude.{◌≡◌, ℕ, Bool, true, false, Result, IfErr, OnErr, OnOk, List, [], ◌∷◌, ◌++◌, map, slice_get}
 use Rattle.std.specs.List.{flat_map}
 use Rattle.std.proofs.Common.{ap, refl, sym, ◌∙◌}
 use Rattle.std.proofs.lemmas.Option.{none-some}
 use Rattle.ht_io.specs.Devices.{Device, Grows, IsLater, Rose}
 use Rattle.ht_feed.specs.declared.book_fault.BookFault.{BookFault}
 use Rattle.ht_feed.specs.declared.book_fault.BookFault.TheVariants.{Failed, NoMemory}
+use Rattle.ht_feed.specs.Accounts.{PutsBlock, PutsPartOf}
 use Rattle.ht_feed.specs.Items.{Headed}
 
 -- behind calls that answered so a fault of a book's device is counted exactly where the answer is Failed, and it is the
@@ -16,6 +17,14 @@ pub record CountsFaults {A P : Type 0} (result : Result A BookFault) (before aft
   pub unfailed : IfErr result (λ fault. fault ≡ NoMemory → after.faults ≡ before.faults)
   pub later : IsLater before after
   pub same : lent' ≡ lent
+
+-- behind calls that answered so the results of these jobs were booked: what was to be booked in all is what was, and then what
+-- still is; where a call failed a part was booked of what was to be
+pub record BooksJobs {A H P : Type 0} (result : Result A BookFault) (before after : Device P) (old new : List (Headed H) → List P) (jobs : List (Headed H))
+    (lent lent' : List ℕ) : Type 0 where
+  pub put : OnOk result (PutsBlock before after old new jobs)
+  pub part : OnErr result (PutsPartOf before after old jobs)
+  pub faults : CountsFaults result before after lent lent'
 
 -- the result of a frame, where its last job came
 abbrev pub finished : {T : Type 0} → Bool → T → List T

@@ -1,10 +1,9 @@
 //! An account that has whole frames decoded while more jobs come.
 ghost use Rattle.std.specs.Prelude.{◌≡◌, ◌-◌, ◌^◌, ◌<◌, ◌≤◌, ◌∷◌, [], true, OnErr, OnOk, drop};
 ghost use Rattle.ht_metric.specs.Jobs.{JobView, near};
-ghost use Rattle.ht_feed.specs.Accounts.{PutsBlock, PutsPartOf};
 ghost use Rattle.ht_feed.specs.Dues.{all_due, due_of, headed_due};
 ghost use Rattle.ht_feed.specs.Items.{headed_of};
-ghost use Rattle.ht_frames.specs.Gathering.{CountsFaults, WaitForJobs, behind_one, booked_behind, none_behind, wait_on};
+ghost use Rattle.ht_frames.specs.Gathering.{BooksJobs, WaitForJobs, behind_one, booked_behind, none_behind, wait_on};
 
 use crate::book::Book;
 use crate::decoding::Decoding;
@@ -22,13 +21,13 @@ use std::sync::Wait;
 use std::thread::Threads;
 
 /// Books the result of each frame in a book, as a [`Receiver`](crate::Receiver) does, and has workers decode whole
-/// frames while it takes more hits.
+/// frames while it takes more answers.
 ///
 /// A frame of 100 octets or more is given to the workers once its last job came ([`Frames`]); a shorter one is decoded by
 /// the caller, at once. Results are booked in order, and that of a frame that the caller decoded as soon as it is the
 /// oldest.
 ///
-/// Behind each hit at most two frames for each worker beside the caller have no booked result, not counting the frame
+/// Behind each block at most two frames for each worker beside the caller have no booked result, not counting the frame
 /// under way, and those with the workers have at most 131,072 octets together. Where one more is whole, it is given to the
 /// workers, and then the caller waits for the oldest ones, and decodes what no worker has begun. As two of the longest
 /// frames have 131,070 octets, there are never more than three of the longest frames, the one under way among them. Where
@@ -40,7 +39,7 @@ pub struct Gatherer<'a, R, U: UnderWay, B> {
     alloc: Global,
     // Where workers find whole frames.
     frames: &'a Frames<U::Whole>,
-    // How many frames are decoded while hits are taken.
+    // How many frames are decoded while answers are taken.
     beside: u8,
     under_way: &'a mut U,
     // The whole frames whose results aren't booked, in order.
@@ -91,35 +90,37 @@ fn another_is_due<R: BlockReader>(due: &HeapCircularBuffer<DueBlock<R>>) -> bool
     }
 }
 
-// The whole frame leaves, and stands behind the others, of which at most `room` are left.
-fn finish_frame<R: Threads + Wait, U: UnderWay, B: Book<<U::Whole as WholeFrame>::Result>>(
-    rt: &R,
+// Who decodes whole frames: the caller at once where `room` is 0, or else workers.
+#[derive(Drop)]
+struct Decoders<'a, R, W: WholeFrame> {
+    rt: &'a R,
     alloc: Global,
+    // Where workers find whole frames.
+    frames: &'a Frames<W>,
+    // How many whole frames are left at most behind each that becomes whole.
     room: usize,
-    frames: &Frames<U::Whole>,
+}
+
+// The whole frame leaves, and stands behind the others.
+fn finish_frame<R: Threads + Wait, U: UnderWay, B: Book<<U::Whole as WholeFrame>::Result>>(
+    by: &Decoders<'_, R, U::Whole>,
     under_way: &mut U,
     queue: &mut VecDeque<Decoding<U::Whole>>,
     book: &mut B,
 ) -> Result<(), BookFault>
     requires whole { U.is_whole under_way.old }
-    ensures put { OnOk result (PutsBlock (B.shown book.old) (B.shown book.new)
+    ensures { BooksJobs result (B.shown book.old) (B.shown book.new)
         (booked_behind U.Whole.result_of B.booked queue.old.items (behind_one (U.comes_to under_way.old) (U.results under_way.old)))
-        (booked_behind U.Whole.result_of B.booked queue.new.items (U.results under_way.new)) []) }
-    ensures part { OnErr result (PutsPartOf (B.shown book.old) (B.shown book.new)
-        (booked_behind U.Whole.result_of B.booked queue.old.items (behind_one (U.comes_to under_way.old) (U.results under_way.old))) []) }
-    ensures faults { CountsFaults result (B.shown book.old) (B.shown book.new) (B.lent book.old) (B.lent book.new) }
+        (booked_behind U.Whole.result_of B.booked queue.new.items (U.results under_way.new)) [] (B.lent book.old) (B.lent book.new) }
 {
-    let frame = under_way.leave(alloc);
-    decode(rt, alloc, frames, queue, frame, room > 0)?;
-    book_frames(rt, frames, room, queue, book)
+    let frame = under_way.leave(by.alloc);
+    decode(by.rt, by.alloc, by.frames, queue, frame, by.room > 0)?;
+    book_frames(by.rt, by.frames, by.room, queue, book)
 }
 
 // Takes what was found for a job of the frame that is under way, or that begins with this head.
 fn take_found<R: Threads + Wait, U: UnderWay, B: Book<<U::Whole as WholeFrame>::Result>>(
-    rt: &R,
-    alloc: Global,
-    room: usize,
-    frames: &Frames<U::Whole>,
+    by: &Decoders<'_, R, U::Whole>,
     under_way: &mut U,
     queue: &mut VecDeque<Decoding<U::Whole>>,
     book: &mut B,
@@ -128,55 +129,15 @@ fn take_found<R: Threads + Wait, U: UnderWay, B: Book<<U::Whole as WholeFrame>::
     found: &Found,
 ) -> Result<(), BookFault>
     requires below { found.now.distance < 2 ^ 66 }
-    ensures put { OnOk result ((job : JobView) → job.place ≡ place → found.now ≡ near job → PutsBlock (B.shown book.old) (B.shown book.new)
+    ensures { (job : JobView) → job.place ≡ place → found.now ≡ near job → BooksJobs result (B.shown book.old) (B.shown book.new)
         (booked_behind U.Whole.result_of B.booked queue.old.items (U.results under_way.old))
-        (booked_behind U.Whole.result_of B.booked queue.new.items (U.results under_way.new)) (headed_of head.now job ∷ [])) }
-    ensures part { OnErr result ((job : JobView) → job.place ≡ place → found.now ≡ near job → PutsPartOf (B.shown book.old) (B.shown book.new)
-        (booked_behind U.Whole.result_of B.booked queue.old.items (U.results under_way.old)) (headed_of head.now job ∷ [])) }
-    ensures faults { CountsFaults result (B.shown book.old) (B.shown book.new) (B.lent book.old) (B.lent book.new) }
+        (booked_behind U.Whole.result_of B.booked queue.new.items (U.results under_way.new)) (headed_of head.now job ∷ []) (B.lent book.old) (B.lent book.new) }
 {
-    if under_way.take(alloc, head, place, found)? {
-        finish_frame(rt, alloc, room, frames, under_way, queue, book)
+    if under_way.take(by.alloc, head, place, found)? {
+        finish_frame(by, under_way, queue, book)
     } else {
         Ok(())
     }
-}
-
-// Takes what was found for the jobs of a block, one by one.
-fn gather_jobs<
-    J: Jobs,
-    A: EachFound,
-    R: Threads + Wait,
-    U: UnderWay,
-    B: Book<<U::Whole as WholeFrame>::Result>,
->(
-    rt: &R,
-    alloc: Global,
-    room: usize,
-    frames: &Frames<U::Whole>,
-    under_way: &mut U,
-    queue: &mut VecDeque<Decoding<U::Whole>>,
-    book: &mut B,
-    head: &U::Head,
-    block: &J,
-    answer: &A,
-) -> Result<(), BookFault>
-    requires right { A.answers answer.now (J.jobs block.now) }
-    ensures put { OnOk result (PutsBlock (B.shown book.old) (B.shown book.new)
-        (booked_behind U.Whole.result_of B.booked queue.old.items (U.results under_way.old))
-        (booked_behind U.Whole.result_of B.booked queue.new.items (U.results under_way.new)) (headed_due (due_of head.now (J.jobs block.now)))) }
-    ensures part { OnErr result (PutsPartOf (B.shown book.old) (B.shown book.new)
-        (booked_behind U.Whole.result_of B.booked queue.old.items (U.results under_way.old)) (headed_due (due_of head.now (J.jobs block.now)))) }
-    ensures faults { CountsFaults result (B.shown book.old) (B.shown book.new) (B.lent book.old) (B.lent book.new) }
-{
-    for at in 0..answer.size(block) {
-        let place = block.place_at(at);
-        let found = answer.found(block, at);
-        take_found(
-            rt, alloc, room, frames, under_way, queue, book, head, place, &found,
-        )?;
-    }
-    Ok(())
 }
 
 /// Takes what a worker made of a block of the frame with this head, as a [`Gatherer`] does that keeps whole frames back: of
@@ -200,19 +161,28 @@ pub fn gather_block<
     answer: &U::Answer,
 ) -> Result<(), BookFault>
     requires right { U.Answer.answers answer.now (J.jobs block.now) }
-    ensures put { OnOk result (PutsBlock (B.shown book.old) (B.shown book.new)
+    ensures { BooksJobs result (B.shown book.old) (B.shown book.new)
         (booked_behind U.Whole.result_of B.booked queue.old.items (U.results under_way.old))
-        (booked_behind U.Whole.result_of B.booked queue.new.items (U.results under_way.new)) (headed_due (due_of head.now (J.jobs block.now)))) }
-    ensures part { OnErr result (PutsPartOf (B.shown book.old) (B.shown book.new)
-        (booked_behind U.Whole.result_of B.booked queue.old.items (U.results under_way.old)) (headed_due (due_of head.now (J.jobs block.now)))) }
-    ensures faults { CountsFaults result (B.shown book.old) (B.shown book.new) (B.lent book.old) (B.lent book.new) }
+        (booked_behind U.Whole.result_of B.booked queue.new.items (U.results under_way.new)) (headed_due (due_of head.now (J.jobs block.now)))
+        (B.lent book.old) (B.lent book.new) }
 {
+    let by = Decoders {
+        rt,
+        alloc,
+        frames,
+        room,
+    };
     match under_way.take_block(alloc, head, block, answer)? {
-        Some(true) => finish_frame(rt, alloc, room, frames, under_way, queue, book),
+        Some(true) => finish_frame(&by, under_way, queue, book),
         Some(false) => Ok(()),
-        None => gather_jobs(
-            rt, alloc, room, frames, under_way, queue, book, head, block, answer,
-        ),
+        None => {
+            for at in 0..answer.size(block) {
+                let place = block.place_at(at);
+                let found = answer.found(block, at);
+                take_found(&by, under_way, queue, book, head, place, &found)?;
+            }
+            Ok(())
+        }
     }
 }
 

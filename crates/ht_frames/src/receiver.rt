@@ -2,10 +2,9 @@
 ghost use Rattle.std.specs.Prelude.{◌≡◌, ◌^◌, ◌<◌, ◌∷◌, [], List, OnErr, OnOk};
 ghost use Rattle.ht_io.specs.Devices.{Grows, GrowsByPart};
 ghost use Rattle.ht_metric.specs.Jobs.{JobView, near};
-ghost use Rattle.ht_feed.specs.Accounts.{PutsBlock, PutsPartOf};
 ghost use Rattle.ht_feed.specs.Dues.{AreHits, due_of, headed_due};
 ghost use Rattle.ht_feed.specs.Items.{Headed, headed_of};
-ghost use Rattle.ht_frames.specs.Gathering.{CountsFaults, booked_in, none_booked};
+ghost use Rattle.ht_frames.specs.Gathering.{BooksJobs, CountsFaults, booked_in, none_booked};
 
 use crate::book::Book;
 use crate::under_way::UnderWay;
@@ -69,11 +68,9 @@ fn take_found<U: UnderWay, B: Book<<U::Whole as WholeFrame>::Result>>(
     found: &Found,
 ) -> Result<(), BookFault>
     requires below { found.now.distance < 2 ^ 66 }
-    ensures put { OnOk result ((job : JobView) → job.place ≡ place → found.now ≡ near job → PutsBlock (B.shown book.old) (B.shown book.new)
-        (booked_in B.booked (U.results under_way.old)) (booked_in B.booked (U.results under_way.new)) (headed_of head.now job ∷ [])) }
-    ensures part { OnErr result ((job : JobView) → job.place ≡ place → found.now ≡ near job → PutsPartOf (B.shown book.old) (B.shown book.new)
-        (booked_in B.booked (U.results under_way.old)) (headed_of head.now job ∷ [])) }
-    ensures faults { CountsFaults result (B.shown book.old) (B.shown book.new) (B.lent book.old) (B.lent book.new) }
+    ensures { (job : JobView) → job.place ≡ place → found.now ≡ near job → BooksJobs result (B.shown book.old) (B.shown book.new)
+        (booked_in B.booked (U.results under_way.old)) (booked_in B.booked (U.results under_way.new)) (headed_of head.now job ∷ [])
+        (B.lent book.old) (B.lent book.new) }
 {
     if under_way.take(alloc, head, place, found)? {
         book_whole(alloc, under_way, book)
@@ -92,11 +89,9 @@ fn take_block<J: Jobs, U: UnderWay, B: Book<<U::Whole as WholeFrame>::Result>>(
     found: &[Found],
 ) -> Result<(), BookFault>
     requires right { AreHits found.now (J.jobs block.now) }
-    ensures put { OnOk result (PutsBlock (B.shown book.old) (B.shown book.new)
-        (booked_in B.booked (U.results under_way.old)) (booked_in B.booked (U.results under_way.new)) (headed_due (due_of head.now (J.jobs block.now)))) }
-    ensures part { OnErr result (PutsPartOf (B.shown book.old) (B.shown book.new)
-        (booked_in B.booked (U.results under_way.old)) (headed_due (due_of head.now (J.jobs block.now)))) }
-    ensures faults { CountsFaults result (B.shown book.old) (B.shown book.new) (B.lent book.old) (B.lent book.new) }
+    ensures { BooksJobs result (B.shown book.old) (B.shown book.new)
+        (booked_in B.booked (U.results under_way.old)) (booked_in B.booked (U.results under_way.new)) (headed_due (due_of head.now (J.jobs block.now)))
+        (B.lent book.old) (B.lent book.new) }
 {
     for at in 0..found.len() {
         let place = block.place_at(at as u16);

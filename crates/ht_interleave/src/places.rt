@@ -9,6 +9,7 @@ use ht_rate::Rate;
 
 /// The place of bit `k` of spatial stream `stream`. Bits and places are numbered from 0 and below `rate.stream_bits()`,
 /// streams from 1 to `rate.streams()`.
+#[tactic(auto, using(crate::proofs::Inverse::brought_back), unfolding(crate::specs::Interleaver::place_of))]
 pub fn place(rate: &Rate, stream: u8, k: u16) -> u16
     requires stream { (1 ≤ stream) × (stream ≤ streams_of rate.now) }
     requires bit { k < stream_bits_of rate.now }
@@ -20,6 +21,7 @@ pub fn place(rate: &Rate, stream: u8, k: u16) -> u16
 }
 
 /// The bit that goes to place `r` of spatial stream `stream`: the inverse of [`place`].
+#[tactic(auto, using(crate::proofs::Inverse::brought_there), unfolding(crate::specs::Interleaver::origin_of))]
 pub fn origin(rate: &Rate, stream: u8, r: u16) -> u16
     requires stream { (1 ≤ stream) × (stream ≤ streams_of rate.now) }
     requires place { r < stream_bits_of rate.now }

@@ -1,9 +1,8 @@
 -- Codewords of a frame: their lengths, distances and joined bits.
 use Rattle.std.proofs.Common.{◌≡◌, ℕ, zero, suc, ◌+◌, ◌-◌, ◌*◌, ◌/◌, ◌%◌, ◌<◌, ◌≤◌, List, length, map, slice_index_or}
-use Rattle.std.proofs.Common.{Bool, false, Option, Result, Ok, Err, refl, sym, ap, ◌∙◌, subst, arith}
+use Rattle.std.proofs.Common.{Bool, false, Option, refl, sym, ap, ◌∙◌, subst, arith}
 use Rattle.std.specs.Prelude.{if◌then◌else◌, ◌==◌, sum}
 use Rattle.std.specs.List.{range_with_len}
-use Rattle.std.specs.Result.{IfOk}
 use Rattle.std.proofs.lemmas.List.{get_or-take, length-take-le}
 use Rattle.std.proofs.lemmas.List.FromFn.{length-map-range_with_len, get_or-map-range_with_len}
 use Rattle.std.proofs.lemmas.Nat.{div-mul-add, mod-mul-add, mod_below, mul-add-lt}
@@ -17,7 +16,7 @@ use Rattle.ht_conv.specs.Puncturing.{sent_count}
 use Rattle.ht_parse.specs.Encoders.{AreShares, IsParsed, list_of}
 use Rattle.ht_parse.proofs.Unique.{parsed-bits}
 use Rattle.ht_viterbi.specs.declared.codeword.Codeword.{Codeword}
-use Rattle.ht_viterbi.specs.Inputs.{IsCheapest, IsDecoded, cost_of, distance, place_cost, tail}
+use Rattle.ht_viterbi.specs.Inputs.{IsFound, cost_of, place_cost, tail}
 use Rattle.ht_viterbi.specs.Decoded.{cheapest}
 use Rattle.ht_viterbi.proofs.Enumerating.{cheapest_is}
 use Rattle.ht_inverse.specs.Received.{received_at, received_of}
@@ -149,13 +148,6 @@ scrambled-is r octets erased labels first second are =
     joined-same r octets (list_of first.input second.input) (input_of r octets erased labels)
     (inputs-are r (codeword_of r octets erased labels) no_codeword first second (λ c. c.input) are)
 
--- told of lists that are their inputs
-pub frame-bits : (r : Rate) (octets erased : ℕ) (labels : List ℕ) (first second : Codeword) (u v : List Bool) → u ≡ first.input → v ≡ second.input
-    → AreCodewords r octets erased labels first second → joined_bits r octets (list_of u v) ≡ scrambled_bits r octets erased labels
-frame-bits r octets erased labels first second u v e f are =
-    ap (λ (x : List Bool). joined_bits r octets (list_of x v)) e
-    ∙ (ap (λ (x : List Bool). joined_bits r octets (list_of first.input x)) f ∙ scrambled-is r octets erased labels first second are)
-
 -- and there are 16 for SERVICE and 8 for each octet
 pub joined-length : (r : Rate) (octets : ℕ) (first second : List Bool) (bits : List Bool) → length first ≡ steps_of r octets
     → IsParsed r bits (untailed first) (untailed second) → length bits ≡ 16 + 8 * octets
@@ -172,15 +164,15 @@ joined-whole r octets first second bits front back joined e f is long same =
 
 -- the cheapest input at given places, with its cost
 pub cheapest-answer : {P : Type 0} (cost : P → Bool → ℕ) (steps s : ℕ) (p q : Pattern) (received places : List P) (input : List Bool) (n : ℕ)
-    → steps ≡ s → p ≡ q → received ≡ places → tail ≤ steps → IsCheapest cost steps p received input → n ≡ cost_of cost p received input
+    → steps ≡ s → p ≡ q → received ≡ places → tail ≤ steps → IsFound cost steps p received input n
     → (input ≡ cheapest cost s q places) × (n ≡ cost_of cost q places (cheapest cost s q places))
-cheapest-answer {P} cost steps s p q received places input n steps_are p_is received_is some is costs =
+cheapest-answer {P} cost steps s p q received places input n steps_are p_is received_is some found =
     let answer : input ≡ cheapest cost s q places =
-    sym (cheapest_is cost steps p received input some is)
+    sym (cheapest_is cost steps p received input some found.input)
     ∙ (ap (λ (m : ℕ). cheapest cost m p received) steps_are
     ∙ (ap (λ (z : Pattern). cheapest cost s z received) p_is ∙ ap (λ (v : List P). cheapest cost s q v) received_is)) in (
       answer,
-      costs
+      found.distance
           ∙ (ap (λ (z : Pattern). cost_of cost z received input) p_is
           ∙ (ap (λ (v : List P). cost_of cost q v input) received_is ∙ ap (λ (u : List Bool). cost_of cost q places u) answer)),
     )
@@ -188,18 +180,13 @@ cheapest-answer {P} cost steps s p q received places input n steps_are p_is rece
 -- what is decoded is the codeword of its encoder
 pub codeword-is : (r : Rate) (octets erased j steps : ℕ) (labels : List ℕ) (p : Pattern) (received : List (Option Bool)) (c : Codeword)
     → steps ≡ steps_of r octets → p ≡ pattern_of r → received ≡ received_of r octets erased labels j → tail ≤ steps
-    → IsDecoded steps p received c.input → c.distance ≡ distance p received c.input → c ≡ codeword_of r octets erased labels j
+    → IsFound place_cost steps p received c.input c.distance → c ≡ codeword_of r octets erased labels j
 unfolding codeword_of input_of distance_at
-codeword-is r octets erased j steps labels p received c steps_are p_is received_is some is far =
+codeword-is r octets erased j steps labels p received c steps_are p_is received_is some found =
     let answer = cheapest-answer place_cost steps (steps_of r octets) p (pattern_of r) received (received_of r octets erased labels j) c.input c.distance
-    steps_are p_is received_is some is far in
+    steps_are p_is received_is some found in
     let made : List Bool → ℕ → Codeword = λ u n. record { input = u; distance = n } in
     ap (λ u. made u c.distance) answer.0 ∙ ap (λ n. made (input_of r octets erased labels j) n) answer.1
-
--- two facts of a value give a third
-pub both-ok : {X Y : Type 0} (result : Result X Y) (P Q R : X → Type 0) → ((x : X) → P x → Q x → R x) → IfOk result P → IfOk result Q → IfOk result R
-both-ok (Ok x) P Q R rule p q = rule x p q
-both-ok (Err e) P Q R rule p q = tt
 
 -- what is counted of the encoders together
 pub counted-together : {X : Type 0} (r : Rate) (e : ℕ) (each : ℕ → X) (none first second : X) (count : X → ℕ) → encoders_of r ≡ e → count none ≡ 0

@@ -8,7 +8,7 @@ ghost use Rattle.ht_inverse.specs.Shares.{AreCodewords, untailed};
 use crate::decoded::Decoded;
 use crate::octets::Octets;
 use crate::outcome::Outcome;
-use ht_bits::bits_to_octets;
+use ht_bits::{Bits, bits_to_octets};
 use ht_parse::join_encoders;
 use ht_rate::Rate;
 use ht_scramble::{recover, scramble};
@@ -49,10 +49,11 @@ pub fn come_to(alloc: Global, bits: &mut [bool]) -> Result<Outcome, AllocError>
 }
 
 // An input without its tail.
-fn without_tail(input: &[bool]) -> &[bool]
+fn without_tail(input: &Bits) -> &[bool]
     ensures { result.now ≡ untailed input.now }
 {
-    &input[..input.len().saturating_sub(TAIL)]
+    let bits = input.as_slice();
+    &bits[..bits.len().saturating_sub(TAIL)]
 }
 
 /// What the inputs of a frame's encoders come to, each with its tail of six bits. Where the rate has one encoder, `second`
@@ -63,8 +64,8 @@ pub fn inputs_come_to(
     alloc: Global,
     rate: &Rate,
     octets: u16,
-    first: &[bool],
-    second: &[bool],
+    first: &Bits,
+    second: &Bits,
 ) -> Result<Outcome, AllocError>
     requires first { length first.now ≡ steps_of rate.now octets }
     requires second { length second.now ≡ (encoders_of rate.now - 1) * steps_of rate.now octets }
@@ -88,13 +89,7 @@ pub(crate) fn frame_of(
     ensures { (erased : ℕ) (labels : List ℕ) → AreCodewords rate.now octets erased labels first second
         → IfOk result (λ frame. frame ≡ decoded_frame rate.now octets erased labels) }
 {
-    let outcome = inputs_come_to(
-        alloc,
-        rate,
-        octets,
-        first.input.as_slice(),
-        second.input.as_slice(),
-    )?;
+    let outcome = inputs_come_to(alloc, rate, octets, &first.input, &second.input)?;
     Ok(Decoded {
         outcome,
         code: first.distance + second.distance,

@@ -4,8 +4,8 @@ use Rattle.std.specs.Prelude.{IfNone, IfSome}
 use Rattle.std.proofs.Common.{refl, ap, ◌∙◌, sym, subst, arith}
 use Rattle.std.proofs.lemmas.Bool.{false≢true}
 use Rattle.ht_metric.specs.Jobs.{JobView}
-use Rattle.ht_lanes.specs.Lanes.{AllLead, AreOver, HasFewDue, HaveFewDue, OneMoreAt, SameBook, SameBooks, Side, Sides, side_of, sides_of}
-use Rattle.ht_lanes.specs.Leading.{all-on, all-one, other_number, same_number}
+use Rattle.ht_lanes.specs.Lanes.{AreOver, HasFewDue, HaveFewDue, OneLeads, OneMoreAt, SameBook, SameBooks, Side, Sides}
+use Rattle.ht_lanes.specs.Leading.{other_number, same_number}
 
 -- what is said of an answer that is there, and of one that isn't
 pub some_so : {X : Type 0} (o : Option X) (x : X) (P : X → Type 0) → o ≡ Some x → IfSome o P → P x
@@ -68,52 +68,14 @@ module _ {L : Type 0} (b c : List L) (at : ℕ) (others : (l : L) (k : ℕ) → 
         → (l : L) (k : ℕ) → from ≤ k → k < at + 1 → over (get_or c k l) ≡ true
     over_none from before l k high low = over_as from before (nat_eq k at) l k refl high low
 
--- one lane and its source went on, behind what all did before
-pub leads_asked : {L S K : Type 0} (leads : Side L S K → Side L S K → Type 0) → ((a : Side L S K) → leads a a)
-    → ((a b c : Side L S K) → leads a b → leads b c → leads a c) → (a : Sides L S K) (b c : List L) (r q : List S) (sinks : List K) (at : ℕ)
-    → AllLead leads a (sides_of b r sinks) → length c ≡ length b → length q ≡ length r
-    → ((l : L) (k : ℕ) → k ≢ at → get_or c k l ≡ get_or b k l) → ((s : S) (k : ℕ) → k ≢ at → get_or q k s ≡ get_or r k s)
-    → ((l : L) (s : S) (sink : K) → leads (side_of (get_or b at l) (get_or r at s) sink) (side_of (get_or c at l) (get_or q at s) sink))
-    → AllLead leads a (sides_of c q sinks)
-leads_asked leads stays goes_on a b c r q sinks at before lanes sources others apart here =
-    all-on leads stays goes_on a (sides_of b r sinks) (sides_of c q sinks) before
-    (all-one leads stays goes_on (sides_of b r sinks) (sides_of c q sinks) at (record {
-      lanes = lanes;
-      sources = sources;
-      sinks = refl;
-      other_lanes = others;
-      other_sources = apart;
-      other_sinks = λ t k far. refl;
-      here = λ l s t. here l s (get_or sinks at t);
-    }))
-
--- one lane and its sink went on
-pub leads_settled : {L S K : Type 0} (leads : Side L S K → Side L S K → Type 0) → ((a : Side L S K) → leads a a)
-    → ((a b c : Side L S K) → leads a b → leads b c → leads a c) → (b c : List L) (sources : List S) (r q : List K) (at : ℕ)
-    → length c ≡ length b → length q ≡ length r
-    → ((l : L) (k : ℕ) → k ≢ at → get_or c k l ≡ get_or b k l) → ((t : K) (k : ℕ) → k ≢ at → get_or q k t ≡ get_or r k t)
-    → ((l : L) (source : S) (t : K) → leads (side_of (get_or b at l) source (get_or r at t)) (side_of (get_or c at l) source (get_or q at t)))
-    → AllLead leads (sides_of b sources r) (sides_of c sources q)
-leads_settled leads stays goes_on b c sources r q at lanes sinks others apart here =
-    all-one leads stays goes_on (sides_of b sources r) (sides_of c sources q) at (record {
-      lanes = lanes;
-      sources = refl;
-      sinks = sinks;
-      other_lanes = others;
-      other_sources = λ s k far. refl;
-      other_sinks = apart;
-      here = λ l s t. here l (get_or sources at s) t;
-    })
-
--- lanes that were over still are
-pub over_settled : {L : Type 0} (over : L → Bool) (b c : List L) (at : ℕ) → length c ≡ length b
-    → ((l : L) (k : ℕ) → k ≢ at → get_or c k l ≡ get_or b k l) → ((l : L) → over (get_or b at l) ≡ true → over (get_or c at l) ≡ true)
-    → AreOver over 0 b → AreOver over 0 c
-over_settled {L = L} over b c at as_many others here all l k high low =
-    still (nat_eq k at) refl (all l k high (subst (λ (n : ℕ). k < n) as_many low))
+-- lanes that were over still are where one of them did something
+pub over_settled : {L S K : Type 0} {does : Side L S K → Side L S K → Type 0} (over : L → Bool) {b c : Sides L S K} {at : ℕ} → OneLeads does b c at
+    → ((l : L) → over (get_or b.lanes at l) ≡ true → over (get_or c.lanes at l) ≡ true) → AreOver over 0 b.lanes → AreOver over 0 c.lanes
+over_settled over {b = b} {c = c} {at = at} one here all l k high low =
+    still (nat_eq k at) refl (all l k high (subst (λ (n : ℕ). k < n) one.lanes low))
   where
-    still : (t : Bool) → nat_eq k at ≡ t → over (get_or b k l) ≡ true → over (get_or c k l) ≡ true
+    still : (t : Bool) → nat_eq k at ≡ t → over (get_or b.lanes k l) ≡ true → over (get_or c.lanes k l) ≡ true
     still true e was =
         let is = same_number at k e in
-        ap (λ (n : ℕ). over (get_or c n l)) is ∙ here l (ap (λ (n : ℕ). over (get_or b n l)) (sym is) ∙ was)
-    still false e was = ap over (others l k (other_number at k e)) ∙ was
+        ap (λ (n : ℕ). over (get_or c.lanes n l)) is ∙ here l (ap (λ (n : ℕ). over (get_or b.lanes n l)) (sym is) ∙ was)
+    still false e was = ap over (one.other_lanes l k (other_number at k e)) ∙ was

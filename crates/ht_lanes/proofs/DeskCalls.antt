@@ -1,24 +1,24 @@
 -- What the calls of a lane over a desk lead to.
-use Rattle.std.specs.Prelude.{◌≡◌, ℕ, List, [], ◌∷◌, ◌++◌, Option, Some, None, true, false, is_some, Result, Ok, Err, OnErr, OnOk}
+use Rattle.std.specs.Prelude.{◌≡◌, ℕ, List, [], ◌∷◌, ◌++◌, drop, take, Option, Some, None, true, false, is_some, Result, Ok, Err, OnErr, OnOk}
 use Rattle.std.proofs.Common.{refl, ap, ◌∙◌, sym, subst, arith, append-nil}
 use Rattle.std.proofs.lemmas.Bool.{false≢true}
-use Rattle.ht_io.specs.Devices.{Device, IsLater, Rose}
+use Rattle.ht_io.specs.Devices.{Device}
 use Rattle.ht_io.proofs.Calls.{later-refl}
 use Rattle.ht_fields.specs.Meanings.{Meaning}
 use Rattle.ht_metric.specs.Jobs.{JobView}
 use Rattle.ht_feed.specs.declared.stop.Stop.{Stop}
 use Rattle.ht_feed.specs.declared.book_fault.BookFault.{BookFault}
-use Rattle.ht_feed.specs.declared.book_fault.BookFault.TheVariants.{Failed, NoMemory}
-use Rattle.ht_feed.specs.Accounts.{PutsBlock, PutsPartOf, Telling}
+use Rattle.ht_feed.specs.Accounts.{Telling}
 use Rattle.ht_feed.specs.Items.{Item, Headed}
 use Rattle.ht_feed.specs.Dues.{Due, all_due, jobs_in}
 use Rattle.ht_feed.specs.Desks.{AddsBlock, DeskView, ReadsMore, standing}
 use Rattle.ht_feed.specs.Leading.{reads_none, tells-none}
 use Rattle.ht_feed.specs.Reading.{Counts}
-use Rattle.ht_feed.specs.Telling.{Tells, TellsPart, seen_by}
+use Rattle.ht_feed.specs.Telling.{Seen, Tells, TellsBy, seen_by}
 use Rattle.ht_feed.proofs.Filling.{jobs_in-append}
-use Rattle.ht_feed.proofs.Leads.{tells_given}
-use Rattle.ht_lanes.specs.DeskLanes.{is_over}
+use Rattle.ht_feed.proofs.Leads.{ill, tells_given, tells_refused, tells_taken, well}
+use Rattle.ht_lanes.specs.Bookings.{BooksHits}
+use Rattle.ht_lanes.specs.DeskLanes.{is_over, lane_told}
 
 -- a lane that goes on neither failed nor stopped
 pub goes : (failed : Option BookFault) (stop : Option Stop) → is_over failed stop ≡ false → (failed ≡ None) × (stop ≡ None)
@@ -46,42 +46,65 @@ module _ {R H : Type 0} (means : R → List ℕ → Meaning (Item H)) (at : R �
       (subst (λ (s : Device ℕ). Tells (seen_by means at old source account) (seen_by means at old s account)) (sym lacks.1)
       (tells-none (seen_by means at old source account)))
 
-  module _ {P : Type 0} (desk : DeskView R H) (source : Device ℕ) (a b : Telling H P) (later : IsLater a.device b.device) where
-    -- what was kept back was put
-    pub finished : PutsBlock a.device b.device a.pieces b.pieces [] → (a.Waits (all_due desk.due) → b.Waits (all_due desk.due))
-        → b.device.faults ≡ a.device.faults → Tells (seen_by means at desk source a) (seen_by means at desk source b)
-    finished puts waits steady = record {
-      items = [];
-      taken = [];
-      put = puts.0;
-      reads = reads_none (standing means at desk.reader desk.stop source);
-      head = refl;
-      jobs = append-nil (all_due desk.due);
-      first = puts.2;
-      grows = puts.1;
-      waits = waits;
-      steady = steady;
-      frames = omega arith;
-      count = omega arith;
-      reads_later = later-refl source;
-      puts_later = later;
-    }
+  -- what a booking puts in all is told by its pieces; one that did not fail before was called
+  module _ {A : Type 0} (pieces : A → List (Headed H) → List ℕ) (x y : A) (desk : DeskView R H) (source before after : Device ℕ) (failed : Option BookFault)
+      (none : failed ≡ None) where
+    abbrev seen : DeskView R H → Device ℕ → A → Seen H ℕ
+    seen d device booking = seen_by means at d source (lane_told pieces booking device)
+
+    -- it took the hits of the first block
+    pub took : {B : Type 0} {b : B} (new : DeskView R H) → new ≡ record desk { due = drop 1 desk.due }
+        → BooksHits (Ok b) before after (pieces x) (pieces y) (all_due (take 1 desk.due)) → TellsBy failed failed (seen desk before x) (seen new after y)
+    took new is books =
+        well failed failed (seen desk before x) (seen new after y) none refl
+        (tells_taken means at desk new source (lane_told pieces x before) (lane_told pieces y after) is books.put (λ w. tt) books.later books.steady)
+
+    -- it could not put their pieces, or not make them
+    pub took_none : {B : Type 0} {fault : BookFault} (new : DeskView R H) → new ≡ desk
+        → BooksHits {A = B} (Err fault) before after (pieces x) (pieces y) (all_due (take 1 desk.due))
+        → TellsBy failed (Some fault) (seen desk before x) (seen new after y)
+    took_none {fault = fault} new is books =
+        ill failed (seen desk before x) (seen new after y) fault none
+        (tells_refused means at desk new source (lane_told pieces x before) (lane_told pieces y after) fault is books.part books.later books.cause
+        books.unfailed)
+
+    -- it put what was kept back
+    pub finished : {B : Type 0} {b : B} → BooksHits (Ok b) before after (pieces x) (pieces y) []
+        → TellsBy failed failed (seen desk before x) (seen desk after y)
+    finished books =
+        well failed failed (seen desk before x) (seen desk after y) none refl (record {
+          items = [];
+          taken = [];
+          put = books.put.0;
+          reads = reads_none (standing means at desk.reader desk.stop source);
+          head = refl;
+          jobs = append-nil (all_due desk.due);
+          first = books.put.2;
+          grows = books.put.1;
+          waits = λ w. tt;
+          steady = books.steady;
+          frames = omega arith;
+          count = omega arith;
+          reads_later = later-refl source;
+          puts_later = books.later;
+        })
 
     -- not all of it could be put, or made
-    pub unfinished : (fault : BookFault) → PutsPartOf a.device b.device a.pieces [] → (fault ≡ Failed → Rose a.device b.device)
-        → (fault ≡ NoMemory → b.device.faults ≡ a.device.faults) → TellsPart (seen_by means at desk source a) (seen_by means at desk source b) fault
-    unfinished fault part cause steady = record {
-      items = [];
-      taken = [];
-      rest = all_due desk.due;
-      reads = reads_none (standing means at desk.reader desk.stop source);
-      jobs = append-nil (all_due desk.due);
-      part = part;
-      reads_later = later-refl source;
-      puts_later = later;
-      cause = cause;
-      steady = steady;
-    }
+    pub unfinished : {B : Type 0} {fault : BookFault} → BooksHits {A = B} (Err fault) before after (pieces x) (pieces y) []
+        → TellsBy failed (Some fault) (seen desk before x) (seen desk after y)
+    unfinished {fault = fault} books =
+        ill failed (seen desk before x) (seen desk after y) fault none (record {
+          items = [];
+          taken = [];
+          rest = all_due desk.due;
+          reads = reads_none (standing means at desk.reader desk.stop source);
+          jobs = append-nil (all_due desk.due);
+          part = books.part;
+          reads_later = later-refl source;
+          puts_later = books.later;
+          cause = books.cause;
+          steady = books.unfailed;
+        })
 
 -- a block more is due
 pub one_more_due : {R H : Type 0} (counts : R → Counts) (most : ℕ) (old new : DeskView R H) (jobs : List JobView) → AddsBlock counts most old new jobs

@@ -2,9 +2,8 @@
 use Rattle.std.proofs.Common.{◌≡◌, ◌≢◌, ℕ, ◌+◌, ◌<◌, List, length, get_or, Bool, true, false, nat_eq}
 use Rattle.std.proofs.Common.{refl, ◌∙◌, sym, subst, arith}
 use Rattle.ht_metric.specs.Jobs.{JobView}
-use Rattle.ht_lanes.specs.Lanes.{AllLead, AreFinished, AreOver, HaveNone, Side, Sides, side_of, sides_of}
-use Rattle.ht_lanes.specs.Leading.{all-on, other_number, same_number}
-use Rattle.ht_lanes.proofs.Asked.{leads_settled}
+use Rattle.ht_lanes.specs.Lanes.{AreFinished, AreOver, HaveNone}
+use Rattle.ht_lanes.specs.Leading.{other_number, same_number}
 
 module _ {L : Type 0} (due : L → List (List JobView)) (rests over : L → Bool) (finished : L → Type 0) where
   -- a lane that still takes answers took some, and waits for the same ones; one that was over is
@@ -55,14 +54,3 @@ module _ {L : Type 0} (due : L → List (List JobView)) (rests over : L → Bool
 
     pub still_none : HaveNone due rests a → HaveNone due rests b
     still_none had = λ l k few is. (so.each l k).waits ∙ had l k (omega (arith, few, as_many)) ((so.each l k).takes is)
-
--- one lane and its sink went on, behind what all did before
-pub leads_finished : {L S K : Type 0} (leads : Side L S K → Side L S K → Type 0) (stays : (a : Side L S K) → leads a a)
-    (goes_on : (a b c : Side L S K) → leads a b → leads b c → leads a c) (a : Sides L S K) (b c : List L) (sources : List S) (r q : List K) (at : ℕ)
-    → AllLead leads a (sides_of b sources r) → length c ≡ length b → length q ≡ length r
-    → ((l : L) (k : ℕ) → k ≢ at → get_or c k l ≡ get_or b k l) → ((t : K) (k : ℕ) → k ≢ at → get_or q k t ≡ get_or r k t)
-    → ((l : L) (source : S) (t : K) → leads (side_of (get_or b at l) source (get_or r at t)) (side_of (get_or c at l) source (get_or q at t)))
-    → AllLead leads a (sides_of c sources q)
-leads_finished leads stays goes_on a b c sources r q at before lanes sinks others apart here =
-    all-on leads stays goes_on a (sides_of b sources r) (sides_of c sources q) before
-    (leads_settled leads stays goes_on b c sources r q at lanes sinks others apart here)

@@ -33,10 +33,10 @@ module _ {R H P : Type 0} (means : R → List ℕ → Meaning (Item H)) (at : R 
   abbrev Came : Result Ended StopFault → Type 0
   Came result = Comes means at reader head source source' a b result
 
-  -- a call failed so
-  ill : (fault : BookFault) → TellsBy None (Some fault) first last
-      → Heard means at reader head source source' a b new (Some fault) (driven_so (Some fault))
-  ill fault told = record {
+  -- a call failed so, seen by any account in front of a device
+  ill : (account : Telling H P) (fault : BookFault) → TellsPart first (seen_by means at new source' account) fault
+      → Heard means at reader head source source' a account new (Some fault) (driven_so (Some fault))
+  ill account fault told = record {
     leads = told;
     ended = tt;
     taken = tt;
@@ -62,19 +62,6 @@ module _ {R H P : Type 0} (means : R → List ℕ → Meaning (Item H)) (at : R 
   abbrev silent : Telling H P
   silent = record { device = b.device; pieces = λ jobs. []; Waits = λ due. Unit {0} }
 
-  -- the same of any account in front of the same device
-  ill_silent : (fault : BookFault) → TellsPart first (seen_by means at new source' silent) fault
-      → Heard means at reader head source source' a silent new (Some fault) (driven_so (Some fault))
-  ill_silent fault told = record {
-    leads = told;
-    ended = tt;
-    taken = tt;
-    well = tt;
-    fault = λ f is. ap (λ (r : Result (Unit {0}) (DriveFault BookFault)). failed_by r) is;
-    lacking = λ is. ap (λ (r : Result (Unit {0}) (DriveFault BookFault)). failed_by r) is;
-    worked = λ is. ap (λ (r : Result (Unit {0}) (DriveFault BookFault)). failed_by r) is;
-  }
-
   unheard : (fault : BookFault) → TellsPart first last fault → TellsPart first (seen_by means at new source' silent) fault
   unheard fault told = record {
     items = told.items;
@@ -93,7 +80,7 @@ module _ {R H P : Type 0} (means : R → List ℕ → Meaning (Item H)) (at : R 
   failed_ends : (fault : BookFault) → a.Waits [] → TellsPart first last fault → Came (ended_so (Some fault) new.stop new.frames new.count)
   failed_ends fault rests told =
       heard means at reader head source source' a silent new (Some fault) (driven_so (Some fault)) (ended_so (Some fault) new.stop new.frames new.count)
-      (ill_silent fault (unheard fault told)) rests (λ w. refl) refl
+      (ill silent fault (unheard fault told)) rests (λ w. refl) refl
 
   -- memory lacked elsewhere, and what was kept back is lost
   lacks_elsewhere : Tells first last → TellsPart first last NoMemory
@@ -132,7 +119,7 @@ module _ {R H P : Type 0} (means : R → List ℕ → Meaning (Item H)) (at : R 
       → (is_some failed ≡ false → jobs_in new.due ≡ []) → ended_so failed new.stop new.frames new.count ≢ Err Write → b.device.faults ≡ a.device.faults
   lane_steady (Some fault) told over none =
       steady means at reader head source source' a b new (Some fault) (driven_so (Some fault)) (ended_so (Some fault) new.stop new.frames new.count)
-      (ill fault told) refl
+      (ill b fault told) refl
   lane_steady None told over none =
       steady means at reader head source source' a b new None (driven_so None) (ended_so None new.stop new.frames new.count) (well told over (none refl)) refl
 

@@ -1,5 +1,5 @@
 -- Jobs under other numbers are the same jobs.
-use Rattle.std.proofs.Common.{◌≡◌, ℕ, zero, suc, ◌+◌, List, [], ◌∷◌, map, slice_get, Option, Some, refl, ap, ◌∙◌, sym}
+use Rattle.std.proofs.Common.{◌≡◌, ℕ, zero, suc, ◌+◌, List, [], ◌∷◌, length, map, slice_get, Option, Some, refl, ap, ◌∙◌, sym}
 use Rattle.std.specs.Option.{option_map}
 use Rattle.ht_metric.specs.Jobs.{JobView, near}
 use Rattle.ht_metric.specs.declared.found.Found.{Found}
@@ -7,7 +7,8 @@ use Rattle.ht_metric.specs.declared.place.Place.{Place}
 use Rattle.ht_feed.specs.Items.{Numbered}
 use Rattle.ht_feed.specs.Dues.{IsPlaceAt, StartsAt}
 use Rattle.ht_feed.specs.Numbers.{numbered, with_number}
-use Rattle.ht_feed.proofs.Numbering.{get_numbered}
+use Rattle.ht_feed.proofs.Numbering.{get_numbered, length_numbered}
+use Rattle.ht_lanes.specs.Lanes.{LaneJobs, whole_jobs}
 
 numbered-again : (m n : ℕ) (jobs : List JobView) → numbered m (numbered n jobs) ≡ numbered m jobs
 numbered-again m n [] = refl
@@ -45,3 +46,7 @@ pub place_at : (n : ℕ) (place : Place) (jobs : List JobView) (at : ℕ) → Is
 place_at n place [] at is = is
 place_at n place (job ∷ jobs) zero is = is
 place_at n place (job ∷ jobs) (suc at) is = place_at (n + 1) place jobs at is
+
+-- a block, as it stands inside, has as many jobs as contracts see
+pub as_many_jobs : (inside seen : LaneJobs) → inside ≡ seen → length inside.jobs ≡ length (whole_jobs seen)
+as_many_jobs inside seen is = ap (λ (b : LaneJobs). length b.jobs) is ∙ sym (length_numbered seen.first seen.jobs)

@@ -1,5 +1,6 @@
 -- Several lanes at one moment: what gives blocks, and the blocks that are due, of which each is of one of them.
 use Rattle.std.specs.Prelude.{◌≡◌, ◌≢◌, ℕ, ◌++◌, ◌+◌, ◌-◌, ◌^◌, ◌<◌, ◌≤◌, List, [], ◌∷◌, map, length, slice_get, slice_index_or, Option, Some, None, Bool, true, false, nat_eq, if◌then◌else◌}
+use Rattle.std.specs.Prelude.{Result, IfNone, IfOk, IfSome, OnErr, OnOk}
 use Rattle.ht_metric.specs.Jobs.{JobView}
 use Rattle.ht_feed.specs.Items.{Numbered}
 use Rattle.ht_feed.specs.Dues.{count_in}
@@ -166,3 +167,27 @@ module _ {L : Type 0} (due : L → List (List JobView)) (rests over : L → Bool
     pub sinks_are : sinks ≡ length lanes
     pub rings : IsBooked due rests lanes ring
     pub ends : ended ≡ true → AreOver over 0 lanes
+
+-- Of so many lanes, of which blocks are due, those from one number on were asked in turn for a block of at most so many jobs. So many jobs had been
+-- given before. Answered was the number of a lane and its block, or none; and these are the lanes then, and the blocks due.
+pub record GivesNext {L E : Type 0} (ends : L → Bool) (count from most given : ℕ) (lanes : List L) (ring ring' : List DueOf)
+    (result : Result (Option (ℕ × LaneJobs)) E) : Type 0 where
+  pub lane : IfOk result (λ asked. IfSome asked (λ a. a.0 < count))
+  pub due : IfOk result (λ asked. IfSome asked (λ a. ring' ≡ ring ++ due_of a.0 a.1 ∷ []))
+  pub first : IfOk result (λ asked. IfSome asked (λ a. a.1.first ≡ given))
+  pub some : IfOk result (λ asked. IfSome asked (λ a. 1 ≤ length a.1.jobs))
+  pub few : IfOk result (λ asked. IfSome asked (λ a. length a.1.jobs ≤ most))
+  pub none : IfOk result (λ asked. IfNone asked (ring' ≡ ring))
+  pub over : IfOk result (λ asked. IfNone asked (AreOver ends from lanes))
+  pub memory : OnErr result (ring' ≡ ring)
+
+-- lanes that gave no block yet were run with their sources and sinks, and this was answered
+module _ {L S K A E : Type 0} (does : Side L S K → Side L S K → Type 0) (waits_for : L → List (List JobView)) (rests ends : L → Bool)
+    (keeps_none : L → Type 0) (result : Result A E) where
+  pub record RunsLanes (a b : Sides L S K) : Type 0 where
+    -- however it ends, each lane did what its own devices and its own blocks made it do
+    pub leads : AllLead does a b
+    -- where memory suffices, all are over, and none that takes answers waits for one or keeps something back
+    pub over : OnOk result (AreOver ends 0 b.lanes)
+    pub taken : OnOk result (HaveNone waits_for rests b.lanes)
+    pub finished : OnOk result (AreFinished keeps_none rests b.lanes)

@@ -29,7 +29,7 @@ module _ {L S K : Type 0} (leads : Side L S K → Side L S K → Type 0) (stays 
       ap (λ (z : L). side_of z source sink) p ∙ (ap (λ (z : S). side_of a.lane z sink) q ∙ ap (λ (z : K). side_of a.lane a.source z) r) in
       subst (λ (z : Side L S K). leads a z) (sym is) (stays a)
 
-  module _ (a b : Sides L S K) (at : ℕ) (one : OneLeads leads a b at) where
+  module _ {a b : Sides L S K} {at : ℕ} (one : OneLeads leads a b at) where
     each : (t : Bool) (l : L) (s : S) (x : K) (k : ℕ) → nat_eq k at ≡ t → leads (side_at a l s x k) (side_at b l s x k)
     each true l s x k e =
         subst (λ (n : ℕ). leads (side_at a l s x n) (side_at b l s x n)) (sym (same_number at k e)) (one.here l s x)
@@ -45,3 +45,7 @@ module _ {L S K : Type 0} (leads : Side L S K → Side L S K → Type 0) (stays 
       sinks = one.sinks;
       each = λ l s t k within. each (nat_eq k at) l s t k refl;
     }
+
+    -- behind what all did before
+    pub all-more : (before : Sides L S K) → AllLead leads before a → AllLead leads before b
+    all-more before did = all-on before a b did all-one

@@ -1,3 +1,4 @@
 pub mod Lanes
 pub mod Leading
 pub mod DeskLanes
+pub mod Bookings

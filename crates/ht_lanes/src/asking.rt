@@ -1,5 +1,5 @@
 //! Lanes are asked for a block.
-ghost use Rattle.std.specs.Prelude.{◌≡◌, ◌≢◌, ◌+◌, ◌^◌, ◌<◌, ◌≤◌, ℕ, List, [], ◌∷◌, ◌++◌, true, length, slice_index_or, IfNone, IfOk, IfSome, OnErr};
+ghost use Rattle.std.specs.Prelude.{◌≡◌, ◌+◌, ◌^◌, ◌<◌, ◌≤◌, ℕ, List, [], ◌∷◌, ◌++◌, true, length, slice_index_or, IfNone, IfOk, IfSome, OnErr};
 ghost use Rattle.ht_lanes.specs.Lanes.{AllLead, HasFewDue, HaveFewDue, OneLeads, OneMoreAt, SameBook, SameBooks, side_of, sides_of};
 
 use crate::lane::Lane;
@@ -59,12 +59,7 @@ fn ask_at<L: Lane<S, K>, S, K>(
     ensures over { IfOk result (λ given. IfNone given ((l : L) → L.over (slice_index_or lanes.new at l) ≡ true)) }
     ensures memory { OnErr result ((l : L) → L.due (slice_index_or lanes.new at l) ≡ L.due (slice_index_or lanes.old at l)) }
     ensures rests { (l : L) → L.rests (slice_index_or lanes.new at l) ≡ L.rests (slice_index_or lanes.old at l) }
-    ensures leads { (l : L) (s : S) (sink : K) → L.leads (side_of (slice_index_or lanes.old at l) (slice_index_or sources.old at s) sink)
-        (side_of (slice_index_or lanes.new at l) (slice_index_or sources.new at s) sink) }
-    ensures other_lanes { (l : L) (k : ℕ) → k ≢ at → slice_index_or lanes.new k l ≡ slice_index_or lanes.old k l }
-    ensures other_sources { (s : S) (k : ℕ) → k ≢ at → slice_index_or sources.new k s ≡ slice_index_or sources.old k s }
-    ensures as_many_lanes { length lanes.new ≡ length lanes.old }
-    ensures as_many_sources { length sources.new ≡ length sources.old }
+    ensures leads { (sinks : List K) → OneLeads L.leads (sides_of lanes.old sources.old sinks) (sides_of lanes.new sources.new sinks) at }
 {
     ask::<L, S, K>(&mut lanes[at], &mut sources[at], most, first)
 }

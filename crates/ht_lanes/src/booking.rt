@@ -1,11 +1,10 @@
 //! What becomes of the hits of one lane.
-ghost use Rattle.std.specs.Prelude.{◌≡◌, ℕ, List, [], drop, slice_get, take, Some, IfErr, OnErr, OnOk};
-ghost use Rattle.ht_io.specs.Devices.{IsLater, Rose};
+ghost use Rattle.std.specs.Prelude.{◌≡◌, ℕ, List, [], drop, slice_get, take, Some, OnErr, OnOk};
 ghost use Rattle.ht_metric.specs.Jobs.{JobView};
-ghost use Rattle.ht_feed.specs.Accounts.{PutsBlock, PutsPartOf};
 ghost use Rattle.ht_feed.specs.Dues.{all_due, jobs_in};
 ghost use Rattle.ht_feed.specs.Items.{Headed};
 ghost use Rattle.ht_feed.specs.Numbers.{numbered};
+ghost use Rattle.ht_lanes.specs.Bookings.{BooksHits};
 
 use ht_feed::{Answer, BlockReader, BookFault, Desk};
 use ht_io::Sink;
@@ -32,32 +31,18 @@ pub trait Booking<R: BlockReader + Drop, K: Sink> {
         requires right { Self.Answer.answers answer.now (R.Block.jobs block.now) }
         requires first { slice_get (jobs_in desk.old.due) 0 ≡ Some (R.Block.jobs block.now) }
 
-        // What was put, and what is left to put.
-        ensures put { OnOk result (PutsBlock (K.shown sink.old) (K.shown sink.new) (pieces self.old) (pieces self.new) (all_due (take 1 desk.old.due))) }
-        ensures part { OnErr result (PutsPartOf (K.shown sink.old) (K.shown sink.new) (pieces self.old) (all_due (take 1 desk.old.due))) }
+        ensures books { BooksHits result (K.shown sink.old) (K.shown sink.new) (pieces self.old) (pieces self.new) (all_due (take 1 desk.old.due)) }
 
         // What is due.
         ensures due { OnOk result (desk.new ≡ record desk.old { due = drop 1 desk.old.due }) }
-        ensures stays { OnErr result (desk.new ≡ desk.old) }
-
-        // The sink has counted a fault exactly where it failed.
-        ensures cause { IfErr result (λ fault. fault ≡ BookFault.Failed → Rose (K.shown sink.old) (K.shown sink.new)) }
-        ensures steady { OnOk result ((K.shown sink.new).faults ≡ (K.shown sink.old).faults) }
-        ensures unfailed { IfErr result (λ fault. fault ≡ BookFault.NoMemory → (K.shown sink.new).faults ≡ (K.shown sink.old).faults) }
-        ensures later { IsLater (K.shown sink.old) (K.shown sink.new) };
+        ensures stays { OnErr result (desk.new ≡ desk.old) };
 
     /// Puts all that is kept back, once no hits come any more. Behind a refusal nothing is said of what is left.
     fn finish(&mut self, sink: &mut K) -> Result<(), BookFault>
-        // What was put; nothing is left where no hits come.
-        ensures put { OnOk result (PutsBlock (K.shown sink.old) (K.shown sink.new) (pieces self.old) (pieces self.new) []) }
-        ensures part { OnErr result (PutsPartOf (K.shown sink.old) (K.shown sink.new) (pieces self.old) []) }
-        ensures none { OnOk result (pieces self.new [] ≡ []) }
+        ensures books { BooksHits result (K.shown sink.old) (K.shown sink.new) (pieces self.old) (pieces self.new) [] }
 
-        // The sink has counted a fault exactly where it failed.
-        ensures cause { IfErr result (λ fault. fault ≡ BookFault.Failed → Rose (K.shown sink.old) (K.shown sink.new)) }
-        ensures steady { OnOk result ((K.shown sink.new).faults ≡ (K.shown sink.old).faults) }
-        ensures unfailed { IfErr result (λ fault. fault ≡ BookFault.NoMemory → (K.shown sink.new).faults ≡ (K.shown sink.old).faults) }
-        ensures later { IsLater (K.shown sink.old) (K.shown sink.new) };
+        // Nothing is left where no hits come.
+        ensures none { OnOk result (pieces self.new [] ≡ []) };
 
     /// Whatever their numbers are, jobs have the same answer.
     ghost numberless: { (a : Self.Answer) (n : ℕ) (jobs : List JobView) → Self.Answer.answers a (numbered n jobs) → Self.Answer.answers a jobs };

@@ -1,5 +1,5 @@
 //! A lane over the desk of a reader.
-ghost use Rattle.std.specs.Prelude.{◌≡◌, ◌-◌, ◌^◌, ◌<◌, [], None, true, is_some, IfOk};
+ghost use Rattle.std.specs.Prelude.{◌≡◌, ◌-◌, ◌^◌, ◌<◌, [], None, true, is_some, IfOk, IsErr, IsOk};
 ghost use Rattle.ht_feed.specs.Desks.{desk_view};
 ghost use Rattle.ht_feed.specs.Dues.{jobs_in};
 ghost use Rattle.ht_feed.specs.Leading.{tells_by-none, tells_by-on};
@@ -69,6 +69,17 @@ impl<R: BlockReader + Drop, A: Drop> DeskLane<R, A> {
     }
 }
 
+// The only error of a lane is lack of memory: where its sink failed it rests.
+fn only_memory(fault: BookFault) -> Result<(), AllocError>
+    ensures failed { fault ≡ BookFault.Failed → IsOk result }
+    ensures memory { fault ≡ BookFault.NoMemory → IsErr result }
+{
+    match fault {
+        BookFault::Failed => Ok(()),
+        BookFault::NoMemory => Err(AllocError),
+    }
+}
+
 impl<R: BlockReader + Drop, A: Booking<R, K>, S: Source, K: Sink> Lane<S, K> for DeskLane<R, A> {
     type Block = R::Block;
 
@@ -112,13 +123,9 @@ impl<R: BlockReader + Drop, A: Booking<R, K>, S: Source, K: Sink> Lane<S, K> for
     ) -> Result<(), AllocError> {
         match self.booking.take(&mut self.desk, block, answer, sink) {
             Ok(()) => Ok(()),
-            Err(BookFault::Failed) => {
-                self.failed = Some(BookFault::Failed);
-                Ok(())
-            }
-            Err(BookFault::NoMemory) => {
-                self.failed = Some(BookFault::NoMemory);
-                Err(AllocError)
+            Err(fault) => {
+                self.failed = Some(fault);
+                only_memory(fault)
             }
         }
     }

@@ -1,6 +1,6 @@
 //! All blocks of several lanes.
-ghost use Rattle.std.specs.Prelude.{◌≡◌, ◌≤◌, ℕ, [], false, length, slice_index_or, OnOk};
-ghost use Rattle.ht_lanes.specs.Lanes.{AllLead, AreFinished, AreFresh, AreOver, HaveNone, sides_of};
+ghost use Rattle.std.specs.Prelude.{◌≡◌, ◌≤◌, length};
+ghost use Rattle.ht_lanes.specs.Lanes.{AreFresh, RunsLanes, sides_of};
 
 use crate::finishing::finish_lanes;
 use crate::lane::Lane;
@@ -9,34 +9,6 @@ use crate::lanes::Lanes;
 use circular_buffer::HeapCircularBuffer;
 use ht_feed::{Work, drive_alone};
 use std::alloc::{AllocError, Global};
-
-// Runs all blocks of lanes that gave none yet, in this thread, and hands each lane the answers to its own.
-fn run_blocks<L: Lane<S, K>, S, K, W: Work<LaneBlock<L::Block>, Answer = L::Answer>>(
-    alloc: Global,
-    window: u16,
-    work: &W,
-    lanes: &mut [L],
-    sources: &mut [S],
-    sinks: &mut [K],
-) -> Result<(), AllocError>
-    requires some { 1 ≤ window }
-    requires few { window ≤ 4096 }
-    requires fresh { AreFresh L.due lanes.old }
-    requires sources { length sources.old ≡ length lanes.old }
-    requires sinks { length sinks.old ≡ length lanes.old }
-    ensures leads { AllLead L.leads (sides_of lanes.old sources.old sinks.old) (sides_of lanes.new sources.new sinks.new) }
-    ensures over { OnOk result (AreOver L.over 0 lanes.new) }
-    ensures taken { OnOk result (HaveNone L.due L.rests lanes.new) }
-{
-    let Ok(mut due) = HeapCircularBuffer::with_capacity(alloc, 1) else {
-        return Err(AllocError);
-    };
-    let mut feed = Lanes::new(lanes, sources, sinks, &mut due);
-    match drive_alone(window, work, &mut feed) {
-        Ok(_) => Ok(()),
-        Err(_) => Err(AllocError),
-    }
-}
 
 /// Runs all blocks of lanes that gave none yet, in this thread, and hands each lane the answers to its own. Behind the
 /// last one each puts what it keeps back. One block is due at a time, of at most `window` jobs, 1 to 4096. The only error
@@ -54,20 +26,18 @@ pub fn run_alone<L: Lane<S, K>, S, K, W: Work<LaneBlock<L::Block>, Answer = L::A
     requires fresh { AreFresh L.due lanes.old }
     requires sources { length sources.old ≡ length lanes.old }
     requires sinks { length sinks.old ≡ length lanes.old }
-
-    // However it ends, each lane did what its own devices and its own blocks made it do.
-    ensures leads { AllLead L.leads (sides_of lanes.old sources.old sinks.old) (sides_of lanes.new sources.new sinks.new) }
-
-    // Where memory suffices, all are over, and none that takes answers waits for one or keeps something back.
-    ensures over { OnOk result (AreOver L.over 0 lanes.new) }
-    ensures taken { OnOk result (HaveNone L.due L.rests lanes.new) }
-    ensures finished { OnOk result (AreFinished L.finished L.rests lanes.new) }
+    ensures { RunsLanes L.leads L.due L.rests L.over L.finished result
+        (sides_of lanes.old sources.old sinks.old) (sides_of lanes.new sources.new sinks.new) }
 {
-    match run_blocks::<L, S, K, W>(alloc, window, work, lanes, sources, sinks) {
-        Ok(()) => {
+    let Ok(mut due) = HeapCircularBuffer::with_capacity(alloc, 1) else {
+        return Err(AllocError);
+    };
+    let mut feed = Lanes::new(lanes, sources, sinks, &mut due);
+    match drive_alone(window, work, &mut feed) {
+        Ok(_) => {
             finish_lanes::<L, S, K>(lanes, sinks);
             Ok(())
         }
-        Err(lack) => Err(lack),
+        Err(_) => Err(AllocError),
     }
 }

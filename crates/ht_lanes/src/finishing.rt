@@ -1,6 +1,6 @@
 //! Lanes put what they kept back.
-ghost use Rattle.std.specs.Prelude.{◌≡◌, ◌≢◌, ◌<◌, ℕ, List, true, false, length, slice_index_or};
-ghost use Rattle.ht_lanes.specs.Lanes.{AllLead, AreFinished, AreOver, HaveNone, side_of, sides_of};
+ghost use Rattle.std.specs.Prelude.{◌≡◌, ◌<◌, List, true, false, length, slice_index_or};
+ghost use Rattle.ht_lanes.specs.Lanes.{AllLead, AreFinished, AreOver, HaveNone, OneLeads, sides_of};
 
 use crate::lane::Lane;
 
@@ -12,12 +12,7 @@ fn finish_at<L: Lane<S, K>, S, K>(lanes: &mut [L], sinks: &mut [K], at: usize)
     ensures rests { (l : L) → L.rests (slice_index_or lanes.new at l) ≡ false → L.rests (slice_index_or lanes.old at l) ≡ false }
     ensures due { (l : L) → L.due (slice_index_or lanes.new at l) ≡ L.due (slice_index_or lanes.old at l) }
     ensures over { (l : L) → L.over (slice_index_or lanes.old at l) ≡ true → L.over (slice_index_or lanes.new at l) ≡ true }
-    ensures leads { (l : L) (source : S) (t : K) → L.leads (side_of (slice_index_or lanes.old at l) source (slice_index_or sinks.old at t))
-        (side_of (slice_index_or lanes.new at l) source (slice_index_or sinks.new at t)) }
-    ensures other_lanes { (l : L) (k : ℕ) → k ≢ at → slice_index_or lanes.new k l ≡ slice_index_or lanes.old k l }
-    ensures other_sinks { (t : K) (k : ℕ) → k ≢ at → slice_index_or sinks.new k t ≡ slice_index_or sinks.old k t }
-    ensures as_many_lanes { length lanes.new ≡ length lanes.old }
-    ensures as_many_sinks { length sinks.new ≡ length sinks.old }
+    ensures leads { (sources : List S) → OneLeads L.leads (sides_of lanes.old sources sinks.old) (sides_of lanes.new sources sinks.new) at }
 {
     lanes[at].finish(&mut sinks[at]);
 }

@@ -1,8 +1,8 @@
 //! The next block of several lanes.
-ghost use Rattle.std.specs.Prelude.{◌≡◌, ◌+◌, ◌^◌, ◌<◌, ◌≤◌, ℕ, List, [], ◌∷◌, ◌++◌, true, length, slice_index_or, IfNone, IfOk, IfSome, OnErr, OnOk};
+ghost use Rattle.std.specs.Prelude.{◌≡◌, ◌+◌, ◌^◌, ◌<◌, ◌≤◌, List, [], ◌∷◌, ◌++◌, length};
 ghost use Rattle.circular_buffer.specs.Buffer.{buffer};
 ghost use Rattle.ht_feed.specs.Dues.{count_in};
-ghost use Rattle.ht_lanes.specs.Lanes.{AllLead, AreOver, IsBooked, due_of, sides_of, whole_due};
+ghost use Rattle.ht_lanes.specs.Lanes.{AllLead, GivesNext, IsBooked, due_of, sides_of, whole_due};
 
 use crate::asking::ask_from;
 use crate::lane::Lane;
@@ -28,14 +28,7 @@ pub(crate) fn give<L: Lane<S, K>, S, K>(
     requires some { 1 ≤ most }
     requires bound { first + most < 2 ^ 64 }
     requires few_due { count_in (whole_due due.old.items) + most ≤ 4096 }
-    ensures lane { IfOk result (λ given. IfSome given (λ asked. asked.0 < length lanes.old)) }
-    ensures due { IfOk result (λ given. IfSome given (λ asked. due.new.items ≡ due.old.items ++ due_of asked.0 asked.1 ∷ [])) }
-    ensures first { IfOk result (λ given. IfSome given (λ asked. asked.1.first ≡ first)) }
-    ensures some { IfOk result (λ given. IfSome given (λ asked. 1 ≤ length asked.1.jobs)) }
-    ensures few { IfOk result (λ given. IfSome given (λ asked. length asked.1.jobs ≤ most)) }
-    ensures none { IfOk result (λ given. IfNone given (due.new.items ≡ due.old.items)) }
-    ensures over { IfOk result (λ given. IfNone given (AreOver L.over 0 lanes.new)) }
-    ensures memory { OnErr result (due.new.items ≡ due.old.items) }
+    ensures gives { GivesNext L.over (length lanes.old) 0 most first lanes.new due.old.items due.new.items result }
     ensures booked { IsBooked L.due L.rests lanes.new due.new.items }
     ensures leads { (sinks : List K) → AllLead L.leads (sides_of lanes.old sources.old sinks) (sides_of lanes.new sources.new sinks) }
 {
@@ -65,16 +58,10 @@ fn give_from<L: Lane<S, K>, S, K>(
     requires bound { first + most < 2 ^ 64 }
     requires few_due { count_in (whole_due due.old.items) + most ≤ 4096 }
     requires space { length due.old.items < due.old.capacity }
-    ensures lane { IfOk result (λ given. IfSome given (λ asked. asked.0 < length lanes.old)) }
-    ensures due { IfOk result (λ given. IfSome given (λ asked. due.new.items ≡ due.old.items ++ due_of asked.0 asked.1 ∷ [])) }
-    ensures first { IfOk result (λ given. IfSome given (λ asked. asked.1.first ≡ first)) }
-    ensures some { IfOk result (λ given. IfSome given (λ asked. 1 ≤ length asked.1.jobs)) }
-    ensures few { IfOk result (λ given. IfSome given (λ asked. length asked.1.jobs ≤ most)) }
-    ensures none { IfOk result (λ given. IfNone given (due.new ≡ due.old)) }
-    ensures over { IfOk result (λ given. IfNone given (AreOver L.over from lanes.new)) }
-    ensures memory { OnErr result (due.new ≡ due.old) }
+    ensures gives { GivesNext L.over (length lanes.old) from most first lanes.new due.old.items due.new.items result }
     ensures booked { IsBooked L.due L.rests lanes.new due.new.items }
     ensures leads { (sinks : List K) → AllLead L.leads (sides_of lanes.old sources.old sinks) (sides_of lanes.new sources.new sinks) }
+    ensures room { due.new.capacity ≡ due.old.capacity }
 {
     match ask_from::<L, S, K>(lanes, sources, from, most, first) {
         Ok(Some((lane, block))) => {

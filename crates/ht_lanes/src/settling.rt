@@ -1,6 +1,6 @@
 //! The answer to a block goes back to its lane.
-ghost use Rattle.std.specs.Prelude.{◌≡◌, ◌≢◌, ◌<◌, ℕ, List, true, false, drop, length, slice_get, slice_index_or, Some, OnErr, OnOk};
-ghost use Rattle.ht_lanes.specs.Lanes.{AllLead, AreOver, IsBooked, side_of, sides_of, whole_due, whole_jobs};
+ghost use Rattle.std.specs.Prelude.{◌≡◌, ◌<◌, List, true, false, drop, length, slice_get, slice_index_or, Some, OnErr, OnOk};
+ghost use Rattle.ht_lanes.specs.Lanes.{AllLead, AreOver, IsBooked, OneLeads, side_of, sides_of, whole_due, whole_jobs};
 
 use crate::lane::Lane;
 use crate::lane_block::LaneBlock;
@@ -48,12 +48,7 @@ fn settle_at<L: Lane<S, K>, S, K>(
     ensures memory { OnErr result ((l : L) → L.rests (slice_index_or lanes.new at l) ≡ true) }
     ensures rests { (l : L) → L.rests (slice_index_or lanes.new at l) ≡ false → L.rests (slice_index_or lanes.old at l) ≡ false }
     ensures over { (l : L) → L.over (slice_index_or lanes.old at l) ≡ true → L.over (slice_index_or lanes.new at l) ≡ true }
-    ensures leads { (l : L) (source : S) (t : K) → L.leads (side_of (slice_index_or lanes.old at l) source (slice_index_or sinks.old at t))
-        (side_of (slice_index_or lanes.new at l) source (slice_index_or sinks.new at t)) }
-    ensures other_lanes { (l : L) (k : ℕ) → k ≢ at → slice_index_or lanes.new k l ≡ slice_index_or lanes.old k l }
-    ensures other_sinks { (t : K) (k : ℕ) → k ≢ at → slice_index_or sinks.new k t ≡ slice_index_or sinks.old k t }
-    ensures as_many_lanes { length lanes.new ≡ length lanes.old }
-    ensures as_many_sinks { length sinks.new ≡ length sinks.old }
+    ensures leads { (sources : List S) → OneLeads L.leads (sides_of lanes.old sources sinks.old) (sides_of lanes.new sources sinks.new) at }
 {
     settle::<L, S, K>(&mut lanes[at], &mut sinks[at], block, answer)
 }

@@ -3,6 +3,7 @@ use Rattle.std.proofs.Common.{◌≡◌, ℕ, ◌+◌, ◌-◌, ◌*◌, ◌<◌
 use Rattle.byteorder.specs.Endian.{big_bytes}
 use Rattle.ht_io.specs.Devices.{Device, Takes, IsLater}
 use Rattle.ht_io.specs.declared.faults.InFault.{InFault}
+use Rattle.ht_io.proofs.Calls.{later-later, takes-append}
 use Rattle.ht_fields.specs.Lacking.{LacksField}
 use Rattle.ht_fields.specs.Readers.{Gives, reader_in}
 use Rattle.ht_fields.specs.WholeFiles.{Halts}
@@ -66,27 +67,30 @@ route_samples left n octets some wide =
     (route_field captures (behind_head (Samples left n)) (symbols_due left (n - 1)) octets (Symbol (samples_of octets) ∷ [])
     (field_is (carriers * 8) (good_samples left n) octets _ (omega arith) wide refl))
 
--- the diagonals did not come whole
-pub diagonals_halts : (left at : ℕ) (source after : Device ℕ) (fault : InFault) (r : LegacyRate) (len width : ℕ) (between : Device ℕ) → 0 < left → 1 ≤ len → len ≤ 4095 → width ≡ 104
-    → Takes source between (index_of r ∷ big_bytes 2 len) → IsLater source between → LacksField width (at + 3) between after fault
-    → Halts (reader_in captures (captures_due left) at source) after fault
-diagonals_halts left at source after fault r len width between some least most wide taken later lacks =
+-- the diagonals did not come whole behind rate and length
+pub diagonals_halts : (left at : ℕ) (source first between after : Device ℕ) (fault : InFault) (r : LegacyRate) (len width : ℕ) → 0 < left → 1 ≤ len
+    → len ≤ 4095 → width ≡ 104 → Takes source first (index_of r ∷ []) → Takes first between (big_bytes 2 len) → IsLater source first
+    → IsLater first between → LacksField width (at + 3) between after fault → Halts (reader_in captures (captures_due left) at source) after fault
+diagonals_halts left at source first between after fault r len width some least most wide rate size later still lacks =
     let s : State = behind_head (Diagonals left r len) in
     let place : at + 3 ≡ at + length (index_of r ∷ big_bytes 2 len) = refl in
     gives_halts (reader_in captures (captures_due left) at source) (reader_in captures s (at + 3) between) after fault
     (route_gives captures (captures_due left) s (index_of r ∷ big_bytes 2 len) [] at (at + 3) source between
-    (route_head captured left r len some least most) place taken) later
+    (route_head captured left r len some least most) place (takes-append source first between (index_of r ∷ []) (big_bytes 2 len) rate size))
+    (later-later source first between later still)
     (lacks_halts captures s (at + 3) 104 between after fault (width_is 104 (good_diagonals left r len) (omega arith))
     (subst (λ n. LacksField n (at + 3) between after fault) wide lacks))
 
-pub front_gives : (left at : ℕ) (source after : Device ℕ) (r : LegacyRate) (len : ℕ) (octets : List ℕ) → 0 < left → 1 ≤ len → len ≤ 4095
-    → length octets ≡ 104 → Takes source after (front_octets r len octets)
+pub front_gives : (left at : ℕ) (source first between after : Device ℕ) (r : LegacyRate) (len : ℕ) (octets : List ℕ) → 0 < left → 1 ≤ len → len ≤ 4095
+    → length octets ≡ 104 → Takes source first (index_of r ∷ []) → Takes first between (big_bytes 2 len) → Takes between after octets
     → Gives (reader_in captures (captures_due left) at source) (reader_in captures (symbols_due left (symbols_of r len)) (at + 107) after)
     (Begins (head_read r len octets) ∷ [])
-front_gives left at source after r len octets some least most wide taken =
+front_gives left at source first between after r len octets some least most wide rate size taken =
     let place : at + 107 ≡ at + length (front_octets r len octets) = omega (arith, wide) in
     route_gives captures (captures_due left) (symbols_due left (symbols_of r len)) (front_octets r len octets) (Begins (head_read r len octets) ∷ [])
-    at (at + 107) source after (route_front left r len octets some least most wide) place taken
+    at (at + 107) source after (route_front left r len octets some least most wide) place
+    (takes-append source between after (index_of r ∷ big_bytes 2 len) octets
+    (takes-append source first between (index_of r ∷ []) (big_bytes 2 len) rate size) taken)
 
 pub samples_gives : (left n at : ℕ) (source after : Device ℕ) (octets : List ℕ) → 0 < n → length octets ≡ 416 → Takes source after octets
     → Gives (reader_in captures (symbols_due left n) at source) (reader_in captures (symbols_due left (n - 1)) (at + 416) after)

@@ -5,7 +5,7 @@ use Rattle.ht_io.specs.Devices.{Device, IsLater, TakesAll}
 use Rattle.ht_io.specs.declared.faults.FormatFault.{FormatFault}
 use Rattle.ht_io.specs.declared.faults.InFault.{InFault}
 use Rattle.ht_io.specs.declared.faults.InFault.TheVariants.{Format, Read, NoMemory}
-use Rattle.ht_io.proofs.Calls.{failed-later, takes-all, takes-append, takes-none}
+use Rattle.ht_io.proofs.Calls.{failed-later, later-later, takes-all, takes-append, takes-none}
 use Rattle.ht_fields.specs.Lacking.{GoesFurther}
 use Rattle.ht_fields.specs.Meanings.{Meaning, before, meaning}
 use Rattle.ht_fields.specs.Readers.{ReaderView, Breaks, Finishes, Gives, IsEarly, Refuses, RunsOut, reader_in}
@@ -30,7 +30,7 @@ use Rattle.ht_legacy_blocks.specs.declared.stage.Stage.{Stage}
 use Rattle.ht_legacy_blocks.specs.declared.stage.Stage.TheVariants.{Start, Due}
 use Rattle.ht_legacy_blocks.specs.Frames.{Course, behind_head, behind_symbol, given_from, head_of, mapped_from, symbol_at}
 use Rattle.ht_legacy_blocks.specs.Jobs.{SymbolView, jobs_between}
-use Rattle.ht_legacy_blocks.specs.Readers.{Fits, IsFresh, IsSound, Progress, first_of, legacy_means, seen, state_of}
+use Rattle.ht_legacy_blocks.specs.Readers.{Fits, IsFresh, IsSound, Progress, ReadsOn, first_of, legacy_counts, legacy_means, seen, state_of}
 use Rattle.ht_legacy_blocks.proofs.Splitting.{left_split}
 
 no_jobs : (s : SymbolView) (first : ℕ) → (let items : List (Item LegacyFrameHead) = map One (jobs_between s first 0) in items) ≡ []
@@ -202,7 +202,7 @@ module _ {H B : Type 0} (jobs : B → List JobView) (old mid new : ReaderView (I
     means = g.means h.taken ∙ ap (before []) h.means;
   }
 
-  pub told_behind : (result : Result (Came H B) InFault) → IsLater old.source mid.source
+  told_behind : (result : Result (Came H B) InFault) → IsLater old.source mid.source
       → MatchResult result (GivesCame jobs mid new) (Halts mid new.source) → MatchResult result (GivesCame jobs old new) (Halts old new.source)
   told_behind (Ok came) later h = came_behind came h
   told_behind (Err fault) later h = halts_behind old mid g new.source fault later h
@@ -220,6 +220,20 @@ module _ {H B : Type 0} (jobs : B → List JobView) (most : ℕ) (old mid new : 
   }
   counts_came End c = tt
 
-  pub counts_behind : (result : Result (Came H B) InFault) → IfOk result (CountsCame jobs most mid new) → IfOk result (CountsCame jobs most old new)
+  counts_behind : (result : Result (Came H B) InFault) → IfOk result (CountsCame jobs most mid new) → IfOk result (CountsCame jobs most old new)
   counts_behind (Ok came) c = counts_came came c
   counts_behind (Err fault) c = tt
+
+-- what comes then
+pub reads_behind : (most : ℕ) (old mid new : Progress) (source between after : Device ℕ) (result : Result (Came LegacyFrameHead (List JobView)) InFault)
+    → Gives (seen old source) (seen mid between) [] → IsLater source between → (legacy_counts mid).given ≡ (legacy_counts old).given
+    → (legacy_counts mid).more ≤ (legacy_counts old).more → ReadsOn most mid new between after result → ReadsOn most old new source after result
+reads_behind most old mid new source between after result gives later same less reads =
+    let jobs : List JobView → List JobView = λ block. block in
+    let fewer = reads.never_more in
+    record {
+      told = told_behind jobs (seen old source) (seen mid between) (seen new after) gives result later reads.told;
+      counted = counts_behind jobs most (legacy_counts old) (legacy_counts mid) (legacy_counts new) same less result reads.counted;
+      never_more = omega (arith, fewer, less);
+      later = later-later source between after later reads.later;
+    }

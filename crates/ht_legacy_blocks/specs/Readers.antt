@@ -1,12 +1,15 @@
 -- What a reader of captures still gives.
-use Rattle.std.specs.Prelude.{◌≡◌, ℕ, ◌+◌, ◌-◌, ◌*◌, ◌<◌, ◌≤◌, List, map, Bool, true, false}
-use Rattle.ht_io.specs.Devices.{Device}
+use Rattle.std.specs.Prelude.{◌≡◌, ℕ, ◌+◌, ◌-◌, ◌*◌, ◌<◌, ◌≤◌, List, map, Bool, true, false, Result, IfOk, MatchResult}
+use Rattle.ht_io.specs.Devices.{Device, IsLater}
+use Rattle.ht_io.specs.declared.faults.InFault.{InFault}
 use Rattle.ht_fields.specs.Meanings.{Meaning, before, meaning}
 use Rattle.ht_fields.specs.Readers.{ReaderView}
+use Rattle.ht_metric.specs.Jobs.{JobView}
 use Rattle.ht_clause18.specs.Carriers.{carriers}
 use Rattle.ht_heads.specs.Starts.{StartState}
 use Rattle.ht_feed.specs.Items.{Item, One}
-use Rattle.ht_feed.specs.Reading.{Counts, view}
+use Rattle.ht_feed.specs.Reading.{Counts, CountsCame, GivesCame, Halts, view}
+use Rattle.ht_feed.specs.declared.came.Came.{Came}
 use Rattle.ht_legacy_captures.specs.Formats.{CaptureState, captures, symbols_due}
 use Rattle.ht_legacy_blocks.specs.declared.head.LegacyFrameHead.{LegacyFrameHead}
 use Rattle.ht_legacy_blocks.specs.declared.stage.Stage.{Stage}
@@ -93,3 +96,10 @@ pub record IsSound (r : Progress) : Type 0 where
   pub few : r.left ≤ carriers
   pub given : r.left ≤ r.course.number
   pub number : 0 < r.left → r.symbol.number + carriers ≡ r.course.number
+
+-- what came when it was asked, or why it gives no more
+pub record ReadsOn (most : ℕ) (old new : Progress) (source after : Device ℕ) (result : Result (Came LegacyFrameHead (List JobView)) InFault) : Type 0 where
+  pub told : MatchResult result (GivesCame (λ (block : List JobView). block) (seen old source) (seen new after)) (Halts (seen old source) after)
+  pub counted : IfOk result (CountsCame (λ (block : List JobView). block) most (legacy_counts old) (legacy_counts new))
+  pub never_more : (legacy_counts new).more ≤ (legacy_counts old).more
+  pub later : IsLater source after

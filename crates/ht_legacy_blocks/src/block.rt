@@ -64,11 +64,13 @@ impl Jobs for LegacyBlock {
     }
 
     #[inline]
+    #[tactic(auto, using(crate::proofs::Splitting::jobs_length))]
     fn place_at(&self, at: u16) -> Place {
         self.symbol.place(self.first + at as u8)
     }
 
     #[inline(always)]
+    #[tactic(auto, using(crate::proofs::Splitting::jobs_length))]
     fn job(&self, at: u16) -> Job {
         self.symbol.job(self.first + at as u8)
     }

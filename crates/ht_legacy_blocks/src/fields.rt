@@ -51,21 +51,13 @@ pub fn frame_front<S: Source>(source: &mut S, at: u64) -> Result<Front, InFault>
     ensures few { IfOk result (λ f. f.length ≤ 4095) }
     ensures later { IsLater (S.shown source.old) (S.shown source.new) }
 {
-    let rate = match rate(source, at) {
-        Ok(rate) => rate,
-        Err(fault) => return Err(fault),
-    };
-    let length = match length(source, at + 1) {
-        Ok(length) => length,
-        Err(fault) => return Err(fault),
-    };
+    let rate = rate(source, at)?;
+    let length = length(source, at + 1)?;
     let mut diagonals = [0u8; DIAGONALS];
-    match fill(source, at + 3, &mut diagonals) {
-        Ok(()) => Ok(Front {
-            rate,
-            length,
-            diagonals,
-        }),
-        Err(fault) => Err(fault),
-    }
+    fill(source, at + 3, &mut diagonals)?;
+    Ok(Front {
+        rate,
+        length,
+        diagonals,
+    })
 }

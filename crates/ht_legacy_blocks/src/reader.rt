@@ -5,10 +5,10 @@ ghost use Rattle.ht_io.specs.Devices.{Device, IsLater};
 ghost use Rattle.ht_fields.specs.Meanings.{meaning};
 ghost use Rattle.ht_fields.specs.Readers.{Gives};
 ghost use Rattle.ht_feed.specs.Items.{Begins, One};
-ghost use Rattle.ht_feed.specs.Reading.{Completes, CountsBlock, CountsCame, CountsHead, GivesCame, Halts};
+ghost use Rattle.ht_feed.specs.Reading.{Completes, CountsBlock, CountsHead, Halts};
 ghost use Rattle.ht_legacy_captures.specs.Formats.{captures};
 ghost use Rattle.ht_legacy_blocks.specs.Frames.{mapped};
-ghost use Rattle.ht_legacy_blocks.specs.Readers.{has_begun, legacy_at, legacy_counts, legacy_means, seen};
+ghost use Rattle.ht_legacy_blocks.specs.Readers.{ReadsOn, has_begun, legacy_at, legacy_counts, legacy_means, seen};
 
 use crate::block::LegacyBlock;
 use crate::fields;
@@ -139,11 +139,7 @@ impl LegacyReader {
     ) -> Result<Came<LegacyFrameHead, LegacyBlock>, InFault>
         requires some { 1 ≤ most }
         requires due { 1 ≤ self.old.left }
-        ensures told { MatchResult result (GivesCame (λ block. block) (seen self.old (S.shown source.old)) (seen self.new (S.shown source.new)))
-            (Halts (seen self.old (S.shown source.old)) (S.shown source.new)) }
-        ensures counted { IfOk result (CountsCame (λ block. block) most (legacy_counts self.old) (legacy_counts self.new)) }
-        ensures never_more { (legacy_counts self.new).more ≤ (legacy_counts self.old).more }
-        ensures later { IsLater (S.shown source.old) (S.shown source.new) }
+        ensures { ReadsOn most self.old self.new (S.shown source.old) (S.shown source.new) result }
     {
         match self.give(most) {
             Ok(block) => Ok(Came::Block(block)),
@@ -274,11 +270,7 @@ impl LegacyReader {
         requires stage { self.old.stage ≡ Stage.Due frames symbols }
         requires some { 1 ≤ symbols }
         requires none { self.old.left ≡ 0 }
-        ensures told { MatchResult result (GivesCame (λ block. block) (seen self.old (S.shown source.old)) (seen self.new (S.shown source.new)))
-            (Halts (seen self.old (S.shown source.old)) (S.shown source.new)) }
-        ensures counted { IfOk result (CountsCame (λ block. block) most (legacy_counts self.old) (legacy_counts self.new)) }
-        ensures never_more { (legacy_counts self.new).more ≤ (legacy_counts self.old).more }
-        ensures later { IsLater (S.shown source.old) (S.shown source.new) }
+        ensures { ReadsOn most self.old self.new (S.shown source.old) (S.shown source.new) result }
     {
         match self.symbol(source, frames, symbols) {
             Ok(()) => self.block(most, source),
@@ -295,11 +287,7 @@ impl LegacyReader {
         requires most { 1 ≤ most }
         requires begun { has_begun self.old.stage ≡ true }
         requires none { self.old.left ≡ 0 }
-        ensures told { MatchResult result (GivesCame (λ block. block) (seen self.old (S.shown source.old)) (seen self.new (S.shown source.new)))
-            (Halts (seen self.old (S.shown source.old)) (S.shown source.new)) }
-        ensures counted { IfOk result (CountsCame (λ block. block) most (legacy_counts self.old) (legacy_counts self.new)) }
-        ensures never_more { (legacy_counts self.new).more ≤ (legacy_counts self.old).more }
-        ensures later { IsLater (S.shown source.old) (S.shown source.new) }
+        ensures { ReadsOn most self.old self.new (S.shown source.old) (S.shown source.new) result }
     {
         match self.stage {
             Stage::Start => unreachable!(),
@@ -330,11 +318,7 @@ impl LegacyReader {
         requires most { 1 ≤ most }
         requires stage { self.old.stage ≡ Stage.Start }
         requires none { self.old.left ≡ 0 }
-        ensures told { MatchResult result (GivesCame (λ block. block) (seen self.old (S.shown source.old)) (seen self.new (S.shown source.new)))
-            (Halts (seen self.old (S.shown source.old)) (S.shown source.new)) }
-        ensures counted { IfOk result (CountsCame (λ block. block) most (legacy_counts self.old) (legacy_counts self.new)) }
-        ensures never_more { (legacy_counts self.new).more ≤ (legacy_counts self.old).more }
-        ensures later { IsLater (S.shown source.old) (S.shown source.new) }
+        ensures { ReadsOn most self.old self.new (S.shown source.old) (S.shown source.new) result }
     {
         match self.start(source) {
             Ok(()) => self.go(most, source),

@@ -1,16 +1,13 @@
 //! What holds of captures of clause 18 frames.
-ghost use Rattle.std.specs.Prelude.{◌≡◌, ℕ, List, [], ◌++◌};
-ghost use Rattle.ht_fields.specs.Cases.{CanEnd, IsClean, IsCut, IsFile};
+ghost use Rattle.std.specs.Prelude.{List};
+ghost use Rattle.ht_fields.specs.Cases.{IsFile};
+ghost use Rattle.ht_fields.specs.FormatLaws.{CleanCanEnd, IsPrefixFree};
 ghost use Rattle.ht_legacy_captures.specs.Formats.{captures};
-ghost use Rattle.ht_legacy_captures.specs.Items.{LegacyItem};
 ghost use Rattle.ht_legacy_captures.specs.Files.{AreCaptures, LegacyCapture, captures_file_of, items_of};
 
 /// No capture is a prefix of another, and equal captures give equal items.
 pub fn no_prefix()
-    ensures prefix { (octets more : List ℕ) (items others : List LegacyItem)
-        → IsFile captures octets items → IsFile captures (octets ++ more) others → more ≡ [] }
-    ensures equal { (octets : List ℕ) (items others : List LegacyItem)
-        → IsFile captures octets items → IsFile captures octets others → items ≡ others }
+    ensures { IsPrefixFree captures }
 {}
 
 /// The file written of frames is a capture, and gives the head of each frame and the samples of its symbols.
@@ -24,7 +21,5 @@ pub fn written()
 ///
 /// `4c 47 43 50 01 00 01 05` is clean, and so it begins a capture, here of one frame at 36 Mbit/s.
 pub fn clean_can_end()
-    ensures ends { CanEnd captures }
-    ensures clean { (octets : List ℕ) (items : List LegacyItem) → IsClean captures octets items → IsCut captures octets }
-    ensures cut { (octets : List ℕ) → IsCut captures octets → (items : List LegacyItem) × IsClean captures octets items }
+    ensures { CleanCanEnd captures }
 {}

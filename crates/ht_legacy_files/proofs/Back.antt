@@ -3,28 +3,27 @@ use Rattle.std.proofs.Common.{◌≡◌, ℕ, zero, suc, ◌+◌, ◌-◌, ◌�
 use Rattle.std.proofs.Common.{refl, sym, ap, ◌∙◌, append_assoc, arith}
 use Rattle.std.specs.List.{AllByRecursion}
 use Rattle.byteorder.specs.Endian.{big_bytes, big_number}
-use Rattle.ht_io.specs.declared.faults.Kind.TheVariants.{BadLength, BadMcs, BadSeed}
+use Rattle.ht_io.specs.declared.faults.Kind.TheVariants.{BadLength, BadMcs}
 use Rattle.ht_fields.specs.Grammar.{Good}
 use Rattle.ht_fields.specs.Cases.{IsEnd, IsField, IsFile}
 use Rattle.ht_fields.specs.Tests.{AreBytes, is_above, octet_of}
-use Rattle.ht_scramble.specs.Sequence.{IsSeed}
 use Rattle.ht_clause18.specs.declared.rates.LegacyRate.{LegacyRate}
 use Rattle.ht_clause18.specs.Frames.{LegacyFrameView}
 use Rattle.ht_clause18.specs.Rates.{index_of}
 use Rattle.ht_heads.specs.Starts.{Body, is_outside}
 use Rattle.ht_heads.proofs.Counts.{bytes_back_as}
-use Rattle.ht_counted.specs.Seeds.{is_no_seed}
-use Rattle.ht_counted.proofs.Back.{Wrote, entries_back, of_file, wrote_as}
+use Rattle.ht_counted.specs.Framed.{FrameState, Seed, framed_octets}
+use Rattle.ht_counted.proofs.Back.{Wrote, of_file, wrote_as}
+use Rattle.ht_counted.proofs.FrameBack.{FrameTail, WroteBehind, behind_back, frame_back, no_end as no_end_behind}
+use Rattle.ht_counted.proofs.FrameRoutes.{is_counted}
 use Rattle.ht_counted.proofs.Passing.{at_most, passed, same_good, single, within}
-use Rattle.ht_counted.proofs.Seeded.{seed_passed}
-use Rattle.ht_legacy_files.specs.HeadedFormats.{HeadBody, HeadState, Index, Length, Behind, behind_head, frames_due, good_index, good_length}
-use Rattle.ht_legacy_files.specs.HeadedFormats.{headed, length_limits, rate_at}
-use Rattle.ht_legacy_files.specs.Formats.{FrameState, Seed, Octets, framed, frames, good_octets, good_seed}
+use Rattle.ht_legacy_files.specs.HeadedFormats.{HeadState, Index, Length, Behind, behind_head, good_index, good_length, headed, length_limits, rate_at}
+use Rattle.ht_legacy_files.specs.Formats.{FrameBody, framed, frames, framing}
 use Rattle.ht_legacy_files.specs.Files.{AreFrames, IsFrame, frames_file_of, frame_octets}
-use Rattle.ht_legacy_files.proofs.Routes.{are_counted}
+use Rattle.ht_legacy_files.proofs.Routes.{frames_framed}
 
 abbrev State : Type 0
-State = HeadState FrameState
+State = HeadState (FrameState LegacyRate)
 
 index_back : (n : ℕ) → n ≤ 7 → index_of (rate_at n) ≡ n
 index_back zero le = refl
@@ -37,40 +36,34 @@ index_back (suc (suc (suc (suc (suc (suc zero)))))) le = refl
 index_back (suc (suc (suc (suc (suc (suc (suc zero))))))) le = refl
 index_back (suc (suc (suc (suc (suc (suc (suc (suc n)))))))) le = absurd (omega (arith, le))
 
+-- a frame, and those behind it
+abbrev whole : LegacyFrameView → List ℕ
+whole = framed_octets framing
+
 -- the octets from a state of a frame on
 abbrev HasTail : ℕ → (LegacyFrameView → List ℕ) → (LegacyFrameView → Type 0) → List ℕ → Type 0
 HasTail left last Has octets =
-    (f : LegacyFrameView) × (fs : List LegacyFrameView) × Has f × (octets ≡ last f ++ flat_map frame_octets fs) × (length fs ≡ left - 1)
+    (f : LegacyFrameView) × (fs : List LegacyFrameView) × Has f × (octets ≡ last f ++ flat_map whole fs) × (length fs ≡ left - 1)
     × IsFrame f × AllByRecursion IsFrame fs
 
-abbrev OctetsTail : ℕ → LegacyRate → ℕ → ℕ → List ℕ → Type 0
-OctetsTail left r len seed octets =
-    (psdu : List ℕ) × (fs : List LegacyFrameView) × (octets ≡ psdu ++ flat_map frame_octets fs) × (length psdu ≡ len - 1 + 1)
-    × (length fs ≡ left - 1) × AllByRecursion IsFrame fs
-
-abbrev SeedTail : ℕ → LegacyRate → ℕ → List ℕ → Type 0
-SeedTail left r len octets = (seed : ℕ) × (rest : List ℕ) × (octets ≡ seed ∷ rest) × IsSeed seed × OctetsTail left r len seed rest
-
 -- what is written from a state within a frame on
-abbrev FromBody : HeadBody FrameState → List ℕ → Type 0
-FromBody (Index left) octets = HasTail left frame_octets (λ f. Unit {0}) octets
+abbrev FromBody : FrameBody → List ℕ → Type 0
+FromBody (Index left) octets = HasTail left whole (λ f. Unit {0}) octets
 FromBody (Length left r) octets = HasTail left (λ f. big_bytes 2 (length f.octets) ++ (f.seed ∷ f.octets)) (λ f. f.rate ≡ r) octets
-FromBody (Behind (Seed left r len)) octets = SeedTail left r len octets
-FromBody (Behind (Octets left r len seed)) octets = OctetsTail left r len seed octets
+FromBody (Behind s) octets = WroteBehind (headed framed) framing frames_framed s octets
 
 -- and from any state
 abbrev From : State → List ℕ → Type 0
-From = Wrote (headed framed) frame_octets IsFrame FromBody
+From = Wrote (headed framed) whole IsFrame FromBody
 
-first_back : (left : ℕ) (octets : List ℕ) → FromBody (Index left) octets → HasTail left frame_octets (λ f. Unit {0}) octets
+first_back : (left : ℕ) (octets : List ℕ) → FromBody (Index left) octets → HasTail left whole (λ f. Unit {0}) octets
 first_back left octets t = t
 
 as_state : (s t : State) (rest : List ℕ) → s ≡ t → From t rest → From s rest
-as_state = wrote_as (headed framed) frame_octets IsFrame FromBody
+as_state = wrote_as (headed framed) whole IsFrame FromBody
 
 index_written : (left index : ℕ) (x rest : List ℕ) → x ≡ index ∷ [] → index ≤ 7 → FromBody (Length left (rate_at index)) rest
     → FromBody (Index left) (x ++ rest)
-unfolding frame_octets
 index_written left index x rest is few t =
     let named : index_of t.0.rate ≡ index = ap index_of t.2 ∙ index_back index few in (
       t.0,
@@ -82,28 +75,24 @@ index_written left index x rest is few t =
       t.6,
     )
 
-length_written : (left len : ℕ) (r : LegacyRate) (x rest : List ℕ) → length x ≡ 2 → AreBytes x → len ≡ big_number 2 x → 1 ≤ len → len ≤ 4095
-    → SeedTail left r len rest → FromBody (Length left r) (x ++ rest)
-length_written left len r x rest wide bytes is low high (seed, later, begins, seed_is, (psdu, fs, split, size, count, fit)) =
-    let f : LegacyFrameView = record { rate = r; seed = seed; octets = psdu } in
-    let long : length psdu ≡ len = omega (arith, size, low) in
-    let good : IsFrame f = record { seed = seed_is; octets = (omega (arith, long, low), omega (arith, long, high)) } in
-    let whole : rest ≡ (seed ∷ psdu) ++ flat_map frame_octets fs = begins ∙ ap (λ (z : List ℕ). seed ∷ z) split in (
-      f,
-      fs,
-      refl,
-      ap (λ (z : List ℕ). z ++ rest) (sym (bytes_back_as x 2 (length psdu) wide (long ∙ is) bytes))
-          ∙ (ap (λ (z : List ℕ). big_bytes 2 (length psdu) ++ z) whole
-          ∙ sym (append_assoc (big_bytes 2 (length psdu)) (seed ∷ psdu) (flat_map frame_octets fs))),
-      count,
-      good,
-      fit,
-    )
+length_written : (left len : ℕ) (r : LegacyRate) (x rest : List ℕ) → length x ≡ 2 → AreBytes x → len ≡ big_number 2 x
+    → FrameTail (headed framed) framing frames_framed left r len rest → FromBody (Length left r) (x ++ rest)
+length_written left len r x rest wide bytes is (f, fs, (named, long), split, count, good, fit) = (
+  f,
+  fs,
+  named,
+  ap (λ (z : List ℕ). z ++ rest) (sym (bytes_back_as x 2 (length f.octets) wide (long ∙ is) bytes))
+      ∙ (ap (λ (z : List ℕ). big_bytes 2 (length f.octets) ++ z) split
+      ∙ sym (append_assoc (big_bytes 2 (length f.octets)) (f.seed ∷ f.octets) (flat_map whole fs))),
+  count,
+  good,
+  fit,
+)
 
 -- each good field within a frame
-body_back : (b : HeadBody FrameState) (next : State) (x : List ℕ) (here : List LegacyFrameView) (rest : List ℕ) → AreBytes x
+body_back : (b : FrameBody) (next : State) (x : List ℕ) (here : List LegacyFrameView) (rest : List ℕ) → AreBytes x
     → IsField ((headed framed).due b) x (Good next here) → From next rest → FromBody b (x ++ rest)
-unfolding good_index good_length good_seed good_octets
+unfolding good_index good_length
 body_back (Index left) next x here rest bytes good w =
     let p = passed BadMcs (is_above 7) (good_index left) x next here good.1 in
     let state : State = Body (Length left (rate_at (octet_of x))) in
@@ -112,30 +101,18 @@ body_back (Length left r) next x here rest bytes good w =
     let p = passed BadLength (is_outside length_limits) (good_length framed left r) x next here good.1 in
     let state : State = behind_head (Seed left r (big_number 2 x)) in
     let range = within length_limits x p.0 in
-    length_written left (big_number 2 x) r x rest good.0 bytes refl range.0 range.1 (as_state state next rest (same_good state next [] here p.1).0 w)
-body_back (Behind (Seed left r len)) next x here rest bytes good w =
-    let p = passed BadSeed is_no_seed (good_seed left r len) x next here good.1 in
-    let state : State = behind_head (Octets left r len (octet_of x)) in (
-      octet_of x,
-      rest,
-      ap (λ (z : List ℕ). z ++ rest) (single x good.0),
-      seed_passed x p.0,
-      as_state state next rest (same_good state next [] here p.1).0 w,
-    )
-body_back (Behind (Octets left r len seed)) next x here rest bytes good w =
-    let f : LegacyFrameView = record { rate = r; seed = seed; octets = x } in
-    let state : State = frames_due (left - 1) in
-    let t = entries_back (headed framed) frame_octets IsFrame FromBody first_back (left - 1) rest
-    (as_state state next rest (same_good state next (f ∷ []) here good.1).0 w) in
-    (x, t.0, ap (λ (z : List ℕ). x ++ z) t.1, good.0, t.2, t.3)
+    length_written left (big_number 2 x) r x rest good.0 bytes refl
+    (frame_back (headed framed) framing frames_framed left r (big_number 2 x) rest range.0 range.1
+    (as_state state next rest (same_good state next [] here p.1).0 w))
+body_back (Behind s) next x here rest bytes good w =
+    behind_back (headed framed) framing frames_framed FromBody first_back (λ s x w. w) s next x here rest good w
 
-no_end : (b : HeadBody FrameState) → IsEnd ((headed framed).due b) → ⊥
+no_end : (b : FrameBody) → IsEnd ((headed framed).due b) → ⊥
 no_end (Index left) e = e
 no_end (Length left r) e = e
-no_end (Behind (Seed left r len)) e = e
-no_end (Behind (Octets left r len seed)) e = e
+no_end (Behind s) e = no_end_behind (headed framed) framing frames_framed s e
 
 -- each file is the one that is written of its frames, and they can be written
 pub of_frames : (octets : List ℕ) (fs : List LegacyFrameView) → AreBytes octets → IsFile frames octets fs → AreFrames fs × (octets ≡ frames_file_of fs)
-unfolding frames_file_of
-of_frames = of_file (headed framed) frame_octets IsFrame FromBody 4103 are_counted first_back body_back no_end
+unfolding frames_file_of frame_octets
+of_frames = of_file (headed framed) whole IsFrame FromBody 4099 (is_counted (headed framed) framing frames_framed) first_back body_back no_end

@@ -2,6 +2,5 @@ pub mod Back
 pub mod Ends
 pub mod HeadEnds
 pub mod HeadRoutes
-pub mod Putting
 pub mod Routes
 mod Values

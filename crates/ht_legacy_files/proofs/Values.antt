@@ -7,8 +7,9 @@ use Rattle.ht_clause18.specs.declared.rates.LegacyRate.TheVariants.{Mbit6}
 use Rattle.ht_clause18.specs.Frames.{LegacyFrameView}
 use Rattle.ht_heads.specs.Starts.{good_count, good_magic, good_version, is_outside, started_octets}
 use Rattle.ht_counted.specs.Counted.{entries_due}
+use Rattle.ht_counted.specs.Framed.{good_octets, good_seed}
 use Rattle.ht_legacy_files.specs.HeadedFormats.{good_index, good_length}
-use Rattle.ht_legacy_files.specs.Formats.{frames, good_octets, good_seed}
+use Rattle.ht_legacy_files.specs.Formats.{frames}
 use Rattle.ht_legacy_files.specs.Files.{frame_octets, frames_file_of}
 
 abbrev one_octet : LegacyFrameView

@@ -15,9 +15,9 @@
 //! are the same, so that what is read of it are the frames again.
 #![tactic(auto)]
 
+mod frames;
 pub mod laws;
 mod reading;
-mod writing;
 
-pub use reading::{length, rate, read_legacy_frames};
-pub use writing::write_legacy_frames;
+pub use frames::{read_legacy_frames, write_legacy_frames};
+pub use reading::{length, rate};

@@ -6,7 +6,7 @@ use Rattle.ht_rate.specs.declared.kinds.Pattern.{Pattern}
 use Rattle.ht_conv.specs.Puncturing.{sent_count}
 use Rattle.ht_viterbi.specs.declared.codeword.Codeword.{Codeword}
 use Rattle.ht_viterbi.specs.declared.received_bit.ReceivedBit.{ReceivedBit}
-use Rattle.ht_viterbi.specs.Inputs.{IsDecoded, distance, place_cost, tail}
+use Rattle.ht_viterbi.specs.Inputs.{IsFound, place_cost, tail}
 use Rattle.ht_viterbi.specs.Received.{known_of}
 use Rattle.ht_inverse.specs.declared.decoded.Decoded.{Decoded}
 use Rattle.ht_inverse.specs.declared.outcome.Outcome.{Outcome}
@@ -32,11 +32,11 @@ received-length r octets steps labels p bits steps_are p_is are =
 -- what is decoded is the codeword of the frame
 pub codeword-is : (r : LegacyRate) (octets steps : ℕ) (labels : List ℕ) (p : Pattern) (received : List (Option Bool)) (c : Codeword)
     → steps ≡ needed_bits octets → p ≡ pattern_of r → received ≡ received_of r octets labels → tail ≤ steps
-    → IsDecoded steps p received c.input → c.distance ≡ distance p received c.input → IsCodewordOf r octets labels c
+    → IsFound place_cost steps p received c.input c.distance → IsCodewordOf r octets labels c
 unfolding input_of legacy_decoded_frame
-codeword-is r octets steps labels p received c steps_are p_is received_is some is far =
+codeword-is r octets steps labels p received c steps_are p_is received_is some found =
     let answer = cheapest-answer place_cost steps (needed_bits octets) p (pattern_of r) received (received_of r octets labels) c.input c.distance
-    steps_are p_is received_is some is far in
+    steps_are p_is received_is some found in
     record { input = answer.0; distance = answer.1 }
 
 -- and its bits in front of the tail come to the frame

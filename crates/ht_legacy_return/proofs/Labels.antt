@@ -1,11 +1,10 @@
 -- The labels of a frame whose jobs are detected as they were sent are those that the frame gives.
-use Rattle.std.proofs.Common.{◌≡◌, ◌⊎◌, inl, inr, ℕ, zero, suc, ◌+◌, ◌-◌, ◌*◌, ◌<◌, ◌≤◌, List, [], ◌∷◌, ◌++◌, get_or, length, take, drop}
+use Rattle.std.proofs.Common.{◌≡◌, inl, inr, ℕ, zero, suc, ◌+◌, ◌*◌, ◌<◌, ◌≤◌, List, [], ◌∷◌, get_or, length, take, drop}
 use Rattle.std.proofs.Common.{Bool, true, false, Option, None, Some, unwrap_or, if◌then◌else◌, refl, sym, ap, subst, ◌∙◌, arith}
 use Rattle.std.specs.Cmp.Derive.{both_true}
-use Rattle.std.specs.List.{AllByRecursion, find, flat_map, range_with_len}
+use Rattle.std.specs.List.{AllByRecursion, find}
 use Rattle.std.proofs.lemmas.Bool.{cases_Bool, cases_eq, eq-eqb}
 use Rattle.std.proofs.lemmas.Bool.Decides.{nat_tests}
-use Rattle.std.proofs.lemmas.List.{get_or-append_right, get_or_append_left}
 use Rattle.ht_rate.specs.declared.kinds.Carrier.{Carrier}
 use Rattle.ht_rate.specs.declared.kinds.Modulation.{Modulation}
 use Rattle.ht_map.proofs.LabelFacts.{label_of-point_of}
@@ -20,6 +19,8 @@ use Rattle.ht_clause18.specs.Interleaver.{interleaved}
 use Rattle.ht_clause18.specs.Points.{carried, label_at}
 use Rattle.ht_clause18.specs.Rates.{modulation_of, symbols_of}
 use Rattle.ht_results.specs.Plans.{kept_at, kept_by_place, kept_in, kept_of, stands_at}
+use Rattle.ht_results.proofs.Among.{Among, among_behind, among_front}
+use Rattle.ht_results.proofs.Blocks.{block_at}
 use Rattle.ht_results.proofs.Places.{stands}
 use Rattle.ht_legacy_blocks.specs.declared.head.LegacyFrameHead.{LegacyFrameHead}
 use Rattle.ht_legacy_blocks.specs.Frames.{Course, behind_symbol, symbol_at}
@@ -29,40 +30,9 @@ use Rattle.ht_legacy_rx.proofs.Indices.{indexed}
 use Rattle.ht_legacy_return.proofs.Decoded.{AreLabelsOf}
 use Rattle.ht_legacy_return.proofs.Heard.{IsFound, label-small, sent_at, symbol_views}
 
--- a place in a list of blocks
-block_at : (f : ℕ → List ℕ) (w a n k m : ℕ) → ((i : ℕ) → length (f i) ≡ w) → k < n → m < w
-    → get_or (flat_map f (range_with_len a n)) (k * w + m) 0 ≡ get_or (f (a + k)) m 0
-block_at f w a zero k m wide below within = absurd (omega (arith, below))
-block_at f w a (suc n) zero m wide below within =
-    let rest : List ℕ = flat_map f (range_with_len (a + 1) n) in
-    let start : 0 * w + m ≡ m = omega arith in
-    let place : a ≡ a + 0 = omega arith in
-    let size = wide a in
-    ap (λ (k : ℕ). get_or (f a ++ rest) k 0) start
-    ∙ (get_or_append_left (f a) rest 0 m (omega (arith, within, size)) ∙ ap (λ (i : ℕ). get_or (f i) m 0) place)
-block_at f w a (suc n) (suc k) m wide below within =
-    let rest : List ℕ = flat_map f (range_with_len (a + 1) n) in
-    let start : suc k * w + m ≡ w + (k * w + m) = omega arith in
-    let back : w + (k * w + m) - w ≡ k * w + m = omega arith in
-    let place : a + 1 + k ≡ a + suc k = omega arith in
-    ap (λ (i : ℕ). get_or (f a ++ rest) i 0) start
-    ∙ (get_or-append_right (f a) rest w (w + (k * w + m)) 0 (wide a) (omega arith)
-    ∙ (ap (λ (i : ℕ). get_or rest i 0) back
-    ∙ (block_at f w (a + 1) n k m wide (omega (arith, below)) within ∙ ap (λ (i : ℕ). get_or (f i) m 0) place)))
-
 -- a job stands on a place
 abbrev Has : ℕ → ℕ → List JobView → Type 0
-Has symbol carrier [] = ⊥
-Has symbol carrier (job ∷ jobs) = (stands_at symbol carrier job ≡ true) ⊎ Has symbol carrier jobs
-
-has_left : (symbol carrier : ℕ) (xs ys : List JobView) → Has symbol carrier xs → Has symbol carrier (xs ++ ys)
-has_left symbol carrier [] ys has = absurd has
-has_left symbol carrier (x ∷ xs) ys (inl here) = inl here
-has_left symbol carrier (x ∷ xs) ys (inr later) = inr (has_left symbol carrier xs ys later)
-
-has_right : (symbol carrier : ℕ) (xs ys : List JobView) → Has symbol carrier ys → Has symbol carrier (xs ++ ys)
-has_right symbol carrier [] ys has = has
-has_right symbol carrier (x ∷ xs) ys has = inr (has_right symbol carrier xs ys has)
+Has symbol carrier jobs = Among (λ (job : JobView). stands_at symbol carrier job ≡ true) jobs
 
 has_between : (s : SymbolView) (count first carrier : ℕ) → first ≤ carrier → carrier < first + count → Has s.symbol carrier (jobs_between s first count)
 unfolding jobs_between job_of
@@ -81,12 +51,13 @@ has_frame (suc n) c samples zero m lj lm =
     let s : SymbolView = symbol_at c (take carriers samples) in
     let same : c.symbol ≡ c.symbol + 0 = omega arith in
     subst (λ (k : ℕ). Has k m (symbol_views (suc n) c samples)) same
-    (has_left c.symbol m (jobs_of s) (symbol_views n (behind_symbol c) (drop carriers samples)) (has_between s carriers 0 m (omega arith) (omega (arith, lm))))
+    (among_front (λ (job : JobView). stands_at c.symbol m job ≡ true) (jobs_of s) (symbol_views n (behind_symbol c) (drop carriers samples))
+    (has_between s carriers 0 m (omega arith) (omega (arith, lm))))
 has_frame (suc n) c samples (suc j) m lj lm =
     let s : SymbolView = symbol_at c (take carriers samples) in
     let same : c.symbol + 1 + j ≡ c.symbol + suc j = omega arith in
     subst (λ (k : ℕ). Has k m (symbol_views (suc n) c samples)) same
-    (has_right (c.symbol + 1 + j) m (jobs_of s) (symbol_views n (behind_symbol c) (drop carriers samples))
+    (among_behind (λ (job : JobView). stands_at (c.symbol + 1 + j) m job ≡ true) (jobs_of s) (symbol_views n (behind_symbol c) (drop carriers samples))
     (has_frame n (behind_symbol c) (drop carriers samples) j m (omega (arith, lj)) lm))
 
 -- the job that stands on a place, and what was detected of it

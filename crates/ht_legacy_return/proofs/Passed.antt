@@ -1,14 +1,11 @@
 -- What passes the simulated channel with noise 0 is received exactly, and so it comes back.
-use Rattle.std.proofs.Common.{◌≡◌, ℕ, suc, ◌%◌, ◌<◌, ◌^◌, ℤ, pos, ◌+ℤ◌, ◌-ℤ◌, List, [], ◌∷◌, length, map, flat_map, All}
+use Rattle.std.proofs.Common.{◌≡◌, ℕ, suc, ◌<◌, ◌^◌, List, [], ◌∷◌, length, flat_map, All}
 use Rattle.std.proofs.Common.{refl, ap, subst, ◌∙◌, arith}
-use Rattle.std.proofs.lemmas.Int.{ints}
 use Rattle.std.proofs.lemmas.List.Elements.{All-cons, All-from_get_or, All-nil}
 use Rattle.byteorder.specs.Endian.{big_bytes}
 use Rattle.ht_fields.specs.Cases.{IsFile}
 use Rattle.ht_fields.specs.Tests.{AreBytes}
 use Rattle.ht_heads.specs.Starts.{started_octets}
-use Rattle.ht_metric.specs.declared.complex.Complex.{Complex}
-use Rattle.ht_metric.specs.Distance.{received}
 use Rattle.ht_capture_laws.proofs.Lists.{bytes_behind, bytes_front}
 use Rattle.ht_clause18.specs.Carriers.{carriers}
 use Rattle.ht_clause18.specs.Frames.{LegacyFrameView}
@@ -18,36 +15,17 @@ use Rattle.ht_legacy_files.specs.Files.{AreFrames, frame_octets, frames_file_of}
 use Rattle.ht_legacy_files.specs.Formats.{frames as frames_format, frames_magic}
 use Rattle.ht_legacy_files.proofs.Back.{of_frames}
 use Rattle.ht_legacy_captures.specs.Files.{captures_file_of}
-use Rattle.ht_sim.specs.Channel.{noise_of, sample_drawn}
 use Rattle.ht_sim.specs.Draws.{each, several}
-use Rattle.ht_sim.specs.Words.{first, next, word}
+use Rattle.ht_sim.specs.Words.{first}
 use Rattle.ht_sim.proofs.Drawing.{All-several, length-several}
 use Rattle.ht_legacy_sim.specs.Drawing.{capture_drawn, captures_of, diagonal_drawn, exact_from}
 use Rattle.ht_legacy_sim.specs.Passing.{PassesTo}
 use Rattle.ht_legacy_rx.specs.Texts.{legacy_results_of, legacy_text}
+use Rattle.ht_round.proofs.Simulated.{samples_are}
 use Rattle.ht_legacy_return.specs.Exact.{AreExact, HoldOctets, IsExact}
 use Rattle.ht_legacy_return.specs.Returned.{returned_results, returned_text}
 use Rattle.ht_legacy_return.proofs.Captured.{diagonals_small, passed_is}
 use Rattle.ht_legacy_return.proofs.Round.{results_back, text_back}
-
--- samples without noise
-no_noise : (w : ℕ) → noise_of 0 w ≡ pos 0
-no_noise w =
-    let none : w % 1 ≡ 0 = omega arith in
-    ap (λ (k : ℕ). pos k -ℤ pos 0) none
-
-nothing_added : (a b : ℤ) → b ≡ pos 0 → a +ℤ b ≡ a
-nothing_added a b none = omega (arith, ints)
-
-samples_are : (cs : List Complex) (z : ℕ) → map received (each (sample_drawn 0) cs z).value ≡ cs
-unfolding sample_drawn
-samples_are [] z = refl
-samples_are (c ∷ cs) z =
-    let made : ℤ → ℤ → Complex = λ re im. record { re = re; im = im } in
-    let rest : List Complex = map received (each (sample_drawn 0) cs (next (next z))).value in
-    ap (λ (v : ℤ). made v (c.im +ℤ noise_of 0 (word (next z))) ∷ rest) (nothing_added c.re (noise_of 0 (word z)) (no_noise (word z)))
-    ∙ (ap (λ (v : ℤ). made c.re v ∷ rest) (nothing_added c.im (noise_of 0 (word (next z))) (no_noise (word (next z))))
-    ∙ ap (λ (z : List Complex). c ∷ z) (samples_are cs (next (next z))))
 
 frame_exact : (f : LegacyFrameView) (z : ℕ) → IsExact f (capture_drawn 0 f z).value
 unfolding capture_drawn
@@ -101,16 +79,18 @@ passed_from seed octets frames output bytes file passes =
     let is = of_frames octets frames bytes file in
     passed_is seed 0 frames output is.0 (subst (λ (os : List ℕ). PassesTo seed 0 os output) is.1 passes)
 
-pub passed_results : (seed : ℕ) (octets : List ℕ) (frames : List LegacyFrameView) (output : List ℕ) → AreBytes octets → IsFile frames_format octets frames
-    → PassesTo seed 0 octets output → legacy_results_of output ≡ returned_results frames
-passed_results seed octets frames output bytes file passes =
-    let holds = file_holds octets frames bytes file in
-    ap legacy_results_of (passed_from seed octets frames output bytes file passes)
-    ∙ results_back frames (captures_of seed 0 frames) holds.0 holds.1 (simulated_exact seed frames)
+module _ (seed : ℕ) (octets : List ℕ) (frames : List LegacyFrameView) (output : List ℕ) (bytes : AreBytes octets)
+    (file : IsFile frames_format octets frames) (passes : PassesTo seed 0 octets output) where
+  -- what is made of the output is what is made of the capture that the frames' points pass to exactly
+  passed : {T : Type 0} (made : List ℕ → T) (returned : T)
+      → (AreFrames frames → HoldOctets frames → AreExact frames (captures_of seed 0 frames) → made (captures_file_of (captures_of seed 0 frames)) ≡ returned)
+      → made output ≡ returned
+  passed made returned back =
+      let holds = file_holds octets frames bytes file in
+      ap made (passed_from seed octets frames output bytes file passes) ∙ back holds.0 holds.1 (simulated_exact seed frames)
 
-pub passed_text : (seed : ℕ) (octets : List ℕ) (frames : List LegacyFrameView) (output : List ℕ) → AreBytes octets → IsFile frames_format octets frames
-    → PassesTo seed 0 octets output → legacy_text output ≡ returned_text frames
-passed_text seed octets frames output bytes file passes =
-    let holds = file_holds octets frames bytes file in
-    ap legacy_text (passed_from seed octets frames output bytes file passes)
-    ∙ text_back frames (captures_of seed 0 frames) holds.0 holds.1 (simulated_exact seed frames)
+  pub passed_results : legacy_results_of output ≡ returned_results frames
+  passed_results = passed legacy_results_of (returned_results frames) (results_back frames (captures_of seed 0 frames))
+
+  pub passed_text : legacy_text output ≡ returned_text frames
+  passed_text = passed legacy_text (returned_text frames) (text_back frames (captures_of seed 0 frames))

@@ -1,28 +1,20 @@
 //! Receiving the frames of a capture as lines of text.
-ghost use Rattle.std.specs.Prelude.{◌≡◌, ◌-◌, ◌^◌, ◌<◌, ◌≤◌, true};
+ghost use Rattle.std.specs.Prelude.{◌≤◌};
 ghost use Rattle.ht_runs.specs.Formats.{filter};
-ghost use Rattle.ht_feed.specs.Inputs.{TellsInput};
 ghost use Rattle.ht_endings.specs.Endings.{HasFrames};
 ghost use Rattle.ht_legacy_captures.specs.Formats.{captures};
-ghost use Rattle.ht_legacy_blocks.specs.Frames.{no_head};
-ghost use Rattle.ht_legacy_blocks.specs.Readers.{legacy_at, legacy_counts, legacy_means};
 ghost use Rattle.ht_receive.specs.Ends.{StreamsText};
-ghost use Rattle.ht_receive.specs.Receiving.{books};
-ghost use Rattle.ht_legacy_rx.specs.Folding.{legacy_results_from, no_frame};
 ghost use Rattle.ht_legacy_rx.specs.Texts.{legacy_items, legacy_lines_of, legacy_text};
 
 use crate::open_frame::{OpenLegacyFrame, first_head};
-use ht_drive::tell;
 use ht_endings::put_end;
-use ht_feed::{Ended, Gate};
-use ht_frames::{BesideFrames, Book, Frames, Gatherer, HitWork, TextBook};
+use ht_feed::Gate;
+use ht_frames::{BesideFrames, Frames, HitWork, TextBook};
 use ht_io::{Sink, Source};
 use ht_legacy_blocks::LegacyReader;
-use ht_receive::put_frames_alone;
-use ht_results::FrameResult;
-use ht_runs::{RunFault, StopFault};
+use ht_receive::{receive, receive_alone};
+use ht_runs::RunFault;
 use std::alloc::Global;
-use std::collections::VecDeque;
 use std::sync::Wait;
 use std::thread::Threads;
 
@@ -36,6 +28,7 @@ use std::thread::Threads;
 /// `Format` comes at the first fault of an input that is no capture, `Read` where the source failed, `Write` where the sink
 /// failed, also if the source did, and `NoMemory`. The lines of the frames in front of a fault of the format or of the
 /// source are put; the line of the fault is not. In the last two cases a part of the text was put.
+#[tactic(auto, using(ht_receive::proofs::Streaming::lacks))]
 pub fn legacy_receive_alone<S: Source, K: Sink, G: Gate>(
     alloc: Global,
     window: u16,
@@ -49,69 +42,14 @@ pub fn legacy_receive_alone<S: Source, K: Sink, G: Gate>(
         (K.shown sink.old) (K.shown sink.new) result }
 {
     let reader = LegacyReader::new(alloc)?;
+    let head = first_head();
     let under_way = OpenLegacyFrame::new(alloc);
     let work = HitWork { alloc, gate };
-    put_frames_alone(
-        alloc,
-        reader,
-        first_head(),
-        window,
-        &work,
-        source,
-        under_way,
-        sink,
-    )
-}
-
-// Books the result of each frame that is whole, from a reader in front of a capture whose jobs are run by workers.
-fn book_frames<R: Threads + Wait + Sync, S: Source, B: Book<FrameResult>, G: Gate + Sync>(
-    rt: &R,
-    alloc: Global,
-    workers: u8,
-    reader: LegacyReader,
-    window: u16,
-    source: &mut S,
-    book: &mut B,
-    gate: &G,
-) -> Result<Ended, StopFault>
-    requires one { 1 ≤ workers }
-    requires many { workers ≤ 64 }
-    requires some { 1 ≤ window }
-    requires few { window ≤ 4096 }
-    requires going { (legacy_counts reader).going ≡ true }
-    requires fresh { (legacy_counts reader).given ≡ 0 }
-    requires bounded { (legacy_counts reader).more < 2 ^ 64 - 1 }
-    ensures { TellsInput legacy_means legacy_at reader no_head (S.shown source.old) (S.shown source.new)
-        (books B.booked (legacy_results_from no_frame) (B.shown book.old)) (books B.booked (legacy_results_from no_frame) (B.shown book.new))
-        (B.lent book.old) (B.lent book.new) result }
-{
-    let frames = Frames::new(alloc);
-    let mut under_way = OpenLegacyFrame::new(alloc);
-    let mut queue = VecDeque::new(alloc);
-    let mut gatherer = Gatherer::new(
-        rt,
-        alloc,
-        workers,
-        &frames,
-        &mut under_way,
-        &mut queue,
-        book,
+    let mut book = TextBook::new(alloc, sink);
+    let ended = receive_alone(
+        alloc, reader, head, window, &work, source, under_way, &mut book,
     );
-    let work = BesideFrames {
-        work: HitWork { alloc, gate },
-        frames: &frames,
-    };
-    tell(
-        rt,
-        alloc,
-        workers,
-        window,
-        reader,
-        first_head(),
-        &work,
-        source,
-        &mut gatherer,
-    )
+    put_end(alloc, ended, sink)
 }
 
 /// Does as [`legacy_receive_alone`], and the jobs are run by 1 to 64 workers, of which the caller is one. The text is the
@@ -121,6 +59,7 @@ fn book_frames<R: Threads + Wait + Sync, S: Source, B: Book<FrameResult>, G: Gat
 /// shorter one is decoded by the caller. At most two frames for each worker beside the caller have no booked result
 /// while jobs are due, not counting the frame under way, and those with the workers have at most 131,072 octets together.
 /// No clause says so of frames, octets and threads. However it ends, no thread is left behind.
+#[tactic(auto, using(ht_receive::proofs::Streaming::lacks))]
 pub fn legacy_receive<R: Threads + Wait + Sync, S: Source, K: Sink, G: Gate + Sync>(
     rt: &R,
     alloc: Global,
@@ -141,7 +80,16 @@ pub fn legacy_receive<R: Threads + Wait + Sync, S: Source, K: Sink, G: Gate + Sy
         return legacy_receive_alone(alloc, window, source, sink, gate);
     }
     let reader = LegacyReader::new(alloc)?;
+    let head = first_head();
+    let under_way = OpenLegacyFrame::new(alloc);
+    let frames = Frames::new(alloc);
+    let work = BesideFrames {
+        work: HitWork { alloc, gate },
+        frames: &frames,
+    };
     let mut book = TextBook::new(alloc, sink);
-    let ended = book_frames(rt, alloc, workers, reader, window, source, &mut book, gate);
+    let ended = receive(
+        rt, alloc, workers, reader, head, window, &work, &frames, source, under_way, &mut book,
+    );
     put_end(alloc, ended, sink)
 }

@@ -1,7 +1,7 @@
 -- Each event keeps what holds of the machine.
-use Rattle.std.proofs.Common.{◌≡◌, ℕ, suc, ◌+◌, ◌<◌, ◌≤◌, List, [], ◌∷◌, ◌++◌, length, drop, take, get_or, sym, ap, ◌∙◌, subst, arith}
+use Rattle.std.proofs.Common.{◌≡◌, ℕ, suc, ◌+◌, ◌<◌, ◌≤◌, List, [], ◌∷◌, ◌++◌, length, drop, take, get_or, sym, ap, ◌∙◌, subst, arith, refl}
 use Rattle.std.proofs.lemmas.List.{length-append, length-set, length-take, take-append-le}
-use Rattle.std.specs.Prelude.{slice_get, Option, Some, None, IfSome}
+use Rattle.std.specs.Prelude.{slice_get, slice_set, Option, Some, None, IfSome}
 use Rattle.std.specs.List.{sum_by, flat_map}
 use Rattle.std.specs.Option.{option_to_list}
 use Rattle.std.proofs.lemmas.List.Sums.{sum_by-append, sum_by-cons, sum_by_push}
@@ -9,7 +9,7 @@ use Rattle.ht_metric.specs.Jobs.{JobView}
 use Rattle.ht_metric.specs.declared.hit.Hit.{Hit}
 use Rattle.ht_machine.specs.declared.event.Event.{Event}
 use Rattle.ht_machine.specs.declared.event.Event.TheVariants.{Issue, Push, Pop, Steal, Finish, Accept, Emit}
-use Rattle.ht_machine.specs.Machine.{CoreView, IsEnabled, after, hand, deque, hit_of, taken}
+use Rattle.ht_machine.specs.Machine.{CoreView, IsEnabled, after, hand, deque, hit_of, taken, without}
 use Rattle.std.specs.List.{All}
 use Rattle.std.proofs.lemmas.List.Elements.{All-nil, All-cons, All-append, All-set, All-drop, All-weaker}
 use Rattle.ht_counts.specs.Counts.{SameCounts}
@@ -70,35 +70,48 @@ kept_issue c job w on =
       emitted = w.emitted ∙ sym (take-append-le (length c.emitted) c.issued (job ∷ []) before);
     }
 
+-- what holds where jobs went from place to place, and none was issued or emitted
+kept_moved : (c : CoreView) (hands : List (Option JobView)) (deques : List (List JobView)) (results booked : List Hit) → IsCore c
+    → length hands ≡ length c.hands → length deques ≡ length c.deques
+    → SameCounts (places (record c { hands = hands; deques = deques; results = results; booked = booked })) c.issued
+    → All (λ o. IfSome o (IsIssued c.issued)) hands → All (All (IsIssued c.issued)) deques → All (λ (hit : Hit). IsIssued c.issued hit.job) results
+    → All (λ (hit : Hit). IsIssued c.issued hit.job) booked
+    → IsCore (record c { hands = hands; deques = deques; results = results; booked = booked })
+kept_moved c hands deques results booked w as_many_hands as_many_deques once in_hand in_deque in_results in_booked = record {
+  some = w.some;
+  few = w.few;
+  wide = w.wide;
+  narrow = w.narrow;
+  hands = as_many_hands ∙ w.hands;
+  deques = as_many_deques ∙ w.deques;
+  numbered = w.numbered;
+  once = once;
+  in_hand = in_hand;
+  in_deque = in_deque;
+  in_results = in_results;
+  in_booked = in_booked;
+  window = w.window;
+  emitted = w.emitted;
+}
+
 kept_push : (c : CoreView) (a : ℕ) → IsCore c → IsEnabled c (Push a) → IsCore (after c (Push a))
 kept_push c a w on =
     let lt = on.0 in
     let hands = w.hands in
     let deques = w.deques in
     let new = deque c a ++ option_to_list (hand c a) in
-    record {
-      some = w.some;
-      few = w.few;
-      wide = w.wide;
-      narrow = w.narrow;
-      hands = length-set c.hands a None ∙ w.hands;
-      deques = length-set c.deques a new ∙ w.deques;
-      numbered = w.numbered;
-      once = λ h.
-          let put = weigh_put h option_to_list c.hands a None None (omega (arith, hands, lt)) in
-          let laid = weigh_put h (λ (jobs : List JobView). jobs) c.deques a new [] (omega (arith, deques, lt)) in
-          omega (arith, weigh_places h (after c (Push a)), weighed c w.once h, put, laid, sum_by-append h (deque c a) (option_to_list (hand c a)));
-      in_hand = All-set (λ o. IfSome o (IsIssued c.issued)) c.hands a None tt w.in_hand;
-      in_deque = All-set (All (IsIssued c.issued)) c.deques a new
-          (All-append (IsIssued c.issued) (deque c a) (option_to_list (hand c a))
-          (all_at (All (IsIssued c.issued)) c.deques a [] w.in_deque (All-nil (IsIssued c.issued)))
-          (all_option (IsIssued c.issued) (hand c a) (all_at (λ o. IfSome o (IsIssued c.issued)) c.hands a None w.in_hand tt)))
-          w.in_deque;
-      in_results = w.in_results;
-      in_booked = w.in_booked;
-      window = w.window;
-      emitted = w.emitted;
-    }
+    kept_moved c (slice_set c.hands a None) (slice_set c.deques a new) c.results c.booked w (length-set c.hands a None) (length-set c.deques a new)
+    (λ h.
+    let put = weigh_put h option_to_list c.hands a None None (omega (arith, hands, lt)) in
+    let laid = weigh_put h (λ (jobs : List JobView). jobs) c.deques a new [] (omega (arith, deques, lt)) in
+    omega (arith, weigh_places h (after c (Push a)), weighed c w.once h, put, laid, sum_by-append h (deque c a) (option_to_list (hand c a))))
+    (All-set (λ o. IfSome o (IsIssued c.issued)) c.hands a None tt w.in_hand)
+    (All-set (All (IsIssued c.issued)) c.deques a new
+    (All-append (IsIssued c.issued) (deque c a) (option_to_list (hand c a))
+    (all_at (All (IsIssued c.issued)) c.deques a [] w.in_deque (All-nil (IsIssued c.issued)))
+    (all_option (IsIssued c.issued) (hand c a) (all_at (λ o. IfSome o (IsIssued c.issued)) c.hands a None w.in_hand tt)))
+    w.in_deque)
+    w.in_results w.in_booked
 
 pub kept_taken : (c : CoreView) (a owner : ℕ) → IsCore c → a < c.workers → owner < c.workers → hand c a ≡ None → IsCore (taken c a owner)
 kept_taken c a owner w here there none =
@@ -107,26 +120,16 @@ kept_taken c a owner w here there none =
     let front = slice_get (deque c owner) 0 in
     let rest = drop 1 (deque c owner) in
     let all : All (IsIssued c.issued) (deque c owner) = all_at (All (IsIssued c.issued)) c.deques owner [] w.in_deque (All-nil (IsIssued c.issued)) in
-    record {
-      some = w.some;
-      few = w.few;
-      wide = w.wide;
-      narrow = w.narrow;
-      hands = length-set c.hands a front ∙ w.hands;
-      deques = length-set c.deques owner rest ∙ w.deques;
-      numbered = w.numbered;
-      once = λ h.
-          let put = weigh_put h option_to_list c.hands a front None (omega (arith, hands, here)) in
-          let laid = weigh_put h (λ (jobs : List JobView). jobs) c.deques owner rest [] (omega (arith, deques, there)) in
-          let was : sum_by h (option_to_list (get_or c.hands a None)) ≡ 0 = ap (λ (o : Option JobView). sum_by h (option_to_list o)) none in
-          omega (arith, weigh_places h (taken c a owner), weighed c w.once h, put, laid, was, weigh_front h (deque c owner));
-      in_hand = All-set (λ o. IfSome o (IsIssued c.issued)) c.hands a front (all_front (IsIssued c.issued) (deque c owner) all) w.in_hand;
-      in_deque = All-set (All (IsIssued c.issued)) c.deques owner rest (All-drop (IsIssued c.issued) 1 (deque c owner) all) w.in_deque;
-      in_results = w.in_results;
-      in_booked = w.in_booked;
-      window = w.window;
-      emitted = w.emitted;
-    }
+    kept_moved c (slice_set c.hands a front) (slice_set c.deques owner rest) c.results c.booked w (length-set c.hands a front)
+    (length-set c.deques owner rest)
+    (λ h.
+    let put = weigh_put h option_to_list c.hands a front None (omega (arith, hands, here)) in
+    let laid = weigh_put h (λ (jobs : List JobView). jobs) c.deques owner rest [] (omega (arith, deques, there)) in
+    let was : sum_by h (option_to_list (get_or c.hands a None)) ≡ 0 = ap (λ (o : Option JobView). sum_by h (option_to_list o)) none in
+    omega (arith, weigh_places h (taken c a owner), weighed c w.once h, put, laid, was, weigh_front h (deque c owner)))
+    (All-set (λ o. IfSome o (IsIssued c.issued)) c.hands a front (all_front (IsIssued c.issued) (deque c owner) all) w.in_hand)
+    (All-set (All (IsIssued c.issued)) c.deques owner rest (All-drop (IsIssued c.issued) 1 (deque c owner) all) w.in_deque)
+    w.in_results w.in_booked
 
 kept_finish : (c : CoreView) (a : ℕ) (hit : Hit) → IsCore c → IsEnabled c (Finish a hit) → IsCore (after c (Finish a hit))
 kept_finish c a hit w on =
@@ -134,48 +137,25 @@ kept_finish c a hit w on =
     let hands = w.hands in
     let is : IfSome (hand c a) (IsIssued c.issued) = all_at (λ o. IfSome o (IsIssued c.issued)) c.hands a None w.in_hand tt in
     let issued : IsIssued c.issued hit.job = subst (λ (o : Option JobView). IfSome o (IsIssued c.issued)) on.1 is in
-    record {
-      some = w.some;
-      few = w.few;
-      wide = w.wide;
-      narrow = w.narrow;
-      hands = length-set c.hands a None ∙ w.hands;
-      deques = w.deques;
-      numbered = w.numbered;
-      once = λ h.
-          let put = weigh_put h option_to_list c.hands a None None (omega (arith, hands, lt)) in
-          let was : sum_by h (option_to_list (get_or c.hands a None)) ≡ sum_by h (hit.job ∷ []) =
-          ap (λ (o : Option JobView). sum_by h (option_to_list o)) on.1 in
-          omega (arith, weigh_places h (after c (Finish a hit)), weighed c w.once h, put, was, weigh_jobs h c.results (hit ∷ []));
-      in_hand = All-set (λ o. IfSome o (IsIssued c.issued)) c.hands a None tt w.in_hand;
-      in_deque = w.in_deque;
-      in_results = All-append (λ (x : Hit). IsIssued c.issued x.job) c.results (hit ∷ []) w.in_results
-          (All-cons (λ (x : Hit). IsIssued c.issued x.job) hit [] issued (All-nil (λ (x : Hit). IsIssued c.issued x.job)));
-      in_booked = w.in_booked;
-      window = w.window;
-      emitted = w.emitted;
-    }
+    kept_moved c (slice_set c.hands a None) c.deques (c.results ++ hit ∷ []) c.booked w (length-set c.hands a None) refl
+    (λ h.
+    let put = weigh_put h option_to_list c.hands a None None (omega (arith, hands, lt)) in
+    let was : sum_by h (option_to_list (get_or c.hands a None)) ≡ sum_by h (hit.job ∷ []) =
+    ap (λ (o : Option JobView). sum_by h (option_to_list o)) on.1 in
+    omega (arith, weigh_places h (after c (Finish a hit)), weighed c w.once h, put, was, weigh_jobs h c.results (hit ∷ [])))
+    (All-set (λ o. IfSome o (IsIssued c.issued)) c.hands a None tt w.in_hand) w.in_deque
+    (All-append (λ (x : Hit). IsIssued c.issued x.job) c.results (hit ∷ []) w.in_results
+    (All-cons (λ (x : Hit). IsIssued c.issued x.job) hit [] issued (All-nil (λ (x : Hit). IsIssued c.issued x.job))))
+    w.in_booked
 
 pub kept_accept : (c : CoreView) (n : ℕ) → IsCore c → IsCore (after c (Accept n))
 kept_accept c n w =
     let found = option_to_list (hit_of n c.results) in
-    record {
-      some = w.some;
-      few = w.few;
-      wide = w.wide;
-      narrow = w.narrow;
-      hands = w.hands;
-      deques = w.deques;
-      numbered = w.numbered;
-      once = λ h. omega (arith, weigh_places h (after c (Accept n)), weighed c w.once h, weigh_without h n c.results, weigh_jobs h c.booked found);
-      in_hand = w.in_hand;
-      in_deque = w.in_deque;
-      in_results = all_without (λ (x : Hit). IsIssued c.issued x.job) n c.results w.in_results;
-      in_booked = All-append (λ (x : Hit). IsIssued c.issued x.job) c.booked found w.in_booked
-          (all_option (λ (x : Hit). IsIssued c.issued x.job) (hit_of n c.results) (all_hit_of (λ (x : Hit). IsIssued c.issued x.job) n c.results w.in_results));
-      window = w.window;
-      emitted = w.emitted;
-    }
+    kept_moved c c.hands c.deques (without n c.results) (c.booked ++ found) w refl refl
+    (λ h. omega (arith, weigh_places h (after c (Accept n)), weighed c w.once h, weigh_without h n c.results, weigh_jobs h c.booked found))
+    w.in_hand w.in_deque (all_without (λ (x : Hit). IsIssued c.issued x.job) n c.results w.in_results)
+    (All-append (λ (x : Hit). IsIssued c.issued x.job) c.booked found w.in_booked
+    (all_option (λ (x : Hit). IsIssued c.issued x.job) (hit_of n c.results) (all_hit_of (λ (x : Hit). IsIssued c.issued x.job) n c.results w.in_results)))
 
 pub kept_emit : (c : CoreView) → IsCore c → IsEnabled c Emit → IsCore (after c Emit)
 kept_emit c w on =

@@ -25,28 +25,26 @@ IsFrom off xs = (k : ℕ) (j : JobView) → slice_get xs k ≡ Some j → j.numb
 from_next : (off : ℕ) (x : JobView) (xs : List JobView) → IsFrom off (x ∷ xs) → IsFrom (suc off) xs
 from_next off x xs from k j e = let is = from (suc k) j e in omega (arith, is)
 
--- jobs that are numbered one after another have each number once
-pub absent : (n off : ℕ) (xs : List JobView) → IsFrom off xs → n < off → sum_by (one_of n) xs ≡ 0
-absent n off [] from lt = refl
-absent n off (x ∷ xs) from lt =
+-- none of the jobs that are numbered from here on has a number of none of them
+not_among : (n off : ℕ) (xs : List JobView) → IsFrom off xs → ((k : ℕ) → k < length xs → off + k ≢ n) → sum_by (one_of n) xs ≡ 0
+not_among n off [] from others = refl
+not_among n off (x ∷ xs) from others =
     let is = from 0 x refl in
+    let first = others 0 (omega arith) in
     omega (
       arith,
       sum_by-cons (one_of n) x xs,
-      one_not n x (let other : x.number ≢ n = omega (arith, is, lt) in other),
-      absent n (suc off) xs (from_next off x xs from) (omega (arith, lt)),
+      one_not n x (let other : x.number ≢ n = omega (arith, is, first) in other),
+      not_among n (suc off) xs (from_next off x xs from)
+          (λ k lt. let next = others (suc k) (omega (arith, lt)) in let other : suc off + k ≢ n = omega (arith, next) in other),
     )
 
+-- jobs that are numbered one after another have each number once
+pub absent : (n off : ℕ) (xs : List JobView) → IsFrom off xs → n < off → sum_by (one_of n) xs ≡ 0
+absent n off xs from lt = not_among n off xs from (λ k below. let other : off + k ≢ n = omega (arith, lt) in other)
+
 pub beyond : (n off : ℕ) (xs : List JobView) → IsFrom off xs → off + length xs ≤ n → sum_by (one_of n) xs ≡ 0
-beyond n off [] from ge = refl
-beyond n off (x ∷ xs) from ge =
-    let is = from 0 x refl in
-    omega (
-      arith,
-      sum_by-cons (one_of n) x xs,
-      one_not n x (let other : x.number ≢ n = omega (arith, is, ge) in other),
-      beyond n (suc off) xs (from_next off x xs from) (omega (arith, ge)),
-    )
+beyond n off xs from ge = not_among n off xs from (λ k below. let other : off + k ≢ n = omega (arith, ge, below) in other)
 
 pub present : (n off d : ℕ) (xs : List JobView) → IsFrom off xs → n ≡ off + d → d < length xs → sum_by (one_of n) xs ≡ 1
 present n off d [] from is lt = absurd (omega (arith, lt))

@@ -20,6 +20,19 @@ pub record CoreView : Type 0 where
   pub booked : List Hit
   pub emitted : List Hit
 
+-- the state of these parts
+abbrev pub core : ℕ → ℕ → List JobView → List (Option JobView) → List (List JobView) → List Hit → List Hit → List Hit → CoreView
+core workers window issued hands deques results booked emitted = record {
+  workers = workers;
+  window = window;
+  issued = issued;
+  hands = hands;
+  deques = deques;
+  results = results;
+  booked = booked;
+  emitted = emitted;
+}
+
 -- what an actor has in hand, and its deque
 abbrev pub hand : CoreView → ℕ → Option JobView
 hand c a = slice_index_or c.hands a None
@@ -50,89 +63,26 @@ IsEnabled c Emit = IsSome (hit_of (length c.emitted) c.booked)
 
 -- the front of a deque goes into a hand
 abbrev pub taken : CoreView → ℕ → ℕ → CoreView
-taken c a owner = record {
-  workers = c.workers;
-  window = c.window;
-  issued = c.issued;
-  hands = slice_set c.hands a (slice_get (deque c owner) 0);
-  deques = slice_set c.deques owner (drop 1 (deque c owner));
-  results = c.results;
-  booked = c.booked;
-  emitted = c.emitted;
-}
+taken c a owner = record c { hands = slice_set c.hands a (slice_get (deque c owner) 0); deques = slice_set c.deques owner (drop 1 (deque c owner)) }
 
 -- the state after an event
 abbrev pub after : CoreView → Event → CoreView
 -- the job is in the caller's hand
-after c (Issue job) = record {
-  workers = c.workers;
-  window = c.window;
-  issued = c.issued ++ job ∷ [];
-  hands = slice_set c.hands 0 (Some job);
-  deques = c.deques;
-  results = c.results;
-  booked = c.booked;
-  emitted = c.emitted;
-}
+after c (Issue job) = record c { issued = c.issued ++ job ∷ []; hands = slice_set c.hands 0 (Some job) }
 -- the job in the hand is the last of the actor's deque
-after c (Push a) = record {
-  workers = c.workers;
-  window = c.window;
-  issued = c.issued;
-  hands = slice_set c.hands a None;
-  deques = slice_set c.deques a (deque c a ++ option_to_list (hand c a));
-  results = c.results;
-  booked = c.booked;
-  emitted = c.emitted;
-}
+after c (Push a) = record c { hands = slice_set c.hands a None; deques = slice_set c.deques a (deque c a ++ option_to_list (hand c a)) }
 after c (Pop a) = taken c a a
 after c (Steal thief owner) = taken c thief owner
 -- the hit is among the results, and the hand is empty
-after c (Finish a hit) = record {
-  workers = c.workers;
-  window = c.window;
-  issued = c.issued;
-  hands = slice_set c.hands a None;
-  deques = c.deques;
-  results = c.results ++ hit ∷ [];
-  booked = c.booked;
-  emitted = c.emitted;
-}
+after c (Finish a hit) = record c { hands = slice_set c.hands a None; results = c.results ++ hit ∷ [] }
 -- the result of this number is booked
-after c (Accept n) = record {
-  workers = c.workers;
-  window = c.window;
-  issued = c.issued;
-  hands = c.hands;
-  deques = c.deques;
-  results = without n c.results;
-  booked = c.booked ++ option_to_list (hit_of n c.results);
-  emitted = c.emitted;
-}
+after c (Accept n) = record c { results = without n c.results; booked = c.booked ++ option_to_list (hit_of n c.results) }
 -- the booked hit of the lowest number that is not emitted is the last one emitted
-after c Emit = record {
-  workers = c.workers;
-  window = c.window;
-  issued = c.issued;
-  hands = c.hands;
-  deques = c.deques;
-  results = c.results;
-  booked = without (length c.emitted) c.booked;
-  emitted = c.emitted ++ option_to_list (hit_of (length c.emitted) c.booked);
-}
+after c Emit = record c { booked = without (length c.emitted) c.booked; emitted = c.emitted ++ option_to_list (hit_of (length c.emitted) c.booked) }
 
 -- nothing is issued yet
 abbrev pub empty : ℕ → ℕ → CoreView
-empty workers window = record {
-  workers = workers;
-  window = window;
-  issued = [];
-  hands = replicate workers None;
-  deques = replicate workers [];
-  results = [];
-  booked = [];
-  emitted = [];
-}
+empty workers window = core workers window [] (replicate workers None) (replicate workers []) [] [] []
 
 -- the state after these events, and whether each is enabled in its turn
 abbrev pub after_all : CoreView → List Event → CoreView

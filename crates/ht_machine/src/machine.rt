@@ -26,32 +26,15 @@ pub struct Core {
 }
 
 impl Model for Core {
-    ghost use Rattle.ht_machine.specs.Machine.{CoreView};
+    ghost use Rattle.ht_machine.specs.Machine.{CoreView, core};
     ghost use Rattle.ht_machine.specs.Facts.{IsCore};
 
     ghost Value = { CoreView };
 
-    ghost view = { λ c. record {
-      workers = c.workers;
-      window = c.window;
-      issued = c.issued.items;
-      hands = c.hands.items;
-      deques = c.deques.items;
-      results = c.results.items;
-      booked = c.booked.items;
-      emitted = c.emitted.items;
-    } };
+    ghost view = { λ c. core c.workers c.window c.issued.items c.hands.items c.deques.items c.results.items c.booked.items c.emitted.items };
 
-    ghost invariant = { λ c. IsCore (record {
-      workers = c.workers;
-      window = c.window;
-      issued = c.issued.items;
-      hands = c.hands.items;
-      deques = c.deques.items;
-      results = c.results.items;
-      booked = c.booked.items;
-      emitted = c.emitted.items;
-    }) };
+    ghost invariant = { λ c. IsCore
+        (core c.workers c.window c.issued.items c.hands.items c.deques.items c.results.items c.booked.items c.emitted.items) };
 }
 
 impl Core {

@@ -1,6 +1,7 @@
 -- What the lanes of captures came to, capture by capture.
 use Rattle.std.specs.Prelude.{◌≡◌, ◌≢◌, ℕ, ◌<◌, ◌≤◌, List, [], ◌∷◌, length, map, get_or, Bool, true, false, nat_lt, Option, None, Result, Ok, Err, IfOk, MatchResult, OnErr}
 use Rattle.std.proofs.Common.{refl, ap, ◌∙◌, sym, subst, arith}
+use Rattle.std.specs.Global.{Vec}
 use Rattle.std.proofs.lemmas.Bool.Decides.{nat_tests}
 use Rattle.std.proofs.lemmas.List.{get_or-map, get_or_past, length-map}
 use Rattle.ht_io.specs.Devices.{Device, IsLater}
@@ -14,7 +15,6 @@ use Rattle.ht_feed.specs.declared.ended.Ended.TheVariants.{Done, Refused}
 use Rattle.ht_feed.specs.declared.book_fault.BookFault.{BookFault}
 use Rattle.ht_feed.specs.Accounts.{Telling}
 use Rattle.ht_feed.specs.Desks.{DeskView, desk_view}
-use Rattle.ht_feed.specs.Leading.{tells_by-none}
 use Rattle.ht_feed.specs.Outcomes.{Comes}
 use Rattle.ht_feed.specs.Telling.{TellsBy, seen_by}
 use Rattle.ht_results.specs.Texts.{frame_lines_of, result_line, rx_text}
@@ -23,19 +23,20 @@ use Rattle.ht_rx.proofs.Blocks.{comes_to}
 use Rattle.ht_rx.proofs.Gathered.{gathered_told}
 use Rattle.ht_rx.proofs.Booking.{lines_told}
 use Rattle.ht_lanes.specs.DeskLanes.{lane_told}
-use Rattle.ht_lanes.specs.Lanes.{AreFinished, AreOver, HaveNone, Side, Sides, side_at}
+use Rattle.ht_lanes.specs.Lanes.{AreFinished, AreOver, HaveNone, RunsLanes, Side, Sides, side_at}
 use Rattle.ht_lanes.proofs.LaneEnds.{lane_ends, lane_lacks, lane_puts_later, lane_reads_later, lane_steady}
 use Rattle.ht_fields.proofs.Putting.{on_err_then}
 use Rattle.ht_runs.proofs.Outcomes.{told_nothing}
 use Rattle.ht_capture.specs.Fields.{captures}
 use Rattle.ht_several.specs.declared.many_end.ManyEnd.{ManyEnd}
 use Rattle.ht_several.specs.Alone.{Heard, PutsPart}
-use Rattle.ht_several.specs.Several.{AreLater, EachEnds, EachHeard, EachInPart, answer_at, devices}
+use Rattle.ht_several.specs.Several.{AreLater, Devices, EachEnds, EachHeard, EachInPart, answer_at, devices}
 use Rattle.ht_several.specs.LastLines.{EachFinishes, EachMayFinish, KeepSinks}
 use Rattle.ht_several.proofs.LastLines.{each_ends, each_in_part, last_later}
 use Rattle.ht_several.proofs.Ending.{heard_part}
 use Rattle.ht_many.specs.CaptureLanes.{AreNew, IsNew, Lane, LaneLeads, LanesLead, lane_answer, lane_due, lane_finished, lane_over, lane_rests, lane_seen, reader_at, reader_means}
 use Rattle.ht_many.specs.KeptFrames.{lines_left}
+use Rattle.ht_many.specs.Receiving.{ReceivesEach}
 
 -- what an answer says of the octets of a capture
 told_heard : (a b c d : Device ℕ) (answer : Result Ended StopFault) → MatchResult answer (TellsTo frame_lines_of a b c d) (StopsBy frame_lines_of a b c d)
@@ -62,6 +63,19 @@ past_both : {X : Type 0} (xs ys : List X) (k : ℕ) (x : X) → length ys ≡ le
 past_both xs ys k x same high =
     let beyond : length ys ≤ k = omega (arith, same, high) in
     get_or_past ys k x beyond ∙ sym (get_or_past xs k x high)
+
+-- of as many devices, each is the same at a later time, where the first ones are
+later_at : {X : Type 0} (shown : X → Device ℕ) (xs ys : List X) (count : ℕ) → length ys ≡ length xs → length xs ≡ count
+    → ((k : ℕ) (x : X) → k < count → IsLater (shown (get_or xs k x)) (shown (get_or ys k x)))
+    → (k : ℕ) (x : X) → IsLater (shown (get_or xs k x)) (shown (get_or ys k x))
+later_at {X = X} shown xs ys count same as_many first k x = all (nat_lt k count) refl
+  where
+    all : (u : Bool) → nat_lt k count ≡ u → IsLater (shown (get_or xs k x)) (shown (get_or ys k x))
+    all true e = first k x (grind (arith, nat_tests, e))
+    all false e =
+        let high : count ≤ k = grind (arith, nat_tests, e) in
+        subst (λ (y : X). IsLater (shown (get_or xs k x)) (shown y)) (sym (past_both xs ys k x same (omega (arith, high, as_many))))
+        (later-refl (shown (get_or xs k x)))
 
 -- the devices of a lane are seen so
 module _ {S K : Type 0} (source : S → Device ℕ) (sink : K → Device ℕ) where
@@ -128,15 +142,6 @@ module _ {S K : Type 0} (source : S → Device ℕ) (sink : K → Device ℕ) wh
   pub none_taken : (sources : List S) (sinks : List K) → EachInPart source sink (devices sources sinks) (devices sources sinks)
   none_taken sources sinks = λ k few s t. told_nothing captures (source (get_or sources k s)) rx_text (sink (get_or sinks k t))
 
-  -- lanes did nothing
-  pub lanes_stay : (a : Sides Lane S K) → LanesLead source sink a a
-  lanes_stay a = record {
-    lanes = refl;
-    sources = refl;
-    sinks = refl;
-    each = λ l s t k within. let x = side_at a l s t k in tells_by-none x.lane.failed (lane_seen source sink x);
-  }
-
   -- new lanes did this, each with its own source and its own sink
   module _ (a b : Sides Lane S K) (new : AreNew a.lanes) (leads : LanesLead source sink a b) (sources : length a.sources ≡ length a.lanes)
       (sinks : length a.sinks ≡ length a.lanes) where
@@ -146,38 +151,21 @@ module _ {S K : Type 0} (source : S → Device ℕ) (sink : K → Device ℕ) wh
     sink_here : (k : ℕ) → k < length a.lanes → K
     sink_here k few = some_of a.sinks k (omega (arith, few, sinks))
 
-    source_past : (k : ℕ) (s : S) → length a.lanes ≤ k → get_or b.sources k s ≡ get_or a.sources k s
-    source_past k s high = past_both a.sources b.sources k s leads.sources (omega (arith, high, sources))
-
     sink_past : (k : ℕ) (t : K) → length a.lanes ≤ k → get_or b.sinks k t ≡ get_or a.sinks k t
     sink_past k t high = past_both a.sinks b.sinks k t leads.sinks (omega (arith, high, sinks))
-
-    reads : (u : Bool) (k : ℕ) (s : S) → nat_lt k (length a.lanes) ≡ u → IsLater (source (get_or a.sources k s)) (source (get_or b.sources k s))
-    reads true k s e =
-        let few : k < length a.lanes = grind (arith, nat_tests, e) in
-        let l = some_of a.lanes k few in
-        let t = sink_here k few in
-        side_reads_later (side_at a l s t k) (side_at b l s t k) (new l k few) (leads.each l s t k few)
-    reads false k s e =
-        subst (λ (x : S). IsLater (source (get_or a.sources k s)) (source x)) (sym (source_past k s (grind (arith, nat_tests, e))))
-        (later-refl (source (get_or a.sources k s)))
-
-    puts : (u : Bool) (k : ℕ) (t : K) → nat_lt k (length a.lanes) ≡ u → IsLater (sink (get_or a.sinks k t)) (sink (get_or b.sinks k t))
-    puts true k t e =
-        let few : k < length a.lanes = grind (arith, nat_tests, e) in
-        let l = some_of a.lanes k few in
-        let s = source_here k few in
-        side_puts_later (side_at a l s t k) (side_at b l s t k) (new l k few) (leads.each l s t k few)
-    puts false k t e =
-        subst (λ (x : K). IsLater (sink (get_or a.sinks k t)) (sink x)) (sym (sink_past k t (grind (arith, nat_tests, e))))
-        (later-refl (sink (get_or a.sinks k t)))
 
     pub lanes_later : AreLater source sink (devices a.sources a.sinks) (devices b.sources b.sinks)
     lanes_later = record {
       sources = leads.sources;
       sinks = leads.sinks;
-      reads = λ k s. reads (nat_lt k (length a.lanes)) k s refl;
-      puts = λ k t. puts (nat_lt k (length a.lanes)) k t refl;
+      reads = later_at source a.sources b.sources (length a.lanes) leads.sources sources (λ k s few.
+          let l = some_of a.lanes k few in
+          let t = sink_here k few in
+          side_reads_later (side_at a l s t k) (side_at b l s t k) (new l k few) (leads.each l s t k few));
+      puts = later_at sink a.sinks b.sinks (length a.lanes) leads.sinks sinks (λ k t few.
+          let l = some_of a.lanes k few in
+          let s = source_here k few in
+          side_puts_later (side_at a l s t k) (side_at b l s t k) (new l k few) (leads.each l s t k few));
     }
 
     within : (k : ℕ) → k < length a.sources → k < length a.lanes
@@ -226,30 +214,47 @@ module _ {S K : Type 0} (source : S → Device ℕ) (sink : K → Device ℕ) wh
           writes = λ k t. steady (nat_lt k (length a.lanes)) k t refl;
         }
 
-        -- the lanes as they were seen then, and the sinks behind the last lines
-        module _ (lanes : List Lane) (seen : lanes ≡ b.lanes) (after : List K) (keep : KeepSinks sink b.sinks after) where
-          heard_by : EachHeard source sink (devices a.sources a.sinks) (devices b.sources b.sinks) (map lane_answer lanes)
-          heard_by =
-              subst (λ (ls : List Lane). EachHeard source sink (devices a.sources a.sinks) (devices b.sources b.sinks) (map lane_answer ls)) (sym seen) lanes_heard
+  -- new lanes, each with its own source and its own sink, were run; where memory sufficed their last lines were put
+  module _ {a b : Sides Lane S K} (new : AreNew a.lanes) (sources : length a.sources ≡ length a.lanes) (sinks : length a.sinks ≡ length a.lanes) where
+    pub received_part : {A E : Type 0} {lack : E} → RunsLanes {A = A} (LaneLeads source sink) lane_due lane_rests lane_over lane_finished (Err lack) a b
+        → ReceivesEach source sink (Err lack) (devices a.sources a.sinks) (devices b.sources b.sinks)
+    received_part run = record {
+      ends = tt;
+      memory = lanes_part a b new run.leads sources sinks;
+      later = lanes_later a b new run.leads sources sinks;
+    }
 
-          pub all_later : AreLater source sink (devices a.sources a.sinks) (devices b.sources after)
-          all_later =
-              last_later source sink (devices a.sources a.sinks) (devices b.sources b.sinks) after (map lane_answer lanes) heard_by lanes_later keep
+    pub received : {A E F : Type 0} {x : A} (after : List K) (result : Result (Vec ManyEnd) F)
+        → RunsLanes {E = E} (LaneLeads source sink) lane_due lane_rests lane_over lane_finished (Ok x) a b
+        → IfOk result (λ ends. EachFinishes sink b.sinks after (map lane_answer b.lanes) ends.items)
+        → OnErr result (EachMayFinish sink b.sinks after (map lane_answer b.lanes)) → KeepSinks sink b.sinks after
+        → ReceivesEach source sink result (devices a.sources a.sinks) (devices b.sources after)
+    received after result run finishes may keep =
+        let answers : List (Result Ended StopFault) = map lane_answer b.lanes in
+        let first : Devices S K = devices a.sources a.sinks in
+        let mid : Devices S K = devices b.sources b.sinks in
+        let last : Devices S K = devices b.sources after in
+        let heard = lanes_heard a b new run.leads sources sinks run.over run.taken run.finished in
+        let later = lanes_later a b new run.leads sources sinks in
+        record {
+          ends = then_ok (λ (ends : Vec ManyEnd). EachFinishes sink b.sinks after answers ends.items)
+              (λ (ends : Vec ManyEnd). EachEnds source sink first last ends.items) result
+              (λ ends finish. each_ends source sink first mid after answers heard later ends.items finish keep (sinks ∙ sym sources)) finishes;
+          memory = on_err_then (EachMayFinish sink b.sinks after answers) (EachInPart source sink first last) result
+              (λ m. each_in_part source sink first mid after answers heard later m) may;
+          later = last_later source sink first mid after answers heard later keep;
+        }
 
-          -- their last lines were put
-          pub all_end : {X E : Type 0} (ends : X → List ManyEnd) (result : Result X E)
-              → IfOk result (λ x. EachFinishes sink b.sinks after (map lane_answer lanes) (ends x))
-              → IfOk result (λ x. EachEnds source sink (devices a.sources a.sinks) (devices b.sources after) (ends x))
-          all_end ends result finishes =
-              then_ok (λ x. EachFinishes sink b.sinks after (map lane_answer lanes) (ends x))
-              (λ x. EachEnds source sink (devices a.sources a.sinks) (devices b.sources after) (ends x)) result
-              (λ x finish. each_ends source sink (devices a.sources a.sinks) (devices b.sources b.sinks) after (map lane_answer lanes) heard_by lanes_later
-              (ends x) finish keep (sinks ∙ sym sources)) finishes
-
-          -- memory lacked between them
-          pub all_part : {X E : Type 0} (result : Result X E) → OnErr result (EachMayFinish sink b.sinks after (map lane_answer lanes))
-              → OnErr result (EachInPart source sink (devices a.sources a.sinks) (devices b.sources after))
-          all_part result may =
-              on_err_then (EachMayFinish sink b.sinks after (map lane_answer lanes))
-              (EachInPart source sink (devices a.sources a.sinks) (devices b.sources after)) result
-              (λ m. each_in_part source sink (devices a.sources a.sinks) (devices b.sources b.sinks) after (map lane_answer lanes) heard_by lanes_later m) may
+  -- memory lacked before anything was taken or put
+  pub none_received : {E : Type 0} (lack : E) (sources : List S) (sinks : List K)
+      → ReceivesEach source sink (Err lack) (devices sources sinks) (devices sources sinks)
+  none_received lack sources sinks = record {
+    ends = tt;
+    memory = none_taken sources sinks;
+    later = record {
+      sources = refl;
+      sinks = refl;
+      reads = λ k s. later-refl (source (get_or sources k s));
+      puts = λ k t. later-refl (sink (get_or sinks k t));
+    };
+  }

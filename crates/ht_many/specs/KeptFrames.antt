@@ -4,6 +4,7 @@ use Rattle.std.specs.Prelude.{ℕ, List}
 use Rattle.ht_capture.specs.declared.items.FrameHead.{FrameHead}
 use Rattle.ht_feed.specs.Items.{Headed}
 use Rattle.ht_frames.specs.Gathering.{booked_behind}
+use Rattle.ht_results.specs.declared.frame_result.FrameResult.{FrameResult}
 use Rattle.ht_results.specs.Folding.{FrameSoFar, result_of}
 use Rattle.ht_results.specs.Texts.{result_line}
 use Rattle.ht_rx.specs.Frames.{results_in}
@@ -15,6 +16,10 @@ pub record KeptFrames : Type 0 where
 abbrev pub kept_frames : FrameSoFar → List FrameSoFar → KeptFrames
 kept_frames under_way whole = record { under_way = under_way; whole = whole }
 
--- the lines that are put in all if the hits of exactly these jobs still come
+-- what is booked in all if the hits of exactly these jobs still come
+abbrev pub booked_left : {P : Type 0} → (FrameResult → List P) → KeptFrames → List (Headed FrameHead) → List P
+booked_left booked kept = booked_behind result_of booked kept.whole (results_in kept.under_way)
+
+-- the lines that are put then
 abbrev pub lines_left : KeptFrames → List (Headed FrameHead) → List ℕ
-lines_left kept = booked_behind result_of result_line kept.whole (results_in kept.under_way)
+lines_left = booked_left result_line

@@ -2,3 +2,4 @@ pub mod Renumbering
 pub mod KeptFrames
 pub mod CaptureLanes
 pub mod Apart
+pub mod Receiving

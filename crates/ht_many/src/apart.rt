@@ -4,7 +4,7 @@ ghost use Rattle.ht_io.specs.Writing.{Growing};
 ghost use Rattle.ht_results.specs.Texts.{rx_text};
 ghost use Rattle.ht_many.specs.Apart.{AreReceived, HoldsText, captures_in, held_all, texts_in};
 
-use crate::calls::texts;
+use crate::alone::Alone;
 use ht_bundles::Bundled;
 use ht_feed::Gate;
 use ht_io::GrowSink;
@@ -56,7 +56,12 @@ fn text_of<G: Gate>(alloc: Global, window: u16, capture: Bundled, gate: &G) -> O
     let Ok(()) = captures.push(capture) else {
         return None;
     };
-    match texts(alloc, window, captures, gate) {
+    let alone = Alone {
+        alloc,
+        window,
+        gate,
+    };
+    match alone.texts(captures) {
         Ok(mut sinks) => sinks.pop(),
         Err(_) => None,
     }

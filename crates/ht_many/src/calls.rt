@@ -1,26 +1,28 @@
-//! Several captures in this thread.
-ghost use Rattle.std.specs.Prelude.{◌≡◌, ◌≢◌, ◌≤◌, length, map, Err, IfOk, OnErr};
-ghost use Rattle.ht_io.specs.Writing.{Growing};
-ghost use Rattle.ht_results.specs.Texts.{rx_text};
+//! Several captures in this thread, with one crew of workers, or each whole by one worker.
+ghost use Rattle.std.specs.Prelude.{◌≡◌, ◌≢◌, ◌≤◌, length, Err};
 ghost use Rattle.ht_runs.specs.Converted.{Converted};
 ghost use Rattle.ht_runs.specs.Filters.{SaysNothing};
 ghost use Rattle.ht_runs.specs.declared.faults.RunFault.TheVariants.{Write};
 ghost use Rattle.ht_several.specs.Bundles.{receiving};
-ghost use Rattle.ht_several.specs.Several.{AreLater, EachEnds, EachInPart, devices};
+ghost use Rattle.ht_several.specs.Several.{devices};
+ghost use Rattle.ht_many.specs.Receiving.{ReceivesEach};
 
-use crate::receiving::receive_alone;
-use ht_bundles::{Bundled, read_bundle};
+use crate::alone::Alone;
+use crate::crew::Crew;
+use ht_bundles::read_bundle;
 use ht_feed::Gate;
-use ht_io::{GrowSink, Sink, Source};
+use ht_io::{Sink, Source};
 use ht_runs::RunFault;
-use ht_several::{ManyEnd, have_text, put_texts, sinks_of, sources_of};
+use ht_several::{ManyEnd, put_texts};
 use std::alloc::{AllocError, Global};
+use std::sync::Wait;
+use std::thread::Threads;
 
 /// Receives several captures, each from its own source, and puts the text of each into its own sink: the line of each
 /// frame that is whole before the capture's first fault, and the last line. It answers how each capture ended, in
 /// their order.
 ///
-/// There are as many sinks as sources, 1 to 16. Blocks of jobs are taken from the captures beside one another, so each
+/// There are as many sinks as sources. Blocks of jobs are taken from the captures beside one another, so each
 /// has a frame under way, and at most `window` jobs, 1 to 4096, of all captures together are due at a time. Every job
 /// is run in this thread, between the two calls of the gate, which knows it by its number among the jobs of all
 /// captures. The last lines are put once no capture gives a job any more.
@@ -36,41 +38,49 @@ pub fn many_alone<S: Source, K: Sink, G: Gate>(
 ) -> Result<Vec<ManyEnd>, AllocError>
     requires some { 1 ≤ window }
     requires few { window ≤ 4096 }
-    requires one { 1 ≤ length sources.old }
-    requires sixteen { length sources.old ≤ 16 }
     requires pairs { length sinks.old ≡ length sources.old }
-
-    // Of each capture its end says what was taken from its source and put into its sink, whatever became of the others.
-    // Where it isn't `Write`, its sink didn't fail.
-    ensures ends { IfOk result (λ ends. EachEnds S.shown K.shown (devices sources.old sinks.old) (devices sources.new sinks.new) ends.items) }
-    ensures memory { OnErr result (EachInPart S.shown K.shown (devices sources.old sinks.old) (devices sources.new sinks.new)) }
-
-    // However it ends, the devices are the same, and take back no fault.
-    ensures later { AreLater S.shown K.shown (devices sources.old sinks.old) (devices sources.new sinks.new) }
+    ensures { ReceivesEach S.shown K.shown result (devices sources.old sinks.old) (devices sources.new sinks.new) }
 {
-    receive_alone(alloc, window, sources, sinks, gate)
+    let alone = Alone {
+        alloc,
+        window,
+        gate,
+    };
+    alone.receive(sources, sinks)
 }
 
-/// The text of each capture. These sources never fail, and these sinks only for lack of memory.
-pub(crate) fn texts<G: Gate>(
+/// Does as [`many_alone`], and the jobs of all captures are run by one crew of 1 to 64 workers, of
+/// which the caller is one. The caller alone reads the sources and puts the lines.
+///
+/// A whole frame of 100 octets or more is given to the workers, who decode it before they look for jobs; the caller decodes
+/// shorter ones, one that is whole with the last block due of a capture whose end was read, and while it waits those that no
+/// worker has begun. The lines of each capture are put in order. Behind each block taken, at most two whole frames of each
+/// capture for each worker beside the caller have no line yet, and those that were given to the workers have at most 131,072
+/// octets together; no clause says so. Once no capture gives a job any more, the lines of all whole frames are put.
+pub fn many<R: Threads + Wait + Sync, S: Source, K: Sink, G: Gate + Sync>(
+    rt: &R,
     alloc: Global,
+    workers: u8,
     window: u16,
-    captures: Vec<Bundled>,
+    sources: &mut [S],
+    sinks: &mut [K],
     gate: &G,
-) -> Result<Vec<GrowSink>, AllocError>
+) -> Result<Vec<ManyEnd>, AllocError>
+    requires least { 1 ≤ workers }
+    requires most { workers ≤ 64 }
     requires some { 1 ≤ window }
     requires few { window ≤ 4096 }
-    ensures { IfOk result (λ sinks. map (λ (s : Growing). s.held) sinks.items ≡ map rx_text captures.items) }
+    requires pairs { length sinks.old ≡ length sources.old }
+    ensures { ReceivesEach S.shown K.shown result (devices sources.old sinks.old) (devices sources.new sinks.new) }
 {
-    let count = captures.len();
-    let mut sources = sources_of(alloc, captures)?;
-    let mut sinks = sinks_of(alloc, count)?;
-    let ends = receive_alone(alloc, window, &mut sources, &mut sinks, gate)?;
-    if have_text(&ends) {
-        Ok(sinks)
-    } else {
-        Err(AllocError)
-    }
+    let crew = Crew {
+        rt,
+        alloc,
+        workers,
+        window,
+        gate,
+    };
+    crew.receive(sources, sinks)
 }
 
 /// Reads a bundle of captures (HTMB) to its end, receives all of them, and puts for each the line
@@ -92,7 +102,47 @@ pub fn many_bundle_alone<S: Source, K: Sink, G: Gate>(
     ensures converts { Converted receiving (S.shown source.old) (S.shown source.new) (K.shown sink.old) (K.shown sink.new) SaysNothing result }
     ensures writes { result ≢ Err Write → (K.shown sink.new).faults ≡ (K.shown sink.old).faults }
 {
+    let alone = Alone {
+        alloc,
+        window,
+        gate,
+    };
     let captures = read_bundle(alloc, source)?;
-    let texts = texts(alloc, window, captures, gate)?;
+    let texts = alone.texts(captures)?;
+    put_texts(alloc, &texts, sink)
+}
+
+/// Does as [`many_bundle_alone`], with 1 to 64 workers, of which the caller is one.
+///
+/// The captures are dealt out in order, as many to each worker as captures by workers, rounded up, until none is left. Where
+/// no worker gets more than five quarters of its share of the octets, each receives its captures whole, one after the other,
+/// with its share of the window. The gate then knows a job by its number among those of its capture, so several threads may
+/// enter it with one number at a time. Elsewhere, and where `window` is below `workers`, one crew runs the jobs of all
+/// captures. No clause says which.
+pub fn many_bundle<R: Threads + Wait + Sync, S: Source, K: Sink, G: Gate + Sync>(
+    rt: &R,
+    alloc: Global,
+    workers: u8,
+    window: u16,
+    source: &mut S,
+    sink: &mut K,
+    gate: &G,
+) -> Result<(), RunFault>
+    requires least { 1 ≤ workers }
+    requires most { workers ≤ 64 }
+    requires some { 1 ≤ window }
+    requires few { window ≤ 4096 }
+    ensures converts { Converted receiving (S.shown source.old) (S.shown source.new) (K.shown sink.old) (K.shown sink.new) SaysNothing result }
+    ensures writes { result ≢ Err Write → (K.shown sink.new).faults ≡ (K.shown sink.old).faults }
+{
+    let crew = Crew {
+        rt,
+        alloc,
+        workers,
+        window,
+        gate,
+    };
+    let captures = read_bundle(alloc, source)?;
+    let texts = crew.texts(captures)?;
     put_texts(alloc, &texts, sink)
 }

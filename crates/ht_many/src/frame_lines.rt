@@ -1,13 +1,9 @@
 //! What becomes of the hits of one capture among several, in one thread.
-ghost use Rattle.std.specs.Prelude.{◌≡◌, [], drop, slice_get, take, Some, IfErr, OnErr, OnOk};
-ghost use Rattle.ht_io.specs.Devices.{IsLater, Rose};
-ghost use Rattle.ht_feed.specs.Accounts.{PutsBlock, PutsPartOf};
+ghost use Rattle.std.specs.Prelude.{◌≡◌, [], drop, slice_get, take, Some, OnErr, OnOk};
 ghost use Rattle.ht_feed.specs.Dues.{AreHits, all_due, jobs_in};
-ghost use Rattle.ht_frames.specs.Gathering.{booked_behind};
 ghost use Rattle.ht_capture.specs.Parts.{jobs_of};
-ghost use Rattle.ht_results.specs.Folding.{result_of};
-ghost use Rattle.ht_rx.specs.Frames.{results_in};
-ghost use Rattle.ht_many.specs.KeptFrames.{lines_left};
+ghost use Rattle.ht_lanes.specs.Bookings.{BooksHits};
+ghost use Rattle.ht_many.specs.KeptFrames.{booked_left, lines_left};
 ghost use Rattle.ht_many.specs.Renumbering.{hits_numberless};
 
 use ht_capture_blocks::{CaptureBlock, CaptureReader};
@@ -69,23 +65,13 @@ impl FrameLines {
         requires right { AreHits hits.now.found.items (jobs_of block.now.block) }
         requires first { slice_get (jobs_in desk.old.due) 0 ≡ Some (jobs_of block.now.block) }
 
-        // What was booked, and what is left to book.
-        ensures put { OnOk result (PutsBlock (B.shown book.old) (B.shown book.new)
-            (booked_behind result_of B.booked self.old.whole (results_in self.old.under_way))
-            (booked_behind result_of B.booked self.new.whole (results_in self.new.under_way)) (all_due (take 1 desk.old.due))) }
-        ensures part { OnErr result (PutsPartOf (B.shown book.old) (B.shown book.new)
-            (booked_behind result_of B.booked self.old.whole (results_in self.old.under_way)) (all_due (take 1 desk.old.due))) }
+        ensures books { BooksHits result (B.shown book.old) (B.shown book.new)
+            (booked_left B.booked self.old) (booked_left B.booked self.new) (all_due (take 1 desk.old.due)) }
         ensures none { self.new.whole ≡ [] }
 
         // What is due.
         ensures due { OnOk result (desk.new ≡ record desk.old { due = drop 1 desk.old.due }) }
         ensures stays { OnErr result (desk.new ≡ desk.old) }
-
-        // The book's device has counted a fault exactly where it failed.
-        ensures cause { IfErr result (λ fault. fault ≡ BookFault.Failed → Rose (B.shown book.old) (B.shown book.new)) }
-        ensures steady { OnOk result ((B.shown book.new).faults ≡ (B.shown book.old).faults) }
-        ensures unfailed { IfErr result (λ fault. fault ≡ BookFault.NoMemory → (B.shown book.new).faults ≡ (B.shown book.old).faults) }
-        ensures later { IsLater (B.shown book.old) (B.shown book.new) }
         ensures same { B.lent book.new ≡ B.lent book.old }
     {
         let mut receiver = Receiver::new(self.alloc, &mut self.under_way, book);
@@ -109,7 +95,7 @@ impl<K: Sink> Booking<CaptureReader, K> for FrameLines {
         self.take_into(desk, block, hits, &mut book)
     }
 
-    fn finish(&mut self, _: &mut K) -> Result<(), BookFault> {
+    fn finish(&mut self, _sink: &mut K) -> Result<(), BookFault> {
         self.none_waits();
         Ok(())
     }

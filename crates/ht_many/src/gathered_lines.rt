@@ -1,14 +1,10 @@
 //! What becomes of the tallies of one capture among several, where workers decode whole frames.
-ghost use Rattle.std.specs.Prelude.{◌≡◌, ◌≤◌, [], drop, slice_get, take, Some, IfErr, OnErr, OnOk};
-ghost use Rattle.ht_io.specs.Devices.{IsLater, Rose};
-ghost use Rattle.ht_feed.specs.Accounts.{PutsBlock, PutsPartOf};
+ghost use Rattle.std.specs.Prelude.{◌≡◌, ◌≤◌, [], drop, slice_get, take, Some, OnErr, OnOk};
 ghost use Rattle.ht_feed.specs.Dues.{all_due, jobs_in};
-ghost use Rattle.ht_frames.specs.Gathering.{booked_behind};
 ghost use Rattle.ht_capture.specs.Parts.{jobs_of};
-ghost use Rattle.ht_results.specs.Folding.{result_of};
-ghost use Rattle.ht_rx.specs.Frames.{results_in};
 ghost use Rattle.ht_rx.specs.Tallies.{IsTally};
-ghost use Rattle.ht_many.specs.KeptFrames.{lines_left};
+ghost use Rattle.ht_lanes.specs.Bookings.{BooksHits};
+ghost use Rattle.ht_many.specs.KeptFrames.{booked_left, lines_left};
 ghost use Rattle.ht_rx.proofs.Tallying.{numberless};
 
 use crate::keeping_lines::KeepingLines;
@@ -91,22 +87,12 @@ impl<'f, R: Threads + Wait> GatheredLines<'f, R> {
         requires right { IsTally tally.now.rate (jobs_of block.now.block) tally.now }
         requires first { slice_get (jobs_in desk.old.due) 0 ≡ Some (jobs_of block.now.block) }
 
-        // What was booked, and what is left to book.
-        ensures put { OnOk result (PutsBlock (B.shown book.old) (B.shown book.new)
-            (booked_behind result_of B.booked self.old.whole (results_in self.old.under_way))
-            (booked_behind result_of B.booked self.new.whole (results_in self.new.under_way)) (all_due (take 1 desk.old.due))) }
-        ensures part { OnErr result (PutsPartOf (B.shown book.old) (B.shown book.new)
-            (booked_behind result_of B.booked self.old.whole (results_in self.old.under_way)) (all_due (take 1 desk.old.due))) }
+        ensures books { BooksHits result (B.shown book.old) (B.shown book.new)
+            (booked_left B.booked self.old) (booked_left B.booked self.new) (all_due (take 1 desk.old.due)) }
 
         // What is due.
         ensures due { OnOk result (desk.new ≡ record desk.old { due = drop 1 desk.old.due }) }
         ensures stays { OnErr result (desk.new ≡ desk.old) }
-
-        // The book's device has counted a fault exactly where it failed.
-        ensures cause { IfErr result (λ fault. fault ≡ BookFault.Failed → Rose (B.shown book.old) (B.shown book.new)) }
-        ensures steady { OnOk result ((B.shown book.new).faults ≡ (B.shown book.old).faults) }
-        ensures unfailed { IfErr result (λ fault. fault ≡ BookFault.NoMemory → (B.shown book.new).faults ≡ (B.shown book.old).faults) }
-        ensures later { IsLater (B.shown book.old) (B.shown book.new) }
         ensures same { B.lent book.new ≡ B.lent book.old }
     {
         let mut lines = KeepingLines::new(
@@ -124,19 +110,8 @@ impl<'f, R: Threads + Wait> GatheredLines<'f, R> {
 
     // Books the results of all whole frames.
     fn finish_into<B: Book<FrameResult>>(&mut self, book: &mut B) -> Result<(), BookFault>
-        // What was booked, and what is left to book.
-        ensures put { OnOk result (PutsBlock (B.shown book.old) (B.shown book.new)
-            (booked_behind result_of B.booked self.old.whole (results_in self.old.under_way))
-            (booked_behind result_of B.booked self.new.whole (results_in self.new.under_way)) []) }
-        ensures part { OnErr result (PutsPartOf (B.shown book.old) (B.shown book.new)
-            (booked_behind result_of B.booked self.old.whole (results_in self.old.under_way)) []) }
+        ensures books { BooksHits result (B.shown book.old) (B.shown book.new) (booked_left B.booked self.old) (booked_left B.booked self.new) [] }
         ensures none { OnOk result (self.new.whole ≡ []) }
-
-        // The book's device has counted a fault exactly where it failed.
-        ensures cause { IfErr result (λ fault. fault ≡ BookFault.Failed → Rose (B.shown book.old) (B.shown book.new)) }
-        ensures steady { OnOk result ((B.shown book.new).faults ≡ (B.shown book.old).faults) }
-        ensures unfailed { IfErr result (λ fault. fault ≡ BookFault.NoMemory → (B.shown book.new).faults ≡ (B.shown book.old).faults) }
-        ensures later { IsLater (B.shown book.old) (B.shown book.new) }
         ensures same { B.lent book.new ≡ B.lent book.old }
     {
         book_frames(self.rt, self.frames, 0, &mut self.queue, book)

@@ -1,6 +1,6 @@
 //! Several captures, received beside one another, in this thread or by one crew of workers, or each whole by one worker.
 //!
-//! [`many`] takes a source and a sink for each of 1 to 16 captures, receives them by one crew, and answers for each how
+//! [`many`] takes a source and a sink for each capture, receives all of them by one crew, and answers for each how
 //! it ended; [`many_alone`] promises the same, and runs every job in the calling thread. [`many_bundle`] and
 //! [`many_bundle_alone`] receive the captures of a bundle (HTMB). What they promise is said in the words of crate
 //! `ht_several`, of each capture by its own octets and devices alone.
@@ -17,17 +17,15 @@
 //! `refused BadMagic at 1`.
 #![tactic(auto)]
 
+mod alone;
 mod apart;
 mod calls;
 mod capture_lane;
-mod crews;
+mod crew;
 mod ending;
 mod frame_lines;
 mod gathered_lines;
 mod keeping_lines;
-mod receiving;
-mod running;
 
-pub use calls::{many_alone, many_bundle_alone};
-pub use crews::{many, many_bundle};
+pub use calls::{many, many_alone, many_bundle, many_bundle_alone};
 pub use ht_several::ManyEnd;

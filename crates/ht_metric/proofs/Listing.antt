@@ -1,6 +1,6 @@
 -- The levels of a ladder and the points of two, as the code lists them.
-use Rattle.std.proofs.Common.{◌≡◌, ℕ, zero, suc, ◌+◌, ◌*◌, ◌<◌, ◌≤◌, ℤ, List, [], ◌∷◌, ◌++◌, map, length, take, drop, get_or, Bool, true}
-use Rattle.std.proofs.Common.{false, cond, pos, w8, to_z, of_z, unsigned_abs, arith, ap, ◌∙◌, sym, refl, length-append, append_assoc}
+use Rattle.std.proofs.Common.{◌≡◌, ℕ, ◌+◌, ◌*◌, ◌<◌, ◌≤◌, ℤ, List, [], ◌∷◌, ◌++◌, map, length, take, drop, get_or, Bool, true}
+use Rattle.std.proofs.Common.{false, cond, pos, w8, to_z, of_z, unsigned_abs, arith, ap, ◌∙◌, sym, length-append, append_assoc}
 use Rattle.std.specs.List.{All, filter, flat_map}
 use Rattle.std.proofs.Math.Nat.{mul-le-mul_right}
 use Rattle.std.proofs.lemmas.List.{take-append-drop, append-nil, map-append, take_more, take_all, length-take, length-map}
@@ -12,7 +12,7 @@ use Rattle.std.proofs.lemmas.List.Elements.{All-tail, All-get_or, All-same, All-
 use Rattle.ht_pam.specs.Ladders.{Rungs, IsLadder, levels, has}
 use Rattle.ht_pam.specs.declared.axes.Axes.{Axes}
 use Rattle.ht_pam.specs.declared.point.Point.{Point}
-use Rattle.ht_pam.proofs.Tables.{every, levels-filter, levels_few, levels_small}
+use Rattle.ht_pam.proofs.Tables.{every, every_small, levels-filter, levels_few, levels_small}
 use Rattle.ht_metric.specs.Distance.{IsInRange}
 use Rattle.ht_metric.specs.Vectors.{points}
 
@@ -32,18 +32,12 @@ filter_room l k d ladder below passes =
     let all : length (filter (has l) every) ≤ 8 = omega (arith, levels_few l ladder, ap length (levels-filter l ladder)) in
     omega arith
 
--- a level is passed as it is
+-- a small level is passed as it is
+small_passed : (x : ℤ) → unsigned_abs x ≤ 7 → to_z w8 (of_z w8 x) ≡ x
+small_passed x small = to_z-of_z w8 x (fits_signed_from_abs w8 x (omega arith))
+
 level_fits : (k : ℕ) → k < 9 → to_z w8 (of_z w8 (get_or every k (pos 0))) ≡ get_or every k (pos 0)
-level_fits zero below = refl
-level_fits (suc zero) below = refl
-level_fits (suc (suc zero)) below = refl
-level_fits (suc (suc (suc zero))) below = refl
-level_fits (suc (suc (suc (suc zero)))) below = refl
-level_fits (suc (suc (suc (suc (suc zero))))) below = refl
-level_fits (suc (suc (suc (suc (suc (suc zero)))))) below = refl
-level_fits (suc (suc (suc (suc (suc (suc (suc zero))))))) below = refl
-level_fits (suc (suc (suc (suc (suc (suc (suc (suc zero)))))))) below = refl
-level_fits (suc (suc (suc (suc (suc (suc (suc (suc (suc k))))))))) below = absurd (omega arith)
+level_fits k below = small_passed (get_or every k (pos 0)) (All-get_or (λ x. unsigned_abs x ≤ 7) every k (pos 0) below every_small)
 
 -- one more level was looked at
 pub level_room : (l : Rungs) (k : ℕ) (items : List ℤ) → IsLadder l → k < 9 → items ≡ filter (has l) (take k every)
@@ -80,10 +74,6 @@ at i q = record { i = i; q = q }
 
 abbrev pub row : List ℤ → ℤ → List Point
 row qs i = map (at i) qs
-
--- a small level is passed as it is
-small_passed : (x : ℤ) → unsigned_abs x ≤ 7 → to_z w8 (of_z w8 x) ≡ x
-small_passed x small = to_z-of_z w8 x (fits_signed_from_abs w8 x (omega arith))
 
 level_passed : (l : Rungs) (xs : List ℤ) (k : ℕ) → IsLadder l → xs ≡ levels l → k < length xs → to_z w8 (of_z w8 (get_or xs k (pos 0))) ≡ get_or xs k (pos 0)
 level_passed l xs k ladder is below =

@@ -1,6 +1,7 @@
 -- A row of a triangle or of a system, by its number.
 use Rattle.std.proofs.Common.{◌≡◌, ℕ, zero, suc, ◌+◌, ◌-◌, ◌*◌, ◌/◌, ◌<◌, ◌≤◌, List, [], ◌∷◌, get_or, length, drop, take, refl, arith, ap, ◌∙◌, sym}
 use Rattle.std.proofs.lemmas.List.{drop-drop, get_or-drop, get_or-take}
+use Rattle.ht_metric.specs.Arrays.{length-rows_of}
 use Rattle.ht_metric.specs.Rows.{Leg, Row, no_leg, no_row, no_tap, no_sample, entries_of, legs_of, rows_of}
 use Rattle.ht_metric.specs.declared.tap.Tap.{Tap}
 use Rattle.ht_metric.specs.declared.sample.Sample.{Sample}
@@ -48,6 +49,17 @@ rows_of-at (leg ∷ rows) (suc k) ys below =
     rows_of-at rows k (drop 1 ys) (omega arith)
     ∙ ap (λ (y : Sample). let row : Row = record { diagonal = (get_or rows k no_leg).diagonal; right = (get_or rows k no_leg).right; sample = y } in
     row) (get_or-drop 1 ys k no_sample ∙ ap (λ (m : ℕ). get_or ys m no_sample) one)
+
+-- and of the rows that a system shows
+pub shown-streams : (legs : List Leg) (ys : List Sample) (rows : List Row) → rows_of legs ys ≡ rows → length rows ≡ length legs
+shown-streams legs ys rows is = ap length (sym is) ∙ length-rows_of legs ys
+
+pub shown-row : (legs : List Leg) (ys : List Sample) (rows : List Row) (k : ℕ) → rows_of legs ys ≡ rows → k < length rows
+    → get_or rows k no_row
+    ≡ record { diagonal = (get_or legs k no_leg).diagonal; right = (get_or legs k no_leg).right; sample = get_or ys k no_sample }
+shown-row legs ys rows k is below =
+    let streams = shown-streams legs ys rows is in
+    ap (λ (all : List Row). get_or all k no_row) (sym is) ∙ rows_of-at legs k ys (omega arith)
 
 -- the entry of a row k for a stream behind it, where row k begins at `from`
 pub entry-at : (n k i from : ℕ) (ds : List ℕ) (ts : List Tap) → k < n → i < n - (k + 1) → from + entries_of (n - k) ≡ entries_of n

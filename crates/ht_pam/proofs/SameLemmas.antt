@@ -17,11 +17,13 @@ module _ {X : Type 0} (xs ys : List X) (i : ℕ) (same : take (i + 1) xs ≡ tak
   last d =
       sym (get_or-take (i + 1) xs i d (omega arith)) ∙ ap (λ (zs : List X). get_or zs i d) same ∙ get_or-take (i + 1) ys i d (omega arith)
 
--- a test of the first items of two lists, behind another test: the next item is tested too
-pub more_same : {X P : Type 0} (xs ys : List X) (i : ℕ) (d e : X) (same r : Bool) → i < length xs → i < length ys
+-- a test of the first items of two lists of n items, behind another test: the next item is tested too
+pub more_same : {X P : Type 0} (n : ℕ) (xs ys : List X) (i : ℕ) (d e : X) (same r : Bool) → length xs ≡ n → length ys ≡ n → i < n
     → Decides same (P × (take i xs ≡ take i ys)) → Decides r (get_or xs i d ≡ get_or ys i e)
     → Decides (same && r) (P × (take (i + 1) xs ≡ take (i + 1) ys))
-more_same xs ys i d e same r lt under first next =
+more_same n xs ys i d e same r long wide below first next =
+    let lt : i < length xs = omega arith in
+    let under : i < length ys = omega arith in
     let at : get_or ys i e ≡ get_or ys i d = get_or_default ys i e d under in
     Decides-like _
     (λ h. (h.0.0, take_more_same xs ys i d lt under h.0.1 (h.1 ∙ at)))
@@ -29,10 +31,10 @@ more_same xs ys i d e same r lt under first next =
     (Decides-and _ _ first next)
 
 -- and where no items are left, the lists are tested
-pub all_same : {X P : Type 0} (xs ys : List X) (n : ℕ) (same : Bool) → length xs ≤ n → length ys ≤ n
-    → Decides same (P × (take n xs ≡ take n ys)) → Decides same (P × (xs ≡ ys))
-all_same xs ys n same few less =
-    Decides-like _ (λ h. (h.0, sym (take_all n xs few) ∙ h.1 ∙ take_all n ys less)) (λ h. (h.0, ap (λ zs. take n zs) h.1))
+pub all_same : {X P : Type 0} (n : ℕ) (xs ys : List X) (i : ℕ) (same : Bool) → length xs ≡ n → length ys ≡ n → n ≤ i
+    → Decides same (P × (take i xs ≡ take i ys)) → Decides same (P × (xs ≡ ys))
+all_same n xs ys i same long wide all =
+    Decides-like _ (λ h. (h.0, sym (take_all i xs (omega arith)) ∙ h.1 ∙ take_all i ys (omega arith))) (λ h. (h.0, ap (λ zs. take i zs) h.1))
 
 -- before the first item, no more than the other test is asked
 pub none_same : {X P : Type 0} (xs ys : List X) (same : Bool) → Decides same P → Decides same (P × (take 0 xs ≡ take 0 ys))

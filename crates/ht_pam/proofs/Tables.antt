@@ -110,7 +110,7 @@ pub levels_few : (l : Rungs) → IsLadder l → length (levels l) ≤ 8
 levels_few l ladder = omega (arith, length-lowest l l.size, size_few l ladder)
 
 -- every level of a ladder is from -7 to 7
-every_small : All (λ x. unsigned_abs x ≤ 7) every
+pub every_small : All (λ x. unsigned_abs x ≤ 7) every
 every_small =
     All-from_recursion (λ x. unsigned_abs x ≤ 7) every
     (omega arith, (omega arith, (omega arith, (omega arith, (omega arith, (omega arith, (omega arith, (omega arith, (omega arith, tt)))))))))

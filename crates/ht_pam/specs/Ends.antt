@@ -1,7 +1,7 @@
 -- What is left of a walk whose two ends move apart: the levels below its start and those above.
-use Rattle.std.specs.Prelude.{◌≡◌, ◌⊎◌, ⊤, ℕ, ◌-◌, ◌^◌, ◌<◌, ℤ, List, [], ◌∷◌, ◌++◌}
+use Rattle.std.specs.Prelude.{◌≡◌, ◌⊎◌, ⊤, ℕ, ◌+◌, ◌-◌, ◌^◌, ◌<◌, ℤ, pos, ◌+ℤ◌, ◌-ℤ◌, ◌*ℤ◌, ◌<ℤ◌, ◌≤ℤ◌, List, [], ◌∷◌, ◌++◌}
 use Rattle.std.specs.Int.{w32, leading_zeros, trailing_zeros}
-use Rattle.ht_pam.specs.Ladders.{levels}
+use Rattle.ht_pam.specs.Ladders.{level, levels}
 use Rattle.ht_pam.specs.Zigzags.{gap, Ascending}
 
 -- the levels of a ladder that a mask allows
@@ -28,6 +28,12 @@ Under cost n (x ∷ xs) = (cost x < n) × Under cost n xs
 abbrev pub Descending : (ℤ → ℕ) → List ℤ → Type 0
 Descending cost [] = ⊤
 Descending cost (x ∷ xs) = Under cost (cost x) xs × Descending cost xs
+
+-- the nearest of all levels is at this place, the lower one at a tie: the target is between the midpoints beside it
+pub record IsNearestPlace (size : ℕ) (target : ℤ) (d place : ℕ) : Type 0 where
+  pub within : place < size
+  pub below : 0 < place → (pos d *ℤ (level size place -ℤ pos 1)) <ℤ target
+  pub above : place + 1 < size → target ≤ℤ (pos d *ℤ (level size place +ℤ pos 1))
 
 -- the levels below are nearer the higher they are, and those above at least as near the lower they are
 pub record IsZigzag (target : ℤ) (d size below above : ℕ) : Type 0 where

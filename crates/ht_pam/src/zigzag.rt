@@ -5,7 +5,7 @@ ghost use Rattle.std.specs.Option.{MatchOption};
 ghost use Rattle.std.specs.Int.{bit_at};
 ghost use Rattle.ht_pam.specs.Ladders.{level, levels};
 ghost use Rattle.ht_pam.specs.Zigzags.{gap as gap_of, nearest_first};
-ghost use Rattle.ht_pam.specs.Ends.{levels_in, both, top, bottom, IsZigzag};
+ghost use Rattle.ht_pam.specs.Ends.{levels_in, both, top, bottom, IsNearestPlace, IsZigzag};
 
 use crate::ladder::{Ladder, level_at};
 use crate::steps::Steps;
@@ -192,9 +192,7 @@ fn between(d: u32, low: i8, high: i8) -> i64
 fn nearest(size: u32, target: i64, d: u32) -> u32
     requires size { (size ≡ 1) ⊎ (size ≡ 2) ⊎ (size ≡ 4) ⊎ (size ≡ 8) }
     requires diagonal { d ≤ 65535 }
-    ensures within { result < size }
-    ensures below { 0 < result → (pos d *ℤ (level size result -ℤ pos 1)) <ℤ target }
-    ensures above { result + 1 < size → target ≤ℤ (pos d *ℤ (level size result +ℤ pos 1)) }
+    ensures { IsNearestPlace size target d result }
 {
     // `at` counts halves of this width, and the comparison is added to it as a number: a jump on it would be guessed wrong
     // in half of all random samples.
@@ -227,9 +225,7 @@ fn halved(size: u32, at: u32, width: u32, target: i64, d: u32) -> u32
 fn nearest_by_jumps(size: u32, target: i64, d: u32) -> u32
     requires size { (size ≡ 1) ⊎ (size ≡ 2) ⊎ (size ≡ 4) ⊎ (size ≡ 8) }
     requires diagonal { d ≤ 65535 }
-    ensures within { result < size }
-    ensures below { 0 < result → (pos d *ℤ (level size result -ℤ pos 1)) <ℤ target }
-    ensures above { result + 1 < size → target ≤ℤ (pos d *ℤ (level size result +ℤ pos 1)) }
+    ensures { IsNearestPlace size target d result }
 {
     let mut at = 0u32;
     let mut width = size;

@@ -41,35 +41,27 @@ module _ {T : Type 0} where
       (at_snoc hands w u j e)
 
   module _ (hands : List (Hand T)) (port : ℕ) (v : Hand T) (at : get_elem? hands port ≡ some v) where
-    pub counted-push : (items xs : List T) → IsCounted items hands → 0 < v.parts → IsCounted (items ++ xs) (set hands port (hand v.parts
-        (v.pushed ++ xs) v.taken))
-    counted-push items xs b some_part = let w = hand v.parts (v.pushed ++ xs) v.taken in record {
+    -- a pass that has a part has pushed or taken other items
+    counted-other : (items after : List T) (w : Hand T) → IsCounted items hands → 0 < v.parts → w.parts ≡ v.parts
+        → ((h : T → ℕ) → sum_by h w.pushed + sum_by h v.taken + sum_by h items ≡ sum_by h v.pushed + sum_by h w.taken + sum_by h after)
+        → IsCounted after (set hands port w)
+    counted-other items after w b some_part same both = record {
       parts = omega (arith, sum_by-set_at parts hands port v w at, b.parts);
-      counts = λ h. omega (
-        arith,
-        sum_by-set_at (pushed h) hands port v w at,
-        sum_by-set_at (taken h) hands port v w at,
-        b.counts h,
-        sum_by-append h v.pushed xs,
-        sum_by-append h items xs,
-      );
+      counts = λ h. omega (arith, sum_by-set_at (pushed h) hands port v w at, sum_by-set_at (taken h) hands port v w at, b.counts h, both h);
       idle = idle-set hands port w (λ none. absurd (omega arith)) b.idle;
     }
 
+    pub counted-push : (items xs : List T) → IsCounted items hands → 0 < v.parts → IsCounted (items ++ xs) (set hands port (hand v.parts
+        (v.pushed ++ xs) v.taken))
+    counted-push items xs b some_part =
+        counted-other items (items ++ xs) (hand v.parts (v.pushed ++ xs) v.taken) b some_part refl
+        (λ h. omega (arith, sum_by-append h v.pushed xs, sum_by-append h items xs))
+
     pub counted-take : (items xs : List T) → IsCounted (xs ++ items) hands → 0 < v.parts → IsCounted items (set hands port (hand v.parts v.pushed
         (v.taken ++ xs)))
-    counted-take items xs b some_part = let w = hand v.parts v.pushed (v.taken ++ xs) in record {
-      parts = omega (arith, sum_by-set_at parts hands port v w at, b.parts);
-      counts = λ h. omega (
-        arith,
-        sum_by-set_at (pushed h) hands port v w at,
-        sum_by-set_at (taken h) hands port v w at,
-        b.counts h,
-        sum_by-append h v.taken xs,
-        sum_by-append h xs items,
-      );
-      idle = idle-set hands port w (λ none. absurd (omega arith)) b.idle;
-    }
+    counted-take items xs b some_part =
+        counted-other (xs ++ items) items (hand v.parts v.pushed (v.taken ++ xs)) b some_part refl
+        (λ h. omega (arith, sum_by-append h v.taken xs, sum_by-append h xs items))
 
     -- a new pass takes a part, and has pushed and taken nothing
     pub counted-fork : (items : List T) (left right : Hand T) → IsCounted items hands → 0 < left.parts → 0 < right.parts → left.parts + right.parts ≡ v.parts

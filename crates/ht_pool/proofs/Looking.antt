@@ -1,11 +1,10 @@
 -- Steps by which a thread comes by a task.
-use Rattle.std.proofs.Common.{◌≡◌, ℕ, zero, suc, ◌+◌, ◌<◌, List, [], ◌∷◌, ◌++◌, set, get_or, map, length, Option, Some, None, sym, refl, ap, ◌∙◌, arith, subst}
-use Rattle.std.specs.List.{flat_map, sum_by}
-use Rattle.std.specs.Option.{option_to_list}
+use Rattle.std.proofs.Common.{◌≡◌, ℕ, zero, suc, ◌+◌, ◌<◌, List, [], ◌∷◌, set, get_or, length, Option, Some, None, sym, refl, ap, ◌∙◌, arith, subst}
+use Rattle.std.specs.List.{sum_by}
 use Rattle.std.proofs.lemmas.List.{append-nil}
-use Rattle.std.proofs.lemmas.List.Sums.{sum_by-append, sum_by_push, sum_by-cons}
+use Rattle.std.proofs.lemmas.List.Sums.{sum_by-append, sum_by-cons}
 use Rattle.std.proofs.Math.Seq.{map-set_same}
-use Rattle.ht_pool.specs.Seats.{DequeId, SeatView, OwnView, stole, pushed_on, popped_from, deques_at, taken_at, Steals, Gets}
+use Rattle.ht_pool.specs.Seats.{DequeId, SeatView, OwnView, stole, pushed_on, popped_from, taken_at, Steals, Gets}
 
 module _ {T : Type 0} where
   one : (h : T → ℕ) (task : T) → sum_by h (task ∷ []) ≡ h task
@@ -50,6 +49,12 @@ module _ {T : Type 0} where
     );
   }
 
+  -- a task more was taken at a seat
+  stolen-sum : (h : T → ℕ) (s s' : SeatView T) (task : T) → s' ≡ stole s task
+      → sum_by h (taken_at (s' ∷ [])) ≡ sum_by h (taken_at (s ∷ [])) + sum_by h (task ∷ [])
+  stolen-sum h s s' task stolen =
+      omega (arith, ap (λ (v : SeatView T). sum_by h v.taken) stolen, at_one h s, at_one h s', sum_by-append h s.taken (task ∷ []))
+
   pub gets-moved : (s s' : SeatView T) (o o' : OwnView T) (task : T) → s' ≡ stole s task → o' ≡ pushed_on o task → Gets (s ∷ []) o (s' ∷ []) o' None
   gets-moved s s' o o' task stolen pushed = record {
     at = ap (λ (v : SeatView T). v.at ∷ []) stolen;
@@ -57,33 +62,20 @@ module _ {T : Type 0} where
     parts_are = ap (λ (v : OwnView T). v.parts) pushed;
     got = λ h. omega (
       arith,
-      ap (λ (v : SeatView T). sum_by h v.taken) stolen,
+      stolen-sum h s s' task stolen,
       ap (λ (v : OwnView T). sum_by h v.taken) pushed,
       ap (λ (v : OwnView T). sum_by h v.pushed) pushed,
-      at_one h s,
-      at_one h s',
-      sum_by-append h s.taken (task ∷ []),
       sum_by-append h o.pushed (task ∷ []),
     );
   }
 
   pub gets-refused : (s s' : SeatView T) (o o' : OwnView T) (task back : T) → s' ≡ stole s task → back ≡ task → o' ≡ o
       → Gets (s ∷ []) o (s' ∷ []) o' (Some back)
-  gets-refused s s' o o' task back stolen same still = record {
-    at = ap (λ (v : SeatView T). v.at ∷ []) stolen;
-    deque_is = ap (λ (v : OwnView T). v.deque) still;
-    parts_are = ap (λ (v : OwnView T). v.parts) still;
-    got = λ h. omega (
-      arith,
-      ap (λ (v : SeatView T). sum_by h v.taken) stolen,
-      ap (λ (v : OwnView T). sum_by h v.taken) still,
-      ap (λ (v : OwnView T). sum_by h v.pushed) still,
-      ap (λ x. sum_by h (x ∷ [])) same,
-      at_one h s,
-      at_one h s',
-      sum_by-append h s.taken (task ∷ []),
-    );
-  }
+  gets-refused s s' o o' task back stolen same still =
+      let got : Gets (s ∷ []) o (s' ∷ []) o (Some task) =
+      record { at = ap (λ (v : SeatView T). v.at ∷ []) stolen; deque_is = refl; parts_are = refl; got = λ h. omega (arith, stolen-sum h s s' task stolen) } in
+      subst (λ (v : OwnView T). Gets (s ∷ []) o (s' ∷ []) v (Some back)) (sym still)
+      (subst (λ (x : T). Gets (s ∷ []) o (s' ∷ []) o (Some x)) (sym same) got)
 
   pub gets-still : (s s' : SeatView T) (o : OwnView T) → s' ≡ s → Gets (s ∷ []) o (s' ∷ []) o None
   gets-still s s' o same = subst (λ (v : SeatView T). Gets (s ∷ []) o (v ∷ []) o None) (sym same) (gets-none (s ∷ []) o)

@@ -3,12 +3,12 @@ use Rattle.std.proofs.Common.{◌≡◌, ℕ, zero, suc, ◌+◌, ◌-◌, ◌<�
 use Rattle.std.proofs.Common.{subst, arith}
 use Rattle.std.specs.List.{All, AllByRecursion}
 use Rattle.std.specs.Global.{Vec}
-use Rattle.std.proofs.lemmas.List.{length-append, length-map, map-append}
-use Rattle.std.proofs.lemmas.List.Elements.{All-from_recursion, recursion_from_All, All-pop, All-push, All-same}
+use Rattle.std.proofs.lemmas.List.{length-map}
+use Rattle.std.proofs.lemmas.List.Elements.{All-from_recursion, recursion_from_All, All-pop}
 use Rattle.atomic_table.specs.Seated.{TableId}
 use Rattle.ht_pool.specs.Seats.{DequeId, SeatView, OwnView, fresh_seat, fresh_own, deques_at, taken_at}
 use Rattle.ht_pool.specs.Opening.{AreReady, own_deques, lent}
-use Rattle.ht_pool.specs.Members.{Berth, AnswersTo, HasYetToServe, berth, berth_of, answers_of, tasks_of}
+use Rattle.ht_pool.specs.Members.{AnswersTo, HasYetToServe, berth, berth_of, answers_of}
 use Rattle.ht_pool.specs.declared.member.Member.{Member}
 use Rattle.ht_pool.proofs.Lists.{all_first, written_back}
 

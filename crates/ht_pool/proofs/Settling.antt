@@ -48,16 +48,15 @@ module _ {T : Type 0} where
   pushed_ended [] = refl
   pushed_ended (own ∷ owners) = ap (λ xs. own.pushed ++ xs) (pushed_ended owners)
 
+  -- what was taken and pushed on one deque more
+  on_more : (h : T → ℕ) (v : Hand T) (hands : List (Hand T)) → (sum_by h (taken_on (v ∷ hands)) ≡ sum_by h v.taken + sum_by h (taken_on hands))
+      × (sum_by h (pushed_on_all (v ∷ hands)) ≡ sum_by h v.pushed + sum_by h (pushed_on_all hands))
+  on_more h v hands = (sum_by-append h v.taken (taken_on hands), sum_by-append h v.pushed (pushed_on_all hands))
+
   -- no more was taken than pushed
   accounted-most : (h : T → ℕ) (hands : List (Hand T)) → AllByRecursion IsAccounted hands → sum_by h (taken_on hands) ≤ sum_by h (pushed_on_all hands)
   accounted-most h [] all = omega arith
-  accounted-most h (v ∷ hands) all = omega (
-    arith,
-    all.0.1 h,
-    accounted-most h hands all.1,
-    sum_by-append h v.taken (taken_on hands),
-    sum_by-append h v.pushed (pushed_on_all hands),
-  )
+  accounted-most h (v ∷ hands) all = let more = on_more h v hands in omega (arith, all.0.1 h, accounted-most h hands all.1, more.0, more.1)
 
   -- where as much was taken as pushed, nothing is left on any deque
   all_emptied : (hands : List (Hand T)) → AllByRecursion IsAccounted hands
@@ -66,22 +65,15 @@ module _ {T : Type 0} where
   all_emptied (v ∷ hands) all enough =
       let one : T → ℕ = λ _. 1 in
       let held : List T = all.0.0 in
-      let p = sum_by-append one v.pushed (pushed_on_all hands) in
-      let t = sum_by-append one v.taken (taken_on hands) in
+      let more = on_more one v hands in
       let rest = accounted-most one hands all.1 in
       let here : sum_by one v.pushed ≡ sum_by one v.taken + sum_by one held = all.0.1 one in
-      let none : length held ≡ 0 = omega (arith, p, t, rest, here, enough, ones held) in
-      ((λ h. omega (arith, all.0.1 h, sum_by-none h held none)), all_emptied hands all.1 (omega (arith, p, t, here, enough)))
+      let none : length held ≡ 0 = omega (arith, more.0, more.1, rest, here, enough, ones held) in
+      ((λ h. omega (arith, all.0.1 h, sum_by-none h held none)), all_emptied hands all.1 (omega (arith, more.0, more.1, here, enough)))
 
   emptied-same : (h : T → ℕ) (hands : List (Hand T)) → AllByRecursion IsEmptied hands → sum_by h (taken_on hands) ≡ sum_by h (pushed_on_all hands)
   emptied-same h [] all = refl
-  emptied-same h (v ∷ hands) all = omega (
-    arith,
-    all.0 h,
-    emptied-same h hands all.1,
-    sum_by-append h v.taken (taken_on hands),
-    sum_by-append h v.pushed (pushed_on_all hands),
-  )
+  emptied-same h (v ∷ hands) all = let more = on_more h v hands in omega (arith, all.0 h, emptied-same h hands all.1, more.0, more.1)
 
   first-row : (owners : List (OwnView T)) (seats : List (SeatView T))
       → (first_of (map ended (joined_row owners seats))).pushed ≡ (first_of (map ended owners)).pushed
@@ -102,6 +94,18 @@ module _ {T : Type 0} where
   pub hands-whole : (ends : List (Ends T)) → AllByRecursion (λ (e : Ends T). IsAccounted (through e)) ends → AllByRecursion IsAccounted (map through ends)
   hands-whole [] all = tt
   hands-whole (e ∷ ends) all = (all.0, hands-whole ends all.1)
+
+-- what the caller and its helpers have once all threads have ended
+pub record HaveEnded (T A : Type 0) (asked : A → T) (weight : T → ℕ) (queue : TableId) (helm : HelmView T A) (own : OwnView T) (seats : List (SeatView T))
+    (before : Hand A) (members : List (Member T A)) : Type 0 where
+  pub seen : helm_view own seats queue before.taken ≡ helm
+  pub few : length seats ≤ 64
+  pub first : deques_at seats ≡ own.deque ∷ drop 1 (deques_at seats)
+  pub own_parts : own.parts + length seats ≡ 1024
+  pub answer_parts : before.parts + length seats ≡ 1025
+  pub none_pushed : before.pushed ≡ []
+  pub served : All (HasServed asked weight queue) members
+  pub berths_are : map berth_of members ≡ berths helm.deques
 
 module _ {T A : Type 0} (asked : A → T) (weight : T → ℕ) (queue : TableId) where
   abbrev owns : List (Member T A) → List (OwnView T)
@@ -188,9 +192,7 @@ module _ {T A : Type 0} (asked : A → T) (weight : T → ℕ) (queue : TableId)
   )
 
   module _ (helm : HelmView T A) (own : OwnView T) (seats : List (SeatView T)) (before : Hand A) (members : List (Member T A))
-      (seen : helm_view own seats queue before.taken ≡ helm) (few : length seats ≤ 64) (first : deques_at seats ≡ own.deque ∷ drop 1 (deques_at seats))
-      (own_parts : own.parts + length seats ≡ 1024) (answer_parts : before.parts + length seats ≡ 1025) (none_pushed : before.pushed ≡ [])
-      (served : All (HasServed asked weight queue) members) (berths_are : map berth_of members ≡ berths helm.deques) where
+      (end : HaveEnded T A asked weight queue helm own seats before members) where
     abbrev ids : List DequeId
     ids = deques_at seats
 
@@ -204,16 +206,16 @@ module _ {T A : Type 0} (asked : A → T) (weight : T → ℕ) (queue : TableId)
     joined = joined_rows owners rows
 
     by_recursion : AllByRecursion (HasServed asked weight queue) members
-    by_recursion = recursion_from_All (HasServed asked weight queue) members served
+    by_recursion = recursion_from_All (HasServed asked weight queue) members end.served
 
     ids_are : ids ≡ helm.deques
-    ids_are = ap (λ (v : HelmView T A). v.deques) seen
+    ids_are = ap (λ (v : HelmView T A). v.deques) end.seen
 
     at_berths : map berth_of members ≡ map (berth ids) (drop 1 ids)
-    at_berths = berths_are ∙ ap (λ (xs : List DequeId). berths xs) (sym ids_are)
+    at_berths = end.berths_are ∙ ap (λ (xs : List DequeId). berths xs) (sym ids_are)
 
     owned : own_deques owners ≡ ids
-    owned = ap (λ (xs : List DequeId). own.deque ∷ xs) (own-ids ids (drop 1 ids) members at_berths) ∙ sym first
+    owned = ap (λ (xs : List DequeId). own.deque ∷ xs) (own-ids ids (drop 1 ids) members at_berths) ∙ sym end.first
 
     at_each : AllByRecursion (λ (ss : List (SeatView T)). deques_at ss ≡ own_deques owners) rows
     at_each = subst (λ (xs : List DequeId). AllByRecursion (λ (ss : List (SeatView T)). deques_at ss ≡ xs) rows) (sym owned)
@@ -236,7 +238,7 @@ module _ {T A : Type 0} (asked : A → T) (weight : T → ℕ) (queue : TableId)
 
     parts_each : AllByRecursion (λ (o : OwnView T). o.parts ≡ 1024 - length ids) owners
     parts_each = (
-      omega (arith, own_parts, few, ids_long),
+      omega (arith, end.own_parts, end.few, ids_long),
       owns-parts (1024 - length ids) members
           (each berth_of (berth ids) (λ (b : Berth). b.parts ≡ 1024 - length ids) (λ x. refl) members (drop 1 ids) at_berths),
     )
@@ -245,7 +247,7 @@ module _ {T A : Type 0} (asked : A → T) (weight : T → ℕ) (queue : TableId)
     all_parts =
         let n : length rows ≡ length owners = omega (arith, length-map members (λ (m : Member T A). m.seats.items), members_long) in
         All-from_recursion (λ (o : OwnView T). o.parts ≡ 1024) joined
-        (same_parts (1024 - length ids + length rows) 1024 joined (omega (arith, n, long, few, ids_long))
+        (same_parts (1024 - length ids + length rows) 1024 joined (omega (arith, n, long, end.few, ids_long))
         (rows-parts (1024 - length ids) owners rows whole_rows parts_each))
 
     pub joined_long : length joined ≡ length helm.deques
@@ -253,21 +255,21 @@ module _ {T A : Type 0} (asked : A → T) (weight : T → ℕ) (queue : TableId)
 
     module _ (after : Hand A) (collected : Collects before after members) where
       pub all_answers : after.parts ≡ 1024
-      all_answers = omega (arith, collected.parts, answer_parts, long, members_long)
+      all_answers = omega (arith, collected.parts, end.answer_parts, long, members_long)
 
       module _ (waiting : List A) (accounted : AddsUp after waiting) (settled : IsSettled helm) (hands : List (Hand T))
           (hands_are : hands ≡ map ended joined) (whole : AllByRecursion IsAccounted hands) where
         given : own.pushed ≡ helm.given
-        given = ap (λ (v : HelmView T A). v.given) seen
+        given = ap (λ (v : HelmView T A). v.given) end.seen
 
         taken : own.taken ++ taken_at seats ≡ helm.taken
-        taken = ap (λ (v : HelmView T A). v.taken) seen
+        taken = ap (λ (v : HelmView T A). v.taken) end.seen
 
         answers : after.taken ≡ helm.answers
-        answers = collected.taken ∙ ap (λ (v : HelmView T A). v.answers) seen
+        answers = collected.taken ∙ ap (λ (v : HelmView T A). v.answers) end.seen
 
         answered : after.pushed ≡ answered_by members
-        answered = collected.pushed ∙ ap (λ xs. xs ++ answered_by members) none_pushed
+        answered = collected.pushed ∙ ap (λ xs. xs ++ answered_by members) end.none_pushed
 
         all_taken : (h : T → ℕ) → sum_by h (taken_on hands)
             ≡ sum_by h helm.taken + sum_by h (pushed_by (owns members)) + sum_by h (map asked after.pushed)

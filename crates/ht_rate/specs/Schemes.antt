@@ -24,16 +24,27 @@ count_of Four = 4
 abbrev pub streams_at : ℕ → Streams
 streams_at eights = slice_index_or (One ∷ Two ∷ Three ∷ Four ∷ []) eights Four
 
--- the MCS index modulo 8 (tables 20-30 to 20-37)
+-- a row of the eight that repeat for each number of spatial streams: the MCS index modulo 8, the constellation and the
+-- coding rate
+pub record Row : Type 0 where
+  pub number : ℕ
+  pub modulation : Modulation
+  pub pattern : Pattern
+
+-- tables 20-30 to 20-37
+abbrev pub row_of : Scheme → Row
+row_of BpskHalf = record { number = 0; modulation = Bpsk; pattern = Half }
+row_of QpskHalf = record { number = 1; modulation = Qpsk; pattern = Half }
+row_of QpskThreeQuarters = record { number = 2; modulation = Qpsk; pattern = ThreeQuarters }
+row_of Qam16Half = record { number = 3; modulation = Qam16; pattern = Half }
+row_of Qam16ThreeQuarters = record { number = 4; modulation = Qam16; pattern = ThreeQuarters }
+row_of Qam64TwoThirds = record { number = 5; modulation = Qam64; pattern = TwoThirds }
+row_of Qam64ThreeQuarters = record { number = 6; modulation = Qam64; pattern = ThreeQuarters }
+row_of Qam64FiveSixths = record { number = 7; modulation = Qam64; pattern = FiveSixths }
+
+-- the MCS index modulo 8
 abbrev pub number_of : Scheme → ℕ
-number_of BpskHalf = 0
-number_of QpskHalf = 1
-number_of QpskThreeQuarters = 2
-number_of Qam16Half = 3
-number_of Qam16ThreeQuarters = 4
-number_of Qam64TwoThirds = 5
-number_of Qam64ThreeQuarters = 6
-number_of Qam64FiveSixths = 7
+number_of scheme = (row_of scheme).number
 
 -- the scheme of an MCS index modulo 8
 abbrev pub scheme_at : ℕ → Scheme
@@ -43,27 +54,13 @@ scheme_at number =
     number
     Qam64FiveSixths
 
--- the constellation of each row of the table
+-- the constellation
 abbrev pub scheme_modulation : Scheme → Modulation
-scheme_modulation BpskHalf = Bpsk
-scheme_modulation QpskHalf = Qpsk
-scheme_modulation QpskThreeQuarters = Qpsk
-scheme_modulation Qam16Half = Qam16
-scheme_modulation Qam16ThreeQuarters = Qam16
-scheme_modulation Qam64TwoThirds = Qam64
-scheme_modulation Qam64ThreeQuarters = Qam64
-scheme_modulation Qam64FiveSixths = Qam64
+scheme_modulation scheme = (row_of scheme).modulation
 
--- the coding rate of each row of the table
+-- the coding rate
 abbrev pub scheme_pattern : Scheme → Pattern
-scheme_pattern BpskHalf = Half
-scheme_pattern QpskHalf = Half
-scheme_pattern QpskThreeQuarters = ThreeQuarters
-scheme_pattern Qam16Half = Half
-scheme_pattern Qam16ThreeQuarters = ThreeQuarters
-scheme_pattern Qam64TwoThirds = TwoThirds
-scheme_pattern Qam64ThreeQuarters = ThreeQuarters
-scheme_pattern Qam64FiveSixths = FiveSixths
+scheme_pattern scheme = (row_of scheme).pattern
 
 -- N_BPSCS, the coded bits of a subcarrier and stream
 abbrev pub bits_of : Modulation → ℕ

@@ -1,24 +1,60 @@
 -- Lines that were put of frames, and the end line, are the text of a format.
-use Rattle.std.proofs.Common.{◌≡◌, ℕ, List, Result, refl}
-use Rattle.ht_io.specs.Devices.{Device}
+use Rattle.std.proofs.Common.{◌≡◌, ◌≢◌, ℕ, List, Result, Err, refl, sym, subst, ◌∙◌}
+use Rattle.ht_io.specs.Devices.{Device, IsLater}
+use Rattle.ht_io.proofs.Calls.{later-later, later-refl}
 use Rattle.ht_fields.specs.Grammar.{Grammar}
 use Rattle.ht_fields.specs.Meanings.{Meaning, meaning}
+use Rattle.ht_runs.specs.Filters.{Filter}
 use Rattle.ht_runs.specs.Formats.{filter}
 use Rattle.ht_runs.specs.Streamed.{Streamed}
 use Rattle.ht_runs.specs.declared.faults.RunFault.{RunFault}
+use Rattle.ht_runs.specs.declared.faults.RunFault.TheVariants.{NoMemory, Write}
+use Rattle.ht_runs.specs.declared.faults.StopFault.{StopFault}
+use Rattle.ht_runs.specs.declared.faults.StopFault.TheVariants.{Write as WriteStop}
+use Rattle.ht_feed.specs.declared.ended.Ended.{Ended}
+use Rattle.ht_feed.specs.Inputs.{TellsInput}
 use Rattle.ht_feed.specs.Items.{Headed, Item}
 use Rattle.ht_frames.specs.Gathering.{booked_in}
-use Rattle.ht_endings.specs.Endings.{HasFrames, IsTold, seen_as}
+use Rattle.ht_endings.specs.Endings.{HasFrames, IsTold, PutsEnd, seen_as}
 use Rattle.ht_endings.proofs.Endings.{ends}
-use Rattle.ht_receive.specs.Receiving.{PutsFrames, books}
+use Rattle.ht_endings.proofs.Nothing.{nothing_put}
+use Rattle.ht_receive.specs.Ends.{StreamsText}
+use Rattle.ht_receive.specs.Receiving.{books}
 
-pub streams : {S I R H T : Type 0} (f : Grammar S I) (items_as : List I → List (Item H)) (means : R → List ℕ → Meaning (Item H)) (at : R → ℕ) (reader : R)
-    (head : H) (line : T → List ℕ) (results : List (Headed H) → List T) (text lines : List ℕ → List ℕ) (source source' sink sink' : Device ℕ)
-    (result : Result ℕ RunFault)
-    → IsTold f items_as head (booked_in line results) text lines
-    → ((octets : List ℕ) → means reader octets ≡ seen_as items_as (meaning f f.start 0 octets)) → at reader ≡ 0
-    → PutsFrames means at reader head line results source source' sink sink' result
-    → Streamed (filter f text lines) source source' sink sink' (HasFrames f items_as) result
-streams f items_as means at reader head line results text lines source source' sink sink' result told same zero puts =
-    ends f items_as head (booked_in line results) text lines told means at reader source source' (books line results sink) (books line results puts.mid)
-    puts.ended sink' result same zero refl puts.comes puts.later puts.last
+-- without memory for a reader nothing is taken, and nothing put
+pub lacks : (f : Filter) (Says : ℕ → List ℕ → Type 0) (source sink : Device ℕ) (result : Result ℕ RunFault) → result ≡ Err NoMemory
+    → StreamsText f Says source source sink sink result
+lacks f Says source sink result is =
+    record {
+      streams = subst (λ (r : Result ℕ RunFault). Streamed f source source sink sink Says r) (sym is) (nothing_put f.front source sink);
+      writes = λ well. refl;
+      reads_later = later-refl source;
+      puts_later = later-refl sink;
+    }
+
+-- what the end line behind lines comes to, from how the run ended and the sink before and after
+pub record EndsLines (ended : Result Ended StopFault) (mid sink' : Device ℕ) (result : Result ℕ RunFault) : Type 0 where
+  pub puts : PutsEnd ended mid sink' result
+  pub writes : result ≢ Err Write → sink'.faults ≡ mid.faults
+  pub failed : ended ≡ Err WriteStop → result ≡ Err Write
+  pub later : IsLater mid sink'
+
+-- a format, how a reader of blocks sees its items, and a line of each result
+module _ {S I H T R : Type 0} (f : Grammar S I) (items_as : List I → List (Item H)) (means : R → List ℕ → Meaning (Item H)) (at : R → ℕ) (reader : R)
+    (head : H) (line : T → List ℕ) (results : List (Headed H) → List T) (text lines : List ℕ → List ℕ) where
+  pub streams : (source source' sink start mid sink' : Device ℕ) (lent lent' : List ℕ) (ended : Result Ended StopFault) (result : Result ℕ RunFault)
+      → IsTold f items_as head (booked_in line results) text lines
+      → ((octets : List ℕ) → means reader octets ≡ seen_as items_as (meaning f f.start 0 octets)) → at reader ≡ 0
+      → start ≡ sink → TellsInput means at reader head source source' (books line results start) (books line results mid) lent lent' ended
+      → EndsLines ended mid sink' result
+      → StreamsText (filter f text lines) (HasFrames f items_as) source source' sink sink' result
+  streams source source' sink start mid sink' lent lent' ended result told same zero from told_from last =
+      let tells : TellsInput means at reader head source source' (books line results sink) (books line results mid) lent lent' ended =
+      subst (λ (d : Device ℕ). TellsInput means at reader head source source' (books line results d) (books line results mid) lent lent' ended) from told_from in
+      record {
+        streams = ends f items_as head (booked_in line results) text lines told means at reader source source' (books line results sink)
+            (books line results mid) ended sink' result same zero refl tells.tells tells.puts_later last.puts;
+        writes = λ well. last.writes well ∙ tells.writes (λ is. well (last.failed is));
+        reads_later = tells.reads_later;
+        puts_later = later-later sink mid sink' tells.puts_later last.later;
+      }

@@ -1,26 +1,10 @@
 -- What receivers of frames promise that put their lines and the end line into a sink.
 use Rattle.std.specs.Prelude.{◌≡◌, ◌≢◌, ℕ, List, Result, Err}
 use Rattle.ht_io.specs.Devices.{Device, IsLater}
-use Rattle.ht_fields.specs.Meanings.{Meaning}
 use Rattle.ht_runs.specs.Filters.{Filter}
 use Rattle.ht_runs.specs.Streamed.{Streamed}
 use Rattle.ht_runs.specs.declared.faults.RunFault.{RunFault}
 use Rattle.ht_runs.specs.declared.faults.RunFault.TheVariants.{Write}
-use Rattle.ht_feed.specs.Items.{Headed, Item}
-use Rattle.ht_receive.specs.Receiving.{PutsFrames}
-
--- The lines of the results that the jobs of an input give, and the end line, are put: from a reader that means this and the
--- head that stands for the one that came last, the source and the sink, before and after, and the answer.
-pub record PutsToEnd {R H T : Type 0} (means : R → List ℕ → Meaning (Item H)) (at : R → ℕ) (reader : R) (head : H) (line : T → List ℕ)
-    (results : List (Headed H) → List T) (source source' sink sink' : Device ℕ) (result : Result ℕ RunFault) : Type 0 where
-  -- what was read, and what was put of it
-  pub puts : PutsFrames means at reader head line results source source' sink sink' result
-  -- where the sink failed the answer is `Write`, whatever else failed
-  pub writes : result ≢ Err Write → sink'.faults ≡ sink.faults
-  -- however it ends, the source is the same, and takes back no fault
-  pub reads_later : IsLater source source'
-  -- so does the sink
-  pub puts_later : IsLater sink sink'
 
 -- The text of a whole input is put while it is read: the source and the sink, before and after, and the answer, of which this
 -- is said where it is good.

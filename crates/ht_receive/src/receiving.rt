@@ -1,13 +1,17 @@
 //! Results of frames, booked.
-ghost use Rattle.std.specs.Prelude.{◌≡◌, ◌-◌, ◌^◌, ◌<◌, ◌≤◌, true};
+ghost use Rattle.std.specs.Prelude.{◌≤◌};
 ghost use Rattle.ht_feed.specs.Inputs.{TellsInput};
-ghost use Rattle.ht_receive.specs.Receiving.{books};
+ghost use Rattle.ht_receive.specs.Receiving.{CanBegin, books};
 
-use ht_feed::{BlockReader, Ended, Hits, Work, tell_alone};
-use ht_frames::{Book, Receiver, UnderWay, WholeFrame};
+use ht_drive::tell;
+use ht_feed::{BlockReader, Ended, Hits, Shared, Work, tell_alone};
+use ht_frames::{Book, Frames, Gatherer, Receiver, TakesBlocks, UnderWay, WholeFrame};
 use ht_io::Source;
 use ht_runs::StopFault;
 use std::alloc::Global;
+use std::collections::VecDeque;
+use std::sync::Wait;
+use std::thread::Threads;
 
 /// Reads an input from the source, and books the result of each frame that is whole before its first fault.
 ///
@@ -34,11 +38,7 @@ pub fn receive_alone<
     under_way: U,
     book: &mut B,
 ) -> Result<Ended, StopFault>
-    requires some { 1 ≤ window }
-    requires few { window ≤ 4096 }
-    requires going { (R.counts reader).going ≡ true }
-    requires fresh { (R.counts reader).given ≡ 0 }
-    requires bounded { (R.counts reader).more < 2 ^ 64 - 1 }
+    requires begins { CanBegin window (R.counts reader) }
     ensures { TellsInput R.means R.at reader head (S.shown source.old) (S.shown source.new)
         (books B.booked (U.results under_way) (B.shown book.old)) (books B.booked (U.results under_way) (B.shown book.new))
         (B.lent book.old) (B.lent book.new) result }
@@ -46,4 +46,53 @@ pub fn receive_alone<
     let mut under_way = under_way;
     let mut receiver = Receiver::new(alloc, &mut under_way, book);
     tell_alone(alloc, reader, head, window, work, source, &mut receiver)
+}
+
+/// Does as [`receive_alone`], and the blocks are run by 1 to 64 workers, of which the caller is one, while whole frames are
+/// decoded as a [`Gatherer`] has it done. The work sends its workers to the frames given here before they look for blocks, as
+/// that of `BesideFrames` does. The results are the same, in the same order.
+pub fn receive<
+    T: Threads + Wait + Sync,
+    U: TakesBlocks + Drop,
+    R: BlockReader<Head = U::Head> + Drop,
+    W: Work<R::Block, Answer = U::Answer> + Sync,
+    S: Source,
+    B: Book<<U::Whole as WholeFrame>::Result>,
+>(
+    rt: &T,
+    alloc: Global,
+    workers: u8,
+    reader: R,
+    head: U::Head,
+    window: u16,
+    work: &W,
+    frames: &Frames<U::Whole>,
+    source: &mut S,
+    under_way: U,
+    book: &mut B,
+) -> Result<Ended, StopFault>
+where
+    R::Block: Shared + Send + Sync,
+    U::Answer: Send + Sync,
+    requires one { 1 ≤ workers }
+    requires many { workers ≤ 64 }
+    requires begins { CanBegin window (R.counts reader) }
+    ensures { TellsInput R.means R.at reader head (S.shown source.old) (S.shown source.new)
+        (books B.booked (U.results under_way) (B.shown book.old)) (books B.booked (U.results under_way) (B.shown book.new))
+        (B.lent book.old) (B.lent book.new) result }
+{
+    let mut under_way = under_way;
+    let mut queue = VecDeque::new(alloc);
+    let mut gatherer = Gatherer::new(rt, alloc, workers, frames, &mut under_way, &mut queue, book);
+    tell(
+        rt,
+        alloc,
+        workers,
+        window,
+        reader,
+        head,
+        work,
+        source,
+        &mut gatherer,
+    )
 }

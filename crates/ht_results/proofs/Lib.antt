@@ -1,4 +1,6 @@
 pub mod Putting
+pub mod Among
+pub mod Blocks
 pub mod Places
 pub mod Vectors
 pub mod Steps

@@ -44,11 +44,11 @@ ladders Qam64 = record {
   q = record { size = inr (inr (inr refl)); some = omega arith; within = omega arith };
 }
 
-grid_length : (r : Rate) → length (grid_of r) ≡ streams_of r
+pub grid_length : (r : Rate) → length (grid_of r) ≡ streams_of r
 unfolding grid_of
 grid_length r = length-replicate (streams_of r) (axes_of (modulation_of r))
 
-grid_good : (r : Rate) → IsGrid (grid_of r)
+pub grid_good : (r : Rate) → IsGrid (grid_of r)
 unfolding grid_of
 grid_good r =
     let long = length-replicate (streams_of r) (axes_of (modulation_of r)) in

@@ -1,10 +1,9 @@
 -- The labels of a frame whose jobs are detected as they were sent are those that the frame gives.
-use Rattle.std.proofs.Common.{◌≡◌, ◌⊎◌, inl, inr, ℕ, zero, suc, ◌+◌, ◌-◌, ◌*◌, ◌<◌, ◌≤◌, List, [], ◌∷◌, ◌++◌, get_or, length, map, not}
+use Rattle.std.proofs.Common.{◌≡◌, inl, inr, ℕ, zero, suc, ◌+◌, ◌-◌, ◌*◌, ◌<◌, ◌≤◌, List, [], ◌∷◌, get_or, length, map, not}
 use Rattle.std.proofs.Common.{Bool, true, false, Option, Some, unwrap_or, if◌then◌else◌, refl, sym, ap, subst, ◌∙◌, arith}
 use Rattle.std.specs.List.{AllByRecursion, filter, find, flat_map, range_with_len}
 use Rattle.std.specs.Cmp.Derive.{both_true}
 use Rattle.std.proofs.lemmas.Bool.{cases_Bool, cases_eq, eq-eqb}
-use Rattle.std.proofs.lemmas.List.{get_or-append_right, get_or_append_left}
 use Rattle.std.proofs.lemmas.List.FromFn.{get_or-map-range_with_len, length-map-range_with_len}
 use Rattle.std.proofs.Math.Nat.{add-mul, mul_assoc}
 use Rattle.ht_rate.specs.declared.kinds.Carrier.{Carrier}
@@ -33,30 +32,11 @@ use Rattle.ht_tx.specs.Transmitted.{Carries, IsLabelOf, IsPointOf, IsTransmitted
 use Rattle.ht_tx.proofs.Places.{pair-below}
 use Rattle.ht_return.specs.Returns.{AreLabelsOf}
 use Rattle.ht_results.specs.Labels.{carrier_labels, frame_label, frame_labels, label_in, stands_at, symbol_labels}
+use Rattle.ht_results.proofs.Among.{Among, among_behind, among_front}
+use Rattle.ht_results.proofs.Blocks.{block_at}
 use Rattle.ht_results.proofs.Places.{stands}
 use Rattle.ht_round.proofs.Jobs.{IsFound}
 use Rattle.ht_round.proofs.Points.{stream_point, vector_at}
-
--- a place in a list of blocks
-block_at : (f : ℕ → List ℕ) (w a n k m : ℕ) → ((i : ℕ) → length (f i) ≡ w) → k < n → m < w
-    → get_or (flat_map f (range_with_len a n)) (k * w + m) 0 ≡ get_or (f (a + k)) m 0
-block_at f w a zero k m wide below within = absurd (omega (arith, below))
-block_at f w a (suc n) zero m wide below within =
-    let rest : List ℕ = flat_map f (range_with_len (a + 1) n) in
-    let start : 0 * w + m ≡ m = omega arith in
-    let place : a ≡ a + 0 = omega arith in
-    let size = wide a in
-    ap (λ (k : ℕ). get_or (f a ++ rest) k 0) start
-    ∙ (get_or_append_left (f a) rest 0 m (omega (arith, within, size)) ∙ ap (λ (i : ℕ). get_or (f i) m 0) place)
-block_at f w a (suc n) (suc k) m wide below within =
-    let rest : List ℕ = flat_map f (range_with_len (a + 1) n) in
-    let start : suc k * w + m ≡ w + (k * w + m) = omega arith in
-    let back : w + (k * w + m) - w ≡ k * w + m = omega arith in
-    let place : a + 1 + k ≡ a + suc k = omega arith in
-    ap (λ (i : ℕ). get_or (f a ++ rest) i 0) start
-    ∙ (get_or-append_right (f a) rest w (w + (k * w + m)) 0 (wide a) (omega arith)
-    ∙ (ap (λ (i : ℕ). get_or rest i 0) back
-    ∙ (block_at f w (a + 1) n k m wide (omega (arith, below)) within ∙ ap (λ (i : ℕ). get_or (f i) m 0) place)))
 
 arranged : (row columns column w m : ℕ) → (row * columns + column) * w + m ≡ row * (columns * w) + (column * w + m)
 arranged row columns column w m =
@@ -88,17 +68,7 @@ label_there g symbol carrier stream ls lc low high =
 
 -- a place is among others
 abbrev IsPlaceOf : ℕ → ℕ → List Place → Type 0
-IsPlaceOf symbol carrier [] = ⊥
-IsPlaceOf symbol carrier (p ∷ ps) = ((p.symbol ≡ symbol) × (p.carrier ≡ carrier)) ⊎ IsPlaceOf symbol carrier ps
-
-among_first : (symbol carrier : ℕ) (ps qs : List Place) → IsPlaceOf symbol carrier ps → IsPlaceOf symbol carrier (ps ++ qs)
-among_first symbol carrier [] qs there = absurd there
-among_first symbol carrier (p ∷ ps) qs (inl here) = inl here
-among_first symbol carrier (p ∷ ps) qs (inr later) = inr (among_first symbol carrier ps qs later)
-
-among_last : (symbol carrier : ℕ) (ps qs : List Place) → IsPlaceOf symbol carrier qs → IsPlaceOf symbol carrier (ps ++ qs)
-among_last symbol carrier [] qs there = there
-among_last symbol carrier (p ∷ ps) qs there = inr (among_last symbol carrier ps qs there)
+IsPlaceOf symbol carrier ps = Among (λ (p : Place). (p.symbol ≡ symbol) × (p.carrier ≡ carrier)) ps
 
 -- where no subcarrier is erased, each of them has a place in each symbol
 among_carriers : (head : FrameHead) (symbol a n carrier : ℕ) → head.erased ≡ 0 → a ≤ carrier → carrier < a + n
@@ -126,12 +96,13 @@ among_symbols head a (suc n) symbol carrier all lc low high =
     let rest : List Place = flat_map (symbol_places head) (range_with_len (a + 1) n) in
     elim (cases_eq a symbol) [
       | inl same ↦
-          among_first symbol carrier (symbol_places head a) rest
+          among_front (λ (p : Place). (p.symbol ≡ symbol) × (p.carrier ≡ carrier)) (symbol_places head a) rest
           (subst (λ (s : ℕ). IsPlaceOf s carrier (symbol_places head a)) same
           (among_carriers head a 0 (carriers_of head.rate) carrier all (omega arith) (omega (arith, lc))))
       | inr apart ↦
           let next : a + 1 ≤ symbol = later a symbol low apart in
-          among_last symbol carrier (symbol_places head a) rest (among_symbols head (a + 1) n symbol carrier all lc next (omega (arith, high)))
+          among_behind (λ (p : Place). (p.symbol ≡ symbol) × (p.carrier ≡ carrier)) (symbol_places head a) rest
+          (among_symbols head (a + 1) n symbol carrier all lc next (omega (arith, high)))
     ]
   where
     later : (a b : ℕ) → a ≤ b → (a ≡ b → ⊥) → a + 1 ≤ b

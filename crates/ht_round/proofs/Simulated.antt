@@ -48,7 +48,7 @@ no_noise w =
 nothing_added : (a b : ℤ) → b ≡ pos 0 → a +ℤ b ≡ a
 nothing_added a b none = omega (arith, ints)
 
-samples_are : (cs : List Complex) (z : ℕ) → map received (each (sample_drawn 0) cs z).value ≡ cs
+pub samples_are : (cs : List Complex) (z : ℕ) → map received (each (sample_drawn 0) cs z).value ≡ cs
 unfolding sample_drawn
 samples_are [] z = refl
 samples_are (c ∷ cs) z =

@@ -22,8 +22,9 @@ use Rattle.ht_rx.specs.Blocks.{in_block, out_of_block, told_of}
 use Rattle.ht_frames.specs.Gathering.{booked_in}
 use Rattle.ht_rx.specs.Frames.{booked_of, results_in, with_found, with_found_as}
 use Rattle.ht_rx.specs.Outcomes.{StopsBy, TellsTo}
+use Rattle.ht_rx.specs.Telling.{TellsCapture}
 use Rattle.ht_feed.specs.Items.{Item}
-use Rattle.ht_feed.specs.Outcomes.{Comes}
+use Rattle.ht_feed.specs.Inputs.{TellsInput}
 use Rattle.ht_fields.specs.Meanings.{Meaning}
 use Rattle.ht_capture.specs.Captures.{capture_of}
 use Rattle.ht_capture_blocks.specs.Captures.{mapped}
@@ -63,11 +64,17 @@ frames_told {P = P} booked f result source source' book book' none told =
     subst (λ (g : List ℕ → List P). MatchResult result (TellsTo g source source' book book') (StopsBy g source source' book book')) same told
 
 -- a receiver that begins with no frame under way books the results of the octets
-pub received : {R P : Type 0} (means : R → List ℕ → Meaning (Item FrameHead)) (at : R → ℕ) (reader : R) (head : FrameHead) (booked : FrameResult → List P)
-    (f : FrameSoFar) (source source' : Device ℕ) (book book' : Device P) (result : Result Ended StopFault)
+pub received : {R P : Type 0} {means : R → List ℕ → Meaning (Item FrameHead)} {at : R → ℕ} {reader : R} {head : FrameHead}
+    {source source' : Device ℕ} {book book' : Device P} {lent lent' : List ℕ} {result : Result Ended StopFault} (booked : FrameResult → List P) (f : FrameSoFar)
+    → TellsInput means at reader head source source' (books booked (results_in f) book) (books booked (results_in f) book') lent lent' result
     → ((octets : List ℕ) → means reader octets ≡ mapped (capture_of octets)) → at reader ≡ 0 → f.left ≡ 0
-    → Comes means at reader head source source' (books booked (results_in f) book) (books booked (results_in f) book') result
-    → MatchResult result (TellsTo (booked_of booked) source source' book book') (StopsBy (booked_of booked) source source' book book')
-received means at reader head booked f source source' book book' result same zero none came =
-    frames_told booked f result source source' book book' (omega (arith, none))
-    (comes_to means at reader head source source' (books booked (results_in f) book) (books booked (results_in f) book') result same zero came)
+    → TellsCapture (booked_of booked) source source' book book' result
+received {means = means} {at = at} {reader = reader} {head = head} {source = source} {source' = source'} {book = book} {book' = book'} {result = result}
+    booked f told same zero none =
+    record {
+      tells = frames_told booked f result source source' book book' (omega (arith, none))
+          (comes_to means at reader head source source' (books booked (results_in f) book) (books booked (results_in f) book') result same zero told.tells);
+      writes = told.writes;
+      reads_later = told.reads_later;
+      puts_later = told.puts_later;
+    }

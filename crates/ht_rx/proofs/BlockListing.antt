@@ -15,7 +15,7 @@ use Rattle.ht_feed.specs.declared.ended.Ended.{Ended}
 use Rattle.ht_feed.specs.Accounts.{PutsBlock, PutsPartOf, Telling}
 use Rattle.ht_feed.specs.Dues.{due_of, headed_due}
 use Rattle.ht_feed.specs.Items.{Headed as BlockHeaded, Item}
-use Rattle.ht_feed.specs.Outcomes.{Comes}
+use Rattle.ht_feed.specs.Inputs.{TellsInput}
 use Rattle.ht_fields.specs.Meanings.{Meaning}
 use Rattle.ht_capture.specs.Captures.{capture_of}
 use Rattle.ht_capture_blocks.specs.Captures.{mapped}
@@ -24,6 +24,7 @@ use Rattle.ht_results.specs.Heads.{headed_jobs}
 use Rattle.ht_rx.specs.Blocks.{in_block, jobs_in_blocks, told_of}
 use Rattle.ht_rx.specs.Heads.{jobs_alone}
 use Rattle.ht_rx.specs.Outcomes.{StopsBy, TellsTo}
+use Rattle.ht_rx.specs.Telling.{TellsCapture}
 use Rattle.ht_results.specs.JobTexts.{job_line_of, job_lines, line_at, lines_of}
 use Rattle.ht_rx.proofs.Blocks.{comes_to}
 use Rattle.ht_rx.proofs.Heading.{jobs_of_octets}
@@ -85,11 +86,17 @@ abbrev pub lists : Device ℕ → Telling FrameHead ℕ
 lists sink = record { device = sink; pieces = λ jobs. job_lines (jobs_in_blocks jobs); Waits = λ due. Unit {0} }
 
 -- the lines of all jobs are the lines of the octets
-pub listed : {R : Type 0} (means : R → List ℕ → Meaning (Item FrameHead)) (at : R → ℕ) (reader : R) (head : FrameHead)
-    (source source' sink sink' : Device ℕ) (result : Result Ended StopFault)
+pub listed : {R : Type 0} {means : R → List ℕ → Meaning (Item FrameHead)} {at : R → ℕ} {reader : R} {head : FrameHead}
+    {source source' sink start sink' : Device ℕ} {lent lent' : List ℕ} {result : Result Ended StopFault}
+    → TellsInput means at reader head source source' (lists start) (lists sink') lent lent' result → start ≡ sink
     → ((octets : List ℕ) → means reader octets ≡ mapped (capture_of octets)) → at reader ≡ 0
-    → Comes means at reader head source source' (lists sink) (lists sink') result
-    → MatchResult result (TellsTo lines_of source source' sink sink') (StopsBy lines_of source source' sink sink')
-listed means at reader head source source' sink sink' result same zero came =
-    subst (λ (f : List ℕ → List ℕ). MatchResult result (TellsTo f source source' sink sink') (StopsBy f source source' sink sink'))
-    (fun_ext lines_are) (comes_to means at reader head source source' (lists sink) (lists sink') result same zero came)
+    → TellsCapture lines_of source source' sink sink' result
+listed {means = means} {at = at} {reader = reader} {head = head} {source = source} {source' = source'} {start = start} {sink' = sink'} {result = result}
+    told from same zero =
+    subst (λ (d : Device ℕ). TellsCapture lines_of source source' d sink' result) from (record {
+      tells = subst (λ (f : List ℕ → List ℕ). MatchResult result (TellsTo f source source' start sink') (StopsBy f source source' start sink'))
+          (fun_ext lines_are) (comes_to means at reader head source source' (lists start) (lists sink') result same zero told.tells);
+      writes = told.writes;
+      reads_later = told.reads_later;
+      puts_later = told.puts_later;
+    })

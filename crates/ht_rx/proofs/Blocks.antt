@@ -2,6 +2,7 @@
 use Rattle.std.specs.Prelude.{◌≡◌, ℕ, ◌+◌, List, [], ◌∷◌, ◌++◌, length, map, Option, Result, Ok, Err, IsErr, IsErrAnd, MatchResult}
 use Rattle.std.proofs.Common.{refl, ap, ◌∙◌, sym, subst, arith}
 use Rattle.ht_io.specs.Devices.{Device}
+use Rattle.ht_io.proofs.Calls.{later-refl}
 use Rattle.ht_io.specs.declared.faults.FormatFault.{FormatFault}
 use Rattle.ht_fields.specs.Meanings.{Meaning}
 use Rattle.ht_fields.specs.Readers.{ReaderView}
@@ -31,6 +32,7 @@ use Rattle.ht_results.specs.Texts.{frames_of}
 use Rattle.ht_results.proofs.Folded.{headed_is}
 use Rattle.ht_rx.specs.Blocks.{in_block, told_of}
 use Rattle.ht_rx.specs.Outcomes.{HasCounts, StopsBy, TellsTo}
+use Rattle.ht_rx.specs.Telling.{TellsCapture}
 use Rattle.ht_results.specs.JobTexts.{jobs_of}
 
 -- the items of a capture out of its heads and jobs
@@ -119,9 +121,13 @@ comes_to means at reader head source source' a b result same zero came =
     (λ octets. ap a.pieces (headed-octets head octets)) came)
 
 -- without memory for a reader nothing is taken, and nothing put
-pub lacks : {P : Type 0} (pieces : List ℕ → List P) (source : Device ℕ) (device : Device P) (result : Result Ended StopFault)
-    → IsErr result → IsErrAnd result (λ r. r ≡ NoMemory)
-    → MatchResult result (TellsTo pieces source source device device) (StopsBy pieces source source device device)
-lacks pieces source device result failed memory =
-    stops_with result (TellsTo pieces source source device device) (StopsBy pieces source source device device) (λ r. r ≡ NoMemory) failed memory
-    (λ r is. subst (λ (x : StopFault). StopsBy pieces source source device device x) (sym is) (told_nothing captures source pieces device))
+pub lacks : {P : Type 0} {pieces : List ℕ → List P} {source : Device ℕ} {device : Device P} {result : Result Ended StopFault}
+    → IsErr result → IsErrAnd result (λ r. r ≡ NoMemory) → TellsCapture pieces source source device device result
+lacks {pieces = pieces} {source = source} {device = device} {result = result} failed memory =
+    record {
+      tells = stops_with result (TellsTo pieces source source device device) (StopsBy pieces source source device device) (λ r. r ≡ NoMemory) failed memory
+          (λ r is. subst (λ (x : StopFault). StopsBy pieces source source device device x) (sym is) (told_nothing captures source pieces device));
+      writes = λ well. refl;
+      reads_later = later-refl source;
+      puts_later = later-refl device;
+    }

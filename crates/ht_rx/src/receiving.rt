@@ -7,13 +7,11 @@ use crate::faults::RxFault;
 use crate::open_frame::OpenFrame;
 use crate::tally::TallyWork;
 use ht_capture_blocks::CaptureReader;
-use ht_drive::tell;
 use ht_feed::{Ended, Gate};
-use ht_frames::{BesideFrames, Book, Frames, Gatherer, HitWork};
+use ht_frames::{BesideFrames, Book, Frames, HitWork};
 use ht_io::Source;
 use ht_results::{FrameResult, no_head};
 use std::alloc::Global;
-use std::collections::VecDeque;
 use std::sync::Wait;
 use std::thread::Threads;
 
@@ -41,18 +39,10 @@ pub fn receive_alone<S: Source, B: Book<FrameResult>, G: Gate>(
     ensures same { B.lent book.new ≡ B.lent book.old }
 {
     let reader = CaptureReader::new(alloc)?;
+    let head = no_head();
     let under_way = OpenFrame::new(alloc);
     let work = HitWork { alloc, gate };
-    ht_receive::receive_alone(
-        alloc,
-        reader,
-        no_head(),
-        window,
-        &work,
-        source,
-        under_way,
-        book,
-    )
+    ht_receive::receive_alone(alloc, reader, head, window, &work, source, under_way, book)
 }
 
 /// Does as [`receive_alone`], and the jobs are run by 1 to 64 workers, of which the caller is one. The results are the
@@ -85,31 +75,14 @@ pub fn receive<R: Threads + Wait + Sync, S: Source, B: Book<FrameResult>, G: Gat
         return receive_alone(alloc, window, source, book, gate);
     }
     let reader = CaptureReader::new(alloc)?;
+    let head = no_head();
+    let under_way = OpenFrame::new(alloc);
     let frames = Frames::new(alloc);
-    let mut under_way = OpenFrame::new(alloc);
-    let mut queue = VecDeque::new(alloc);
-    let mut gatherer = Gatherer::new(
-        rt,
-        alloc,
-        workers,
-        &frames,
-        &mut under_way,
-        &mut queue,
-        book,
-    );
     let work = BesideFrames {
         work: TallyWork { alloc, gate },
         frames: &frames,
     };
-    tell(
-        rt,
-        alloc,
-        workers,
-        window,
-        reader,
-        no_head(),
-        &work,
-        source,
-        &mut gatherer,
+    ht_receive::receive(
+        rt, alloc, workers, reader, head, window, &work, &frames, source, under_way, book,
     )
 }

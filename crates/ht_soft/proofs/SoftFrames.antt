@@ -8,7 +8,7 @@ use Rattle.ht_rate.specs.declared.kinds.Pattern.{Pattern}
 use Rattle.ht_rate.specs.Rates.{encoders_of, pattern_of, steps_of}
 use Rattle.ht_conv.specs.Puncturing.{sent_count}
 use Rattle.ht_parse.specs.Encoders.{list_of}
-use Rattle.ht_viterbi.specs.Inputs.{IsCheapest, cost_of, tail, weight_cost}
+use Rattle.ht_viterbi.specs.Inputs.{IsFound, tail, weight_cost}
 use Rattle.ht_viterbi.specs.declared.codeword.Cheapest.{Cheapest}
 use Rattle.ht_inverse.specs.Received.{value_at, values_of}
 use Rattle.ht_inverse.specs.Decoding.{joined_bits}
@@ -27,24 +27,21 @@ weights-length r octets erased j steps weights received p steps_are p_is are =
 -- what is decoded is the codeword of its encoder
 pub soft-codeword-is : (r : Rate) (octets erased j steps : ℕ) (weights received : List ℤ) (p : Pattern) (c : Cheapest) → steps ≡ steps_of r octets
     → p ≡ pattern_of r → received ≡ values_of (pos 0) r octets erased weights j → tail ≤ steps
-    → IsCheapest weight_cost steps p received c.input → c.cost ≡ cost_of weight_cost p received c.input → c ≡ soft_codeword_of r octets erased weights j
+    → IsFound weight_cost steps p received c.input c.cost → c ≡ soft_codeword_of r octets erased weights j
 unfolding soft_codeword_of soft_input_of soft_cost_at weights_of
-soft-codeword-is r octets erased j steps weights received p c steps_are p_is are some is costs =
+soft-codeword-is r octets erased j steps weights received p c steps_are p_is are some found =
     let answer = cheapest-answer weight_cost steps (steps_of r octets) p (pattern_of r) received (values_of (pos 0) r octets erased weights j) c.input c.cost
-    steps_are p_is are some is costs in
+    steps_are p_is are some found in
     let made : List Bool → ℕ → Cheapest = λ u n. record { input = u; cost = n } in
     ap (λ u. made u c.cost) answer.0 ∙ ap (λ n. made (soft_input_of r octets erased weights j) n) answer.1
 
--- the bits of a frame are those of its codewords, told of lists that are their inputs
-pub soft-bits : (r : Rate) (octets erased : ℕ) (weights : List ℤ) (first second : Cheapest) (u v : List Bool) → u ≡ first.input → v ≡ second.input
-    → AreSoftCodewords r octets erased weights first second
-    → joined_bits r octets (list_of u v) ≡ joined_bits r octets (soft_input_of r octets erased weights)
+-- the bits of a frame are those of its codewords
+pub soft-bits : (r : Rate) (octets erased : ℕ) (weights : List ℤ) (first second : Cheapest) → AreSoftCodewords r octets erased weights first second
+    → joined_bits r octets (list_of first.input second.input) ≡ joined_bits r octets (soft_input_of r octets erased weights)
 unfolding soft_codeword_of
-soft-bits r octets erased weights first second u v e f are =
-    ap (λ (x : List Bool). joined_bits r octets (list_of x v)) e
-    ∙ (ap (λ (x : List Bool). joined_bits r octets (list_of first.input x)) f
-    ∙ joined-same r octets (list_of first.input second.input) (soft_input_of r octets erased weights)
-    (inputs-are r (soft_codeword_of r octets erased weights) no_soft_codeword first second (λ c. c.input) are))
+soft-bits r octets erased weights first second are =
+    joined-same r octets (list_of first.input second.input) (soft_input_of r octets erased weights)
+    (inputs-are r (soft_codeword_of r octets erased weights) no_soft_codeword first second (λ c. c.input) are)
 
 -- their costs together
 pub soft-costs : (r : Rate) (octets erased : ℕ) (weights : List ℤ) (first second : Cheapest) → AreSoftCodewords r octets erased weights first second

@@ -1,5 +1,5 @@
 -- Halves and weights worked out, by computation.
-use Rattle.std.proofs.Common.{◌≡◌, ℕ, ℤ, pos, negsuc, List, [], ◌∷◌, Bool, true, false, refl}
+use Rattle.std.proofs.Common.{◌≡◌, ℕ, ℤ, pos, negsuc, List, [], ◌∷◌, map, Bool, true, false, refl}
 use Rattle.ht_rate.specs.declared.kinds.Modulation.{Modulation}
 use Rattle.ht_rate.specs.declared.kinds.Modulation.TheVariants.{Bpsk, Qpsk, Qam16, Qam64}
 use Rattle.ht_pam.specs.Ladders.{levels}
@@ -15,50 +15,21 @@ i_levels m e value = levels (half_axes m e value).i
 abbrev q_levels : Modulation → ℕ → Bool → List ℤ
 q_levels m e value = levels (half_axes m e value).q
 
-bpsk_one : i_levels Bpsk 0 true ≡ pos 1 ∷ []
+i_cut : i_levels Bpsk 0 true ∷ i_levels Qpsk 1 false ∷ i_levels Qam16 1 true ∷ i_levels Qam64 0 false ∷ []
+    ≡ (pos 1 ∷ []) ∷ (negsuc 0 ∷ pos 1 ∷ []) ∷ (negsuc 0 ∷ pos 1 ∷ []) ∷ (negsuc 6 ∷ negsuc 4 ∷ negsuc 2 ∷ negsuc 0 ∷ []) ∷ []
 unfolding half_axes cut_axis axes_of
-bpsk_one = refl
+i_cut = refl
 
-qpsk_of_q : q_levels Qpsk 1 false ≡ negsuc 0 ∷ []
+q_cut : q_levels Qpsk 1 false ∷ q_levels Qam16 2 true ∷ q_levels Qam64 5 true ∷ []
+    ≡ (negsuc 0 ∷ []) ∷ (pos 1 ∷ pos 3 ∷ []) ∷ (negsuc 4 ∷ negsuc 2 ∷ pos 3 ∷ pos 5 ∷ []) ∷ []
 unfolding half_axes cut_axis axes_of
-qpsk_of_q = refl
-
-qpsk_keeps_i : i_levels Qpsk 1 false ≡ negsuc 0 ∷ pos 1 ∷ []
-unfolding half_axes cut_axis axes_of
-qpsk_keeps_i = refl
-
-qam16_second : i_levels Qam16 1 true ≡ negsuc 0 ∷ pos 1 ∷ []
-unfolding half_axes cut_axis axes_of
-qam16_second = refl
-
-qam16_third : q_levels Qam16 2 true ≡ pos 1 ∷ pos 3 ∷ []
-unfolding half_axes cut_axis axes_of
-qam16_third = refl
-
-qam64_first : i_levels Qam64 0 false ≡ negsuc 6 ∷ negsuc 4 ∷ negsuc 2 ∷ negsuc 0 ∷ []
-unfolding half_axes cut_axis axes_of
-qam64_first = refl
-
-qam64_last : q_levels Qam64 5 true ≡ negsuc 4 ∷ negsuc 2 ∷ pos 3 ∷ pos 5 ∷ []
-unfolding half_axes cut_axis axes_of
-qam64_last = refl
+q_cut = refl
 
 -- the first distance less the second, cut at both ends
-far_from_zero : weight_of 185 65 ≡ pos 120
+cut_at_both_ends : map (λ (pair : ℕ × ℕ). weight_of pair.0 pair.1) ((185, 65) ∷ (100, 100) ∷ (6400000000, 0) ∷ (0, 65536) ∷ [])
+    ≡ pos 120 ∷ pos 0 ∷ pos 65535 ∷ negsuc 65534 ∷ []
 unfolding weight_of
-far_from_zero = refl
-
-even : weight_of 100 100 ≡ pos 0
-unfolding weight_of
-even = refl
-
-heavy : weight_of 6400000000 0 ≡ pos 65535
-unfolding weight_of
-heavy = refl
-
-heavy_zero : weight_of 0 65536 ≡ negsuc 65534
-unfolding weight_of
-heavy_zero = refl
+cut_at_both_ends = refl
 
 -- one stream, diagonal d and sample re, im
 unfoldable job : Modulation → ℕ → ℤ → ℤ → JobView
@@ -69,14 +40,10 @@ job m d re im = record {
   system = record { diagonal = d; right = []; sample = record { re = re; im = im } } ∷ [];
 }
 
--- BPSK with diagonal 10 and sample 3 - 4i: the distances are 185 and 65
-plus_three : weight_at Bpsk (job Bpsk 10 (pos 3) (negsuc 3)) 1 0 ≡ pos 120
+-- BPSK with diagonal 10 and the samples 3 - 4i, where the distances are 185 and 65, and -4i
+by_sample : map (λ (re : ℤ). weight_at Bpsk (job Bpsk 10 re (negsuc 3)) 1 0) (pos 3 ∷ pos 0 ∷ []) ≡ pos 120 ∷ pos 0 ∷ []
 unfolding weight_at weight_of half_of half_axes cut_axis axes_of job
-plus_three = refl
-
-nothing : weight_at Bpsk (job Bpsk 10 (pos 0) (pos 0)) 1 0 ≡ pos 0
-unfolding weight_at weight_of half_of half_axes cut_axis axes_of job
-nothing = refl
+by_sample = refl
 
 -- 16-QAM with diagonal 2 and sample 3 - 7i
 unfoldable by_hand : List ℤ

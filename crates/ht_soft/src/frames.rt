@@ -1,15 +1,14 @@
 //! Frames decoded from weights.
-ghost use Rattle.std.specs.Prelude.{◌≡◌, ◌==◌, ◌-◌, ◌*◌, ◌≤◌, ℕ, ℤ, List, IfOk, if◌then◌else◌, length};
+ghost use Rattle.std.specs.Prelude.{◌≡◌, ◌==◌, ◌-◌, ◌*◌, ◌≤◌, IfOk, if◌then◌else◌, length};
 ghost use Rattle.ht_rate.specs.Rates.{encoders_of, label_bits_of, steps_of};
 ghost use Rattle.ht_inverse.specs.Received.{labels_in_frame};
-ghost use Rattle.ht_soft.specs.Frames.{AreSoftCodewords, no_soft_codeword, soft_codeword_of, soft_decoded_frame};
+ghost use Rattle.ht_soft.specs.Frames.{no_soft_codeword, soft_codeword_of, soft_decoded_frame};
 
-use crate::codewords::soft_decode;
 use crate::soft_decoded::SoftDecoded;
 use ht_bits::Bits;
 use ht_inverse::{Share, Table, inputs_come_to};
 use ht_rate::Rate;
-use ht_viterbi::Cheapest;
+use ht_viterbi::{Cheapest, decode_weights};
 use std::alloc::{AllocError, Global};
 
 // The codeword of a share's encoder.
@@ -26,7 +25,7 @@ fn codeword(
 {
     let received = share.values(alloc, octets, weights, 0)?;
     let steps = share.rate.codeword_steps(octets);
-    soft_decode(alloc, steps, share.rate.pattern(), &received)
+    decode_weights(alloc, steps, share.rate.pattern(), &received)
 }
 
 // The codeword of encoder 1, or an empty one where there is none.
@@ -51,32 +50,6 @@ fn second_codeword(
     }
 }
 
-// The frame of these codewords.
-fn frame_of(
-    alloc: Global,
-    rate: &Rate,
-    octets: u16,
-    first: Cheapest,
-    second: Cheapest,
-) -> Result<SoftDecoded, AllocError>
-    requires first { length first.input ≡ steps_of rate.now octets }
-    requires second { length second.input ≡ (encoders_of rate.now - 1) * steps_of rate.now octets }
-    ensures { (erased : ℕ) (weights : List ℤ) → AreSoftCodewords rate.now octets erased weights first second
-        → IfOk result (λ frame. frame ≡ soft_decoded_frame rate.now octets erased weights) }
-{
-    let outcome = inputs_come_to(
-        alloc,
-        rate,
-        octets,
-        first.input.as_slice(),
-        second.input.as_slice(),
-    )?;
-    Ok(SoftDecoded {
-        outcome,
-        cost: u128::from(first.cost) + u128::from(second.cost),
-    })
-}
-
 // The frame of a table's rate and erased subcarriers.
 fn decoded(
     table: &Table,
@@ -90,7 +63,17 @@ fn decoded(
 {
     let first = codeword(&table.first, alloc, octets, weights)?;
     let second = second_codeword(table, alloc, octets, weights)?;
-    frame_of(alloc, &table.first.rate, octets, first, second)
+    let outcome = inputs_come_to(
+        alloc,
+        &table.first.rate,
+        octets,
+        &first.input,
+        &second.input,
+    )?;
+    Ok(SoftDecoded {
+        outcome,
+        cost: u128::from(first.cost) + u128::from(second.cost),
+    })
 }
 
 /// Decodes a frame from the weights of its label bits.

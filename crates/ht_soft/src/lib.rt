@@ -16,14 +16,13 @@
 //! the weights of a frame are decoded to.
 #![tactic(auto)]
 
-mod codewords;
 mod frames;
 mod halves;
 mod soft_decoded;
 mod weights;
 
-pub use codewords::soft_decode;
 pub use frames::soft_frame;
 pub use halves::{half, half_grid};
+pub use ht_viterbi::decode_weights as soft_decode;
 pub use soft_decoded::SoftDecoded;
 pub use weights::weight;

@@ -91,6 +91,14 @@ module _ (it : HalvesView) (front behind : List JobView) (split : it.kept ≡ fr
         bound = omega (arith, long, more, bound);
       }
 
+-- where no halves were kept, the jobs' reader gave a block
+pub record GaveBlock (it : HalvesView) (source after : Device ℕ) (most : ℕ) (reader : Progress) (jobs : List JobView) : Type 0 where
+  pub none : it.kept ≡ []
+  pub told : Gives (jobs_seen it.reader source) (jobs_seen reader after) (map One jobs)
+  pub counted : CountsBlock most (capture_counts it.reader) (capture_counts reader) jobs
+  pub going : it.going ≡ true
+  pub sound : IsSoundReader it
+
 -- where no halves are kept, the jobs' reader is asked
 module _ (it : HalvesView) (none : it.kept ≡ []) (source : Device ℕ) where
   -- it gave these items
@@ -133,55 +141,6 @@ module _ (it : HalvesView) (none : it.kept ≡ []) (source : Device ℕ) where
           bound = omega (arith, less, bound);
         }
 
-  -- a block
-  module _ (most : ℕ) (reader : Progress) (after : Device ℕ) (jobs : List JobView)
-      (g : Gives (jobs_seen it.reader source) (jobs_seen reader after) (map One jobs))
-      (counted : CountsBlock most (capture_counts it.reader) (capture_counts reader) jobs) (going : it.going ≡ true) (sound : IsSoundReader it) where
-    pub block_rates : AreOfRate it.head.rate jobs
-    block_rates = (rates_first it.head jobs (capture_means reader []).items (rates_after reader after (map One jobs) g (sound.rates going) [])).0
-
-    pub block_numbers : it.given + 48 * length jobs < 2 ^ 64
-    block_numbers =
-        let fits = counted.fewer in
-        let bound = sound.bound in
-        omega (arith, fits, bound)
-
-    module _ (kept : List JobView) (is : kept ≡ numbered it.given (halves_of_all it.head.rate jobs)) (few : length kept ≤ 48 * length jobs) where
-      abbrev pub filled : HalvesView
-      filled = record it { reader = reader; kept = kept }
-
-      pub gives_none_yet : Gives (seen it source) (seen filled after) []
-      gives_none_yet =
-          let halves = halves_of_all it.head.rate jobs in
-          let long : length halves ≡ length kept = sym (length_numbered it.given halves) ∙ ap (λ (js : List JobView). length js) (sym is) in
-          record {
-            taken = g.taken;
-            octets = g.octets;
-            place = g.place;
-            means = λ rest.
-                let m = capture_means reader rest in
-                read_means reader after (map One jobs) g rest
-                ∙ ap (λ (xs : List (Item FrameHead)). record { items = xs; fault = m.fault })
-                (ap (numbered_items it.given) (halves_first it.head jobs m.items)
-                ∙ (items_numbered it.given halves (in_halves it.head m.items)
-                ∙ (ap (λ (js : List JobView). map One js ++ numbered_items (it.given + length halves) (in_halves it.head m.items)) (sym is)
-                ∙ ap (λ n. map One kept ++ numbered_items (it.given + n) (in_halves it.head m.items)) long)));
-          }
-
-      pub never_more : soft_more filled ≤ soft_more it
-      never_more = let fits = counted.fewer in omega (arith, fits, few)
-
-      pub filled_sound : IsSoundReader filled
-      filled_sound =
-          let fits = counted.fewer in
-          let bound = sound.bound in
-          record {
-            going = λ on. counted.going;
-            rates = λ on rest. (rates_first it.head jobs (capture_means reader rest).items (rates_after reader after (map One jobs) g (sound.rates going) rest)).1;
-            numbers = subst (Numbered it.given) (sym is) (are_numbered it.given (halves_of_all it.head.rate jobs));
-            bound = omega (arith, fits, few, bound);
-          }
-
   -- the end
   pub completes : (after : Device ℕ) → Completes (jobs_seen it.reader source) after → Completes (seen it source) after
   completes after c = record { taken = c.taken; octets = c.octets; means = none_kept it c.taken none ∙ ap (made_of it.head it.given) c.means }
@@ -221,6 +180,57 @@ module _ (it : HalvesView) (none : it.kept ≡ []) (source : Device ℕ) where
   halts after (Format fault) (inr r) = inr (runs_out after fault r)
   halts after Read (b, rose) = (breaks after b, rose)
   halts after NoMemory l = record { taken = l.taken; octets = l.octets }
+
+-- a block of jobs came: their halves are kept
+module _ {it : HalvesView} {source after : Device ℕ} {most : ℕ} {reader : Progress} {jobs : List JobView}
+    (gave : GaveBlock it source after most reader jobs) where
+  rates_behind : (rest : List ℕ) → AreOfRates it.head (map One jobs ++ (capture_means reader rest).items)
+  rates_behind rest = rates_after it gave.none source reader after (map One jobs) gave.told (gave.sound.rates gave.going) rest
+
+  pub block_rates : AreOfRate it.head.rate jobs
+  block_rates = (rates_first it.head jobs (capture_means reader []).items (rates_behind [])).0
+
+  pub block_numbers : it.given + 48 * length jobs < 2 ^ 64
+  block_numbers =
+      let fits = gave.counted.fewer in
+      let bound = gave.sound.bound in
+      omega (arith, fits, bound)
+
+  module _ (kept : List JobView) (is : kept ≡ numbered it.given (halves_of_all it.head.rate jobs)) (few : length kept ≤ 48 * length jobs) where
+    abbrev pub filled : HalvesView
+    filled = record it { reader = reader; kept = kept }
+
+    pub gives_none_yet : Gives (seen it source) (seen filled after) []
+    gives_none_yet =
+        let halves = halves_of_all it.head.rate jobs in
+        let long : length halves ≡ length kept = sym (length_numbered it.given halves) ∙ ap (λ (js : List JobView). length js) (sym is) in
+        record {
+          taken = gave.told.taken;
+          octets = gave.told.octets;
+          place = gave.told.place;
+          means = λ rest.
+              let m = capture_means reader rest in
+              read_means it gave.none source reader after (map One jobs) gave.told rest
+              ∙ ap (λ (xs : List (Item FrameHead)). record { items = xs; fault = m.fault })
+              (ap (numbered_items it.given) (halves_first it.head jobs m.items)
+              ∙ (items_numbered it.given halves (in_halves it.head m.items)
+              ∙ (ap (λ (js : List JobView). map One js ++ numbered_items (it.given + length halves) (in_halves it.head m.items)) (sym is)
+              ∙ ap (λ n. map One kept ++ numbered_items (it.given + n) (in_halves it.head m.items)) long)));
+        }
+
+    pub never_more : soft_more filled ≤ soft_more it
+    never_more = let fits = gave.counted.fewer in omega (arith, fits, few)
+
+    pub filled_sound : IsSoundReader filled
+    filled_sound =
+        let fits = gave.counted.fewer in
+        let bound = gave.sound.bound in
+        record {
+          going = λ on. gave.counted.going;
+          rates = λ on rest. (rates_first it.head jobs (capture_means reader rest).items (rates_behind rest)).1;
+          numbers = subst (Numbered it.given) (sym is) (are_numbered it.given (halves_of_all it.head.rate jobs));
+          bound = omega (arith, fits, few, bound);
+        }
 
 -- a block that came behind none is the next one
 pub counts_on : (most : ℕ) (old mid new : HalvesView) (jobs : List JobView) → mid.given ≡ old.given → soft_more mid ≤ soft_more old

@@ -6,7 +6,7 @@ use Rattle.std.proofs.Math.Seq.{take-length}
 use Rattle.ht_rate.specs.declared.rates.Rate.{Rate}
 use Rattle.ht_metric.specs.Jobs.{JobView}
 use Rattle.ht_metric.specs.declared.place.Place.{Place}
-use Rattle.ht_soft_blocks.specs.Blocks.{IsSpot, some_halves}
+use Rattle.ht_soft_blocks.specs.Blocks.{AreSomeHalves, IsSpot, some_halves}
 use Rattle.ht_soft_blocks.specs.Halved.{halves_of, halves_of_all}
 use Rattle.ht_feed.specs.Numbers.{numbered, with_number}
 use Rattle.ht_soft_blocks.proofs.Lists.{all_get, get_drop, get_some, get_take}
@@ -43,6 +43,12 @@ module _ (rate : Rate) (jobs : List JobView) (first count number : ℕ) where
       ap (λ xs. numbered (number + k) (take (count - k) xs)) (sym moved)
       ∙ (ap (numbered (number + k)) (sym (drop-take k (count - k) (drop first halves)) ∙ ap (λ n. drop k (take n (drop first halves))) split)
       ∙ drop_numbered number k (take count (drop first halves)))
+
+-- how many they are, as they are seen
+pub length_seen : {rate : Rate} {jobs view : List JobView} {pilots of_data first count number : ℕ}
+    → AreSomeHalves rate jobs pilots of_data first count number → some_halves rate jobs first count number ≡ view → length view ≡ count
+length_seen {rate = rate} {jobs = jobs} {first = first} {count = count} {number = number} are is =
+    ap (λ (js : List JobView). length js) (sym is) ∙ length_some rate jobs first count number are.within
 
 -- all of them
 pub all_halves : (rate : Rate) (jobs : List JobView) (count number : ℕ) → count ≡ length (halves_of_all rate jobs)

@@ -66,6 +66,12 @@ module _ (rate : Rate) (jobs : List JobView) where
       let before = spot.before job is in
       omega (arith, le, before)
 
+  -- the job that is looked at next, how many halves stand before its own, and how many those are
+  pub record IsNext (k start count : ℕ) : Type 0 where
+    pub within : k < length jobs
+    pub starts : IsStart rate jobs k start
+    pub counts : (job : JobView) → slice_get jobs k ≡ Some job → length (halves_of rate job) ≡ count
+
   pub is_spot : (at k start count : ℕ) → k < length jobs → IsStart rate jobs k start → start ≤ at → at < start + count
       → ((job : JobView) → slice_get jobs k ≡ Some job → length (halves_of rate job) ≡ count) → IsSpot rate jobs at k start
   is_spot at k start count within s le less count_is =

@@ -12,12 +12,16 @@ use Rattle.ht_capture.specs.Captures.{capture_of}
 use Rattle.ht_capture.specs.Fields.{captures}
 use Rattle.ht_capture_blocks.specs.Captures.{items_of, mapped}
 use Rattle.ht_runs.specs.declared.faults.RunFault.{RunFault}
+use Rattle.ht_runs.specs.declared.faults.StopFault.{StopFault}
 use Rattle.ht_runs.specs.Streamed.{Streamed}
 use Rattle.ht_soft_blocks.specs.Readers.{HalvesView, soft_at, soft_means}
 use Rattle.ht_capture_laws.specs.Items.{whole_frames}
 use Rattle.ht_endings.specs.Endings.{HasFrames as BlockFrames, IsTold, end_as}
-use Rattle.ht_receive.specs.Receiving.{PutsFrames}
-use Rattle.ht_receive.proofs.Streaming.{streams}
+use Rattle.ht_receive.specs.Ends.{StreamsText}
+use Rattle.ht_receive.specs.Receiving.{books}
+use Rattle.ht_receive.proofs.Streaming.{EndsLines, streams}
+use Rattle.ht_feed.specs.declared.ended.Ended.{Ended}
+use Rattle.ht_feed.specs.Inputs.{TellsInput}
 use Rattle.ht_feed.specs.Items.{Item, Begins, One, frames_of as block_frames, headed as block_headed}
 use Rattle.ht_results.specs.Texts.{frames_of, last_line, last_of}
 use Rattle.ht_runs.specs.Formats.{filter, last_text}
@@ -87,11 +91,19 @@ framed head source source' sink sink' (Ok frames) run = (run.0, run.1 ∙ frames
 framed head source source' sink sink' (Err fault) run = run
 
 -- the lines of frames were put, from where no frame was under way, and then the end line
-pub finished : (reader : HalvesView) (head : FrameHead) (w : Weighing) (source source' sink sink' : Device ℕ) (result : Result ℕ RunFault)
-    → ((octets : List ℕ) → soft_means reader octets ≡ halved head (mapped (capture_of octets))) → soft_at reader ≡ 0 → w.left ≡ 0
-    → PutsFrames soft_means soft_at reader head soft_line (results_in w) source source' sink sink' result
-    → Streamed (filter captures soft_rx_text soft_lines_of) source source' sink sink' HasFrames result
-finished reader head w source source' sink sink' result means at idle puts =
-    framed head source source' sink sink' result
-    (streams captures (halved_items head) soft_means soft_at reader head soft_line (results_in w)
-    soft_rx_text soft_lines_of source source' sink sink' result (soft_told head w idle) means at puts)
+pub finished : {reader : HalvesView} {head : FrameHead} {w : Weighing} {source source' sink start mid sink' : Device ℕ} {lent lent' : List ℕ}
+    {ended : Result Ended StopFault} {result : Result ℕ RunFault}
+    → TellsInput soft_means soft_at reader head source source' (books soft_line (results_in w) start) (books soft_line (results_in w) mid) lent lent' ended
+    → start ≡ sink → ((octets : List ℕ) → soft_means reader octets ≡ halved head (mapped (capture_of octets))) → soft_at reader ≡ 0 → w.left ≡ 0
+    → EndsLines ended mid sink' result
+    → StreamsText (filter captures soft_rx_text soft_lines_of) HasFrames source source' sink sink' result
+finished {reader = reader} {head = head} {w = w} {source = source} {source' = source'} {sink = sink} {start = start} {mid = mid} {sink' = sink'}
+    {lent = lent} {lent' = lent'} {ended = ended} {result = result} tells from means at idle last =
+    let all = streams captures (halved_items head) soft_means soft_at reader head soft_line (results_in w) soft_rx_text soft_lines_of source source' sink
+    start mid sink' lent lent' ended result (soft_told head w idle) means at from tells last in
+    record {
+      streams = framed head source source' sink sink' result all.streams;
+      writes = all.writes;
+      reads_later = all.reads_later;
+      puts_later = all.puts_later;
+    }

@@ -1,30 +1,22 @@
 //! Receiving the frames of a capture by soft decisions.
-ghost use Rattle.std.specs.Prelude.{◌≡◌, ◌<◌, ◌≤◌, ◌-◌, ◌^◌, true};
+ghost use Rattle.std.specs.Prelude.{◌≤◌};
 ghost use Rattle.ht_capture.specs.Fields.{captures};
-ghost use Rattle.ht_feed.specs.Inputs.{TellsInput};
-ghost use Rattle.ht_receive.specs.Ends.{PutsToEnd, StreamsText};
-ghost use Rattle.ht_receive.specs.Receiving.{books};
+ghost use Rattle.ht_receive.specs.Ends.{StreamsText};
 ghost use Rattle.ht_runs.specs.Formats.{filter};
-ghost use Rattle.ht_soft_blocks.specs.Readers.{soft_at, soft_counts, soft_means};
-ghost use Rattle.ht_soft_rx.specs.Folding.{results_in};
 ghost use Rattle.ht_soft_rx.specs.Halved.{HasFrames};
-ghost use Rattle.ht_soft_rx.specs.Texts.{soft_line, soft_lines_of, soft_rx_text};
+ghost use Rattle.ht_soft_rx.specs.Texts.{soft_lines_of, soft_rx_text};
 
-use crate::soft_result::SoftResult;
 use crate::under_way::SoftUnderWay;
 use crate::work::HalvesWork;
-use ht_capture::FrameHead;
-use ht_drive::tell;
 use ht_endings::put_end;
-use ht_feed::{Ended, Gate};
-use ht_frames::{BesideFrames, Book, Frames, Gatherer, HitWork, TextBook};
+use ht_feed::Gate;
+use ht_frames::{BesideFrames, Frames, HitWork, TextBook};
 use ht_io::{Sink, Source};
-use ht_receive::put_frames_alone;
+use ht_receive::{receive, receive_alone};
 use ht_results::no_head;
-use ht_runs::{RunFault, StopFault};
+use ht_runs::RunFault;
 use ht_soft_blocks::HalvesReader;
 use std::alloc::Global;
-use std::collections::VecDeque;
 use std::sync::Wait;
 use std::thread::Threads;
 
@@ -45,6 +37,7 @@ use std::thread::Threads;
 /// if the source did; and with `NoMemory`. In the last two cases a part of the text was put.
 ///
 /// IEEE Std 802.11-2012, clause 20.3.11 backwards.
+#[tactic(auto, using(ht_receive::proofs::Streaming::lacks))]
 pub fn receive_soft_alone<S: Source, K: Sink, G: Gate>(
     alloc: Global,
     window: u16,
@@ -63,90 +56,9 @@ pub fn receive_soft_alone<S: Source, K: Sink, G: Gate>(
     let work = HalvesWork {
         work: HitWork { alloc, gate },
     };
-    put_frames_alone(alloc, reader, head, window, &work, source, under_way, sink)
-}
-
-// Books the result of each frame that is whole, from a reader in front of a capture whose halves are run by workers.
-fn book_frames<R: Threads + Wait + Sync, S: Source, B: Book<SoftResult>, G: Gate + Sync>(
-    rt: &R,
-    alloc: Global,
-    workers: u8,
-    reader: HalvesReader,
-    head: FrameHead,
-    window: u16,
-    source: &mut S,
-    under_way: SoftUnderWay,
-    book: &mut B,
-    gate: &G,
-) -> Result<Ended, StopFault>
-    requires one { 1 ≤ workers }
-    requires many { workers ≤ 64 }
-    requires some { 1 ≤ window }
-    requires few { window ≤ 4096 }
-    requires going { (soft_counts reader).going ≡ true }
-    requires fresh { (soft_counts reader).given ≡ 0 }
-    requires bounded { (soft_counts reader).more < 2 ^ 64 - 1 }
-    ensures { TellsInput soft_means soft_at reader head (S.shown source.old) (S.shown source.new)
-        (books B.booked (results_in under_way) (B.shown book.old)) (books B.booked (results_in under_way) (B.shown book.new))
-        (B.lent book.old) (B.lent book.new) result }
-{
-    let frames = Frames::new(alloc);
-    let mut under_way = under_way;
-    let mut queue = VecDeque::new(alloc);
-    let mut gatherer = Gatherer::new(
-        rt,
-        alloc,
-        workers,
-        &frames,
-        &mut under_way,
-        &mut queue,
-        book,
-    );
-    let work = BesideFrames {
-        work: HalvesWork {
-            work: HitWork { alloc, gate },
-        },
-        frames: &frames,
-    };
-    tell(
-        rt,
-        alloc,
-        workers,
-        window,
-        reader,
-        head,
-        &work,
-        source,
-        &mut gatherer,
-    )
-}
-
-// Puts their lines, and behind those of a whole capture the end line.
-fn put_frames<R: Threads + Wait + Sync, S: Source, K: Sink, G: Gate + Sync>(
-    rt: &R,
-    alloc: Global,
-    workers: u8,
-    reader: HalvesReader,
-    head: FrameHead,
-    window: u16,
-    source: &mut S,
-    under_way: SoftUnderWay,
-    sink: &mut K,
-    gate: &G,
-) -> Result<u64, RunFault>
-    requires one { 1 ≤ workers }
-    requires many { workers ≤ 64 }
-    requires some { 1 ≤ window }
-    requires few { window ≤ 4096 }
-    requires going { (soft_counts reader).going ≡ true }
-    requires fresh { (soft_counts reader).given ≡ 0 }
-    requires bounded { (soft_counts reader).more < 2 ^ 64 - 1 }
-    ensures { PutsToEnd soft_means soft_at reader head soft_line (results_in under_way)
-        (S.shown source.old) (S.shown source.new) (K.shown sink.old) (K.shown sink.new) result }
-{
     let mut book = TextBook::new(alloc, sink);
-    let ended = book_frames(
-        rt, alloc, workers, reader, head, window, source, under_way, &mut book, gate,
+    let ended = receive_alone(
+        alloc, reader, head, window, &work, source, under_way, &mut book,
     );
     put_end(alloc, ended, sink)
 }
@@ -154,12 +66,13 @@ fn put_frames<R: Threads + Wait + Sync, S: Source, K: Sink, G: Gate + Sync>(
 /// Does as [`receive_soft_alone`], and the jobs are run by 1 to 64 workers, of which the caller is one. The lines are the
 /// same, in the same order.
 ///
-/// Whole frames are decoded while the jobs behind them are read and run, as [`Gatherer`] does it: a frame of 100 octets or
+/// Whole frames are decoded while the jobs behind them are read and run, as a `Gatherer` of crate `ht_frames` does it: a frame of 100 octets or
 /// more is given to the workers, who decode it before they look for blocks, and a shorter one is decoded by the caller.
 /// While jobs are due, at most two frames for each worker beside the caller have no booked result, not counting the frame
 /// under way, and those with the workers have at most 131,072 octets together. So the weights of at most three of the
 /// longest frames are kept, 4.2 MB each, whatever the workers. No clause says so of frames, octets and threads. However it
 /// ends, no thread is left behind.
+#[tactic(auto, using(ht_receive::proofs::Streaming::lacks))]
 pub fn receive_soft<R: Threads + Wait + Sync, S: Source, K: Sink, G: Gate + Sync>(
     rt: &R,
     alloc: Global,
@@ -182,7 +95,16 @@ pub fn receive_soft<R: Threads + Wait + Sync, S: Source, K: Sink, G: Gate + Sync
     let head = no_head();
     let reader = HalvesReader::new(alloc, head)?;
     let under_way = SoftUnderWay::new(alloc);
-    put_frames(
-        rt, alloc, workers, reader, head, window, source, under_way, sink, gate,
-    )
+    let frames = Frames::new(alloc);
+    let work = BesideFrames {
+        work: HalvesWork {
+            work: HitWork { alloc, gate },
+        },
+        frames: &frames,
+    };
+    let mut book = TextBook::new(alloc, sink);
+    let ended = receive(
+        rt, alloc, workers, reader, head, window, &work, &frames, source, under_way, &mut book,
+    );
+    put_end(alloc, ended, sink)
 }

@@ -1,5 +1,5 @@
 -- The best of what was found.
-use Rattle.std.proofs.Common.{◌*◌, length, drop, set, ◌≡◌, ◌⊎◌, ℕ, ◌+◌, ◌<◌, ◌≤◌, ℤ, List, [], ◌∷◌, ◌++◌, Bool, true}
+use Rattle.std.proofs.Common.{◌*◌, length, ◌≡◌, ◌⊎◌, ℕ, ◌+◌, ◌<◌, ◌≤◌, ℤ, List, [], ◌∷◌, ◌++◌, Bool, true}
 use Rattle.std.proofs.Common.{false, ◌&&◌, ◌||◌, not, nat_lt, refl, ap, sym, ◌∙◌, subst, arith, inl, inr, true≢false}
 use Rattle.std.specs.Prelude.{int_lt}
 use Rattle.std.specs.Prelude.{Some}
@@ -8,7 +8,6 @@ use Rattle.std.specs.Cmp.Lexicographic.{slice_partial_cmp}
 use Rattle.std.proofs.lemmas.Cmp.{same_from_slice_cmp_tested}
 use Rattle.std.proofs.lemmas.Bool.Decides.{nat_tests}
 use Rattle.std.proofs.lemmas.Int.{ints}
-use Rattle.std.proofs.lemmas.List.{drop-set, drop-drop}
 use Rattle.std.proofs.Math.Nat.{mul-le-mul}
 use Rattle.ht_pam.specs.Ladders.{Rungs, levels, IsLadder}
 use Rattle.ht_pam.proofs.Tables.{levels_some}
@@ -176,12 +175,6 @@ pub best-cut : (a : Reached) (choice : Real) (choices : List Real) (chosen : Lis
 best-cut a choice choices chosen partial x xs far sorted =
     by-far a choice choices chosen partial (cost choice chosen x) (x ∷ xs) far (omega arith, sorted.0)
 
--- what a search below leaves of the chosen levels
-pub still : (xs ys : List ℤ) (n : ℕ) (x : ℤ) → n < length xs → drop n ys ≡ drop n (set xs n x) → drop (n + 1) ys ≡ drop (n + 1) xs
-still xs ys n x small e =
-    let one : drop n ys ≡ x ∷ drop (n + 1) xs = e ∙ drop-set xs n x small in
-    sym (drop-drop 1 n ys) ∙ ap (drop 1) one
-
 pub steps-on : (before next after below rest all : ℕ) → after + 1 ≤ next + 2 * below
     → next ≡ before + 1 → before + 2 + 2 * (below + rest) ≤ all → after + 2 + 2 * rest ≤ all
 steps-on before next after below rest all p q r = omega arith
@@ -210,12 +203,6 @@ walk_some l f ladder = omega (arith, length-nearest_first f (levels l), levels_s
 
 pub order_some : (c : Real) (t : ℤ) → IsLadder c.ladder → 0 < length (order_at c t)
 order_some c t ladder = walk_some c.ladder (gap t c.diagonal) ladder
-
-pub still_at : (xs ys : List ℤ) (at place size : ℕ) (x y : ℤ) → at < length xs → at ≡ place
-    → at + 1 ≡ size → drop place ys ≡ drop place (set xs at y) → drop size ys ≡ drop size xs
-still_at xs ys at place size x y small e f h =
-    ap (λ (m : ℕ). drop m ys) (sym f)
-    ∙ still xs ys at y small (ap (λ (m : ℕ). drop m ys) e ∙ h ∙ ap (λ (m : ℕ). drop m (set xs at y)) (sym e)) ∙ ap (λ (m : ℕ). drop m xs) f
 
 -- `<` of two lists of levels
 pub less_is_before : (xs ys : List ℤ) (r : Bool) → r ≡ is_some_and is_lt (slice_partial_cmp (λ x y. Some (int_cmp x y)) xs ys) → r ≡ levels_before xs ys

@@ -9,3 +9,4 @@ pub mod Down
 pub mod Margins
 pub mod Others
 pub mod Steps
+pub mod Walks

@@ -9,16 +9,16 @@ use Rattle.ht_metric.specs.Jobs.{JobView, near}
 use Rattle.ht_sphere.specs.Coordinates.{from_last}
 use Rattle.ht_sphere.specs.Tree.{Reached, rounding, inside_of}
 
-abbrev two : Rungs
+abbrev pub two : Rungs
 two = record { size = 2; mask = 3 }
 
-abbrev nil : Rungs
+abbrev pub nil : Rungs
 nil = record { size = 1; mask = 1 }
 
 abbrev here : Place
 here = record { frame = 0; symbol = 0; carrier = 0 }
 
-abbrev job : List Axes → List Row → JobView
+abbrev pub job : List Axes → List Row → JobView
 job grid system = record { number = 0; place = here; grid = grid; system = system }
 
 -- QPSK on two streams: d = 0 and 0, r_12 = (10, 0), y_1 = (10, -10), y_2 = (0, 0)

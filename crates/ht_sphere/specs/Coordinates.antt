@@ -1,5 +1,6 @@
 -- A system of complex rows as one of real coordinates: I and Q of each stream.
-use Rattle.std.specs.Prelude.{◌≡◌, ◌⊎◌, ◌≤◌, true, ℕ, zero, suc, ◌+◌, ◌-◌, ℤ, pos, ◌+ℤ◌, ◌-ℤ◌, ◌*ℤ◌, List, [], ◌∷◌, ◌++◌, length, drop, slice_index_or}
+use Rattle.std.specs.Prelude.{◌≡◌, ◌⊎◌, ◌≤◌, ◌^◌, true, ℕ, zero, suc, ◌+◌, ◌-◌, ℤ, pos, unsigned_abs, ◌+ℤ◌, ◌-ℤ◌, ◌*ℤ◌}
+use Rattle.std.specs.Prelude.{List, [], ◌∷◌, ◌++◌, length, drop, slice_index_or}
 use Rattle.ht_pam.specs.Ladders.{Rungs, levels, has}
 use Rattle.ht_pam.specs.Grids.{no_axes}
 use Rattle.ht_pam.specs.Zigzags.{gap, nearest_first}
@@ -48,6 +49,12 @@ order c chosen = order_at c (target c chosen)
 
 abbrev pub cost : Real → List ℤ → ℤ → ℕ
 cost c chosen x = cost_at c (target c chosen) x
+
+-- what is known of a coordinate behind chosen levels: its diagonal and its target, which is within bounds
+pub record IsAimed (c : Real) (chosen : List ℤ) (d : ℕ) (t : ℤ) : Type 0 where
+  pub diagonal : d ≡ c.diagonal
+  pub target : t ≡ target c chosen
+  pub bound : unsigned_abs t ≤ 2 ^ 31 + 2 ^ 21
 
 -- the entries of a row for this number of streams behind its own
 abbrev pub entries_behind : ℕ → List Tap → List Tap

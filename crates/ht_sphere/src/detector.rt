@@ -4,7 +4,7 @@ ghost use Rattle.std.specs.List.{All};
 ghost use Rattle.ht_metric.specs.Jobs.{near, IsJob, IsNear};
 ghost use Rattle.ht_sphere.specs.Coordinates.{from_last, points_from};
 ghost use Rattle.ht_sphere.specs.Tree.{rounding, inside, inside_of};
-ghost use Rattle.ht_sphere.specs.Searching.{leaves, IsBestOf};
+ghost use Rattle.ht_sphere.specs.Searching.{leaves, IsBest, IsBestOf, IsOpen};
 
 use crate::look::{AtOne, AtTwo, Look};
 use crate::round::round;
@@ -88,14 +88,8 @@ fn found<L: Ledger>(job: &Job, streams: u8, steps: &mut Steps<L>) -> Found
 // The levels of the best vector, and its distance: for one stream as a copy, for several by a call.
 #[inline(always)]
 fn best_levels<L: Ledger>(job: &Job, streams: u8, levels: &mut [i8], steps: &mut Steps<L>) -> u128
-    requires job { IsJob job.now }
-    requires streams { streams ≡ length job.now.system }
-    requires room { length levels.old ≡ 2 * length job.now.system }
-    requires levels { All (λ x. unsigned_abs x ≤ 7) levels.old }
-    ensures room { length levels.new ≡ length levels.old }
-    ensures best { IsBestOf (rounding (from_last job.now.system job.now.grid) [] 0) (leaves (from_last job.now.system job.now.grid) [] 0) (levels.new, result) }
-    ensures bound { result < 2 ^ 66 }
-    ensures steps { steps.new + 1 ≤ steps.old + 2 * inside_of job.now }
+    requires { IsOpen job.now streams levels.old }
+    ensures { IsBest job.now levels.old levels.new result steps.old steps.new }
 {
     match streams {
         1 => best_of(job, streams, levels, steps),
@@ -111,14 +105,8 @@ fn best_of_several<L: Ledger>(
     levels: &mut [i8],
     steps: &mut Steps<L>,
 ) -> u128
-    requires job { IsJob job.now }
-    requires streams { streams ≡ length job.now.system }
-    requires room { length levels.old ≡ 2 * length job.now.system }
-    requires levels { All (λ x. unsigned_abs x ≤ 7) levels.old }
-    ensures room { length levels.new ≡ length levels.old }
-    ensures best { IsBestOf (rounding (from_last job.now.system job.now.grid) [] 0) (leaves (from_last job.now.system job.now.grid) [] 0) (levels.new, result) }
-    ensures bound { result < 2 ^ 66 }
-    ensures steps { steps.new + 1 ≤ steps.old + 2 * inside_of job.now }
+    requires { IsOpen job.now streams levels.old }
+    ensures { IsBest job.now levels.old levels.new result steps.old steps.new }
 {
     best_of(job, streams, levels, steps)
 }
@@ -128,14 +116,8 @@ fn best_of_several<L: Ledger>(
 // search. Each caller has a copy of it, so that a number that is written there, as 1 above, leaves no loop over streams.
 #[inline(always)]
 fn best_of<L: Ledger>(job: &Job, streams: u8, levels: &mut [i8], steps: &mut Steps<L>) -> u128
-    requires job { IsJob job.now }
-    requires streams { streams ≡ length job.now.system }
-    requires room { length levels.old ≡ 2 * length job.now.system }
-    requires levels { All (λ x. unsigned_abs x ≤ 7) levels.old }
-    ensures room { length levels.new ≡ length levels.old }
-    ensures best { IsBestOf (rounding (from_last job.now.system job.now.grid) [] 0) (leaves (from_last job.now.system job.now.grid) [] 0) (levels.new, result) }
-    ensures bound { result < 2 ^ 66 }
-    ensures steps { steps.new + 1 ≤ steps.old + 2 * inside_of job.now }
+    requires { IsOpen job.now streams levels.old }
+    ensures { IsBest job.now levels.old levels.new result steps.old steps.new }
 {
     let first = rounded::<AtOne>(job, streams, levels);
     if first.is_alone {
@@ -161,10 +143,7 @@ struct Rounding {
 // Successive rounding of all coordinates. Each caller has a copy of it, without a call.
 #[inline(always)]
 fn rounded<A: Look>(job: &Job, streams: u8, levels: &mut [i8]) -> Rounding
-    requires job { IsJob job.now }
-    requires streams { streams ≡ length job.now.system }
-    requires room { length levels.old ≡ 2 * length job.now.system }
-    requires levels { All (λ x. unsigned_abs x ≤ 7) levels.old }
+    requires { IsOpen job.now streams levels.old }
     ensures room { length levels.new ≡ length levels.old }
     ensures levels { All (λ x. unsigned_abs x ≤ 7) levels.new }
     ensures found { rounding (from_last job.now.system job.now.grid) [] 0 ≡ (levels.new, result.distance) }

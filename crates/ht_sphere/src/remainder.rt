@@ -1,13 +1,12 @@
 //! What is left of a row of a system.
 ghost use Rattle.std.specs.Prelude.{◌≡◌, ◌≤◌, ◌+◌, ◌-◌, ◌*◌, ◌^◌, ◌-ℤ◌, ◌*ℤ◌, pos, ℤ, ◌∷◌, length, drop, unsigned_abs};
 ghost use Rattle.std.specs.List.{All};
-ghost use Rattle.ht_pam.specs.Ladders.{IsLadder};
 ghost use Rattle.ht_pam.specs.Zigzags.{gap};
 ghost use Rattle.ht_metric.specs.Distance.{square};
-ghost use Rattle.ht_sphere.specs.Coordinates.{i_at, q_at, left_i, left_q, target, order_at};
+ghost use Rattle.ht_sphere.specs.Coordinates.{i_at, q_at, left_i, left_q, target};
 
 use ht_metric::{Complex, Job, System};
-use ht_pam::{Point, Zigzag};
+use ht_pam::Point;
 
 /// What the levels of the streams behind a row leave of its sample, and its diagonal. The real part is the target of I of
 /// the row's own stream, the imaginary part that of Q.
@@ -37,36 +36,6 @@ pub fn remainder_of(job: &Job, k: u8, levels: &[i8]) -> Remainder
         im: left.im,
         d: job.system().diagonal(k),
     }
-}
-
-// The levels of Q of stream k, nearest first.
-pub(crate) fn walk_of_q(job: &Job, k: u8, t: i64) -> Zigzag
-    requires first { 1 ≤ k }
-    requires last { k ≤ length job.now.system }
-    requires target { unsigned_abs t ≤ 2 ^ 31 + 2 ^ 21 }
-    ensures order { result ≡ order_at (q_at job.now.system job.now.grid (k - 1)) t }
-    ensures ladder { IsLadder (q_at job.now.system job.now.grid (k - 1)).ladder }
-{
-    Zigzag::new(
-        job.grid().q_ladder(k),
-        t,
-        u32::from(job.system().diagonal(k)),
-    )
-}
-
-// The levels of I of stream k, nearest first.
-pub(crate) fn walk_of_i(job: &Job, k: u8, t: i64) -> Zigzag
-    requires first { 1 ≤ k }
-    requires last { k ≤ length job.now.system }
-    requires target { unsigned_abs t ≤ 2 ^ 31 + 2 ^ 21 }
-    ensures order { result ≡ order_at (i_at job.now.system job.now.grid (k - 1)) t }
-    ensures ladder { IsLadder (i_at job.now.system job.now.grid (k - 1)).ladder }
-{
-    Zigzag::new(
-        job.grid().i_ladder(k),
-        t,
-        u32::from(job.system().diagonal(k)),
-    )
 }
 
 // What the levels of the streams behind row k leave of its sample.

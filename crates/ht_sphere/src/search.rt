@@ -1,13 +1,11 @@
 //! The search through the tree of suffixes.
-ghost use Rattle.std.specs.Prelude.{◌≡◌, [], ◌∷◌, ◌+◌, ◌-◌, ◌*◌, ◌^◌, ◌<◌, ◌≤◌, ℕ, length, drop, unsigned_abs};
-ghost use Rattle.std.specs.List.{All};
-ghost use Rattle.ht_sphere.specs.Coordinates.{i_at, down, from_q, from_i, target as target_of};
-ghost use Rattle.ht_sphere.specs.Tree.{inside};
-ghost use Rattle.ht_sphere.specs.Searching.{leaves, better, IsBestOf};
+ghost use Rattle.std.specs.Prelude.{◌≡◌, [], ◌∷◌, ◌+◌, ◌-◌, ◌*◌, ◌^◌, ◌<◌, ◌≤◌, length, drop, unsigned_abs};
+ghost use Rattle.ht_sphere.specs.Coordinates.{i_at, down, from_q, from_i, IsAimed};
+ghost use Rattle.ht_sphere.specs.Searching.{better, HasRoom, IsBestOf, IsSearched};
 
-use crate::remainder::{cost, remainder_of, walk_of_i, walk_of_q};
+use crate::remainder::{cost, remainder_of};
 use ht_metric::Job;
-use ht_pam::Steps;
+use ht_pam::{Steps, Zigzag};
 use std::sync::ledger::Ledger;
 
 // Whether one vector is nearer than another, or as near and before it.
@@ -41,17 +39,10 @@ pub(crate) fn search<L: Ledger>(
     steps: &mut Steps<L>,
 )
     requires last { k ≤ length job.now.system }
-    requires room { length levels.old ≡ 2 * length job.now.system }
-    requires same { length best.old ≡ length levels.old }
-    requires levels { All (λ x. unsigned_abs x ≤ 7) levels.old }
+    requires room { HasRoom job.now levels.old best.old }
     requires small { partial + 2 ^ 65 * k < 2 ^ 128 }
-    ensures levels { All (λ x. unsigned_abs x ≤ 7) levels.new }
-    ensures chosen { drop (2 * k) levels.new ≡ drop (2 * k) levels.old }
-    ensures best { IsBestOf (best.old, distance.old)
-        (leaves (down job.now.system job.now.grid k) (drop (2 * k) levels.old) partial) (best.new, distance.new) }
-    ensures less { distance.new ≤ distance.old }
-    ensures steps { (rho : ℕ) → partial ≤ rho → distance.old ≤ rho
-        → steps.new + 1 ≤ steps.old + 2 * inside rho (down job.now.system job.now.grid k) (drop (2 * k) levels.old) partial }
+    ensures { IsSearched (down job.now.system job.now.grid k) (2 * k) partial levels.old (best.old, distance.old) steps.old
+        levels.new (best.new, distance.new) steps.new }
 {
     if k == 0 {
         settle(levels, partial, best, distance);
@@ -73,21 +64,14 @@ fn quadrature<L: Ledger>(
 )
     requires first { 1 ≤ k }
     requires last { k ≤ length job.now.system }
-    requires room { length levels.old ≡ 2 * length job.now.system }
-    requires same { length best.old ≡ length levels.old }
-    requires levels { All (λ x. unsigned_abs x ≤ 7) levels.old }
+    requires room { HasRoom job.now levels.old best.old }
     requires small { partial + 2 ^ 65 * k < 2 ^ 128 }
-    ensures levels { All (λ x. unsigned_abs x ≤ 7) levels.new }
-    ensures chosen { drop (2 * k) levels.new ≡ drop (2 * k) levels.old }
-    ensures best { IsBestOf (best.old, distance.old)
-        (leaves (from_q job.now.system job.now.grid (k - 1)) (drop (2 * k) levels.old) partial) (best.new, distance.new) }
-    ensures less { distance.new ≤ distance.old }
-    ensures steps { (rho : ℕ) → partial ≤ rho → distance.old ≤ rho
-        → steps.new + 1 ≤ steps.old + 2 * inside rho (from_q job.now.system job.now.grid (k - 1)) (drop (2 * k) levels.old) partial }
+    ensures { IsSearched (from_q job.now.system job.now.grid (k - 1)) (2 * k) partial levels.old (best.old, distance.old) steps.old
+        levels.new (best.new, distance.new) steps.new }
 {
     let at = 2 * usize::from(k) - 1;
     let left = remainder_of(job, k, levels);
-    let mut walk = walk_of_q(job, k, left.im);
+    let mut walk = Zigzag::new(job.grid().q_ladder(k), left.im, u32::from(left.d));
     while let Some(level) = walk.next(steps) {
         let next = partial + u128::from(cost(left.d, left.im, level));
         if next > *distance {
@@ -113,23 +97,14 @@ fn in_phase<L: Ledger>(
 )
     requires first { 1 ≤ k }
     requires last { k ≤ length job.now.system }
-    requires room { length levels.old ≡ 2 * length job.now.system }
-    requires same { length best.old ≡ length levels.old }
-    requires levels { All (λ x. unsigned_abs x ≤ 7) levels.old }
+    requires room { HasRoom job.now levels.old best.old }
     requires small { partial + 2 ^ 65 * k < 2 ^ 128 + 2 ^ 64 }
-    requires d { d ≡ (i_at job.now.system job.now.grid (k - 1)).diagonal }
-    requires target { target ≡ target_of (i_at job.now.system job.now.grid (k - 1)) (drop (2 * k - 1) levels.old) }
-    requires bound { unsigned_abs target ≤ 2 ^ 31 + 2 ^ 21 }
-    ensures levels { All (λ x. unsigned_abs x ≤ 7) levels.new }
-    ensures chosen { drop (2 * k - 1) levels.new ≡ drop (2 * k - 1) levels.old }
-    ensures best { IsBestOf (best.old, distance.old)
-        (leaves (from_i job.now.system job.now.grid (k - 1)) (drop (2 * k - 1) levels.old) partial) (best.new, distance.new) }
-    ensures less { distance.new ≤ distance.old }
-    ensures steps { (rho : ℕ) → partial ≤ rho → distance.old ≤ rho
-        → steps.new + 1 ≤ steps.old + 2 * inside rho (from_i job.now.system job.now.grid (k - 1)) (drop (2 * k - 1) levels.old) partial }
+    requires aimed { IsAimed (i_at job.now.system job.now.grid (k - 1)) (drop (2 * k - 1) levels.old) d target }
+    ensures { IsSearched (from_i job.now.system job.now.grid (k - 1)) (2 * k - 1) partial levels.old (best.old, distance.old) steps.old
+        levels.new (best.new, distance.new) steps.new }
 {
     let at = 2 * usize::from(k) - 2;
-    let mut walk = walk_of_i(job, k, target);
+    let mut walk = Zigzag::new(job.grid().i_ladder(k), target, u32::from(d));
     while let Some(level) = walk.next(steps) {
         let both = partial + u128::from(cost(d, target, level));
         if both > *distance {

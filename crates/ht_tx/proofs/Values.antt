@@ -1,5 +1,5 @@
 -- Worked values: the octet a5 with seed 127 at 20 MHz and MCS 0.
-use Rattle.std.proofs.Common.{◌≡◌, pos, negsuc, [], ◌∷◌, refl}
+use Rattle.std.proofs.Common.{◌≡◌, ℕ, ℤ, pos, negsuc, [], ◌∷◌, map, refl}
 use mathlib.Core.Bool.{xor}
 use Rattle.ht_rate.specs.Rates.{bandwidth_of, mcs_of, streams_of, modulation_of, pattern_of, data_carriers_of, pilots_of, carriers_of, label_bits_of}
 use Rattle.ht_rate.specs.Rates.{axis_bits_of, stream_bits_of, coded_bits_of, data_bits_of, encoders_of, needed_bits_of, symbols_of, pads_of, rate_at}
@@ -10,6 +10,7 @@ use Rattle.ht_interleave.specs.Interleaver.{origin_of}
 use Rattle.ht_parse.specs.Streams.{share_of, source_of}
 use Rattle.ht_landing.specs.Landings.{coded_bit_of}
 use Rattle.ht_pilot.specs.Pilots.{pilot_of}
+use Rattle.ht_pam.specs.declared.point.Point.{Point}
 use Rattle.ht_tx.specs.Frames.{FrameView}
 use Rattle.ht_tx.specs.Symbols.{points_of, index_of_point, pilot_point}
 use Rattle.ht_tx.specs.Coded.{data_of, coder_input, part_of, coded_of, reach_of}
@@ -56,19 +57,12 @@ unfolding source_at coded_bit_of source_of origin_of first_back second_back thir
     coded_bits_of streams_of stream_bits_of data_carriers_of label_bits_of modulation_of encoders_of mcs_of bandwidth_of rate_at
 second_label = refl
 
+-- a point on the real axis
+abbrev real : ℤ → Point
+real i = record { i = i; q = pos 0 }
+
 -- the pilots of symbol 0 are 1, 1, 1, -1, and those of symbol 1 are -1, -1, 1, -1
-first_pilot : pilot_point (rate_at 0 0) 0 0 1 ≡ record { i = pos 1; q = pos 0 }
+pilots : map (λ (n : ℕ). map (λ (k : ℕ). pilot_point (rate_at 0 0) n k 1) (0 ∷ 1 ∷ 2 ∷ 3 ∷ [])) (0 ∷ 1 ∷ [])
+    ≡ map real (pos 1 ∷ pos 1 ∷ pos 1 ∷ negsuc 0 ∷ []) ∷ map real (negsuc 0 ∷ negsuc 0 ∷ pos 1 ∷ negsuc 0 ∷ []) ∷ []
 unfolding pilot_point pilot_of polarity_at sequence delayed pilots_of bandwidth_of rate_at xor
-first_pilot = refl
-
-negated_pilot : pilot_point (rate_at 0 0) 0 3 1 ≡ record { i = negsuc 0; q = pos 0 }
-unfolding pilot_point pilot_of polarity_at sequence delayed pilots_of bandwidth_of rate_at xor
-negated_pilot = refl
-
-pilot_of_the_next_symbol : pilot_point (rate_at 0 0) 1 1 1 ≡ record { i = negsuc 0; q = pos 0 }
-unfolding pilot_point pilot_of polarity_at sequence delayed pilots_of bandwidth_of rate_at xor
-pilot_of_the_next_symbol = refl
-
-twice_negated : pilot_point (rate_at 0 0) 1 2 1 ≡ record { i = pos 1; q = pos 0 }
-unfolding pilot_point pilot_of polarity_at sequence delayed pilots_of bandwidth_of rate_at xor
-twice_negated = refl
+pilots = refl

@@ -1,18 +1,11 @@
 -- What is found along the choices of a word's steps is its first cheapest input, and what that costs.
-use Rattle.std.proofs.Common.{◌≡◌, ◌∙◌, ℕ, ◌-◌, ◌≤◌, List, Bool, false, ap, sym, subst, length, drop, map, replicate}
+use Rattle.std.proofs.Common.{◌≡◌, ◌∙◌, ℕ, ◌≤◌, List, Bool, ap, sym, subst, length, map}
 use Rattle.ht_rate.specs.declared.kinds.Pattern.{Pattern}
 use Rattle.ht_conv.specs.Puncturing.{sent_count}
-use Rattle.ht_viterbi.specs.Inputs.{IsCheapest, cost_of, tail}
+use Rattle.ht_viterbi.specs.Inputs.{IsCheapest, IsFound, cost_of, tail}
 use Rattle.ht_viterbi.specs.Trellis.{StepCosts, AreChoices, costs_of, first_from, least_from, word_steps}
 use Rattle.ht_viterbi.proofs.Orders.{zeros-end}
 use Rattle.ht_viterbi.proofs.Sending.{first-cheapest, first-cost, length-pairs}
-
--- what a decoder answers
-pub record IsFound {P : Type 0} (cost : P → Bool → ℕ) (steps : ℕ) (pattern : Pattern) (received : List P) (input : List Bool) (least : ℕ) : Type 0 where
-  pub cheapest : IsCheapest cost steps pattern received input
-  pub costs : least ≡ cost_of cost pattern received input
-  pub long : length input ≡ steps
-  pub ending : drop (steps - tail) input ≡ replicate tail false
 
 pub found : {P : Type 0} (cost : P → Bool → ℕ) (steps : ℕ) (pattern : Pattern) (received : List P) (pairs : List StepCosts)
     (written choices : List ℕ) (input : List Bool) (least : ℕ)
@@ -28,9 +21,9 @@ found cost steps pattern received pairs written choices input least some many sa
     let cheapest = subst (λ (u : List Bool). IsCheapest cost steps pattern received u) (sym is) (first-cheapest cost steps pattern received many) in
     let ends = zeros-end steps input some cheapest.within in
     record {
-      cheapest = cheapest;
-      costs = least-is ∙ (ap (λ (ps : List StepCosts). least_from ps 0) same
+      input = cheapest;
+      distance = least-is ∙ (ap (λ (ps : List StepCosts). least_from ps 0) same
           ∙ (sym (first-cost cost steps pattern received many) ∙ ap (cost_of cost pattern received) (sym is)));
-      long = ends.0;
+      steps = ends.0;
       ending = ends.1;
     }

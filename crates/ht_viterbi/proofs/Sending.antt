@@ -1,5 +1,5 @@
 -- The cost along the trellis is what the bits that an input sends cost.
-use Rattle.std.proofs.Common.{◌≡◌, ℕ, zero, suc, ◌+◌, ◌/◌, ◌%◌, ◌<◌, ◌≤◌, List, [], ◌∷◌, ◌++◌, length, drop}
+use Rattle.std.proofs.Common.{◌≡◌, ◌==◌, ℕ, zero, suc, ◌+◌, ◌*◌, ◌/◌, ◌%◌, ◌<◌, ◌≤◌, List, [], ◌∷◌, ◌++◌, length, drop}
 use Rattle.std.proofs.Common.{take, get_or, map, Bool, true, false, refl, ap, sym, ◌∙◌, arith}
 use Rattle.std.proofs.Math.Seq.{drop-cons}
 use Rattle.std.proofs.lemmas.List.{drop_all, length-map}
@@ -22,24 +22,21 @@ unfolding steps_from
 length-pairs pattern places step zero = refl
 length-pairs pattern places step (suc count) = ap suc (length-pairs pattern places (suc step) count)
 
+-- a bit put in front of a state's bits
+shifted : (state bit next : ℕ) → state < 64 → bit < 2 → next ≡ state / 2 + 32 * bit → history_of next ≡ (bit == 1) ∷ take 5 (history_of state)
+shifted state bit next lt few is =
+    let a : next / 32 ≡ bit = omega arith in
+    let b : next / 16 % 2 ≡ state / 32 = omega arith in
+    let c : next / 8 % 2 ≡ state / 16 % 2 = omega arith in
+    let d : next / 4 % 2 ≡ state / 8 % 2 = omega arith in
+    let e : next / 2 % 2 ≡ state / 4 % 2 = omega arith in
+    let f : next % 2 ≡ state / 2 % 2 = omega arith in
+    rw (a, b, c, d, e, f) refl
+
 -- the register after a bit, as the encoder's history
 half-bits : (state : ℕ) → state < 64 → (bit : Bool) → history_of (moved state bit) ≡ bit ∷ take 5 (history_of state)
-half-bits state lt false =
-    let a : moved state false / 32 ≡ 0 = omega arith in
-    let b : moved state false / 16 % 2 ≡ state / 32 = omega arith in
-    let c : moved state false / 8 % 2 ≡ state / 16 % 2 = omega arith in
-    let d : moved state false / 4 % 2 ≡ state / 8 % 2 = omega arith in
-    let e : moved state false / 2 % 2 ≡ state / 4 % 2 = omega arith in
-    let f : moved state false % 2 ≡ state / 2 % 2 = omega arith in
-    rw (a, b, c, d, e, f) refl
-half-bits state lt true =
-    let a : moved state true / 32 ≡ 1 = omega arith in
-    let b : moved state true / 16 % 2 ≡ state / 32 = omega arith in
-    let c : moved state true / 8 % 2 ≡ state / 16 % 2 = omega arith in
-    let d : moved state true / 4 % 2 ≡ state / 8 % 2 = omega arith in
-    let e : moved state true / 2 % 2 ≡ state / 4 % 2 = omega arith in
-    let f : moved state true % 2 ≡ state / 2 % 2 = omega arith in
-    rw (a, b, c, d, e, f) refl
+half-bits state lt false = shifted state 0 (state / 2) lt (omega arith) (omega arith)
+half-bits state lt true = shifted state 1 (state / 2 + 32) lt (omega arith) (omega arith)
 
 moved-lt : (state : ℕ) (bit : Bool) → state < 64 → moved state bit < 64
 moved-lt state false lt = omega arith

@@ -16,35 +16,31 @@ Alike : ℕ → ℕ → ℕ → Type 0
 Alike zero s t = s ≡ t
 Alike (suc n) s t = (bit : Bool) → Alike n (moved s bit) (moved t bit)
 
-alike-1 : (s t : ℕ) → s / 2 ≡ t / 2 → Alike 1 s t
-unfolding Alike
-alike-1 s t e false = e
-alike-1 s t e true = omega arith
+-- a number halved so many times
+abbrev halved : ℕ → ℕ → ℕ
+halved zero n = n
+halved (suc times) n = halved times (n / 2)
 
-alike-2 : (s t : ℕ) → s / 4 ≡ t / 4 → Alike 2 s t
-unfolding Alike
-alike-2 s t e false = alike-1 (s / 2) (t / 2) (omega arith)
-alike-2 s t e true = alike-1 (s / 2 + 32) (t / 2 + 32) (omega arith)
+raised : (times m n : ℕ) → times ≤ 5 → halved times m ≡ halved times n → halved times (m + 32) ≡ halved times (n + 32)
+raised zero m n few same = omega arith
+raised (suc zero) m n few same = omega arith
+raised (suc (suc zero)) m n few same = omega arith
+raised (suc (suc (suc zero))) m n few same = omega arith
+raised (suc (suc (suc (suc zero)))) m n few same = omega arith
+raised (suc (suc (suc (suc (suc zero))))) m n few same = omega arith
+raised (suc (suc (suc (suc (suc (suc times)))))) m n few same = absurd (omega arith)
 
-alike-3 : (s t : ℕ) → s / 8 ≡ t / 8 → Alike 3 s t
-unfolding Alike
-alike-3 s t e false = alike-2 (s / 2) (t / 2) (omega arith)
-alike-3 s t e true = alike-2 (s / 2 + 32) (t / 2 + 32) (omega arith)
+-- one step more, if the states come together after either bit
+alike-more : (times s t : ℕ) → Alike times (s / 2) (t / 2) → Alike times (s / 2 + 32) (t / 2 + 32) → (bit : Bool) → Alike times (moved s bit) (moved t bit)
+alike-more times s t after_zero after_one false = after_zero
+alike-more times s t after_zero after_one true = after_one
 
-alike-4 : (s t : ℕ) → s / 16 ≡ t / 16 → Alike 4 s t
+alike : (times s t : ℕ) → times ≤ 6 → halved times s ≡ halved times t → Alike times s t
 unfolding Alike
-alike-4 s t e false = alike-3 (s / 2) (t / 2) (omega arith)
-alike-4 s t e true = alike-3 (s / 2 + 32) (t / 2 + 32) (omega arith)
-
-alike-5 : (s t : ℕ) → s / 32 ≡ t / 32 → Alike 5 s t
-unfolding Alike
-alike-5 s t e false = alike-4 (s / 2) (t / 2) (omega arith)
-alike-5 s t e true = alike-4 (s / 2 + 32) (t / 2 + 32) (omega arith)
-
-alike-6 : (s t : ℕ) → s < 64 → t < 64 → Alike 6 s t
-unfolding Alike
-alike-6 s t ls lt false = alike-5 (s / 2) (t / 2) (omega arith)
-alike-6 s t ls lt true = alike-5 (s / 2 + 32) (t / 2 + 32) (omega arith)
+alike zero s t few same = same
+alike (suc times) s t few same =
+    alike-more times s t (alike times (s / 2) (t / 2) (omega arith) same)
+    (alike times (s / 2 + 32) (t / 2 + 32) (omega arith) (raised times (s / 2) (t / 2) (omega arith) same))
 
 -- what so many steps cost at most
 abbrev steps_cost : ℕ → ℕ → ℕ
@@ -66,7 +62,7 @@ spread-alike most (suc n) (pair ∷ pairs) s t light same =
     omega (arith, there, here, rest, light.0 s bit)
 
 pub spread : (most : ℕ) (pairs : List StepCosts) (s t : ℕ) → AreLight most pairs → s < 64 → t < 64 → least_from pairs s ≤ 6 * most + least_from pairs t
-spread most pairs s t light ls lt = let far = spread-alike most 6 pairs s t light (alike-6 s t ls lt) in omega (arith, far)
+spread most pairs s t light ls lt = let far = spread-alike most 6 pairs s t light (alike 6 s t (omega arith) (omega arith)) in omega (arith, far)
 
 pub ways-close : (pairs : List StepCosts) (pair : StepCosts) → AreLight 2 (pair ∷ pairs) → IsClose (least_from pairs) pair
 ways-close pairs pair light k lt =

@@ -20,14 +20,14 @@ phase-in ThreeQuarters first phase begins lt = omega arith
 phase-in FiveSixths first phase begins lt = omega arith
 
 -- what is kept of a step, read from the period
-pub kept-in : (pattern : Pattern) (period : List Kept) (first phase : ℕ) → period ≡ period_of pattern → first % length (period_of pattern) ≡ 0
+kept-in : (pattern : Pattern) (period : List Kept) (first phase : ℕ) → period ≡ period_of pattern → first % length (period_of pattern) ≡ 0
     → phase < length (period_of pattern) → get_or period phase Both ≡ kept_of pattern (first + phase)
 kept-in pattern period first phase is begins lt =
     ap (λ (z : List Kept). get_or z phase Both) is
     ∙ ap (λ (n : ℕ). get_or (period_of pattern) n Both) (sym (phase-in pattern first phase begins lt))
 
 -- where the places of the next step begin
-pub start-next : (pattern : Pattern) (steps at next start width : ℕ) (kept : Kept) → at < steps → next ≡ at + 1 → start ≡ sent_count pattern at
+start-next : (pattern : Pattern) (steps at next start width : ℕ) (kept : Kept) → at < steps → next ≡ at + 1 → start ≡ sent_count pattern at
     → kept ≡ kept_of pattern at → width ≡ kept_count kept
     → (start + width ≡ sent_count pattern next) × (start + width ≤ sent_count pattern steps)
 start-next pattern steps at next start width kept lt more is kept-is width-is =
@@ -37,6 +37,18 @@ start-next pattern steps at next start width kept lt more is kept-is width-is =
     let rest : sent_count pattern (suc at) ≤ sent_count pattern steps =
     subst (λ (n : ℕ). sent_count pattern (suc at) ≤ sent_count pattern n) whole (sent-grows pattern (steps - suc at) (suc at)) in
     (omega (arith, same, is, here), omega (arith, same, is, rest))
+
+-- a step of a period that begins at `first`: what is kept of it, and where the places of the next one begin
+pub turn-step : (pattern : Pattern) (period : List Kept) (steps first count phase start width : ℕ) → period ≡ period_of pattern
+    → first % length (period_of pattern) ≡ 0 → count ≤ length (period_of pattern) → first + count ≤ steps → phase < count
+    → start ≡ sent_count pattern (first + phase) → width ≡ kept_count (get_or period phase Both)
+    → (get_or period phase Both ≡ kept_of pattern (first + phase)) × (start + width ≡ sent_count pattern (first + (phase + 1)))
+    × (start + width ≤ sent_count pattern steps)
+turn-step pattern period steps first count phase start width is begins few within test start-is width-is =
+    let kept = kept-in pattern period first phase is begins (omega (arith, test, few)) in
+    let next = start-next pattern steps (first + phase) (first + (phase + 1)) start width (get_or period phase Both) (omega (arith, test, within)) (omega arith)
+    start-is kept width-is in
+    (kept, next.0, next.1)
 
 kept-few : (kept : Kept) → kept_count kept ≤ 2
 kept-few Both = omega arith

@@ -18,29 +18,13 @@ first_word = map Some (true ∷ true ∷ false ∷ true ∷ true ∷ true ∷ re
 abbrev second_word : List (Option Bool)
 second_word = map Some (true ∷ true ∷ false ∷ true ∷ true ∷ true ∷ true ∷ replicate 7 false)
 
-tied-zeros : distance Half first_word zeros ≡ 5
+-- both inputs are at distance 5 from the first word; an erased word is near to all, and one of ones far from zeros
+distances : map (λ (pair : List (Option Bool) × List Bool). distance Half pair.0 pair.1)
+    ((first_word, zeros) ∷ (first_word, one_first) ∷ (second_word, zeros) ∷ (second_word, one_first) ∷ (replicate 14 None, one_first)
+    ∷ (replicate 12 (Some true), replicate 6 false) ∷ [])
+    ≡ 5 ∷ 5 ∷ 6 ∷ 4 ∷ 0 ∷ 12 ∷ []
 unfolding cost_of xor
-tied-zeros = refl
-
-tied-one : distance Half first_word one_first ≡ 5
-unfolding cost_of xor
-tied-one = refl
-
-near-zeros : distance Half second_word zeros ≡ 6
-unfolding cost_of xor
-near-zeros = refl
-
-near-one : distance Half second_word one_first ≡ 4
-unfolding cost_of xor
-near-one = refl
-
-all-erased : distance Half (replicate 14 None) one_first ≡ 0
-unfolding cost_of xor
-all-erased = refl
-
-all-ones : distance Half (replicate 12 (Some true)) (replicate 6 false) ≡ 12
-unfolding cost_of xor
-all-ones = refl
+distances = refl
 
 -- at 2/3 the input 1000000 sends 11 0 11 1 00 1 11
 punctured : distance TwoThirds (map Some (replicate 11 false)) one_first ≡ 8
@@ -87,17 +71,10 @@ weight true = pos 9
 abbrev weights : List ℤ
 weights = map weight (true ∷ true ∷ false ∷ true ∷ true ∷ true ∷ replicate 8 false)
 
-weighed-zeros : cost_of weight_cost Half weights zeros ≡ 45
+weighed : map (λ (pair : List ℤ × List Bool). cost_of weight_cost Half pair.0 pair.1)
+    ((weights, zeros) ∷ (weights, one_first) ∷ (replicate 14 (pos 0), one_first) ∷ []) ≡ 45 ∷ 5 ∷ 0 ∷ []
 unfolding cost_of xor
-weighed-zeros = refl
-
-weighed-one : cost_of weight_cost Half weights one_first ≡ 5
-unfolding cost_of xor
-weighed-one = refl
-
-no-weight : cost_of weight_cost Half (replicate 14 (pos 0)) one_first ≡ 0
-unfolding cost_of xor
-no-weight = refl
+weighed = refl
 
 weighed-decoded : cheapest weight_cost 7 Half weights ≡ one_first
 unfolding cheapest cost_of is_before xor

@@ -1,5 +1,5 @@
 -- Terminated inputs of the encoder, and what the bits that they send cost at the places where they were received.
-use Rattle.std.specs.Prelude.{ℕ, suc, ◌+◌, ◌-◌, ℤ, pos, negsuc, List, [], ◌∷◌, length, drop, Bool, true, false, not, ◌&&◌, ◌==◌}
+use Rattle.std.specs.Prelude.{◌≡◌, ℕ, suc, ◌+◌, ◌-◌, ℤ, pos, negsuc, List, [], ◌∷◌, length, drop, replicate, Bool, true, false, not, ◌&&◌, ◌==◌}
 use Rattle.std.specs.Prelude.{Option, Some, None}
 use Rattle.std.specs.List.{list_all}
 use Rattle.ht_rate.specs.declared.kinds.Pattern.{Pattern}
@@ -64,3 +64,10 @@ IsCheapest cost steps pattern received input = IsFirstNearest (is_terminated ste
 -- a terminated input, none of which is nearer to what was received, and none before it as near
 abbrev pub IsDecoded : ℕ → Pattern → List (Option Bool) → List Bool → Type 0
 IsDecoded = IsCheapest place_cost
+
+-- what a decoder of words of `count` steps answers: the input, and what it costs, which at hard decisions is its distance
+pub record IsFound {P : Type 0} (cost : P → Bool → ℕ) (count : ℕ) (pattern : Pattern) (received : List P) (answer : List Bool) (least : ℕ) : Type 0 where
+  pub input : IsCheapest cost count pattern received answer
+  pub distance : least ≡ cost_of cost pattern received answer
+  pub steps : length answer ≡ count
+  pub ending : drop (count - tail) answer ≡ replicate tail false

@@ -1,10 +1,10 @@
 //! The decoder: all 64 states at once, their costs modulo 256. The ways of a state cost so nearly the same that their
 //! difference modulo 256 says which is the lesser.
-ghost use Rattle.std.specs.Prelude.{◌≡◌, ◌+◌, ◌-◌, ◌%◌, ◌<◌, ◌≤◌, ◌^◌, ◌↔◌, ℕ, true, false, IfOk};
+ghost use Rattle.std.specs.Prelude.{◌≡◌, ◌+◌, ◌%◌, ◌<◌, ◌≤◌, ◌^◌, ◌↔◌, ℕ, true, false, IfOk};
 ghost use Rattle.std.specs.Prelude.{length, drop, map, replicate, slice_index};
 ghost use Rattle.std.specs.Int.{bit_at};
 ghost use Rattle.ht_conv.specs.Puncturing.{sent_count};
-ghost use Rattle.ht_viterbi.specs.Inputs.{IsDecoded, distance, tail};
+ghost use Rattle.ht_viterbi.specs.Inputs.{IsFound, place_cost, tail};
 ghost use Rattle.ht_viterbi.specs.Trellis.{StepCosts, branch_cost, way, chosen, lesser, least_from, AreChoices};
 ghost use Rattle.ht_viterbi.specs.Lanes.{HasLanes, HoldsRows, IsClose, IsLight, rise, steps_at};
 ghost use Rattle.ht_viterbi.specs.Received.{known_of};
@@ -152,10 +152,7 @@ pub fn decode_received(
     requires least { tail ≤ steps }
     requires most { steps ≤ 524302 }
     requires received { length received.now ≡ sent_count pattern steps }
-    ensures input { IfOk result (λ c. IsDecoded steps pattern (map known_of received.now) c.input) }
-    ensures distance { IfOk result (λ c. c.distance ≡ distance pattern (map known_of received.now) c.input) }
-    ensures steps { IfOk result (λ c. length c.input ≡ steps) }
-    ensures ending { IfOk result (λ c. drop (steps - tail) c.input ≡ replicate tail false) }
+    ensures { IfOk result (λ c. IsFound place_cost steps pattern (map known_of received.now) c.input c.distance) }
 {
     let mut rows = Vec::from_elem(alloc, 0u8, steps as usize)?;
     let mut choices = Vec::from_elem(alloc, 0u64, steps as usize)?;
@@ -182,10 +179,7 @@ pub fn decode(
     requires least { tail ≤ steps }
     requires most { steps ≤ 524302 }
     requires received { length received.now ≡ sent_count pattern steps }
-    ensures input { IfOk result (λ c. IsDecoded steps pattern received.now c.input) }
-    ensures distance { IfOk result (λ c. c.distance ≡ distance pattern received.now c.input) }
-    ensures steps { IfOk result (λ c. length c.input ≡ steps) }
-    ensures ending { IfOk result (λ c. drop (steps - tail) c.input ≡ replicate tail false) }
+    ensures { IfOk result (λ c. IsFound place_cost steps pattern received.now c.input c.distance) }
 {
     let bits = received_bits(alloc, received)?;
     decode_received(alloc, steps, pattern, &bits)

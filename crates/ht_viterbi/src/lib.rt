@@ -22,6 +22,7 @@
 //! follow from them are in [`laws`].
 #![tactic(auto)]
 
+mod backwards;
 mod bit_costs;
 mod branches;
 mod codeword;

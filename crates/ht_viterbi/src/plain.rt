@@ -1,17 +1,16 @@
 //! The plain decoder: 64 costs a step, for hard decisions and for weights alike.
-ghost use Rattle.std.specs.Prelude.{◌≡◌, ◌≢◌, ◌+◌, ◌-◌, ◌*◌, ◌^◌, ◌<◌, ◌≤◌, ◌↔◌, ℕ, true, false, IfOk};
-ghost use Rattle.std.specs.Prelude.{List, [], length, drop, replicate, slice_index, vec_capacity};
+ghost use Rattle.std.specs.Prelude.{◌≡◌, ◌≢◌, ◌+◌, ◌*◌, ◌^◌, ◌<◌, ◌≤◌, ◌↔◌, ℕ, true, false, IfOk};
+ghost use Rattle.std.specs.Prelude.{List, [], length, replicate, slice_index, vec_capacity};
 ghost use Rattle.std.specs.Int.{bit_at};
 ghost use Rattle.ht_conv.specs.Puncturing.{sent_count};
-ghost use Rattle.ht_viterbi.specs.Inputs.{IsCheapest, IsDecoded, cost_of, distance, tail};
-ghost use Rattle.ht_viterbi.specs.Trellis.{way, chosen, lesser, least_from, first_from, AreChoices, moved, StepCosts, word_steps};
+ghost use Rattle.ht_viterbi.specs.Inputs.{IsFound, place_cost, tail};
+ghost use Rattle.ht_viterbi.specs.Trellis.{way, chosen, lesser, StepCosts};
 
+use crate::backwards::{Backwards, Word};
 use crate::codeword::{Cheapest, Codeword};
 use crate::pairs::{StepCosts, cost_of_branch, costs_from, places_of, state_after};
 use crate::place::Place;
-use crate::walk::forwards;
 use crate::words::with_flag;
-use ht_bits::Bits;
 use ht_conv::kept_at;
 use ht_rate::Pattern;
 use std::alloc::{AllocError, Global};
@@ -60,31 +59,30 @@ fn no_costs() -> [u64; 64]
     [0; 64]
 }
 
-// Fills in the choices of all steps, from the last to the first, and gives the least cost from state 0.
-pub(crate) fn backwards<P: Place>(pattern: Pattern, received: &[P], choices: &mut [u64]) -> u64
-    requires count { length received.now ≡ sent_count pattern (length choices.old) }
-    requires few { length choices.old ≤ 2 ^ 20 }
-    ensures choices { AreChoices (word_steps P.cost pattern received.now (length choices.old)) choices.new }
-    ensures least { result ≡ least_from (word_steps P.cost pattern received.now (length choices.old)) 0 }
-{
-    let steps = choices.len();
-    let mut costs = no_costs();
-    let mut at = steps;
-    let mut start = received.len();
-    while at > 0 {
-        at -= 1;
-        let kept = kept_at(pattern, at as u32);
-        start -= places_of(kept);
-        let mut into = no_costs();
-        choices[at] = step(
-            &costs,
-            costs_from(received, start, kept),
-            steps - at > 6,
-            &mut into,
-        );
-        costs = into;
+/// One state after the other, with costs of 64 bits.
+pub(crate) struct Plain;
+
+impl<P: Place> Backwards<P> for Plain {
+    fn backwards(pattern: Pattern, received: &[P], choices: &mut [u64]) -> u64 {
+        let steps = choices.len();
+        let mut costs = no_costs();
+        let mut at = steps;
+        let mut start = received.len();
+        while at > 0 {
+            at -= 1;
+            let kept = kept_at(pattern, at as u32);
+            start -= places_of(kept);
+            let mut into = no_costs();
+            choices[at] = step(
+                &costs,
+                costs_from(received, start, kept),
+                steps - at > 6,
+                &mut into,
+            );
+            costs = into;
+        }
+        costs[0]
     }
-    costs[0]
 }
 
 /// Decodes a punctured codeword from any places: the first terminated input whose coded bits cost least at `received`.
@@ -104,19 +102,14 @@ pub fn decode_places<P: Place>(
     requires least { tail ≤ steps }
     requires most { steps ≤ 524302 }
     requires received { length received.now ≡ sent_count pattern steps }
-    ensures input { IfOk result (λ c. IsCheapest P.cost steps pattern received.now c.input) }
-    ensures cost { IfOk result (λ c. c.cost ≡ cost_of P.cost pattern received.now c.input) }
-    ensures steps { IfOk result (λ c. length c.input ≡ steps) }
-    ensures ending { IfOk result (λ c. drop (steps - tail) c.input ≡ replicate tail false) }
+    ensures { IfOk result (λ c. IsFound P.cost steps pattern received.now c.input c.cost) }
 {
-    let mut choices = Vec::from_elem(alloc, 0u64, steps as usize)?;
-    let mut input = Vec::with_capacity(alloc, steps as usize)?;
-    let cost = backwards(pattern, received, choices.as_mut_slice());
-    forwards(&choices, &mut input);
-    Ok(Cheapest {
-        input: Bits::from(input),
-        cost,
-    })
+    let word = Word {
+        steps,
+        pattern,
+        received,
+    };
+    word.decode::<Plain>(alloc)
 }
 
 /// Decodes a punctured codeword as [`decode`](crate::decode) does, in the plain form of [`decode_places`]: 64 costs and 64
@@ -132,10 +125,7 @@ pub fn plain_decode(
     requires least { tail ≤ steps }
     requires most { steps ≤ 524302 }
     requires received { length received.now ≡ sent_count pattern steps }
-    ensures input { IfOk result (λ c. IsDecoded steps pattern received.now c.input) }
-    ensures distance { IfOk result (λ c. c.distance ≡ distance pattern received.now c.input) }
-    ensures steps { IfOk result (λ c. length c.input ≡ steps) }
-    ensures ending { IfOk result (λ c. drop (steps - tail) c.input ≡ replicate tail false) }
+    ensures { IfOk result (λ c. IsFound place_cost steps pattern received.now c.input c.distance) }
 {
     let nearest = decode_places(alloc, steps, pattern, received)?;
     Ok(Codeword {

@@ -1,22 +1,21 @@
 //! The decoder of weights: all 64 states at once, with whole costs in lanes of 32 bits. Before these come to the
 //! lanes' end all are lowered by the same, on which no choice depends.
 ghost use Rattle.std.specs.Prelude.{◌≡◌, ◌+◌, ◌-◌, ◌*◌, ◌^◌, ◌<◌, ◌≤◌, ◌↔◌, ℕ, true, false, IfOk};
-ghost use Rattle.std.specs.Prelude.{length, drop, replicate, slice_index};
+ghost use Rattle.std.specs.Prelude.{length, replicate, slice_index};
 ghost use Rattle.std.specs.Int.{bit_at};
 ghost use Rattle.ht_conv.specs.Puncturing.{sent_count};
-ghost use Rattle.ht_viterbi.specs.Inputs.{IsCheapest, cost_of, tail, weight_cost};
+ghost use Rattle.ht_viterbi.specs.Inputs.{IsFound, tail, weight_cost};
 ghost use Rattle.ht_viterbi.specs.Lanes.{AreWithin, HasLanes, IsLight, heaviest};
 ghost use Rattle.ht_viterbi.specs.Trellis.{way, chosen, lesser, least_from, AreChoices, word_steps};
 
+use crate::backwards::{Backwards, Word};
 use crate::codeword::Cheapest;
 use crate::cost_lanes::{
     after_one, after_zero, differences, lesser, negative, one_costs, pair_costs, sums, zero_costs,
 };
 use crate::decoder::TAIL;
 use crate::pairs::{StepCosts, costs_from, places_of};
-use crate::plain;
-use crate::walk::forwards;
-use ht_bits::Bits;
+use crate::plain::Plain;
 use ht_conv::kept_at;
 use ht_rate::Pattern;
 use std::alloc::{AllocError, Global};
@@ -120,17 +119,16 @@ fn backwards_in_lanes(pattern: Pattern, weights: &[i32], choices: &mut [u64]) ->
     fallen + u64::from(first_lane(costs))
 }
 
-// The same for any weights: those that the lanes can't hold are left to the plain decoder.
-fn backwards(pattern: Pattern, weights: &[i32], choices: &mut [u64]) -> u64
-    requires count { length weights.now ≡ sent_count pattern (length choices.old) }
-    requires few { length choices.old ≤ 2 ^ 20 }
-    ensures choices { AreChoices (word_steps weight_cost pattern weights.now (length choices.old)) choices.new }
-    ensures least { result ≡ least_from (word_steps weight_cost pattern weights.now (length choices.old)) 0 }
-{
-    if are_light(weights) {
-        backwards_in_lanes(pattern, weights, choices)
-    } else {
-        plain::backwards(pattern, weights, choices)
+/// All states at once. Weights that the lanes can't hold are left to the plain way.
+struct InLanes;
+
+impl Backwards<i32> for InLanes {
+    fn backwards(pattern: Pattern, weights: &[i32], choices: &mut [u64]) -> u64 {
+        if are_light(weights) {
+            backwards_in_lanes(pattern, weights, choices)
+        } else {
+            Plain::backwards(pattern, weights, choices)
+        }
     }
 }
 
@@ -151,17 +149,12 @@ pub fn decode_weights(
     requires least { tail ≤ steps }
     requires most { steps ≤ 524302 }
     requires weights { length weights.now ≡ sent_count pattern steps }
-    ensures input { IfOk result (λ c. IsCheapest weight_cost steps pattern weights.now c.input) }
-    ensures cost { IfOk result (λ c. c.cost ≡ cost_of weight_cost pattern weights.now c.input) }
-    ensures steps { IfOk result (λ c. length c.input ≡ steps) }
-    ensures ending { IfOk result (λ c. drop (steps - tail) c.input ≡ replicate tail false) }
+    ensures { IfOk result (λ c. IsFound weight_cost steps pattern weights.now c.input c.cost) }
 {
-    let mut choices = Vec::from_elem(alloc, 0u64, steps as usize)?;
-    let mut input = Vec::with_capacity(alloc, steps as usize)?;
-    let cost = backwards(pattern, weights, choices.as_mut_slice());
-    forwards(&choices, &mut input);
-    Ok(Cheapest {
-        input: Bits::from(input),
-        cost,
-    })
+    let word = Word {
+        steps,
+        pattern,
+        received: weights,
+    };
+    word.decode::<InLanes>(alloc)
 }

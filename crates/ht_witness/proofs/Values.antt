@@ -1,28 +1,14 @@
 -- Worked values.
 use Rattle.std.proofs.Common.{◌≡◌, ℕ, pos, negsuc, [], ◌∷◌, List, Bool, true, false, Some, None, refl, arith}
-use Rattle.ht_pam.specs.Ladders.{Rungs}
 use Rattle.ht_pam.specs.declared.axes.Axes.{Axes}
 use Rattle.ht_pam.specs.declared.point.Point.{Point}
-use Rattle.ht_metric.specs.declared.place.Place.{Place}
-use Rattle.ht_metric.specs.Rows.{Row}
 use Rattle.ht_metric.specs.Jobs.{JobView}
 use Rattle.ht_sphere.specs.Coordinates.{from_last}
+use Rattle.ht_sphere.proofs.Values.{two, nil, job}
 use Rattle.ht_witness.specs.declared.certificate.Certificate.{Certificate}
 use Rattle.ht_witness.specs.declared.check_fault.CheckFault.TheVariants.{OffGrid, WrongDistance, Early, Better, Short, Long}
 use Rattle.ht_witness.specs.Certificates.{Checked, fault_of}
 use Rattle.ht_witness.specs.Marking.{marks_of}
-
-abbrev two : Rungs
-two = record { size = 2; mask = 3 }
-
-abbrev nil : Rungs
-nil = record { size = 1; mask = 1 }
-
-abbrev here : Place
-here = record { frame = 0; symbol = 0; carrier = 0 }
-
-abbrev job : List Axes → List Row → JobView
-job grid system = record { number = 0; place = here; grid = grid; system = system }
 
 abbrev plus : Point
 plus = record { i = pos 1; q = pos 0 }

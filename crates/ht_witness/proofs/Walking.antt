@@ -1,16 +1,13 @@
 -- The walk of a certificate, step by step.
 use Rattle.std.proofs.Math.IntN.{zero-*ℤ}
-use Rattle.std.proofs.Common.{◌≡◌, ℕ, zero, suc, ◌+◌, ◌*◌, ◌<◌, ◌≤◌, ℤ, pos, ◌-ℤ◌, ◌*ℤ◌, List, [], ◌∷◌, ◌++◌, map, length, drop, set, Bool}
-use Rattle.std.proofs.Common.{true, false, unsigned_abs, refl, ap, sym, ◌∙◌, subst, arith}
-use Rattle.std.specs.List.{All}
-use Rattle.std.proofs.lemmas.List.Elements.{All-set}
+use Rattle.std.proofs.Common.{◌≡◌, ℕ, zero, suc, ◌+◌, ◌*◌, ℤ, pos, ◌-ℤ◌, List, [], ◌∷◌, ◌++◌, map, length, drop, Bool}
+use Rattle.std.proofs.Common.{true, false, unsigned_abs, refl, ap, sym, ◌∙◌, arith}
 use Rattle.ht_pam.specs.Zigzags.{gap, From, nearest_first, put}
 use Rattle.ht_pam.proofs.ZigzagLemmas.{put_first}
 use Rattle.ht_pam.specs.declared.axes.Axes.{Axes}
 use Rattle.ht_metric.specs.Rows.{Row}
-use Rattle.ht_metric.specs.Distance.{square}
-use Rattle.ht_sphere.specs.Coordinates.{Real, cost, target, down}
-use Rattle.ht_sphere.proofs.Steps.{cost_is, one_set}
+use Rattle.ht_sphere.specs.Coordinates.{Real, cost, down}
+use Rattle.ht_sphere.proofs.Steps.{Step}
 use Rattle.ht_witness.specs.Walks.{Suffix, longer, below, entered}
 
 -- with a diagonal of 0 all levels are as near
@@ -30,21 +27,6 @@ pub length-down : (rows : List Row) (grid : List Axes) (k : ℕ) → length (dow
 length-down rows grid zero = refl
 length-down rows grid (suc k) = let under = length-down rows grid k in omega (arith, under)
 
--- one level more is chosen
-pub record Step (c : Real) (s all : List ℤ) (place n : ℕ) (x : ℤ) : Type 0 where
-  pub chosen : drop place all ≡ x ∷ s
-  pub levels : All (λ z. unsigned_abs z ≤ 7) all
-  pub costs : n ≡ cost c s x
-
-pub step : (c : Real) (s all : List ℤ) (slot place size d n : ℕ) (u y x : ℤ) → slot < length all → slot ≡ place → slot + 1 ≡ size → drop size all ≡ s
-    → All (λ z. unsigned_abs z ≤ 7) all → y ≡ x → unsigned_abs x ≤ 7 → n ≡ square (u -ℤ (pos d *ℤ y)) → d ≡ c.diagonal → u ≡ target c s
-    → Step c s (set all slot y) place n x
-step c s all slot place size d n u y x there e f rest small g least is diagonal at_target = record {
-  chosen = one_set all slot place size y x there e f g rest;
-  levels = All-set (λ z. unsigned_abs z ≤ 7) all slot y (subst (λ (z : ℤ). unsigned_abs z ≤ 7) (sym g) least) small;
-  costs = is ∙ cost_is c s d u x y diagonal at_target g;
-}
-
 abbrev pub suffix : List Real → List ℤ → ℕ → Suffix
 suffix ahead levels partial = record { ahead = ahead; levels = levels; partial = partial }
 
@@ -60,7 +42,8 @@ module _ {State Outcome : Type 0} (outcome : State → List Suffix → Outcome) 
       ∙ ap (λ (m : ℕ). outcome state (suffix cs (x ∷ s) (p + m) ∷ todo)) is.costs)
 
 -- what a visit of a suffix leaves to be walked
-module _ {State Outcome : Type 0} (outcome : State → List Suffix → Outcome) (old new : State) (before : Outcome) (s : Suffix) (rest : List Suffix) (b : Bool) where
+module _ {State Outcome : Type 0} (outcome : State → List Suffix → Outcome) (old new : State) (before : Outcome) (s : Suffix) (rest : List Suffix)
+    (b : Bool) where
   pub opened_by : b ≡ true → before ≡ outcome old (s ∷ rest) → outcome old (s ∷ rest) ≡ outcome new (entered b s ++ rest)
       → before ≡ outcome new (below s.ahead s.levels s.partial ++ rest)
   opened_by e h k = h ∙ k ∙ ap (λ (m : Bool). outcome new (entered m s ++ rest)) e

@@ -1,12 +1,25 @@
 -- The walk of a certificate through the tree of suffixes, mark by mark.
-use Rattle.std.specs.Prelude.{◌≡◌, ⊤, ℕ, suc, ◌+◌, ◌<◌, ℤ, List, [], ◌∷◌, ◌++◌, map, length, drop, Bool, true, false, nat_lt, if◌then◌else◌}
-use Rattle.std.specs.Prelude.{Option, Some, None, Result, Ok, Err}
+use Rattle.std.specs.Prelude.{◌≡◌, ⊤, ℕ, suc, ◌+◌, ◌*◌, ◌<◌, ◌≤◌, ℤ, unsigned_abs, List, [], ◌∷◌, ◌++◌, map, length, drop, Bool, true, false, nat_lt}
+use Rattle.std.specs.Prelude.{if◌then◌else◌, Option, Some, None, Result, Ok, Err}
+use Rattle.std.specs.List.{All}
+use Rattle.ht_metric.specs.Jobs.{JobView}
 use Rattle.ht_pam.specs.Ladders.{levels as allowed}
 use Rattle.ht_sphere.specs.Coordinates.{Real, cost}
 use Rattle.ht_sphere.specs.Tree.{Reached}
 use Rattle.ht_sphere.specs.Searching.{better}
 use Rattle.ht_witness.specs.declared.check_fault.CheckFault.{CheckFault}
 use Rattle.ht_witness.specs.declared.check_fault.CheckFault.TheVariants.{Early, Better, Short, Long}
+
+-- levels with room for each coordinate of a job
+pub record HaveRoom (job : JobView) (xs : List ℤ) : Type 0 where
+  pub room : length xs ≡ 2 * length job.system
+  pub levels : All (λ x. unsigned_abs x ≤ 7) xs
+
+-- levels that are the chosen ones from a place on
+pub record AreChosen (place : ℕ) (old xs : List ℤ) : Type 0 where
+  pub levels : All (λ x. unsigned_abs x ≤ 7) xs
+  pub room : length xs ≡ length old
+  pub chosen : drop place xs ≡ drop place old
 
 -- a suffix: the coordinates in front of it, the next one first, its levels, and its partial distance
 pub record Suffix : Type 0 where

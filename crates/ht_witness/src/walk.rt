@@ -1,9 +1,8 @@
 //! The walk through the tree of suffixes.
 ghost use Rattle.std.specs.Prelude.{◌≡◌, ◌+◌, ◌-◌, ◌*◌, ◌^◌, ◌≤◌, ◌<◌, [], ◌++◌, List, length, drop, unsigned_abs, OnOk};
-ghost use Rattle.std.specs.List.{All};
 ghost use Rattle.ht_metric.specs.Jobs.{IsJob};
-ghost use Rattle.ht_sphere.specs.Coordinates.{i_at, down, from_q, from_i, target as target_of};
-ghost use Rattle.ht_witness.specs.Walks.{Suffix, Walked, below};
+ghost use Rattle.ht_sphere.specs.Coordinates.{i_at, down, from_q, from_i, IsAimed};
+ghost use Rattle.ht_witness.specs.Walks.{AreChosen, HaveRoom, Suffix, Walked, below};
 ghost use Rattle.ht_witness.specs.Certificates.{roots};
 
 use crate::ascending::{ascending, next};
@@ -33,12 +32,9 @@ fn under<V: Visitor>(
     state: &mut V::State,
 ) -> Result<(), V::Stop>
     requires last { k ≤ length job.now.system }
-    requires room { length levels.old ≡ 2 * length job.now.system }
-    requires levels { All (λ x. unsigned_abs x ≤ 7) levels.old }
+    requires levels { HaveRoom job.now levels.old }
     requires small { partial + 2 ^ 65 * k < 2 ^ 128 }
-    ensures levels { OnOk result (All (λ x. unsigned_abs x ≤ 7) levels.new) }
-    ensures room { OnOk result (length levels.new ≡ length levels.old) }
-    ensures chosen { OnOk result (drop (2 * k) levels.new ≡ drop (2 * k) levels.old) }
+    ensures levels { OnOk result (AreChosen (2 * k) levels.old levels.new) }
     ensures walked { (rest : List Suffix) → Walked (V.outcome visitor.now) V.stops
         state.old (below (down job.now.system job.now.grid k) (drop (2 * k) levels.old) partial ++ rest) state.new rest result }
 {
@@ -60,12 +56,9 @@ fn quadrature<V: Visitor>(
 ) -> Result<(), V::Stop>
     requires first { 1 ≤ k }
     requires last { k ≤ length job.now.system }
-    requires room { length levels.old ≡ 2 * length job.now.system }
-    requires levels { All (λ x. unsigned_abs x ≤ 7) levels.old }
+    requires levels { HaveRoom job.now levels.old }
     requires small { partial + 2 ^ 65 * k < 2 ^ 128 }
-    ensures levels { OnOk result (All (λ x. unsigned_abs x ≤ 7) levels.new) }
-    ensures room { OnOk result (length levels.new ≡ length levels.old) }
-    ensures chosen { OnOk result (drop (2 * k) levels.new ≡ drop (2 * k) levels.old) }
+    ensures levels { OnOk result (AreChosen (2 * k) levels.old levels.new) }
     ensures walked { (rest : List Suffix) → Walked (V.outcome visitor.now) V.stops
         state.old (below (from_q job.now.system job.now.grid (k - 1)) (drop (2 * k) levels.old) partial ++ rest) state.new rest result }
 {
@@ -103,15 +96,10 @@ fn in_phase<V: Visitor>(
 ) -> Result<(), V::Stop>
     requires first { 1 ≤ k }
     requires last { k ≤ length job.now.system }
-    requires room { length levels.old ≡ 2 * length job.now.system }
-    requires levels { All (λ x. unsigned_abs x ≤ 7) levels.old }
+    requires levels { HaveRoom job.now levels.old }
     requires small { partial + 2 ^ 65 * k < 2 ^ 128 + 2 ^ 64 }
-    requires d { d ≡ (i_at job.now.system job.now.grid (k - 1)).diagonal }
-    requires target { target ≡ target_of (i_at job.now.system job.now.grid (k - 1)) (drop (2 * k - 1) levels.old) }
-    requires bound { unsigned_abs target ≤ 2 ^ 31 + 2 ^ 21 }
-    ensures levels { OnOk result (All (λ x. unsigned_abs x ≤ 7) levels.new) }
-    ensures room { OnOk result (length levels.new ≡ length levels.old) }
-    ensures chosen { OnOk result (drop (2 * k - 1) levels.new ≡ drop (2 * k - 1) levels.old) }
+    requires aimed { IsAimed (i_at job.now.system job.now.grid (k - 1)) (drop (2 * k - 1) levels.old) d target }
+    ensures levels { OnOk result (AreChosen (2 * k - 1) levels.old levels.new) }
     ensures walked { (rest : List Suffix) → Walked (V.outcome visitor.now) V.stops
         state.old (below (from_i job.now.system job.now.grid (k - 1)) (drop (2 * k - 1) levels.old) partial ++ rest) state.new rest result }
 {

@@ -1,16 +1,7 @@
 -- The options that commands have: their names, values and defaults.
 use Rattle.std.specs.Prelude.{ℕ, ◌-◌, ◌^◌, ◌==◌, ◌&&◌, ◌||◌, Bool, List, ◌++◌, codes, nat_le}
 use Rattle.ht_words.specs.declared.setting.Setting.{Setting}
-use Rattle.ht_words.specs.declared.setting.Setting.TheVariants.{
-  Workers,
-  Window,
-  Seed,
-  Noise,
-  Frames,
-  Mcs,
-  Bandwidth,
-  Length,
-}
+use Rattle.ht_words.specs.declared.setting.Setting.TheVariants.{Workers, Window, Seed, Noise, Frames, Mcs, Bandwidth, Length}
 
 -- the name of an option, without its dashes
 abbrev pub plain_name_of : Setting → List ℕ

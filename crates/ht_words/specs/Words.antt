@@ -1,32 +1,6 @@
 -- What the words of a call ask for. Words come without the program's name, each as its octets.
-use Rattle.std.specs.Prelude.{
-  ℕ,
-  ◌≡◌,
-  ◌≤◌,
-  ⊤,
-  ◌&&◌,
-  Bool,
-  true,
-  false,
-  not,
-  List,
-  [],
-  ◌∷◌,
-  length,
-  map,
-  Option,
-  Some,
-  None,
-  is_some,
-  IfSome,
-  if◌then◌else◌,
-  nat_le,
-  ◌==◌,
-  codes,
-  bytes_eq,
-  String,
-  string_bytes,
-}
+use Rattle.std.specs.Prelude.{ℕ, ◌≡◌, ◌≤◌, ⊤, ◌&&◌, Bool, true, false, not, List, [], ◌∷◌, length, map, Option, Some, None, is_some, IfSome, if◌then◌else◌}
+use Rattle.std.specs.Prelude.{nat_le, ◌==◌, codes, bytes_eq, String, string_bytes}
 use Rattle.std.specs.Global.{Global}
 use Rattle.std.specs.List.{list_all, list_any}
 use Rattle.std.specs.Option.{option_map_or}
@@ -35,31 +9,9 @@ use Rattle.std.specs.Str.Parse.{digits_value}
 use Rattle.ht_rate.specs.declared.rates.Rate.{Rate}
 use Rattle.ht_rate.specs.Rates.{rate_at}
 use Rattle.ht_words.specs.declared.setting.Setting.{Setting}
-use Rattle.ht_words.specs.declared.setting.Setting.TheVariants.{
-  Workers,
-  Window,
-  Seed,
-  Noise,
-  Frames,
-  Mcs,
-  Bandwidth,
-  Length,
-}
+use Rattle.ht_words.specs.declared.setting.Setting.TheVariants.{Workers, Window, Seed, Noise, Frames, Mcs, Bandwidth, Length}
 use Rattle.ht_words.specs.declared.asked.Asked.{Asked}
-use Rattle.ht_words.specs.declared.asked.Asked.TheVariants.{
-  Detect,
-  Rx,
-  Soft,
-  Many,
-  Tx,
-  Channel,
-  Upgrade,
-  Certify,
-  Check,
-  LegacyChannel,
-  LegacyRx,
-  Demo,
-}
+use Rattle.ht_words.specs.declared.asked.Asked.TheVariants.{Detect, Rx, Soft, Many, Tx, Channel, Upgrade, Certify, Check, LegacyChannel, LegacyRx, Demo}
 use Rattle.ht_words.specs.Settings.{admits, default_of, name_of}
 
 -- 1 to 20 decimal digits

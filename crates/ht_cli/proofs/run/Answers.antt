@@ -5,8 +5,8 @@ use Rattle.ht_io.proofs.Calls.{later-later}
 use Rattle.ht_results.specs.JobTexts.{detect_text, lines_of}
 use Rattle.ht_results.specs.Texts.{frame_lines_of, rx_text}
 use Rattle.ht_words.specs.Words.{asked}
-use Rattle.ht_demo.specs.Demos.{IsDemoLine, returned_line}
-use Rattle.ht_cli.specs.Tasks.{IsPlanLine, plan_of}
+use Rattle.ht_demo.specs.Demos.{Demonstrates}
+use Rattle.ht_cli.specs.Tasks.{plan_of}
 use Rattle.ht_cli.proofs.Answering.{converts, streams}
 use Rattle.ht_cli.proofs.Heard.{ends}
 use Rattle.ht_capture.specs.Fields.{captures}
@@ -18,55 +18,53 @@ use Rattle.ht_soft_rx.specs.Halved.{HasFrames as SoftFrames}
 use Rattle.ht_soft_rx.specs.Texts.{soft_lines_of, soft_rx_text}
 use Rattle.ht_several.specs.Bundles.{receiving}
 use Rattle.ht_runs.specs.Filters.{SaysNothing}
-use Rattle.ht_cli.proofs.Making.{both, done_is_not, makes}
-use Rattle.ht_cli.proofs.Nothing.{nothing_done}
+use Rattle.ht_cli.proofs.Making.{done_is_not, makes}
+use Rattle.ht_cli.proofs.Nothing.{nothing_carried}
 use Rattle.ht_cli.proofs.Texts.{detects, legacy_ends, receives, soft_ends}
 use Rattle.ht_cli.proofs.run.Goals as goal
 
-pub returns-in-Err-clause-answered : goal.returns-in-Err-clause-answered
-returns-in-Err-clause-answered g c =
-    nothing_done (asked c.args.words.now) (g.S.Source.shown c.args.source.now) (g.K.Sink.shown c.args.sink.now)
+pub returns-in-Err : goal.returns-in-Err
+returns-in-Err g c =
+    nothing_carried g.S.Source.shown g.K.Sink.shown (asked c.args.words.now) c.args.source.now c.args.sink.now
 
-pub returns-in-Some-Detect-clause-answered : goal.returns-in-Some-Detect-clause-answered
-returns-in-Some-Detect-clause-answered g c =
+pub returns-in-Some-Detect : goal.returns-in-Some-Detect
+returns-in-Some-Detect g c =
     let run = ends detect_text lines_of detects _ _ _ c.list-heard.result _ _ _ c.put_end-listed.result c.settle.result c.list-heard.ensures.tells
     c.list-heard.ensures.puts_later c.put_end-listed.ensures.puts (later-later _ _ _ c.list-heard.ensures.puts_later c.put_end-listed.ensures.later)
     c.settle.ensures.settles in
     let words = c.in-Ok.ensures.value in search rules
 
-pub returns-in-Some-Rx-clause-answered : goal.returns-in-Some-Rx-clause-answered
-returns-in-Some-Rx-clause-answered g c =
+pub returns-in-Some-Rx : goal.returns-in-Some-Rx
+returns-in-Some-Rx g c =
     let run = ends rx_text frame_lines_of receives _ _ _ c.receive_text-heard.result _ _ _ c.put_end-received.result c.settle-in-Some-Rx.result
     c.receive_text-heard.ensures.tells c.receive_text-heard.ensures.puts_later c.put_end-received.ensures.puts
     (later-later _ _ _ c.receive_text-heard.ensures.puts_later c.put_end-received.ensures.later) c.settle-in-Some-Rx.ensures.settles in
     let words = c.in-Ok.ensures.value in search rules
 
-pub returns-in-Some-Soft-clause-answered : goal.returns-in-Some-Soft-clause-answered
-returns-in-Some-Soft-clause-answered g c =
+pub returns-in-Some-Soft : goal.returns-in-Some-Soft
+returns-in-Some-Soft g c =
     let run = streams (filter captures soft_rx_text soft_lines_of) soft_ends _ _ _ SoftFrames c.receive_soft-received.result _ _ c.settle-in-Some-Soft.result
     c.receive_soft-received.ensures.streams c.receive_soft-received.ensures.puts_later c.settle-in-Some-Soft.ensures.settles in
     let words = c.in-Ok.ensures.value in search rules
 
-pub returns-in-Some-LegacyRx-clause-answered : goal.returns-in-Some-LegacyRx-clause-answered
-returns-in-Some-LegacyRx-clause-answered g c =
+pub returns-in-Some-LegacyRx : goal.returns-in-Some-LegacyRx
+returns-in-Some-LegacyRx g c =
     let run = streams (filter legacy_captures legacy_text legacy_lines_of) legacy_ends _ _ _ (HasFrames legacy_captures legacy_items)
     c.legacy_receive-received.result _ _ c.settle-in-Some-LegacyRx.result c.legacy_receive-received.ensures.streams
     c.legacy_receive-received.ensures.puts_later c.settle-in-Some-LegacyRx.ensures.settles in
     let words = c.in-Ok.ensures.value in search rules
 
-pub returns-in-Some-Many-clause-answered : goal.returns-in-Some-Many-clause-answered
-returns-in-Some-Many-clause-answered g c =
+pub returns-in-Some-Many : goal.returns-in-Some-Many
+returns-in-Some-Many g c =
     let run = converts receiving (λ fault. refl) _ _ _ SaysNothing c.many_bundle-received.result _ _ c.settle-in-Some-Many.result
     c.many_bundle-received.ensures.converts c.settle-in-Some-Many.ensures.settles in
     let words = c.in-Ok.ensures.value in search rules
 
-pub returns-in-Some-Demo-clause-answered : goal.returns-in-Some-Demo-clause-answered
-returns-in-Some-Demo-clause-answered g c =
+pub returns-in-Some-Demo : goal.returns-in-Some-Demo
+returns-in-Some-Demo g c =
     let plan = plan_of c.in-Some-Demo.seed c.in-Some-Demo.noise c.in-Some-Demo.frames c.in-Some-Demo.rate c.in-Some-Demo.length in
-    let made = both (λ (line : Vec ℕ Global). IsDemoLine c.planned-plan.result line.items)
-    (λ (line : Vec ℕ Global). c.planned-plan.result.noise ≡ 0 → line.items ≡ returned_line c.planned-plan.result)
-    c.demo-line.result c.demo-line.ensures.line c.demo-line.ensures.noiseless in
-    let run = makes (IsPlanLine plan) (g.S.Source.shown c.args.source.now) (g.S.Source.shown c.args.source.now)
+    let made = c.demo-line.ensures in
+    let run = makes (Demonstrates plan) (g.S.Source.shown c.args.source.now) (g.S.Source.shown c.args.source.now)
     (g.K.Sink.shown c.args.sink.now) (g.K.Sink.shown c.put_line.new.sink) (λ (line : Vec ℕ Global). line.items) c.demo-line.result
     c.put_line.result (rw c.planned-plan.ensures at made) c.put_line.ensures.puts c.put_line.ensures.lacks
     (λ lack. ap g.K.Sink.shown (c.put_line.ensures.nothing done_is_not lack)) in

@@ -1,7 +1,7 @@
 use Rattle.ht_words.specs.Words.{asked}
-use Rattle.ht_cli.proofs.Nothing.{nothing_done}
+use Rattle.ht_cli.proofs.Nothing.{nothing_carried}
 use Rattle.ht_cli.proofs.run_alone.Goals as goal
 
-pub returns-in-Err-clause-answered : goal.returns-in-Err-clause-answered
-returns-in-Err-clause-answered g c =
-    nothing_done (asked c.args.words.now) (g.S.Source.shown c.args.source.now) (g.K.Sink.shown c.args.sink.now)
+pub returns-in-Err : goal.returns-in-Err
+returns-in-Err g c =
+    nothing_carried g.S.Source.shown g.K.Sink.shown (asked c.args.words.now) c.args.source.now c.args.sink.now

@@ -1,9 +1,6 @@
-use Rattle.ht_fields.proofs.Answered.{file_prefix, file_items}
+use Rattle.ht_fields.proofs.FormatLaws.{prefix_free}
 use Rattle.ht_capture.specs.Fields.{captures}
 use Rattle.ht_capture.proofs.laws.no_prefix.Goals as goal
 
-pub returns-clause-prefix : goal.returns-clause-prefix
-returns-clause-prefix c = file_prefix captures
-
-pub returns-clause-equal : goal.returns-clause-equal
-returns-clause-equal c = file_items captures
+pub returns : goal.returns
+returns c = prefix_free captures

@@ -14,7 +14,7 @@ returns-clause-told c =
     let d = c.index-present-k.result in
     let whole : c.width.result ≡ symbol_octets due = c.width.ensures.value ∙ ap (λ n. due.count * (8 * n)) c.streams-streams.ensures.value in
     let place : c.width-2.result ≡ k * carrier_octets due.head.rate = c.width-2.ensures.value ∙ ap (λ n. k * (8 * n)) c.streams-streams.ensures.value in
-    let le : due.count ≤ length present = omega (arith, c.requires.fits.places, c.requires.space) in
+    let le : due.count ≤ length present = omega (arith, c.requires.fits.frame.places, c.requires.space) in
     let is : c.job.result ≡ job_at due.head due.symbol (due.turn.number + k)
     (get_or present k d) (take (symbol_octets due) samples) (k * carrier_octets due.head.rate) =
     c.job.ensures.value

@@ -1,39 +1,25 @@
-use Rattle.std.proofs.Common.{◌≡◌, ◌+◌, ◌*◌, ◌≤◌, ℕ, length, sym, ap, ◌∙◌, arith}
-use Rattle.std.proofs.lemmas.List.{length-take}
-use Rattle.ht_rate.specs.Rates.{streams_of}
-use Rattle.ht_fields.proofs.Halting.{lacks_halts}
-use Rattle.ht_capture.specs.Fields.{Symbol, captures, next_symbol, symbol_due}
+use Rattle.std.proofs.Common.{ℕ, List, take, ap, subst}
+use Rattle.ht_capture.specs.Fields.{Symbol}
+use Rattle.ht_capture.specs.Readers.{symbol_octets}
 use Rattle.ht_capture.specs.Reading.{here}
-use Rattle.ht_capture.proofs.Grids.{ones}
-use Rattle.ht_capture.proofs.Turns.{symbol_good}
-use Rattle.ht_capture.proofs.Halting.{good_gives}
+use Rattle.ht_capture.specs.Taking.{AddsSamples}
 use Rattle.ht_fields.proofs.Endings.{halts_ends}
 use Rattle.ht_capture.proofs.reading.symbol.Goals as goal
 
 pub returns-in-Ok-add_samples-clause-told : goal.returns-in-Ok-add_samples-clause-told
-returns-in-Ok-add_samples-clause-told g c = λ present.
-    let due = c.args.due.now in
-    let into = c.fill.new.into in
-    let wide : length into ≡ c.width-width.result =
-    omega (arith, c.requires.space, c.width-width.ensures.bound, length-take {A = ℕ} c.width-width.result c.args.buffer.now) in
-    let size : length into ≡ due.count * (8 * streams_of due.head.rate) =
-    wide ∙ (c.width-width.ensures.value ∙ ap (λ n. due.count * (8 * n)) c.streams.ensures.value) in
-    let some : 1 ≤ length into = omega (arith, wide, c.width-width.ensures.low, c.requires.some) in (
-      _,
-      good_gives (Symbol due present) (symbol_due (next_symbol due) present) c.args.at (c.args.at + c.width-width.result) _ _ _ into
-          (ones (length into) _ size some, symbol_good due present into) c.in-Ok.ensures.whole (ap (λ n. c.args.at + n) (sym wide)),
+returns-in-Ok-add_samples-clause-told g c = λ present. (_, c.in-Ok.ensures.told present)
+
+pub returns-in-Ok-add_samples-clause-added : goal.returns-in-Ok-add_samples-clause-added
+returns-in-Ok-add_samples-clause-added g c =
+    let octets = take (symbol_octets c.args.due.now) c.symbol.new.samples in (
+      octets,
+      c.in-Ok.ensures.octets,
+      c.in-Ok.ensures.size,
+      subst (λ (o : List ℕ). AddsSamples c.args.samples.now.items c.add_samples.new.samples.items o)
+          (ap (λ n. take n c.symbol.new.samples) c.symbol_width.ensures.value) c.in-Ok-add_samples.ensures.added,
     )
 
 pub returns-in-Err-clause-told : goal.returns-in-Err-clause-told
 returns-in-Err-clause-told g c = λ present.
-    let due = c.args.due.now in
-    let into = c.fill.new.into in
-    let wide : length into ≡ c.width-width.result =
-    omega (arith, c.requires.space, c.width-width.ensures.bound, length-take {A = ℕ} c.width-width.result c.args.buffer.now) in
-    let size : length into ≡ due.count * (8 * streams_of due.head.rate) =
-    wide ∙ (c.width-width.ensures.value ∙ ap (λ n. due.count * (8 * n)) c.streams.ensures.value) in
-    let some : 1 ≤ length into = omega (arith, wide, c.width-width.ensures.low, c.requires.some) in
-    let a = g.S.Source.shown c.args.source.now in
-    let z = g.S.Source.shown c.fill.new.source in
-    halts_ends (here (Symbol due present) c.args.at a) z c.in-Err.fault
-    (lacks_halts captures (Symbol due present) c.args.at (length into) a z c.in-Err.fault (ones (length into) _ size some) c.in-Err.ensures.lacking)
+    halts_ends (here (Symbol c.args.due.now present) c.args.at (g.S.Source.shown c.args.source.now)) (g.S.Source.shown c.symbol.new.source)
+    c.in-Err.fault (c.in-Err.ensures.told present)

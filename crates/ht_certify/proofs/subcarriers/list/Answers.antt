@@ -30,29 +30,16 @@ loop-carrier-preserved c =
           c.loop-carrier.invariant.left;
     }
 
-pub returns-clause-present : goal.returns-clause-present
-returns-clause-present c =
+pub returns : goal.returns
+returns c =
     let f = c.args.frame.now in
     let n = carriers_of f.rate in
     let k = c.loop-carrier.carrier in
     let none : n - k ≡ 0 = omega (arith, c.loop-carrier-test.false, c.carriers-carrier-end.ensures.value) in
     let all = listed_over f.rate c.loop-carrier.into.items (subcarriers_of f) (n - k) k f.erased c.loop-carrier.triangles.now none c.loop-carrier.invariant.listed in
-    ap (λ (xs : List Subcarrier). length xs) all ∙ are_present f
-
-pub returns-clause-few : goal.returns-clause-few
-returns-clause-few c =
-    let f = c.args.frame.now in
-    let n = carriers_of f.rate in
-    let k = c.loop-carrier.carrier in
-    let none : n - k ≡ 0 = omega (arith, c.loop-carrier-test.false, c.carriers-carrier-end.ensures.value) in
-    let all = listed_over f.rate c.loop-carrier.into.items (subcarriers_of f) (n - k) k f.erased c.loop-carrier.triangles.now none c.loop-carrier.invariant.listed in
-    subst (λ (xs : List Subcarrier). length xs ≤ n) (sym all) (are_few f)
-
-pub returns-clause-streams : goal.returns-clause-streams
-returns-clause-streams c =
-    let f = c.args.frame.now in
-    let n = carriers_of f.rate in
-    let k = c.loop-carrier.carrier in
-    let none : n - k ≡ 0 = omega (arith, c.loop-carrier-test.false, c.carriers-carrier-end.ensures.value) in
-    let all = listed_over f.rate c.loop-carrier.into.items (subcarriers_of f) (n - k) k f.erased c.loop-carrier.triangles.now none c.loop-carrier.invariant.listed in
-    subst (λ (xs : List Subcarrier). All (λ (s : Subcarrier). length s.triangle ≡ streams_of f.rate) xs) (sym all) (have_streams f c.requires.fits)
+    record {
+      listed = all;
+      present = ap (λ (xs : List Subcarrier). length xs) all ∙ are_present f;
+      few = subst (λ (xs : List Subcarrier). length xs ≤ n) (sym all) (are_few f);
+      streams = subst (λ (xs : List Subcarrier). All (λ (s : Subcarrier). length s.triangle ≡ streams_of f.rate) xs) (sym all) (have_streams f c.requires.fits);
+    }

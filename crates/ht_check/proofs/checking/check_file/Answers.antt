@@ -1,15 +1,23 @@
-use Rattle.std.proofs.Common.{ℕ, ◌+◌, List, [], ◌∷◌, ap, sym, subst, ◌∙◌, arith, rules}
+use Rattle.std.proofs.Common.{◌≡◌, ℕ, ◌+◌, List, [], ◌∷◌, ap, sym, subst, ◌∙◌, arith, rules}
 use Rattle.std.specs.Prelude.{length, string_bytes}
-use Rattle.ht_fields.specs.Readers.{Gives}
+use Rattle.ht_fields.specs.Readers.{Gives, ReaderView}
 use Rattle.ht_cert.specs.Readers.{Completes, GivesRecord, Passes, shown_by}
+use Rattle.ht_cert.specs.declared.record.Record.{Record}
 use Rattle.ht_cert.specs.declared.reader.Came.{Came}
-use Rattle.ht_cert.specs.declared.reader.Came.TheVariants.{Whole}
+use Rattle.ht_cert.specs.declared.reader.Came.TheVariants.{Whole, End}
 use Rattle.ht_runs.specs.Streamed.{StreamFails}
 use Rattle.ht_runs.specs.declared.faults.RunFault.{RunFault}
 use Rattle.ht_check.specs.Checks.{checking}
 use Rattle.ht_check.proofs.Ending.{ends, ends_in_part, fails_at_lines, halts, halts_in_part, lacks_at_once, lacks_end, lacks_line}
 use Rattle.ht_check.proofs.Stepping.{checks_begun, checks_on, right_few}
 use Rattle.ht_check.proofs.checking.check_file.Goals as goal
+
+-- what the reader gave, by what came
+gives_whole : (old new : ReaderView Record) (came : Came) (r : Record) → came ≡ Whole → GivesRecord old new came r → Gives old new (r ∷ [])
+gives_whole old new came r is given = subst (λ (c : Came). GivesRecord old new c r) is given
+
+gives_end : (old new : ReaderView Record) (came : Came) (r : Record) → came ≡ End → GivesRecord old new came r → Completes old new.source
+gives_end old new came r is given = subst (λ (c : Came). GivesRecord old new c r) is given
 
 pub returns-in_err-text-clause-checks : goal.returns-in_err-text-clause-checks
 returns-in_err-text-clause-checks g c =
@@ -32,11 +40,9 @@ pub returns-in_err-is_right-in-Ok-Whole-clause-checks : goal.returns-in_err-is_r
 returns-in_err-is_right-in-Ok-Whole-clause-checks g c =
     let old = shown_by c.loop-text.reader (g.S.Source.shown c.loop-text.source) in
     let new = shown_by c.next.new.self (g.S.Source.shown c.next.new.source) in
-    let r = c.next.new.into in
-    let gives : Gives old new (r ∷ []) =
-    subst (λ (came : Came). GivesRecord old new came r) c.in-Ok-Whole.field-0-is (c.in-Ok-Whole.ensures.told c.loop-text.invariant.going) in
+    let gives = gives_whole old new _ c.next.new.into c.in-Ok-Whole.field-0-is (c.in-Ok-Whole.ensures.told c.loop-text.invariant.going) in
     let lacks = lacks_line (g.S.Source.shown c.args.source.now) (g.K.Sink.shown c.args.sink.now) old (g.K.Sink.shown c.loop-text.sink) c.loop-text.tally
-    (string_bytes c.loop-text.text) c.loop-text.invariant.checks new r gives in search rules
+    (string_bytes c.loop-text.text) c.loop-text.invariant.checks new c.next.new.into gives in search rules
 
 pub count-requires-clause-right : goal.count-requires-clause-right
 count-requires-clause-right g c =
@@ -49,8 +55,7 @@ loop-text-preserved g c =
     let new = shown_by c.next.new.self (g.S.Source.shown c.next.new.source) in
     let r = c.next.new.into in
     let tally = c.loop-text.tally in
-    let gives : Gives old new (r ∷ []) =
-    subst (λ (came : Came). GivesRecord old new came r) c.in-Ok-Whole.field-0-is (c.in-Ok-Whole.ensures.told c.loop-text.invariant.going) in
+    let gives = gives_whole old new _ c.next.new.into c.in-Ok-Whole.field-0-is (c.in-Ok-Whole.ensures.told c.loop-text.invariant.going) in
     let passes : Passes c.loop-text.reader c.next.new.self Whole r =
     subst (λ (came : Came). Passes c.loop-text.reader c.next.new.self came r) c.in-Ok-Whole.field-0-is c.in-Ok-Whole.ensures.passed in
     let line = c.in_ok-is_right-in-Ok-Whole.ensures in
@@ -71,29 +76,25 @@ pub returns-in_err-put_block-in-Ok-Whole-clause-checks : goal.returns-in_err-put
 returns-in_err-put_block-in-Ok-Whole-clause-checks g c =
     let old = shown_by c.loop-text.reader (g.S.Source.shown c.loop-text.source) in
     let new = shown_by c.next.new.self (g.S.Source.shown c.next.new.source) in
-    let r = c.next.new.into in
-    let gives : Gives old new (r ∷ []) =
-    subst (λ (came : Came). GivesRecord old new came r) c.in-Ok-Whole.field-0-is (c.in-Ok-Whole.ensures.told c.loop-text.invariant.going) in
+    let gives = gives_whole old new _ c.next.new.into c.in-Ok-Whole.field-0-is (c.in-Ok-Whole.ensures.told c.loop-text.invariant.going) in
     let put = c.in_err-put_block-in-Ok-Whole.ensures in
     let fails = fails_at_lines (g.S.Source.shown c.args.source.now) (g.K.Sink.shown c.args.sink.now) old (g.K.Sink.shown c.loop-text.sink)
     c.loop-text.tally (string_bytes c.loop-text.text) c.loop-text.invariant.checks new (g.K.Sink.shown c.put_block.new.sink)
-    (string_bytes c.push_line.new.text) r gives c.in_ok-is_right-in-Ok-Whole.ensures.line put.part put.cause in search rules
+    (string_bytes c.push_line.new.text) c.next.new.into gives c.in_ok-is_right-in-Ok-Whole.ensures.line put.part put.cause in search rules
 
 pub returns-in_err-push_checked_line-in-Ok-End-clause-checks : goal.returns-in_err-push_checked_line-in-Ok-End-clause-checks
 returns-in_err-push_checked_line-in-Ok-End-clause-checks g c =
     let old = shown_by c.loop-text.reader (g.S.Source.shown c.loop-text.source) in
-    let new = shown_by c.next.new.self (g.S.Source.shown c.next.new.source) in
-    let completes : Completes old (g.S.Source.shown c.next.new.source) =
-    subst (λ (came : Came). GivesRecord old new came c.next.new.into) c.in-Ok-End.field-0-is (c.in-Ok-End.ensures.told c.loop-text.invariant.going) in
+    let completes = gives_end old (shown_by c.next.new.self (g.S.Source.shown c.next.new.source)) _ c.next.new.into c.in-Ok-End.field-0-is
+    (c.in-Ok-End.ensures.told c.loop-text.invariant.going) in
     let lacks = lacks_end (g.S.Source.shown c.args.source.now) (g.K.Sink.shown c.args.sink.now) old (g.K.Sink.shown c.loop-text.sink)
     c.loop-text.tally (string_bytes c.loop-text.text) c.loop-text.invariant.checks (g.S.Source.shown c.next.new.source) completes in search rules
 
 pub returns-in_err-put-in-Ok-End-clause-checks : goal.returns-in_err-put-in-Ok-End-clause-checks
 returns-in_err-put-in-Ok-End-clause-checks g c =
     let old = shown_by c.loop-text.reader (g.S.Source.shown c.loop-text.source) in
-    let new = shown_by c.next.new.self (g.S.Source.shown c.next.new.source) in
-    let completes : Completes old (g.S.Source.shown c.next.new.source) =
-    subst (λ (came : Came). GivesRecord old new came c.next.new.into) c.in-Ok-End.field-0-is (c.in-Ok-End.ensures.told c.loop-text.invariant.going) in
+    let completes = gives_end old (shown_by c.next.new.self (g.S.Source.shown c.next.new.source)) _ c.next.new.into c.in-Ok-End.field-0-is
+    (c.in-Ok-End.ensures.told c.loop-text.invariant.going) in
     let put = c.in_err-put-in-Ok-End.ensures in
     let fails = ends_in_part (g.S.Source.shown c.args.source.now) (g.K.Sink.shown c.args.sink.now) old (g.K.Sink.shown c.loop-text.sink)
     c.loop-text.tally (string_bytes c.loop-text.text) c.loop-text.invariant.checks (g.S.Source.shown c.next.new.source) completes
@@ -103,9 +104,8 @@ returns-in_err-put-in-Ok-End-clause-checks g c =
 pub returns-in-Ok-End-clause-checks : goal.returns-in-Ok-End-clause-checks
 returns-in-Ok-End-clause-checks g c =
     let old = shown_by c.loop-text.reader (g.S.Source.shown c.loop-text.source) in
-    let new = shown_by c.next.new.self (g.S.Source.shown c.next.new.source) in
-    let completes : Completes old (g.S.Source.shown c.next.new.source) =
-    subst (λ (came : Came). GivesRecord old new came c.next.new.into) c.in-Ok-End.field-0-is (c.in-Ok-End.ensures.told c.loop-text.invariant.going) in (
+    let completes = gives_end old (shown_by c.next.new.self (g.S.Source.shown c.next.new.source)) _ c.next.new.into c.in-Ok-End.field-0-is
+    (c.in-Ok-End.ensures.told c.loop-text.invariant.going) in (
       ends (g.S.Source.shown c.args.source.now) (g.K.Sink.shown c.args.sink.now) old (g.K.Sink.shown c.loop-text.sink)
           c.loop-text.tally (string_bytes c.loop-text.text) c.loop-text.invariant.checks (g.S.Source.shown c.next.new.source) completes
           (g.K.Sink.shown c.put.new.sink) (string_bytes c.push_checked_line.new.text) c.in_ok-push_checked_line-in-Ok-End.ensures.ok

@@ -5,4 +5,4 @@ use Rattle.ht_cli.proofs.laws.clauses_of_demo.Goals as goal
 
 pub returns-clause-noiseless : goal.returns-clause-noiseless
 returns-clause-noiseless c = λ seed count length workers window rate a b k l run.
-    subst (λ (text : List ℕ). Grows k l text) (run.made.1 refl) run.put
+    subst (λ (text : List ℕ). Grows k l text) (run.made.noiseless refl) run.put

@@ -1,6 +1,6 @@
 use Rattle.std.proofs.Common.{ap, ◌∙◌, rules}
 use Rattle.ht_crew.proofs.Delivered.{if_delivered}
-use Rattle.ht_crew.proofs.InBlocks.{few_due, in_turn}
+use Rattle.ht_crew.proofs.InBlocks.{leaves}
 use Rattle.ht_crew.proofs.threaded.drive.Goals as goal
 
 pub returns-in-Ok-clause-delivered : goal.returns-in-Ok-clause-delivered
@@ -9,13 +9,10 @@ returns-in-Ok-clause-delivered g c = λ many. if_delivered c.args.workers c.args
 pub returns-in-Ok-clause-told : goal.returns-in-Ok-clause-told
 returns-in-Ok-clause-told g c = λ jobs is. c.in-Ok.ensures.told jobs (ap (λ f. (g.F.Feed.shown f).left) c.new-singles.ensures.feed ∙ is)
 
-pub returns-in-Err-Feed-clause-leaves : goal.returns-in-Err-Feed-clause-leaves
-returns-in-Err-Feed-clause-leaves g c =
-    let was = in_turn (g.F.Feed.shown c.new-singles.result.feed.now).left c.drive.new.feed.failed.now (g.F.Feed.shown c.drive.new.feed.feed.now)
-    c.in-Err-Feed.ensures.leaves.in_turn in
-    record {
-      leads = search rules;
-      due = search (rules, few_due);
-      in_turn = search (rules, was);
-      later = search rules;
-    }
+pub returns-in-Err-Feed-clause-drives : goal.returns-in-Err-Feed-clause-drives
+returns-in-Err-Feed-clause-drives g c = record {
+  leaves = search (rules, leaves g.F.Feed.shown g.F.Feed.leads _ _ _ c.in-Err-Feed.ensures.leaves);
+  through = tt;
+  jobs = tt;
+  refuses = search rules;
+}

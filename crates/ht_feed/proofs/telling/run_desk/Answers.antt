@@ -1,85 +1,43 @@
 use Rattle.std.proofs.Common.{◌∙◌, IfSome, Option, refl, ap, subst}
 use Rattle.ht_feed.specs.declared.book_fault.BookFault.TheVariants.{NoMemory}
-use Rattle.ht_feed.specs.Accounts.{told_by}
 use Rattle.ht_feed.specs.Desks.{AddsBlock, DeskView}
 use Rattle.ht_feed.specs.Dues.{due_of}
 use Rattle.ht_feed.specs.Leading.{tells-none, tells-on, tells-fails}
-use Rattle.ht_feed.specs.Telling.{seen_by}
-use Rattle.ht_feed.proofs.Leads.{tells_lacking, tells_read, tells_refused, tells_taken}
+use Rattle.ht_feed.proofs.Leads.{read_on, tells_lacking, tells_refused, tells_taken}
 use Rattle.ht_feed.proofs.Taking.{one_gone}
 use Rattle.ht_feed.proofs.telling.run_desk.Goals as goal
 
 pub loop-block-init : goal.loop-block-init
-loop-block-init g c =
-    let r = g.R.BlockReader in
-    let a = g.A.Account in
-    let told = told_by a.shown a.pieces a.waits c.args.account.now in
-    record {
-      going = c.requires.going;
-      none = c.requires.none;
-      tells = tells-none (seen_by r.means r.at c.args.desk.now (g.S.Source.shown c.args.source.now) told);
-      same = refl;
-    }
+loop-block-init g c = record {
+  going = c.requires.going;
+  none = c.requires.none;
+  tells = tells-none _;
+  same = refl;
+}
 
 pub returns-in-Ok-None-clause-tells : goal.returns-in-Ok-None-clause-tells
-returns-in-Ok-None-clause-tells g c =
-    let r = g.R.BlockReader in
-    let a = g.A.Account in
-    let shown = g.S.Source.shown in
-    let told = told_by a.shown a.pieces a.waits in
-    let now = told c.loop-block.account in
-    tells_read r.means r.at (seen_by r.means r.at c.args.desk.now (shown c.args.source.now) (told c.args.account.now)) c.loop-block.desk c.next.new.self
-    (shown c.loop-block.source) (shown c.next.new.source) now (g.met.A.Account.more_due c.loop-block.account) c.loop-block.invariant.tells c.in-Ok-None.ensures.reads
+returns-in-Ok-None-clause-tells g c = read_on c.in-Ok-None.ensures.reads c.loop-block.invariant.tells (g.met.A.Account.more_due c.loop-block.account)
 
 pub returns-in-Err-clause-tells : goal.returns-in-Err-clause-tells
 returns-in-Err-clause-tells g c =
     let r = g.R.BlockReader in
-    let a = g.A.Account in
-    let shown = g.S.Source.shown in
-    let told = told_by a.shown a.pieces a.waits in
-    let now = told c.loop-block.account in
     let same = c.in-Err.ensures.memory in
-    tells-fails (seen_by r.means r.at c.args.desk.now (shown c.args.source.now) (told c.args.account.now))
-    (seen_by r.means r.at c.loop-block.desk (shown c.loop-block.source) now) (seen_by r.means r.at c.next.new.self (shown c.next.new.source) now)
-    NoMemory c.loop-block.invariant.tells
-    (tells_lacking r.means r.at c.loop-block.desk c.next.new.self (shown c.loop-block.source) (shown c.next.new.source) now same.0 (ap shown same.1))
+    tells-fails _ _ _ NoMemory c.loop-block.invariant.tells (tells_lacking r.means r.at _ _ _ _ _ same.0 (ap g.S.Source.shown same.1))
 
 pub returns-in_default-clause-tells : goal.returns-in_default-clause-tells
-returns-in_default-clause-tells g c =
-    let r = g.R.BlockReader in
-    let a = g.A.Account in
-    let shown = g.S.Source.shown in
-    let told = told_by a.shown a.pieces a.waits in
-    let now = told c.loop-block.account in
-    tells_read r.means r.at (seen_by r.means r.at c.args.desk.now (shown c.args.source.now) (told c.args.account.now)) c.loop-block.desk c.next.new.self
-    (shown c.loop-block.source) (shown c.next.new.source) now (g.met.A.Account.more_due c.loop-block.account) c.loop-block.invariant.tells c.in-Ok-Some.ensures.reads
+returns-in_default-clause-tells g c = read_on c.in-Ok-Some.ensures.reads c.loop-block.invariant.tells (g.met.A.Account.more_due c.loop-block.account)
 
 pub returns-in-Err-take-clause-tells : goal.returns-in-Err-take-clause-tells
 returns-in-Err-take-clause-tells g c =
     let r = g.R.BlockReader in
-    let a = g.A.Account in
-    let shown = g.S.Source.shown in
-    let told = told_by a.shown a.pieces a.waits in
-    let now = told c.loop-block.account in
     let e = c.in-Err-take.ensures in
-    let first = seen_by r.means r.at c.args.desk.now (shown c.args.source.now) (told c.args.account.now) in
-    let given = seen_by r.means r.at c.next.new.self (shown c.next.new.source) now in
-    tells-fails first given (seen_by r.means r.at c.take.new.self (shown c.next.new.source) (told c.take.new.account)) c.in-Err-take.fault
-    (tells_read r.means r.at first c.loop-block.desk c.next.new.self (shown c.loop-block.source) (shown c.next.new.source) now
-    (g.met.A.Account.more_due c.loop-block.account) c.loop-block.invariant.tells c.in-Ok-Some.ensures.reads)
-    (tells_refused r.means r.at c.next.new.self c.take.new.self (shown c.next.new.source) now (told c.take.new.account)
-    c.in-Err-take.fault e.stays e.part c.take.ensures.later e.cause e.unfailed)
+    tells-fails _ _ _ _ (read_on c.in-Ok-Some.ensures.reads c.loop-block.invariant.tells (g.met.A.Account.more_due c.loop-block.account))
+    (tells_refused r.means r.at _ _ _ _ _ _ e.stays e.part c.take.ensures.later e.cause e.unfailed)
 
 pub loop-block-preserved : goal.loop-block-preserved
 loop-block-preserved g c =
     let r = g.R.BlockReader in
-    let a = g.A.Account in
-    let shown = g.S.Source.shown in
-    let told = told_by a.shown a.pieces a.waits in
-    let now = told c.loop-block.account in
     let e = c.in_default-take.ensures in
-    let first = seen_by r.means r.at c.args.desk.now (shown c.args.source.now) (told c.args.account.now) in
-    let given = seen_by r.means r.at c.next.new.self (shown c.next.new.source) now in
     let jobs = g.R.Block.Jobs.jobs in
     let adds : AddsBlock r.counts c.args.window c.loop-block.desk c.next.new.self (jobs c.in-Ok-Some.block) =
     subst (λ (o : Option g.row.R-Block.Denot). IfSome o (λ block. AddsBlock r.counts c.args.window c.loop-block.desk c.next.new.self (jobs block)))
@@ -88,10 +46,7 @@ loop-block-preserved g c =
     record {
       going = ap (λ (d : DeskView g.row.R.Denot g.row.R-Head.Denot). d.stop) e.due ∙ adds.going;
       none = ap (λ (d : DeskView g.row.R.Denot g.row.R-Head.Denot). d.due) e.due ∙ one;
-      tells = tells-on first given (seen_by r.means r.at c.take.new.self (shown c.next.new.source) (told c.take.new.account))
-          (tells_read r.means r.at first c.loop-block.desk c.next.new.self (shown c.loop-block.source) (shown c.next.new.source) now
-          (g.met.A.Account.more_due c.loop-block.account) c.loop-block.invariant.tells c.in-Ok-Some.ensures.reads)
-          (tells_taken r.means r.at c.next.new.self c.take.new.self (shown c.next.new.source) now (told c.take.new.account)
-          e.due e.put e.waits c.take.ensures.later e.steady);
+      tells = tells-on _ _ _ (read_on c.in-Ok-Some.ensures.reads c.loop-block.invariant.tells (g.met.A.Account.more_due c.loop-block.account))
+          (tells_taken r.means r.at _ _ _ _ _ e.due e.put e.waits c.take.ensures.later e.steady);
       same = c.take.ensures.same ∙ c.loop-block.invariant.same;
     }

@@ -6,13 +6,9 @@ use Rattle.ht_fields.proofs.read.read_front.Goals as goal
 pub loop-count-preserved : goal.loop-count-preserved
 loop-count-preserved g c =
     let was = c.loop-count.invariant in
-    let read = c.in-Ok.ensures in
-    let first = g.S.Source.shown c.args.source.now in
-    let before = g.S.Source.shown c.loop-count.source in
-    let after = g.S.Source.shown c.read.new.self in
     record {
       within = search rules;
-      taken = takes-more first before after c.loop-count.count c.in-Ok.more _ c.loop-count.into c.read.new.into was.within
-          (search rules) was.taken (search rules);
-      later = later-later first before after was.later read.later;
+      taken = takes-more (g.S.Source.shown c.args.source.now) (g.S.Source.shown c.loop-count.source) (g.S.Source.shown c.read.new.self) c.loop-count.count
+          c.in-Ok.more _ c.loop-count.into c.read.new.into was.within (search rules) was.taken (search rules);
+      later = later-later _ _ _ was.later c.in-Ok.ensures.later;
     }

@@ -2,4 +2,4 @@ use Rattle.ht_files.proofs.FrameRoutes.{frames_same}
 use Rattle.ht_files.proofs.laws.read_back.Goals as goal
 
 pub returns : goal.returns
-returns c = λ frames others are also same. frames_same frames others are also same
+returns c = frames_same

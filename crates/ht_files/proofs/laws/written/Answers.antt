@@ -2,4 +2,4 @@ use Rattle.ht_files.proofs.FrameRoutes.{frames_written}
 use Rattle.ht_files.proofs.laws.written.Goals as goal
 
 pub returns : goal.returns
-returns c = λ frames are. frames_written frames are
+returns c = frames_written

@@ -1,49 +1,40 @@
-use Rattle.std.proofs.Common.{◌<◌, List, length, slice_get, refl, ap, ◌∙◌, sym, rules}
+use Rattle.std.proofs.Common.{◌<◌, ◌≡◌, List, length, slice_get, Some, refl, ap, ◌∙◌, sym, arith, rules}
+use Rattle.std.proofs.lemmas.List.{length-map}
 use Rattle.std.proofs.lemmas.Option.{slice_get_read}
+use Rattle.std.proofs.lemmas.Result.{err_from_is_err_and}
+use Rattle.ht_metric.specs.Jobs.{JobView, near}
 use Rattle.ht_metric.specs.declared.found.Found.{Found}
-use Rattle.ht_io.proofs.Calls.{later-later}
-use Rattle.ht_feed.specs.Accounts.{PutsPartOf}
-use Rattle.ht_frames.specs.Gathering.{booked_in}
-use Rattle.ht_frames.proofs.Taking.{err_so, heads, job_there, one_more, one_part}
+use Rattle.ht_frames.proofs.Taking.{books_all, books_more, books_none, books_part, job_there}
 use Rattle.ht_frames.proofs.receiver.take_block.Goals as goal
+use Rattle.ht_frames.proofs.receiver.take_block.Goals.{After-take_found}
 
-pub returns-in_err-take_found-clause-part : goal.returns-in_err-take_found-clause-part
-returns-in_err-take_found-clause-part g c =
-    let b = g.B.Book in
-    let l = c.loop-at in
-    let head = c.args.head.now in
-    let jobs = g.J.Jobs.jobs c.args.block.now in
+-- the job whose hit stands there
+job-here : (g : _) (c : After-take_found g) → (job : JobView) × (slice_get (g.J.Jobs.jobs c.args.block.now) c.loop-at.at ≡ Some job)
+    × (job.place ≡ c.place_at-place.result) × (c.index-found-at.result ≡ near job)
+job-here g c =
+    let at = c.loop-at.at in
     let found = c.index-found-at.result in
-    let within : l.at < length c.args.found.now = search rules in
-    let there = slice_get_read c.args.found.now (length c.args.found.now) l.at found refl within c.index-found-at.is in
-    let j = job_there jobs l.at c.place_at-place.result found c.place_at-place.ensures
-    (sym (ap (λ (fs : List Found). slice_get fs l.at) c.requires.right.are) ∙ there) in
-    let start = booked_in b.booked (g.U.UnderWay.results c.args.under_way.now) in
-    let before = booked_in b.booked (g.U.UnderWay.results l.under_way) in
-    let now = b.shown c.take_found.new.book in
-    err_so c.from_residual.result (PutsPartOf (b.shown c.args.book.now) now start (heads head jobs))
-    (one_part head (b.shown c.args.book.now) (b.shown l.book) now start before jobs l.at j.0 j.1 l.invariant.puts
-    (c.in_err-take_found.ensures.part j.0 j.2 j.3))
+    let within : at < length c.args.found.now = search rules in
+    job_there (g.J.Jobs.jobs c.args.block.now) at c.place_at-place.result found c.place_at-place.ensures
+    (sym (ap (λ (fs : List Found). slice_get fs at) c.requires.right.are)
+    ∙ slice_get_read c.args.found.now (length c.args.found.now) at found refl within c.index-found-at.is)
+
+pub loop-at-init : goal.loop-at-init
+loop-at-init g c = books_none _ _ _
 
 pub loop-at-preserved : goal.loop-at-preserved
 loop-at-preserved g c =
-    let b = g.B.Book in
-    let l = c.loop-at in
-    let head = c.args.head.now in
+    let j = job-here g (goal.at.loop-at-preserved g c).After-take_found in
+    books_more c.args.head.now (g.J.Jobs.jobs c.args.block.now) c.loop-at.at j.0 j.1 c.loop-at.invariant (c.in_ok-take_found.ensures j.0 j.2 j.3)
+
+pub returns-in_err-take_found : goal.returns-in_err-take_found
+returns-in_err-take_found g c =
+    let j = job-here g (goal.at.returns-in_err-take_found g c).After-take_found in
+    let p = err_from_is_err_and c.from_residual.result c.from_residual.ensures.1 in
+    books_part c.args.head.now (g.J.Jobs.jobs c.args.block.now) c.loop-at.at j.0 j.1 c.loop-at.invariant p.1 p.2 (c.in_err-take_found.ensures j.0 j.2 j.3)
+
+pub returns : goal.returns
+returns g c =
     let jobs = g.J.Jobs.jobs c.args.block.now in
-    let found = c.index-found-at.result in
-    let within : l.at < length c.args.found.now = search rules in
-    let there = slice_get_read c.args.found.now (length c.args.found.now) l.at found refl within c.index-found-at.is in
-    let j = job_there jobs l.at c.place_at-place.result found c.place_at-place.ensures
-    (sym (ap (λ (fs : List Found). slice_get fs l.at) c.requires.right.are) ∙ there) in
-    let e = c.in_ok-take_found.ensures in
-    let start = booked_in b.booked (g.U.UnderWay.results c.args.under_way.now) in
-    let before = booked_in b.booked (g.U.UnderWay.results l.under_way) in
-    let after = booked_in b.booked (g.U.UnderWay.results c.take_found.new.under_way) in
-    let now = b.shown c.take_found.new.book in
-    record {
-      puts = one_more head (b.shown c.args.book.now) (b.shown l.book) now start before jobs l.at j.0 j.1 l.invariant.puts after (e.put j.0 j.2 j.3);
-      steady = e.faults.steady ∙ l.invariant.steady;
-      later = later-later (b.shown c.args.book.now) (b.shown l.book) now l.invariant.later c.take_found.ensures.faults.later;
-      same = c.take_found.ensures.faults.same ∙ l.invariant.same;
-    }
+    let long = ap (λ (fs : List Found). length fs) c.requires.right.are in
+    books_all c.args.head.now jobs c.loop-at.at (omega (arith, long, length-map jobs near)) c.loop-at.invariant

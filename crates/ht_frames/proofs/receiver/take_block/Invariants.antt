@@ -1,7 +1,5 @@
-use Rattle.std.proofs.Common.{◌≡◌, take}
-use Rattle.ht_io.specs.Devices.{IsLater}
-use Rattle.ht_feed.specs.Accounts.{PutsBlock}
-use Rattle.ht_frames.specs.Gathering.{booked_in}
+use Rattle.std.proofs.Common.{Ok, take}
+use Rattle.ht_frames.specs.Gathering.{BooksJobs, booked_in}
 use Rattle.ht_frames.proofs.Taking.{heads}
 use Rattle.ht_frames.proofs.receiver.take_block.Given as goal
 
@@ -10,10 +8,5 @@ abbrev pub invariant-loop-at : goal.invariant-loop-at
 invariant-loop-at g l =
     let b = g.B.Book in
     let results = g.U.UnderWay.results in
-    record {
-      puts : PutsBlock (b.shown l.fn.book) (b.shown l.book) (booked_in b.booked (results l.fn.under_way)) (booked_in b.booked (results l.under_way))
-          (heads l.fn.head (take l.at (g.J.Jobs.jobs l.fn.block)));
-      steady : (b.shown l.book).faults ≡ (b.shown l.fn.book).faults;
-      later : IsLater (b.shown l.fn.book) (b.shown l.book);
-      same : b.lent l.book ≡ b.lent l.fn.book;
-    }
+    BooksJobs {A = Unit {0}} (Ok tt) (b.shown l.fn.book) (b.shown l.book) (booked_in b.booked (results l.fn.under_way))
+    (booked_in b.booked (results l.under_way)) (heads l.fn.head (take l.at (g.J.Jobs.jobs l.fn.block))) (b.lent l.fn.book) (b.lent l.book)

@@ -1,7 +1,7 @@
 use Rattle.std.proofs.Common.{◌≡◌, [], ◌∷◌, ◌++◌, get_or, true, refl, arith}
 use Rattle.ht_lanes.specs.Lanes.{sides_of}
-use Rattle.ht_lanes.proofs.Asked.{leads_asked, none_so, one_more, over_none, few_due_none, same_none, some_so}
-use Rattle.ht_lanes.specs.Leading.{all-none}
+use Rattle.ht_lanes.proofs.Asked.{none_so, one_more, over_none, few_due_none, same_none, some_so}
+use Rattle.ht_lanes.specs.Leading.{all-more, all-none}
 use Rattle.ht_lanes.proofs.asking.ask_from.Goals as goal
 
 pub loop-at-init : goal.loop-at-init
@@ -15,50 +15,36 @@ loop-at-init g c =
     }
 
 pub ask_at-requires-clause-lane : goal.ask_at-requires-clause-lane
-ask_at-requires-clause-lane g c =
-    let e = (c.loop-at.invariant.leads []).lanes in
-    omega (arith, c.loop-at-test.true, e)
+ask_at-requires-clause-lane g c = omega (arith, c.loop-at-test.true, (c.loop-at.invariant.leads []).lanes)
 
 pub ask_at-requires-clause-source : goal.ask_at-requires-clause-source
-ask_at-requires-clause-source g c =
-    let e = c.loop-at.invariant.leads [] in
-    let f = e.sources in
-    omega (arith, c.loop-at-test.true, f, c.requires.pairs)
+ask_at-requires-clause-source g c = omega (arith, c.loop-at-test.true, (c.loop-at.invariant.leads []).sources, c.requires.pairs)
 
 pub ask_at-requires-clause-few_due : goal.ask_at-requires-clause-few_due
 ask_at-requires-clause-few_due g c = λ l.
-    let e = (c.loop-at.invariant.leads []).lanes in
-    c.loop-at.invariant.few_due l c.loop-at.at (omega (arith, c.loop-at-test.true, e))
+    c.loop-at.invariant.few_due l c.loop-at.at (omega (arith, c.loop-at-test.true, (c.loop-at.invariant.leads []).lanes))
 
 pub returns-in-Ok-Some-clause-due : goal.returns-in-Ok-Some-clause-due
 returns-in-Ok-Some-clause-due g c =
     let e = c.in-Ok-Some.ensures in
-    one_more c.loop-at.lanes c.ask_at.new.lanes c.loop-at.at e.other_lanes g.L.Lane.due g.L.Lane.rests c.args.lanes.now c.loop-at.invariant.same e.rests
-    c.in-Ok-Some.block.jobs (omega (arith, c.loop-at-test.true, (c.loop-at.invariant.leads []).lanes)) (some_so c.in-Ok-Some.field-0 c.in-Ok-Some.block
+    one_more c.loop-at.lanes c.ask_at.new.lanes c.loop-at.at (e.leads []).other_lanes g.L.Lane.due g.L.Lane.rests c.args.lanes.now c.loop-at.invariant.same
+    e.rests c.in-Ok-Some.block.jobs (omega (arith, c.loop-at-test.true, (c.loop-at.invariant.leads []).lanes)) (some_so c.in-Ok-Some.field-0 c.in-Ok-Some.block
     (λ block. (l : g.row.L.Denot) → g.L.Lane.due (get_or c.ask_at.new.lanes c.loop-at.at l) ≡ g.L.Lane.due (get_or c.loop-at.lanes c.loop-at.at l) ++ block.jobs ∷ [])
     c.in-Ok-Some.field-0-is e.due)
 
 pub returns-in-Ok-Some-clause-leads : goal.returns-in-Ok-Some-clause-leads
 returns-in-Ok-Some-clause-leads g c = λ sinks.
-    let lane = g.met.L.Lane in
-    let e = c.ask_at.ensures in
-    leads_asked g.L.Lane.leads lane.stays lane.goes_on (sides_of c.args.lanes.now c.args.sources.now sinks) c.loop-at.lanes c.ask_at.new.lanes
-    c.loop-at.sources c.ask_at.new.sources sinks c.loop-at.at (c.loop-at.invariant.leads sinks) e.as_many_lanes e.as_many_sources e.other_lanes
-    e.other_sources e.leads
+    all-more g.L.Lane.leads g.met.L.Lane.stays g.met.L.Lane.goes_on (c.ask_at.ensures.leads sinks) _ (c.loop-at.invariant.leads sinks)
 
 pub returns-in-Err-clause-leads : goal.returns-in-Err-clause-leads
 returns-in-Err-clause-leads g c = λ sinks.
-    let lane = g.met.L.Lane in
-    let e = c.ask_at.ensures in
-    leads_asked g.L.Lane.leads lane.stays lane.goes_on (sides_of c.args.lanes.now c.args.sources.now sinks) c.loop-at.lanes c.ask_at.new.lanes
-    c.loop-at.sources c.ask_at.new.sources sinks c.loop-at.at (c.loop-at.invariant.leads sinks) e.as_many_lanes e.as_many_sources e.other_lanes
-    e.other_sources e.leads
+    all-more g.L.Lane.leads g.met.L.Lane.stays g.met.L.Lane.goes_on (c.ask_at.ensures.leads sinks) _ (c.loop-at.invariant.leads sinks)
 
 pub returns-in-Err-clause-memory : goal.returns-in-Err-clause-memory
 returns-in-Err-clause-memory g c =
     let e = c.in-Err.ensures in
-    same_none c.loop-at.lanes c.ask_at.new.lanes c.loop-at.at e.other_lanes g.L.Lane.due g.L.Lane.rests c.args.lanes.now c.loop-at.invariant.same e.rests
-    e.memory
+    same_none c.loop-at.lanes c.ask_at.new.lanes c.loop-at.at (e.leads []).other_lanes g.L.Lane.due g.L.Lane.rests c.args.lanes.now c.loop-at.invariant.same
+    e.rests e.memory
 
 pub loop-at-preserved : goal.loop-at-preserved
 loop-at-preserved g c =
@@ -72,10 +58,10 @@ loop-at-preserved g c =
     let over : (l : g.row.L.Denot) → g.L.Lane.over (get_or c.ask_at.new.lanes at l) ≡ true =
     none_so c.in-Ok-None.field-0 ((l : g.row.L.Denot) → g.L.Lane.over (get_or c.ask_at.new.lanes at l) ≡ true) c.in-Ok-None.field-0-is e.over in
     record {
-      same = same_none c.loop-at.lanes c.ask_at.new.lanes c.loop-at.at e.other_lanes g.L.Lane.due g.L.Lane.rests c.args.lanes.now i.same e.rests none;
-      few_due = few_due_none c.loop-at.lanes c.ask_at.new.lanes c.loop-at.at e.other_lanes g.L.Lane.over over g.L.Lane.due c.args.most e.as_many_lanes i.few_due;
-      over = over_none c.loop-at.lanes c.ask_at.new.lanes c.loop-at.at e.other_lanes g.L.Lane.over over c.args.from i.over;
-      leads = λ sinks. leads_asked g.L.Lane.leads lane.stays lane.goes_on (sides_of c.args.lanes.now c.args.sources.now sinks)
-          c.loop-at.lanes c.ask_at.new.lanes c.loop-at.sources c.ask_at.new.sources sinks c.loop-at.at (i.leads sinks) e.as_many_lanes e.as_many_sources
-          e.other_lanes e.other_sources e.leads;
+      same = same_none c.loop-at.lanes c.ask_at.new.lanes c.loop-at.at (e.leads []).other_lanes g.L.Lane.due g.L.Lane.rests c.args.lanes.now i.same
+          e.rests none;
+      few_due = few_due_none c.loop-at.lanes c.ask_at.new.lanes c.loop-at.at (e.leads []).other_lanes g.L.Lane.over over g.L.Lane.due
+          c.args.most (e.leads []).lanes i.few_due;
+      over = over_none c.loop-at.lanes c.ask_at.new.lanes c.loop-at.at (e.leads []).other_lanes g.L.Lane.over over c.args.from i.over;
+      leads = λ sinks. all-more g.L.Lane.leads lane.stays lane.goes_on (c.ask_at.ensures.leads sinks) _ (i.leads sinks);
     }

@@ -1,7 +1,7 @@
 use Rattle.std.proofs.Common.{◌≡◌, [], length, arith}
 use Rattle.ht_lanes.specs.Lanes.{sides_of}
-use Rattle.ht_lanes.specs.Leading.{all-none}
-use Rattle.ht_lanes.proofs.Finished.{all_finished, leads_finished, none_yet, one_more, still_none, still_over}
+use Rattle.ht_lanes.specs.Leading.{all-more, all-none}
+use Rattle.ht_lanes.proofs.Finished.{all_finished, none_yet, one_more, still_none, still_over}
 use Rattle.ht_lanes.proofs.finishing.finish_lanes.Goals as goal
 
 pub loop-at-init : goal.loop-at-init
@@ -14,14 +14,10 @@ loop-at-init g c =
     }
 
 pub finish_at-requires-clause-lane : goal.finish_at-requires-clause-lane
-finish_at-requires-clause-lane g c =
-    let e = (c.loop-at.invariant.leads []).lanes in
-    omega (arith, c.loop-at-test.true, e)
+finish_at-requires-clause-lane g c = omega (arith, c.loop-at-test.true, (c.loop-at.invariant.leads []).lanes)
 
 pub finish_at-requires-clause-sink : goal.finish_at-requires-clause-sink
-finish_at-requires-clause-sink g c =
-    let e = (c.loop-at.invariant.leads []).sinks in
-    omega (arith, c.loop-at-test.true, e, c.requires.pairs)
+finish_at-requires-clause-sink g c = omega (arith, c.loop-at-test.true, (c.loop-at.invariant.leads []).sinks, c.requires.pairs)
 
 pub loop-at-preserved : goal.loop-at-preserved
 loop-at-preserved g c =
@@ -30,11 +26,9 @@ loop-at-preserved g c =
     let i = c.loop-at.invariant in
     let e = c.finish_at.ensures in
     record {
-      so = one_more lane.due lane.rests lane.over lane.finished c.args.lanes.now c.loop-at.lanes c.finish_at.new.lanes c.loop-at.at e.other_lanes i.so
-          (λ l. record { takes = e.rests l; waits = e.due l; stays = e.over l }) e.finished;
-      leads = λ sources. leads_finished lane.leads met.stays met.goes_on (sides_of c.args.lanes.now sources c.args.sinks.now) c.loop-at.lanes
-          c.finish_at.new.lanes sources c.loop-at.sinks c.finish_at.new.sinks c.loop-at.at (i.leads sources) e.as_many_lanes e.as_many_sinks
-          e.other_lanes e.other_sinks e.leads;
+      so = one_more lane.due lane.rests lane.over lane.finished c.args.lanes.now c.loop-at.lanes c.finish_at.new.lanes c.loop-at.at
+          (e.leads []).other_lanes i.so (λ l. record { takes = e.rests l; waits = e.due l; stays = e.over l }) e.finished;
+      leads = λ sources. all-more lane.leads met.stays met.goes_on (e.leads sources) _ (i.leads sources);
     }
 
 pub returns-clause-finished : goal.returns-clause-finished

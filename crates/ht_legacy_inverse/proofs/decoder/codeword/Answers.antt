@@ -1,8 +1,8 @@
 use Rattle.std.proofs.Common.{◌≡◌, ◌∙◌, List, Bool, Option, ap, map, arith}
-use Rattle.ht_viterbi.specs.Inputs.{IsDecoded, distance}
+use Rattle.std.proofs.lemmas.Result.{IfOk-weaker}
+use Rattle.ht_viterbi.specs.Inputs.{IsFound, place_cost}
 use Rattle.ht_viterbi.specs.declared.received_bit.ReceivedBit.{ReceivedBit}
 use Rattle.ht_viterbi.specs.Received.{known_of}
-use Rattle.ht_inverse.proofs.Codewords.{both-ok}
 use Rattle.ht_legacy_inverse.specs.Places.{IsCodewordOf}
 use Rattle.ht_legacy_inverse.proofs.Codewords.{codeword-is, received-length}
 use Rattle.ht_legacy_inverse.proofs.decoder.codeword.Goals as goal
@@ -22,10 +22,8 @@ returns-clause-value c =
     let p = c.pattern.result in
     let received = map known_of c.as_slice.result.now in
     let are = c.steps.ensures.value in
-    both-ok c.decode_received.result (λ codeword. IsDecoded steps p received codeword.input)
-    (λ codeword. codeword.distance ≡ distance p received codeword.input)
-    (λ codeword. IsCodewordOf c.args.rate c.args.octets c.args.labels.now codeword)
-    (λ codeword is far.
-    codeword-is c.args.rate c.args.octets steps c.args.labels.now p received codeword are c.pattern.ensures
-    (is-received c.as_slice.ensures.value c.in_ok-bits.ensures) (omega (arith, are)) is far)
-    c.decode_received.ensures.input c.decode_received.ensures.distance
+    IfOk-weaker c.decode_received.result (λ codeword. IsFound place_cost steps p received codeword.input codeword.distance)
+    (IsCodewordOf c.args.rate c.args.octets c.args.labels.now)
+    (λ codeword. codeword-is c.args.rate c.args.octets steps c.args.labels.now p received codeword are c.pattern.ensures
+    (is-received c.as_slice.ensures.value c.in_ok-bits.ensures) (omega (arith, are)))
+    c.decode_received.ensures

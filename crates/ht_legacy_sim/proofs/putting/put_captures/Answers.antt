@@ -1,5 +1,4 @@
-use Rattle.std.proofs.Common.{◌≡◌, ◌+◌, [], ◌∷◌, ◌++◌, List, ℕ, drop, length, flat_map, refl, ap, ◌∙◌, sym, subst, add-one, arith}
-use Rattle.std.proofs.Math.Seq.{drop-cons}
+use Rattle.std.proofs.Common.{◌≡◌, ◌+◌, [], ◌∷◌, ◌++◌, List, ℕ, drop, length, flat_map, refl, ap, ◌∙◌, subst, arith}
 use Rattle.std.proofs.lemmas.List.{drop_all}
 use Rattle.ht_io.specs.Devices.{Grows}
 use Rattle.ht_io.proofs.Calls.{later-later}
@@ -14,7 +13,7 @@ use Rattle.ht_legacy_captures.specs.Files.{capture_octets}
 use Rattle.ht_legacy_captures.specs.Formats.{captures_magic}
 use Rattle.ht_legacy_sim.specs.Drawing.{capture_drawn}
 use Rattle.ht_legacy_sim.proofs.Drawn.{behind, behind-end, behind-step}
-use Rattle.ht_legacy_sim.proofs.Framed.{whole_file}
+use Rattle.ht_legacy_sim.proofs.Framed.{next_is, next_put, whole_file}
 use Rattle.ht_legacy_sim.proofs.putting.put_captures.Goals as goal
 
 pub returns-in_err-put-clause-part : goal.returns-in_err-put-clause-part
@@ -50,8 +49,7 @@ loop-frame-preserved g c =
     let draw = capture_drawn c.args.noise in
     let so_far = c.loop-frame.invariant.put in
     let piece : List ℕ = capture_octets (draw f z).value in
-    let here : drop k fs ≡ f ∷ drop (k + 1) fs =
-    rw add-one (drop-cons fs k f c.loop-frame-test.true) ∙ ap (λ (s : LegacyFrameView). s ∷ drop (k + 1) fs) (sym c.frame-item.is) in
+    let here : drop k fs ≡ f ∷ drop (k + 1) fs = next_is fs k f c.loop-frame-test.true c.frame-item.is in
     record {
       put = (
         so_far.0 ++ piece,
@@ -65,20 +63,10 @@ loop-frame-preserved g c =
 
 pub returns-in_err-put_frame-clause-part : goal.returns-in_err-put_frame-clause-part
 returns-in_err-put_frame-clause-part g c =
-    let k = c.loop-frame.frame-index in
-    let fs : List LegacyFrameView = c.args.frames.now in
-    let f : LegacyFrameView = c.frame-item.result in
-    let z = c.loop-frame.words in
-    let draw = capture_drawn c.args.noise in
     let so_far = c.loop-frame.invariant.put in
-    let piece : List ℕ = capture_octets (draw f z).value in
-    let rest : List ℕ = flat_map capture_octets (each draw (drop (k + 1) fs) (draw f z).state).value in
-    let here : drop k fs ≡ f ∷ drop (k + 1) fs =
-    rw add-one (drop-cons fs k f c.loop-frame-test.true) ∙ ap (λ (s : LegacyFrameView). s ∷ drop (k + 1) fs) (sym c.frame-item.is) in
-    let left : piece ++ rest ≡ flat_map capture_octets (each draw (drop k fs) z).value =
-    ap (λ (ts : List LegacyFrameView). flat_map capture_octets (each draw ts z).value) (sym here) in
-    on_err _ _ (part_more _ _ _ so_far.0 piece _ rest _ _ so_far.2 c.in_err-put_frame.ensures.part refl left
-    (ap (λ (d : Drawn (List ℕ)). d.value) so_far.1 ∙ whole_file c.args.seed c.args.noise fs))
+    on_err _ _ (part_more _ _ _ so_far.0 _ _ _ _ _ so_far.2 c.in_err-put_frame.ensures.part refl
+    (next_put c.args.noise c.args.frames.now c.loop-frame.frame-index c.frame-item.result c.loop-frame.words c.loop-frame-test.true c.frame-item.is)
+    (ap (λ (d : Drawn (List ℕ)). d.value) so_far.1 ∙ whole_file c.args.seed c.args.noise c.args.frames.now))
 
 pub returns-clause-grown : goal.returns-clause-grown
 returns-clause-grown g c =

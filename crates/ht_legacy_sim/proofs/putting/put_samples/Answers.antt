@@ -14,19 +14,11 @@ loop-rest-init g c = record { put = ([], refl, grown-none _); place = omega arit
 
 pub returns-in_err-put-clause-part : goal.returns-in_err-put-clause-part
 returns-in_err-put-clause-part g c =
-    let ds = c.args.diagonals.now in
-    let place = c.loop-rest.place in
-    let rest = c.loop-rest.rest.now in
-    let now = c.split_at.result.0.now in
-    let later = c.split_at.result.1.now in
-    let z = c.loop-rest.words in
-    let draw = sample_drawn c.args.noise in
     let so_far = c.loop-rest.invariant.put in
-    let put : c.as_slice.result.now ≡ flat_map sample_octets (each draw (exact_from ds place now) z).value = c.as_slice.ensures ∙ c.fill.ensures.samples in
-    on_err _ _ (part_more _ _ _ so_far.0 _ _ _ _ _ so_far.2 c.in_err-put.ensures.part put
-    (part-octets sample_octets draw (exact_from ds place now) (exact_from ds (place + length now) later) (exact_from ds place rest) z
-    (exact-split ds place c.min.result rest now later c.split_at.ensures.front c.split_at.ensures.back))
-    (ap (λ (d : Drawn (List ℕ)). d.value) so_far.1))
+    on_err _ _ (part_more _ _ _ so_far.0 _ _ _ _ _ so_far.2 c.in_err-put.ensures.part (c.as_slice.ensures ∙ c.fill.ensures.samples)
+    (part-octets sample_octets (sample_drawn c.args.noise) _ _ _ c.loop-rest.words
+    (exact-split c.args.diagonals.now c.loop-rest.place c.min.result c.loop-rest.rest.now c.split_at.result.0.now c.split_at.result.1.now
+    c.split_at.ensures.front c.split_at.ensures.back)) (ap (λ (d : Drawn (List ℕ)). d.value) so_far.1))
 
 pub returns-in_err-put-clause-cause : goal.returns-in_err-put-clause-cause
 returns-in_err-put-clause-cause g c =

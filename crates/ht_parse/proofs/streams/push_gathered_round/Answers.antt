@@ -6,10 +6,15 @@ use Rattle.ht_parse.proofs.streams.push_gathered_round.Goals as goal
 
 pub push_run-requires-clause-room : goal.push_run-requires-clause-room
 push_run-requires-clause-room c =
-    let whole = sizes-share _ _ _ _ _ c.args.layout.now.sizes in
-    let within = run-within c.args.layout.now.streams c.args.layout.now.run c.args.layout.now.rounds
-    c.args.round c.loop-stream.stream c.loop-stream-test.true c.requires.round in
-    omega (arith, whole, within, c.loop-stream.invariant.count, c.loop-stream.invariant.room)
+    let was = c.loop-stream.invariant in
+    omega (
+      arith,
+      sizes-share _ _ _ _ _ c.args.layout.now.sizes,
+      run-within c.args.layout.now.streams c.args.layout.now.run c.args.layout.now.rounds
+          c.args.round c.loop-stream.stream c.loop-stream-test.true c.requires.round,
+      was.count,
+      was.room,
+    )
 
 pub loop-stream-preserved : goal.loop-stream-preserved
 loop-stream-preserved c = record {

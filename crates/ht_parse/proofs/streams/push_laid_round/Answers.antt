@@ -17,10 +17,15 @@ push_run-requires-clause-within c =
 
 pub push_run-requires-clause-room : goal.push_run-requires-clause-room
 push_run-requires-clause-room c =
-    let whole = sizes-symbol _ _ _ _ _ c.args.layout.now.sizes in
-    let within = place-within c.args.layout.now.encoders c.args.layout.now.streams c.args.layout.now.run c.args.layout.now.rounds
-    c.args.stream c.args.round c.loop-encoder.encoder c.requires.stream c.requires.round c.loop-encoder-test.true in
-    omega (arith, whole, within, c.loop-encoder.invariant.count, c.loop-encoder.invariant.room)
+    let l = c.args.layout.now in
+    omega (
+      arith,
+      sizes-symbol _ _ _ _ _ l.sizes,
+      place-within l.encoders l.streams l.run l.rounds c.args.stream c.args.round c.loop-encoder.encoder
+          c.requires.stream c.requires.round c.loop-encoder-test.true,
+      c.loop-encoder.invariant.count,
+      c.loop-encoder.invariant.room,
+    )
 
 pub loop-encoder-preserved : goal.loop-encoder-preserved
 loop-encoder-preserved c = record {

@@ -7,90 +7,89 @@ use Rattle.ht_pool.specs.Seats.{SeatView, OwnView, deques_at}
 use Rattle.ht_pool.specs.Through.{through}
 use Rattle.ht_pool.specs.Members.{HasServed}
 use Rattle.ht_pool.specs.Helms.{HelmView}
-use Rattle.ht_pool.specs.Gathering.{IsAccounted, ended, rows_of}
+use Rattle.ht_pool.specs.Gathering.{IsAccounted, ended, joined_rows, rows_of}
 use Rattle.ht_pool.specs.declared.ends.Ends.{Ends}
 use Rattle.ht_pool.specs.declared.member.Member.{Member}
 use Rattle.ht_pool.specs.Opening.{own_deques}
 use Rattle.ht_pool.proofs.Joining.{joined_same, put_first, rows_first}
-use Rattle.ht_pool.proofs.Settling.{at_all, all_parts, joined_long, all_answers, has_run, hands-whole}
+use Rattle.ht_pool.proofs.Settling.{HaveEnded, at_all, all_parts, joined_long, all_answers, has_run, hands-whole}
 use Rattle.ht_pool.proofs.close.close.Goals as goal
+use Rattle.ht_pool.proofs.close.close.Goals.{After-take_apart, After-join_owners-owners}
+
+have_ended : (g : _) (c : After-take_apart g)
+    → HaveEnded g.row.W-Task.Denot g.row.W-Answer.Denot g.W.Work.asked g.W.Work.weight c.post.inside.pass.table_id c.args.helm c.post.inside.own
+    c.post.inside.seats.items (view c.post.inside.pass) c.args.members.items
+have_ended g c =
+    let inv = c.post.invariant in
+    let seen = c.post.view_is ∙ c.helm.view_is in
+    record {
+      seen = seen;
+      few = inv.0;
+      first = inv.1;
+      own_parts = inv.2;
+      answer_parts = inv.3;
+      none_pushed = inv.4;
+      served = subst (λ (q : TableId). All (HasServed g.W.Work.asked g.W.Work.weight q) c.args.members.items)
+          (sym (ap (λ (v : HelmView g.row.W-Task.Denot g.row.W-Answer.Denot). v.queue) seen)) c.requires.served;
+      berths_are = c.requires.berths;
+    }
+
+-- the owners and the rows of seats that were taken apart
+owners_are : (g : _) (c : After-take_apart g) → c.take_apart.new.owners.items
+    ≡ c.post.inside.own ∷ map (λ (m : Member g.row.W-Task.Denot g.row.W-Answer.Denot). m.own) c.args.members.items
+owners_are g c = put_first c.post.inside.own c.requires.space.owners.0 c.push_reserved-2.ensures.items c.take_apart.ensures.owners
+
+rows_are : (g : _) (c : After-take_apart g) → rows_of c.take_apart.new.rows.items
+    ≡ c.post.inside.seats.items ∷ map (λ (m : Member g.row.W-Task.Denot g.row.W-Answer.Denot). m.seats.items) c.args.members.items
+rows_are g c =
+    rows_first _ _ c.take_apart.new.rows.items c.post.inside.seats _ c.requires.space.rows.0 c.push_reserved-3.ensures.items c.take_apart.ensures.rows
+
+joined_are : (g : _) (c : After-join_owners-owners g) → c.join_owners-owners.result.items
+    ≡ joined_rows (c.post.inside.own ∷ map (λ (m : Member g.row.W-Task.Denot g.row.W-Answer.Denot). m.own) c.args.members.items)
+    (c.post.inside.seats.items ∷ map (λ (m : Member g.row.W-Task.Denot g.row.W-Answer.Denot). m.seats.items) c.args.members.items)
+joined_are g c =
+    joined_same c.take_apart.new.owners.items _ c.take_apart.new.rows.items _ c.join_owners-owners.result.items
+    (put_first c.post.inside.own c.requires.space.owners.0 c.push_reserved-2.ensures.items c.take_apart.ensures.owners)
+    (rows_first _ _ c.take_apart.new.rows.items c.post.inside.seats _ c.requires.space.rows.0 c.push_reserved-3.ensures.items c.take_apart.ensures.rows)
+    c.join_owners-owners.ensures
 
 pub join_owners-owners-requires : goal.join_owners-owners-requires
 join_owners-owners-requires g c =
-    let inv = c.post.invariant in
-    let p = c.post.inside in
-    let seen = c.post.view_is ∙ c.helm.view_is in
-    let served = subst (λ (q : TableId). All (HasServed g.W.Work.asked g.W.Work.weight q) c.args.members.items)
-    (sym (ap (λ (v : HelmView g.row.W-Task.Denot g.row.W-Answer.Denot). v.queue) seen)) c.requires.served in
-    let owners_are = put_first p.own c.requires.space.owners.0 c.push_reserved-2.ensures.items c.take_apart.ensures.owners in
-    let rows_are = rows_first _ _ c.take_apart.new.rows.items p.seats _ c.requires.space.rows.0 c.push_reserved-3.ensures.items c.take_apart.ensures.rows in
-    let at = at_all g.W.Work.asked g.W.Work.weight p.pass.table_id c.args.helm p.own p.seats.items (view p.pass) c.args.members.items seen inv.0 inv.1 inv.2 inv.3
-    inv.4 served c.requires.berths in
+    let apart = (goal.at.join_owners-owners-requires g c).After-take_apart in
     record {
       at = subst (λ (os : List (OwnView g.row.W-Task.Denot)). All (λ (ss : List (SeatView g.row.W-Task.Denot)). deques_at ss ≡ own_deques os)
-          (rows_of c.take_apart.new.rows.items)) (sym owners_are)
+          (rows_of c.take_apart.new.rows.items)) (sym (owners_are g apart))
           (subst (λ (rs : List (List (SeatView g.row.W-Task.Denot))). All (λ (ss : List (SeatView g.row.W-Task.Denot)). deques_at ss
-          ≡ own_deques (p.own ∷ map (λ (m : Member g.row.W-Task.Denot g.row.W-Answer.Denot). m.own) c.args.members.items)) rs) (sym rows_are) at);
+          ≡ own_deques (c.post.inside.own ∷ map (λ (m : Member g.row.W-Task.Denot g.row.W-Answer.Denot). m.own) c.args.members.items)) rs)
+          (sym (rows_are g apart)) (at_all _ _ _ _ _ _ _ _ (have_ended g apart)));
     }
 
 pub learn-requires-clause-all : goal.learn-requires-clause-all
 learn-requires-clause-all g c =
-    let inv = c.post.invariant in
-    let p = c.post.inside in
-    let seen = c.post.view_is ∙ c.helm.view_is in
-    let served = subst (λ (q : TableId). All (HasServed g.W.Work.asked g.W.Work.weight q) c.args.members.items)
-    (sym (ap (λ (v : HelmView g.row.W-Task.Denot g.row.W-Answer.Denot). v.queue) seen)) c.requires.served in
-    all_answers g.W.Work.asked g.W.Work.weight p.pass.table_id c.args.helm p.own p.seats.items (view p.pass) c.args.members.items seen inv.0 inv.1 inv.2 inv.3
-    inv.4 served c.requires.berths (view c.take_apart.new.pass) c.take_apart.ensures.collected
+    all_answers _ _ _ _ _ _ _ _ (have_ended g (goal.at.learn-requires-clause-all g c).After-take_apart) (view c.take_apart.new.pass)
+    c.take_apart.ensures.collected
 
 pub close_all-requires-clause-all : goal.close_all-requires-clause-all
 close_all-requires-clause-all g c =
-    let inv = c.post.invariant in
-    let p = c.post.inside in
-    let seen = c.post.view_is ∙ c.helm.view_is in
-    let served = subst (λ (q : TableId). All (HasServed g.W.Work.asked g.W.Work.weight q) c.args.members.items)
-    (sym (ap (λ (v : HelmView g.row.W-Task.Denot g.row.W-Answer.Denot). v.queue) seen)) c.requires.served in
-    let owners_are = put_first p.own c.requires.space.owners.0 c.push_reserved-2.ensures.items c.take_apart.ensures.owners in
-    let rows_are = rows_first _ _ c.take_apart.new.rows.items p.seats _ c.requires.space.rows.0 c.push_reserved-3.ensures.items c.take_apart.ensures.rows in
-    let joined = joined_same c.take_apart.new.owners.items _ c.take_apart.new.rows.items _ c.join_owners-owners.result.items owners_are rows_are
-    c.join_owners-owners.ensures in
-    subst (λ (os : List (OwnView g.row.W-Task.Denot)). All (λ (o : OwnView g.row.W-Task.Denot). o.parts ≡ 1024) os) (sym joined)
-    (all_parts g.W.Work.asked g.W.Work.weight p.pass.table_id c.args.helm p.own p.seats.items (view p.pass) c.args.members.items seen inv.0 inv.1 inv.2 inv.3
-    inv.4 served c.requires.berths)
+    subst (λ (os : List (OwnView g.row.W-Task.Denot)). All (λ (o : OwnView g.row.W-Task.Denot). o.parts ≡ 1024) os)
+    (sym (joined_are g (goal.at.close_all-requires-clause-all g c).After-join_owners-owners))
+    (all_parts _ _ _ _ _ _ _ _ (have_ended g (goal.at.close_all-requires-clause-all g c).After-take_apart))
 
 pub close_all-requires-clause-places : goal.close_all-requires-clause-places
 close_all-requires-clause-places g c =
-    let inv = c.post.invariant in
-    let p = c.post.inside in
-    let seen = c.post.view_is ∙ c.helm.view_is in
-    let served = subst (λ (q : TableId). All (HasServed g.W.Work.asked g.W.Work.weight q) c.args.members.items)
-    (sym (ap (λ (v : HelmView g.row.W-Task.Denot g.row.W-Answer.Denot). v.queue) seen)) c.requires.served in
-    let owners_are = put_first p.own c.requires.space.owners.0 c.push_reserved-2.ensures.items c.take_apart.ensures.owners in
-    let rows_are = rows_first _ _ c.take_apart.new.rows.items p.seats _ c.requires.space.rows.0 c.push_reserved-3.ensures.items c.take_apart.ensures.rows in
-    let joined = joined_same c.take_apart.new.owners.items _ c.take_apart.new.rows.items _ c.join_owners-owners.result.items owners_are rows_are
-    c.join_owners-owners.ensures in
-    let long = joined_long g.W.Work.asked g.W.Work.weight p.pass.table_id c.args.helm p.own p.seats.items (view p.pass) c.args.members.items seen inv.0 inv.1 inv.2 inv.3
-    inv.4 served c.requires.berths in
+    let joined = joined_are g (goal.at.close_all-requires-clause-places g c).After-join_owners-owners in
+    let long = joined_long _ _ _ _ _ _ _ _ (have_ended g (goal.at.close_all-requires-clause-places g c).After-take_apart) in
     omega (arith, ap length joined, long, c.requires.space.deques.1)
 
 pub returns : goal.returns
 returns g c =
-    let inv = c.post.invariant in
-    let p = c.post.inside in
-    let seen = c.post.view_is ∙ c.helm.view_is in
-    let served = subst (λ (q : TableId). All (HasServed g.W.Work.asked g.W.Work.weight q) c.args.members.items)
-    (sym (ap (λ (v : HelmView g.row.W-Task.Denot g.row.W-Answer.Denot). v.queue) seen)) c.requires.served in
-    let owners_are = put_first p.own c.requires.space.owners.0 c.push_reserved-2.ensures.items c.take_apart.ensures.owners in
-    let rows_are = rows_first _ _ c.take_apart.new.rows.items p.seats _ c.requires.space.rows.0 c.push_reserved-3.ensures.items c.take_apart.ensures.rows in
-    let joined = joined_same c.take_apart.new.owners.items _ c.take_apart.new.rows.items _ c.join_owners-owners.result.items owners_are rows_are
-    c.join_owners-owners.ensures in
+    let joined = joined_are g (goal.at.returns g c).After-join_owners-owners in
     let waiting = c.learn.ensures.whole in
     let ran_are = put_first c.helm.inside.ran c.requires.space.ran.0 c.push_reserved.ensures.items c.take_apart.ensures.ran
     ∙ ap (λ (n : ℕ). n ∷ map (λ (m : Member g.row.W-Task.Denot g.row.W-Answer.Denot). m.ran) c.args.members.items)
     (c.helm.invariant.1 ∙ ap (λ (v : HelmView g.row.W-Task.Denot g.row.W-Answer.Denot). sum_by g.W.Work.weight v.taken) c.helm.view_is) in
-    has_run g.W.Work.asked g.W.Work.weight p.pass.table_id c.args.helm p.own p.seats.items (view p.pass) c.args.members.items seen inv.0 inv.1 inv.2 inv.3
-    inv.4 served c.requires.berths (view c.take_apart.new.pass) c.take_apart.ensures.collected waiting.0 waiting.1 c.requires.settled
-    (map through c.close_all.result.items)
+    has_run _ _ _ _ _ _ _ _ (have_ended g (goal.at.returns g c).After-take_apart) (view c.take_apart.new.pass) c.take_apart.ensures.collected
+    waiting.0 waiting.1 c.requires.settled (map through c.close_all.result.items)
     (c.close_all.ensures.through ∙ ap (λ (os : List (OwnView g.row.W-Task.Denot)). map ended os) joined)
     (hands-whole c.close_all.result.items
     (recursion_from_All (λ (e : Ends g.row.W-Task.Denot). IsAccounted (through e)) c.close_all.result.items c.close_all.ensures.whole))

@@ -1,4 +1,4 @@
-use Rattle.std.proofs.Common.{rules, ◌≡◌, ◌+◌, ◌<◌, ◌%◌, ◌∷◌, [], ℕ, Option, Some, None, length, set, get_or, ap, subst, ◌∙◌}
+use Rattle.std.proofs.Common.{rules, ◌≡◌, ◌+◌, ◌<◌, ◌%◌, ◌∷◌, [], ℕ, Option, Some, None, length, set, get_or, ap, subst}
 use Rattle.ht_pool.specs.Seats.{Gets}
 use Rattle.ht_pool.specs.Moving.{refused_by}
 use Rattle.ht_pool.proofs.Looking.{gets-after, gets-at}

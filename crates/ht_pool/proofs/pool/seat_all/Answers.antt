@@ -1,8 +1,6 @@
-use Rattle.std.proofs.Common.{◌≡◌, ◌∙◌, ◌+◌, ◌-◌, ◌++◌, ◌∷◌, [], List, length, map, ap, sym, rules, arith}
+use Rattle.std.proofs.Common.{◌∙◌, ◌+◌, ◌++◌, ◌∷◌, [], List, length, map, ap, rules, arith}
 use Rattle.std.proofs.lemmas.List.{length-append, map-append}
 use Rattle.std.proofs.lemmas.List.Elements.{All-push, All-same}
-use Rattle.crossbeam_queue.specs.Passes.{view as answer_view}
-use Rattle.ht_pool.specs.Hands.{hand}
 use Rattle.ht_pool.specs.Seats.{DequeId, OwnView}
 use Rattle.ht_pool.specs.Members.{Berth, HasYetToServe, berth, berth_of}
 use Rattle.ht_pool.specs.Opening.{AreReady, own_deques}

@@ -1,4 +1,4 @@
-use Rattle.std.proofs.Common.{◌≡◌, ◌<◌, length, rules}
+use Rattle.std.proofs.Common.{◌<◌, length, rules}
 use Rattle.ht_pool.proofs.Opens.{row-more}
 use Rattle.ht_pool.proofs.seating.seat_row.Goals as goal
 

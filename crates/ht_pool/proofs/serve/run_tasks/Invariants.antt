@@ -1,4 +1,4 @@
-use Rattle.std.proofs.Common.{◌≡◌, ◌≤◌, [], length, map}
+use Rattle.std.proofs.Common.{◌≡◌, [], length, map}
 use Rattle.std.specs.List.{sum_by}
 use Rattle.crossbeam_queue.specs.Passes.{view as answer_view}
 use Rattle.ht_pool.specs.Members.{Balances, IsOnQueue}

@@ -1,20 +1,25 @@
-use Rattle.std.proofs.Common.{◌==◌, ◌<◌, ◌≤◌, ◌+◌, ◌*◌, arith}
+use Rattle.std.proofs.Common.{◌==◌, ℕ, ◌<◌, ◌≤◌, ◌+◌, ◌*◌, List, arith}
 use Rattle.std.specs.Int.{bit_at}
 use Rattle.std.proofs.lemmas.Bool.Decides.{nat_tests}
 use Rattle.std.proofs.Math.Nat.{mul-le-mul}
 use Rattle.std.specs.Prelude.{false}
+use Rattle.ht_rate.specs.declared.rates.Rate.{Rate}
+use Rattle.ht_metric.specs.Jobs.{JobView}
 use Rattle.ht_capture.specs.Parts.{jobs_of}
+use Rattle.ht_soft_blocks.specs.Blocks.{AreCounts}
 use Rattle.ht_soft_blocks.proofs.Counting.{count_few}
 use Rattle.ht_soft_blocks.proofs.Runs.{some_data, spot_behind, spot_in_front, spot_of_lone}
 use Rattle.ht_soft_blocks.proofs.halves.spot_beside.Goals as goal
 
+-- the halves of the jobs in front of the pilot are few
+few_in_front : (rate : Rate) (jobs : List JobView) (pilots of_data pilot : ℕ) → AreCounts rate jobs pilots of_data → pilot < 128 → pilot * of_data ≤ 128 * 48
+few_in_front rate jobs pilots of_data pilot counts place =
+    let low : pilot ≤ 128 = omega (arith, place) in
+    let few : of_data ≤ 48 = count_few rate of_data false counts.others in
+    mul-le-mul low few
+
 pub overflow_mul-start : goal.overflow_mul-start
-overflow_mul-start c =
-    let few : c.args.counts.of_data ≤ 48 = count_few c.args.rate.now c.args.counts.of_data false c.requires.counts.others in
-    let place = c.requires.place in
-    let low : c.args.pilot ≤ 128 = omega (arith, place) in
-    let most : c.args.pilot * c.args.counts.of_data ≤ 128 * 48 = mul-le-mul low few in
-    omega (arith, most)
+overflow_mul-start c = omega (arith, few_in_front _ _ _ _ c.args.pilot c.requires.counts c.requires.place)
 
 pub returns-then-at-start : goal.returns-then-at-start
 returns-then-at-start c =
@@ -24,13 +29,8 @@ returns-then-at-start c =
 
 pub overflow_add-end : goal.overflow_add-end
 overflow_add-end c =
-    let few : c.args.counts.of_data ≤ 48 = count_few c.args.rate.now c.args.counts.of_data false c.requires.counts.others in
-    let place = c.requires.place in
-    let low : c.args.pilot ≤ 128 = omega (arith, place) in
-    let most : c.args.pilot * c.args.counts.of_data ≤ 128 * 48 = mul-le-mul low few in
     let one = count_few c.args.rate.now c.args.counts.of_data (bit_at c.args.counts.pilots c.args.pilot == 1) c.requires.counts.others in
-    let is = c.at.ensures in
-    omega (arith, most, one, is)
+    omega (arith, few_in_front _ _ _ _ c.args.pilot c.requires.counts c.requires.place, one, c.at.ensures)
 
 pub returns-then-at-end : goal.returns-then-at-end
 returns-then-at-end c =

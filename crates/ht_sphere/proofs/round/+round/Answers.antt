@@ -11,6 +11,7 @@ use Rattle.ht_sphere.proofs.Down.{down_more}
 use Rattle.ht_sphere.proofs.Others.{AreChosen, OthersFrom, others_two, round_two}
 use Rattle.ht_sphere.proofs.Steps.{two_set, chosen}
 use Rattle.ht_sphere.proofs.round.+round.Goals as goal
+use Rattle.ht_sphere.proofs.round.+round.Goals.{After-from-2}
 
 pub round-requires : goal.round-requires
 round-requires g t c =
@@ -44,75 +45,62 @@ round-requires g t c =
       ),
     )
 
-pub returns-clause-found : goal.returns-clause-found
-returns-clause-found g t c =
-    let rows = c.args.job.now.system in
-    let grid = c.args.job.now.grid in
-    let k = c.args.k in
-    let j = k - 1 in
-    let s = drop (2 * k) c.args.levels.now in
-    let q = q_at rows grid j in
-    let i = i_at rows grid j in
-    let x = c.nearest-q.result.level in
-    let y = c.nearest-i.result.level in
-    let x_fits : SFits w8 x = search rules in
-    let y_fits : SFits w8 y = search rules in
+-- both levels of stream k, and what they cost
+two_chosen : (g : _) (t : _) (c : After-from-2 g t)
+    → AreChosen (q_at c.args.job.now.system c.args.job.now.grid (c.args.k - 1)) (i_at c.args.job.now.system c.args.job.now.grid (c.args.k - 1))
+    (drop (2 * c.args.k) c.args.levels.now) c.args.distance.now (c.args.distance.now + c.from-2.result) c.nearest-q.result.margin c.nearest-i.result.margin
+    c.nearest-q.result.level c.nearest-i.result.level c.remainder_of-left.result.re
+two_chosen g t c =
+    let j = c.args.k - 1 in
+    let x_fits : SFits w8 c.nearest-q.result.level = search rules in
+    let y_fits : SFits w8 c.nearest-i.result.level = search rules in
     let im_fits : SFits w64 c.remainder_of-left.result.im = search rules in
     let re_fits : SFits w64 c.remainder_of-left.result.re = search rules in
-    let p = c.args.distance.now in
-    let n = p + c.from-2.result in
-    let w : Reached = (c.round.new.levels, c.round.new.distance) in
-    let both : AreChosen q i s p n c.nearest-q.result.margin c.nearest-i.result.margin x y c.remainder_of-left.result.re =
-    chosen q i s p c.remainder_of-left.result.d _ _ c.cost.result c.cost-2.result c.from-2.result _ _ _ x y _ _ c.q_ladder.result c.i_ladder.result
+    chosen _ _ _ c.args.distance.now c.remainder_of-left.result.d _ _ c.cost.result c.cost-2.result c.from-2.result _ _ _ _ _ _ _ c.q_ladder.result
+    c.i_ladder.result
     (c.q_ladder.ensures.value ∙ ap (λ (a : List Axes). (get_or a j no_axes).q) c.grid.ensures.grid)
     (c.i_ladder.ensures.value ∙ ap (λ (a : List Axes). (get_or a j no_axes).i) c.grid-2.ensures.grid)
     c.remainder_of-left.ensures.d c.remainder_of-left.ensures.d
     (to_z-of_z im_fits ∙ c.remainder_of-left.ensures.im) (to_z-of_z re_fits) c.remainder_of-left.ensures.re (to_z-of_z x_fits) (to_z-of_z y_fits)
     c.nearest-q.ensures.level c.nearest-i.ensures.level c.nearest-q.ensures.margin c.nearest-i.ensures.margin
-    c.cost.ensures.value c.cost-2.ensures.value c.from-2.ensures in
+    c.cost.ensures.value c.cost-2.ensures.value c.from-2.ensures
+
+two_written : (g : _) (t : _) (c : After-from-2 g t) → drop (2 * (c.args.k - 1)) c.set_both.new.levels
+    ≡ c.nearest-i.result.level ∷ c.nearest-q.result.level ∷ drop (2 * c.args.k) c.args.levels.now
+two_written g t c =
+    let x_fits : SFits w8 c.nearest-q.result.level = search rules in
+    let y_fits : SFits w8 c.nearest-i.result.level = search rules in
     let at = 2 * c.from.result - 2 in
-    let here : at + 2 ≡ 2 * k = omega (arith, c.from.ensures, c.if-k-eq0.false) in
+    let here : at + 2 ≡ 2 * c.args.k = omega (arith, c.from.ensures, c.if-k-eq0.false) in
     let room : at + 2 ≤ length c.args.levels.now = omega (arith, here, c.requires.room, c.requires.last) in
-    let list = ap (λ (l : List ℤ). drop (2 * j) l) c.set_both.ensures ∙ two_set c.args.levels.now k at _ _ x y here room (to_z-of_z x_fits) (to_z-of_z y_fits) in
-    let next : rounding (down rows grid j) (y ∷ x ∷ s) n ≡ w = ap (λ (l : List ℤ). rounding (down rows grid j) l n) (sym list) ∙ c.round.ensures.found in
-    ap (λ (cs : List Real). rounding cs s p) (down_more rows grid k (omega arith))
-    ∙ round_two q i (down rows grid j) s p n _ _ x y _ w both next
+    ap (λ (l : List ℤ). drop (2 * (c.args.k - 1)) l) c.set_both.ensures
+    ∙ two_set c.args.levels.now c.args.k at _ _ _ _ here room (to_z-of_z x_fits) (to_z-of_z y_fits)
+
+pub returns-clause-found : goal.returns-clause-found
+returns-clause-found g t c =
+    let rows = c.args.job.now.system in
+    let grid = c.args.job.now.grid in
+    let at = (goal.at.returns-clause-found g t c).After-from-2 in
+    let next =
+    ap (λ (l : List ℤ). rounding (down rows grid (c.args.k - 1)) l (c.args.distance.now + c.from-2.result)) (sym (two_written g t at))
+    ∙ c.round.ensures.found in
+    ap (λ (cs : List Real). rounding cs (drop (2 * c.args.k) c.args.levels.now) c.args.distance.now) (down_more rows grid c.args.k (omega arith))
+    ∙ round_two _ _ (down rows grid (c.args.k - 1)) _ _ _ _ _ _ _ _ (c.round.new.levels, c.round.new.distance) (two_chosen g t at) next
 
 pub returns-clause-others : goal.returns-clause-others
 returns-clause-others g t c some =
     let rows = c.args.job.now.system in
     let grid = c.args.job.now.grid in
-    let k = c.args.k in
-    let j = k - 1 in
-    let s = drop (2 * k) c.args.levels.now in
-    let q = q_at rows grid j in
-    let i = i_at rows grid j in
-    let x = c.nearest-q.result.level in
-    let y = c.nearest-i.result.level in
-    let x_fits : SFits w8 x = search rules in
-    let y_fits : SFits w8 y = search rules in
-    let im_fits : SFits w64 c.remainder_of-left.result.im = search rules in
-    let re_fits : SFits w64 c.remainder_of-left.result.re = search rules in
-    let p = c.args.distance.now in
-    let n = p + c.from-2.result in
+    let j = c.args.k - 1 in
+    let at = (goal.at.returns-clause-others g t c).After-from-2 in
+    let n = c.args.distance.now + c.from-2.result in
     let off = c.round.new.distance + c.round.new.spare in
     let w : Reached = (c.round.new.levels, c.round.new.distance) in
-    let both : AreChosen q i s p n c.nearest-q.result.margin c.nearest-i.result.margin x y c.remainder_of-left.result.re =
-    chosen q i s p c.remainder_of-left.result.d _ _ c.cost.result c.cost-2.result c.from-2.result _ _ _ x y _ _ c.q_ladder.result c.i_ladder.result
-    (c.q_ladder.ensures.value ∙ ap (λ (a : List Axes). (get_or a j no_axes).q) c.grid.ensures.grid)
-    (c.i_ladder.ensures.value ∙ ap (λ (a : List Axes). (get_or a j no_axes).i) c.grid-2.ensures.grid)
-    c.remainder_of-left.ensures.d c.remainder_of-left.ensures.d
-    (to_z-of_z im_fits ∙ c.remainder_of-left.ensures.im) (to_z-of_z re_fits) c.remainder_of-left.ensures.re (to_z-of_z x_fits) (to_z-of_z y_fits)
-    c.nearest-q.ensures.level c.nearest-i.ensures.level c.nearest-q.ensures.margin c.nearest-i.ensures.margin
-    c.cost.ensures.value c.cost-2.ensures.value c.from-2.ensures in
-    let at = 2 * c.from.result - 2 in
-    let here : at + 2 ≡ 2 * k = omega (arith, c.from.ensures, c.if-k-eq0.false) in
-    let room : at + 2 ≤ length c.args.levels.now = omega (arith, here, c.requires.room, c.requires.last) in
-    let list = ap (λ (l : List ℤ). drop (2 * j) l) c.set_both.ensures ∙ two_set c.args.levels.now k at _ _ x y here room (to_z-of_z x_fits) (to_z-of_z y_fits) in
     let less = c.round.ensures.less some in
-    let rest : OthersFrom (down rows grid j) (y ∷ x ∷ s) n w off =
-    subst (λ (l : List ℤ). OthersFrom (down rows grid j) l n w off) list (c.round.ensures.others some) in
-    let all : OthersFrom (from_q rows grid j) s p w off =
-    others_two q i (down rows grid j) s p n _ _ off x y _ w both
+    let rest : OthersFrom (down rows grid j) (c.nearest-i.result.level ∷ c.nearest-q.result.level ∷ drop (2 * c.args.k) c.args.levels.now) n w off =
+    subst (λ (l : List ℤ). OthersFrom (down rows grid j) l n w off) (two_written g t at) (c.round.ensures.others some) in
+    let all : OthersFrom (from_q rows grid j) (drop (2 * c.args.k) c.args.levels.now) c.args.distance.now w off =
+    others_two _ _ (down rows grid j) _ _ n _ _ off _ _ _ w (two_chosen g t at)
     (omega (arith, less, c.lesser-2.ensures.right, c.lesser.ensures.left)) (omega (arith, less, c.lesser-2.ensures.right, c.lesser.ensures.right)) rest in
-    subst (λ (cs : List Real). OthersFrom cs s p w off) (sym (down_more rows grid k (omega arith))) all
+    subst (λ (cs : List Real). OthersFrom cs (drop (2 * c.args.k) c.args.levels.now) c.args.distance.now w off)
+    (sym (down_more rows grid c.args.k (omega arith))) all

@@ -1,9 +1,7 @@
-use Rattle.std.proofs.Common.{length, ◌≡◌, ◌+◌, ◌-◌, ◌*◌, ◌≤◌, ℕ, ◌∷◌, drop, unsigned_abs}
+use Rattle.std.proofs.Common.{length, ◌≡◌, ◌-◌, ◌*◌, ◌≤◌, drop, unsigned_abs}
 use Rattle.std.specs.List.{All}
-use Rattle.ht_pam.specs.Zigzags.{Ascending}
-use Rattle.ht_sphere.specs.Coordinates.{cost, q_at, i_at, from_i, down}
-use Rattle.ht_sphere.specs.Tree.{Reached, inside, inside_by}
-use Rattle.ht_sphere.specs.Searching.{leaves, leaves_by, IsBestOf}
+use Rattle.ht_sphere.specs.Coordinates.{q_at, i_at, from_i, down}
+use Rattle.ht_sphere.proofs.Walks.{IsLeft}
 use Rattle.ht_sphere.proofs.search.+walk.Given as goal
 
 abbrev pub decreases-search : goal.decreases-search
@@ -15,26 +13,14 @@ decreases-quadrature g l = 3 * l.k - 1
 abbrev pub decreases-in_phase : goal.decreases-in_phase
 decreases-in_phase g l = 3 * l.k - 2
 
--- what is left of the walk gives the best of all, in at most as many steps as are left
 abbrev pub invariant-quadrature-loop-level : goal.invariant-quadrature-loop-level
 invariant-quadrature-loop-level g l = record {
   room : length l.levels ≡ length l.fn.levels;
   same : length l.best ≡ length l.fn.best;
   levels : All (λ x. unsigned_abs x ≤ 7) l.levels;
   chosen : drop (2 * l.fn.k) l.levels ≡ drop (2 * l.fn.k) l.fn.levels;
-  less : l.distance ≤ l.fn.distance;
-  sorted : Ascending (cost (q_at l.fn.job.system l.fn.job.grid (l.fn.k - 1)) (drop (2 * l.fn.k) l.fn.levels)) l.walk;
-  best : (b : Reached) → IsBestOf (l.best, l.distance)
-      (leaves_by (leaves (from_i l.fn.job.system l.fn.job.grid (l.fn.k - 1)))
-      (q_at l.fn.job.system l.fn.job.grid (l.fn.k - 1)) (drop (2 * l.fn.k) l.fn.levels) l.fn.partial l.walk) b
-      → IsBestOf (l.fn.best, l.fn.distance)
-      (leaves (q_at l.fn.job.system l.fn.job.grid (l.fn.k - 1) ∷ from_i l.fn.job.system l.fn.job.grid (l.fn.k - 1))
-      (drop (2 * l.fn.k) l.fn.levels) l.fn.partial) b;
-  steps : (rho : ℕ) → l.fn.partial ≤ rho → l.fn.distance ≤ rho
-      → l.steps + 2 + 2 * inside_by (inside rho (from_i l.fn.job.system l.fn.job.grid (l.fn.k - 1)))
-      (q_at l.fn.job.system l.fn.job.grid (l.fn.k - 1)) (drop (2 * l.fn.k) l.fn.levels) l.fn.partial l.walk
-      ≤ l.fn.steps + 2 * inside rho (q_at l.fn.job.system l.fn.job.grid (l.fn.k - 1) ∷ from_i l.fn.job.system l.fn.job.grid (l.fn.k - 1))
-      (drop (2 * l.fn.k) l.fn.levels) l.fn.partial;
+  left : IsLeft (q_at l.fn.job.system l.fn.job.grid (l.fn.k - 1)) (from_i l.fn.job.system l.fn.job.grid (l.fn.k - 1))
+      (drop (2 * l.fn.k) l.fn.levels) l.fn.partial l.walk (l.fn.best, l.fn.distance) (l.best, l.distance) l.fn.steps l.steps;
 }
 
 abbrev pub decreases-quadrature-loop-level : goal.decreases-quadrature-loop-level
@@ -46,19 +32,8 @@ invariant-in_phase-loop-level g l = record {
   same : length l.best ≡ length l.fn.best;
   levels : All (λ x. unsigned_abs x ≤ 7) l.levels;
   chosen : drop (2 * l.fn.k - 1) l.levels ≡ drop (2 * l.fn.k - 1) l.fn.levels;
-  less : l.distance ≤ l.fn.distance;
-  sorted : Ascending (cost (i_at l.fn.job.system l.fn.job.grid (l.fn.k - 1)) (drop (2 * l.fn.k - 1) l.fn.levels)) l.walk;
-  best : (b : Reached) → IsBestOf (l.best, l.distance)
-      (leaves_by (leaves (down l.fn.job.system l.fn.job.grid (l.fn.k - 1)))
-      (i_at l.fn.job.system l.fn.job.grid (l.fn.k - 1)) (drop (2 * l.fn.k - 1) l.fn.levels) l.fn.partial l.walk) b
-      → IsBestOf (l.fn.best, l.fn.distance)
-      (leaves (i_at l.fn.job.system l.fn.job.grid (l.fn.k - 1) ∷ down l.fn.job.system l.fn.job.grid (l.fn.k - 1))
-      (drop (2 * l.fn.k - 1) l.fn.levels) l.fn.partial) b;
-  steps : (rho : ℕ) → l.fn.partial ≤ rho → l.fn.distance ≤ rho
-      → l.steps + 2 + 2 * inside_by (inside rho (down l.fn.job.system l.fn.job.grid (l.fn.k - 1)))
-      (i_at l.fn.job.system l.fn.job.grid (l.fn.k - 1)) (drop (2 * l.fn.k - 1) l.fn.levels) l.fn.partial l.walk
-      ≤ l.fn.steps + 2 * inside rho (i_at l.fn.job.system l.fn.job.grid (l.fn.k - 1) ∷ down l.fn.job.system l.fn.job.grid (l.fn.k - 1))
-      (drop (2 * l.fn.k - 1) l.fn.levels) l.fn.partial;
+  left : IsLeft (i_at l.fn.job.system l.fn.job.grid (l.fn.k - 1)) (down l.fn.job.system l.fn.job.grid (l.fn.k - 1))
+      (drop (2 * l.fn.k - 1) l.fn.levels) l.fn.partial l.walk (l.fn.best, l.fn.distance) (l.best, l.distance) l.fn.steps l.steps;
 }
 
 abbrev pub decreases-in_phase-loop-level : goal.decreases-in_phase-loop-level

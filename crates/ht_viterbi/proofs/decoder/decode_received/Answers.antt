@@ -4,7 +4,7 @@ use Rattle.ht_viterbi.specs.Inputs.{place_cost}
 use Rattle.ht_viterbi.specs.Lanes.{HasRows, steps_at}
 use Rattle.ht_viterbi.specs.Received.{known_of}
 use Rattle.ht_viterbi.specs.Trellis.{word_steps}
-use Rattle.ht_viterbi.proofs.Found.{IsFound, found}
+use Rattle.ht_viterbi.proofs.Found.{found}
 use Rattle.ht_viterbi.proofs.RowFacts.{rows-word}
 use Rattle.ht_viterbi.proofs.Steps.{written}
 use Rattle.ht_viterbi.proofs.decoder.decode_received.Goals as goal
@@ -20,9 +20,8 @@ steps-are c =
     ∙ rows-word c.args.pattern (map known_of c.args.received.now) c.args.steps c.fill_rows.new.rows (c.fill_rows.ensures.length ∙ count)
     (subst (λ (n : ℕ). HasRows c.args.pattern (map known_of c.args.received.now) c.fill_rows.new.rows n) count c.fill_rows.ensures.rows)
 
-is-found : (c : goal.After-drop-rows-2)
-    → IsFound place_cost c.args.steps c.args.pattern (map known_of c.args.received.now) c.from.result c.backwards-distance.result
-is-found c =
+pub returns : goal.returns
+returns c =
     found place_cost c.args.steps c.args.pattern (map known_of c.args.received.now) (steps_at c.deref.result.now 0)
     c.backwards-distance.new.choices c.deref-2.result.now c.from.result c.backwards-distance.result c.requires.least
     (length-map c.args.received.now known_of ∙ c.requires.received) (steps-are c) c.backwards-distance.ensures.choices
@@ -30,15 +29,3 @@ is-found c =
     (c.backwards-distance.auto.choices ∙ c.as_mut_slice-2.ensures.len))
     (c.deref-2.ensures.len ∙ c.in_ok-choices.ensures.len) c.backwards-distance.ensures.least
     (λ all many are. c.from.ensures ∙ c.forwards.ensures all many are)
-
-pub returns-clause-input : goal.returns-clause-input
-returns-clause-input c = (is-found c).cheapest
-
-pub returns-clause-distance : goal.returns-clause-distance
-returns-clause-distance c = (is-found c).costs
-
-pub returns-clause-steps : goal.returns-clause-steps
-returns-clause-steps c = (is-found c).long
-
-pub returns-clause-ending : goal.returns-clause-ending
-returns-clause-ending c = (is-found c).ending

@@ -1,7 +1,6 @@
-use Rattle.std.proofs.Common.{length, ◌≡◌, ◌-◌, ◌*◌, ◌≤◌, ◌++◌, List, map, drop, unsigned_abs}
-use Rattle.std.specs.List.{All}
+use Rattle.std.proofs.Common.{length, ◌≡◌, ◌-◌, ◌*◌, ◌++◌, List, map, drop}
 use Rattle.ht_sphere.specs.Coordinates.{q_at, i_at, from_q, from_i, down}
-use Rattle.ht_witness.specs.Walks.{Suffix, below, longer}
+use Rattle.ht_witness.specs.Walks.{AreChosen, Suffix, below, longer}
 use Rattle.ht_witness.proofs.walk.+walk.Given as goal
 
 abbrev pub decreases-under : goal.decreases-under
@@ -16,9 +15,7 @@ decreases-in_phase g l = 3 * l.k - 2
 -- the walk so far is to go on with the levels that are left
 abbrev pub invariant-quadrature-loop-level : goal.invariant-quadrature-loop-level
 invariant-quadrature-loop-level g l = record {
-  room : length l.levels ≡ length l.fn.levels;
-  levels : All (λ x. unsigned_abs x ≤ 7) l.levels;
-  chosen : drop (2 * l.fn.k) l.levels ≡ drop (2 * l.fn.k) l.fn.levels;
+  levels : AreChosen (2 * l.fn.k) l.fn.levels l.levels;
   goes : (rest : List Suffix)
       → g.V.Visitor.outcome l.fn.visitor l.fn.state
       (below (from_q l.fn.job.system l.fn.job.grid (l.fn.k - 1)) (drop (2 * l.fn.k) l.fn.levels) l.fn.partial ++ rest)
@@ -32,9 +29,7 @@ decreases-quadrature-loop-level g l = length l.walk
 
 abbrev pub invariant-in_phase-loop-level : goal.invariant-in_phase-loop-level
 invariant-in_phase-loop-level g l = record {
-  room : length l.levels ≡ length l.fn.levels;
-  levels : All (λ x. unsigned_abs x ≤ 7) l.levels;
-  chosen : drop (2 * l.fn.k - 1) l.levels ≡ drop (2 * l.fn.k - 1) l.fn.levels;
+  levels : AreChosen (2 * l.fn.k - 1) l.fn.levels l.levels;
   goes : (rest : List Suffix)
       → g.V.Visitor.outcome l.fn.visitor l.fn.state
       (below (from_i l.fn.job.system l.fn.job.grid (l.fn.k - 1)) (drop (2 * l.fn.k - 1) l.fn.levels) l.fn.partial ++ rest)

@@ -1,31 +1,10 @@
-use Rattle.std.proofs.Common.{◌<◌, ap, length, arith}
-use Rattle.std.specs.Arc.{arc_value}
-use Rattle.ht_capture.specs.Parts.{SymbolPart, jobs_of, part_of}
-use Rattle.ht_capture.proofs.Sharing.{jobs_length, part_place}
+use Rattle.std.proofs.Common.{[]}
+use Rattle.ht_capture.specs.declared.places.Present.{Present}
+use Rattle.ht_capture.proofs.Sharing.{part_placed}
 use Rattle.ht_capture.proofs.block.SymbolBlock.place_at.Goals as goal
-
-pub overflow_add-self-inside : goal.overflow_add-self-inside
-overflow_add-self-inside c =
-    let b = c.self.inside in
-    let lt : c.args.at < length (jobs_of (part_of (arc_value b.symbol) b.first b.count)) = rw (← c.self.view_is) at c.requires in
-    omega (arith, lt, jobs_length (arc_value b.symbol) b.first b.count c.self.invariant.1, c.self.invariant.2)
-
-pub place-requires : goal.place-requires
-place-requires c =
-    let b = c.self.inside in
-    let lt : c.args.at < length (jobs_of (part_of (arc_value b.symbol) b.first b.count)) = rw (← c.self.view_is) at c.requires in
-    omega (
-      arith,
-      lt,
-      jobs_length (arc_value b.symbol) b.first b.count c.self.invariant.1,
-      c.self.invariant.1,
-      c.from.ensures,
-      ap (λ (s : SymbolPart). length s.present) c.deref.ensures,
-    )
 
 pub returns : goal.returns
 returns c =
-    let b = c.self.inside in
-    rw (← c.self.view_is)
-    (part_place (arc_value b.symbol) c.deref.result.now b.first b.count c.args.at c.from.result c.place.result c.self.invariant.1
-    (rw (← c.self.view_is) at c.requires) c.deref.ensures c.from.ensures c.place.ensures)
+    let d : Present = record { carrier = 0; triangle = [] } in
+    part_placed _ c.subcarrier-subcarrier.result.0.now c.subcarrier-subcarrier.result.1 d c.place.result
+    (c.subcarrier-subcarrier.ensures.job d) (c.place.ensures d)

@@ -4,14 +4,4 @@ use Rattle.ht_capture.proofs.reader.Reader.begin.Goals as goal
 
 pub returns-in-Ok : goal.returns-in-Ok
 returns-in-Ok g c =
-    record {
-      told = gives_answer _ _ _ _ c.frame.result c.in-Ok.ensures.told c.in-Ok.ensures.later c.frame.ensures.told;
-      stopped = search rules;
-      done = search rules;
-      memory = search rules;
-      counted = search rules;
-      placed = search rules;
-      on = search rules;
-      fewer = search rules;
-      later = search rules;
-    }
+    search (rules, gives_answer _ _ _ _ c.frame.result c.in-Ok.ensures.told c.in-Ok.ensures.later c.frame.ensures.told)

@@ -28,30 +28,12 @@ invariant_of-self-in-Err-frame g c =
     )
 
 pub returns-in-Ok : goal.returns-in-Ok
-returns-in-Ok g c =
-    record {
-      told = rw (← c.self.view_is) (completes_over c.args.turn c.self.inside.at _ _ c.if-turn-eq0.true c.in-Ok.ensures.told);
-      stopped = search rules;
-      done = search rules;
-      memory = search rules;
-      counted = search rules;
-      placed = search rules;
-      on = search rules;
-      fewer = search rules;
-      later = search rules;
-    }
+returns-in-Ok g c = rw (← c.self.view_is) (search (rules, completes_over c.args.turn c.self.inside.at _ _ c.if-turn-eq0.true c.in-Ok.ensures.told))
 
 pub returns-in-Err : goal.returns-in-Err
 returns-in-Err g c =
-    record {
-      told = rw (← c.self.view_is) (halts_as _ _ c.in-Err.fault c.stop.result c.stop.ensures.same
-          (halts_from (turn_due c.args.turn) Over c.self.inside.at _ _ c.in-Err.fault (over_is c.args.turn c.if-turn-eq0.true) c.in-Err.ensures.told));
-      stopped = search rules;
-      done = search rules;
-      memory = search rules;
-      counted = search rules;
-      placed = search rules;
-      on = search rules;
-      fewer = search rules;
-      later = search rules;
-    }
+    rw (← c.self.view_is) (search (
+      rules,
+      halts_as _ _ c.in-Err.fault c.stop.result c.stop.ensures.same
+          (halts_from (turn_due c.args.turn) Over c.self.inside.at _ _ c.in-Err.fault (over_is c.args.turn c.if-turn-eq0.true) c.in-Err.ensures.told),
+    ))

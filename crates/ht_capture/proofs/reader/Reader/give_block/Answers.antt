@@ -11,7 +11,7 @@ returns-clause-given c =
     let e = c.in_ok-symbol.ensures in
     let count = c.min-count.result in
     let inside : c.args.k + count ≤ c.args.due.now.count = omega (arith, c.min-count.ensures, e.inside) in
-    let within : c.args.due.now.count ≤ length c.args.self.now.present = omega (arith, e.space, e.fits.places) in
+    let within : c.args.due.now.count ≤ length c.args.self.now.present = omega (arith, e.space, e.fits.frame.places) in
     let size = part_size c.args.due.now c.args.k count c.args.self.now (arc_value c.in_ok-symbol.symbol) c.of.result inside within e.symbol c.of.ensures in
     let more_was : more c.args.self.now ≡ more_at (Giving c.args.due.now c.args.k) = ap (λ (s : Stage). more_at s) c.requires.stage in
     record {

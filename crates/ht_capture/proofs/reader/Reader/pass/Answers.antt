@@ -7,10 +7,10 @@ use Rattle.ht_capture.proofs.Lending.{kept_after}
 use Rattle.ht_capture.proofs.reader.Reader.pass.Goals as goal
 
 pub overflow_add-k : goal.overflow_add-k
-overflow_add-k c = omega (arith, c.requires.fits.places, c.requires.inside)
+overflow_add-k c = omega (arith, c.requires.fits.frame.places, c.requires.inside)
 
 pub overflow_add-self : goal.overflow_add-self
-overflow_add-self c = omega (arith, c.requires.fits.places, c.requires.inside)
+overflow_add-self c = omega (arith, c.requires.fits.frame.places, c.requires.inside)
 
 pub invariant_of-self-else-k-count : goal.invariant_of-self-else-k-count
 invariant_of-self-else-k-count c =

@@ -25,20 +25,8 @@ invariant_of-self g c =
         present = search rules;
         samples = ap (λ (o : List ℕ). length o) (written-all c.symbol.new.samples _ _ size) ∙ len;
         stage = (
-          omega (arith, f.count),
-          record {
-            frames = f.frames;
-            left = f.left;
-            count = f.count;
-            few = f.few;
-            places = f.places;
-            symbol = f.symbol;
-            symbols = f.symbols;
-            whole = f.whole;
-            place = omega (arith, f.place, c.in-Ok.ensures.place);
-            number = f.number;
-            seen = f.seen;
-          },
+          omega (arith, f.frame.count),
+          record { frame = f.frame; symbol = f.symbol; place = omega (arith, f.place, c.in-Ok.ensures.place); number = f.number },
         );
       },
       search rules,

@@ -5,6 +5,7 @@ use Rattle.ht_crew.specs.Lists.{Listed, IsListed, took, shown, TakesInTurn}
 use Rattle.ht_crew.specs.contracts.list_feed.ListFeed.{the_view}
 use Rattle.ht_crew.proofs.Giving.{first_between, still_listed, takes_first, takes_in_turn}
 use Rattle.ht_crew.proofs.list_feed.ListFeedFeed.take.Goals as goal
+use Rattle.ht_crew.proofs.list_feed.ListFeedFeed.take.Goals.{In-Ok}
 
 pub unreachable-requires : goal.unreachable-requires
 unreachable-requires c =
@@ -36,20 +37,18 @@ invariant_of-self c =
       omega (arith, c.self.invariant.1, c.push.ensures.capacity),
     )
 
+-- the feed took the hit
+took-it : (c : In-Ok) → record (the_view c.self.inside) { taken = c.push.new.self.items } ≡ took c.args.self.now c.args.hit
+took-it c =
+    ap (λ (taken : List Hit). let s : Listed = record (the_view c.self.inside) { taken = taken } in s) c.in-Ok.ensures.items
+    ∙ ap (λ (s : Listed). record s { taken = s.taken ++ c.args.hit ∷ [] }) (c.self.view_is ∙ c.in_ok-call.ensures.counted)
+
 pub returns-clause-taken : goal.returns-clause-taken
 returns-clause-taken c =
-    let is = c.self.view_is ∙ c.in_ok-call.ensures.counted in
-    let old = c.args.self.now in
-    let hit = c.args.hit in
-    let at : List Hit → Listed = λ taken. record (the_view c.self.inside) { taken = taken } in
-    let new : at c.push.new.self.items ≡ took old hit = ap at c.in-Ok.ensures.items ∙ ap (λ (s : Listed). record s { taken = s.taken ++ hit ∷ [] }) is in
-    subst (λ (s : Listed). TakesHit (shown old) (shown s)) (sym new) (takes_first old hit)
+    subst (λ (s : Listed). TakesHit (shown c.args.self.now) (shown s)) (sym (took-it (goal.at.returns-clause-taken c).In-Ok))
+    (takes_first c.args.self.now c.args.hit)
 
 pub returns-clause-leads : goal.returns-clause-leads
 returns-clause-leads c =
-    let is = c.self.view_is ∙ c.in_ok-call.ensures.counted in
-    let old = c.args.self.now in
-    let hit = c.args.hit in
-    let at : List Hit → Listed = λ taken. record (the_view c.self.inside) { taken = taken } in
-    let new : at c.push.new.self.items ≡ took old hit = ap at c.in-Ok.ensures.items ∙ ap (λ (s : Listed). record s { taken = s.taken ++ hit ∷ [] }) is in
-    subst (λ (s : Listed). TakesInTurn old s) (sym new) (takes_in_turn old hit c.requires.first)
+    subst (λ (s : Listed). TakesInTurn c.args.self.now s) (sym (took-it (goal.at.returns-clause-leads c).In-Ok))
+    (takes_in_turn c.args.self.now c.args.hit c.requires.first)

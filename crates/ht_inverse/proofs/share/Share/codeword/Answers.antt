@@ -1,12 +1,12 @@
 use Rattle.std.proofs.Common.{◌≡◌, ◌≤◌, ◌∙◌, List, Bool, Option, ap, sym, map, arith}
 use Rattle.std.proofs.lemmas.List.{length-map}
 use Rattle.std.proofs.lemmas.Result.{IfOk-weaker}
-use Rattle.ht_viterbi.specs.Inputs.{IsDecoded, distance}
+use Rattle.ht_viterbi.specs.Inputs.{IsFound, place_cost}
 use Rattle.ht_viterbi.specs.declared.received_bit.ReceivedBit.{ReceivedBit}
 use Rattle.ht_viterbi.specs.Received.{known_of}
 use Rattle.ht_viterbi.proofs.Turns.{distance-low}
 use Rattle.ht_inverse.specs.Shares.{codeword_of}
-use Rattle.ht_inverse.proofs.Codewords.{both-ok, codeword-is, received-length}
+use Rattle.ht_inverse.proofs.Codewords.{codeword-is, received-length}
 use Rattle.ht_inverse.proofs.share.Share.codeword.Goals as goal
 
 -- the places of what was gathered
@@ -26,13 +26,19 @@ returns-clause-value c =
     let steps = c.codeword_steps-steps.result in
     let p = c.pattern.result in
     let received = map known_of c.deref.result.now in
-    both-ok c.decode_received.result (λ codeword. IsDecoded steps p received codeword.input)
-    (λ codeword. codeword.distance ≡ distance p received codeword.input)
+    IfOk-weaker c.decode_received.result (λ codeword. IsFound place_cost steps p received codeword.input codeword.distance)
     (λ codeword. codeword ≡ codeword_of s.rate c.args.octets s.erased c.args.labels.now s.encoder)
-    (λ codeword is far.
-    codeword-is s.rate c.args.octets s.erased s.encoder steps c.args.labels.now p received codeword c.codeword_steps-steps.ensures.value c.pattern.ensures
-    (is-received c.deref.ensures.value c.in_ok-received.ensures) (omega (arith, c.codeword_steps-steps.ensures.low)) is far)
-    c.decode_received.ensures.input c.decode_received.ensures.distance
+    (λ codeword. codeword-is s.rate c.args.octets s.erased s.encoder steps c.args.labels.now p received codeword c.codeword_steps-steps.ensures.value
+    c.pattern.ensures (is-received c.deref.ensures.value c.in_ok-received.ensures) (omega (arith, c.codeword_steps-steps.ensures.low)))
+    c.decode_received.ensures
+
+pub returns-clause-steps : goal.returns-clause-steps
+returns-clause-steps c =
+    let steps = c.codeword_steps-steps.result in
+    let p = c.pattern.result in
+    let received = map known_of c.deref.result.now in
+    IfOk-weaker c.decode_received.result (λ codeword. IsFound place_cost steps p received codeword.input codeword.distance) _
+    (λ codeword found. found.steps ∙ c.codeword_steps-steps.ensures.value) c.decode_received.ensures
 
 pub returns-clause-few : goal.returns-clause-few
 returns-clause-few c =
@@ -42,8 +48,10 @@ returns-clause-few c =
     let many =
     received-length s.rate c.args.octets s.erased s.encoder c.codeword_steps-steps.result c.args.labels.now p received c.codeword_steps-steps.ensures.value c.pattern.ensures
     (is-received c.deref.ensures.value c.in_ok-received.ensures) in
-    IfOk-weaker c.decode_received.result (λ codeword. codeword.distance ≡ distance p received codeword.input) (λ codeword. codeword.distance ≤ 1073741824)
-    (λ codeword far.
+    IfOk-weaker c.decode_received.result (λ codeword. IsFound place_cost c.codeword_steps-steps.result p received codeword.input codeword.distance)
+    (λ codeword. codeword.distance ≤ 1073741824)
+    (λ codeword found.
+    let far = found.distance in
     let low = distance-low p received codeword.input c.codeword_steps-steps.result many in
     omega (arith, far, low, c.codeword_steps-steps.ensures.high))
-    c.decode_received.ensures.distance
+    c.decode_received.ensures

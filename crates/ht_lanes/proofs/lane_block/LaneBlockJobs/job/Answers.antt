@@ -1,22 +1,18 @@
-use Rattle.std.proofs.Common.{◌≡◌, ◌+◌, length, Some, slice_get, ap, ◌∙◌, subst, arith}
+use Rattle.std.proofs.Common.{◌≡◌, ◌+◌, Some, slice_get, ap, ◌∙◌, subst, arith}
 use Rattle.ht_metric.specs.Jobs.{JobView}
 use Rattle.ht_lanes.specs.Lanes.{LaneJobs, whole_jobs}
 use Rattle.ht_feed.specs.Numbers.{with_number}
-use Rattle.ht_feed.proofs.Numbering.{length_numbered, remade}
-use Rattle.ht_lanes.proofs.Numbering.{job_at}
+use Rattle.ht_feed.proofs.Numbering.{remade}
+use Rattle.ht_lanes.proofs.Numbering.{as_many_jobs, job_at}
 use Rattle.ht_lanes.proofs.lane_block.LaneBlockJobs.job.Goals as goal
 
 pub job-job-requires : goal.job-job-requires
 job-job-requires g c =
-    let now = c.args.self.now in
-    let jobs = ap (λ (b : LaneJobs). length b.jobs) c.self.view_is in
-    omega (arith, jobs, length_numbered now.first now.jobs, c.requires)
+    omega (arith, as_many_jobs _ c.args.self.now c.self.view_is, c.requires)
 
 pub overflow_add-self-inside : goal.overflow_add-self-inside
 overflow_add-self-inside g c =
-    let now = c.args.self.now in
-    let jobs = ap (λ (b : LaneJobs). length b.jobs) c.self.view_is in
-    omega (arith, jobs, length_numbered now.first now.jobs, c.requires, c.self.invariant.bound, c.from.ensures)
+    omega (arith, as_many_jobs _ c.args.self.now c.self.view_is, c.requires, c.self.invariant.bound, c.from.ensures)
 
 pub returns : goal.returns
 returns g c =

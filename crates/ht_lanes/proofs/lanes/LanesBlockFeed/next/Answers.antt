@@ -10,14 +10,14 @@ pub size-requires : goal.size-requires
 size-requires g c =
     let block : LaneJobs = c.in-Ok-Some.block in
     let asked : ℕ × LaneJobs = (c.in-Ok-Some.lane, block) in
-    let few = some_so c.in-Ok-Some.field-0 asked (λ (a : ℕ × LaneJobs). length a.1.jobs ≤ c.args.most) c.in-Ok-Some.field-0-is c.in-Ok-Some.ensures.few in
+    let few = some_so c.in-Ok-Some.field-0 asked (λ (a : ℕ × LaneJobs). length a.1.jobs ≤ c.args.most) c.in-Ok-Some.field-0-is c.in-Ok-Some.ensures.gives.few in
     omega (arith, few, c.ranges.most.fits, length_numbered block.first block.jobs)
 
 pub overflow_add-self-in-Ok-Some : goal.overflow_add-self-in-Ok-Some
 overflow_add-self-in-Ok-Some g c =
     let block : LaneJobs = c.in-Ok-Some.block in
     let asked : ℕ × LaneJobs = (c.in-Ok-Some.lane, block) in
-    let few = some_so c.in-Ok-Some.field-0 asked (λ (a : ℕ × LaneJobs). length a.1.jobs ≤ c.args.most) c.in-Ok-Some.field-0-is c.in-Ok-Some.ensures.few in
+    let few = some_so c.in-Ok-Some.field-0 asked (λ (a : ℕ × LaneJobs). length a.1.jobs ≤ c.args.most) c.in-Ok-Some.field-0-is c.in-Ok-Some.ensures.gives.few in
     omega (arith, few, c.ranges.most.fits, length_numbered block.first block.jobs, c.from.ensures, c.from-in-Ok-Some.ensures, c.size.ensures, c.if-self-from.false)
 
 pub invariant_of-self-in-Ok-Some-clause-feed : goal.invariant_of-self-in-Ok-Some-clause-feed
@@ -37,13 +37,13 @@ pub invariant_of-self-in-Ok-Some-clause-few : goal.invariant_of-self-in-Ok-Some-
 invariant_of-self-in-Ok-Some-clause-few g c =
     let block : LaneJobs = c.in-Ok-Some.block in
     let asked : ℕ × LaneJobs = (c.in-Ok-Some.lane, block) in
-    let few = some_so c.in-Ok-Some.field-0 asked (λ (a : ℕ × LaneJobs). length a.1.jobs ≤ c.args.most) c.in-Ok-Some.field-0-is c.in-Ok-Some.ensures.few in
+    let few = some_so c.in-Ok-Some.field-0 asked (λ (a : ℕ × LaneJobs). length a.1.jobs ≤ c.args.most) c.in-Ok-Some.field-0-is c.in-Ok-Some.ensures.gives.few in
     omega (arith, few, c.ranges.most.fits, length_numbered block.first block.jobs, c.from.ensures, c.from-in-Ok-Some.ensures, c.size.ensures, c.if-self-from.false)
 
 pub returns-in-Ok-Some-clause-block : goal.returns-in-Ok-Some-clause-block
 returns-in-Ok-Some-clause-block g c =
     let block : LaneJobs = c.in-Ok-Some.block in
-    let e = c.in-Ok-Some.ensures in
+    let e = c.in-Ok-Some.ensures.gives in
     let ring = c.args.self.now.due.now.items in
     let after = c.give.new.due.items in
     let count = c.args.self.now.count in

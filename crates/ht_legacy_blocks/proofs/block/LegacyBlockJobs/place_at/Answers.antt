@@ -1,19 +1,7 @@
-use Rattle.std.proofs.Common.{◌<◌, refl, arith}
+use Rattle.std.proofs.Common.{◌<◌, refl}
 use Rattle.std.specs.Arc.{arc_value}
 use Rattle.ht_legacy_blocks.proofs.Splitting.{block_place, inside_block}
 use Rattle.ht_legacy_blocks.proofs.block.LegacyBlockJobs.place_at.Goals as goal
-
-pub overflow_cast-at : goal.overflow_cast-at
-overflow_cast-at c =
-    let b = c.self.inside in
-    let lt : c.args.at < b.count = inside_block (arc_value b.symbol) b.first b.count c.args.at (rw (← c.self.view_is) at c.requires) in
-    omega (arith, lt, c.self.invariant)
-
-pub overflow_add-self-inside : goal.overflow_add-self-inside
-overflow_add-self-inside c =
-    let b = c.self.inside in
-    let lt : c.args.at < b.count = inside_block (arc_value b.symbol) b.first b.count c.args.at (rw (← c.self.view_is) at c.requires) in
-    omega (arith, lt, c.self.invariant)
 
 pub returns : goal.returns
 returns c =

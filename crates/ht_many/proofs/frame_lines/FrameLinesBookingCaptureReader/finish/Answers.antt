@@ -1,9 +1,15 @@
-use Rattle.std.proofs.Common.{[], List, ap}
+use Rattle.std.proofs.Common.{[], List, ap, refl}
+use Rattle.ht_io.proofs.Calls.{grows-none, later-refl}
 use Rattle.ht_frames.specs.Gathering.{booked_behind}
 use Rattle.ht_results.specs.Folding.{FrameSoFar, result_of}
 use Rattle.ht_results.specs.Texts.{result_line}
 use Rattle.ht_rx.specs.Frames.{results_in}
 use Rattle.ht_many.proofs.frame_lines.FrameLinesBookingCaptureReader.finish.Goals as goal
+
+pub returns-clause-books : goal.returns-clause-books
+returns-clause-books g c =
+    let sink = g.K.Sink.shown c.args._sink.now in
+    record { put = ([], grows-none sink, λ more. refl); part = tt; cause = tt; steady = refl; unfailed = tt; later = later-refl sink }
 
 pub returns-clause-none : goal.returns-clause-none
 returns-clause-none g c =

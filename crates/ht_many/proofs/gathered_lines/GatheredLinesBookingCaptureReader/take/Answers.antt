@@ -1,11 +1,7 @@
-use Rattle.std.proofs.Common.{take, refl, rules}
-use Rattle.ht_feed.specs.Dues.{all_due}
-use Rattle.ht_many.specs.KeptFrames.{lines_left}
-use Rattle.ht_many.proofs.Parts.{part_as}
+use Rattle.std.proofs.Common.{rules}
+use Rattle.ht_many.proofs.Parts.{books_as}
 use Rattle.ht_many.proofs.gathered_lines.GatheredLinesBookingCaptureReader.take.Goals as goal
 
-pub returns-clause-part : goal.returns-clause-part
-returns-clause-part g c =
-    let pieces = lines_left c.args.self.now in
-    part_as g.K.Sink.shown c.take_into.result c.new-book.result.sink.now c.take_into.new.book.sink.now c.args.sink.now _ pieces pieces
-    (all_due (take 1 c.args.desk.now.due)) (search rules) (search rules) refl c.take_into.ensures.part
+pub returns-clause-books : goal.returns-clause-books
+returns-clause-books g c =
+    books_as g.K.Sink.shown c.new-book.result.sink.now c.take_into.new.book.sink.now c.args.sink.now _ (search rules) (search rules) c.take_into.ensures.books

@@ -1,17 +1,12 @@
-use Rattle.std.proofs.Common.{◌<◌, ◌-◌, arith, ap, length, sym}
+use Rattle.std.proofs.Common.{◌∙◌, ◌-◌, arith, ap, sym}
 use Rattle.ht_metric.specs.Rows.{Row}
-use Rattle.ht_metric.specs.Arrays.{length-rows_of}
-use Rattle.ht_metric.proofs.RowLemmas.{rows_of-at}
+use Rattle.ht_metric.proofs.RowLemmas.{shown-streams, shown-row}
 use Rattle.ht_metric.proofs.system.System.diagonal.Goals as goal
 
 pub diagonal-requires-clause-last : goal.diagonal-requires-clause-last
-diagonal-requires-clause-last c =
-    let s = c.self.inside in
-    omega (arith, c.requires.last, ap length c.self.view_is, length-rows_of s.triangle s.y)
+diagonal-requires-clause-last c = omega (arith, c.requires.last, shown-streams c.self.inside.triangle c.self.inside.y _ c.self.view_is)
 
 pub returns : goal.returns
 returns c =
-    let s = c.self.inside in
-    let k = c.args.k - 1 in
-    let below : k < length s.triangle = omega (arith, c.requires.last, ap length c.self.view_is, length-rows_of s.triangle s.y) in
-    rw (c.diagonal.ensures, ← c.self.view_is) (sym (ap (λ (row : Row). row.diagonal) (rows_of-at s.triangle k s.y below)))
+    c.diagonal.ensures ∙ sym (ap (λ (row : Row). row.diagonal)
+    (shown-row c.self.inside.triangle c.self.inside.y c.args.self.now (c.args.k - 1) c.self.view_is (omega arith)))

@@ -1,4 +1,4 @@
-use Rattle.std.proofs.Common.{arith, rules}
+use Rattle.std.proofs.Common.{◌∙◌, ◌+ℤ◌, ◌-ℤ◌, ◌*ℤ◌, ℤ, ap, w64, arith, rules}
 use Rattle.ht_metric.proofs.Signs.{passed, subtracts, adds, subtracts_bound}
 use Rattle.ht_metric.proofs.tap.Tap.times.Goals as goal
 
@@ -6,19 +6,18 @@ pub returns-clause-re : goal.returns-clause-re
 returns-clause-re c =
     let r = c.args.self in
     let x = c.args.point in
-    subtracts c.multiplied.result c.multiplied-2.result _ _ (omega arith) (omega arith)
-    (passed _ r.re x.i (search rules) (search rules) c.multiplied.ensures.value)
-    (passed _ r.im x.q (search rules) (search rules) c.multiplied-2.ensures.value)
+    subtracts w64 c.multiplied.result c.multiplied-2.result 229376 229376 c.multiplied.ensures.bound c.multiplied-2.ensures.bound (omega arith)
+    ∙ ap (λ (z : ℤ). z -ℤ c.multiplied-2.result) (passed _ r.re x.i (search rules) (search rules) c.multiplied.ensures.value)
+    ∙ ap (λ (z : ℤ). (r.re *ℤ x.i) -ℤ z) (passed _ r.im x.q (search rules) (search rules) c.multiplied-2.ensures.value)
 
 pub returns-clause-im : goal.returns-clause-im
 returns-clause-im c =
     let r = c.args.self in
     let x = c.args.point in
-    adds c.multiplied-3.result c.multiplied-4.result _ _ (omega arith) (omega arith)
-    (passed _ r.re x.q (search rules) (search rules) c.multiplied-3.ensures.value)
-    (passed _ r.im x.i (search rules) (search rules) c.multiplied-4.ensures.value)
+    adds w64 c.multiplied-3.result c.multiplied-4.result 229376 229376 c.multiplied-3.ensures.bound c.multiplied-4.ensures.bound (omega arith)
+    ∙ ap (λ (z : ℤ). z +ℤ c.multiplied-4.result) (passed _ r.re x.q (search rules) (search rules) c.multiplied-3.ensures.value)
+    ∙ ap (λ (z : ℤ). (r.re *ℤ x.q) +ℤ z) (passed _ r.im x.i (search rules) (search rules) c.multiplied-4.ensures.value)
 
 pub returns-clause-re_bound : goal.returns-clause-re_bound
 returns-clause-re_bound c =
-    subtracts_bound c.multiplied.result c.multiplied-2.result _ 229376 229376 c.multiplied.ensures.bound c.multiplied-2.ensures.bound
-    (omega arith) (omega arith)
+    subtracts_bound w64 c.multiplied.result c.multiplied-2.result 229376 229376 c.multiplied.ensures.bound c.multiplied-2.ensures.bound (omega arith)

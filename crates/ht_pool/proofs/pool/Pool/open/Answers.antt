@@ -1,41 +1,47 @@
-use Rattle.std.proofs.Common.{◌≡◌, ◌∙◌, ◌+◌, ◌-◌, ◌++◌, ◌∷◌, [], ℕ, List, length, map, drop, ap, sym, subst, rules, arith}
-use Rattle.std.proofs.lemmas.List.{length-append, length-map}
-use Rattle.crossbeam_queue.specs.Passes.{view as answer_view}
+use Rattle.std.proofs.Common.{◌≡◌, ◌∙◌, ◌+◌, ◌-◌, [], ℕ, List, length, map, drop, ap, sym, subst, rules, arith}
+use Rattle.std.proofs.lemmas.List.{length-map}
 use Rattle.ht_pool.specs.Hands.{hand}
 use Rattle.ht_pool.specs.Seats.{DequeId, SeatView, OwnView, fresh_seat, fresh_own, deques_at}
 use Rattle.ht_pool.specs.Members.{berth, berths}
 use Rattle.ht_pool.specs.Helms.{HelmView, unused}
 use Rattle.ht_pool.specs.Pools.{IsVacant}
-use Rattle.ht_pool.specs.Opening.{own_deques}
+use Rattle.ht_pool.specs.Opening.{AreReady, own_deques}
 use Rattle.ht_pool.proofs.Lists.{all_first}
 use Rattle.ht_pool.proofs.Opens.{ready-less, deques-fresh}
 use Rattle.ht_pool.proofs.pool.Pool.open.Goals as goal
+use Rattle.ht_pool.proofs.pool.Pool.open.Goals.{In-Some-pop}
+
+-- what the deque and the seats of the caller are, and what is left for the workers
+first_ready : (g : _) (c : In-Some-pop g) → AreReady (own_deques c.in_ok-owners.owners.items) c.take_first.new.all.items c.pop.new.self.items
+    × (c.in-Some.own ≡ fresh_own (1024 - length (own_deques c.in_ok-owners.owners.items)) c.in-Some.own.room c.in-Some.own.deque)
+    × (c.in-Some-pop.seats.items ≡ map fresh_seat (own_deques c.in_ok-owners.owners.items))
+first_ready g c =
+    ready-less (own_deques c.in_ok-owners.owners.items) c.in_ok-owners.owners.items c.take_first.new.all.items c.in_ok-owners.rows.items
+    c.pop.new.self.items c.in-Some.own c.in-Some-pop.seats c.in-Some.ensures.items c.in-Some-pop.ensures.items c.in_ok-owners.ensures.ready
+
+at_ids : (g : _) (c : In-Some-pop g) → deques_at c.in-Some-pop.seats.items ≡ own_deques c.in_ok-owners.owners.items
+at_ids g c =
+    ap (λ (ss : List (SeatView g.row.T.Denot)). deques_at ss) (first_ready g c).2 ∙ deques-fresh g.row.T.Denot (own_deques c.in_ok-owners.owners.items)
+
+seats_long : (g : _) (c : In-Some-pop g) → length c.in-Some-pop.seats.items ≡ length (own_deques c.in_ok-owners.owners.items)
+seats_long g c =
+    ap (λ (ss : List (SeatView g.row.T.Denot)). length ss) (first_ready g c).2
+    ∙ length-map (own_deques c.in_ok-owners.owners.items) (fresh_seat {T = g.row.T.Denot})
 
 pub new-post-requires-clause-seats : goal.new-post-requires-clause-seats
 new-post-requires-clause-seats g c =
-    let ready = ready-less (own_deques c.in_ok-owners.owners.items) c.in_ok-owners.owners.items c.take_first.new.all.items c.in_ok-owners.rows.items
-    c.pop.new.self.items c.in-Some.own c.in-Some-pop.seats c.in-Some.ensures.items c.in-Some-pop.ensures.items c.in_ok-owners.ensures.ready in
-    let ids : List DequeId = own_deques c.in_ok-owners.owners.items in
-    let at : deques_at c.in-Some-pop.seats.items ≡ ids =
-    ap (λ (ss : List (SeatView g.row.T.Denot)). deques_at ss) ready.2 ∙ deques-fresh g.row.T.Denot ids in
-    ready.2 ∙ ap (map fresh_seat) (sym at)
+    let taken = (goal.at.new-post-requires-clause-seats g c).In-Some-pop in
+    (first_ready g taken).2 ∙ ap (map fresh_seat) (sym (at_ids g taken))
 
 pub new-post-requires-clause-own : goal.new-post-requires-clause-own
 new-post-requires-clause-own g c =
-    let ready = ready-less (own_deques c.in_ok-owners.owners.items) c.in_ok-owners.owners.items c.take_first.new.all.items c.in_ok-owners.rows.items
-    c.pop.new.self.items c.in-Some.own c.in-Some-pop.seats c.in-Some.ensures.items c.in-Some-pop.ensures.items c.in_ok-owners.ensures.ready in
-    let ids : List DequeId = own_deques c.in_ok-owners.owners.items in
-    let long : length c.in-Some-pop.seats.items ≡ length ids =
-    ap (λ (ss : List (SeatView g.row.T.Denot)). length ss) ready.2 ∙ length-map ids (fresh_seat {T = g.row.T.Denot}) in
-    ready.1 ∙ ap (λ (n : ℕ). fresh_own (1024 - n) c.in-Some.own.room c.in-Some.own.deque) (sym long)
+    let taken = (goal.at.new-post-requires-clause-own g c).In-Some-pop in
+    (first_ready g taken).1 ∙ ap (λ (n : ℕ). fresh_own (1024 - n) c.in-Some.own.room c.in-Some.own.deque) (sym (seats_long g taken))
 
 pub new-post-requires-clause-answers : goal.new-post-requires-clause-answers
 new-post-requires-clause-answers g c =
-    let ready = ready-less (own_deques c.in_ok-owners.owners.items) c.in_ok-owners.owners.items c.take_first.new.all.items c.in_ok-owners.rows.items
-    c.pop.new.self.items c.in-Some.own c.in-Some-pop.seats c.in-Some.ensures.items c.in-Some-pop.ensures.items c.in_ok-owners.ensures.ready in
     let ids : List DequeId = own_deques c.in_ok-owners.owners.items in
-    let long : length c.in-Some-pop.seats.items ≡ length ids =
-    ap (λ (ss : List (SeatView g.row.T.Denot)). length ss) ready.2 ∙ length-map ids (fresh_seat {T = g.row.T.Denot}) in
+    let long = seats_long g (goal.at.new-post-requires-clause-answers g c).In-Some-pop in
     let all : length ids ≡ length c.in_ok-owners.owners.items = length-map c.in_ok-owners.owners.items (λ (o : OwnView g.row.T.Denot). o.deque) in
     let one : length c.in_ok-owners.owners.items ≡ length c.take_first.new.all.items + 1 =
     ap (λ (os : List (OwnView g.row.T.Denot)). length os) c.in-Some.ensures.items ∙ omega arith in
@@ -44,23 +50,17 @@ new-post-requires-clause-answers g c =
 
 pub returns-clause-workers : goal.returns-clause-workers
 returns-clause-workers g c =
-    let ids : List DequeId = own_deques c.in_ok-owners.owners.items in
-    let ready = ready-less ids c.in_ok-owners.owners.items c.take_first.new.all.items c.in_ok-owners.rows.items
-    c.pop.new.self.items c.in-Some.own c.in-Some-pop.seats c.in-Some.ensures.items c.in-Some-pop.ensures.items c.in_ok-owners.ensures.ready in
-    let at : deques_at c.in-Some-pop.seats.items ≡ ids =
-    ap (λ (ss : List (SeatView g.row.T.Denot)). deques_at ss) ready.2 ∙ deques-fresh g.row.T.Denot ids in
+    let at = at_ids g (goal.at.returns-clause-workers g c).In-Some-pop in
     ap (λ (v : HelmView g.row.T.Denot g.row.A.Denot). length v.deques) c.new-post.ensures ∙ (ap (λ (xs : List DequeId). length xs) at
     ∙ (length-map c.in_ok-owners.owners.items (λ (o : OwnView g.row.T.Denot). o.deque) ∙ search rules))
 
 pub returns-clause-opened : goal.returns-clause-opened
 returns-clause-opened g c =
     let ids : List DequeId = own_deques c.in_ok-owners.owners.items in
-    let ready = ready-less ids c.in_ok-owners.owners.items c.take_first.new.all.items c.in_ok-owners.rows.items
-    c.pop.new.self.items c.in-Some.own c.in-Some-pop.seats c.in-Some.ensures.items c.in-Some-pop.ensures.items c.in_ok-owners.ensures.ready in
+    let ready = first_ready g (goal.at.returns-clause-opened g c).In-Some-pop in
+    let at = at_ids g (goal.at.returns-clause-opened g c).In-Some-pop in
     let rooms = all_first (λ (o : OwnView g.row.T.Denot). o.room ≡ c.args.room) c.in_ok-owners.owners.items c.take_first.new.all.items c.in-Some.own
     c.in-Some.ensures.items c.in_ok-owners.ensures.rooms in
-    let at : deques_at c.in-Some-pop.seats.items ≡ ids =
-    ap (λ (ss : List (SeatView g.row.T.Denot)). deques_at ss) ready.2 ∙ deques-fresh g.row.T.Denot ids in
     let post = c.new-post.ensures in
     let deques : c.new-post.result.deques ≡ ids = ap (λ (v : HelmView g.row.T.Denot g.row.A.Denot). v.deques) post ∙ at in
     let queue : c.seat_all.new.pass.table_id ≡ c.new-shared.result = c.seat_all.ensures.queue.0 in

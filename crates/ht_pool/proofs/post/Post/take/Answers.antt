@@ -1,7 +1,6 @@
-use Rattle.std.proofs.Common.{◌≡◌, List, IfSome, length, take, drop, ◌++◌, ◌∙◌, ap, subst, sym, rules}
-use Rattle.std.proofs.lemmas.List.{length-map}
+use Rattle.std.proofs.Common.{◌≡◌, List, IfSome, length, take, drop, ◌++◌, subst, sym, rules}
 use Rattle.crossbeam_queue.specs.Passes.{view as answer_view}
-use Rattle.ht_pool.specs.Seats.{DequeId, SeatView, OwnView, Steals}
+use Rattle.ht_pool.specs.Seats.{SeatView, OwnView, Steals}
 use Rattle.ht_pool.specs.Helms.{HelmView, helm_view, TakesBack}
 use Rattle.ht_pool.proofs.Backs.{takes-own, takes-other, whole_again}
 use Rattle.ht_pool.proofs.post.Post.take.Goals as goal

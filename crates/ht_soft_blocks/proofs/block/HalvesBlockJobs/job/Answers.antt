@@ -1,4 +1,4 @@
-use Rattle.std.proofs.Common.{◌≡◌, ◌<◌, ◌+◌, ◌∙◌, List, length, sym, ap, arith}
+use Rattle.std.proofs.Common.{◌<◌, ◌+◌, ◌∙◌, List, sym, ap, arith}
 use Rattle.std.specs.Prelude.{option_map, slice_get}
 use Rattle.ht_metric.specs.Jobs.{JobView}
 use Rattle.ht_capture.specs.Parts.{jobs_of}
@@ -6,37 +6,18 @@ use Rattle.ht_soft_blocks.specs.Blocks.{IsOfRate}
 use Rattle.ht_soft_blocks.specs.Halved.{halves_of_all}
 use Rattle.ht_feed.specs.Numbers.{with_number}
 use Rattle.ht_soft_blocks.proofs.Lists.{all_get}
-use Rattle.ht_soft_blocks.proofs.Parts.{get_half, length_some}
+use Rattle.ht_soft_blocks.proofs.Parts.{get_half, length_seen}
 use Rattle.ht_soft_blocks.proofs.Spots.{in_job, small}
 use Rattle.ht_soft_blocks.proofs.block.HalvesBlockJobs.job.Goals as goal
 
 pub overflow_add-behind : goal.overflow_add-behind
-overflow_add-behind c =
-    let b = c.self.inside in
-    let i = c.self.invariant in
-    let long : length c.args.self.now ≡ b.count = rw (← c.self.view_is) (length_some b.rate (jobs_of b.block.block) b.first b.count b.number i.within) in
-    let less = c.requires in
-    let few = i.few in
-    omega (arith, long, less, few)
+overflow_add-behind c = omega (arith, length_seen c.self.invariant c.self.view_is, c.requires, c.self.invariant.few)
 
 pub spot_of-spot-requires-clause-within : goal.spot_of-spot-requires-clause-within
-spot_of-spot-requires-clause-within c =
-    let b = c.self.inside in
-    let i = c.self.invariant in
-    let long : length c.args.self.now ≡ b.count = rw (← c.self.view_is) (length_some b.rate (jobs_of b.block.block) b.first b.count b.number i.within) in
-    let less = c.requires in
-    let within = i.within in
-    omega (arith, long, less, within)
+spot_of-spot-requires-clause-within c = omega (arith, length_seen c.self.invariant c.self.view_is, c.requires, c.self.invariant.within)
 
 pub overflow_add-self-inside : goal.overflow_add-self-inside
-overflow_add-self-inside c =
-    let b = c.self.inside in
-    let i = c.self.invariant in
-    let long : length c.args.self.now ≡ b.count = rw (← c.self.view_is) (length_some b.rate (jobs_of b.block.block) b.first b.count b.number i.within) in
-    let less = c.requires in
-    let fits = i.numbers in
-    let same = c.from.ensures in
-    omega (arith, long, less, fits, same)
+overflow_add-self-inside c = omega (arith, length_seen c.self.invariant c.self.view_is, c.requires, c.self.invariant.numbers, c.from.ensures)
 
 pub half_of_job-requires-clause-rate : goal.half_of_job-requires-clause-rate
 half_of_job-requires-clause-rate c =
@@ -54,10 +35,8 @@ half_of_job-requires-clause-within c =
 pub returns : goal.returns
 returns c =
     let b = c.self.inside in
-    let i = c.self.invariant in
     let spot = c.spot_of-spot.result in
-    let long : length c.args.self.now ≡ b.count = rw (← c.self.view_is) (length_some b.rate (jobs_of b.block.block) b.first b.count b.number i.within) in
-    let less : c.args.at < b.count = let e = c.requires in omega (arith, long, e) in
+    let less : c.args.at < b.count = omega (arith, length_seen c.self.invariant c.self.view_is, c.requires) in
     let all : List JobView = halves_of_all b.rate (jobs_of b.block.block) in
     rw (← c.self.view_is)
     (c.half_of_job.ensures

@@ -1,6 +1,0 @@
-use Rattle.std.proofs.Common.{List, ℕ, ap, length}
-use Rattle.ht_files.proofs.FrameRoutes.{length_frame}
-use Rattle.ht_files.proofs.frames.FramesEntries.size.Goals as goal
-
-pub returns : goal.returns
-returns c = length_frame c.args.frame.now (length c.octets.result.now) (ap (λ (z : List ℕ). length z) c.octets.ensures.value)

@@ -1,0 +1,13 @@
+use Rattle.std.proofs.Common.{Ok, take}
+use Rattle.ht_frames.specs.Gathering.{BooksJobs, booked_behind}
+use Rattle.ht_frames.proofs.Taking.{heads}
+use Rattle.ht_frames.proofs.gatherer.gather_block.Given as goal
+
+-- what was found for so many jobs was taken
+abbrev pub invariant-loop-at : goal.invariant-loop-at
+invariant-loop-at g l =
+    let b = g.B.Book in
+    let all = booked_behind g.U.Whole.WholeFrame.result_of b.booked in
+    let results = g.U.UnderWay.results in
+    BooksJobs {A = Unit {0}} (Ok tt) (b.shown l.fn.book) (b.shown l.book) (all l.fn.queue.items (results l.initial.under_way))
+    (all l.queue.items (results l.under_way)) (heads l.fn.head (take l.at (g.J.Jobs.jobs l.fn.block))) (b.lent l.fn.book) (b.lent l.book)

@@ -1,0 +1,92 @@
+//! This thread receives captures.
+ghost use Rattle.std.specs.Prelude.{◌≡◌, ◌≤◌, length, map, IfOk};
+ghost use Rattle.ht_io.specs.Writing.{Growing};
+ghost use Rattle.ht_results.specs.Texts.{rx_text};
+ghost use Rattle.ht_several.specs.Several.{devices};
+ghost use Rattle.ht_many.specs.CaptureLanes.{AreNew};
+ghost use Rattle.ht_many.specs.Receiving.{ReceivesEach};
+
+use crate::capture_lane::{CaptureLane, open_lanes};
+use crate::ending::end_all;
+use ht_bundles::Bundled;
+use ht_feed::Gate;
+use ht_frames::HitWork;
+use ht_io::{GrowSink, Sink, Source};
+use ht_lanes::run_alone;
+use ht_several::{ManyEnd, have_text, sinks_of, sources_of};
+use std::alloc::{AllocError, Global};
+
+/// This thread receives captures, and runs every job between the two calls of the gate. At most `window` jobs are due at a
+/// time, of all captures together.
+#[derive(Drop)]
+pub(crate) struct Alone<'g, G> {
+    pub(crate) alloc: Global,
+    pub(crate) window: u16,
+    pub(crate) gate: &'g G,
+    pub(crate) ghost some: { 1 ≤ window },
+    pub(crate) ghost few: { window ≤ 4096 },
+}
+
+impl<'g, G: Gate> Alone<'g, G> {
+    // Runs the jobs of all lanes until no lane gives a block any more, has each lane put what it keeps back, and then puts the
+    // last line of each capture.
+    fn run<S: Source, K: Sink>(
+        &self,
+        lanes: &mut [CaptureLane],
+        sources: &mut [S],
+        sinks: &mut [K],
+    ) -> Result<Vec<ManyEnd>, AllocError>
+        requires new { AreNew lanes.old }
+        requires sources { length sources.old ≡ length lanes.old }
+        requires sinks { length sinks.old ≡ length lanes.old }
+        ensures { ReceivesEach S.shown K.shown result (devices sources.old sinks.old) (devices sources.new sinks.new) }
+    {
+        let work = HitWork {
+            alloc: self.alloc,
+            gate: self.gate,
+        };
+        match run_alone::<CaptureLane, S, K, HitWork<G>>(
+            self.alloc,
+            self.window,
+            &work,
+            lanes,
+            sources,
+            sinks,
+        ) {
+            Ok(()) => end_all(self.alloc, lanes, sinks),
+            Err(lack) => Err(lack),
+        }
+    }
+
+    /// Receives captures beside one another, each from its own source and into its own sink, and answers how each ended, in
+    /// their order. The only error is lack of memory.
+    pub(crate) fn receive<S: Source, K: Sink>(
+        &self,
+        sources: &mut [S],
+        sinks: &mut [K],
+    ) -> Result<Vec<ManyEnd>, AllocError>
+        requires pairs { length sinks.old ≡ length sources.old }
+        ensures { ReceivesEach S.shown K.shown result (devices sources.old sinks.old) (devices sources.new sinks.new) }
+    {
+        let mut lanes = match open_lanes(self.alloc, sources.len()) {
+            Ok(lanes) => lanes,
+            Err(lack) => return Err(lack),
+        };
+        self.run(&mut lanes, sources, sinks)
+    }
+
+    /// The text of each capture. These sources never fail, and these sinks only for lack of memory.
+    pub(crate) fn texts(&self, captures: Vec<Bundled>) -> Result<Vec<GrowSink>, AllocError>
+        ensures { IfOk result (λ sinks. map (λ (s : Growing). s.held) sinks.items ≡ map rx_text captures.items) }
+    {
+        let count = captures.len();
+        let mut sources = sources_of(self.alloc, captures)?;
+        let mut sinks = sinks_of(self.alloc, count)?;
+        let ends = self.receive(&mut sources, &mut sinks)?;
+        if have_text(&ends) {
+            Ok(sinks)
+        } else {
+            Err(AllocError)
+        }
+    }
+}

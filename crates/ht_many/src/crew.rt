@@ -1,0 +1,190 @@
+//! A crew of workers receives captures, or each worker receives its own whole.
+ghost use Rattle.std.specs.Prelude.{◌≡◌, ◌≤◌, length, map, IfOk};
+ghost use Rattle.ht_io.specs.Writing.{Growing};
+ghost use Rattle.ht_results.specs.Texts.{rx_text};
+ghost use Rattle.ht_lanes.specs.Lanes.{AreFresh, RunsLanes, sides_of};
+ghost use Rattle.ht_several.specs.Several.{devices};
+ghost use Rattle.ht_many.specs.CaptureLanes.{AreNew};
+ghost use Rattle.ht_many.specs.Receiving.{ReceivesEach};
+
+use crate::alone::Alone;
+use crate::apart::{are_even, texts_apart};
+use crate::capture_lane::{CrewLane, open_crew_lanes};
+use crate::ending::end_all;
+use circular_buffer::HeapCircularBuffer;
+use ht_bundles::Bundled;
+use ht_drive::drive;
+use ht_feed::{Gate, Shared, Work};
+use ht_frames::{BesideFrames, Frames};
+use ht_io::{GrowSink, Sink, Source};
+use ht_lanes::{Lane, LaneBlock, Lanes, finish_lanes};
+use ht_rx::{TallyWork, WholeLabels};
+use ht_several::{ManyEnd, have_text, sinks_of, sources_of};
+use std::alloc::{AllocError, Global};
+use std::sync::Wait;
+use std::thread::Threads;
+
+// Runs all blocks of lanes that gave none yet by a crew, and hands each lane the answers to its own. Behind the last one each
+// puts what it keeps back. Of what a lane is nothing is known here but that it is one. The only error is lack of memory.
+fn run_in_crew<
+    R: Threads + Wait + Sync,
+    L: Lane<S, K>,
+    S,
+    K,
+    W: Work<LaneBlock<L::Block>, Answer = L::Answer> + Sync,
+>(
+    rt: &R,
+    alloc: Global,
+    workers: u8,
+    window: u16,
+    work: &W,
+    lanes: &mut [L],
+    sources: &mut [S],
+    sinks: &mut [K],
+) -> Result<(), AllocError>
+where
+    L::Block: Shared + Send + Sync,
+    L::Answer: Send + Sync,
+    requires least { 1 ≤ workers }
+    requires most { workers ≤ 64 }
+    requires some { 1 ≤ window }
+    requires few { window ≤ 4096 }
+    requires fresh { AreFresh L.due lanes.old }
+    requires sources { length sources.old ≡ length lanes.old }
+    requires sinks { length sinks.old ≡ length lanes.old }
+    ensures { RunsLanes L.leads L.due L.rests L.over L.finished result
+        (sides_of lanes.old sources.old sinks.old) (sides_of lanes.new sources.new sinks.new) }
+{
+    let Ok(mut due) = HeapCircularBuffer::with_capacity(alloc, 1) else {
+        return Err(AllocError);
+    };
+    let mut feed = Lanes::new(lanes, sources, sinks, &mut due);
+    match drive(rt, alloc, workers, window, work, &mut feed) {
+        Ok(_) => {
+            finish_lanes::<L, S, K>(lanes, sinks);
+            Ok(())
+        }
+        Err(_) => Err(AllocError),
+    }
+}
+
+/// A crew of workers receives captures, of which the caller is one. At most `window` jobs are due at a time, of all captures
+/// together.
+#[derive(Drop)]
+pub(crate) struct Crew<'c, R, G> {
+    pub(crate) rt: &'c R,
+    pub(crate) alloc: Global,
+    pub(crate) workers: u8,
+    pub(crate) window: u16,
+    pub(crate) gate: &'c G,
+    pub(crate) ghost least: { 1 ≤ workers },
+    pub(crate) ghost most: { workers ≤ 64 },
+    pub(crate) ghost some: { 1 ≤ window },
+    pub(crate) ghost few: { window ≤ 4096 },
+}
+
+impl<'c, R: Threads + Wait + Sync, G: Gate + Sync> Crew<'c, R, G> {
+    // Does as `Alone::run`, and the jobs are run by the workers, who decode the whole frames that they find there before they
+    // look for jobs.
+    fn run<S: Source, K: Sink>(
+        &self,
+        frames: &Frames<WholeLabels>,
+        lanes: &mut [CrewLane<'_, R>],
+        sources: &mut [S],
+        sinks: &mut [K],
+    ) -> Result<Vec<ManyEnd>, AllocError>
+        requires new { AreNew lanes.old }
+        requires sources { length sources.old ≡ length lanes.old }
+        requires sinks { length sinks.old ≡ length lanes.old }
+        ensures { ReceivesEach S.shown K.shown result (devices sources.old sinks.old) (devices sources.new sinks.new) }
+    {
+        let work = BesideFrames {
+            work: TallyWork {
+                alloc: self.alloc,
+                gate: self.gate,
+            },
+            frames,
+        };
+        match run_in_crew::<R, CrewLane<R>, S, K, BesideFrames<TallyWork<G>, WholeLabels>>(
+            self.rt,
+            self.alloc,
+            self.workers,
+            self.window,
+            &work,
+            lanes,
+            sources,
+            sinks,
+        ) {
+            Ok(()) => end_all(self.alloc, lanes, sinks),
+            Err(lack) => Err(lack),
+        }
+    }
+
+    /// Does as [`Alone::receive`]. The workers decode the whole frames of 100 octets or more of all captures, but those that
+    /// the caller decodes, except where it is the only worker.
+    pub(crate) fn receive<S: Source, K: Sink>(
+        &self,
+        sources: &mut [S],
+        sinks: &mut [K],
+    ) -> Result<Vec<ManyEnd>, AllocError>
+        requires pairs { length sinks.old ≡ length sources.old }
+        ensures { ReceivesEach S.shown K.shown result (devices sources.old sinks.old) (devices sources.new sinks.new) }
+    {
+        if self.workers == 1 {
+            let alone = Alone {
+                alloc: self.alloc,
+                window: self.window,
+                gate: self.gate,
+            };
+            return alone.receive(sources, sinks);
+        }
+        let frames = Frames::new(self.alloc);
+        let mut lanes = match open_crew_lanes(
+            self.rt,
+            self.alloc,
+            self.workers,
+            &frames,
+            sources.len(),
+        ) {
+            Ok(lanes) => lanes,
+            Err(lack) => return Err(lack),
+        };
+        self.run(&frames, &mut lanes, sources, sinks)
+    }
+
+    // The text of each capture, of captures that are received beside one another.
+    fn texts_together(&self, captures: Vec<Bundled>) -> Result<Vec<GrowSink>, AllocError>
+        ensures { IfOk result (λ sinks. map (λ (s : Growing). s.held) sinks.items ≡ map rx_text captures.items) }
+    {
+        let count = captures.len();
+        let mut sources = sources_of(self.alloc, captures)?;
+        let mut sinks = sinks_of(self.alloc, count)?;
+        let ends = self.receive(&mut sources, &mut sinks)?;
+        if have_text(&ends) {
+            Ok(sinks)
+        } else {
+            Err(AllocError)
+        }
+    }
+
+    /// The text of each capture. Where the captures that are dealt to each worker have about as many octets, each worker
+    /// receives its own whole, and else one crew the jobs of all.
+    pub(crate) fn texts(&self, captures: Vec<Bundled>) -> Result<Vec<GrowSink>, AllocError>
+        ensures { IfOk result (λ sinks. map (λ (s : Growing). s.held) sinks.items ≡ map rx_text captures.items) }
+    {
+        if 1 < self.workers
+            && u16::from(self.workers) <= self.window
+            && are_even(&captures, self.workers)
+        {
+            return texts_apart(
+                self.rt,
+                self.alloc,
+                self.workers,
+                self.window,
+                captures,
+                self.gate,
+            );
+        }
+        self.texts_together(captures)
+    }
+}
