@@ -1,5 +1,4 @@
 //! The drive over random jobs, by one worker or more.
-ghost use Rattle.std.specs.Prelude.{◌≡◌, ◌≤◌};
 
 use crate::jobs::JobKind;
 use crate::rounds::Rounds;

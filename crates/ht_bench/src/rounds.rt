@@ -1,6 +1,5 @@
 //! A feed that goes over the same jobs again and again.
-ghost use Rattle.std.specs.Prelude.{◌≡◌, ◌*◌, ◌+◌, ◌-◌, ◌^◌, ◌<◌, ◌≤◌, length, false, Some, slice_get, IfOk, IfErr, IfSome, IfNone, OnOk};
-ghost use Rattle.ht_crew.specs.Feeds.{FeedView, GivesJob, EndsJobs, TakesHit, Fails, GivesAsBefore};
+ghost use Rattle.std.specs.Prelude.{◌≡◌, ◌*◌, ◌+◌, ◌-◌, ◌<◌, length, false, Some};
 ghost use Rattle.ht_bench.specs.Rounds.{fresh, shown};
 
 use crate::jobs::JOBS;

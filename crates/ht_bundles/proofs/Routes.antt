@@ -9,7 +9,7 @@ use Rattle.ht_io.specs.Devices.{Device, Takes, IsLater}
 use Rattle.ht_io.specs.declared.faults.InFault.{InFault}
 use Rattle.ht_io.specs.declared.faults.InFault.TheVariants.{Format, Read, NoMemory}
 use Rattle.ht_io.proofs.Calls.{takes-append}
-use Rattle.ht_fields.specs.Cases.{IsFile}
+use Rattle.ht_fields.specs.FormatLaws.{AreFiles, WritesFiles}
 use Rattle.ht_fields.specs.Grammar.{Verdict, Good}
 use Rattle.ht_fields.specs.Lacking.{LacksField}
 use Rattle.ht_fields.specs.Readers.{reader_in}
@@ -22,7 +22,7 @@ use Rattle.ht_fields.proofs.Readers.{field_is, width_is}
 use Rattle.ht_fields.proofs.Routes.{Route, route_field, route_from, route_then, route_to}
 use Rattle.ht_heads.specs.Starts.{StartState, Body}
 use Rattle.ht_counted.specs.Counted.{IsCount, IsCounted}
-use Rattle.ht_counted.proofs.Counting.{entry_is, leads_by, same, written}
+use Rattle.ht_counted.proofs.Counting.{are_files, entry_is, leads_by}
 use Rattle.ht_bundles.specs.Formats.{CaptureState, Size, Octets, bundled, bundles, captures_due, capture_limits, octets_due, size_given}
 use Rattle.ht_bundles.specs.Formats.{good_octets, good_size}
 use Rattle.ht_bundles.specs.Files.{AreCaptures, IsSized, bundle_of, sized_octets}
@@ -91,14 +91,13 @@ are_counted = record {
   room = omega arith;
 }
 
-pub bundle_written : (cs : List (List ℕ)) → AreCaptures cs → IsFile bundles (bundle_of cs) cs
+-- what holds of bundles
+pub bundle_files : AreFiles bundles AreCaptures bundle_of
 unfolding bundle_of
-bundle_written = written bundled sized_octets IsSized 4294967300 are_counted
+bundle_files = are_files bundled sized_octets IsSized 4294967300 are_counted
 
--- captures of one bundle
-pub captures_same : (cs ds : List (List ℕ)) → AreCaptures cs → AreCaptures ds → bundle_of cs ≡ bundle_of ds → cs ≡ ds
-unfolding bundle_of
-captures_same = same bundled sized_octets IsSized 4294967300 are_counted
+pub bundle_written : WritesFiles bundles AreCaptures bundle_of
+bundle_written = bundle_files.written
 
 -- a capture, as it was read
 pub takes_capture : (c octets : List ℕ) (size : ℕ) (a b d : Device ℕ) → c ≡ octets → length octets ≡ size

@@ -34,7 +34,7 @@ fn capture_limits() -> Limits
 
 // Reads the number of a capture's octets.
 fn size<S: Source>(source: &mut S, at: u64) -> Result<u32, InFault>
-    requires room { at + 4 < 2 ^ 64 }
+    requires offset { at + 4 < 2 ^ 64 }
     ensures whole { IfOk result (λ size. Takes (S.shown source.old) (S.shown source.new) (big_bytes 4 size)) }
     ensures fits { IfOk result (λ size. size < 2 ^ 32) }
     ensures lacking { IfErr result (LacksField 4 at (S.shown source.old) (S.shown source.new)) }
@@ -56,7 +56,7 @@ fn piece<S: Source>(
     octets: &mut Vec<u8>,
 ) -> Result<(), InFault>
     requires few { count ≤ length piece.old }
-    requires room { at + count < 2 ^ 64 }
+    requires offset { at + count < 2 ^ 64 }
     ensures piece { length piece.new ≡ length piece.old }
     ensures read { OnOk result ((piece : List ℕ) × (length piece ≡ count) × (octets.new.items ≡ octets.old.items ++ piece)
         × Takes (S.shown source.old) (S.shown source.new) piece) }
@@ -64,14 +64,9 @@ fn piece<S: Source>(
     ensures later { IsLater (S.shown source.old) (S.shown source.new) }
 {
     let piece = &mut piece[..count];
-    match fill(source, at, piece) {
-        Ok(()) => {}
-        Err(fault) => return Err(fault),
-    }
-    match octets.extend_from_slice(piece) {
-        Ok(()) => Ok(()),
-        Err(_) => Err(InFault::NoMemory),
-    }
+    fill(source, at, piece)?;
+    octets.extend_from_slice(piece)?;
+    Ok(())
 }
 
 // Reads this number of octets, piece by piece. Memory is taken as they come.
@@ -82,7 +77,7 @@ fn octets<S: Source>(
     size: u32,
     room: &mut [u8],
 ) -> Result<Vec<u8>, InFault>
-    requires room { at + size < 2 ^ 64 }
+    requires offset { at + size < 2 ^ 64 }
     requires piece { length room.old ≡ 65536 }
     ensures piece { length room.new ≡ length room.old }
     ensures whole { IfOk result (λ octets. Takes (S.shown source.old) (S.shown source.new) octets.items) }
@@ -110,7 +105,7 @@ fn capture<S: Source>(
     at: u64,
     room: &mut [u8],
 ) -> Result<Bundled, InFault>
-    requires room { at + 4294967300 < 2 ^ 64 }
+    requires offset { at + 4294967300 < 2 ^ 64 }
     requires piece { length room.old ≡ 65536 }
     ensures piece { length room.new ≡ length room.old }
     ensures whole { IfOk result (λ capture. Takes (S.shown source.old) (S.shown source.new) (sized_octets capture)) }
@@ -124,7 +119,7 @@ fn capture<S: Source>(
         Err(fault) => return Err(fault),
     };
     match octets(alloc, source, at + 4, size, room) {
-        Ok(octets) => Ok(Bundled::new(octets)),
+        Ok(octets) => Ok(Bundled::from(octets)),
         Err(fault) => Err(fault),
     }
 }
@@ -156,7 +151,7 @@ impl Entries for Captures {
     }
 
     fn size(capture: &Bundled) -> u64 {
-        4 + capture.octets().len() as u64
+        4 + capture.as_slice().len() as u64
     }
 }
 

@@ -8,6 +8,7 @@ pub mod Files
 pub mod Contents
 pub mod Taking
 pub mod Reading
+pub mod Gathered
 pub mod Readers
 pub mod Parts
 pub mod Presents

@@ -1,11 +1,16 @@
 //! The subcarriers of a frame, with their triangles.
-ghost use Rattle.std.specs.Prelude.{◌≡◌, ◌<◌, ◌≤◌, ◌+◌, ◌*◌, ◌^◌, ℕ, List, [], Ok, true, length, take, MatchResult, IfOk};
+ghost use Rattle.std.specs.Prelude.{◌≡◌, ◌<◌, ◌≤◌, ◌+◌, ◌*◌, ◌^◌, List, [], ◌∷◌, ◌++◌, Ok, true, length, take, MatchResult, IfOk};
 ghost use Rattle.ht_io.specs.Devices.{IsLater};
+ghost use Rattle.ht_fields.specs.Readers.{Gives};
+ghost use Rattle.ht_rate.specs.declared.rates.Rate.{Rate as RateValue};
 ghost use Rattle.ht_rate.specs.Rates.{carriers_of, streams_of};
+ghost use Rattle.ht_capture.specs.declared.items.FrameHead.{FrameHead as FrameHeadValue};
 ghost use Rattle.ht_capture.specs.declared.places.Present.{Present as PresentValue};
+ghost use Rattle.ht_capture.specs.declared.places.Turn.{Turn as TurnValue};
 ghost use Rattle.ht_capture.specs.Frames.{erase};
-ghost use Rattle.ht_capture.specs.Fields.{Triangle, carriers_due, first_symbol};
-ghost use Rattle.ht_capture.specs.Reading.{AreSeen, Flagged, ReachesCarrier, ReachesSymbol, SameFrame, here};
+ghost use Rattle.ht_capture.specs.Fields.{carriers_due, first_symbol, head_given};
+ghost use Rattle.ht_capture.specs.Gathered.{at_carrier, at_triangle};
+ghost use Rattle.ht_capture.specs.Reading.{AreSeen, Flagged, ReachesSymbol, SameFrame, here};
 ghost use Rattle.ht_capture.specs.Taking.{Adds, AreRead, Keeps, TakesFlag, triangles_of};
 ghost use Rattle.ht_fields.specs.WholeFiles.{Halts};
 
@@ -13,6 +18,8 @@ use crate::items::FrameHead;
 use crate::places::{Present, Turn};
 use crate::{fields, numbers};
 use ht_io::{InFault, Source};
+use ht_metric::Triangle;
+use ht_rate::Rate;
 
 /// How far the subcarriers of a frame were read: the number of those that are present, and the offset behind them.
 #[derive(Clone, Copy, Debug, PartialEq, Eq)]
@@ -33,34 +40,43 @@ fn erased(head: &FrameHead, carrier: u8) -> FrameHead
     }
 }
 
+// Keeps a subcarrier that is present behind those that were kept.
+fn keep(present: &mut [Present], count: usize, carrier: u8, triangle: Triangle)
+    requires { count < length present.old }
+    ensures kept { take (count + 1) present.new ≡ take count present.old ++ record { carrier = carrier; triangle = triangle } ∷ [] }
+    ensures seen { (rate : RateValue) → AreSeen rate count present.old → carrier < carriers_of rate → length triangle ≡ streams_of rate
+        → AreSeen rate (count + 1) present.new }
+{
+    present[count] = Present { carrier, triangle };
+}
+
 // Reads the triangle of a subcarrier that is present.
 fn plain<S: Source>(
     source: &mut S,
-    turn: &Turn,
-    head: &FrameHead,
+    rate: &Rate,
     carrier: u8,
     present: &mut [Present],
     so_far: Gathered,
 ) -> Result<Gathered, InFault>
-    requires room { so_far.at + 32 < 2 ^ 64 }
+    requires offset { so_far.at + 32 < 2 ^ 64 }
     requires space { so_far.count < length present.old }
-    requires carrier { carrier < carriers_of head.now.rate }
-    requires seen { AreSeen head.now.rate so_far.count present.old }
-    ensures told { MatchResult result
-        (λ g. ReachesCarrier (here (Triangle turn.now head.now carrier (take so_far.count present.old)) so_far.at (S.shown source.old))
-        turn.now head.now (carrier + 1) (take g.count present.new) g.at (S.shown source.new))
-        (Halts (here (Triangle turn.now head.now carrier (take so_far.count present.old)) so_far.at (S.shown source.old)) (S.shown source.new)) }
+    requires carrier { carrier < carriers_of rate.now }
+    requires seen { AreSeen rate.now so_far.count present.old }
+    ensures told { (turn : TurnValue) (head : FrameHeadValue) → head.rate ≡ rate.now → MatchResult result
+        (λ g. Gives (at_triangle turn head carrier present.old so_far (S.shown source.old))
+        (at_carrier turn head (carrier + 1) present.new g (S.shown source.new)) (head_given head (carrier + 1)))
+        (Halts (at_triangle turn head carrier present.old so_far (S.shown source.old)) (S.shown source.new)) }
     ensures count { IfOk result (λ g. g.count ≡ so_far.count + 1) }
     ensures place { IfOk result (λ g. g.at ≤ so_far.at + 32) }
-    ensures seen { IfOk result (λ g. AreSeen head.now.rate g.count present.new) }
-    ensures added { IfOk result (λ g. Keeps (streams_of head.now.rate) [] carrier
+    ensures seen { IfOk result (λ g. AreSeen rate.now g.count present.new) }
+    ensures added { IfOk result (λ g. Keeps (streams_of rate.now) [] carrier
         (take so_far.count present.old) (take g.count present.new) (S.shown source.old) (S.shown source.new)) }
     ensures later { IsLater (S.shown source.old) (S.shown source.new) }
 {
-    let width = numbers::triangle_width(head.rate.streams());
-    match fields::triangle(source, so_far.at, &head.rate) {
+    let width = numbers::triangle_width(rate.streams());
+    match fields::triangle(source, so_far.at, rate) {
         Ok(triangle) => {
-            present[so_far.count] = Present { carrier, triangle };
+            keep(present, so_far.count, carrier, triangle);
             Ok(Gathered {
                 count: so_far.count + 1,
                 at: so_far.at + width as u64,
@@ -79,7 +95,7 @@ fn is_erased<S: Source>(
     carrier: u8,
     count: usize,
 ) -> Result<bool, InFault>
-    requires room { at.old + 1 < 2 ^ 64 }
+    requires offset { at.old + 1 < 2 ^ 64 }
     requires carrier { carrier < carriers_of head.now.rate }
     ensures told { (present : List PresentValue) → length present ≡ count → MatchResult result
         (Flagged (carriers_due turn.now head.now carrier present) turn.now head.now carrier present at.old at.new (S.shown source.old) (S.shown source.new))
@@ -110,15 +126,15 @@ fn carrier<S: Source>(
     present: &mut [Present],
     so_far: Gathered,
 ) -> Result<Gathered, InFault>
-    requires room { so_far.at + 33 < 2 ^ 64 }
+    requires offset { so_far.at + 33 < 2 ^ 64 }
     requires space { so_far.count < length present.old }
     requires carrier { carrier < carriers_of head.old.rate }
     requires few { carriers_of head.old.rate ≤ 114 }
     requires seen { AreSeen head.old.rate so_far.count present.old }
     ensures told { MatchResult result
-        (λ g. ReachesCarrier (here (carriers_due turn.now head.old carrier (take so_far.count present.old)) so_far.at (S.shown source.old))
-        turn.now head.new (carrier + 1) (take g.count present.new) g.at (S.shown source.new))
-        (Halts (here (carriers_due turn.now head.old carrier (take so_far.count present.old)) so_far.at (S.shown source.old)) (S.shown source.new)) }
+        (λ g. Gives (at_carrier turn.now head.old carrier present.old so_far (S.shown source.old))
+        (at_carrier turn.now head.new (carrier + 1) present.new g (S.shown source.new)) (head_given head.new (carrier + 1)))
+        (Halts (at_carrier turn.now head.old carrier present.old so_far (S.shown source.old)) (S.shown source.new)) }
     ensures same { SameFrame head.new head.old }
     ensures count { IfOk result (λ g. (so_far.count ≤ g.count) × (g.count ≤ so_far.count + 1)) }
     ensures some { IfOk result (λ g. carrier + 1 ≡ carriers_of head.old.rate → 0 < g.count) }
@@ -136,8 +152,7 @@ fn carrier<S: Source>(
         }
         Ok(false) => match plain(
             source,
-            turn,
-            head,
+            &head.rate,
             carrier,
             present,
             Gathered { at, ..so_far },
@@ -157,7 +172,7 @@ pub fn carriers<S: Source>(
     present: &mut [Present],
     at: u64,
 ) -> Result<Gathered, InFault>
-    requires room { at + 3762 < 2 ^ 64 }
+    requires offset { at + 3762 < 2 ^ 64 }
     requires space { length present.old ≡ 114 }
     requires none { head.old.erased ≡ 0 }
     ensures told { MatchResult result

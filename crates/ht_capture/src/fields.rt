@@ -1,5 +1,5 @@
 //! The fields that only captures have, each read whole and judged.
-ghost use Rattle.std.specs.Prelude.{◌≡◌, ◌<◌, ◌≤◌, ◌+◌, ◌^◌, ℕ, List, [], ◌∷◌, ◌++◌, true, Ok, length, take, MatchResult, IfOk, OnOk};
+ghost use Rattle.std.specs.Prelude.{◌≡◌, ◌<◌, ◌≤◌, ◌+◌, ◌^◌, ℕ, List, [], ◌∷◌, true, Ok, length, take, MatchResult, IfOk, OnOk};
 ghost use Rattle.byteorder.specs.Endian.{big_bytes};
 ghost use Rattle.ht_io.specs.Devices.{Takes, IsLater};
 ghost use Rattle.ht_fields.specs.Readers.{Gives};
@@ -11,7 +11,8 @@ ghost use Rattle.ht_capture.specs.declared.items.Item.{Item as ItemValue};
 ghost use Rattle.ht_capture.specs.declared.places.Present.{Present as PresentValue};
 ghost use Rattle.ht_capture.specs.declared.places.Turn.{Turn as TurnValue};
 ghost use Rattle.ht_capture.specs.Fields.{CaptureState, Version, Count, Flag, Triangle as TriangleState};
-ghost use Rattle.ht_capture.specs.Fields.{turn_due, carriers_due, head_given, known_version, bad_flag};
+ghost use Rattle.ht_capture.specs.Fields.{turn_due, known_version, bad_flag};
+ghost use Rattle.ht_capture.specs.Gathered.{ReadsTriangle};
 ghost use Rattle.ht_capture.specs.Files.{flag_octet, legs_octets};
 ghost use Rattle.ht_capture.specs.Contents.{AreLegs};
 ghost use Rattle.ht_capture.specs.Systems.{triangle_octets};
@@ -34,7 +35,7 @@ fn is_known(version: u8) -> bool
 
 /// Reads the version, 1 or 2.
 pub fn version<S: Source>(source: &mut S, at: u64) -> Result<u8, InFault>
-    requires room { at + 1 < 2 ^ 64 }
+    requires offset { at + 1 < 2 ^ 64 }
     ensures told { MatchResult result
         (λ version. Gives (here Version at (S.shown source.old)) (here (Count version) (at + 1) (S.shown source.new)) [])
         (Halts (here Version at (S.shown source.old)) (S.shown source.new)) }
@@ -56,7 +57,7 @@ pub fn version<S: Source>(source: &mut S, at: u64) -> Result<u8, InFault>
 
 /// Reads the number of frames.
 pub fn frames<S: Source>(source: &mut S, at: u64, version: u8) -> Result<Turn, InFault>
-    requires room { at + 2 < 2 ^ 64 }
+    requires offset { at + 2 < 2 ^ 64 }
     ensures told { MatchResult result
         (λ turn. Gives (here (Count version) at (S.shown source.old)) (here (turn_due turn) (at + 2) (S.shown source.new)) [])
         (Halts (here (Count version) at (S.shown source.old)) (S.shown source.new)) }
@@ -94,7 +95,7 @@ pub fn flag<S: Source>(
     carrier: u8,
     count: usize,
 ) -> Result<bool, InFault>
-    requires room { at + 1 < 2 ^ 64 }
+    requires offset { at + 1 < 2 ^ 64 }
     requires carrier { carrier < carriers_of head.now.rate }
     ensures told { (turn : TurnValue) (present : List PresentValue) → length present ≡ count → MatchResult result
         (Flagged (Flag turn head.now carrier present) turn head.now carrier present at (at + 1) (S.shown source.old) (S.shown source.new))
@@ -124,7 +125,7 @@ pub fn field<S: Source>(
     width: usize,
     buffer: &mut [u8],
 ) -> Result<(), InFault>
-    requires room { at + width < 2 ^ 64 }
+    requires offset { at + width < 2 ^ 64 }
     requires space { width ≤ length buffer.old }
     ensures told { (due next : CaptureState) (items : List ItemValue) → IsGood due (take width buffer.new) next items → MatchResult result
         (λ _. Gives (here due at (S.shown source.old)) (here next (at + width) (S.shown source.new)) items)
@@ -142,12 +143,9 @@ pub fn field<S: Source>(
 
 /// Reads the triangle of a subcarrier.
 pub fn triangle<S: Source>(source: &mut S, at: u64, rate: &Rate) -> Result<Triangle, InFault>
-    requires room { at + 32 < 2 ^ 64 }
+    requires offset { at + 32 < 2 ^ 64 }
     ensures told { (turn : TurnValue) (head : FrameHeadValue) (carrier : ℕ) (present : List PresentValue) → head.rate ≡ rate.now → MatchResult result
-        (λ legs. Gives (here (TriangleState turn head carrier present) at (S.shown source.old))
-        (here (carriers_due turn head (carrier + 1) (present ++ record { carrier = carrier; triangle = legs } ∷ []))
-        (at + triangle_octets (streams_of rate.now)) (S.shown source.new))
-        (head_given head (carrier + 1)))
+        (ReadsTriangle turn head carrier present at (at + triangle_octets (streams_of rate.now)) (S.shown source.old) (S.shown source.new))
         (Halts (here (TriangleState turn head carrier present) at (S.shown source.old)) (S.shown source.new)) }
     ensures streams { IfOk result (λ legs. length legs ≡ streams_of rate.now) }
     ensures octets { IfOk result (λ legs. Takes (S.shown source.old) (S.shown source.new) (legs_octets legs)) }

@@ -1,5 +1,5 @@
 //! The beginning of a capture and the head of a frame.
-ghost use Rattle.std.specs.Prelude.{◌≡◌, ◌<◌, ◌≤◌, ◌+◌, ◌^◌, ℕ, [], true, MatchResult, IfOk, OnOk};
+ghost use Rattle.std.specs.Prelude.{◌≡◌, ◌<◌, ◌≤◌, ◌+◌, ◌^◌, [], true, MatchResult, IfOk, OnOk};
 ghost use Rattle.ht_io.specs.Devices.{Takes, IsLater};
 ghost use Rattle.ht_fields.specs.Readers.{Gives};
 ghost use Rattle.ht_capture.specs.Fields.{Version, capture_magic, capture_magic_due, turn_due, carriers_due, known_version};
@@ -53,7 +53,7 @@ pub fn start<S: Source>(source: &mut S) -> Result<Turn, InFault>
 
 /// Reads bandwidth, MCS and length of the next frame.
 pub fn head<S: Source>(source: &mut S, at: u64, turn: &Turn) -> Result<FrameHead, InFault>
-    requires room { at + 4 < 2 ^ 64 }
+    requires offset { at + 4 < 2 ^ 64 }
     requires left { 0 < turn.now.left }
     ensures told { MatchResult result
         (λ head. Gives (here (turn_due turn.now) at (S.shown source.old)) (here (carriers_due turn.now head 0 []) (at + 4) (S.shown source.new)) [])

@@ -1,11 +1,11 @@
 //! The parts of a capture that a reader reads at once.
 ghost use Rattle.std.specs.Prelude.{◌≡◌, ◌<◌, ◌≤◌, ◌+◌, ◌*◌, ◌^◌, List, length, take, MatchResult, IfOk};
 ghost use Rattle.ht_io.specs.Devices.{Takes, IsLater};
-ghost use Rattle.ht_fields.specs.Readers.{Finishes, Gives};
+ghost use Rattle.ht_fields.specs.Readers.{Finishes};
 ghost use Rattle.ht_rate.specs.Rates.{carriers_of, symbols_of};
 ghost use Rattle.ht_capture.specs.declared.places.Present.{Present as PresentValue};
-ghost use Rattle.ht_capture.specs.Frames.{jobs_at};
-ghost use Rattle.ht_capture.specs.Fields.{Over, Symbol, turn_due, next_symbol, symbol_due};
+ghost use Rattle.ht_capture.specs.Fields.{Over, Symbol, turn_due};
+ghost use Rattle.ht_capture.specs.Gathered.{ReadsSymbol};
 ghost use Rattle.ht_capture.specs.Reading.{AreSeen, ReachesSymbol, here};
 ghost use Rattle.ht_capture.specs.Readers.{HasRoom, symbol_octets};
 ghost use Rattle.ht_fields.specs.WholeFiles.{Halts};
@@ -37,7 +37,7 @@ pub fn frame<S: Source>(
     turn: &Turn,
     present: &mut [Present],
 ) -> Result<(SymbolTurn, u64), InFault>
-    requires room { at + 3766 < 2 ^ 64 }
+    requires offset { at + 3766 < 2 ^ 64 }
     requires left { 0 < turn.now.left }
     requires space { length present.old ≡ 114 }
     ensures told { MatchResult result
@@ -109,9 +109,7 @@ pub fn symbol<S: Source>(
 ) -> Result<u64, InFault>
     requires { HasRoom due.now at samples.old }
     ensures told { (present : List PresentValue) → MatchResult result
-        (λ behind. Gives (here (Symbol due.now present) at (S.shown source.old))
-        (here (symbol_due (next_symbol due.now) present) behind (S.shown source.new))
-        (jobs_at due.now.head due.now.symbol due.now.turn.number present (take (symbol_octets due.now) samples.new) 0))
+        (ReadsSymbol due.now present (take (symbol_octets due.now) samples.new) at (S.shown source.old) (S.shown source.new))
         (Halts (here (Symbol due.now present) at (S.shown source.old)) (S.shown source.new)) }
     ensures octets { IfOk result (λ _. Takes (S.shown source.old) (S.shown source.new) (take (symbol_octets due.now) samples.new)) }
     ensures size { IfOk result (λ _. length (take (symbol_octets due.now) samples.new) ≡ symbol_octets due.now) }

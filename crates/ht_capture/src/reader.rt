@@ -265,7 +265,7 @@ impl Reader {
         ensures { GivesJob self.old self.new result }
     {
         let job = job_of(due, k, self.at, &self.present, &self.grid, &self.samples);
-        self.pass(due, k, 1);
+        self.move_past(due, k, 1);
         job
     }
 
@@ -378,7 +378,7 @@ impl Reader {
     }
 
     // Leaves jobs behind: the next one of their symbol is due, or what follows the symbol.
-    fn pass(&mut self, due: &SymbolTurn, k: usize, count: usize)
+    fn move_past(&mut self, due: &SymbolTurn, k: usize, count: usize)
         requires stage { self.old.stage ≡ Stage.Giving due.now k }
         requires fits { SymbolFits due.now 1 self.old.at self.old.present }
         requires some { 1 ≤ count }
@@ -429,7 +429,7 @@ impl Reader {
     {
         let symbol = self.lend(due, k)?;
         let count = (due.count - k).min(usize::from(most));
-        self.pass(due, k, count);
+        self.move_past(due, k, count);
         Ok(SymbolBlock::of(symbol, k as u16, count as u16))
     }
 

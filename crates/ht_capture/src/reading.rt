@@ -109,7 +109,7 @@ fn samples<S: Source>(
     at: &mut u64,
     due: &mut SymbolTurn,
 ) -> Result<Vec<Sample>, InFault>
-    requires room { at.old + 73565568 < 2 ^ 64 }
+    requires offset { at.old + 73565568 < 2 ^ 64 }
     requires number { due.old.turn.number + 2298924 < 2 ^ 64 }
     requires first { due.old.symbol ≡ 0 }
     requires symbols { due.old.symbols ≡ symbols_of due.old.head.rate due.old.head.length }
@@ -159,7 +159,7 @@ fn frame<S: Source>(
     turn: &mut Turn,
     at: &mut u64,
 ) -> Result<CaptureFrame, InFault>
-    requires room { at.old + 73569334 < 2 ^ 64 }
+    requires offset { at.old + 73569334 < 2 ^ 64 }
     requires number { turn.old.number + 2298924 < 2 ^ 64 }
     requires left { 0 < turn.old.left }
     requires frames { turn.old.frame + turn.old.left ≤ 65535 }

@@ -1,5 +1,5 @@
 //! Captures as they are written.
-ghost use Rattle.std.specs.Prelude.{◌≡◌, ◌≤◌, ◌<◌, ◌+◌, ◌*◌, ◌-◌, ◌++◌, ◌==◌, [], false, All, length, flat_map, slice_index_or, OnOk, OnErr};
+ghost use Rattle.std.specs.Prelude.{◌≡◌, ◌≤◌, ◌<◌, ◌+◌, ◌*◌, ◌-◌, ◌++◌, ◌==◌, false, All, length, flat_map, slice_index_or, OnOk, OnErr};
 ghost use Rattle.ht_io.specs.Devices.{Grows, GrowsByPart, Rose, IsLater};
 ghost use Rattle.ht_rate.specs.Rates.{carriers_of};
 ghost use Rattle.ht_metric.specs.Rows.{no_leg};

@@ -1,1 +1,2 @@
 pub mod Mapping
+mod Coming

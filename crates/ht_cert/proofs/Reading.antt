@@ -156,12 +156,12 @@ claim_failed turn m streams at a b c after fault left some few x later y later-c
     (halts_fails _ after fault (claim_halts turn m streams (at + 2) c after fault lacks))
 
 -- and were kept in the record
-pub marks_whole_as : (old : ReaderView Record) (turn : Turn) (r new : Record) (kept marks : List Bool) (count k at : ℕ) (source : Device ℕ)
-    → k ≡ count → kept ≡ marks → r.certificate.marks ≡ []
-    → new ≡ record { modulation = r.modulation; job = r.job; certificate = record { vector = r.certificate.vector; distance = r.certificate.distance; marks = kept } }
+pub marks_whole_as : (old : ReaderView Record) (turn : Turn) (r new : Record) (marks : List Bool) (count k at : ℕ) (source : Device ℕ)
+    → k ≡ count → r.certificate.marks ≡ []
+    → new ≡ record { modulation = r.modulation; job = r.job; certificate = record { vector = r.certificate.vector; distance = r.certificate.distance; marks = marks } }
     → GivesMarks old turn (with_marks r marks) (count - k) (at + k) source → Gives old (here (records_due (next_turn turn)) (at + count) source) (new ∷ [])
-marks_whole_as old turn r new kept marks count k at source end same none is g =
-    let all : new ≡ with_marks r marks = marks_set r new kept none is ∙ ap (with_marks r) same in
+marks_whole_as old turn r new marks count k at source end none is g =
+    let all : new ≡ with_marks r marks = marks_set r new marks none is in
     subst (λ n. Gives old (here (records_due (next_turn turn)) (at + n) source) (new ∷ [])) end
     (marks_whole old turn (with_marks r marks) new (count - k) (at + k) source (omega (arith, end)) all g)
 

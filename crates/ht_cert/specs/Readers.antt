@@ -24,10 +24,6 @@ use Rattle.ht_cert.specs.Records.{claim_width, claimed}
 abbrev pub here : StartState RecordState → ℕ → Device ℕ → ReaderView Record
 here state at source = reader_in certificates state at source
 
--- the octets of the meaning of a file of certificates
-abbrev pub certificates_in : List ℕ → Meaning Record
-certificates_in octets = meaning certificates certificates.start 0 octets
-
 -- triangle, samples, points and distance were taken, and the record has what they say, and no marks
 abbrev pub ReadsClaim : ℕ → Modulation → ℕ → Record → Device ℕ → Device ℕ → Type 0
 ReadsClaim number modulation streams r before after =

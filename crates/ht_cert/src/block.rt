@@ -1,7 +1,7 @@
 //! Records that are put together.
-ghost use Rattle.std.specs.Prelude.{◌≡◌, ◌≤◌, ◌++◌, [], length, map, OnOk, OnErr};
-ghost use Rattle.ht_io.specs.Devices.{Grows, GrowsByPart, Rose, IsLater};
+ghost use Rattle.std.specs.Prelude.{◌≡◌, ◌≤◌, ◌++◌, [], length, map, OnOk};
 ghost use Rattle.ht_cert.specs.Files.{mark_octet, record_octets, records_start};
+ghost use Rattle.ht_cert.specs.Puts.{PutsAll};
 
 use crate::record::Record;
 use crate::writing::{add_marks, front, start};
@@ -94,12 +94,7 @@ impl Block {
     ///
     /// Where the sink fails, a part of it from its front was put.
     pub fn put<K: Sink>(&mut self, sink: &mut K) -> Result<(), Failed>
-        ensures grown { OnOk result (Grows (K.shown sink.old) (K.shown sink.new) self.old) }
-        ensures none { OnOk result (self.new ≡ []) }
-        ensures steady { OnOk result ((K.shown sink.new).faults ≡ (K.shown sink.old).faults) }
-        ensures part { OnErr result (GrowsByPart (K.shown sink.old) (K.shown sink.new) self.old) }
-        ensures cause { OnErr result (Rose (K.shown sink.old) (K.shown sink.new)) }
-        ensures later { IsLater (K.shown sink.old) (K.shown sink.new) }
+        ensures { PutsAll (K.shown sink.old) (K.shown sink.new) self.old self.new result }
     {
         sink.put(&self.octets)?;
         self.octets.clear();

@@ -1,5 +1,5 @@
 //! The parts of a record from their octets.
-ghost use Rattle.std.specs.Prelude.{◌≡◌, ◌+◌, ◌*◌, ◌≤◌, [], length};
+ghost use Rattle.std.specs.Prelude.{◌≡◌, ◌+◌, ◌*◌, ◌≤◌, length};
 ghost use Rattle.ht_cert.specs.Records.{claim_width as claim_width_of, claimed, code_of, full_grid, modulation_at, point_at, points_at};
 ghost use Rattle.ht_cert.specs.Schemes.{scheme_of};
 
@@ -10,9 +10,6 @@ use ht_map::grid;
 use ht_metric::{Job, Place, System, Vector};
 use ht_pam::{Grid, Point};
 use ht_rate::{Modulation, Rate};
-use ht_witness::Marks;
-use std::alloc::Global;
-use std::mem;
 
 /// The modulation of a code, 0 to 3.
 pub fn modulation_of(code: u8) -> Modulation
@@ -89,20 +86,10 @@ pub fn claim_width(streams: u8) -> usize
     numbers::triangle_width(streams) + 10 * usize::from(streams) + 16
 }
 
-// No marks, in the memory of some.
-fn without_marks(alloc: Global, marks: &mut Marks) -> Marks
-    ensures { result ≡ [] }
-{
-    let mut memory = mem::replace(marks, Marks::from(Vec::new(alloc))).into_vec();
-    memory.clear();
-    Marks::from(memory)
-}
-
 /// Fills a record with the job and the claim of these octets, and leaves it without marks. The memory of the marks that it
 /// had is kept.
 #[tactic(auto, unfolding(crate::specs::Records::claimed))]
 pub fn fill_record(
-    alloc: Global,
     into: &mut Record,
     number: u64,
     modulation: Modulation,
@@ -133,5 +120,5 @@ pub fn fill_record(
     );
     into.certificate.vector = points(streams, octets, points_at);
     into.certificate.distance = BigEndian::read_u128(&octets[distance_at..]);
-    into.certificate.marks = without_marks(alloc, &mut into.certificate.marks);
+    into.certificate.marks.clear();
 }

@@ -20,8 +20,6 @@ use ht_heads::{Limits, count};
 use ht_io::{InFault, Kind, Source};
 use ht_rate::Modulation;
 use ht_witness::Marks;
-use std::alloc::Global;
-use std::mem;
 
 /// The most octets of triangle, samples, points and distance.
 const CLAIM: usize = 88;
@@ -70,7 +68,7 @@ pub fn start<S: Source>(source: &mut S) -> Result<Turn, InFault>
 
 // Reads the modulation of a record.
 fn modulation<S: Source>(source: &mut S, at: u64) -> Result<Modulation, InFault>
-    requires room { at + 1 < 2 ^ 64 }
+    requires offset { at + 1 < 2 ^ 64 }
     ensures whole { IfOk result (λ modulation. Takes (S.shown source.old) (S.shown source.new) (code_of modulation ∷ [])) }
     ensures failed { IfErr result (FailsField 1 BadModulation (is_above 3) at (S.shown source.old) (S.shown source.new)) }
     ensures later { IsLater (S.shown source.old) (S.shown source.new) }
@@ -85,7 +83,7 @@ fn modulation<S: Source>(source: &mut S, at: u64) -> Result<Modulation, InFault>
 
 // Reads the number of streams of a record.
 fn streams<S: Source>(source: &mut S, at: u64) -> Result<u8, InFault>
-    requires room { at + 1 < 2 ^ 64 }
+    requires offset { at + 1 < 2 ^ 64 }
     ensures whole { IfOk result (λ streams. Takes (S.shown source.old) (S.shown source.new) (streams ∷ [])) }
     ensures some { IfOk result (λ streams. 1 ≤ streams) }
     ensures few { IfOk result (λ streams. streams ≤ 4) }
@@ -116,7 +114,6 @@ fn no_claim() -> [u8; CLAIM]
 
 // Reads triangle, samples, points and distance into a record, and leaves it without marks.
 fn claim<S: Source>(
-    alloc: Global,
     source: &mut S,
     at: u64,
     number: u64,
@@ -124,7 +121,7 @@ fn claim<S: Source>(
     streams: u8,
     into: &mut Record,
 ) -> Result<u64, InFault>
-    requires room { at + 88 < 2 ^ 64 }
+    requires offset { at + 88 < 2 ^ 64 }
     requires some { 1 ≤ streams }
     requires few { streams ≤ 4 }
     ensures whole { IfOk result (λ behind. ReadsClaim number modulation streams into.new (S.shown source.old) (S.shown source.new)) }
@@ -136,7 +133,7 @@ fn claim<S: Source>(
     let width = claim_width(streams);
     match fill(source, at, &mut octets[..width]) {
         Ok(()) => {
-            fill_record(alloc, into, number, modulation, streams, &octets[..width]);
+            fill_record(into, number, modulation, streams, &octets[..width]);
             Ok(at + width as u64)
         }
         Err(fault) => Err(fault),
@@ -161,11 +158,11 @@ fn some_marks<S: Source>(
     source: &mut S,
     at: u64,
     count: usize,
-    marks: &mut Vec<bool>,
+    marks: &mut Marks,
 ) -> Result<(), InFault>
     requires few { count ≤ 128 }
-    requires room { at + count < 2 ^ 64 }
-    ensures read { OnOk result (ReadsMarks count marks.old.items marks.new.items (S.shown source.old) (S.shown source.new)) }
+    requires offset { at + count < 2 ^ 64 }
+    ensures read { OnOk result (ReadsMarks count marks.old marks.new (S.shown source.old) (S.shown source.new)) }
     ensures failed { IfErr result (FailsMarks count at (S.shown source.old) (S.shown source.new)) }
     ensures later { IsLater (S.shown source.old) (S.shown source.new) }
 {
@@ -175,22 +172,14 @@ fn some_marks<S: Source>(
         Ok(()) => {}
         Err(fault) => return Err(fault),
     }
-    match marks.extend_from_slice(&opened(octets)[..count]) {
-        Ok(()) => Ok(()),
-        Err(_) => Err(InFault::NoMemory),
-    }
+    marks.extend_from_slice(&opened(octets)[..count])?;
+    Ok(())
 }
 
 // Reads the marks of a record that has none yet, into the memory that it has for them. Memory is taken for up to 128 at
 // a time, as they come.
-fn marks<S: Source>(
-    alloc: Global,
-    source: &mut S,
-    at: u64,
-    turn: &Turn,
-    into: &mut Record,
-) -> Result<u64, InFault>
-    requires room { at + 33554440 < 2 ^ 64 }
+fn marks<S: Source>(source: &mut S, at: u64, turn: &Turn, into: &mut Record) -> Result<u64, InFault>
+    requires offset { at + 33554440 < 2 ^ 64 }
     requires none { into.old.certificate.marks ≡ [] }
     ensures told { MatchResult result
         (λ behind. Gives (here (Body (MarksState turn.now into.old)) at (S.shown source.old))
@@ -205,31 +194,26 @@ fn marks<S: Source>(
         Ok(count) => count,
         Err(fault) => return Err(fault),
     };
-    let mut marks = mem::replace(
-        &mut into.certificate.marks,
-        Marks::from(Vec::new(alloc)),
-    ).into_vec();
+    let marks = &mut into.certificate.marks;
     let mut read = 0;
     while read < count {
         let more = (count - read).min(MARKS as u64);
-        match some_marks(source, at + 4 + read, more as usize, &mut marks) {
+        match some_marks(source, at + 4 + read, more as usize, marks) {
             Ok(()) => read += more,
             Err(fault) => return Err(fault),
         }
     }
-    into.certificate.marks = Marks::from(marks);
     Ok(at + 4 + count)
 }
 
 /// Reads the next record, and gives the offset behind it.
 pub fn record<S: Source>(
-    alloc: Global,
     source: &mut S,
     at: u64,
     turn: &Turn,
     into: &mut Record,
 ) -> Result<u64, InFault>
-    requires room { at + 33554600 < 2 ^ 64 }
+    requires offset { at + 33554600 < 2 ^ 64 }
     requires left { 0 < turn.now.left }
     ensures told { MatchResult result
         (λ behind. Gives (here (records_due turn.now) at (S.shown source.old))
@@ -248,19 +232,11 @@ pub fn record<S: Source>(
         Ok(streams) => streams,
         Err(fault) => return Err(fault),
     };
-    let behind = match claim(
-        alloc,
-        source,
-        at + 2,
-        turn.number,
-        modulation,
-        streams,
-        into,
-    ) {
+    let behind = match claim(source, at + 2, turn.number, modulation, streams, into) {
         Ok(behind) => behind,
         Err(fault) => return Err(fault),
     };
-    match marks(alloc, source, behind, turn, into) {
+    match marks(source, behind, turn, into) {
         Ok(behind) => Ok(behind),
         Err(fault) => Err(fault),
     }

@@ -1,9 +1,5 @@
 //! What holds of files of certificates.
-ghost use Rattle.std.specs.Prelude.{◌≡◌, ℕ, List};
-ghost use Rattle.ht_fields.specs.Cases.{IsFile};
-ghost use Rattle.ht_fields.specs.FormatLaws.{CleanCanEnd, IsPrefixFree};
-ghost use Rattle.ht_fields.specs.Tests.{AreBytes};
-ghost use Rattle.ht_cert.specs.declared.record.Record.{Record};
+ghost use Rattle.ht_fields.specs.FormatLaws.{CleanCanEnd, IsPrefixFree, WritesEach, WritesFiles};
 ghost use Rattle.ht_cert.specs.Formats.{certificates};
 ghost use Rattle.ht_cert.specs.Files.{AreRecords, certificates_file_of};
 
@@ -20,11 +16,10 @@ pub fn clean_can_end()
 
 /// The file written of records is a file, and has these records.
 pub fn written()
-    ensures { (records : List Record) → AreRecords records → IsFile certificates (certificates_file_of records) records }
+    ensures { WritesFiles certificates AreRecords certificates_file_of }
 {}
 
-/// Each file is the one that is written of its records.
+/// Each file is the one that is written of its records, which can be written.
 pub fn each_of_records()
-    ensures { (octets : List ℕ) (records : List Record) → AreBytes octets → IsFile certificates octets records
-        → AreRecords records × (octets ≡ certificates_file_of records) }
+    ensures { WritesEach certificates AreRecords certificates_file_of }
 {}

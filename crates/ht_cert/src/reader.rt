@@ -1,5 +1,5 @@
 //! The reader of certificates.
-ghost use Rattle.std.specs.Prelude.{◌≡◌, ◌<◌, ◌≤◌, ◌+◌, ◌*◌, ℕ, [], None, Some, Ok, Err, Result, MatchResult, IfOk, IfErr};
+ghost use Rattle.std.specs.Prelude.{◌≡◌, ◌<◌, ◌≤◌, ◌+◌, ◌*◌, ℕ, None, Some, Ok, Err, Result, MatchResult, IfOk, IfErr};
 ghost use Rattle.ht_io.specs.Devices.{Device, IsLater};
 ghost use Rattle.ht_io.specs.declared.faults.InFault.{InFault as InFaultValue};
 ghost use Rattle.ht_cert.specs.declared.reader.Came.{Came as CameValue};
@@ -11,7 +11,6 @@ use crate::record::Record;
 use crate::turn::{Stage, Turn};
 use ht_fields::end;
 use ht_io::{InFault, Source};
-use std::alloc::Global;
 use std::marker::Model;
 
 /// What came of a reader.
@@ -60,12 +59,7 @@ impl RecordReader {
     /// `Format` comes at the first fault of the file, behind all records before it, and the octets taken end with the
     /// field at fault. `Read` comes where the source failed, and `NoMemory` where a mark found no room. Behind these
     /// and `End` each further call answers the same, and takes nothing.
-    pub fn next<S: Source>(
-        &mut self,
-        alloc: Global,
-        source: &mut S,
-        into: &mut Record,
-    ) -> Result<Came, InFault>
+    pub fn next<S: Source>(&mut self, source: &mut S, into: &mut Record) -> Result<Came, InFault>
         // What the octets that this call took mean.
         ensures told { finished self.old ≡ None → MatchResult result
             (λ came. GivesRecord (shown_by self.old (S.shown source.old)) (shown_by self.new (S.shown source.new)) came into.new)
@@ -85,20 +79,15 @@ impl RecordReader {
         ensures later { IsLater (S.shown source.old) (S.shown source.new) }
     {
         match self.stage {
-            Stage::Begin => self.begin(alloc, source, into),
-            Stage::Next(turn) => self.go_on(alloc, source, turn, into),
+            Stage::Begin => self.begin(source, into),
+            Stage::Next(turn) => self.go_on(source, turn, into),
             Stage::Ended => Ok(Came::End),
             Stage::Stopped(fault) => Err(fault),
         }
     }
 
     // Reads what stands in front of the records, and then as `go_on` does.
-    fn begin<S: Source>(
-        &mut self,
-        alloc: Global,
-        source: &mut S,
-        into: &mut Record,
-    ) -> Result<Came, InFault>
+    fn begin<S: Source>(&mut self, source: &mut S, into: &mut Record) -> Result<Came, InFault>
         ensures told { MatchResult result
             (λ came. GivesRecord (here certificates.start 0 (S.shown source.old)) (shown_by self.new (S.shown source.new)) came into.new)
             (Fails (here certificates.start 0 (S.shown source.old)) (S.shown source.new)) }
@@ -112,7 +101,7 @@ impl RecordReader {
             Ok(turn) => {
                 self.at = 13;
                 self.stage = Stage::Next(turn);
-                self.go_on(alloc, source, turn, into)
+                self.go_on(source, turn, into)
             }
             Err(fault) => Err(self.stop(fault)),
         }
@@ -122,7 +111,6 @@ impl RecordReader {
     #[tactic(auto, unfolding(crate::specs::Formats::next_turn))]
     fn go_on<S: Source>(
         &mut self,
-        alloc: Global,
         source: &mut S,
         turn: Turn,
         into: &mut Record,
@@ -147,7 +135,7 @@ impl RecordReader {
                 Err(fault) => Err(self.stop(fault)),
             };
         }
-        match fields::record(alloc, source, self.at, &turn, into) {
+        match fields::record(source, self.at, &turn, into) {
             Ok(behind) => {
                 self.at = behind;
                 self.stage = Stage::Next(Turn {

@@ -26,14 +26,9 @@ impl Record {
         let zero = Ladder::of(1, 0b1);
         let triangle = Triangle::new(1, [0; 4], [Tap { re: 0, im: 0 }; 6]);
         let system = System::new(triangle, [Sample { re: 0, im: 0 }; 4]);
-        let place = Place {
-            frame: 0,
-            symbol: 0,
-            carrier: 0,
-        };
         Record {
             modulation: Modulation::Bpsk,
-            job: Job::new(0, place, Grid::one(zero, zero), system),
+            job: Job::new(0, Place::default(), Grid::one(zero, zero), system),
             certificate: Certificate {
                 vector: Vector::new(),
                 distance: 0,

@@ -2,13 +2,12 @@
 ghost use Rattle.std.specs.Prelude.{◌≡◌, ◌≢◌, Err};
 ghost use Rattle.ht_runs.specs.Converted.{Converted};
 ghost use Rattle.ht_runs.specs.Filters.{SaysNothing};
-ghost use Rattle.ht_runs.specs.declared.faults.RunFault.TheVariants.{Write};
 ghost use Rattle.ht_certify.specs.Certifying.{certifying};
 
-use crate::faults::CertFault;
 use crate::putting::put_file;
 use ht_capture::read_captures;
 use ht_io::{Sink, Source};
+use ht_runs::RunFault;
 use std::alloc::Global;
 
 /// Reads a capture of either version (HTCP) to its end, and then puts the file of certificates (HTCT) of its data jobs.
@@ -20,9 +19,9 @@ pub fn certify_capture<S: Source, K: Sink>(
     alloc: Global,
     source: &mut S,
     sink: &mut K,
-) -> Result<(), CertFault>
+) -> Result<(), RunFault>
     ensures converts { Converted certifying (S.shown source.old) (S.shown source.new) (K.shown sink.old) (K.shown sink.new) SaysNothing result }
-    ensures writes { result ≢ Err Write → (K.shown sink.new).faults ≡ (K.shown sink.old).faults }
+    ensures writes { result ≢ Err RunFault.Write → (K.shown sink.new).faults ≡ (K.shown sink.old).faults }
 {
     let frames = read_captures(alloc, source)?;
     put_file(alloc, &frames, sink)

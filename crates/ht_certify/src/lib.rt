@@ -10,11 +10,9 @@
 #![tactic(auto)]
 
 mod certifying;
-mod faults;
 pub mod laws;
 mod making;
 mod putting;
 mod subcarriers;
 
 pub use certifying::certify_capture;
-pub use faults::CertFault;

@@ -13,12 +13,6 @@ use std::alloc::AllocError;
 
 const NO_SAMPLE: Sample = Sample { re: 0, im: 0 };
 
-const NO_PLACE: Place = Place {
-    frame: 0,
-    symbol: 0,
-    carrier: 0,
-};
-
 // The samples of one to four rows, in an array whose other places are zero.
 fn received(samples: &[Sample]) -> [Sample; 4]
     requires { length samples.now ≤ 4 }
@@ -42,7 +36,12 @@ pub fn job(grid: &Grid, triangle: &Triangle, samples: &[Sample]) -> Job
     ensures { result ≡ job_on grid.now triangle.now samples.now }
 {
     let system = System::new(*triangle, received(samples));
-    Job::new(0, NO_PLACE, *grid, system)
+    let place = Place {
+        frame: 0,
+        symbol: 0,
+        carrier: 0,
+    };
+    Job::new(0, place, *grid, system)
 }
 
 /// Makes the record of a job in the place of another one, whose modulation it keeps, and in the memory of its marks.

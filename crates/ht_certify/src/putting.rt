@@ -1,21 +1,20 @@
 //! The file of certificates of frames.
-ghost use Rattle.std.specs.Prelude.{◌≡◌, ◌≤◌, ◌<◌, ◌*◌, ◌^◌, [], All, length, flat_map, count_by, OnOk, IfOk};
-ghost use Rattle.ht_rate.specs.Rates.{carriers_of, streams_of, symbols_of};
+ghost use Rattle.std.specs.Prelude.{◌≡◌, ◌≤◌, ◌<◌, ◌*◌, [], All, length, flat_map, count_by, IfOk};
 ghost use Rattle.ht_pam.specs.Grids.{IsGrid};
 ghost use Rattle.ht_capture.specs.Files.{AreCaptureFrames, FitsFrame};
 ghost use Rattle.ht_cert.specs.Files.{record_octets};
 ghost use Rattle.ht_certify.specs.Making.{file_of_frames, records_of_frame, records_of_frames, records_of_symbol, records_of_symbols, records_on};
 ghost use Rattle.ht_certify.specs.Writing.{Writes};
 
-use crate::faults::CertFault;
 use crate::making::{job, make};
-use crate::subcarriers::{Subcarrier, list};
+use crate::subcarriers::{Subcarrier, gather_subcarriers};
 use ht_capture::CaptureFrame;
 use ht_cert::{Block, Record};
 use ht_io::Sink;
 use ht_map::grid;
 use ht_metric::Sample;
 use ht_pam::Grid;
+use ht_runs::RunFault;
 use std::alloc::{AllocError, Global};
 
 // The number of subcarriers that carry data.
@@ -33,7 +32,7 @@ fn count_frame(frame: &CaptureFrame, room: &mut Vec<Subcarrier>) -> Result<u64, 
     ensures count { IfOk result (λ count. count ≡ length (records_of_frame frame.now)) }
     ensures few { IfOk result (λ count. count ≤ 1129296) }
 {
-    list(frame, room)?;
+    gather_subcarriers(frame, room)?;
     let data = data_among(room);
     let symbols = u64::from(frame.rate.symbols(frame.length));
     Ok(symbols * data)
@@ -52,7 +51,7 @@ fn count(frames: &[CaptureFrame], room: &mut Vec<Subcarrier>) -> Result<u64, All
 }
 
 // Adds a record to those that wait, and puts them where they are many.
-fn put_record<K: Sink>(recorded: &Record, block: &mut Block, sink: &mut K) -> Result<(), CertFault>
+fn put_record<K: Sink>(recorded: &Record, block: &mut Block, sink: &mut K) -> Result<(), RunFault>
     requires { length recorded.now.certificate.marks ≤ 33554432 }
     ensures { Writes block.old (K.shown sink.old) (K.shown sink.new) (record_octets recorded.now) block.new result }
 {
@@ -71,7 +70,7 @@ fn put_subcarrier<K: Sink>(
     recorded: &mut Record,
     block: &mut Block,
     sink: &mut K,
-) -> Result<(), CertFault>
+) -> Result<(), RunFault>
     requires good { IsGrid grid.now }
     requires grid { length grid.now ≡ length subcarrier.now.triangle }
     requires rows { length samples.now ≡ length subcarrier.now.triangle }
@@ -94,7 +93,7 @@ fn put_symbol<K: Sink>(
     recorded: &mut Record,
     block: &mut Block,
     sink: &mut K,
-) -> Result<(), CertFault>
+) -> Result<(), RunFault>
     requires streams { All (λ s. length s.triangle ≡ length grid.now) subcarriers.now }
     requires samples { length samples.now ≡ length subcarriers.now * length grid.now }
     ensures writes { Writes block.old (K.shown sink.old) (K.shown sink.new)
@@ -120,7 +119,7 @@ fn put_symbols<K: Sink>(
     recorded: &mut Record,
     block: &mut Block,
     sink: &mut K,
-) -> Result<(), CertFault>
+) -> Result<(), RunFault>
     requires few { length subcarriers.now ≤ 114 }
     requires streams { All (λ s. length s.triangle ≡ length grid.now) subcarriers.now }
     requires samples { length samples.now ≡ symbols * (length subcarriers.now * length grid.now) }
@@ -146,11 +145,11 @@ fn put_frame<K: Sink>(
     recorded: &mut Record,
     block: &mut Block,
     sink: &mut K,
-) -> Result<(), CertFault>
+) -> Result<(), RunFault>
     requires { FitsFrame frame.now }
     ensures { Writes block.old (K.shown sink.old) (K.shown sink.new) (flat_map record_octets (records_of_frame frame.now)) block.new result }
 {
-    list(frame, room)?;
+    gather_subcarriers(frame, room)?;
     recorded.modulation = frame.rate.modulation();
     let symbols = frame.rate.symbols(frame.length);
     let samples = frame.samples.as_slice();
@@ -172,7 +171,7 @@ fn put_frames<K: Sink>(
     room: &mut Vec<Subcarrier>,
     block: &mut Block,
     sink: &mut K,
-) -> Result<(), CertFault>
+) -> Result<(), RunFault>
     requires { All FitsFrame frames.now }
     ensures { Writes block.old (K.shown sink.old) (K.shown sink.new) (flat_map record_octets (records_of_frames frames.now)) block.new result }
 {
@@ -188,7 +187,7 @@ pub fn put_file<K: Sink>(
     alloc: Global,
     frames: &[CaptureFrame],
     sink: &mut K,
-) -> Result<(), CertFault>
+) -> Result<(), RunFault>
     requires { AreCaptureFrames frames.now }
     ensures { Writes [] (K.shown sink.old) (K.shown sink.new) (file_of_frames frames.now) [] result }
 {

@@ -25,10 +25,7 @@ fn carries_data(rate: &Rate, carrier: u8) -> bool
     requires { carrier < carriers_of rate.now }
     ensures { result ≡ has_data (carrier_of rate.now carrier) }
 {
-    match rate.carrier(carrier) {
-        Carrier::Data(_) => true,
-        Carrier::Pilot(_) => false,
-    }
+    matches!(rate.carrier(carrier), Carrier::Data(_))
 }
 
 // Whether a subcarrier is erased.
@@ -63,7 +60,10 @@ fn add<'a>(
 }
 
 /// Lists the subcarriers of a frame that are present, in ascending order, in the memory of a vector, whatever that held.
-pub fn list(frame: &CaptureFrame, into: &mut Vec<Subcarrier>) -> Result<(), AllocError>
+pub fn gather_subcarriers(
+    frame: &CaptureFrame,
+    into: &mut Vec<Subcarrier>,
+) -> Result<(), AllocError>
     requires fits { FitsFrame frame.now }
     ensures listed { OnOk result (into.new.items ≡ subcarriers_of frame.now) }
     ensures present { OnOk result (length into.new.items ≡ present_of frame.now) }

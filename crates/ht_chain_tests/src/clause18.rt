@@ -6,70 +6,22 @@ use ht_scramble::Seed;
 use std::test::Fail;
 
 // The PSDU of annex L.1: a MAC header of 24 octets, 72 octets of text and the FCS.
-static EXAMPLE: [u8; 100] = [
-    0x04, 0x02, 0x00, 0x2e, 0x00, 0x60, 0x08, 0xcd, 0x37, 0xa6, 0x00, 0x20, 0xd6, 0x01, 0x3c, 0xf1,
-    0x00, 0x60, 0x08, 0xad, 0x3b, 0xaf, 0x00, 0x00, 0x4a, 0x6f, 0x79, 0x2c, 0x20, 0x62, 0x72, 0x69,
-    0x67, 0x68, 0x74, 0x20, 0x73, 0x70, 0x61, 0x72, 0x6b, 0x20, 0x6f, 0x66, 0x20, 0x64, 0x69, 0x76,
-    0x69, 0x6e, 0x69, 0x74, 0x79, 0x2c, 0x0a, 0x44, 0x61, 0x75, 0x67, 0x68, 0x74, 0x65, 0x72, 0x20,
-    0x6f, 0x66, 0x20, 0x45, 0x6c, 0x79, 0x73, 0x69, 0x75, 0x6d, 0x2c, 0x0a, 0x46, 0x69, 0x72, 0x65,
-    0x2d, 0x69, 0x6e, 0x73, 0x69, 0x72, 0x65, 0x64, 0x20, 0x77, 0x65, 0x20, 0x74, 0x72, 0x65, 0x61,
-    0x67, 0x33, 0x21, 0xb6,
-];
+static EXAMPLE: [u8; 100] =
+    *b"\x04\x02\x00\x2e\x00\x60\x08\xcd\x37\xa6\x00\x20\xd6\x01\x3c\xf1\x00\x60\x08\xad\x3b\xaf\x00\x00\
+    Joy, bright spark of divinity,\n\
+    Daughter of Elysium,\nFire-insired we trea\x67\x33\x21\xb6";
 
-// Its first symbol, from subcarrier -26 up.
-static EXAMPLE_POINTS: [(i8, i8); 52] = [
-    (-1, 1),
-    (-1, 1),
-    (1, 1),
-    (-3, -3),
-    (1, 3),
-    (1, 0),
-    (1, 1),
-    (1, -3),
-    (-1, -3),
-    (-1, 1),
-    (-3, 1),
-    (-3, -3),
-    (-3, -3),
-    (3, 1),
-    (1, 1),
-    (-3, -1),
-    (-3, -1),
-    (-3, -1),
-    (-3, -3),
-    (1, 0),
-    (3, -1),
-    (3, 3),
-    (-3, -1),
-    (1, -1),
-    (-3, -1),
-    (-3, 3),
-    (-1, 3),
-    (1, 3),
-    (-3, 1),
-    (3, -3),
-    (1, 1),
-    (-1, -1),
-    (1, 0),
-    (-1, 3),
-    (3, -1),
-    (-3, -1),
-    (3, 1),
-    (-1, 3),
-    (3, 1),
-    (3, -1),
-    (3, -3),
-    (-1, -3),
-    (-3, 1),
-    (-3, -3),
-    (-3, -3),
-    (-3, -3),
-    (-1, 0),
-    (1, -1),
-    (3, 1),
-    (-3, 1),
-    (-1, 3),
-    (1, -1),
+// Its first symbol, from subcarrier -26 up: I, and Q.
+static EXAMPLE_POINTS: [[i8; 52]; 2] = [
+    [
+        -1, -1, 1, -3, 1, 1, 1, 1, -1, -1, -3, -3, -3, 3, 1, -3, -3, -3, -3, 1, 3, 3, -3, 1, -3,
+        -3, -1, 1, -3, 3, 1, -1, 1, -1, 3, -3, 3, -1, 3, 3, 3, -1, -3, -3, -3, -3, -1, 1, 3, -3,
+        -1, 1,
+    ],
+    [
+        1, 1, 1, -3, 3, 0, 1, -3, -3, 1, 1, -3, -3, 1, 1, -1, -1, -1, -3, 0, -1, 3, -1, -1, -1, 3,
+        3, 3, 1, -3, 1, -1, 0, 3, -1, -1, 1, 3, 1, -1, -3, -3, 1, -3, -3, -3, 0, -1, 1, 1, 3, -1,
+    ],
 ];
 
 // The data subcarriers of symbol 0 of the octet a5 with seed 127 at 6 Mbit/s.
@@ -88,7 +40,8 @@ fn sent(rt: &HostRuntime, index: u8, seed: u8, octets: &[u8]) -> Result<Vec<Poin
 fn annex(rt: HostRuntime) -> Result<(), Fail> {
     let points = sent(&rt, 5, 0b1011101, &EXAMPLE)?;
     equal(&rt, points.len(), 6 * 52);
-    for (k, (point, (i, q))) in points.iter().zip(&EXAMPLE_POINTS).enumerate() {
+    let [parts, others] = &EXAMPLE_POINTS;
+    for (k, (point, (i, q))) in points.iter().zip(parts.iter().zip(others)).enumerate() {
         equal(&rt, (k, *point), (k, Point { i: *i, q: *q }));
     }
     Ok(())

@@ -10,64 +10,56 @@ use std::test::Fail;
 
 // The octet a5 with seed 127 at MCS 0 of 20 MHz.
 const ONE_OCTET: &[&str] = &[
-    "0110000001000110010101000110000010111110111001010000010111001111111101110110010000101000100000111110",
-    "1000",
+    "01100000010001100101010001100000101111101110010100000101110011111111011101100100001010001000001111101000",
 ];
 
 // The same with four wrong labels: those of data subcarriers 1 and 4 in both symbols. Data subcarrier 1 of symbol 1 has a
 // bit behind the tail.
 const FOUR_WRONG: &[&str] = &[
-    "0010100001000110010101000110000010111110111001010000000101001111111101110110010000101000100000111110",
-    "1000",
+    "00101000010001100101010001100000101111101110010100000001010011111111011101100100001010001000001111101000",
 ];
 
 // Three streams of QPSK, rate 3/4.
 const THREE_STREAMS: &[&str] = &[
-    "0203310031320313213102031012203302230131312313211000310111333221001103333333333021002323213102112213",
-    "11110033130332210001303002022100333112030023020203010222",
+    "02033100313203132131020310122033022301313123132110003101113332210011033333333330210023232131021122131111003313",
+    "0332210001303002022100333112030023020203010222",
 ];
 
 // Four streams of 16-QAM, rate 3/4, at 40 MHz with two encoders.
 const TWO_ENCODERS: &[&str] = &[
-    "<25285:;17014?51<3==2><==<3<755>2271=:401>0==426;;17795949;;84<058;??1<>54?<9<063>1:84?01?28361;1?5:",
-    "=98070617<5<67:;6413<80:05=6=::=>84<358088=8108?85?97060>615>=73472<>7>:36:>=1:0<:;2:9?4:33=?5125824",
-    "7>9630;>546993747?:8474;291<8;57<6=117855:756>3?32;9<484520>=;154929;:>687?1488?:0?3?190<2?:<??>692<",
-    "81?>4;1>7124=>:5>265;09?;?:691519227::0<1<27=4><:>1566819396<4<4426:;89;=825=4;=8>1904=:7?95=?:28;:8",
-    ":0?6:>60<=47:38=;<633775:?9;63;9",
+    "<25285:;17014?51<3==2><==<3<755>2271=:401>0==426;;17795949;;84<058;??1<>54?<9<063>1:84?01?28361;1?5:=98070617<",
+    "5<67:;6413<80:05=6=::=>84<358088=8108?85?97060>615>=73472<>7>:36:>=1:0<:;2:9?4:33=?51258247>9630;>546993747?:8",
+    "474;291<8;57<6=117855:756>3?32;9<484520>=;154929;:>687?1488?:0?3?190<2?:<??>692<81?>4;1>7124=>:5>265;09?;?:691",
+    "519227::0<1<27=4><:>1566819396<4<4426:;89;=825=4;=8>1904=:7?95=?:28;:8:0?6:>60<=47:38=;<633775:?9;63;9",
 ];
 
 // Points of any kind on two streams of 16-QAM.
 const NO_SEED: &[&str] = &[
-    "12952;;:90:02:2004<:<68226060>0;>>0?0<21010=04866948070141>?:925=441084400<2;502800000007802<1023?80",
-    ":=89",
+    "12952;;:90:02:2004<:<68226060>0;>>0?0<21010=04866948070141>?:925=441084400<2;502800000007802<1023?80:=89",
 ];
 
 // Points of any kind on three streams of QPSK.
 const MANY_WRONG: &[&str] = &[
-    "0230110031311330111032212120032001210110112210333200233032010232030312132013113330013000310110020000",
-    "01331311213330010300000033130120201011303023312222011030",
+    "02301100313113301110322121200320012101101122103332002330320102320303121320131133300130003101100200000133131121",
+    "3330010300000033130120201011303023312222011030",
 ];
 
 // Four streams of 64-QAM, rate 5/6, at 40 MHz with two encoders, where nine subcarriers are erased.
 const NINE_ERASED: &[&str] = &[
-    "lVd2k1n9nlI[b_28a@9TVR[mNB`@ClhGH<JWm=jF70E53NKfeJTRdaoi>K@EcLRX8QBUA4lM\\W8gOZ_m0000Ro;>VbR<1`Kf9^E",
-    "S6d`hW1TLT=mmNN@Ma4G;E[WU00004bE4[lol^kIjonISkbbQLaPXQoZ30000WZH`ZVV=g0^MQ[\\:3gI]j\\]2_X7GkM`QkYh3J",
-    "W2j_oZ_0000AR0FCV[;B1Yll[210000n@BDbRnmaB8@;l?G>89WCEPOH0JUmNjf7JER\\aKieOlEdQ_D>E@ec^RM8@BgNRlm7CGU",
-    "57_3<EK63o;FGIR<=IKfMblS;8mh0000jTG54iWMi@O;1gEUj\\oj0000knI<Ibbj2aKS[V2QLR:X00004VVJW0^jB[QEGYVKQdF",
-    "T3X<M0000_YSFDWh^CD7OJTXn_Ohi53JfAR8I",
+    "lVd2k1n9nlI[b_28a@9TVR[mNB`@ClhGH<JWm=jF70E53NKfeJTRdaoi>K@EcLRX8QBUA4lM\\W8gOZ_m0000Ro;>VbR<1`Kf9^ES6d`hW1TLT=",
+    "mmNN@Ma4G;E[WU00004bE4[lol^kIjonISkbbQLaPXQoZ30000WZH`ZVV=g0^MQ[\\:3gI]j\\]2_X7GkM`QkYh3JW2j_oZ_0000AR0FCV[;B1Yl",
+    "l[210000n@BDbRnmaB8@;l?G>89WCEPOH0JUmNjf7JER\\aKieOlEdQ_D>E@ec^RM8@BgNRlm7CGU57_3<EK63o;FGIR<=IKfMblS;8mh0000jT",
+    "G54iWMi@O;1gEUj\\oj0000knI<Ibbj2aKS[V2QLR:X00004VVJW0^jB[QEGYVKQdFT3X<M0000_YSFDWh^CD7OJTXn_Ohi53JfAR8I",
 ];
 
-// A frame: the rate, the erased subcarriers and the labels; and what comes out, where no octets stand for no seed.
-#[derive(Clone, Copy)]
-struct Case {
-    bandwidth: u8,
-    mcs: u8,
-    length: u16,
-    erased: u128,
-    labels: &'static [&'static str],
-    code: u32,
-    octets: &'static [u8],
-}
+// A frame: the code of its bandwidth, its MCS and its length, the erased subcarriers and the labels; and what comes out: the
+// code of the decision, and the octets, where none stand for no seed.
+type Case = (
+    (u8, u8, u16),
+    u128,
+    &'static [&'static str],
+    (u32, &'static [u8]),
+);
 
 // The labels of some lines of digits.
 fn labels(rt: &HostRuntime, lines: &[&str]) -> Result<Vec<u8>, Fail> {
@@ -91,13 +83,14 @@ fn count_of(rate: &Rate, length: u16) -> usize
 
 // Whether a decoder that may have decoded other frames gives what the case says.
 fn meets<D: Decoder>(rt: &HostRuntime, decoder: &mut D, case: &Case) -> Result<bool, Fail> {
-    let rate = Rate::of(case.bandwidth, case.mcs)?;
-    let labels = labels(rt, case.labels)?;
-    if case.length == 0 || labels.len() != count_of(&rate, case.length) {
+    let &((bandwidth, mcs, length), erased, lines, (code, octets)) = case;
+    let rate = Rate::of(bandwidth, mcs)?;
+    let labels = labels(rt, lines)?;
+    if length == 0 || labels.len() != count_of(&rate, length) {
         return Ok(false);
     }
-    let frame = decoder.decode(rt.alloc(), &rate, case.length, case.erased, &labels)?;
-    Ok(frame.code == case.code && is_outcome(&frame.outcome, case.octets))
+    let frame = decoder.decode(rt.alloc(), &rate, length, erased, &labels)?;
+    Ok(frame.code == code && is_outcome(&frame.outcome, octets))
 }
 
 // Whether an outcome has these octets; no octets stand for no seed.
@@ -109,86 +102,46 @@ fn is_outcome(outcome: &Outcome, octets: &[u8]) -> bool {
 }
 
 static CASES: [Case; 8] = [
-    Case {
-        bandwidth: 0,
-        mcs: 0,
-        length: 1,
-        erased: 0,
-        labels: ONE_OCTET,
-        code: 0,
-        octets: &[0xa5],
-    },
-    Case {
-        bandwidth: 0,
-        mcs: 0,
-        length: 1,
-        erased: 0,
-        labels: FOUR_WRONG,
-        code: 3,
-        octets: &[0xa5],
-    },
-    Case {
-        bandwidth: 0,
-        mcs: 0,
-        length: 1,
-        erased: 1 << 4,
-        labels: FOUR_WRONG,
-        code: 1,
-        octets: &[0xa5],
-    },
-    Case {
-        bandwidth: 0,
-        mcs: 18,
-        length: 16,
-        erased: 0,
-        labels: THREE_STREAMS,
-        code: 0,
-        octets: &[
-            0xa0, 0x7d, 0x69, 0x56, 0xd1, 0x92, 0x2f, 0x14, 0xb3, 0xd3, 0x39, 0x17, 0xca, 0x3d,
-            0x1a, 0xbe,
-        ],
-    },
-    Case {
-        bandwidth: 1,
-        mcs: 28,
-        length: 19,
-        erased: 0,
-        labels: TWO_ENCODERS,
-        code: 0,
-        octets: &[
-            0x52, 0x89, 0x0f, 0xc3, 0xed, 0xbd, 0x91, 0x0a, 0x58, 0x46, 0x42, 0x6f, 0xc0, 0xb2,
-            0xf8, 0xc8, 0x0a, 0x67, 0x3a,
-        ],
-    },
-    Case {
-        bandwidth: 0,
-        mcs: 11,
-        length: 1,
-        erased: 0,
-        labels: NO_SEED,
-        code: 12,
-        octets: &[],
-    },
-    Case {
-        bandwidth: 0,
-        mcs: 17,
-        length: 1,
-        erased: 0,
-        labels: MANY_WRONG,
-        code: 12,
-        octets: &[0x12],
-    },
-    Case {
-        bandwidth: 1,
-        mcs: 31,
-        length: 14,
-        erased: 0x204104000000840020100200000,
-        labels: NINE_ERASED,
-        code: 0,
-        octets: &[
-            0x51, 0xf0, 0xcd, 0xe6, 0x89, 0x92, 0xeb, 0x78, 0xfb, 0x04, 0x7c, 0x92, 0xe7, 0xc2,
-        ],
-    },
+    ((0, 0, 1), 0, ONE_OCTET, (0, &[0xa5])),
+    ((0, 0, 1), 0, FOUR_WRONG, (3, &[0xa5])),
+    ((0, 0, 1), 1 << 4, FOUR_WRONG, (1, &[0xa5])),
+    (
+        (0, 18, 16),
+        0,
+        THREE_STREAMS,
+        (
+            0,
+            &[
+                0xa0, 0x7d, 0x69, 0x56, 0xd1, 0x92, 0x2f, 0x14, 0xb3, 0xd3, 0x39, 0x17, 0xca, 0x3d,
+                0x1a, 0xbe,
+            ],
+        ),
+    ),
+    (
+        (1, 28, 19),
+        0,
+        TWO_ENCODERS,
+        (
+            0,
+            &[
+                0x52, 0x89, 0x0f, 0xc3, 0xed, 0xbd, 0x91, 0x0a, 0x58, 0x46, 0x42, 0x6f, 0xc0, 0xb2,
+                0xf8, 0xc8, 0x0a, 0x67, 0x3a,
+            ],
+        ),
+    ),
+    ((0, 11, 1), 0, NO_SEED, (12, &[])),
+    ((0, 17, 1), 0, MANY_WRONG, (12, &[0x12])),
+    (
+        (1, 31, 14),
+        0x204104000000840020100200000,
+        NINE_ERASED,
+        (
+            0,
+            &[
+                0x51, 0xf0, 0xcd, 0xe6, 0x89, 0x92, 0xeb, 0x78, 0xfb, 0x04, 0x7c, 0x92, 0xe7, 0xc2,
+            ],
+        ),
+    ),
 ];
 
 #[test]

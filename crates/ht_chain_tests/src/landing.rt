@@ -40,10 +40,7 @@ fn vectors(rt: HostRuntime) {
             carrier,
             bit,
         };
-        equal(
-            &rt,
-            (coded, landing_of(rate, coded)),
-            (coded, Some(landing)),
-        );
+        let found = landing_of(rate, coded);
+        equal(&rt, (rate, coded, found), (rate, coded, Some(landing)));
     }
 }

@@ -10,24 +10,25 @@
 //! These tests have a crate of their own because a check of tests proves their whole crate once more.
 #![tactic(auto)]
 
+// What the tests share.
+#[cfg(test)]
+mod equal;
+
+// Octets, and what rates and frames are called.
 #[cfg(test)]
 mod bits;
 #[cfg(test)]
-mod clause18;
+mod heads;
+#[cfg(test)]
+mod rate;
+
+// The steps of the chain, in the order of sending.
 #[cfg(test)]
 mod conv;
 #[cfg(test)]
-mod equal;
-#[cfg(test)]
-mod heads;
-#[cfg(test)]
 mod interleave;
 #[cfg(test)]
-mod inverse;
-#[cfg(test)]
 mod landing;
-#[cfg(test)]
-mod legacy_inverse;
 #[cfg(test)]
 mod map;
 #[cfg(test)]
@@ -35,12 +36,20 @@ mod parse;
 #[cfg(test)]
 mod pilot;
 #[cfg(test)]
-mod rate;
-#[cfg(test)]
 mod scramble;
+
+// Frames that are sent.
 #[cfg(test)]
-mod soft;
+mod clause18;
 #[cfg(test)]
 mod tx;
+
+// Frames that are decoded.
+#[cfg(test)]
+mod inverse;
+#[cfg(test)]
+mod legacy_inverse;
+#[cfg(test)]
+mod soft;
 #[cfg(test)]
 mod viterbi;

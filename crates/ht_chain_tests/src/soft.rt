@@ -12,139 +12,56 @@ use ht_map::grid;
 use ht_metric::{Job, Place, Sample, System, Tap, Triangle, plain_nearest};
 use ht_rate::{Modulation, Pattern, Rate};
 use ht_soft::{half, soft_decode, soft_frame, weight};
-use std::alloc::AllocError;
+use std::alloc::{AllocError, Global};
 use std::test::Fail;
 
 // What was received on a data subcarrier of one stream: its diagonal, and the two parts of its sample.
 type Received = (u16, i32, i32);
 
+// What was received on all data subcarriers of a symbol: the diagonals, and the two parts of each sample.
+type Symbol = ([u16; 52], [i32; 52], [i32; 52]);
+
 // One symbol of 16-QAM at rate 1/2, small-mcs03.
-static QAM16: [Received; 52] = [
-    (2, 40, 29),
-    (0, 22, -23),
-    (3, 16, 16),
-    (0, 33, 39),
-    (5, -40, 37),
-    (8, 36, -18),
-    (0, 16, 1),
-    (2, -15, 5),
-    (8, 30, -36),
-    (1, -29, -26),
-    (5, 24, -13),
-    (2, -16, 33),
-    (2, 3, -7),
-    (2, 8, -15),
-    (2, 27, 13),
-    (2, 33, 1),
-    (2, 15, -19),
-    (5, -6, 12),
-    (0, -6, -1),
-    (2, 19, -35),
-    (3, -25, -26),
-    (8, -32, -35),
-    (1, -33, -1),
-    (0, -38, 27),
-    (2, -40, 35),
-    (2, 0, -18),
-    (0, -34, 32),
-    (3, -40, 31),
-    (0, -6, 24),
-    (0, 10, -38),
-    (2, 40, -33),
-    (1, 19, -16),
-    (2, -6, 10),
-    (1, -17, -2),
-    (1, -5, -37),
-    (2, -22, 23),
-    (2, -35, -12),
-    (2, 7, -19),
-    (8, 30, -21),
-    (1, 35, -25),
-    (2, 23, -36),
-    (0, 24, -21),
-    (0, -39, 27),
-    (2, -18, 31),
-    (1, -26, -18),
-    (5, 40, -1),
-    (0, -29, 15),
-    (0, 0, -31),
-    (3, -24, -17),
-    (0, 20, -31),
-    (0, -34, -31),
-    (0, -32, -15),
-];
+static QAM16: Symbol = (
+    [
+        2, 0, 3, 0, 5, 8, 0, 2, 8, 1, 5, 2, 2, 2, 2, 2, 2, 5, 0, 2, 3, 8, 1, 0, 2, 2, 0, 3, 0, 0,
+        2, 1, 2, 1, 1, 2, 2, 2, 8, 1, 2, 0, 0, 2, 1, 5, 0, 0, 3, 0, 0, 0,
+    ],
+    [
+        40, 22, 16, 33, -40, 36, 16, -15, 30, -29, 24, -16, 3, 8, 27, 33, 15, -6, -6, 19, -25, -32,
+        -33, -38, -40, 0, -34, -40, -6, 10, 40, 19, -6, -17, -5, -22, -35, 7, 30, 35, 23, 24, -39,
+        -18, -26, 40, -29, 0, -24, 20, -34, -32,
+    ],
+    [
+        29, -23, 16, 39, 37, -18, 1, 5, -36, -26, -13, 33, -7, -15, 13, 1, -19, 12, -1, -35, -26,
+        -35, -1, 27, 35, -18, 32, 31, 24, -38, -33, -16, 10, -2, -37, 23, -12, -19, -21, -25, -36,
+        -21, 27, 31, -18, -1, 15, -31, -17, -31, -31, -15,
+    ],
+);
 
 // One symbol of 64-QAM at rate 2/3, small-mcs05.
-static QAM64: [Received; 52] = [
-    (5, -23, -25),
-    (1, 29, 0),
-    (3, -6, -31),
-    (8, -17, -26),
-    (3, 31, -9),
-    (5, -26, 6),
-    (0, -32, -7),
-    (2, -26, 28),
-    (0, -35, -5),
-    (0, 11, -20),
-    (5, 3, -38),
-    (3, -14, 13),
-    (0, -27, 8),
-    (2, -9, 2),
-    (1, -22, 0),
-    (0, 6, 16),
-    (1, -2, -30),
-    (5, -22, -18),
-    (5, -21, 40),
-    (1, 23, 28),
-    (3, -13, -18),
-    (0, 16, 26),
-    (3, 34, 19),
-    (0, 24, -35),
-    (3, 37, 9),
-    (2, 1, 39),
-    (8, -34, -30),
-    (2, 28, 5),
-    (0, -20, -9),
-    (2, -4, -15),
-    (2, -9, 4),
-    (5, -27, -1),
-    (8, 11, 22),
-    (1, -13, -3),
-    (2, 8, -21),
-    (3, -20, -35),
-    (0, 23, 8),
-    (0, -26, -30),
-    (1, -28, -24),
-    (1, -4, 0),
-    (3, -17, -26),
-    (5, -5, 35),
-    (2, -1, -38),
-    (2, -25, -26),
-    (0, 12, 37),
-    (5, 25, 27),
-    (1, -24, -17),
-    (0, -37, 26),
-    (5, -36, 14),
-    (0, -24, -8),
-    (8, -13, 17),
-    (5, -13, 31),
-];
+static QAM64: Symbol = (
+    [
+        5, 1, 3, 8, 3, 5, 0, 2, 0, 0, 5, 3, 0, 2, 1, 0, 1, 5, 5, 1, 3, 0, 3, 0, 3, 2, 8, 2, 0, 2,
+        2, 5, 8, 1, 2, 3, 0, 0, 1, 1, 3, 5, 2, 2, 0, 5, 1, 0, 5, 0, 8, 5,
+    ],
+    [
+        -23, 29, -6, -17, 31, -26, -32, -26, -35, 11, 3, -14, -27, -9, -22, 6, -2, -22, -21, 23,
+        -13, 16, 34, 24, 37, 1, -34, 28, -20, -4, -9, -27, 11, -13, 8, -20, 23, -26, -28, -4, -17,
+        -5, -1, -25, 12, 25, -24, -37, -36, -24, -13, -13,
+    ],
+    [
+        -25, 0, -31, -26, -9, 6, -7, 28, -5, -20, -38, 13, 8, 2, 0, 16, -30, -18, 40, 28, -18, 26,
+        19, -35, 9, 39, -30, 5, -9, -15, 4, -1, 22, -3, -21, -35, 8, -30, -24, 0, -26, 35, -38,
+        -26, 37, 27, -17, 26, 14, -8, 17, 31,
+    ],
+);
 
 // The labels of BPSK of the octet a5 with seed 127 at MCS 0 of 20 MHz.
 static ONE_OCTET: [&str; 2] = [
     "0110000001000110010101000110000010111110111001010000",
     "0101110011111111011101100100001010001000001111101000",
 ];
-
-const NO_TAP: Tap = Tap { re: 0, im: 0 };
-
-const NO_SAMPLE: Sample = Sample { re: 0, im: 0 };
-
-const PLACE: Place = Place {
-    frame: 0,
-    symbol: 0,
-    carrier: 0,
-};
 
 // The weight of a bit of the first stream's label, by trying all vectors of both halves.
 fn weigh(modulation: Modulation, job: &Job, bit: u8) -> i32
@@ -164,14 +81,30 @@ fn push_weights(weights: &mut Vec<i32>, rate: &Rate, received: Received) -> Resu
     if grid.streams() != 1 {
         return Ok(());
     }
-    let triangle = Triangle::new(1, [diagonal, 0, 0, 0], [NO_TAP; 6]);
-    let y = [Sample { re, im }, NO_SAMPLE, NO_SAMPLE, NO_SAMPLE];
-    let job = Job::new(0, PLACE, grid, System::new(triangle, y));
+    let triangle = Triangle::new(1, [diagonal, 0, 0, 0], [Tap { re: 0, im: 0 }; 6]);
+    let none = Sample { re: 0, im: 0 };
+    let system = System::new(triangle, [Sample { re, im }, none, none, none]);
+    let place = Place {
+        frame: 0,
+        symbol: 0,
+        carrier: 0,
+    };
+    let job = Job::new(0, place, grid, system);
     let modulation = rate.modulation();
     for bit in 0..modulation.label_bits() {
         weights.push(weigh(modulation, &job, bit))?;
     }
     Ok(())
+}
+
+// The weights of a symbol.
+fn weights_of(alloc: Global, rate: &Rate, symbol: &Symbol) -> Result<Vec<i32>, AllocError> {
+    let (diagonals, re, im) = symbol;
+    let mut weights = Vec::new(alloc);
+    for k in 0..52 {
+        push_weights(&mut weights, rate, (diagonals[k], re[k], im[k]))?;
+    }
+    Ok(weights)
 }
 
 // The number of label bits of a frame.
@@ -225,12 +158,9 @@ fn codeword(rt: HostRuntime) -> Result<(), Fail> {
 
 #[test]
 fn captures(rt: HostRuntime) -> Result<(), Fail> {
-    for (mcs, received, cost, octets) in [(3, &QAM16, 1840, 0x83), (5, &QAM64, 12, 0xbf)] {
+    for (mcs, symbol, cost, octets) in [(3, &QAM16, 1840, 0x83), (5, &QAM64, 12, 0xbf)] {
         let rate = Rate::of(0, mcs)?;
-        let mut weights = Vec::new(rt.alloc());
-        for at in received.iter() {
-            push_weights(&mut weights, &rate, *at)?;
-        }
+        let weights = weights_of(rt.alloc(), &rate, symbol)?;
         let met = meets(&rt, &rate, &weights, cost, &[octets])?;
         equal(&rt, (mcs, met), (mcs, true));
     }

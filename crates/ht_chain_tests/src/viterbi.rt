@@ -78,22 +78,18 @@ fn vectors(rt: HostRuntime) -> Result<(), Fail> {
     Ok(())
 }
 
-// What a decoder of weights answers. A word of another length than asked for is an error.
+// What both decoders of weights answer, the plain one last. A word of another length than asked for is an error.
 fn cheapest(
     alloc: Global,
-    is_plain: bool,
     steps: u32,
     pattern: Pattern,
     weights: &[i32],
-) -> Result<Cheapest, AllocError> {
+) -> Result<[Cheapest; 2], AllocError> {
     if steps < 6 || steps > 524_302 || weights.len() as u64 != sent(pattern, steps) {
         return Err(AllocError);
     }
-    if is_plain {
-        decode_places(alloc, steps, pattern, weights)
-    } else {
-        decode_weights(alloc, steps, pattern, weights)
-    }
+    let fast = decode_weights(alloc, steps, pattern, weights)?;
+    Ok([fast, decode_places(alloc, steps, pattern, weights)?])
 }
 
 #[test]
@@ -114,10 +110,9 @@ fn weights(rt: HostRuntime) -> Result<(), Fail> {
         (&[i32::MAX; 14], "1000000", 4 * 2_147_483_647),
     ];
     for (weights, input, cost) in table {
-        for is_plain in [false, true] {
-            let cheapest = cheapest(rt.alloc(), is_plain, 7, Pattern::Half, weights)?;
-            let wanted = bits(rt.alloc(), input)?;
-            let answer = (cheapest.input.as_slice(), cheapest.cost);
+        let wanted = bits(rt.alloc(), input)?;
+        for found in &cheapest(rt.alloc(), 7, Pattern::Half, weights)? {
+            let answer = (found.input.as_slice(), found.cost);
             equal(&rt, answer, (wanted.as_slice(), cost));
         }
     }
@@ -186,28 +181,35 @@ fn random_places(
     Ok(places)
 }
 
+// The first nearest input of eight free bits, with its distance, by trying all.
+fn nearest(pattern: Pattern, received: &[Option<bool>]) -> ([bool; 14], u32) {
+    let mut best = ([false; 14], u32::MAX);
+    // The inputs in their order: the first bit is the highest one.
+    for free in 0..256u32 {
+        let mut input = [false; 14];
+        for (place, bit) in input.iter_mut().take(8).enumerate() {
+            *bit = free << place & 0x80 != 0;
+        }
+        let distance = distance_of(&input, pattern, received);
+        if distance < best.1 {
+            best = (input, distance);
+        }
+    }
+    best
+}
+
 #[test]
 fn ties(rt: HostRuntime) -> Result<(), Fail> {
     for seed in 0..100u64 {
         for pattern in PATTERNS {
             let count = sent(pattern, 14) as usize;
             let received = random_places(rt.alloc(), count, seed, 2 + seed % 5)?;
-            let mut best = ([false; 14], u32::MAX);
-            // The inputs in their order: the first bit is the highest one.
-            for free in 0..256u32 {
-                let mut input = [false; 14];
-                for (place, bit) in input.iter_mut().take(8).enumerate() {
-                    *bit = free << place & 0x80 != 0;
-                }
-                let distance = distance_of(&input, pattern, &received);
-                if distance < best.1 {
-                    best = (input, distance);
-                }
-            }
+            let (input, distance) = nearest(pattern, &received);
             for is_plain in [false, true] {
                 let codeword = answer(rt.alloc(), is_plain, 14, pattern, &received)?;
-                let answer = (seed, codeword.input.as_slice(), codeword.distance);
-                equal(&rt, answer, (seed, best.0.as_slice(), best.1));
+                let case = (seed, pattern, is_plain);
+                let answer = (case, codeword.input.as_slice(), codeword.distance);
+                equal(&rt, answer, (case, input.as_slice(), distance));
             }
         }
     }
@@ -256,7 +258,7 @@ fn alike(rt: HostRuntime) -> Result<(), Fail> {
     Ok(())
 }
 
-// Weights of random size: positive where a 1 was received, and the heaviest everywhere if `is_heaviest`.
+// Weights of random size: positive where a 1 was received, else negative, and the heaviest everywhere if `is_heaviest`.
 fn random_weights(
     alloc: Global,
     received: &[Option<bool>],
@@ -271,11 +273,7 @@ fn random_weights(
         } else {
             (state >> 48) as i32
         };
-        weights.push(match place {
-            Some(true) => size,
-            Some(false) => -size,
-            None => 0,
-        })?;
+        weights.push(if *place == Some(true) { size } else { -size })?;
     }
     Ok(weights)
 }
@@ -289,8 +287,7 @@ fn weights_alike(rt: HostRuntime) -> Result<(), Fail> {
             for is_heaviest in [false, true] {
                 let (_, received) = sent_with_errors(rt.alloc(), steps, pattern, 50)?;
                 let weights = random_weights(rt.alloc(), &received, is_heaviest)?;
-                let fast = cheapest(rt.alloc(), false, steps, pattern, &weights)?;
-                let plain = cheapest(rt.alloc(), true, steps, pattern, &weights)?;
+                let [fast, plain] = &cheapest(rt.alloc(), steps, pattern, &weights)?;
                 let answer = (steps, fast.input.as_slice(), fast.cost);
                 equal(&rt, answer, (steps, plain.input.as_slice(), plain.cost));
             }

@@ -47,7 +47,7 @@ pub fn check_file<S: Source, K: Sink>(
     let mut reader = RecordReader::new();
     let mut tally = Tally::new();
     loop {
-        match reader.next(alloc, source, &mut recorded) {
+        match reader.next(source, &mut recorded) {
             Ok(Came::Whole) => {
                 let is_right = push_line(&mut text, tally.jobs, &recorded)?;
                 tally.count(is_right);

@@ -1,6 +1,7 @@
 //! Lines that wait, put many at once.
-ghost use Rattle.std.specs.Prelude.{◌≡◌, ◌<◌, ◌++◌, ℕ, List, [], OnErr, OnOk, length, string_bytes};
+ghost use Rattle.std.specs.Prelude.{◌≡◌, ◌<◌, ◌++◌, ℕ, List, OnErr, OnOk, length, string_bytes};
 ghost use Rattle.ht_io.specs.Devices.{Grows, GrowsByPart, IsLater, Rose};
+ghost use Rattle.ht_cert.specs.Puts.{PutsAll};
 
 use ht_io::{Failed, Sink};
 
@@ -9,12 +10,7 @@ pub(crate) const BLOCK: usize = 16384;
 
 /// Puts the lines that wait.
 pub(crate) fn put<K: Sink>(text: &mut String, sink: &mut K) -> Result<(), Failed>
-    ensures grown { OnOk result (Grows (K.shown sink.old) (K.shown sink.new) (string_bytes text.old)) }
-    ensures none { OnOk result (string_bytes text.new ≡ []) }
-    ensures steady { OnOk result ((K.shown sink.new).faults ≡ (K.shown sink.old).faults) }
-    ensures part { OnErr result (GrowsByPart (K.shown sink.old) (K.shown sink.new) (string_bytes text.old)) }
-    ensures cause { OnErr result (Rose (K.shown sink.old) (K.shown sink.new)) }
-    ensures later { IsLater (K.shown sink.old) (K.shown sink.new) }
+    ensures { PutsAll (K.shown sink.old) (K.shown sink.new) (string_bytes text.old) (string_bytes text.new) result }
 {
     sink.put(text.as_bytes())?;
     text.clear();

@@ -25,6 +25,11 @@ unfolding each_rate data_bits_of coded_bits_of pattern_of
 data_bits_of-coded r =
     eqb-true _ _ (at_rate (λ r. nat_eq (data_bits_of r * denominator_of (pattern_of r)) (coded_bits_of r * numerator_of (pattern_of r))) refl r)
 
+pub data_bits_of-is : (r : LegacyRate) → data_bits_of r ≡ coded_bits_of r * numerator_of (pattern_of r) / denominator_of (pattern_of r)
+unfolding each_rate data_bits_of coded_bits_of pattern_of
+data_bits_of-is r =
+    eqb-true _ _ (at_rate (λ r. nat_eq (data_bits_of r) (coded_bits_of r * numerator_of (pattern_of r) / denominator_of (pattern_of r))) refl r)
+
 -- and whole periods of the pattern
 pub data_bits_of-periods : (r : LegacyRate) → numerator_of (pattern_of r) * (data_bits_of r / numerator_of (pattern_of r)) ≡ data_bits_of r
 unfolding each_rate data_bits_of pattern_of

@@ -1,5 +1,5 @@
 //! The interleaver: where the coded bits of a symbol come to stand (IEEE Std 802.11-2012, clause 18.3.5.7).
-ghost use Rattle.std.specs.Prelude.{◌≡◌, ◌<◌, ℕ};
+ghost use Rattle.std.specs.Prelude.{◌≡◌, ◌<◌};
 ghost use Rattle.ht_clause18.specs.Interleaver.{place_of, origin_of, first, second, first_back, second_back};
 ghost use Rattle.ht_clause18.specs.Rates.{coded_bits_of};
 ghost use Rattle.ht_clause18.specs.Sources.{AreSources};

@@ -1,6 +1,5 @@
 //! The rates of clause 18 (IEEE Std 802.11-2012, table 18-4).
 ghost use Rattle.std.specs.Prelude.{◌≡◌, ◌↔◌, ◌+◌, ◌*◌, ◌<◌, ◌≤◌, IfSome, IsNone};
-ghost use Rattle.ht_rate.specs.Schemes.{bits_of};
 ghost use Rattle.ht_clause18.specs.Rates.{
   index_of,
   rate_of,
@@ -68,16 +67,7 @@ impl LegacyRate {
         ensures value { result ≡ index_of self }
         ensures bound { result ≤ 7 }
     {
-        match self {
-            LegacyRate::Mbit6 => 0,
-            LegacyRate::Mbit9 => 1,
-            LegacyRate::Mbit12 => 2,
-            LegacyRate::Mbit18 => 3,
-            LegacyRate::Mbit24 => 4,
-            LegacyRate::Mbit36 => 5,
-            LegacyRate::Mbit48 => 6,
-            LegacyRate::Mbit54 => 7,
-        }
+        self as u8
     }
 
     /// The constellation of the data subcarriers.
@@ -136,22 +126,13 @@ impl LegacyRate {
     }
 
     /// N_DBPS, the data bits of a symbol: 24 to 216.
-    #[tactic(auto, unfolding(crate::specs::Rates::data_bits_of))]
     pub fn data_bits(self) -> u16
         ensures value { result ≡ data_bits_of self }
         ensures low { 24 ≤ result }
         ensures high { result ≤ 216 }
     {
-        match self {
-            LegacyRate::Mbit6 => 24,
-            LegacyRate::Mbit9 => 36,
-            LegacyRate::Mbit12 => 48,
-            LegacyRate::Mbit18 => 72,
-            LegacyRate::Mbit24 => 96,
-            LegacyRate::Mbit36 => 144,
-            LegacyRate::Mbit48 => 192,
-            LegacyRate::Mbit54 => 216,
-        }
+        let (numerator, denominator) = self.pattern().coding_rate();
+        self.coded_bits() * numerator / denominator
     }
 
     /// N_SYM, the number of symbols of a PSDU of `length` octets, 1 to 4095: the least number that holds 16 SERVICE bits,

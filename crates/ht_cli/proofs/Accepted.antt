@@ -6,30 +6,23 @@ use Rattle.std.proofs.lemmas.Bool.{true≢false}
 use Rattle.ht_io.specs.Devices.{Device, Rose}
 use Rattle.ht_text.specs.Lines.{usage_text}
 use Rattle.ht_words.specs.declared.asked.Asked.{Asked}
-use Rattle.ht_words.specs.declared.asked.Asked.TheVariants.{Detect, Rx, Soft, LegacyRx, Many, Tx, Channel, Upgrade, Certify, Check, LegacyChannel, Demo}
 use Rattle.ht_words.specs.Accepted.{IsAccepted}
 use Rattle.ht_words.specs.Words.{asked}
 use Rattle.ht_words.proofs.Acceptance.{accepted_asks, asks_accepted}
 use Rattle.ht_cli.specs.declared.status.Status.{Status}
 use Rattle.ht_cli.specs.declared.status.Status.TheVariants.{Done, Refused, Usage, ReadFault, WriteFault, NoMemory}
-use Rattle.ht_cli.specs.Commands.{Rejects}
-use Rattle.ht_cli.specs.Tasks.{Answered}
+use Rattle.ht_cli.specs.Commands.{Answers, Command, Converts, Makes, Reads, Rejects}
+use Rattle.ht_cli.specs.Tasks.{Answered, command_of}
 
 module _ (a b c d : Device ℕ) where
   -- no command answers Usage
+  never_usage : (command : Command) → Answers command a b c d Usage → ⊥
+  never_usage (Reads f) run = run
+  never_usage (Converts f) run = run
+  never_usage (Makes IsText) run = run
+
   no_usage : (asked : Option Asked) → is_some asked ≡ true → Answered asked a b c d Usage → ⊥
-  no_usage (Some (Detect workers window)) some run = run
-  no_usage (Some (Rx workers window)) some run = run
-  no_usage (Some (Soft workers window)) some run = run
-  no_usage (Some (LegacyRx workers window)) some run = run
-  no_usage (Some (Many workers window)) some run = run
-  no_usage (Some Tx) some run = run
-  no_usage (Some (Channel seed noise)) some run = run
-  no_usage (Some Upgrade) some run = run
-  no_usage (Some Certify) some run = run
-  no_usage (Some Check) some run = run
-  no_usage (Some (LegacyChannel seed noise)) some run = run
-  no_usage (Some (Demo seed noise frames rate length workers window)) some run = run
+  no_usage (Some asked) some run = never_usage (command_of asked) run
   no_usage None some run = absurd (true≢false (sym some))
 
   -- words that ask for nothing are answered by Usage

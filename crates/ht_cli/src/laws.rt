@@ -2,7 +2,7 @@
 //!
 //! The clauses of [`run`](crate::run) are the same for every command. Each law is a function with an empty body: its
 //! clauses follow from `Answered`, where a run goes from the source `a` to `b` and from the sink `c` to `d`.
-ghost use Rattle.std.specs.Prelude.{◌≡◌, ◌≢◌, ◌⊎◌, ◌≤◌, ℕ, List, [], All, IfSome, Option, None, Some, String, length, map, string_bytes};
+ghost use Rattle.std.specs.Prelude.{◌≡◌, ◌≢◌, ◌⊎◌, ℕ, List, [], All, IfSome, Option, None, Some, String, length, map, string_bytes};
 ghost use Rattle.std.specs.Global.{Global as GlobalValue};
 ghost use Rattle.ht_io.specs.Devices.{Device, Grows, GrowsByPart, Rose, Takes, TakesAll};
 ghost use Rattle.ht_io.specs.declared.faults.FormatFault.{FormatFault};

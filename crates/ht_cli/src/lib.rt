@@ -46,7 +46,7 @@ use ht_legacy_rx::{legacy_receive, legacy_receive_alone};
 use ht_legacy_sim::legacy_channel;
 use ht_many::{many_bundle, many_bundle_alone};
 use ht_rate::Rate;
-use ht_rx::{list, list_alone, receive_text, receive_text_alone};
+use ht_rx::{list_jobs, list_jobs_alone, receive_text, receive_text_alone};
 use ht_sim::channel;
 use ht_soft_rx::{receive_soft, receive_soft_alone};
 pub use ht_words::Asked;
@@ -85,7 +85,7 @@ pub fn run<R: Threads + Wait + Sync, S: Source, K: Sink, G: Gate + Sync>(
     };
     match asked {
         Some(Asked::Detect { workers, window }) if workers > 1 => {
-            let heard = list(rt, alloc, workers, window, source, sink, gate);
+            let heard = list_jobs(rt, alloc, workers, window, source, sink, gate);
             let listed = put_end(alloc, heard, sink);
             settle(alloc, listed, sink)
         }
@@ -164,7 +164,7 @@ fn carry_out<S: Source, K: Sink, G: Gate>(
 {
     match asked {
         Some(Asked::Detect { window, .. }) => {
-            let heard = list_alone(alloc, window, source, sink, gate);
+            let heard = list_jobs_alone(alloc, window, source, sink, gate);
             let listed = put_end(alloc, heard, sink);
             settle(alloc, listed, sink)
         }

@@ -1,5 +1,5 @@
 //! The encoder: a register that runs over the input, and the puncturing of what it gives.
-ghost use Rattle.std.specs.Prelude.{◌≡◌, ◌+◌, ◌%◌, ◌<◌, ◌≤◌, ◌++◌, IfOk, length, vec_len, vec_capacity};
+ghost use Rattle.std.specs.Prelude.{◌≡◌, ◌+◌, ◌%◌, ◌<◌, ◌≤◌, ◌++◌, IfOk, vec_len, vec_capacity};
 ghost use Rattle.ht_conv.specs.Code.{sent_bits};
 ghost use Rattle.ht_conv.specs.Puncturing.{kept_bits, kept_count};
 

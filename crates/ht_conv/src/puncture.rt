@@ -1,5 +1,5 @@
 //! Puncturing: which coded bits of each step are sent (IEEE Std 802.11-2012, clauses 18.3.5.6 and 20.3.11.6).
-ghost use Rattle.std.specs.Prelude.{◌≡◌, ◌+◌, ◌<◌, ◌^◌, length, slice_index_or};
+ghost use Rattle.std.specs.Prelude.{◌≡◌, ◌+◌, ◌<◌, ◌^◌};
 ghost use Rattle.ht_conv.specs.Puncturing.{kept_of, period_of, sent_count};
 
 use ht_rate::Pattern;

@@ -1,5 +1,5 @@
 //! The encoder's register.
-ghost use Rattle.std.specs.Prelude.{◌≡◌, ◌+◌, ◌%◌, ◌<◌, ◌∷◌, ◌==◌, replicate, take, false, count_ones};
+ghost use Rattle.std.specs.Prelude.{◌≡◌, ◌%◌, ◌<◌, ◌∷◌, ◌==◌, replicate, take, false, count_ones};
 ghost use Rattle.ht_conv.specs.Code.{taps_a, taps_b};
 ghost use Rattle.ht_conv.specs.Continued.{tapped};
 

@@ -6,21 +6,24 @@ use Rattle.std.proofs.lemmas.List.{append-nil}
 use Rattle.std.proofs.lemmas.List.Elements.{All-head, All-tail}
 use Rattle.byteorder.specs.Endian.{big_bytes}
 use Rattle.byteorder.specs.Numbers.{length-bytes_high_first}
-use Rattle.ht_io.specs.Devices.{Device, Takes, TakesAll}
+use Rattle.ht_io.specs.Devices.{Device, IsLater, Takes, TakesAll}
 use Rattle.ht_io.specs.declared.faults.InFault.{InFault}
 use Rattle.ht_io.proofs.Calls.{takes-all}
 use Rattle.ht_fields.specs.Cases.{IsFile}
+use Rattle.ht_fields.specs.FormatLaws.{AreFiles}
 use Rattle.ht_fields.specs.Grammar.{Grammar}
 use Rattle.ht_fields.specs.Readers.{reader_in}
 use Rattle.ht_fields.specs.WholeFiles.{EndsEarly}
 use Rattle.ht_fields.proofs.Answered.{file_items}
 use Rattle.ht_fields.proofs.Choices.{when_true, when_false}
-use Rattle.ht_fields.proofs.Endings.{halts_ends}
+use Rattle.ht_fields.proofs.Endings.{halts_ends, route_ends}
+use Rattle.ht_fields.proofs.FormatLaws.{prefix_free}
 use Rattle.ht_fields.proofs.Routes.{Route, route_file, route_none, route_then, route_to}
 use Rattle.ht_heads.specs.declared.starting.Limits.{Limits}
-use Rattle.ht_heads.specs.Starts.{StartedFails, Body, Over, magic_due, started_octets}
+use Rattle.ht_heads.specs.Starts.{StartState, StartedFails, Body, Over, magic_due, started_octets}
 use Rattle.ht_heads.proofs.Started.{route_started, started_halts}
 use Rattle.ht_counted.specs.Counted.{AreCounted, CountedFormat, IsCount, IsCounted, LeadsBy, counted, counted_format, counted_octets, entries_due, frame_limits}
+use Rattle.ht_counted.proofs.Lists.{place_behind}
 
 pub entry_is : {B : Type 0} (first : ℕ → B) (left : ℕ) → 0 < left → entries_due first left ≡ Body (first left)
 unfolding entries_due
@@ -128,6 +131,15 @@ same h octets Fits most is vs ws are also e =
     file_items (counted h) (counted_octets h.magic h.limits.width octets ws) vs ws
     (subst (λ (z : List ℕ). IsFile (counted h) z vs) e (written h octets Fits most is vs are)) (written h octets Fits most is ws also)
 
+-- what holds of the files of such a format
+pub are_files : {B V : Type 0} (h : CountedFormat B V) (octets : V → List ℕ) (Fits : V → Type 0) (most : ℕ) → IsCounted h octets Fits most
+    → AreFiles (counted h) (AreCounted h.limits Fits) (counted_octets h.magic h.limits.width octets)
+are_files h octets Fits most is = record {
+  no_prefix = prefix_free (counted h);
+  written = written h octets Fits most is;
+  read_back = same h octets Fits most is;
+}
+
 -- what stands in front of the entries was not read
 pub start_ends : {B I : Type 0} (h : CountedFormat B I) (magic : List ℕ) (limits : Limits) (source after : Device ℕ) (fault : InFault)
     → IsCount h.limits → h.magic ≡ magic → h.limits ≡ limits → StartedFails magic limits source after fault
@@ -163,6 +175,20 @@ good_count_as counts limits count is alike some few =
       least = omega (arith, least, some);
       most = omega (arith, most, few);
     }
+
+-- behind the beginning of a file and a number of its entries a reading ended
+pub entries_end : {B V : Type 0} (h : CountedFormat B V) (octets : V → List ℕ) (Fits : V → Type 0) (most : ℕ) (limits : Limits) (count : ℕ) (vs : List V)
+    (t : StartState B) (at : ℕ) (before mid after : Device ℕ) (fault : InFault) → IsCounted h octets Fits most → h.limits ≡ limits → limits.least ≤ count
+    → count ≤ limits.most → length vs ≤ count → All Fits vs → at ≡ length (started_octets h.magic h.limits.width count ++ flat_map octets vs)
+    → Takes before mid (started_octets h.magic h.limits.width count ++ flat_map octets vs) → IsLater before mid
+    → entries_due h.first (count - length vs) ≡ t → EndsEarly (reader_in (counted h) t at mid) after fault
+    → EndsEarly (reader_in (counted h) (magic_due h.magic) 0 before) after fault
+entries_end h octets Fits most limits count vs t at before mid after fault is alike some few here fit place taken later state ends =
+    let front = started_octets h.magic h.limits.width count ++ flat_map octets vs in
+    route_ends (counted h) (magic_due h.magic) t front (flat_map itself vs) 0 at before mid after fault
+    (route_to (counted h) (magic_due h.magic) _ t front (flat_map itself vs) state
+    (route_so_far h octets itself Fits (leads_on h octets Fits most is) count vs (good_count_as h.limits limits count is.count alike some few) here fit))
+    (place_behind at front place) taken later ends
 
 -- the file that was read
 pub takes_file : {V : Type 0} (octets : V → List ℕ) (magic : List ℕ) (width : ℕ) (vs : List V) (count : ℕ) (before mid after : Device ℕ)

@@ -6,6 +6,7 @@ use Rattle.ht_io.specs.declared.faults.InFault.{InFault}
 use Rattle.ht_io.specs.declared.faults.Kind.TheVariants.{BadSeed}
 use Rattle.ht_io.proofs.Calls.{later-later, takes-append}
 use Rattle.ht_fields.specs.Cases.{IsField}
+use Rattle.ht_fields.specs.FormatLaws.{AreFiles}
 use Rattle.ht_fields.specs.Grammar.{Due, Verdict, Good}
 use Rattle.ht_fields.specs.Lacking.{FailsField}
 use Rattle.ht_fields.specs.Readers.{reader_in}
@@ -19,11 +20,11 @@ use Rattle.ht_fields.proofs.Routes.{Route, route_as, route_field, route_then}
 use Rattle.ht_scramble.specs.Sequence.{IsSeed}
 use Rattle.ht_heads.specs.declared.starting.Limits.{Limits}
 use Rattle.ht_heads.specs.Starts.{StartState, Body}
-use Rattle.ht_counted.specs.Counted.{CountedFormat, IsCount, IsCounted, counted, entries_due}
-use Rattle.ht_counted.specs.Framed.{FrameState, Seed, Octets, FrameParts, Framing, HasOctets, IsFramed, IsFraming}
-use Rattle.ht_counted.specs.Framed.{framed_due, framed_most, framed_octets, front_octets, good_octets, good_seed}
+use Rattle.ht_counted.specs.Counted.{AreCounted, CountedFormat, IsCount, IsCounted, counted, counted_octets, entries_due}
+use Rattle.ht_counted.specs.Framed.{AreFramed, FrameState, Seed, Octets, FrameParts, Framing, HasOctets, IsFramed, IsFraming}
+use Rattle.ht_counted.specs.Framed.{framed_due, framed_file, framed_most, framed_octets, front_octets, good_octets, good_seed}
 use Rattle.ht_counted.specs.Seeds.{LacksOctets, is_no_seed}
-use Rattle.ht_counted.proofs.Counting.{is_count, leads_by, route_of}
+use Rattle.ht_counted.proofs.Counting.{are_files, is_count, leads_by, route_of}
 use Rattle.ht_counted.proofs.Seeded.{octets_end, seed_passes}
 
 -- what is put of a frame
@@ -92,6 +93,12 @@ module _ {B R V : Type 0} (f : CountedFormat B V) (h : Framing B R V) (is : IsFr
     short = λ v good. omega (arith, length_frame v, good.octets.1);
     room = subst (λ (l : Limits). 13 + l.most * framed_most h < 2 ^ 64) (sym is.limits) is.room;
   }
+
+  -- what holds of its files
+  pub framed_files : AreFiles (counted f) (AreFramed h) (framed_file f.magic h)
+  framed_files =
+      subst (λ (l : Limits). AreFiles (counted f) (AreCounted l (IsFramed h)) (counted_octets f.magic l.width (framed_octets h))) is.limits
+      (are_files f (framed_octets h) (IsFramed h) (framed_most h) is_counted)
 
   -- the frame of these parts
   module _ (v : V) (rate : R) (len seed : ℕ) (octets : List ℕ) (made : v ≡ h.frame (record { rate = rate; seed = seed; octets = octets }))

@@ -30,16 +30,17 @@ pub record Framing (B R V : Type 0) : Type 0 where
   pub frame : FrameParts R → V
   pub parts : V → FrameParts R
 
--- what the octets of a field mean that are not at fault
+-- behind a seed that is not at fault the octets of the frame are due
 unfoldable pub good_seed : {B R V : Type 0} → Framing B R V → ℕ → R → ℕ → List ℕ → Verdict (StartState B) V
 good_seed h left rate len octets = Good (Body (h.behind (Octets left rate len (octet_of octets)))) []
 
--- behind its octets the frame is whole
+-- behind its octets the frame is whole, and the next one is due
 unfoldable pub good_octets : {B R V : Type 0} → (ℕ → B) → Framing B R V → ℕ → R → ℕ → List ℕ → Verdict (StartState B) V
 good_octets first h left rate seed octets =
     Good (entries_due first (left - 1)) (h.frame (record { rate = rate; seed = seed; octets = octets }) ∷ [])
 
--- The octets of a frame are one field, since none of them can be at fault.
+-- what is due behind the head of a frame, by the first field of a frame; its octets are one field, since none of them can be
+-- at fault
 abbrev pub framed_due : {B R V : Type 0} → (ℕ → B) → Framing B R V → FrameState R → Due (StartState B) V
 framed_due first h (Seed left rate len) = field 1 (checked BadSeed is_no_seed (good_seed h left rate len))
 framed_due first h (Octets left rate len seed) = field len (good_octets first h left rate seed)

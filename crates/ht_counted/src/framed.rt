@@ -1,6 +1,6 @@
 //! Files of frames that have a seed and the octets of a PSDU behind their heads, read whole and written.
 ghost use Rattle.std.specs.Prelude.{◌≡◌, ◌<◌, ◌≤◌, ◌+◌, ◌^◌, ℕ, length, IfOk, IfErr, IfSome, IsSome, OnOk, OnErr};
-ghost use Rattle.ht_io.specs.Devices.{Grows, GrowsByPart, Rose, Takes, IsLater};
+ghost use Rattle.ht_io.specs.Devices.{Grows, GrowsByPart, Puts, Rose, Takes, IsLater};
 ghost use Rattle.ht_fields.specs.Readers.{reader_in};
 ghost use Rattle.ht_fields.specs.WholeFiles.{EndsEarly, ReadsWhole};
 ghost use Rattle.ht_counted.specs.Counted.{CountedFormat, counted, entries_due};
@@ -45,7 +45,7 @@ pub trait Framed {
 
     /// Reads the head of a frame, the first of its octets at offset `at`, while frames are left.
     fn head<S: Source>(source: &mut S, at: u64) -> Result<(Self::Rate, u16), InFault>
-        requires room { at + framed_most framing < 2 ^ 64 }
+        requires offset { at + framed_most framing < 2 ^ 64 }
         ensures whole { IfOk result (λ head. Takes (S.shown source.old) (S.shown source.new) (framing.head head.0 head.1)) }
         ensures some { IfOk result (λ head. 1 ≤ head.1) }
         ensures few { IfOk result (λ head. head.1 ≤ framing.most) }
@@ -85,7 +85,7 @@ fn made<F: Framed>(rate: F::Rate, seed: Seed, octets: Vec<u8>) -> F::Frame
 // Reads a frame, while frames are left.
 fn frame<F: Framed, S: Source>(alloc: Global, source: &mut S, at: u64) -> Result<F::Frame, InFault>
     requires framing { IsFraming F.format F.framing }
-    requires room { at + framed_most F.framing < 2 ^ 64 }
+    requires offset { at + framed_most F.framing < 2 ^ 64 }
     ensures whole { IfOk result (λ frame. Takes (S.shown source.old) (S.shown source.new) (framed_octets F.framing frame)) }
     ensures fits { IfOk result (IsFramed F.framing) }
     ensures failed { (left : ℕ) → 0 < left
@@ -185,11 +185,7 @@ impl<F: Framed> Putter for Putting<F> {
 /// Where the sink fails, a part of the file from its front was put.
 pub fn write_framed<F: Framed, K: Sink>(frames: &[F::Frame], sink: &mut K) -> Result<(), Failed>
     requires few { length frames.now ≤ 65535 }
-    ensures grown { OnOk result (Grows (K.shown sink.old) (K.shown sink.new) (framed_file F.format.magic F.framing frames.now)) }
-    ensures steady { OnOk result ((K.shown sink.new).faults ≡ (K.shown sink.old).faults) }
-    ensures part { OnErr result (GrowsByPart (K.shown sink.old) (K.shown sink.new) (framed_file F.format.magic F.framing frames.now)) }
-    ensures cause { OnErr result (Rose (K.shown sink.old) (K.shown sink.new)) }
-    ensures later { IsLater (K.shown sink.old) (K.shown sink.new) }
+    ensures { Puts (K.shown sink.old) (K.shown sink.new) (framed_file F.format.magic F.framing frames.now) result }
 {
     let mut putting = Putting::<F> { of: PhantomData };
     write_whole(&F::magic(), frames, &mut putting, sink)

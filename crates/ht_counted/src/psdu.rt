@@ -15,19 +15,13 @@ use std::alloc::Global;
 /// Reads the seed of a frame, 1 to 127, from the octet at `at` (IEEE Std 802.11-2012, clause 18.3.5.5). It refuses another
 /// number with `BadSeed` there, and where no octet comes as [`octet`] of `ht_fields` does.
 pub fn seed<S: Source>(source: &mut S, at: u64) -> Result<Seed, InFault>
-    requires room { at + 1 < 2 ^ 64 }
+    requires offset { at + 1 < 2 ^ 64 }
     ensures whole { IfOk result (λ seed. Takes (S.shown source.old) (S.shown source.new) (seed ∷ [])) }
     ensures seed { IfOk result (λ seed. IsSeed seed) }
     ensures failed { IfErr result (FailsField 1 BadSeed is_no_seed at (S.shown source.old) (S.shown source.new)) }
     ensures later { IsLater (S.shown source.old) (S.shown source.new) }
 {
-    match octet(source, at) {
-        Ok(value) => match Seed::new(value) {
-            Some(seed) => Ok(seed),
-            None => Err(bad(Kind::BadSeed, at)),
-        },
-        Err(fault) => Err(fault),
-    }
+    Seed::new(octet(source, at)?).ok_or(bad(Kind::BadSeed, at))
 }
 
 // Room for the octets of a PSDU: this number of zeros. The only error is lack of memory.
@@ -49,7 +43,7 @@ pub fn octets<S: Source>(
     at: u64,
     count: u16,
 ) -> Result<Vec<u8>, InFault>
-    requires room { at + count < 2 ^ 64 }
+    requires offset { at + count < 2 ^ 64 }
     ensures whole { IfOk result (λ octets. Takes (S.shown source.old) (S.shown source.new) octets.items) }
     ensures size { IfOk result (λ octets. length octets.items ≡ count) }
     ensures failed { IfErr result (LacksOctets count at (S.shown source.old) (S.shown source.new)) }

@@ -1,5 +1,5 @@
 //! Files of counted entries that are read whole.
-ghost use Rattle.std.specs.Prelude.{◌≡◌, ◌<◌, ◌≤◌, ◌+◌, ◌^◌, ℕ, List, length, IfOk, IfErr};
+ghost use Rattle.std.specs.Prelude.{◌≡◌, ◌<◌, ◌+◌, ◌^◌, ℕ, List, length, IfOk, IfErr};
 ghost use Rattle.ht_io.specs.Devices.{Takes, IsLater};
 ghost use Rattle.ht_fields.specs.Readers.{reader_in};
 ghost use Rattle.ht_fields.specs.WholeFiles.{EndsEarly, ReadsWhole};
@@ -35,7 +35,7 @@ pub trait Entries {
 
     /// Reads an entry, the first of its octets at offset `at`, while entries are left.
     fn read<S: Source>(&mut self, source: &mut S, at: u64) -> Result<Self::Entry, InFault>
-        requires room { at + most < 2 ^ 64 }
+        requires offset { at + most < 2 ^ 64 }
         requires ready { ready self.old }
         ensures ready { ready self.new }
         ensures whole { IfOk result (λ entry. Takes (S.shown source.old) (S.shown source.new) (octets entry)) }

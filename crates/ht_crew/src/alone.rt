@@ -1,5 +1,6 @@
 //! The drive without threads.
-ghost use Rattle.std.specs.Prelude.{◌≡◌, ◌≤◌, IfOk};
+ghost use Rattle.std.specs.Prelude.{IfOk};
+ghost use Rattle.ht_feed.specs.Limits.{IsWindowSize};
 ghost use Rattle.ht_drive.specs.Reports.{HasRunAlone};
 ghost use Rattle.ht_crew.specs.Drives.{DrivesFeed};
 ghost use Rattle.ht_crew.specs.Feeds.{IsFreshFeed};
@@ -25,8 +26,7 @@ pub fn drive_alone<F: Feed, G: Gate>(
     gate: &G,
     feed: &mut F,
 ) -> Result<Report, DriveFault<F::Fault>>
-    requires some { 1 ≤ window }
-    requires few { window ≤ 4096 }
+    requires window { IsWindowSize window }
     requires fresh { IsFreshFeed (F.shown feed.old) }
     ensures drives { DrivesFeed F.shown F.leads window feed.old feed.new result }
     ensures alone { IfOk result HasRunAlone }

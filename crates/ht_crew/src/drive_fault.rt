@@ -1,5 +1,4 @@
 //! Why a drive ended early.
-ghost use Rattle.std.specs.Prelude.{◌≡◌};
 
 use std::fmt::Display;
 use thiserror::Error;

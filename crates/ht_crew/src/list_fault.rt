@@ -1,5 +1,4 @@
 //! How a feed over a list fails.
-ghost use Rattle.std.specs.Prelude.{◌≡◌};
 
 use thiserror::Error;
 

@@ -1,8 +1,8 @@
 //! A feed over a list of jobs, for tests: it fails at the calls that are named, and keeps the hits.
-ghost use Rattle.std.specs.Prelude.{◌≡◌, ◌↔◌, ◌+◌, ◌-◌, ◌^◌, ◌<◌, ◌≤◌, [], ◌++◌, ◌∷◌};
-ghost use Rattle.std.specs.Prelude.{length, drop, take, true, false, Some, Contains, slice_get};
+ghost use Rattle.std.specs.Prelude.{◌≡◌, ◌↔◌, ◌+◌, ◌-◌, ◌^◌, ◌<◌, ◌≤◌};
+ghost use Rattle.std.specs.Prelude.{length, take, true, false, Some, Contains, slice_get};
 ghost use Rattle.std.specs.Prelude.{IsErr, IfOk, IfErr, IfSome, IfNone, OnOk, OnErr, OnSome};
-ghost use Rattle.ht_crew.specs.Feeds.{FeedView, GivesJob, EndsJobs, TakesHit, Fails, GivesAsBefore};
+ghost use Rattle.ht_crew.specs.Feeds.{GivesJob, EndsJobs, TakesHit, Fails, GivesAsBefore};
 ghost use Rattle.ht_crew.specs.Lists.{AreNumbered, Listed, IsListed, fresh, called, refused, gave, ended, took, shown, TakesInTurn};
 ghost use Rattle.ht_crew.specs.Turns.{stays, goes_on};
 

@@ -1,6 +1,7 @@
 //! The drive with threads.
 ghost use Rattle.std.specs.Prelude.{◌≡◌, ◌≤◌, List, Some, IfOk, IfSome, IsSome};
 ghost use Rattle.ht_metric.specs.Jobs.{JobView};
+ghost use Rattle.ht_feed.specs.Limits.{IsCrewSize, IsWindowSize};
 ghost use Rattle.ht_feed.specs.OwnNumbers.{AreTold};
 ghost use Rattle.ht_drive.specs.Reports.{HasRunAlone, HasRunInPool};
 ghost use Rattle.ht_crew.specs.Drives.{DrivesFeed};
@@ -37,10 +38,8 @@ pub fn drive<R: Threads + Wait + Sync, F: Feed, G: Gate + Sync>(
     gate: &G,
     feed: &mut F,
 ) -> Result<Report, DriveFault<F::Fault>>
-    requires one { 1 ≤ workers }
-    requires many { workers ≤ 64 }
-    requires some { 1 ≤ window }
-    requires few { window ≤ 4096 }
+    requires crew { IsCrewSize workers }
+    requires window { IsWindowSize window }
     requires fresh { IsFreshFeed (F.shown feed.old) }
     ensures drives { DrivesFeed F.shown F.leads window feed.old feed.new result }
 
@@ -49,7 +48,7 @@ pub fn drive<R: Threads + Wait + Sync, F: Feed, G: Gate + Sync>(
     ensures passes { 2 ≤ workers → IfOk result (λ report. IsSome report.passes) }
     ensures ran { 2 ≤ workers → IfOk result (λ report. IfSome report.passes (HasRunInPool workers window report)) }
     ensures delivered { 2 ≤ workers → IfOk result (λ report. IfSome report.passes HasDelivered) }
-    ensures told { (jobs : List JobView) → (F.shown feed.old).left ≡ Some jobs
+    ensures by_number { (jobs : List JobView) → (F.shown feed.old).left ≡ Some jobs
         → IfOk result (λ report. IfSome report.passes (λ passes. AreTold jobs (jobs_pushed passes))) }
 {
     let mut failed = false;

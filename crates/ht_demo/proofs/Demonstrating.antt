@@ -1,16 +1,31 @@
 -- The line of a demonstration, from what the book holds once the capture was received.
-use Rattle.std.specs.Prelude.{◌≡◌, ℕ, ◌≤◌, List, []}
+use Rattle.std.specs.Prelude.{◌≡◌, ℕ, ◌≤◌, List, [], ◌∷◌}
+use Rattle.std.proofs.Common.{refl, sym, subst}
 use Rattle.ht_tx.specs.Frames.{FrameView}
+use Rattle.ht_feed.specs.declared.ended.Ended.{Ended}
 use Rattle.ht_results.specs.declared.frame_result.FrameResult.{FrameResult}
-use Rattle.ht_results.specs.Results.{results_of}
+use Rattle.ht_rx.specs.Frames.{booked_of}
+use Rattle.ht_rx.specs.Outcomes.{TellsTo}
 use Rattle.ht_demo.specs.declared.plan.Plan.{Plan}
-use Rattle.ht_demo.specs.Demos.{Demonstrates, IsPassed, line_of, planned}
-use Rattle.ht_demo.proofs.Passing.{demo_line}
+use Rattle.ht_demo.specs.Demos.{AreReceived, AreSent, Demonstrates, HaveRoom, line_of}
+use Rattle.ht_demo.proofs.Passing.{booked_results, demo_line, device}
 use Rattle.ht_demo.proofs.Returning.{noiseless_returns}
 
-pub demonstrates : (plan : Plan) (frames : List FrameView) (octets : List ℕ) (results : List FrameResult) (line : List ℕ)
-    → 1 ≤ plan.length → plan.length ≤ 65535 → plan.frames ≤ 65535 → frames ≡ planned plan → IsPassed plan frames octets
-    → results ≡ results_of octets → line ≡ line_of plan results → Demonstrates plan line
-demonstrates plan frames octets results line some few many are passed received is =
-    let of_plan = demo_line plan frames octets results line are passed received is in
+-- what the book shows once the octets that were sent were received, into a book without results
+pub are_received : (plan : Plan) (frames made : List FrameView) (octets left : List ℕ) (start held shown : List FrameResult) (ended : Ended)
+    → frames ≡ made → AreSent plan made octets → start ≡ []
+    → TellsTo (booked_of (λ frame. frame ∷ [])) (device octets) (device left) (device start) (device held) ended
+    → shown ≡ held → AreReceived plan frames shown
+are_received plan frames made octets left start held shown ended same sent none tells is =
+    (octets, subst (λ (fs : List FrameView). AreSent plan fs octets) (sym same) sent, booked_results octets octets left start held shown ended refl none tells is)
+
+-- such results have room
+pub received_room : (plan : Plan) (frames : List FrameView) (results : List FrameResult) → AreReceived plan frames results → HaveRoom results
+received_room plan frames results (octets, sent, are) = subst HaveRoom (sym are) sent.room
+
+pub demonstrates : (plan : Plan) (frames : List FrameView) (results : List FrameResult) (line : List ℕ)
+    → 1 ≤ plan.length → plan.length ≤ 65535 → plan.frames ≤ 65535 → AreReceived plan frames results → line ≡ line_of plan results
+    → Demonstrates plan line
+demonstrates plan frames results line some few many (octets, sent, are) is =
+    let of_plan = demo_line plan frames octets results line sent.of_plan sent.passed are is in
     record { of_plan = of_plan; noiseless = noiseless_returns plan line some few many of_plan }

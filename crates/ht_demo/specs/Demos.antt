@@ -85,3 +85,13 @@ ArePassed plan frames captured = (sent : List SymbolsView) × AreTransmitted fra
 -- and so are the octets of a capture
 abbrev pub IsPassed : Plan → List FrameView → List ℕ → Type 0
 IsPassed plan frames octets = (sent : List SymbolsView) × AreTransmitted frames sent × (octets ≡ capture_for plan sent)
+
+-- octets are what the frames of a plan are captured as, and their results have room
+pub record AreSent (plan : Plan) (frames : List FrameView) (octets : List ℕ) : Type 0 where
+  pub of_plan : frames ≡ planned plan
+  pub passed : IsPassed plan frames octets
+  pub room : HaveRoom (results_of octets)
+
+-- these results were received of what was sent
+abbrev pub AreReceived : Plan → List FrameView → List FrameResult → Type 0
+AreReceived plan frames results = (octets : List ℕ) × AreSent plan frames octets × (results ≡ results_of octets)

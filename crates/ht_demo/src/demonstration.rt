@@ -1,18 +1,35 @@
 //! The whole way: sample frames are sent, pass the channel and are received.
 ghost use Rattle.std.specs.Prelude.{◌≤◌, IfOk};
-ghost use Rattle.ht_demo.specs.Demos.{Demonstrates};
+ghost use Rattle.ht_feed.specs.Limits.{IsCrewSize, IsWindowSize};
+ghost use Rattle.ht_demo.specs.Demos.{AreReceived, Demonstrates};
 
 use crate::line::line;
 use crate::plan::Plan;
-use crate::sent::capture;
+use crate::sent::send;
 use ht_feed::Gate;
 use ht_frames::ListBook;
-use ht_io::SureSource;
+use ht_results::FrameResult;
 use ht_rx::{receive, receive_alone};
-use ht_sim::sample_frames;
+use ht_tx::Frame;
 use std::alloc::{AllocError, Global};
 use std::sync::Wait;
 use std::thread::Threads;
+
+// The line of a plan, from what was received of its frames.
+fn received(
+    alloc: Global,
+    plan: &Plan,
+    frames: &[Frame],
+    results: &[FrameResult],
+) -> Result<Vec<u8>, AllocError>
+    requires some { 1 ≤ plan.now.length }
+    requires fits { plan.now.length ≤ 65535 }
+    requires few { plan.now.frames ≤ 65535 }
+    requires received { AreReceived plan.now frames.now results.now }
+    ensures { IfOk result (λ line. Demonstrates plan.now line.items) }
+{
+    line(alloc, plan, frames, results)
+}
 
 /// Samples the frames of a plan, sends them through its channel, receives the capture and gives the line that sums it
 /// up.
@@ -26,16 +43,14 @@ pub fn demo_alone<G: Gate>(
     plan: &Plan,
     gate: &G,
 ) -> Result<Vec<u8>, AllocError>
-    requires some { 1 ≤ window }
-    requires few { window ≤ 4096 }
+    requires window { IsWindowSize window }
     requires octets { 1 ≤ plan.now.length }
     ensures { IfOk result (λ line. Demonstrates plan.now line.items) }
 {
-    let frames = sample_frames(alloc, plan.seed, &plan.rate, plan.length, plan.frames)?;
-    let mut source = SureSource::new(capture(alloc, plan, &frames)?);
+    let (frames, mut source) = send(alloc, plan)?;
     let mut book = ListBook::new(alloc);
     match receive_alone(alloc, window, &mut source, &mut book, gate) {
-        Ok(_) => line(alloc, plan, &frames, book.results()),
+        Ok(_) => received(alloc, plan, &frames, book.results()),
         Err(_) => Err(AllocError),
     }
 }
@@ -50,18 +65,15 @@ pub fn demo<R: Threads + Wait + Sync, G: Gate + Sync>(
     plan: &Plan,
     gate: &G,
 ) -> Result<Vec<u8>, AllocError>
-    requires one { 1 ≤ workers }
-    requires many { workers ≤ 64 }
-    requires some { 1 ≤ window }
-    requires few { window ≤ 4096 }
+    requires crew { IsCrewSize workers }
+    requires window { IsWindowSize window }
     requires octets { 1 ≤ plan.now.length }
     ensures { IfOk result (λ line. Demonstrates plan.now line.items) }
 {
-    let frames = sample_frames(alloc, plan.seed, &plan.rate, plan.length, plan.frames)?;
-    let mut source = SureSource::new(capture(alloc, plan, &frames)?);
+    let (frames, mut source) = send(alloc, plan)?;
     let mut book = ListBook::new(alloc);
     match receive(rt, alloc, workers, window, &mut source, &mut book, gate) {
-        Ok(_) => line(alloc, plan, &frames, book.results()),
+        Ok(_) => received(alloc, plan, &frames, book.results()),
         Err(_) => Err(AllocError),
     }
 }

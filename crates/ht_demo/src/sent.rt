@@ -3,12 +3,12 @@ ghost use Rattle.std.specs.Prelude.{◌≡◌, ◌≤◌, All, IfOk, length};
 ghost use Rattle.ht_capture.specs.Contents.{AreTyped};
 ghost use Rattle.ht_capture.specs.Files.{AreCaptureFrames, HasAllCarriers, capture_file_of};
 ghost use Rattle.ht_results.specs.Results.{results_of};
-ghost use Rattle.ht_demo.specs.Demos.{ArePassed, HaveRoom, IsPassed};
+ghost use Rattle.ht_demo.specs.Demos.{ArePassed, AreSent, HaveRoom, IsPassed};
 
 use crate::plan::Plan;
 use ht_capture::{CaptureFrame, write_captures};
-use ht_io::GrowSink;
-use ht_sim::pass;
+use ht_io::{GrowSink, SureSource};
+use ht_sim::{sample_frames, through_channel};
 use ht_tx::{Frame, transmit_all};
 use std::alloc::{AllocError, Global};
 
@@ -21,7 +21,7 @@ fn passed(alloc: Global, plan: &Plan, frames: &[Frame]) -> Result<Vec<CaptureFra
     ensures typed { IfOk result (λ captured. AreTyped captured.items) }
 {
     let sent = transmit_all(alloc, frames)?;
-    let captured = pass(alloc, plan.seed, plan.noise, &sent)?;
+    let captured = through_channel(alloc, plan.seed, plan.noise, &sent)?;
     Ok(captured)
 }
 
@@ -39,11 +39,23 @@ fn written(alloc: Global, captured: Vec<CaptureFrame>) -> Result<Vec<u8>, AllocE
 }
 
 // The octets of the capture that frames come to.
-pub(crate) fn capture(alloc: Global, plan: &Plan, frames: &[Frame]) -> Result<Vec<u8>, AllocError>
+fn capture(alloc: Global, plan: &Plan, frames: &[Frame]) -> Result<Vec<u8>, AllocError>
     requires { length frames.now ≤ 65535 }
     ensures passed { IfOk result (λ octets. IsPassed plan.now frames.now octets.items) }
     ensures room { IfOk result (λ octets. HaveRoom (results_of octets.items)) }
 {
     let captured = passed(alloc, plan, frames)?;
     written(alloc, captured)
+}
+
+// The frames of a plan, and a source of the capture that they come to.
+pub(crate) fn send(alloc: Global, plan: &Plan) -> Result<(Vec<Frame>, SureSource), AllocError>
+    requires { 1 ≤ plan.now.length }
+    ensures sent { IfOk result (λ sent. AreSent plan.now sent.0.items sent.1) }
+    ensures fits { IfOk result (λ _. plan.now.length ≤ 65535) }
+    ensures few { IfOk result (λ _. plan.now.frames ≤ 65535) }
+{
+    let frames = sample_frames(alloc, plan.seed, &plan.rate, plan.length, plan.frames)?;
+    let octets = capture(alloc, plan, &frames)?;
+    Ok((frames, SureSource::new(octets)))
 }

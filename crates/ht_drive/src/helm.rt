@@ -1,5 +1,5 @@
 //! The caller's end of a pool that runs blocks.
-ghost use Rattle.std.specs.Prelude.{if◌then◌else◌, ◌≡◌, ◌-◌, ◌^◌, ◌<◌, ◌≤◌, [], length, false, IfSome, IfNone, IsTrue, OnErr, OnOk};
+ghost use Rattle.std.specs.Prelude.{if◌then◌else◌, ◌≡◌, ◌-◌, ◌^◌, ◌<◌, ◌≤◌, [], length, false, IfSome, IfNone, IsTrue};
 ghost use Rattle.ht_pool.specs.Helms.{IsSettled, IsSameHelm, gave};
 ghost use Rattle.ht_drive.specs.Blocks.{ComesBack};
 

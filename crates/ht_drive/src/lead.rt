@@ -51,7 +51,7 @@ pub(crate) fn lead<
 
     ensures jobs { IfOk result (λ enough. enough ≡ true → tally.new.issued ≡ (F.shown feed.new).count) }
     ensures tallies { IfOk result (λ enough. enough ≡ true → Tallies tally.new helm.new) }
-    ensures told { IfOk result (λ enough. enough ≡ true → (all : List JobView) → (F.shown feed.old).left ≡ Some all
+    ensures by_number { IfOk result (λ enough. enough ≡ true → (all : List JobView) → (F.shown feed.old).left ≡ Some all
         → AreTold all (all_in helm.new.given)) }
     ensures same { IsSameHelm helm.old helm.new }
     ensures settled { IfOk result (λ enough. enough ≡ true → IsSettled helm.new) }

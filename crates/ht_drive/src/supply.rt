@@ -31,7 +31,7 @@ fn issue<B: Shared + Drop + Send, A: Answer + Drop + Send, W: Work<B, Answer = A
     requires last { tally.old.issued + length (B.jobs block) < 2 ^ 64 - 1 }
     ensures window { window.new ≡ window_view window.old.capacity (window.old.due ++ B.jobs block ∷ []) }
     ensures tallies { OnOk result (Tallies tally.new helm.new) }
-    ensures told { OnOk result ((all : List JobView) → AreTold all (all_in helm.old.given) → AreTold all (B.jobs block)
+    ensures by_number { OnOk result ((all : List JobView) → AreTold all (all_in helm.old.given) → AreTold all (B.jobs block)
         → AreTold all (all_in helm.new.given)) }
     ensures issued { tally.new.issued ≡ tally.old.issued + length (B.jobs block) }
     ensures same { IsSameHelm helm.old helm.new }
@@ -82,7 +82,7 @@ pub(crate) fn supply<
     // The feed was asked in turn.
     ensures in_turn { (known : Option (List JobView)) → IsAlong known (F.shown feed.old) → IsInTurn known (F.shown feed.new) }
     ensures along { OnOk result ((known : Option (List JobView)) → IsAlong known (F.shown feed.old) → IsAlong known (F.shown feed.new)) }
-    ensures told { OnOk result ((all : List JobView) → IsAlong (Some all) (F.shown feed.old) → AreTold all (all_in helm.old.given)
+    ensures by_number { OnOk result ((all : List JobView) → IsAlong (Some all) (F.shown feed.old) → AreTold all (all_in helm.old.given)
         → AreTold all (all_in helm.new.given)) }
 
     ensures running { IfOk result (λ on. IsUnderWay on (F.shown feed.new)) }

@@ -1,5 +1,5 @@
 //! Blocks as the tasks of a pool.
-ghost use Rattle.std.specs.Prelude.{◌≡◌, IfErr, IfOk, OnErr};
+ghost use Rattle.std.specs.Prelude.{◌≡◌, IfOk, OnErr};
 ghost use Rattle.ht_drive.specs.Blocks.{IsBlock, jobs_in, task_of};
 
 use ht_feed::{Answer, Jobs, Work};

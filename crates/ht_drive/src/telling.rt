@@ -1,10 +1,12 @@
 //! A whole input, whose blocks workers run, and what becomes of its hits.
-ghost use Rattle.std.specs.Prelude.{◌≡◌, ◌^◌, ◌-◌, ◌<◌, ◌≤◌, [], Err, None, Some, true, is_some, OnOk};
+ghost use Rattle.std.specs.Prelude.{◌≡◌, ◌-◌, ◌<◌, [], Err, None, Some, true, is_some, OnOk};
 ghost use Rattle.ht_feed.specs.Accounts.{told_by};
 ghost use Rattle.ht_feed.specs.Desks.{feed_view};
 ghost use Rattle.ht_feed.specs.Dues.{jobs_in};
 ghost use Rattle.ht_feed.specs.Feeds.{IsFreshFeed};
 ghost use Rattle.ht_feed.specs.Inputs.{TellsInput};
+ghost use Rattle.ht_feed.specs.Limits.{IsCrewSize, IsWindowSize};
+ghost use Rattle.ht_feed.specs.Reading.{IsFreshReader};
 ghost use Rattle.ht_feed.specs.Telling.{TellsBy, seen_by};
 
 use crate::report::Report;
@@ -20,7 +22,17 @@ use std::alloc::Global;
 use std::sync::Wait;
 use std::thread::Threads;
 
-// Runs all blocks of a desk that gave none yet.
+// Who runs blocks, and how many jobs may be given and not yet taken.
+#[derive(Drop)]
+struct Crew<'c, T, W> {
+    rt: &'c T,
+    alloc: Global,
+    workers: u8,
+    window: u16,
+    work: &'c W,
+}
+
+// Has a crew run all blocks of a desk that gave none yet.
 fn run_desk<
     T: Threads + Wait + Sync,
     R: BlockReader + Drop,
@@ -29,11 +41,7 @@ fn run_desk<
     A: Account<R>,
     W: Work<R::Block, Answer = A::Answer> + Sync,
 >(
-    rt: &T,
-    alloc: Global,
-    workers: u8,
-    window: u16,
-    work: &W,
+    by: &Crew<'_, T, W>,
     desk: &mut D,
     source: &mut S,
     account: &mut A,
@@ -42,10 +50,8 @@ fn run_desk<
 where
     R::Block: Shared + Send + Sync,
     A::Answer: Send + Sync,
-    requires one { 1 ≤ workers }
-    requires many { workers ≤ 64 }
-    requires some { 1 ≤ window }
-    requires few { window ≤ 4096 }
+    requires crew { IsCrewSize by.now.workers }
+    requires window { IsWindowSize by.now.window }
     requires fresh { IsFreshFeed (feed_view R.counts (D.seen desk.old) failed.old) }
     ensures tells { TellsBy failed.old failed.new
         (seen_by R.means R.at (D.seen desk.old) (S.shown source.old) (told_by A.shown A.pieces A.waits account.old))
@@ -59,7 +65,7 @@ where
     ensures same { A.lent account.new ≡ A.lent account.old }
 {
     let mut feed = DeskFeed::new(desk, source, account, failed);
-    drive(rt, alloc, workers, window, work, &mut feed)
+    drive(by.rt, by.alloc, by.workers, by.window, by.work, &mut feed)
 }
 
 /// Does as [`tell_alone`](ht_feed::tell_alone), and the blocks are run by 1 to 64 workers, of which the caller is one.
@@ -85,30 +91,23 @@ pub fn tell<
 where
     R::Block: Shared + Send + Sync,
     A::Answer: Send + Sync,
-    requires one { 1 ≤ workers }
-    requires many { workers ≤ 64 }
-    requires some { 1 ≤ window }
-    requires few { window ≤ 4096 }
-    requires going { (R.counts reader).going ≡ true }
-    requires fresh { (R.counts reader).given ≡ 0 }
-    requires bounded { (R.counts reader).more < 2 ^ 64 - 1 }
+    requires crew { IsCrewSize workers }
+    requires window { IsWindowSize window }
+    requires fresh { IsFreshReader (R.counts reader) }
     requires rests { A.waits account.old [] }
     ensures { TellsInput R.means R.at reader head (S.shown source.old) (S.shown source.new)
         (told_by A.shown A.pieces A.waits account.old) (told_by A.shown A.pieces A.waits account.new)
         (A.lent account.old) (A.lent account.new) result }
 {
     let mut desk = Desk::new(alloc, reader, head, window)?;
-    let mut failed = None;
-    let driven = run_desk(
+    let by = Crew {
         rt,
         alloc,
         workers,
         window,
         work,
-        &mut desk,
-        source,
-        account,
-        &mut failed,
-    );
+    };
+    let mut failed = None;
+    let driven = run_desk(&by, &mut desk, source, account, &mut failed);
     end_of(&desk, driven)
 }

@@ -1,14 +1,15 @@
 //! The drive of a feed of blocks.
-ghost use Rattle.std.specs.Prelude.{◌≡◌, ◌⊎◌, ◌+◌, ◌-◌, ◌<◌, ◌≤◌, [], List, length, map, vec_len, vec_capacity};
+ghost use Rattle.std.specs.Prelude.{◌≡◌, ◌⊎◌, ◌+◌, ◌-◌, ◌<◌, ◌≤◌, [], List, length, map};
 ghost use Rattle.std.specs.Prelude.{Some, IfErr, IfOk, IfSome, IsSome, OnOk};
 ghost use Rattle.std.specs.List.{All};
 ghost use Rattle.ht_metric.specs.Jobs.{JobView};
+ghost use Rattle.ht_feed.specs.Limits.{IsCrewSize, IsWindowSize};
 ghost use Rattle.ht_feed.specs.OwnNumbers.{AreTold};
 ghost use Rattle.ht_feed.specs.Dues.{all_in};
 ghost use Rattle.ht_feed.specs.Drives.{IsThrough, LeavesInTurn, RefusesBy};
 ghost use Rattle.ht_feed.specs.Feeds.{IsFreshFeed};
-ghost use Rattle.ht_pool.specs.Helms.{IsSettled, unused};
-ghost use Rattle.ht_pool.specs.Members.{HasServed, HasYetToServe, berth_of, berths};
+ghost use Rattle.ht_pool.specs.Helms.{IsSettled};
+ghost use Rattle.ht_pool.specs.Members.{HasServed, berth_of, berths};
 ghost use Rattle.ht_pool.specs.Pools.{IsOpened, IsVacant};
 ghost use Rattle.ht_drive.specs.Blocks.{jobs_in, task_of};
 ghost use Rattle.ht_drive.specs.Driving.{Refuses, Tallies};
@@ -59,10 +60,8 @@ pub fn drive<R: Threads + Wait + Sync, F: BlockFeed, W: Work<F::Block, Answer = 
 where
     F::Block: Shared + Send + Sync,
     F::Answer: Send + Sync,
-    requires one { 1 ≤ workers }
-    requires many { workers ≤ 64 }
-    requires some { 1 ≤ window }
-    requires few { window ≤ 4096 }
+    requires crew { IsCrewSize workers }
+    requires window { IsWindowSize window }
     requires fresh { IsFreshFeed (F.shown feed.old) }
 
     // However it ends.
@@ -76,7 +75,7 @@ where
     ensures alone { workers ≡ 1 → IfOk result HasRunAlone }
     ensures passes { 2 ≤ workers → IfOk result (λ report. IsSome report.passes) }
     ensures ran { 2 ≤ workers → IfOk result (λ report. IfSome report.passes (HasRunInPool workers window report)) }
-    ensures told { (all : List JobView) → (F.shown feed.old).left ≡ Some all
+    ensures by_number { (all : List JobView) → (F.shown feed.old).left ≡ Some all
         → IfOk result (λ report. IfSome report.passes (λ passes. AreTold all (all_in (blocks_pushed passes)))) }
 
     // What it refuses with.
@@ -128,7 +127,7 @@ fn in_pool<
     ensures jobs { IfOk result (λ report. report.jobs ≡ (F.shown feed.new).count) }
     ensures passes { IfOk result (λ report. IsSome report.passes) }
     ensures ran { IfOk result (λ report. IfSome report.passes (HasRunInPool (length pool.post.deques) window.capacity report)) }
-    ensures told { (all : List JobView) → (F.shown feed.old).left ≡ Some all
+    ensures by_number { (all : List JobView) → (F.shown feed.old).left ≡ Some all
         → IfOk result (λ report. IfSome report.passes (λ passes. AreTold all (all_in (blocks_pushed passes)))) }
     ensures refuses { IfErr result (Refuses (A.may_lack ⊎ B.may_lack) (F.shown feed.new)) }
 {

@@ -1,5 +1,5 @@
 //! The window of a drive.
-ghost use Rattle.std.specs.Prelude.{◌≡◌, ◌+◌, ◌<◌, ◌≤◌, ◌++◌, ◌∷◌, [], length, drop, slice_get, true, Some, None, IfOk, IfNone, IfSome, IsTrue, OnErr};
+ghost use Rattle.std.specs.Prelude.{◌≡◌, ◌+◌, ◌<◌, ◌≤◌, ◌++◌, ◌∷◌, [], length, Some, None, IfOk, IfNone, IfSome, IsTrue, OnErr};
 ghost use Rattle.circular_buffer.specs.Buffer.{buffer};
 ghost use Rattle.ht_feed.specs.Dues.{count_in};
 ghost use Rattle.ht_drive.specs.Blocks.{IsBlock, IsFirst, IsWindow, window_view};

@@ -54,23 +54,56 @@ module _ {R H P : Type 0} (means : R → List ℕ → Meaning (Item H)) (at : R 
         puts_later = later-refl account.device;
       }
 
+  -- nothing was read, and a part was put of the pieces of the first jobs that are due
+  pub tells_part : (desk : DeskView R H) (source : Device ℕ) (a b : Telling H P) (fault : BookFault) (taken rest : List (Headed H))
+      → all_due desk.due ++ [] ≡ taken ++ rest → PutsPartOf a.device b.device a.pieces taken → IsLater a.device b.device
+      → (fault ≡ Failed → Rose a.device b.device) → (fault ≡ NoMemory → b.device.faults ≡ a.device.faults)
+      → TellsPart (seen_by means at desk source a) (seen_by means at desk source b) fault
+  tells_part desk source a b fault taken rest all part le cause steady =
+      record {
+        items = [];
+        taken = taken;
+        rest = rest;
+        reads = reads_none (standing means at desk.reader desk.stop source);
+        jobs = all;
+        part = part;
+        reads_later = later-refl source;
+        puts_later = le;
+        cause = cause;
+        steady = steady;
+      }
+
+  -- nothing was read, and the pieces of the first jobs that were due were put; these are due still
+  pub tells_put : (desk : DeskView R H) (left : List (Due H)) (source : Device ℕ) (a b : Telling H P) (taken : List (Headed H))
+      → all_due desk.due ++ [] ≡ taken ++ all_due left → PutsBlock a.device b.device a.pieces b.pieces taken
+      → (a.Waits (all_due desk.due) → b.Waits (all_due left)) → IsLater a.device b.device → b.device.faults ≡ a.device.faults
+      → Tells (seen_by means at desk source a) (seen_by means at (record desk { due = left }) source b)
+  tells_put desk left source a b taken all puts waits le steady =
+      record {
+        items = [];
+        taken = taken;
+        put = puts.0;
+        reads = reads_none (standing means at desk.reader desk.stop source);
+        head = refl;
+        jobs = all;
+        first = puts.2;
+        grows = puts.1;
+        waits = waits;
+        steady = steady;
+        frames = omega arith;
+        count = omega arith;
+        reads_later = later-refl source;
+        puts_later = le;
+      }
+
   -- memory lacked before anything was read
   pub tells_lacking : (old new : DeskView R H) (source after : Device ℕ) (account : Telling H P) → new ≡ old → after ≡ source
       → TellsPart (seen_by means at old source account) (seen_by means at new after account) NoMemory
   tells_lacking old new source after account is same =
       let here = seen_by means at old source account in
-      let part : TellsPart here here NoMemory = record {
-        items = [];
-        taken = [];
-        rest = all_due old.due;
-        reads = reads_none here.standing;
-        jobs = append-nil (all_due old.due);
-        part = λ more. grows_by_part-none account.device (account.pieces more);
-        reads_later = later-refl source;
-        puts_later = later-refl account.device;
-        cause = λ write. cc;
-        steady = λ memory. refl;
-      } in
+      let part : TellsPart here here NoMemory =
+      tells_part old source account account NoMemory [] (all_due old.due) (append-nil (all_due old.due))
+      (λ more. grows_by_part-none account.device (account.pieces more)) (later-refl account.device) (λ write. cc) (λ memory. refl) in
       subst (λ (d : DeskView R H). TellsPart here (seen_by means at d after account) NoMemory) (sym is)
       (subst (λ (s : Device ℕ). TellsPart here (seen_by means at old s account) NoMemory) (sym same) part)
 
@@ -81,22 +114,7 @@ module _ {R H P : Type 0} (means : R → List ℕ → Meaning (Item H)) (at : R 
       → Tells (seen_by means at old source a) (seen_by means at new source b)
   tells_taken old new source a b is puts waits le steady =
       subst (λ (d : DeskView R H). Tells (seen_by means at old source a) (seen_by means at d source b)) (sym is)
-      (record {
-        items = [];
-        taken = all_due (take 1 old.due);
-        put = puts.0;
-        reads = reads_none (standing means at old.reader old.stop source);
-        head = refl;
-        jobs = all_due-first old.due;
-        first = puts.2;
-        grows = puts.1;
-        waits = waits;
-        steady = steady;
-        frames = omega arith;
-        count = omega arith;
-        reads_later = later-refl source;
-        puts_later = le;
-      })
+      (tells_put old (drop 1 old.due) source a b (all_due (take 1 old.due)) (all_due-first old.due) puts waits le steady)
 
   -- the pieces of the first block could not be put, or not made
   pub tells_refused : (old new : DeskView R H) (source : Device ℕ) (a b : Telling H P) (fault : BookFault) → new ≡ old
@@ -105,18 +123,7 @@ module _ {R H P : Type 0} (means : R → List ℕ → Meaning (Item H)) (at : R 
       → TellsPart (seen_by means at old source a) (seen_by means at new source b) fault
   tells_refused old new source a b fault is part le cause steady =
       subst (λ (d : DeskView R H). TellsPart (seen_by means at old source a) (seen_by means at d source b) fault) (sym is)
-      (record {
-        items = [];
-        taken = all_due (take 1 old.due);
-        rest = all_due (drop 1 old.due);
-        reads = reads_none (standing means at old.reader old.stop source);
-        jobs = all_due-first old.due;
-        part = part;
-        reads_later = later-refl source;
-        puts_later = le;
-        cause = cause;
-        steady = steady;
-      })
+      (tells_part old source a b fault (all_due (take 1 old.due)) (all_due (drop 1 old.due)) (all_due-first old.due) part le cause steady)
 
 module _ {R H P : Type 0} {means : R → List ℕ → Meaning (Item H)} {at : R → ℕ} where
   -- the desk read on, and so it has gone on from where it began

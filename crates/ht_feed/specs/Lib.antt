@@ -1,3 +1,4 @@
+pub mod Limits
 pub mod Items
 pub mod Numbers
 pub mod OwnNumbers

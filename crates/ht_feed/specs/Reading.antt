@@ -1,6 +1,6 @@
 -- What a call of a reader of blocks does with the octets that it takes, and how far an input was read over several
 -- calls.
-use Rattle.std.specs.Prelude.{◌≡◌, ◌⊎◌, ℕ, ◌+◌, ◌<◌, ◌≤◌, List, [], ◌∷◌, map, length, Option, None, Some, Bool, true}
+use Rattle.std.specs.Prelude.{◌≡◌, ◌⊎◌, ℕ, ◌+◌, ◌-◌, ◌^◌, ◌<◌, ◌≤◌, List, [], ◌∷◌, map, length, Option, None, Some, Bool, true}
 use Rattle.ht_io.specs.Devices.{Device, Takes, TakesAll, Rose, IsLater}
 use Rattle.ht_io.specs.declared.faults.InFault.{InFault}
 use Rattle.ht_io.specs.declared.faults.InFault.TheVariants.{Format, Read, NoMemory}
@@ -22,6 +22,12 @@ pub record Counts : Type 0 where
   pub given : ℕ
   pub more : ℕ
   pub going : Bool
+
+-- a reader that gave nothing yet, can be asked, and never gives more than fit a counter
+pub record IsFreshReader (counts : Counts) : Type 0 where
+  pub going : counts.going ≡ true
+  pub fresh : counts.given ≡ 0
+  pub bounded : counts.more < 2 ^ 64 - 1
 
 -- a head came
 pub record CountsHead (old new : Counts) : Type 0 where

@@ -26,8 +26,8 @@ pub trait Account<R: BlockReader> {
     /// The device that the pieces are put into.
     ghost shown: { Self → Device Self.Piece };
 
-    /// Which borrows lead to that device.
-    ghost lent: { Self → List ℕ };
+    /// Which borrows lead to that device; none where the account owns it.
+    ghost lent: { Self → List ℕ } = { λ account. [] };
 
     /// What is put in all if the hits of exactly these jobs still come.
     ghost pieces: { Self → List (Headed R.Head) → List Self.Piece };

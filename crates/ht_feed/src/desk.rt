@@ -1,9 +1,9 @@
 //! What is due between a reader and an account.
-ghost use Rattle.std.specs.Prelude.{◌≡◌, ◌-◌, ◌^◌, ◌<◌, ◌≤◌, ◌++◌, [], ◌∷◌, None, true, length, IfOk, OnOk};
+ghost use Rattle.std.specs.Prelude.{◌≡◌, ◌-◌, ◌<◌, ◌≤◌, ◌++◌, [], ◌∷◌, None, length, IfOk};
 ghost use Rattle.circular_buffer.specs.Buffer.{buffer};
 ghost use Rattle.ht_feed.specs.Desks.{desk_view};
 ghost use Rattle.ht_feed.specs.Dues.{due_of};
-ghost use Rattle.ht_feed.specs.Reading.{Counts};
+ghost use Rattle.ht_feed.specs.Reading.{IsFreshReader};
 
 use crate::account::Account;
 use crate::book_fault::BookFault;
@@ -50,9 +50,7 @@ impl<R: BlockReader + Drop> Desk<R> {
     /// due it takes more memory. Until a head comes, `head` stands for the one that came last. The only error is lack of
     /// memory.
     pub fn new(alloc: Global, reader: R, head: R::Head, room: u16) -> Result<Desk<R>, AllocError>
-        requires going { (R.counts reader).going ≡ true }
-        requires fresh { (R.counts reader).given ≡ 0 }
-        requires bounded { (R.counts reader).more < 2 ^ 64 - 1 }
+        requires fresh { IsFreshReader (R.counts reader) }
         ensures { IfOk result (λ desk. desk ≡ desk_view reader None head 0 [] 0) }
     {
         Ok(Desk {

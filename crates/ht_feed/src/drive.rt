@@ -1,7 +1,8 @@
 //! The drive of a feed of blocks without threads.
-ghost use Rattle.std.specs.Prelude.{◌≡◌, ◌≤◌, IfOk, OnOk};
+ghost use Rattle.std.specs.Prelude.{◌≡◌, IfOk, OnOk};
 ghost use Rattle.ht_feed.specs.Drives.{IsThrough, LeavesInTurn, RefusesBy};
 ghost use Rattle.ht_feed.specs.Feeds.{IsFreshFeed};
+ghost use Rattle.ht_feed.specs.Limits.{IsWindowSize};
 
 use crate::answer::Work;
 use crate::feed::BlockFeed;
@@ -33,8 +34,7 @@ pub fn drive_alone<F: BlockFeed, W: Work<F::Block, Answer = F::Answer>>(
     work: &W,
     feed: &mut F,
 ) -> Result<u64, DriveFault<F::Fault>>
-    requires some { 1 ≤ window }
-    requires few { window ≤ 4096 }
+    requires window { IsWindowSize window }
     requires fresh { IsFreshFeed (F.shown feed.old) }
 
     // However it ends.

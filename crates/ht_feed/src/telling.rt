@@ -1,8 +1,9 @@
 //! A whole input, and what becomes of its hits.
-ghost use Rattle.std.specs.Prelude.{◌≡◌, ◌^◌, ◌-◌, ◌<◌, ◌≤◌, [], None, true, is_some, OnOk};
+ghost use Rattle.std.specs.Prelude.{◌≡◌, ◌-◌, ◌<◌, [], None, true, is_some, OnOk};
 ghost use Rattle.ht_feed.specs.Accounts.{told_by};
 ghost use Rattle.ht_feed.specs.Inputs.{TellsInput};
-ghost use Rattle.ht_feed.specs.Reading.{Counts};
+ghost use Rattle.ht_feed.specs.Limits.{IsWindowSize};
+ghost use Rattle.ht_feed.specs.Reading.{IsFreshReader};
 ghost use Rattle.ht_feed.specs.Stops.{ended_by, failed_by};
 ghost use Rattle.ht_feed.specs.Telling.{TellsBy, seen_by};
 
@@ -52,8 +53,7 @@ fn run_desk<R: BlockReader + Drop, S: Source, A: Account<R>, W: Work<R::Block, A
     source: &mut S,
     account: &mut A,
 ) -> Result<(), DriveFault<BookFault>>
-    requires some { 1 ≤ window }
-    requires few { window ≤ 4096 }
+    requires window { IsWindowSize window }
     requires going { desk.old.stop ≡ None }
     requires none { desk.old.due ≡ [] }
     ensures tells { TellsBy None (failed_by result)
@@ -102,11 +102,8 @@ pub fn tell_alone<
     source: &mut S,
     account: &mut A,
 ) -> Result<Ended, StopFault>
-    requires some { 1 ≤ window }
-    requires few { window ≤ 4096 }
-    requires going { (R.counts reader).going ≡ true }
-    requires fresh { (R.counts reader).given ≡ 0 }
-    requires bounded { (R.counts reader).more < 2 ^ 64 - 1 }
+    requires window { IsWindowSize window }
+    requires fresh { IsFreshReader (R.counts reader) }
     requires rests { A.waits account.old [] }
     ensures { TellsInput R.means R.at reader head (S.shown source.old) (S.shown source.new)
         (told_by A.shown A.pieces A.waits account.old) (told_by A.shown A.pieces A.waits account.new)

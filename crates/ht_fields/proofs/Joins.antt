@@ -55,49 +55,46 @@ ends_behind {I = I} old mid items a taken fault b =
       trailing = λ e. omega (arith, b.trailing e, place, all);
     }
 
--- Octets that give no item, and then a fault.
-pub gives_refuses : {I : Type 0} (old mid : ReaderView I) (after : Device ℕ) (fault : FormatFault)
-    → Gives old mid [] → Refuses mid after fault → Refuses old after fault
-gives_refuses old mid after fault a b =
-    record {
-      taken = a.taken ++ b.taken;
-      octets = takes-append old.source mid.source after a.taken b.taken a.octets b.octets;
-      means = λ rest. ap old.means (append_assoc a.taken b.taken rest) ∙ (a.means (b.taken ++ rest) ∙ ap (before []) (b.means rest));
-      ends = ends_behind old mid [] a b.taken fault b.ends;
-    }
+-- Octets that give no item, and then what follows them.
+module _ {I : Type 0} (old mid : ReaderView I) (after : Device ℕ) where
+  -- a fault
+  pub gives_refuses : (fault : FormatFault) → Gives old mid [] → Refuses mid after fault → Refuses old after fault
+  gives_refuses fault a b = record {
+    taken = a.taken ++ b.taken;
+    octets = takes-append old.source mid.source after a.taken b.taken a.octets b.octets;
+    means = λ rest. ap old.means (append_assoc a.taken b.taken rest) ∙ (a.means (b.taken ++ rest) ∙ ap (before []) (b.means rest));
+    ends = ends_behind old mid [] a b.taken fault b.ends;
+  }
 
--- Octets that give no item, and then an early end.
-pub gives_runs_out : {I : Type 0} (old mid : ReaderView I) (after : Device ℕ) (fault : FormatFault)
-    → Gives old mid [] → RunsOut mid after fault → RunsOut old after fault
-gives_runs_out old mid after fault a b =
-    record {
-      taken = a.taken ++ b.taken;
-      octets = takes-all old.source mid.source after a.taken b.taken a.octets b.octets;
-      kind = b.kind;
-      place = farther old.at mid.at fault.offset a.taken b.taken a.place b.place;
-      means = a.means b.taken ∙ ap (before []) b.means;
-    }
+  -- an early end
+  pub gives_runs_out : (fault : FormatFault) → Gives old mid [] → RunsOut mid after fault → RunsOut old after fault
+  gives_runs_out fault a b = record {
+    taken = a.taken ++ b.taken;
+    octets = takes-all old.source mid.source after a.taken b.taken a.octets b.octets;
+    kind = b.kind;
+    place = farther old.at mid.at fault.offset a.taken b.taken a.place b.place;
+    means = a.means b.taken ∙ ap (before []) b.means;
+  }
 
--- Octets that give no item, and then a failing source.
-pub gives_breaks : {I : Type 0} (old mid : ReaderView I) (after : Device ℕ) → Gives old mid [] → Breaks mid after → Breaks old after
-gives_breaks {I = I} old mid after a b =
-    let is : old.means (a.taken ++ b.taken) ≡ mid.means b.taken = a.means b.taken in
-    let total : mid.at + length b.taken ≡ old.at + length (a.taken ++ b.taken) = farther old.at mid.at (mid.at + length b.taken) a.taken b.taken a.place refl in
-    record {
-      taken = a.taken ++ b.taken;
-      octets = takes-append old.source mid.source after a.taken b.taken a.octets b.octets;
-      items = ap (λ (m : Meaning I). m.items) is ∙ b.items;
-      early = subst (λ (m : Meaning I). IsEarly (old.at + length (a.taken ++ b.taken)) m.fault)
-          (sym is) (subst (λ n. IsEarly n (mid.means b.taken).fault) total b.early);
-    }
+  -- a failing source
+  pub gives_breaks : Gives old mid [] → Breaks mid after → Breaks old after
+  gives_breaks a b =
+      let is : old.means (a.taken ++ b.taken) ≡ mid.means b.taken = a.means b.taken in
+      let total : mid.at + length b.taken ≡ old.at + length (a.taken ++ b.taken) = farther old.at mid.at (mid.at + length b.taken) a.taken b.taken a.place refl in
+      record {
+        taken = a.taken ++ b.taken;
+        octets = takes-append old.source mid.source after a.taken b.taken a.octets b.octets;
+        items = ap (λ (m : Meaning I). m.items) is ∙ b.items;
+        early = subst (λ (m : Meaning I). IsEarly (old.at + length (a.taken ++ b.taken)) m.fault)
+            (sym is) (subst (λ n. IsEarly n (mid.means b.taken).fault) total b.early);
+      }
 
--- Octets that give no item, and then a stop.
-pub gives_stops : {I : Type 0} (old mid : ReaderView I) (after : Device ℕ) (answer : InFault)
-    → Gives old mid [] → Stops mid after answer → Stops old after answer
-gives_stops old mid after (Format fault) a (inl b) = inl (gives_refuses old mid after fault a b)
-gives_stops old mid after (Format fault) a (inr b) = inr (gives_runs_out old mid after fault a b)
-gives_stops old mid after Read a b = gives_breaks old mid after a b
-gives_stops old mid after NoMemory a b = tt
+  -- a stop
+  pub gives_stops : (answer : InFault) → Gives old mid [] → Stops mid after answer → Stops old after answer
+  gives_stops (Format fault) a (inl b) = inl (gives_refuses fault a b)
+  gives_stops (Format fault) a (inr b) = inr (gives_runs_out fault a b)
+  gives_stops Read a b = gives_breaks a b
+  gives_stops NoMemory a b = tt
 
 -- What a text that is known means, where items were given.
 pub known_gives : {I : Type 0} (old new : ReaderView I) (items : List I) (b : List ℕ) → Gives old new items → old.source.known ≡ Some b

@@ -24,6 +24,12 @@ WritesFiles f are file = (values : List _) → are values → IsFile f (file val
 abbrev pub ReadsBack : {V : Type 0} → (List V → Type 0) → (List V → List ℕ) → Type 0
 ReadsBack are file = (values others : List _) → are values → are others → file values ≡ file others → values ≡ others
 
+-- what is written of values is a file of them and of no others, and files are told apart
+pub record AreFiles {S I : Type 0} (f : Grammar S I) (are : List I → Type 0) (file : List I → List ℕ) : Type 0 where
+  pub no_prefix : IsPrefixFree f
+  pub written : WritesFiles f are file
+  pub read_back : ReadsBack are file
+
 -- each file is the one that is written of its items, and they can be written
 pub record WritesEach {S I : Type 0} (f : Grammar S I) (are : List I → Type 0) (file : List I → List ℕ) : Type 0 where
   pub fit : (octets : List ℕ) (items : List I) → AreBytes octets → IsFile f octets items → are items

@@ -18,7 +18,7 @@ pub fn bad(kind: Kind, offset: u64) -> InFault
 
 /// Fills the slice with the octets of the field that is due, the first of them at offset `at`.
 pub fn fill<S: Source>(source: &mut S, at: u64, into: &mut [u8]) -> Result<(), InFault>
-    requires room { at + length into.old < 2 ^ 64 }
+    requires offset { at + length into.old < 2 ^ 64 }
     ensures whole { OnOk result (Takes (S.shown source.old) (S.shown source.new) into.new) }
     ensures bytes { AreBytes into.new }
     ensures lacking { IfErr result (LacksField (length into.new) at (S.shown source.old) (S.shown source.new)) }
@@ -33,13 +33,13 @@ pub fn fill<S: Source>(source: &mut S, at: u64, into: &mut [u8]) -> Result<(), I
 
 /// Reads a field of one octet.
 pub fn octet<S: Source>(source: &mut S, at: u64) -> Result<u8, InFault>
-    requires room { at + 1 < 2 ^ 64 }
+    requires offset { at + 1 < 2 ^ 64 }
     ensures whole { IfOk result (λ x. Takes (S.shown source.old) (S.shown source.new) (x ∷ [])) }
     ensures lacking { IfErr result (LacksField 1 at (S.shown source.old) (S.shown source.new)) }
     ensures later { IsLater (S.shown source.old) (S.shown source.new) }
 {
     if let Some(octet) = source.at_hand().first().copied() {
-        source.pass(1);
+        source.consume(1);
         return Ok(octet);
     }
     let mut octets = [0u8; 1];
@@ -49,7 +49,7 @@ pub fn octet<S: Source>(source: &mut S, at: u64) -> Result<u8, InFault>
 
 /// Reads a field of two octets.
 pub fn pair<S: Source>(source: &mut S, at: u64) -> Result<[u8; 2], InFault>
-    requires room { at + 2 < 2 ^ 64 }
+    requires offset { at + 2 < 2 ^ 64 }
     ensures whole { IfOk result (λ octets. Takes (S.shown source.old) (S.shown source.new) octets) }
     ensures lacking { IfErr result (LacksField 2 at (S.shown source.old) (S.shown source.new)) }
     ensures later { IsLater (S.shown source.old) (S.shown source.new) }
@@ -61,7 +61,7 @@ pub fn pair<S: Source>(source: &mut S, at: u64) -> Result<[u8; 2], InFault>
 
 /// Reads a field that is a number of two octets, big-endian.
 pub fn number<S: Source>(source: &mut S, at: u64) -> Result<u16, InFault>
-    requires room { at + 2 < 2 ^ 64 }
+    requires offset { at + 2 < 2 ^ 64 }
     ensures whole { IfOk result (λ n. Takes (S.shown source.old) (S.shown source.new) (big_bytes 2 n)) }
     ensures lacking { IfErr result (LacksField 2 at (S.shown source.old) (S.shown source.new)) }
     ensures later { IsLater (S.shown source.old) (S.shown source.new) }
@@ -72,7 +72,7 @@ pub fn number<S: Source>(source: &mut S, at: u64) -> Result<u16, InFault>
 
 /// Reads an octet that has one value; another one is this kind of fault.
 pub fn one_octet<S: Source>(source: &mut S, at: u64, wanted: u8, kind: Kind) -> Result<(), InFault>
-    requires room { at + 1 < 2 ^ 64 }
+    requires offset { at + 1 < 2 ^ 64 }
     ensures whole { OnOk result (Takes (S.shown source.old) (S.shown source.new) (wanted ∷ [])) }
     ensures failed { IfErr result (FailsField 1 kind (differs wanted) at (S.shown source.old) (S.shown source.new)) }
     ensures later { IsLater (S.shown source.old) (S.shown source.new) }

@@ -48,13 +48,13 @@ fn take_low<S: Source>(source: &mut S, last: u8, into: &mut [u8]) -> usize
         return 0;
     }
     into[..count].copy_from_slice(&hand[..count]);
-    source.pass(count);
+    source.consume(count);
     count
 }
 
 // Reads one octet.
 fn low_octet<S: Source>(source: &mut S, at: u64, last: u8, kind: Kind) -> Result<u8, InFault>
-    requires room { at + 1 < 2 ^ 64 }
+    requires offset { at + 1 < 2 ^ 64 }
     ensures whole { IfOk result (λ x. Takes (S.shown source.old) (S.shown source.new) (x ∷ [])) }
     ensures low { IfOk result (λ x. x ≤ last) }
     ensures failed { IfErr result (FailsField 1 kind (is_above last) at (S.shown source.old) (S.shown source.new)) }
@@ -77,7 +77,7 @@ fn low_front<S: Source>(
     into: &mut [u8],
 ) -> Result<usize, InFault>
     requires some { 0 < length into.old }
-    requires room { at + 1 < 2 ^ 64 }
+    requires offset { at + 1 < 2 ^ 64 }
     ensures some { IfOk result (λ count. 0 < count) }
     ensures within { IfOk result (λ count. count ≤ length into.new) }
     ensures taken { IfOk result (λ count. Takes (S.shown source.old) (S.shown source.new) (take count into.new)) }
@@ -104,7 +104,7 @@ pub fn fill_low<S: Source>(
     kind: Kind,
     into: &mut [u8],
 ) -> Result<(), InFault>
-    requires room { at + length into.old < 2 ^ 64 }
+    requires offset { at + length into.old < 2 ^ 64 }
     ensures whole { OnOk result (Takes (S.shown source.old) (S.shown source.new) into.new) }
     ensures low { OnOk result (AreLow last into.new) }
     ensures failed { IfErr result (FailsAmong (length into.new) last kind at (S.shown source.old) (S.shown source.new)) }

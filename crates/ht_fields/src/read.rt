@@ -28,7 +28,7 @@ fn take_at_hand<S: Source>(source: &mut S, into: &mut [u8]) -> bool
         return false;
     }
     into.copy_from_slice(&hand[..count]);
-    source.pass(count);
+    source.consume(count);
     true
 }
 

@@ -1,8 +1,10 @@
 //! Readers over sources in memory.
-use crate::common::whole;
+use crate::common::{bad, octets_of, push_times, source, spoiled, whole};
+use crate::equal::equal;
 use ht_capture::{Item, Reader};
-use ht_io::{FormatFault, InFault, Kind, MemSource};
+use ht_io::{InFault, Kind, MemSource};
 use std::alloc::{AllocError, Global};
+use std::process::Abort;
 use std::test::Fail;
 
 /// Frames of version 1 at 20 MHz and of one octet each, with this MCS and this triangle on each subcarrier. The octets of
@@ -18,9 +20,7 @@ fn frames(
     octets.push(count)?;
     for _ in 0..count {
         octets.extend_from_slice(&[0, mcs, 0, 1])?;
-        for _ in 0..56u8 {
-            octets.extend_from_slice(triangle)?;
-        }
+        push_times(&mut octets, 56, triangle)?;
         for at in 0..896u16 {
             octets.push(((at % 256) as u8).wrapping_mul(step))?;
         }
@@ -53,10 +53,6 @@ fn read(alloc: Global, mut source: MemSource) -> Result<(u16, Option<InFault>), 
     Ok((count, fault))
 }
 
-fn format(kind: Kind, offset: u64) -> Option<InFault> {
-    Some(InFault::Format(FormatFault { kind, offset }))
-}
-
 /// How many items stand before an offset in two frames with one stream.
 fn items_before(offset: u64) -> u16 {
     match offset {
@@ -70,28 +66,31 @@ fn items_before(offset: u64) -> u16 {
     }
 }
 
-// One octet of one or two frames changed.
+// How many frames there are, an octet at a place, the fault of the capture that has it there, and the items before it.
+static SPOILED: [(u8, usize, u8, Kind, u64, u16); 10] = [
+    (1, 1, 88, Kind::BadMagic, 1, 0),
+    (1, 4, 3, Kind::BadVersion, 4, 0),
+    (1, 4, 2, Kind::BadErased, 14, 0),
+    (1, 7, 2, Kind::BadBandwidth, 7, 0),
+    (1, 8, 32, Kind::BadMcs, 8, 0),
+    (1, 10, 0, Kind::BadLength, 9, 0),
+    (1, 6, 0, Kind::Trailing, 7, 0),
+    (1, 6, 2, Kind::Truncated, 1019, 113),
+    (2, 6, 1, Kind::Trailing, 1019, 113),
+    (2, 1020, 32, Kind::BadMcs, 1020, 113),
+];
+
 #[test]
 fn refusals(rt: HostRuntime) -> Result<(), Fail> {
-    let cases = [
-        (1, 1, 88, Kind::BadMagic, 1, 0),
-        (1, 4, 3, Kind::BadVersion, 4, 0),
-        (1, 4, 2, Kind::BadErased, 14, 0),
-        (1, 7, 2, Kind::BadBandwidth, 7, 0),
-        (1, 8, 32, Kind::BadMcs, 8, 0),
-        (1, 10, 0, Kind::BadLength, 9, 0),
-        (1, 6, 0, Kind::Trailing, 7, 0),
-        (1, 6, 2, Kind::Truncated, 1019, 113),
-        (2, 6, 1, Kind::Trailing, 1019, 113),
-        (2, 1020, 32, Kind::BadMcs, 1020, 113),
-    ];
-    for (count, place, octet, kind, offset, items) in cases {
-        let mut octets = one_stream(rt.alloc(), count, 0)?;
-        if let Some(at) = octets.get_mut(place) {
-            *at = octet;
-        }
-        let source = whole(rt.alloc(), octets);
-        assert_eq!(rt; read(rt.alloc(), source)?, (items, format(kind, offset)));
+    for &(count, place, octet, kind, offset, items) in &SPOILED {
+        let frames = one_stream(rt.alloc(), count, 0)?;
+        let octets = spoiled(rt.alloc(), &frames, place, octet)?;
+        let answer = read(rt.alloc(), whole(rt.alloc(), octets))?;
+        equal(
+            &rt,
+            (place, answer),
+            (place, (items, Some(bad(kind, offset)))),
+        );
     }
     Ok(())
 }
@@ -113,35 +112,58 @@ fn jobs_of_symbols(rt: HostRuntime) -> Result<(), Fail> {
     let mut source = whole(rt.alloc(), one_stream(rt.alloc(), 1, 0)?);
     let mut reader = Reader::new(rt.alloc())?;
     for count in [0, 0, 55, 55, 0] {
-        assert_eq!(rt; ready(&mut reader), count);
-        assert!(rt; reader.next(&mut source).is_ok());
+        let ready = ready(&mut reader);
+        let is_read = reader.next(&mut source).is_ok();
+        equal(&rt, (ready, is_read), (count, true));
     }
     Ok(())
 }
 
-// Captures that are no frame long, or less.
+/// A capture that is no frame long, or less, with its fault.
+type Short = (&'static [(u16, &'static [u8])], Option<(Kind, u64)>);
+
+static SHORT: [Short; 6] = [
+    (&[], Some((Kind::Truncated, 0))),
+    (&[(1, b"HT")], Some((Kind::Truncated, 2))),
+    (&[(1, b"HX")], Some((Kind::BadMagic, 1))),
+    (&[(1, b"HTCP\x02\x00\x00")], None),
+    (
+        &[(1, b"HTCP\x02\x00\x01\x00\x00\x00\x01\x02")],
+        Some((Kind::BadErased, 11)),
+    ),
+    (
+        &[(1, b"HTCP\x02\x00\x01\x00\x00\x00\x01"), (56, &[1])],
+        Some((Kind::BadErased, 66)),
+    ),
+];
+
 #[test]
 fn short(rt: HostRuntime) -> Result<(), Fail> {
-    let cases = [
-        (&b""[..], format(Kind::Truncated, 0)),
-        (&b"HT"[..], format(Kind::Truncated, 2)),
-        (&b"HX"[..], format(Kind::BadMagic, 1)),
-        (&b"HTCP\x02\x00\x00"[..], None),
-        (
-            &b"HTCP\x02\x00\x01\x00\x00\x00\x01\x02"[..],
-            format(Kind::BadErased, 11),
-        ),
-    ];
-    for (octets, answer) in cases {
-        let source = whole(rt.alloc(), octets.to_vec(rt.alloc())?);
-        assert_eq!(rt; read(rt.alloc(), source)?, (0, answer));
+    for &(parts, fault) in &SHORT {
+        let octets = octets_of(rt.alloc(), parts)?;
+        let size = octets.len();
+        let answer = read(rt.alloc(), whole(rt.alloc(), octets))?;
+        let fault = match fault {
+            Some((kind, offset)) => Some(bad(kind, offset)),
+            None => None,
+        };
+        equal(&rt, (size, answer), (size, (0, fault)));
     }
-    let mut octets = b"HTCP\x02\x00\x01\x00\x00\x00\x01".to_vec(rt.alloc())?;
-    for _ in 0..56u8 {
-        octets.push(1)?;
-    }
-    let source = whole(rt.alloc(), octets);
-    assert_eq!(rt; read(rt.alloc(), source)?, (0, format(Kind::BadErased, 66)));
+    Ok(())
+}
+
+/// Holds that a capture that is cut off here is truncated, behind so many items.
+fn is_truncated(
+    rt: &impl Abort,
+    alloc: Global,
+    file: &[u8],
+    end: usize,
+    items: u16,
+) -> Result<(), Fail> {
+    let mut octets = file.to_vec(alloc)?;
+    octets.truncate(end);
+    let answer = read(alloc, whole(alloc, octets))?;
+    equal(rt, answer, (items, Some(bad(Kind::Truncated, end as u64))));
     Ok(())
 }
 
@@ -150,19 +172,11 @@ fn short(rt: HostRuntime) -> Result<(), Fail> {
 fn truncated(rt: HostRuntime) -> Result<(), Fail> {
     let two = two_streams(rt.alloc())?;
     for end in 0..two.len() {
-        let source = whole(rt.alloc(), two[..end].to_vec(rt.alloc())?);
-        let items = if end < 459 { 0 } else { 1 };
-        let answer = format(Kind::Truncated, end as u64);
-        assert_eq!(rt; read(rt.alloc(), source)?, (items, answer));
+        is_truncated(&rt, rt.alloc(), &two, end, if end < 459 { 0 } else { 1 })?;
     }
     let one = one_stream(rt.alloc(), 2, 1)?;
     for end in 0..one.len() {
-        let source = whole(rt.alloc(), one[..end].to_vec(rt.alloc())?);
-        let answer = format(Kind::Truncated, end as u64);
-        assert_eq!(rt;
-            read(rt.alloc(), source)?,
-            (items_before(end as u64), answer)
-        );
+        is_truncated(&rt, rt.alloc(), &one, end, items_before(end as u64))?;
     }
     Ok(())
 }
@@ -172,11 +186,12 @@ fn truncated(rt: HostRuntime) -> Result<(), Fail> {
 fn failing(rt: HostRuntime) -> Result<(), Fail> {
     let octets = one_stream(rt.alloc(), 2, 1)?;
     for offset in 0..2032u64 {
-        let failing = [offset].to_vec(rt.alloc())?;
-        let source = MemSource::new(octets.clone()?, Vec::new(rt.alloc()), failing);
-        assert_eq!(rt;
-            read(rt.alloc(), source)?,
-            (items_before(offset), Some(InFault::Read))
+        let source = source(rt.alloc(), &octets, &[], &[offset])?;
+        let answer = read(rt.alloc(), source)?;
+        equal(
+            &rt,
+            (offset, answer),
+            (offset, (items_before(offset), Some(InFault::Read))),
         );
     }
     Ok(())
@@ -200,20 +215,23 @@ fn agree(alloc: Global, mut one: MemSource, mut other: MemSource) -> Result<bool
     Ok(false)
 }
 
+// Holds that these cuts change nothing.
+fn cut(rt: &impl Abort, alloc: Global, octets: &[u8], cuts: &[u64]) -> Result<(), Fail> {
+    let whole = source(alloc, octets, &[], &[])?;
+    let pieces = source(alloc, octets, cuts, &[])?;
+    let same = agree(alloc, whole, pieces)?;
+    equal(rt, (cuts, same), (cuts, true));
+    Ok(())
+}
+
 // Sources that cut the octets anywhere, and everywhere.
 #[test]
 fn pieces(rt: HostRuntime) -> Result<(), Fail> {
     let octets = one_stream(rt.alloc(), 2, 7)?;
     let mut all = Vec::new(rt.alloc());
-    for cut in 0..2032u64 {
-        let source = whole(rt.alloc(), octets.clone()?);
-        let cuts = [cut].to_vec(rt.alloc())?;
-        let pieces = MemSource::new(octets.clone()?, cuts, Vec::new(rt.alloc()));
-        assert!(rt; agree(rt.alloc(), source, pieces)?, "cut at {cut}");
-        all.push(cut)?;
+    for offset in 0..2032u64 {
+        cut(&rt, rt.alloc(), &octets, &[offset])?;
+        all.push(offset)?;
     }
-    let source = whole(rt.alloc(), octets.clone()?);
-    let pieces = MemSource::new(octets, all, Vec::new(rt.alloc()));
-    assert!(rt; agree(rt.alloc(), source, pieces)?);
-    Ok(())
+    cut(&rt, rt.alloc(), &octets, &all)
 }

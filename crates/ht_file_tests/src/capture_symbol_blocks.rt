@@ -1,4 +1,6 @@
 //! Blocks beside single jobs.
+use crate::common::whole;
+use crate::equal::equal;
 use ht_capture::{BlockItem, Item, Reader, SymbolBlock};
 use ht_io::MemSource;
 use std::alloc::{AllocError, Global};
@@ -20,7 +22,7 @@ fn octets(alloc: Global) -> Result<Vec<u8>, AllocError> {
 }
 
 fn source(alloc: Global) -> Result<MemSource, AllocError> {
-    Ok(MemSource::new(octets(alloc)?, Vec::new(alloc), Vec::new(alloc)))
+    Ok(whole(alloc, octets(alloc)?))
 }
 
 /// Whether a block's jobs are those that a reader gives one by one.
@@ -75,48 +77,48 @@ fn sizes(rt: HostRuntime) -> Result<(), Fail> {
         (56, 2),
         (65535, 2),
     ] {
-        let (blocks, ended) = blocks(rt.alloc(), most)?;
-        assert_eq!(rt; blocks, 2 * count);
-        assert!(rt; ended);
+        let answer = blocks(rt.alloc(), most)?;
+        equal(&rt, (most, answer), (most, (2 * count, true)));
     }
     Ok(())
 }
 
-/// The next block of a whole symbol, behind a head if there is one.
-fn next(reader: &mut Reader, source: &mut MemSource) -> Option<SymbolBlock> {
-    for _ in 0..2u8 {
-        match reader.next_block(56, source) {
-            Ok(BlockItem::Block(block)) => return Some(block),
-            Ok(BlockItem::Frame(_)) => {}
-            _ => return None,
+/// The blocks of the four symbols, each of a whole one.
+fn symbols(alloc: Global) -> Result<Vec<SymbolBlock>, AllocError> {
+    let mut source = source(alloc)?;
+    let mut reader = Reader::new(alloc)?;
+    let mut blocks = Vec::new(alloc);
+    for _ in 0..6u8 {
+        if let Ok(BlockItem::Block(block)) = reader.next_block(56, &mut source) {
+            blocks.push(block)?;
         }
     }
-    None
+    Ok(blocks)
 }
 
-// A block keeps its jobs while its reader reads on, and is the same as its copy and as the block of another reader of the
-// same octets, but not as the blocks behind it.
+// A block is the same as its copy and as that block of another reader of the same octets, but not as the other blocks.
+#[test]
+fn same(rt: HostRuntime) -> Result<(), Fail> {
+    let blocks = symbols(rt.alloc())?;
+    equal(&rt, blocks.len(), 4);
+    for (i, block) in symbols(rt.alloc())?.iter().enumerate() {
+        equal(&rt, (i, block.copy()?.same(block)), (i, true));
+        for (j, other) in blocks.iter().enumerate() {
+            equal(&rt, (i, j, block.same(other)), (i, j, i == j));
+        }
+    }
+    Ok(())
+}
+
+// A block keeps its jobs while its reader reads on.
 #[test]
 fn held(rt: HostRuntime) -> Result<(), Fail> {
-    let mut reader = Reader::new(rt.alloc())?;
-    let mut again = Reader::new(rt.alloc())?;
+    let mut source = source(rt.alloc())?;
     let mut singles = Reader::new(rt.alloc())?;
-    let mut one = source(rt.alloc())?;
-    let mut two = source(rt.alloc())?;
-    let mut three = source(rt.alloc())?;
-    let first = next(&mut reader, &mut one).ok_or("a block")?;
-    let copy = first.copy()?;
-    let second = next(&mut reader, &mut one).ok_or("a block")?;
-    let third = next(&mut reader, &mut one).ok_or("a block")?;
-    let other = next(&mut again, &mut two).ok_or("a block")?;
-    assert!(rt; first.same(&copy));
-    assert!(rt; first.same(&other));
-    assert!(rt; !first.same(&second));
-    assert!(rt; !first.same(&third));
-    assert!(rt; matches!(singles.next(&mut three), Ok(Item::Frame(_))));
-    assert!(rt; is_next(&first, &mut singles, &mut three));
-    assert!(rt; is_next(&second, &mut singles, &mut three));
-    assert!(rt; matches!(singles.next(&mut three), Ok(Item::Frame(_))));
-    assert!(rt; is_next(&third, &mut singles, &mut three));
+    for (i, block) in symbols(rt.alloc())?.iter().enumerate() {
+        let has_head = i % 2 == 1 || matches!(singles.next(&mut source), Ok(Item::Frame(_)));
+        let has_jobs = is_next(block, &mut singles, &mut source);
+        equal(&rt, (i, has_head, has_jobs), (i, true, true));
+    }
     Ok(())
 }

@@ -1,11 +1,13 @@
 //! Captures that are read and written back.
 ghost use Rattle.std.specs.Prelude.{◌≡◌, true, All};
-ghost use Rattle.ht_capture.specs.Files.{HasAllCarriers};
+ghost use Rattle.ht_capture.specs.Files.{AreCaptureFrames, HasAllCarriers};
 
-use crate::common::whole;
+use crate::common::{bad, push_times, source, spoiled};
+use crate::equal::equal;
 use ht_capture::{CaptureFrame, read_captures, write_captures, write_captures_2};
-use ht_io::{FormatFault, GrowSink, InFault, Kind, MemSink, MemSource};
+use ht_io::{GrowSink, InFault, Kind, MemSink, MemSource};
 use std::alloc::{AllocError, Global};
+use std::process::Abort;
 use std::test::Fail;
 
 /// A capture of version 1 whose diagonals, entries and samples lie at the ends of their types.
@@ -48,44 +50,32 @@ static ERASED: [&str; 20] = [
     "1a",
 ];
 
-/// The value of a hexadecimal digit, in lower case.
-fn value(digit: u8) -> u8 {
-    match digit {
-        b'0'..=b'9' => digit - b'0',
-        b'a'..=b'f' => digit - b'a' + 10,
-        _ => 0,
-    }
-}
-
-/// Adds the octets of a line of hexadecimal digits.
-fn push_octets(octets: &mut Vec<u8>, line: &str) -> Result<(), AllocError> {
-    let digits = line.as_bytes();
-    for place in 0..digits.len() / 2 {
-        let high = value(digits[2 * place]) % 16;
-        octets.push(high * 16 + value(digits[2 * place + 1]) % 16)?;
-    }
-    Ok(())
-}
-
 /// The octets of lines of hexadecimal digits.
 fn octets(alloc: Global, lines: &[&str]) -> Result<Vec<u8>, AllocError> {
     let mut octets = Vec::new(alloc);
+    let mut high = None;
     for line in lines {
-        push_octets(&mut octets, line)?;
+        for digit in line.chars() {
+            let value = (digit.to_digit(16).unwrap_or(0) & 15) as u8;
+            match high {
+                Some(first) => {
+                    octets.push(first << 4 | value)?;
+                    high = None;
+                }
+                None => high = Some(value),
+            }
+        }
     }
     Ok(octets)
 }
 
-/// A capture of one frame at 20 MHz, MCS 0, of one octet, whose subcarriers each begin with these octets, and whose samples are 0.
+/// A capture of one frame at 20 MHz, MCS 0, of one octet, whose subcarriers each begin with these octets, and whose samples
+/// are 0.
 fn zeros(alloc: Global, version: u8, carrier: &[u8]) -> Result<Vec<u8>, AllocError> {
     let mut octets = b"HTCP".to_vec(alloc)?;
     octets.extend_from_slice(&[version, 0, 1, 0, 0, 0, 1])?;
-    for _ in 0..56u8 {
-        octets.extend_from_slice(carrier)?;
-    }
-    for _ in 0..896u16 {
-        octets.push(0)?;
-    }
+    push_times(&mut octets, 56, carrier)?;
+    push_times(&mut octets, 896, &[0])?;
     Ok(octets)
 }
 
@@ -102,8 +92,8 @@ fn are_whole(frames: &[CaptureFrame]) -> bool
 }
 
 /// What is put of the frames of a capture, in the version, where it can be.
-fn again(alloc: Global, octets: Vec<u8>, version: u8) -> Result<Option<Vec<u8>>, AllocError> {
-    let mut source = whole(alloc, octets);
+fn again(alloc: Global, octets: &[u8], version: u8) -> Result<Option<Vec<u8>>, AllocError> {
+    let mut source = source(alloc, octets, &[], &[])?;
     let Ok(frames) = read_captures(alloc, &mut source) else {
         return Ok(None);
     };
@@ -118,71 +108,84 @@ fn again(alloc: Global, octets: Vec<u8>, version: u8) -> Result<Option<Vec<u8>>,
     Ok(Some(sink.into_held()))
 }
 
+/// Holds that of a capture this is put in the version.
+fn gives(
+    rt: &impl Abort,
+    alloc: Global,
+    capture: &[u8],
+    version: u8,
+    wanted: &[u8],
+) -> Result<(), Fail> {
+    let put = again(alloc, capture, version)?;
+    equal(rt, (version, put), (version, Some(wanted.to_vec(alloc)?)));
+    Ok(())
+}
+
 // What is read is written back, and version 1 becomes version 2.
 #[test]
 fn smoke_written(rt: HostRuntime) -> Result<(), Fail> {
-    let alloc = rt.alloc();
-    let cases = [
-        (zeros(alloc, 1, &[0, 10])?, 1, zeros(alloc, 1, &[0, 10])?),
-        (zeros(alloc, 1, &[0, 10])?, 2, zeros(alloc, 2, &[0, 0, 10])?),
-        (
-            zeros(alloc, 2, &[0, 0, 10])?,
-            2,
-            zeros(alloc, 2, &[0, 0, 10])?,
-        ),
-        (octets(alloc, &EXTREME)?, 1, octets(alloc, &EXTREME)?),
-        (octets(alloc, &ERASED)?, 2, octets(alloc, &ERASED)?),
-    ];
-    for (capture, version, wanted) in cases {
-        assert_eq!(rt; again(alloc, capture, version)?, Some(wanted));
+    let one = zeros(rt.alloc(), 1, &[0, 10])?;
+    gives(&rt, rt.alloc(), &one, 1, &one)?;
+    let two = zeros(rt.alloc(), 2, &[0, 0, 10])?;
+    gives(&rt, rt.alloc(), &one, 2, &two)?;
+    gives(&rt, rt.alloc(), &two, 2, &two)?;
+    for (lines, version) in [(EXTREME.as_slice(), 1), (ERASED.as_slice(), 2)] {
+        let capture = octets(rt.alloc(), lines)?;
+        gives(&rt, rt.alloc(), &capture, version, &capture)?;
     }
     Ok(())
+}
+
+/// What is put of the frames of a capture before a sink fails in front of this octet, and whether the call answers that.
+fn part(alloc: Global, frames: &[CaptureFrame], offset: u64) -> Result<(bool, Vec<u8>), AllocError>
+    requires frames { AreCaptureFrames frames.now }
+{
+    let space = Vec::with_capacity(alloc, 2000)?;
+    let mut sink = MemSink::new(space, Vec::from_slice(alloc, &[offset])?);
+    let is_broken = are_whole(frames) && write_captures(frames, &mut sink).is_err();
+    Ok((is_broken, sink.held().to_vec(alloc)?))
 }
 
 // Where the sink fails, the file up to that octet was put.
 #[test]
 fn sinks(rt: HostRuntime) -> Result<(), Fail> {
-    let alloc = rt.alloc();
-    let capture = zeros(alloc, 1, &[0, 10])?;
-    let mut source = whole(alloc, zeros(alloc, 1, &[0, 10])?);
-    let Ok(frames) = read_captures(alloc, &mut source) else {
-        assert!(rt; false);
-        return Ok(());
-    };
-    let whole = are_whole(&frames);
-    assert!(rt; whole);
-    for offset in [0, 6, 7, 122, 123, 1018] {
-        let space = Vec::with_capacity(alloc, 2000)?;
-        let mut sink = MemSink::new(space, Vec::from_slice(alloc, &[offset])?);
-        assert!(rt; write_captures(&frames, &mut sink).is_err());
-        assert_eq!(rt; Some(sink.held()), capture.get(..offset as usize));
+    let mut capture = zeros(rt.alloc(), 1, &[0, 10])?;
+    let mut source = source(rt.alloc(), &capture, &[], &[])?;
+    let frames = read_captures(rt.alloc(), &mut source)
+        .ok()
+        .ok_or("a capture")?;
+    for offset in [1018, 123, 122, 7, 6, 0] {
+        let (is_broken, put) = part(rt.alloc(), &frames, offset)?;
+        capture.truncate(offset as usize);
+        equal(&rt, (is_broken, put.as_slice()), (true, capture.as_slice()));
     }
     Ok(())
 }
 
-// No subcarrier left, a failing source, and an octet more.
+/// Holds that a capture is refused, where its source fails in front of some octets.
+fn refuses(
+    rt: &impl Abort,
+    alloc: Global,
+    octets: &[u8],
+    failing: &[u64],
+    fault: InFault,
+) -> Result<(), Fail> {
+    let mut source = source(alloc, octets, &[], failing)?;
+    let found = read_captures(alloc, &mut source).err();
+    equal(rt, found, Some(fault));
+    Ok(())
+}
+
+// No subcarrier left, an octet more, too few, and a failing source.
 #[test]
 fn refusals(rt: HostRuntime) -> Result<(), Fail> {
-    let alloc = rt.alloc();
-    let mut longer = zeros(alloc, 2, &[0, 0, 10])?;
-    longer.push(0)?;
-    let cases = [
-        (zeros(alloc, 2, &[1])?, None, Kind::BadErased, 66),
-        (longer, None, Kind::Trailing, 1075),
-        (zeros(alloc, 1, &[0])?, None, Kind::Truncated, 963),
-        (zeros(alloc, 1, &[0, 10])?, Some(1018), Kind::Truncated, 0),
-    ];
-    for (octets, failing, kind, offset) in cases {
-        let mut offsets = Vec::new(alloc);
-        if let Some(place) = failing {
-            offsets.push(place)?;
-        }
-        let wanted = match failing {
-            Some(_) => InFault::Read,
-            None => InFault::Format(FormatFault { kind, offset }),
-        };
-        let mut source = MemSource::new(octets, Vec::new(alloc), offsets);
-        assert_eq!(rt; read_captures(alloc, &mut source).err(), Some(wanted));
-    }
-    Ok(())
+    let none = zeros(rt.alloc(), 2, &[1])?;
+    refuses(&rt, rt.alloc(), &none, &[], bad(Kind::BadErased, 66))?;
+    let two = zeros(rt.alloc(), 2, &[0, 0, 10])?;
+    let longer = spoiled(rt.alloc(), &two, 1075, 0)?;
+    refuses(&rt, rt.alloc(), &longer, &[], bad(Kind::Trailing, 1075))?;
+    let shorter = zeros(rt.alloc(), 1, &[0])?;
+    refuses(&rt, rt.alloc(), &shorter, &[], bad(Kind::Truncated, 963))?;
+    let one = zeros(rt.alloc(), 1, &[0, 10])?;
+    refuses(&rt, rt.alloc(), &one, &[1018], InFault::Read)
 }

@@ -1,8 +1,11 @@
 //! Files of certificates of one BPSK job, with the diagonal 10 and the sample 3 - 4j. A level is written `o` where it is
 //! open and `x` where it is cut.
+use crate::common::{source, spoiled};
+use crate::equal::equal;
 use ht_check::{CertFault, check_file};
-use ht_io::{FormatFault, Kind, MemSink, MemSource};
+use ht_io::{FormatFault, Kind, MemSink};
 use std::alloc::{AllocError, Global};
+use std::process::Abort;
 use std::test::Fail;
 
 // What is claimed: the point by its I, its distance and the marks.
@@ -57,43 +60,46 @@ fn lines(alloc: Global, count: usize) -> Result<String, AllocError> {
     Ok(text)
 }
 
-// What checking these octets answers, and what it puts. Source and sink each fail at an offset where one is given.
-fn checked(
+// Holds what checking these octets answers, and what it puts, where source and sink fail in front of some octets.
+fn checks(
+    rt: &impl Abort,
     alloc: Global,
-    octets: Vec<u8>,
-    source_fails: Option<u64>,
-    sink_fails: Option<u64>,
-) -> Result<(Result<(), CertFault>, MemSink), AllocError> {
-    let mut failing = Vec::new(alloc);
-    if let Some(offset) = source_fails {
-        failing.push(offset)?;
-    }
-    let mut source = MemSource::new(octets, Vec::new(alloc), failing);
+    octets: &[u8],
+    (source_fails, sink_fails): (&[u64], Option<u64>),
+    answer: Result<(), CertFault>,
+    text: &str,
+) -> Result<(), Fail> {
+    let mut source = source(alloc, octets, &[], source_fails)?;
     let mut failing = Vec::new(alloc);
     if let Some(offset) = sink_fails {
         failing.push(offset)?;
     }
-    let mut sink = MemSink::new(Vec::with_capacity(alloc, 4096)?, failing);
-    let answer = check_file(alloc, &mut source, &mut sink);
-    Ok((answer, sink))
+    let mut sink = MemSink::new(Vec::with_capacity(alloc, 65536)?, failing);
+    let found = check_file(alloc, &mut source, &mut sink);
+    equal(rt, (found, sink.held()), (answer, text.as_bytes()));
+    Ok(())
 }
 
 #[test]
 fn answers(rt: HostRuntime) -> Result<(), Fail> {
-    let alloc = rt.alloc();
-    let (answer, sink) = checked(alloc, file(alloc, &CLAIMS)?, None, None)?;
-    assert_eq!(rt; answer, Ok(()));
-    assert!(rt; sink.held() == lines(alloc, 9)?.as_bytes());
-    let (answer, sink) = checked(alloc, file(alloc, &[])?, None, None)?;
-    assert_eq!(rt; answer, Ok(()));
-    assert!(rt; sink.held() == b"end 0 jobs yes 0\n".as_slice());
-    Ok(())
+    let octets = file(rt.alloc(), &CLAIMS)?;
+    let text = lines(rt.alloc(), 9)?;
+    checks(&rt, rt.alloc(), &octets, (&[], None), Ok(()), &text)?;
+    let octets = file(rt.alloc(), &[])?;
+    checks(
+        &rt,
+        rt.alloc(),
+        &octets,
+        (&[], None),
+        Ok(()),
+        "end 0 jobs yes 0\n",
+    )
 }
 
-// What is no file: so many octets of the file, with one octet changed, its answer, and how many lines are put.
+// What is no file: so many octets of the file, with one octet changed or one more, its answer, and how many lines are put.
 type Spoiled = (usize, usize, u8, Kind, u64, usize);
 
-static SPOILED: [Spoiled; 8] = [
+static SPOILED: [Spoiled; 9] = [
     (4, 0, b'H', Kind::Truncated, 4, 0),
     (304, 3, b'P', Kind::BadMagic, 3, 0),
     (304, 4, 2, Kind::BadVersion, 4, 0),
@@ -102,58 +108,45 @@ static SPOILED: [Spoiled; 8] = [
     (304, 51, 5, Kind::BadStreams, 51, 1),
     (50, 0, b'H', Kind::Truncated, 50, 1),
     (303, 0, b'H', Kind::Truncated, 303, 7),
+    (304, 304, 0, Kind::Trailing, 304, 8),
 ];
 
 // Of what is no file the records before its fault have their lines.
 #[test]
 fn faults(rt: HostRuntime) -> Result<(), Fail> {
-    let alloc = rt.alloc();
-    for (size, at, octet, kind, offset, count) in &SPOILED {
-        let mut octets = file(alloc, &CLAIMS)?;
-        octets.truncate(*size);
-        if let Some(place) = octets.get_mut(*at) {
-            *place = *octet;
-        }
-        let fault = FormatFault {
-            kind: *kind,
-            offset: *offset,
-        };
-        let (answer, sink) = checked(alloc, octets, None, None)?;
-        assert_eq!(rt; answer, Err(CertFault::Format(fault)));
-        assert!(rt; sink.held() == lines(alloc, *count)?.as_bytes());
+    for &(size, place, octet, kind, offset, count) in &SPOILED {
+        let mut octets = file(rt.alloc(), &CLAIMS)?;
+        octets.truncate(size);
+        let octets = spoiled(rt.alloc(), &octets, place, octet)?;
+        let answer = Err(CertFault::Format(FormatFault { kind, offset }));
+        let text = lines(rt.alloc(), count)?;
+        checks(&rt, rt.alloc(), &octets, (&[], None), answer, &text)?;
     }
-    let mut octets = file(alloc, &CLAIMS)?;
-    octets.push(0)?;
-    let fault = FormatFault {
-        kind: Kind::Trailing,
-        offset: 304,
-    };
-    let (answer, sink) = checked(alloc, octets, None, None)?;
-    assert_eq!(rt; answer, Err(CertFault::Format(fault)));
-    assert!(rt; sink.held() == lines(alloc, 8)?.as_bytes());
     Ok(())
 }
 
 #[test]
 fn devices(rt: HostRuntime) -> Result<(), Fail> {
-    let alloc = rt.alloc();
-    let (answer, sink) = checked(alloc, file(alloc, &CLAIMS)?, Some(60), None)?;
-    assert_eq!(rt; answer, Err(CertFault::Read));
-    assert!(rt; sink.held() == lines(alloc, 1)?.as_bytes());
-    let (answer, sink) = checked(alloc, file(alloc, &CLAIMS)?, None, Some(17))?;
-    assert_eq!(rt; answer, Err(CertFault::Write));
-    assert!(rt; sink.held() == b"job 0 yes\njob 1 y".as_slice());
-    let (answer, _) = checked(alloc, file(alloc, &CLAIMS)?, Some(60), Some(0))?;
-    assert_eq!(rt; answer, Err(CertFault::Write));
-    Ok(())
+    let octets = file(rt.alloc(), &CLAIMS)?;
+    let read = Err(CertFault::Read);
+    let write = Err(CertFault::Write);
+    checks(&rt, rt.alloc(), &octets, (&[60], None), read, "job 0 yes\n")?;
+    checks(
+        &rt,
+        rt.alloc(),
+        &octets,
+        (&[], Some(17)),
+        write,
+        "job 0 yes\njob 1 y",
+    )?;
+    checks(&rt, rt.alloc(), &octets, (&[60], Some(0)), write, "")
 }
 
 // More lines than are put at once.
 #[test]
 fn blocks(rt: HostRuntime) -> Result<(), Fail> {
-    let alloc = rt.alloc();
-    let mut claims: Vec<Claim> = Vec::new(alloc);
-    let mut text = String::new(alloc);
+    let mut claims: Vec<Claim> = Vec::new(rt.alloc());
+    let mut text = String::new(rt.alloc());
     for job in 0..2500u16 {
         let is_right = job % 3 == 0;
         claims.push((1, 65, if is_right { "oxo" } else { "ox" }))?;
@@ -164,9 +157,6 @@ fn blocks(rt: HostRuntime) -> Result<(), Fail> {
         }
     }
     text.push_str("end 2500 jobs yes 834\n")?;
-    let mut source = MemSource::new(file(alloc, &claims)?, Vec::new(alloc), Vec::new(alloc));
-    let mut sink = MemSink::new(Vec::with_capacity(alloc, 65536)?, Vec::new(alloc));
-    assert_eq!(rt; check_file(alloc, &mut source, &mut sink), Ok(()));
-    assert!(rt; sink.held() == text.as_bytes());
-    Ok(())
+    let octets = file(rt.alloc(), &claims)?;
+    checks(&rt, rt.alloc(), &octets, (&[], None), Ok(()), &text)
 }

@@ -1,11 +1,16 @@
 //! What no clause says: octets through std's readers and writers, and each device once.
 ghost use Rattle.std.specs.Prelude.{◌≡◌, IfOk};
 
+use crate::common::source;
+use crate::equal::equal;
 use ht_io::{
     Failed, FormatFault, GrowSink, InFault, Kind, MemSink, MemSource, Sink, Source, StdSink,
     StdSource, SureSink, SureSource,
 };
+use std::alloc::Global;
+use std::fmt::Display;
 use std::io::{self, BufReader, ErrorKind, Read, Write};
+use std::process::Abort;
 use std::test::Fail;
 
 // A device of std that is interrupted a number of times before each call that it does.
@@ -79,92 +84,105 @@ fn counts<S: Source>(source: &mut S) -> [Option<usize>; 6] {
 }
 
 #[test]
-fn smoke_std(rt: HostRuntime) -> Result<(), Fail> {
+fn smoke_std_source(rt: HostRuntime) -> Result<(), Fail> {
     let octets: &[u8] = b"HTCP\x01\x00\xff";
     let mut source = StdSource::new(BufReader::new(rt.alloc(), octets)?);
-    let mut into = [0u8; 4];
-    assert_eq!(rt; source.read(&mut into), Ok(4));
-    assert_eq!(rt; &into[..], b"HTCP".as_slice());
-    assert_eq!(rt; source.read(&mut into), Ok(3));
-    assert_eq!(rt; &into[..3], b"\x01\x00\xff".as_slice());
-    assert_eq!(rt; source.read(&mut into), Ok(0));
-
-    let mut written = Vec::new(rt.alloc());
-    {
-        let mut sink = StdSink::new(&mut written);
-        assert_eq!(rt; sink.put(b"end 1 "), Ok(()));
-        assert_eq!(rt; sink.put(b"frames\n"), Ok(()));
+    for expected in [
+        (Ok(4), *b"HTCP"),
+        (Ok(3), *b"\x01\x00\xff\x00"),
+        (Ok(0), [0; 4]),
+    ] {
+        let mut into = [0u8; 4];
+        let read = source.read(&mut into);
+        equal(&rt, (read, into), expected);
     }
-    assert_eq!(rt; written.as_slice(), b"end 1 frames\n".as_slice());
     Ok(())
 }
 
 #[test]
-fn refusals_std(rt: HostRuntime) -> Result<(), Fail> {
+fn smoke_std_sink(rt: HostRuntime) {
+    let mut written = Vec::new(rt.alloc());
+    let mut sink = StdSink::new(&mut written);
+    let puts = (sink.put(b"end 1 "), sink.put(b"frames\n"));
+    equal(&rt, puts, (Ok(()), Ok(())));
+    equal(&rt, written.as_slice(), b"end 1 frames\n".as_slice());
+}
+
+// A source that is interrupted so often before each read.
+fn with_interruptions(alloc: Global, times: u32) -> io::Result<StdSource<Interrupted>> {
+    let reader = BufReader::new(alloc, Interrupted { times, left: times })?;
+    Ok(StdSource::new(reader))
+}
+
+#[test]
+fn interruptions(rt: HostRuntime) -> Result<(), Fail> {
     for (times, works) in [(0, true), (999, true), (1_000, true), (1_001, false)] {
-        let mut source = StdSource::new(BufReader::new(
-            rt.alloc(),
-            Interrupted { times, left: times },
-        )?);
+        let mut source = with_interruptions(rt.alloc(), times)?;
         let mut sink = StdSink::new(Interrupted { times, left: times });
         let mut into = [0u8; 4];
-        assert_eq!(rt; source.read(&mut into).is_ok(), works, "read after {times}");
-        assert_eq!(rt; sink.put(&into).is_ok(), works, "put after {times}");
+        let read = source.read(&mut into).is_ok();
+        let put = sink.put(&into).is_ok();
+        equal(&rt, (times, read, put), (times, works, works));
     }
+    Ok(())
+}
+
+// A device has no last error before it failed, and then the one that it failed with.
+#[test]
+fn last_errors(rt: HostRuntime) -> Result<(), Fail> {
     for (takes, kind) in [(false, ErrorKind::WriteZero), (true, ErrorKind::BrokenPipe)] {
         let mut sink = StdSink::new(Broken { takes });
-        assert_eq!(rt; kind_of(sink.last_error()), None);
-        assert_eq!(rt; sink.put(b"x"), Err(Failed));
-        assert_eq!(rt; kind_of(sink.last_error()), Some(kind));
+        let before = kind_of(sink.last_error());
+        let put = sink.put(b"x");
+        let behind = kind_of(sink.last_error());
+        equal(&rt, (before, put, behind), (None, Err(Failed), Some(kind)));
     }
-    let times = 1_001;
-    let mut source = StdSource::new(BufReader::new(
-        rt.alloc(),
-        Interrupted { times, left: times },
-    )?);
-    assert_eq!(rt; kind_of(source.last_error()), None);
-    assert_eq!(rt; source.read(&mut [0; 4]), Err(Failed));
-    assert_eq!(rt; kind_of(source.last_error()), Some(ErrorKind::Interrupted));
+    let mut source = with_interruptions(rt.alloc(), 1_001)?;
+    let before = kind_of(source.last_error());
+    let read = source.read(&mut [0; 4]);
+    let behind = kind_of(source.last_error());
+    equal(
+        &rt,
+        (before, read, behind),
+        (None, Err(Failed), Some(ErrorKind::Interrupted)),
+    );
     Ok(())
 }
 
 #[test]
 fn smoke_sources(rt: HostRuntime) -> Result<(), Fail> {
-    let alloc = rt.alloc();
-    let octets = Vec::from_slice(alloc, b"0123456789")?;
-    let cuts = Vec::from_slice(alloc, &[4])?;
-    let failing = Vec::from_slice(alloc, &[10, 6, 6])?;
-    let mut source = MemSource::new(octets, cuts, failing);
+    let mut source = source(rt.alloc(), b"0123456789", &[4], &[10, 6, 6])?;
     let pieces = [Some(4), Some(2), None, None, Some(4), None];
-    assert_eq!(rt; counts(&mut source), pieces);
+    equal(&rt, counts(&mut source), pieces);
 
-    let mut sure = SureSource::new(Vec::from_slice(alloc, b"0123456789")?);
+    let mut sure = SureSource::new(Vec::from_slice(rt.alloc(), b"0123456789")?);
     let pieces = [Some(8), Some(2), Some(0), Some(0), Some(0), Some(0)];
-    assert_eq!(rt; counts(&mut &mut sure), pieces);
+    equal(&rt, counts(&mut &mut sure), pieces);
     Ok(())
 }
 
 // Pieces that are at hand, and one octet that is read wherever none is.
 #[test]
 fn smoke_hands(rt: HostRuntime) -> Result<(), Fail> {
-    let alloc = rt.alloc();
-    let octets = Vec::from_slice(alloc, b"0123456789")?;
-    let cuts = Vec::from_slice(alloc, &[4])?;
-    let failing = Vec::from_slice(alloc, &[6])?;
-    let mut source = MemSource::new(octets, cuts, failing);
-    let mut into = [0u8; 1];
+    let mut source = source(rt.alloc(), b"0123456789", &[4], &[6])?;
     for (hand, count) in [("0123", 3), ("3", 1), ("45", 2), ("", 0)] {
-        assert_eq!(rt; source.at_hand(), hand.as_bytes());
-        source.pass(count);
+        let found = source.at_hand();
+        equal(&rt, found, hand.as_bytes());
+        let most = found.len();
+        source.consume(most.min(count));
     }
-    assert_eq!(rt; source.read(&mut into), Err(Failed));
-    assert_eq!(rt; source.at_hand(), b"6789".as_slice());
+    equal(&rt, source.read(&mut [0u8]), Err(Failed));
+    equal(&rt, source.at_hand(), b"6789".as_slice());
+    Ok(())
+}
 
+#[test]
+fn smoke_std_hands(rt: HostRuntime) -> Result<(), Fail> {
     let octets: &[u8] = b"abcdef";
-    let mut source = StdSource::new(BufReader::with_capacity(alloc, 4, octets)?);
-    assert_eq!(rt; source.at_hand(), b"".as_slice());
-    assert_eq!(rt; source.read(&mut into), Ok(1));
-    assert_eq!(rt; source.at_hand(), b"bcd".as_slice());
+    let mut source = StdSource::new(BufReader::with_capacity(rt.alloc(), 4, octets)?);
+    equal(&rt, source.at_hand(), b"".as_slice());
+    equal(&rt, source.read(&mut [0u8]), Ok(1));
+    equal(&rt, source.at_hand(), b"bcd".as_slice());
     Ok(())
 }
 
@@ -179,53 +197,49 @@ fn refusals_memory(rt: HostRuntime) -> Result<(), Fail> {
         ("klmn", true, "abcdefghijklmn"),
         ("opqr", false, "abcdefghijklmnop"),
     ] {
-        assert_eq!(rt; sink.put(piece.as_bytes()).is_ok(), works);
-        assert_eq!(rt; sink.held(), held.as_bytes());
+        let put = sink.put(piece.as_bytes()).is_ok();
+        equal(&rt, (put, sink.held()), (works, held.as_bytes()));
     }
     Ok(())
 }
 
 #[test]
-fn smoke_sinks(rt: HostRuntime) -> Result<(), Fail> {
-    let alloc = rt.alloc();
-    let mut grown = GrowSink::new(alloc);
-    assert_eq!(rt; grown.put(b"abc"), Ok(()));
-    assert_eq!(rt; grown.held(), b"abc".as_slice());
-    assert_eq!(rt; grown.into_held().as_slice(), b"abc".as_slice());
+fn smoke_grow_sink(rt: HostRuntime) {
+    let mut grown = GrowSink::new(rt.alloc());
+    equal(&rt, grown.put(b"abc"), Ok(()));
+    equal(&rt, grown.held(), b"abc".as_slice());
+    equal(&rt, grown.into_held().as_slice(), b"abc".as_slice());
+}
 
-    let mut sure = SureSink::new(Vec::with_capacity(alloc, 4)?);
-    assert_eq!(rt; sure.put(b"abcd"), Ok(()));
-    assert_eq!(rt; sure.held(), Some(b"abcd".as_slice()));
-    assert_eq!(rt; sure.put(b"efg"), Ok(()));
-    assert_eq!(rt; sure.held(), None);
-    assert_eq!(rt; sure.dropped(), 3);
+#[test]
+fn smoke_sure_sink(rt: HostRuntime) -> Result<(), Fail> {
+    let mut sure = SureSink::new(Vec::with_capacity(rt.alloc(), 4)?);
+    equal(&rt, sure.put(b"abcd"), Ok(()));
+    equal(&rt, sure.held(), Some(b"abcd".as_slice()));
+    equal(&rt, sure.put(b"efg"), Ok(()));
+    equal(&rt, (sure.held(), sure.dropped()), (None, 3));
+    Ok(())
+}
+
+// Holds that a value is shown as this text.
+fn shows(rt: &impl Abort, alloc: Global, value: &impl Display, text: &str) -> Result<(), Fail> {
+    let shown = format!(in alloc; "{value}")?;
+    equal(rt, shown.as_str(), text);
     Ok(())
 }
 
 #[test]
 fn vectors_texts(rt: HostRuntime) -> Result<(), Fail> {
-    let alloc = rt.alloc();
     let fault = FormatFault {
         kind: Kind::BadMcs,
         offset: 8,
     };
-    for (shown, text) in [
-        (format!(in alloc; "{}", Kind::BadMagic)?, "BadMagic"),
-        (format!(in alloc; "{fault}")?, "BadMcs at 8"),
-        (
-            format!(in alloc; "{}", InFault::Format(fault))?,
-            "BadMcs at 8",
-        ),
-        (
-            format!(in alloc; "{}", InFault::Read)?,
-            "the input can't be read",
-        ),
-        (format!(in alloc; "{}", InFault::NoMemory)?, "out of memory"),
-        (format!(in alloc; "{Failed}")?, "the device failed"),
-    ] {
-        assert_eq!(rt; shown.as_str(), text);
-    }
-    Ok(())
+    shows(&rt, rt.alloc(), &Kind::BadMagic, "BadMagic")?;
+    shows(&rt, rt.alloc(), &fault, "BadMcs at 8")?;
+    shows(&rt, rt.alloc(), &InFault::Format(fault), "BadMcs at 8")?;
+    shows(&rt, rt.alloc(), &InFault::Read, "the input can't be read")?;
+    shows(&rt, rt.alloc(), &InFault::NoMemory, "out of memory")?;
+    shows(&rt, rt.alloc(), &Failed, "the device failed")
 }
 
 #[test]
@@ -234,8 +248,7 @@ fn vectors_kinds(rt: HostRuntime) {
         (Kind::BadMagic, 1, "BadMagic"),
         (Kind::BadCount, 15, "BadCount"),
     ] {
-        assert_eq!(rt; kind.number(), number);
-        assert_eq!(rt; kind.name(), name);
+        equal(&rt, (kind.number(), kind.name()), (number, name));
     }
 }
 

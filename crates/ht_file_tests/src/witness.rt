@@ -2,15 +2,13 @@
 //! where it is cut.
 ghost use Rattle.std.specs.Prelude.{◌≡◌, length, IfOk};
 
+use crate::equal::equal;
 use ht_metric::{Job, Place, Sample, System, Tap, Triangle, Vector};
 use ht_pam::{Grid, Ladder, Point};
 use ht_witness::{Certificate, CheckFault, Marks, certify, check};
 use std::alloc::{AllocError, Global};
+use std::process::Abort;
 use std::test::Fail;
-
-const NO_TAP: Tap = Tap { re: 0, im: 0 };
-
-const NO_SAMPLE: Sample = Sample { re: 0, im: 0 };
 
 const PLACE: Place = Place {
     frame: 0,
@@ -22,21 +20,22 @@ const PLACE: Place = Place {
 fn bpsk(d: u16, re: i32, im: i32) -> Job
     ensures { length result.system ≡ 1 }
 {
-    let triangle = Triangle::new(1, [d, 0, 0, 0], [NO_TAP; 6]);
-    let y = [Sample { re, im }, NO_SAMPLE, NO_SAMPLE, NO_SAMPLE];
+    let triangle = Triangle::new(1, [d, 0, 0, 0], [Tap { re: 0, im: 0 }; 6]);
+    let none = Sample { re: 0, im: 0 };
+    let system = System::new(triangle, [Sample { re, im }, none, none, none]);
     let grid = Grid::one(Ladder::of(2, 3), Ladder::of(1, 1));
-    Job::new(3, PLACE, grid, System::new(triangle, y))
+    Job::new(3, PLACE, grid, system)
 }
 
 // A QPSK job of two streams.
-fn qpsk(d: [u16; 2], tap: Tap, y: [Sample; 2]) -> Job {
-    let mut above = [NO_TAP; 6];
-    above[0] = tap;
+fn qpsk(d: [u16; 2], re: i16, y: [Sample; 2]) -> Job {
+    let mut above = [Tap { re: 0, im: 0 }; 6];
+    above[0] = Tap { re, im: 0 };
     let triangle = Triangle::new(2, [d[0], d[1], 0, 0], above);
+    let none = Sample { re: 0, im: 0 };
+    let system = System::new(triangle, [y[0], y[1], none, none]);
     let two = Ladder::of(2, 3);
-    let grid = Grid::one(two, two).and(two, two);
-    let y = [y[0], y[1], NO_SAMPLE, NO_SAMPLE];
-    Job::new(0, PLACE, grid, System::new(triangle, y))
+    Job::new(0, PLACE, Grid::one(two, two).and(two, two), system)
 }
 
 // The marks that are written.
@@ -72,35 +71,48 @@ fn claims(rt: HostRuntime) -> Result<(), Fail> {
         (0, 65, "", Err(CheckFault::OffGrid(1))),
     ] {
         let certificate = claim(rt.alloc(), i, distance, marks)?;
-        assert_eq!(rt; check(&job, &certificate), answer);
+        let found = check(&job, &certificate);
+        equal(
+            &rt,
+            (i, distance, marks, found),
+            (i, distance, marks, answer),
+        );
     }
+    Ok(())
+}
+
+// Holds that a job is certified with this distance and these marks.
+fn certifies(
+    rt: &impl Abort,
+    alloc: Global,
+    job: &Job,
+    distance: u128,
+    marks: &str,
+) -> Result<(), Fail> {
+    let made = certify(job, alloc)?;
+    let marks = marks_of(alloc, marks)?;
+    let found = (made.distance, made.marks.as_slice());
+    equal(rt, found, (distance, marks.as_slice()));
     Ok(())
 }
 
 #[test]
 fn made(rt: HostRuntime) -> Result<(), Fail> {
-    let alloc = rt.alloc();
-    let slanted = qpsk(
-        [10, 1],
-        Tap { re: 10, im: 0 },
-        [Sample { re: -20, im: 0 }, Sample { re: 1, im: 0 }],
-    );
-    let flat = qpsk(
-        [0, 0],
-        Tap { re: 10, im: 0 },
-        [Sample { re: 10, im: -10 }, NO_SAMPLE],
-    );
-    for (job, distance, marks) in [
-        (bpsk(10, 3, -4), 65, "oxo"),
-        (slanted, 5, "ooxooxoxoxxooooxxooxxx"),
-        (flat, 0, "oooxxoxxoooooooooxxoxx"),
-    ] {
-        let certificate = certify(&job, alloc)?;
-        assert_eq!(rt; certificate.distance, distance);
-        assert_eq!(rt;
-            certificate.marks.as_slice(),
-            marks_of(alloc, marks)?.as_slice()
-        );
-    }
-    Ok(())
+    certifies(&rt, rt.alloc(), &bpsk(10, 3, -4), 65, "oxo")?;
+    let slanted = [Sample { re: -20, im: 0 }, Sample { re: 1, im: 0 }];
+    certifies(
+        &rt,
+        rt.alloc(),
+        &qpsk([10, 1], 10, slanted),
+        5,
+        "ooxooxoxoxxooooxxooxxx",
+    )?;
+    let flat = [Sample { re: 10, im: -10 }, Sample { re: 0, im: 0 }];
+    certifies(
+        &rt,
+        rt.alloc(),
+        &qpsk([0, 0], 10, flat),
+        0,
+        "oooxxoxxoooooooooxxoxx",
+    )
 }

@@ -1,18 +1,17 @@
 -- How the octets of frames lead through the fields of a file.
 use Rattle.std.proofs.Common.{◌≡◌, List, [], refl, ap, subst, arith}
-use Rattle.ht_fields.specs.Cases.{IsFile}
+use Rattle.ht_fields.specs.FormatLaws.{AreFiles, ReadsBack, WritesFiles}
 use Rattle.ht_tx.specs.Frames.{FrameView}
 use Rattle.ht_tx.specs.Symbols.{SymbolsView}
 use Rattle.ht_tx.specs.Transmitted.{AreTransmitted}
 use Rattle.ht_tx.proofs.Single.{all_transmitted}
 use Rattle.ht_heads.specs.Heads.{head_octets}
-use Rattle.ht_counted.specs.Counted.{IsCounted}
 use Rattle.ht_counted.specs.Framed.{Seed, IsFraming}
-use Rattle.ht_counted.proofs.Counting.{leads_by, same, written}
-use Rattle.ht_counted.proofs.FrameRoutes.{is_counted}
+use Rattle.ht_counted.proofs.Counting.{leads_by}
+use Rattle.ht_counted.proofs.FrameRoutes.{framed_files}
 use Rattle.ht_files.specs.HeadedFormats.{behind_head, frame_due, headed}
 use Rattle.ht_files.specs.Frames.{framed, frames, framing}
-use Rattle.ht_files.specs.Files.{AreFrames, IsFrame, frames_file_of, frame_octets}
+use Rattle.ht_files.specs.Files.{AreFrames, frames_file_of, frame_octets}
 use Rattle.ht_files.specs.SymbolFiles.{symbols_file_of}
 use Rattle.ht_files.proofs.HeadRoutes.{route_head}
 
@@ -29,20 +28,16 @@ frames_framed = record {
   whole = λ f. refl;
 }
 
--- what the format owes to the reading of its files
-pub frames_counted : IsCounted (headed framed) frame_octets IsFrame 65540
-unfolding frame_octets
-frames_counted = is_counted (headed framed) framing frames_framed
+-- what holds of files of frames
+pub frames_files : AreFiles frames AreFrames frames_file_of
+unfolding frames_file_of frame_octets
+frames_files = framed_files (headed framed) framing frames_framed
 
--- the whole file
-pub frames_written : (fs : List FrameView) → AreFrames fs → IsFile frames (frames_file_of fs) fs
-unfolding frames_file_of
-frames_written = written (headed framed) frame_octets IsFrame 65540 frames_counted
+pub frames_written : WritesFiles frames AreFrames frames_file_of
+frames_written = frames_files.written
 
--- frames of one file
-pub frames_same : (fs gs : List FrameView) → AreFrames fs → AreFrames gs → frames_file_of fs ≡ frames_file_of gs → fs ≡ gs
-unfolding frames_file_of
-frames_same = same (headed framed) frame_octets IsFrame 65540 frames_counted
+pub frames_same : ReadsBack AreFrames frames_file_of
+frames_same = frames_files.read_back
 
 -- the symbols that are sent for the frames of one file
 pub one_sent : (fs gs : List FrameView) (ss ts : List SymbolsView) → AreFrames fs → AreFrames gs → frames_file_of fs ≡ frames_file_of gs

@@ -13,7 +13,8 @@ use Rattle.ht_io.proofs.Calls.{takes-append}
 use Rattle.ht_io.specs.declared.faults.InFault.{InFault}
 use Rattle.ht_io.specs.declared.faults.InFault.TheVariants.{Format, Read}
 use Rattle.ht_io.specs.declared.faults.Kind.TheVariants.{Truncated}
-use Rattle.ht_fields.specs.Cases.{IsField, IsFile}
+use Rattle.ht_fields.specs.Cases.{IsField}
+use Rattle.ht_fields.specs.FormatLaws.{AreFiles, ReadsBack, WritesFiles}
 use Rattle.ht_fields.specs.Grammar.{Verdict, Good}
 use Rattle.ht_fields.specs.Readers.{reader_in}
 use Rattle.ht_fields.specs.WholeFiles.{EndsEarly}
@@ -36,7 +37,7 @@ use Rattle.ht_tx.specs.Symbols.{Fits, IsSymbols, SymbolsView, index_of_point, or
 use Rattle.ht_tx.proofs.Places.{digits, digits-below, parts-again, parts-below}
 use Rattle.ht_heads.specs.Heads.{head_octets}
 use Rattle.ht_counted.specs.Counted.{IsCounted}
-use Rattle.ht_counted.proofs.Counting.{is_count, leads_by, same, written}
+use Rattle.ht_counted.proofs.Counting.{are_files, is_count, leads_by}
 use Rattle.ht_files.specs.HeadedFormats.{HeadState, behind_head, frame_due, headed}
 use Rattle.ht_files.specs.Places.{AreFitting, FitsPlace, carrier_at_place, stream_at_place, symbol_at_place}
 use Rattle.ht_files.specs.Points.{AddsPoints, MeetsMisfit, PointDue, TakesSymbol, first_point, fits_carrier, good_point, kind_on, misfits, misfits_place}
@@ -414,15 +415,16 @@ symbols_counted = record {
   room = omega arith;
 }
 
--- the whole file
-pub symbols_written : (fs : List SymbolsView) → AreSymbolFrames fs → IsFile symbols (symbols_file_of fs) fs
+-- what holds of files of symbols
+pub symbols_files : AreFiles symbols AreSymbolFrames symbols_file_of
 unfolding symbols_file_of
-symbols_written = written (headed pointed) symbols_octets IsSymbolFrame 18391396 symbols_counted
+symbols_files = are_files (headed pointed) symbols_octets IsSymbolFrame 18391396 symbols_counted
 
--- symbols of one file
-pub symbols_same : (fs gs : List SymbolsView) → AreSymbolFrames fs → AreSymbolFrames gs → symbols_file_of fs ≡ symbols_file_of gs → fs ≡ gs
-unfolding symbols_file_of
-symbols_same = same (headed pointed) symbols_octets IsSymbolFrame 18391396 symbols_counted
+pub symbols_written : WritesFiles symbols AreSymbolFrames symbols_file_of
+symbols_written = symbols_files.written
+
+pub symbols_same : ReadsBack AreSymbolFrames symbols_file_of
+symbols_same = symbols_files.read_back
 
 pub count_is : (r : Rate) (len n a b : ℕ) → n ≡ symbols_of r len → a ≡ carriers_of r → b ≡ streams_of r → n * (a * b) ≡ points_of r len
 unfolding points_of

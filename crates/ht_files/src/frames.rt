@@ -1,6 +1,6 @@
 //! Files of frames, read whole and written.
-ghost use Rattle.std.specs.Prelude.{◌≡◌, ◌≤◌, ◌++◌, ◌∷◌, [], length, IfOk, IfErr, OnOk, OnErr};
-ghost use Rattle.ht_io.specs.Devices.{Grows, GrowsByPart, Rose, IsLater};
+ghost use Rattle.std.specs.Prelude.{◌≡◌, ◌≤◌, ◌++◌, ◌∷◌, [], length, IfOk, IfErr};
+ghost use Rattle.ht_io.specs.Devices.{IsLater, Puts};
 ghost use Rattle.ht_fields.specs.Readers.{reader_in};
 ghost use Rattle.ht_fields.specs.WholeFiles.{EndsEarly, ReadsWhole};
 ghost use Rattle.ht_heads.specs.Heads.{head_octets};
@@ -84,11 +84,7 @@ pub fn read_frames<S: Source>(alloc: Global, source: &mut S) -> Result<Vec<Frame
 #[tactic(auto, unfolding(crate::specs::Files::frame_octets, crate::specs::Files::frames_file_of))]
 pub fn write_frames<K: Sink>(frames: &[Frame], sink: &mut K) -> Result<(), Failed>
     requires few { length frames.now ≤ 65535 }
-    ensures grown { OnOk result (Grows (K.shown sink.old) (K.shown sink.new) (frames_file_of frames.now)) }
-    ensures steady { OnOk result ((K.shown sink.new).faults ≡ (K.shown sink.old).faults) }
-    ensures part { OnErr result (GrowsByPart (K.shown sink.old) (K.shown sink.new) (frames_file_of frames.now)) }
-    ensures cause { OnErr result (Rose (K.shown sink.old) (K.shown sink.new)) }
-    ensures later { IsLater (K.shown sink.old) (K.shown sink.new) }
+    ensures { Puts (K.shown sink.old) (K.shown sink.new) (frames_file_of frames.now) result }
 {
     write_framed::<Frames, K>(frames, sink)
 }

@@ -1,6 +1,6 @@
 //! What holds of files of frames and of files of symbols.
 ghost use Rattle.std.specs.Prelude.{◌≡◌, List};
-ghost use Rattle.ht_fields.specs.FormatLaws.{IsPrefixFree, ReadsBack, WritesFiles};
+ghost use Rattle.ht_fields.specs.FormatLaws.{AreFiles};
 ghost use Rattle.ht_tx.specs.Frames.{FrameView};
 ghost use Rattle.ht_files.specs.Frames.{frames as frames_format};
 ghost use Rattle.ht_files.specs.Files.{AreFrames, frames_file_of};
@@ -9,34 +9,15 @@ ghost use Rattle.ht_files.specs.SymbolFiles.{AreSymbolFrames, symbols_file_of};
 ghost use Rattle.ht_tx.specs.Symbols.{SymbolsView};
 ghost use Rattle.ht_tx.specs.Transmitted.{AreTransmitted};
 
-/// No file is a prefix of another, and equal files have equal frames.
-pub fn no_prefix()
-    ensures { IsPrefixFree frames_format }
+/// The file written of frames is a file, and holds these frames. Frames of which the same file is written are the same:
+/// what is read of a file that was written are its frames. No file is a prefix of another, and equal files have equal frames.
+pub fn frame_files()
+    ensures { AreFiles frames_format AreFrames frames_file_of }
 {}
 
-/// The file written of frames is a file, and holds these frames.
-pub fn written()
-    ensures { WritesFiles frames_format AreFrames frames_file_of }
-{}
-
-/// Frames of which the same file is written are the same: what is read of a file that was written are its frames.
-pub fn read_back()
-    ensures { ReadsBack AreFrames frames_file_of }
-{}
-
-/// No file of symbols is a prefix of another, and equal files have equal symbols.
-pub fn no_symbols_prefix()
-    ensures { IsPrefixFree symbols_format }
-{}
-
-/// The file written of symbols is a file, and holds these symbols.
-pub fn symbols_written()
-    ensures { WritesFiles symbols_format AreSymbolFrames symbols_file_of }
-{}
-
-/// Symbols of which the same file is written are the same: what is read of a file that was written are its symbols.
-pub fn symbols_read_back()
-    ensures { ReadsBack AreSymbolFrames symbols_file_of }
+/// The same of the files that are written of symbols.
+pub fn symbol_files()
+    ensures { AreFiles symbols_format AreSymbolFrames symbols_file_of }
 {}
 
 /// For a file of frames one file of symbols is sent.

@@ -24,6 +24,7 @@
 
 mod frames;
 pub mod laws;
+mod point;
 mod points;
 mod symbols;
 mod writing;

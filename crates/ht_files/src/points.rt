@@ -1,22 +1,19 @@
 //! The points of a frame, read symbol by symbol.
-ghost use Rattle.std.specs.Prelude.{◌≡◌, ◌≤◌, ◌<◌, ◌+◌, ◌*◌, ◌/◌, ◌%◌, ◌^◌, ℕ, [], length, flat_map, vec_capacity, IfOk, IfErr, OnOk};
+ghost use Rattle.std.specs.Prelude.{◌≡◌, ◌≤◌, ◌<◌, ◌+◌, ◌*◌, ◌/◌, ◌^◌, ℕ, [], length, flat_map, vec_capacity, IfOk, IfErr, OnOk};
 ghost use Rattle.ht_io.specs.Devices.{Takes, IsLater};
 ghost use Rattle.ht_io.specs.declared.faults.InFault.TheVariants.{NoMemory};
 ghost use Rattle.ht_fields.specs.Readers.{reader_in};
 ghost use Rattle.ht_fields.specs.WholeFiles.{EndsEarly};
-ghost use Rattle.ht_rate.specs.Carriers.{IsAmong};
 ghost use Rattle.ht_rate.specs.Rates.{carriers_of, streams_of};
 ghost use Rattle.ht_tx.specs.Symbols.{IsSymbols, points_of};
 ghost use Rattle.ht_files.specs.HeadedFormats.{behind_head};
 ghost use Rattle.ht_files.specs.Places.{AreFitting};
-ghost use Rattle.ht_files.specs.Points.{AddsPoints, AreCarriers, MeetsMisfit, TakesSymbol, first_point, fits_carrier, kind_on};
-ghost use Rattle.ht_files.specs.Points.{point_in, point_octets, points_due, symbols};
+ghost use Rattle.ht_files.specs.Points.{AddsPoints, AreCarriers, MeetsMisfit, TakesSymbol, first_point, point_octets, points_due, symbols};
 
+use crate::point::{is_fitting, kind, made};
 use ht_fields::{bad, read_front};
 use ht_io::{InFault, Kind, Source};
-use ht_map::label;
 use ht_pam::Point;
-use ht_pilot::pilot;
 use ht_rate::{Carrier, Rate};
 use std::alloc::Global;
 
@@ -25,49 +22,6 @@ const POINTS: usize = 456;
 
 /// The most octets of a symbol's points.
 const SYMBOL: usize = 2 * POINTS;
-
-// The point of two octets.
-#[tactic(auto, unfolding(crate::specs::Points::point_in))]
-fn made(octets: [u8; 2]) -> Point
-    ensures { result ≡ point_in octets }
-{
-    Point {
-        i: octets[0].cast_signed(),
-        q: octets[1].cast_signed(),
-    }
-}
-
-// The stream of a symbol's point by its place, counted from 1.
-fn stream(rate: &Rate, place: usize) -> u8
-    ensures value { result ≡ place % streams_of rate.now + 1 }
-    ensures low { 1 ≤ result }
-    ensures high { result ≤ streams_of rate.now }
-{
-    (place % usize::from(rate.streams())) as u8 + 1
-}
-
-// Whether a symbol's point fits its place: it is on the constellation, or it is the pilot's.
-fn is_fitting(rate: &Rate, symbol: u32, carrier: Carrier, place: usize, point: Point) -> bool
-    requires { IsAmong rate.now carrier }
-    ensures { result ≡ fits_carrier rate.now symbol carrier (place % streams_of rate.now + 1) point }
-{
-    match carrier {
-        Carrier::Data(_) => label(rate.modulation(), point).is_some(),
-        Carrier::Pilot(index) => {
-            point.i == pilot(rate, symbol, index, stream(rate, place)) && point.q == 0
-        }
-    }
-}
-
-// The kind of fault of a point on a subcarrier.
-fn kind(carrier: Carrier) -> Kind
-    ensures { result ≡ kind_on carrier }
-{
-    match carrier {
-        Carrier::Data(_) => Kind::BadPoint,
-        Carrier::Pilot(_) => Kind::BadPilot,
-    }
-}
 
 // The subcarriers of the points of a symbol, in the order subcarrier, stream.
 fn carriers(rate: &Rate) -> [Carrier; POINTS]

@@ -16,7 +16,7 @@ use std::alloc::Global;
 
 // Reads the symbols of a frame, while frames are left.
 fn frame<S: Source>(alloc: Global, source: &mut S, at: u64) -> Result<Symbols, InFault>
-    requires room { at + 18391396 < 2 ^ 64 }
+    requires offset { at + 18391396 < 2 ^ 64 }
     ensures whole { IfOk result (λ frame. Takes (S.shown source.old) (S.shown source.new) (symbols_octets frame)) }
     ensures fits { IfOk result IsSymbolFrame }
     ensures failed { (left : ℕ) → 0 < left

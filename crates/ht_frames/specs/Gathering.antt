@@ -4,10 +4,13 @@ use Rattle.std.specs.List.{flat_map}
 use Rattle.std.proofs.Common.{ap, refl, sym, ◌∙◌}
 use Rattle.std.proofs.lemmas.Option.{none-some}
 use Rattle.ht_io.specs.Devices.{Device, Grows, IsLater, Rose}
+use Rattle.ht_metric.specs.Jobs.{JobView, near}
+use Rattle.ht_metric.specs.declared.found.Found.{Found}
+use Rattle.ht_metric.specs.declared.place.Place.{Place}
 use Rattle.ht_feed.specs.declared.book_fault.BookFault.{BookFault}
 use Rattle.ht_feed.specs.declared.book_fault.BookFault.TheVariants.{Failed, NoMemory}
 use Rattle.ht_feed.specs.Accounts.{PutsBlock, PutsPartOf}
-use Rattle.ht_feed.specs.Items.{Headed}
+use Rattle.ht_feed.specs.Items.{Headed, headed_of}
 
 -- behind calls that answered so a fault of a book's device is counted exactly where the answer is Failed, and it is the
 -- same device
@@ -18,13 +21,19 @@ pub record CountsFaults {A P : Type 0} (result : Result A BookFault) (before aft
   pub later : IsLater before after
   pub same : lent' ≡ lent
 
--- behind calls that answered so the results of these jobs were booked: what was to be booked in all is what was, and then what
--- still is; where a call failed a part was booked of what was to be
+-- what calls that took the hits of these jobs booked of them, by their answer: the first of all that was to be booked, so that
+-- what is to be booked then is the rest of it; or a part, where one failed
 pub record BooksJobs {A H P : Type 0} (result : Result A BookFault) (before after : Device P) (old new : List (Headed H) → List P) (jobs : List (Headed H))
     (lent lent' : List ℕ) : Type 0 where
   pub put : OnOk result (PutsBlock before after old new jobs)
   pub part : OnErr result (PutsPartOf before after old jobs)
   pub faults : CountsFaults result before after lent lent'
+
+-- what was found for a job from this place, of a frame with this head, was taken, and booked so
+abbrev pub BooksFound : {A H P : Type 0} → Result A BookFault → Device P → Device P → (List (Headed H) → List P) → (List (Headed H) → List P)
+    → H → Place → Found → List ℕ → List ℕ → Type 0
+BooksFound result before after old new head place found lent lent' =
+    (job : JobView) → job.place ≡ place → found ≡ near job → BooksJobs result before after old new (headed_of head job ∷ []) lent lent'
 
 -- the result of a frame, where its last job came
 abbrev pub finished : {T : Type 0} → Bool → T → List T

@@ -1,6 +1,5 @@
 //! Whole frames that are being decoded.
 ghost use Rattle.std.specs.Prelude.{◌≡◌, IfOk};
-ghost use Rattle.std.specs.Arc.{arc_value};
 
 use crate::frames::Frames;
 use crate::whole_frame::WholeFrame;

@@ -12,7 +12,7 @@ use std::sync::Wait;
 /// What is found for a job, which is run between the two calls of the gate. Each caller has a copy of it: a result that
 /// is written piece by piece and then copied as a whole waits for memory.
 #[inline(always)]
-pub fn pass<G: Gate>(gate: &G, job: &Job) -> Found
+pub fn run_gated<G: Gate>(gate: &G, job: &Job) -> Found
     ensures found { result ≡ near job.now }
     ensures below { result.distance < 2 ^ 66 }
 {
@@ -35,7 +35,7 @@ pub struct HitWork<'g, G> {
 impl<'g, G: Gate> Finder for HitWork<'g, G> {
     #[inline(always)]
     fn find(&self, job: &Job) -> Found {
-        pass(self.gate, job)
+        run_gated(self.gate, job)
     }
 }
 

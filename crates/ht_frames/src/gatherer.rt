@@ -1,9 +1,7 @@
 //! An account that has whole frames decoded while more jobs come.
-ghost use Rattle.std.specs.Prelude.{◌≡◌, ◌-◌, ◌^◌, ◌<◌, ◌≤◌, ◌∷◌, [], true, OnErr, OnOk, drop};
-ghost use Rattle.ht_metric.specs.Jobs.{JobView, near};
+ghost use Rattle.std.specs.Prelude.{◌≡◌, ◌-◌, ◌^◌, ◌<◌, ◌≤◌, ◌∷◌, [], true, drop};
 ghost use Rattle.ht_feed.specs.Dues.{all_due, due_of, headed_due};
-ghost use Rattle.ht_feed.specs.Items.{headed_of};
-ghost use Rattle.ht_frames.specs.Gathering.{BooksJobs, WaitForJobs, behind_one, booked_behind, none_behind, wait_on};
+ghost use Rattle.ht_frames.specs.Gathering.{BooksFound, BooksJobs, WaitForJobs, behind_one, booked_behind, none_behind, wait_on};
 
 use crate::book::Book;
 use crate::decoding::Decoding;
@@ -129,9 +127,10 @@ fn take_found<R: Threads + Wait, U: UnderWay, B: Book<<U::Whole as WholeFrame>::
     found: &Found,
 ) -> Result<(), BookFault>
     requires below { found.now.distance < 2 ^ 66 }
-    ensures { (job : JobView) → job.place ≡ place → found.now ≡ near job → BooksJobs result (B.shown book.old) (B.shown book.new)
+    ensures { BooksFound result (B.shown book.old) (B.shown book.new)
         (booked_behind U.Whole.result_of B.booked queue.old.items (U.results under_way.old))
-        (booked_behind U.Whole.result_of B.booked queue.new.items (U.results under_way.new)) (headed_of head.now job ∷ []) (B.lent book.old) (B.lent book.new) }
+        (booked_behind U.Whole.result_of B.booked queue.new.items (U.results under_way.new))
+        head.now place found.now (B.lent book.old) (B.lent book.new) }
 {
     if under_way.take(by.alloc, head, place, found)? {
         finish_frame(by, under_way, queue, book)

@@ -34,7 +34,7 @@ mod whole_frame;
 pub use book::Book;
 pub use decoding::Decoding;
 pub use frames::Frames;
-pub use gated::{BesideFrames, HitWork, pass};
+pub use gated::{BesideFrames, HitWork, run_gated};
 pub use gatherer::{Gatherer, gather_block};
 pub use gathering::book_frames;
 pub use line::Line;

@@ -1,10 +1,9 @@
 //! An account that books the result of each frame.
-ghost use Rattle.std.specs.Prelude.{◌≡◌, ◌^◌, ◌<◌, ◌∷◌, [], List, OnErr, OnOk};
+ghost use Rattle.std.specs.Prelude.{◌≡◌, ◌^◌, ◌<◌, ◌∷◌, List, OnErr, OnOk};
 ghost use Rattle.ht_io.specs.Devices.{Grows, GrowsByPart};
-ghost use Rattle.ht_metric.specs.Jobs.{JobView, near};
 ghost use Rattle.ht_feed.specs.Dues.{AreHits, due_of, headed_due};
-ghost use Rattle.ht_feed.specs.Items.{Headed, headed_of};
-ghost use Rattle.ht_frames.specs.Gathering.{BooksJobs, CountsFaults, booked_in, none_booked};
+ghost use Rattle.ht_feed.specs.Items.{Headed};
+ghost use Rattle.ht_frames.specs.Gathering.{BooksFound, BooksJobs, CountsFaults, booked_in, none_booked};
 
 use crate::book::Book;
 use crate::under_way::UnderWay;
@@ -68,9 +67,9 @@ fn take_found<U: UnderWay, B: Book<<U::Whole as WholeFrame>::Result>>(
     found: &Found,
 ) -> Result<(), BookFault>
     requires below { found.now.distance < 2 ^ 66 }
-    ensures { (job : JobView) → job.place ≡ place → found.now ≡ near job → BooksJobs result (B.shown book.old) (B.shown book.new)
-        (booked_in B.booked (U.results under_way.old)) (booked_in B.booked (U.results under_way.new)) (headed_of head.now job ∷ [])
-        (B.lent book.old) (B.lent book.new) }
+    ensures { BooksFound result (B.shown book.old) (B.shown book.new)
+        (booked_in B.booked (U.results under_way.old)) (booked_in B.booked (U.results under_way.new))
+        head.now place found.now (B.lent book.old) (B.lent book.new) }
 {
     if under_way.take(alloc, head, place, found)? {
         book_whole(alloc, under_way, book)

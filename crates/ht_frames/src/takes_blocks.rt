@@ -1,6 +1,6 @@
 //! Frames under way that take blocks as a whole.
-ghost use Rattle.std.specs.Prelude.{◌≡◌, ◌^◌, ◌<◌, ◌++◌, true, List, Some, length, slice_get, IfNone, IfOk, IfSome};
-ghost use Rattle.ht_metric.specs.Jobs.{JobView, near};
+ghost use Rattle.std.specs.Prelude.{◌≡◌, ◌^◌, ◌<◌, ◌++◌, true, List, length, slice_get, IfNone, IfOk, IfSome};
+ghost use Rattle.ht_metric.specs.Jobs.{near};
 ghost use Rattle.ht_feed.specs.Dues.{due_of, headed_due};
 ghost use Rattle.ht_feed.specs.Items.{Headed};
 ghost use Rattle.ht_frames.specs.Gathering.{finished};

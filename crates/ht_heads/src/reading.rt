@@ -30,7 +30,7 @@ pub fn magic<S: Source>(source: &mut S, wanted: &[u8; 4]) -> Result<(), InFault>
 
 // Reads the code of a frame's bandwidth, 0 or 1.
 fn bandwidth<S: Source>(source: &mut S, at: u64) -> Result<u8, InFault>
-    requires room { at + 1 < 2 ^ 64 }
+    requires offset { at + 1 < 2 ^ 64 }
     ensures whole { IfOk result (λ code. Takes (S.shown source.old) (S.shown source.new) (code ∷ [])) }
     ensures few { IfOk result (λ code. code ≤ 1) }
     ensures failed { IfErr result (FailsField 1 BadBandwidth (is_above 1) at (S.shown source.old) (S.shown source.new)) }
@@ -46,7 +46,7 @@ fn bandwidth<S: Source>(source: &mut S, at: u64) -> Result<u8, InFault>
 
 // Reads a frame's MCS index, 0 to 31, and gives its rate.
 fn mcs<S: Source>(source: &mut S, at: u64, code: u8) -> Result<Rate, InFault>
-    requires room { at + 1 < 2 ^ 64 }
+    requires offset { at + 1 < 2 ^ 64 }
     requires few { code ≤ 1 }
     ensures whole { IfOk result (λ rate. Takes (S.shown source.old) (S.shown source.new) (mcs_of rate ∷ [])) }
     ensures code { IfOk result (λ rate. bandwidth_code (bandwidth_of rate) ≡ code) }
@@ -62,7 +62,7 @@ fn mcs<S: Source>(source: &mut S, at: u64, code: u8) -> Result<Rate, InFault>
 
 // Reads the number of octets of a frame's PSDU, which is at least 1.
 fn length<S: Source>(source: &mut S, at: u64) -> Result<u16, InFault>
-    requires room { at + 2 < 2 ^ 64 }
+    requires offset { at + 2 < 2 ^ 64 }
     ensures whole { IfOk result (λ len. Takes (S.shown source.old) (S.shown source.new) (big_bytes 2 len)) }
     ensures some { IfOk result (λ len. 1 ≤ len) }
     ensures failed { IfErr result (FailsField 2 BadLength is_zero at (S.shown source.old) (S.shown source.new)) }
@@ -78,7 +78,7 @@ fn length<S: Source>(source: &mut S, at: u64) -> Result<u16, InFault>
 
 /// Reads the head of a frame, whose first octet is at this offset: its rate and the number of octets of its PSDU.
 pub fn head<S: Source>(source: &mut S, at: u64) -> Result<(Rate, u16), InFault>
-    requires room { at + 4 < 2 ^ 64 }
+    requires offset { at + 4 < 2 ^ 64 }
     ensures whole { IfOk result (λ head. Takes (S.shown source.old) (S.shown source.new) (head_octets head.0 head.1)) }
     ensures some { IfOk result (λ head. 1 ≤ head.1) }
     ensures small { IfOk result (λ head. head.1 < 2 ^ 16) }

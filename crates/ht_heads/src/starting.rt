@@ -31,7 +31,7 @@ fn is_refused(limits: &Limits, count: u64) -> bool
 pub fn count<S: Source>(source: &mut S, at: u64, limits: &Limits) -> Result<u64, InFault>
     requires some { 1 ≤ limits.now.width }
     requires few { limits.now.width ≤ 8 }
-    requires room { at + 8 < 2 ^ 64 }
+    requires offset { at + 8 < 2 ^ 64 }
     ensures whole { IfOk result (λ count. Takes (S.shown source.old) (S.shown source.new) (big_bytes limits.now.width count)) }
     ensures least { IfOk result (λ count. limits.now.least ≤ count) }
     ensures most { IfOk result (λ count. count ≤ limits.now.most) }

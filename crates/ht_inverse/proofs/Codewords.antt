@@ -172,7 +172,7 @@ cheapest-answer {P} cost steps s p q received places input n steps_are p_is rece
     ∙ (ap (λ (m : ℕ). cheapest cost m p received) steps_are
     ∙ (ap (λ (z : Pattern). cheapest cost s z received) p_is ∙ ap (λ (v : List P). cheapest cost s q v) received_is)) in (
       answer,
-      found.distance
+      found.cost
           ∙ (ap (λ (z : Pattern). cost_of cost z received input) p_is
           ∙ (ap (λ (v : List P). cost_of cost q v input) received_is ∙ ap (λ (u : List Bool). cost_of cost q places u) answer)),
     )

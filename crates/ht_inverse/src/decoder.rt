@@ -4,6 +4,7 @@ ghost use Rattle.ht_inverse.specs.Decoding.{decoded_frame};
 ghost use Rattle.ht_inverse.specs.Received.{labels_in_frame};
 
 use crate::decoded::Decoded;
+use crate::frame_labels::FrameLabels;
 use crate::table::Table;
 use ht_rate::Rate;
 use std::alloc::{AllocError, Global};
@@ -25,7 +26,7 @@ pub fn decode_frame(
     ensures { IfOk result (λ frame. frame ≡ decoded_frame rate.now octets erased labels.now) }
 {
     let table = Table::of(alloc, rate, erased)?;
-    table.decode(alloc, octets, labels)
+    table.decode(alloc, &FrameLabels { octets, labels })
 }
 
 /// What decodes frames, one after another.
@@ -86,7 +87,7 @@ impl Decoder for Alone {
         labels: &[u8],
     ) -> Result<Decoded, AllocError> {
         let table = table_for(alloc, self.table.take(), rate, erased)?;
-        let decoded = table.decode(alloc, octets, labels);
+        let decoded = table.decode(alloc, &FrameLabels { octets, labels });
         self.table = Some(table);
         decoded
     }

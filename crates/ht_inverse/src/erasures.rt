@@ -1,8 +1,8 @@
 //! Which data subcarriers are erased.
-ghost use Rattle.std.specs.Prelude.{◌≡◌, ◌≢◌, ◌<◌, ◌≤◌, ◌==◌, ℕ, length, slice_index_or, replicate, false};
+ghost use Rattle.std.specs.Prelude.{◌≡◌, ◌≢◌, ◌<◌, ◌==◌, ℕ, slice_index_or, replicate, false};
 ghost use Rattle.ht_bits.specs.Bits.{bit};
 ghost use Rattle.ht_rate.specs.declared.kinds.Carrier.TheVariants.{Data};
-ghost use Rattle.ht_inverse.specs.Shares.{AreLost, AreLostBelow};
+ghost use Rattle.ht_inverse.specs.Shares.{AreLost};
 
 use ht_rate::{Carrier, Rate};
 

@@ -1,5 +1,5 @@
 //! What is known of the bits of labels: hard decisions, or a value for each bit.
-ghost use Rattle.std.specs.Prelude.{◌≡◌, ◌+◌, ◌-◌, ◌*◌, ◌<◌, ℕ, true, false, length, slice_index_or};
+ghost use Rattle.std.specs.Prelude.{◌≡◌, ◌+◌, ◌-◌, ◌*◌, ◌<◌, ℕ, slice_index_or};
 ghost use Rattle.ht_inverse.specs.declared.label_bit.LabelBit.{LabelBit};
 ghost use Rattle.ht_inverse.specs.Shares.{HasDecision, HasValue, decision_in, value_in};
 

@@ -29,6 +29,7 @@ mod bits;
 mod decoded;
 mod decoder;
 mod erasures;
+mod frame_labels;
 mod label_bit;
 mod label_values;
 pub mod laws;

@@ -1,15 +1,16 @@
 //! Where the labels of a symbol have an encoder's coded bits, and what the labels of a frame say of them.
 ghost use Rattle.std.specs.Prelude.{◌≡◌, ◌+◌, ◌-◌, ◌*◌, ◌^◌, ◌<◌, ◌≤◌, ℕ, true, false, IfOk};
-ghost use Rattle.std.specs.Prelude.{length, map, slice_index_or, vec_len, vec_capacity};
+ghost use Rattle.std.specs.Prelude.{length, map, vec_capacity};
 ghost use Rattle.std.specs.List.{range_with_len};
 ghost use Rattle.ht_rate.specs.Rates.{encoders_of, label_bits_of, pattern_of, steps_of, symbols_of};
 ghost use Rattle.ht_conv.specs.Puncturing.{sent_count};
 ghost use Rattle.ht_parse.specs.Streams.{share_of};
 ghost use Rattle.ht_viterbi.specs.Received.{known_of};
 ghost use Rattle.ht_inverse.specs.Received.{labels_in_frame, labels_per_symbol, received_of, values_of};
-ghost use Rattle.ht_inverse.specs.Shares.{AreLost, HasSymbols, ListsPlaces, codeword_of, known_at, label_bit_of, label_bits_to};
+ghost use Rattle.ht_inverse.specs.Shares.{AreLost, HasSymbols, codeword_of, known_at, label_bit_of, label_bits_to};
 
 use crate::erasures::lost_carriers;
+use crate::frame_labels::FrameLabels;
 use crate::label_bit::LabelBit;
 use crate::label_values::{Decisions, LabelValues, Values};
 use ht_conv::sent;
@@ -178,20 +179,15 @@ impl Share {
         sent(self.rate.pattern(), self.rate.codeword_steps(octets)) as usize
     }
 
-    /// The received list of a frame with this number of octets. A whole share has loops of its own.
-    pub(crate) fn gathered(
-        &self,
-        alloc: Global,
-        octets: u16,
-        labels: &[u8],
-    ) -> Result<Vec<ReceivedBit>, AllocError>
-        requires some { 1 ≤ octets }
-        requires labels { length labels.now ≡ labels_in_frame self.now.rate octets }
+    /// The received list of a frame. A whole share has loops of its own.
+    fn gathered(&self, alloc: Global, frame: &FrameLabels) -> Result<Vec<ReceivedBit>, AllocError>
+        requires { length frame.now.labels.now ≡ labels_in_frame self.now.rate frame.now.octets }
         ensures { IfOk result (λ bits. map known_of bits.items
-            ≡ received_of self.now.rate octets self.now.erased labels.now self.now.encoder) }
+            ≡ received_of self.now.rate frame.now.octets self.now.erased frame.now.labels.now self.now.encoder) }
     {
-        let symbols = self.rate.symbols(octets) as usize;
-        let count = self.coded_bits(octets);
+        let labels = frame.labels;
+        let symbols = self.rate.symbols(frame.octets) as usize;
+        let count = self.coded_bits(frame.octets);
         if self.erased == 0 {
             let whole = true;
             self.received(alloc, symbols, &Decisions { labels, whole }, count)
@@ -226,21 +222,20 @@ impl Share {
         self.received(alloc, symbols, &labels, self.coded_bits(octets))
     }
 
-    /// The codeword of a frame with this number of octets, decoded.
+    /// The codeword of a frame, decoded.
     pub(crate) fn codeword(
         &self,
         alloc: Global,
-        octets: u16,
-        labels: &[u8],
+        frame: &FrameLabels,
     ) -> Result<Codeword, AllocError>
-        requires some { 1 ≤ octets }
-        requires labels { length labels.now ≡ labels_in_frame self.now.rate octets }
-        ensures value { IfOk result (λ c. c ≡ codeword_of self.now.rate octets self.now.erased labels.now self.now.encoder) }
-        ensures steps { IfOk result (λ c. length c.input ≡ steps_of self.now.rate octets) }
+        requires { length frame.now.labels.now ≡ labels_in_frame self.now.rate frame.now.octets }
+        ensures value { IfOk result (λ c. c
+            ≡ codeword_of self.now.rate frame.now.octets self.now.erased frame.now.labels.now self.now.encoder) }
+        ensures steps { IfOk result (λ c. length c.input ≡ steps_of self.now.rate frame.now.octets) }
         ensures few { IfOk result (λ c. c.distance ≤ 2 ^ 30) }
     {
-        let received = self.gathered(alloc, octets, labels)?;
-        let steps = self.rate.codeword_steps(octets);
+        let received = self.gathered(alloc, frame)?;
+        let steps = self.rate.codeword_steps(frame.octets);
         decode_received(alloc, steps, self.rate.pattern(), &received)
     }
 }

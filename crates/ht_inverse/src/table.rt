@@ -8,6 +8,7 @@ ghost use Rattle.ht_inverse.specs.Tables.{IsSecond};
 
 use crate::bits::frame_of;
 use crate::decoded::Decoded;
+use crate::frame_labels::FrameLabels;
 use crate::share::Share;
 use ht_bits::Bits;
 use ht_rate::Rate;
@@ -54,25 +55,19 @@ impl Table {
     pub fn serves(&self, rate: &Rate, erased: u128) -> bool
         ensures { IsTrue result ↔ ((self.now.first.rate ≡ rate.now) × (self.now.first.erased ≡ erased)) }
     {
-        self.first.rate == *rate && self.first.erased == erased
+        self.first.rate.same(rate) && self.first.erased == erased
     }
 
     // The codeword of encoder 1, or an empty one where there is none.
-    fn second_codeword(
-        &self,
-        alloc: Global,
-        octets: u16,
-        labels: &[u8],
-    ) -> Result<Codeword, AllocError>
-        requires some { 1 ≤ octets }
-        requires labels { length labels.now ≡ labels_in_frame self.now.first.rate octets }
+    fn second_codeword(&self, alloc: Global, frame: &FrameLabels) -> Result<Codeword, AllocError>
+        requires { length frame.now.labels.now ≡ labels_in_frame self.now.first.rate frame.now.octets }
         ensures value { IfOk result (λ c. c ≡ (if encoders_of self.now.first.rate == 2
-            then codeword_of self.now.first.rate octets self.now.first.erased labels.now 1 else no_codeword)) }
-        ensures steps { IfOk result (λ c. length c.input ≡ (encoders_of self.now.first.rate - 1) * steps_of self.now.first.rate octets) }
+            then codeword_of self.now.first.rate frame.now.octets self.now.first.erased frame.now.labels.now 1 else no_codeword)) }
+        ensures steps { IfOk result (λ c. length c.input ≡ (encoders_of self.now.first.rate - 1) * steps_of self.now.first.rate frame.now.octets) }
         ensures few { IfOk result (λ c. c.distance ≤ 2 ^ 30) }
     {
         match &self.second {
-            Some(share) => share.codeword(alloc, octets, labels),
+            Some(share) => share.codeword(alloc, frame),
             None => Ok(Codeword {
                 input: Bits::from(Vec::new(alloc)),
                 distance: 0,
@@ -80,20 +75,15 @@ impl Table {
         }
     }
 
-    /// Decodes a frame with this number of octets. The only refusal is lack of memory.
-    pub(crate) fn decode(
-        &self,
-        alloc: Global,
-        octets: u16,
-        labels: &[u8],
-    ) -> Result<Decoded, AllocError>
-        requires some { 1 ≤ octets }
-        requires labels { length labels.now ≡ labels_in_frame self.now.first.rate octets }
-        ensures { IfOk result (λ frame. frame ≡ decoded_frame self.now.first.rate octets self.now.first.erased labels.now) }
+    /// Decodes a frame. The only refusal is lack of memory.
+    pub(crate) fn decode(&self, alloc: Global, frame: &FrameLabels) -> Result<Decoded, AllocError>
+        requires { length frame.now.labels.now ≡ labels_in_frame self.now.first.rate frame.now.octets }
+        ensures { IfOk result (λ decoded. decoded
+            ≡ decoded_frame self.now.first.rate frame.now.octets self.now.first.erased frame.now.labels.now) }
     {
-        let first = self.first.codeword(alloc, octets, labels)?;
-        let second = self.second_codeword(alloc, octets, labels)?;
-        frame_of(alloc, &self.first.rate, octets, first, second)
+        let first = self.first.codeword(alloc, frame)?;
+        let second = self.second_codeword(alloc, frame)?;
+        frame_of(alloc, &self.first.rate, frame.octets, first, second)
     }
 
     /// Decodes a frame as [`Table::decode`] does, and two codewords in two threads, where a thread can be made.
@@ -101,16 +91,17 @@ impl Table {
         &self,
         rt: &R,
         alloc: Global,
-        octets: u16,
-        labels: &[u8],
+        frame: &FrameLabels,
     ) -> Result<Decoded, AllocError>
-        requires some { 1 ≤ octets }
-        requires labels { length labels.now ≡ labels_in_frame self.now.first.rate octets }
-        ensures { IfOk result (λ frame. frame ≡ decoded_frame self.now.first.rate octets self.now.first.erased labels.now) }
+        requires { length frame.now.labels.now ≡ labels_in_frame self.now.first.rate frame.now.octets }
+        ensures { IfOk result (λ decoded. decoded
+            ≡ decoded_frame self.now.first.rate frame.now.octets self.now.first.erased frame.now.labels.now) }
     {
         if self.second.is_none() {
-            return self.decode(alloc, octets, labels);
+            return self.decode(alloc, frame);
         }
+        let octets = frame.octets;
+        let labels = frame.labels;
         let (first, second) = thread::join(
             rt,
             || -> Result<Codeword, AllocError>
@@ -118,14 +109,14 @@ impl Table {
                 ensures value { IfOk result (λ c. c ≡ codeword_of self.entry.now.first.rate octets self.entry.now.first.erased labels.entry.now 0) }
                 ensures steps { IfOk result (λ c. length c.input ≡ steps_of self.entry.now.first.rate octets) }
                 ensures few { IfOk result (λ c. c.distance ≤ 2 ^ 30) }
-            { self.first.codeword(alloc, octets, labels) },
+            { self.first.codeword(alloc, &FrameLabels { octets, labels }) },
             || -> Result<Codeword, AllocError>
                 requires { (1 ≤ octets) × (length labels.now ≡ labels_in_frame self.now.first.rate octets) }
                 ensures value { IfOk result (λ c. c ≡ (if encoders_of self.entry.now.first.rate == 2
                     then codeword_of self.entry.now.first.rate octets self.entry.now.first.erased labels.entry.now 1 else no_codeword)) }
                 ensures steps { IfOk result (λ c. length c.input ≡ (encoders_of self.entry.now.first.rate - 1) * steps_of self.entry.now.first.rate octets) }
                 ensures few { IfOk result (λ c. c.distance ≤ 2 ^ 30) }
-            { self.second_codeword(alloc, octets, labels) },
+            { self.second_codeword(alloc, &FrameLabels { octets, labels }) },
         );
         frame_of(alloc, &self.first.rate, octets, first?, second?)
     }

@@ -5,6 +5,7 @@ ghost use Rattle.ht_inverse.specs.Received.{labels_in_frame};
 
 use crate::decoded::Decoded;
 use crate::decoder::{Decoder, table_for};
+use crate::frame_labels::FrameLabels;
 use crate::table::Table;
 use ht_rate::Rate;
 use std::alloc::{AllocError, Global};
@@ -26,7 +27,7 @@ pub fn decode_frame_together<R: Threads>(
     ensures { IfOk result (λ frame. frame ≡ decoded_frame rate.now octets erased labels.now) }
 {
     let table = Table::of(alloc, rate, erased)?;
-    table.decode_together(rt, alloc, octets, labels)
+    table.decode_together(rt, alloc, &FrameLabels { octets, labels })
 }
 
 /// A decoder that decodes the codewords of two encoders in two threads, and a frame of one encoder in its own.
@@ -55,7 +56,7 @@ impl<'a, R: Threads> Decoder for Together<'a, R> {
         labels: &[u8],
     ) -> Result<Decoded, AllocError> {
         let table = table_for(alloc, self.table.take(), rate, erased)?;
-        let decoded = table.decode_together(self.rt, alloc, octets, labels);
+        let decoded = table.decode_together(self.rt, alloc, &FrameLabels { octets, labels });
         self.table = Some(table);
         decoded
     }

@@ -1,5 +1,5 @@
 -- What is seen of a device, and what a call does to it.
-use Rattle.std.specs.Prelude.{◌≡◌, ℕ, ◌≤◌, List, Option}
+use Rattle.std.specs.Prelude.{◌≡◌, ℕ, ◌≤◌, List, Option, Result, OnOk, OnErr}
 use Rattle.ht_io.specs.Causes.{HasRisen}
 use Rattle.ht_io.specs.Pieces.{KnownTaken, KnownAllTaken, NoneAtKnownEnd, KnownGrown, KnownGrownByPart}
 
@@ -38,3 +38,11 @@ Rose before after = HasRisen before.faults after.faults
 pub record IsLater {P : Type 0} (old new : Device P) : Type 0 where
   pub faults : old.faults ≤ new.faults
   pub borrow : new.borrow ≡ old.borrow
+
+-- what a call comes to that puts pieces: all of them were put, or the device failed and a part of them was
+pub record Puts {P A E : Type 0} (before after : Device P) (pieces : List P) (result : Result A E) : Type 0 where
+  pub grown : OnOk result (Grows before after pieces)
+  pub steady : OnOk result (after.faults ≡ before.faults)
+  pub part : OnErr result (GrowsByPart before after pieces)
+  pub cause : OnErr result (Rose before after)
+  pub later : IsLater before after

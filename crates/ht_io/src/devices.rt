@@ -38,7 +38,7 @@ pub trait Source {
         ensures { result.now ≡ hand self.now };
 
     /// Takes this many of the octets at hand, from their front. It can't fail.
-    fn pass(&mut self, count: usize)
+    fn consume(&mut self, count: usize)
         requires { count ≤ length (hand self.old) }
         ensures taken { Takes (shown self.old) (shown self.new) (take count (hand self.old)) }
         ensures steady { (shown self.new).faults ≡ (shown self.old).faults }
@@ -74,8 +74,8 @@ impl<S: Source> Source for &mut S {
         (**self).at_hand()
     }
 
-    fn pass(&mut self, count: usize) {
-        (**self).pass(count)
+    fn consume(&mut self, count: usize) {
+        (**self).consume(count)
     }
 }
 

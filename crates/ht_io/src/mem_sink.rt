@@ -1,5 +1,5 @@
 //! A sink in memory, for tests: it fails at the offsets that are named.
-ghost use Rattle.std.specs.Prelude.{◌≡◌, ◌↔◌, ◌+◌, ◌<◌, ◌≤◌, [], ◌++◌, length, take, drop, Some, IsErr, OnOk, OnErr, vec_capacity};
+ghost use Rattle.std.specs.Prelude.{◌≡◌, ◌↔◌, ◌+◌, ◌<◌, ◌≤◌, [], ◌++◌, length, take, Some, IsErr, OnOk, OnErr, vec_capacity};
 ghost use Rattle.std.specs.List.Sorted.{IsNonDecreasing};
 ghost use Rattle.ht_io.specs.Causes.{HasRisen, one_more};
 ghost use Rattle.ht_io.specs.Pieces.{KnownGrownByPart};
@@ -20,7 +20,7 @@ pub struct MemSink {
 }
 
 impl Model for MemSink {
-    ghost use Rattle.std.specs.Prelude.{drop, vec_len, vec_capacity};
+    ghost use Rattle.std.specs.Prelude.{vec_len, vec_capacity};
     ghost use Rattle.ht_io.specs.Writing.{Writing, IsWithin};
 
     ghost Value = { Writing };

@@ -1,9 +1,10 @@
 //! A source over octets in memory, for tests: it reads in pieces and fails at the offsets that are named.
-ghost use Rattle.std.specs.Prelude.{All, Contains, Some, IsTrue, IsSome, IsErr, IfOk, OnErr};
+ghost use Rattle.std.specs.Prelude.{Contains, Some, IsTrue, IsSome, IsErr, IfOk, OnErr};
 ghost use Rattle.std.specs.Prelude.{◌≡◌, ◌⊎◌, ◌↔◌, ◌+◌, ◌<◌, ◌≤◌, ℕ, List, [], ◌++◌, length, take, drop, min, nat_eq, position, if◌then◌else◌};
 ghost use Rattle.ht_io.specs.Causes.{HasRisen, one_more};
 ghost use Rattle.ht_io.specs.Reading.{without_first, PassesNone, IsFull, device_of_reading, hand_of_reading, ready_of};
 
+use crate::space::copy_front;
 use crate::{Failed, Source};
 use std::marker::Model;
 
@@ -143,7 +144,7 @@ impl Source for MemSource {
         }
         let room = room_before(&self.cuts, self.at, room);
         let count = room_before(&self.failing, self.at, room);
-        into[..count].copy_from_slice(&self.bytes[self.at..self.at + count]);
+        copy_front(&self.bytes, self.at, count, into);
         self.at += count;
         Ok(count)
     }
@@ -161,7 +162,7 @@ impl Source for MemSource {
         &self.bytes[self.at..self.at + count]
     }
 
-    fn pass(&mut self, count: usize)
+    fn consume(&mut self, count: usize)
         requires { count ≤ length (hand_of_reading self.old) }
         ensures moved { self.new ≡ record self.old { left = drop count self.old.left; at = self.old.at + count } }
         ensures taken { self.old.left ≡ take count (hand_of_reading self.old) ++ self.new.left }

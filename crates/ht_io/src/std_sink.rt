@@ -2,45 +2,11 @@
 ghost use Rattle.std.specs.Prelude.{◌≡◌, ◌≤◌, None, IsSome, OnOk, OnErr};
 ghost use Rattle.std.specs.Io.KnownBytes.{Keeps, Appends};
 ghost use Rattle.ht_io.specs.Causes.{HasRisen, one_more};
-ghost use Rattle.ht_io.specs.Standard.{writer_of, sink_faults, sink_error, AppendsPart};
+ghost use Rattle.ht_io.specs.Standard.{device_of, faults_of, error_of, AppendsPart};
 
-use crate::std_source::RETRIES;
+use crate::std_device::{RETRIES, StdSink};
 use crate::{Failed, Sink};
 use std::io::{self, ErrorKind, Write};
-
-/// Writes to a writer of std. As a sink it shows no octets. An interrupted call is tried again, at
-/// most 1,000 times within one put, and then fails. A write that takes nothing is a failure. Each put
-/// flushes at its end. The last error of the system is kept.
-#[derive(Drop)]
-pub struct StdSink<W> {
-    inner: W,
-    faults: u64,
-    last: Option<io::Error>,
-}
-
-impl<W: Write> StdSink<W> {
-    /// A sink over the writer. It takes no memory.
-    pub fn new(inner: W) -> StdSink<W>
-        ensures writer { writer_of result ≡ inner }
-        ensures faults { sink_faults result ≡ 0 }
-        ensures error { sink_error result ≡ None }
-    {
-        StdSink {
-            inner,
-            faults: 0,
-            last: None,
-        }
-    }
-
-    /// The error of the system at the last put that failed, or `None` where none has failed. A write
-    /// that took nothing stands as `WriteZero`.
-    #[must_use]
-    pub fn last_error(&self) -> Option<io::Error>
-        ensures { result ≡ sink_error self.now }
-    {
-        self.last
-    }
-}
 
 // Flushes, and again while the call is interrupted.
 fn flush_patiently<W: Write>(inner: &mut W, retried: u32) -> io::Result<()>
@@ -78,27 +44,23 @@ fn write_whole<W: Write>(inner: &mut W, piece: &[u8]) -> io::Result<()>
 }
 
 impl<W: Write> Sink for StdSink<W> {
-    ghost shown = { λ s. record { known = None; faults = sink_faults s; borrow = 0 } };
+    ghost shown = { λ s. record { known = None; faults = faults_of s; borrow = 0 } };
 
     fn put(&mut self, piece: &[u8]) -> Result<(), Failed>
         // What the writer holds, where it is known, grows by the piece, or at a failure by a part of it.
-        ensures passed { OnOk result (Appends (W.contents (writer_of self.old)) (W.contents (writer_of self.new)) piece.now) }
-        ensures front { OnErr result (AppendsPart (W.contents (writer_of self.old)) (W.contents (writer_of self.new)) piece.now) }
+        ensures passed { OnOk result (Appends (W.contents (device_of self.old)) (W.contents (device_of self.new)) piece.now) }
+        ensures front { OnErr result (AppendsPart (W.contents (device_of self.old)) (W.contents (device_of self.new)) piece.now) }
 
-        ensures steady { OnOk result (sink_faults self.new ≡ sink_faults self.old) }
-        ensures counted { OnErr result (sink_faults self.new ≡ one_more (sink_faults self.old)) }
-        ensures because { OnErr result (IsSome (sink_error self.new)) }
+        ensures steady { OnOk result (faults_of self.new ≡ faults_of self.old) }
+        ensures counted { OnErr result (faults_of self.new ≡ one_more (faults_of self.old)) }
+        ensures because { OnErr result (IsSome (error_of self.new)) }
 
-        ensures cause { OnErr result (HasRisen (sink_faults self.old) (sink_faults self.new)) }
-        ensures later { sink_faults self.old ≤ sink_faults self.new }
+        ensures cause { OnErr result (HasRisen (faults_of self.old) (faults_of self.new)) }
+        ensures later { faults_of self.old ≤ faults_of self.new }
     {
         match write_whole(&mut self.inner, piece) {
             Ok(()) => Ok(()),
-            Err(error) => {
-                self.last = Some(error);
-                self.faults = self.faults.saturating_add(1);
-                Err(Failed)
-            }
+            Err(error) => Err(self.fail(error)),
         }
     }
 }

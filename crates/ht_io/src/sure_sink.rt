@@ -1,5 +1,5 @@
 //! A sink in memory that never fails.
-ghost use Rattle.std.specs.Prelude.{◌≡◌, ◌↔◌, ◌+◌, ◌-◌, ◌^◌, ◌<◌, [], ◌++◌, length, take, min, IsOk, IsNone, OnOk, vec_capacity, option_copied};
+ghost use Rattle.std.specs.Prelude.{◌≡◌, ◌↔◌, ◌+◌, ◌-◌, ◌<◌, [], ◌++◌, length, take, min, IsOk, IsNone, OnOk, vec_capacity, option_copied};
 ghost use Rattle.ht_io.specs.Causes.{last_count};
 ghost use Rattle.ht_io.specs.Pieces.{KnownGrown};
 ghost use Rattle.ht_io.specs.Writing.{known_of};

@@ -1,6 +1,7 @@
 //! A source over octets in memory that never fails.
 ghost use Rattle.std.specs.Prelude.{◌≡◌, ◌↔◌, ◌<◌, ◌≤◌, [], ◌++◌, length, take, drop, min, Some, IsOk, IfOk};
 
+use crate::space::copy_front;
 use crate::{Failed, Source};
 use std::marker::Model;
 
@@ -47,7 +48,7 @@ impl Source for SureSource {
         ensures ended { IfOk result (λ count. (count ≡ 0) ↔ (self.old ≡ [])) }
     {
         let count = into.len().min(self.bytes.len() - self.at);
-        into[..count].copy_from_slice(&self.bytes[self.at..self.at + count]);
+        copy_front(&self.bytes, self.at, count, into);
         self.at += count;
         Ok(count)
     }
@@ -58,7 +59,7 @@ impl Source for SureSource {
         &self.bytes[self.at..]
     }
 
-    fn pass(&mut self, count: usize)
+    fn consume(&mut self, count: usize)
         requires { count ≤ length self.old }
         ensures rest { self.new ≡ drop count self.old }
         ensures taken { self.old ≡ take count self.old ++ self.new }

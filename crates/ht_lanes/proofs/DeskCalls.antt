@@ -1,9 +1,8 @@
 -- What the calls of a lane over a desk lead to.
 use Rattle.std.specs.Prelude.{◌≡◌, ℕ, List, [], ◌∷◌, ◌++◌, drop, take, Option, Some, None, true, false, is_some, Result, Ok, Err, OnErr, OnOk}
-use Rattle.std.proofs.Common.{refl, ap, ◌∙◌, sym, subst, arith, append-nil}
+use Rattle.std.proofs.Common.{refl, ap, ◌∙◌, sym, subst, append-nil}
 use Rattle.std.proofs.lemmas.Bool.{false≢true}
 use Rattle.ht_io.specs.Devices.{Device}
-use Rattle.ht_io.proofs.Calls.{later-refl}
 use Rattle.ht_fields.specs.Meanings.{Meaning}
 use Rattle.ht_metric.specs.Jobs.{JobView}
 use Rattle.ht_feed.specs.declared.stop.Stop.{Stop}
@@ -11,12 +10,12 @@ use Rattle.ht_feed.specs.declared.book_fault.BookFault.{BookFault}
 use Rattle.ht_feed.specs.Accounts.{Telling}
 use Rattle.ht_feed.specs.Items.{Item, Headed}
 use Rattle.ht_feed.specs.Dues.{Due, all_due, jobs_in}
-use Rattle.ht_feed.specs.Desks.{AddsBlock, DeskView, ReadsMore, standing}
-use Rattle.ht_feed.specs.Leading.{reads_none, tells-none}
+use Rattle.ht_feed.specs.Desks.{AddsBlock, DeskView, ReadsMore}
+use Rattle.ht_feed.specs.Leading.{tells-none}
 use Rattle.ht_feed.specs.Reading.{Counts}
 use Rattle.ht_feed.specs.Telling.{Seen, Tells, TellsBy, seen_by}
 use Rattle.ht_feed.proofs.Filling.{jobs_in-append}
-use Rattle.ht_feed.proofs.Leads.{ill, tells_given, tells_refused, tells_taken, well}
+use Rattle.ht_feed.proofs.Leads.{ill, tells_given, tells_part, tells_put, tells_refused, tells_taken, well}
 use Rattle.ht_lanes.specs.Bookings.{BooksHits}
 use Rattle.ht_lanes.specs.DeskLanes.{is_over, lane_told}
 
@@ -72,39 +71,17 @@ module _ {R H : Type 0} (means : R → List ℕ → Meaning (Item H)) (at : R �
     pub finished : {B : Type 0} {b : B} → BooksHits (Ok b) before after (pieces x) (pieces y) []
         → TellsBy failed failed (seen desk before x) (seen desk after y)
     finished books =
-        well failed failed (seen desk before x) (seen desk after y) none refl (record {
-          items = [];
-          taken = [];
-          put = books.put.0;
-          reads = reads_none (standing means at desk.reader desk.stop source);
-          head = refl;
-          jobs = append-nil (all_due desk.due);
-          first = books.put.2;
-          grows = books.put.1;
-          waits = λ w. tt;
-          steady = books.steady;
-          frames = omega arith;
-          count = omega arith;
-          reads_later = later-refl source;
-          puts_later = books.later;
-        })
+        well failed failed (seen desk before x) (seen desk after y) none refl
+        (tells_put means at desk desk.due source (lane_told pieces x before) (lane_told pieces y after) [] (append-nil (all_due desk.due)) books.put (λ w. tt)
+        books.later books.steady)
 
     -- not all of it could be put, or made
     pub unfinished : {B : Type 0} {fault : BookFault} → BooksHits {A = B} (Err fault) before after (pieces x) (pieces y) []
         → TellsBy failed (Some fault) (seen desk before x) (seen desk after y)
     unfinished {fault = fault} books =
-        ill failed (seen desk before x) (seen desk after y) fault none (record {
-          items = [];
-          taken = [];
-          rest = all_due desk.due;
-          reads = reads_none (standing means at desk.reader desk.stop source);
-          jobs = append-nil (all_due desk.due);
-          part = books.part;
-          reads_later = later-refl source;
-          puts_later = books.later;
-          cause = books.cause;
-          steady = books.unfailed;
-        })
+        ill failed (seen desk before x) (seen desk after y) fault none
+        (tells_part means at desk source (lane_told pieces x before) (lane_told pieces y after) fault [] (all_due desk.due) (append-nil (all_due desk.due))
+        books.part books.later books.cause books.unfailed)
 
 -- a block more is due
 pub one_more_due : {R H : Type 0} (counts : R → Counts) (most : ℕ) (old new : DeskView R H) (jobs : List JobView) → AddsBlock counts most old new jobs

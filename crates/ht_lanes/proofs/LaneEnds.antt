@@ -1,6 +1,6 @@
 -- What it comes to that a lane over a new desk ran to its end, or as far as memory lasted.
 use Rattle.std.specs.Prelude.{◌≡◌, ◌≢◌, ℕ, List, [], Option, Some, None, true, false, is_some, Result, Err}
-use Rattle.std.proofs.Common.{refl, ap, sym, subst}
+use Rattle.std.proofs.Common.{refl, sym, subst}
 use Rattle.ht_io.specs.Devices.{Device, GrowsByPart, IsLater}
 use Rattle.ht_io.proofs.Calls.{grows_by_part-front}
 use Rattle.ht_fields.specs.Meanings.{Meaning}
@@ -10,15 +10,14 @@ use Rattle.ht_runs.specs.declared.faults.StopFault.TheVariants.{Write, NoMemory 
 use Rattle.ht_feed.specs.declared.ended.Ended.{Ended}
 use Rattle.ht_feed.specs.declared.book_fault.BookFault.{BookFault}
 use Rattle.ht_feed.specs.declared.book_fault.BookFault.TheVariants.{Failed, NoMemory}
-use Rattle.ht_feed.specs.declared.drive.DriveFault.{DriveFault}
 use Rattle.ht_feed.specs.Items.{Item}
 use Rattle.ht_feed.specs.Accounts.{Telling}
 use Rattle.ht_feed.specs.Dues.{all_due, jobs_in}
 use Rattle.ht_feed.specs.Desks.{DeskView, desk_view}
 use Rattle.ht_feed.specs.Outcomes.{Comes}
-use Rattle.ht_feed.specs.Stops.{failed_by}
 use Rattle.ht_feed.specs.Telling.{Seen, Tells, TellsBy, TellsPart, seen_by}
-use Rattle.ht_feed.proofs.Finishing.{Heard, heard, puts_later, reads_later, steady}
+use Rattle.ht_feed.proofs.Filling.{none_in}
+use Rattle.ht_feed.proofs.Finishing.{Heard, driven_so as heard_so, heard, puts_later, reads_later, steady}
 use Rattle.ht_lanes.specs.DeskLanes.{driven_so, ended_so, is_over}
 
 -- readers of R mean this and are here; a reader in front of its source, and its account; and what a lane over a new desk left
@@ -36,27 +35,11 @@ module _ {R H P : Type 0} (means : R → List ℕ → Meaning (Item H)) (at : R 
   -- a call failed so, seen by any account in front of a device
   ill : (account : Telling H P) (fault : BookFault) → TellsPart first (seen_by means at new source' account) fault
       → Heard means at reader head source source' a account new (Some fault) (driven_so (Some fault))
-  ill account fault told = record {
-    leads = told;
-    ended = tt;
-    taken = tt;
-    well = tt;
-    fault = λ f is. ap (λ (r : Result (Unit {0}) (DriveFault BookFault)). failed_by r) is;
-    lacking = λ is. ap (λ (r : Result (Unit {0}) (DriveFault BookFault)). failed_by r) is;
-    worked = λ is. ap (λ (r : Result (Unit {0}) (DriveFault BookFault)). failed_by r) is;
-  }
+  ill account fault told = heard_so means at reader head source source' a account new (driven_so (Some fault)) told tt tt
 
   -- none failed, and the reading stopped
   well : TellsBy None None first last → is_some new.stop ≡ true → jobs_in new.due ≡ [] → Heard means at reader head source source' a b new None (driven_so None)
-  well told stopped none = record {
-    leads = told;
-    ended = stopped;
-    taken = none;
-    well = refl;
-    fault = λ f is. ap (λ (r : Result (Unit {0}) (DriveFault BookFault)). failed_by r) is;
-    lacking = λ is. refl;
-    worked = λ is. refl;
-  }
+  well told stopped none = heard_so means at reader head source source' a b new (driven_so None) told stopped (none_in new.due none)
 
   -- what is put of hits that still come is all one where a call failed
   abbrev silent : Telling H P

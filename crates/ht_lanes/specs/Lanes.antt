@@ -148,6 +148,15 @@ module _ {L : Type 0} (due : L → List (List JobView)) (rests : L → Bool) whe
     pub within : Within (length lanes) ring
     pub booked : AreBooked lanes ring
 
+  -- lanes, with so many sources and these blocks due, may be asked for a block of at most `most` jobs, behind `given` jobs
+  -- that all of them have given
+  pub record MayBeAsked (lanes : List L) (sources : ℕ) (ring : List DueOf) (most given : ℕ) : Type 0 where
+    pub pairs : sources ≡ length lanes
+    pub booked : IsBooked lanes ring
+    pub some : 1 ≤ most
+    pub bound : given + most < 2 ^ 64
+    pub few_due : count_in (whole_due ring) + most ≤ 4096
+
   -- a lane waits for the same blocks, and rests if it did
   abbrev pub SameBook : L → L → Type 0
   SameBook a b = (rests b ≡ rests a) × (due b ≡ due a)
@@ -168,20 +177,25 @@ module _ {L : Type 0} (due : L → List (List JobView)) (rests over : L → Bool
     pub rings : IsBooked due rests lanes ring
     pub ends : ended ≡ true → AreOver over 0 lanes
 
--- Of so many lanes, of which blocks are due, those from one number on were asked in turn for a block of at most so many jobs. So many jobs had been
--- given before. Answered was the number of a lane and its block, or none; and these are the lanes then, and the blocks due.
+-- `count` lanes were asked in turn, from lane `from` on, for a block of at most `most` jobs, behind `given` jobs that all
+-- lanes together had given; the lanes then, the blocks that are due before and then, and the answer: the number of a lane and
+-- its block, or none
 pub record GivesNext {L E : Type 0} (ends : L → Bool) (count from most given : ℕ) (lanes : List L) (ring ring' : List DueOf)
     (result : Result (Option (ℕ × LaneJobs)) E) : Type 0 where
+  -- the block is of one of the lanes, is due behind the others and begins with the next number
   pub lane : IfOk result (λ asked. IfSome asked (λ a. a.0 < count))
   pub due : IfOk result (λ asked. IfSome asked (λ a. ring' ≡ ring ++ due_of a.0 a.1 ∷ []))
   pub first : IfOk result (λ asked. IfSome asked (λ a. a.1.first ≡ given))
+  -- it has a job, and no more than were asked for
   pub some : IfOk result (λ asked. IfSome asked (λ a. 1 ≤ length a.1.jobs))
   pub few : IfOk result (λ asked. IfSome asked (λ a. length a.1.jobs ≤ most))
+  -- where none came, the same blocks are due, and all lanes that were asked are over
   pub none : IfOk result (λ asked. IfNone asked (ring' ≡ ring))
   pub over : IfOk result (λ asked. IfNone asked (AreOver ends from lanes))
+  -- without memory the same blocks are due
   pub memory : OnErr result (ring' ≡ ring)
 
--- lanes that gave no block yet were run with their sources and sinks, and this was answered
+-- what a run of lanes that gave no block yet leaves, with their sources and sinks, by its answer
 module _ {L S K A E : Type 0} (does : Side L S K → Side L S K → Type 0) (waits_for : L → List (List JobView)) (rests ends : L → Bool)
     (keeps_none : L → Type 0) (result : Result A E) where
   pub record RunsLanes (a b : Sides L S K) : Type 0 where

@@ -1,6 +1,6 @@
 //! Lanes are asked for a block.
 ghost use Rattle.std.specs.Prelude.{◌≡◌, ◌+◌, ◌^◌, ◌<◌, ◌≤◌, ℕ, List, [], ◌∷◌, ◌++◌, true, length, slice_index_or, IfNone, IfOk, IfSome, OnErr};
-ghost use Rattle.ht_lanes.specs.Lanes.{AllLead, HasFewDue, HaveFewDue, OneLeads, OneMoreAt, SameBook, SameBooks, side_of, sides_of};
+ghost use Rattle.ht_lanes.specs.Lanes.{AllLead, HasFewDue, HaveFewDue, OneLeads, OneMoreAt, SameBooks, side_of, sides_of};
 
 use crate::lane::Lane;
 use crate::lane_block::LaneBlock;

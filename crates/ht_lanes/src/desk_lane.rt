@@ -1,9 +1,9 @@
 //! A lane over the desk of a reader.
-ghost use Rattle.std.specs.Prelude.{◌≡◌, ◌-◌, ◌^◌, ◌<◌, [], None, true, is_some, IfOk, IsErr, IsOk};
+ghost use Rattle.std.specs.Prelude.{◌≡◌, ◌-◌, ◌<◌, [], None, true, is_some, IfOk, IsErr, IsOk};
 ghost use Rattle.ht_feed.specs.Desks.{desk_view};
 ghost use Rattle.ht_feed.specs.Dues.{jobs_in};
 ghost use Rattle.ht_feed.specs.Leading.{tells_by-none, tells_by-on};
-ghost use Rattle.ht_feed.specs.Reading.{Counts};
+ghost use Rattle.ht_feed.specs.Reading.{IsFreshReader};
 ghost use Rattle.ht_feed.specs.Telling.{TellsBy, seen_by};
 ghost use Rattle.ht_lanes.specs.DeskLanes.{ended_so, is_over, lane_told, rests_over};
 
@@ -39,9 +39,7 @@ impl<R: BlockReader + Drop, A: Drop> DeskLane<R, A> {
         room: u16,
         booking: A,
     ) -> Result<DeskLane<R, A>, AllocError>
-        requires going { (R.counts reader).going ≡ true }
-        requires fresh { (R.counts reader).given ≡ 0 }
-        requires bounded { (R.counts reader).more < 2 ^ 64 - 1 }
+        requires fresh { IsFreshReader (R.counts reader) }
         ensures desk { IfOk result (λ lane. lane.desk ≡ desk_view reader None head 0 [] 0) }
         ensures booking { IfOk result (λ lane. lane.booking ≡ booking) }
         ensures well { IfOk result (λ lane. lane.failed ≡ None) }

@@ -1,5 +1,6 @@
 //! All blocks of several lanes.
-ghost use Rattle.std.specs.Prelude.{◌≡◌, ◌≤◌, length};
+ghost use Rattle.std.specs.Prelude.{◌≡◌, length};
+ghost use Rattle.ht_feed.specs.Limits.{IsWindowSize};
 ghost use Rattle.ht_lanes.specs.Lanes.{AreFresh, RunsLanes, sides_of};
 
 use crate::finishing::finish_lanes;
@@ -21,8 +22,7 @@ pub fn run_alone<L: Lane<S, K>, S, K, W: Work<LaneBlock<L::Block>, Answer = L::A
     sources: &mut [S],
     sinks: &mut [K],
 ) -> Result<(), AllocError>
-    requires some { 1 ≤ window }
-    requires few { window ≤ 4096 }
+    requires window { IsWindowSize window }
     requires fresh { AreFresh L.due lanes.old }
     requires sources { length sources.old ≡ length lanes.old }
     requires sinks { length sinks.old ≡ length lanes.old }

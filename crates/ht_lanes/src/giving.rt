@@ -1,8 +1,7 @@
 //! The next block of several lanes.
-ghost use Rattle.std.specs.Prelude.{◌≡◌, ◌+◌, ◌^◌, ◌<◌, ◌≤◌, List, [], ◌∷◌, ◌++◌, length};
+ghost use Rattle.std.specs.Prelude.{◌≡◌, ◌<◌, List, [], ◌∷◌, ◌++◌, length};
 ghost use Rattle.circular_buffer.specs.Buffer.{buffer};
-ghost use Rattle.ht_feed.specs.Dues.{count_in};
-ghost use Rattle.ht_lanes.specs.Lanes.{AllLead, GivesNext, IsBooked, due_of, sides_of, whole_due};
+ghost use Rattle.ht_lanes.specs.Lanes.{AllLead, GivesNext, IsBooked, MayBeAsked, due_of, sides_of};
 
 use crate::asking::ask_from;
 use crate::lane::Lane;
@@ -23,11 +22,7 @@ pub(crate) fn give<L: Lane<S, K>, S, K>(
     most: u16,
     first: u64,
 ) -> Result<Option<(usize, LaneBlock<L::Block>)>, AllocError>
-    requires pairs { length sources.old ≡ length lanes.old }
-    requires booked { IsBooked L.due L.rests lanes.old due.old.items }
-    requires some { 1 ≤ most }
-    requires bound { first + most < 2 ^ 64 }
-    requires few_due { count_in (whole_due due.old.items) + most ≤ 4096 }
+    requires asked { MayBeAsked L.due L.rests lanes.old (length sources.old) due.old.items most first }
     ensures gives { GivesNext L.over (length lanes.old) 0 most first lanes.new due.old.items due.new.items result }
     ensures booked { IsBooked L.due L.rests lanes.new due.new.items }
     ensures leads { (sinks : List K) → AllLead L.leads (sides_of lanes.old sources.old sinks) (sides_of lanes.new sources.new sinks) }
@@ -52,11 +47,7 @@ fn give_from<L: Lane<S, K>, S, K>(
     most: u16,
     first: u64,
 ) -> Result<Option<(usize, LaneBlock<L::Block>)>, AllocError>
-    requires pairs { length sources.old ≡ length lanes.old }
-    requires booked { IsBooked L.due L.rests lanes.old due.old.items }
-    requires some { 1 ≤ most }
-    requires bound { first + most < 2 ^ 64 }
-    requires few_due { count_in (whole_due due.old.items) + most ≤ 4096 }
+    requires asked { MayBeAsked L.due L.rests lanes.old (length sources.old) due.old.items most first }
     requires space { length due.old.items < due.old.capacity }
     ensures gives { GivesNext L.over (length lanes.old) from most first lanes.new due.old.items due.new.items result }
     ensures booked { IsBooked L.due L.rests lanes.new due.new.items }

@@ -1,5 +1,5 @@
 //! Blocks of several lanes, numbered as a whole.
-ghost use Rattle.std.specs.Prelude.{◌≡◌, ◌+◌, ◌^◌, ◌<◌, ◌≤◌, length, IsTrue, IfSome};
+ghost use Rattle.std.specs.Prelude.{◌≡◌, ◌+◌, ◌^◌, ◌<◌, ◌≤◌, length};
 ghost use Rattle.ht_feed.specs.Items.{Numbered};
 ghost use Rattle.ht_lanes.specs.Lanes.{lane_jobs, whole_jobs};
 

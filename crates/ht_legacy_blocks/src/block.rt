@@ -1,5 +1,5 @@
 //! Blocks of jobs.
-ghost use Rattle.std.specs.Prelude.{◌≡◌, ◌+◌, ◌≤◌, ◌<◌, Some, length, slice_get};
+ghost use Rattle.std.specs.Prelude.{◌≡◌, ◌+◌, ◌≤◌, ◌<◌, Some};
 ghost use Rattle.std.specs.Arc.{arc_value};
 ghost use Rattle.ht_clause18.specs.Carriers.{carriers};
 ghost use Rattle.ht_legacy_blocks.specs.Jobs.{jobs_between};

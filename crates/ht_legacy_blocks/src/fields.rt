@@ -1,5 +1,5 @@
 //! What stands in front of the frames of a capture, and in front of a frame's symbols, each read whole and judged.
-ghost use Rattle.std.specs.Prelude.{◌≡◌, ◌<◌, ◌≤◌, ◌+◌, ◌^◌, ℕ, [], ◌∷◌, IfOk, MatchResult};
+ghost use Rattle.std.specs.Prelude.{◌<◌, ◌≤◌, ◌+◌, ◌^◌, ℕ, [], ◌∷◌, IfOk, MatchResult};
 ghost use Rattle.ht_io.specs.Devices.{IsLater};
 ghost use Rattle.ht_fields.specs.Readers.{Gives, reader_in};
 ghost use Rattle.ht_fields.specs.WholeFiles.{Halts};
@@ -41,7 +41,7 @@ pub fn start<S: Source>(source: &mut S) -> Result<u16, InFault>
 
 /// Reads what stands in front of the symbols of the next frame, where frames are left.
 pub fn frame_front<S: Source>(source: &mut S, at: u64) -> Result<Front, InFault>
-    requires room { at + 107 < 2 ^ 64 }
+    requires offset { at + 107 < 2 ^ 64 }
     ensures told { (left : ℕ) → 0 < left → MatchResult result
         (λ f. Gives (reader_in captures (captures_due left) at (S.shown source.old))
         (reader_in captures (symbols_due left (symbols_of f.rate f.length)) (at + 107) (S.shown source.new))

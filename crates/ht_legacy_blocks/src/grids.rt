@@ -1,6 +1,6 @@
 //! The grids of subcarriers.
 ghost use Rattle.std.specs.Prelude.{◌≡◌, ◌<◌, [], ◌∷◌};
-ghost use Rattle.ht_map.specs.Constellation.{axes_of, full};
+ghost use Rattle.ht_map.specs.Constellation.{axes_of};
 ghost use Rattle.ht_capture.specs.Frames.{one_point};
 ghost use Rattle.ht_clause18.specs.Pilots.{pilot_of};
 

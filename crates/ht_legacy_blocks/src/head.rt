@@ -1,5 +1,4 @@
 //! The head of a frame, as a receiver has it.
-ghost use Rattle.std.specs.Prelude.{◌≡◌, ◌↔◌, IsTrue};
 
 use ht_clause18::LegacyRate;
 
@@ -12,13 +11,4 @@ pub struct LegacyFrameHead {
     pub rate: LegacyRate,
     /// The octets of its PSDU, 1 to 4095.
     pub length: u16,
-}
-
-impl LegacyFrameHead {
-    // Whether both heads are the same, as `==` says too.
-    pub(crate) fn same(&self, other: &LegacyFrameHead) -> bool
-        ensures { IsTrue result ↔ (self.now ≡ other.now) }
-    {
-        *self == *other
-    }
 }

@@ -1,5 +1,5 @@
 //! Captures, read in blocks.
-ghost use Rattle.std.specs.Prelude.{◌≡◌, ◌+◌, ◌-◌, ◌*◌, ◌^◌, ◌<◌, ◌≤◌, ℕ, List, [], ◌∷◌, map, true, IfOk, IfErr, OnOk, MatchBool, MatchResult};
+ghost use Rattle.std.specs.Prelude.{◌≡◌, ◌+◌, ◌-◌, ◌*◌, ◌<◌, ◌≤◌, ℕ, List, [], ◌∷◌, map, true, IfOk, IfErr, OnOk, MatchBool, MatchResult};
 ghost use Rattle.std.specs.Arc.{arc_value};
 ghost use Rattle.ht_io.specs.Devices.{Device, IsLater};
 ghost use Rattle.ht_fields.specs.Meanings.{meaning};
@@ -22,6 +22,9 @@ use ht_io::{InFault, Source};
 use std::alloc::{AllocError, Global};
 use std::marker::Model;
 use std::sync::Arc;
+
+/// What comes of a call: a head, a block or the end, or why there is none.
+type Answer = Result<Came<LegacyFrameHead, LegacyBlock>, InFault>;
 
 /// Reads a capture of clause 18 frames, in blocks of jobs of one symbol.
 ///
@@ -132,11 +135,7 @@ impl LegacyReader {
     }
 
     // Gives the next jobs of the symbol that was read, or answers that memory lacked.
-    fn block<S: Source>(
-        &mut self,
-        most: u16,
-        source: &mut S,
-    ) -> Result<Came<LegacyFrameHead, LegacyBlock>, InFault>
+    fn block<S: Source>(&mut self, most: u16, source: &mut S) -> Answer
         requires some { 1 ≤ most }
         requires due { 1 ≤ self.old.left }
         ensures { ReadsOn most self.old self.new (S.shown source.old) (S.shown source.new) result }
@@ -265,7 +264,7 @@ impl LegacyReader {
         source: &mut S,
         frames: u16,
         symbols: u32,
-    ) -> Result<Came<LegacyFrameHead, LegacyBlock>, InFault>
+    ) -> Answer
         requires most { 1 ≤ most }
         requires stage { self.old.stage ≡ Stage.Due frames symbols }
         requires some { 1 ≤ symbols }
@@ -279,11 +278,7 @@ impl LegacyReader {
     }
 
     // Reads on where no jobs are due, behind what stands in front of the frames.
-    fn go<S: Source>(
-        &mut self,
-        most: u16,
-        source: &mut S,
-    ) -> Result<Came<LegacyFrameHead, LegacyBlock>, InFault>
+    fn go<S: Source>(&mut self, most: u16, source: &mut S) -> Answer
         requires most { 1 ≤ most }
         requires begun { has_begun self.old.stage ≡ true }
         requires none { self.old.left ≡ 0 }
@@ -310,11 +305,7 @@ impl LegacyReader {
     }
 
     // Reads on where no jobs are due, from the start of the capture.
-    fn begin<S: Source>(
-        &mut self,
-        most: u16,
-        source: &mut S,
-    ) -> Result<Came<LegacyFrameHead, LegacyBlock>, InFault>
+    fn begin<S: Source>(&mut self, most: u16, source: &mut S) -> Answer
         requires most { 1 ≤ most }
         requires stage { self.old.stage ≡ Stage.Start }
         requires none { self.old.left ≡ 0 }
@@ -338,11 +329,7 @@ impl BlockReader for LegacyReader {
 
     ghost counts = { legacy_counts };
 
-    fn next<S: Source>(
-        &mut self,
-        most: u16,
-        source: &mut S,
-    ) -> Result<Came<LegacyFrameHead, LegacyBlock>, InFault> {
+    fn next<S: Source>(&mut self, most: u16, source: &mut S) -> Answer {
         if self.left > 0 {
             return self.block(most, source);
         }

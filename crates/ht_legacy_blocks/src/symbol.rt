@@ -1,5 +1,5 @@
 //! Symbols that were read.
-ghost use Rattle.std.specs.Prelude.{◌≡◌, ◌+◌, ◌^◌, ◌<◌, ◌≤◌, [], ◌∷◌, length, slice_index_or, IsTrue};
+ghost use Rattle.std.specs.Prelude.{◌≡◌, ◌+◌, ◌^◌, ◌<◌, ◌≤◌, length, slice_index_or, IsTrue};
 ghost use Rattle.ht_clause18.specs.Carriers.{carriers};
 ghost use Rattle.ht_metric.specs.Rows.{no_sample};
 ghost use Rattle.ht_capture.specs.Numbers.{unsigned_at};
@@ -105,14 +105,7 @@ impl LegacySymbol {
     pub fn copy(&self) -> LegacySymbol
         ensures { result ≡ self.now }
     {
-        LegacySymbol {
-            head: self.head,
-            full: self.full,
-            symbol: self.symbol,
-            number: self.number,
-            diagonals: self.diagonals,
-            samples: self.samples,
-        }
+        LegacySymbol { ..*self }
     }
 
     /// The place of a subcarrier's job.
@@ -178,7 +171,7 @@ impl LegacySymbol {
     pub fn same(&self, other: &LegacySymbol) -> bool
         ensures { IsTrue result → self.now ≡ other.now }
     {
-        let heads = self.head.same(&other.head);
+        let heads = self.head == other.head;
         let numbers = (self.symbol == other.symbol) & (self.number == other.number);
         let diagonals = self.diagonals[..] == other.diagonals[..];
         let samples = self.samples[..] == other.samples[..];

@@ -19,7 +19,7 @@ use Rattle.ht_counted.proofs.FrameRoutes.{is_counted}
 use Rattle.ht_counted.proofs.Passing.{at_most, passed, same_good, single, within}
 use Rattle.ht_legacy_files.specs.HeadedFormats.{HeadState, Index, Length, Behind, behind_head, good_index, good_length, headed, length_limits, rate_at}
 use Rattle.ht_legacy_files.specs.Formats.{FrameBody, framed, frames, framing}
-use Rattle.ht_legacy_files.specs.Files.{AreFrames, IsFrame, frames_file_of, frame_octets}
+use Rattle.ht_legacy_files.specs.Files.{AreFrames, IsFrame, frames_file_of}
 use Rattle.ht_legacy_files.proofs.Routes.{frames_framed}
 
 abbrev State : Type 0
@@ -114,5 +114,5 @@ no_end (Behind s) e = no_end_behind (headed framed) framing frames_framed s e
 
 -- each file is the one that is written of its frames, and they can be written
 pub of_frames : (octets : List ℕ) (fs : List LegacyFrameView) → AreBytes octets → IsFile frames octets fs → AreFrames fs × (octets ≡ frames_file_of fs)
-unfolding frames_file_of frame_octets
+unfolding frames_file_of
 of_frames = of_file (headed framed) whole IsFrame FromBody 4099 (is_counted (headed framed) framing frames_framed) first_back body_back no_end

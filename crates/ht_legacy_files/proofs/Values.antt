@@ -10,7 +10,7 @@ use Rattle.ht_counted.specs.Counted.{entries_due}
 use Rattle.ht_counted.specs.Framed.{good_octets, good_seed}
 use Rattle.ht_legacy_files.specs.HeadedFormats.{good_index, good_length}
 use Rattle.ht_legacy_files.specs.Formats.{frames}
-use Rattle.ht_legacy_files.specs.Files.{frame_octets, frames_file_of}
+use Rattle.ht_legacy_files.specs.Files.{frames_file_of}
 
 abbrev one_octet : LegacyFrameView
 one_octet = record { rate = Mbit6; seed = 127; octets = 0xa5 ∷ [] }
@@ -20,7 +20,7 @@ abbrev behind_head : List ℕ → List ℕ
 behind_head octets = 0x4c ∷ 0x47 ∷ 0x54 ∷ 0x58 ∷ 1 ∷ 0 ∷ 1 ∷ octets
 
 one_file : frames_file_of (one_octet ∷ []) ≡ behind_head (0 ∷ 0 ∷ 1 ∷ 127 ∷ 0xa5 ∷ [])
-unfolding frames_file_of frame_octets started_octets
+unfolding frames_file_of started_octets
 one_file = refl
 
 least_file : frames_file_of [] ≡ 0x4c ∷ 0x47 ∷ 0x54 ∷ 0x58 ∷ 1 ∷ 0 ∷ 0 ∷ []

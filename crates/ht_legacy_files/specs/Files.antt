@@ -1,17 +1,12 @@
 -- The octets of a file of clause 18 frames. All numbers are big-endian.
 use Rattle.std.specs.Prelude.{ℕ, List}
 use Rattle.ht_clause18.specs.Frames.{LegacyFrameView}
-use Rattle.ht_counted.specs.Counted.{counted_octets}
-use Rattle.ht_counted.specs.Framed.{AreFramed, IsFramed, framed_octets}
+use Rattle.ht_counted.specs.Framed.{AreFramed, IsFramed, framed_file}
 use Rattle.ht_legacy_files.specs.Formats.{frames_magic, framing}
 
--- a frame: the index of its rate, the number of its octets, the seed, and the octets
-unfoldable pub frame_octets : LegacyFrameView → List ℕ
-frame_octets f = framed_octets framing f
-
--- the file of frames
+-- the file of frames, each of them the index of its rate, the number of its octets, the seed, and the octets
 unfoldable pub frames_file_of : List LegacyFrameView → List ℕ
-frames_file_of frames = counted_octets frames_magic 2 frame_octets frames
+frames_file_of frames = framed_file frames_magic framing frames
 
 -- a frame has a seed and 1 to 4095 octets
 abbrev pub IsFrame : LegacyFrameView → Type 0

@@ -1,6 +1,6 @@
 //! Files of frames, read whole and written.
-ghost use Rattle.std.specs.Prelude.{◌≡◌, ◌≤◌, ◌++◌, ◌∷◌, [], length, IfOk, IfErr, OnOk, OnErr};
-ghost use Rattle.ht_io.specs.Devices.{Grows, GrowsByPart, Rose, IsLater};
+ghost use Rattle.std.specs.Prelude.{◌≡◌, ◌≤◌, ◌++◌, ◌∷◌, [], length, IfOk, IfErr};
+ghost use Rattle.ht_io.specs.Devices.{IsLater, Puts};
 ghost use Rattle.ht_fields.specs.Readers.{reader_in};
 ghost use Rattle.ht_fields.specs.WholeFiles.{EndsEarly, ReadsWhole};
 ghost use Rattle.ht_legacy_files.specs.HeadedFormats.{headed};
@@ -71,7 +71,7 @@ impl Framed for LegacyFrames {
 /// Reads a file of frames (LGTX) to its end, and gives its frames.
 ///
 /// `Format` comes at the first fault of the file, and `Read` where the source failed before any fault.
-#[tactic(auto, unfolding(crate::specs::Files::frame_octets, crate::specs::Files::frames_file_of))]
+#[tactic(auto, unfolding(crate::specs::Files::frames_file_of))]
 pub fn read_legacy_frames<S: Source>(
     alloc: Global,
     source: &mut S,
@@ -89,14 +89,10 @@ pub fn read_legacy_frames<S: Source>(
 /// Puts the file of these frames (LGTX). It takes no memory.
 ///
 /// Where the sink fails, a part of the file from its front was put.
-#[tactic(auto, unfolding(crate::specs::Files::frame_octets, crate::specs::Files::frames_file_of))]
+#[tactic(auto, unfolding(crate::specs::Files::frames_file_of))]
 pub fn write_legacy_frames<K: Sink>(frames: &[LegacyFrame], sink: &mut K) -> Result<(), Failed>
     requires few { length frames.now ≤ 65535 }
-    ensures grown { OnOk result (Grows (K.shown sink.old) (K.shown sink.new) (frames_file_of frames.now)) }
-    ensures steady { OnOk result ((K.shown sink.new).faults ≡ (K.shown sink.old).faults) }
-    ensures part { OnErr result (GrowsByPart (K.shown sink.old) (K.shown sink.new) (frames_file_of frames.now)) }
-    ensures cause { OnErr result (Rose (K.shown sink.old) (K.shown sink.new)) }
-    ensures later { IsLater (K.shown sink.old) (K.shown sink.new) }
+    ensures { Puts (K.shown sink.old) (K.shown sink.new) (frames_file_of frames.now) result }
 {
     write_framed::<LegacyFrames, K>(frames, sink)
 }

@@ -28,23 +28,17 @@ fn length_limits() -> Limits
 
 /// Reads the index of a frame's rate, 0 to 7.
 pub fn rate<S: Source>(source: &mut S, at: u64) -> Result<LegacyRate, InFault>
-    requires room { at + 1 < 2 ^ 64 }
+    requires offset { at + 1 < 2 ^ 64 }
     ensures whole { IfOk result (λ rate. Takes (S.shown source.old) (S.shown source.new) (index_of rate ∷ [])) }
     ensures failed { IfErr result (FailsField 1 BadMcs (is_above 7) at (S.shown source.old) (S.shown source.new)) }
     ensures later { IsLater (S.shown source.old) (S.shown source.new) }
 {
-    match octet(source, at) {
-        Ok(index) => match LegacyRate::of(index) {
-            Some(rate) => Ok(rate),
-            None => Err(bad(Kind::BadMcs, at)),
-        },
-        Err(fault) => Err(fault),
-    }
+    LegacyRate::of(octet(source, at)?).ok_or(bad(Kind::BadMcs, at))
 }
 
 /// Reads the number of a frame's octets, 1 to 4095.
 pub fn length<S: Source>(source: &mut S, at: u64) -> Result<u16, InFault>
-    requires room { at + 8 < 2 ^ 64 }
+    requires offset { at + 8 < 2 ^ 64 }
     ensures whole { IfOk result (λ len. Takes (S.shown source.old) (S.shown source.new) (big_bytes 2 len)) }
     ensures least { IfOk result (λ len. 1 ≤ len) }
     ensures most { IfOk result (λ len. len ≤ 4095) }

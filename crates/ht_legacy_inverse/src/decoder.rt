@@ -3,34 +3,17 @@ ghost use Rattle.std.specs.Prelude.{◌≡◌, ◌+◌, ◌*◌, ◌≤◌, IfOk
 ghost use Rattle.ht_clause18.specs.Rates.{needed_bits};
 ghost use Rattle.ht_inverse.specs.Decoding.{outcome_of};
 ghost use Rattle.ht_legacy_inverse.specs.Decoding.{legacy_decoded_frame};
-ghost use Rattle.ht_legacy_inverse.specs.Places.{IsCodewordOf};
 ghost use Rattle.ht_legacy_inverse.specs.Received.{labels_in_frame};
 
 use crate::gather::{received, steps};
 use ht_bits::Bits;
 use ht_clause18::LegacyRate;
 use ht_inverse::{Decoded, Outcome, come_to};
-use ht_viterbi::{Codeword, decode_received};
+use ht_viterbi::decode_received;
 use std::alloc::{AllocError, Global};
 
 // The bits of SERVICE.
 const SERVICE: usize = 16;
-
-// The codeword of a frame.
-fn codeword(
-    alloc: Global,
-    rate: LegacyRate,
-    octets: u16,
-    labels: &[u8],
-) -> Result<Codeword, AllocError>
-    requires octets { (1 ≤ octets) × (octets ≤ 4095) }
-    requires labels { length labels.now ≡ labels_in_frame rate octets }
-    ensures value { IfOk result (λ c. IsCodewordOf rate octets labels.now c) }
-    ensures steps { IfOk result (λ c. length c.input ≡ needed_bits octets) }
-{
-    let bits = received(alloc, rate, octets, labels)?;
-    decode_received(alloc, steps(octets), rate.pattern(), bits.as_slice())
-}
 
 // What the encoder's input comes to: what it has before its tail.
 fn input_comes_to(alloc: Global, octets: u16, input: Bits) -> Result<Outcome, AllocError>
@@ -58,7 +41,8 @@ pub fn legacy_decode_frame(
     requires labels { length labels.now ≡ labels_in_frame rate octets }
     ensures { IfOk result (λ frame. frame ≡ legacy_decoded_frame rate octets labels.now) }
 {
-    let codeword = codeword(alloc, rate, octets, labels)?;
+    let bits = received(alloc, rate, octets, labels)?;
+    let codeword = decode_received(alloc, steps(octets), rate.pattern(), bits.as_slice())?;
     let code = codeword.distance;
     let outcome = input_comes_to(alloc, octets, codeword.input)?;
     Ok(Decoded { outcome, code })

@@ -1,5 +1,5 @@
 //! Where the labels of a symbol have its coded bits (IEEE Std 802.11-2012, clauses 18.3.5.7 and 18.3.5.8).
-ghost use Rattle.std.specs.Prelude.{◌≡◌, ◌<◌, ◌≤◌};
+ghost use Rattle.std.specs.Prelude.{◌≡◌, ◌<◌};
 ghost use Rattle.ht_clause18.specs.Rates.{coded_bits_of};
 ghost use Rattle.ht_legacy_inverse.specs.Places.{AreLabelPlaces, label_place_of};
 

@@ -11,17 +11,18 @@ use Rattle.ht_clause18.specs.Carriers.{carriers}
 use Rattle.ht_clause18.specs.Frames.{LegacyFrameView}
 use Rattle.ht_clause18.specs.Points.{sent_points}
 use Rattle.ht_clause18.specs.Rates.{index_of}
-use Rattle.ht_legacy_files.specs.Files.{AreFrames, frame_octets, frames_file_of}
-use Rattle.ht_legacy_files.specs.Formats.{frames as frames_format, frames_magic}
+use Rattle.ht_counted.specs.Framed.{framed_octets}
+use Rattle.ht_legacy_files.specs.Files.{AreFrames, frames_file_of}
+use Rattle.ht_legacy_files.specs.Formats.{frames as frames_format, frames_magic, framing}
 use Rattle.ht_legacy_files.proofs.Back.{of_frames}
 use Rattle.ht_legacy_captures.specs.Files.{captures_file_of}
-use Rattle.ht_sim.specs.Draws.{each, several}
+use Rattle.ht_sim.specs.Draws.{several}
 use Rattle.ht_sim.specs.Words.{first}
 use Rattle.ht_sim.proofs.Drawing.{All-several, length-several}
 use Rattle.ht_legacy_sim.specs.Drawing.{capture_drawn, captures_of, diagonal_drawn, exact_from}
 use Rattle.ht_legacy_sim.specs.Passing.{PassesTo}
 use Rattle.ht_legacy_rx.specs.Texts.{legacy_results_of, legacy_text}
-use Rattle.ht_round.proofs.Simulated.{samples_are}
+use Rattle.ht_round.proofs.Simulated.{all_drawn, samples_are}
 use Rattle.ht_legacy_return.specs.Exact.{AreExact, HoldOctets, IsExact}
 use Rattle.ht_legacy_return.specs.Returned.{returned_results, returned_text}
 use Rattle.ht_legacy_return.proofs.Captured.{diagonals_small, passed_is}
@@ -40,31 +41,26 @@ frame_exact f z =
       samples = samples_are (exact_from ds.value 0 (sent_points f)) ds.state;
     }
 
-frames_exact : (frames : List LegacyFrameView) (z : ℕ) → AreExact frames (each (capture_drawn 0) frames z).value
-frames_exact [] z = tt
-frames_exact (f ∷ frames) z = (frame_exact f z, frames_exact frames (capture_drawn 0 f z).state)
-
 pub simulated_exact : (seed : ℕ) (frames : List LegacyFrameView) → AreExact frames (captures_of seed 0 frames)
 unfolding captures_of
-simulated_exact seed frames = frames_exact frames (first seed)
+simulated_exact seed frames = all_drawn IsExact (capture_drawn 0) frame_exact frames (first seed)
 
 -- frames whose file is a list of octets have octets
-frame_bytes : (f : LegacyFrameView) → AreBytes (frame_octets f) → All (λ octet. octet < 2 ^ 8) f.octets
-unfolding frame_octets
+frame_bytes : (f : LegacyFrameView) → AreBytes (framed_octets framing f) → All (λ octet. octet < 2 ^ 8) f.octets
 frame_bytes f bytes =
     let behind : AreBytes (f.seed ∷ f.octets) = bytes_behind (index_of f.rate ∷ big_bytes 2 (length f.octets)) (f.seed ∷ f.octets) bytes in
     All-from_get_or (λ octet. octet < 2 ^ 8) f.octets 0 (λ i lt. behind (suc i))
 
-frames_bytes : (frames : List LegacyFrameView) → AreBytes (flat_map frame_octets frames) → HoldOctets frames
+frames_bytes : (frames : List LegacyFrameView) → AreBytes (flat_map (framed_octets framing) frames) → HoldOctets frames
 frames_bytes [] bytes = All-nil (λ (f : LegacyFrameView). All (λ octet. octet < 2 ^ 8) f.octets)
 frames_bytes (f ∷ frames) bytes =
     All-cons (λ (g : LegacyFrameView). All (λ octet. octet < 2 ^ 8) g.octets) f frames
-    (frame_bytes f (bytes_front (frame_octets f) (flat_map frame_octets frames) bytes))
-    (frames_bytes frames (bytes_behind (frame_octets f) (flat_map frame_octets frames) bytes))
+    (frame_bytes f (bytes_front (framed_octets framing f) (flat_map (framed_octets framing) frames) bytes))
+    (frames_bytes frames (bytes_behind (framed_octets framing f) (flat_map (framed_octets framing) frames) bytes))
 
 file_bytes : (frames : List LegacyFrameView) → AreBytes (frames_file_of frames) → HoldOctets frames
 unfolding frames_file_of
-file_bytes frames bytes = frames_bytes frames (bytes_behind (started_octets frames_magic 2 (length frames)) (flat_map frame_octets frames) bytes)
+file_bytes frames bytes = frames_bytes frames (bytes_behind (started_octets frames_magic 2 (length frames)) (flat_map (framed_octets framing) frames) bytes)
 
 -- a file holds frames that can be written, and octets
 pub file_holds : (octets : List ℕ) (frames : List LegacyFrameView) → AreBytes octets → IsFile frames_format octets frames → AreFrames frames × HoldOctets frames

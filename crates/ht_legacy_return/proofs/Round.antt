@@ -1,5 +1,5 @@
 -- Files of frames that were received exactly: their results, and their text.
-use Rattle.std.proofs.Common.{◌≡◌, ℕ, zero, suc, ◌+◌, ◌*◌, ◌<◌, ◌^◌, List, [], ◌∷◌, ◌++◌, length, take, drop, map, not, All, Bool, true, None, Some}
+use Rattle.std.proofs.Common.{◌≡◌, ℕ, zero, suc, ◌+◌, ◌*◌, ◌<◌, ◌^◌, List, [], ◌∷◌, ◌++◌, length, take, drop, map, not, All, Bool, true, None}
 use Rattle.std.proofs.Common.{if◌then◌else◌, refl, sym, ap, ◌∙◌, append_assoc, arith}
 use Rattle.std.specs.List.{AllByRecursion, filter}
 use Rattle.std.proofs.lemmas.Bool.{eq-eqb}
@@ -15,7 +15,7 @@ use Rattle.ht_metric.specs.declared.sample.Sample.{Sample}
 use Rattle.ht_metric.specs.Distance.{received}
 use Rattle.ht_metric.specs.Jobs.{JobView, near}
 use Rattle.ht_capture_laws.proofs.Lists.{all_kept, all_weaker}
-use Rattle.ht_text.specs.Lines.{end_text, frame_text}
+use Rattle.ht_text.specs.Lines.{end_text}
 use Rattle.ht_feed.specs.Items.{Item, One, frames_of}
 use Rattle.ht_runs.specs.Formats.{last_text}
 use Rattle.ht_inverse.specs.declared.decoded.Decoded.{Decoded}
@@ -33,7 +33,7 @@ use Rattle.ht_legacy_captures.specs.Items.{LegacyItem}
 use Rattle.ht_legacy_captures.proofs.Routes.{captures_written}
 use Rattle.ht_results.specs.declared.frame_result.FrameResult.{FrameResult}
 use Rattle.ht_results.specs.Plans.{distances, kept_by_place, on_data_by}
-use Rattle.ht_results.specs.Texts.{result_line, result_lines}
+use Rattle.ht_results.specs.Texts.{result_lines}
 use Rattle.ht_legacy_blocks.specs.declared.head.LegacyFrameHead.{LegacyFrameHead}
 use Rattle.ht_legacy_blocks.specs.Frames.{Course, LegacyFrameJobs, at_first, behind_head, behind_symbol, frames_in, given_from, has_all_jobs, head_of}
 use Rattle.ht_legacy_blocks.specs.Frames.{jobs_first, symbol_at}
@@ -44,7 +44,9 @@ use Rattle.ht_legacy_rx.specs.Results.{legacy_frame_result, legacy_plan, result_
 use Rattle.ht_legacy_rx.specs.Texts.{end_of_legacy, legacy_items, legacy_meaning, legacy_results_of, legacy_text, lines_in, results_in}
 use Rattle.ht_legacy_rx.proofs.Frames.{first_append, frames_append}
 use Rattle.ht_legacy_return.specs.Exact.{AreExact, HoldOctets, IsExact}
-use Rattle.ht_legacy_return.specs.Returned.{returned_from, returned_lines, returned_results, returned_text}
+use Rattle.ht_round.specs.Returned.{own_lines, own_results}
+use Rattle.ht_round.proofs.Round.{lines_back}
+use Rattle.ht_legacy_return.specs.Returned.{octets_of, returned_results, returned_text}
 use Rattle.ht_legacy_return.proofs.Captured.{length-exact}
 use Rattle.ht_legacy_return.proofs.Decoded.{decoded_back}
 use Rattle.ht_legacy_return.proofs.Heard.{IsFound, frame_found, frame_heard, frame_some, symbol_views}
@@ -179,7 +181,7 @@ abbrev AreOctets : LegacyFrameView → Type 0
 AreOctets f = All (λ octet. octet < 2 ^ 8) f.octets
 
 made_back : (number : ℕ) (c : Course) (frames : List LegacyFrameView) (xs : List LegacyCapture) → c.frames ≡ number → All IsFrame frames
-    → All AreOctets frames → AreExact frames xs → map legacy_frame_result (made_frames c xs) ≡ returned_from number frames
+    → All AreOctets frames → AreExact frames xs → map legacy_frame_result (made_frames c xs) ≡ own_results octets_of number frames
 made_back number c [] [] at good octets exact = refl
 made_back number c [] (x ∷ xs) at good octets exact = absurd exact
 made_back number c (f ∷ frames) [] at good octets exact = absurd exact
@@ -188,7 +190,7 @@ made_back number c (f ∷ frames) (x ∷ xs) at good octets exact =
     let number_is : next.frames ≡ number + 1 = same_frames (symbols_of x.head.rate x.head.length) (behind_head c x.head) ∙ ap (λ (k : ℕ). k + 1) at in
     ap (λ (z : FrameResult). z ∷ map legacy_frame_result (made_frames next xs))
     (frame_back number c f x at (All-head IsFrame f frames good).seed (All-head AreOctets f frames octets) exact.0)
-    ∙ ap (λ (z : List FrameResult). returned_from number (f ∷ []) ++ z)
+    ∙ ap (λ (z : List FrameResult). own_results octets_of number (f ∷ []) ++ z)
     (made_back (number + 1) next frames xs number_is (All-tail IsFrame f frames good) (All-tail AreOctets f frames octets) exact.1)
 
 -- such frames can be written
@@ -248,11 +250,6 @@ results_back frames captured good octets exact =
     ap (λ (m : Meaning LegacyItem). results_in m.items) (meant captured (exact_written frames captured good exact)) ∙ in_items frames captured good octets exact
 
 -- their text
-lines_back : (number : ℕ) (frames : List LegacyFrameView) → result_lines (returned_from number frames) ≡ returned_lines number frames
-unfolding result_line
-lines_back number [] = refl
-lines_back number (f ∷ frames) = ap (λ (z : List ℕ). frame_text number 0 0 0 (Some f.octets) ++ z) (lines_back (number + 1) frames)
-
 jobs_count : (jobs : List JobView) (items : List (Item LegacyFrameHead)) → frames_of (map One jobs ++ items) ≡ frames_of items
 jobs_count [] items = refl
 jobs_count (job ∷ jobs) items = jobs_count jobs items
@@ -272,8 +269,8 @@ pub text_back : (frames : List LegacyFrameView) (captured : List LegacyCapture) 
     → legacy_text (captures_file_of captured) ≡ returned_text frames
 unfolding legacy_text
 text_back frames captured good octets exact =
-    let lines : lines_in (items_of captured) ≡ returned_lines 0 frames =
-    ap result_lines (in_items frames captured good octets exact) ∙ lines_back 0 frames in
+    let lines : lines_in (items_of captured) ≡ own_lines octets_of 0 frames =
+    ap result_lines (in_items frames captured good octets exact) ∙ lines_back octets_of 0 frames in
     let count : frames_of (legacy_items (items_of captured)) ≡ length frames = frames_count at_first captured ∙ counted frames captured exact in
     ap (λ (m : Meaning LegacyItem). lines_in m.items ++ last_text m.fault (end_of_legacy m.items)) (meant captured (exact_written frames captured good exact))
-    ∙ (ap (λ (z : List ℕ). z ++ end_of_legacy (items_of captured)) lines ∙ ap (λ (n : ℕ). returned_lines 0 frames ++ end_text n) count)
+    ∙ (ap (λ (z : List ℕ). z ++ end_of_legacy (items_of captured)) lines ∙ ap (λ (n : ℕ). own_lines octets_of 0 frames ++ end_text n) count)

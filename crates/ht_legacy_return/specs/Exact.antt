@@ -1,11 +1,12 @@
 -- Clause 18 frames that were received exactly: each sample is its subcarrier's diagonal times the point that was sent.
-use Rattle.std.specs.Prelude.{◌≡◌, ◌<◌, ◌^◌, List, [], ◌∷◌, length, map, All}
+use Rattle.std.specs.Prelude.{◌≡◌, ◌<◌, ◌^◌, List, length, map, All}
 use Rattle.ht_metric.specs.Distance.{received}
 use Rattle.ht_clause18.specs.Carriers.{carriers}
 use Rattle.ht_clause18.specs.Frames.{LegacyFrameView}
 use Rattle.ht_clause18.specs.Points.{sent_points}
 use Rattle.ht_legacy_captures.specs.Files.{LegacyCapture}
 use Rattle.ht_legacy_sim.specs.Drawing.{exact_from}
+use Rattle.ht_round.specs.Exact.{PairByPair}
 
 -- the octets are numbers below 256
 abbrev pub HoldOctets : List LegacyFrameView → Type 0
@@ -23,7 +24,4 @@ pub record IsExact (f : LegacyFrameView) (c : LegacyCapture) : Type 0 where
 
 -- frame by frame
 abbrev pub AreExact : List LegacyFrameView → List LegacyCapture → Type 0
-AreExact [] [] = Unit {0}
-AreExact [] (c ∷ captured) = ⊥
-AreExact (f ∷ frames) [] = ⊥
-AreExact (f ∷ frames) (c ∷ captured) = IsExact f c × AreExact frames captured
+AreExact frames captured = PairByPair IsExact frames captured

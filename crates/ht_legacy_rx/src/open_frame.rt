@@ -1,9 +1,9 @@
 //! A frame under way.
-ghost use Rattle.std.specs.Prelude.{◌≡◌, ◌+◌, ◌*◌, ◌^◌, ◌<◌, ◌≤◌, IfOk, IsTrue, OnOk, length, set};
+ghost use Rattle.std.specs.Prelude.{◌≡◌, ◌+◌, ◌*◌, ◌^◌, ◌<◌, ◌≤◌, IfOk, IsTrue, OnOk, length};
 ghost use Rattle.std.proofs.Common.{refl};
 ghost use Rattle.ht_clause18.specs.Carriers.{carrier_of};
 ghost use Rattle.ht_results.specs.Plans.{begun_by};
-ghost use Rattle.ht_legacy_inverse.specs.Received.{label_number, labels_in_frame};
+ghost use Rattle.ht_legacy_inverse.specs.Received.{labels_in_frame};
 ghost use Rattle.ht_legacy_blocks.specs.Frames.{no_head};
 ghost use Rattle.ht_legacy_rx.specs.Folding.{frame_for, legacy_results_from, no_frame, with_octets};
 ghost use Rattle.ht_legacy_rx.specs.Frames.{HasLabels, IsOpenFrame, IsWhole, with_found};
@@ -13,7 +13,6 @@ use crate::whole_frame::WholeLegacyFrame;
 use ht_clause18::{LegacyRate, legacy_carrier};
 use ht_feed::Hits;
 use ht_frames::{TakesBlocks, UnderWay};
-use ht_inverse::Decoded;
 use ht_legacy_blocks::LegacyFrameHead;
 use ht_legacy_inverse::legacy_decode_frame;
 use ht_metric::{Found, Place, Vector};
@@ -189,32 +188,19 @@ impl OpenLegacyFrame {
         ensures { IfOk result (λ r. r ≡ result_of self.now) }
     {
         let head = &self.head;
-        let Decoded { outcome, code } = legacy_decode_frame(
-            alloc,
-            head.rate,
-            head.length,
-            &self.labels,
-        )?;
-        Ok(FrameResult {
-            frame: head.frame,
-            data_sum: self.data_sum,
-            pilot_sum: self.pilot_sum,
-            code,
-            outcome,
-        })
+        let decoded = legacy_decode_frame(alloc, head.rate, head.length, &self.labels)?;
+        Ok(FrameResult::of(head.frame, self.data_sum, self.pilot_sum, decoded))
     }
 
     // Whether both have the same head, sums and labels, so that they come to the same.
+    #[tactic(auto, using(crate::proofs::Taking::same_results))]
     pub(crate) fn same(&self, other: &OpenLegacyFrame) -> bool
         ensures { IsTrue result → result_of self.now ≡ result_of other.now }
     {
-        if self.data_sum != other.data_sum || self.pilot_sum != other.pilot_sum {
-            return false;
-        }
-        if !same_head(&self.head, &other.head) {
-            return false;
-        }
-        same_labels(&self.labels, &other.labels)
+        self.data_sum == other.data_sum
+            && self.pilot_sum == other.pilot_sum
+            && same_head(&self.head, &other.head)
+            && same_labels(&self.labels, &other.labels)
     }
 }
 

@@ -1,5 +1,5 @@
 //! Receiving the frames of a capture as lines of text.
-ghost use Rattle.std.specs.Prelude.{◌≤◌};
+ghost use Rattle.ht_feed.specs.Limits.{IsCrewSize, IsWindowSize};
 ghost use Rattle.ht_runs.specs.Formats.{filter};
 ghost use Rattle.ht_endings.specs.Endings.{HasFrames};
 ghost use Rattle.ht_legacy_captures.specs.Formats.{captures};
@@ -36,8 +36,7 @@ pub fn legacy_receive_alone<S: Source, K: Sink, G: Gate>(
     sink: &mut K,
     gate: &G,
 ) -> Result<u64, RunFault>
-    requires some { 1 ≤ window }
-    requires few { window ≤ 4096 }
+    requires window { IsWindowSize window }
     ensures { StreamsText (filter captures legacy_text legacy_lines_of) (HasFrames captures legacy_items) (S.shown source.old) (S.shown source.new)
         (K.shown sink.old) (K.shown sink.new) result }
 {
@@ -69,10 +68,8 @@ pub fn legacy_receive<R: Threads + Wait + Sync, S: Source, K: Sink, G: Gate + Sy
     sink: &mut K,
     gate: &G,
 ) -> Result<u64, RunFault>
-    requires one { 1 ≤ workers }
-    requires many { workers ≤ 64 }
-    requires some { 1 ≤ window }
-    requires few { window ≤ 4096 }
+    requires crew { IsCrewSize workers }
+    requires window { IsWindowSize window }
     ensures { StreamsText (filter captures legacy_text legacy_lines_of) (HasFrames captures legacy_items) (S.shown source.old) (S.shown source.new)
         (K.shown sink.old) (K.shown sink.new) result }
 {

@@ -7,30 +7,19 @@ use crate::open_frame::OpenLegacyFrame;
 use ht_frames::WholeFrame;
 use ht_results::FrameResult;
 use std::alloc::{AllocError, Global};
-use std::marker::Model;
 
 /// A frame whose last job came: all of its labels are there, and it can be decoded.
 #[derive(Drop)]
 pub struct WholeLegacyFrame {
     frame: OpenLegacyFrame,
-}
-
-impl Model for WholeLegacyFrame {
-    ghost use Rattle.ht_legacy_rx.specs.Frames.{HasLabels};
-    ghost use Rattle.ht_legacy_rx.specs.Results.{LegacySoFar};
-
-    ghost Value = { LegacySoFar };
-
-    ghost view = { λ w. w.frame };
-
-    ghost invariant = { λ w. HasLabels w.frame };
+    ghost kept: { HasLabels frame },
 }
 
 impl WholeLegacyFrame {
     /// A frame whose last job came.
     pub(crate) fn new(frame: OpenLegacyFrame) -> WholeLegacyFrame
         requires { HasLabels frame }
-        ensures { result ≡ frame }
+        ensures { result.frame ≡ frame }
     {
         WholeLegacyFrame { frame }
     }
@@ -42,9 +31,9 @@ impl WholeFrame for WholeLegacyFrame {
     /// Nothing is kept from one frame to the next.
     type Decoder = ();
 
-    ghost result_of = { result_of };
+    ghost result_of = { λ w. result_of w.frame };
 
-    ghost length_of = { λ f. f.head.length };
+    ghost length_of = { λ w. w.frame.head.length };
 
     /// The number of its octets, as its head says.
     fn octets(&self) -> u16 {

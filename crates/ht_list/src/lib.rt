@@ -1,7 +1,25 @@
 //! Lists inside larger values.
 //!
-//! A field of a public struct that holds a vector is a [`List`]: a contract sees it as the list of its items, and
-//! nothing of how the vector grows.
+//! A [`List`] holds a vector. A contract sees it as the list of its items, and nothing of how the vector grows. So a
+//! struct with a list in it is seen as a record with a list in it, wherever a contract speaks of the struct:
+//!
+//! ```text
+//! pub struct Symbol {
+//!     pub number: u32,
+//!     pub points: List<Point>,
+//! }
+//!
+//! pub fn symbol(number: u32, points: Vec<Point>) -> Symbol
+//!     ensures { result ≡ record { number = number; points = points.items } }
+//! {
+//!     Symbol {
+//!         number,
+//!         points: List::from(points),
+//!     }
+//! }
+//! ```
+//!
+//! `symbol.points.as_slice()` lends the items, and `symbol.points.into_vec()` gives the vector back.
 #![tactic(auto)]
 
 mod list;

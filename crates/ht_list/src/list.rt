@@ -1,6 +1,7 @@
 //! Lists of items.
-ghost use Rattle.std.specs.Prelude.{◌≡◌};
+ghost use Rattle.std.specs.Prelude.{◌≡◌, [], ◌∷◌, ◌++◌, OnErr, OnOk};
 
+use std::alloc::AllocError;
 use std::marker::Model;
 
 /// A list of items. A contract sees it as that list.
@@ -38,5 +39,33 @@ impl<T> List<T> {
         ensures { result.items ≡ self }
     {
         self.items
+    }
+}
+
+impl<T: Drop> List<T> {
+    /// Adds an item behind the others.
+    pub fn push(&mut self, item: T) -> Result<(), AllocError>
+        ensures added { OnOk result (self.new ≡ self.old ++ item ∷ []) }
+        ensures err { OnErr result (self.new ≡ self.old) }
+    {
+        self.items.push(item)?;
+        Ok(())
+    }
+
+    /// Drops all items and keeps their memory.
+    pub fn clear(&mut self)
+        ensures { self.new ≡ [] }
+    {
+        self.items.clear();
+    }
+}
+
+impl<T: Copy> List<T> {
+    /// Adds copies of these items behind the others.
+    pub fn extend_from_slice(&mut self, items: &[T]) -> Result<(), AllocError>
+        ensures added { OnOk result (self.new ≡ self.old ++ items.now) }
+        ensures err { OnErr result (self.new ≡ self.old) }
+    {
+        self.items.extend_from_slice(items)
     }
 }

@@ -1,5 +1,5 @@
 //! Which events may come.
-ghost use Rattle.std.specs.Prelude.{◌≡◌, ◌≢◌, ◌↔◌, ◌<◌, ◌≤◌, length, Some, None, IfSome, IfNone, IsSome, IsTrue};
+ghost use Rattle.std.specs.Prelude.{◌≡◌, ◌↔◌, ◌<◌, ◌≤◌, length, Some, None, IfSome, IfNone, IsSome, IsTrue};
 ghost use Rattle.std.specs.List.{position_or_len};
 ghost use Rattle.ht_machine.specs.Machine.{IsEnabled, hand, deque, has_number, hit_of};
 ghost use Rattle.ht_machine.specs.Facts.{IsCore};

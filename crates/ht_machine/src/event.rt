@@ -1,5 +1,4 @@
 //! What may happen in a pool, and where a job may be.
-ghost use Rattle.std.specs.Prelude.{◌≡◌};
 
 use ht_metric::{Hit, Job};
 use thiserror::Error;

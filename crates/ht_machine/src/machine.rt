@@ -1,5 +1,5 @@
 //! The state of a pool.
-ghost use Rattle.std.specs.Prelude.{◌≡◌, ◌≤◌, [], length, replicate, None, IfOk};
+ghost use Rattle.std.specs.Prelude.{◌≡◌, ◌≤◌, [], replicate, None, IfOk};
 ghost use Rattle.ht_machine.specs.Machine.{empty};
 ghost use Rattle.ht_machine.specs.Facts.{IsCore, CanGoOn};
 

@@ -1,5 +1,5 @@
 //! What the events do.
-ghost use Rattle.std.specs.Prelude.{◌≡◌, ◌≢◌, ◌↔◌, ◌<◌, ◌++◌, length, None, Err, OnOk, OnErr};
+ghost use Rattle.std.specs.Prelude.{◌≡◌, ◌↔◌, ◌<◌, ◌++◌, None, Err, OnOk, OnErr};
 ghost use Rattle.std.specs.Option.{option_to_list};
 ghost use Rattle.ht_machine.specs.Machine.{IsEnabled, after, taken, hand, hit_of, without};
 ghost use Rattle.ht_machine.specs.Facts.{IsCore, CanGoOn};

@@ -34,7 +34,7 @@ use Rattle.ht_several.specs.Several.{AreLater, Devices, EachEnds, EachHeard, Eac
 use Rattle.ht_several.specs.LastLines.{EachFinishes, EachMayFinish, KeepSinks}
 use Rattle.ht_several.proofs.LastLines.{each_ends, each_in_part, last_later}
 use Rattle.ht_several.proofs.Ending.{heard_part}
-use Rattle.ht_many.specs.CaptureLanes.{AreNew, IsNew, Lane, LaneLeads, LanesLead, lane_answer, lane_due, lane_finished, lane_over, lane_rests, lane_seen, reader_at, reader_means}
+use Rattle.ht_many.specs.CaptureLanes.{AreNew, AreOpen, IsNew, Lane, LaneLeads, LanesLead, lane_answer, lane_due, lane_finished, lane_over, lane_rests, lane_seen, reader_at, reader_means}
 use Rattle.ht_many.specs.KeptFrames.{lines_left}
 use Rattle.ht_many.specs.Receiving.{ReceivesEach}
 
@@ -215,31 +215,31 @@ module _ {S K : Type 0} (source : S → Device ℕ) (sink : K → Device ℕ) wh
         }
 
   -- new lanes, each with its own source and its own sink, were run; where memory sufficed their last lines were put
-  module _ {a b : Sides Lane S K} (new : AreNew a.lanes) (sources : length a.sources ≡ length a.lanes) (sinks : length a.sinks ≡ length a.lanes) where
+  module _ {a b : Sides Lane S K} (opened : AreOpen a.lanes a.sources a.sinks) where
     pub received_part : {A E : Type 0} {lack : E} → RunsLanes {A = A} (LaneLeads source sink) lane_due lane_rests lane_over lane_finished (Err lack) a b
         → ReceivesEach source sink (Err lack) (devices a.sources a.sinks) (devices b.sources b.sinks)
     received_part run = record {
       ends = tt;
-      memory = lanes_part a b new run.leads sources sinks;
-      later = lanes_later a b new run.leads sources sinks;
+      memory = lanes_part a b opened.new run.leads opened.read opened.put;
+      later = lanes_later a b opened.new run.leads opened.read opened.put;
     }
 
-    pub received : {A E F : Type 0} {x : A} (after : List K) (result : Result (Vec ManyEnd) F)
+    pub received : {A E F : Type 0} {x : A} {after : List K} {result : Result (Vec ManyEnd) F}
         → RunsLanes {E = E} (LaneLeads source sink) lane_due lane_rests lane_over lane_finished (Ok x) a b
         → IfOk result (λ ends. EachFinishes sink b.sinks after (map lane_answer b.lanes) ends.items)
         → OnErr result (EachMayFinish sink b.sinks after (map lane_answer b.lanes)) → KeepSinks sink b.sinks after
         → ReceivesEach source sink result (devices a.sources a.sinks) (devices b.sources after)
-    received after result run finishes may keep =
+    received {after = after} {result = result} run finishes may keep =
         let answers : List (Result Ended StopFault) = map lane_answer b.lanes in
         let first : Devices S K = devices a.sources a.sinks in
         let mid : Devices S K = devices b.sources b.sinks in
         let last : Devices S K = devices b.sources after in
-        let heard = lanes_heard a b new run.leads sources sinks run.over run.taken run.finished in
-        let later = lanes_later a b new run.leads sources sinks in
+        let heard = lanes_heard a b opened.new run.leads opened.read opened.put run.over run.taken run.finished in
+        let later = lanes_later a b opened.new run.leads opened.read opened.put in
         record {
           ends = then_ok (λ (ends : Vec ManyEnd). EachFinishes sink b.sinks after answers ends.items)
               (λ (ends : Vec ManyEnd). EachEnds source sink first last ends.items) result
-              (λ ends finish. each_ends source sink first mid after answers heard later ends.items finish keep (sinks ∙ sym sources)) finishes;
+              (λ ends finish. each_ends source sink first mid after answers heard later ends.items finish keep (opened.put ∙ sym opened.read)) finishes;
           memory = on_err_then (EachMayFinish sink b.sinks after answers) (EachInPart source sink first last) result
               (λ m. each_in_part source sink first mid after answers heard later m) may;
           later = last_later source sink first mid after answers heard later keep;

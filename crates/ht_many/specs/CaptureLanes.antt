@@ -78,3 +78,9 @@ pub record IsNew (l : Lane) : Type 0 where
 
 abbrev pub AreNew : List Lane → Type 0
 AreNew lanes = (l : Lane) (k : ℕ) → k < length lanes → IsNew (slice_index_or lanes k l)
+
+-- new lanes, and as many sources and sinks
+pub record AreOpen {S K : Type 0} (lanes : List Lane) (sources : List S) (sinks : List K) : Type 0 where
+  pub new : AreNew lanes
+  pub read : length sources ≡ length lanes
+  pub put : length sinks ≡ length lanes

@@ -1,9 +1,10 @@
 //! This thread receives captures.
-ghost use Rattle.std.specs.Prelude.{◌≡◌, ◌≤◌, length, map, IfOk};
+ghost use Rattle.std.specs.Prelude.{◌≡◌, length, map, IfOk};
+ghost use Rattle.ht_feed.specs.Limits.{IsWindowSize};
 ghost use Rattle.ht_io.specs.Writing.{Growing};
 ghost use Rattle.ht_results.specs.Texts.{rx_text};
 ghost use Rattle.ht_several.specs.Several.{devices};
-ghost use Rattle.ht_many.specs.CaptureLanes.{AreNew};
+ghost use Rattle.ht_many.specs.CaptureLanes.{AreOpen};
 ghost use Rattle.ht_many.specs.Receiving.{ReceivesEach};
 
 use crate::capture_lane::{CaptureLane, open_lanes};
@@ -20,14 +21,24 @@ use std::alloc::{AllocError, Global};
 /// time, of all captures together.
 #[derive(Drop)]
 pub(crate) struct Alone<'g, G> {
-    pub(crate) alloc: Global,
-    pub(crate) window: u16,
-    pub(crate) gate: &'g G,
-    pub(crate) ghost some: { 1 ≤ window },
-    pub(crate) ghost few: { window ≤ 4096 },
+    alloc: Global,
+    window: u16,
+    gate: &'g G,
+    ghost due: { IsWindowSize window },
 }
 
 impl<'g, G: Gate> Alone<'g, G> {
+    /// This thread, with a window and a gate.
+    pub(crate) fn new(alloc: Global, window: u16, gate: &'g G) -> Alone<'g, G>
+        requires window { IsWindowSize window }
+    {
+        Alone {
+            alloc,
+            window,
+            gate,
+        }
+    }
+
     // Runs the jobs of all lanes until no lane gives a block any more, has each lane put what it keeps back, and then puts the
     // last line of each capture.
     fn run<S: Source, K: Sink>(
@@ -36,9 +47,7 @@ impl<'g, G: Gate> Alone<'g, G> {
         sources: &mut [S],
         sinks: &mut [K],
     ) -> Result<Vec<ManyEnd>, AllocError>
-        requires new { AreNew lanes.old }
-        requires sources { length sources.old ≡ length lanes.old }
-        requires sinks { length sinks.old ≡ length lanes.old }
+        requires { AreOpen lanes.old sources.old sinks.old }
         ensures { ReceivesEach S.shown K.shown result (devices sources.old sinks.old) (devices sources.new sinks.new) }
     {
         let work = HitWork {

@@ -1,5 +1,6 @@
 //! Captures received apart, each whole by one worker.
-ghost use Rattle.std.specs.Prelude.{◌≡◌, ◌≤◌, ◌<◌, ℕ, List, Option, length, map, slice_index_or, IfOk, IfSome, Some, None};
+ghost use Rattle.std.specs.Prelude.{◌≡◌, ◌≤◌, ◌<◌, Option, map, IfOk, Some, None};
+ghost use Rattle.ht_feed.specs.Limits.{IsWindowSize};
 ghost use Rattle.ht_io.specs.Writing.{Growing};
 ghost use Rattle.ht_results.specs.Texts.{rx_text};
 ghost use Rattle.ht_many.specs.Apart.{AreReceived, HoldsText, captures_in, held_all, texts_in};
@@ -23,7 +24,7 @@ pub(crate) struct Apart {
 fn octets_in(captures: &[Bundled]) -> u64 {
     let mut octets = 0u64;
     for capture in captures {
-        octets = octets.saturating_add(capture.octets().len() as u64);
+        octets = octets.saturating_add(capture.as_slice().len() as u64);
     }
     octets
 }
@@ -48,20 +49,14 @@ pub(crate) fn are_even(captures: &[Bundled], workers: u8) -> bool
 
 // The text of one capture; none for lack of memory.
 fn text_of<G: Gate>(alloc: Global, window: u16, capture: Bundled, gate: &G) -> Option<GrowSink>
-    requires some { 1 ≤ window }
-    requires few { window ≤ 4096 }
+    requires window { IsWindowSize window }
     ensures { HoldsText capture result }
 {
     let mut captures = Vec::new(alloc);
     let Ok(()) = captures.push(capture) else {
         return None;
     };
-    let alone = Alone {
-        alloc,
-        window,
-        gate,
-    };
-    match alone.texts(captures) {
+    match Alone::new(alloc, window, gate).texts(captures) {
         Ok(mut sinks) => sinks.pop(),
         Err(_) => None,
     }
@@ -70,11 +65,10 @@ fn text_of<G: Gate>(alloc: Global, window: u16, capture: Bundled, gate: &G) -> O
 impl Apart {
     // Receives the capture in this thread, and lets its octets go.
     fn receive<G: Gate>(&mut self, alloc: Global, window: u16, gate: &G)
-        requires some { 1 ≤ window }
-        requires few { window ≤ 4096 }
+        requires window { IsWindowSize window }
         ensures { HoldsText self.old.capture self.new.text }
     {
-        let capture = mem::replace(&mut self.capture, Bundled::new(Vec::new(alloc)));
+        let capture = mem::replace(&mut self.capture, Bundled::from(Vec::new(alloc)));
         self.text = text_of(alloc, window, capture, gate);
     }
 
@@ -131,8 +125,7 @@ fn receive_each<R: Threads + Sync, G: Gate + Sync>(
     gate: &G,
 )
     requires least { 1 ≤ workers }
-    requires some { 1 ≤ window }
-    requires few { window ≤ 4096 }
+    requires window { IsWindowSize window }
     ensures { AreReceived all.old all.new }
 {
     for_each_mut(
@@ -140,7 +133,7 @@ fn receive_each<R: Threads + Sync, G: Gate + Sync>(
         all,
         usize::from(workers),
         &|_: usize, capture: &mut Apart|
-            requires { (1 ≤ window) × (window ≤ 4096) }
+            requires { IsWindowSize window }
             ensures { HoldsText capture.old.capture capture.new.text }
         { capture.receive(alloc, window, gate) },
     );

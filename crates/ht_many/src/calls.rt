@@ -1,11 +1,9 @@
 //! Several captures in this thread, with one crew of workers, or each whole by one worker.
 ghost use Rattle.std.specs.Prelude.{◌≡◌, ◌≢◌, ◌≤◌, length, Err};
-ghost use Rattle.ht_runs.specs.Converted.{Converted};
-ghost use Rattle.ht_runs.specs.Filters.{SaysNothing};
+ghost use Rattle.ht_feed.specs.Limits.{IsWindowSize};
 ghost use Rattle.ht_runs.specs.declared.faults.RunFault.TheVariants.{Write};
-ghost use Rattle.ht_several.specs.Bundles.{receiving};
 ghost use Rattle.ht_several.specs.Several.{devices};
-ghost use Rattle.ht_many.specs.Receiving.{ReceivesEach};
+ghost use Rattle.ht_many.specs.Receiving.{ReceivesBundle, ReceivesEach};
 
 use crate::alone::Alone;
 use crate::crew::Crew;
@@ -36,17 +34,11 @@ pub fn many_alone<S: Source, K: Sink, G: Gate>(
     sinks: &mut [K],
     gate: &G,
 ) -> Result<Vec<ManyEnd>, AllocError>
-    requires some { 1 ≤ window }
-    requires few { window ≤ 4096 }
+    requires window { IsWindowSize window }
     requires pairs { length sinks.old ≡ length sources.old }
     ensures { ReceivesEach S.shown K.shown result (devices sources.old sinks.old) (devices sources.new sinks.new) }
 {
-    let alone = Alone {
-        alloc,
-        window,
-        gate,
-    };
-    alone.receive(sources, sinks)
+    Alone::new(alloc, window, gate).receive(sources, sinks)
 }
 
 /// Does as [`many_alone`], and the jobs of all captures are run by one crew of 1 to 64 workers, of
@@ -68,19 +60,11 @@ pub fn many<R: Threads + Wait + Sync, S: Source, K: Sink, G: Gate + Sync>(
 ) -> Result<Vec<ManyEnd>, AllocError>
     requires least { 1 ≤ workers }
     requires most { workers ≤ 64 }
-    requires some { 1 ≤ window }
-    requires few { window ≤ 4096 }
+    requires window { IsWindowSize window }
     requires pairs { length sinks.old ≡ length sources.old }
     ensures { ReceivesEach S.shown K.shown result (devices sources.old sinks.old) (devices sources.new sinks.new) }
 {
-    let crew = Crew {
-        rt,
-        alloc,
-        workers,
-        window,
-        gate,
-    };
-    crew.receive(sources, sinks)
+    Crew::new(rt, alloc, workers, window, gate).receive(sources, sinks)
 }
 
 /// Reads a bundle of captures (HTMB) to its end, receives all of them, and puts for each the line
@@ -97,16 +81,11 @@ pub fn many_bundle_alone<S: Source, K: Sink, G: Gate>(
     sink: &mut K,
     gate: &G,
 ) -> Result<(), RunFault>
-    requires some { 1 ≤ window }
-    requires few { window ≤ 4096 }
-    ensures converts { Converted receiving (S.shown source.old) (S.shown source.new) (K.shown sink.old) (K.shown sink.new) SaysNothing result }
+    requires window { IsWindowSize window }
+    ensures converts { ReceivesBundle (S.shown source.old) (S.shown source.new) (K.shown sink.old) (K.shown sink.new) result }
     ensures writes { result ≢ Err Write → (K.shown sink.new).faults ≡ (K.shown sink.old).faults }
 {
-    let alone = Alone {
-        alloc,
-        window,
-        gate,
-    };
+    let alone = Alone::new(alloc, window, gate);
     let captures = read_bundle(alloc, source)?;
     let texts = alone.texts(captures)?;
     put_texts(alloc, &texts, sink)
@@ -130,18 +109,11 @@ pub fn many_bundle<R: Threads + Wait + Sync, S: Source, K: Sink, G: Gate + Sync>
 ) -> Result<(), RunFault>
     requires least { 1 ≤ workers }
     requires most { workers ≤ 64 }
-    requires some { 1 ≤ window }
-    requires few { window ≤ 4096 }
-    ensures converts { Converted receiving (S.shown source.old) (S.shown source.new) (K.shown sink.old) (K.shown sink.new) SaysNothing result }
+    requires window { IsWindowSize window }
+    ensures converts { ReceivesBundle (S.shown source.old) (S.shown source.new) (K.shown sink.old) (K.shown sink.new) result }
     ensures writes { result ≢ Err Write → (K.shown sink.new).faults ≡ (K.shown sink.old).faults }
 {
-    let crew = Crew {
-        rt,
-        alloc,
-        workers,
-        window,
-        gate,
-    };
+    let crew = Crew::new(rt, alloc, workers, window, gate);
     let captures = read_bundle(alloc, source)?;
     let texts = crew.texts(captures)?;
     put_texts(alloc, &texts, sink)

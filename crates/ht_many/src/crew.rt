@@ -1,10 +1,11 @@
 //! A crew of workers receives captures, or each worker receives its own whole.
 ghost use Rattle.std.specs.Prelude.{◌≡◌, ◌≤◌, length, map, IfOk};
+ghost use Rattle.ht_feed.specs.Limits.{IsWindowSize};
 ghost use Rattle.ht_io.specs.Writing.{Growing};
 ghost use Rattle.ht_results.specs.Texts.{rx_text};
 ghost use Rattle.ht_lanes.specs.Lanes.{AreFresh, RunsLanes, sides_of};
 ghost use Rattle.ht_several.specs.Several.{devices};
-ghost use Rattle.ht_many.specs.CaptureLanes.{AreNew};
+ghost use Rattle.ht_many.specs.CaptureLanes.{AreOpen};
 ghost use Rattle.ht_many.specs.Receiving.{ReceivesEach};
 
 use crate::alone::Alone;
@@ -47,8 +48,7 @@ where
     L::Answer: Send + Sync,
     requires least { 1 ≤ workers }
     requires most { workers ≤ 64 }
-    requires some { 1 ≤ window }
-    requires few { window ≤ 4096 }
+    requires window { IsWindowSize window }
     requires fresh { AreFresh L.due lanes.old }
     requires sources { length sources.old ≡ length lanes.old }
     requires sinks { length sinks.old ≡ length lanes.old }
@@ -72,15 +72,37 @@ where
 /// together.
 #[derive(Drop)]
 pub(crate) struct Crew<'c, R, G> {
-    pub(crate) rt: &'c R,
-    pub(crate) alloc: Global,
-    pub(crate) workers: u8,
-    pub(crate) window: u16,
-    pub(crate) gate: &'c G,
-    pub(crate) ghost least: { 1 ≤ workers },
-    pub(crate) ghost most: { workers ≤ 64 },
-    pub(crate) ghost some: { 1 ≤ window },
-    pub(crate) ghost few: { window ≤ 4096 },
+    rt: &'c R,
+    alloc: Global,
+    workers: u8,
+    window: u16,
+    gate: &'c G,
+    ghost least: { 1 ≤ workers },
+    ghost most: { workers ≤ 64 },
+    ghost due: { IsWindowSize window },
+}
+
+impl<'c, R, G> Crew<'c, R, G> {
+    /// A crew of this many workers, with a window and a gate.
+    pub(crate) fn new(
+        rt: &'c R,
+        alloc: Global,
+        workers: u8,
+        window: u16,
+        gate: &'c G,
+    ) -> Crew<'c, R, G>
+        requires least { 1 ≤ workers }
+        requires most { workers ≤ 64 }
+        requires window { IsWindowSize window }
+    {
+        Crew {
+            rt,
+            alloc,
+            workers,
+            window,
+            gate,
+        }
+    }
 }
 
 impl<'c, R: Threads + Wait + Sync, G: Gate + Sync> Crew<'c, R, G> {
@@ -93,9 +115,7 @@ impl<'c, R: Threads + Wait + Sync, G: Gate + Sync> Crew<'c, R, G> {
         sources: &mut [S],
         sinks: &mut [K],
     ) -> Result<Vec<ManyEnd>, AllocError>
-        requires new { AreNew lanes.old }
-        requires sources { length sources.old ≡ length lanes.old }
-        requires sinks { length sinks.old ≡ length lanes.old }
+        requires { AreOpen lanes.old sources.old sinks.old }
         ensures { ReceivesEach S.shown K.shown result (devices sources.old sinks.old) (devices sources.new sinks.new) }
     {
         let work = BesideFrames {
@@ -131,12 +151,7 @@ impl<'c, R: Threads + Wait + Sync, G: Gate + Sync> Crew<'c, R, G> {
         ensures { ReceivesEach S.shown K.shown result (devices sources.old sinks.old) (devices sources.new sinks.new) }
     {
         if self.workers == 1 {
-            let alone = Alone {
-                alloc: self.alloc,
-                window: self.window,
-                gate: self.gate,
-            };
-            return alone.receive(sources, sinks);
+            return Alone::new(self.alloc, self.window, self.gate).receive(sources, sinks);
         }
         let frames = Frames::new(self.alloc);
         let mut lanes = match open_crew_lanes(

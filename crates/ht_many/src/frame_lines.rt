@@ -51,6 +51,7 @@ impl FrameLines {
     fn none_waits(&self)
         ensures { self.now.whole ≡ [] }
     {
+        // What is seen of it is known once it was looked at.
         let _alloc = self.alloc;
     }
 

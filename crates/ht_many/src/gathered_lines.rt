@@ -110,7 +110,8 @@ impl<'f, R: Threads + Wait> GatheredLines<'f, R> {
 
     // Books the results of all whole frames.
     fn finish_into<B: Book<FrameResult>>(&mut self, book: &mut B) -> Result<(), BookFault>
-        ensures books { BooksHits result (B.shown book.old) (B.shown book.new) (booked_left B.booked self.old) (booked_left B.booked self.new) [] }
+        ensures books { BooksHits result (B.shown book.old) (B.shown book.new)
+            (booked_left B.booked self.old) (booked_left B.booked self.new) [] }
         ensures none { OnOk result (self.new.whole ≡ []) }
         ensures same { B.lent book.new ≡ B.lent book.old }
     {

@@ -1,5 +1,5 @@
 //! The points of one stream, in order.
-ghost use Rattle.std.specs.Prelude.{◌≡◌, ◌≤◌, length, unsigned_abs};
+ghost use Rattle.std.specs.Prelude.{◌≡◌};
 ghost use Rattle.std.specs.List.{All};
 ghost use Rattle.ht_pam.specs.Ladders.{levels};
 ghost use Rattle.ht_metric.specs.Distance.{IsInRange};

@@ -85,12 +85,7 @@ impl Job {
     pub fn copy(&self) -> Job
         ensures { result ≡ self.now }
     {
-        Job {
-            number: self.number,
-            place: self.place,
-            system: self.system,
-            grid: self.grid,
-        }
+        Job { ..*self }
     }
 }
 

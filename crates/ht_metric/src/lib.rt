@@ -40,6 +40,7 @@ pub use job::Job;
 pub use metric::distance;
 pub use nearest::plain_nearest;
 pub use place::Place;
+pub use rows::stretched;
 pub use sample::Sample;
 pub use system::System;
 pub use tap::Tap;

@@ -39,8 +39,8 @@ fn squared(part: i64) -> u64
     size * size
 }
 
-// A part of a diagonal times a level.
-fn stretched(diagonal: u16, level: i8) -> i64
+/// A diagonal of a triangular channel times a level.
+pub fn stretched(diagonal: u16, level: i8) -> i64
     requires { unsigned_abs level ≤ 7 }
     ensures value { result ≡ pos diagonal *ℤ level }
     ensures bound { unsigned_abs result ≤ 458745 }

@@ -1,5 +1,5 @@
 //! A triangle with what was received.
-ghost use Rattle.std.specs.Prelude.{◌≡◌, ◌+◌, ◌-◌, ◌^◌, ◌<◌, ◌≤◌, length, drop, replicate, slice_index_or, IsTrue, ◌↔◌};
+ghost use Rattle.std.specs.Prelude.{◌≡◌, ◌-◌, ◌^◌, ◌<◌, ◌≤◌, length, drop, replicate, slice_index_or, IsTrue, ◌↔◌};
 ghost use Rattle.std.specs.List.{All};
 ghost use Rattle.ht_metric.specs.Distance.{distance_of, IsInRange};
 ghost use Rattle.ht_metric.specs.Arrays.{legs};

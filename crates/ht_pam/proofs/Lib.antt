@@ -1,4 +1,5 @@
 pub mod LadderLemmas
+pub mod Products
 pub mod GridLemmas
 pub mod SameLemmas
 pub mod Tables

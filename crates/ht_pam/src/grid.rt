@@ -15,7 +15,7 @@ pub struct Grid {
 }
 
 impl Model for Grid {
-    ghost use Rattle.std.specs.Prelude.{◌-◌, ◌++◌, List, length, take, replicate};
+    ghost use Rattle.std.specs.Prelude.{◌-◌, ◌++◌, List, length, take};
     ghost use Rattle.ht_pam.specs.declared.axes.Axes.{Axes};
 
     ghost Value = { List Axes };

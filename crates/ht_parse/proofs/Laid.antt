@@ -104,3 +104,13 @@ gathered-step r e n s m t q j at len bits old new a lt is_at is_len len_old len_
     copied x lx
     ∙ (ap (λ (y : ℕ). get_or bits (y + x) false) is_at
     ∙ sym (gathered-at r e n s m t q j x (len + x) bits a lt lx (ap (λ (y : ℕ). y + x) is_len))))
+
+-- the length and the capacity of a list that is being filled
+pub record HasSize (len capacity held most : ℕ) : Type 0 where
+  pub count : len ≡ held
+  pub room : capacity ≡ most
+
+-- and with one run more
+pub size-more : (len capacity held most run new_len new_capacity next : ℕ) → HasSize len capacity held most → new_len ≡ len + run → new_capacity ≡ capacity
+    → next ≡ held + run → HasSize new_len new_capacity next most
+size-more len capacity held most run new_len new_capacity next was longer same is = record { count = omega (arith, was.count); room = same ∙ was.room }

@@ -1,5 +1,5 @@
 //! The encoder parser (IEEE Std 802.11-2012, clause 20.3.11.5): the data bits go to the encoders in turn.
-ghost use Rattle.std.specs.Prelude.{◌≡◌, ◌+◌, ◌-◌, ◌*◌, ◌/◌, ◌%◌, ◌<◌, ◌≤◌, ℕ, IfOk, length, slice_index_or, false, vec_len, vec_capacity};
+ghost use Rattle.std.specs.Prelude.{◌≡◌, ◌+◌, ◌-◌, ◌*◌, ◌/◌, ◌%◌, ◌<◌, ℕ, IfOk, length, slice_index_or, false};
 ghost use Rattle.ht_rate.specs.Rates.{encoders_of};
 ghost use Rattle.ht_parse.specs.Encoders.{AreShares, IsParsed};
 

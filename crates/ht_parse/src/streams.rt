@@ -1,7 +1,7 @@
 //! The stream parser (IEEE Std 802.11-2012, clause 20.3.11.8.2): how the coded bits of a symbol go to the spatial
 //! streams, and back.
-ghost use Rattle.std.specs.Prelude.{◌≡◌, ◌+◌, ◌-◌, ◌*◌, ◌/◌, ◌%◌, ◌<◌, ◌≤◌, ◌++◌, ℕ, IfOk, length, slice_index_or, false, vec_len, vec_capacity};
-ghost use Rattle.ht_rate.specs.Rates.{coded_bits_of, encoders_of, stream_bits_of};
+ghost use Rattle.std.specs.Prelude.{◌≡◌, ◌+◌, ◌-◌, ◌*◌, ◌<◌, ◌≤◌, ℕ, IfOk, length, slice_index_or, false, vec_len, vec_capacity};
+ghost use Rattle.ht_rate.specs.Rates.{coded_bits_of};
 ghost use Rattle.ht_parse.specs.Encoders.{AreShares, list_of};
 ghost use Rattle.ht_parse.specs.Runs.{FollowsRule, laid_bit, gathered_bit};
 ghost use Rattle.ht_parse.specs.Streams.{share_of, IsLaid};

@@ -1,9 +1,9 @@
 //! A pool before its threads begin.
-ghost use Rattle.std.specs.Prelude.{◌≡◌, ◌+◌, ◌-◌, ◌<◌, ◌≤◌, [], List, length, map, IfOk, OnOk, vec_capacity};
+ghost use Rattle.std.specs.Prelude.{◌≡◌, ◌+◌, ◌-◌, ◌<◌, ◌≤◌, [], List, length, map, IfOk, vec_capacity};
 ghost use Rattle.std.specs.List.{All};
 ghost use Rattle.crossbeam_queue.specs.Passes.{view as answer_view};
 ghost use Rattle.ht_pool.specs.Hands.{hand};
-ghost use Rattle.ht_pool.specs.Seats.{DequeId, OwnView, fresh_own};
+ghost use Rattle.ht_pool.specs.Seats.{DequeId};
 ghost use Rattle.ht_pool.specs.Members.{HasYetToServe, IsOnQueue, berth, berth_of};
 ghost use Rattle.ht_pool.specs.Opening.{AreReady, own_deques};
 ghost use Rattle.ht_pool.specs.Pools.{IsOpened};

@@ -4,7 +4,6 @@ ghost use Rattle.crossbeam_queue.specs.Passes.{view as answer_view};
 ghost use Rattle.ht_pool.specs.Hands.{hand};
 ghost use Rattle.ht_pool.specs.Seats.{fresh_seat, fresh_own, deques_at};
 ghost use Rattle.ht_pool.specs.Helms.{unused, gave, received, TakesBack};
-ghost use Rattle.ht_pool.specs.Members.{IsOnQueue};
 
 use crate::lookout::steal_one;
 use crate::own::OwnDeque;

@@ -1,8 +1,7 @@
 //! The ends of a deque of tasks.
-ghost use Rattle.std.specs.Prelude.{◌≡◌, ◌++◌, ◌∷◌, []};
+ghost use Rattle.std.specs.Prelude.{◌≡◌, []};
 ghost use Rattle.crossbeam_deque.specs.Steals.{MatchSteal};
 ghost use Rattle.crossbeam_deque.specs.Handles.{view, stealer_deque};
-ghost use Rattle.ht_pool.specs.Hands.{hand};
 ghost use Rattle.ht_pool.specs.Seats.{IsThiefs, fresh_seat, stole};
 
 use crate::hand::Hand;

@@ -1,5 +1,5 @@
 //! How the deques of a pool are made, with a seat at each for each thread.
-ghost use Rattle.std.specs.Prelude.{◌≡◌, ◌*◌, ◌<◌, ◌≤◌, [], List, length, map, IfOk, OnOk, vec_capacity};
+ghost use Rattle.std.specs.Prelude.{◌≡◌, ◌<◌, ◌≤◌, length, map, IfOk, OnOk, vec_capacity};
 ghost use Rattle.std.specs.List.{All};
 ghost use Rattle.ht_pool.specs.Seats.{OwnView, fresh_seat, fresh_own};
 ghost use Rattle.ht_pool.specs.Opening.{AreReady, own_deques, lent};

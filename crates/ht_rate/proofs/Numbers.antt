@@ -1,11 +1,15 @@
 -- A rate is named by its bandwidth's code and its MCS index, both ways.
-use Rattle.std.proofs.Common.{◌≡◌, ℕ, ◌+◌, ◌*◌, ◌-◌, ◌/◌, ◌%◌, ◌<◌, ◌≤◌, zero, suc, Bool, true, ◌&&◌, nat_eq, refl, sym, ap, ◌∙◌, Result, Ok, lit≤, arith}
+use Rattle.std.proofs.Common.{◌≡◌, ℕ, ◌+◌, ◌*◌, ◌-◌, ◌/◌, ◌%◌, ◌<◌, ◌≤◌, zero, suc, Bool, true, ◌&&◌, nat_eq, List, [], ◌∷◌, slice_index_or, refl, sym, ap, ◌∙◌, Result, Ok, lit≤, arith}
+use Rattle.std.proofs.lemmas.List.{get_or_default}
 use Rattle.std.proofs.lemmas.Bool.{agree_below_at, and_parts, eqb-true}
 use Rattle.std.proofs.lemmas.Bool.Decides.{nat_tests}
 use Rattle.ht_rate.specs.declared.kinds.Bandwidth.{Bandwidth}
 use Rattle.ht_rate.specs.declared.kinds.Bandwidth.TheVariants.{Mhz20, Mhz40}
 use Rattle.ht_rate.specs.declared.parts.Streams.{Streams}
+use Rattle.ht_rate.specs.declared.parts.Streams.TheVariants.{One, Two, Three, Four}
 use Rattle.ht_rate.specs.declared.parts.Scheme.{Scheme}
+use Rattle.ht_rate.specs.declared.parts.Scheme.TheVariants.{BpskHalf, QpskHalf, QpskThreeQuarters, Qam16Half, Qam16ThreeQuarters}
+use Rattle.ht_rate.specs.declared.parts.Scheme.TheVariants.{Qam64TwoThirds, Qam64ThreeQuarters, Qam64FiveSixths}
 use Rattle.ht_rate.specs.declared.rates.Rate.{Rate}
 use Rattle.ht_rate.specs.declared.rates.RateFault.{RateFault}
 use Rattle.ht_rate.specs.Rates.{rate_of, rate_at, bandwidth_of, streams_of, mcs_of}
@@ -13,11 +17,27 @@ use Rattle.ht_rate.specs.Schemes.{bandwidth_at, bandwidth_code, streams_at, sche
 use Rattle.ht_rate.proofs.RateFacts.{mcs_of-range}
 use Rattle.ht_rate.proofs.AllRates.{of_streams, of_scheme, each_bandwidth, each_streams, each_scheme, each_rate, at_rate}
 
+-- what the code looks up
+abbrev all_streams : List Streams
+all_streams = One ∷ Two ∷ Three ∷ Four ∷ []
+
+abbrev all_schemes : List Scheme
+all_schemes =
+    BpskHalf ∷ QpskHalf ∷ QpskThreeQuarters ∷ Qam16Half ∷ Qam16ThreeQuarters ∷ Qam64TwoThirds ∷ Qam64ThreeQuarters ∷ Qam64FiveSixths ∷ []
+
 -- three parts at a code and an index are the rate there
-pub made : (bw mcs : ℕ) (b : Bandwidth) (n : Streams) (s : Scheme) → b ≡ bandwidth_at bw → n ≡ streams_at (mcs / 8) → s ≡ scheme_at (mcs % 8) →
+made : (bw mcs : ℕ) (b : Bandwidth) (n : Streams) (s : Scheme) → b ≡ bandwidth_at bw → n ≡ streams_at (mcs / 8) → s ≡ scheme_at (mcs % 8) →
     ◌≡◌ {A = Rate} (record { bandwidth = b; streams = n; scheme = s }) (rate_at bw mcs)
 unfolding rate_at
 made bw mcs b n s eb en es = cc
+
+-- and so are those that the code looks up
+pub looked_up : (bw mcs i k : ℕ) (b : Bandwidth) → b ≡ bandwidth_at bw → i ≡ mcs / 8 → k ≡ mcs % 8 → mcs ≤ 31 →
+    ◌≡◌ {A = Rate} (record { bandwidth = b; streams = slice_index_or all_streams i One; scheme = slice_index_or all_schemes k BpskHalf }) (rate_at bw mcs)
+looked_up bw mcs i k b eb ei ek few =
+    made bw mcs b (slice_index_or all_streams i One) (slice_index_or all_schemes k BpskHalf) eb
+    (ap (λ (j : ℕ). slice_index_or all_streams j One) ei ∙ get_or_default all_streams (mcs / 8) One Four (omega arith))
+    (ap (λ (j : ℕ). slice_index_or all_schemes j BpskHalf) ek ∙ get_or_default all_schemes (mcs % 8) BpskHalf Qam64FiveSixths (omega arith))
 
 -- a code up to 1 and an index up to 31 are not refused
 pub rate_of-ok : (bw mcs : ℕ) → bw ≤ 1 → mcs ≤ 31 → rate_of bw mcs ≡ Ok (rate_at bw mcs)

@@ -32,25 +32,16 @@ impl Bandwidth {
         }
     }
 
-    pub(crate) fn data_carriers(self) -> u8
-        ensures value { result ≡ data_count self }
-        ensures low { 52 ≤ result }
-        ensures high { result ≤ 108 }
+    // The numbers of data and of pilot subcarriers.
+    pub(crate) fn subcarriers(self) -> (u8, u8)
+        ensures data_carriers { result.0 ≡ data_count self }
+        ensures pilots { result.1 ≡ pilot_count self }
+        ensures low { (52 ≤ result.0) × (4 ≤ result.1) }
+        ensures high { (result.0 ≤ 108) × (result.1 ≤ 6) }
     {
         match self {
-            Bandwidth::Mhz20 => 52,
-            Bandwidth::Mhz40 => 108,
-        }
-    }
-
-    pub(crate) fn pilots(self) -> u8
-        ensures value { result ≡ pilot_count self }
-        ensures low { 4 ≤ result }
-        ensures high { result ≤ 6 }
-    {
-        match self {
-            Bandwidth::Mhz20 => 4,
-            Bandwidth::Mhz40 => 6,
+            Bandwidth::Mhz20 => (52, 4),
+            Bandwidth::Mhz40 => (108, 6),
         }
     }
 
@@ -110,8 +101,8 @@ pub enum Pattern {
 }
 
 impl Pattern {
-    // Numerator and denominator of the coding rate.
-    pub(crate) fn coding_rate(self) -> (u16, u16)
+    /// Numerator and denominator of the coding rate.
+    pub fn coding_rate(self) -> (u16, u16)
         ensures numerator { result.0 ≡ numerator_of self }
         ensures denominator { result.1 ≡ denominator_of self }
         ensures proper { (2 ≤ result.1) × (result.0 < result.1) × (result.1 ≤ 6) }

@@ -7,8 +7,8 @@ ghost use Rattle.std.specs.Prelude.{
   ◌≤◌,
   ◌↔◌,
   IfOk,
+  IsTrue,
 };
-ghost use Rattle.ht_rate.specs.Carriers.{carrier_of, IsAmong};
 ghost use Rattle.ht_rate.specs.Rates.{
   bandwidth_of,
   streams_of,
@@ -33,7 +33,7 @@ ghost use Rattle.ht_rate.specs.Rates.{
 ghost use Rattle.ht_rate.specs.Schemes.{bandwidth_code};
 
 use crate::kinds::{Bandwidth, Modulation, Pattern};
-use crate::parts::{Scheme, Streams};
+use crate::parts::{SCHEMES, STREAMS, Scheme, Streams};
 use thiserror::Error;
 
 /// Why a bandwidth's code and an MCS index name no rate.
@@ -74,9 +74,16 @@ impl Rate {
         }
         Ok(Rate {
             bandwidth: Bandwidth::at(bw),
-            streams: Streams::at(mcs / 8),
-            scheme: Scheme::at(mcs % 8),
+            streams: STREAMS[usize::from(mcs / 8)],
+            scheme: SCHEMES[usize::from(mcs % 8)],
         })
+    }
+
+    /// Whether both rates are the same, as `==` says too.
+    pub fn same(&self, other: &Rate) -> bool
+        ensures { IsTrue result ↔ (self.now ≡ other.now) }
+    {
+        *self == *other
     }
 
     /// The bandwidth.
@@ -93,7 +100,7 @@ impl Rate {
         ensures value { result ≡ mcs_of self.now }
         ensures bound { result < 32 }
     {
-        8 * (self.streams.count() - 1) + self.scheme.number()
+        8 * (self.streams.count() - 1) + self.scheme as u8
     }
 
     /// The constellation of every stream.
@@ -139,7 +146,7 @@ impl Rate {
         ensures low { 52 ≤ result }
         ensures high { result ≤ 108 }
     {
-        self.bandwidth.data_carriers()
+        self.bandwidth.subcarriers().0
     }
 
     /// N_SP, the number of pilot subcarriers: 4 or 6.
@@ -149,7 +156,7 @@ impl Rate {
         ensures low { 4 ≤ result }
         ensures high { result ≤ 6 }
     {
-        self.bandwidth.pilots()
+        self.bandwidth.subcarriers().1
     }
 
     /// N_ST, the number of subcarriers: 56 or 114.

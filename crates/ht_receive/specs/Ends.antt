@@ -15,5 +15,5 @@ pub record StreamsText (f : Filter) (Says : ℕ → List ℕ → Type 0) (source
   pub writes : result ≢ Err Write → sink'.faults ≡ sink.faults
   -- however it ends, the source is the same, and takes back no fault
   pub reads_later : IsLater source source'
-  -- so does the sink
+  -- the sink is the same, too, and takes back none
   pub puts_later : IsLater sink sink'

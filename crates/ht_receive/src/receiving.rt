@@ -1,7 +1,7 @@
 //! Results of frames, booked.
-ghost use Rattle.std.specs.Prelude.{◌≤◌};
-ghost use Rattle.ht_feed.specs.Inputs.{TellsInput};
-ghost use Rattle.ht_receive.specs.Receiving.{CanBegin, books};
+ghost use Rattle.ht_feed.specs.Limits.{IsCrewSize, IsWindowSize};
+ghost use Rattle.ht_feed.specs.Reading.{IsFreshReader};
+ghost use Rattle.ht_receive.specs.Receiving.{BooksInput};
 
 use ht_drive::tell;
 use ht_feed::{BlockReader, Ended, Hits, Shared, Work, tell_alone};
@@ -38,10 +38,10 @@ pub fn receive_alone<
     under_way: U,
     book: &mut B,
 ) -> Result<Ended, StopFault>
-    requires begins { CanBegin window (R.counts reader) }
-    ensures { TellsInput R.means R.at reader head (S.shown source.old) (S.shown source.new)
-        (books B.booked (U.results under_way) (B.shown book.old)) (books B.booked (U.results under_way) (B.shown book.new))
-        (B.lent book.old) (B.lent book.new) result }
+    requires window { IsWindowSize window }
+    requires fresh { IsFreshReader (R.counts reader) }
+    ensures { BooksInput R.means R.at reader head (S.shown source.old) (S.shown source.new)
+        B.booked (U.results under_way) (B.shown book.old) (B.shown book.new) (B.lent book.old) (B.lent book.new) result }
 {
     let mut under_way = under_way;
     let mut receiver = Receiver::new(alloc, &mut under_way, book);
@@ -74,15 +74,14 @@ pub fn receive<
 where
     R::Block: Shared + Send + Sync,
     U::Answer: Send + Sync,
-    requires one { 1 ≤ workers }
-    requires many { workers ≤ 64 }
-    requires begins { CanBegin window (R.counts reader) }
-    ensures { TellsInput R.means R.at reader head (S.shown source.old) (S.shown source.new)
-        (books B.booked (U.results under_way) (B.shown book.old)) (books B.booked (U.results under_way) (B.shown book.new))
-        (B.lent book.old) (B.lent book.new) result }
+    requires crew { IsCrewSize workers }
+    requires window { IsWindowSize window }
+    requires fresh { IsFreshReader (R.counts reader) }
+    ensures { BooksInput R.means R.at reader head (S.shown source.old) (S.shown source.new)
+        B.booked (U.results under_way) (B.shown book.old) (B.shown book.new) (B.lent book.old) (B.lent book.new) result }
 {
-    let mut under_way = under_way;
     let mut queue = VecDeque::new(alloc);
+    let mut under_way = under_way;
     let mut gatherer = Gatherer::new(rt, alloc, workers, frames, &mut under_way, &mut queue, book);
     tell(
         rt,

@@ -1,6 +1,7 @@
 //! The drives over a list of jobs, when all goes well and when each call of the feed fails in turn, and gates that only
 //! several threads can pass.
-ghost use Rattle.std.specs.Prelude.{◌≡◌, ◌≤◌, IfOk, length};
+ghost use Rattle.std.specs.Prelude.{◌≡◌, IfOk};
+ghost use Rattle.ht_feed.specs.Limits.{IsCrewSize, IsWindowSize};
 ghost use Rattle.ht_crew.specs.Lists.{AreNumbered};
 
 use crate::common::NO_SAMPLE;
@@ -201,10 +202,8 @@ fn expect_failing<R: Threads + Wait + Abort + Sync>(
     window: u16,
     call: u64,
 ) -> Result<(), AllocError>
-    requires one { 1 ≤ workers }
-    requires many { workers ≤ 64 }
-    requires some { 1 ≤ window }
-    requires few { window ≤ 4096 }
+    requires crew { IsCrewSize workers }
+    requires window { IsWindowSize window }
 {
     let failing = vec![in alloc; call]?;
     let mut feed = ListFeed::new(alloc, jobs(alloc, 112)?, failing)?;

@@ -1,5 +1,6 @@
 //! Plans whose lines are known, without threads and with.
 ghost use Rattle.std.specs.Prelude.{◌≤◌};
+ghost use Rattle.ht_feed.specs.Limits.{IsWindowSize};
 
 use ht_demo::{Plan, demo, demo_alone};
 use ht_feed::OpenGate;
@@ -18,8 +19,7 @@ fn says<R: Abort + Threads + Wait + Sync>(
     plan: &Plan,
     wanted: &str,
 ) -> Result<(), AllocError>
-    requires some { 1 ≤ window }
-    requires few { window ≤ 4096 }
+    requires window { IsWindowSize window }
     requires octets { 1 ≤ plan.now.length }
 {
     let alone = demo_alone(alloc, window, plan, &OpenGate)?;

@@ -4,7 +4,7 @@ use ht_feed::OpenGate;
 use ht_frames::ListBook;
 use ht_inverse::Outcome;
 use ht_io::{MemSink, MemSource};
-use ht_rx::{Ended, FrameResult, RxFault, list, list_alone, receive, receive_text};
+use ht_rx::{Ended, FrameResult, RxFault, list_jobs, list_jobs_alone, receive, receive_text};
 use std::alloc::{AllocError, Global};
 use std::test::Fail;
 
@@ -51,14 +51,14 @@ fn lines(rt: HostRuntime) -> Result<(), Fail> {
     let mut source = zeros(alloc, &[1])?;
     let mut sink = room(alloc)?;
     assert_eq!(rt;
-        list_alone(alloc, 16, &mut source, &mut sink, &OpenGate),
+        list_jobs_alone(alloc, 16, &mut source, &mut sink, &OpenGate),
         WHOLE
     );
     assert!(rt; sink.held() == text.as_bytes());
     let mut source = zeros(alloc, &[1])?;
     let mut sink = room(alloc)?;
     assert_eq!(rt;
-        list(&rt, alloc, 2, 16, &mut source, &mut sink, &OpenGate),
+        list_jobs(&rt, alloc, 2, 16, &mut source, &mut sink, &OpenGate),
         WHOLE
     );
     assert!(rt; sink.held() == text.as_bytes());

@@ -1,5 +1,7 @@
 //! What a frame comes to.
-use ht_inverse::Outcome;
+ghost use Rattle.std.specs.Prelude.{◌≡◌};
+
+use ht_inverse::{Decoded, Outcome};
 
 /// The result of a frame that was received whole.
 #[derive(Debug, Drop)]
@@ -15,4 +17,19 @@ pub struct FrameResult {
     pub code: u32,
     /// The octets of the frame, or that its seed would be zero.
     pub outcome: Outcome,
+}
+
+impl FrameResult {
+    /// The result of the frame with this number, from its sums and what its labels are decoded to.
+    pub fn of(frame: u16, data_sum: u128, pilot_sum: u128, decoded: Decoded) -> FrameResult
+        ensures { result ≡ record { frame = frame; data_sum = data_sum; pilot_sum = pilot_sum; code = decoded.code; outcome = decoded.outcome } }
+    {
+        FrameResult {
+            frame,
+            data_sum,
+            pilot_sum,
+            code: decoded.code,
+            outcome: decoded.outcome,
+        }
+    }
 }

@@ -34,7 +34,7 @@ use Rattle.ht_results.specs.declared.frame_result.FrameResult.{FrameResult}
 use Rattle.ht_results.specs.Results.{frame_result, results_of}
 use Rattle.ht_results.specs.Texts.{frame_lines_of, frames_of, last_line, last_of, result_line, result_lines, rx_text}
 use Rattle.ht_round.specs.Exact.{AreExact, HoldOctets}
-use Rattle.ht_round.specs.Returned.{returned_from, returned_lines, returned_results, returned_text}
+use Rattle.ht_round.specs.Returned.{own_lines, own_results, returned_from, returned_lines, returned_results, returned_text}
 use Rattle.ht_round.proofs.Frame.{frame_back, frame_fits, frame_typed, made_frame, as_received}
 use Rattle.ht_round.proofs.Jobs.{frame_items}
 
@@ -162,10 +162,12 @@ results_back version frames sent captured either good octets out exact =
     (recursion_from_All (λ (f : FrameView). AreOctets f.octets) frames octets) out exact whole))
 
 -- their text
-lines_back : (frame : ℕ) (frames : List FrameView) → result_lines (returned_from frame frames) ≡ returned_lines frame frames
+pub lines_back : {F : Type 0} (octets_of : F → List ℕ) (number : ℕ) (frames : List F)
+    → result_lines (own_results octets_of number frames) ≡ own_lines octets_of number frames
 unfolding result_line
-lines_back frame [] = refl
-lines_back frame (f ∷ frames) = ap (λ (z : List ℕ). frame_text frame 0 0 0 (Some f.octets) ++ z) (lines_back (frame + 1) frames)
+lines_back octets_of number [] = refl
+lines_back octets_of number (f ∷ frames) =
+    ap (λ (z : List ℕ). frame_text number 0 0 0 (Some (octets_of f)) ++ z) (lines_back octets_of (number + 1) frames)
 
 jobs_count : (jobs : List JobView) (items : List Item) → frames_of (map Job jobs ++ items) ≡ frames_of items
 jobs_count [] items = refl
@@ -190,7 +192,7 @@ text_back version frames sent captured either good octets out exact =
     let gs : List FrameJobs = made_frames 0 0 captured in
     let file : List ℕ = capture_file_of version captured in
     let lines : result_lines (results_of file) ≡ returned_lines 0 frames =
-    ap result_lines (results_back version frames sent captured either good octets out exact) ∙ lines_back 0 frames in
+    ap result_lines (results_back version frames sent captured either good octets out exact) ∙ lines_back (λ (f : FrameView). f.octets) 0 frames in
     let count : frames_of (items_in gs) ≡ length frames = frames_count gs ∙ (length-made 0 0 captured ∙ counted frames sent captured out exact) in
     let last : last_of (capture_of file).fault (frames_of (capture_of file).items) ≡ end_text (length frames) =
     ap (λ (m : Meaning Item). last_of m.fault (frames_of m.items)) (meant version captured w.0 w.1 w.2) ∙ ap end_text count in

@@ -14,13 +14,13 @@ use Rattle.ht_tx.specs.Transmitted.{AreTransmitted}
 use Rattle.ht_files.specs.Files.{AreFrames}
 use Rattle.ht_sim.specs.Channel.{captures_of, diagonal_of, frame_drawn, legs_drawn}
 use Rattle.ht_sim.specs.Channel.{noise_of, sample_drawn, symbols_mixed, tap_drawn, triangle_drawn}
-use Rattle.ht_sim.specs.Draws.{each, several}
+use Rattle.ht_sim.specs.Draws.{Drawn, each, several}
 use Rattle.ht_sim.specs.Words.{first, next, word}
 use Rattle.ht_sim.proofs.Drawing.{length-several}
 use Rattle.ht_sim.proofs.Typed.{triangles_typed}
 use Rattle.ht_results.specs.Results.{results_of}
 use Rattle.ht_results.specs.Texts.{rx_text}
-use Rattle.ht_round.specs.Exact.{AreExact, HasFullDiagonal, HoldOctets, IsExact}
+use Rattle.ht_round.specs.Exact.{AreExact, HasFullDiagonal, HoldOctets, IsExact, PairByPair}
 use Rattle.ht_round.specs.Returned.{returned_results, returned_text}
 use Rattle.ht_round.proofs.Round.{results_back, text_back}
 
@@ -72,13 +72,15 @@ frame_exact s z =
       samples = samples_are (symbols_mixed (symbols_of s.rate s.length) (streams_of s.rate) ts.value s.points) ts.state;
     }
 
-frames_exact : (sent : List SymbolsView) (z : ℕ) → AreExact sent (each (frame_drawn 0) sent z).value
-frames_exact [] z = tt
-frames_exact (s ∷ sent) z = (frame_exact s z, frames_exact sent (frame_drawn 0 s z).state)
+-- what is drawn of each member belongs to it
+pub all_drawn : {A B : Type 0} (Belong : A → B → Type 0) (draw : A → ℕ → Drawn B) → ((a : A) (z : ℕ) → Belong a (draw a z).value)
+    → (all : List A) (z : ℕ) → PairByPair Belong all (each draw all z).value
+all_drawn Belong draw one [] z = tt
+all_drawn Belong draw one (a ∷ all) z = (one a z, all_drawn Belong draw one all (draw a z).state)
 
 pub simulated_exact : (seed : ℕ) (sent : List SymbolsView) → AreExact sent (captures_of seed 0 sent)
 unfolding captures_of
-simulated_exact seed sent = frames_exact sent (first seed)
+simulated_exact seed sent = all_drawn IsExact (frame_drawn 0) frame_exact sent (first seed)
 
 pub simulated_results : (version seed : ℕ) (frames : List FrameView) (sent : List SymbolsView)
     → (version ≡ 1) ⊎ (version ≡ 2) → AreFrames frames → HoldOctets frames → AreTransmitted frames sent

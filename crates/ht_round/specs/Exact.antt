@@ -30,9 +30,13 @@ pub record IsExact (s : SymbolsView) (f : CaptureFrame) : Type 0 where
   pub diagonals : All HasFullDiagonal f.triangles
   pub samples : map received f.samples ≡ symbols_mixed (symbols_of s.rate s.length) (streams_of s.rate) f.triangles s.points
 
+-- as many of one kind as of the other, and pair by pair they belong together
+abbrev pub PairByPair : {A B : Type 0} → (A → B → Type 0) → List A → List B → Type 0
+PairByPair Belong [] [] = Unit {0}
+PairByPair Belong [] (b ∷ bs) = ⊥
+PairByPair Belong (a ∷ more) [] = ⊥
+PairByPair Belong (a ∷ more) (b ∷ bs) = Belong a b × PairByPair Belong more bs
+
 -- frame by frame
 abbrev pub AreExact : List SymbolsView → List CaptureFrame → Type 0
-AreExact [] [] = Unit {0}
-AreExact [] (f ∷ captured) = ⊥
-AreExact (s ∷ sent) [] = ⊥
-AreExact (s ∷ sent) (f ∷ captured) = IsExact s f × AreExact sent captured
+AreExact sent captured = PairByPair IsExact sent captured

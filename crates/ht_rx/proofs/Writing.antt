@@ -1,5 +1,6 @@
 -- Pieces of a line, each written in front of a place.
-use Rattle.std.proofs.Common.{◌≡◌, ℕ, suc, ℤ, pos, negsuc, List, [], ◌∷◌, ◌++◌, ◌+◌, ◌-◌, ◌≤◌, length, take, drop, decimal, unsigned_abs, sym, ap, ◌∙◌, arith, append-nil}
+use Rattle.std.proofs.Common.{◌≡◌, ℕ, suc, ℤ, pos, negsuc, List, [], ◌∷◌, ◌++◌, ◌+◌, ◌-◌, ◌≤◌, length, take, drop, decimal, unsigned_abs}
+use Rattle.std.proofs.Common.{sym, ap, subst, ◌∙◌, arith, append-nil}
 use Rattle.std.specs.Int.Signed.{◌<ℤ◌, ◌≤ℤ◌}
 use Rattle.std.proofs.lemmas.Int.{ints}
 use Rattle.std.proofs.lemmas.List.{drop-append-le, drop-drop, drop_at, length-take-le}
@@ -24,16 +25,30 @@ front_put end s xs ys front room within len few is =
     ∙ (ap (λ (l : List ℕ). l ++ drop k (drop a xs)) is
     ∙ ap (λ (l : List ℕ). front ++ l) (drop-drop k a xs ∙ ap (λ (n : ℕ). drop n xs) rest))))
 
+-- a level behind its sign, where the digits of this size were written for it
 module _ (sign : ℕ) (rest : List ℕ) where
   -- a number behind its minus
-  pub with_minus : (z : ℤ) → (pos 0 ≤ℤ z → sign ≡ 32) → sign ≡ 45 → 32 ∷ sign ∷ (decimal (unsigned_abs z) ++ rest) ≡ spaced (z ∷ []) ++ rest
+  with_minus : (z : ℤ) → (pos 0 ≤ℤ z → sign ≡ 32) → sign ≡ 45 → 32 ∷ sign ∷ (decimal (unsigned_abs z) ++ rest) ≡ spaced (z ∷ []) ++ rest
   with_minus (pos n) other is = let space : sign ≡ 32 = other (omega (arith, ints)) in absurd (omega arith)
   with_minus (negsuc n) other is =
       ap (λ (s : ℕ). 32 ∷ s ∷ (decimal (suc n) ++ rest)) is ∙ ap (λ (l : List ℕ). 32 ∷ 45 ∷ (l ++ rest)) (sym (append-nil (decimal (suc n))))
 
   -- a number with none
-  pub with_space : (z : ℤ) → (z <ℤ pos 0 → sign ≡ 45) → (pos 0 ≤ℤ z → sign ≡ 32) → (sign ≡ 45 → ⊥)
+  with_space : (z : ℤ) → (z <ℤ pos 0 → sign ≡ 45) → (pos 0 ≤ℤ z → sign ≡ 32) → (sign ≡ 45 → ⊥)
       → sign ∷ (decimal (unsigned_abs z) ++ rest) ≡ spaced (z ∷ []) ++ rest
   with_space (pos n) minus other not =
       ap (λ (s : ℕ). s ∷ (decimal n ++ rest)) (other (omega (arith, ints))) ∙ ap (λ (l : List ℕ). 32 ∷ (l ++ rest)) (sym (append-nil (decimal n)))
   with_space (negsuc n) minus other not = absurd (not (minus (omega (arith, ints))))
+
+  module _ (z y : ℤ) (same : y ≡ z) (size : ℕ) (is : size ≡ unsigned_abs y) where
+    digits : decimal size ++ rest ≡ decimal (unsigned_abs z) ++ rest
+    digits = ap (λ (n : ℕ). decimal n ++ rest) (is ∙ ap unsigned_abs same)
+
+    pub minus_put : (pos 0 ≤ℤ y → sign ≡ 32) → sign ≡ 45 → 32 ∷ sign ∷ (decimal size ++ rest) ≡ spaced (z ∷ []) ++ rest
+    minus_put other minus =
+        ap (λ (l : List ℕ). 32 ∷ sign ∷ l) digits ∙ with_minus z (subst (λ (n : ℤ). pos 0 ≤ℤ n → sign ≡ 32) same other) minus
+
+    pub space_put : (y <ℤ pos 0 → sign ≡ 45) → (pos 0 ≤ℤ y → sign ≡ 32) → (sign ≡ 45 → ⊥) → sign ∷ (decimal size ++ rest) ≡ spaced (z ∷ []) ++ rest
+    space_put negative other not =
+        ap (λ (l : List ℕ). sign ∷ l) digits
+        ∙ with_space z (subst (λ (n : ℤ). n <ℤ pos 0 → sign ≡ 45) same negative) (subst (λ (n : ℤ). pos 0 ≤ℤ n → sign ≡ 32) same other) not

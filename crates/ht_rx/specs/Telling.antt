@@ -15,5 +15,5 @@ pub record TellsCapture {P : Type 0} (pieces : List ℕ → List P) (source sour
   pub writes : result ≢ Err Write → device'.faults ≡ device.faults
   -- however it ends, the source is the same, and takes back no fault
   pub reads_later : IsLater source source'
-  -- so does the device
+  -- the device is the same, too, and takes back none
   pub puts_later : IsLater device device'

@@ -5,7 +5,7 @@ ghost use Rattle.ht_results.specs.JobTexts.{job_lines};
 use crate::front::Front;
 use crate::lines::{LINE, write_line};
 use ht_feed::{Answer, Gate, Jobs, Work, is_hard};
-use ht_frames::pass;
+use ht_frames::run_gated;
 use ht_metric::{Found, Job};
 use std::alloc::{AllocError, Global};
 
@@ -80,7 +80,7 @@ fn write_lines<B: Jobs, G: Gate>(into: &mut [u8], block: &B, gate: &G) -> (usize
     while left > 0 {
         left -= 1;
         let job = block.job(left);
-        let found = pass(gate, &job);
+        let found = run_gated(gate, &job);
         hard = hard | is_hard_as_last(left + 1 == size, &job, &found);
         start = write_line(into, start, &mut front, job.place(), &found);
     }

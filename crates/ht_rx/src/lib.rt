@@ -5,11 +5,11 @@
 //! of each block; the receivers of crate `ht_frames` book the [`FrameResult`] of each frame in a book once its last hit
 //! came. They ask an [`OpenFrame`], which keeps the labels of the frame under way. With the frame's last job it decodes
 //! them, or the frame leaves as [`WholeLabels`]. With several workers a block comes back as its [`Tally`], with the labels
-//! looked up and the distances summed by the worker who ran it; whoever takes it copies labels and adds two numbers. What an account puts in all is a function of the jobs that come, so
-//! that one set of lemmas says for every account what a whole capture, a fault, a source that fails and a full memory
-//! come to (`specs/Outcomes.antt`).
+//! looked up and the distances summed by the worker who ran it; whoever takes it copies labels and adds two numbers. What an
+//! account puts in all is a function of the jobs that come, so that one set of lemmas says for every account what a whole
+//! capture, a fault, a source that fails and a full memory come to (`specs/Outcomes.antt`).
 //!
-//! [`list`] and [`receive`] read a capture from any source, and a crew of workers runs its jobs; [`list_alone`] and
+//! [`list_jobs`] and [`receive`] read a capture from any source, and a crew of workers runs its jobs; [`list_jobs_alone`] and
 //! [`receive_alone`] promise the same, and run every job in the calling thread. [`receive_text`] and
 //! [`receive_text_alone`] put the line of each frame into a sink. For each present subcarrier of each symbol (IEEE Std
 //! 802.11-2012, clause 20.3.11, for symbols and subcarriers) the first nearest vector is found; the labels of a frame's
@@ -49,7 +49,7 @@ pub use faults::RxFault;
 pub use ht_feed::{BookFault, Ended};
 pub use ht_results::FrameResult;
 pub use lister::Lister;
-pub use listing::{list, list_alone};
+pub use listing::{list_jobs, list_jobs_alone};
 pub use open_frame::OpenFrame;
 pub use receiving::{receive, receive_alone};
 pub use receiving_text::{receive_text, receive_text_alone};

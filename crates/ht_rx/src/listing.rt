@@ -1,5 +1,5 @@
 //! Listing the jobs of a capture.
-ghost use Rattle.std.specs.Prelude.{◌≤◌};
+ghost use Rattle.ht_feed.specs.Limits.{IsCrewSize, IsWindowSize};
 ghost use Rattle.ht_rx.specs.Telling.{TellsCapture};
 ghost use Rattle.ht_results.specs.JobTexts.{lines_of};
 
@@ -25,15 +25,14 @@ use std::thread::Threads;
 /// It answers `Done` for a capture, and `Refused` with the first fault of an input that is none. It refuses with
 /// `Read` where the source failed, having put the lines of the symbols that were read whole; with `Write` where the
 /// sink failed, also if the source did; and with `NoMemory`. In the last two cases a part of the lines was put.
-pub fn list_alone<S: Source, K: Sink, G: Gate>(
+pub fn list_jobs_alone<S: Source, K: Sink, G: Gate>(
     alloc: Global,
     window: u16,
     source: &mut S,
     sink: &mut K,
     gate: &G,
 ) -> Result<Ended, RxFault>
-    requires some { 1 ≤ window }
-    requires few { window ≤ 4096 }
+    requires window { IsWindowSize window }
     ensures { TellsCapture lines_of (S.shown source.old) (S.shown source.new) (K.shown sink.old) (K.shown sink.new) result }
 {
     let reader = CaptureReader::new(alloc)?;
@@ -42,9 +41,9 @@ pub fn list_alone<S: Source, K: Sink, G: Gate>(
     tell_alone(alloc, reader, no_head(), window, &work, source, &mut lister)
 }
 
-/// Does as [`list_alone`], and the jobs are run by 1 to 64 workers, of which the caller is one. The lines are the same,
+/// Does as [`list_jobs_alone`], and the jobs are run by 1 to 64 workers, of which the caller is one. The lines are the same,
 /// in the same order.
-pub fn list<R: Threads + Wait + Sync, S: Source, K: Sink, G: Gate + Sync>(
+pub fn list_jobs<R: Threads + Wait + Sync, S: Source, K: Sink, G: Gate + Sync>(
     rt: &R,
     alloc: Global,
     workers: u8,
@@ -53,14 +52,12 @@ pub fn list<R: Threads + Wait + Sync, S: Source, K: Sink, G: Gate + Sync>(
     sink: &mut K,
     gate: &G,
 ) -> Result<Ended, RxFault>
-    requires one { 1 ≤ workers }
-    requires many { workers ≤ 64 }
-    requires some { 1 ≤ window }
-    requires few { window ≤ 4096 }
+    requires crew { IsCrewSize workers }
+    requires window { IsWindowSize window }
     ensures { TellsCapture lines_of (S.shown source.old) (S.shown source.new) (K.shown sink.old) (K.shown sink.new) result }
 {
     if workers == 1 {
-        return list_alone(alloc, window, source, sink, gate);
+        return list_jobs_alone(alloc, window, source, sink, gate);
     }
     let reader = CaptureReader::new(alloc)?;
     let mut lister = Lister::new(sink);

@@ -1,13 +1,13 @@
 //! A frame under way.
-ghost use Rattle.std.specs.Prelude.{◌≡◌, ◌+◌, ◌-◌, ◌*◌, ◌^◌, ◌<◌, ◌≤◌, IfOk, IsTrue, OnOk, length, set, true};
+ghost use Rattle.std.specs.Prelude.{◌≡◌, ◌+◌, ◌-◌, ◌*◌, ◌^◌, ◌<◌, ◌≤◌, IfOk, IsTrue, OnOk, length, true};
 ghost use Rattle.ht_inverse.specs.Received.{labels_in_frame};
-ghost use Rattle.ht_results.specs.Folding.{frame_begun, frame_of, kind_of, label_at, label_place, put_labels, result_of, with_octets};
+ghost use Rattle.ht_results.specs.Folding.{frame_begun, frame_of, kind_of, label_place, put_labels, result_of, with_octets};
 ghost use Rattle.ht_rx.specs.Frames.{HasLabels, IsOpenFrame, KnowsCarriers, with_found};
 ghost use Rattle.ht_rx.specs.Tallies.{with_tally};
 
 use crate::tally::Tally;
 use ht_capture::FrameHead;
-use ht_inverse::{Alone, Decoded, Decoder};
+use ht_inverse::{Alone, Decoder};
 use ht_metric::{Found, Place, Vector};
 use ht_rate::{Carrier, Modulation, Rate};
 use ht_results::{
@@ -134,16 +134,14 @@ impl OpenFrame {
     }
 
     /// Whether both have the same head, sums and labels, and so come to the same.
+    #[tactic(auto, using(crate::proofs::Booking::same_result))]
     pub(crate) fn same(&self, other: &OpenFrame) -> bool
         ensures { IsTrue result → result_of self.now ≡ result_of other.now }
     {
-        if self.data_sum != other.data_sum || self.pilot_sum != other.pilot_sum {
-            return false;
-        }
-        if !same_head(&self.head, &other.head) {
-            return false;
-        }
-        same_labels(&self.labels, &other.labels)
+        self.data_sum == other.data_sum
+            && self.pilot_sum == other.pilot_sum
+            && same_head(&self.head, &other.head)
+            && same_labels(&self.labels, &other.labels)
     }
 
     // Begins the frame with this head, of one octet at least. It is called once a frame, and kept out of line.
@@ -239,20 +237,8 @@ impl OpenFrame {
         ensures { IfOk result (λ r. r ≡ result_of self.now) }
     {
         let head = &self.head;
-        let Decoded { outcome, code } = decoder.decode(
-            alloc,
-            &head.rate,
-            head.length,
-            head.erased,
-            &self.labels,
-        )?;
-        Ok(FrameResult {
-            frame: head.frame,
-            data_sum: self.data_sum,
-            pilot_sum: self.pilot_sum,
-            code,
-            outcome,
-        })
+        let decoded = decoder.decode(alloc, &head.rate, head.length, head.erased, &self.labels)?;
+        Ok(FrameResult::of(head.frame, self.data_sum, self.pilot_sum, decoded))
     }
 
     /// The same, by the decoder that is kept from frame to frame.

@@ -1,5 +1,6 @@
 //! Receiving the frames of a capture.
-ghost use Rattle.std.specs.Prelude.{◌≡◌, ◌≤◌};
+ghost use Rattle.std.specs.Prelude.{◌≡◌};
+ghost use Rattle.ht_feed.specs.Limits.{IsCrewSize, IsWindowSize};
 ghost use Rattle.ht_rx.specs.Frames.{booked_of};
 ghost use Rattle.ht_rx.specs.Telling.{TellsCapture};
 
@@ -33,9 +34,9 @@ pub fn receive_alone<S: Source, B: Book<FrameResult>, G: Gate>(
     book: &mut B,
     gate: &G,
 ) -> Result<Ended, RxFault>
-    requires some { 1 ≤ window }
-    requires few { window ≤ 4096 }
-    ensures receives { TellsCapture (booked_of B.booked) (S.shown source.old) (S.shown source.new) (B.shown book.old) (B.shown book.new) result }
+    requires window { IsWindowSize window }
+    ensures receives { TellsCapture (booked_of B.booked) (S.shown source.old) (S.shown source.new)
+        (B.shown book.old) (B.shown book.new) result }
     ensures same { B.lent book.new ≡ B.lent book.old }
 {
     let reader = CaptureReader::new(alloc)?;
@@ -64,11 +65,10 @@ pub fn receive<R: Threads + Wait + Sync, S: Source, B: Book<FrameResult>, G: Gat
     book: &mut B,
     gate: &G,
 ) -> Result<Ended, RxFault>
-    requires one { 1 ≤ workers }
-    requires many { workers ≤ 64 }
-    requires some { 1 ≤ window }
-    requires few { window ≤ 4096 }
-    ensures receives { TellsCapture (booked_of B.booked) (S.shown source.old) (S.shown source.new) (B.shown book.old) (B.shown book.new) result }
+    requires crew { IsCrewSize workers }
+    requires window { IsWindowSize window }
+    ensures receives { TellsCapture (booked_of B.booked) (S.shown source.old) (S.shown source.new)
+        (B.shown book.old) (B.shown book.new) result }
     ensures same { B.lent book.new ≡ B.lent book.old }
 {
     if workers == 1 {

@@ -1,5 +1,5 @@
 //! Receiving the frames of a capture as lines of text.
-ghost use Rattle.std.specs.Prelude.{◌≤◌};
+ghost use Rattle.ht_feed.specs.Limits.{IsCrewSize, IsWindowSize};
 ghost use Rattle.ht_results.specs.Texts.{frame_lines_of};
 ghost use Rattle.ht_rx.specs.Telling.{TellsCapture};
 
@@ -21,8 +21,7 @@ pub fn receive_text_alone<S: Source, K: Sink, G: Gate>(
     sink: &mut K,
     gate: &G,
 ) -> Result<Ended, RxFault>
-    requires some { 1 ≤ window }
-    requires few { window ≤ 4096 }
+    requires window { IsWindowSize window }
     ensures { TellsCapture frame_lines_of (S.shown source.old) (S.shown source.new) (K.shown sink.old) (K.shown sink.new) result }
 {
     let mut book = TextBook::new(alloc, sink);
@@ -40,10 +39,8 @@ pub fn receive_text<R: Threads + Wait + Sync, S: Source, K: Sink, G: Gate + Sync
     sink: &mut K,
     gate: &G,
 ) -> Result<Ended, RxFault>
-    requires one { 1 ≤ workers }
-    requires many { workers ≤ 64 }
-    requires some { 1 ≤ window }
-    requires few { window ≤ 4096 }
+    requires crew { IsCrewSize workers }
+    requires window { IsWindowSize window }
     ensures { TellsCapture frame_lines_of (S.shown source.old) (S.shown source.new) (K.shown sink.old) (K.shown sink.new) result }
 {
     let mut book = TextBook::new(alloc, sink);

@@ -8,7 +8,7 @@ ghost use Rattle.ht_rx.specs.Tallies.{IsTally};
 use crate::open_frame::place_of;
 use ht_capture::FrameHead;
 use ht_feed::{Answer, Gate, InFrame, Jobs, Work, detect, is_hard};
-use ht_frames::{EachFound, pass};
+use ht_frames::{EachFound, run_gated};
 use ht_metric::{Found, Place, Vector};
 use ht_rate::{Carrier, Modulation, Rate};
 use ht_results::{PlacedLabels, kind, label_for};
@@ -147,7 +147,7 @@ fn tally_of<B: Jobs, G: Gate>(
     let mut hard = false;
     for at in 0..size {
         let job = block.job(at);
-        let found = pass(gate, &job);
+        let found = run_gated(gate, &job);
         tally.add(job.place(), &found)?;
         hard = at + 1 == size && is_hard(&job, found.distance);
     }

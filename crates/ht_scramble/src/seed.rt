@@ -1,5 +1,5 @@
 //! The initial state of the scrambler.
-ghost use Rattle.std.specs.Prelude.{◌≡◌, ◌↔◌, ◌≤◌, ℕ, IsSome, IfSome};
+ghost use Rattle.std.specs.Prelude.{◌≡◌, ◌↔◌, ℕ, IsSome, IfSome};
 ghost use Rattle.ht_scramble.specs.Sequence.{IsSeed};
 
 use std::marker::Model;

@@ -1,5 +1,5 @@
 //! The devices of the captures of a bundle, and their texts.
-ghost use Rattle.std.specs.Prelude.{◌≡◌, ◌≢◌, ◌⊎◌, ℕ, ◌+◌, ◌≤◌, [], ◌++◌, length, map, replicate, Err, IfOk, IfErr, OnErr, OnOk};
+ghost use Rattle.std.specs.Prelude.{◌≡◌, ◌⊎◌, ◌+◌, ◌≤◌, [], ◌++◌, length, map, replicate, Err, IfOk, IfErr, OnErr, OnOk};
 ghost use Rattle.std.specs.Bool.{MatchBool};
 ghost use Rattle.ht_io.specs.Devices.{Grows, GrowsByPart, IsLater, Rose};
 ghost use Rattle.ht_io.specs.Writing.{Growing};
@@ -21,7 +21,7 @@ pub fn sources_of(alloc: Global, captures: Vec<Bundled>) -> Result<Vec<SureSourc
 {
     let mut sources = Vec::new(alloc);
     for capture in captures {
-        match sources.push(SureSource::new(capture.into_octets())) {
+        match sources.push(SureSource::new(capture.into_vec())) {
             Ok(()) => {}
             Err(_) => return Err(AllocError),
         }

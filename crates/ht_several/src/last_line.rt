@@ -1,5 +1,5 @@
 //! The last line of a capture.
-ghost use Rattle.std.specs.Prelude.{◌≡◌, ◌≢◌, ◌≤◌, ℕ, List, IfOk, OnErr};
+ghost use Rattle.std.specs.Prelude.{◌≡◌, ◌≢◌, ℕ, List, IfOk, OnErr};
 ghost use Rattle.ht_io.specs.Devices.{IsLater};
 ghost use Rattle.ht_io.specs.Kinds.{name_of};
 ghost use Rattle.ht_text.specs.Lines.{end_text, refused_text};

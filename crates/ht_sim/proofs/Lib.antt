@@ -1,4 +1,5 @@
 pub mod Drawing
+mod DrawnTriangles
 mod Mixing
 mod Converting
 pub mod Shapes

@@ -104,7 +104,7 @@ pub(crate) fn capture(
 /// both stand in a capture. The words of all frames come from one generator. Words are drawn for the noise also where
 /// it is 0. The only refusal is lack of memory.
 #[tactic(auto, unfolding(crate::specs::Channel::captures_of))]
-pub fn pass(
+pub fn through_channel(
     alloc: Global,
     seed: u64,
     noise: u16,

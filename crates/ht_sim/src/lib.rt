@@ -19,7 +19,7 @@ mod tests;
 mod triangles;
 mod words;
 
-pub use captures::pass;
+pub use captures::through_channel;
 pub use faults::SimFault;
 pub use passing::channel;
 pub use rows::stretched;

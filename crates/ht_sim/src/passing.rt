@@ -5,7 +5,7 @@ ghost use Rattle.ht_runs.specs.Filters.{SaysNothing};
 ghost use Rattle.ht_runs.specs.declared.faults.RunFault.TheVariants.{Write};
 ghost use Rattle.ht_sim.specs.Passing.{passing};
 
-use crate::captures::pass;
+use crate::captures::through_channel;
 use crate::faults::SimFault;
 use ht_capture::write_captures;
 use ht_files::read_symbols;
@@ -28,7 +28,7 @@ pub fn channel<S: Source, K: Sink>(
     ensures writes { result ≢ Err Write → (K.shown sink.new).faults ≡ (K.shown sink.old).faults }
 {
     let frames = read_symbols(alloc, source)?;
-    let captured = pass(alloc, seed, noise, &frames)?;
+    let captured = through_channel(alloc, seed, noise, &frames)?;
     write_captures(&captured, sink)?;
     Ok(())
 }

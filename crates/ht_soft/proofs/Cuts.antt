@@ -11,27 +11,48 @@ use Rattle.ht_rate.specs.declared.kinds.Modulation.TheVariants.{Bpsk, Qpsk, Qam1
 use Rattle.ht_rate.specs.declared.rates.Rate.{Rate}
 use Rattle.ht_rate.specs.Rates.{modulation_of, streams_of}
 use Rattle.ht_rate.specs.Schemes.{bits_of}
-use Rattle.ht_pam.specs.Ladders.{levels, has}
+use Rattle.ht_pam.specs.Ladders.{Rungs, levels, has}
 use Rattle.ht_pam.specs.declared.axes.Axes.{Axes}
 use Rattle.ht_pam.specs.declared.point.Point.{Point}
-use Rattle.ht_map.specs.Gray.{i_axis, q_axis, label_bit, label_of, level_at, point_of}
+use Rattle.ht_map.specs.Gray.{Axis, i_axis, q_axis, label_bit, label_of, level_at, point_of}
 use Rattle.ht_map.specs.Constellation.{axes_of, grid_of}
 use Rattle.ht_map.proofs.LabelFacts.{is_some-label_of, point_of-label_of}
 use Rattle.ht_metric.specs.Vectors.{is_in, no_point}
-use Rattle.ht_soft.specs.Halves.{is, label_has, has_bit, cut_axis, i_bits, q_bits, half_axes}
+use Rattle.ht_soft.specs.Halves.{axis_named, is, label_has, has_bit, cut_axis, i_bits, q_bits, half_axes}
 
--- the ladders of a half, by whether I or Q has the bit
-pub i-axes : (m : Modulation) (e : ℕ) (value : Bool) → e < i_bits m
-    → half_axes m e value ≡ record { i = cut_axis (i_axis m) (i_bits m) e value; q = (axes_of m).q }
+-- the axes by how many bits name them; in BPSK none names Q
+named : (m : Modulation) → (axis_named (i_bits m) ≡ i_axis m) × (0 < q_bits m → axis_named (q_bits m) ≡ q_axis m)
+unfolding axis_named
+named Bpsk = (refl, λ some. absurd (omega arith))
+named Qpsk = (refl, λ some. refl)
+named Qam16 = (refl, λ some. refl)
+named Qam64 = (refl, λ some. refl)
+
+abbrev pub axes : Rungs → Rungs → Axes
+axes i q = record { i = i; q = q }
+
+-- the ladders of a half, where I has the bit
+pub i-half : (m : Modulation) (e : ℕ) (value : Bool) (count : ℕ) (cut : Rungs) (all : Axes) → count ≡ i_bits m → e < count → all ≡ axes_of m
+    → cut ≡ cut_axis (axis_named count) count e value → axes cut all.q ≡ half_axes m e value
 unfolding half_axes
-i-axes m e value lt = let on : nat_lt e (i_bits m) ≡ true = grind (arith, nat_tests) in rw on refl
+i-half m e value count cut all count_is below all_is is =
+    let on : nat_lt e (i_bits m) ≡ true = grind (arith, nat_tests) in
+    let ladder : cut ≡ cut_axis (i_axis m) (i_bits m) e value =
+    is ∙ (ap (λ (n : ℕ). cut_axis (axis_named n) n e value) count_is ∙ ap (λ (axis : Axis). cut_axis axis (i_bits m) e value) (named m).0) in
+    rw on (ap (λ (i : Rungs). axes i all.q) ladder ∙ ap (λ (a : Axes). axes (cut_axis (i_axis m) (i_bits m) e value) a.q) all_is)
 
-pub q-axes : (m : Modulation) (e : ℕ) (value : Bool) → i_bits m ≤ e
-    → half_axes m e value ≡ record { i = (axes_of m).i; q = cut_axis (q_axis m) (q_bits m) (e - i_bits m) value }
+-- and where Q has it
+pub q-half : (m : Modulation) (e : ℕ) (value : Bool) (count first : ℕ) (cut : Rungs) (all : Axes) → count ≡ q_bits m → first ≡ i_bits m → first ≤ e
+    → e < bits_of m → all ≡ axes_of m → cut ≡ cut_axis (axis_named count) count (e - first) value → axes all.i cut ≡ half_axes m e value
 unfolding half_axes
-q-axes m e value le = let off : nat_lt e (i_bits m) ≡ false = grind (arith, nat_tests) in rw off refl
-
-pub ruleset halves_of_axes = (i-axes, q-axes)
+q-half m e value count first cut all count_is first_is from below all_is is =
+    let off : nat_lt e (i_bits m) ≡ false = grind (arith, nat_tests) in
+    let some : 0 < q_bits m = omega arith in
+    let ladder : cut ≡ cut_axis (q_axis m) (q_bits m) (e - i_bits m) value =
+    is ∙ (ap (λ (n : ℕ). cut_axis (axis_named n) n (e - first) value) count_is
+    ∙ (ap (λ (axis : Axis). cut_axis axis (q_bits m) (e - first) value) ((named m).1 some)
+    ∙ ap (λ (n : ℕ). cut_axis (q_axis m) (q_bits m) (e - n) value) first_is)) in
+    rw off (ap (λ (q : Rungs). axes all.i q) ladder ∙ ap (λ (a : Axes). axes a.i (cut_axis (q_axis m) (q_bits m) (e - i_bits m) value)) all_is)
 
 -- a point is on the ladders
 abbrev on : Axes → Point → Bool

@@ -1,54 +1,52 @@
--- The ladders that a label bit cuts out, by computation.
-use Rattle.std.proofs.Common.{◌≡◌, ℕ, ◌<◌, Bool, true, false, refl, arith}
-use Rattle.ht_map.specs.Gray.{one_bit, two_bits, three_bits}
-use Rattle.ht_soft.specs.Halves.{cut_axis}
+-- The tables of the levels of which a label bit has a given value, by one test of all their entries.
+use Rattle.std.proofs.Common.{◌≡◌, ℕ, suc, ◌-◌, ◌^◌, ◌<◌, ◌≤◌, List, [], length, slice_index_or, Bool, true, false, ◌&&◌, nat_eq, nat_lt, refl, subst, arith}
+use Rattle.std.proofs.lemmas.Bool.{agree_below, agree_below_at, and_parts, eqb-true, ltb-true}
+use Rattle.ht_soft.specs.declared.halves.TheConstants.{ONES, ZEROS}
+use Rattle.ht_soft.specs.Halves.{axis_named, cut_axis}
 
-pub one-zero : (k : ℕ) (value : Bool) → k < 1 → value ≡ false → cut_axis one_bit 1 k value ≡ record { size = 2; mask = 1 }
-unfolding cut_axis
-one-zero k value at is = let k_is : k ≡ 0 = omega arith in rw (k_is, is) refl
+-- the table of a value
+abbrev pub masks : Bool → List (List ℕ)
+masks true = ONES
+masks false = ZEROS
 
-pub one-one : (k : ℕ) (value : Bool) → k < 1 → value ≡ true → cut_axis one_bit 1 k value ≡ record { size = 2; mask = 2 }
-unfolding cut_axis
-one-one k value at is = let k_is : k ≡ 0 = omega arith in rw (k_is, is) refl
+abbrev pub mask_at : Bool → ℕ → ℕ → ℕ
+mask_at value row k = slice_index_or (slice_index_or (masks value) row []) k 0
 
-pub first-two-zero : (k : ℕ) (value : Bool) → k ≡ 0 → value ≡ false → cut_axis two_bits 2 k value ≡ record { size = 4; mask = 3 }
-unfolding cut_axis
-first-two-zero k value at is = let k_is : k ≡ 0 = omega arith in rw (k_is, is) refl
+-- what the code needs of a mask
+pub record IsMask (value : Bool) (count k mask : ℕ) : Type 0 where
+  pub value_is : mask ≡ (cut_axis (axis_named count) count k value).mask
+  pub some : 0 < mask
+  pub within : mask < 2 ^ length (axis_named count)
 
-pub first-two-one : (k : ℕ) (value : Bool) → k ≡ 0 → value ≡ true → cut_axis two_bits 2 k value ≡ record { size = 4; mask = 12 }
-unfolding cut_axis
-first-two-one k value at is = let k_is : k ≡ 0 = omega arith in rw (k_is, is) refl
+unfoldable is_mask : Bool → ℕ → ℕ → Bool
+is_mask value row k =
+    nat_eq (mask_at value row k) (cut_axis (axis_named (suc row)) (suc row) k value).mask
+    && (nat_lt 0 (mask_at value row k) && nat_lt (mask_at value row k) (2 ^ length (axis_named (suc row))))
 
-pub last-two-zero : (k : ℕ) (value : Bool) → 0 < k → k < 2 → value ≡ false → cut_axis two_bits 2 k value ≡ record { size = 4; mask = 9 }
-unfolding cut_axis
-last-two-zero k value low high is = let k_is : k ≡ 1 = omega arith in rw (k_is, is) refl
+unfoldable are_masks : Bool → ℕ → Bool
+are_masks value row = agree_below (is_mask value row) (λ _. true) (suc row)
 
-pub last-two-one : (k : ℕ) (value : Bool) → 0 < k → k < 2 → value ≡ true → cut_axis two_bits 2 k value ≡ record { size = 4; mask = 6 }
-unfolding cut_axis
-last-two-one k value low high is = let k_is : k ≡ 1 = omega arith in rw (k_is, is) refl
+tests : (value : Bool) → agree_below (are_masks value) (λ _. true) 3 ≡ true
+unfolding are_masks is_mask cut_axis axis_named
+tests true = refl
+tests false = refl
 
-pub first-three-zero : (k : ℕ) (value : Bool) → k ≡ 0 → value ≡ false → cut_axis three_bits 3 k value ≡ record { size = 8; mask = 15 }
-unfolding cut_axis
-first-three-zero k value at is = let k_is : k ≡ 0 = omega arith in rw (k_is, is) refl
+in_row : (value : Bool) (row k : ℕ) → row < 3 → k < suc row → is_mask value row k ≡ true
+unfolding are_masks
+in_row value row k few below = agree_below_at (is_mask value row) (λ _. true) (suc row) k (agree_below_at (are_masks value) (λ _. true) 3 row (tests value) few) below
 
-pub first-three-one : (k : ℕ) (value : Bool) → k ≡ 0 → value ≡ true → cut_axis three_bits 3 k value ≡ record { size = 8; mask = 240 }
-unfolding cut_axis
-first-three-one k value at is = let k_is : k ≡ 0 = omega arith in rw (k_is, is) refl
+made : (value : Bool) (row k : ℕ) → is_mask value row k ≡ true → IsMask value (suc row) k (mask_at value row k)
+unfolding is_mask
+made value row k e =
+    let mask = mask_at value row k in
+    let parts = and_parts (nat_eq mask (cut_axis (axis_named (suc row)) (suc row) k value).mask) _ e in
+    let bounds = and_parts (nat_lt 0 mask) (nat_lt mask (2 ^ length (axis_named (suc row)))) parts.1 in
+    record { value_is = eqb-true _ _ parts.0; some = ltb-true _ _ bounds.0; within = ltb-true _ _ bounds.1 }
 
-pub mid-three-zero : (k : ℕ) (value : Bool) → k ≡ 1 → value ≡ false → cut_axis three_bits 3 k value ≡ record { size = 8; mask = 195 }
-unfolding cut_axis
-mid-three-zero k value at is = let k_is : k ≡ 1 = omega arith in rw (k_is, is) refl
-
-pub mid-three-one : (k : ℕ) (value : Bool) → k ≡ 1 → value ≡ true → cut_axis three_bits 3 k value ≡ record { size = 8; mask = 60 }
-unfolding cut_axis
-mid-three-one k value at is = let k_is : k ≡ 1 = omega arith in rw (k_is, is) refl
-
-pub last-three-zero : (k : ℕ) (value : Bool) → 1 < k → k < 3 → value ≡ false → cut_axis three_bits 3 k value ≡ record { size = 8; mask = 153 }
-unfolding cut_axis
-last-three-zero k value low high is = let k_is : k ≡ 2 = omega arith in rw (k_is, is) refl
-
-pub last-three-one : (k : ℕ) (value : Bool) → 1 < k → k < 3 → value ≡ true → cut_axis three_bits 3 k value ≡ record { size = 8; mask = 102 }
-unfolding cut_axis
-last-three-one k value low high is = let k_is : k ≡ 2 = omega arith in rw (k_is, is) refl
-
-pub ruleset cut_tables = (one-zero, one-one, first-two-zero, first-two-one, last-two-zero, last-two-one, first-three-zero, first-three-one, mid-three-zero, mid-three-one, last-three-zero, last-three-one)
+-- each entry is the mask of its bit
+pub entry : (value given : Bool) (count k row at : ℕ) → given ≡ value → count ≤ 3 → k < count → row ≡ count - 1 → at ≡ k
+    → IsMask given count k (mask_at value row at)
+entry value given count k row at is few below row_is at_is =
+    let count_is : suc row ≡ count = omega arith in
+    let there : IsMask value (suc row) k (mask_at value row k) = made value row k (in_row value row k (omega arith) (omega arith)) in
+    rw (at_is, is) (subst (λ (n : ℕ). IsMask value n k (mask_at value row k)) count_is there)

@@ -50,32 +50,6 @@ fn second_codeword(
     }
 }
 
-// The frame of a table's rate and erased subcarriers.
-fn decoded(
-    table: &Table,
-    alloc: Global,
-    octets: u16,
-    weights: &[i32],
-) -> Result<SoftDecoded, AllocError>
-    requires some { 1 ≤ octets }
-    requires weights { length weights.now ≡ labels_in_frame table.now.first.rate octets * label_bits_of table.now.first.rate }
-    ensures { IfOk result (λ frame. frame ≡ soft_decoded_frame table.now.first.rate octets table.now.first.erased weights.now) }
-{
-    let first = codeword(&table.first, alloc, octets, weights)?;
-    let second = second_codeword(table, alloc, octets, weights)?;
-    let outcome = inputs_come_to(
-        alloc,
-        &table.first.rate,
-        octets,
-        &first.input,
-        &second.input,
-    )?;
-    Ok(SoftDecoded {
-        outcome,
-        cost: u128::from(first.cost) + u128::from(second.cost),
-    })
-}
-
 /// Decodes a frame from the weights of its label bits.
 ///
 /// The frame has a PSDU of `octets` octets, at least one. `weights` has one for each label bit, N_SYM * N_CBPS in the
@@ -97,5 +71,11 @@ pub fn soft_frame(
     ensures { IfOk result (λ frame. frame ≡ soft_decoded_frame rate.now octets erased weights.now) }
 {
     let table = Table::of(alloc, rate, erased)?;
-    decoded(&table, alloc, octets, weights)
+    let first = codeword(&table.first, alloc, octets, weights)?;
+    let second = second_codeword(&table, alloc, octets, weights)?;
+    let outcome = inputs_come_to(alloc, rate, octets, &first.input, &second.input)?;
+    Ok(SoftDecoded {
+        outcome,
+        cost: u128::from(first.cost) + u128::from(second.cost),
+    })
 }

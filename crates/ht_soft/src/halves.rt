@@ -1,111 +1,78 @@
 //! The vectors of a job of which one label bit has a given value.
-ghost use Rattle.std.specs.Prelude.{◌≡◌, ◌-◌, ◌<◌, ◌≤◌, ◌&&◌, List, length, replicate, slice_index_or, slice_set};
+ghost use Rattle.std.specs.Prelude.{◌≡◌, ◌⊎◌, ◌-◌, ◌^◌, ◌<◌, ◌≤◌, ◌&&◌, List, length, replicate, slice_index_or, slice_set};
 ghost use Rattle.ht_rate.specs.Schemes.{bits_of};
 ghost use Rattle.ht_pam.specs.Grids.{no_axes};
 ghost use Rattle.ht_pam.specs.declared.point.Point.{Point};
 ghost use Rattle.ht_map.specs.Constellation.{axes_of};
-ghost use Rattle.ht_map.specs.Gray.{i_axis, one_bit, q_axis, three_bits, two_bits};
 ghost use Rattle.ht_metric.specs.Vectors.{is_in};
-ghost use Rattle.ht_soft.specs.Halves.{axis_named, cut_axis, half_axes, half_grid_of, half_of, has_bit, i_bits, q_bits};
+ghost use Rattle.ht_soft.specs.Halves.{axis_named, cut_axis, half_axes, half_grid_of, half_of, has_bit};
 
 use ht_metric::Job;
 use ht_pam::{Axes, Grid, Ladder};
 use ht_rate::Modulation;
 
-// Of the levels that one bit names, the one of which it has this value.
-#[tactic(auto, using(crate::proofs::Tables::cut_tables))]
-fn of_one_bit(k: u8, value: bool) -> Ladder
-    requires { k < 1 }
-    ensures { result ≡ cut_axis one_bit 1 k value }
-{
-    if value {
-        Ladder::of(2, 0b10)
-    } else {
-        Ladder::of(2, 0b01)
-    }
-}
+// The levels of which a bit is 1: a row for each number of bits that name a level, with a mask for each of the bits.
+const ONES: [[u8; 3]; 3] = [
+    [0b10, 0, 0],
+    [0b1100, 0b0110, 0],
+    [0b1111_0000, 0b0011_1100, 0b0110_0110],
+];
 
-// Of the levels that two bits name, those of which bit `k` has this value.
-#[tactic(auto, using(crate::proofs::Tables::cut_tables))]
-fn of_two_bits(k: u8, value: bool) -> Ladder
-    requires { k < 2 }
-    ensures { result ≡ cut_axis two_bits 2 k value }
-{
-    match (k, value) {
-        (0, false) => Ladder::of(4, 0b0011),
-        (0, true) => Ladder::of(4, 0b1100),
-        (_, false) => Ladder::of(4, 0b1001),
-        (_, true) => Ladder::of(4, 0b0110),
-    }
-}
-
-// Of the levels that three bits name, those of which bit `k` has this value.
-#[tactic(auto, using(crate::proofs::Tables::cut_tables))]
-fn of_three_bits(k: u8, value: bool) -> Ladder
-    requires { k < 3 }
-    ensures { result ≡ cut_axis three_bits 3 k value }
-{
-    match (k, value) {
-        (0, false) => Ladder::of(8, 0b0000_1111),
-        (0, true) => Ladder::of(8, 0b1111_0000),
-        (1, false) => Ladder::of(8, 0b1100_0011),
-        (1, true) => Ladder::of(8, 0b0011_1100),
-        (_, false) => Ladder::of(8, 0b1001_1001),
-        (_, true) => Ladder::of(8, 0b0110_0110),
-    }
-}
+// The levels of which it is 0.
+const ZEROS: [[u8; 3]; 3] = [
+    [0b01, 0, 0],
+    [0b0011, 0b1001, 0],
+    [0b0000_1111, 0b1100_0011, 0b1001_1001],
+];
 
 // Of the levels that `count` bits name, those of which bit `k` has this value.
+fn mask(count: u8, k: u8, value: bool) -> u8
+    requires few { count ≤ 3 }
+    requires bit { k < count }
+    ensures value { result ≡ (cut_axis (axis_named count) count k value).mask }
+    ensures some { 0 < result }
+    ensures within { result < 2 ^ length (axis_named count) }
+{
+    let row = usize::from(count - 1);
+    let bit = usize::from(k);
+    if value {
+        ONES[row][bit]
+    } else {
+        ZEROS[row][bit]
+    }
+}
+
+// How many levels `count` bits name.
 #[tactic(auto, unfolding(crate::specs::Halves::axis_named))]
+fn levels(count: u8) -> u8
+    requires { (1 ≤ count) × (count ≤ 3) }
+    ensures value { result ≡ length (axis_named count) }
+    ensures size { (result ≡ 1) ⊎ (result ≡ 2) ⊎ (result ≡ 4) ⊎ (result ≡ 8) }
+{
+    match count {
+        1 => 2,
+        2 => 4,
+        _ => 8,
+    }
+}
+
+// The ladder of those levels.
 fn cut(count: u8, k: u8, value: bool) -> Ladder
     requires few { count ≤ 3 }
     requires bit { k < count }
     ensures { result ≡ cut_axis (axis_named count) count k value }
 {
-    match count {
-        1 => of_one_bit(k, value),
-        2 => of_two_bits(k, value),
-        _ => of_three_bits(k, value),
-    }
-}
-
-// How many bits of a label name I.
-#[tactic(auto, unfolding(crate::specs::Halves::axis_named))]
-fn i_bits_of(modulation: Modulation) -> u8
-    ensures value { result ≡ i_bits modulation }
-    ensures axis { axis_named result ≡ i_axis modulation }
-    ensures few { result ≤ 3 }
-{
-    match modulation {
-        Modulation::Bpsk | Modulation::Qpsk => 1,
-        Modulation::Qam16 => 2,
-        Modulation::Qam64 => 3,
-    }
-}
-
-// How many bits of a label name Q.
-#[tactic(auto, unfolding(crate::specs::Halves::axis_named))]
-fn q_bits_of(modulation: Modulation) -> u8
-    ensures value { result ≡ q_bits modulation }
-    ensures axis { 0 < result → axis_named result ≡ q_axis modulation }
-    ensures few { result ≤ 3 }
-{
-    match modulation {
-        Modulation::Bpsk => 0,
-        Modulation::Qpsk => 1,
-        Modulation::Qam16 => 2,
-        Modulation::Qam64 => 3,
-    }
+    Ladder::of(levels(count), mask(count, k, value))
 }
 
 // Of all points of a modulation those whose label has this value at a bit.
-#[tactic(auto, using(crate::proofs::Cuts::halves_of_axes))]
 fn half_axes(modulation: Modulation, all: Axes, bit: u8, value: bool) -> Axes
     requires all { all ≡ axes_of modulation }
     requires bit { bit < bits_of modulation }
     ensures { result ≡ half_axes modulation bit value }
 {
-    let first = i_bits_of(modulation);
+    let last = modulation.label_bits() / 2;
+    let first = modulation.label_bits() - last;
     if bit < first {
         Axes {
             i: cut(first, bit, value),
@@ -114,7 +81,7 @@ fn half_axes(modulation: Modulation, all: Axes, bit: u8, value: bool) -> Axes
     } else {
         Axes {
             i: all.i,
-            q: cut(q_bits_of(modulation), bit - first, value),
+            q: cut(last, bit - first, value),
         }
     }
 }

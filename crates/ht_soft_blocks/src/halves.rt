@@ -31,6 +31,7 @@ pub(crate) fn count_in(block: &CaptureBlock, rate: &Rate, counts: Counts) -> u16
     ensures few { result ≤ 48 * length (jobs_of block.now.block) }
     ensures fits { result ≤ 5472 }
 {
+    // The rate stands in the contract alone: this line reads it for the proof.
     let _rate = *rate;
     let mut count = 0;
     for at in 0..block.block.size() {

@@ -6,9 +6,9 @@ ghost use Rattle.ht_fields.specs.Readers.{Gives};
 ghost use Rattle.ht_capture.specs.Fields.{captures};
 ghost use Rattle.ht_feed.specs.Items.{One};
 ghost use Rattle.ht_feed.specs.Reading.{CountsBlock, view};
-ghost use Rattle.ht_capture_blocks.specs.Captures.{capture_at, mapped};
+ghost use Rattle.ht_capture_blocks.specs.Captures.{mapped};
 ghost use Rattle.ht_soft_blocks.specs.Halved.{halved};
-ghost use Rattle.ht_soft_blocks.specs.Readers.{soft_at, soft_counts, soft_means, soft_more};
+ghost use Rattle.ht_soft_blocks.specs.Readers.{soft_at, soft_counts, soft_means};
 
 use crate::block::HalvesBlock;
 use crate::counts::count_of_data;

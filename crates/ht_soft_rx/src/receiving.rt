@@ -1,5 +1,5 @@
 //! Receiving the frames of a capture by soft decisions.
-ghost use Rattle.std.specs.Prelude.{◌≤◌};
+ghost use Rattle.ht_feed.specs.Limits.{IsCrewSize, IsWindowSize};
 ghost use Rattle.ht_capture.specs.Fields.{captures};
 ghost use Rattle.ht_receive.specs.Ends.{StreamsText};
 ghost use Rattle.ht_runs.specs.Formats.{filter};
@@ -45,8 +45,7 @@ pub fn receive_soft_alone<S: Source, K: Sink, G: Gate>(
     sink: &mut K,
     gate: &G,
 ) -> Result<u64, RunFault>
-    requires some { 1 ≤ window }
-    requires few { window ≤ 4096 }
+    requires window { IsWindowSize window }
     ensures { StreamsText (filter captures soft_rx_text soft_lines_of) HasFrames (S.shown source.old) (S.shown source.new)
         (K.shown sink.old) (K.shown sink.new) result }
 {
@@ -66,8 +65,9 @@ pub fn receive_soft_alone<S: Source, K: Sink, G: Gate>(
 /// Does as [`receive_soft_alone`], and the jobs are run by 1 to 64 workers, of which the caller is one. The lines are the
 /// same, in the same order.
 ///
-/// Whole frames are decoded while the jobs behind them are read and run, as a `Gatherer` of crate `ht_frames` does it: a frame of 100 octets or
-/// more is given to the workers, who decode it before they look for blocks, and a shorter one is decoded by the caller.
+/// Whole frames are decoded while the jobs behind them are read and run, as a `Gatherer` of crate `ht_frames` does it: a
+/// frame of 100 octets or more is given to the workers, who decode it before they look for blocks, and a shorter one is
+/// decoded by the caller.
 /// While jobs are due, at most two frames for each worker beside the caller have no booked result, not counting the frame
 /// under way, and those with the workers have at most 131,072 octets together. So the weights of at most three of the
 /// longest frames are kept, 4.2 MB each, whatever the workers. No clause says so of frames, octets and threads. However it
@@ -82,10 +82,8 @@ pub fn receive_soft<R: Threads + Wait + Sync, S: Source, K: Sink, G: Gate + Sync
     sink: &mut K,
     gate: &G,
 ) -> Result<u64, RunFault>
-    requires one { 1 ≤ workers }
-    requires many { workers ≤ 64 }
-    requires some { 1 ≤ window }
-    requires few { window ≤ 4096 }
+    requires crew { IsCrewSize workers }
+    requires window { IsWindowSize window }
     ensures { StreamsText (filter captures soft_rx_text soft_lines_of) HasFrames (S.shown source.old) (S.shown source.new)
         (K.shown sink.old) (K.shown sink.new) result }
 {

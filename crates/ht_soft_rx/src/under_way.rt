@@ -1,10 +1,6 @@
 //! A frame under way.
-ghost use Rattle.std.specs.Prelude.{◌≡◌, ◌+◌, ◌*◌, ◌^◌, ◌<◌, ◌≤◌, [], ◌∷◌, ◌++◌, true, List, length, map, max, refl, set, IfOk, OnOk};
-ghost use Rattle.ht_metric.specs.Jobs.{JobView, near};
-ghost use Rattle.ht_feed.specs.Items.{Headed, headed_of};
-ghost use Rattle.ht_frames.specs.Gathering.{finished};
-ghost use Rattle.ht_results.specs.Folding.{jobs_in_frame, with_octets};
-ghost use Rattle.ht_soft.specs.Weights.{weight_of};
+ghost use Rattle.std.specs.Prelude.{◌≡◌, ◌+◌, ◌*◌, ◌^◌, ◌<◌, ◌≤◌, length, refl, IfOk, OnOk};
+ghost use Rattle.ht_results.specs.Folding.{with_octets};
 ghost use Rattle.ht_soft_rx.specs.Folding.{HasWeights, IsUnderWay, IsWhole, results_in, weight_place};
 ghost use Rattle.ht_soft_rx.specs.Folding.{weighing_begun, weighing_of, weights_in_frame};
 ghost use Rattle.ht_soft_rx.specs.Folding.{with_distance, with_found};

@@ -1,5 +1,5 @@
 //! What finds the hits of halves.
-ghost use Rattle.std.specs.Prelude.{◌^◌, ◌<◌, length};
+ghost use Rattle.std.specs.Prelude.{◌<◌};
 
 use ht_feed::{Gate, Hits, Jobs, Work, is_hard};
 use ht_frames::HitWork;

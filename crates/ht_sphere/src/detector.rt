@@ -2,7 +2,7 @@
 ghost use Rattle.std.specs.Prelude.{◌≡◌, ◌<◌, ◌≤◌, ◌+◌, ◌*◌, ◌^◌, [], true, length, unsigned_abs};
 ghost use Rattle.std.specs.List.{All};
 ghost use Rattle.ht_metric.specs.Jobs.{near, IsJob, IsNear};
-ghost use Rattle.ht_sphere.specs.Coordinates.{from_last, points_from};
+ghost use Rattle.ht_sphere.specs.Coordinates.{from_last};
 ghost use Rattle.ht_sphere.specs.Tree.{rounding, inside, inside_of};
 ghost use Rattle.ht_sphere.specs.Searching.{leaves, IsBest, IsBestOf, IsOpen};
 

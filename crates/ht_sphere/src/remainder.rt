@@ -5,7 +5,7 @@ ghost use Rattle.ht_pam.specs.Zigzags.{gap};
 ghost use Rattle.ht_metric.specs.Distance.{square};
 ghost use Rattle.ht_sphere.specs.Coordinates.{i_at, q_at, left_i, left_q, target};
 
-use ht_metric::{Complex, Job, System};
+use ht_metric::{Complex, Job, System, stretched};
 use ht_pam::Point;
 
 /// What the levels of the streams behind a row leave of its sample, and its diagonal. The real part is the target of I of
@@ -93,15 +93,6 @@ fn distance(d: u16, target: i64, level: i8) -> u64
     ensures bound { result ≤ 2 ^ 31 + 2 ^ 22 }
 {
     (target - stretched(d, level)).unsigned_abs()
-}
-
-// A diagonal times a level.
-fn stretched(d: u16, level: i8) -> i64
-    requires { unsigned_abs level ≤ 7 }
-    ensures value { result ≡ pos d *ℤ level }
-    ensures bound { unsigned_abs result ≤ 458745 }
-{
-    i64::from(d) * i64::from(level)
 }
 
 // The square of a number.

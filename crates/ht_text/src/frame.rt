@@ -4,7 +4,7 @@ ghost use Rattle.std.specs.Prelude.{codes, decimal, length, string_bytes, string
 ghost use Rattle.std.specs.Option.{option_copied};
 ghost use Rattle.ht_text.specs.Lines.{frame_text, hex, hex_digit, line_feed, outcome_room, outcome_text, soft_text, sums_text};
 
-use crate::room::{push, push_ascii, push_number};
+use crate::room::{push, push_ascii, push_with};
 use crate::sums::{LONGEST as SUMS, push_sums};
 use std::alloc::{AllocError, Global};
 
@@ -79,10 +79,8 @@ pub fn push_soft_line(
     ensures err { OnErr result (string_bytes text.new ≡ string_bytes text.old) }
 {
     text.reserve(room_for(SOFT, octets)?)?;
-    push(text, "soft ");
-    push_number(text, frame);
-    push(text, " cost ");
-    push_number(text, cost);
+    push_with(text, "soft ", frame);
+    push_with(text, " cost ", cost);
     push_outcome(text, octets);
     Ok(())
 }
@@ -126,8 +124,7 @@ fn push_head(text: &mut String, frame: u16, data_sum: u128, pilot_sum: u128, cod
     ensures bytes { string_bytes text.new ≡ string_bytes text.old ++ codes "frame " ++ decimal frame ++ sums_text data_sum pilot_sum code }
     ensures room { string_len text.new + string_capacity text.old ≤ string_len text.old + (11 + SUMS) + string_capacity text.new }
 {
-    push(text, "frame ");
-    push_number(text, frame);
+    push_with(text, "frame ", frame);
     push_sums(text, data_sum, pilot_sum, u64::from(code));
 }
 

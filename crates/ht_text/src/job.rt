@@ -3,7 +3,7 @@ ghost use Rattle.std.specs.Prelude.{◌≡◌, ◌+◌, ◌*◌, ◌≤◌, ◌+
 ghost use Rattle.std.specs.Prelude.{◌<ℤ◌, ◌≤ℤ◌, pos};
 ghost use Rattle.ht_text.specs.Lines.{job_text, spaced};
 
-use crate::room::{push, push_ascii, push_number};
+use crate::room::{push, push_ascii, push_with};
 use std::alloc::{AllocError, Global};
 
 /// Room for the line of a job of no streams with the largest numbers.
@@ -46,14 +46,10 @@ pub fn push_job_line(
     ensures err { OnErr result (string_bytes text.new ≡ string_bytes text.old) }
 {
     text.reserve(room_for(points)?)?;
-    push(text, "job ");
-    push_number(text, place_frame);
-    push(text, " ");
-    push_number(text, symbol);
-    push(text, " ");
-    push_number(text, carrier);
-    push(text, " ");
-    push_number(text, distance);
+    push_with(text, "job ", place_frame);
+    push_with(text, " ", symbol);
+    push_with(text, " ", carrier);
+    push_with(text, " ", distance);
     push_points(text, points);
     push(text, "\n");
     Ok(())
@@ -94,8 +90,7 @@ fn push_level(text: &mut String, level: i8)
 {
     let size = level.unsigned_abs();
     if size > 9 {
-        push(text, " ");
-        push_number(text, level);
+        push_with(text, " ", level);
         return;
     }
     push(text, before_digits(level));

@@ -30,12 +30,14 @@ pub(crate) fn push_ascii(text: &mut String, character: char)
     }
 }
 
-/// Appends a number, for which the text has room.
-pub(crate) fn push_number<I: Integer>(text: &mut String, number: I)
-    requires room { string_len text.old + I.MAX_STR_LEN ≤ string_capacity text.old }
-    ensures bytes { string_bytes text.new ≡ string_bytes text.old ++ I.text number }
-    ensures room { string_len text.new + string_capacity text.old ≤ string_len text.old + I.MAX_STR_LEN + string_capacity text.new }
+/// Appends a piece and the number behind it, for which the text has room.
+pub(crate) fn push_with<I: Integer>(text: &mut String, piece: &str, number: I)
+    requires room { string_len text.old + (length piece.now + I.MAX_STR_LEN) ≤ string_capacity text.old }
+    ensures bytes { string_bytes text.new ≡ string_bytes text.old ++ piece.now ++ I.text number }
+    ensures room { string_len text.new + string_capacity text.old
+        ≤ string_len text.old + (length piece.now + I.MAX_STR_LEN) + string_capacity text.new }
 {
     let mut buffer = Buffer::new();
+    push(text, piece);
     push(text, buffer.format(number));
 }

@@ -2,7 +2,7 @@
 ghost use Rattle.std.specs.Prelude.{◌≡◌, ◌+◌, ◌≤◌, ◌++◌, string_bytes, string_len, string_capacity};
 ghost use Rattle.ht_text.specs.Lines.{sums_text};
 
-use crate::room::{push, push_number};
+use crate::room::push_with;
 
 /// Room for the sums where all numbers are the largest.
 pub(crate) const LONGEST: usize = 117;
@@ -14,10 +14,7 @@ pub(crate) fn push_sums(text: &mut String, data_sum: u128, pilot_sum: u128, code
     ensures bytes { string_bytes text.new ≡ string_bytes text.old ++ sums_text data_sum pilot_sum code }
     ensures room { string_len text.new + string_capacity text.old ≤ string_len text.old + LONGEST + string_capacity text.new }
 {
-    push(text, " data ");
-    push_number(text, data_sum);
-    push(text, " pilot ");
-    push_number(text, pilot_sum);
-    push(text, " code ");
-    push_number(text, code);
+    push_with(text, " data ", data_sum);
+    push_with(text, " pilot ", pilot_sum);
+    push_with(text, " code ", code);
 }

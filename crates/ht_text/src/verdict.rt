@@ -2,7 +2,7 @@
 ghost use Rattle.std.specs.Prelude.{◌≡◌, ◌+◌, ◌++◌, IfOk, OnErr, OnOk, length, string_bytes};
 ghost use Rattle.ht_text.specs.Lines.{checked_text, no_text, yes_text};
 
-use crate::room::{push, push_number};
+use crate::room::{push, push_with};
 use std::alloc::AllocError;
 
 /// Room for a line with the largest numbers, but for the name of what is wrong.
@@ -17,8 +17,7 @@ pub fn push_yes_line(text: &mut String, number: u64) -> Result<(), AllocError>
     ensures err { OnErr result (string_bytes text.new ≡ string_bytes text.old) }
 {
     text.reserve(LONGEST)?;
-    push(text, "job ");
-    push_number(text, number);
+    push_with(text, "job ", number);
     push(text, " yes\n");
     Ok(())
 }
@@ -33,12 +32,10 @@ pub fn push_no_line(text: &mut String, number: u64, name: &str, at: u128) -> Res
     ensures err { OnErr result (string_bytes text.new ≡ string_bytes text.old) }
 {
     text.reserve(room_for(name)?)?;
-    push(text, "job ");
-    push_number(text, number);
+    push_with(text, "job ", number);
     push(text, " no ");
     push(text, name);
-    push(text, " at ");
-    push_number(text, at);
+    push_with(text, " at ", at);
     push(text, "\n");
     Ok(())
 }
@@ -62,10 +59,8 @@ pub fn push_checked_line(text: &mut String, jobs: u64, right: u64) -> Result<(),
     ensures err { OnErr result (string_bytes text.new ≡ string_bytes text.old) }
 {
     text.reserve(LONGEST)?;
-    push(text, "end ");
-    push_number(text, jobs);
-    push(text, " jobs yes ");
-    push_number(text, right);
+    push_with(text, "end ", jobs);
+    push_with(text, " jobs yes ", right);
     push(text, "\n");
     Ok(())
 }

@@ -3,7 +3,7 @@ use Rattle.std.proofs.Common.{◌≡◌, ℕ, ◌+◌, ◌-◌, ◌*◌, ◌/◌
 use Rattle.std.proofs.Common.{get_or, is_some, ap, sym, ◌∙◌, subst, arith, inl, inr, w8, to_z, of_z}
 use Rattle.std.proofs.lemmas.List.{length-append, get_or_append_left, get_or_push}
 use Rattle.std.proofs.lemmas.Bool.{cases_lt}
-use Rattle.std.proofs.Math.Nat.{mul_assoc}
+use Rattle.std.proofs.Math.Nat.{mul_assoc, mul-le-mul_right}
 use Rattle.ht_rate.specs.declared.rates.Rate.{Rate}
 use Rattle.ht_rate.specs.declared.kinds.Carrier.{Carrier}
 use Rattle.ht_rate.specs.declared.kinds.Carrier.TheVariants.{Data, Pilot}
@@ -117,6 +117,16 @@ room-for-all f r octets n a b capacity dr d_o dn da db e =
 
 pub none-carried : (f : FrameView) (points : List Point) → points ≡ [] → AreCarried f points
 none-carried f points e p lt = absurd (omega (arith, ap length e))
+
+-- and later for those of each symbol
+pub room-left : (f : FrameView) (r : Rate) (octets : List ℕ) (n symbol capacity : ℕ) → r ≡ f.rate → octets ≡ f.octets → n ≡ symbols_of r (length octets)
+    → symbol < n → capacity ≡ symbols_of f.rate (length f.octets) * carriers_of f.rate * streams_of f.rate
+    → (symbol + 1) * carriers_of f.rate * streams_of f.rate ≤ capacity
+room-left f r octets n symbol capacity dr d_o dn lt e =
+    let all : n ≡ symbols_of f.rate (length f.octets) =
+    dn ∙ ap (λ (x : Rate). symbols_of x (length octets)) dr ∙ ap (λ (x : List ℕ). symbols_of f.rate (length x)) d_o in
+    let next : symbol + 1 ≤ symbols_of f.rate (length f.octets) = omega arith in
+    rw e (mul-le-mul_right (streams_of f.rate) (mul-le-mul_right (carriers_of f.rate) next))
 
 -- all points are there
 pub all-there : (f : FrameView) (points : List Point) (r : Rate) (octets : List ℕ) (len symbol n : ℕ)

@@ -164,17 +164,12 @@ coded-whole f bits first second all is_bits parsed is_all = record {
 }
 
 -- the same, from what the calls give
-pub coded-out : (f : FrameView) (r : Rate) (p q : Pattern) (items bits first second a b x y z all : List Bool)
-    → r ≡ f.rate → items ≡ coder_input f → bits ≡ items
-    → IsParsed r bits first second → a ≡ first → b ≡ second → p ≡ pattern_of r → q ≡ pattern_of r → x ≡ sent_bits p a → y ≡ sent_bits q b → z ≡ y
-    → all ≡ x ++ z → AreCoded f all
-coded-out f r p q items bits first second a b x y z all dr di db parsed da d_b dp dq dx dy dz e =
-    let one : x ≡ sent_bits (pattern_of f.rate) first =
-    dx ∙ ap (λ (l : List Bool). sent_bits p l) da ∙ ap (λ (m : Pattern). sent_bits m first) (dp ∙ ap pattern_of dr) in
-    let two : z ≡ sent_bits (pattern_of f.rate) second =
-    dz ∙ dy ∙ ap (λ (l : List Bool). sent_bits q l) d_b ∙ ap (λ (m : Pattern). sent_bits m second) (dq ∙ ap pattern_of dr) in
+pub coded-out : (f : FrameView) (r : Rate) (p : Pattern) (items bits first second all : List Bool)
+    → r ≡ f.rate → items ≡ coder_input f → bits ≡ items → IsParsed r bits first second → p ≡ pattern_of r
+    → all ≡ sent_bits p first ++ sent_bits p second → AreCoded f all
+coded-out f r p items bits first second all dr di db parsed dp e =
     coded-whole f bits first second all (db ∙ di) (subst (λ (k : Rate). IsParsed k bits first second) dr parsed)
-    (e ∙ ap (λ (l : List Bool). l ++ z) one ∙ ap (λ (l : List Bool). sent_bits (pattern_of f.rate) first ++ l) two)
+    (e ∙ ap (λ (m : Pattern). sent_bits m first ++ sent_bits m second) (dp ∙ ap pattern_of dr))
 
 -- the encoders share the bits with no rest
 no_rest : (e k n : ℕ) → 1 ≤ e → e ≤ 2 → n ≡ e * k → n % e ≡ 0

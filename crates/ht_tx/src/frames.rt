@@ -1,5 +1,5 @@
 //! A frame before it is sent.
-ghost use Rattle.std.specs.Prelude.{◌≡◌, ◌↔◌, ◌≤◌, IsSome, IfSome, length};
+ghost use Rattle.std.specs.Prelude.{◌≡◌, ◌↔◌, IsSome, IfSome};
 ghost use Rattle.ht_tx.specs.Frames.{IsPsdu};
 
 use ht_rate::Rate;

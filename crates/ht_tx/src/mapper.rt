@@ -1,6 +1,6 @@
 //! From coded bits to points.
 ghost use Rattle.std.specs.Prelude.{◌≡◌, ◌+◌, ◌*◌, ◌<◌, ◌≤◌, vec_len, vec_capacity};
-ghost use Rattle.ht_rate.specs.Carriers.{IsAmong, carrier_of};
+ghost use Rattle.ht_rate.specs.Carriers.{IsAmong};
 ghost use Rattle.ht_rate.specs.Rates.{data_carriers_of, streams_of, carriers_of};
 ghost use Rattle.ht_tx.specs.Transmitted.{Carries, IsPointOf};
 ghost use Rattle.ht_tx.specs.Sources.{AreCarried, AreWired};

@@ -1,13 +1,14 @@
 -- Vectors of 64 whole costs, lane by lane.
-use Rattle.std.proofs.Common.{◌≡◌, ℕ, ◌+◌, ◌/◌, ◌<◌, ◌≤◌, ◌^◌, ◌-◌, List, ◌++◌, map, length, get_or, slice_index}
+use Rattle.std.proofs.Common.{◌≡◌, ℕ, ◌+◌, ◌*◌, ◌/◌, ◌%◌, ◌<◌, ◌≤◌, ◌^◌, ◌-◌, List, ◌++◌, map, length, get_or, slice_index}
 use Rattle.std.proofs.Common.{Bool, true, false, cond, eqb, nat_lt, inl, inr, refl, ap, sym, ◌∙◌, arith, T, w32}
 use mathlib.Core.Bool.{xor}
 use lib.Lanes.{zip2, sel_l, top, pick_l, all_below}
 use Rattle.std.proofs.lemmas.Bool.{agree_below_at, cases_lt, eqb-true, le-ltb, lt-ltb}
-use Rattle.ht_viterbi.specs.Lanes.{HasLanes, IsLight, pair_costs_of}
-use Rattle.ht_viterbi.specs.Trellis.{StepCosts, bit_cost, branch_cost, lesser, output_a, output_b}
+use Rattle.ht_viterbi.specs.Lanes.{HasLanes, HaveRoom, IsLight, heaviest, pair_costs_of}
+use Rattle.ht_viterbi.specs.Trellis.{StepCosts, bit_cost, branch_cost, lesser, moved, output_a, output_b, way}
 use Rattle.ht_viterbi.specs.declared.cost_lanes.TheConstants.{AFTER_ONE, CODED_AT_ONE, CODED_AT_ZERO}
-use Rattle.ht_viterbi.proofs.LaneFacts.{pick-lanes, select-lanes}
+use Rattle.ht_viterbi.proofs.LaneFacts.{pick-lanes, select-lanes, zip2-lanes}
+use Rattle.ht_viterbi.proofs.Raised.{way-lanes}
 
 pub after_one-at : (k : ℕ) → k < 64 → get_or AFTER_ONE k 0 ≡ k / 2 + 32
 after_one-at k lt = eqb-true (get_or AFTER_ONE k 0) (k / 2 + 32) (agree_below_at (λ n. eqb (get_or AFTER_ONE n 0) (n / 2 + 32)) (λ _. true) 64 k refl lt)
@@ -53,6 +54,19 @@ pick-costs bit ks pairs many within coded step is =
           lanes.lane k lt
           ∙ (ap (λ (v : List ℕ). slice_index v (number (output_a k bit) (output_b k bit))) is ∙ picked step (output_a k bit) (output_b k bit));
     }
+
+-- the ways by an input bit: the costs of the states after it, and those of the coded bits
+pub ways-are : (bit : Bool) (after coded costs pairs : List ℕ) → length after ≡ 64 → T (all_below 64 after) → length coded ≡ 64 → T (all_below 4 coded)
+    → HasCoded coded bit → ((k : ℕ) → k < 64 → get_or after k 0 ≡ moved k bit) → length costs ≡ 64 → HaveRoom costs
+    → (step : StepCosts) → IsLight (2 * heaviest) step → pairs ≡ pair_costs_of step
+    → HasLanes (zip2 (λ a b. (a + b) % 2 ^ 32) (pick_l 0 (costs ++ costs) after) (pick_l 0 (pairs ++ pairs) coded)) (λ k. way (slice_index costs) step k bit)
+ways-are bit after coded costs pairs many inside all within gives moves long room step light is =
+    let afters = pick-lanes 64 costs after (λ k. moved k bit) long many inside moves in
+    let added = pick-costs bit coded pairs all within gives step is in
+    let a = pick_l 0 (costs ++ costs) after in
+    let b = pick_l 0 (pairs ++ pairs) coded in
+    let sums = zip2-lanes (λ x y. (x + y) % 2 ^ 32) a b afters.count added.count in
+    way-lanes bit costs a b (zip2 (λ x y. (x + y) % 2 ^ 32) a b) step room light afters added sums
 
 -- what the coded bits cost, by a state that gives them at a 0
 pub pair-light : (most : ℕ) (step : StepCosts) → IsLight most step → (a b : Bool) → bit_cost step.0 a + bit_cost step.1 b ≤ most

@@ -22,7 +22,7 @@ found cost steps pattern received pairs written choices input least some many sa
     let ends = zeros-end steps input some cheapest.within in
     record {
       input = cheapest;
-      distance = least-is ∙ (ap (λ (ps : List StepCosts). least_from ps 0) same
+      cost = least-is ∙ (ap (λ (ps : List StepCosts). least_from ps 0) same
           ∙ (sym (first-cost cost steps pattern received many) ∙ ap (cost_of cost pattern received) (sym is)));
       steps = ends.0;
       ending = ends.1;

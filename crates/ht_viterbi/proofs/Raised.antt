@@ -11,17 +11,13 @@ use Rattle.ht_conv.specs.declared.puncture.Kept.TheVariants.{Both, A, B}
 use Rattle.ht_conv.specs.Puncturing.{kept_of, sent_count}
 use Rattle.ht_viterbi.specs.declared.bit_costs.BitCosts.{BitCosts}
 use Rattle.ht_viterbi.specs.Inputs.{weight_cost}
-use Rattle.ht_viterbi.specs.Lanes.{AreWithin, HasLanes, IsLight, heaviest}
+use Rattle.ht_viterbi.specs.Lanes.{AreWithin, HasLanes, HaveRoom, IsLight, heaviest}
 use Rattle.ht_viterbi.specs.Trellis.{StepCosts, bit_cost, branch_cost, chosen, chosen_at, costs_of, free_bit, is_free, least_from, lesser}
 use Rattle.ht_viterbi.specs.Trellis.{moved, pair_of, steps_from, way}
 use Rattle.ht_viterbi.proofs.LaneSteps.{sign-by}
 use Rattle.ht_viterbi.proofs.RowFacts.{cost-there}
 use Rattle.ht_viterbi.proofs.Spread.{AreLight, first-grows, spread}
 use Rattle.ht_viterbi.proofs.Steps.{branch-few, chosen-step, costs-step, free-few, moved-lt}
-
--- costs that leave the lanes room for a step
-abbrev pub HaveRoom : List ℕ → Type 0
-HaveRoom costs = (k : ℕ) → k < 64 → slice_index costs k < 2 ^ 30 + 2 ^ 20
 
 sum-number : (w a b t x : ℕ) → w ≡ (a + b) % 2 ^ 32 → a ≡ t → b ≡ x → t < 2 ^ 30 + 2 ^ 20 → x ≤ 2 * heaviest → w ≡ x + t
 sum-number w a b t x e f g room light = omega arith

@@ -52,29 +52,37 @@ pairs-back pattern places steps at p q =
     ap (λ (n : ℕ). steps_from pattern places (at - 1) n) more
     ∙ ap (λ (n : ℕ). pair_at free_bit pattern places (at - 1) ∷ steps_from pattern places n (steps - at)) next
 
--- where the places of the step before begin
-pub start-back : (pattern : Pattern) (steps at start width : ℕ) (kept : Kept) → 0 < at → at ≤ steps → start ≡ sent_count pattern at
-    → kept ≡ kept_of pattern (at - 1) → width ≡ kept_count kept
-    → (start - width ≡ sent_count pattern (at - 1)) × (start - width + kept_count kept ≤ sent_count pattern steps)
-start-back pattern steps at start width kept p q is kept-is width-is =
-    let next : suc (at - 1) ≡ at = omega arith in
-    let more : sent_count pattern (at - 1) + kept_count (kept_of pattern (at - 1)) ≡ sent_count pattern at = ap (sent_count pattern) next in
-    let same : kept_count kept ≡ kept_count (kept_of pattern (at - 1)) = ap kept_count kept-is in
-    let whole : at + (steps - at) ≡ steps = omega arith in
-    let rest : sent_count pattern at ≤ sent_count pattern steps =
-    subst (λ (n : ℕ). sent_count pattern at ≤ sent_count pattern n) whole (sent-grows pattern (steps - at) at) in
+-- where the places of a step begin, and that they are there
+pub start-at : (pattern : Pattern) (at start width : ℕ) (kept : Kept) → start ≡ sent_count pattern (at + 1) → kept ≡ kept_of pattern at
+    → width ≡ kept_count kept → (start - width ≡ sent_count pattern at) × (start - width + kept_count kept ≡ start)
+start-at pattern at start width kept is kept-is width-is =
+    let up : suc at ≡ at + 1 = omega arith in
+    let next : sent_count pattern at + kept_count (kept_of pattern at) ≡ sent_count pattern (at + 1) = ap (sent_count pattern) up in
+    let same : kept_count kept ≡ kept_count (kept_of pattern at) = ap kept_count kept-is in
     (omega arith, omega arith)
 
 -- the pair that is read is that of the step
-pub pair-back : (pattern : Pattern) (places : List BitCosts) (steps at start : ℕ) (kept : Kept) (pair : StepCosts) → 0 < at → at ≤ steps
-    → kept ≡ kept_of pattern (at - 1) → start ≡ sent_count pattern (at - 1) → pair ≡ pair_of free_bit kept places start
-    → steps_from pattern places (at - 1) (steps - (at - 1)) ≡ pair ∷ steps_from pattern places at (steps - at)
-pair-back pattern places steps at start kept pair p q kept-is start-is pair-is =
-    let same : pair ≡ pair_at free_bit pattern places (at - 1) =
-    pair-is ∙ (ap (λ (k : Kept). pair_of free_bit k places start) kept-is ∙ ap (λ (n : ℕ). pair_of free_bit (kept_of pattern (at - 1)) places n) start-is) in
-    pairs-back pattern places steps at p q ∙ ap (λ (z : StepCosts). z ∷ steps_from pattern places at (steps - at)) (sym same)
+pub pair-is : (pattern : Pattern) (places : List BitCosts) (at start : ℕ) (kept : Kept) (pair : StepCosts) → kept ≡ kept_of pattern at
+    → start ≡ sent_count pattern at → pair ≡ pair_of free_bit kept places start → pair ≡ pair_at free_bit pattern places at
+pair-is pattern places at start kept pair kept-is start-is is =
+    is ∙ (ap (λ (k : Kept). pair_of free_bit k places start) kept-is ∙ ap (λ (n : ℕ). pair_of free_bit (kept_of pattern at) places n) start-is)
 
-pub pairs-none : (pattern : Pattern) (places : List BitCosts) (steps : ℕ) → steps_from pattern places steps (steps - steps) ≡ []
+-- the places of the steps before one are received
+pub start-within : (pattern : Pattern) (steps at start count : ℕ) → at ≤ steps → start ≡ sent_count pattern at → count ≡ sent_count pattern steps → start ≤ count
+start-within pattern steps at start count few is all =
+    let whole : at + (steps - at) ≡ steps = omega arith in
+    let rest : sent_count pattern at ≤ sent_count pattern steps =
+    subst (λ (n : ℕ). sent_count pattern at ≤ sent_count pattern n) whole (sent-grows pattern (steps - at) at) in
+    omega arith
+
+-- with the pair of one more step
+pub pair-back : (pattern : Pattern) (places : List BitCosts) (steps at : ℕ) (pair : StepCosts) → 0 < at → at ≤ steps
+    → pair ≡ pair_at free_bit pattern places (at - 1)
+    → steps_from pattern places (at - 1) (steps - (at - 1)) ≡ pair ∷ steps_from pattern places at (steps - at)
+pair-back pattern places steps at pair p q is =
+    pairs-back pattern places steps at p q ∙ ap (λ (z : StepCosts). z ∷ steps_from pattern places at (steps - at)) (sym is)
+
+pairs-none : (pattern : Pattern) (places : List BitCosts) (steps : ℕ) → steps_from pattern places steps (steps - steps) ≡ []
 unfolding steps_from
 pairs-none pattern places steps = let none : steps - steps ≡ 0 = omega arith in ap (λ (n : ℕ). steps_from pattern places steps n) none
 
@@ -93,11 +101,16 @@ pub zero-at : {xs : List ℕ} → xs ≡ replicate 64 0 → (k : ℕ) → slice_
 zero-at e k = ap (λ (xs : List ℕ). slice_index xs k) e ∙ zeros 64 k
 
 -- no step yet
-pub costs-start : (all : List StepCosts) (costs : List ℕ) → all ≡ [] → costs ≡ replicate 64 0 → (k : ℕ) → k < 64 → slice_index costs k ≡ least_from all k
-costs-start all costs none zeroed k p = zero-at zeroed k ∙ sym (ap (λ (ps : List StepCosts). least_from ps k) none)
+pub choices-none : (all : List StepCosts) (words : List ℕ) → all ≡ [] → AreChoices all words
+choices-none all words none = subst (λ (ps : List StepCosts). AreChoices ps words) (sym none) tt
 
-pub choices-start : (all : List StepCosts) (words : List ℕ) → all ≡ [] → AreChoices all words
-choices-start all words none = subst (λ (ps : List StepCosts). AreChoices ps words) (sym none) tt
+module _ (pattern : Pattern) (places : List BitCosts) (steps : ℕ) where
+  pub costs-start : (costs : List ℕ) → costs ≡ replicate 64 0 → (k : ℕ) → k < 64
+      → slice_index costs k ≡ least_from (steps_from pattern places steps (steps - steps)) k
+  costs-start costs zeroed k p = zero-at zeroed k ∙ sym (ap (λ (ps : List StepCosts). least_from ps k) (pairs-none pattern places steps))
+
+  pub choices-start : (words : List ℕ) → AreChoices (steps_from pattern places steps (steps - steps)) words
+  choices-start words = choices-none _ words (pairs-none pattern places steps)
 
 -- the table after one more step
 pub costs-step : (all pairs : List StepCosts) (costs into : ℕ → ℕ) (free : Bool) (pair : StepCosts) → all ≡ pair ∷ pairs → free ≡ is_free (length pairs)

@@ -65,9 +65,10 @@ IsCheapest cost steps pattern received input = IsFirstNearest (is_terminated ste
 abbrev pub IsDecoded : ℕ → Pattern → List (Option Bool) → List Bool → Type 0
 IsDecoded = IsCheapest place_cost
 
--- what a decoder of words of `count` steps answers: the input, and what it costs, which at hard decisions is its distance
-pub record IsFound {P : Type 0} (cost : P → Bool → ℕ) (count : ℕ) (pattern : Pattern) (received : List P) (answer : List Bool) (least : ℕ) : Type 0 where
-  pub input : IsCheapest cost count pattern received answer
-  pub distance : least ≡ cost_of cost pattern received answer
+-- what a decoder of words of `count` steps answers, where `each` is what a bit costs at a place: the input, and what it
+-- costs together, which at hard decisions is its distance
+pub record IsFound {P : Type 0} (each : P → Bool → ℕ) (count : ℕ) (pattern : Pattern) (received : List P) (answer : List Bool) (least : ℕ) : Type 0 where
+  pub input : IsCheapest each count pattern received answer
+  pub cost : least ≡ cost_of each pattern received answer
   pub steps : length answer ≡ count
   pub ending : drop (count - tail) answer ≡ replicate tail false

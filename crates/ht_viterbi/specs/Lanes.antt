@@ -1,5 +1,5 @@
 -- The costs of the 64 states in the lanes of a vector, as octets or as they are.
-use Rattle.std.specs.Prelude.{◌≡◌, ℕ, ℤ, pos, unsigned_abs, zero, suc, ◌+◌, ◌-◌, ◌*◌, ◌/◌, ◌%◌, ◌<◌, ◌≤◌, List, [], ◌∷◌, Bool, true, false, Option, Some, None}
+use Rattle.std.specs.Prelude.{◌≡◌, ℕ, ℤ, pos, unsigned_abs, zero, suc, ◌+◌, ◌-◌, ◌*◌, ◌/◌, ◌%◌, ◌^◌, ◌<◌, ◌≤◌, List, [], ◌∷◌, Bool, true, false, Option, Some, None}
 use Rattle.std.specs.Prelude.{drop, length, map, slice_index, slice_index_or}
 use Rattle.ht_rate.specs.declared.kinds.Pattern.{Pattern}
 use Rattle.ht_viterbi.specs.Inputs.{place_cost}
@@ -62,6 +62,10 @@ IsLight most step = (state : ℕ) (bit : Bool) → branch_cost step state bit �
 -- the size of the heaviest weights whose costs lanes of 32 bits hold
 abbrev pub heaviest : ℕ
 heaviest = 65535
+
+-- costs that leave the lanes room for a step
+abbrev pub HaveRoom : List ℕ → Type 0
+HaveRoom costs = (k : ℕ) → k < 64 → slice_index costs k < 2 ^ 30 + 2 ^ 20
 
 -- weights of at most this size
 abbrev pub AreWithin : ℕ → List ℤ → Type 0

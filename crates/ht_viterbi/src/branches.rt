@@ -1,6 +1,6 @@
 //! What a step costs from each state, and how much more by a 1: a lane for each of the 64 states, for each pair of
 //! received places.
-ghost use Rattle.std.specs.Prelude.{◌≡◌, ◌<◌, ◌≤◌, ℕ, false, slice_index, length};
+ghost use Rattle.std.specs.Prelude.{◌≡◌, ◌<◌, ℕ, false};
 ghost use Rattle.ht_viterbi.specs.Trellis.{StepCosts, branch_cost};
 ghost use Rattle.ht_viterbi.specs.Lanes.{HasLanes, HoldsRows, StepPlaces, hard_costs, rise, row_costs};
 

@@ -1,8 +1,8 @@
 //! The whole costs of the 64 states in one vector: lane `n` is that of state `n`, in 32 bits.
-ghost use Rattle.std.specs.Prelude.{◌≡◌, ◌+◌, ◌-◌, ◌*◌, ◌/◌, ◌%◌, ◌^◌, ◌<◌, ◌↔◌, nat_le, ℕ, true, false, slice_index};
+ghost use Rattle.std.specs.Prelude.{◌≡◌, ◌+◌, ◌-◌, ◌*◌, ◌%◌, ◌^◌, ◌<◌, ◌↔◌, nat_le, ℕ, true, false, slice_index};
 ghost use Rattle.std.specs.Int.{bit_at};
-ghost use Rattle.ht_viterbi.specs.Lanes.{HasLanes, IsLight, heaviest, pair_costs_of};
-ghost use Rattle.ht_viterbi.specs.Trellis.{StepCosts, branch_cost, lesser};
+ghost use Rattle.ht_viterbi.specs.Lanes.{HasLanes, HaveRoom, IsLight, heaviest, pair_costs_of};
+ghost use Rattle.ht_viterbi.specs.Trellis.{StepCosts, lesser, way};
 
 use crate::lanes::AFTER_ZERO;
 use crate::pairs::StepCosts;
@@ -27,22 +27,6 @@ const CODED_AT_ONE: [usize; 64] = [
     2, 1, 0, 3, 2, 1, 0, 3, 1, 2, 3, 0, 1, 2, 3, 0, 1, 2, 3, 0, 1, 2, 3, 0, 2, 1, 0, 3, 2, 1, 0, 3,
 ];
 
-// The cost of the state after a 0, for each state.
-#[inline(always)]
-pub(crate) fn after_zero(costs: u32x64) -> u32x64
-    ensures { HasLanes result (λ k. slice_index costs (k / 2)) }
-{
-    costs.swizzle(AFTER_ZERO)
-}
-
-// The cost of the state after a 1, for each state.
-#[inline(always)]
-pub(crate) fn after_one(costs: u32x64) -> u32x64
-    ensures { HasLanes result (λ k. slice_index costs (k / 2 + 32)) }
-{
-    costs.swizzle(AFTER_ONE)
-}
-
 // The branch metrics of a step: what its coded bits cost as 00, 01, 10 and 11.
 #[inline(always)]
 pub(crate) fn pair_costs(step: StepCosts) -> u32x4
@@ -58,28 +42,22 @@ pub(crate) fn pair_costs(step: StepCosts) -> u32x4
     ])
 }
 
-// What a 0 costs in a step, from each state.
+// The costs by an input bit of 0 in a step with these branch metrics, from each state.
 #[inline(always)]
-pub(crate) fn zero_costs(pairs: u32x4) -> u32x64
-    ensures { (step : StepCosts) → pairs ≡ pair_costs_of step → HasLanes result (λ k. branch_cost step k false) }
+pub(crate) fn ways_by_zero(costs: u32x64, pairs: u32x4) -> u32x64
+    requires { HaveRoom costs }
+    ensures { (step : StepCosts) → IsLight (2 * heaviest) step → pairs ≡ pair_costs_of step → HasLanes result (λ k. way (slice_index costs) step k false) }
 {
-    pairs.swizzle(CODED_AT_ZERO)
+    costs.swizzle(AFTER_ZERO) + pairs.swizzle(CODED_AT_ZERO)
 }
 
-// What a 1 costs in a step, from each state.
+// The costs by an input bit of 1.
 #[inline(always)]
-pub(crate) fn one_costs(pairs: u32x4) -> u32x64
-    ensures { (step : StepCosts) → pairs ≡ pair_costs_of step → HasLanes result (λ k. branch_cost step k true) }
+pub(crate) fn ways_by_one(costs: u32x64, pairs: u32x4) -> u32x64
+    requires { HaveRoom costs }
+    ensures { (step : StepCosts) → IsLight (2 * heaviest) step → pairs ≡ pair_costs_of step → HasLanes result (λ k. way (slice_index costs) step k true) }
 {
-    pairs.swizzle(CODED_AT_ONE)
-}
-
-// The sums lane by lane, modulo 2^32.
-#[inline(always)]
-pub(crate) fn sums(a: u32x64, b: u32x64) -> u32x64
-    ensures { HasLanes result (λ k. (slice_index a k + slice_index b k) % 2 ^ 32) }
-{
-    a + b
+    costs.swizzle(AFTER_ONE) + pairs.swizzle(CODED_AT_ONE)
 }
 
 // The differences lane by lane, modulo 2^32.

@@ -1,5 +1,5 @@
 //! One step of the trellis on all 64 states at once: lane `n` of a vector is that of state `n`, modulo 256.
-ghost use Rattle.std.specs.Prelude.{◌≡◌, ◌+◌, ◌-◌, ◌/◌, ◌%◌, ◌<◌, ◌≤◌, ◌↔◌, if◌then◌else◌, nat_le, ℕ, true, replicate, slice_index};
+ghost use Rattle.std.specs.Prelude.{◌≡◌, ◌+◌, ◌-◌, ◌/◌, ◌%◌, ◌<◌, ◌↔◌, if◌then◌else◌, nat_le, ℕ, true, replicate, slice_index};
 ghost use Rattle.std.specs.Int.{bit_at};
 ghost use Rattle.ht_viterbi.specs.Lanes.{HasLanes};
 

@@ -1,9 +1,9 @@
 //! The Viterbi decoder of the convolutional code (IEEE Std 802.11-2012, clauses 18.3.5.6 and 20.3.11.6).
 //!
-//! In go the coded bits that one encoder sent, as they were received. Of each there is a [`Place`], which says what a 0
-//! and what a 1 cost there. Out comes the encoder's input that explains them best: of all inputs that end with the tail
-//! of six zeros the one whose coded bits cost least, and among those that cost the same the first one, which has 0 at
-//! the first place where two of them differ.
+//! The decoder takes the coded bits that one encoder sent, as they were received. Of each there is a [`Place`], which
+//! says what a 0 and what a 1 cost there. It answers with the encoder's input that explains them best: of all inputs
+//! that end with the tail of six zeros the one whose coded bits cost least, and among those that cost the same the first
+//! one, which has 0 at the first place where two of them differ.
 //!
 //! 1. A hard decision is `Some(bit)`, where the other bit costs 1, or `None` where the bit was lost. The cost is then the
 //!    Hamming distance: at how many places that aren't erased the bits differ. With 7 steps at rate 1/2 the word

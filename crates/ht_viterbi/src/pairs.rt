@@ -1,12 +1,13 @@
 //! The two coded bits of one step of the trellis, and what they cost.
 ghost use Rattle.std.specs.Prelude.{◌≡◌, ◌+◌, ◌<◌, ◌≤◌, ◌^◌, ℕ, Bool, length, map};
-ghost use Rattle.ht_conv.specs.Puncturing.{kept_count};
-ghost use Rattle.ht_viterbi.specs.Trellis.{pair_of, output_a, output_b, branch_cost, costs_of, free_bit, moved};
+ghost use Rattle.ht_conv.specs.Puncturing.{kept_count, sent_count};
+ghost use Rattle.ht_viterbi.specs.Trellis.{pair_at, pair_of, output_a, output_b, branch_cost, costs_of, free_bit, moved};
 
 use crate::bit_costs::BitCosts;
 use crate::place::Place;
 use crate::words::is_set;
-use ht_conv::Kept;
+use ht_conv::{Kept, kept_at};
+use ht_rate::Pattern;
 
 /// What a step's bits A and B cost.
 pub(crate) type StepCosts = (BitCosts, BitCosts);
@@ -27,7 +28,7 @@ pub(crate) fn places_of(kept: Kept) -> usize
 }
 
 // What a step costs whose places begin at `start`.
-pub(crate) fn costs_from<P: Place>(received: &[P], start: usize, kept: Kept) -> StepCosts
+fn costs_from<P: Place>(received: &[P], start: usize, kept: Kept) -> StepCosts
     requires { start + kept_count kept ≤ length received.now }
     ensures value { result ≡ pair_of free_bit kept (map (costs_of P.cost) received.now) start }
     ensures bound { (state : ℕ) (bit : Bool) → branch_cost result state bit ≤ 2 ^ 33 }
@@ -40,6 +41,26 @@ pub(crate) fn costs_from<P: Place>(received: &[P], start: usize, kept: Kept) -> 
         Kept::A => (BitCosts::at(received[start]), BitCosts::free()),
         Kept::B => (BitCosts::free(), BitCosts::at(received[start])),
     }
+}
+
+// What step `at` costs. Those of the step behind it begin at `start`, which goes back to where its own places begin.
+#[inline(always)]
+pub(crate) fn step_at<P: Place>(
+    pattern: Pattern,
+    received: &[P],
+    at: usize,
+    start: &mut usize,
+) -> StepCosts
+    requires few { at < 2 ^ 20 }
+    requires start { start.old ≡ sent_count pattern (at + 1) }
+    requires within { start.old ≤ length received.now }
+    ensures value { result ≡ pair_at free_bit pattern (map (costs_of P.cost) received.now) at }
+    ensures bound { (state : ℕ) (bit : Bool) → branch_cost result state bit ≤ 2 ^ 33 }
+    ensures start { start.new ≡ sent_count pattern at }
+{
+    let kept = kept_at(pattern, at as u32);
+    *start -= places_of(kept);
+    costs_from(received, *start, kept)
 }
 
 // The coded bit A of a step: its generator taps the input, so a 1 flips what a 0 gives.

@@ -1,6 +1,6 @@
 //! The plain decoder: 64 costs a step, for hard decisions and for weights alike.
-ghost use Rattle.std.specs.Prelude.{◌≡◌, ◌≢◌, ◌+◌, ◌*◌, ◌^◌, ◌<◌, ◌≤◌, ◌↔◌, ℕ, true, false, IfOk};
-ghost use Rattle.std.specs.Prelude.{List, [], length, replicate, slice_index, vec_capacity};
+ghost use Rattle.std.specs.Prelude.{◌≡◌, ◌+◌, ◌^◌, ◌<◌, ◌≤◌, ◌↔◌, ℕ, true, false, IfOk};
+ghost use Rattle.std.specs.Prelude.{length, replicate, slice_index};
 ghost use Rattle.std.specs.Int.{bit_at};
 ghost use Rattle.ht_conv.specs.Puncturing.{sent_count};
 ghost use Rattle.ht_viterbi.specs.Inputs.{IsFound, place_cost, tail};
@@ -8,10 +8,9 @@ ghost use Rattle.ht_viterbi.specs.Trellis.{way, chosen, lesser, StepCosts};
 
 use crate::backwards::{Backwards, Word};
 use crate::codeword::{Cheapest, Codeword};
-use crate::pairs::{StepCosts, cost_of_branch, costs_from, places_of, state_after};
+use crate::pairs::{StepCosts, cost_of_branch, state_after, step_at};
 use crate::place::Place;
 use crate::words::with_flag;
-use ht_conv::kept_at;
 use ht_rate::Pattern;
 use std::alloc::{AllocError, Global};
 
@@ -33,6 +32,18 @@ fn pick(free: bool, zero: u64, one: u64) -> (bool, u64)
     (taken, if taken { one } else { zero })
 }
 
+// The same of a state, where the costs afterwards and those of the step are these.
+fn picked(costs: &[u64; 64], branches: StepCosts, free: bool, state: usize) -> (bool, u64)
+    requires state { state < 64 }
+    requires bound { (k : ℕ) → slice_index costs.now k ≤ 2 ^ 60 }
+    ensures taken { result.0 ≡ chosen free (way (slice_index costs.now) branches state false) (way (slice_index costs.now) branches state true) }
+    ensures least { result.1 ≡ lesser free (way (slice_index costs.now) branches state false) (way (slice_index costs.now) branches state true) }
+{
+    let zero = way_of(costs, branches, state, false);
+    let one = way_of(costs, branches, state, true);
+    pick(free, zero, one)
+}
+
 // One step of the trellis. The answer has the states at which a 1 is taken.
 fn step(costs: &[u64; 64], branches: StepCosts, free: bool, into: &mut [u64; 64]) -> u64
     requires { (k : ℕ) → slice_index costs.now k ≤ 2 ^ 60 }
@@ -43,9 +54,7 @@ fn step(costs: &[u64; 64], branches: StepCosts, free: bool, into: &mut [u64; 64]
 {
     let mut choices = 0u64;
     for state in 0..64usize {
-        let zero = way_of(costs, branches, state, false);
-        let one = way_of(costs, branches, state, true);
-        let (taken, least) = pick(free, zero, one);
+        let (taken, least) = picked(costs, branches, free, state);
         choices = with_flag(choices, state, taken);
         into[state] = least;
     }
@@ -70,15 +79,9 @@ impl<P: Place> Backwards<P> for Plain {
         let mut start = received.len();
         while at > 0 {
             at -= 1;
-            let kept = kept_at(pattern, at as u32);
-            start -= places_of(kept);
+            let branches = step_at(pattern, received, at, &mut start);
             let mut into = no_costs();
-            choices[at] = step(
-                &costs,
-                costs_from(received, start, kept),
-                steps - at > 6,
-                &mut into,
-            );
+            choices[at] = step(&costs, branches, steps - at > 6, &mut into);
             costs = into;
         }
         costs[0]

@@ -1,5 +1,5 @@
 //! Which row of the table of branches each step of a word has.
-ghost use Rattle.std.specs.Prelude.{◌≡◌, ◌+◌, ◌%◌, ◌<◌, ◌≤◌, ◌^◌, ℕ, None, length, map, slice_index};
+ghost use Rattle.std.specs.Prelude.{◌≡◌, ◌+◌, ◌%◌, ◌<◌, ◌≤◌, ◌^◌, None, length, map};
 ghost use Rattle.ht_conv.specs.Puncturing.{kept_count, period_of, sent_count};
 ghost use Rattle.ht_viterbi.specs.Lanes.{HasRows, number_of_pair};
 ghost use Rattle.ht_viterbi.specs.Received.{known_of};

@@ -5,18 +5,15 @@ ghost use Rattle.std.specs.Prelude.{length, replicate, slice_index};
 ghost use Rattle.std.specs.Int.{bit_at};
 ghost use Rattle.ht_conv.specs.Puncturing.{sent_count};
 ghost use Rattle.ht_viterbi.specs.Inputs.{IsFound, tail, weight_cost};
-ghost use Rattle.ht_viterbi.specs.Lanes.{AreWithin, HasLanes, IsLight, heaviest};
+ghost use Rattle.ht_viterbi.specs.Lanes.{AreWithin, HasLanes, HaveRoom, IsLight, heaviest};
 ghost use Rattle.ht_viterbi.specs.Trellis.{way, chosen, lesser, least_from, AreChoices, word_steps};
 
 use crate::backwards::{Backwards, Word};
 use crate::codeword::Cheapest;
-use crate::cost_lanes::{
-    after_one, after_zero, differences, lesser, negative, one_costs, pair_costs, sums, zero_costs,
-};
+use crate::cost_lanes::{differences, lesser, negative, pair_costs, ways_by_one, ways_by_zero};
 use crate::decoder::TAIL;
-use crate::pairs::{StepCosts, costs_from, places_of};
+use crate::pairs::{StepCosts, step_at};
 use crate::plain::Plain;
-use ht_conv::kept_at;
 use ht_rate::Pattern;
 use std::alloc::{AllocError, Global};
 use std::simd::prelude::*;
@@ -58,7 +55,7 @@ fn first_lane(costs: u32x64) -> u32
 // One step of the trellis. The answer has the new costs, and the states at which a 1 is taken.
 #[inline(always)]
 fn step(costs: u32x64, branches: StepCosts, free: bool) -> (u32x64, u64)
-    requires few { (k : ℕ) → k < 64 → slice_index costs k < 2 ^ 30 + 2 ^ 20 }
+    requires room { HaveRoom costs }
     requires light { IsLight (2 * heaviest) branches }
     ensures costs { HasLanes result.0
         (λ k. lesser free (way (slice_index costs) branches k false) (way (slice_index costs) branches k true)) }
@@ -66,9 +63,9 @@ fn step(costs: u32x64, branches: StepCosts, free: bool) -> (u32x64, u64)
         ↔ (chosen free (way (slice_index costs) branches k false) (way (slice_index costs) branches k true) ≡ true) }
 {
     let pairs = pair_costs(branches);
-    let zero_ways = sums(after_zero(costs), zero_costs(pairs));
+    let zero_ways = ways_by_zero(costs, pairs);
     if free {
-        let one_ways = sums(after_one(costs), one_costs(pairs));
+        let one_ways = ways_by_one(costs, pairs);
         (
             lesser(zero_ways, one_ways),
             negative(differences(one_ways, zero_ways)),
@@ -108,9 +105,8 @@ fn backwards_in_lanes(pattern: Pattern, weights: &[i32], choices: &mut [u64]) ->
     let mut start = weights.len();
     while at > 0 {
         at -= 1;
-        let kept = kept_at(pattern, at as u32);
-        start -= places_of(kept);
-        let (next, word) = step(costs, costs_from(weights, start, kept), steps - at > TAIL);
+        let branches = step_at(pattern, weights, at, &mut start);
+        let (next, word) = step(costs, branches, steps - at > TAIL);
         choices[at] = word;
         let (low, fall) = lowered(next);
         costs = low;

@@ -12,7 +12,7 @@ use Rattle.ht_window.proofs.Slots.{accepted, jobs_put}
 use Rattle.circular_buffer.specs.Buffer.{Buffer, buffer}
 use Rattle.ht_window.specs.declared.window.Accepted.{Accepted}
 use Rattle.ht_window.specs.declared.window.Accepted.TheVariants.{Booked, Twice, Stranger}
-use Rattle.ht_window.specs.Accepting.{IsUnbooked, IsBooked, IsStrange}
+use Rattle.ht_window.specs.Accepting.{Accepts, IsUnbooked, IsBooked, IsStrange}
 
 -- a slot of this job is at the job's number
 pub at_number : (w : WindowView) (k at : ℕ) (s : Slot) (job : JobView) → IsWindow w
@@ -102,3 +102,27 @@ kept front at old new job Stranger w is books refused =
       subst (λ (b : Buffer Slot). IsWindow (record { capacity = b.capacity; front = front; slots = b.items })) (sym e) w,
       ap (λ (b : Buffer Slot). jobs b.items) e,
     )
+
+-- what is shown of slots, the first of which has this number
+abbrev shown : ℕ → Buffer Slot → WindowView
+shown front slots = record { capacity = slots.capacity; front = front; slots = slots.items }
+
+-- what the answers say of the slot at the job's number, they say of the window
+pub accepts : (front at : ℕ) (old new : Buffer Slot) (job : JobView) (answer : Accepted) → IsWindow (shown front old) → at ≡ job.number - front
+    → (answer ≡ Booked ↔ (slice_get old.items at ≡ Some (unbooked job)))
+    → (answer ≡ Twice ↔ ((other : Found) × (slice_get old.items at ≡ Some (record { job = job; found = Some other }))))
+    → (answer ≡ Stranger ↔ ((s : Slot) → slice_get old.items at ≡ Some s → s.job ≢ job))
+    → (answer ≡ Booked → new ≡ buffer (slice_set old.items at (booked job)) old.capacity) → (answer ≢ Booked → new ≡ old)
+    → Accepts (shown front old) job answer (shown front new)
+accepts front at old new job answer w is is_booked is_twice is_strange books refused =
+    let stays = kept front at old new job answer w is_booked.0 books refused in
+    let with_slots : List Slot → WindowView = λ slots. record { capacity = old.capacity; front = front; slots = slots } in
+    record {
+      booked = unbooked_where (shown front old) at job (answer ≡ Booked) w is is_booked;
+      twice = booked_where (shown front old) at job (answer ≡ Twice) w is is_twice;
+      stranger = strange_where (shown front old) at job (answer ≡ Stranger) w is is_strange;
+      books = λ e. ap (shown front) (books e) ∙ ap (λ (k : ℕ). with_slots (slice_set old.items k (booked job))) is;
+      refused = λ n. ap (shown front) (refused n);
+      jobs = stays.1;
+      window = stays.0;
+    }

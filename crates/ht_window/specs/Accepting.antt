@@ -1,8 +1,10 @@
 -- What a window does with what was found for a job.
-use Rattle.std.specs.Prelude.{◌≡◌, ◌≢◌, ◌-◌, ℕ, slice_get, slice_set, Some}
+use Rattle.std.specs.Prelude.{◌≡◌, ◌≢◌, ◌↔◌, ◌-◌, ℕ, slice_get, slice_set, Some}
 use Rattle.ht_metric.specs.Jobs.{JobView}
 use Rattle.ht_window.specs.declared.slot.Slot.{Slot}
-use Rattle.ht_window.specs.Windows.{WindowView, unbooked, booked}
+use Rattle.ht_window.specs.declared.window.Accepted.{Accepted}
+use Rattle.ht_window.specs.declared.window.Accepted.TheVariants.{Booked, Twice, Stranger}
+use Rattle.ht_window.specs.Windows.{WindowView, IsWindow, unbooked, booked, jobs as jobs_of}
 
 -- slot k, counted from the front
 abbrev pub IsSlot : WindowView → ℕ → Slot → Type 0
@@ -28,3 +30,13 @@ Books old job new =
       front = old.front;
       slots = slice_set old.slots (job.number - old.front) (booked job);
     }
+
+-- when each answer comes to what was found for a job, and what it leaves
+pub record Accepts (old : WindowView) (job : JobView) (answer : Accepted) (new : WindowView) : Type 0 where
+  pub booked : answer ≡ Booked ↔ IsUnbooked old job
+  pub twice : answer ≡ Twice ↔ IsBooked old job
+  pub stranger : answer ≡ Stranger ↔ IsStrange old job
+  pub books : answer ≡ Booked → Books old job new
+  pub refused : answer ≢ Booked → new ≡ old
+  pub jobs : jobs_of new.slots ≡ jobs_of old.slots
+  pub window : IsWindow new

@@ -8,7 +8,7 @@ ghost use Rattle.ht_metric.specs.Hits.{parts_of};
 ghost use Rattle.ht_metric.specs.Jobs.{near};
 ghost use Rattle.ht_window.specs.declared.slot.Slot.{Slot as SlotValue};
 ghost use Rattle.ht_window.specs.Windows.{unbooked, booked, jobs, front_hit, first_unbooked, IsWindow};
-ghost use Rattle.ht_window.specs.Accepting.{IsUnbooked, IsBooked, IsStrange, Books};
+ghost use Rattle.ht_window.specs.Accepting.{Accepts, IsUnbooked};
 
 use crate::slot::Slot;
 use circular_buffer::HeapCircularBuffer;
@@ -87,16 +87,7 @@ impl Window {
     /// Puts what a hit says into the slot of its job, as [`accept_found`](Window::accept_found) does. The hit is dropped
     /// then.
     pub fn accept(&mut self, hit: Hit) -> Accepted
-        // When each answer comes.
-        ensures booked { result ≡ Accepted.Booked ↔ IsUnbooked self.old hit.job }
-        ensures twice { result ≡ Accepted.Twice ↔ IsBooked self.old hit.job }
-        ensures stranger { result ≡ Accepted.Stranger ↔ IsStrange self.old hit.job }
-
-        // What it leaves.
-        ensures books { result ≡ Accepted.Booked → Books self.old hit.job self.new }
-        ensures refused { result ≢ Accepted.Booked → self.new ≡ self.old }
-        ensures jobs { jobs self.new.slots ≡ jobs self.old.slots }
-        ensures window { IsWindow self.new }
+        ensures { Accepts self.old hit.job result self.new }
     {
         self.accept_found(hit.job(), hit.found())
     }
@@ -106,17 +97,7 @@ impl Window {
     /// holds another job of the same number.
     pub fn accept_found(&mut self, job: &Job, found: Found) -> Accepted
         requires found { found ≡ near job.now }
-
-        // When each answer comes.
-        ensures booked { result ≡ Accepted.Booked ↔ IsUnbooked self.old job.now }
-        ensures twice { result ≡ Accepted.Twice ↔ IsBooked self.old job.now }
-        ensures stranger { result ≡ Accepted.Stranger ↔ IsStrange self.old job.now }
-
-        // What it leaves.
-        ensures books { result ≡ Accepted.Booked → Books self.old job.now self.new }
-        ensures refused { result ≢ Accepted.Booked → self.new ≡ self.old }
-        ensures jobs { jobs self.new.slots ≡ jobs self.old.slots }
-        ensures window { IsWindow self.new }
+        ensures { Accepts self.old job.now result self.new }
     {
         let number = job.number();
         if number < self.front {

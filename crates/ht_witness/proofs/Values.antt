@@ -1,11 +1,12 @@
 -- Worked values.
-use Rattle.std.proofs.Common.{◌≡◌, ℕ, pos, negsuc, [], ◌∷◌, List, Bool, true, false, Some, None, refl, arith}
+use Rattle.std.proofs.Common.{◌≡◌, ℕ, pos, negsuc, [], ◌∷◌, List, map, Bool, true, false, Option, Some, None, refl, arith}
 use Rattle.ht_pam.specs.declared.axes.Axes.{Axes}
 use Rattle.ht_pam.specs.declared.point.Point.{Point}
 use Rattle.ht_metric.specs.Jobs.{JobView}
 use Rattle.ht_sphere.specs.Coordinates.{from_last}
 use Rattle.ht_sphere.proofs.Values.{two, nil, job}
 use Rattle.ht_witness.specs.declared.certificate.Certificate.{Certificate}
+use Rattle.ht_witness.specs.declared.check_fault.CheckFault.{CheckFault}
 use Rattle.ht_witness.specs.declared.check_fault.CheckFault.TheVariants.{OffGrid, WrongDistance, Early, Better, Short, Long}
 use Rattle.ht_witness.specs.Certificates.{Checked, fault_of}
 use Rattle.ht_witness.specs.Marking.{marks_of}
@@ -33,52 +34,36 @@ made = refl
 holds : Checked bpsk (claim plus 65 (true ∷ false ∷ true ∷ []))
 holds = record { within = refl; distance = refl; walk = (refl, (omega arith, (refl, tt))) }
 
-no_fault : fault_of bpsk (claim plus 65 (true ∷ false ∷ true ∷ [])) ≡ None
-no_fault = refl
+-- what is wrong with each of these certificates of a job
+abbrev AreFaults : JobView → List (Certificate × Option CheckFault) → Type 0
+AreFaults job rows = map (λ r. fault_of job r.0) rows ≡ map (λ r. r.1) rows
 
--- a level needn't be cut
-all_open : fault_of bpsk (claim plus 65 (true ∷ true ∷ true ∷ [])) ≡ None
-all_open = refl
-
-better : fault_of bpsk (claim minus 185 (true ∷ true ∷ true ∷ [])) ≡ Some (Better 2)
-better = refl
-
-wrong : fault_of bpsk (claim plus 64 (true ∷ true ∷ true ∷ [])) ≡ Some (WrongDistance 65)
-wrong = refl
-
--- 16 isn't above 65
-early : fault_of bpsk (claim plus 65 (false ∷ [])) ≡ Some (Early 0)
-early = refl
-
--- nor is 65, though no better vector is left out
-early_at_the_last : fault_of bpsk (claim plus 65 (true ∷ false ∷ false ∷ [])) ≡ Some (Early 2)
-early_at_the_last = refl
-
-short : fault_of bpsk (claim plus 65 (true ∷ false ∷ [])) ≡ Some (Short 2)
-short = refl
-
-no_marks : fault_of bpsk (claim plus 65 []) ≡ Some (Short 0)
-no_marks = refl
-
-long : fault_of bpsk (claim plus 65 (true ∷ false ∷ true ∷ true ∷ [])) ≡ Some (Long 3)
-long = refl
-
-off_grid : fault_of bpsk (claim zero_point 65 []) ≡ Some (OffGrid 1)
-off_grid = refl
+-- a level needn't be cut. Neither 16 nor 65 is above 65, though at the last level no better vector would be left out
+faults : AreFaults bpsk (
+    (claim plus 65 (true ∷ false ∷ true ∷ []), None)
+    ∷ (claim plus 65 (true ∷ true ∷ true ∷ []), None)
+    ∷ (claim minus 185 (true ∷ true ∷ true ∷ []), Some (Better 2))
+    ∷ (claim plus 64 (true ∷ true ∷ true ∷ []), Some (WrongDistance 65))
+    ∷ (claim plus 65 (false ∷ []), Some (Early 0))
+    ∷ (claim plus 65 (true ∷ false ∷ false ∷ []), Some (Early 2))
+    ∷ (claim plus 65 (true ∷ false ∷ []), Some (Short 2))
+    ∷ (claim plus 65 [], Some (Short 0))
+    ∷ (claim plus 65 (true ∷ false ∷ true ∷ true ∷ []), Some (Long 3))
+    ∷ (claim zero_point 65 [], Some (OffGrid 1))
+    ∷ [])
+faults = refl
 
 -- the same with y = (0, 0): both points are at 100, and I = -1 is the first one
 abbrev tie : JobView
 tie = job (record { i = two; q = nil } ∷ []) (record { diagonal = 10; right = []; sample = record { re = pos 0; im = pos 0 } } ∷ [])
 
-first_of_a_tie : fault_of tie (claim minus 100 (true ∷ true ∷ true ∷ [])) ≡ None
-first_of_a_tie = refl
-
-later_of_a_tie : fault_of tie (claim plus 100 (true ∷ true ∷ true ∷ [])) ≡ Some (Better 1)
-later_of_a_tie = refl
-
 -- an equal distance is no reason to cut
-cut_at_a_tie : fault_of tie (claim minus 100 (true ∷ true ∷ false ∷ [])) ≡ Some (Early 2)
-cut_at_a_tie = refl
+faults_of_ties : AreFaults tie (
+    (claim minus 100 (true ∷ true ∷ true ∷ []), None)
+    ∷ (claim plus 100 (true ∷ true ∷ true ∷ []), Some (Better 1))
+    ∷ (claim minus 100 (true ∷ true ∷ false ∷ []), Some (Early 2))
+    ∷ [])
+faults_of_ties = refl
 
 -- QPSK on two streams: d = 10 and 1, r_12 = (10, 0), y_1 = (-20, 0), y_2 = (1, 0). (-1, -1), (-1, 1) is at 5, and so is
 -- (-1, 1), (-1, -1), which comes later

@@ -2,6 +2,7 @@
 use Rattle.std.proofs.Math.IntN.{zero-*ℤ}
 use Rattle.std.proofs.Common.{◌≡◌, ℕ, zero, suc, ◌+◌, ◌*◌, ℤ, pos, ◌-ℤ◌, List, [], ◌∷◌, ◌++◌, map, length, drop, Bool}
 use Rattle.std.proofs.Common.{true, false, unsigned_abs, refl, ap, sym, ◌∙◌, arith}
+use Rattle.ht_pam.specs.Ladders.{Rungs, levels}
 use Rattle.ht_pam.specs.Zigzags.{gap, From, nearest_first, put}
 use Rattle.ht_pam.proofs.ZigzagLemmas.{put_first}
 use Rattle.ht_pam.specs.declared.axes.Axes.{Axes}
@@ -30,8 +31,16 @@ length-down rows grid (suc k) = let under = length-down rows grid k in omega (ar
 abbrev pub suffix : List Real → List ℤ → ℕ → Suffix
 suffix ahead levels partial = record { ahead = ahead; levels = levels; partial = partial }
 
--- the next of the levels that are left
+-- the levels that are left: at the start all of them, then the next one, and none in the end
 module _ {State Outcome : Type 0} (outcome : State → List Suffix → Outcome) (c : Real) (cs : List Real) (s : List ℤ) (p : ℕ) where
+  pub begun : (state : State) (l : Rungs) (walk : List ℤ) (rest : List Suffix) → l ≡ c.ladder → walk ≡ levels l
+      → outcome state (below (c ∷ cs) s p ++ rest) ≡ outcome state (map (longer c cs s p) walk ++ rest)
+  begun state l walk rest e is = ap (λ (w : List ℤ). outcome state (map (longer c cs s p) w ++ rest)) (ap levels (sym e) ∙ sym is)
+
+  pub over : (state : State) (before : Outcome) (walk : List ℤ) (rest : List Suffix) → walk ≡ []
+      → before ≡ outcome state (map (longer c cs s p) walk ++ rest) → before ≡ outcome state rest
+  over state before walk rest e h = h ∙ ap (λ (w : List ℤ). outcome state (map (longer c cs s p) w ++ rest)) e
+
   pub arrived : (state : State) (before : Outcome) (walk xs all : List ℤ) (place n : ℕ) (x : ℤ) (rest : List Suffix) → walk ≡ x ∷ xs → Step c s all place n x
       → before ≡ outcome state (map (longer c cs s p) walk ++ rest)
       → before ≡ outcome state (suffix cs (drop place all) (p + n) ∷ (map (longer c cs s p) xs ++ rest))

@@ -1,5 +1,5 @@
 -- The walk of a certificate through the tree of suffixes, mark by mark.
-use Rattle.std.specs.Prelude.{◌≡◌, ⊤, ℕ, suc, ◌+◌, ◌*◌, ◌<◌, ◌≤◌, ℤ, unsigned_abs, List, [], ◌∷◌, ◌++◌, map, length, drop, Bool, true, false, nat_lt}
+use Rattle.std.specs.Prelude.{◌≡◌, ⊤, ℕ, suc, ◌+◌, ◌*◌, ◌^◌, ◌<◌, ◌≤◌, ℤ, unsigned_abs, List, [], ◌∷◌, ◌++◌, map, length, drop, Bool, true, false, nat_lt}
 use Rattle.std.specs.Prelude.{if◌then◌else◌, Option, Some, None, Result, Ok, Err}
 use Rattle.std.specs.List.{All}
 use Rattle.ht_metric.specs.Jobs.{JobView}
@@ -10,10 +10,14 @@ use Rattle.ht_sphere.specs.Searching.{better}
 use Rattle.ht_witness.specs.declared.check_fault.CheckFault.{CheckFault}
 use Rattle.ht_witness.specs.declared.check_fault.CheckFault.TheVariants.{Early, Better, Short, Long}
 
--- levels with room for each coordinate of a job
-pub record HaveRoom (job : JobView) (xs : List ℤ) : Type 0 where
+-- a walk can go on from a stream, counted from 1: the levels have room for each coordinate of the job, and the partial distance
+-- stays below a bound, whatever the streams up to this one add to it
+pub record CanWalk (job : JobView) (k : ℕ) (xs : List ℤ) (partial bound : ℕ) : Type 0 where
+  pub first : 1 ≤ k
+  pub last : k ≤ length job.system
   pub room : length xs ≡ 2 * length job.system
   pub levels : All (λ x. unsigned_abs x ≤ 7) xs
+  pub small : partial + 2 ^ 65 * k < bound
 
 -- levels that are the chosen ones from a place on
 pub record AreChosen (place : ℕ) (old xs : List ℤ) : Type 0 where

@@ -6,6 +6,7 @@ ghost use Rattle.ht_witness.specs.Certificates.{Checked};
 ghost use Rattle.ht_witness.specs.Marking.{marks_of};
 
 use crate::certificate::Certificate;
+use crate::marking::write;
 use crate::marks::Marks;
 use ht_metric::{Found, Job, Vector};
 use ht_pam::Steps;
@@ -44,7 +45,7 @@ pub fn certify_into(job: &Job, certificate: &mut Certificate) -> Result<(), Allo
     ensures streams { OnOk result (length certificate.new.vector ≡ length job.now.system) }
 {
     let Found { vector, distance } = find::<Brand>(job, Blank::new(1));
-    certificate.marks.write(job, distance)?;
+    write(job, distance, &mut certificate.marks)?;
     certificate.vector = vector;
     certificate.distance = distance;
     Ok(())

@@ -1,5 +1,5 @@
 //! From points to levels.
-ghost use Rattle.std.specs.Prelude.{◌≡◌, ◌*◌, ◌≤◌, length, take};
+ghost use Rattle.std.specs.Prelude.{◌≡◌, ◌*◌, length, take};
 ghost use Rattle.ht_metric.specs.Vectors.{levels_of};
 
 use ht_metric::Vector;

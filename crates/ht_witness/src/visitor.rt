@@ -1,5 +1,5 @@
 //! What is done on a walk.
-ghost use Rattle.std.specs.Prelude.{ℕ, List};
+ghost use Rattle.std.specs.Prelude.{List};
 ghost use Rattle.ht_witness.specs.Walks.{Suffix, IsAt, Visited};
 
 // What looks at each suffix that a walk comes to, and says whether the walk goes on below it.

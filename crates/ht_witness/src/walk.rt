@@ -1,8 +1,8 @@
 //! The walk through the tree of suffixes.
-ghost use Rattle.std.specs.Prelude.{◌≡◌, ◌+◌, ◌-◌, ◌*◌, ◌^◌, ◌≤◌, ◌<◌, [], ◌++◌, List, length, drop, unsigned_abs, OnOk};
+ghost use Rattle.std.specs.Prelude.{◌+◌, ◌-◌, ◌*◌, ◌^◌, [], ◌++◌, List, drop, OnOk};
 ghost use Rattle.ht_metric.specs.Jobs.{IsJob};
-ghost use Rattle.ht_sphere.specs.Coordinates.{i_at, down, from_q, from_i, IsAimed};
-ghost use Rattle.ht_witness.specs.Walks.{AreChosen, HaveRoom, Suffix, Walked, below};
+ghost use Rattle.ht_sphere.specs.Coordinates.{i_at, from_q, from_i, IsAimed};
+ghost use Rattle.ht_witness.specs.Walks.{AreChosen, CanWalk, Suffix, Walked, below};
 ghost use Rattle.ht_witness.specs.Certificates.{roots};
 
 use crate::ascending::{ascending, next};
@@ -21,30 +21,7 @@ pub(crate) fn walk<V: Visitor>(job: &Job, visitor: &V, state: &mut V::State) -> 
     quadrature(job, visitor, streams, levels, 0, state)
 }
 
-// Walks what is below the chosen levels, where k streams are still to be chosen.
-#[cycle(walk)]
-fn under<V: Visitor>(
-    job: &Job,
-    visitor: &V,
-    k: u8,
-    levels: &mut [i8],
-    partial: u128,
-    state: &mut V::State,
-) -> Result<(), V::Stop>
-    requires last { k ≤ length job.now.system }
-    requires levels { HaveRoom job.now levels.old }
-    requires small { partial + 2 ^ 65 * k < 2 ^ 128 }
-    ensures levels { OnOk result (AreChosen (2 * k) levels.old levels.new) }
-    ensures walked { (rest : List Suffix) → Walked (V.outcome visitor.now) V.stops
-        state.old (below (down job.now.system job.now.grid k) (drop (2 * k) levels.old) partial ++ rest) state.new rest result }
-{
-    if k == 0 {
-        return Ok(());
-    }
-    quadrature(job, visitor, k, levels, partial, state)
-}
-
-// The same from Q of stream k on.
+// Walks what is below the chosen levels, from Q of stream k on, which is counted from 1.
 #[cycle(walk)]
 fn quadrature<V: Visitor>(
     job: &Job,
@@ -54,10 +31,7 @@ fn quadrature<V: Visitor>(
     partial: u128,
     state: &mut V::State,
 ) -> Result<(), V::Stop>
-    requires first { 1 ≤ k }
-    requires last { k ≤ length job.now.system }
-    requires levels { HaveRoom job.now levels.old }
-    requires small { partial + 2 ^ 65 * k < 2 ^ 128 }
+    requires { CanWalk job.now k levels.old partial (2 ^ 128) }
     ensures levels { OnOk result (AreChosen (2 * k) levels.old levels.new) }
     ensures walked { (rest : List Suffix) → Walked (V.outcome visitor.now) V.stops
         state.old (below (from_q job.now.system job.now.grid (k - 1)) (drop (2 * k) levels.old) partial ++ rest) state.new rest result }
@@ -94,10 +68,7 @@ fn in_phase<V: Visitor>(
     partial: u128,
     state: &mut V::State,
 ) -> Result<(), V::Stop>
-    requires first { 1 ≤ k }
-    requires last { k ≤ length job.now.system }
-    requires levels { HaveRoom job.now levels.old }
-    requires small { partial + 2 ^ 65 * k < 2 ^ 128 + 2 ^ 64 }
+    requires ready { CanWalk job.now k levels.old partial (2 ^ 128 + 2 ^ 64) }
     requires aimed { IsAimed (i_at job.now.system job.now.grid (k - 1)) (drop (2 * k - 1) levels.old) d target }
     ensures levels { OnOk result (AreChosen (2 * k - 1) levels.old levels.new) }
     ensures walked { (rest : List Suffix) → Walked (V.outcome visitor.now) V.stops
@@ -109,10 +80,14 @@ fn in_phase<V: Visitor>(
         let both = partial + u128::from(cost(d, target, level));
         levels[slot] = level;
         match visitor.visit(slot, levels, both, state) {
-            Ok(true) => match under(job, visitor, k - 1, levels, both, state) {
-                Ok(()) => (),
-                Err(stop) => return Err(stop),
-            },
+            Ok(true) => {
+                if k > 1 {
+                    match quadrature(job, visitor, k - 1, levels, both, state) {
+                        Ok(()) => (),
+                        Err(stop) => return Err(stop),
+                    }
+                }
+            }
             Ok(false) => (),
             Err(stop) => return Err(stop),
         }

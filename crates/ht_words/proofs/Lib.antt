@@ -1,5 +1,4 @@
 pub mod Acceptance
-pub mod Channels
 pub mod Numbers
 pub mod Ranges
 pub mod ReadingLemmas

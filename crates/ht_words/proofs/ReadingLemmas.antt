@@ -11,59 +11,37 @@ use Rattle.ht_words.specs.declared.setting.Setting.TheVariants.{Workers, Window,
 use Rattle.ht_words.specs.Readings.{command_with, text_read}
 use Rattle.ht_words.specs.Settings.{default_of, default_text_of, name_of, plain_name_of}
 
+-- what holds of each option holds of all
+by_setting : (P : Setting → Type 0) → P Workers → P Window → P Seed → P Noise → P Frames → P Mcs → P Bandwidth → P Length → (setting : Setting) → P setting
+by_setting P a b c d e f g h Workers = a
+by_setting P a b c d e f g h Window = b
+by_setting P a b c d e f g h Seed = c
+by_setting P a b c d e f g h Noise = d
+by_setting P a b c d e f g h Frames = e
+by_setting P a b c d e f g h Mcs = f
+by_setting P a b c d e f g h Bandwidth = g
+by_setting P a b c d e f g h Length = h
+
 pub simple : (setting : Setting) → is_simple (command_with setting) ≡ true
 unfolding clap_on_literals
-simple Workers = refl
-simple Window = refl
-simple Seed = refl
-simple Noise = refl
-simple Frames = refl
-simple Mcs = refl
-simple Bandwidth = refl
-simple Length = refl
+simple = by_setting (λ (s : Setting). is_simple (command_with s) ≡ true) refl refl refl refl refl refl refl refl
 
 pub reads_given : (setting : Setting) (digits : List ℕ) → text_read setting (codes "radio" ∷ (name_of setting ++ 61 ∷ digits) ∷ []) ≡ Some digits
 unfolding clap_on_literals
-reads_given Workers digits = refl
-reads_given Window digits = refl
-reads_given Seed digits = refl
-reads_given Noise digits = refl
-reads_given Frames digits = refl
-reads_given Mcs digits = refl
-reads_given Bandwidth digits = refl
-reads_given Length digits = refl
+reads_given =
+    by_setting (λ (s : Setting). (digits : List ℕ) → text_read s (codes "radio" ∷ (name_of s ++ 61 ∷ digits) ∷ []) ≡ Some digits)
+    (λ digits. refl) (λ digits. refl) (λ digits. refl) (λ digits. refl) (λ digits. refl) (λ digits. refl) (λ digits. refl) (λ digits. refl)
 
 pub reads_default : (setting : Setting) → text_read setting (codes "radio" ∷ []) ≡ Some (default_text_of setting)
 unfolding clap_on_literals
-reads_default Workers = refl
-reads_default Window = refl
-reads_default Seed = refl
-reads_default Noise = refl
-reads_default Frames = refl
-reads_default Mcs = refl
-reads_default Bandwidth = refl
-reads_default Length = refl
+reads_default = by_setting (λ (s : Setting). text_read s (codes "radio" ∷ []) ≡ Some (default_text_of s)) refl refl refl refl refl refl refl refl
 
 -- a default is the number that its digits mean
 pub default_meant : (setting : Setting) → digits_value 10 (default_text_of setting) ≡ default_of setting
-default_meant Workers = refl
-default_meant Window = refl
-default_meant Seed = refl
-default_meant Noise = refl
-default_meant Frames = refl
-default_meant Mcs = refl
-default_meant Bandwidth = refl
-default_meant Length = refl
+default_meant = by_setting (λ (s : Setting). digits_value 10 (default_text_of s) ≡ default_of s) refl refl refl refl refl refl refl refl
 
 pub default_number : (setting : Setting) → is_number (default_text_of setting) ≡ true
-default_number Workers = refl
-default_number Window = refl
-default_number Seed = refl
-default_number Noise = refl
-default_number Frames = refl
-default_number Mcs = refl
-default_number Bandwidth = refl
-default_number Length = refl
+default_number = by_setting (λ (s : Setting). is_number (default_text_of s) ≡ true) refl refl refl refl refl refl refl refl
 
 -- what the matches of the command with the option have for it
 pub read_of : (setting : Setting) (words : List (List ℕ)) (app : App) (m : ArgMatches) (name : List ℕ)
@@ -97,25 +75,13 @@ known_default setting = ap is_some (reads_default setting)
 -- the command takes its words
 takes_spelled : (setting : Setting) (digits : List ℕ) → takes (command_with setting) (codes "radio" ∷ (name_of setting ++ 61 ∷ digits) ∷ []) ≡ true
 unfolding clap_on_literals
-takes_spelled Workers digits = refl
-takes_spelled Window digits = refl
-takes_spelled Seed digits = refl
-takes_spelled Noise digits = refl
-takes_spelled Frames digits = refl
-takes_spelled Mcs digits = refl
-takes_spelled Bandwidth digits = refl
-takes_spelled Length digits = refl
+takes_spelled =
+    by_setting (λ (s : Setting). (digits : List ℕ) → takes (command_with s) (codes "radio" ∷ (name_of s ++ 61 ∷ digits) ∷ []) ≡ true)
+    (λ digits. refl) (λ digits. refl) (λ digits. refl) (λ digits. refl) (λ digits. refl) (λ digits. refl) (λ digits. refl) (λ digits. refl)
 
 pub takes_default : (setting : Setting) → takes (command_with setting) (codes "radio" ∷ []) ≡ true
 unfolding clap_on_literals
-takes_default Workers = refl
-takes_default Window = refl
-takes_default Seed = refl
-takes_default Noise = refl
-takes_default Frames = refl
-takes_default Mcs = refl
-takes_default Bandwidth = refl
-takes_default Length = refl
+takes_default = by_setting (λ (s : Setting). takes (command_with s) (codes "radio" ∷ []) ≡ true) refl refl refl refl refl refl refl refl
 
 pub takes_given : (setting : Setting) (word name digits : List ℕ) → name ≡ name_of setting → word ≡ name ++ 61 ∷ digits
     → takes (command_with setting) (codes "radio" ∷ word ∷ []) ≡ true

@@ -2,3 +2,4 @@ pub mod Accepted
 pub mod Readings
 pub mod Settings
 pub mod Words
+pub mod Refusing

@@ -1,11 +1,11 @@
 //! What a call asks for.
-ghost use Rattle.std.specs.Prelude.{◌≡◌, ◌≤◌, ◌==◌, [], IfOk, IfSome, Some, None, if◌then◌else◌, map, string_bytes};
+ghost use Rattle.std.specs.Prelude.{◌≡◌, ◌≤◌, ◌==◌, [], IfOk, IfSome, if◌then◌else◌, map, string_bytes};
 ghost use Rattle.ht_rate.specs.Rates.{rate_at};
 ghost use Rattle.ht_words.specs.declared.setting.Setting.TheVariants.{Noise, Seed, Window, Workers};
-ghost use Rattle.ht_words.specs.declared.asked.Asked.TheVariants.{Channel, Detect, LegacyChannel, LegacyRx, Many, Rx, Soft};
 ghost use Rattle.ht_words.specs.Words.{IsWithinRanges, are_accepted, asked, demo_in, for_channel, for_demo, for_workers, only_if, value_of};
+ghost use Rattle.ht_words.specs.Refusing.{Reads, in_noise, in_threads};
 
-use crate::plain::{is_plain, value};
+use crate::plain::{Refusal, accept, value};
 use crate::setting::Setting;
 use ht_rate::Rate;
 use std::alloc::{AllocError, Global};
@@ -76,158 +76,113 @@ impl Asked {
         ensures value { IfOk result (λ answer. answer ≡ asked words.now) }
         ensures ranges { IfOk result (λ answer. IfSome answer IsWithinRanges) }
     {
-        let answer = by_command(alloc, words)?;
-        Ok(answer)
+        match by_command(alloc, words) {
+            Ok(asked) => Ok(Some(asked)),
+            Err(Refusal::Words) => Ok(None),
+            Err(Refusal::NoMemory) => Err(AllocError),
+        }
     }
 }
 
 /// What the words ask for, by their first.
-fn by_command(alloc: Global, words: &[String]) -> Result<Option<Asked>, AllocError>
-    ensures { IfOk result (λ answer. answer ≡ asked words.now) }
+fn by_command(alloc: Global, words: &[String]) -> Result<Asked, Refusal>
+    ensures { Reads (asked words.now) result }
 {
-    match words {
-        [command, options @ ..] => match command.as_str() {
-            "detect" => detect(alloc, options),
-            "rx" => rx(alloc, options),
-            "soft" => soft(alloc, options),
-            "many" => many(alloc, options),
-            "tx" => Ok(alone(options, Asked::Tx)),
-            "channel" => channel(alloc, options),
-            "upgrade" => Ok(alone(options, Asked::Upgrade)),
-            "certify" => Ok(alone(options, Asked::Certify)),
-            "check" => Ok(alone(options, Asked::Check)),
-            "lchannel" => legacy_channel(alloc, options),
-            "lrx" => legacy_rx(alloc, options),
-            "demo" => demo(alloc, options),
-            _ => Ok(None),
-        },
-        [] => Ok(None),
+    let [command, options @ ..] = words else {
+        return Err(Refusal::Words);
+    };
+    match command.as_str() {
+        "detect" => by_workers(alloc, options, Threaded::Detect),
+        "rx" => by_workers(alloc, options, Threaded::Rx),
+        "soft" => by_workers(alloc, options, Threaded::Soft),
+        "many" => by_workers(alloc, options, Threaded::Many),
+        "tx" => alone(options, Asked::Tx),
+        "channel" => through_noise(alloc, options, Noisy::Channel),
+        "upgrade" => alone(options, Asked::Upgrade),
+        "certify" => alone(options, Asked::Certify),
+        "check" => alone(options, Asked::Check),
+        "lchannel" => through_noise(alloc, options, Noisy::LegacyChannel),
+        "lrx" => by_workers(alloc, options, Threaded::LegacyRx),
+        "demo" => demo(alloc, options),
+        _ => Err(Refusal::Words),
     }
 }
 
 /// A command without options.
-fn alone(words: &[String], asked: Asked) -> Option<Asked>
-    ensures { result ≡ only_if (are_accepted [] (map string_bytes words.now)) asked }
+fn alone(words: &[String], asked: Asked) -> Result<Asked, Refusal>
+    ensures { Reads (only_if (are_accepted [] (map string_bytes words.now)) asked) result }
 {
-    words.is_empty().then_some(asked)
-}
-
-/// The options of workers: how many, and their window.
-fn for_workers(alloc: Global, words: &[String]) -> Result<Option<(u8, u16)>, AllocError>
-    ensures { let texts = map string_bytes words.now in
-        IfOk result (λ answer. answer ≡ (if are_accepted for_workers texts then Some (value_of texts Workers, value_of texts Window) else None)) }
-{
-    if !is_plain(words, &[Setting::Workers, Setting::Window]) {
-        return Ok(None);
+    if words.is_empty() {
+        Ok(asked)
+    } else {
+        Err(Refusal::Words)
     }
-    let Some(workers) = value(alloc, words, Setting::Workers)? else {
-        return Ok(None);
-    };
-    let Some(window) = value(alloc, words, Setting::Window)? else {
-        return Ok(None);
-    };
-    Ok(Some((workers as u8, window as u16)))
 }
 
-/// The command `detect`.
-fn detect(alloc: Global, words: &[String]) -> Result<Option<Asked>, AllocError>
-    ensures { let texts = map string_bytes words.now in
-        let asked = Detect (value_of texts Workers) (value_of texts Window) in
-        IfOk result (λ answer. answer ≡ only_if (are_accepted for_workers texts) asked) }
-{
-    let Some((workers, window)) = for_workers(alloc, words)? else {
-        return Ok(None);
-    };
-    Ok(Some(Asked::Detect { workers, window }))
+/// The commands that workers run.
+#[derive(Clone, Copy)]
+pub(crate) enum Threaded {
+    Detect,
+    Rx,
+    Soft,
+    Many,
+    LegacyRx,
 }
 
-/// The command `rx`.
-fn rx(alloc: Global, words: &[String]) -> Result<Option<Asked>, AllocError>
-    ensures { let texts = map string_bytes words.now in
-        let asked = Rx (value_of texts Workers) (value_of texts Window) in
-        IfOk result (λ answer. answer ≡ only_if (are_accepted for_workers texts) asked) }
-{
-    let Some((workers, window)) = for_workers(alloc, words)? else {
-        return Ok(None);
-    };
-    Ok(Some(Asked::Rx { workers, window }))
-}
-
-/// The command `soft`.
-fn soft(alloc: Global, words: &[String]) -> Result<Option<Asked>, AllocError>
-    ensures { let texts = map string_bytes words.now in
-        let asked = Soft (value_of texts Workers) (value_of texts Window) in
-        IfOk result (λ answer. answer ≡ only_if (are_accepted for_workers texts) asked) }
-{
-    let Some((workers, window)) = for_workers(alloc, words)? else {
-        return Ok(None);
-    };
-    Ok(Some(Asked::Soft { workers, window }))
-}
-
-/// The command `many`.
-fn many(alloc: Global, words: &[String]) -> Result<Option<Asked>, AllocError>
-    ensures { let texts = map string_bytes words.now in
-        let asked = Many (value_of texts Workers) (value_of texts Window) in
-        IfOk result (λ answer. answer ≡ only_if (are_accepted for_workers texts) asked) }
-{
-    let Some((workers, window)) = for_workers(alloc, words)? else {
-        return Ok(None);
-    };
-    Ok(Some(Asked::Many { workers, window }))
-}
-
-/// The command `lrx`.
-fn legacy_rx(alloc: Global, words: &[String]) -> Result<Option<Asked>, AllocError>
-    ensures { let texts = map string_bytes words.now in
-        let asked = LegacyRx (value_of texts Workers) (value_of texts Window) in
-        IfOk result (λ answer. answer ≡ only_if (are_accepted for_workers texts) asked) }
-{
-    let Some((workers, window)) = for_workers(alloc, words)? else {
-        return Ok(None);
-    };
-    Ok(Some(Asked::LegacyRx { workers, window }))
-}
-
-/// The options of a channel: its seed and its noise.
-fn for_channel(alloc: Global, words: &[String]) -> Result<Option<(u64, u16)>, AllocError>
-    ensures { let texts = map string_bytes words.now in
-        IfOk result (λ answer. answer ≡ (if are_accepted for_channel texts then Some (value_of texts Seed, value_of texts Noise) else None)) }
-{
-    if !is_plain(words, &[Setting::Seed, Setting::Noise]) {
-        return Ok(None);
+impl Threaded {
+    /// What the command asks for with this number of workers and this window.
+    fn asked(self, workers: u8, window: u16) -> Asked
+        ensures { result ≡ in_threads self workers window }
+    {
+        match self {
+            Threaded::Detect => Asked::Detect { workers, window },
+            Threaded::Rx => Asked::Rx { workers, window },
+            Threaded::Soft => Asked::Soft { workers, window },
+            Threaded::Many => Asked::Many { workers, window },
+            Threaded::LegacyRx => Asked::LegacyRx { workers, window },
+        }
     }
-    let Some(seed) = value(alloc, words, Setting::Seed)? else {
-        return Ok(None);
-    };
-    let Some(noise) = value(alloc, words, Setting::Noise)? else {
-        return Ok(None);
-    };
-    Ok(Some((seed, noise as u16)))
 }
 
-/// The command `channel`.
-fn channel(alloc: Global, words: &[String]) -> Result<Option<Asked>, AllocError>
+/// A command that workers run.
+fn by_workers(alloc: Global, words: &[String], command: Threaded) -> Result<Asked, Refusal>
     ensures { let texts = map string_bytes words.now in
-        let asked = Channel (value_of texts Seed) (value_of texts Noise) in
-        IfOk result (λ answer. answer ≡ only_if (are_accepted for_channel texts) asked) }
+        Reads (only_if (are_accepted for_workers texts) (in_threads command (value_of texts Workers) (value_of texts Window))) result }
 {
-    let Some((seed, noise)) = for_channel(alloc, words)? else {
-        return Ok(None);
-    };
-    Ok(Some(Asked::Channel { seed, noise }))
+    accept(words, &[Setting::Workers, Setting::Window])?;
+    let workers = value(alloc, words, Setting::Workers)?;
+    let window = value(alloc, words, Setting::Window)?;
+    Ok(command.asked(workers as u8, window as u16))
 }
 
-/// The command `lchannel`.
-fn legacy_channel(alloc: Global, words: &[String]) -> Result<Option<Asked>, AllocError>
+/// The commands that send frames through a channel with noise.
+#[derive(Clone, Copy)]
+pub(crate) enum Noisy {
+    Channel,
+    LegacyChannel,
+}
+
+impl Noisy {
+    /// What the command asks for with this seed and this size of the noise.
+    fn asked(self, seed: u64, noise: u16) -> Asked
+        ensures { result ≡ in_noise self seed noise }
+    {
+        match self {
+            Noisy::Channel => Asked::Channel { seed, noise },
+            Noisy::LegacyChannel => Asked::LegacyChannel { seed, noise },
+        }
+    }
+}
+
+/// A command that sends frames through a channel with noise.
+fn through_noise(alloc: Global, words: &[String], command: Noisy) -> Result<Asked, Refusal>
     ensures { let texts = map string_bytes words.now in
-        let asked = LegacyChannel (value_of texts Seed) (value_of texts Noise) in
-        IfOk result (λ answer. answer ≡ only_if (are_accepted for_channel texts) asked) }
+        Reads (only_if (are_accepted for_channel texts) (in_noise command (value_of texts Seed) (value_of texts Noise))) result }
 {
-    let Some((seed, noise)) = for_channel(alloc, words)? else {
-        return Ok(None);
-    };
-    Ok(Some(Asked::LegacyChannel { seed, noise }))
+    accept(words, &[Setting::Seed, Setting::Noise])?;
+    let seed = value(alloc, words, Setting::Seed)?;
+    let noise = value(alloc, words, Setting::Noise)?;
+    Ok(command.asked(seed, noise as u16))
 }
 
 /// The options of `demo`.
@@ -255,38 +210,19 @@ fn rate(bandwidth: u64, mcs: u64) -> Rate
 }
 
 /// The command `demo`.
-fn demo(alloc: Global, words: &[String]) -> Result<Option<Asked>, AllocError>
-    ensures { let texts = map string_bytes words.now in
-        IfOk result (λ answer. answer ≡ only_if (are_accepted for_demo texts) (demo_in texts)) }
+fn demo(alloc: Global, words: &[String]) -> Result<Asked, Refusal>
+    ensures { let texts = map string_bytes words.now in Reads (only_if (are_accepted for_demo texts) (demo_in texts)) result }
 {
-    if !is_plain(words, &DEMO) {
-        return Ok(None);
-    }
-    let Some(seed) = value(alloc, words, Setting::Seed)? else {
-        return Ok(None);
-    };
-    let Some(noise) = value(alloc, words, Setting::Noise)? else {
-        return Ok(None);
-    };
-    let Some(frames) = value(alloc, words, Setting::Frames)? else {
-        return Ok(None);
-    };
-    let Some(mcs) = value(alloc, words, Setting::Mcs)? else {
-        return Ok(None);
-    };
-    let Some(bandwidth) = value(alloc, words, Setting::Bandwidth)? else {
-        return Ok(None);
-    };
-    let Some(length) = value(alloc, words, Setting::Length)? else {
-        return Ok(None);
-    };
-    let Some(workers) = value(alloc, words, Setting::Workers)? else {
-        return Ok(None);
-    };
-    let Some(window) = value(alloc, words, Setting::Window)? else {
-        return Ok(None);
-    };
-    Ok(Some(Asked::Demo {
+    accept(words, &DEMO)?;
+    let seed = value(alloc, words, Setting::Seed)?;
+    let noise = value(alloc, words, Setting::Noise)?;
+    let frames = value(alloc, words, Setting::Frames)?;
+    let mcs = value(alloc, words, Setting::Mcs)?;
+    let bandwidth = value(alloc, words, Setting::Bandwidth)?;
+    let length = value(alloc, words, Setting::Length)?;
+    let workers = value(alloc, words, Setting::Workers)?;
+    let window = value(alloc, words, Setting::Window)?;
+    Ok(Asked::Demo {
         seed,
         noise: noise as u16,
         frames: frames as u16,
@@ -294,5 +230,5 @@ fn demo(alloc: Global, words: &[String]) -> Result<Option<Asked>, AllocError>
         length: length as u16,
         workers: workers as u8,
         window: window as u16,
-    }))
+    })
 }

@@ -1,14 +1,24 @@
 //! The plain form of words, and the values that they give to options.
-ghost use Rattle.std.specs.Prelude.{◌≡◌, ◌≤◌, ◌^◌, true, false, IfOk, IfSome, IfNone, IsTrue, map, option_map, string_bytes};
+ghost use Rattle.std.specs.Prelude.{◌≡◌, ◌≢◌, ◌≤◌, ◌^◌, true, false, Err, IfOk, IfSome, IfNone, IsTrue, OnErr, OnOk, map, option_map, string_bytes};
 ghost use Rattle.std.specs.Char.{is_ascii_digit};
 ghost use Rattle.std.specs.List.{list_all};
 ghost use Rattle.std.specs.Str.Parse.{digits_value};
+ghost use Rattle.ht_words.specs.declared.plain.Refusal.TheVariants.{NoMemory, Words};
 ghost use Rattle.ht_words.specs.Settings.{admits, default_of};
 ghost use Rattle.ht_words.specs.Words.{GivesNumbers, given, is_number, is_pair, is_plain, names_one, value_of};
 
 use crate::read::read;
 use crate::setting::Setting;
 use std::alloc::{AllocError, Global};
+
+/// Why words ask for nothing.
+#[derive(Clone, Copy, Debug, PartialEq, Eq)]
+pub(crate) enum Refusal {
+    /// They aren't accepted.
+    Words,
+    /// Out of memory.
+    NoMemory,
+}
 
 /// All octets are decimal digits.
 fn are_digits(octets: &[u8]) -> bool
@@ -53,7 +63,7 @@ fn is_pair(name: &str, digits: &str, others: &[String], settings: &[Setting]) ->
 }
 
 /// The words are pairs of an option's name and a number, and no name comes twice.
-pub fn is_plain(words: &[String], settings: &[Setting]) -> bool
+fn is_plain(words: &[String], settings: &[Setting]) -> bool
     ensures value { result ≡ is_plain settings.now (map string_bytes words.now) }
     ensures numbers { IsTrue result → GivesNumbers (map string_bytes words.now) }
 {
@@ -65,6 +75,20 @@ pub fn is_plain(words: &[String], settings: &[Setting]) -> bool
         rest = others;
     }
     rest.is_empty()
+}
+
+/// Refuses words that aren't pairs of one of these options and a number, each at most once.
+pub(crate) fn accept(words: &[String], settings: &[Setting]) -> Result<(), Refusal>
+    ensures plain { OnOk result (is_plain settings.now (map string_bytes words.now) ≡ true) }
+    ensures numbers { OnOk result (GivesNumbers (map string_bytes words.now)) }
+    ensures words { result ≢ Err NoMemory }
+    ensures refused { OnErr result (is_plain settings.now (map string_bytes words.now) ≡ false) }
+{
+    if is_plain(words, settings) {
+        Ok(())
+    } else {
+        Err(Refusal::Words)
+    }
 }
 
 /// The number that a text of 1 to 20 decimal digits means, where it has 64 bits.
@@ -113,18 +137,15 @@ fn meant(alloc: Global, words: &[String], setting: Setting) -> Result<Option<u64
 
 /// The value that words in the plain form give to an option, where it may have it.
 #[tactic(auto, using(crate::proofs::Numbers::admits_none_above))]
-pub fn value(alloc: Global, words: &[String], setting: Setting) -> Result<Option<u64>, AllocError>
+pub(crate) fn value(alloc: Global, words: &[String], setting: Setting) -> Result<u64, Refusal>
     requires { GivesNumbers (map string_bytes words.now) }
-    ensures some { IfOk result (λ answer. IfSome answer (λ value. value ≡ value_of (map string_bytes words.now) setting)) }
-    ensures fits { IfOk result (λ answer. IfSome answer (λ value. admits setting value ≡ true)) }
-    ensures none { IfOk result (λ answer. IfNone answer (admits setting (value_of (map string_bytes words.now) setting) ≡ false)) }
+    ensures value { IfOk result (λ value. value ≡ value_of (map string_bytes words.now) setting) }
+    ensures fits { IfOk result (λ value. admits setting value ≡ true) }
+    ensures refused { result ≡ Err Words → admits setting (value_of (map string_bytes words.now) setting) ≡ false }
 {
-    let Some(value) = meant(alloc, words, setting)? else {
-        return Ok(None);
-    };
-    if setting.admits(value) {
-        Ok(Some(value))
-    } else {
-        Ok(None)
+    match meant(alloc, words, setting) {
+        Ok(Some(value)) if setting.admits(value) => Ok(value),
+        Ok(_) => Err(Refusal::Words),
+        Err(_) => Err(Refusal::NoMemory),
     }
 }

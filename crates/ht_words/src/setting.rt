@@ -24,51 +24,43 @@ pub enum Setting {
 }
 
 impl Setting {
+    /// The word that names the option, its name without dashes, and the digits of its value where it isn't given.
+    fn row(self) -> (&'static str, &'static str, &'static str)
+        ensures name { result.0.now ≡ name_of self }
+        ensures plain { result.1.now ≡ plain_name_of self }
+        ensures default { result.2.now ≡ default_text_of self }
+    {
+        match self {
+            Setting::Workers => ("--workers", "workers", "4"),
+            Setting::Window => ("--window", "window", "256"),
+            Setting::Seed => ("--seed", "seed", "42"),
+            Setting::Noise => ("--noise", "noise", "0"),
+            Setting::Frames => ("--frames", "frames", "8"),
+            Setting::Mcs => ("--mcs", "mcs", "0"),
+            Setting::Bandwidth => ("--bandwidth", "bandwidth", "20"),
+            Setting::Length => ("--length", "length", "100"),
+        }
+    }
+
     /// The word that names the option.
     pub fn name(self) -> &'static str
         ensures { result.now ≡ name_of self }
     {
-        match self {
-            Setting::Workers => "--workers",
-            Setting::Window => "--window",
-            Setting::Seed => "--seed",
-            Setting::Noise => "--noise",
-            Setting::Frames => "--frames",
-            Setting::Mcs => "--mcs",
-            Setting::Bandwidth => "--bandwidth",
-            Setting::Length => "--length",
-        }
+        self.row().0
     }
 
     /// The name without its dashes.
     pub fn plain_name(self) -> &'static str
         ensures { result.now ≡ plain_name_of self }
     {
-        match self {
-            Setting::Workers => "workers",
-            Setting::Window => "window",
-            Setting::Seed => "seed",
-            Setting::Noise => "noise",
-            Setting::Frames => "frames",
-            Setting::Mcs => "mcs",
-            Setting::Bandwidth => "bandwidth",
-            Setting::Length => "length",
-        }
+        self.row().1
     }
 
     /// The digits of its value where it isn't given.
     pub fn default(self) -> &'static str
         ensures { result.now ≡ default_text_of self }
     {
-        match self {
-            Setting::Workers => "4",
-            Setting::Window => "256",
-            Setting::Seed => "42",
-            Setting::Noise | Setting::Mcs => "0",
-            Setting::Frames => "8",
-            Setting::Bandwidth => "20",
-            Setting::Length => "100",
-        }
+        self.row().2
     }
 
     /// It may have this value.

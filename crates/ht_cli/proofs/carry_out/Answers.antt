@@ -30,9 +30,9 @@ use Rattle.ht_cli.proofs.carry_out.Goals as goal
 pub returns-in-Some-Detect : goal.returns-in-Some-Detect
 returns-in-Some-Detect g c =
     let asked = c.in-Some-Detect.field-0-is in
-    let run = ends detect_text lines_of detects _ _ _ c.list_alone-heard.result _ _ _ c.put_end-listed.result c.settle.result
-    c.list_alone-heard.ensures.tells c.list_alone-heard.ensures.puts_later c.put_end-listed.ensures.puts
-    (later-later _ _ _ c.list_alone-heard.ensures.puts_later c.put_end-listed.ensures.later) c.settle.ensures.settles in search rules
+    let run = ends detect_text lines_of detects _ _ _ c.list_jobs_alone-heard.result _ _ _ c.put_end-listed.result c.settle.result
+    c.list_jobs_alone-heard.ensures.tells c.list_jobs_alone-heard.ensures.puts_later c.put_end-listed.ensures.puts
+    (later-later _ _ _ c.list_jobs_alone-heard.ensures.puts_later c.put_end-listed.ensures.later) c.settle.ensures.settles in search rules
 
 pub returns-in-Some-Rx : goal.returns-in-Some-Rx
 returns-in-Some-Rx g c =

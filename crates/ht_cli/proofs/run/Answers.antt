@@ -29,8 +29,8 @@ returns-in-Err g c =
 
 pub returns-in-Some-Detect : goal.returns-in-Some-Detect
 returns-in-Some-Detect g c =
-    let run = ends detect_text lines_of detects _ _ _ c.list-heard.result _ _ _ c.put_end-listed.result c.settle.result c.list-heard.ensures.tells
-    c.list-heard.ensures.puts_later c.put_end-listed.ensures.puts (later-later _ _ _ c.list-heard.ensures.puts_later c.put_end-listed.ensures.later)
+    let run = ends detect_text lines_of detects _ _ _ c.list_jobs-heard.result _ _ _ c.put_end-listed.result c.settle.result c.list_jobs-heard.ensures.tells
+    c.list_jobs-heard.ensures.puts_later c.put_end-listed.ensures.puts (later-later _ _ _ c.list_jobs-heard.ensures.puts_later c.put_end-listed.ensures.later)
     c.settle.ensures.settles in
     let words = c.in-Ok.ensures.value in search rules
 

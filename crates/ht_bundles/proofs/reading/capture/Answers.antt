@@ -7,8 +7,8 @@ returns-in-Err-clause-failed g c = λ left some.
 
 pub returns-in-Ok-octets-clause-whole : goal.returns-in-Ok-octets-clause-whole
 returns-in-Ok-octets-clause-whole g c =
-    takes_capture c.new.result c.in-Ok-octets.octets.items c.in-Ok.size (g.S.Source.shown c.args.source.now) (g.S.Source.shown c.size.new.source)
-    (g.S.Source.shown c.octets.new.source) c.new.ensures c.in-Ok-octets.ensures.size c.in-Ok.ensures.whole c.in-Ok-octets.ensures.whole
+    takes_capture c.from.result c.in-Ok-octets.octets.items c.in-Ok.size (g.S.Source.shown c.args.source.now) (g.S.Source.shown c.size.new.source)
+    (g.S.Source.shown c.octets.new.source) c.from.ensures c.in-Ok-octets.ensures.size c.in-Ok.ensures.whole c.in-Ok-octets.ensures.whole
 
 pub returns-in-Err-octets-clause-failed : goal.returns-in-Err-octets-clause-failed
 returns-in-Err-octets-clause-failed g c = λ left some.

@@ -34,7 +34,7 @@ returns-in-Ok-clause-told g c =
     let present = take c.args.so_far.count c.args.present.now in
     let count : length present ≡ c.args.so_far.count = length-take-le c.args.so_far.count c.args.present.now (omega (arith, c.requires.space)) in
     gives_more _ _ _ [] _ (flagged_false _ c.args.turn.now c.args.head.now c.args.carrier present _ _ _ _ _ c.in-Ok-false.field-0-test
-    (c.in-Ok-false.ensures.told present count)) c.in-Ok.ensures.told
+    (c.in-Ok-false.ensures.told present count)) (c.in-Ok.ensures.told c.args.turn.now c.args.head.now refl)
 
 pub returns-in-Ok-clause-added : goal.returns-in-Ok-clause-added
 returns-in-Ok-clause-added g c =
@@ -48,7 +48,8 @@ returns-in-Err-plain-clause-told g c =
     let present = take c.args.so_far.count c.args.present.now in
     let count : length present ≡ c.args.so_far.count = length-take-le c.args.so_far.count c.args.present.now (omega (arith, c.requires.space)) in
     gives_halts _ _ _ _ (flagged_false _ c.args.turn.now c.args.head.now c.args.carrier present _ _ _ _ _ c.in-Ok-false.field-0-test
-    (c.in-Ok-false.ensures.told present count)) c.in-Ok-false.ensures.later c.in-Err-plain.ensures.told
+    (c.in-Ok-false.ensures.told present count)) c.in-Ok-false.ensures.later
+    (c.in-Err-plain.ensures.told c.args.turn.now c.args.head.now refl)
 
 pub returns-in-Err-clause-told : goal.returns-in-Err-clause-told
 returns-in-Err-clause-told g c =

@@ -24,8 +24,8 @@ loop-index-init g c =
       later = c.in-Ok.ensures.later;
     }
 
-pub frame-requires-clause-room : goal.frame-requires-clause-room
-frame-requires-clause-room g c = let was = c.loop-index.invariant in omega (arith, was.place, was.frame, was.few, c.loop-index-test.true)
+pub frame-requires-clause-offset : goal.frame-requires-clause-offset
+frame-requires-clause-offset g c = let was = c.loop-index.invariant in omega (arith, was.place, was.frame, was.few, c.loop-index-test.true)
 
 pub frame-requires-clause-number : goal.frame-requires-clause-number
 frame-requires-clause-number g c = let was = c.loop-index.invariant in omega (arith, was.number, was.frame, was.few, c.loop-index-test.true)

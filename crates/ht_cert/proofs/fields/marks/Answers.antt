@@ -1,4 +1,4 @@
-use Rattle.std.proofs.Common.{◌≡◌, ◌+◌, ◌≤◌, List, Bool, [], ◌∙◌, refl, subst, arith, rules}
+use Rattle.std.proofs.Common.{◌≡◌, ◌+◌, ◌≤◌, List, Bool, refl, subst, arith, rules}
 use Rattle.byteorder.specs.Endian.{big_bytes}
 use Rattle.ht_io.specs.Devices.{Takes}
 use Rattle.ht_io.proofs.Calls.{later-later}
@@ -27,10 +27,9 @@ loop-read-init g c =
     let b = g.S.Source.shown c.count.new.source in
     let count = c.in-Ok.count in
     let few : count ≤ 33554432 = subst (λ (l : Limits). count ≤ l.most) c.mark_limits.ensures c.in-Ok.ensures.most in
-    let none : c.into_vec-marks.result.items ≡ [] = c.into_vec-marks.ensures ∙ (c.replace.ensures.value ∙ c.requires.none) in
     record {
       within = omega arith;
-      told = marks_begun c.args.turn.now c.args.into.now count c.args.at c.into_vec-marks.result.items a b few none
+      told = marks_begun c.args.turn.now c.args.into.now count c.args.at c.args.into.now.certificate.marks a b few c.requires.none
           (subst (λ (l : Limits). Takes a b (big_bytes l.width count)) c.mark_limits.ensures c.in-Ok.ensures.whole);
       later = c.in-Ok.ensures.later;
     }
@@ -40,7 +39,7 @@ returns-in-Err-some_marks-clause-told g c =
     let a = g.S.Source.shown c.args.source.now in
     let was = c.loop-read.invariant in
     marks_failed (here (Body (Marks c.args.turn.now c.args.into.now)) c.args.at a) c.args.turn.now
-    (with_marks c.args.into.now c.loop-read.marks.items) c.in-Ok.count c.loop-read.read c.min-more.result (c.args.at + 4 + c.loop-read.read)
+    (with_marks c.args.into.now c.loop-read.marks) c.in-Ok.count c.loop-read.read c.min-more.result (c.args.at + 4 + c.loop-read.read)
     (g.S.Source.shown c.loop-read.source) (g.S.Source.shown c.some_marks.new.source) c.in-Err-some_marks.fault
     c.loop-read-test.true (search rules) was.told was.later c.in-Err-some_marks.ensures.failed
 
@@ -51,7 +50,7 @@ loop-read-preserved g c =
     record {
       within = search rules;
       told = marks_read (here (Body (Marks c.args.turn.now c.args.into.now)) c.args.at a) c.args.turn.now c.args.into.now c.in-Ok.count c.loop-read.read
-          c.min-more.result (c.args.at + 4) c.loop-read.marks.items c.some_marks.new.marks.items (g.S.Source.shown c.loop-read.source)
+          c.min-more.result (c.args.at + 4) c.loop-read.marks c.some_marks.new.marks (g.S.Source.shown c.loop-read.source)
           (g.S.Source.shown c.some_marks.new.source) c.loop-read-test.true (search rules) was.told c.in-Ok-some_marks.ensures.read;
       later = later-later a (g.S.Source.shown c.loop-read.source) (g.S.Source.shown c.some_marks.new.source) was.later c.in-Ok-some_marks.ensures.later;
     }
@@ -60,8 +59,8 @@ pub returns-clause-told : goal.returns-clause-told
 returns-clause-told g c =
     let a = g.S.Source.shown c.args.source.now in
     let r = c.args.into.now in
-    let marks : List Bool = c.loop-read.marks.items in
+    let marks : List Bool = c.loop-read.marks in
     let end : c.loop-read.read ≡ c.in-Ok.count = omega (arith, c.loop-read-test.false, c.loop-read.invariant.within) in
     let old = here (Body (Marks c.args.turn.now r)) c.args.at a in
-    marks_whole_as old c.args.turn.now r _ c.from-2.result marks c.in-Ok.count c.loop-read.read (c.args.at + 4) (g.S.Source.shown c.loop-read.source)
-    end c.from-2.ensures c.requires.none refl c.loop-read.invariant.told
+    marks_whole_as old c.args.turn.now r _ marks c.in-Ok.count c.loop-read.read (c.args.at + 4) (g.S.Source.shown c.loop-read.source)
+    end c.requires.none refl c.loop-read.invariant.told

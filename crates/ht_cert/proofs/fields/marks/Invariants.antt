@@ -12,7 +12,7 @@ abbrev pub invariant-loop-read : goal.invariant-loop-read
 invariant-loop-read g l = record {
   within : l.read ≤ l.count;
   told : GivesMarks (here (Body (Marks l.turn l.fn.into)) l.at (g.S.Source.shown l.fn.source)) l.turn
-      (with_marks l.fn.into l.marks.items) (l.count - l.read) (l.at + 4 + l.read) (g.S.Source.shown l.source);
+      (with_marks l.fn.into l.marks) (l.count - l.read) (l.at + 4 + l.read) (g.S.Source.shown l.source);
   later : IsLater (g.S.Source.shown l.fn.source) (g.S.Source.shown l.source);
 }
 

@@ -39,10 +39,10 @@ returns-in_err-deliver-clause-leaves g c = record {
   in_turn = c.deliver.ensures.in_turn _ (c.in-Ok.ensures.along _ c.loop.invariant.along);
 }
 
-pub returns-then-is_home-clause-told : goal.returns-then-is_home-clause-told
-returns-then-is_home-clause-told g c = λ enough all is.
+pub returns-then-is_home-clause-by_number : goal.returns-then-is_home-clause-by_number
+returns-then-is_home-clause-by_number g c = λ enough all is.
     let now = g.F.BlockFeed.shown c.loop.feed in
-    c.in-Ok.ensures.told all (subst (λ (known : Option (List JobView)). IsAlong known now) is c.loop.invariant.along) (c.loop.invariant.told all is)
+    c.in-Ok.ensures.by_number all (subst (λ (known : Option (List JobView)). IsAlong known now) is c.loop.invariant.along) (c.loop.invariant.by_number all is)
 
 pub returns-then-is_err-clause-leaves : goal.returns-then-is_err-clause-leaves
 returns-then-is_err-clause-leaves g c = record {
@@ -67,8 +67,8 @@ loop-preserved g c =
       same = same_on c.args.helm.now c.supply.new.helm c.turn.new.helm
           (same_on c.args.helm.now c.loop.helm c.supply.new.helm so_far.same supplied.same) c.turn.ensures.same;
       along = delivered.along known (supplied.along known so_far.along);
-      told = λ all is. subst (λ (given : List (List JobView)). AreTold all (all_in given)) (sym c.turn.ensures.given)
-          (supplied.told all (subst (λ (known : Option (List JobView)). IsAlong known (seen c.loop.feed)) is so_far.along) (so_far.told all is));
+      by_number = λ all is. subst (λ (given : List (List JobView)). AreTold all (all_in given)) (sym c.turn.ensures.given)
+          (supplied.by_number all (subst (λ (known : Option (List JobView)). IsAlong known (seen c.loop.feed)) is so_far.along) (so_far.by_number all is));
       goes_on = goes_on_taken c.in-Ok.on (seen c.supply.new.feed) new supplied.running delivered.takes;
       leads = took g (goal.at.loop-preserved g c).After-deliver;
     }

@@ -15,7 +15,7 @@ invariant-loop g l = record {
   issued : l.tally.issued ≡ (g.F.BlockFeed.shown l.feed).count;
   same : IsSameHelm l.fn.helm l.helm;
   along : IsAlong (g.F.BlockFeed.shown l.fn.feed).left (g.F.BlockFeed.shown l.feed);
-  told : (all : List JobView) → (g.F.BlockFeed.shown l.fn.feed).left ≡ Some all → AreTold all (all_in l.helm.given);
+  by_number : (all : List JobView) → (g.F.BlockFeed.shown l.fn.feed).left ≡ Some all → AreTold all (all_in l.helm.given);
   goes_on : IsUnderWay l.running (g.F.BlockFeed.shown l.feed);
   leads : g.F.BlockFeed.leads l.fn.feed l.feed;
 }

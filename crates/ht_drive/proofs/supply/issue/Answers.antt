@@ -18,8 +18,8 @@ returns-else-not-give-clause-tallies g c =
     subst (λ (helm : BlockHelm). Tallies t' helm) (sym is)
     (issues_given t c.args.helm.now jobs c.requires.tallies c.requires.numbers c.requires.block t' issued refl)
 
-pub returns-else-not-give-clause-told : goal.returns-else-not-give-clause-told
-returns-else-not-give-clause-told g c =
+pub returns-else-not-give-clause-by_number : goal.returns-else-not-give-clause-by_number
+returns-else-not-give-clause-by_number g c =
     let jobs = g.B.Jobs.jobs c.args.block in
     let is : c.give.new.self ≡ gave c.args.helm.now jobs = search rules in
-    λ all told more. subst (λ (helm : BlockHelm). AreTold all (all_in helm.given)) (sym is) (told_given all c.args.helm.now jobs told more)
+    λ all by_number more. subst (λ (helm : BlockHelm). AreTold all (all_in helm.given)) (sym is) (told_given all c.args.helm.now jobs by_number more)

@@ -55,8 +55,8 @@ loop-running-preserved-else-is_err g c =
     let here = (goal.at.loop-running-preserved-else-is_err g c).After-issue in
     let given = gives g here in
     let good : is_err c.issue.result ≡ false = sym c.is_err.ensures.value ∙ c.if-is_err.false in
-    let told = on_ok c.issue.result ((all : List JobView) → AreTold all (all_in before.helm.given) → AreTold all jobs
-    → AreTold all (all_in c.issue.new.helm.given)) good c.issue.ensures.told in
+    let by_number = on_ok c.issue.result ((all : List JobView) → AreTold all (all_in before.helm.given) → AreTold all jobs
+    → AreTold all (all_in c.issue.new.helm.given)) good c.issue.ensures.by_number in
     record {
       holds = holds g here;
       capacity = ap (λ (w : WindowView). w.capacity) c.issue.ensures.window ∙ so_far.capacity;
@@ -64,7 +64,7 @@ loop-running-preserved-else-is_err g c =
       issued = omega (arith, c.issue.ensures.issued, so_far.issued, given.count);
       same = same_on c.args.helm.now before.helm c.issue.new.helm so_far.same c.issue.ensures.same;
       along = along g here;
-      told = λ all start first. told all (so_far.told all start first)
+      by_number = λ all start first. by_number all (so_far.by_number all start first)
           (told_block c.args.size all (seen before.feed) (seen c.next.new.self) jobs (so_far.along (Some all) start) (running g here) given);
       goes_on = goes_on_more c.args.size before.running (seen before.feed) (seen c.next.new.self) jobs c.loop-running-test.true so_far.goes_on given;
       leads = g.met.F.BlockFeed.goes_on _ _ _ so_far.leads c.next.ensures.leads;
@@ -85,7 +85,7 @@ loop-running-preserved g c =
       issued = so_far.issued ∙ sym ends.count;
       same = so_far.same;
       along = λ known start. along_end known old new (so_far.along known start) ends;
-      told = so_far.told;
+      by_number = so_far.by_number;
       goes_on = goes_on_end before.running old new so_far.goes_on ends;
       leads = g.met.F.BlockFeed.goes_on _ _ _ so_far.leads c.next.ensures.leads;
     }

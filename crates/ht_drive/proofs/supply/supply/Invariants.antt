@@ -15,7 +15,7 @@ invariant-loop-running g l = record {
   issued : l.tally.issued ≡ (g.F.BlockFeed.shown l.feed).count;
   same : IsSameHelm l.fn.helm l.helm;
   along : (known : Option (List JobView)) → IsAlong known (g.F.BlockFeed.shown l.fn.feed) → IsAlong known (g.F.BlockFeed.shown l.feed);
-  told : (all : List JobView) → IsAlong (Some all) (g.F.BlockFeed.shown l.fn.feed) → AreTold all (all_in l.fn.helm.given)
+  by_number : (all : List JobView) → IsAlong (Some all) (g.F.BlockFeed.shown l.fn.feed) → AreTold all (all_in l.fn.helm.given)
       → AreTold all (all_in l.helm.given);
   goes_on : IsUnderWay l.running (g.F.BlockFeed.shown l.feed);
   leads : g.F.BlockFeed.leads l.fn.feed l.feed;

@@ -1,6 +1,13 @@
-use Rattle.std.proofs.Common.{◌≡◌, ◌≤◌, ◌<◌, ◌+◌, ◌*◌, length, arith}
+use Rattle.std.proofs.Common.{◌≡◌, ◌≤◌, ◌<◌, ◌+◌, ◌*◌, ◌∙◌, List, drop, length, flat_map, length-append, sym, ap, arith}
+use Rattle.std.proofs.lemmas.Grind.{flat_map-append}
+use Rattle.std.proofs.lemmas.List.{length-drop, length-take}
+use Rattle.std.proofs.Math.Nat.{add-mul}
+use Rattle.ht_io.proofs.Calls.{later-later, takes-append}
+use Rattle.ht_fields.proofs.Putting.{takes_as}
+use Rattle.ht_pam.specs.declared.point.Point.{Point}
 use Rattle.ht_rate.specs.Rates.{carriers_of, streams_of, symbols_of}
 use Rattle.ht_tx.specs.Symbols.{points_of}
+use Rattle.ht_files.specs.Points.{point_octets}
 use Rattle.ht_files.proofs.PointRoutes.{points_of-few, room_left, symbols_all, symbols_end, symbols_read, width_some}
 use Rattle.ht_files.proofs.points.read_points.Goals as goal
 
@@ -24,6 +31,36 @@ overflow_add-at g c =
     let below : index < symbols_of r c.args.length = omega (arith, c.loop-index-test.true, c.symbols-index-end.ensures.value) in
     let room : size + carriers_of r * streams_of r ≤ points_of r c.args.length = room_left r c.args.length size index was.size below in
     omega (arith, was.place, room, points_of-few r c.args.length (omega arith), c.width-width.ensures.value, c.requires.place)
+
+pub loop-index-preserved : goal.loop-index-preserved
+loop-index-preserved g c =
+    let was = c.loop-index.invariant in
+    let (added, items, count, taken) = c.in-Ok.ensures.whole in
+    let w = carriers_of c.args.rate.now * streams_of c.args.rate.now in
+    let xs = c.loop-index.points.items in
+    let ys = c.symbol.new.points.items in
+    let before = g.S.Source.shown c.args.source.now in
+    let mid = g.S.Source.shown c.loop-index.source in
+    let after = g.S.Source.shown c.symbol.new.source in
+    let more : length ys ≡ length xs + w = omega (arith, ap length items, length-append xs added, count) in
+    record {
+      octets = takes_as before after _ _ (sym (flat_map-append point_octets xs added) ∙ ap (λ (z : List Point). flat_map point_octets z) (sym items))
+          (takes-append before mid after (flat_map point_octets xs) (flat_map point_octets added) was.octets taken);
+      size = omega (arith, more, was.size, add-mul c.loop-index.index 1 w);
+      place = omega (arith, more, was.place, c.width-width.ensures.value);
+      fitting = c.in-Ok.ensures.fitting;
+      room = c.in-Ok.ensures.room ∙ was.room;
+      block = omega (
+        arith,
+        length-append c.symbol.new.block (drop c.width-width.result c.loop-index.block),
+        length-drop c.width-width.result c.loop-index.block,
+        length-take c.width-width.result c.loop-index.block,
+        c.symbol.auto.block,
+        was.block,
+        c.width-width.ensures.bound,
+      );
+      later = later-later before mid after was.later c.in-Ok.ensures.later;
+    }
 
 pub returns-in-Err-clause-failed : goal.returns-in-Err-clause-failed
 returns-in-Err-clause-failed g c = λ left.

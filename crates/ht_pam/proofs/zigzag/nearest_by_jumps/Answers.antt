@@ -16,3 +16,13 @@ loop-width-preserved-then-middle-target c =
       above = λ more. subst (λ (n : ℕ). to_z w64 (of_z w64 c.args.target) ≤ℤ (pos c.args.d *ℤ (level c.args.size n -ℤ pos 1)))
           (two_halves at w half.1) (c.loop-width.invariant.above (omega (arith, half.1)));
     }
+
+pub loop-width-preserved : goal.loop-width-preserved
+loop-width-preserved c =
+    let half = halves c.loop-width.width c.loop-width.invariant.width (omega arith) in
+    record {
+      width = half.0;
+      within = omega (arith, half.1, c.loop-width.invariant.within);
+      below = c.loop-width.invariant.below;
+      above = λ more. search (rules, c.middle.ensures, c.if-middle-target.false);
+    }

@@ -1,7 +1,7 @@
 use Rattle.std.proofs.Common.{◌≡◌, length, arith, sym, ap, ◌∙◌}
 use Rattle.ht_parse.specs.Encoders.{list_of}
 use Rattle.ht_parse.specs.Streams.{share_of}
-use Rattle.ht_parse.proofs.Laid.{length-list_of, laid-step}
+use Rattle.ht_parse.proofs.Laid.{length-list_of, laid-step, size-more}
 use Rattle.ht_parse.proofs.Places.{place-within}
 use Rattle.ht_parse.proofs.Sizes.{sizes-symbol}
 use Rattle.ht_parse.proofs.streams.push_laid_round.Goals as goal
@@ -23,20 +23,19 @@ push_run-requires-clause-room c =
       sizes-symbol _ _ _ _ _ l.sizes,
       place-within l.encoders l.streams l.run l.rounds c.args.stream c.args.round c.loop-encoder.encoder
           c.requires.stream c.requires.round c.loop-encoder-test.true,
-      c.loop-encoder.invariant.count,
-      c.loop-encoder.invariant.room,
+      c.loop-encoder.invariant.size.count,
+      c.loop-encoder.invariant.size.room,
     )
 
 pub loop-encoder-preserved : goal.loop-encoder-preserved
 loop-encoder-preserved c = record {
-  count = omega (arith, c.push_run.ensures.len, c.loop-encoder.invariant.count);
-  room = c.push_run.ensures.room ∙ c.loop-encoder.invariant.room;
+  size = size-more _ _ _ _ c.args.layout.now.run _ _ _ c.loop-encoder.invariant.size c.push_run.ensures.len c.push_run.ensures.room (omega arith);
   laid =
       laid-step c.args.layout.now.rate c.args.layout.now.encoders c.args.layout.now.streams
       c.args.layout.now.run c.args.layout.now.rounds c.args.stream c.args.round c.loop-encoder.encoder
       c.bit-at.result _ c.args.first.now c.args.second.now c.of_encoder.result.now c.loop-encoder.bits.items
       c.push_run.new.bits.items c.args.layout.now.sizes c.requires.round c.loop-encoder-test.true
-      c.of_encoder.ensures c.bit-at.ensures.value c.loop-encoder.invariant.count
+      c.of_encoder.ensures c.bit-at.ensures.value c.loop-encoder.invariant.size.count
       (sym c.loop-encoder.bits.ok.0) (sym c.push_run.new.bits.ok.0 ∙ c.push_run.ensures.len)
       c.push_run.ensures.kept c.push_run.ensures.copied c.loop-encoder.invariant.laid;
 }

@@ -14,7 +14,7 @@ loop-at-preserved g c =
     let rate : l.tally.rate ≡ c.args.rate = l.invariant.rate in
     let was : IsTally l.tally.rate (take l.at all) l.tally = subst (λ (r : Rate). IsTally r (take l.at all) l.tally) (sym rate) l.invariant.is in
     let now : IsTally l.tally.rate (take l.at all ++ job ∷ []) new =
-    c.in_ok-add.ensures.added (take l.at all) job (sym c.place.ensures) c.pass-found.ensures.found was in
+    c.in_ok-add.ensures.added (take l.at all) job (sym c.place.ensures) c.run_gated-found.ensures.found was in
     let long = length-append (take l.at all) (job ∷ []) in
     record {
       count = omega (arith, long, l.invariant.count, l.invariant.is.count, now.count);

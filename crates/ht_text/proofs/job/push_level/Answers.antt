@@ -27,7 +27,7 @@ returns-clause-bytes c =
     let same : to_z w8 (of_z w8 c.args.level) ≡ c.args.level = to_z-of_z fits in
     let is : c.from.result ≡ 48 + unsigned_abs c.args.level = search rules in
     let few : unsigned_abs c.args.level < 10 = omega (arith, c.unsigned_abs-size.ensures.value, c.if-size-gt9.false) in
-    put_both _ _ _ piece c.args.level c.from.result c.push-2.ensures.bytes c.push_ascii.ensures.bytes is
+    put_both _ _ _ piece c.args.level c.from.result c.push.ensures.bytes c.push_ascii.ensures.bytes is
     (one_digit c.args.level piece few
     (subst (λ (n : ℤ). n <ℤ pos 0 → piece ≡ codes " -") same c.before_digits.ensures.negative)
     (subst (λ (n : ℤ). pos 0 ≤ℤ n → piece ≡ codes " ") same c.before_digits.ensures.other))

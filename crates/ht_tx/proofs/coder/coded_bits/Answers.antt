@@ -1,3 +1,7 @@
+use Rattle.std.proofs.Common.{◌≡◌, ◌++◌}
+use Rattle.std.proofs.lemmas.Result.{IfOk-weaker}
+use Rattle.ht_conv.specs.Code.{sent_bits}
+use Rattle.ht_tx.specs.Sources.{AreCoded}
 use Rattle.ht_tx.proofs.Coded.{coded-out, shared}
 use Rattle.ht_tx.proofs.coder.coded_bits.Goals as goal
 
@@ -7,8 +11,11 @@ split_encoders-requires c =
 
 pub returns : goal.returns
 returns c =
-    coded-out c.args.frame.now c.rate-rate.result c.pattern.result c.pattern-2.result c.in_ok-bits.bits.items c.as_slice.result.now
-    c.in_ok-inputs.inputs.first c.in_ok-inputs.inputs.second c.as_slice-2.result.now c.as_slice-3.result.now
-    c.in_ok-coded.coded.items c.in_ok-second.second.items c.as_slice-4.result.now c.extend_from_slice.new.self.items
-    c.rate-rate.ensures c.in_ok-bits.ensures c.as_slice.ensures.value c.in_ok-inputs.ensures c.as_slice-2.ensures c.as_slice-3.ensures
-    c.pattern.ensures c.pattern-2.ensures c.in_ok-coded.ensures c.in_ok-second.ensures c.as_slice-4.ensures.value c.in_ok-extend_from_slice.ensures.items
+    let f = c.args.frame.now in
+    let inputs = c.in_ok-inputs.inputs in
+    IfOk-weaker c.encoded.result
+    (λ bits. bits.items ≡ sent_bits c.pattern.result inputs.first ++ sent_bits c.pattern.result inputs.second)
+    (λ bits. AreCoded f bits.items)
+    (λ bits is. coded-out f c.rate-rate.result c.pattern.result c.in_ok-bits.bits.items c.as_slice.result.now inputs.first inputs.second bits.items
+    c.rate-rate.ensures c.in_ok-bits.ensures c.as_slice.ensures.value c.in_ok-inputs.ensures c.pattern.ensures is)
+    c.encoded.ensures

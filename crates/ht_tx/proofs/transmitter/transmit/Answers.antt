@@ -1,6 +1,6 @@
 use Rattle.std.proofs.Common.{◌≡◌, ◌∙◌, sym, subst, arith}
 use Rattle.ht_tx.specs.Symbols.{IsSymbols, SymbolsView}
-use Rattle.ht_tx.proofs.Carried.{room-for-all, none-carried, finished, sent-out}
+use Rattle.ht_tx.proofs.Carried.{room-for-all, room-left, none-carried, finished, sent-out}
 use Rattle.ht_tx.proofs.Wired.{symbol-starts, wired-out}
 use Rattle.ht_tx.proofs.transmitter.transmit.Goals as goal
 
@@ -30,6 +30,18 @@ push_symbol-requires-clause-wired c =
     c.symbols-symbols.ensures.value c.loop-symbol-test.true c.in_ok-coded.ensures
     c.as_slice.ensures.value c.behind-coded.ensures c.as_slice-in-loop-symbol.ensures.value
     c.in_ok-sources.ensures.len c.in_ok-sources.ensures.places
+
+pub push_symbol-requires-clause-room : goal.push_symbol-requires-clause-room
+push_symbol-requires-clause-room c =
+    room-left c.args.frame.now c.rate-rate.result c.octets.result.now c.symbols-symbols.result c.loop-symbol.symbol _
+    c.rate-rate.ensures c.octets.ensures.value c.symbols-symbols.ensures.value c.loop-symbol-test.true c.loop-symbol.invariant.room
+
+pub loop-symbol-preserved : goal.loop-symbol-preserved
+loop-symbol-preserved c = record {
+  count = c.push_symbol.ensures.len;
+  room = c.push_symbol.ensures.room ∙ c.loop-symbol.invariant.room;
+  carried = c.push_symbol.ensures.carried;
+}
 
 pub new-requires : goal.new-requires
 new-requires c =

@@ -4,7 +4,7 @@ use Rattle.ht_viterbi.specs.Lanes.{HasLanes, steps_at}
 use Rattle.ht_viterbi.proofs.Carried.{stretched}
 use Rattle.ht_viterbi.proofs.LaneSteps.{lanes-start}
 use Rattle.ht_viterbi.proofs.RowFacts.{steps-end}
-use Rattle.ht_viterbi.proofs.Steps.{choices-start}
+use Rattle.ht_viterbi.proofs.Steps.{choices-none}
 use Rattle.ht_viterbi.proofs.decoder.backwards.Goals as goal
 
 pub stretch-costs-requires-clause-behind : goal.stretch-costs-requires-clause-behind
@@ -15,7 +15,7 @@ stretch-costs-requires-clause-behind c =
 
 pub stretch-costs-requires-clause-chosen : goal.stretch-costs-requires-clause-chosen
 stretch-costs-requires-clause-chosen c =
-    choices-start _ _ (steps-end c.args.rows.now (length c.args.rows.now) (omega arith))
+    choices-none _ _ (steps-end c.args.rows.now (length c.args.rows.now) (omega arith))
 
 pub loop-at-init : goal.loop-at-init
 loop-at-init c =

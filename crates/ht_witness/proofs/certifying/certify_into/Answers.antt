@@ -12,7 +12,7 @@ returns-clause-checked c =
     let x = c.find-vector.result.vector in
     let d = c.find-vector.result.distance in
     let far : d ≡ distance_of job.system x = ap (λ (f : Found). f.distance) (c.find-vector.ensures.found ∙ near_is job x c.find-vector.ensures.near) in
-    accepted job record { vector = x; distance = d; marks = c.write.new.self } c.write.ensures.job c.find-vector.ensures.near far c.in_ok-write.ensures.written
+    accepted job record { vector = x; distance = d; marks = c.write.new.marks } c.write.ensures.job c.find-vector.ensures.near far c.in_ok-write.ensures.written
 
 pub returns-clause-streams : goal.returns-clause-streams
 returns-clause-streams c =

@@ -3,14 +3,11 @@ use Rattle.ht_sphere.specs.Coordinates.{q_at, i_at, from_q, from_i, down}
 use Rattle.ht_witness.specs.Walks.{AreChosen, Suffix, below, longer}
 use Rattle.ht_witness.proofs.walk.+walk.Given as goal
 
-abbrev pub decreases-under : goal.decreases-under
-decreases-under g l = 3 * l.k
-
 abbrev pub decreases-quadrature : goal.decreases-quadrature
-decreases-quadrature g l = 3 * l.k - 1
+decreases-quadrature g l = 2 * l.k
 
 abbrev pub decreases-in_phase : goal.decreases-in_phase
-decreases-in_phase g l = 3 * l.k - 2
+decreases-in_phase g l = 2 * l.k - 1
 
 -- the walk so far is to go on with the levels that are left
 abbrev pub invariant-quadrature-loop-level : goal.invariant-quadrature-loop-level

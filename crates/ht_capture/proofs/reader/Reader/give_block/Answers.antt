@@ -17,17 +17,17 @@ returns-clause-given c =
     record {
       told = λ source.
           gives_given c.args.due.now c.args.k count c.args.self.now c.lend.new.self _ source (arc_value c.in_ok-symbol.symbol) c.of.result
-          c.requires.stage e.same inside within e.symbol c.of.ensures (c.pass.ensures.told source);
-      counted = counted_part c.args.due.now c.args.k count c.args.most c.args.self.now c.pass.new.self (arc_value c.in_ok-symbol.symbol) c.of.result
+          c.requires.stage e.same inside within e.symbol c.of.ensures (c.move_past.ensures.told source);
+      counted = counted_part c.args.due.now c.args.k count c.args.most c.args.self.now c.move_past.new.self (arc_value c.in_ok-symbol.symbol) c.of.result
           c.requires.stage (omega (arith, c.min-count.ensures, c.requires.some, e.inside)) (omega (arith, c.min-count.ensures)) e.symbol c.of.ensures size
-          c.pass.ensures.counts;
+          c.move_past.ensures.counts;
       placed = (
         c.args.due.now,
         ap (λ (s : Stage). symbol_at s) c.requires.stage,
         placed_part c.args.due.now c.args.k count c.args.self.now.at c.args.self.now (arc_value c.in_ok-symbol.symbol) c.of.result
             e.fits inside within e.symbol c.of.ensures,
-        c.pass.ensures.follows,
+        c.move_past.ensures.follows,
       );
       going = search rules;
-      fewer = omega (arith, size, more_was, c.pass.ensures.fewer);
+      fewer = omega (arith, size, more_was, c.move_past.ensures.fewer);
     }

@@ -17,7 +17,7 @@ pub decode_received-requires-clause-received : goal.decode_received-requires-cla
 decode_received-requires-clause-received c =
     let s = c.args.self.now in
     sym (length-map c.deref.result.now known_of)
-    ∙ received-length s.rate c.args.octets s.erased s.encoder c.codeword_steps-steps.result c.args.labels.now c.pattern.result
+    ∙ received-length s.rate c.args.frame.now.octets s.erased s.encoder c.codeword_steps-steps.result c.args.frame.now.labels.now c.pattern.result
     (map known_of c.deref.result.now) c.codeword_steps-steps.ensures.value c.pattern.ensures (is-received c.deref.ensures.value c.in_ok-received.ensures)
 
 pub returns-clause-value : goal.returns-clause-value
@@ -27,8 +27,8 @@ returns-clause-value c =
     let p = c.pattern.result in
     let received = map known_of c.deref.result.now in
     IfOk-weaker c.decode_received.result (λ codeword. IsFound place_cost steps p received codeword.input codeword.distance)
-    (λ codeword. codeword ≡ codeword_of s.rate c.args.octets s.erased c.args.labels.now s.encoder)
-    (λ codeword. codeword-is s.rate c.args.octets s.erased s.encoder steps c.args.labels.now p received codeword c.codeword_steps-steps.ensures.value
+    (λ codeword. codeword ≡ codeword_of s.rate c.args.frame.now.octets s.erased c.args.frame.now.labels.now s.encoder)
+    (λ codeword. codeword-is s.rate c.args.frame.now.octets s.erased s.encoder steps c.args.frame.now.labels.now p received codeword c.codeword_steps-steps.ensures.value
     c.pattern.ensures (is-received c.deref.ensures.value c.in_ok-received.ensures) (omega (arith, c.codeword_steps-steps.ensures.low)))
     c.decode_received.ensures
 
@@ -46,12 +46,12 @@ returns-clause-few c =
     let p = c.pattern.result in
     let received = map known_of c.deref.result.now in
     let many =
-    received-length s.rate c.args.octets s.erased s.encoder c.codeword_steps-steps.result c.args.labels.now p received c.codeword_steps-steps.ensures.value c.pattern.ensures
+    received-length s.rate c.args.frame.now.octets s.erased s.encoder c.codeword_steps-steps.result c.args.frame.now.labels.now p received c.codeword_steps-steps.ensures.value c.pattern.ensures
     (is-received c.deref.ensures.value c.in_ok-received.ensures) in
     IfOk-weaker c.decode_received.result (λ codeword. IsFound place_cost c.codeword_steps-steps.result p received codeword.input codeword.distance)
     (λ codeword. codeword.distance ≤ 1073741824)
     (λ codeword found.
-    let far = found.distance in
+    let far = found.cost in
     let low = distance-low p received codeword.input c.codeword_steps-steps.result many in
     omega (arith, far, low, c.codeword_steps-steps.ensures.high))
     c.decode_received.ensures

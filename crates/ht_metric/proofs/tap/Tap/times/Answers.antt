@@ -1,5 +1,5 @@
 use Rattle.std.proofs.Common.{◌∙◌, ◌+ℤ◌, ◌-ℤ◌, ◌*ℤ◌, ℤ, ap, w64, arith, rules}
-use Rattle.ht_metric.proofs.Signs.{passed, subtracts, adds, subtracts_bound}
+use Rattle.ht_metric.proofs.Signs.{passed, subtracts, adds, subtracts_bound, adds_bound}
 use Rattle.ht_metric.proofs.tap.Tap.times.Goals as goal
 
 pub returns-clause-re : goal.returns-clause-re
@@ -21,3 +21,7 @@ returns-clause-im c =
 pub returns-clause-re_bound : goal.returns-clause-re_bound
 returns-clause-re_bound c =
     subtracts_bound w64 c.multiplied.result c.multiplied-2.result 229376 229376 c.multiplied.ensures.bound c.multiplied-2.ensures.bound (omega arith)
+
+pub returns-clause-im_bound : goal.returns-clause-im_bound
+returns-clause-im_bound c =
+    adds_bound w64 c.multiplied-3.result c.multiplied-4.result 229376 229376 c.multiplied-3.ensures.bound c.multiplied-4.ensures.bound (omega arith)
