@@ -1,5 +1,6 @@
 //! Decoding of a codeword that came with some places wrong.
 use crate::random::Random;
+use crate::sums::folded;
 use ht_conv::{encode, sent};
 use ht_rate::Pattern;
 use ht_soft::soft_decode;
@@ -61,7 +62,7 @@ impl Line {
             let answer = self.decoded(alloc, &received, &weights)?;
             checksum = checksum.wrapping_add(answer.cost);
             if left == 0 {
-                checksum = folded(checksum, answer.input.as_slice());
+                checksum = with_bits(checksum, answer.input.as_slice());
             }
         }
         Ok(checksum)
@@ -132,8 +133,7 @@ fn weights_of(alloc: Global, received: &[Option<bool>]) -> Result<Vec<i32>, Allo
 }
 
 // A checksum that depends on each bit and its place.
-fn folded(start: u64, bits: &[bool]) -> u64 {
-    bits.iter().fold(start, |sum, bit| {
-        (sum ^ u64::from(*bit)).wrapping_mul(0x100_0000_01b3)
-    })
+fn with_bits(start: u64, bits: &[bool]) -> u64 {
+    bits.iter()
+        .fold(start, |sum, bit| folded(sum, u64::from(*bit)))
 }

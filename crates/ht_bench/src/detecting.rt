@@ -63,13 +63,11 @@ impl Line {
 
 // A checksum that depends on each hit and its place.
 fn detected(detector: Detector, jobs: &[Job], start: u64) -> u64 {
-    match detector {
-        Detector::Nearest => all_nearest::<Brand>(jobs, start, Blank::new(1)),
-        Detector::IntoHit => all_into_hits::<Brand>(jobs, start, Blank::new(1)),
-    }
+    counted::<Brand>(detector, jobs, start, Blank::new(1))
 }
 
-fn all_nearest<L: Ledger>(jobs: &[Job], start: u64, blank: Blank) -> u64
+// The same, with steps of this blank's counter.
+fn counted<L: Ledger>(detector: Detector, jobs: &[Job], start: u64, blank: Blank) -> u64
     requires name { blank.name ≡ L.name }
     requires parts { blank.parts ≡ L.parts }
     requires some { 0 < blank.parts }
@@ -77,20 +75,11 @@ fn all_nearest<L: Ledger>(jobs: &[Job], start: u64, blank: Blank) -> u64
     let mut steps = Steps::<L>::new(blank);
     let mut checksum = start;
     for job in jobs {
-        checksum = with_hit(checksum, &nearest(job, &mut steps));
-    }
-    checksum
-}
-
-fn all_into_hits<L: Ledger>(jobs: &[Job], start: u64, blank: Blank) -> u64
-    requires name { blank.name ≡ L.name }
-    requires parts { blank.parts ≡ L.parts }
-    requires some { 0 < blank.parts }
-{
-    let mut steps = Steps::<L>::new(blank);
-    let mut checksum = start;
-    for job in jobs {
-        checksum = with_hit(checksum, &into_hit(job.copy(), &mut steps));
+        let hit = match detector {
+            Detector::Nearest => nearest(job, &mut steps),
+            Detector::IntoHit => into_hit(job.copy(), &mut steps),
+        };
+        checksum = with_hit(checksum, &hit);
     }
     checksum
 }

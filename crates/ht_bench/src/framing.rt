@@ -3,6 +3,7 @@ ghost use Rattle.std.specs.Prelude.{◌≡◌, ◌≤◌, IfOk, length};
 ghost use Rattle.ht_inverse.specs.Received.{labels_in_frame};
 
 use crate::random::Random;
+use crate::sums::folded;
 use ht_inverse::{Alone, Decoded, Decoder, Outcome};
 use ht_rate::Rate;
 use std::alloc::{AllocError, Global};
@@ -42,7 +43,7 @@ impl Line {
             let decoded = decoder.decode(alloc, &self.rate, octets, 0, &labels)?;
             checksum = checksum.wrapping_add(u64::from(decoded.code));
             if left == 0 {
-                checksum = folded(checksum, &decoded);
+                checksum = with_octets(checksum, &decoded);
             }
         }
         Ok(checksum)
@@ -65,11 +66,12 @@ fn labels(alloc: Global, rate: &Rate, octets: u16) -> Result<Vec<u8>, AllocError
 }
 
 // A checksum that depends on each octet and its place.
-fn folded(start: u64, decoded: &Decoded) -> u64 {
+fn with_octets(start: u64, decoded: &Decoded) -> u64 {
     match &decoded.outcome {
-        Outcome::Octets(octets) => octets.as_slice().iter().fold(start, |sum, octet| {
-            (sum ^ u64::from(*octet)).wrapping_mul(0x100_0000_01b3)
-        }),
+        Outcome::Octets(octets) => octets
+            .as_slice()
+            .iter()
+            .fold(start, |sum, octet| folded(sum, u64::from(*octet))),
         Outcome::SeedZero => start,
     }
 }

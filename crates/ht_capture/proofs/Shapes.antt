@@ -1,12 +1,15 @@
 -- Lists of subcarriers, one after another.
-use Rattle.std.proofs.Common.{◌≡◌, ℕ, ◌+◌, ◌<◌, ◌≤◌, Bool, ◌&&◌, List, [], ◌∷◌, ◌++◌, length, take, drop, get_or, sym, ap, ◌∙◌, arith}
+use Rattle.std.proofs.Common.{◌≡◌, ℕ, ◌+◌, ◌<◌, ◌≤◌, Bool, ◌&&◌, List, [], ◌∷◌, ◌++◌, length, take, drop, get_or, sym, ap, subst, ◌∙◌, arith}
 use Rattle.std.specs.Bool.{Decides}
+use Rattle.std.specs.List.{All}
 use Rattle.std.proofs.lemmas.Bool.Decides.{Decides-and, Decides-like}
 use Rattle.std.proofs.lemmas.List.{get_or-drop, get_or-map, get_or-take, length-drop, length-map, map-append, take-take, take_more, take_more_same}
+use Rattle.ht_metric.specs.Rows.{Leg}
 use Rattle.ht_capture.specs.declared.places.Present.{Present}
 use Rattle.ht_capture.specs.declared.template.Template.{Template}
 use Rattle.ht_capture.specs.Parts.{presents_of}
 use Rattle.ht_capture.specs.Presents.{present_of}
+use Rattle.ht_capture.specs.Taking.{triangles_of}
 
 -- one subcarrier more is the same
 pub same_more : (xs ys : List Present) (at : ℕ) (d : Present) (same one : Bool) → at < length xs → at < length ys
@@ -55,3 +58,15 @@ presents_more templates t present at d lt so_far is =
     map-append (λ (x : Template). present_of x.job) templates (t ∷ [])
     ∙ (ap (λ (ps : List Present). ps ++ present_of t.job ∷ []) so_far
     ∙ (ap (λ (p : Present). take at present ++ p ∷ []) is ∙ sym (take_more present at d lt)))
+
+pub all_one : (P : Template → Type 0) (t : Template) → P t → All P (t ∷ [])
+all_one P t p = λ k d lt. let first : 0 ≡ k = omega (arith, lt) in subst (λ (i : ℕ). P (get_or (t ∷ []) i d)) first p
+
+-- one triangle more
+pub triangles_more : (present : List Present) (k : ℕ) (one : Present) (was now : List (List Leg)) → k < length present → one ≡ get_or present k one
+    → was ≡ triangles_of (take k present) → now ≡ was ++ one.triangle ∷ [] → now ≡ triangles_of (take (k + 1) present)
+triangles_more present k one was now lt at so_far is =
+    is
+    ∙ (ap (λ (ts : List (List Leg)). ts ++ one.triangle ∷ []) so_far
+    ∙ (sym (map-append (λ (p : Present). p.triangle) (take k present) (one ∷ []))
+    ∙ ap (λ (ps : List Present). triangles_of ps) (ap (λ (p : Present). take k present ++ p ∷ []) at ∙ sym (take_more present k one lt))))

@@ -1,10 +1,13 @@
 -- Octets that are put one after another.
-use Rattle.std.proofs.Common.{◌≡◌, ℕ, zero, suc, ◌+◌, ◌*◌, ◌-◌, ◌<◌, ◌≤◌, List, [], ◌∷◌, ◌++◌, length, drop}
+use Rattle.std.proofs.Common.{◌≡◌, ℕ, zero, suc, ◌+◌, ◌*◌, ◌-◌, ◌<◌, ◌≤◌, List, [], ◌∷◌, ◌++◌, length, drop, take, get_or}
 use Rattle.std.proofs.Common.{slice_index_or, flat_map, Bool, true, false, if◌then◌else◌, Option}
 use Rattle.std.proofs.Common.{refl, sym, ap, subst, ◌∙◌, append_assoc, length-append, arith}
-use Rattle.std.proofs.lemmas.List.{get_or-drop, drop-drop, length-drop, append-nil, drop_all}
+use Rattle.std.proofs.lemmas.Grind.{flat_map-append}
+use Rattle.std.proofs.lemmas.List.{get_or-drop, drop-drop, length-drop, append-nil, drop_all, take_more}
+use Rattle.std.specs.Prelude.{Result, Ok, Err, OnOk}
+use Rattle.ht_fields.proofs.Putting.{part_first}
 use Rattle.ht_io.specs.Pieces.{KnownGrown, KnownGrownByPart}
-use Rattle.ht_io.proofs.Pieces.{grown_by_part-append}
+use Rattle.ht_io.proofs.Pieces.{grown-append, grown_by_part-append}
 use Rattle.ht_metric.specs.declared.sample.Sample.{Sample}
 use Rattle.std.proofs.Math.Seq.{drop-cons}
 use Rattle.ht_metric.specs.declared.tap.Tap.{Tap}
@@ -125,3 +128,57 @@ unfolding capture_frame_octets
 behind_front version f held mid new put samples a is same b =
     grown_by_part-append held mid new (front_octets version f) (flat_map sample_octets f.samples) (subst (λ (p : List ℕ). KnownGrown held mid p) is a)
     (subst (λ (s : List Sample). KnownGrownByPart mid new (flat_map sample_octets s)) same b)
+
+-- the octets of one sample more
+samples_next : (chunk new : List ℕ) (samples : List Sample) (k : ℕ) (d : Sample) → k < length samples
+    → chunk ≡ flat_map sample_octets (take k samples) → new ≡ chunk ++ sample_octets (get_or samples k d)
+    → new ≡ flat_map sample_octets (take (k + 1) samples)
+samples_next chunk new samples k d lt is put =
+    let front = flat_map sample_octets (take k samples) in
+    let one : Sample = get_or samples k d in
+    put ∙ (ap (λ (c : List ℕ). c ++ sample_octets one) is
+    ∙ (ap (λ (o : List ℕ). front ++ o) (sym (append-nil (sample_octets one)))
+    ∙ (sym (flat_map-append sample_octets (take k samples) (one ∷ []))
+    ∙ sym (ap (λ (xs : List Sample). flat_map sample_octets xs) (take_more samples k d lt)))))
+
+samples_size : (chunk new : List ℕ) (s : Sample) (k : ℕ) → length chunk ≡ 8 * k → new ≡ chunk ++ sample_octets s → length new ≡ 8 * (k + 1)
+samples_size chunk new s k size put = omega (arith, ap length put, length-append chunk (sample_octets s))
+
+pub sample_added : (chunk new : List ℕ) (samples : List Sample) (k : ℕ) (d : Sample) → k < length samples
+    → chunk ≡ flat_map sample_octets (take k samples) → length chunk ≡ 8 * k → new ≡ chunk ++ sample_octets (get_or samples k d)
+    → (new ≡ flat_map sample_octets (take (k + 1) samples)) × (length new ≡ 8 * (k + 1))
+sample_added chunk new samples k d lt is size put =
+    (samples_next chunk new samples k d lt is put, samples_size chunk new (get_or samples k d) k size put)
+
+-- the octets of one frame more
+pub frames_next : (f : CaptureFrame → List ℕ) (frames : List CaptureFrame) (k : ℕ) (x : CaptureFrame) (start : List ℕ) (held mid new : Option (List ℕ))
+    → k < length frames → x ≡ get_or frames k x → KnownGrown held mid (start ++ flat_map f (take k frames)) → KnownGrown mid new (f x)
+    → KnownGrown held new (start ++ flat_map f (take (k + 1) frames))
+frames_next f frames k x start held mid new lt at a b =
+    let front = flat_map f (take k frames) in
+    let more : front ++ f x ≡ flat_map f (take (k + 1) frames) =
+    ap (λ (z : List ℕ). front ++ z) (sym (append-nil (f x)))
+    ∙ (sym (flat_map-append f (take k frames) (x ∷ []))
+    ∙ ap (λ (xs : List CaptureFrame). flat_map f xs)
+    (ap (λ (y : CaptureFrame). take k frames ++ y ∷ []) at ∙ sym (take_more frames k x lt))) in
+    subst (λ (w : List ℕ). KnownGrown held new w) (append_assoc start front (f x) ∙ ap (λ (z : List ℕ). start ++ z) more)
+    (grown-append held mid new (start ++ front) (f x) a b)
+
+-- a frame, behind its front
+pub behind_front_all : (version : ℕ) (f : CaptureFrame) (held mid new : Option (List ℕ)) (put : List ℕ) (samples : List Sample)
+    → KnownGrown held mid put → put ≡ front_octets version f → samples ≡ f.samples
+    → KnownGrown mid new (flat_map sample_octets samples) → KnownGrown held new (capture_frame_octets version f)
+unfolding capture_frame_octets
+behind_front_all version f held mid new put samples a is same b =
+    grown-append held mid new (front_octets version f) (flat_map sample_octets f.samples) (subst (λ (p : List ℕ). KnownGrown held mid p) is a)
+    (subst (λ (s : List Sample). KnownGrown mid new (flat_map sample_octets s)) same b)
+
+-- a part of its front
+pub part_of_front : (version : ℕ) (f : CaptureFrame) (held new : Option (List ℕ)) (put : List ℕ) → put ≡ front_octets version f
+    → KnownGrownByPart held new put → KnownGrownByPart held new (capture_frame_octets version f)
+unfolding capture_frame_octets
+part_of_front version f held new put is a = part_first held new put (front_octets version f) (flat_map sample_octets f.samples) _ is refl a
+
+pub on_ok_then : {A E : Type 0} (P Q : Type 0) (r : Result A E) → (P → Q) → OnOk r P → OnOk r Q
+on_ok_then P Q (Ok x) f p = f p
+on_ok_then P Q (Err e) f p = tt

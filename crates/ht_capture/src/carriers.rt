@@ -22,7 +22,7 @@ use ht_metric::Triangle;
 use ht_rate::Rate;
 
 /// How far the subcarriers of a frame were read: the number of those that are present, and the offset behind them.
-#[derive(Clone, Copy, Debug, PartialEq, Eq)]
+#[derive(Clone, Copy, Debug)]
 pub struct Gathered {
     pub count: usize,
     pub at: u64,

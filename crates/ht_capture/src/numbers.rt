@@ -1,7 +1,7 @@
 //! Triangles and samples from their octets, and as octets, big-endian.
 ghost use Rattle.std.specs.Prelude.{◌≡◌, ◌+◌, ◌*◌, ◌≤◌, ◌-◌, ◌++◌, length, replicate};
 ghost use Rattle.ht_metric.specs.Rows.{no_sample};
-ghost use Rattle.ht_capture.specs.Files.{tap_octets};
+ghost use Rattle.ht_capture.specs.Files.{sample_octets, tap_octets};
 ghost use Rattle.ht_capture.specs.Numbers.{sample_at, tap_at, unsigned_at};
 ghost use Rattle.ht_capture.specs.Systems.{samples_at, triangle_octets, triangle_of};
 
@@ -178,4 +178,13 @@ pub fn add_tap(chunk: &mut Chunk, tap: Tap)
 {
     chunk.add(&tap.re.to_be_bytes());
     chunk.add(&tap.im.to_be_bytes());
+}
+
+/// Adds the octets of a sample.
+pub fn add_sample(chunk: &mut Chunk, sample: Sample)
+    requires { length chunk.old + 8 ≤ 4096 }
+    ensures { chunk.new ≡ chunk.old ++ sample_octets sample }
+{
+    chunk.add(&sample.re.to_be_bytes());
+    chunk.add(&sample.im.to_be_bytes());
 }

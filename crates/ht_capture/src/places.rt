@@ -3,7 +3,7 @@ use crate::items::FrameHead;
 use ht_metric::Triangle;
 
 /// How many frames are still due, and the numbers of the next frame and the next job.
-#[derive(Clone, Copy, Debug, PartialEq, Eq)]
+#[derive(Clone, Copy, Debug)]
 pub struct Turn {
     /// The version of the capture, 1 or 2.
     pub version: u8,
@@ -16,7 +16,7 @@ pub struct Turn {
 }
 
 /// The symbol that is due.
-#[derive(Clone, Copy, Debug, PartialEq, Eq)]
+#[derive(Clone, Copy, Debug)]
 pub struct SymbolTurn {
     /// The frames that are due, the symbol's own among them, and the number of its first job.
     pub turn: Turn,

@@ -1,6 +1,6 @@
 //! The reader of captures.
-ghost use Rattle.std.specs.Prelude.{◌≡◌, ◌<◌, ◌≤◌, ◌+◌, ◌-◌, ◌*◌, ℕ, List, [], ◌∷◌, None, Some, Ok, Err, Result, length, take, is_some, false, MatchResult, IfOk};
-ghost use Rattle.std.specs.Prelude.{IfErr, IfSome, IfNone};
+ghost use Rattle.std.specs.Prelude.{◌≡◌, ◌<◌, ◌≤◌, ◌+◌, ◌-◌, ◌*◌, ℕ, List, [], ◌∷◌, None, Some, Ok, Err, Result, length, take, is_some, false};
+ghost use Rattle.std.specs.Prelude.{MatchResult, IfOk, IfErr, IfSome, IfNone};
 ghost use Rattle.ht_io.specs.Devices.{Device, IsLater};
 ghost use Rattle.ht_io.specs.declared.faults.InFault.{InFault as InFaultValue};
 ghost use Rattle.ht_io.specs.declared.faults.InFault.TheVariants.{NoMemory};

@@ -3,7 +3,7 @@ use crate::places::{SymbolTurn, Turn};
 use ht_io::InFault;
 
 /// What a reader does next.
-#[derive(Clone, Copy, Debug, PartialEq, Eq)]
+#[derive(Clone, Copy, Debug)]
 pub enum Stage {
     /// It reads the magic.
     Begin,

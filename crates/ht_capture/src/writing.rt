@@ -110,8 +110,7 @@ fn fill(chunk: &mut Chunk, samples: &[Sample])
 {
     chunk.clear();
     for sample in samples {
-        chunk.add(&sample.re.to_be_bytes());
-        chunk.add(&sample.im.to_be_bytes());
+        numbers::add_sample(chunk, *sample);
     }
 }
 

@@ -68,7 +68,7 @@ fn weigh(modulation: Modulation, job: &Job, bit: u8) -> i32
     requires full { job.now.grid ≡ replicate (length job.now.grid) (axes_of modulation) }
     requires bit { bit < bits_of modulation }
 {
-    let _streams = job.grid().streams();
+    let _streams = job.grid().streams(); // at least one, which only the proof asks for
     let zero = plain_nearest(&half(modulation, job, 0, 1, bit, false));
     let one = plain_nearest(&half(modulation, job, 1, 1, bit, true));
     weight(zero.distance(), one.distance())

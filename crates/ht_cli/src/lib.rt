@@ -18,12 +18,10 @@
 //! and 111 lines more, in which a pilot has its own value, and then `end 1 frames`. `rx` on it gives
 //! `frame 0 data 10400 pilot 800 code 0 seed zero` before that line. With 02 in octet 7 either refuses it, by the one
 //! line `refused BadBandwidth at 7`. What must be written for a list of octets is `detect_text` or `rx_text`, of
-//! crate `ht_results`. `certify` reads a capture whole, and writes the
-//! file of certificates of its data jobs, as crate `ht_certify` has it. `check` reads such a file as it comes, and writes
-//! for each certificate whether it holds: `check_text` of crate `ht_check`. `lchannel` reads a file of clause 18 frames whole,
-//! and writes the capture that they come to, as crate `ht_legacy_sim` has it; `lrx` reads such a capture as it comes, and
-//! writes a line for each frame (`ht_legacy_rx`). `soft` does as `rx` with the weights of label bits in place of labels
-//! (`ht_soft_rx`). `many` reads a bundle of captures whole, and writes for each the text of `rx` (`ht_many`).
+//! crate `ht_results`.
+//!
+//! `specs/Tasks.antt` has a line for each command, which names the definition of what it writes; what each reads and writes,
+//! in words, stands in `docs/COMMANDS.md`.
 #![tactic(auto)]
 
 ghost use Rattle.std.specs.Prelude.{◌≡◌, ◌≤◌, IfSome};

@@ -3,7 +3,7 @@ use Rattle.std.proofs.Common.{◌≡◌, ℕ, ◌+◌, ◌<◌, ◌≤◌, List,
 use Rattle.std.proofs.Common.{slice_get, get_or, Some, false, ap, ◌∙◌, sym, refl, arith}
 use Rattle.std.proofs.lemmas.List.{take_more, drop_more, drop-append-le, drop-take, drop-drop, get_or-drop}
 use Rattle.std.proofs.lemmas.List.{length-take, length-take-le, length-drop, length-append, map-append}
-use Rattle.std.proofs.lemmas.List.{get_or-take}
+use Rattle.std.proofs.lemmas.List.{get_or-take, append-nil}
 use Rattle.std.proofs.lemmas.Option.{slice_get_within, slice_get-get_or, get_or_from_slice_get}
 use Rattle.ht_metric.specs.Jobs.{JobView}
 use Rattle.ht_metric.specs.declared.found.Found.{Found}
@@ -11,6 +11,7 @@ use Rattle.ht_metric.specs.declared.hit.Hit.{Hit}
 use Rattle.ht_metric.proofs.Finding.{found_near}
 use Rattle.ht_crew.specs.Feeds.{GivesJob, TakesHit}
 use Rattle.ht_crew.specs.Lists.{JobAnswer, nearest_answer, answer_of, Listed, IsListed, called, gave, took, shown, TakesInTurn}
+use Rattle.ht_crew.specs.Turns.{no_part}
 
 -- an entry that is there, behind those before it
 pub take_next : {A : Type 0} (xs : List A) (n : ℕ) (x : A) → slice_get xs n ≡ Some x → take (n + 1) xs ≡ take n xs ++ x ∷ []
@@ -45,6 +46,18 @@ gives_next a job listed running e =
       more = omega (arith, below);
       left = drop_next a.jobs a.given job e;
       failed = refl;
+    }
+
+-- a call that changed neither list leads on
+pub unmoved : (a b : Listed) → b.jobs ≡ a.jobs → b.taken ≡ a.taken → TakesInTurn a b
+unmoved a b jobs taken =
+    let n : ℕ = length a.taken in
+    let long : length b.taken ≡ n = ap (λ (hits : List Hit). length hits) taken in
+    let none : drop n (take (length b.taken) a.jobs) ≡ [] = ap (λ (m : ℕ). drop n (take m a.jobs)) long ∙ no_part n a.jobs in
+    record {
+      jobs = jobs;
+      taken = ap (λ (hits : List Hit). map answer_of hits) taken
+          ∙ sym (ap (λ (left : List JobView). map answer_of a.taken ++ map nearest_answer left) none ∙ append-nil (map answer_of a.taken));
     }
 
 -- what stands first behind a place, before another one

@@ -1,15 +1,16 @@
 -- What is due in blocks of one job.
-use Rattle.std.proofs.Common.{◌≡◌, ℕ, ◌+◌, ◌-◌, ◌<◌, ◌≤◌, List, [], ◌∷◌, Option, Some, Bool, length, map, take, drop, slice_get, refl, ap, sym, subst, ◌∙◌, arith}
+use Rattle.std.proofs.Common.{◌≡◌, ℕ, ◌+◌, ◌-◌, ◌<◌, ◌≤◌, List, [], ◌∷◌, Option, Some, IsSome, Bool, true, false, length, map, take, drop, slice_get, refl, ap, sym, subst, ◌∙◌, arith}
 use Rattle.std.proofs.lemmas.List.{nil_from_length, length-map}
 use Rattle.std.proofs.lemmas.Option.{same_Some, slice_get_within}
+use Rattle.std.proofs.lemmas.Bool.{false≢true}
 use Rattle.ht_metric.specs.Jobs.{JobView}
 use Rattle.ht_crew.specs.Feeds.{FeedView, IsInTurn}
 use Rattle.ht_feed.specs.Dues.{all_in, count_in}
 use Rattle.ht_feed.specs.Feeds.{IsInTurn as AreInTurn}
 use Rattle.ht_feed.specs.Items.{Numbered}
-use Rattle.ht_feed.specs.Drives.{LeavesInTurn as BlocksLeave}
-use Rattle.ht_crew.specs.Drives.{LeavesInTurn}
-use Rattle.ht_crew.specs.Singles.{LeadsOn, block_of, block_view, in_blocks}
+use Rattle.ht_feed.specs.Drives.{LeavesInTurn as BlocksLeave, IsThrough as BlocksThrough}
+use Rattle.ht_crew.specs.Drives.{LeavesInTurn, IsThrough}
+use Rattle.ht_crew.specs.Singles.{LeadsOn, Notes, block_of, block_view, in_blocks}
 use Rattle.ht_crew.specs.declared.singles.Singles.{Singles}
 
 all_in_blocks : (jobs : List JobView) → all_in (map block_of jobs) ≡ jobs
@@ -59,3 +60,18 @@ leaves shown leads window a b left = record {
   in_turn = in_turn (shown a.feed.now).left b.failed.now (shown b.feed.now) left.in_turn;
   later = left.leads.later;
 }
+
+module _ {Fault : Type 0} where
+  through : (noted : Bool) (old new : FeedView Fault) → Notes false noted old new → BlocksThrough (block_view noted new) → IsThrough old new
+  through false old new same is = record { ended = is.ended; taken = none_due new.due is.taken; left = is.left; unfailed = same }
+  through true old new risen is = absurd (false≢true (subst (λ (failed : Option Fault). IsSome failed) is.well risen.1))
+
+-- a drive has gone through a feed whose blocks it has gone through
+pub went_through : {F Fault : Type 0} (shown : F → FeedView Fault) (leads : F → F → Type 0) (window : ℕ) (a b : Singles F) (feed : F)
+    → a.feed.now ≡ feed → a.failed.now ≡ false → BlocksLeave (in_blocks shown) (LeadsOn leads shown) window a b → BlocksThrough (in_blocks shown b)
+    → IsThrough (shown feed) (shown b.feed.now)
+went_through {F} shown leads window a b feed same unfailed left is =
+    let noted : Notes false b.failed.now (shown a.feed.now) (shown b.feed.now) =
+    subst (λ (n : Bool). Notes n b.failed.now (shown a.feed.now) (shown b.feed.now)) unfailed left.leads.notes in
+    let from : Notes false b.failed.now (shown feed) (shown b.feed.now) = subst (λ (f : F). Notes false b.failed.now (shown f) (shown b.feed.now)) same noted in
+    through b.failed.now (shown feed) (shown b.feed.now) from is

@@ -1,6 +1,9 @@
 -- How the window of a drive, its counts and its feed stand to each other.
-use Rattle.std.specs.Prelude.{◌≡◌, ◌+◌, ◌<◌, ◌≤◌, [], length, Bool, not, false, Some, None}
-use Rattle.ht_feed.specs.OwnNumbers.{HaveNumbers}
+use Rattle.std.specs.Prelude.{◌≡◌, ◌+◌, ◌<◌, ◌≤◌, ℕ, List, [], length, Bool, not, false, Some, None, Result, IfErr, IfOk}
+use Rattle.ht_metric.specs.Jobs.{JobView}
+use Rattle.ht_pool.specs.Helms.{IsSameHelm, IsSettled}
+use Rattle.ht_feed.specs.OwnNumbers.{AreTold, HaveNumbers}
+use Rattle.ht_feed.specs.Drives.{IsThrough, LeavesInTurn}
 use Rattle.ht_feed.specs.Dues.{NoneEmpty, all_in, count_in}
 use Rattle.ht_feed.specs.Feeds.{FeedView, IsLeft}
 use Rattle.ht_feed.specs.declared.drive.DriveFault.{DriveFault}
@@ -44,3 +47,23 @@ module _ {Fault : Type 0} where
   Refuses MayLack feed (Feed fault) = feed.failed ≡ Some fault
   Refuses MayLack feed NoMemory = ⊥
   Refuses MayLack feed Work = (feed.failed ≡ None) × MayLack
+
+  -- a caller has led all blocks of a feed through its end of a pool, with these counts
+  pub record HasLed (old new : FeedView Fault) (helm : BlockHelm) (t : Tally) : Type 0 where
+    pub through : IsThrough new
+    pub jobs : t.issued ≡ new.count
+    pub tallies : Tallies t helm
+    -- where the jobs to come were known, each one given to the pool is that of its number
+    pub by_number : (all : List JobView) → old.left ≡ Some all → AreTold all (all_in helm.given)
+    pub settled : IsSettled helm
+
+  -- a caller leads the blocks of a feed through a window of so many jobs and its end of a pool, and answers this
+  pub record LeadsBlocks {F : Type 0} (shown : F → FeedView Fault) (Leads : F → F → Type 0) (MayLack : Type 0) (window : ℕ) (old new : F)
+      (before after : BlockHelm) (result : Result Tally (DriveFault Fault)) : Type 0 where
+    -- however it ends
+    pub leaves : LeavesInTurn shown Leads window old new
+    pub same : IsSameHelm before after
+    -- where the feed has ended
+    pub led : IfOk result (HasLed (shown old) (shown new) after)
+    -- what it refuses with
+    pub refuses : IfErr result (Refuses MayLack (shown new))

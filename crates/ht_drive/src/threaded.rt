@@ -146,31 +146,18 @@ fn in_pool<
     let shared = &shared;
     let runner = &runner;
     let mut helm = BlockHelm::new(Helm::new(post, shared, runner));
-    let mut tally = Tally { issued: 0, own: 0 };
-    let (members, answer) = beside(
+    let (members, led) = beside(
         rt,
         runner,
         shared,
         members,
-        &mut || -> Result<bool, E>
-            requires { (window.capacity ≤ 4096) × (window.due ≡ []) × IsFreshFeed (F.shown feed.now) × (helm.given ≡ [])
-                × (tally.own ≡ 0) × (tally.issued ≡ 0) }
-        {
-            lead(
-                rt,
-                runner,
-                &mut window,
-                &mut helm,
-                &mut tally,
-                &mut pace,
-                feed,
-            )
-        },
+        &mut || -> Result<Tally, DriveFault<E>>
+            requires { (window.capacity ≤ 4096) × (window.due ≡ []) × IsFreshFeed (F.shown feed.now) × (helm.given ≡ []) }
+        { lead(rt, runner, &mut window, &mut pace, &mut helm, feed) },
     );
-    match answer {
-        Ok(true) => Ok(finish(tally, helm, members, space)),
-        Ok(false) => Err(DriveFault::Work),
-        Err(fault) => Err(DriveFault::Feed(fault)),
+    match led {
+        Ok(tally) => Ok(finish(tally, helm, members, space)),
+        Err(fault) => Err(fault),
     }
 }
 

@@ -3,11 +3,11 @@ ghost use Rattle.std.specs.Prelude.{◌≡◌};
 ghost use Rattle.ht_io.specs.Kinds.{name_of, number_of};
 
 use std::alloc::AllocError;
+use std::fmt;
 use thiserror::Error;
 
 /// What can be wrong with an input, in the order of the kinds' numbers.
 #[derive(Clone, Copy, Debug, PartialEq, Eq, Error)]
-#[error("{}", self.name())]
 pub enum Kind {
     /// The input does not begin with the magic octets of its format.
     BadMagic = 1,
@@ -70,6 +70,12 @@ impl Kind {
             Kind::BadMark => "BadMark",
             Kind::BadCount => "BadCount",
         }
+    }
+}
+
+impl fmt::Display for Kind {
+    fn fmt<W: fmt::Write>(&self, f: &mut fmt::Formatter<W>) -> fmt::Result {
+        f.write_str(self.name())
     }
 }
 

@@ -76,6 +76,18 @@ fn room_before(stops: &[u64], at: usize, room: usize) -> usize
     most
 }
 
+// How many of `room` octets from `at` on come before the next cut or failing offset.
+fn room_for_both(cuts: &[u64], failing: &[u64], at: usize, room: usize) -> usize
+    requires { 0 < room }
+    ensures some { 0 < result }
+    ensures within { result ≤ room }
+    ensures passes_no_cut { PassesNone cuts.now at result }
+    ensures passes_no_failing { PassesNone failing.now at result }
+    ensures full { IsFull (cuts.now ++ failing.now) at room result }
+{
+    room_before(failing, at, room_before(cuts, at, room))
+}
+
 // Where the first entry that names the offset stands.
 fn first_at(failing: &[u64], at: usize) -> Option<usize>
     ensures found { IsSome result ↔ Contains failing.now at }
@@ -106,7 +118,7 @@ fn ready(cuts: &[u64], failing: &[u64], at: usize, left: usize) -> usize
     if left == 0 || first_at(failing, at).is_some() {
         return 0;
     }
-    room_before(failing, at, room_before(cuts, at, left))
+    room_for_both(cuts, failing, at, left)
 }
 
 impl Source for MemSource {
@@ -142,8 +154,7 @@ impl Source for MemSource {
         if room == 0 {
             return Ok(0);
         }
-        let room = room_before(&self.cuts, self.at, room);
-        let count = room_before(&self.failing, self.at, room);
+        let count = room_for_both(&self.cuts, &self.failing, self.at, room);
         copy_front(&self.bytes, self.at, count, into);
         self.at += count;
         Ok(count)

@@ -1,4 +1,5 @@
 pub mod Jobs
+pub mod Fronts
 pub mod Symbols
 pub mod Frames
 pub mod Readers

@@ -1,12 +1,10 @@
 //! What stands in front of the frames of a capture, and in front of a frame's symbols, each read whole and judged.
-ghost use Rattle.std.specs.Prelude.{◌<◌, ◌≤◌, ◌+◌, ◌^◌, ℕ, [], ◌∷◌, IfOk, MatchResult};
+ghost use Rattle.std.specs.Prelude.{◌<◌, ◌≤◌, ◌+◌, ◌^◌, [], IfOk, MatchResult};
 ghost use Rattle.ht_io.specs.Devices.{IsLater};
 ghost use Rattle.ht_fields.specs.Readers.{Gives, reader_in};
 ghost use Rattle.ht_fields.specs.WholeFiles.{Halts};
-ghost use Rattle.ht_clause18.specs.Rates.{symbols_of};
-ghost use Rattle.ht_legacy_captures.specs.Formats.{captures, captures_due, symbols_due};
-ghost use Rattle.ht_legacy_captures.specs.Items.{Begins};
-ghost use Rattle.ht_legacy_blocks.specs.Jobs.{diagonals_of};
+ghost use Rattle.ht_legacy_captures.specs.Formats.{captures, captures_due};
+ghost use Rattle.ht_legacy_blocks.specs.Fronts.{TellsFront};
 
 use crate::symbol::DIAGONALS;
 use ht_clause18::LegacyRate;
@@ -16,7 +14,7 @@ use ht_io::{InFault, Source};
 use ht_legacy_files::{length, rate};
 
 /// What stands in front of a frame's symbols.
-#[derive(Clone, Copy, Debug)]
+#[derive(Clone, Copy)]
 pub struct Front {
     /// The rate.
     pub rate: LegacyRate,
@@ -42,11 +40,7 @@ pub fn start<S: Source>(source: &mut S) -> Result<u16, InFault>
 /// Reads what stands in front of the symbols of the next frame, where frames are left.
 pub fn frame_front<S: Source>(source: &mut S, at: u64) -> Result<Front, InFault>
     requires offset { at + 107 < 2 ^ 64 }
-    ensures told { (left : ℕ) → 0 < left → MatchResult result
-        (λ f. Gives (reader_in captures (captures_due left) at (S.shown source.old))
-        (reader_in captures (symbols_due left (symbols_of f.rate f.length)) (at + 107) (S.shown source.new))
-        (Begins (record { rate = f.rate; length = f.length; diagonals = diagonals_of f.diagonals }) ∷ []))
-        (Halts (reader_in captures (captures_due left) at (S.shown source.old)) (S.shown source.new)) }
+    ensures told { TellsFront at (S.shown source.old) (S.shown source.new) result }
     ensures some { IfOk result (λ f. 1 ≤ f.length) }
     ensures few { IfOk result (λ f. f.length ≤ 4095) }
     ensures later { IsLater (S.shown source.old) (S.shown source.new) }

@@ -52,7 +52,7 @@ pub fn fill(
 )
     requires diagonals { length diagonals.now ≡ carriers }
     requires few { length points.now ≤ 512 }
-    requires room { first + length points.now < 2 ^ 63 }
+    requires places { first + length points.now < 2 ^ 63 }
     ensures samples { chunk.new ≡ flat_map sample_octets (each (sample_drawn noise) (exact_from diagonals.now first points.now) words.old).value }
     ensures words { words.new ≡ (each (sample_drawn noise) (exact_from diagonals.now first points.now) words.old).state }
 {

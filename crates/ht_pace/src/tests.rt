@@ -2,7 +2,20 @@
 use crate::Pace;
 use std::test::Fail;
 
-// The most jobs of the first seven blocks, one answer after another; a hard one begins anew.
+// How large the first seven blocks are, one answer after another, and how large two more, once a hard one was answered.
+fn sizes_for(workers: u8, window: u16) -> ([u16; 7], [u16; 2]) {
+    let mut pace = Pace::new(workers.clamp(1, 64), window);
+    let mut sizes = [0; 7];
+    for size in sizes.iter_mut() {
+        *size = pace.size();
+        pace.see(false);
+    }
+    pace.see(true);
+    let first = pace.size();
+    pace.see(false);
+    (sizes, [first, pace.size()])
+}
+
 #[test]
 fn sizes(rt: HostRuntime) -> Result<(), Fail> {
     for (workers, window, sizes) in [
@@ -14,15 +27,9 @@ fn sizes(rt: HostRuntime) -> Result<(), Fail> {
         (64, 64, [1, 1, 1, 1, 1, 1, 1]),
         (64, 4096, [1, 2, 4, 8, 16, 32, 32]),
     ] {
-        let mut pace = Pace::new(workers.clamp(1, 64), window);
-        for size in sizes {
-            assert_eq!(rt; pace.size(), size, "{workers} workers, window {window}");
-            pace.see(false);
-        }
-        pace.see(true);
-        assert_eq!(rt; pace.size(), sizes[0], "{workers} workers, window {window}");
-        pace.see(false);
-        assert_eq!(rt; pace.size(), sizes[1], "{workers} workers, window {window}");
+        let answer = (workers, window, sizes_for(workers, window));
+        let wanted = (sizes, [sizes[0], sizes[1]]);
+        assert_eq!(rt; answer, (workers, window, wanted));
     }
     Ok(())
 }

@@ -1,3 +1,4 @@
+pub mod Alternating
 pub mod Filled
 pub mod Inverse
 pub mod Laid

@@ -3,7 +3,7 @@ use Rattle.std.proofs.Common.{◌≡◌, ℕ, zero, suc, ◌+◌, ◌-◌, ◌<�
 use Rattle.std.proofs.Common.{subst, arith}
 use Rattle.std.specs.List.{All, AllByRecursion}
 use Rattle.std.specs.Global.{Vec}
-use Rattle.std.proofs.lemmas.List.{length-map}
+use Rattle.std.proofs.lemmas.List.{length-map, take_all, drop_all, append-nil}
 use Rattle.std.proofs.lemmas.List.Elements.{All-from_recursion, recursion_from_All, All-pop}
 use Rattle.atomic_table.specs.Seated.{TableId}
 use Rattle.ht_pool.specs.Seats.{DequeId, SeatView, OwnView, fresh_seat, fresh_own, deques_at, taken_at}
@@ -67,6 +67,23 @@ module _ {T : Type 0} where
       ∙ (ap (λ (s : SeatView T). map fresh_seat (own_deques (take k os)) ++ s ∷ []) seat' ∙ seats-more os k d lt)) in
       subst (λ (n : ℕ). (set l k new ≡ lent 1 (take n os) ++ drop n os) × (ss' ≡ map fresh_seat (own_deques (take n os)))) next (owners, seats)
 
+  -- a deque that has yet to give a seat
+  pub some_at : (os l : List (OwnView T)) (k : ℕ) (d : OwnView T) → k < length os → l ≡ lent 1 (take k os) ++ drop k os
+      → All (λ (o : OwnView T). 1 < o.parts) os → 1 < (get_or l k d).parts
+  some_at os l k d lt l_is some =
+      let there : get_or l k d ≡ get_or os k d = ap (λ (xs : List (OwnView T)). get_or xs k d) l_is ∙ at_next os k d lt in
+      subst (λ (o : OwnView T). 1 < o.parts) (sym there) (some k d lt)
+
+  -- every deque has given a seat
+  pub row-done : (os l : List (OwnView T)) (k : ℕ) (ss : List (SeatView T)) → length os ≤ k → l ≡ lent 1 (take k os) ++ drop k os
+      → ss ≡ map fresh_seat (own_deques (take k os)) → (l ≡ lent 1 os) × (ss ≡ map fresh_seat (own_deques os))
+  row-done os l k ss past l_is ss_are =
+      let all : take k os ≡ os = take_all k os past in (
+        l_is ∙ (ap (λ (xs : List (OwnView T)). lent 1 xs ++ drop k os) all
+            ∙ (ap (λ (xs : List (OwnView T)). lent 1 os ++ xs) (drop_all k os past) ∙ append-nil (lent 1 os))),
+        ss_are ∙ ap (λ (xs : List (OwnView T)). map fresh_seat (own_deques xs)) all,
+      )
+
   pub lent-none : (os : List (OwnView T)) → os ≡ lent 0 os
   lent-none [] = refl
   lent-none (o ∷ os) =
@@ -122,16 +139,23 @@ module _ {T : Type 0} where
     abbrev back : List (OwnView T)
     back = take len (new ++ drop (length new) os)
 
+    seated-back : (n : ℕ) (value : List (OwnView T)) → length os ≡ n → length os ≡ len → value ≡ os → new ≡ lent (length value) value → back ≡ lent n os
+    seated-back n value count all is lent_is =
+        let lent_all : new ≡ lent (length os) os = lent_is ∙ ap (λ (xs : List (OwnView T)). lent (length xs) xs) is in
+        let long : length new ≡ length os = ap (λ (xs : List (OwnView T)). length xs) lent_all ∙ length-map os (less (length os)) in
+        written_back len os new all long ∙ (lent_all ∙ ap (λ (k : ℕ). lent k os) count)
+
+    pub seated-long : (n : ℕ) (value : List (OwnView T)) → length os ≡ n → length os ≡ len → value ≡ os → new ≡ lent (length value) value → length back ≡ n
+    seated-long n value count all is lent_is =
+        ap (λ (xs : List (OwnView T)). length xs) (seated-back n value count all is lent_is) ∙ (length-map os (less n) ∙ count)
+
     pub seated : (room n : ℕ) (value : List (OwnView T)) (rows : List (Vec (SeatView T))) → os ≡ map (fresh_own 1024 room) (own_deques os)
         → length os ≡ n → n ≤ 64 → length os ≡ len → value ≡ os → new ≡ lent (length value) value
         → All (λ (ss : Vec (SeatView T)). ss.items ≡ map fresh_seat (own_deques value)) rows
         → AreReady (own_deques back) back rows × All (λ (o : OwnView T). o.room ≡ room) back
     seated room n value rows fresh count few all is lent_is rows_are =
-        let lent_all : new ≡ lent (length os) os = lent_is ∙ ap (λ (xs : List (OwnView T)). lent (length xs) xs) is in
-        let long : length new ≡ length os = ap (λ (xs : List (OwnView T)). length xs) lent_all ∙ length-map os (less (length os)) in
-        let made : back ≡ lent n os = written_back len os new all long ∙ (lent_all ∙ ap (λ (k : ℕ). lent k os) count) in
         let at_owners = subst (λ (xs : List (OwnView T)). All (λ (ss : Vec (SeatView T)). ss.items ≡ map fresh_seat (own_deques xs)) rows) is rows_are in
-        all_ready room n os back rows fresh count few made at_owners
+        all_ready room n os back rows fresh count few (seated-back n value count all is lent_is) at_owners
 
   taken-fresh : (ids : List DequeId) → taken_at (map (fresh_seat {T = T}) ids) ≡ []
   taken-fresh [] = refl

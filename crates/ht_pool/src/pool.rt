@@ -1,9 +1,9 @@
 //! A pool before its threads begin.
-ghost use Rattle.std.specs.Prelude.{◌≡◌, ◌+◌, ◌-◌, ◌<◌, ◌≤◌, [], List, length, map, IfOk, vec_capacity};
+ghost use Rattle.std.specs.Prelude.{◌≡◌, ◌+◌, ◌-◌, ◌<◌, ◌≤◌, [], ℕ, List, length, map, IfOk, vec_capacity};
 ghost use Rattle.std.specs.List.{All};
 ghost use Rattle.crossbeam_queue.specs.Passes.{view as answer_view};
 ghost use Rattle.ht_pool.specs.Hands.{hand};
-ghost use Rattle.ht_pool.specs.Seats.{DequeId};
+ghost use Rattle.ht_pool.specs.Seats.{DequeId, OwnView};
 ghost use Rattle.ht_pool.specs.Members.{HasYetToServe, IsOnQueue, berth, berth_of};
 ghost use Rattle.ht_pool.specs.Opening.{AreReady, own_deques};
 ghost use Rattle.ht_pool.specs.Pools.{IsOpened};
@@ -41,34 +41,70 @@ impl<T: Drop + Send, A: Drop + Send> Pool<T, A> {
         ensures workers { IfOk result (λ pool. length pool.post.deques ≡ helpers + 1) }
     {
         let workers = usize::from(helpers) + 1;
-        let (answers, mut pass): (AnswerQueue<A>, AnswerPass<A>) = AnswerQueue::ruled(
+        let members = Vec::with_capacity(alloc, usize::from(helpers))?;
+        let ran = Vec::with_capacity(alloc, workers)?;
+        let deques = Vec::with_capacity(alloc, workers)?;
+        let (answers, pass): (AnswerQueue<A>, AnswerPass<A>) = AnswerQueue::ruled(
             alloc,
             usize::from(room),
         )?;
-        let shared = Shared::new(answers);
-        let mut members = Vec::with_capacity(alloc, usize::from(helpers))?;
-        let ran = Vec::with_capacity(alloc, workers)?;
-        let deques = Vec::with_capacity(alloc, workers)?;
-        let (mut owners, mut rows) = open_seated(alloc, workers, room)?;
-        let Some(own) = take_first(&mut owners) else {
-            unreachable!()
+        let (owners, rows) = open_seated(alloc, workers, room)?;
+        let space = Space {
+            ran,
+            owners,
+            rows,
+            deques,
         };
-        let Some(seats) = rows.pop() else {
-            unreachable!()
-        };
-        seat_all(&shared, &mut pass, &mut owners, &mut rows, &mut members);
-        let post = Post::new(own, seats, pass);
-        Ok(Pool {
-            shared,
-            post,
-            members,
-            space: Space {
-                ran,
-                owners,
-                rows,
-                deques,
-            },
-        })
+        Ok(assemble(Shared::new(answers), pass, members, space))
+    }
+}
+
+// Puts a pool together of its deques and seats, of which the caller gets the first deque and the last seats.
+fn assemble<T: Drop, A: Drop>(
+    shared: Shared<A>,
+    mut pass: AnswerPass<A>,
+    mut members: Vec<Member<T, A>>,
+    space: Space<T>,
+) -> Pool<T, A>
+    requires some { 1 ≤ length space.owners.items }
+    requires few { length space.owners.items ≤ 64 }
+    requires seats { length space.rows.items ≡ length space.owners.items }
+    requires ready { AreReady (own_deques space.owners.items) space.owners.items space.rows.items }
+    requires none { members.items ≡ [] }
+    requires room { length space.owners.items ≤ vec_capacity members + 1 }
+    requires ran { (space.ran.items ≡ []) × (length space.owners.items ≤ vec_capacity space.ran) }
+    requires owners { length space.owners.items ≤ vec_capacity space.owners }
+    requires rows { length space.owners.items ≤ vec_capacity space.rows }
+    requires deques { (space.deques.items ≡ []) × (length space.owners.items ≤ vec_capacity space.deques) }
+    requires queue { IsOnQueue shared pass }
+    requires pass { answer_view pass ≡ hand 1024 [] [] }
+    ensures opened { (room : ℕ) → All (λ (o : OwnView T). o.room ≡ room) space.owners.items → IsOpened room result }
+    ensures workers { length result.post.deques ≡ length space.owners.items }
+{
+    let Space {
+        ran,
+        mut owners,
+        mut rows,
+        deques,
+    } = space;
+    let Some(own) = take_first(&mut owners) else {
+        unreachable!()
+    };
+    let Some(seats) = rows.pop() else {
+        unreachable!()
+    };
+    seat_all(&shared, &mut pass, &mut owners, &mut rows, &mut members);
+    let post = Post::new(own, seats, pass);
+    Pool {
+        shared,
+        post,
+        members,
+        space: Space {
+            ran,
+            owners,
+            rows,
+            deques,
+        },
     }
 }
 

@@ -1,6 +1,8 @@
-//! What the tests of several crates are given: a small job, captures of zeros, and one that other programs made.
+//! What the tests of several crates are given: a small job, captures of zeros, and one that other programs made, and
+//! devices that fail.
 ghost use Rattle.std.specs.Prelude.{◌≡◌};
 
+use ht_io::{MemSink, MemSource};
 use ht_metric::{Job, Place, Sample, System, Tap, Triangle};
 use ht_pam::{Grid, Ladder};
 use std::alloc::{AllocError, Global};
@@ -17,28 +19,68 @@ pub(crate) fn job(number: u64, re: i32) -> Job
     Job::new(number, Place::default(), grid, System::new(triangle, y))
 }
 
-// How many symbols a frame of this length has at 20 MHz, MCS 0.
-fn symbols_of(length: u16) -> u32 {
-    (u32::from(length) * 8 + 22).div_ceil(26)
+/// Appends a piece so many times.
+pub(crate) fn push_times(octets: &mut Vec<u8>, times: u32, piece: &[u8]) -> Result<(), AllocError> {
+    for _ in 0..times {
+        octets.extend_from_slice(piece)?;
+    }
+    Ok(())
 }
 
-// A capture of frames of these lengths at 20 MHz, MCS 0: the diagonal 10 on each subcarrier, every sample 0.
+// Appends a frame of this length at 20 MHz, MCS 0: the diagonal 10 on each subcarrier, every sample 0.
+fn push_frame(octets: &mut Vec<u8>, length: u16) -> Result<(), AllocError> {
+    octets.extend_from_slice(&[0, 0])?;
+    octets.extend_from_slice(&length.to_be_bytes())?;
+    push_times(octets, 56, &[0, 10])?;
+    let symbols = (u32::from(length) * 8 + 22).div_ceil(26);
+    push_times(octets, symbols, &[0; 448])
+}
+
+/// A capture of frames of these lengths at 20 MHz, MCS 0: the diagonal 10 on each subcarrier, every sample 0. So both
+/// points of a data subcarrier are at the distance 100, and so is the point of a pilot.
 pub(crate) fn zeros(alloc: Global, lengths: &[u16]) -> Result<Vec<u8>, AllocError> {
     let mut octets = b"HTCP\x01\x00".to_vec(alloc)?;
     octets.push(u8::try_from(lengths.len()).unwrap_or(u8::MAX))?;
     for length in lengths {
-        octets.extend_from_slice(&[0, 0])?;
-        octets.extend_from_slice(&length.to_be_bytes())?;
-        for _ in 0..56u8 {
-            octets.extend_from_slice(&[0, 10])?;
-        }
-        for _ in 0..symbols_of(*length) {
-            for _ in 0..448u16 {
-                octets.push(0)?;
-            }
-        }
+        push_frame(&mut octets, *length)?;
     }
     Ok(octets)
+}
+
+/// What befalls a capture that is received.
+#[derive(Clone, Copy, Debug, PartialEq, Eq)]
+pub(crate) enum Harm {
+    /// Nothing.
+    None,
+    /// It ends in front of this offset.
+    Cut(u64),
+    /// Its source fails there.
+    Source(u64),
+    /// Its sink fails there.
+    Sink(u64),
+}
+
+impl Harm {
+    /// A source of the octets.
+    pub(crate) fn source(self, alloc: Global, octets: &[u8]) -> Result<MemSource, AllocError> {
+        let mut octets = octets.to_vec(alloc)?;
+        let mut failing = Vec::new(alloc);
+        match self {
+            Harm::Cut(at) => octets.truncate(at as usize),
+            Harm::Source(at) => failing.push(at)?,
+            _ => {}
+        }
+        Ok(MemSource::new(octets, Vec::new(alloc), failing))
+    }
+
+    /// A sink with room for all lines.
+    pub(crate) fn sink(self, alloc: Global) -> Result<MemSink, AllocError> {
+        let mut failing = Vec::new(alloc);
+        if let Harm::Sink(at) = self {
+            failing.push(at)?;
+        }
+        Ok(MemSink::new(Vec::with_capacity(alloc, 8192)?, failing))
+    }
 }
 
 /// The capture of the octet a5 at MCS 0 and 20 MHz with seed 127, through the channel of seed 42 without noise.
@@ -76,15 +118,21 @@ fn value(digit: u8) -> u8 {
     }
 }
 
+// Appends the octets that these digits give.
+fn push_octets(octets: &mut Vec<u8>, line: &str) -> Result<(), AllocError> {
+    let digits = line.as_bytes();
+    for place in 0..digits.len() / 2 {
+        let high = value(digits[2 * place]) % 16;
+        octets.push(high * 16 + value(digits[2 * place + 1]) % 16)?;
+    }
+    Ok(())
+}
+
 /// The octets of this capture.
 pub(crate) fn a5(alloc: Global) -> Result<Vec<u8>, AllocError> {
     let mut octets = Vec::new(alloc);
-    for line in A5 {
-        let digits = line.as_bytes();
-        for place in 0..digits.len() / 2 {
-            let high = value(digits[2 * place]) % 16;
-            octets.push(high * 16 + value(digits[2 * place + 1]) % 16)?;
-        }
+    for line in &A5 {
+        push_octets(&mut octets, line)?;
     }
     Ok(octets)
 }

@@ -5,15 +5,15 @@ ghost use Rattle.ht_feed.specs.Limits.{IsCrewSize, IsWindowSize};
 ghost use Rattle.ht_crew.specs.Lists.{AreNumbered};
 
 use crate::common::NO_SAMPLE;
-use ht_crew::{DriveFault, Gate, ListFault, ListFeed, OpenGate, drive, drive_alone};
+use crate::equal::equal;
+use crate::gate::{Rule, Watch};
+use ht_crew::{DriveFault, Gate, ListFault, ListFeed, OpenGate, Report, drive, drive_alone};
 use ht_metric::{Hit, Job, Place, System, Tap, Triangle};
 use ht_pam::{Grid, Ladder, Point};
 use std::alloc::{AllocError, Global};
 use std::process::Abort;
 use std::sync::Wait;
-use std::sync::atomic::{AtomicU64, Ordering};
 use std::test::Fail;
-use std::thread;
 use std::thread::Threads;
 
 // The pilots of the first two symbols at 20 MHz: the subcarrier and the value in each.
@@ -55,185 +55,134 @@ fn jobs(alloc: Global, count: u64) -> Result<Vec<Job>, AllocError>
     Ok(jobs)
 }
 
-// The hits are those of the first jobs: a pilot has its own value, and of the two points of a data subcarrier, which
-// are as near, the first one is found.
-fn expect_first(rt: &impl Abort, hits: &[Hit]) {
-    for (number, hit) in hits.iter().enumerate() {
-        let number = number as u64;
-        let i = pilot(number).unwrap_or(-1);
-        assert!(rt; hit.job().same(&job(number)));
-        assert_eq!(rt; hit.vector().len(), 1);
-        assert_eq!(rt; hit.vector().point(1), Point { i, q: 0 });
-        assert_eq!(rt; hit.distance(), 100);
-    }
+// Whether a hit is that of the job of this number: a pilot has its own value, and of the two points of a data subcarrier,
+// which are as near, the first one is found.
+fn is_first(number: u64, hit: &Hit) -> bool {
+    let i = pilot(number).unwrap_or(-1);
+    let vector = hit.vector();
+    hit.job().same(&job(number))
+        && vector.len() == 1
+        && vector.point(1) == Point { i, q: 0 }
+        && hit.distance() == 100
 }
 
-// Counts who passes, and who enters or leaves out of order.
-#[derive(Drop)]
-struct Counts {
-    entered: AtomicU64,
-    left: AtomicU64,
-    strays: AtomicU64,
+// How many hits were taken, if they are those of the first jobs.
+fn taken(feed: &ListFeed) -> Option<u64> {
+    let mut number = 0;
+    for hit in feed.taken() {
+        if !is_first(number, hit) {
+            return None;
+        }
+        number = number.wrapping_add(1);
+    }
+    Some(number)
 }
 
-impl Counts {
-    fn new() -> Counts {
-        Counts {
-            entered: AtomicU64::new(0),
-            left: AtomicU64::new(0),
-            strays: AtomicU64::new(0),
-        }
-    }
+// What came of a drive: its report, and the feed.
+type Ran = (Result<Report, DriveFault<ListFault>>, ListFeed);
+
+// Runs the jobs of two symbols in this thread. The calls of these numbers fail.
+fn alone<G: Gate>(alloc: Global, window: u16, gate: &G, failing: &[u64]) -> Result<Ran, AllocError>
+    requires window { IsWindowSize window }
+{
+    let mut feed = ListFeed::new(alloc, jobs(alloc, 112)?, failing.to_vec(alloc)?)?;
+    let ran = drive_alone(alloc, window, gate, &mut feed);
+    Ok((ran, feed))
 }
 
-impl Gate for Counts {
-    fn enter(&self, number: u64) {
-        let left = self.left.load(Ordering::SeqCst);
-        if self.entered.fetch_add(1, Ordering::SeqCst) != number || left != number {
-            self.strays.fetch_add(1, Ordering::SeqCst);
-        }
-    }
-
-    fn leave(&self, number: u64) {
-        if self.left.fetch_add(1, Ordering::SeqCst) != number {
-            self.strays.fetch_add(1, Ordering::SeqCst);
-        }
-    }
+// The same by so many workers.
+fn together<R: Threads + Wait + Sync, G: Gate + Sync>(
+    rt: &R,
+    alloc: Global,
+    workers: u8,
+    window: u16,
+    gate: &G,
+    failing: &[u64],
+) -> Result<Ran, AllocError>
+    requires crew { IsCrewSize workers }
+    requires window { IsWindowSize window }
+{
+    let mut feed = ListFeed::new(alloc, jobs(alloc, 112)?, failing.to_vec(alloc)?)?;
+    let ran = drive(rt, alloc, workers, window, gate, &mut feed);
+    Ok((ran, feed))
 }
 
 #[test]
 fn all_jobs(rt: HostRuntime) -> Result<(), Fail> {
     for window in [1, 2, 256] {
-        let gate = Counts::new();
-        let mut feed = ListFeed::new(rt.alloc(), jobs(rt.alloc(), 112)?, Vec::new(rt.alloc()))?;
-        let Ok(report) = drive_alone(rt.alloc(), window, &gate, &mut feed) else {
-            assert!(rt; false, "window {window}");
-            return Ok(());
-        };
-        assert_eq!(rt; report.jobs, 112);
-        assert_eq!(rt; report.own, 112);
-        assert!(rt; report.ran.as_slice().is_empty());
-        assert!(rt; report.passes.is_none());
-        assert_eq!(rt; feed.taken().len(), 112);
-        expect_first(&rt, feed.taken());
-        assert_eq!(rt; gate.entered.load(Ordering::SeqCst), 112);
-        assert_eq!(rt; gate.left.load(Ordering::SeqCst), 112);
-        assert_eq!(rt; gate.strays.load(Ordering::SeqCst), 0);
+        let gate = Watch::new(Rule::InTurn);
+        let (ran, feed) = alone(rt.alloc(), window, &gate, &[])?;
+        let report = ran?;
+        let counts = (report.jobs, report.own, report.ran.len());
+        let has_passes = report.passes.is_some();
+        equal(&rt, (counts, has_passes), ((112, 112, 0), false));
+        let answer = (window, taken(&feed), gate.counts());
+        equal(&rt, answer, (window, Some(112), [112, 112, 0]));
     }
     Ok(())
 }
 
-// Holds some jobs until others have passed, and gives up after a million turns.
-#[derive(Drop)]
-struct Held {
-    // Job 0 is held until this number of others have left; where that is 0, each of the first four to enter until four have entered.
-    others: u64,
-    entered: AtomicU64,
-    left: AtomicU64,
-    strays: AtomicU64,
+// How many workers ran none of the jobs, and how many jobs they ran in all.
+fn shares(ran: &[u64]) -> (usize, u64) {
+    let idle = ran.iter().filter(|count| **count == 0).count();
+    (
+        idle,
+        ran.iter().fold(0, |sum, count| sum.wrapping_add(*count)),
+    )
 }
 
-impl Held {
-    fn new(others: u64) -> Held {
-        Held {
-            others,
-            entered: AtomicU64::new(0),
-            left: AtomicU64::new(0),
-            strays: AtomicU64::new(0),
-        }
-    }
-
-    fn hold(&self, passed: &AtomicU64, count: u64) {
-        for _ in 0..1_000_000u64 {
-            if passed.load(Ordering::SeqCst) >= count {
-                return;
-            }
-            thread::yield_now();
-        }
-        self.strays.fetch_add(1, Ordering::SeqCst);
-    }
-}
-
-impl Gate for Held {
-    fn enter(&self, number: u64) {
-        let before = self.entered.fetch_add(1, Ordering::SeqCst);
-        if self.others > 0 && number == 0 {
-            self.hold(&self.left, self.others);
-        }
-        if self.others == 0 && before < 4 {
-            self.hold(&self.entered, 4);
-        }
-    }
-
-    fn leave(&self, _number: u64) {
-        self.left.fetch_add(1, Ordering::SeqCst);
-    }
-}
-
+// Of 64 workers some may run no job.
 #[test]
 fn threads_meet(rt: HostRuntime) -> Result<(), Fail> {
-    for (workers, others) in [(2, 111), (4, 0), (64, 111)] {
-        let gate = Held::new(others);
-        let mut feed = ListFeed::new(rt.alloc(), jobs(rt.alloc(), 112)?, Vec::new(rt.alloc()))?;
-        let Ok(report) = drive(&rt, rt.alloc(), workers, 256, &gate, &mut feed) else {
-            assert!(rt; false, "{workers} workers");
-            return Ok(());
-        };
-        assert_eq!(rt; gate.strays.load(Ordering::SeqCst), 0);
-        assert_eq!(rt; gate.entered.load(Ordering::SeqCst), 112);
-        assert_eq!(rt; gate.left.load(Ordering::SeqCst), 112);
-        assert_eq!(rt; report.jobs, 112);
-        assert_eq!(rt; report.own, 0);
-        let ran = report.ran.as_slice();
-        assert_eq!(rt; ran.len(), usize::from(workers));
-        assert_eq!(rt; ran.iter().fold(0u64, |a, n| a.wrapping_add(*n)), 112);
-        assert!(rt; workers > 4 || ran.iter().all(|n| *n > 0));
-        assert_eq!(rt; feed.taken().len(), 112);
-        expect_first(&rt, feed.taken());
+    for (workers, rule) in [
+        (2, Rule::OthersFirst(111)),
+        (4, Rule::FourAtOnce),
+        (64, Rule::OthersFirst(111)),
+    ] {
+        let gate = Watch::new(rule);
+        let (ran, feed) = together(&rt, rt.alloc(), workers, 256, &gate, &[])?;
+        let report = ran?;
+        let (idle, all) = shares(&report.ran);
+        let counts = (report.jobs, report.own, report.ran.len(), all);
+        equal(&rt, counts, (112, 0, usize::from(workers), 112));
+        let is_shared = workers > 4 || idle == 0;
+        let answer = (workers, taken(&feed), gate.counts(), is_shared);
+        equal(&rt, answer, (workers, Some(112), [112, 112, 0], true));
     }
     Ok(())
 }
 
-// With threads, too, a call fails where it is to fail.
-fn expect_failing<R: Threads + Wait + Abort + Sync>(
+// A call fails where it is to fail, with threads, too. A run has 113 calls of `next` and 112 of `take`; in one thread they
+// alternate.
+fn fails<R: Threads + Wait + Abort + Sync>(
     rt: &R,
     alloc: Global,
-    workers: u8,
     window: u16,
     call: u64,
 ) -> Result<(), AllocError>
-    requires crew { IsCrewSize workers }
     requires window { IsWindowSize window }
 {
-    let failing = vec![in alloc; call]?;
-    let mut feed = ListFeed::new(alloc, jobs(alloc, 112)?, failing)?;
-    let fault = drive(rt, alloc, workers, window, &OpenGate, &mut feed).err();
-    assert_eq!(rt;
-        fault,
-        Some(DriveFault::Feed(ListFault { call })),
-        "{workers} {window} {call}"
+    let (ran, feed) = alone(alloc, window, &OpenGate, &[call])?;
+    let fault = Some(DriveFault::Feed(ListFault { call }));
+    equal(
+        rt,
+        (window, ran.err(), taken(&feed)),
+        (window, fault, Some(call / 2)),
     );
-    expect_first(rt, feed.taken());
+    for workers in [2, 4] {
+        let (ran, feed) = together(rt, alloc, workers, window, &OpenGate, &[call])?;
+        let fault = Some(DriveFault::Feed(ListFault { call }));
+        let is_first = taken(&feed).is_some();
+        equal(rt, (workers, ran.err(), is_first), (workers, fault, true));
+    }
     Ok(())
 }
 
-// A run has 113 calls of `next` and 112 of `take`; in one thread they alternate.
 #[test]
 fn each_call_fails(rt: HostRuntime) -> Result<(), Fail> {
     for window in [1, 2, 256] {
         for call in 0..225u64 {
-            let failing = vec![in rt.alloc(); call]?;
-            let mut feed = ListFeed::new(rt.alloc(), jobs(rt.alloc(), 112)?, failing)?;
-            let fault = drive_alone(rt.alloc(), window, &OpenGate, &mut feed).err();
-            assert_eq!(rt;
-                fault,
-                Some(DriveFault::Feed(ListFault { call })),
-                "{window} {call}"
-            );
-            assert_eq!(rt; feed.taken().len() as u64, call / 2, "{window} {call}");
-            expect_first(&rt, feed.taken());
-            expect_failing(&rt, rt.alloc(), 2, window, call)?;
-            expect_failing(&rt, rt.alloc(), 4, window, call)?;
+            fails(&rt, rt.alloc(), window, call)?;
         }
     }
     Ok(())

@@ -2,6 +2,7 @@
 ghost use Rattle.std.specs.Prelude.{◌≤◌};
 ghost use Rattle.ht_feed.specs.Limits.{IsWindowSize};
 
+use crate::equal::equal;
 use ht_demo::{Plan, demo, demo_alone};
 use ht_feed::OpenGate;
 use ht_rate::Rate;
@@ -11,7 +12,7 @@ use std::sync::Wait;
 use std::test::Fail;
 use std::thread::Threads;
 
-/// Asserts that this is the line of a plan.
+/// Holds that this is the line of a plan.
 fn says<R: Abort + Threads + Wait + Sync>(
     rt: &R,
     alloc: Global,
@@ -23,9 +24,13 @@ fn says<R: Abort + Threads + Wait + Sync>(
     requires octets { 1 ≤ plan.now.length }
 {
     let alone = demo_alone(alloc, window, plan, &OpenGate)?;
-    assert_eq!(rt; alone.as_slice(), wanted.as_bytes());
     let together = demo(rt, alloc, 3, window, plan, &OpenGate)?;
-    assert_eq!(rt; together.as_slice(), wanted.as_bytes());
+    let wanted = wanted.as_bytes();
+    equal(
+        rt,
+        (alone.as_slice(), together.as_slice()),
+        (wanted, wanted),
+    );
     Ok(())
 }
 

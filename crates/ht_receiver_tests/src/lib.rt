@@ -9,23 +9,21 @@
 #![tactic(auto)]
 
 #[cfg(test)]
-mod cli;
-#[cfg(test)]
 mod common;
 #[cfg(test)]
 mod crew;
 #[cfg(test)]
 mod demo;
 #[cfg(test)]
+mod equal;
+#[cfg(test)]
+mod gate;
+#[cfg(test)]
 mod legacy_rx;
 #[cfg(test)]
 mod machine;
 #[cfg(test)]
 mod many;
-#[cfg(test)]
-mod many_offsets;
-#[cfg(test)]
-mod metric;
 #[cfg(test)]
 mod pam;
 #[cfg(test)]

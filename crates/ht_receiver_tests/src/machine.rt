@@ -1,189 +1,173 @@
 //! Runs of a few jobs and actors, and events that must not come.
 use crate::common::job;
+use crate::equal::equal;
 use ht_machine::{Core, Event, Spot, StepFault, enabled, place_of, step};
-use ht_metric::{Hit, plain_nearest};
+use ht_metric::plain_nearest;
 use std::process::Abort;
 use std::test::Fail;
 
-fn hit(number: u64, re: i32) -> Hit {
-    plain_nearest(&job(number, re))
+// An event whose job is named by its number and its sample.
+#[derive(Clone, Copy, Debug, PartialEq, Eq)]
+enum Move {
+    Issue(u64, i32),
+    Push(u8),
+    Pop(u8),
+    // By the first from the second.
+    Steal(u8, u8),
+    Finish(u8, u64, i32),
+    Accept(u64),
+    Emit,
 }
 
-// The event comes, and then the jobs 0 and 1 are at these places.
-fn comes(rt: &impl Abort, core: &mut Core, event: Event, places: [Option<Spot>; 2]) {
-    assert!(rt; enabled(core, &event));
-    assert!(rt; step(core, event).is_ok());
-    assert_eq!(rt; [place_of(core, 0), place_of(core, 1)], places);
+impl Move {
+    fn event(self) -> Event {
+        match self {
+            Move::Issue(number, re) => Event::Issue(job(number, re)),
+            Move::Push(actor) => Event::Push(actor),
+            Move::Pop(actor) => Event::Pop(actor),
+            Move::Steal(thief, from) => Event::Steal { thief, from },
+            Move::Finish(actor, number, re) => Event::Finish {
+                actor,
+                hit: plain_nearest(&job(number, re)),
+            },
+            Move::Accept(number) => Event::Accept(number),
+            Move::Emit => Event::Emit,
+        }
+    }
 }
 
-fn refused(rt: &impl Abort, core: &mut Core, event: Event) {
-    assert!(rt; !enabled(core, &event));
-    assert_eq!(rt; step(core, event), Err(StepFault::NotEnabled));
+// Holds that a move comes, or that it is refused.
+fn plays(rt: &impl Abort, core: &mut Core, next: Move, comes: bool) {
+    let event = next.event();
+    let is_enabled = enabled(core, &event);
+    let made = step(core, event);
+    let wanted = if comes {
+        Ok(())
+    } else {
+        Err(StepFault::NotEnabled)
+    };
+    equal(rt, (next, is_enabled, made), (next, comes, wanted));
 }
+
+// Moves of two actors with a window of two jobs: those that are refused first, one that comes, and where the jobs 0 and 1
+// are then.
+type Turn = (&'static [Move], Move, [Option<Spot>; 2]);
+
+static TURNS: [Turn; 12] = [
+    (
+        &[Move::Emit, Move::Push(0), Move::Issue(1, 3)],
+        Move::Issue(0, 3),
+        [Some(Spot::Hand(0)), None],
+    ),
+    (
+        &[Move::Issue(1, 3), Move::Steal(1, 0)],
+        Move::Push(0),
+        [Some(Spot::Deque(0)), None],
+    ),
+    (
+        &[Move::Steal(0, 0), Move::Steal(2, 0)],
+        Move::Steal(1, 0),
+        [Some(Spot::Hand(1)), None],
+    ),
+    (
+        &[],
+        Move::Issue(1, -3),
+        [Some(Spot::Hand(1)), Some(Spot::Hand(0))],
+    ),
+    (
+        &[],
+        Move::Push(0),
+        [Some(Spot::Hand(1)), Some(Spot::Deque(0))],
+    ),
+    // The window is full.
+    (
+        &[Move::Issue(2, 3)],
+        Move::Pop(0),
+        [Some(Spot::Hand(1)), Some(Spot::Hand(0))],
+    ),
+    // Another job of the same number is not the one in the hand.
+    (
+        &[Move::Finish(0, 1, 3), Move::Accept(1)],
+        Move::Finish(0, 1, -3),
+        [Some(Spot::Hand(1)), Some(Spot::Results)],
+    ),
+    (
+        &[],
+        Move::Accept(1),
+        [Some(Spot::Hand(1)), Some(Spot::Booked)],
+    ),
+    // Job 1 waits for job 0.
+    (
+        &[Move::Emit],
+        Move::Finish(1, 0, 3),
+        [Some(Spot::Results), Some(Spot::Booked)],
+    ),
+    (
+        &[],
+        Move::Accept(0),
+        [Some(Spot::Booked), Some(Spot::Booked)],
+    ),
+    (&[], Move::Emit, [Some(Spot::Emitted), Some(Spot::Booked)]),
+    (&[], Move::Emit, [Some(Spot::Emitted), Some(Spot::Emitted)]),
+];
 
 #[test]
 fn two_jobs(rt: HostRuntime) -> Result<(), Fail> {
     let mut core = Core::new(rt.alloc(), 2, 2)?;
-    let core = &mut core;
-    refused(&rt, core, Event::Emit);
-    refused(&rt, core, Event::Push(0));
-    refused(&rt, core, Event::Issue(job(1, 3)));
-    comes(
-        &rt,
-        core,
-        Event::Issue(job(0, 3)),
-        [Some(Spot::Hand(0)), None],
-    );
-    refused(&rt, core, Event::Issue(job(1, 3)));
-    refused(&rt, core, Event::Steal { thief: 1, from: 0 });
-    comes(&rt, core, Event::Push(0), [Some(Spot::Deque(0)), None]);
-    refused(&rt, core, Event::Steal { thief: 0, from: 0 });
-    refused(&rt, core, Event::Steal { thief: 2, from: 0 });
-    comes(
-        &rt,
-        core,
-        Event::Steal { thief: 1, from: 0 },
-        [Some(Spot::Hand(1)), None],
-    );
-    comes(
-        &rt,
-        core,
-        Event::Issue(job(1, -3)),
-        [Some(Spot::Hand(1)), Some(Spot::Hand(0))],
-    );
-    comes(
-        &rt,
-        core,
-        Event::Push(0),
-        [Some(Spot::Hand(1)), Some(Spot::Deque(0))],
-    );
-
-    // The window is full.
-    refused(&rt, core, Event::Issue(job(2, 3)));
-    comes(
-        &rt,
-        core,
-        Event::Pop(0),
-        [Some(Spot::Hand(1)), Some(Spot::Hand(0))],
-    );
-
-    // Another job of the same number is not the one in the hand.
-    refused(
-        &rt,
-        core,
-        Event::Finish {
-            actor: 0,
-            hit: hit(1, 3),
-        },
-    );
-    refused(&rt, core, Event::Accept(1));
-    comes(
-        &rt,
-        core,
-        Event::Finish {
-            actor: 0,
-            hit: hit(1, -3),
-        },
-        [Some(Spot::Hand(1)), Some(Spot::Results)],
-    );
-    comes(
-        &rt,
-        core,
-        Event::Accept(1),
-        [Some(Spot::Hand(1)), Some(Spot::Booked)],
-    );
-
-    // Job 1 waits for job 0.
-    refused(&rt, core, Event::Emit);
-    comes(
-        &rt,
-        core,
-        Event::Finish {
-            actor: 1,
-            hit: hit(0, 3),
-        },
-        [Some(Spot::Results), Some(Spot::Booked)],
-    );
-    comes(
-        &rt,
-        core,
-        Event::Accept(0),
-        [Some(Spot::Booked), Some(Spot::Booked)],
-    );
-    comes(
-        &rt,
-        core,
-        Event::Emit,
-        [Some(Spot::Emitted), Some(Spot::Booked)],
-    );
-    comes(
-        &rt,
-        core,
-        Event::Emit,
-        [Some(Spot::Emitted), Some(Spot::Emitted)],
-    );
+    for &(refused, next, places) in &TURNS {
+        for other in refused {
+            plays(&rt, &mut core, *other, false);
+        }
+        plays(&rt, &mut core, next, true);
+        let found = [place_of(&core, 0), place_of(&core, 1)];
+        equal(&rt, (next, found), (next, places));
+    }
     Ok(())
+}
+
+// Issues jobs and pushes each on the caller's deque.
+fn push_jobs(rt: &impl Abort, core: &mut Core, count: u64) {
+    for number in 0..count {
+        plays(rt, core, Move::Issue(number, 3), true);
+        plays(rt, core, Move::Push(0), true);
+    }
 }
 
 #[test]
 fn window_of_two(rt: HostRuntime) -> Result<(), Fail> {
     let mut core = Core::new(rt.alloc(), 2, 2)?;
-    for number in 0..2 {
-        for event in [Event::Issue(job(number, 3)), Event::Push(0)] {
-            assert!(rt; enabled(&core, &event));
-            step(&mut core, event)?;
-        }
+    push_jobs(&rt, &mut core, 2);
+    plays(&rt, &mut core, Move::Issue(2, 3), false);
+    for next in [
+        Move::Steal(1, 0),
+        Move::Finish(1, 0, 3),
+        Move::Accept(0),
+        Move::Emit,
+    ] {
+        plays(&rt, &mut core, next, true);
     }
-    refused(&rt, &mut core, Event::Issue(job(2, 3)));
-
-    let rest = [
-        Event::Steal { thief: 1, from: 0 },
-        Event::Finish {
-            actor: 1,
-            hit: hit(0, 3),
-        },
-        Event::Accept(0),
-        Event::Emit,
-    ];
-    for event in rest {
-        assert!(rt; enabled(&core, &event));
-        step(&mut core, event)?;
-    }
-    assert_eq!(rt; place_of(&core, 0), Some(Spot::Emitted));
-    assert_eq!(rt; place_of(&core, 1), Some(Spot::Deque(0)));
+    let found = [place_of(&core, 0), place_of(&core, 1)];
+    equal(&rt, found, [Some(Spot::Emitted), Some(Spot::Deque(0))]);
     Ok(())
 }
 
 // A worker moves a number of jobs from another's deque to its own, one steal and one push each, and pops its own front.
-fn moves(
-    rt: &impl Abort,
-    core: &mut Core,
-    thief: u8,
-    from: u8,
-    count: u8,
-) -> Result<(), StepFault> {
+fn take_over(rt: &impl Abort, core: &mut Core, thief: u8, from: u8, count: u8) {
     for _ in 0..count {
-        for event in [Event::Steal { thief, from }, Event::Push(thief)] {
-            assert!(rt; enabled(core, &event));
-            step(core, event)?;
-        }
+        plays(rt, core, Move::Steal(thief, from), true);
+        plays(rt, core, Move::Push(thief), true);
     }
-    step(core, Event::Pop(thief))
+    plays(rt, core, Move::Pop(thief), true);
 }
 
 // Worker 1 moves eight of ten jobs and takes the first in hand; worker 2 moves the seven others on.
 #[test]
 fn jobs_moved_on(rt: HostRuntime) -> Result<(), Fail> {
     let mut core = Core::new(rt.alloc(), 3, 16)?;
-    for number in 0..10 {
-        for event in [Event::Issue(job(number, 3)), Event::Push(0)] {
-            assert!(rt; enabled(&core, &event));
-            step(&mut core, event)?;
-        }
-    }
-    moves(&rt, &mut core, 1, 0, 8)?;
-    moves(&rt, &mut core, 2, 1, 7)?;
-    refused(&rt, &mut core, Event::Steal { thief: 0, from: 1 });
+    push_jobs(&rt, &mut core, 10);
+    take_over(&rt, &mut core, 1, 0, 8);
+    take_over(&rt, &mut core, 2, 1, 7);
+    plays(&rt, &mut core, Move::Steal(0, 1), false);
     for number in 0..10u64 {
         let spot = match number {
             0 => Spot::Hand(1),
@@ -191,7 +175,8 @@ fn jobs_moved_on(rt: HostRuntime) -> Result<(), Fail> {
             2..=7 => Spot::Deque(2),
             _ => Spot::Deque(0),
         };
-        assert_eq!(rt; place_of(&core, number), Some(spot));
+        let found = place_of(&core, number);
+        equal(&rt, (number, found), (number, Some(spot)));
     }
     Ok(())
 }

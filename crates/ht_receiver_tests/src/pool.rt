@@ -5,6 +5,7 @@ ghost use Rattle.ht_pool.specs.Helms.{unused, IsSettled, IsSameHelm};
 ghost use Rattle.ht_pool.specs.Members.{berth_of, berths, HasYetToServe};
 ghost use Rattle.ht_pool.specs.Pools.{IsVacant};
 
+use crate::equal::equal;
 use ht_pool::close::close;
 use ht_pool::crew::beside;
 use ht_pool::helm::Helm;
@@ -168,12 +169,15 @@ fn smoke(rt: HostRuntime) -> Result<(), Fail> {
     for helpers in [0, 1, 3] {
         let work = Squares::together(u64::from(helpers) + 1);
         let (sum, ran) = run_squares(&rt, rt.alloc(), &work, helpers)?;
-        assert_eq!(rt; work.strays.load(Ordering::SeqCst), 0);
-        assert_eq!(rt; sum, 332_833_500);
-        assert_eq!(rt; ran.len(), usize::from(helpers) + 1);
-        assert!(rt; ran.as_slice().iter().all(|n| *n > 0));
-        let all = ran.as_slice().iter().fold(0u64, |a, n| a.wrapping_add(*n));
-        assert_eq!(rt; all, 1000);
+        let ran = ran.as_slice();
+        let idle = ran.iter().filter(|n| **n == 0).count();
+        let all = ran.iter().fold(0u64, |a, n| a.wrapping_add(*n));
+        let strays = work.strays.load(Ordering::SeqCst);
+        equal(
+            &rt,
+            (helpers, strays, sum, ran.len(), idle, all),
+            (helpers, 0, 332_833_500, usize::from(helpers) + 1, 0, 1000),
+        );
     }
     Ok(())
 }

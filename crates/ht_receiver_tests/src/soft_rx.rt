@@ -1,72 +1,59 @@
-//! Captures of zeros.
-use crate::common;
+//! Captures of zeros, where each bit weighs 0, by one worker and by several.
+use crate::common::{Harm, zeros};
+use crate::equal::equal;
+use crate::gate::{Rule, Watch};
 use ht_feed::OpenGate;
-use ht_io::{MemSink, MemSource};
 use ht_soft_rx::{receive_soft, receive_soft_alone};
-use std::alloc::{AllocError, Global};
 use std::test::Fail;
 
-// A capture of one frame of one octet at 20 MHz, MCS 0, of two symbols: the diagonal 10 on each of 56 subcarriers, and every
-// sample 0. So both points of a data subcarrier are at the distance 100, and each bit weighs 0.
-fn zeros(alloc: Global) -> Result<Vec<u8>, AllocError> {
-    common::zeros(alloc, &[1])
-}
+const ONE: &str = "soft 0 cost 0 seed zero\nend 1 frames\n";
 
 #[test]
 fn a_frame_of_zeros(rt: HostRuntime) -> Result<(), Fail> {
     let alloc = rt.alloc();
+    let octets = zeros(alloc, &[1])?;
     for window in [1, 7, 4096] {
-        let mut source = MemSource::new(zeros(alloc)?, Vec::new(alloc), Vec::new(alloc));
-        let mut sink = MemSink::new(Vec::with_capacity(alloc, 4096)?, Vec::new(alloc));
+        let mut source = Harm::None.source(alloc, &octets)?;
+        let mut sink = Harm::None.sink(alloc)?;
         let ended = receive_soft_alone(alloc, window, &mut source, &mut sink, &OpenGate);
-        assert_eq!(rt; ended, Ok(1));
-        assert!(rt; sink.held() == b"soft 0 cost 0 seed zero\nend 1 frames\n".as_slice());
+        equal(
+            &rt,
+            (window, ended, sink.held()),
+            (window, Ok(1), ONE.as_bytes()),
+        );
     }
     Ok(())
 }
 
-// Frames of zeros that are long enough for the workers to decode: this many, of 100 octets each, at 20 MHz, MCS 0, of 32
-// symbols.
-fn long_zeros(alloc: Global, frames: u8) -> Result<Vec<u8>, AllocError> {
-    let mut octets = b"HTCP\x01\x00".to_vec(alloc)?;
-    octets.push(frames)?;
-    for _ in 0..frames {
-        octets.extend_from_slice(&[0, 0, 0, 100])?;
-        for _ in 0..56u8 {
-            octets.extend_from_slice(&[0, 10])?;
-        }
-        for _ in 0..14336u16 {
-            octets.push(0)?;
-        }
-    }
-    Ok(octets)
+// Two workers meet at a gate that one alone can't pass: job 0 is held until 111 others have left. 104 jobs come to two
+// halves each, and eight pilots to one.
+#[test]
+fn threads_meet(rt: HostRuntime) -> Result<(), Fail> {
+    let alloc = rt.alloc();
+    let gate = Watch::new(Rule::OthersFirst(111));
+    let mut source = Harm::None.source(alloc, &zeros(alloc, &[1])?)?;
+    let mut sink = Harm::None.sink(alloc)?;
+    let ended = receive_soft(&rt, alloc, 2, 512, &mut source, &mut sink, &gate);
+    let answer = (ended, sink.held(), gate.counts());
+    equal(&rt, answer, (Ok(1), ONE.as_bytes(), [216, 216, 0]));
+    Ok(())
 }
 
+const THREE: &str =
+    "soft 0 cost 0 seed zero\nsoft 1 cost 0 seed zero\nsoft 2 cost 0 seed zero\nend 3 frames\n";
+
+// Frames of 32 symbols, which are long enough for the workers to decode.
 #[test]
 fn long_frames_of_zeros(rt: HostRuntime) -> Result<(), Fail> {
     let alloc = rt.alloc();
-    let lines =
-        b"soft 0 cost 0 seed zero\nsoft 1 cost 0 seed zero\nsoft 2 cost 0 seed zero\nend 3 frames\n".as_slice();
-    for workers in [1, 2, 5] {
-        for window in [1, 4096] {
-            let mut source = MemSource::new(
-                long_zeros(alloc, 3)?,
-                Vec::new(alloc),
-                Vec::new(alloc),
-            );
-            let mut sink = MemSink::new(Vec::with_capacity(alloc, 4096)?, Vec::new(alloc));
-            let ended = receive_soft(
-                &rt,
-                alloc,
-                workers,
-                window,
-                &mut source,
-                &mut sink,
-                &OpenGate,
-            );
-            assert_eq!(rt; ended, Ok(3));
-            assert!(rt; sink.held() == lines);
-        }
+    let octets = zeros(alloc, &[100, 100, 100])?;
+    for (workers, window) in [(1, 1), (1, 4096), (2, 1), (2, 4096), (5, 1), (5, 4096)] {
+        let mut source = Harm::None.source(alloc, &octets)?;
+        let mut sink = Harm::None.sink(alloc)?;
+        let gate = OpenGate;
+        let ended = receive_soft(&rt, alloc, workers, window, &mut source, &mut sink, &gate);
+        let answer = (workers, window, ended, sink.held());
+        equal(&rt, answer, (workers, window, Ok(3), THREE.as_bytes()));
     }
     Ok(())
 }

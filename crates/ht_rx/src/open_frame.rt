@@ -208,7 +208,7 @@ impl OpenFrame {
         ensures rate { result ≡ true → tally.now.rate ≡ self.now.head.rate }
         ensures few { result ≡ true → tally.now.jobs ≤ self.now.left }
     {
-        tally.rate == self.head.rate && u64::from(tally.jobs) <= self.left
+        tally.rate.same(&self.head.rate) && u64::from(tally.jobs) <= self.left
     }
 
     /// Takes what was made of jobs of the frame that is under way.

@@ -1,5 +1,5 @@
 //! Blocks of halves.
-ghost use Rattle.std.specs.Prelude.{◌≡◌, ◌+◌, ◌*◌, ◌^◌, ◌<◌, ◌≤◌, ◌↔◌, length, take, drop, IfOk, IfSome, IsTrue};
+ghost use Rattle.std.specs.Prelude.{◌≡◌, ◌+◌, ◌*◌, ◌^◌, ◌<◌, ◌≤◌, length, take, drop, IfOk, IfSome};
 ghost use Rattle.ht_capture.specs.Parts.{jobs_of};
 ghost use Rattle.ht_feed.specs.Dues.{AreHits};
 ghost use Rattle.ht_soft_blocks.specs.Blocks.{AreOfRate};
@@ -124,13 +124,6 @@ impl HalvesBlock {
     }
 }
 
-// Whether both rates are the same, as `==` says too.
-fn same_rate(rate: &Rate, other: &Rate) -> bool
-    ensures { IsTrue result ↔ (rate.now ≡ other.now) }
-{
-    *rate == *other
-}
-
 impl Jobs for HalvesBlock {
     ghost jobs = { λ b. b };
 
@@ -167,7 +160,7 @@ impl Shared for HalvesBlock {
         self.first == other.first
             && self.count == other.count
             && self.number == other.number
-            && same_rate(&self.rate, &other.rate)
+            && self.rate.same(&other.rate)
             && self.block.same(&other.block)
     }
 

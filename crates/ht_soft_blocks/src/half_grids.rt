@@ -19,7 +19,7 @@ use std::alloc::{AllocError, Global};
 
 /// The grids of the halves of a data subcarrier's job, in their order: those of all data subcarriers of a frame of this
 /// rate.
-#[derive(Debug, Drop)]
+#[derive(Drop)]
 pub(crate) struct HalfGrids {
     rate: Rate,
     grids: Vec<Grid>,

@@ -16,7 +16,7 @@ use ht_rate::Rate;
 use ht_soft::half;
 
 /// Where a half stands: at a job of a block, of which the first half has `start` others before it.
-#[derive(Clone, Copy, Debug)]
+#[derive(Clone, Copy)]
 pub(crate) struct Spot {
     pub job: u16,
     pub start: u16,

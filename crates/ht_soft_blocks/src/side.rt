@@ -5,7 +5,7 @@ ghost use Rattle.ht_rate.specs.Rates.{label_bits_of, streams_of};
 use ht_rate::Rate;
 
 /// The label bit of a data subcarrier that a half is of, and the value that it has there.
-#[derive(Clone, Copy, Debug)]
+#[derive(Clone, Copy)]
 pub(crate) struct Side {
     /// The stream of the label, counted from 1.
     pub stream: u8,

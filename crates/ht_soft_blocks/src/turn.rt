@@ -2,7 +2,7 @@
 use ht_metric::Job;
 
 /// A job of a block whose halves come one after another.
-#[derive(Debug, Drop)]
+#[derive(Drop)]
 pub(crate) struct Turn {
     /// The job.
     pub job: Job,

@@ -1,4 +1,5 @@
 pub mod Widths
+pub mod Alike
 pub mod Placed
 pub mod Bits
 pub mod Folded

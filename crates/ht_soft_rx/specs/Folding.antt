@@ -92,11 +92,6 @@ results_from w (h ∷ hs) = result_if (with_half h w) ++ results_from (with_half
 abbrev pub results_in : Weighing → List (Headed FrameHead) → List SoftResult
 results_in w halves = results_from w (map taken_of halves)
 
--- the frame that is under way behind them
-abbrev pub weighing_after : Weighing → List Half → Weighing
-weighing_after w [] = w
-weighing_after w (h ∷ hs) = weighing_after (with_half h w) hs
-
 -- no frame is under way
 abbrev pub no_frame : Weighing
 no_frame = weighing (record { frame = 0; rate = rate_at 0 0; length = 1; erased = 0 }) [] 0

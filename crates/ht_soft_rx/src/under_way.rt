@@ -3,7 +3,7 @@ ghost use Rattle.std.specs.Prelude.{◌≡◌, ◌+◌, ◌*◌, ◌^◌, ◌<�
 ghost use Rattle.ht_results.specs.Folding.{with_octets};
 ghost use Rattle.ht_soft_rx.specs.Folding.{HasWeights, IsUnderWay, IsWhole, results_in, weight_place};
 ghost use Rattle.ht_soft_rx.specs.Folding.{weighing_begun, weighing_of, weights_in_frame};
-ghost use Rattle.ht_soft_rx.specs.Folding.{with_distance, with_found};
+ghost use Rattle.ht_soft_rx.specs.Folding.{with_bit, with_distance, with_found};
 ghost use Rattle.ht_soft_rx.specs.Results.{result_of};
 ghost use Rattle.ht_soft_rx.specs.Weights.{weights_of_job};
 
@@ -122,6 +122,22 @@ impl SoftUnderWay {
         self.begin(head)
     }
 
+    // One weight more of the next job is there, and that may be the job's last.
+    fn add_bit(&mut self)
+        requires ready { IsUnderWay self.old }
+        ensures added { self.new ≡ with_bit self.old }
+        ensures kept { HasWeights self.new.head self.new.weights }
+    {
+        let of_job = weights_of_job(&self.head);
+        let bits = self.bits + 1;
+        if bits == of_job {
+            self.bits = 0;
+            self.left -= 1;
+        } else {
+            self.bits = bits;
+        }
+    }
+
     // Takes the least distance of a half of a data job, whose weights stand from this place on.
     fn add_distance(&mut self, at: usize, distance: u128)
         requires ready { IsUnderWay self.old }
@@ -133,17 +149,10 @@ impl SoftUnderWay {
             self.zero = Some(distance);
             return;
         };
-        let of_job = weights_of_job(&self.head);
         let at = at + usize::from(self.bits);
         put_kept(&mut self.weights, at, weight(zero, distance));
         self.zero = None;
-        let bits = self.bits + 1;
-        if bits == of_job {
-            self.bits = 0;
-            self.left -= 1;
-        } else {
-            self.bits = bits;
-        }
+        self.add_bit();
     }
 
     // Takes the least distance of a half from this place, or of a pilot job.

@@ -6,6 +6,7 @@ ghost use Rattle.ht_soft_rx.specs.Results.{result_of};
 use crate::soft_result::SoftResult;
 use ht_capture::FrameHead;
 use ht_frames::WholeFrame;
+use ht_results::same_head;
 use ht_soft::soft_frame;
 use std::alloc::{AllocError, Global};
 
@@ -73,7 +74,9 @@ impl WholeFrame for SoftWhole {
         decoded(alloc, &self.head, self.weights.as_slice())
     }
 
+    #[tactic(auto, using(crate::proofs::Alike::same_result))]
     fn same(&self, other: &SoftWhole) -> bool {
-        self.head == other.head && same_weights(self.weights.as_slice(), other.weights.as_slice())
+        same_head(&self.head, &other.head)
+            && same_weights(self.weights.as_slice(), other.weights.as_slice())
     }
 }

@@ -14,3 +14,4 @@ pub mod Enumerating
 pub mod RowFacts
 pub mod Carried
 pub mod Turns
+pub mod Filling

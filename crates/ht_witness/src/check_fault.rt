@@ -2,11 +2,11 @@
 ghost use Rattle.std.specs.Prelude.{◌≡◌};
 ghost use Rattle.ht_witness.specs.Kinds.{carried_by, name_of, number_of};
 
+use std::fmt;
 use thiserror::Error;
 
 /// What is wrong with a certificate, in the order of the kinds' numbers. A mark's index is its place in the list, from 0.
 #[derive(Clone, Copy, Debug, PartialEq, Eq, Error)]
-#[error("{} at {}", self.name(), self.at())]
 pub enum CheckFault {
     /// 1: the claimed point of this stream, counted from 1, is not in the grid, and those of all lower streams are.
     OffGrid(u8),
@@ -64,5 +64,11 @@ impl CheckFault {
             | CheckFault::Short(at)
             | CheckFault::Long(at) => u128::from(*at),
         }
+    }
+}
+
+impl fmt::Display for CheckFault {
+    fn fmt<W: fmt::Write>(&self, f: &mut fmt::Formatter<W>) -> fmt::Result {
+        write!(f, "{} at {}", self.name(), self.at())
     }
 }

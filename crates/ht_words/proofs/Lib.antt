@@ -3,3 +3,4 @@ pub mod Numbers
 pub mod Ranges
 pub mod ReadingLemmas
 pub mod Spelling
+pub mod Refusals

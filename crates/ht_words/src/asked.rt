@@ -2,7 +2,7 @@
 ghost use Rattle.std.specs.Prelude.{◌≡◌, ◌≤◌, ◌==◌, [], IfOk, IfSome, if◌then◌else◌, map, string_bytes};
 ghost use Rattle.ht_rate.specs.Rates.{rate_at};
 ghost use Rattle.ht_words.specs.declared.setting.Setting.TheVariants.{Noise, Seed, Window, Workers};
-ghost use Rattle.ht_words.specs.Words.{IsWithinRanges, are_accepted, asked, demo_in, for_channel, for_demo, for_workers, only_if, value_of};
+ghost use Rattle.ht_words.specs.Words.{IsWithinRanges, are_accepted, asked, asked_of, commands, demo_in, for_channel, for_demo, for_workers, only_if, value_of};
 ghost use Rattle.ht_words.specs.Refusing.{Reads, in_noise, in_threads};
 
 use crate::plain::{Refusal, accept, value};
@@ -91,7 +91,14 @@ fn by_command(alloc: Global, words: &[String]) -> Result<Asked, Refusal>
     let [command, options @ ..] = words else {
         return Err(Refusal::Words);
     };
-    match command.as_str() {
+    by_name(alloc, command.as_str(), options)
+}
+
+/// What the command of this name asks for with these options.
+fn by_name(alloc: Global, name: &str, options: &[String]) -> Result<Asked, Refusal>
+    ensures { Reads (asked_of commands name.now (map string_bytes options.now)) result }
+{
+    match name {
         "detect" => by_workers(alloc, options, Threaded::Detect),
         "rx" => by_workers(alloc, options, Threaded::Rx),
         "soft" => by_workers(alloc, options, Threaded::Soft),

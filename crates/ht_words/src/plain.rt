@@ -12,7 +12,7 @@ use crate::setting::Setting;
 use std::alloc::{AllocError, Global};
 
 /// Why words ask for nothing.
-#[derive(Clone, Copy, Debug, PartialEq, Eq)]
+#[derive(Clone, Copy)]
 pub(crate) enum Refusal {
     /// They aren't accepted.
     Words,

@@ -4,8 +4,20 @@ use Rattle.ht_metric.specs.declared.complex.Complex.{Complex}
 use Rattle.ht_metric.specs.Rows.{no_tap}
 use Rattle.ht_metric.specs.Vectors.{no_point}
 use Rattle.ht_metric.proofs.Combining.{combined-drop}
-use Rattle.ht_metric.proofs.Signs.{takes_one, adds_bound}
+use Rattle.ht_metric.proofs.Signs.{takes_one, adds_fits, adds_bound}
 use Rattle.ht_metric.proofs.rows.combine.Goals as goal
+
+pub overflow_add-total : goal.overflow_add-total
+overflow_add-total c =
+    let few : c.loop-k.k < 4 = omega arith in
+    adds_fits w64 c.loop-k.total.re c.times-part.result.re (458752 * c.loop-k.k) 458752 c.loop-k.invariant.re_bound
+    c.times-part.ensures.re_bound (omega arith)
+
+pub overflow_add-total-in-loop-k : goal.overflow_add-total-in-loop-k
+overflow_add-total-in-loop-k c =
+    let few : c.loop-k.k < 4 = omega arith in
+    adds_fits w64 c.loop-k.total.im c.times-part.result.im (458752 * c.loop-k.k) 458752 c.loop-k.invariant.im_bound
+    c.times-part.ensures.im_bound (omega arith)
 
 pub loop-k-preserved : goal.loop-k-preserved
 loop-k-preserved c =

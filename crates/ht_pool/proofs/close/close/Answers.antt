@@ -1,11 +1,12 @@
-use Rattle.std.proofs.Common.{◌≡◌, ◌∙◌, ◌∷◌, ℕ, List, length, map, ap, sym, refl, subst, arith}
+use Rattle.std.proofs.Common.{◌≡◌, ◌∙◌, ◌+◌, ◌∷◌, [], ℕ, List, length, map, drop, ap, sym, refl, subst, arith}
 use Rattle.std.specs.List.{All, sum_by}
+use Rattle.std.proofs.lemmas.List.{length-map, length-append}
 use Rattle.std.proofs.lemmas.List.Elements.{recursion_from_All}
 use Rattle.atomic_table.specs.Seated.{TableId}
 use Rattle.crossbeam_queue.specs.Passes.{view}
-use Rattle.ht_pool.specs.Seats.{SeatView, OwnView, deques_at}
+use Rattle.ht_pool.specs.Seats.{DequeId, SeatView, OwnView, deques_at}
 use Rattle.ht_pool.specs.Through.{through}
-use Rattle.ht_pool.specs.Members.{HasServed}
+use Rattle.ht_pool.specs.Members.{HasServed, berth, berth_of, berths}
 use Rattle.ht_pool.specs.Helms.{HelmView}
 use Rattle.ht_pool.specs.Gathering.{IsAccounted, ended, joined_rows, rows_of}
 use Rattle.ht_pool.specs.declared.ends.Ends.{Ends}
@@ -15,6 +16,14 @@ use Rattle.ht_pool.proofs.Joining.{joined_same, put_first, rows_first}
 use Rattle.ht_pool.proofs.Settling.{HaveEnded, at_all, all_parts, joined_long, all_answers, has_run, hands-whole}
 use Rattle.ht_pool.proofs.close.close.Goals as goal
 use Rattle.ht_pool.proofs.close.close.Goals.{After-take_apart, After-join_owners-owners}
+
+-- there is a deque for the caller, and one for each worker
+crew-long : {T A : Type 0} (deques at : List DequeId) (own : DequeId) (members : List (Member T A)) → at ≡ deques → at ≡ own ∷ drop 1 at
+    → map berth_of members ≡ berths deques → length members + 1 ≡ length deques
+crew-long deques at own members same first are =
+    let some : length at ≡ length (drop 1 at) + 1 = ap length first ∙ omega arith in
+    let rest : length (drop 1 at) ≡ length (drop 1 deques) = ap (λ (xs : List DequeId). length (drop 1 xs)) same in
+    omega (arith, some, rest, ap length same, ap length are, length-map members berth_of, length-map (drop 1 deques) (berth deques))
 
 have_ended : (g : _) (c : After-take_apart g)
     → HaveEnded g.row.W-Task.Denot g.row.W-Answer.Denot g.W.Work.asked g.W.Work.weight c.post.inside.pass.table_id c.args.helm c.post.inside.own
@@ -52,6 +61,69 @@ joined_are g c =
     (put_first c.post.inside.own c.requires.space.owners.0 c.push_reserved-2.ensures.items c.take_apart.ensures.owners)
     (rows_first _ _ c.take_apart.new.rows.items c.post.inside.seats _ c.requires.space.rows.0 c.push_reserved-3.ensures.items c.take_apart.ensures.rows)
     c.join_owners-owners.ensures
+
+pub push_reserved-requires : goal.push_reserved-requires
+push_reserved-requires g c =
+    let long = crew-long c.args.helm.deques (deques_at c.post.inside.seats.items) c.post.inside.own.deque c.args.members.items
+    (ap (λ (v : HelmView g.row.W-Task.Denot g.row.W-Answer.Denot). v.deques) (c.post.view_is ∙ c.helm.view_is)) c.post.invariant.1 c.requires.berths in
+    omega (arith, long, ap length c.requires.space.ran.0, c.requires.space.ran.1)
+
+pub push_reserved-requires-2 : goal.push_reserved-requires-2
+push_reserved-requires-2 g c =
+    let long = crew-long c.args.helm.deques (deques_at c.post.inside.seats.items) c.post.inside.own.deque c.args.members.items
+    (ap (λ (v : HelmView g.row.W-Task.Denot g.row.W-Answer.Denot). v.deques) (c.post.view_is ∙ c.helm.view_is)) c.post.invariant.1 c.requires.berths in
+    omega (arith, long, ap length c.requires.space.owners.0, c.requires.space.owners.1)
+
+pub push_reserved-requires-3 : goal.push_reserved-requires-3
+push_reserved-requires-3 g c =
+    let long = crew-long c.args.helm.deques (deques_at c.post.inside.seats.items) c.post.inside.own.deque c.args.members.items
+    (ap (λ (v : HelmView g.row.W-Task.Denot g.row.W-Answer.Denot). v.deques) (c.post.view_is ∙ c.helm.view_is)) c.post.invariant.1 c.requires.berths in
+    omega (arith, long, ap length c.requires.space.rows.0, c.requires.space.rows.1)
+
+pub take_apart-requires-clause-numbers : goal.take_apart-requires-clause-numbers
+take_apart-requires-clause-numbers g c =
+    let long = crew-long c.args.helm.deques (deques_at c.post.inside.seats.items) c.post.inside.own.deque c.args.members.items
+    (ap (λ (v : HelmView g.row.W-Task.Denot g.row.W-Answer.Denot). v.deques) (c.post.view_is ∙ c.helm.view_is)) c.post.invariant.1 c.requires.berths in
+    omega (
+      arith,
+      long,
+      ap length c.requires.space.ran.0,
+      c.requires.space.ran.1,
+      ap length c.push_reserved.ensures.items,
+      length-append c.args.space.ran.items (c.helm.inside.ran ∷ []),
+      c.push_reserved.ensures.capacity,
+    )
+
+pub take_apart-requires-clause-places : goal.take_apart-requires-clause-places
+take_apart-requires-clause-places g c =
+    let long = crew-long c.args.helm.deques (deques_at c.post.inside.seats.items) c.post.inside.own.deque c.args.members.items
+    (ap (λ (v : HelmView g.row.W-Task.Denot g.row.W-Answer.Denot). v.deques) (c.post.view_is ∙ c.helm.view_is)) c.post.invariant.1 c.requires.berths in
+    omega (
+      arith,
+      long,
+      ap length c.requires.space.owners.0,
+      c.requires.space.owners.1,
+      ap length c.push_reserved-2.ensures.items,
+      length-append c.args.space.owners.items (c.post.inside.own ∷ []),
+      c.push_reserved-2.ensures.capacity,
+    )
+
+pub take_apart-requires-clause-room : goal.take_apart-requires-clause-room
+take_apart-requires-clause-room g c =
+    let long = crew-long c.args.helm.deques (deques_at c.post.inside.seats.items) c.post.inside.own.deque c.args.members.items
+    (ap (λ (v : HelmView g.row.W-Task.Denot g.row.W-Answer.Denot). v.deques) (c.post.view_is ∙ c.helm.view_is)) c.post.invariant.1 c.requires.berths in
+    omega (
+      arith,
+      long,
+      ap length c.requires.space.rows.0,
+      c.requires.space.rows.1,
+      ap length c.push_reserved-3.ensures.items,
+      length-append c.args.space.rows.items (c.post.inside.seats ∷ []),
+      c.push_reserved-3.ensures.capacity,
+    )
+
+pub take_apart-requires-clause-some : goal.take_apart-requires-clause-some
+take_apart-requires-clause-some g c = omega (arith, c.post.invariant.0, c.post.invariant.3)
 
 pub join_owners-owners-requires : goal.join_owners-owners-requires
 join_owners-owners-requires g c =

@@ -1,7 +1,7 @@
-use Rattle.std.proofs.Common.{◌≡◌, List, sym, subst, rules}
+use Rattle.std.proofs.Common.{◌≡◌, List, length, ap, sym, subst, rules, arith}
 use Rattle.std.specs.List.{All}
 use Rattle.ht_pool.specs.Seats.{OwnView}
-use Rattle.ht_pool.proofs.Opens.{all_fresh, seated}
+use Rattle.ht_pool.proofs.Opens.{all_fresh, seated, seated-long}
 use Rattle.ht_pool.proofs.seating.open_seated.Goals as goal
 
 pub seat_rows-requires-clause-all : goal.seat_rows-requires-clause-all
@@ -20,3 +20,19 @@ returns-clause-rooms g c =
     (seated c.in_ok-owners.owners.len c.in_ok-owners.owners.items c.seat_rows.new.owners c.args.room c.args.workers c.as_mut_slice.result.now
     c.in_ok-rows.rows.items c.in_ok-owners.ensures.fresh c.in_ok-owners.ensures.count c.requires.few (search rules) c.as_mut_slice.ensures.value
     c.in_ok-rows.ensures.owners c.in_ok-rows.ensures.rows).1
+
+pub seat_rows-requires-clause-few : goal.seat_rows-requires-clause-few
+seat_rows-requires-clause-few g c = omega (arith, ap length c.as_mut_slice.ensures.value, c.in_ok-owners.ensures.count, c.requires.few)
+
+pub returns-clause-count : goal.returns-clause-count
+returns-clause-count g c = (
+  seated-long c.in_ok-owners.owners.len c.in_ok-owners.owners.items c.seat_rows.new.owners c.args.workers c.as_mut_slice.result.now
+      c.in_ok-owners.ensures.count (search rules) c.as_mut_slice.ensures.value c.in_ok-rows.ensures.owners,
+  c.in_ok-owners.ensures.room,
+)
+
+pub returns-clause-rows : goal.returns-clause-rows
+returns-clause-rows g c = (
+  omega (arith, ap length c.as_mut_slice.ensures.value, c.in_ok-owners.ensures.count, c.in_ok-rows.ensures.count),
+  omega (arith, ap length c.as_mut_slice.ensures.value, c.in_ok-owners.ensures.count, c.in_ok-rows.ensures.room),
+)

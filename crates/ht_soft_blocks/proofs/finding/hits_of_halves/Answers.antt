@@ -1,4 +1,4 @@
-use Rattle.std.proofs.Common.{rules, ◌≡◌, ◌≤◌, ◌<◌, ◌+◌, ◌-◌, ◌∙◌, List, [], ◌∷◌, ◌++◌, sym, ap, subst, arith}
+use Rattle.std.proofs.Common.{rules, ◌≡◌, ◌≤◌, ◌<◌, ◌+◌, ◌∙◌, List, [], ◌∷◌, ◌++◌, sym, ap, subst, arith}
 use Rattle.std.specs.Prelude.{Some, slice_get, option_map, map}
 use Rattle.std.proofs.lemmas.Bool.Decides.{nat_tests}
 use Rattle.std.proofs.lemmas.List.{take_all}
@@ -8,11 +8,23 @@ use Rattle.ht_capture.specs.Parts.{jobs_of}
 use Rattle.ht_feed.specs.Dues.{AreBounded}
 use Rattle.ht_feed.proofs.Detecting.{bounded_next, bounded_none}
 use Rattle.ht_soft_blocks.specs.Blocks.{some_halves}
-use Rattle.ht_soft_blocks.specs.Halved.{halves_of, halves_of_all}
+use Rattle.ht_soft_blocks.specs.Halved.{halves_of_all}
 use Rattle.ht_feed.specs.Numbers.{with_number}
-use Rattle.ht_soft_blocks.proofs.Detected.{behind_is, first_within, hits_next}
+use Rattle.ht_soft_blocks.proofs.Detected.{first_within, hits_next}
 use Rattle.ht_soft_blocks.proofs.Parts.{length_some}
 use Rattle.ht_soft_blocks.proofs.finding.hits_of_halves.Goals as goal
+
+pub spot_of-spot-requires-clause-within : goal.spot_of-spot-requires-clause-within
+spot_of-spot-requires-clause-within g c =
+    let within = c.requires.within in
+    let some = c.requires.some in
+    omega (arith, within, some)
+
+pub turn_of-turn-requires-clause-within : goal.turn_of-turn-requires-clause-within
+turn_of-turn-requires-clause-within g c = c.spot_of-spot.ensures.within
+
+pub turn_of-turn-requires-clause-start : goal.turn_of-turn-requires-clause-start
+turn_of-turn-requires-clause-start g c = c.spot_of-spot.ensures.starts
 
 pub loop-at-init : goal.loop-at-init
 loop-at-init g c =
@@ -34,30 +46,33 @@ loop-at-init g c =
       to = omega (arith, less);
     }
 
+pub next_half-half-requires-clause-within : goal.next_half-half-requires-clause-within
+next_half-half-requires-clause-within g c =
+    let less : c.loop-at.at < c.args.count = let t = c.loop-at-test.true in grind (arith, nat_tests) in
+    let within = c.requires.within in
+    omega (arith, less, within)
+
 pub loop-at-preserved : goal.loop-at-preserved
 loop-at-preserved g c =
     let rate = c.args.rate.now in
     let jobs = jobs_of c.args.block.now.block in
     let l = c.loop-at in
     let found = l.found.items in
-    let turn = c.go_on.new.turn in
     let n = c.args.number in
     let less : l.at < c.args.count = let t = c.loop-at-test.true in grind (arith, nat_tests) in
-    let from = c.go_on.ensures.from in
-    let to = c.go_on.ensures.to in
-    let is : Some c.half-half.result ≡ option_map (with_number (n + l.at)) (slice_get (halves_of_all rate jobs) (c.args.first + l.at)) =
-    c.half-half.ensures
-    ∙ (ap (λ r. option_map (with_number (n + c.from-in-loop-at.result)) (slice_get (halves_of r turn.job) (c.args.first + l.at - turn.start))) c.in_ok-grids.ensures
-    ∙ (ap (λ o. option_map (with_number (n + c.from-in-loop-at.result)) o) (sym (behind_is rate jobs turn (c.args.first + l.at) c.go_on.ensures.turn from to))
-    ∙ ap (λ m. option_map (with_number (n + m)) (slice_get (halves_of_all rate jobs) (c.args.first + l.at))) c.from-in-loop-at.ensures)) in
+    let next = c.next_half-half.ensures in
+    let from = next.from in
+    let to = next.to in
+    let is : Some c.next_half-half.result ≡ option_map (with_number (n + l.at)) (slice_get (halves_of_all rate jobs) (c.args.first + l.at)) =
+    next.half ∙ ap (λ m. option_map (with_number (n + m)) (slice_get (halves_of_all rate jobs) (c.args.first + l.at))) c.from-in-loop-at.ensures in
     let items = c.push_reserved.ensures.items in
     record {
       done = search rules;
       room = search rules;
       are = items ∙ (ap (λ (f : Found). found ++ f ∷ []) c.find.ensures.found
-          ∙ hits_next rate jobs c.args.first c.args.count n l.at c.half-half.result found less is l.invariant.are);
+          ∙ hits_next rate jobs c.args.first c.args.count n l.at c.next_half-half.result found less is l.invariant.are);
       below = subst (λ (fs : List Found). AreBounded fs) (sym items) (bounded_next found c.find.result l.invariant.below c.find.ensures.below);
-      turn = c.go_on.ensures.turn;
+      turn = next.turn;
       from = omega (arith, from);
       to = omega (arith, to);
     }

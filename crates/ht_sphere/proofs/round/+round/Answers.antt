@@ -1,10 +1,11 @@
-use Rattle.std.proofs.Common.{rules, ◌≡◌, ◌∷◌, ◌+◌, ◌-◌, ◌*◌, ◌≤◌, ℤ, List, drop, set, get_or, length, w8}
+use Rattle.std.proofs.Common.{rules, ◌≡◌, ◌∷◌, ◌+◌, ◌-◌, ◌*◌, ◌^◌, ◌≤◌, ℤ, List, drop, set, get_or, length, w8}
 use Rattle.std.proofs.Common.{w64, SFits, to_z, of_z, to_z-of_z, unsigned_abs, ap, sym, ◌∙◌, subst, arith}
 use Rattle.std.specs.List.{All}
 use Rattle.std.proofs.lemmas.List.Elements.{All-set}
 use Rattle.std.proofs.Math.ListN.{length-set}
 use Rattle.ht_pam.specs.Grids.{no_axes}
 use Rattle.ht_pam.specs.declared.axes.Axes.{Axes}
+use Rattle.ht_metric.proofs.Signs.{passed_within}
 use Rattle.ht_sphere.specs.Coordinates.{Real, down, from_q, q_at, i_at}
 use Rattle.ht_sphere.specs.Tree.{Reached, rounding}
 use Rattle.ht_sphere.proofs.Down.{down_more}
@@ -12,6 +13,25 @@ use Rattle.ht_sphere.proofs.Others.{AreChosen, OthersFrom, others_two, round_two
 use Rattle.ht_sphere.proofs.Steps.{two_set, chosen}
 use Rattle.ht_sphere.proofs.round.+round.Goals as goal
 use Rattle.ht_sphere.proofs.round.+round.Goals.{After-from-2}
+
+-- what was computed is within its bound as it is passed
+pub nearest-q-requires-clause-target : goal.nearest-q-requires-clause-target
+nearest-q-requires-clause-target g t c = passed_within w64 c.remainder_of-left.result.im (2 ^ 31 + 2 ^ 21) c.remainder_of-left.ensures.im_bound (omega arith)
+
+pub nearest-i-requires-clause-target : goal.nearest-i-requires-clause-target
+nearest-i-requires-clause-target g t c = passed_within w64 c.remainder_of-left.result.re (2 ^ 31 + 2 ^ 21) c.remainder_of-left.ensures.re_bound (omega arith)
+
+pub cost-requires-clause-target : goal.cost-requires-clause-target
+cost-requires-clause-target g t c = passed_within w64 c.remainder_of-left.result.im (2 ^ 31 + 2 ^ 21) c.remainder_of-left.ensures.im_bound (omega arith)
+
+pub cost-requires-2-clause-target : goal.cost-requires-2-clause-target
+cost-requires-2-clause-target g t c = passed_within w64 c.remainder_of-left.result.re (2 ^ 31 + 2 ^ 21) c.remainder_of-left.ensures.re_bound (omega arith)
+
+pub cost-requires-clause-level : goal.cost-requires-clause-level
+cost-requires-clause-level g t c = passed_within w8 c.nearest-q.result.level 7 c.nearest-q.ensures.bound (omega arith)
+
+pub cost-requires-2-clause-level : goal.cost-requires-2-clause-level
+cost-requires-2-clause-level g t c = passed_within w8 c.nearest-i.result.level 7 c.nearest-i.ensures.bound (omega arith)
 
 pub round-requires : goal.round-requires
 round-requires g t c =

@@ -1,8 +1,9 @@
-use Rattle.std.proofs.Common.{rules, ◌-◌, ◌*◌, ℕ, List, drop, get_or, slice_set}
+use Rattle.std.proofs.Common.{rules, ◌+◌, ◌-◌, ◌*◌, ◌^◌, ℕ, List, drop, get_or, slice_set}
 use Rattle.std.proofs.Common.{w8, w64, SFits, to_z, of_z, to_z-of_z, ap, sym, ◌∙◌, subst, arith, refl}
 use Rattle.std.proofs.Math.ListN.{length-set}
 use Rattle.ht_pam.specs.Grids.{no_axes}
 use Rattle.ht_pam.specs.declared.axes.Axes.{Axes}
+use Rattle.ht_metric.proofs.Signs.{passed_within}
 use Rattle.ht_sphere.specs.Coordinates.{Real, q_at, i_at, from_i, down}
 use Rattle.ht_sphere.specs.Searching.{IsSearched}
 use Rattle.ht_sphere.proofs.Down.{down_more}
@@ -46,6 +47,10 @@ i_step g t c =
     (omega (arith, c.loop-level.invariant.room, c.requires.room.room, c.requires.last, c.from.ensures)) (omega (arith, c.from.ensures))
     (omega (arith, c.from.ensures)) c.loop-level.invariant.chosen c.loop-level.invariant.levels (to_z-of_z fits) c.in-Some.ensures.level
     (c.from-in-Some.ensures ∙ c.cost.ensures.value) c.requires.aimed.diagonal (to_z-of_z wide ∙ c.requires.aimed.target)
+
+pub quadrature-cost-requires-clause-target : goal.quadrature-cost-requires-clause-target
+quadrature-cost-requires-clause-target g t c =
+    passed_within w64 c.remainder_of-left.result.im (2 ^ 31 + 2 ^ 21) c.remainder_of-left.ensures.im_bound (omega arith)
 
 pub quadrature-loop-level-init : goal.quadrature-loop-level-init
 quadrature-loop-level-init g t c =

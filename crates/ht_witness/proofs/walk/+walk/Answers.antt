@@ -1,8 +1,9 @@
-use Rattle.std.proofs.Common.{rules, ◌≡◌, [], ◌∷◌, ◌++◌, ◌+◌, ◌-◌, ◌*◌, ◌<◌, ℤ, ℕ, List, Bool, true, Ok, map, drop, get_or, slice_set}
+use Rattle.std.proofs.Common.{rules, ◌≡◌, [], ◌∷◌, ◌++◌, ◌+◌, ◌-◌, ◌*◌, ◌^◌, ◌<◌, ℤ, ℕ, List, Bool, true, Ok, map, drop, get_or, slice_set}
 use Rattle.std.proofs.Common.{w8, w64, SFits, to_z, of_z, to_z-of_z, ap, sym, ◌∙◌, subst, arith, refl}
 use Rattle.std.proofs.Math.ListN.{length-set}
 use Rattle.ht_pam.specs.Grids.{no_axes}
 use Rattle.ht_pam.specs.declared.axes.Axes.{Axes}
+use Rattle.ht_metric.proofs.Signs.{passed_within}
 use Rattle.ht_sphere.specs.Coordinates.{Real, q_at, i_at, from_q, from_i, down}
 use Rattle.ht_sphere.proofs.Down.{down_more}
 use Rattle.ht_sphere.proofs.Steps.{Step, step, aimed, behind}
@@ -10,6 +11,10 @@ use Rattle.ht_witness.specs.Walks.{AreChosen, Suffix, IsAt, Visited, below, long
 use Rattle.ht_witness.proofs.Walking.{length-down, suffix, begun, over, arrived, opened_by, cut_by}
 use Rattle.ht_witness.proofs.walk.+walk.Goals as goal
 use Rattle.ht_witness.proofs.walk.+walk.Goals.{quadrature-After-from-in-Some, in_phase-After-from-in-Some}
+
+pub quadrature-cost-requires-clause-target : goal.quadrature-cost-requires-clause-target
+quadrature-cost-requires-clause-target g t c =
+    passed_within w64 c.remainder_of-left.result.im (2 ^ 31 + 2 ^ 21) c.remainder_of-left.ensures.im_bound (omega arith)
 
 pub quadrature-loop-level-init : goal.quadrature-loop-level-init
 quadrature-loop-level-init g t c = record {

@@ -3,7 +3,7 @@ use Rattle.std.proofs.lemmas.Option.{slice_get_read}
 use Rattle.ht_metric.specs.Jobs.{JobView}
 use Rattle.ht_crew.specs.Feeds.{GivesJob}
 use Rattle.ht_crew.specs.Lists.{Listed, IsListed, shown}
-use Rattle.ht_crew.proofs.Giving.{gives_next}
+use Rattle.ht_crew.proofs.Giving.{gives_next, unmoved}
 use Rattle.ht_crew.proofs.list_feed.ListFeedFeed.next.Goals as goal
 
 pub returns-clause-job : goal.returns-clause-job
@@ -18,3 +18,13 @@ returns-clause-job c =
     ∙ (read ∙ ap Some (sym c.copy.ensures))) in
     let a = gives_next old c.copy.result (subst (λ (s : Listed). IsListed s) is c.self.invariant.0) c.requires.running there in
     subst (λ (s : Listed). GivesJob (shown old) (shown (record s { given = s.given + 1 })) c.copy.result) (sym is) a
+
+pub returns-clause-leads : goal.returns-clause-leads
+returns-clause-leads c =
+    let is = c.self.view_is ∙ c.in_ok-call.ensures.counted in
+    unmoved c.args.self.now _ (ap (λ (s : Listed). s.jobs) is) (ap (λ (s : Listed). s.taken) is)
+
+pub returns-in_default-clause-leads : goal.returns-in_default-clause-leads
+returns-in_default-clause-leads c =
+    let is = c.self.view_is ∙ c.in_ok-call.ensures.counted in
+    unmoved c.args.self.now _ (ap (λ (s : Listed). s.jobs) is) (ap (λ (s : Listed). s.taken) is)

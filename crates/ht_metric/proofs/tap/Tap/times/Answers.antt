@@ -1,6 +1,26 @@
-use Rattle.std.proofs.Common.{◌∙◌, ◌+ℤ◌, ◌-ℤ◌, ◌*ℤ◌, ℤ, ap, w64, arith, rules}
-use Rattle.ht_metric.proofs.Signs.{passed, subtracts, adds, subtracts_bound, adds_bound}
+use Rattle.std.proofs.Common.{◌∙◌, ◌+ℤ◌, ◌-ℤ◌, ◌*ℤ◌, ℤ, ap, w8, w64, arith, rules}
+use Rattle.ht_metric.proofs.Signs.{passed, passed_within, subtracts, adds, subtracts_fits, adds_fits, subtracts_bound, adds_bound}
 use Rattle.ht_metric.proofs.tap.Tap.times.Goals as goal
+
+pub multiplied-requires : goal.multiplied-requires
+multiplied-requires c = passed_within w8 c.args.point.i 7 c.requires.i (omega arith)
+
+pub multiplied-requires-2 : goal.multiplied-requires-2
+multiplied-requires-2 c = passed_within w8 c.args.point.q 7 c.requires.q (omega arith)
+
+pub multiplied-requires-3 : goal.multiplied-requires-3
+multiplied-requires-3 c = passed_within w8 c.args.point.q 7 c.requires.q (omega arith)
+
+pub multiplied-requires-4 : goal.multiplied-requires-4
+multiplied-requires-4 c = passed_within w8 c.args.point.i 7 c.requires.i (omega arith)
+
+pub overflow_sub-result : goal.overflow_sub-result
+overflow_sub-result c =
+    subtracts_fits w64 c.multiplied.result c.multiplied-2.result 229376 229376 c.multiplied.ensures.bound c.multiplied-2.ensures.bound (omega arith)
+
+pub overflow_add-result : goal.overflow_add-result
+overflow_add-result c =
+    adds_fits w64 c.multiplied-3.result c.multiplied-4.result 229376 229376 c.multiplied-3.ensures.bound c.multiplied-4.ensures.bound (omega arith)
 
 pub returns-clause-re : goal.returns-clause-re
 returns-clause-re c =

@@ -13,8 +13,8 @@ use Rattle.ht_soft_blocks.proofs.block.HalvesBlockShared.same.Goals.{
 }
 
 -- The answer is yes, so each test was passed.
-pub returns-then-same_rate : goal.returns-then-same_rate
-returns-then-same_rate c = λ same.
+pub returns-then-same : goal.returns-then-same
+returns-then-same c = λ same.
     elim c.if-self-other-3.branch [
       | then-self-other-3 w3 ↦ elim c.if-self-other-2.branch [
         | then-self-other-2 w2 ↦ elim c.if-self-other.branch [
@@ -23,15 +23,15 @@ returns-then-same_rate c = λ same.
               let b = c.other.inside in
               let count_test = sym w1.value-is ∙ w2.if-self-other-2.true in
               let number_test = sym w2.value-is ∙ w3.if-self-other-3.true in
-              let rate_test = sym w3.value-is ∙ c.if-same_rate.true in
+              let rate_test = sym w3.value-is ∙ c.if-same.true in
               let counts : a.count ≡ b.count = grind (arith, nat_tests) in
               let numbers : a.number ≡ b.number = grind (arith, nat_tests) in
               rw (← c.self.view_is, ← c.other.view_is)
               (same_halves a.rate b.rate (jobs_of a.block.block) (jobs_of b.block.block) a.first b.first a.count b.count a.number b.number
-              (w3.same_rate.ensures.0 rate_test) (ap jobs_of (c.same.ensures.0 same)) w1.if-self-other.true counts numbers)
+              (w3.same.ensures.0 rate_test) (ap jobs_of (c.same-then-same.ensures.0 same)) w1.if-self-other.true counts numbers)
           | else-self-other w1 ↦ let v = w1.value-is in let f = w1.if-self-other.false in let t = w2.if-self-other-2.true in absurd (grind (arith, nat_tests))
         ]
         | else-self-other-2 w2 ↦ let v = w2.value-is in let f = w2.if-self-other-2.false in let t = w3.if-self-other-3.true in absurd cc
       ]
-      | else-self-other-3 w3 ↦ let v = w3.value-is in let f = w3.if-self-other-3.false in let t = c.if-same_rate.true in absurd cc
+      | else-self-other-3 w3 ↦ let v = w3.value-is in let f = w3.if-self-other-3.false in let t = c.if-same.true in absurd cc
     ]

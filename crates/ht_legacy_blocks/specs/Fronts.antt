@@ -1,0 +1,24 @@
+-- What stands in front of a frame's symbols, as it is read.
+use Rattle.std.specs.Prelude.{ℕ, ◌+◌, ◌<◌, [], ◌∷◌, Result, MatchResult}
+use Rattle.ht_io.specs.Devices.{Device}
+use Rattle.ht_io.specs.declared.faults.InFault.{InFault}
+use Rattle.ht_fields.specs.Readers.{Gives, reader_in}
+use Rattle.ht_fields.specs.WholeFiles.{Halts}
+use Rattle.ht_clause18.specs.Rates.{symbols_of}
+use Rattle.ht_legacy_captures.specs.Formats.{captures, captures_due, symbols_due}
+use Rattle.ht_legacy_captures.specs.Items.{LegacyHead, Begins}
+use Rattle.ht_legacy_blocks.specs.declared.fields.Front.{Front}
+use Rattle.ht_legacy_blocks.specs.Jobs.{diagonals_of}
+
+-- the head that begins the frame
+abbrev pub head_in : Front → LegacyHead
+head_in f = record { rate = f.rate; length = f.length; diagonals = diagonals_of f.diagonals }
+
+-- However many frames are due in a capture, one at least: the answer is the next one's front, which was read whole, its head is
+-- the one item that this gives, and as many symbols are due behind it as a frame of its rate and length has; or the reading
+-- halts there.
+abbrev pub TellsFront : ℕ → Device ℕ → Device ℕ → Result Front InFault → Type 0
+TellsFront at source after result = (left : ℕ) → 0 < left → MatchResult result
+    (λ (f : Front). Gives (reader_in captures (captures_due left) at source)
+    (reader_in captures (symbols_due left (symbols_of f.rate f.length)) (at + 107) after) (Begins (head_in f) ∷ []))
+    (Halts (reader_in captures (captures_due left) at source) after)
