@@ -97,7 +97,7 @@ fn first_vectors() -> Vec<(String, String)> {
     let mut firsts: Vec<(String, String)> = Vec::new();
     for line in String::from_utf8_lossy(&listed).lines() {
         let words: Vec<&str> = line.split(' ').collect();
-        if let [command, "0", path, _] = words[..] {
+        if let [command, "0", path, _, ..] = words[..] {
             if firsts.iter().all(|(known, _)| known != command) {
                 firsts.push((command.to_string(), path.to_string()));
             }

@@ -1,8 +1,7 @@
 //! An account that keeps whole frames back also where no other block is due yet.
 ghost use Rattle.std.specs.Prelude.{◌≡◌, ◌≤◌, ◌∷◌};
 ghost use Rattle.ht_frames.specs.Gathering.{booked_behind};
-ghost use Rattle.ht_results.specs.Folding.{result_of};
-ghost use Rattle.ht_rx.specs.Frames.{results_in};
+ghost use Rattle.ht_results.specs.Folding.{result_of, results_from};
 
 use circular_buffer::HeapCircularBuffer;
 use ht_capture::FrameHead;
@@ -82,7 +81,7 @@ impl<'a, R: Threads + Wait, B: Book<FrameResult>> Account<CaptureReader>
 
     ghost lent = { λ r. r.under_way.ghost_name ∷ r.queue.ghost_name ∷ r.book.ghost_name ∷ B.lent r.book.now };
 
-    ghost pieces = { λ r. booked_behind result_of B.booked r.queue.now.items (results_in r.under_way.now) };
+    ghost pieces = { λ r. booked_behind result_of B.booked r.queue.now.items (results_from r.under_way.now) };
 
     ghost waits = { λ r due. ⊥ };
 

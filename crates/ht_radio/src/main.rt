@@ -6,9 +6,6 @@
 //! error is said on standard error, and nothing else ever is.
 #![tactic(auto)]
 
-#[cfg(test)]
-mod tests;
-
 use ht_cli::{Status, run};
 use ht_feed::OpenGate;
 use ht_io::{StdSink, StdSource};

@@ -12,7 +12,7 @@ use Rattle.ht_capture.specs.declared.items.FrameHead.{FrameHead}
 use Rattle.ht_capture_laws.specs.Items.{FrameJobs, IsHead, IsJobOf, IsPlaceIn, IsWholeFrame, symbols_in}
 use Rattle.ht_capture_laws.proofs.Lists.{all_weaker}
 use Rattle.ht_results.specs.declared.frame_result.FrameResult.{FrameResult}
-use Rattle.ht_results.specs.declared.headed.Headed.{Headed}
+use Rattle.ht_results.specs.Heads.{Headed}
 use Rattle.ht_results.specs.Captured.{ComesTo, with_job_by}
 use Rattle.ht_results.specs.Distances.{distance_fold, distance_in, distance_plan, frame_distances, job_distance, one_value, symbol_distances}
 use Rattle.ht_results.specs.Folding.{FrameSoFar, job_labels, label_at, label_fold, label_plan, result_of, streams_in, with_job}

@@ -8,7 +8,7 @@ use Rattle.ht_rate.specs.Rates.{carriers_of, data_carriers_of}
 use Rattle.ht_metric.specs.Jobs.{JobView}
 use Rattle.ht_capture.specs.declared.items.FrameHead.{FrameHead}
 use Rattle.ht_capture_laws.specs.Items.{FrameJobs, IsHead, IsJobOf, IsWholeFrame, symbols_in}
-use Rattle.ht_results.specs.declared.headed.Headed.{Headed}
+use Rattle.ht_results.specs.Heads.{Headed}
 use Rattle.ht_results.specs.Plans.{Fold, Plan, SoFar, begun_by, whole_by, with_kind_by}
 
 -- what a subcarrier carries; there are no others than those of the rate

@@ -6,7 +6,7 @@ use Rattle.ht_metric.specs.Jobs.{JobView, near}
 use Rattle.ht_capture.specs.declared.items.FrameHead.{FrameHead}
 use Rattle.ht_capture.specs.Captures.{capture_of}
 use Rattle.ht_capture_laws.specs.Items.{FrameJobs, symbols_in, whole_frames}
-use Rattle.ht_results.specs.declared.headed.Headed.{Headed}
+use Rattle.ht_results.specs.Heads.{Headed}
 use Rattle.ht_results.specs.Captured.{capture_plan, with_job_by}
 use Rattle.ht_results.specs.Labels.{data_job_at}
 use Rattle.ht_results.specs.Plans.{Fold, Plan}

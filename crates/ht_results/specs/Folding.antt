@@ -14,7 +14,7 @@ use Rattle.ht_capture_laws.specs.Items.{FrameJobs}
 use Rattle.ht_inverse.specs.declared.decoded.Decoded.{Decoded}
 use Rattle.ht_inverse.specs.Decoding.{decoded_frame}
 use Rattle.ht_results.specs.declared.frame_result.FrameResult.{FrameResult}
-use Rattle.ht_results.specs.declared.headed.Headed.{Headed}
+use Rattle.ht_results.specs.Heads.{Headed}
 use Rattle.ht_results.specs.Plans.{Fold, Plan, SoFar, begun_by, given_from, given_if, jobs_by, put_values, under_way, with_kind_by}
 use Rattle.ht_results.specs.Captured.{capture_plan, frame_by}
 pub use Rattle.ht_results.specs.Captured.{kind_of, with_octets}

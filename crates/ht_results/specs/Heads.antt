@@ -7,7 +7,11 @@ use Rattle.ht_capture.specs.declared.items.Item.{Item}
 use Rattle.ht_capture.specs.declared.items.Item.TheVariants.{Frame, Job, Done}
 use Rattle.ht_capture.specs.Captures.{capture_of}
 use Rattle.ht_capture_laws.specs.Items.{FrameJobs, frames_in}
-use Rattle.ht_results.specs.declared.headed.Headed.{Headed}
+use Rattle.ht_feed.specs.Items.{Headed as HeadedBy}
+
+-- a job with the head of its frame
+abbrev pub Headed : Type 0
+Headed = HeadedBy FrameHead
 
 abbrev pub headed_of : FrameHead → JobView → Headed
 headed_of head job = record { head = head; job = job }

@@ -24,7 +24,6 @@
 
 mod frame_places;
 mod frame_result;
-mod headed;
 mod labels;
 pub mod laws;
 mod line;
@@ -32,6 +31,5 @@ mod placed_labels;
 
 pub use frame_places::{jobs_in, kind, no_head, same_head};
 pub use frame_result::FrameResult;
-pub use headed::Headed;
 pub use labels::{label_for, put_kept, same_labels};
 pub use placed_labels::PlacedLabels;

@@ -1,5 +1,5 @@
 -- What was found for a job of a block is its hit, and the results that jobs give are those of the octets.
-use Rattle.std.proofs.Common.{◌≡◌, ℕ, ◌≤◌, List, [], ◌∷◌, map, Result, MatchResult}
+use Rattle.std.proofs.Common.{◌≡◌, ℕ, ◌≤◌, List, [], ◌∷◌, Result, MatchResult}
 use Rattle.std.proofs.Common.{refl, sym, ap, ◌∙◌, subst, arith}
 use Rattle.std.specs.List.{flat_map}
 use Rattle.std.proofs.Math.Path.{fun_ext}
@@ -13,14 +13,13 @@ use Rattle.ht_capture.specs.declared.items.FrameHead.{FrameHead}
 use Rattle.ht_runs.specs.declared.faults.StopFault.{StopFault}
 use Rattle.ht_feed.specs.declared.ended.Ended.{Ended}
 use Rattle.ht_results.specs.declared.frame_result.FrameResult.{FrameResult}
-use Rattle.ht_results.specs.declared.headed.Headed.{Headed}
+use Rattle.ht_results.specs.Heads.{headed_of}
 use Rattle.ht_results.specs.Folding.{FrameSoFar, frame_of, kind_of, label_plan, results_from, with_job}
 use Rattle.ht_results.specs.Plans.{with_hit_by}
-use Rattle.ht_results.specs.Heads.{headed_jobs, headed_of}
 use Rattle.ht_results.proofs.Folded.{folds}
-use Rattle.ht_rx.specs.Blocks.{in_block, out_of_block, told_of}
+use Rattle.ht_rx.specs.Heads.{told_of}
 use Rattle.ht_frames.specs.Gathering.{booked_in}
-use Rattle.ht_rx.specs.Frames.{booked_of, results_in, with_found, with_found_as}
+use Rattle.ht_rx.specs.Frames.{booked_of, with_found, with_found_as}
 use Rattle.ht_rx.specs.Outcomes.{StopsBy, TellsTo}
 use Rattle.ht_rx.specs.Telling.{TellsCapture}
 use Rattle.ht_feed.specs.Items.{Item}
@@ -45,35 +44,29 @@ module _ (head : FrameHead) where
       ap (λ (p : Place). with_found p found g) (sym here)
       ∙ (ap (λ (x : Found). with_found job.place x g) is ∙ found_as job (kind_of g.head.rate job.place.carrier) g)
 
--- out of blocks come the jobs that were put into them
-out-in : (hs : List Headed) → map out_of_block (map in_block hs) ≡ hs
-out-in [] = refl
-out-in (h ∷ hs) = ap (λ (xs : List Headed). h ∷ xs) (out-in hs)
-
 -- where no frame is under way, the results are those of the octets
 pub frames_told : {P : Type 0} (booked : FrameResult → List P) (f : FrameSoFar) (result : Result Ended StopFault)
     (source source' : Device ℕ) (book book' : Device P) → f.left ≤ 0
-    → MatchResult result (TellsTo (told_of (booked_in booked (results_in f))) source source' book book')
-    (StopsBy (told_of (booked_in booked (results_in f))) source source' book book')
+    → MatchResult result (TellsTo (told_of (booked_in booked (results_from f))) source source' book book')
+    (StopsBy (told_of (booked_in booked (results_from f))) source source' book book')
     → MatchResult result (TellsTo (booked_of booked) source source' book book') (StopsBy (booked_of booked) source source' book book')
 frames_told {P = P} booked f result source source' book book' none told =
     let zero : f.left ≡ 0 = omega (arith, none) in
-    let same : told_of (booked_in booked (results_in f)) ≡ booked_of booked = fun_ext (λ octets.
-    ap (λ (hs : List Headed). flat_map booked (results_from f hs)) (out-in (headed_jobs octets))
-    ∙ ap (λ (rs : List FrameResult). flat_map booked rs) (folds octets f zero)) in
+    let same : told_of (booked_in booked (results_from f)) ≡ booked_of booked = fun_ext (λ octets.
+    ap (λ (rs : List FrameResult). flat_map booked rs) (folds octets f zero)) in
     subst (λ (g : List ℕ → List P). MatchResult result (TellsTo g source source' book book') (StopsBy g source source' book book')) same told
 
 -- a receiver that begins with no frame under way books the results of the octets
 pub received : {R P : Type 0} {means : R → List ℕ → Meaning (Item FrameHead)} {at : R → ℕ} {reader : R} {head : FrameHead}
     {source source' : Device ℕ} {book book' : Device P} {lent lent' : List ℕ} {result : Result Ended StopFault} (booked : FrameResult → List P) (f : FrameSoFar)
-    → TellsInput means at reader head source source' (books booked (results_in f) book) (books booked (results_in f) book') lent lent' result
+    → TellsInput means at reader head source source' (books booked (results_from f) book) (books booked (results_from f) book') lent lent' result
     → ((octets : List ℕ) → means reader octets ≡ mapped (capture_of octets)) → at reader ≡ 0 → f.left ≡ 0
     → TellsCapture (booked_of booked) source source' book book' result
 received {means = means} {at = at} {reader = reader} {head = head} {source = source} {source' = source'} {book = book} {book' = book'} {result = result}
     booked f told same zero none =
     record {
       tells = frames_told booked f result source source' book book' (omega (arith, none))
-          (comes_to means at reader head source source' (books booked (results_in f) book) (books booked (results_in f) book') result same zero told.tells);
+          (comes_to means at reader head source source' (books booked (results_from f) book) (books booked (results_from f) book') result same zero told.tells);
       writes = told.writes;
       reads_later = told.reads_later;
       puts_later = told.puts_later;

@@ -1,5 +1,5 @@
 -- The lines of a block are put.
-use Rattle.std.proofs.Common.{◌≡◌, ℕ, ◌+◌, List, [], ◌∷◌, ◌++◌, map, drop, slice_get, Some, Result, MatchResult}
+use Rattle.std.proofs.Common.{◌≡◌, ℕ, ◌+◌, List, [], ◌∷◌, ◌++◌, drop, slice_get, Some, Result, MatchResult}
 use Rattle.std.proofs.Common.{refl, sym, ap, ◌∙◌, subst, append_assoc}
 use Rattle.std.proofs.Math.Path.{fun_ext}
 use Rattle.std.proofs.lemmas.List.{drop_more}
@@ -14,15 +14,13 @@ use Rattle.ht_runs.specs.declared.faults.StopFault.{StopFault}
 use Rattle.ht_feed.specs.declared.ended.Ended.{Ended}
 use Rattle.ht_feed.specs.Accounts.{PutsBlock, PutsPartOf, Telling}
 use Rattle.ht_feed.specs.Dues.{due_of, headed_due}
-use Rattle.ht_feed.specs.Items.{Headed as BlockHeaded, Item}
+use Rattle.ht_feed.specs.Items.{Item}
 use Rattle.ht_feed.specs.Inputs.{TellsInput}
 use Rattle.ht_fields.specs.Meanings.{Meaning}
 use Rattle.ht_capture.specs.Captures.{capture_of}
 use Rattle.ht_capture_blocks.specs.Captures.{mapped}
-use Rattle.ht_results.specs.declared.headed.Headed.{Headed}
-use Rattle.ht_results.specs.Heads.{headed_jobs}
-use Rattle.ht_rx.specs.Blocks.{in_block, jobs_in_blocks, told_of}
-use Rattle.ht_rx.specs.Heads.{jobs_alone}
+use Rattle.ht_results.specs.Heads.{Headed}
+use Rattle.ht_rx.specs.Heads.{jobs_alone, told_of}
 use Rattle.ht_rx.specs.Outcomes.{StopsBy, TellsTo}
 use Rattle.ht_rx.specs.Telling.{TellsCapture}
 use Rattle.ht_results.specs.JobTexts.{job_line_of, job_lines, line_at, lines_of}
@@ -56,34 +54,30 @@ line_put jobs at left job place found new behind next here near-is job-is so is 
     ∙ lines_before jobs at job behind (sym job-is) (so ∙ ap (λ (n : ℕ). job_lines (drop n jobs)) (sym next)))
 
 module _ (head : FrameHead) where
-  alone : (jobs : List JobView) (more : List (BlockHeaded FrameHead)) → jobs_in_blocks (headed_due (due_of head jobs) ++ more) ≡ jobs ++ jobs_in_blocks more
+  alone : (jobs : List JobView) (more : List Headed) → jobs_alone (headed_due (due_of head jobs) ++ more) ≡ jobs ++ jobs_alone more
   alone [] more = refl
   alone (job ∷ jobs) more = ap (λ (js : List JobView). job ∷ js) (alone jobs more)
 
   -- the text is that of these jobs
   module _ (jobs : List JobView) (text : List ℕ) (is : text ≡ job_lines jobs) (a b : Device ℕ) where
-    whole : (more : List (BlockHeaded FrameHead)) → job_lines (jobs_in_blocks (headed_due (due_of head jobs) ++ more)) ≡ text ++ job_lines (jobs_in_blocks more)
+    whole : (more : List Headed) → job_lines (jobs_alone (headed_due (due_of head jobs) ++ more)) ≡ text ++ job_lines (jobs_alone more)
     whole more =
         ap job_lines (alone jobs more)
-        ∙ (job_lines-append jobs (jobs_in_blocks more) ∙ ap (λ (xs : List ℕ). xs ++ job_lines (jobs_in_blocks more)) (sym is))
+        ∙ (job_lines-append jobs (jobs_alone more) ∙ ap (λ (xs : List ℕ). xs ++ job_lines (jobs_alone more)) (sym is))
 
-    pub puts : Grows a b text → PutsBlock a b (λ js. job_lines (jobs_in_blocks js)) (λ js. job_lines (jobs_in_blocks js)) (headed_due (due_of head jobs))
+    pub puts : Grows a b text → PutsBlock a b (λ js. job_lines (jobs_alone js)) (λ js. job_lines (jobs_alone js)) (headed_due (due_of head jobs))
     puts grows = (text, grows, whole)
 
-    pub part : GrowsByPart a b text → PutsPartOf a b (λ js. job_lines (jobs_in_blocks js)) (headed_due (due_of head jobs))
-    part grows = λ more. subst (λ (xs : List ℕ). GrowsByPart a b xs) (sym (whole more)) (grows_by_part-front a b text (job_lines (jobs_in_blocks more)) grows)
+    pub part : GrowsByPart a b text → PutsPartOf a b (λ js. job_lines (jobs_alone js)) (headed_due (due_of head jobs))
+    part grows = λ more. subst (λ (xs : List ℕ). GrowsByPart a b xs) (sym (whole more)) (grows_by_part-front a b text (job_lines (jobs_alone more)) grows)
 
-alone-in : (hs : List Headed) → jobs_in_blocks (map in_block hs) ≡ jobs_alone hs
-alone-in [] = refl
-alone-in (h ∷ hs) = ap (λ (js : List JobView). h.job ∷ js) (alone-in hs)
-
-lines_are : (octets : List ℕ) → told_of (λ js. job_lines (jobs_in_blocks js)) octets ≡ lines_of octets
+lines_are : (octets : List ℕ) → told_of (λ js. job_lines (jobs_alone js)) octets ≡ lines_of octets
 unfolding lines_of
-lines_are octets = ap job_lines (alone-in (headed_jobs octets) ∙ jobs_of_octets octets)
+lines_are octets = ap job_lines (jobs_of_octets octets)
 
 -- an account that puts the lines of the jobs that still come
 abbrev pub lists : Device ℕ → Telling FrameHead ℕ
-lists sink = record { device = sink; pieces = λ jobs. job_lines (jobs_in_blocks jobs); Waits = λ due. Unit {0} }
+lists sink = record { device = sink; pieces = λ jobs. job_lines (jobs_alone jobs); Waits = λ due. Unit {0} }
 
 -- the lines of all jobs are the lines of the octets
 pub listed : {R : Type 0} {means : R → List ℕ → Meaning (Item FrameHead)} {at : R → ℕ} {reader : R} {head : FrameHead}

@@ -22,15 +22,14 @@ use Rattle.ht_feed.specs.declared.ended.Ended.{Ended}
 use Rattle.ht_feed.specs.declared.ended.Ended.TheVariants.{Done as EndedDone, Refused as EndedRefused}
 use Rattle.ht_feed.specs.Accounts.{Telling}
 use Rattle.ht_capture_blocks.specs.Captures.{items_of, mapped}
-use Rattle.ht_feed.specs.Items.{Item, Begins, One, Headed as BlockHeaded}
+use Rattle.ht_feed.specs.Items.{Item, Begins, One}
 use Rattle.ht_feed.specs.Items.{headed as block_headed, headed_of as block_headed_of, frames_of as block_frames, jobs_of as block_jobs}
 use Rattle.ht_feed.specs.Outcomes.{Comes, StopsBy as BlockStops, TellsTo as BlockTells}
 use Rattle.ht_endings.proofs.Runs.{broken, from_front, front, in_part, refused, whole}
-use Rattle.ht_results.specs.declared.headed.Headed.{Headed}
-use Rattle.ht_results.specs.Heads.{headed, headed_jobs}
+use Rattle.ht_results.specs.Heads.{Headed, headed, headed_jobs}
 use Rattle.ht_results.specs.Texts.{frames_of}
 use Rattle.ht_results.proofs.Folded.{headed_is}
-use Rattle.ht_rx.specs.Blocks.{in_block, told_of}
+use Rattle.ht_rx.specs.Heads.{told_of}
 use Rattle.ht_rx.specs.Outcomes.{HasCounts, StopsBy, TellsTo}
 use Rattle.ht_rx.specs.Telling.{TellsCapture}
 use Rattle.ht_results.specs.JobTexts.{jobs_of}
@@ -67,10 +66,10 @@ same_meaning xs ys is =
     ∙ ap (λ (f : Option FormatFault). let m : Meaning CaptureItem = record { items = (capture_of ys).items; fault = f } in m) fault
 
 -- heads and jobs, frames and jobs are those of the items
-headed-items : (head : FrameHead) (items : List CaptureItem) → block_headed head (items_of items) ≡ map in_block (headed head items)
+headed-items : (head : FrameHead) (items : List CaptureItem) → block_headed head (items_of items) ≡ headed head items
 headed-items head [] = refl
 headed-items head (Frame next ∷ items) = headed-items next items
-headed-items head (Job job ∷ items) = ap (λ (hs : List (BlockHeaded FrameHead)). block_headed_of head job ∷ hs) (headed-items head items)
+headed-items head (Job job ∷ items) = ap (λ (hs : List Headed). block_headed_of head job ∷ hs) (headed-items head items)
 headed-items head (Done ∷ items) = headed-items head items
 
 frames-items : (items : List CaptureItem) → block_frames (items_of items) ≡ frames_of items
@@ -85,8 +84,8 @@ jobs-items (Frame head ∷ items) = jobs-items items
 jobs-items (Job job ∷ items) = ap (λ (js : List JobView). job ∷ js) (jobs-items items)
 jobs-items (Done ∷ items) = jobs-items items
 
-headed-octets : (head : FrameHead) (octets : List ℕ) → block_headed head (items_of (capture_of octets).items) ≡ map in_block (headed_jobs octets)
-headed-octets head octets = headed-items head (capture_of octets).items ∙ ap (λ (hs : List Headed). map in_block hs) (headed_is octets head)
+headed-octets : (head : FrameHead) (octets : List ℕ) → block_headed head (items_of (capture_of octets).items) ≡ headed_jobs octets
+headed-octets head octets = headed-items head (capture_of octets).items ∙ headed_is octets head
 
 -- these pieces are put of octets; the source and the device, before and after
 module _ {P : Type 0} (pieces : List ℕ → List P) (source source' : Device ℕ) (device device' : Device P) where

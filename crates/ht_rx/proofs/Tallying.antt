@@ -12,21 +12,17 @@ use Rattle.ht_rate.specs.Rates.{modulation_of}
 use Rattle.ht_metric.specs.Jobs.{JobView, near}
 use Rattle.ht_capture.specs.declared.items.FrameHead.{FrameHead}
 use Rattle.ht_feed.specs.Dues.{due_of, headed_due}
-use Rattle.ht_feed.specs.Items.{Headed as BlockHeaded}
 use Rattle.ht_feed.specs.Numbers.{numbered, with_number}
 use Rattle.ht_feed.proofs.Numbering.{length_numbered}
 use Rattle.ht_frames.specs.Gathering.{finished}
-use Rattle.ht_results.specs.declared.headed.Headed.{Headed}
+use Rattle.ht_results.specs.Heads.{Headed, headed_of}
 use Rattle.ht_results.specs.Folding.{FrameSoFar, frame_begun, frame_of, kind_of, label_at, label_fold, label_place, label_plan, result_of, results_from, with_job, with_kind, with_octets}
-use Rattle.ht_results.specs.Heads.{headed_of}
 use Rattle.ht_results.specs.PlacedLabels.{Placed, put_each}
 use Rattle.ht_results.specs.Plans.{distances, given_if}
 use Rattle.ht_results.proofs.Runs.{put_each-append, put_from}
 use Rattle.ht_results.proofs.Steps.{all_jobs, data_after, data_is, labels_after, labels_with, parts, pilot_after, pilot_is, with_all}
 use Rattle.ht_results.proofs.Taking.{some_left, takes_all}
 use Rattle.ht_rx.specs.declared.tally.Tally.{Tally}
-use Rattle.ht_rx.specs.Blocks.{out_of_block}
-use Rattle.ht_rx.specs.Frames.{results_in}
 use Rattle.ht_rx.specs.Tallies.{IsTally, has_data, job_placed, labels_placed, placed_as, with_tally}
 
 -- one job more of a block
@@ -116,26 +112,19 @@ enters : (head : FrameHead) (job : JobView) (f g : FrameSoFar) → g ≡ frame_o
 unfolding with_job
 enters head job f g is some = ap (with_kind job) (sym is ∙ sym (stays head g some))
 
--- the jobs of a block, out of it
-outs : (head : FrameHead) (jobs : List JobView) (more : List (BlockHeaded FrameHead))
-    → map out_of_block (headed_due (due_of head jobs) ++ more) ≡ map (headed_of head) jobs ++ map out_of_block more
-outs head [] more = refl
-outs head (job ∷ jobs) more = ap (λ (hs : List Headed). headed_of head job ∷ hs) (outs head jobs more)
-
 -- it doesn't matter whether the frame that a block's first job begins was begun before
-pub entered : (head : FrameHead) (jobs : List JobView) (f g : FrameSoFar) (more : List (BlockHeaded FrameHead)) → 1 ≤ length jobs → g ≡ frame_of head f → 1 ≤ g.left
-    → results_in f (headed_due (due_of head jobs) ++ more) ≡ results_in g (headed_due (due_of head jobs) ++ more)
+pub entered : (head : FrameHead) (jobs : List JobView) (f g : FrameSoFar) (more : List Headed) → 1 ≤ length jobs → g ≡ frame_of head f → 1 ≤ g.left
+    → results_from f (headed_due (due_of head jobs) ++ more) ≡ results_from g (headed_due (due_of head jobs) ++ more)
 entered head [] f g more some is left = absurd (omega (arith, some))
 entered head (job ∷ jobs) f g more some is left =
-    ap (λ (z : FrameSoFar). given_if label_fold z ++ results_in z (headed_due (due_of head jobs) ++ more)) (enters head job f g is left)
+    ap (λ (z : FrameSoFar). given_if label_fold z ++ results_from z (headed_due (due_of head jobs) ++ more)) (enters head job f g is left)
 
 -- and with all jobs of a block comes the frame's result where its last one is among them
-pub taken : (head : FrameHead) (jobs : List JobView) (f g u : FrameSoFar) (t : Tally) (more : List (BlockHeaded FrameHead)) → 1 ≤ length jobs
+pub taken : (head : FrameHead) (jobs : List JobView) (f g u : FrameSoFar) (t : Tally) (more : List Headed) → 1 ≤ length jobs
     → g ≡ frame_of head f → 1 ≤ g.left → length jobs ≤ g.left → IsTally g.head.rate jobs t → u ≡ with_tally t g
-    → results_in f (headed_due (due_of head jobs) ++ more) ≡ finished (u.left == 0) (result_of u) ++ results_in u more
+    → results_from f (headed_due (due_of head jobs) ++ more) ≡ finished (u.left == 0) (result_of u) ++ results_from u more
 taken head jobs f g u t more some is left few tally added =
     let all : with_all label_plan g jobs ≡ u = tallied g jobs t tally ∙ sym added in
     entered head jobs f g more some is left
-    ∙ (ap (results_from g) (outs head jobs more)
-    ∙ (takes_all label_fold label_plan (headed_of head) (goes_on head) jobs g (map out_of_block more) some few
-    ∙ ap (λ (z : FrameSoFar). finished (z.left == 0) (result_of z) ++ results_in z more) all))
+    ∙ (takes_all label_fold label_plan (headed_of head) (goes_on head) jobs g more some few
+    ∙ ap (λ (z : FrameSoFar). finished (z.left == 0) (result_of z) ++ results_from z more) all)

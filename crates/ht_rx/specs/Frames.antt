@@ -1,5 +1,5 @@
 -- What is booked of a frame, and what its receiver keeps of a frame under way.
-use Rattle.std.specs.Prelude.{◌≡◌, ℕ, ◌+◌, ◌-◌, ◌*◌, ◌^◌, ◌<◌, ◌≤◌, List, length, map, slice_index_or}
+use Rattle.std.specs.Prelude.{◌≡◌, ℕ, ◌+◌, ◌-◌, ◌*◌, ◌^◌, ◌<◌, ◌≤◌, List, length, slice_index_or}
 use Rattle.std.specs.List.{flat_map}
 use Rattle.ht_rate.specs.declared.kinds.Carrier.{Carrier}
 use Rattle.ht_rate.specs.declared.kinds.Carrier.TheVariants.{Data, Pilot}
@@ -9,11 +9,8 @@ use Rattle.ht_results.specs.declared.frame_result.FrameResult.{FrameResult}
 use Rattle.ht_rate.specs.Rates.{modulation_of}
 use Rattle.ht_metric.specs.declared.found.Found.{Found}
 use Rattle.ht_metric.specs.declared.place.Place.{Place}
-use Rattle.ht_capture.specs.declared.items.FrameHead.{FrameHead}
-use Rattle.ht_feed.specs.Items.{Headed as BlockHeaded}
-use Rattle.ht_results.specs.Folding.{FrameSoFar, kind_of, label_place, put_labels, results_from}
+use Rattle.ht_results.specs.Folding.{FrameSoFar, kind_of, label_place, put_labels}
 use Rattle.ht_results.specs.Results.{results_of}
-use Rattle.ht_rx.specs.Blocks.{out_of_block}
 
 -- what is booked in all of a list of octets, where this is booked of each result
 abbrev pub booked_of : {P : Type 0} → (FrameResult → List P) → List ℕ → List P
@@ -55,7 +52,3 @@ with_found_as place found (Pilot k) f = record f { pilot_sum = f.pilot_sum + fou
 
 abbrev pub with_found : Place → Found → FrameSoFar → FrameSoFar
 with_found place found f = with_found_as place found (kind_of f.head.rate place.carrier) f
-
--- the results that jobs of blocks give, one after another, where this frame is under way
-abbrev pub results_in : FrameSoFar → List (BlockHeaded FrameHead) → List FrameResult
-results_in f jobs = results_from f (map out_of_block jobs)

@@ -1,5 +1,4 @@
 pub mod Heads
-pub mod Blocks
 pub mod Outcomes
 pub mod Frames
 pub mod Tallies

@@ -1,6 +1,6 @@
 //! An account that puts the lines of each block.
 ghost use Rattle.std.specs.Prelude.{◌≡◌, ◌∷◌, [], refl};
-ghost use Rattle.ht_rx.specs.Blocks.{jobs_in_blocks};
+ghost use Rattle.ht_rx.specs.Heads.{jobs_alone};
 ghost use Rattle.ht_results.specs.JobTexts.{job_lines};
 
 use crate::block_lines::Lines;
@@ -34,7 +34,7 @@ impl<'a, R: BlockReader<Head = FrameHead>, K: Sink> Account<R> for Lister<'a, K>
 
     ghost lent = { λ l. l.sink.ghost_name ∷ [] };
 
-    ghost pieces = { λ l jobs. job_lines (jobs_in_blocks jobs) };
+    ghost pieces = { λ l jobs. job_lines (jobs_alone jobs) };
 
     ghost waits = { λ l due. Unit {0} };
 

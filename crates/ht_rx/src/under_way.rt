@@ -1,7 +1,7 @@
 //! Frames whose labels are kept while their jobs come.
 ghost use Rattle.std.specs.Prelude.{refl};
-ghost use Rattle.ht_results.specs.Folding.{result_of};
-ghost use Rattle.ht_rx.specs.Frames.{IsWhole, results_in};
+ghost use Rattle.ht_results.specs.Folding.{result_of, results_from};
+ghost use Rattle.ht_rx.specs.Frames.{IsWhole};
 
 use crate::open_frame::OpenFrame;
 use crate::tally::Tally;
@@ -19,7 +19,7 @@ impl UnderWay for OpenFrame {
 
     type Whole = WholeLabels;
 
-    ghost results = { results_in };
+    ghost results = { results_from };
 
     ghost is_whole = { IsWhole };
 

@@ -14,8 +14,6 @@ pub mod laws;
 mod passing;
 mod rows;
 mod samples;
-#[cfg(test)]
-mod tests;
 mod triangles;
 mod words;
 

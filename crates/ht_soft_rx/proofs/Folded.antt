@@ -18,10 +18,9 @@ use Rattle.ht_capture_laws.specs.Items.{FrameJobs, HasSymbols, IsPlaceIn, cut_fr
 use Rattle.ht_capture_laws.proofs.Lists.{all_of_map, all_weaker}
 use Rattle.ht_capture_laws.proofs.Parts.{parted_of, places_good}
 use Rattle.ht_feed.specs.Items.{Item, Begins, One, headed as block_headed}
-use Rattle.ht_results.specs.declared.headed.Headed.{Headed}
+use Rattle.ht_results.specs.Heads.{Headed, headed, headed_in, headed_of}
 use Rattle.ht_results.specs.Captured.{frame_by, with_job_by}
 use Rattle.ht_results.specs.Folding.{jobs_in_frame, with_octets}
-use Rattle.ht_results.specs.Heads.{headed, headed_in, headed_of}
 use Rattle.ht_results.specs.Plans.{SoFar, begun_by, given_from, given_if, under_way, with_hit_by, with_kind_by}
 use Rattle.ht_results.proofs.Counted.{given_from-append}
 use Rattle.ht_results.proofs.Folded.{IsCutOff, IsGood, cut_good, headed_is, whole_good}

@@ -1,7 +1,7 @@
 -- The results of frames, from the jobs of a capture one after another, of each of which its weights are kept at once.
 use Rattle.std.specs.Prelude.{ℤ, pos}
 use Rattle.ht_capture.specs.declared.items.FrameHead.{FrameHead}
-use Rattle.ht_results.specs.declared.headed.Headed.{Headed}
+use Rattle.ht_results.specs.Heads.{Headed}
 use Rattle.ht_results.specs.Captured.{capture_plan, with_job_by}
 use Rattle.ht_results.specs.Plans.{Fold, Plan}
 use Rattle.ht_soft_rx.specs.declared.soft_result.SoftResult.{SoftResult}

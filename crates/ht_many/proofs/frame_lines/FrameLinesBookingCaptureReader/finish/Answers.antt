@@ -1,9 +1,8 @@
 use Rattle.std.proofs.Common.{[], List, ap, refl}
 use Rattle.ht_io.proofs.Calls.{grows-none, later-refl}
 use Rattle.ht_frames.specs.Gathering.{booked_behind}
-use Rattle.ht_results.specs.Folding.{FrameSoFar, result_of}
+use Rattle.ht_results.specs.Folding.{FrameSoFar, result_of, results_from}
 use Rattle.ht_results.specs.Texts.{result_line}
-use Rattle.ht_rx.specs.Frames.{results_in}
 use Rattle.ht_many.proofs.frame_lines.FrameLinesBookingCaptureReader.finish.Goals as goal
 
 pub returns-clause-books : goal.returns-clause-books
@@ -13,4 +12,4 @@ returns-clause-books g c =
 
 pub returns-clause-none : goal.returns-clause-none
 returns-clause-none g c =
-    ap (λ (fs : List FrameSoFar). booked_behind result_of result_line fs (results_in c.args.self.now.under_way) []) c.none_waits.ensures
+    ap (λ (fs : List FrameSoFar). booked_behind result_of result_line fs (results_from c.args.self.now.under_way) []) c.none_waits.ensures

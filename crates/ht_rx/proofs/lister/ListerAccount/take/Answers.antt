@@ -1,7 +1,7 @@
 use Rattle.std.proofs.Common.{◌∙◌}
 use Rattle.ht_feed.specs.Accounts.{PutsPartOf}
 use Rattle.ht_feed.specs.Dues.{due_of, headed_due}
-use Rattle.ht_rx.specs.Blocks.{jobs_in_blocks}
+use Rattle.ht_rx.specs.Heads.{jobs_alone}
 use Rattle.ht_results.specs.JobTexts.{job_lines}
 use Rattle.ht_rx.proofs.BlockListing.{part, puts}
 use Rattle.ht_frames.proofs.Taking.{err_so}
@@ -12,7 +12,7 @@ returns-in_err-put-clause-part g c =
     let a = g.K.Sink.shown c.args.self.now.sink.now in
     let b = g.K.Sink.shown c.put.new.self in
     let jobs = g.R.Block.Jobs.jobs c.args.arg3.now in
-    err_so c.from_residual.result (PutsPartOf a b (λ js. job_lines (jobs_in_blocks js)) (headed_due (due_of c.args.arg2.now jobs)))
+    err_so c.from_residual.result (PutsPartOf a b (λ js. job_lines (jobs_alone js)) (headed_due (due_of c.args.arg2.now jobs)))
     (part c.args.arg2.now jobs c.text.result.now (c.text.ensures ∙ c.requires.right) a b c.in_err-put.ensures.part)
 
 pub returns-clause-put : goal.returns-clause-put

@@ -1,8 +1,7 @@
 use Rattle.std.proofs.Common.{rules, ◌≡◌, ◌==◌, ◌≤◌, ◌++◌, ◌∙◌, ℕ, length, ap, sym, subst, arith}
 use Rattle.ht_rate.specs.declared.rates.Rate.{Rate}
 use Rattle.ht_frames.specs.Gathering.{finished}
-use Rattle.ht_results.specs.Folding.{result_of}
-use Rattle.ht_rx.specs.Frames.{results_in}
+use Rattle.ht_results.specs.Folding.{result_of, results_from}
 use Rattle.ht_rx.specs.Tallies.{IsTally}
 use Rattle.ht_rx.proofs.Tallying.{entered, taken}
 use Rattle.ht_rx.proofs.under_way.OpenFrameTakesBlocks.take_block.Goals as goal
@@ -26,4 +25,4 @@ returns-clause-results g c = λ more.
     let in_frame = c.in_ok-enter.ensures in
     taken c.args.head.now jobs c.args.self.now before after tally more some in_frame.entered in_frame.ready.left
     (omega (arith, few, c.requires.right.count)) (subst (λ (r : Rate). IsTally r jobs tally) rate c.requires.right) c.add_tally.ensures.added
-    ∙ ap (λ (n : ℕ). finished (n == 0) (result_of after) ++ results_in after more) (sym c.left.ensures)
+    ∙ ap (λ (n : ℕ). finished (n == 0) (result_of after) ++ results_from after more) (sym c.left.ensures)

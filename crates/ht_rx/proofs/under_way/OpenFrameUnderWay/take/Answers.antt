@@ -1,7 +1,6 @@
-use Rattle.std.proofs.Common.{◌≡◌, ◌==◌, ◌∙◌, ap, map}
+use Rattle.std.proofs.Common.{◌≡◌, ◌==◌, ◌∙◌, ap}
 use Rattle.ht_results.specs.Folding.{FrameSoFar, with_job}
 use Rattle.ht_results.specs.Heads.{headed_of}
-use Rattle.ht_rx.specs.Blocks.{out_of_block}
 use Rattle.ht_rx.specs.Frames.{with_found}
 use Rattle.ht_rx.proofs.BlockBooking.{found_is}
 use Rattle.ht_rx.proofs.Gathered.{gathers}
@@ -17,4 +16,4 @@ returns-clause-results c = λ job here is more.
     let goes : after ≡ with_job (headed_of head job) before =
     c.add_found.ensures.added
     ∙ (ap (λ (f : FrameSoFar). with_found place found f) c.in_ok-enter.ensures.entered ∙ found_is head job place found before here is) in
-    gathers before after (c.left.result == 0) (headed_of head job) (map out_of_block more) goes (ap (λ (n : _). n == 0) c.left.ensures)
+    gathers before after (c.left.result == 0) (headed_of head job) more goes (ap (λ (n : _). n == 0) c.left.ensures)

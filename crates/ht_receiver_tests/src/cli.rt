@@ -2,6 +2,7 @@
 //!
 //! What each command writes for a whole input and for one at fault is tried by `.ci/vectors`, and with many workers and
 //! windows by `checks/stress`.
+use crate::equal::equal;
 use ht_cli::{Status, laws, run_alone};
 use ht_feed::OpenGate;
 use ht_io::{MemSink, MemSource, SureSink, SureSource};
@@ -79,8 +80,7 @@ static RUNS: [(&str, (u64, u64), Status, &str); 4] = [
 fn failing(rt: HostRuntime) -> Result<(), Fail> {
     for &(words, (reads_to, puts_to), wanted, text) in &RUNS {
         let (status, sink) = ran(rt.alloc(), words, reads_to, puts_to)?;
-        let answer = (status, sink.held());
-        assert_eq!(rt; answer, (wanted, text.as_bytes()));
+        equal(&rt, (status, sink.held()), (wanted, text.as_bytes()));
     }
     Ok(())
 }
@@ -92,8 +92,11 @@ fn sure(rt: HostRuntime) -> Result<(), Fail> {
     let mut source = SureSource::new(zeros(rt.alloc())?);
     let mut sink = SureSink::new(Vec::with_capacity(rt.alloc(), 105)?);
     let status = laws::run_sure(rt.alloc(), &words, &mut source, &mut sink);
-    let answer = (status, sink.held());
-    assert_eq!(rt; answer, (Status::Done, Some(FRAMES.as_bytes())));
+    equal(
+        &rt,
+        (status, sink.held()),
+        (Status::Done, Some(FRAMES.as_bytes())),
+    );
     Ok(())
 }
 
@@ -109,8 +112,11 @@ fn statuses(rt: HostRuntime) -> Result<(), Fail> {
         (Status::NoMemory, 5, "out of memory"),
     ] {
         let shown = status.to_string(rt.alloc())?;
-        let answer = (ExitCode::from(status), shown.as_str());
-        assert_eq!(rt; answer, (ExitCode::from(number), text));
+        equal(
+            &rt,
+            (ExitCode::from(status), shown.as_str()),
+            (ExitCode::from(number), text),
+        );
     }
     Ok(())
 }
