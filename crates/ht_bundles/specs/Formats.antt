@@ -29,6 +29,7 @@ captures_due = entries_due Size
 unfoldable pub octets_due : ℕ → ℕ → StartState CaptureState
 octets_due left size = if nat_eq size 0 then captures_due (left - 1) else Body (Octets left size)
 
+-- a capture of no octets is given with its size
 unfoldable pub size_given : ℕ → List (List ℕ)
 size_given size = if nat_eq size 0 then [] ∷ [] else []
 
@@ -36,6 +37,7 @@ size_given size = if nat_eq size 0 then [] ∷ [] else []
 unfoldable pub good_size : ℕ → List ℕ → Verdict (StartState CaptureState) (List ℕ)
 good_size left octets = Good (octets_due left (big_number 4 octets)) (size_given (big_number 4 octets))
 
+-- behind its octets the capture is whole, and the next one is due
 unfoldable pub good_octets : ℕ → List ℕ → Verdict (StartState CaptureState) (List ℕ)
 good_octets left octets = Good (captures_due (left - 1)) (octets ∷ [])
 

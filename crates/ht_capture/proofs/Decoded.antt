@@ -32,7 +32,7 @@ wide_fits : (z : ℤ) → FitsSigned w32 z → cast_unsigned w32 z < 256 ^ 4
 wide_fits (pos n) f = omega (arith, f)
 wide_fits (negsuc n) f = omega (arith, f)
 
--- two signed numbers of so many octets, one behind the other
+-- two signed numbers of this many octets, one behind the other
 both_read : (w : Width) (n : ℕ) (octets rest : List ℕ) (at : ℕ) (a b : ℤ)
     → drop at octets ≡ (big_bytes n (cast_unsigned w a) ++ big_bytes n (cast_unsigned w b)) ++ rest → FitsSigned w a → FitsSigned w b
     → cast_unsigned w a < 256 ^ n → cast_unsigned w b < 256 ^ n
@@ -67,7 +67,7 @@ unfolding sample_at
 sample_read octets rest at s is f g =
     let both = both_read w32 4 octets rest at s.re s.im is f g (wide_fits s.re f) (wide_fits s.im g) in sample_made s _ _ both.0 both.1
 
--- so many entries that were written
+-- this many entries that were written
 taps_read : (right : List Tap) (octets rest : List ℕ) (at : ℕ)
     → drop at octets ≡ taps_octets (length right) right ++ rest → AreTaps right → taps_at (length right) octets at ≡ right
 taps_read [] octets rest at is typed = refl

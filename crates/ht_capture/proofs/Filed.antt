@@ -291,7 +291,7 @@ pub others : (version : ℕ) (f : CaptureFrame) (fs : List CaptureFrame) → IsV
 others version f fs (inl one) = inl (one.0, one.1.1)
 others version f fs (inr two) = inr two
 
--- so many frames
+-- this many frames
 pub route_frames : (fs : List CaptureFrame) (turn : Turn) → turn.left ≡ length fs → All FitsFrame fs → AreTyped fs → IsVersion turn.version fs
     → Route (turn_due turn) Over (flat_map (capture_frame_octets turn.version) fs) (items_from turn.frame turn.number fs)
 unfolding items_from

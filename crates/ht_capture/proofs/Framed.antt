@@ -133,7 +133,7 @@ taken_more version start xs ys f old mid new is a b =
     ∙ ap (λ (z : List CaptureFrame). flat_map (capture_frame_octets version) z) (sym is))) in
     takes_as old.known new.known _ _ all (takes-append old mid new (start ++ flat_map (capture_frame_octets version) xs) (capture_frame_octets version f) a b)
 
--- so many frames were read, behind the beginning of the file
+-- this many frames were read, behind the beginning of the file
 pub record SoFar (version count : ℕ) (frames : List CaptureFrame) (left later : Device ℕ) : Type 0 where
   pub octets : Takes left later (capture_start version count ++ flat_map (capture_frame_octets version) frames)
   pub known : known_version version ≡ true

@@ -43,7 +43,7 @@ pub length-triangle_of : (n : ℕ) (octets : List ℕ) (legs : List Leg) → leg
 unfolding triangle_of
 length-triangle_of n octets legs is = ap (λ (g : List Leg). length g) is ∙ length-legs_at n octets 0
 
--- behind the samples of so many rows stand those that fill the array
+-- behind the samples of this many rows stand those that fill the array
 pub drop-samples_at : (n : ℕ) (octets : List ℕ) (at : ℕ) (more : List Sample) → drop n (samples_at n octets at ++ more) ≡ more
 drop-samples_at zero octets at more = refl
 drop-samples_at (suc n) octets at more = drop-samples_at n octets (at + 8) more

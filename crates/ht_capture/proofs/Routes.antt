@@ -97,7 +97,7 @@ route_head turn rate len some_left some small =
     (route_field (Length turn rate) _ (big_bytes 2 len) []
     (refl, good_length turn rate (big_bytes 2 len) len (sym (big_number-reads_back 2 len [] small)) some))))
 
--- what is given with the last of so many subcarriers
+-- what is given with the last of this many subcarriers
 abbrev pub given_with : ℕ → FrameHead → List Item
 given_with zero head = []
 given_with (suc n) head = Frame head ∷ []

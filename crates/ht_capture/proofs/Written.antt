@@ -4,7 +4,6 @@ use Rattle.std.proofs.Common.{slice_index_or, flat_map, Bool, true, false, if◌
 use Rattle.std.proofs.Common.{refl, sym, ap, subst, ◌∙◌, append_assoc, length-append, arith}
 use Rattle.std.proofs.lemmas.Grind.{flat_map-append}
 use Rattle.std.proofs.lemmas.List.{get_or-drop, drop-drop, length-drop, append-nil, drop_all, take_more}
-use Rattle.std.specs.Prelude.{Result, Ok, Err, OnOk}
 use Rattle.ht_fields.proofs.Putting.{part_first}
 use Rattle.ht_io.specs.Pieces.{KnownGrown, KnownGrownByPart}
 use Rattle.ht_io.proofs.Pieces.{grown-append, grown_by_part-append}
@@ -64,7 +63,7 @@ legs_next legs k lt =
     ∙ (ap (λ n. leg_octets n (slice_index_or legs k no_leg) ++ legs_octets (drop (suc k) legs)) size
     ∙ ap (λ j. leg_octets (length legs - k - 1) (slice_index_or legs k no_leg) ++ legs_octets (drop j legs)) e)
 
--- so many octets were there, and the row that is due has room
+-- this many octets were there, and the row that is due has room
 pub row_room : (chunk old : List ℕ) (legs : List Leg) (k : ℕ) → k < length legs → length legs ≤ 4
     → chunk ++ legs_octets (drop k legs) ≡ old ++ legs_octets legs → length old + 32 ≤ 4096 → length chunk + (2 + 4 * (length legs - k - 1)) ≤ 4096
 row_room chunk old legs k lt few eq room =
@@ -178,7 +177,3 @@ pub part_of_front : (version : ℕ) (f : CaptureFrame) (held new : Option (List 
     → KnownGrownByPart held new put → KnownGrownByPart held new (capture_frame_octets version f)
 unfolding capture_frame_octets
 part_of_front version f held new put is a = part_first held new put (front_octets version f) (flat_map sample_octets f.samples) _ is refl a
-
-pub on_ok_then : {A E : Type 0} (P Q : Type 0) (r : Result A E) → (P → Q) → OnOk r P → OnOk r Q
-on_ok_then P Q (Ok x) f p = f p
-on_ok_then P Q (Err e) f p = tt

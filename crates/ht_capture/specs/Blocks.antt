@@ -46,6 +46,7 @@ pub record CountsPart (most : ℕ) (old new : Counts) (part : SymbolPart) : Type
   pub number : part.number ≡ old.jobs
   pub given : new ≡ counted old.frames (old.jobs + length part.present)
 
+-- the same of an answer: a head, a block or the end
 abbrev pub CountsBlock : ℕ → Counts → Counts → BlockItem → Type 0
 CountsBlock most old new (Frame head) = Counted old new (FrameItem head)
 CountsBlock most old new (Block part) = CountsPart most old new part
@@ -62,6 +63,7 @@ pub record IsPartOf (due : SymbolTurn) (part : SymbolPart) : Type 0 where
 abbrev pub PlacesPart : Option SymbolTurn → Option SymbolTurn → SymbolPart → Type 0
 PlacesPart old new part = (due : SymbolTurn) × (old ≡ Some due) × IsPartOf due part × StaysInFrame due new
 
+-- where the jobs of an answer stand, by the symbols that were due before and are due then
 abbrev pub PlacesBlock : Option SymbolTurn → Option SymbolTurn → BlockItem → Type 0
 PlacesBlock old new (Frame head) = IsPlaced old new (FrameItem head)
 PlacesBlock old new (Block part) = PlacesPart old new part
@@ -90,7 +92,7 @@ Repeats (Ok (JobItem job)) answer = Unit {0}
 Repeats (Ok DoneItem) answer = answer ≡ Ok Done
 Repeats (Err fault) answer = answer ≡ Err fault
 
--- what a call that gives the next head, the end or a block of at most so many jobs does to a reader and to its source, whose
+-- what a call that gives the next head, the end or a block of at most `most` jobs does to a reader and to its source, whose
 -- device `shown` tells
 pub record AnswersBlock {S : Type 0} (shown : S → Device ℕ) (most : ℕ) (old new : Progress) (source source' : S) (result : Result BlockItem InFault) : Type 0 where
   -- what the octets that this call took mean
@@ -110,7 +112,7 @@ pub record AnswersBlock {S : Type 0} (shown : S → Device ℕ) (most : ℕ) (ol
   -- how many heads and jobs still come, at most: over every source fewer behind each of them
   pub fewer : FallsBy (more old) (more new) result
 
--- what giving the next jobs of the symbol that was read, at most so many, does to a reader
+-- what giving the next jobs of the symbol that was read, at most `most` of them, does to a reader
 pub record GivesPart (most : ℕ) (old new : Progress) (part : SymbolPart) : Type 0 where
   -- the jobs are the next items
   pub told : (source : Device ℕ) → Gives (shown_by old source) (shown_by new source) (items_in part)

@@ -48,9 +48,11 @@ frame_jobs (suc n) head symbol number present samples =
     symbol_jobs head symbol number present (take (length present * streams_of head.rate) samples)
     ++ frame_jobs n head (symbol + 1) (number + length present) present (drop (length present * streams_of head.rate) samples)
 
+-- the head of the frame with this number
 abbrev pub head_of : ℕ → CaptureFrame → FrameHead
 head_of frame f = record { frame = frame; rate = f.rate; length = f.length; erased = f.erased }
 
+-- the subcarriers of a frame that are present, in ascending order, each with its triangle
 abbrev pub presents_of : CaptureFrame → List Present
 presents_of f = presents (carriers_of f.rate) 0 f.erased f.triangles
 
@@ -61,6 +63,7 @@ items_from frame number (f ∷ fs) =
     (Frame (head_of frame f) ∷ frame_jobs (symbols_of f.rate f.length) (head_of frame f) 0 number (presents_of f) f.samples)
     ++ items_from (frame + 1) (number + symbols_of f.rate f.length * length (presents_of f)) fs
 
+-- the items of frames, where frames and jobs are numbered from 0
 abbrev pub items_of : List CaptureFrame → List Item
 items_of frames = items_from 0 0 frames
 
@@ -78,6 +81,7 @@ abbrev pub AreLegs : List Leg → Type 0
 AreLegs [] = Unit {0}
 AreLegs (leg ∷ legs) = (leg.diagonal < 2 ^ 16) × (length leg.right ≡ length legs) × AreTaps leg.right × AreLegs legs
 
+-- triangles with a row for each of this number of streams
 abbrev pub AreTriangles : ℕ → List (List Leg) → Type 0
 AreTriangles streams [] = Unit {0}
 AreTriangles streams (t ∷ ts) = (length t ≡ streams) × AreLegs t × AreTriangles streams ts
@@ -88,10 +92,12 @@ pub record IsTyped (f : CaptureFrame) : Type 0 where
   pub triangles : AreTriangles (streams_of f.rate) f.triangles
   pub samples : AreSamples f.samples
 
+-- the same of each of these frames
 abbrev pub AreTyped : List CaptureFrame → Type 0
 AreTyped [] = Unit {0}
 AreTyped (f ∷ fs) = IsTyped f × AreTyped fs
 
+-- no frame has an erased subcarrier
 abbrev pub AreWhole : List CaptureFrame → Type 0
 AreWhole [] = Unit {0}
 AreWhole (f ∷ fs) = HasAllCarriers f × AreWhole fs

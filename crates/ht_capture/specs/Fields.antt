@@ -34,15 +34,19 @@ abbrev pub capture_magic_due : List ℕ → CaptureState
 capture_magic_due [] = Version
 capture_magic_due (x ∷ xs) = Magic x xs
 
+-- the octets of `HTCP`
 abbrev pub capture_magic : List ℕ
 capture_magic = 72 ∷ 84 ∷ 67 ∷ 80 ∷ []
 
+-- an octet of the magic is this one
 unfoldable pub judge_magic : ℕ → List ℕ → List ℕ → Verdict CaptureState Item
 judge_magic x xs octets = if nat_eq (octet_of octets) x then Good (capture_magic_due xs) [] else Bad BadMagic
 
+-- there are the versions 1 and 2
 abbrev pub known_version : ℕ → Bool
 known_version version = nat_eq version 1 || nat_eq version 2
 
+-- the octet is a version that there is
 unfoldable pub judge_version : List ℕ → Verdict CaptureState Item
 judge_version octets = if known_version (octet_of octets) then Good (Count (octet_of octets)) [] else Bad BadVersion
 
@@ -50,12 +54,15 @@ judge_version octets = if known_version (octet_of octets) then Good (Count (octe
 unfoldable pub turn_due : Turn → CaptureState
 turn_due turn = if nat_eq turn.left 0 then Over else Bandwidth turn
 
+-- any number of frames is good
 unfoldable pub judge_count : ℕ → List ℕ → Verdict CaptureState Item
 judge_count version octets = Good (turn_due (record { version = version; left = big_number 2 octets; frame = 0; number = 0 })) []
 
+-- a bandwidth is 0 (20 MHz) or 1 (40 MHz)
 unfoldable pub judge_bandwidth : Turn → List ℕ → Verdict CaptureState Item
 judge_bandwidth turn octets = if nat_lt 1 (octet_of octets) then Bad BadBandwidth else Good (Mcs turn (octet_of octets)) []
 
+-- an MCS index is at most 31
 unfoldable pub judge_mcs : Turn → ℕ → List ℕ → Verdict CaptureState Item
 judge_mcs turn bandwidth octets = if nat_lt 31 (octet_of octets) then Bad BadMcs else Good (Length turn (rate_at bandwidth (octet_of octets))) []
 
@@ -63,6 +70,7 @@ judge_mcs turn bandwidth octets = if nat_lt 31 (octet_of octets) then Bad BadMcs
 abbrev pub carrier_due : Turn → FrameHead → ℕ → List Present → CaptureState
 carrier_due turn head carrier present = if nat_eq turn.version 2 then Flag turn head carrier present else Triangle turn head carrier present
 
+-- the first symbol of a frame, of which this number of subcarriers is present
 abbrev pub first_symbol : Turn → FrameHead → ℕ → SymbolTurn
 first_symbol turn head count = record { turn = turn; head = head; symbol = 0; symbols = symbols_of head.rate head.length; count = count }
 
@@ -75,9 +83,11 @@ carriers_due turn head carrier present =
 unfoldable pub head_given : FrameHead → ℕ → List Item
 head_given head carrier = if nat_lt carrier (carriers_of head.rate) then [] else Frame head ∷ []
 
+-- the head of a frame of which no subcarrier was read yet
 abbrev pub new_head : Turn → Rate → ℕ → FrameHead
 new_head turn rate len = record { frame = turn.frame; rate = rate; length = len; erased = 0 }
 
+-- a length is at least 1
 unfoldable pub judge_length : Turn → Rate → List ℕ → Verdict CaptureState Item
 judge_length turn rate octets =
     if nat_eq (big_number 2 octets) 0 then Bad BadLength else Good (carriers_due turn (new_head turn rate (big_number 2 octets)) 0 []) []
@@ -86,15 +96,18 @@ judge_length turn rate octets =
 unfoldable pub bad_flag : FrameHead → ℕ → ℕ → ℕ → Bool
 bad_flag head carrier count flag = nat_lt 1 flag || (nat_eq carrier (carriers_of head.rate - 1) && nat_eq count 0)
 
+-- behind the flag 0 the subcarrier's triangle is due; behind a good flag 1 the subcarrier is erased
 unfoldable pub judge_flag : Turn → FrameHead → ℕ → List Present → List ℕ → Verdict CaptureState Item
 judge_flag turn head carrier present octets =
     if nat_eq (octet_of octets) 0 then Good (Triangle turn head carrier present) []
     else if bad_flag head carrier (length present) (octet_of octets) then Bad BadErased
     else Good (carriers_due turn (erase head carrier) (carrier + 1) present) (head_given (erase head carrier) (carrier + 1))
 
+-- a subcarrier that is present, with the triangle that these octets are
 abbrev pub present_at : FrameHead → ℕ → List ℕ → Present
 present_at head carrier octets = record { carrier = carrier; triangle = triangle_of (streams_of head.rate) octets }
 
+-- any triangle is good, and its subcarrier is present
 unfoldable pub judge_triangle : Turn → FrameHead → ℕ → List Present → List ℕ → Verdict CaptureState Item
 judge_triangle turn head carrier present octets =
     Good (carriers_due turn head (carrier + 1) (present ++ present_at head carrier octets ∷ [])) (head_given head (carrier + 1))
@@ -118,6 +131,7 @@ unfoldable pub symbol_due : SymbolTurn → List Present → CaptureState
 symbol_due due present =
     if nat_lt due.symbol due.symbols then Symbol due present else turn_due (next_turn due.turn)
 
+-- any samples are good, and give the jobs of their symbol
 unfoldable pub judge_symbol : SymbolTurn → List Present → List ℕ → Verdict CaptureState Item
 judge_symbol due present octets =
     Good (symbol_due (next_symbol due) present) (jobs_at due.head due.symbol due.turn.number present octets 0)

@@ -234,8 +234,8 @@ pub record AnswersItem {S : Type 0} (shown : S → Device ℕ) (old new : Progre
   -- memory never lacks
   pub memory : result ≡ Err NoMemory → ⊥
 
--- what reading a frame's head or the end of the input does, where a reader meant this, over its source, had given so many
--- heads and jobs, and had at most so many to give
+-- what reading a frame's head or the end of the input does, where a reader meant `before`, over its source, had given the heads
+-- and jobs that `given` counts, and had at most `most` of them still to give
 pub record ReadsFrame (before : ReaderView Item) (given : Counts) (most : ℕ) (new : Progress) (after : Device ℕ) (result : Result Item InFault) : Type 0 where
   -- what the octets that this call took mean
   pub told : MatchResult result (GivesItem before (shown_by new after)) (Halts before after)
@@ -288,6 +288,7 @@ pub record SymbolFits (due : SymbolTurn) (more at : ℕ) (present : List Present
   pub place : at ≤ 7 + 73569334 * due.turn.frame + 3766 + 3648 * (due.symbol + more)
   pub number : due.turn.number ≤ 2298924 * due.turn.frame + 114 * due.symbol
 
+-- the same of each stage, by the offset and the subcarriers that were read
 abbrev pub StageFits : Stage → ℕ → List Present → Type 0
 StageFits Begin at present = at ≡ 0
 StageFits (NextFrame turn) at present = TurnFits turn at

@@ -24,7 +24,9 @@ use ht_rate::Rate;
 /// How far the subcarriers of a frame were read: the number of those that are present, and the offset behind them.
 #[derive(Clone, Copy, Debug)]
 pub struct Gathered {
+    /// The number of subcarriers that are present.
     pub count: usize,
+    /// The offset behind them.
     pub at: u64,
 }
 

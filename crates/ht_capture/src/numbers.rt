@@ -180,7 +180,7 @@ pub fn add_tap(chunk: &mut Chunk, tap: Tap)
     chunk.add(&tap.im.to_be_bytes());
 }
 
-/// Adds the octets of a sample.
+/// Adds the octets of a sample: the real part, and then the imaginary part.
 pub fn add_sample(chunk: &mut Chunk, sample: Sample)
     requires { length chunk.old + 8 ≤ 4096 }
     ensures { chunk.new ≡ chunk.old ++ sample_octets sample }

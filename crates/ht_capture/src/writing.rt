@@ -1,6 +1,6 @@
 //! Captures as they are written.
-ghost use Rattle.std.specs.Prelude.{◌≡◌, ◌≤◌, ◌<◌, ◌+◌, ◌*◌, ◌-◌, ◌++◌, ◌==◌, false, All, length, flat_map, slice_index_or, OnOk, OnErr};
-ghost use Rattle.ht_io.specs.Devices.{Grows, GrowsByPart, Rose, IsLater};
+ghost use Rattle.std.specs.Prelude.{◌≡◌, ◌≤◌, ◌<◌, ◌+◌, ◌*◌, ◌-◌, ◌++◌, ◌==◌, false, All, length, flat_map, slice_index_or};
+ghost use Rattle.ht_io.specs.Devices.{Puts};
 ghost use Rattle.ht_rate.specs.Rates.{carriers_of};
 ghost use Rattle.ht_metric.specs.Rows.{no_leg};
 ghost use Rattle.ht_capture.specs.Files.{AreCaptureFrames, FitsFrame, HasAllCarriers, triangles_behind};
@@ -116,11 +116,7 @@ fn fill(chunk: &mut Chunk, samples: &[Sample])
 
 // Puts samples, as many at once as a symbol may have.
 fn put_samples<K: Sink>(samples: &[Sample], chunk: &mut Chunk, sink: &mut K) -> Result<(), Failed>
-    ensures grown { OnOk result (Grows (K.shown sink.old) (K.shown sink.new) (flat_map sample_octets samples.now)) }
-    ensures steady { OnOk result ((K.shown sink.new).faults ≡ (K.shown sink.old).faults) }
-    ensures part { OnErr result (GrowsByPart (K.shown sink.old) (K.shown sink.new) (flat_map sample_octets samples.now)) }
-    ensures cause { OnErr result (Rose (K.shown sink.old) (K.shown sink.new)) }
-    ensures later { IsLater (K.shown sink.old) (K.shown sink.new) }
+    ensures { Puts (K.shown sink.old) (K.shown sink.new) (flat_map sample_octets samples.now) result }
 {
     let mut rest = samples;
     while !rest.is_empty() {
@@ -141,11 +137,7 @@ fn put_frame<K: Sink>(
     sink: &mut K,
 ) -> Result<(), Failed>
     requires fits { FitsFrame frame.now }
-    ensures grown { OnOk result (Grows (K.shown sink.old) (K.shown sink.new) (capture_frame_octets version frame.now)) }
-    ensures steady { OnOk result ((K.shown sink.new).faults ≡ (K.shown sink.old).faults) }
-    ensures part { OnErr result (GrowsByPart (K.shown sink.old) (K.shown sink.new) (capture_frame_octets version frame.now)) }
-    ensures cause { OnErr result (Rose (K.shown sink.old) (K.shown sink.new)) }
-    ensures later { IsLater (K.shown sink.old) (K.shown sink.new) }
+    ensures { Puts (K.shown sink.old) (K.shown sink.new) (capture_frame_octets version frame.now) result }
 {
     front(chunk, version, frame);
     sink.put(chunk.as_slice())?;
@@ -164,11 +156,7 @@ fn start(chunk: &mut Chunk, version: u8, count: u16)
 #[tactic(auto, unfolding(crate::specs::Files::capture_file_of))]
 fn put_file<K: Sink>(version: u8, frames: &[CaptureFrame], sink: &mut K) -> Result<(), Failed>
     requires frames { AreCaptureFrames frames.now }
-    ensures grown { OnOk result (Grows (K.shown sink.old) (K.shown sink.new) (capture_file_of version frames.now)) }
-    ensures steady { OnOk result ((K.shown sink.new).faults ≡ (K.shown sink.old).faults) }
-    ensures part { OnErr result (GrowsByPart (K.shown sink.old) (K.shown sink.new) (capture_file_of version frames.now)) }
-    ensures cause { OnErr result (Rose (K.shown sink.old) (K.shown sink.new)) }
-    ensures later { IsLater (K.shown sink.old) (K.shown sink.new) }
+    ensures { Puts (K.shown sink.old) (K.shown sink.new) (capture_file_of version frames.now) result }
 {
     let mut chunk = Chunk::new();
     start(&mut chunk, version, frames.len() as u16);
@@ -188,11 +176,7 @@ pub fn write_captures<K: Sink>(frames: &[CaptureFrame], sink: &mut K) -> Result<
     requires frames { AreCaptureFrames frames.now }
     requires whole { All HasAllCarriers frames.now }
 
-    ensures grown { OnOk result (Grows (K.shown sink.old) (K.shown sink.new) (capture_file_of 1 frames.now)) }
-    ensures steady { OnOk result ((K.shown sink.new).faults ≡ (K.shown sink.old).faults) }
-    ensures part { OnErr result (GrowsByPart (K.shown sink.old) (K.shown sink.new) (capture_file_of 1 frames.now)) }
-    ensures cause { OnErr result (Rose (K.shown sink.old) (K.shown sink.new)) }
-    ensures later { IsLater (K.shown sink.old) (K.shown sink.new) }
+    ensures { Puts (K.shown sink.old) (K.shown sink.new) (capture_file_of 1 frames.now) result }
 {
     put_file(1, frames, sink)
 }
@@ -206,11 +190,7 @@ pub fn write_captures_2<K: Sink>(frames: &[CaptureFrame], sink: &mut K) -> Resul
     // At most 65535 frames, each with what its rate, its length and its present subcarriers ask for.
     requires frames { AreCaptureFrames frames.now }
 
-    ensures grown { OnOk result (Grows (K.shown sink.old) (K.shown sink.new) (capture_file_of 2 frames.now)) }
-    ensures steady { OnOk result ((K.shown sink.new).faults ≡ (K.shown sink.old).faults) }
-    ensures part { OnErr result (GrowsByPart (K.shown sink.old) (K.shown sink.new) (capture_file_of 2 frames.now)) }
-    ensures cause { OnErr result (Rose (K.shown sink.old) (K.shown sink.new)) }
-    ensures later { IsLater (K.shown sink.old) (K.shown sink.new) }
+    ensures { Puts (K.shown sink.old) (K.shown sink.new) (capture_file_of 2 frames.now) result }
 {
     put_file(2, frames, sink)
 }

@@ -10,8 +10,8 @@ ghost use Rattle.ht_capture_laws.specs.Items.{IsWholeFrame, frames_in, items_of_
 ghost use Rattle.ht_capture_laws.specs.Written.{IsFileOf, items_each};
 ghost use Rattle.ht_fields.specs.Tests.{AreBytes};
 
-/// Each capture is the file of frames, in version 1 or 2, and of one list of frames in one version alone. So what is
-/// read of a capture can be written again, octet by octet, and whoever knows all that is written knows all captures.
+/// Each capture is the file that is written of exactly one list of frames in one version, 1 or 2. So what is read of a
+/// capture can be written again, octet by octet, and whoever knows all that is written knows all captures.
 ///
 /// The least capture in version 2, `48 54 43 50 02 00 00`, is the file of no frames.
 pub fn each_of_frames()

@@ -44,9 +44,9 @@ pub fn numbers_and_places()
     ensures places { (octets : List ℕ) → All (λ f. All (λ job. IsPlaceIn f.head job.place) f.jobs) (frames_in (capture_of octets).items) }
 {}
 
-/// What holds of an item behind others. A head has the number of the heads in front of it, and all frames in front of
-/// it are whole. A job is one of the last head in front of it: it has the number of all jobs in front of it, and stands
-/// on the place behind those of its frame's jobs so far.
+/// The items in front of an item say which number and place it has. A head's number is the number of heads in front of it,
+/// and all frames in front of it are whole. A job is one of the last head in front of it: its number is the number of all
+/// jobs in front of it, and its place the one behind those of its frame's jobs so far.
 ///
 /// Behind a head at 20 MHz without erased subcarriers and 57 jobs of that frame, say, the next job is that of symbol 1
 /// and subcarrier 1.

@@ -4,7 +4,7 @@
 //! and `ht_fields`. It says nothing of a reader, so that a command's text can be defined, and its laws be proved, by
 //! the items of octets alone.
 //!
-//! [`beginnings`]: octets that are clean so far are the beginning of some capture. [`frames`]: the items of any octets are
+//! [`beginnings`]: good fields can always be continued to a capture. [`frames`]: the items of any octets are
 //! those of whole frames and then of at most one that is cut off, with the numbers and the places of all jobs; more octets
 //! take none of it back. [`files`]: each capture is the file of frames, and shows just these.
 //!

@@ -16,9 +16,11 @@ use Rattle.ht_cert.specs.Formats.{certificates_magic}
 abbrev pub leg_of : Row → Leg
 leg_of row = record { diagonal = row.diagonal; right = row.right }
 
+-- the two octets of a point, I and Q
 abbrev pub point_octets : Point → List ℕ
 point_octets p = cast_unsigned w8 p.i ∷ cast_unsigned w8 p.q ∷ []
 
+-- the octet of a mark: 1 where the level is open, 0 where it is cut
 abbrev pub mark_octet : Bool → ℕ
 mark_octet true = 1
 mark_octet false = 0
@@ -33,6 +35,7 @@ claim_octets r =
 unfoldable pub front_octets : Record → List ℕ
 front_octets r = code_of r.modulation ∷ length r.job.system ∷ (claim_octets r ++ big_bytes 4 (length r.certificate.marks))
 
+-- the octets of a record
 unfoldable pub record_octets : Record → List ℕ
 record_octets r = front_octets r ++ map mark_octet r.certificate.marks
 

@@ -43,6 +43,7 @@ next_turn turn = record { left = turn.left - 1; number = turn.number + 1 }
 unfoldable pub marks_due : Turn → Record → ℕ → StartState RecordState
 marks_due turn r left = if nat_eq left 0 then records_due (next_turn turn) else Body (Mark turn r left)
 
+-- a record is given where no mark of it is left
 unfoldable pub marks_given : Record → ℕ → List Record
 marks_given r left = if nat_eq left 0 then r ∷ [] else []
 
@@ -54,12 +55,15 @@ is_no_streams octets = nat_eq (octet_of octets) 0 || nat_lt 4 (octet_of octets)
 unfoldable pub good_modulation : Turn → List ℕ → Verdict (StartState RecordState) Record
 good_modulation turn octets = Good (Body (Streams turn (modulation_at (octet_of octets)))) []
 
+-- behind the number of streams triangle, samples, points and distance are due
 unfoldable pub good_streams : Turn → Modulation → List ℕ → Verdict (StartState RecordState) Record
 good_streams turn modulation octets = Good (Body (Claim turn modulation (octet_of octets))) []
 
+-- any triangle, samples, points and distance are good
 unfoldable pub good_claim : Turn → Modulation → ℕ → List ℕ → Verdict (StartState RecordState) Record
 good_claim turn modulation streams octets = Good (Body (Marks turn (claimed turn.number modulation streams octets))) []
 
+-- behind the number of marks the marks are due
 unfoldable pub good_marks : Turn → Record → List ℕ → Verdict (StartState RecordState) Record
 good_marks turn r octets = Good (marks_due turn r (big_number 4 octets)) (marks_given r (big_number 4 octets))
 
@@ -67,6 +71,7 @@ good_marks turn r octets = Good (marks_due turn r (big_number 4 octets)) (marks_
 abbrev pub marked : Record → List ℕ → Record
 marked r octets = with_marks r (nat_eq (octet_of octets) 1 ∷ [])
 
+-- a mark is added to those of the record
 unfoldable pub good_mark : Turn → Record → ℕ → List ℕ → Verdict (StartState RecordState) Record
 good_mark turn r left octets = Good (marks_due turn (marked r octets) (left - 1)) (marks_given (marked r octets) (left - 1))
 
@@ -78,6 +83,7 @@ record_due (Claim turn modulation streams) = field (claim_width streams) (good_c
 record_due (Marks turn r) = field 4 (checked BadLength (is_outside mark_limits) (good_marks turn r))
 record_due (Mark turn r left) = field 1 (checked BadMark (is_above 1) (good_mark turn r left))
 
+-- what is due behind the number of records
 abbrev pub first_due : ℕ → StartState RecordState
 first_due count = records_due (record { left = count; number = 0 })
 

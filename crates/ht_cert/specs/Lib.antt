@@ -3,4 +3,3 @@ pub mod Formats
 pub mod Files
 pub mod Readers
 pub mod Schemes
-pub mod Puts

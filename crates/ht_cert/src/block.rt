@@ -1,7 +1,7 @@
 //! Records that are put together.
 ghost use Rattle.std.specs.Prelude.{◌≡◌, ◌≤◌, ◌++◌, [], length, map, OnOk};
+ghost use Rattle.ht_io.specs.Devices.{Puts};
 ghost use Rattle.ht_cert.specs.Files.{mark_octet, record_octets, records_start};
-ghost use Rattle.ht_cert.specs.Puts.{PutsAll};
 
 use crate::record::Record;
 use crate::writing::{add_marks, front, start};
@@ -85,7 +85,7 @@ impl Block {
         append_marks(&mut self.octets, rest)
     }
 
-    /// Whether so many octets wait that they are to be put: at least 32,768.
+    /// Whether enough octets wait to be put, at least 32,768. No clause says so.
     pub fn is_full(&self) -> bool {
         self.octets.len() >= FULL
     }
@@ -94,7 +94,8 @@ impl Block {
     ///
     /// Where the sink fails, a part of it from its front was put.
     pub fn put<K: Sink>(&mut self, sink: &mut K) -> Result<(), Failed>
-        ensures { PutsAll (K.shown sink.old) (K.shown sink.new) self.old self.new result }
+        ensures puts { Puts (K.shown sink.old) (K.shown sink.new) self.old result }
+        ensures none { OnOk result (self.new ≡ []) }
     {
         sink.put(&self.octets)?;
         self.octets.clear();

@@ -8,8 +8,9 @@ pub fn no_prefix()
     ensures { IsPrefixFree certificates }
 {}
 
-/// What is clean so far can end as a file: good fields, wherever they lead, are followed by more good fields up to the end
-/// of some file. So octets are clean exactly where they are the beginning of some file that is cut off within a field.
+/// Good fields, wherever they lead, can be followed by more good fields up to the end of some file of certificates. So octets are clean
+/// exactly where they are the first whole fields of some file, and then fewer octets than its next field has.
+/// Those few needn't be that field's own: `48 54 43 54 01 ff` is clean, and no file begins with it.
 pub fn clean_can_end()
     ensures { CleanCanEnd certificates }
 {}
@@ -19,7 +20,7 @@ pub fn written()
     ensures { WritesFiles certificates AreRecords certificates_file_of }
 {}
 
-/// Each file is the one that is written of its records, which can be written.
+/// Each file is the one that is written of its records, and these are records of which a file can be written.
 pub fn each_of_records()
     ensures { WritesEach certificates AreRecords certificates_file_of }
 {}

@@ -13,7 +13,7 @@ use ht_fields::end;
 use ht_io::{InFault, Source};
 use std::marker::Model;
 
-/// What came of a reader.
+/// What a reader answers where nothing is wrong.
 #[derive(Clone, Copy, Debug, PartialEq, Eq)]
 pub enum Came {
     /// A record was read whole.
@@ -53,12 +53,13 @@ impl RecordReader {
         }
     }
 
-    /// Reads the next record, or the end of the file. The marks are read into the memory of those that the record had; for
-    /// more of them memory is taken as they come.
+    /// Reads the next record into `into`, or the end of the file. The marks are read into the memory of those that `into`
+    /// had; for more of them memory is taken as they come.
     ///
-    /// `Format` comes at the first fault of the file, behind all records before it, and the octets taken end with the
-    /// field at fault. `Read` comes where the source failed, and `NoMemory` where a mark found no room. Behind these
-    /// and `End` each further call answers the same, and takes nothing.
+    /// With `Whole` the record that was read stands in `into`. With any other answer nothing is said of `into`, which may
+    /// have a part of a record. `Format` comes at the first fault of the file, behind all records before it, and the octets
+    /// taken end with the field at fault. `Read` comes where the source failed, and `NoMemory` where a mark found no room.
+    /// Behind these and `End` each further call answers the same, and takes nothing.
     pub fn next<S: Source>(&mut self, source: &mut S, into: &mut Record) -> Result<Came, InFault>
         // What the octets that this call took mean.
         ensures told { finished self.old ≡ None → MatchResult result

@@ -4,7 +4,9 @@ use ht_io::InFault;
 /// How many records are due, the next one among them, and the number of the next one.
 #[derive(Clone, Copy, Debug, PartialEq, Eq)]
 pub struct Turn {
+    /// The number of records that are due, the next one among them.
     pub left: u64,
+    /// The number of the next record, counted from 0.
     pub number: u64,
 }
 

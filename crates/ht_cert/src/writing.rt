@@ -1,7 +1,7 @@
 //! Files of certificates as they are written.
-ghost use Rattle.std.specs.Prelude.{◌≡◌, ◌≤◌, ◌<◌, ◌+◌, ◌*◌, ◌-◌, [], ◌∷◌, ◌++◌, length, map, flat_map, slice_index_or, OnOk, OnErr};
+ghost use Rattle.std.specs.Prelude.{◌≡◌, ◌≤◌, ◌<◌, ◌+◌, ◌*◌, ◌-◌, [], ◌∷◌, ◌++◌, length, map, flat_map, slice_index_or};
 ghost use Rattle.byteorder.specs.Endian.{big_bytes};
-ghost use Rattle.ht_io.specs.Devices.{Grows, GrowsByPart, Rose, IsLater};
+ghost use Rattle.ht_io.specs.Devices.{Puts};
 ghost use Rattle.ht_metric.specs.Arrays.{legs, samples};
 ghost use Rattle.ht_metric.specs.Rows.{no_row};
 ghost use Rattle.ht_capture.specs.Files.{leg_octets, legs_octets, sample_octets};
@@ -13,7 +13,7 @@ use ht_capture::numbers;
 use ht_counted::{Packer, put_packed};
 use ht_fields::Chunk;
 use ht_io::{Failed, Sink};
-use ht_metric::{Sample, System, Vector};
+use ht_metric::{System, Vector};
 use ht_rate::Modulation;
 
 // The code of a modulation.
@@ -53,15 +53,6 @@ fn add_triangle(chunk: &mut Chunk, system: &System)
     }
 }
 
-// Adds a sample.
-fn add_sample(chunk: &mut Chunk, sample: Sample)
-    requires { length chunk.old + 8 ≤ 4096 }
-    ensures { chunk.new ≡ chunk.old ++ sample_octets sample }
-{
-    chunk.add(&sample.re.to_be_bytes());
-    chunk.add(&sample.im.to_be_bytes());
-}
-
 // Adds what was received.
 fn add_samples(chunk: &mut Chunk, system: &System)
     requires room { length chunk.old ≤ 4000 }
@@ -69,7 +60,7 @@ fn add_samples(chunk: &mut Chunk, system: &System)
     ensures size { length chunk.new ≤ length chunk.old + 32 }
 {
     for row in 0..system.streams() {
-        add_sample(chunk, system.sample(row + 1));
+        numbers::add_sample(chunk, system.sample(row + 1));
     }
 }
 
@@ -160,11 +151,7 @@ pub(crate) fn start(count: u64) -> [u8; 13]
 ///
 /// Where the sink fails, a part of it from its front was put.
 pub fn write_start<K: Sink>(count: u64, sink: &mut K) -> Result<(), Failed>
-    ensures grown { OnOk result (Grows (K.shown sink.old) (K.shown sink.new) (records_start count)) }
-    ensures steady { OnOk result ((K.shown sink.new).faults ≡ (K.shown sink.old).faults) }
-    ensures part { OnErr result (GrowsByPart (K.shown sink.old) (K.shown sink.new) (records_start count)) }
-    ensures cause { OnErr result (Rose (K.shown sink.old) (K.shown sink.new)) }
-    ensures later { IsLater (K.shown sink.old) (K.shown sink.new) }
+    ensures { Puts (K.shown sink.old) (K.shown sink.new) (records_start count) result }
 {
     sink.put(&start(count))
 }
@@ -175,11 +162,7 @@ pub fn write_start<K: Sink>(count: u64, sink: &mut K) -> Result<(), Failed>
 #[tactic(auto, unfolding(crate::specs::Files::record_octets))]
 pub fn write_record<K: Sink>(recorded: &Record, sink: &mut K) -> Result<(), Failed>
     requires marks { length recorded.now.certificate.marks ≤ 33554432 }
-    ensures grown { OnOk result (Grows (K.shown sink.old) (K.shown sink.new) (record_octets recorded.now)) }
-    ensures steady { OnOk result ((K.shown sink.new).faults ≡ (K.shown sink.old).faults) }
-    ensures part { OnErr result (GrowsByPart (K.shown sink.old) (K.shown sink.new) (record_octets recorded.now)) }
-    ensures cause { OnErr result (Rose (K.shown sink.old) (K.shown sink.new)) }
-    ensures later { IsLater (K.shown sink.old) (K.shown sink.new) }
+    ensures { Puts (K.shown sink.old) (K.shown sink.new) (record_octets recorded.now) result }
 {
     let mut chunk = Chunk::new();
     front(&mut chunk, recorded);

@@ -39,7 +39,7 @@ job_on grid legs samples = record { number = 0; place = no_place; grid = grid; s
 abbrev pub records_on : Modulation → List Axes → Subcarrier → List Sample → List Record
 records_on modulation grid s samples = if s.carries_data then record_of 0 modulation (job_on grid s.triangle samples) ∷ [] else []
 
--- those of a symbol, with so many samples for each subcarrier
+-- those of a symbol, which has `streams` samples for each subcarrier
 abbrev pub records_of_symbol : Modulation → List Axes → ℕ → List Subcarrier → List Sample → List Record
 records_of_symbol modulation grid streams [] samples = []
 records_of_symbol modulation grid streams (s ∷ ss) samples =

@@ -52,8 +52,9 @@ const NINE_ERASED: &[&str] = &[
     "G54iWMi@O;1gEUj\\oj0000knI<Ibbj2aKS[V2QLR:X00004VVJW0^jB[QEGYVKQdFT3X<M0000_YSFDWh^CD7OJTXn_Ohi53JfAR8I",
 ];
 
-// A frame: the code of its bandwidth, its MCS and its length, the erased subcarriers and the labels; and what comes out: the
-// code of the decision, and the octets, where none stand for no seed.
+// A frame: its bandwidth (0 is 20 MHz, 1 is 40 MHz), MCS and length, its erased subcarriers (bit c for subcarrier c) and its
+// labels; and what it decodes to: at how many places the codewords differ from the detected bits, and the octets, none where
+// the seed would be zero.
 type Case = (
     (u8, u8, u16),
     u128,
@@ -93,7 +94,7 @@ fn meets<D: Decoder>(rt: &HostRuntime, decoder: &mut D, case: &Case) -> Result<b
     Ok(frame.code == code && is_outcome(&frame.outcome, octets))
 }
 
-// Whether an outcome has these octets; no octets stand for no seed.
+// Whether an outcome has these octets; none stand for a seed that would be zero.
 fn is_outcome(outcome: &Outcome, octets: &[u8]) -> bool {
     match outcome {
         Outcome::Octets(got) => got.as_slice() == octets,

@@ -6,12 +6,12 @@ ghost use Rattle.ht_runs.specs.Streamed.{Streamed};
 ghost use Rattle.ht_runs.specs.declared.faults.RunFault.TheVariants.{Write};
 ghost use Rattle.ht_check.specs.Checks.{checking};
 
-use crate::faults::CertFault;
 use crate::lines::push_line;
 use crate::putting::{BLOCK, put, put_block};
 use crate::tally::Tally;
 use ht_cert::{Came, Record, RecordReader};
 use ht_io::{Sink, Source};
+use ht_runs::RunFault;
 use ht_text::push_checked_line;
 use std::alloc::Global;
 
@@ -22,8 +22,9 @@ const ROOM: usize = BLOCK + 128;
 /// yes`, or `job K no NAME at N` with the first thing that is wrong and the number that this carries. K counts from 0.
 /// Behind the last record it puts `end J jobs yes Y`.
 ///
-/// The answer is `Ok` for a whole file, whatever its certificates are worth. `Format` comes at the first fault of what is no
-/// file of certificates, `Read` where the source failed, `Write` where the sink failed, also if the source did, and `NoMemory`.
+/// The answer is `Ok` for a whole file, whatever its certificates are worth. It refuses with the first fault of an input that
+/// is no file of certificates, with `Read` where the source failed, with `Write` where the sink failed, also if the source did,
+/// and with `NoMemory`.
 /// The lines of the records in front of a fault of the format or of the source are put; the line of the fault is not. Where
 /// the sink failed or memory ran out, a part of the lines was put.
 ///
@@ -32,7 +33,7 @@ pub fn check_file<S: Source, K: Sink>(
     alloc: Global,
     source: &mut S,
     sink: &mut K,
-) -> Result<(), CertFault>
+) -> Result<(), RunFault>
     ensures checks { Streamed checking (S.shown source.old) (S.shown source.new) (K.shown sink.old) (K.shown sink.new) SaysNothing result }
 
     // Where the sink failed the answer is `Write`, whatever else failed.
@@ -60,7 +61,7 @@ pub fn check_file<S: Source, K: Sink>(
             }
             Err(fault) => {
                 put(&mut text, sink)?;
-                return Err(CertFault::from(fault));
+                return Err(RunFault::from(fault));
             }
         }
     }

@@ -21,11 +21,9 @@
 #![tactic(auto)]
 
 mod checking;
-mod faults;
 pub mod laws;
 mod lines;
 mod putting;
 mod tally;
 
 pub use checking::check_file;
-pub use faults::CertFault;

@@ -4,7 +4,9 @@ ghost use Rattle.std.specs.Prelude.{◌≡◌, ◌≤◌, ◌<◌, ◌+◌, if�
 /// How many certificates were checked, and how many of them hold.
 #[derive(Clone, Copy, Debug, PartialEq, Eq)]
 pub(crate) struct Tally {
+    /// The number that were checked.
     pub jobs: u64,
+    /// The number of those that hold.
     pub right: u64,
 }
 

@@ -20,7 +20,7 @@ ghost use Rattle.ht_clause18.specs.Rates.{
   symbols_of,
 };
 
-/// The columns of the table hang together: N_BPSC is that of the constellation, N_CBPS is 48 times as many, and N_DBPS is
+/// The columns of the table agree: N_BPSC is that of the constellation, N_CBPS is 48 times as many, and N_DBPS is
 /// N_CBPS times R with no remainder. Each rate is the one that its index names.
 pub fn table()
     ensures label_bits { (r : LegacyRate) → label_bits_of r ≡ bits_of (modulation_of r) }

@@ -29,5 +29,6 @@ SendsTo octets output =
 abbrev pub upgrading : Conversion
 upgrading = conversion captures BeforeOutput UpgradesTo
 
+-- the conversion of the command tx
 abbrev pub sending : Conversion
 sending = conversion frames_format BeforeOutput SendsTo

@@ -1,4 +1,4 @@
-//! What commands do that read their whole input first, each in a file of its own.
+//! The bodies of the commands that have no crate of their own: `tx` and `upgrade`.
 mod tx;
 mod upgrading;
 

@@ -12,7 +12,8 @@ use ht_runs::RunFault;
 use ht_text::{refused_line, usage_line};
 use std::alloc::{AllocError, Global};
 
-/// Puts a line, after which the run ends with the status given. Without memory for it the sink is as before.
+/// Puts a line, and gives the status `then` with which the run ends. Where there was no memory for the line, the sink is as
+/// before and the status is `NoMemory`; where the sink fails, a part of the line was put and it is `WriteFault`.
 pub fn put_line<K: Sink>(line: Result<Vec<u8>, AllocError>, then: Status, sink: &mut K) -> Status
     ensures puts { (text : List ℕ) → IfOk line (λ octets. octets.items ≡ text) → PutsLine text then (K.shown sink.old) (K.shown sink.new) result }
     ensures lacks { OnErr line (result ≡ Status.NoMemory) }
@@ -28,7 +29,7 @@ pub fn put_line<K: Sink>(line: Result<Vec<u8>, AllocError>, then: Status, sink: 
     }
 }
 
-/// Puts the usage line. Without memory for it the sink is as before.
+/// Puts the usage line, and gives the status `Usage`, or another one as [`put_line`] does.
 pub fn put_usage<K: Sink>(alloc: Global, sink: &mut K) -> Status
     ensures puts { PutsLine usage_text Status.Usage (K.shown sink.old) (K.shown sink.new) result }
     ensures nothing { result ≡ Status.NoMemory → sink.new ≡ sink.old }
@@ -46,8 +47,8 @@ fn put_refused<K: Sink>(alloc: Global, fault: FormatFault, sink: &mut K) -> Stat
     put_line(line, Status::Refused, sink)
 }
 
-/// Ends a run whose call has answered, and which put all that it had to but for a refused line: puts this line where the
-/// input has a fault.
+/// Ends a run whose call has answered: gives the status, and puts the line `refused NAME at OFFSET` where the answer is a fault
+/// of the input. All else that had to be put was put by the call.
 pub fn settle<A: Drop, K: Sink>(alloc: Global, ran: Result<A, RunFault>, sink: &mut K) -> Status
     ensures settles { Settles ran (K.shown sink.old) (K.shown sink.new) result }
     ensures writes { result ≢ Status.WriteFault → (K.shown sink.new).faults ≡ (K.shown sink.old).faults }

@@ -153,6 +153,6 @@ length-steps p u (suc n) t end e =
     rw add-one (length-steps p u n (suc t) end (omega arith)) in
     omega arith
 
--- as many bits are sent as are kept of so many steps
+-- as many bits are sent as are kept of this many steps
 pub length-sent_bits : (p : Pattern) (u : List Bool) → length (sent_bits p u) ≡ sent_count p (length u)
 length-sent_bits p u = omega (arith, length-steps p u (length u) 0 (length u) (omega arith))

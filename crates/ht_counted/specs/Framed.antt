@@ -57,7 +57,7 @@ framed_octets h v = h.head (h.parts v).rate (length (h.parts v).octets) ++ ((h.p
 abbrev pub framed_most : {B R V : Type 0} → Framing B R V → ℕ
 framed_most h = h.width + 1 + h.most
 
--- at least one octet, and at most so many
+-- at least one octet, and at most this number of them
 abbrev pub HasOctets : ℕ → List ℕ → Type 0
 HasOctets most octets = (1 ≤ length octets) × (length octets ≤ most)
 

@@ -3,8 +3,8 @@
 //! Several formats differ in the magic, in how they count, and in what an entry is. `read_whole` reads any such
 //! file to its end, or answers its first fault, given what reads one entry (`Entries`). `write_whole` puts such a file, given
 //! what puts one entry (`Putter`). The specs have the grammar of such a format by that of an entry, and the proofs that the
-//! file written of entries is a file, that each file is the one that is written of its entries, and that all that is clean can
-//! end as one. `read_framed` and `write_framed` are these two for frames that have a seed and the octets of a PSDU behind
+//! file written of entries is a file, that each file is the one that is written of its entries, and that good fields can always
+//! be continued to a file. `read_framed` and `write_framed` are these two for frames that have a seed and the octets of a PSDU behind
 //! their heads, given what reads and puts a head (`Framed`). `put_packed` puts many items of few octets.
 //!
 //! With the magic `4c 47 54 58`, a count of two octets and entries of one octet, `4c 47 54 58 01 00 02 07 09` is the file of

@@ -7,7 +7,7 @@ use Rattle.ht_crew.specs.declared.drive_fault.DriveFault.TheVariants.{Feed, NoMe
 use Rattle.ht_crew.specs.Feeds.{CallFailed, FeedView, IsInTurn}
 
 module _ {Fault : Type 0} where
-  -- how a drive with a window of so many jobs leaves its feed, however it ends
+  -- how a drive with a window of this number of jobs leaves its feed, however it ends
   pub record LeavesInTurn {F : Type 0} (shown : F → FeedView Fault) (Leads : F → F → Type 0) (window : ℕ) (old new : F) : Type 0 where
     -- only calls of the feed changed it
     pub leads : Leads old new
@@ -36,7 +36,7 @@ module _ {Fault : Type 0} where
     -- with `NoMemory` before the first call
     pub memory : result ≡ Err NoMemory → new ≡ old
 
-  -- what a drive with a window of so many jobs does with its feed, and what it answers
+  -- what a drive with a window of this number of jobs does with its feed, and what it answers
   pub record DrivesFeed {F : Type 0} (shown : F → FeedView Fault) (Leads : F → F → Type 0) (window : ℕ) (old new : F)
       (result : Result Report (DriveFault Fault)) : Type 0 where
     -- however it ends

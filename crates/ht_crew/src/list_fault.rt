@@ -6,5 +6,6 @@ use thiserror::Error;
 #[derive(Clone, Copy, Debug, PartialEq, Eq, Error)]
 #[error("call {call} was to fail")]
 pub struct ListFault {
+    /// The number of the call.
     pub call: u64,
 }

@@ -1,12 +1,10 @@
 //! The drive with threads.
-ghost use Rattle.std.specs.Prelude.{◌≡◌, ◌≤◌, List, Some, IfOk, IfSome, IsSome};
-ghost use Rattle.ht_metric.specs.Jobs.{JobView};
+ghost use Rattle.std.specs.Prelude.{◌≤◌, IfOk, IfSome};
 ghost use Rattle.ht_feed.specs.Limits.{IsCrewSize, IsWindowSize};
-ghost use Rattle.ht_feed.specs.OwnNumbers.{AreTold};
-ghost use Rattle.ht_drive.specs.Reports.{HasRunAlone, HasRunInPool};
+ghost use Rattle.ht_drive.specs.Reports.{HasRunJobs};
 ghost use Rattle.ht_crew.specs.Drives.{DrivesFeed};
 ghost use Rattle.ht_crew.specs.Feeds.{IsFreshFeed};
-ghost use Rattle.ht_crew.specs.Reports.{HasDelivered, jobs_pushed};
+ghost use Rattle.ht_crew.specs.Reports.{HasDelivered};
 
 use crate::detect::Detect;
 use crate::drive_fault::DriveFault;
@@ -44,12 +42,8 @@ pub fn drive<R: Threads + Wait + Sync, F: Feed, G: Gate + Sync>(
     ensures drives { DrivesFeed F.shown F.leads window feed.old feed.new result }
 
     // What the workers did.
-    ensures alone { workers ≡ 1 → IfOk result HasRunAlone }
-    ensures passes { 2 ≤ workers → IfOk result (λ report. IsSome report.passes) }
-    ensures ran { 2 ≤ workers → IfOk result (λ report. IfSome report.passes (HasRunInPool workers window report)) }
+    ensures ran { IfOk result (HasRunJobs workers window (F.shown feed.old).left) }
     ensures delivered { 2 ≤ workers → IfOk result (λ report. IfSome report.passes HasDelivered) }
-    ensures by_number { (jobs : List JobView) → (F.shown feed.old).left ≡ Some jobs
-        → IfOk result (λ report. IfSome report.passes (λ passes. AreTold jobs (jobs_pushed passes))) }
 {
     let mut failed = false;
     let work = Detect { gate };

@@ -21,15 +21,15 @@ use Rattle.ht_demo.specs.declared.plan.Plan.{Plan}
 abbrev pub planned : Plan → List FrameView
 planned plan = frames_drawn plan.seed plan.rate plan.length plan.frames
 
--- what symbols that are sent are captured as, through a channel that begins from the plan's seed: the octets of version 1
+-- the capture, as octets of version 1, that the plan's channel makes of sent symbols; it draws from the plan's seed on
 abbrev pub capture_for : Plan → List SymbolsView → List ℕ
 capture_for plan sent = capture_file_of 1 (captures_of plan.seed plan.noise sent)
 
--- the OFDM symbols of all frames
+-- the number of OFDM symbols of all frames
 abbrev pub all_symbols : Plan → ℕ
 all_symbols plan = plan.frames * symbols_of plan.rate plan.length
 
--- and their jobs, one for each subcarrier of each symbol
+-- the number of their jobs, one for each subcarrier of each symbol
 abbrev pub all_jobs : Plan → ℕ
 all_jobs plan = all_symbols plan * carriers_of plan.rate
 
@@ -42,17 +42,19 @@ is_outcome octets SeedZero = false
 abbrev pub matched_in : List FrameView → List FrameResult → ℕ
 matched_in frames results = count_by (λ both. is_outcome both.0.octets both.1.outcome) (zip frames results)
 
--- the sums over all frames
+-- the sum of the distances of all data jobs, over all frames
 abbrev pub data_in : List FrameResult → ℕ
 data_in results = sum_by (λ r. r.data_sum) results
 
+-- the same of the pilot jobs
 abbrev pub pilot_in : List FrameResult → ℕ
 pilot_in results = sum_by (λ r. r.pilot_sum) results
 
+-- the number of places at which a codeword differs from the detected bits, over all frames
 abbrev pub code_in : List FrameResult → ℕ
 code_in results = sum_by (λ r. r.code) results
 
--- results of at most 65535 frames, whose sums fit 128 bits
+-- results of at most 65535 frames, whose sums of distances fit 128 bits
 pub record HaveRoom (results : List FrameResult) : Type 0 where
   pub few : length results ≤ 65535
   pub data_sums : data_in results < 2 ^ 128
@@ -63,13 +65,13 @@ unfoldable pub line_of : Plan → List FrameResult → List ℕ
 line_of plan results =
     demo_text plan.frames (all_symbols plan) (all_jobs plan) (matched_in (planned plan) results) (data_in results) (pilot_in results) (code_in results)
 
--- the line of a plan: its frames are sent, and their results are those of the capture that they come to
+-- the line is a plan's: symbols are transmitted for the plan's frames, and the line tells the results of their capture
 pub record IsDemoLine (plan : Plan) (line : List ℕ) : Type 0 where
   pub sent : List SymbolsView
   pub transmitted : AreTransmitted (planned plan) sent
   pub is : line ≡ line_of plan (results_of (capture_for plan sent))
 
--- the line of a plan whose frames all come back, with nothing between what was received and what was sent
+-- the line of a plan whose frames all come back, at distance 0 and without a wrong bit
 unfoldable pub returned_line : Plan → List ℕ
 returned_line plan = demo_text plan.frames (all_symbols plan) (all_jobs plan) plan.frames 0 0 0
 
@@ -78,20 +80,20 @@ pub record Demonstrates (plan : Plan) (line : List ℕ) : Type 0 where
   pub of_plan : IsDemoLine plan line
   pub noiseless : plan.noise ≡ 0 → line ≡ returned_line plan
 
--- the frames of a capture are what frames are captured as
+-- frames of a capture are what the plan's channel makes of the symbols that are transmitted for these frames
 abbrev pub ArePassed : Plan → List FrameView → List CaptureFrame → Type 0
 ArePassed plan frames captured = (sent : List SymbolsView) × AreTransmitted frames sent × (captured ≡ captures_of plan.seed plan.noise sent)
 
--- and so are the octets of a capture
+-- the same of a capture as octets
 abbrev pub IsPassed : Plan → List FrameView → List ℕ → Type 0
 IsPassed plan frames octets = (sent : List SymbolsView) × AreTransmitted frames sent × (octets ≡ capture_for plan sent)
 
--- octets are what the frames of a plan are captured as, and their results have room
+-- what was sent for a plan: its frames, and the octets of the capture that they come to, whose sums fit
 pub record AreSent (plan : Plan) (frames : List FrameView) (octets : List ℕ) : Type 0 where
   pub of_plan : frames ≡ planned plan
   pub passed : IsPassed plan frames octets
   pub room : HaveRoom (results_of octets)
 
--- these results were received of what was sent
+-- these are the results of the capture of what was sent
 abbrev pub AreReceived : Plan → List FrameView → List FrameResult → Type 0
 AreReceived plan frames results = (octets : List ℕ) × AreSent plan frames octets × (results ≡ results_of octets)

@@ -15,7 +15,8 @@ use std::alloc::{AllocError, Global};
 use std::sync::Wait;
 use std::thread::Threads;
 
-// The line of a plan, from what was received of its frames.
+// The line of a plan, made of its frames as they were sent and of the results that were received for them. The only error is
+// lack of memory.
 fn received(
     alloc: Global,
     plan: &Plan,

@@ -3,8 +3,8 @@
 //!
 //! A [`Plan`] says which frames, at which rate, and how much noise. The frames are those of `sample_frames` of `ht_sim`,
 //! their symbols those of `transmit_all` of `ht_tx` (IEEE Std 802.11-2012, clause 20.3.11), and the capture is what
-//! `through_channel` of `ht_sim` makes of them. The channel has a generator of its own, which begins from the same seed as that of
-//! the frames. The capture is received as `ht_rx` receives any other; nothing of what was sent is known to it.
+//! `through_channel` of `ht_sim` makes of them. The channel has a random generator of its own, which begins from the same
+//! seed as that of the frames. The capture is received as `ht_rx` receives any other; nothing of what was sent is known to it.
 //!
 //! `IsDemoLine` in `specs/Demos.antt` says which line that is. A plan of eight frames of 100 octets at 20 MHz, MCS 0, from
 //! the seed 42, without noise, has the line

@@ -48,7 +48,8 @@ fn capture(alloc: Global, plan: &Plan, frames: &[Frame]) -> Result<Vec<u8>, Allo
     written(alloc, captured)
 }
 
-// The frames of a plan, and a source of the capture that they come to.
+// The frames of a plan, and a source of the capture, in version 1, that they come to behind the plan's channel. The only error
+// is lack of memory.
 pub(crate) fn send(alloc: Global, plan: &Plan) -> Result<(Vec<Frame>, SureSource), AllocError>
     requires { 1 ≤ plan.now.length }
     ensures sent { IfOk result (λ sent. AreSent plan.now sent.0.items sent.1) }

@@ -97,7 +97,7 @@ at_dropped zero xs x rest e = ap (λ (ys : List JobView). slice_get ys 0) e
 at_dropped (suc n) [] x rest e = let none : 0 ≡ length (x ∷ rest) = ap (λ (ys : List JobView). length ys) e in absurd (omega arith)
 at_dropped (suc n) (y ∷ ys) x rest e = at_dropped n ys x rest e
 
--- jobs that stand behind so many, and are numbered so
+-- jobs that stand behind this number of others, and are numbered so
 told_behind : (n : ℕ) (all jobs after : List JobView) → drop n all ≡ jobs ++ after → Numbered n jobs → AreTold all jobs
 told_behind n all [] after e numbered = tt
 told_behind n all (job ∷ jobs) after e numbered = (

@@ -45,7 +45,7 @@ pub record WindowView : Type 0 where
 abbrev pub window_view : ℕ → List (List JobView) → WindowView
 window_view capacity due = record { capacity = capacity; due = due }
 
--- what holds of every window with this number of slots, of which so many jobs were counted
+-- what holds of every window with this number of slots, whose jobs are counted in `held`
 pub record IsWindow (places held : ℕ) (w : WindowView) : Type 0 where
   pub held_is : held ≡ count_in w.due
   pub room : held ≤ w.capacity

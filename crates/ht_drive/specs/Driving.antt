@@ -57,7 +57,7 @@ module _ {Fault : Type 0} where
     pub by_number : (all : List JobView) → old.left ≡ Some all → AreTold all (all_in helm.given)
     pub settled : IsSettled helm
 
-  -- a caller leads the blocks of a feed through a window of so many jobs and its end of a pool, and answers this
+  -- a caller leads the blocks of a feed through a window of this number of jobs and its end of a pool, and answers this
   pub record LeadsBlocks {F : Type 0} (shown : F → FeedView Fault) (Leads : F → F → Type 0) (MayLack : Type 0) (window : ℕ) (old new : F)
       (before after : BlockHelm) (result : Result Tally (DriveFault Fault)) : Type 0 where
     -- however it ends

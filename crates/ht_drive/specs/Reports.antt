@@ -1,5 +1,5 @@
 -- What the workers of a drive have run.
-use Rattle.std.specs.Prelude.{◌≡◌, ◌+◌, ◌≤◌, ◌++◌, ◌∷◌, ℕ, List, [], length, map, sum, min, drop, None}
+use Rattle.std.specs.Prelude.{◌≡◌, ◌+◌, ◌≤◌, ◌++◌, ◌∷◌, ℕ, List, [], length, map, sum, min, drop, Option, None, Some, IfSome, IsSome}
 use Rattle.std.specs.List.{All, flat_map}
 use Rattle.crossbeam_queue.specs.Passes.{view}
 use Rattle.ht_metric.specs.Jobs.{JobView}
@@ -7,7 +7,7 @@ use Rattle.ht_counts.specs.Counts.{SameCounts}
 use Rattle.ht_pool.specs.Pools.{IsEmptied, moved_on, taken_on}
 use Rattle.ht_pool.specs.Through.{first_of, through}
 use Rattle.ht_pool.specs.declared.hand.Hand.{Hand}
-use Rattle.ht_feed.specs.OwnNumbers.{HaveNumbers}
+use Rattle.ht_feed.specs.OwnNumbers.{AreTold, HaveNumbers}
 use Rattle.ht_feed.specs.Dues.{NoneEmpty, all_in}
 use Rattle.ht_drive.specs.Blocks.{jobs_of}
 use Rattle.ht_drive.specs.declared.report.Passes.{Passes as PassesOf}
@@ -19,6 +19,10 @@ Report = ReportOf (List JobView) (List JobView)
 
 abbrev pub Passes : Type 0
 Passes = PassesOf (List JobView) (List JobView)
+
+-- how many jobs the feed gave, as a report says
+abbrev pub jobs_told : Report → ℕ
+jobs_told report = report.jobs
 
 -- what went through the deques
 abbrev pub deques_of : Passes → List (Hand (List JobView))
@@ -75,3 +79,14 @@ pub record HasRunInPool (workers room : ℕ) (report : Report) (passes : Passes)
   pub helped : jobs_of (came_back passes).pushed ≡ sum (drop 1 report.ran.items)
   -- and what the caller took from the queue is what was pushed on it, each block once
   pub received : SameCounts (came_back passes).taken (came_back passes).pushed
+
+-- This number of workers ran the jobs of a feed with a window of this number of jobs. `left`: the jobs to come, where they were
+-- known.
+pub record HasRunJobs (workers window : ℕ) (left : Option (List JobView)) (report : Report) : Type 0 where
+  -- one worker without a pool
+  pub alone : workers ≡ 1 → HasRunAlone report
+  -- more by a pool, of which the report has passes
+  pub passes : 2 ≤ workers → IsSome report.passes
+  pub in_pool : 2 ≤ workers → IfSome report.passes (HasRunInPool workers window report)
+  -- where the jobs to come were known, each one that was pushed is that of its number
+  pub by_number : (all : List JobView) → left ≡ Some all → IfSome report.passes (λ passes. AreTold all (all_in (blocks_pushed passes)))

@@ -1,13 +1,12 @@
 //! A whole input, whose blocks workers run, and what becomes of its hits.
-ghost use Rattle.std.specs.Prelude.{◌≡◌, ◌-◌, ◌<◌, [], Err, None, Some, true, is_some, OnOk};
+ghost use Rattle.std.specs.Prelude.{◌≡◌, ◌-◌, ◌<◌, []};
 ghost use Rattle.ht_feed.specs.Accounts.{told_by};
 ghost use Rattle.ht_feed.specs.Desks.{feed_view};
-ghost use Rattle.ht_feed.specs.Dues.{jobs_in};
 ghost use Rattle.ht_feed.specs.Feeds.{IsFreshFeed};
 ghost use Rattle.ht_feed.specs.Inputs.{TellsInput};
 ghost use Rattle.ht_feed.specs.Limits.{IsCrewSize, IsWindowSize};
 ghost use Rattle.ht_feed.specs.Reading.{IsFreshReader};
-ghost use Rattle.ht_feed.specs.Telling.{TellsBy, seen_by};
+ghost use Rattle.ht_feed.specs.Telling.{RunsDesk, seen_by};
 
 use crate::report::Report;
 use crate::task::{Done, Task};
@@ -41,7 +40,7 @@ fn run_desk<
     A: Account<R>,
     W: Work<R::Block, Answer = A::Answer> + Sync,
 >(
-    by: &Crew<'_, T, W>,
+    crew: &Crew<'_, T, W>,
     desk: &mut D,
     source: &mut S,
     account: &mut A,
@@ -50,22 +49,23 @@ fn run_desk<
 where
     R::Block: Shared + Send + Sync,
     A::Answer: Send + Sync,
-    requires crew { IsCrewSize by.now.workers }
-    requires window { IsWindowSize by.now.window }
+    requires crew { IsCrewSize crew.now.workers }
+    requires window { IsWindowSize crew.now.window }
     requires fresh { IsFreshFeed (feed_view R.counts (D.seen desk.old) failed.old) }
-    ensures tells { TellsBy failed.old failed.new
-        (seen_by R.means R.at (D.seen desk.old) (S.shown source.old) (told_by A.shown A.pieces A.waits account.old))
-        (seen_by R.means R.at (D.seen desk.new) (S.shown source.new) (told_by A.shown A.pieces A.waits account.new)) }
-    ensures ended { OnOk result (is_some (D.seen desk.new).stop ≡ true) }
-    ensures taken { OnOk result (jobs_in (D.seen desk.new).due ≡ []) }
-    ensures well { OnOk result (failed.new ≡ None) }
-    ensures fault { (fault : BookFault) → result ≡ Err (DriveFault.Feed fault) → failed.new ≡ Some fault }
-    ensures memory { result ≡ Err DriveFault.NoMemory → failed.new ≡ None }
-    ensures work { result ≡ Err DriveFault.Work → failed.new ≡ None }
+    ensures runs { RunsDesk (seen_by R.means R.at (D.seen desk.old) (S.shown source.old) (told_by A.shown A.pieces A.waits account.old))
+        (seen_by R.means R.at (D.seen desk.new) (S.shown source.new) (told_by A.shown A.pieces A.waits account.new))
+        (D.seen desk.new) failed.old failed.new result }
     ensures same { A.lent account.new ≡ A.lent account.old }
 {
     let mut feed = DeskFeed::new(desk, source, account, failed);
-    drive(by.rt, by.alloc, by.workers, by.window, by.work, &mut feed)
+    drive(
+        crew.rt,
+        crew.alloc,
+        crew.workers,
+        crew.window,
+        crew.work,
+        &mut feed,
+    )
 }
 
 /// Does as [`tell_alone`](ht_feed::tell_alone), and the blocks are run by 1 to 64 workers, of which the caller is one.
@@ -100,7 +100,7 @@ where
         (A.lent account.old) (A.lent account.new) result }
 {
     let mut desk = Desk::new(alloc, reader, head, window)?;
-    let by = Crew {
+    let crew = Crew {
         rt,
         alloc,
         workers,
@@ -108,6 +108,6 @@ where
         work,
     };
     let mut failed = None;
-    let driven = run_desk(&by, &mut desk, source, account, &mut failed);
+    let driven = run_desk(&crew, &mut desk, source, account, &mut failed);
     end_of(&desk, driven)
 }

@@ -1,19 +1,15 @@
 //! The drive of a feed of blocks.
-ghost use Rattle.std.specs.Prelude.{◌≡◌, ◌⊎◌, ◌+◌, ◌-◌, ◌<◌, ◌≤◌, [], List, length, map};
-ghost use Rattle.std.specs.Prelude.{Some, IfErr, IfOk, IfSome, IsSome, OnOk};
+ghost use Rattle.std.specs.Prelude.{◌≡◌, ◌⊎◌, ◌+◌, ◌-◌, ◌<◌, ◌≤◌, [], length, map, IfOk, IfSome, IsSome};
 ghost use Rattle.std.specs.List.{All};
-ghost use Rattle.ht_metric.specs.Jobs.{JobView};
 ghost use Rattle.ht_feed.specs.Limits.{IsCrewSize, IsWindowSize};
-ghost use Rattle.ht_feed.specs.OwnNumbers.{AreTold};
-ghost use Rattle.ht_feed.specs.Dues.{all_in};
-ghost use Rattle.ht_feed.specs.Drives.{IsThrough, LeavesInTurn, RefusesBy};
+ghost use Rattle.ht_feed.specs.Drives.{DrivesBlocks};
 ghost use Rattle.ht_feed.specs.Feeds.{IsFreshFeed};
 ghost use Rattle.ht_pool.specs.Helms.{IsSettled};
 ghost use Rattle.ht_pool.specs.Members.{HasServed, berth_of, berths};
 ghost use Rattle.ht_pool.specs.Pools.{IsOpened, IsVacant};
 ghost use Rattle.ht_drive.specs.Blocks.{jobs_in, task_of};
-ghost use Rattle.ht_drive.specs.Driving.{Refuses, Tallies};
-ghost use Rattle.ht_drive.specs.Reports.{HasRunAlone, HasRunInPool, blocks_pushed};
+ghost use Rattle.ht_drive.specs.Driving.{Tallies};
+ghost use Rattle.ht_drive.specs.Reports.{HasRunInPool, HasRunJobs, blocks_pushed, jobs_told};
 
 use crate::helm::BlockHelm;
 use crate::lead::lead;
@@ -63,23 +59,10 @@ where
     requires crew { IsCrewSize workers }
     requires window { IsWindowSize window }
     requires fresh { IsFreshFeed (F.shown feed.old) }
-
-    // However it ends.
-    ensures leaves { LeavesInTurn F.shown F.leads window feed.old feed.new }
-
-    // When the feed has ended, every block was run and taken, and no call failed.
-    ensures through { OnOk result (IsThrough (F.shown feed.new)) }
-    ensures jobs { IfOk result (λ report. report.jobs ≡ (F.shown feed.new).count) }
+    ensures drives { DrivesBlocks F.shown F.leads (F.Answer.may_lack ⊎ F.Block.may_lack) jobs_told window feed.old feed.new result }
 
     // What the workers did.
-    ensures alone { workers ≡ 1 → IfOk result HasRunAlone }
-    ensures passes { 2 ≤ workers → IfOk result (λ report. IsSome report.passes) }
-    ensures ran { 2 ≤ workers → IfOk result (λ report. IfSome report.passes (HasRunInPool workers window report)) }
-    ensures by_number { (all : List JobView) → (F.shown feed.old).left ≡ Some all
-        → IfOk result (λ report. IfSome report.passes (λ passes. AreTold all (all_in (blocks_pushed passes)))) }
-
-    // What it refuses with.
-    ensures refuses { RefusesBy F.shown (F.Answer.may_lack ⊎ F.Block.may_lack) feed.old feed.new result }
+    ensures ran { IfOk result (HasRunJobs workers window (F.shown feed.old).left) }
 {
     if workers == 1 {
         return match drive_alone(window, work, feed) {
@@ -118,18 +101,12 @@ fn in_pool<
     feed: &mut F,
 ) -> Result<Report<Task<B>, Done<B, A>>, DriveFault<E>>
     requires opened { IsOpened window.capacity pool }
+    requires several { 2 ≤ length pool.post.deques }
     requires capacity { window.capacity ≤ 4096 }
     requires empty { window.due ≡ [] }
     requires fresh { IsFreshFeed (F.shown feed.old) }
-
-    ensures leaves { LeavesInTurn F.shown F.leads window.capacity feed.old feed.new }
-    ensures through { OnOk result (IsThrough (F.shown feed.new)) }
-    ensures jobs { IfOk result (λ report. report.jobs ≡ (F.shown feed.new).count) }
-    ensures passes { IfOk result (λ report. IsSome report.passes) }
-    ensures ran { IfOk result (λ report. IfSome report.passes (HasRunInPool (length pool.post.deques) window.capacity report)) }
-    ensures by_number { (all : List JobView) → (F.shown feed.old).left ≡ Some all
-        → IfOk result (λ report. IfSome report.passes (λ passes. AreTold all (all_in (blocks_pushed passes)))) }
-    ensures refuses { IfErr result (Refuses (A.may_lack ⊎ B.may_lack) (F.shown feed.new)) }
+    ensures drives { DrivesBlocks F.shown F.leads (A.may_lack ⊎ B.may_lack) jobs_told window.capacity feed.old feed.new result }
+    ensures ran { IfOk result (HasRunJobs (length pool.post.deques) window.capacity (F.shown feed.old).left) }
 {
     let Pool {
         shared,

@@ -22,7 +22,7 @@ use Rattle.ht_feed.specs.Dues.{all_due, jobs_in}
 use Rattle.ht_feed.specs.Desks.{DeskView, desk_view}
 use Rattle.ht_feed.specs.Reading.{ClosesBehind, ReadsBy, view}
 use Rattle.ht_feed.specs.Stops.{ended_at, ended_by, failed_by, fault_of}
-use Rattle.ht_feed.specs.Telling.{Seen, Tells, TellsBy, TellsPart, seen_by}
+use Rattle.ht_feed.specs.Telling.{RunsDesk, Seen, Tells, TellsBy, TellsPart, seen_by}
 use Rattle.ht_feed.specs.Inputs.{TellsInput}
 use Rattle.ht_feed.specs.Outcomes.{Comes, StopsBy, TellsPieces, TellsTo, pieces_of}
 use Rattle.ht_feed.proofs.Ending.{broken, in_part, refused, told_nothing, whole}
@@ -41,6 +41,20 @@ pieces_put {P = P} old new taken put first none =
 none_failed : {X : Type 0} (driven : Result X (DriveFault BookFault)) → OnOk driven (failed_by driven ≡ None)
 none_failed (Ok done) = refl
 none_failed (Err fault) = tt
+
+-- what a drive says that answers what failed
+pub runs_so : {R H P X : Type 0} {before after : Seen H P} {desk : DeskView R H} (driven : Result X (DriveFault BookFault))
+    → TellsBy None (failed_by driven) before after → OnOk driven (is_some desk.stop ≡ true) → OnOk driven (jobs_in desk.due ≡ [])
+    → RunsDesk before after desk None (failed_by driven) driven
+runs_so {X = X} driven tells ended none = record {
+  tells = tells;
+  ended = ended;
+  taken = none;
+  well = none_failed driven;
+  fault = λ fault is. ap (λ (r : Result X (DriveFault BookFault)). failed_by r) is;
+  memory = λ is. ap (λ (r : Result X (DriveFault BookFault)). failed_by r) is;
+  work = λ is. ap (λ (r : Result X (DriveFault BookFault)). failed_by r) is;
+}
 
 -- readers of R mean this and are here
 module _ {R H P : Type 0} (means : R → List ℕ → Meaning (Item H)) (at : R → ℕ) (reader : R) (head : H) (source source' : Device ℕ) (a b : Telling H P) where
@@ -112,33 +126,9 @@ module _ {R H P : Type 0} (means : R → List ℕ → Meaning (Item H)) (at : R 
     stops_as Failed part = (part_told Failed part, part.cause refl)
     stops_as NoMemory part = part_told NoMemory part
 
-    -- what a drive says of a feed over a new desk
-    pub record Heard {X : Type 0} (failed : Option BookFault) (driven : Result X (DriveFault BookFault)) : Type 0 where
-      pub leads : TellsBy None failed first last
-      pub ended : OnOk driven (is_some new.stop ≡ true)
-      pub taken : OnOk driven (jobs_in new.due ≡ [])
-      pub well : OnOk driven (failed ≡ None)
-      pub fault : (fault : BookFault) → driven ≡ Err (Feed fault) → failed ≡ Some fault
-      pub lacking : driven ≡ Err DriveMemory → failed ≡ None
-      pub worked : driven ≡ Err Work → failed ≡ None
-
-    none_due : {X : Type 0} (driven : Result X (DriveFault BookFault)) → OnOk driven (new.due ≡ []) → OnOk driven (jobs_in new.due ≡ [])
-    none_due (Ok done) none = ap jobs_in none
-    none_due (Err fault) none = tt
-
-    -- what a drive says that answers what failed
-    pub driven_so : {X : Type 0} (driven : Result X (DriveFault BookFault)) → TellsBy None (failed_by driven) first last → OnOk driven (is_some new.stop ≡ true)
-        → OnOk driven (new.due ≡ []) → Heard (failed_by driven) driven
-    driven_so {X = X} driven leads ended none =
-        record {
-          leads = leads;
-          ended = ended;
-          taken = none_due driven none;
-          well = none_failed driven;
-          fault = λ fault is. ap (λ (r : Result X (DriveFault BookFault)). failed_by r) is;
-          lacking = λ is. ap (λ (r : Result X (DriveFault BookFault)). failed_by r) is;
-          worked = λ is. ap (λ (r : Result X (DriveFault BookFault)). failed_by r) is;
-        }
+    -- what a drive says of a new desk
+    abbrev pub Heard : {X : Type 0} → Option BookFault → Result X (DriveFault BookFault) → Type 0
+    Heard failed driven = RunsDesk first last new None failed driven
 
     -- where memory lacked before all was read, a part was put
     told_in_part : Tells first last → TellsPieces start pieces source' a.device b.device
@@ -165,11 +155,11 @@ module _ {R H P : Type 0} (means : R → List ℕ → Meaning (Item H)) (at : R 
     -- where the answer isn't Write the account's device never failed
     steady_by : {X : Type 0} (failed : Option BookFault) (driven : Result X (DriveFault BookFault)) → Heard failed driven
         → ended_by new.stop new.frames new.count driven ≢ Err Write → b.device.faults ≡ a.device.faults
-    steady_by failed (Ok done) h other = (told_well failed h.well h.leads).steady
+    steady_by failed (Ok done) h other = (told_well failed h.well h.tells).steady
     steady_by failed (Err (Feed Failed)) h other = absurd (other refl)
-    steady_by failed (Err (Feed NoMemory)) h other = (told_ill failed NoMemory (h.fault NoMemory refl) h.leads).steady refl
-    steady_by failed (Err DriveMemory) h other = (told_well failed (h.lacking refl) h.leads).steady
-    steady_by failed (Err Work) h other = (told_well failed (h.worked refl) h.leads).steady
+    steady_by failed (Err (Feed NoMemory)) h other = (told_ill failed NoMemory (h.fault NoMemory refl) h.tells).steady refl
+    steady_by failed (Err DriveMemory) h other = (told_well failed (h.memory refl) h.tells).steady
+    steady_by failed (Err Work) h other = (told_well failed (h.work refl) h.tells).steady
 
     pub steady : {X : Type 0} (failed : Option BookFault) (driven : Result X (DriveFault BookFault)) (result : Result Ended StopFault)
         → Heard failed driven → result ≡ ended_by new.stop new.frames new.count driven → result ≢ Err Write → b.device.faults ≡ a.device.faults
@@ -178,10 +168,10 @@ module _ {R H P : Type 0} (means : R → List ℕ → Meaning (Item H)) (at : R 
     heard_by : {X : Type 0} (failed : Option BookFault) (driven : Result X (DriveFault BookFault)) → Heard failed driven → a.Waits [] → (b.Waits [] → b.pieces [] ≡ [])
         → Came (ended_by new.stop new.frames new.count driven)
     heard_by failed (Ok done) h rests nothing =
-        ends (told_well failed h.well h.leads) (ap all_due (none_in new.due h.taken)) rests nothing new.stop refl h.ended
-    heard_by failed (Err (Feed fault)) h rests nothing = stops_as fault (told_ill failed fault (h.fault fault refl) h.leads)
-    heard_by failed (Err DriveMemory) h rests nothing = told_in_part (told_well failed (h.lacking refl) h.leads)
-    heard_by failed (Err Work) h rests nothing = told_in_part (told_well failed (h.worked refl) h.leads)
+        ends (told_well failed h.well h.tells) (ap all_due (none_in new.due h.taken)) rests nothing new.stop refl h.ended
+    heard_by failed (Err (Feed fault)) h rests nothing = stops_as fault (told_ill failed fault (h.fault fault refl) h.tells)
+    heard_by failed (Err DriveMemory) h rests nothing = told_in_part (told_well failed (h.memory refl) h.tells)
+    heard_by failed (Err Work) h rests nothing = told_in_part (told_well failed (h.work refl) h.tells)
 
     -- the end of the reading, as its drive and its desk tell it
     pub heard : {X : Type 0} (failed : Option BookFault) (driven : Result X (DriveFault BookFault)) (result : Result Ended StopFault)
@@ -218,7 +208,7 @@ module _ {R H P : Type 0} {means : R → List ℕ → Meaning (Item H)} {at : R 
   told_input {X} {source} {source'} {a} {b} {new} {failed} {driven} {lent} {lent'} {result} h rests nothing is same = record {
     tells = heard means at reader head source source' a b new failed driven result h rests nothing is;
     writes = steady means at reader head source source' a b new failed driven result h is;
-    reads_later = reads_later means at reader head source source' a b new failed h.leads;
-    puts_later = puts_later means at reader head source source' a b new failed h.leads;
+    reads_later = reads_later means at reader head source source' a b new failed h.tells;
+    puts_later = puts_later means at reader head source source' a b new failed h.tells;
     same = same;
   }

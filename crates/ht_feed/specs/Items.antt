@@ -14,6 +14,7 @@ pub record Headed (H : Type 0) : Type 0 where
   pub job : JobView
 
 module _ {H : Type 0} where
+  -- this job, of a frame with this head
   abbrev pub headed_of : H → JobView → Headed H
   headed_of head job = record { head = head; job = job }
 

@@ -23,7 +23,7 @@ pub record Counts : Type 0 where
   pub more : ℕ
   pub going : Bool
 
--- a reader that gave nothing yet, can be asked, and never gives more than fit a counter
+-- a reader that has given no job yet, can be asked for more, and gives fewer than 2^64 - 1 heads and jobs in all
 pub record IsFreshReader (counts : Counts) : Type 0 where
   pub going : counts.going ≡ true
   pub fresh : counts.given ≡ 0
@@ -63,6 +63,7 @@ module _ {H B : Type 0} (jobs : B → List JobView) where
   GivesCame old new (Block block) = Gives old new (map One (jobs block))
   GivesCame old new End = Completes old new.source
 
+  -- what the counts of a reader are behind what came
   abbrev pub CountsCame : ℕ → Counts → Counts → Came H B → Type 0
   CountsCame most old new (Head head) = CountsHead old new
   CountsCame most old new (Block block) = CountsBlock most old new (jobs block)
@@ -100,6 +101,7 @@ ReadsBy None (Some stop) old new items = ClosesBehind old new.source items stop
 ReadsBy (Some stop) None old new items = ⊥
 ReadsBy (Some stop) (Some other) old new items = (stop ≡ other) × (items ≡ []) × (old.source ≡ new.source)
 
+-- the same of a standing and a later one
 abbrev pub ReadsOn : {I : Type 0} → Standing I → Standing I → List I → Type 0
 ReadsOn old new items = ReadsBy old.stop new.stop old.reader new.reader items
 
@@ -108,6 +110,7 @@ pub record Begun (H : Type 0) : Type 0 where
   pub head : H
   pub frames : ℕ
 
+-- this head came last, of this number of heads
 abbrev pub begun : {H : Type 0} → H → ℕ → Begun H
 begun head frames = record { head = head; frames = frames }
 

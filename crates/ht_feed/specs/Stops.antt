@@ -24,6 +24,12 @@ abbrev pub fault_of : BookFault → StopFault
 fault_of BookFailed = StopWrite
 fault_of BookMemory = StopMemory
 
+-- why a run ends where its drive ended so
+abbrev pub stop_fault_of : DriveFault BookFault → StopFault
+stop_fault_of (Feed fault) = fault_of fault
+stop_fault_of DriveMemory = StopMemory
+stop_fault_of Work = StopMemory
+
 -- how the reading ended that stopped so, behind this number of frames and of jobs; it has always stopped
 abbrev pub ended_at : Option Stop → ℕ → ℕ → Result Ended StopFault
 ended_at (Some Whole) frames jobs = Ok (Done frames jobs)
@@ -35,9 +41,7 @@ ended_at None frames jobs = Err StopRead
 -- how it ended, where its drive answered this
 abbrev pub ended_by : {X : Type 0} → Option Stop → ℕ → ℕ → Result X (DriveFault BookFault) → Result Ended StopFault
 ended_by stop frames jobs (Ok done) = ended_at stop frames jobs
-ended_by stop frames jobs (Err (Feed fault)) = Err (fault_of fault)
-ended_by stop frames jobs (Err DriveMemory) = Err StopMemory
-ended_by stop frames jobs (Err Work) = Err StopMemory
+ended_by stop frames jobs (Err fault) = Err (stop_fault_of fault)
 
 -- what a call of the desk or of its account failed with, where the drive answered this
 abbrev pub failed_by : {X : Type 0} → Result X (DriveFault BookFault) → Option BookFault

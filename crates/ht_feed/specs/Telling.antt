@@ -1,11 +1,13 @@
 -- What a desk between a source and an account does: what was read, which hits were taken, and what was put of them.
-use Rattle.std.specs.Prelude.{◌≡◌, ℕ, ◌+◌, List, ◌++◌, Option, None, Some, length}
+use Rattle.std.specs.Prelude.{◌≡◌, ℕ, ◌+◌, List, [], ◌++◌, Option, None, Some, is_some, true, length, Result, Err, OnOk}
 use Rattle.ht_io.specs.Devices.{Device, Grows, Rose, IsLater}
 use Rattle.ht_fields.specs.Meanings.{Meaning}
 use Rattle.ht_feed.specs.declared.book_fault.BookFault.{BookFault}
 use Rattle.ht_feed.specs.declared.book_fault.BookFault.TheVariants.{Failed, NoMemory}
+use Rattle.ht_feed.specs.declared.drive.DriveFault.{DriveFault}
+use Rattle.ht_feed.specs.declared.drive.DriveFault.TheVariants.{Feed, NoMemory as DriveMemory, Work}
 use Rattle.ht_feed.specs.Items.{Item, Headed, headed, last_head, frames_of, jobs_of}
-use Rattle.ht_feed.specs.Dues.{all_due}
+use Rattle.ht_feed.specs.Dues.{all_due, jobs_in}
 use Rattle.ht_feed.specs.Reading.{Standing, ReadsOn}
 use Rattle.ht_feed.specs.Accounts.{PutsFirst, PutsPartOf, Telling}
 use Rattle.ht_feed.specs.Desks.{DeskView, standing}
@@ -74,3 +76,21 @@ module _ {H P : Type 0} where
   TellsBy None (Some fault) old new = TellsPart old new fault
   TellsBy (Some fault) None old new = ⊥
   TellsBy (Some fault) (Some other) old new = (fault ≡ other) × RestsThen old new
+
+-- What running the blocks of a desk does: what is seen of the desk between its devices, before and after; the desk afterwards;
+-- the fault of the call that failed, of the desk or of its account, if one did, before and after; and the drive's answer.
+pub record RunsDesk {R H P T : Type 0} (before after : Seen H P) (desk : DeskView R H) (failed failed' : Option BookFault)
+    (driven : Result T (DriveFault BookFault)) : Type 0 where
+  -- what was read and put
+  pub tells : TellsBy failed failed' before after
+  -- where all went well, the reading has stopped
+  pub ended : OnOk driven (is_some desk.stop ≡ true)
+  -- the answer to each block was taken
+  pub taken : OnOk driven (jobs_in desk.due ≡ [])
+  -- and no call failed
+  pub well : OnOk driven (failed' ≡ None)
+  -- a fault is what a call failed with
+  pub fault : (fault : BookFault) → driven ≡ Err (Feed fault) → failed' ≡ Some fault
+  -- and where there was no memory, for the drive or for a block, no call failed
+  pub memory : driven ≡ Err DriveMemory → failed' ≡ None
+  pub work : driven ≡ Err Work → failed' ≡ None

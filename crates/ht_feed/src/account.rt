@@ -27,7 +27,7 @@ pub trait Account<R: BlockReader> {
     ghost shown: { Self → Device Self.Piece };
 
     /// Which borrows lead to that device; none where the account owns it.
-    ghost lent: { Self → List ℕ } = { λ account. [] };
+    ghost lent: { Self → List ℕ };
 
     /// What is put in all if the hits of exactly these jobs still come.
     ghost pieces: { Self → List (Headed R.Head) → List Self.Piece };

@@ -1,12 +1,14 @@
 //! The drive of a feed of blocks without threads.
-ghost use Rattle.std.specs.Prelude.{◌≡◌, IfOk, OnOk};
-ghost use Rattle.ht_feed.specs.Drives.{IsThrough, LeavesInTurn, RefusesBy};
+ghost use Rattle.std.specs.Prelude.{◌≡◌};
+ghost use Rattle.ht_feed.specs.Drives.{DrivesBlocks};
 ghost use Rattle.ht_feed.specs.Feeds.{IsFreshFeed};
 ghost use Rattle.ht_feed.specs.Limits.{IsWindowSize};
 
 use crate::answer::Work;
+use crate::book_fault::BookFault;
 use crate::feed::BlockFeed;
 use crate::jobs::Jobs;
+use ht_runs::StopFault;
 use thiserror::Error;
 
 /// Why a drive ended before its feed did.
@@ -23,6 +25,19 @@ pub enum DriveFault<F> {
     Work,
 }
 
+impl From<DriveFault<BookFault>> for StopFault {
+    ghost use Rattle.ht_feed.specs.Stops.{stop_fault_of};
+
+    ghost from_gives = { λ fault stop. stop ≡ stop_fault_of fault };
+
+    fn from(fault: DriveFault<BookFault>) -> StopFault {
+        match fault {
+            DriveFault::Feed(fault) => StopFault::from(fault),
+            DriveFault::NoMemory | DriveFault::Work => StopFault::NoMemory,
+        }
+    }
+}
+
 /// Runs all blocks of a feed, in this thread, and hands it their answers in the order of the blocks. It answers how
 /// many jobs the feed gave.
 ///
@@ -36,16 +51,7 @@ pub fn drive_alone<F: BlockFeed, W: Work<F::Block, Answer = F::Answer>>(
 ) -> Result<u64, DriveFault<F::Fault>>
     requires window { IsWindowSize window }
     requires fresh { IsFreshFeed (F.shown feed.old) }
-
-    // However it ends.
-    ensures leaves { LeavesInTurn F.shown F.leads window feed.old feed.new }
-
-    // When the feed has ended, every block was run and taken, and no call failed.
-    ensures through { OnOk result (IsThrough (F.shown feed.new)) }
-    ensures jobs { IfOk result (λ jobs. jobs ≡ (F.shown feed.new).count) }
-
-    // What it refuses with.
-    ensures refuses { RefusesBy F.shown F.Answer.may_lack feed.old feed.new result }
+    ensures { DrivesBlocks F.shown F.leads F.Answer.may_lack (λ jobs. jobs) window feed.old feed.new result }
 {
     let mut jobs = 0u64;
     loop {

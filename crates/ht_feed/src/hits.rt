@@ -26,6 +26,7 @@ impl Answer for Hits {
 }
 
 // What is found for a job, with the steps of a counter of its own.
+#[inline(always)]
 fn detect_by<L: Ledger>(job: &Job, blank: Blank) -> Found
     requires name { blank.name ≡ L.name }
     requires parts { blank.parts ≡ L.parts }
@@ -38,7 +39,8 @@ fn detect_by<L: Ledger>(job: &Job, blank: Blank) -> Found
 }
 
 /// What is found for a job: its first nearest vector, with that vector's distance.
-#[inline]
+// As a call it cost some 30 instructions a job, and the copy of its result stalled on the writes before it.
+#[inline(always)]
 pub fn detect(job: &Job) -> Found
     ensures found { result ≡ near job.now }
     ensures below { result.distance < 2 ^ 66 }

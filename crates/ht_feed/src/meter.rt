@@ -1,5 +1,5 @@
 //! An account that puts how far hits are.
-ghost use Rattle.std.specs.Prelude.{◌≡◌, map, refl, IfOk};
+ghost use Rattle.std.specs.Prelude.{◌≡◌, [], map, refl, IfOk};
 ghost use Rattle.ht_feed.specs.Meters.{octet_of, octets_of};
 
 use crate::account::Account;
@@ -46,6 +46,8 @@ impl<R: BlockReader, K: Sink> Account<R> for Meter<K> {
     type Answer = Hits;
 
     ghost shown = { λ m. K.shown m.sink };
+
+    ghost lent = { λ m. [] };
 
     ghost pieces = { λ m jobs. octets_of jobs };
 

@@ -5,7 +5,7 @@ ghost use Rattle.ht_feed.specs.Inputs.{TellsInput};
 ghost use Rattle.ht_feed.specs.Limits.{IsWindowSize};
 ghost use Rattle.ht_feed.specs.Reading.{IsFreshReader};
 ghost use Rattle.ht_feed.specs.Stops.{ended_by, failed_by};
-ghost use Rattle.ht_feed.specs.Telling.{TellsBy, seen_by};
+ghost use Rattle.ht_feed.specs.Telling.{RunsDesk, seen_by};
 
 use crate::account::Account;
 use crate::answer::Work;
@@ -28,10 +28,8 @@ pub fn end_of<R: BlockReader + Drop, T: Drop>(
     requires stopped { OnOk driven (is_some desk.now.stop ≡ true) }
     ensures { result ≡ ended_by desk.now.stop desk.now.frames desk.now.count driven }
 {
-    match driven {
-        Ok(_) => {}
-        Err(DriveFault::Feed(fault)) => return Err(fault.into()),
-        Err(DriveFault::NoMemory | DriveFault::Work) => return Err(StopFault::NoMemory),
+    if let Err(fault) = driven {
+        return Err(StopFault::from(fault));
     }
     match desk.stop() {
         Some(Stop::Whole) => Ok(Ended::Done {
@@ -56,11 +54,8 @@ fn run_desk<R: BlockReader + Drop, S: Source, A: Account<R>, W: Work<R::Block, A
     requires window { IsWindowSize window }
     requires going { desk.old.stop ≡ None }
     requires none { desk.old.due ≡ [] }
-    ensures tells { TellsBy None (failed_by result)
-        (seen_by R.means R.at desk.old (S.shown source.old) (told_by A.shown A.pieces A.waits account.old))
-        (seen_by R.means R.at desk.new (S.shown source.new) (told_by A.shown A.pieces A.waits account.new)) }
-    ensures ended { OnOk result (is_some desk.new.stop ≡ true) }
-    ensures taken { OnOk result (desk.new.due ≡ []) }
+    ensures runs { RunsDesk (seen_by R.means R.at desk.old (S.shown source.old) (told_by A.shown A.pieces A.waits account.old))
+        (seen_by R.means R.at desk.new (S.shown source.new) (told_by A.shown A.pieces A.waits account.new)) desk.new None (failed_by result) result }
     ensures same { A.lent account.new ≡ A.lent account.old }
 {
     loop {

@@ -1,6 +1,6 @@
 -- Octets that are taken or put one after another.
 use Rattle.std.proofs.Common.{◌≡◌, ℕ, ◌+◌, ◌<◌, List, ◌++◌, length, take, drop, get_or, flat_map}
-use Rattle.std.proofs.Common.{Option, Result, Ok, Err, OnErr, sym, ap, subst, ◌∙◌, append_assoc}
+use Rattle.std.proofs.Common.{Option, Result, Ok, Err, OnOk, OnErr, sym, ap, subst, ◌∙◌, append_assoc}
 use Rattle.std.proofs.lemmas.List.{drop_more, take-append-drop}
 use Rattle.std.proofs.lemmas.Grind.{flat_map-append}
 use Rattle.ht_io.specs.Devices.{Device, Takes}
@@ -20,6 +20,11 @@ on_err P (Err e) p = p
 pub on_err_then : {A E : Type 0} (P Q : Type 0) (r : Result A E) → (P → Q) → OnErr r P → OnErr r Q
 on_err_then P Q (Ok x) f p = tt
 on_err_then P Q (Err e) f p = f p
+
+-- what follows, where it didn't fail
+pub on_ok_then : {A E : Type 0} (P Q : Type 0) (r : Result A E) → (P → Q) → OnOk r P → OnOk r Q
+on_ok_then P Q (Ok x) f p = f p
+on_ok_then P Q (Err e) f p = tt
 
 -- a part of the first piece
 pub part_first : (held new : Option (List ℕ)) (put piece rest whole : List ℕ) → put ≡ piece → piece ++ rest ≡ whole

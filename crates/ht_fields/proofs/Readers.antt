@@ -13,7 +13,7 @@ use Rattle.ht_fields.specs.Reading.{ReadsField}
 use Rattle.ht_fields.specs.Readers.{reader_in, Gives, Refuses, RunsOut, Finishes, IsEarly, Breaks}
 use Rattle.ht_fields.proofs.Steps.{good_field, bad_field, early_end, whole_file, trailing_octet}
 
--- a field of so many octets is due
+-- a field of this many octets is due
 abbrev pub HasWidth : {S I : Type 0} → Due S I → ℕ → Type 0
 HasWidth End width = ⊥
 HasWidth (Wants beyond judge) width = width ≡ beyond + 1

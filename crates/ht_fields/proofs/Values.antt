@@ -1,4 +1,4 @@
--- A small format, by computation: the octet 77, a count of at most 3, and so many records of two octets, the first below 4.
+-- A small format, by computation: the octet 77, a count of at most 3, and this many records of two octets, the first below 4.
 use Rattle.std.specs.Prelude.{◌≡◌, ℕ, zero, suc, List, [], ◌∷◌, Some, None, if◌then◌else◌, nat_eq, nat_lt, slice_index, refl}
 use Rattle.ht_io.specs.declared.faults.Kind.TheVariants.{BadMagic, BadCount, BadMark, Truncated, Trailing}
 use Rattle.ht_fields.specs.Grammar.{Grammar, Due, End, Good, Bad, field}

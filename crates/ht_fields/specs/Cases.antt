@@ -1,4 +1,5 @@
--- The four cases of a text: a file, a clean front of one, a file and more, or good fields and then a bad one.
+-- The four cases of a text: a file; whole good fields and then fewer octets than the next one has; a file and more; or good
+-- fields and then a bad one.
 use Rattle.std.specs.Prelude.{◌≡◌, ℕ, ◌+◌, ◌<◌, List, [], ◌∷◌, ◌++◌, length}
 use Rattle.ht_io.specs.declared.faults.Kind.{Kind}
 use Rattle.ht_fields.specs.Grammar.{Grammar, Due, End, Wants, Verdict, Good, Bad}

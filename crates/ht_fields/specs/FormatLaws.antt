@@ -10,7 +10,7 @@ pub record IsPrefixFree {S I : Type 0} (f : Grammar S I) : Type 0 where
   pub equal : (octets : List ℕ) (items others : List I) → IsFile f octets items → IsFile f octets others → items ≡ others
 
 -- good fields, wherever they lead, are followed by more good fields up to the end of some file, and octets are clean exactly
--- where they are the beginning of some file that is cut off within a field
+-- where they are the first whole fields of some file, and then fewer octets than its next field has
 pub record CleanCanEnd {S I : Type 0} (f : Grammar S I) : Type 0 where
   pub ends : CanEnd f
   pub clean : (octets : List ℕ) (items : List I) → IsClean f octets items → IsCut f octets
@@ -24,13 +24,14 @@ WritesFiles f are file = (values : List _) → are values → IsFile f (file val
 abbrev pub ReadsBack : {V : Type 0} → (List V → Type 0) → (List V → List ℕ) → Type 0
 ReadsBack are file = (values others : List _) → are values → are others → file values ≡ file others → values ≡ others
 
--- what is written of values is a file of them and of no others, and files are told apart
+-- Files give back what was written: no file is a prefix of another, and equal files have equal items; the file written of
+-- values is a file with these items; and values of which the same file is written are the same.
 pub record AreFiles {S I : Type 0} (f : Grammar S I) (are : List I → Type 0) (file : List I → List ℕ) : Type 0 where
   pub no_prefix : IsPrefixFree f
   pub written : WritesFiles f are file
   pub read_back : ReadsBack are file
 
--- each file is the one that is written of its items, and they can be written
+-- each file, a list of octets, is the one that is written of its items, and these are such that it can be written of them
 pub record WritesEach {S I : Type 0} (f : Grammar S I) (are : List I → Type 0) (file : List I → List ℕ) : Type 0 where
   pub fit : (octets : List ℕ) (items : List I) → AreBytes octets → IsFile f octets items → are items
   pub written : (octets : List ℕ) (items : List I) → AreBytes octets → IsFile f octets items → octets ≡ file items

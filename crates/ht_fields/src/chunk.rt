@@ -42,7 +42,7 @@ impl Chunk {
         self.count = 0;
     }
 
-    /// Adds octets at the end.
+    /// Adds octets at the end; the caller sees to it that no more than 4,096 come together. It takes no memory.
     pub fn add(&mut self, piece: &[u8])
         requires { length self.old + length piece.now ≤ 4096 }
         ensures { self.new ≡ self.old ++ piece.now }

@@ -9,7 +9,7 @@ use crate::read::{Field, read_field};
 use byteorder::{BigEndian, ByteOrder};
 use ht_io::{FormatFault, InFault, Kind, Source};
 
-/// The field that began there is bad.
+/// A fault of this kind, of the field whose first octet is at this offset.
 pub fn bad(kind: Kind, offset: u64) -> InFault
     ensures { result ≡ InFault.Format (record { kind = kind; offset = offset }) }
 {
@@ -17,6 +17,9 @@ pub fn bad(kind: Kind, offset: u64) -> InFault
 }
 
 /// Fills the slice with the octets of the field that is due, the first of them at offset `at`.
+///
+/// It refuses with `Truncated`, at the offset where the input ends, where fewer are left, and with `Read` where the source
+/// fails. The octets that came are taken in either case.
 pub fn fill<S: Source>(source: &mut S, at: u64, into: &mut [u8]) -> Result<(), InFault>
     requires offset { at + length into.old < 2 ^ 64 }
     ensures whole { OnOk result (Takes (S.shown source.old) (S.shown source.new) into.new) }
@@ -31,7 +34,7 @@ pub fn fill<S: Source>(source: &mut S, at: u64, into: &mut [u8]) -> Result<(), I
     }
 }
 
-/// Reads a field of one octet.
+/// Reads a field of one octet, at offset `at`. It refuses as [`fill`] does.
 pub fn octet<S: Source>(source: &mut S, at: u64) -> Result<u8, InFault>
     requires offset { at + 1 < 2 ^ 64 }
     ensures whole { IfOk result (λ x. Takes (S.shown source.old) (S.shown source.new) (x ∷ [])) }
@@ -47,7 +50,7 @@ pub fn octet<S: Source>(source: &mut S, at: u64) -> Result<u8, InFault>
     Ok(octets[0])
 }
 
-/// Reads a field of two octets.
+/// Reads a field of two octets, the first at offset `at`. It refuses as [`fill`] does.
 pub fn pair<S: Source>(source: &mut S, at: u64) -> Result<[u8; 2], InFault>
     requires offset { at + 2 < 2 ^ 64 }
     ensures whole { IfOk result (λ octets. Takes (S.shown source.old) (S.shown source.new) octets) }
@@ -59,7 +62,7 @@ pub fn pair<S: Source>(source: &mut S, at: u64) -> Result<[u8; 2], InFault>
     Ok(octets)
 }
 
-/// Reads a field that is a number of two octets, big-endian.
+/// Reads a field that is a number of two octets, big-endian, the first at offset `at`. It refuses as [`fill`] does.
 pub fn number<S: Source>(source: &mut S, at: u64) -> Result<u16, InFault>
     requires offset { at + 2 < 2 ^ 64 }
     ensures whole { IfOk result (λ n. Takes (S.shown source.old) (S.shown source.new) (big_bytes 2 n)) }
@@ -70,7 +73,8 @@ pub fn number<S: Source>(source: &mut S, at: u64) -> Result<u16, InFault>
     Ok(BigEndian::read_u16(&octets))
 }
 
-/// Reads an octet that has one value; another one is this kind of fault.
+/// Reads an octet at offset `at` that must be `wanted`; another one is taken, and is this kind of fault there. Where none comes
+/// it refuses as [`fill`] does.
 pub fn one_octet<S: Source>(source: &mut S, at: u64, wanted: u8, kind: Kind) -> Result<(), InFault>
     requires offset { at + 1 < 2 ^ 64 }
     ensures whole { OnOk result (Takes (S.shown source.old) (S.shown source.new) (wanted ∷ [])) }
@@ -84,7 +88,8 @@ pub fn one_octet<S: Source>(source: &mut S, at: u64, wanted: u8, kind: Kind) -> 
     }
 }
 
-/// Sees that the input ends at this offset.
+/// Sees that the input ends at this offset. It refuses with `Trailing` there where an octet follows, which is taken, and with
+/// `Read` where the source fails.
 pub fn end<S: Source>(source: &mut S, at: u64) -> Result<(), InFault>
     ensures ended { OnOk result (TakesAll (S.shown source.old) (S.shown source.new) []) }
     ensures further { IfErr result (GoesFurther at (S.shown source.old) (S.shown source.new)) }

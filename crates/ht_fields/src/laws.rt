@@ -89,8 +89,8 @@ pub fn clean<S, I>()
         } }
 {}
 
-/// A file that is cut within a field is clean. In a format where every good beginning can be ended, all clean octets
-/// are a file that was cut so.
+/// The first whole fields of a file, and then fewer octets than its next field has, are clean. In a format where good fields
+/// can always be continued to a file, all clean octets are of that kind.
 pub fn clean_is_cut<S, I>()
     ensures cut { (f : Grammar S I) (octets : List ℕ)
         → IsCut f octets → (items : List I) × IsClean f octets items }

@@ -94,7 +94,8 @@ fn low_front<S: Source>(
 }
 
 /// Fills the slice with fields of one octet each, of which the first is at offset `at`. None may be above `last`: the
-/// first that is above is this kind of fault, at its own offset, and is the last octet that is taken.
+/// first that is above is this kind of fault, at its own offset, and is the last octet that is taken. Else it refuses as
+/// [`octet`] does at the first that doesn't come.
 ///
 /// The octets at hand are taken many at a time.
 pub fn fill_low<S: Source>(

@@ -17,7 +17,7 @@ pub enum Field {
     Broken,
 }
 
-// Takes the octets of the whole slice from those at hand, where there are so many. Else nothing is taken.
+// Fills the whole slice from the octets at hand, where these are enough. Else nothing is taken.
 fn take_at_hand<S: Source>(source: &mut S, into: &mut [u8]) -> bool
     ensures taken { MatchBool result (Takes (S.shown source.old) (S.shown source.new) into.new) (source.new ≡ source.old) }
     ensures later { IsLater (S.shown source.old) (S.shown source.new) }

@@ -152,7 +152,7 @@ fn short(rt: HostRuntime) -> Result<(), Fail> {
     Ok(())
 }
 
-/// Holds that a capture that is cut off here is truncated, behind so many items.
+/// Asserts that a capture that is cut off here is Truncated, and gives this number of items before.
 fn is_truncated(
     rt: &impl Abort,
     alloc: Global,
@@ -215,7 +215,7 @@ fn agree(alloc: Global, mut one: MemSource, mut other: MemSource) -> Result<bool
     Ok(false)
 }
 
-// Holds that these cuts change nothing.
+// Asserts that these cuts change nothing.
 fn cut(rt: &impl Abort, alloc: Global, octets: &[u8], cuts: &[u64]) -> Result<(), Fail> {
     let whole = source(alloc, octets, &[], &[])?;
     let pieces = source(alloc, octets, cuts, &[])?;

@@ -108,7 +108,7 @@ fn again(alloc: Global, octets: &[u8], version: u8) -> Result<Option<Vec<u8>>, A
     Ok(Some(sink.into_held()))
 }
 
-/// Holds that of a capture this is put in the version.
+/// Asserts that of a capture this is put in the version.
 fn gives(
     rt: &impl Abort,
     alloc: Global,
@@ -162,7 +162,7 @@ fn sinks(rt: HostRuntime) -> Result<(), Fail> {
     Ok(())
 }
 
-/// Holds that a capture is refused, where its source fails in front of some octets.
+/// Asserts that a capture is refused, where its source fails in front of some octets.
 fn refuses(
     rt: &impl Abort,
     alloc: Global,

@@ -2,8 +2,9 @@
 //! open and `x` where it is cut.
 use crate::common::{source, spoiled};
 use crate::equal::equal;
-use ht_check::{CertFault, check_file};
+use ht_check::check_file;
 use ht_io::{FormatFault, Kind, MemSink};
+use ht_runs::RunFault;
 use std::alloc::{AllocError, Global};
 use std::process::Abort;
 use std::test::Fail;
@@ -60,13 +61,13 @@ fn lines(alloc: Global, count: usize) -> Result<String, AllocError> {
     Ok(text)
 }
 
-// Holds what checking these octets answers, and what it puts, where source and sink fail in front of some octets.
+// Asserts what checking these octets answers, and what it puts, where source and sink fail in front of some octets.
 fn checks(
     rt: &impl Abort,
     alloc: Global,
     octets: &[u8],
     (source_fails, sink_fails): (&[u64], Option<u64>),
-    answer: Result<(), CertFault>,
+    answer: Result<(), RunFault>,
     text: &str,
 ) -> Result<(), Fail> {
     let mut source = source(alloc, octets, &[], source_fails)?;
@@ -96,7 +97,8 @@ fn answers(rt: HostRuntime) -> Result<(), Fail> {
     )
 }
 
-// What is no file: so many octets of the file, with one octet changed or one more, its answer, and how many lines are put.
+// What is no file: how many octets of the file it has, which of them is changed or added and to what, its first fault, and how
+// many lines are put.
 type Spoiled = (usize, usize, u8, Kind, u64, usize);
 
 static SPOILED: [Spoiled; 9] = [
@@ -118,7 +120,7 @@ fn faults(rt: HostRuntime) -> Result<(), Fail> {
         let mut octets = file(rt.alloc(), &CLAIMS)?;
         octets.truncate(size);
         let octets = spoiled(rt.alloc(), &octets, place, octet)?;
-        let answer = Err(CertFault::Format(FormatFault { kind, offset }));
+        let answer = Err(RunFault::Format(FormatFault { kind, offset }));
         let text = lines(rt.alloc(), count)?;
         checks(&rt, rt.alloc(), &octets, (&[], None), answer, &text)?;
     }
@@ -128,8 +130,8 @@ fn faults(rt: HostRuntime) -> Result<(), Fail> {
 #[test]
 fn devices(rt: HostRuntime) -> Result<(), Fail> {
     let octets = file(rt.alloc(), &CLAIMS)?;
-    let read = Err(CertFault::Read);
-    let write = Err(CertFault::Write);
+    let read = Err(RunFault::Read);
+    let write = Err(RunFault::Write);
     checks(&rt, rt.alloc(), &octets, (&[60], None), read, "job 0 yes\n")?;
     checks(
         &rt,

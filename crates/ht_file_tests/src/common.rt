@@ -21,7 +21,7 @@ pub(crate) fn whole(alloc: Global, octets: Vec<u8>) -> MemSource {
     MemSource::new(octets, Vec::new(alloc), Vec::new(alloc))
 }
 
-/// Adds a part to octets, so many times.
+/// Adds a part to octets this number of times.
 pub(crate) fn push_times(octets: &mut Vec<u8>, times: u16, part: &[u8]) -> Result<(), AllocError> {
     for _ in 0..times {
         octets.extend_from_slice(part)?;
@@ -29,7 +29,7 @@ pub(crate) fn push_times(octets: &mut Vec<u8>, times: u16, part: &[u8]) -> Resul
     Ok(())
 }
 
-/// The octets of these parts, each so many times.
+/// The octets of these parts, each as often as it says.
 pub(crate) fn octets_of(alloc: Global, parts: &[(u16, &[u8])]) -> Result<Vec<u8>, AllocError> {
     let mut octets = Vec::new(alloc);
     for &(times, part) in parts {

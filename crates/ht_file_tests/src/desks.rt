@@ -16,13 +16,13 @@ use std::alloc::{AllocError, Global};
 use std::process::Abort;
 use std::test::Fail;
 
-/// A capture, as parts that come so many times.
+/// A capture, as parts, each with how often it comes.
 type Parts = [(u16, &'static [u8]); 3];
 
 /// How a run of a capture ends, and what is put: an octet for each job.
 type Told = (Result<Ended, StopFault>, Vec<u8>);
 
-/// Runs a capture with at most so many jobs due.
+/// Runs a capture with at most `window` jobs due.
 fn told<R: BlockReader + Drop>(
     alloc: Global,
     reader: R,
@@ -42,7 +42,7 @@ fn told<R: BlockReader + Drop>(
     Ok((ended, meter.sink.into_held()))
 }
 
-/// That so many jobs of one frame came.
+/// The answer of a run that went through one frame of this number of jobs.
 fn done(jobs: u64) -> Result<Ended, StopFault> {
     Ok(Ended::Done { frames: 1, jobs })
 }
@@ -133,7 +133,7 @@ static TENS: Parts = [
     (104, &[0, 0, 0, 10, 0, 0, 0, 0]),
 ];
 
-// Holds how these octets end with at most so many jobs due, and how many of the distances are put.
+// Asserts how a run of these octets ends with at most `window` jobs due, and how many of the distances are put.
 fn ends(
     rt: &impl Abort,
     alloc: Global,

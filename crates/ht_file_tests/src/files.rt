@@ -166,7 +166,7 @@ fn again(
     })
 }
 
-/// Holds that of a file this is put.
+/// Asserts that of a file this is put.
 fn gives(
     rt: &impl Abort,
     alloc: Global,
@@ -202,7 +202,7 @@ fn read_back(rt: HostRuntime) -> Result<(), Fail> {
 /// An octet at a place, and the fault of the file that has it there.
 type Spoiled = (usize, u8, Kind, u64);
 
-/// Holds that a file that is spoiled in one of these ways has its fault.
+/// Asserts that a file that is spoiled in one of these ways has its fault.
 fn refuses(
     rt: &impl Abort,
     alloc: Global,
@@ -280,7 +280,7 @@ fn refusals(rt: HostRuntime) -> Result<(), Fail> {
     refuses(&rt, rt.alloc(), Format::Bundle, &BUNDLE, &BUNDLES)
 }
 
-/// Holds what a file is refused for where it ends here, and where its source fails here.
+/// Asserts what a file is refused for where it ends here, and where its source fails here.
 fn refuses_cut(
     rt: &impl Abort,
     alloc: Global,

@@ -221,7 +221,7 @@ fn smoke_sure_sink(rt: HostRuntime) -> Result<(), Fail> {
     Ok(())
 }
 
-// Holds that a value is shown as this text.
+// Asserts that a value is shown as this text.
 fn shows(rt: &impl Abort, alloc: Global, value: &impl Display, text: &str) -> Result<(), Fail> {
     let shown = format!(in alloc; "{value}")?;
     equal(rt, shown.as_str(), text);

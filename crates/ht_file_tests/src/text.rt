@@ -8,7 +8,7 @@ use std::alloc::{AllocError, Global};
 use std::process::Abort;
 use std::test::Fail;
 
-// Holds that a line was made and that it is this text.
+// Asserts that a line was made and that it is this text.
 fn reads(
     rt: &impl Abort,
     alloc: Global,

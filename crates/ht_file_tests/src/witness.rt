@@ -81,7 +81,7 @@ fn claims(rt: HostRuntime) -> Result<(), Fail> {
     Ok(())
 }
 
-// Holds that a job is certified with this distance and these marks.
+// Asserts that a job is certified with this distance and these marks.
 fn certifies(
     rt: &impl Abort,
     alloc: Global,

@@ -237,7 +237,7 @@ fn asked(alloc: Global, text: &str) -> Result<Option<Asked>, AllocError> {
     Asked::of(alloc, &words)
 }
 
-// Holds that each of these commands with these options asks for this.
+// Asserts that each of these commands with these options asks for this.
 fn accepts(
     rt: &impl Abort,
     alloc: Global,
@@ -252,7 +252,7 @@ fn accepts(
     Ok(())
 }
 
-// Holds that these words aren't accepted.
+// Asserts that these words aren't accepted.
 fn refuses(rt: &impl Abort, alloc: Global, text: &str) -> Result<(), Fail> {
     let asked = asked(alloc, text)?;
     equal(rt, (text, asked), (text, None));
@@ -445,7 +445,7 @@ fn spelled(alloc: Global, command: &str, edges: &Edges, form: &str) -> Result<St
     Ok(text)
 }
 
-// Holds that a command takes an option in good spellings exactly where it has it, and never in bad ones.
+// Asserts that a command takes an option in good spellings exactly where it has it, and never in bad ones.
 fn takes(
     rt: &impl Abort,
     alloc: Global,

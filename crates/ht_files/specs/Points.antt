@@ -44,6 +44,7 @@ point_in octets = record {
 abbrev pub point_octets : Point → List ℕ
 point_octets p = cast_unsigned w8 p.i ∷ cast_unsigned w8 p.q ∷ []
 
+-- both points are the same
 abbrev pub same_point : Point → Point → Bool
 same_point a b = int_eq a.i b.i && int_eq a.q b.q
 
@@ -61,6 +62,7 @@ kind_on (Pilot k) = BadPilot
 unfoldable pub misfits : Rate → ℕ → Carrier → ℕ → List ℕ → Bool
 misfits r symbol carrier stream octets = if fits_carrier r symbol carrier stream (point_in octets) then false else true
 
+-- the same of a place, counted from 0 over the points of a frame
 abbrev pub misfits_place : Rate → ℕ → List ℕ → Bool
 misfits_place r place octets = misfits r (symbol_at_place r place) (carrier_at_place r place) (stream_at_place r place) octets
 

@@ -12,7 +12,7 @@ use ht_rate::{Carrier, Rate};
 
 /// The point of two octets.
 #[tactic(auto, unfolding(crate::specs::Points::point_in))]
-pub(crate) fn made(octets: [u8; 2]) -> Point
+pub(crate) fn point_of(octets: [u8; 2]) -> Point
     ensures { result ≡ point_in octets }
 {
     Point {
@@ -50,7 +50,7 @@ pub(crate) fn is_fitting(
 }
 
 /// The kind of fault of a point on a subcarrier.
-pub(crate) fn kind(carrier: Carrier) -> Kind
+pub(crate) fn fault_kind(carrier: Carrier) -> Kind
     ensures { result ≡ kind_on carrier }
 {
     match carrier {

@@ -10,7 +10,7 @@ ghost use Rattle.ht_files.specs.HeadedFormats.{behind_head};
 ghost use Rattle.ht_files.specs.Places.{AreFitting};
 ghost use Rattle.ht_files.specs.Points.{AddsPoints, AreCarriers, MeetsMisfit, TakesSymbol, first_point, point_octets, points_due, symbols};
 
-use crate::point::{is_fitting, kind, made};
+use crate::point::{fault_kind, is_fitting, point_of};
 use ht_fields::{bad, read_front};
 use ht_io::{InFault, Kind, Source};
 use ht_pam::Point;
@@ -60,10 +60,10 @@ fn add_points(
     ensures room { vec_capacity points.new ≡ vec_capacity points.old }
 {
     for place in 0..octets.len() / 2 {
-        let point = made([octets[2 * place], octets[2 * place + 1]]);
+        let point = point_of([octets[2 * place], octets[2 * place + 1]]);
         let carrier = carriers[place];
         if !is_fitting(rate, symbol, carrier, place, point) {
-            return Err(bad(kind(carrier), at + 2 * place as u64));
+            return Err(bad(fault_kind(carrier), at + 2 * place as u64));
         }
         points.push_reserved(point);
     }

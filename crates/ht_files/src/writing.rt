@@ -1,6 +1,6 @@
 //! Files of symbols as they are written.
-ghost use Rattle.std.specs.Prelude.{◌≡◌, ◌≤◌, length, OnOk, OnErr};
-ghost use Rattle.ht_io.specs.Devices.{Grows, GrowsByPart, Rose, IsLater};
+ghost use Rattle.std.specs.Prelude.{◌≡◌, ◌≤◌, length};
+ghost use Rattle.ht_io.specs.Devices.{Puts};
 ghost use Rattle.ht_files.specs.Points.{point_octets};
 ghost use Rattle.ht_files.specs.SymbolFiles.{symbols_file_of, symbols_octets};
 
@@ -40,11 +40,7 @@ impl Packer for Points {
 // Puts the symbols of a frame.
 #[tactic(auto, unfolding(crate::specs::SymbolFiles::symbols_octets))]
 fn put_symbols<K: Sink>(frame: &Symbols, chunk: &mut Chunk, sink: &mut K) -> Result<(), Failed>
-    ensures grown { OnOk result (Grows (K.shown sink.old) (K.shown sink.new) (symbols_octets frame.now)) }
-    ensures steady { OnOk result ((K.shown sink.new).faults ≡ (K.shown sink.old).faults) }
-    ensures part { OnErr result (GrowsByPart (K.shown sink.old) (K.shown sink.new) (symbols_octets frame.now)) }
-    ensures cause { OnErr result (Rose (K.shown sink.old) (K.shown sink.new)) }
-    ensures later { IsLater (K.shown sink.old) (K.shown sink.new) }
+    ensures { Puts (K.shown sink.old) (K.shown sink.new) (symbols_octets frame.now) result }
 {
     chunk.clear();
     chunk.add(&head_of(&frame.rate(), frame.length()));
@@ -73,11 +69,7 @@ impl Putter for SymbolFrames {
 #[tactic(auto, unfolding(crate::specs::SymbolFiles::symbols_file_of))]
 pub fn write_symbols<K: Sink>(frames: &[Symbols], sink: &mut K) -> Result<(), Failed>
     requires few { length frames.now ≤ 65535 }
-    ensures grown { OnOk result (Grows (K.shown sink.old) (K.shown sink.new) (symbols_file_of frames.now)) }
-    ensures steady { OnOk result ((K.shown sink.new).faults ≡ (K.shown sink.old).faults) }
-    ensures part { OnErr result (GrowsByPart (K.shown sink.old) (K.shown sink.new) (symbols_file_of frames.now)) }
-    ensures cause { OnErr result (Rose (K.shown sink.old) (K.shown sink.new)) }
-    ensures later { IsLater (K.shown sink.old) (K.shown sink.new) }
+    ensures { Puts (K.shown sink.old) (K.shown sink.new) (symbols_file_of frames.now) result }
 {
     let mut putter = SymbolFrames {
         chunk: Chunk::new(),

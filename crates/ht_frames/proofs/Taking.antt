@@ -26,7 +26,7 @@ job_there [] at place found here is = absurd (none-some found is)
 job_there (job ∷ jobs) zero place found here is = (job, refl, here, sym (same_Some (near job) found is))
 job_there (job ∷ jobs) (suc at) place found here is = job_there jobs at place found here is
 
--- the job that has so many others before it, its place, and what was found for it
+-- the job that has this many others before it, its place, and what was found for it
 pub job_within : (jobs : List JobView) (at : ℕ) (place : Place) (found : Found) → at < length jobs → IsPlaceAt place jobs at
     → IfSome (slice_get jobs at) (λ job. found ≡ near job)
     → (job : JobView) × (slice_get jobs at ≡ Some job) × (job.place ≡ place) × (found ≡ near job)

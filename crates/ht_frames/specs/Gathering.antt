@@ -12,8 +12,8 @@ use Rattle.ht_feed.specs.declared.book_fault.BookFault.TheVariants.{Failed, NoMe
 use Rattle.ht_feed.specs.Accounts.{PutsBlock, PutsPartOf}
 use Rattle.ht_feed.specs.Items.{Headed, headed_of}
 
--- behind calls that answered so a fault of a book's device is counted exactly where the answer is Failed, and it is the
--- same device
+-- what calls that booked and gave this answer did to the book's device: it counted a fault exactly where the answer is
+-- Failed, and it is the same device
 pub record CountsFaults {A P : Type 0} (result : Result A BookFault) (before after : Device P) (lent lent' : List ℕ) : Type 0 where
   pub steady : OnOk result (after.faults ≡ before.faults)
   pub cause : IfErr result (λ fault. fault ≡ Failed → Rose before after)
@@ -21,15 +21,17 @@ pub record CountsFaults {A P : Type 0} (result : Result A BookFault) (before aft
   pub later : IsLater before after
   pub same : lent' ≡ lent
 
--- what calls that took the hits of these jobs booked of them, by their answer: the first of all that was to be booked, so that
--- what is to be booked then is the rest of it; or a part, where one failed
+-- What calls that took the hits of these jobs booked, by their answer. `old` and `new` say what is still to be booked in all,
+-- before and after, where some jobs come. With Ok some pieces were put, and whatever jobs come behind these, what was to be
+-- booked of all of them is those pieces and then what is still to be booked. With an error a part of it was put.
 pub record BooksJobs {A H P : Type 0} (result : Result A BookFault) (before after : Device P) (old new : List (Headed H) → List P) (jobs : List (Headed H))
     (lent lent' : List ℕ) : Type 0 where
   pub put : OnOk result (PutsBlock before after old new jobs)
   pub part : OnErr result (PutsPartOf before after old jobs)
   pub faults : CountsFaults result before after lent lent'
 
--- what was found for a job from this place, of a frame with this head, was taken, and booked so
+-- What was found for a job was taken, and booked as BooksJobs says: for each job with this place for which this was found, of a
+-- frame with this head.
 abbrev pub BooksFound : {A H P : Type 0} → Result A BookFault → Device P → Device P → (List (Headed H) → List P) → (List (Headed H) → List P)
     → H → Place → Found → List ℕ → List ℕ → Type 0
 BooksFound result before after old new head place found lent lent' =
@@ -48,6 +50,7 @@ behind_one result results jobs = result ∷ results jobs
 abbrev pub booked_in : {H T P : Type 0} → (T → List P) → (List (Headed H) → List T) → List (Headed H) → List P
 booked_in booked results jobs = flat_map booked (results jobs)
 
+-- where no results come, nothing is booked
 pub none_booked : {H T P : Type 0} (booked : T → List P) (results : List (Headed H) → List T) → results [] ≡ [] → booked_in booked results [] ≡ []
 none_booked booked results none = ap (flat_map booked) none
 

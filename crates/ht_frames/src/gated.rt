@@ -9,8 +9,9 @@ use ht_metric::{Found, Job};
 use std::alloc::{AllocError, Global};
 use std::sync::Wait;
 
-/// What is found for a job, which is run between the two calls of the gate. Each caller has a copy of it: a result that
-/// is written piece by piece and then copied as a whole waits for memory.
+/// The first nearest vector of a job and its squared distance, below 2^66. The job is run between the two calls of the gate,
+/// which get its number.
+// As a call, the copy of its result stalled on the writes before it.
 #[inline(always)]
 pub fn run_gated<G: Gate>(gate: &G, job: &Job) -> Found
     ensures found { result ≡ near job.now }

@@ -1,6 +1,7 @@
 //! An account that has whole frames decoded while more jobs come.
-ghost use Rattle.std.specs.Prelude.{◌≡◌, ◌-◌, ◌^◌, ◌<◌, ◌≤◌, ◌∷◌, [], true, drop};
+ghost use Rattle.std.specs.Prelude.{◌≡◌, ◌-◌, ◌^◌, ◌<◌, ◌∷◌, [], true, drop};
 ghost use Rattle.ht_feed.specs.Dues.{all_due, due_of, headed_due};
+ghost use Rattle.ht_feed.specs.Limits.{IsCrewSize};
 ghost use Rattle.ht_frames.specs.Gathering.{BooksFound, BooksJobs, WaitForJobs, behind_one, booked_behind, none_behind, wait_on};
 
 use crate::book::Book;
@@ -57,8 +58,7 @@ impl<'a, R, U: UnderWay, B> Gatherer<'a, R, U, B> {
         queue: &'a mut VecDeque<Decoding<U::Whole>>,
         book: &'a mut B,
     ) -> Gatherer<'a, R, U, B>
-        requires one { 1 ≤ workers }
-        requires many { workers ≤ 64 }
+        requires crew { IsCrewSize workers }
         ensures under_way { result.under_way.now ≡ under_way.old }
         ensures queue { result.queue.now ≡ queue.old }
         ensures frame_name { result.under_way.ghost_name ≡ under_way.entry.ghost_name }

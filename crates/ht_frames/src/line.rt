@@ -1,14 +1,14 @@
-//! What has a line of text.
+//! Results that have a line of text.
 ghost use Rattle.std.specs.Prelude.{◌≡◌, ℕ, ◌++◌, List, OnErr, OnOk, string_bytes};
 
 use std::alloc::AllocError;
 
-/// What has a line of text.
+/// A result that has a line of text.
 pub trait Line {
     /// The octets of its line, with the line's end.
     ghost line: { Self → List ℕ };
 
-    /// Appends its line. Only memory can fail; the text is then as it was.
+    /// Appends its line. The only error is lack of memory, and then the text is as it was.
     fn push_line(&self, text: &mut String) -> Result<(), AllocError>
         ensures ok { OnOk result (string_bytes text.new ≡ string_bytes text.old ++ line self.now) }
         ensures err { OnErr result (string_bytes text.new ≡ string_bytes text.old) };

@@ -56,6 +56,6 @@ pub trait UnderWay {
         ensures value { Self.Whole.result_of result ≡ comes_to self.old }
         ensures kept { (more : List (Headed Self.Head)) → results self.new more ≡ results self.old more };
 
-    /// Where no job comes, no frame is whole.
+    /// Where no job comes, there are no results.
     ghost none: { (a : Self) → results a [] ≡ [] };
 }

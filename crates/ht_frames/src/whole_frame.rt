@@ -18,7 +18,7 @@ pub trait WholeFrame {
     /// The number of a frame's octets.
     ghost length_of: { Self → ℕ };
 
-    /// The number of its octets, by which it is judged whether its decoding is worth the way to a worker.
+    /// The number of its octets. By this it is judged whether its decoding is worth the way to a worker.
     fn octets(&self) -> u16
         ensures { result ≡ length_of self.now };
 
@@ -40,8 +40,8 @@ pub trait WholeFrame {
         self.decode(alloc, &mut Self::decoder(alloc))
     }
 
-    /// Whether both are known to come to the same. Frames that are equal are; a frame that comes back from a worker counts
-    /// as lost where this is false.
+    /// `true` only where both come to the same. A frame that comes back from a worker and for which this is false counts as
+    /// lost.
     fn same(&self, other: &Self) -> bool
         ensures { IsTrue result → result_of self.now ≡ result_of other.now };
 }

@@ -13,7 +13,8 @@ use ht_fields::{bad, number, octet, one_octet};
 use ht_io::{InFault, Kind, Source};
 use ht_rate::Rate;
 
-/// Reads the magic in front of a file, octet by octet.
+/// Reads the magic in front of a file, octet by octet. It refuses with `BadMagic` at the first octet, 0 to 3, that is another
+/// one than is wanted, and as [`octet`] does where none comes.
 pub fn magic<S: Source>(source: &mut S, wanted: &[u8; 4]) -> Result<(), InFault>
     ensures whole { OnOk result (Takes (S.shown source.old) (S.shown source.new) wanted.now) }
     ensures failed { IfErr result (MagicFails wanted.now 0 (S.shown source.old) (S.shown source.new)) }
@@ -76,7 +77,11 @@ fn length<S: Source>(source: &mut S, at: u64) -> Result<u16, InFault>
     }
 }
 
-/// Reads the head of a frame, whose first octet is at this offset: its rate and the number of octets of its PSDU.
+/// Reads the head of a frame, four octets from this offset on: its rate and the number of octets of its PSDU, 1 to 65535.
+///
+/// It refuses with `BadBandwidth` at the first octet where that is neither 0 (20 MHz) nor 1 (40 MHz), with `BadMcs` at the
+/// second where that is above 31, and with `BadLength` at the third where the length is 0; and as [`octet`] does where a field
+/// doesn't come whole. The field at fault is the last one taken.
 pub fn head<S: Source>(source: &mut S, at: u64) -> Result<(Rate, u16), InFault>
     requires offset { at + 4 < 2 ^ 64 }
     ensures whole { IfOk result (λ head. Takes (S.shown source.old) (S.shown source.new) (head_octets head.0 head.1)) }

@@ -14,9 +14,13 @@ use ht_io::{InFault, Kind, Source};
 /// count is a fault of this kind.
 #[derive(Clone, Copy, Debug, PartialEq, Eq)]
 pub struct Limits {
+    /// The number of octets of the count.
     pub width: usize,
+    /// The least count.
     pub least: u64,
+    /// The greatest count.
     pub most: u64,
+    /// What kind of fault another count is.
     pub kind: Kind,
 }
 
@@ -27,7 +31,8 @@ fn is_refused(limits: &Limits, count: u64) -> bool
     count < limits.least || limits.most < count
 }
 
-/// Reads a count of one to eight octets.
+/// Reads a count of one to eight octets, big-endian, the first of them at offset `at`. It refuses one that is outside its
+/// limits with their kind of fault, at `at`, and as [`fill`] does where the octets don't come whole.
 pub fn count<S: Source>(source: &mut S, at: u64, limits: &Limits) -> Result<u64, InFault>
     requires some { 1 ≤ limits.now.width }
     requires few { limits.now.width ≤ 8 }
@@ -54,7 +59,9 @@ pub fn count<S: Source>(source: &mut S, at: u64, limits: &Limits) -> Result<u64,
     }
 }
 
-/// Reads the magic in front of a file, the version, which is 1, and the count.
+/// Reads what stands in front of a file: the magic, the version, which is 1, and the count, which it gives.
+///
+/// It refuses as [`magic`] does, with `BadVersion` at 4 where the version is another one, and as [`count`] does at 5.
 pub fn start<S: Source>(source: &mut S, wanted: &[u8; 4], limits: &Limits) -> Result<u64, InFault>
     requires some { 1 ≤ limits.now.width }
     requires few { limits.now.width ≤ 8 }

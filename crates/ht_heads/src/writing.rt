@@ -15,7 +15,8 @@ fn code(bandwidth: Bandwidth) -> u8
     }
 }
 
-/// The head of a frame with a PSDU of this number of octets.
+/// The head of a frame at this rate with a PSDU of this number of octets: the bandwidth (0 is 20 MHz, 1 is 40 MHz), the MCS
+/// index and the length, big-endian.
 pub fn head_of(rate: &Rate, length: u16) -> [u8; 4]
     ensures { result ≡ head_octets rate.now length }
 {
@@ -23,7 +24,7 @@ pub fn head_of(rate: &Rate, length: u16) -> [u8; 4]
     [code(rate.bandwidth()), rate.mcs(), number[0], number[1]]
 }
 
-/// What stands in front of this number of frames.
+/// What stands in front of this number of frames: the magic, the version and the number, big-endian.
 #[tactic(auto, unfolding(crate::specs::Heads::start_octets))]
 pub fn start_of(magic: &[u8; 4], version: u8, count: u16) -> [u8; 7]
     ensures { result ≡ start_octets magic.now version count }

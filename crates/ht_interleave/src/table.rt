@@ -5,7 +5,7 @@ ghost use Rattle.ht_interleave.specs.Steps.{at_bandwidth, columns_of, rows_of, r
 
 use ht_rate::{Bandwidth, Rate};
 
-// N_COL, the columns that bits are read from.
+/// N_COL, the number of columns that bits are read from: 13 at 20 MHz, 18 at 40 MHz.
 #[tactic(auto, unfolding(crate::specs::Steps::columns_of))]
 pub fn columns(rate: &Rate) -> u16
     ensures value { result ≡ columns_of rate.now }
@@ -15,7 +15,7 @@ pub fn columns(rate: &Rate) -> u16
     of_bandwidth(rate.bandwidth(), 13, 18)
 }
 
-// N_ROW, the rows that bits are written into.
+/// N_ROW, the number of rows that bits are written into: 4 at 20 MHz, 6 at 40 MHz, times the bits of a label.
 #[tactic(auto, unfolding(crate::specs::Steps::rows_of))]
 pub fn rows(rate: &Rate) -> u16
     ensures value { result ≡ rows_of rate.now }
@@ -25,7 +25,7 @@ pub fn rows(rate: &Rate) -> u16
     of_bandwidth(rate.bandwidth(), 4, 6) * u16::from(rate.label_bits())
 }
 
-// N_ROT, the places that a stream is rotated by for each bit of a label.
+/// N_ROT, from which it follows by how many places a stream is rotated: 11 at 20 MHz, 29 at 40 MHz.
 #[tactic(auto, unfolding(crate::specs::Steps::rotation_of))]
 pub fn rotation(rate: &Rate) -> u16
     ensures value { result ≡ rotation_of rate.now }
@@ -34,7 +34,7 @@ pub fn rotation(rate: &Rate) -> u16
     of_bandwidth(rate.bandwidth(), 11, 29)
 }
 
-// The bits of one axis of the constellation.
+/// s, the bits of one axis of the constellation: 1, 2 or 3.
 pub fn axis_bits(rate: &Rate) -> u16
     ensures value { result ≡ axis_bits_of rate.now }
     ensures low { 1 ≤ result }
@@ -43,7 +43,7 @@ pub fn axis_bits(rate: &Rate) -> u16
     u16::from(rate.axis_bits())
 }
 
-// The number of places that the stream is rotated by.
+/// The number of places that a stream, counted from 1, is rotated by.
 #[tactic(auto, unfolding(crate::specs::Steps::turn_of))]
 pub fn turn(rate: &Rate, stream: u8) -> u16
     requires { (1 ≤ stream) × (stream ≤ streams_of rate.now) }

@@ -21,7 +21,7 @@ pub fn undisturbed()
         × (distance (pattern_of r) (received_of r octets 0 labels j) input ≡ 0) }
 {}
 
-/// The scrambled bits of SERVICE and of octets come to these octets, by any seed.
+/// The bits of SERVICE and of octets, scrambled with any seed, come to these octets.
 pub fn returned()
     ensures { (seed : ℕ) (octets : List ℕ) → IsSeed seed → All (λ octet. octet < 256) octets
         → outcome_of (scrambled seed (replicate 16 false ++ bits_of octets)) ≡ Octets octets }

@@ -5,8 +5,8 @@ use Rattle.std.specs.Io.KnownBytes.{Appends}
 use Rattle.ht_io.specs.declared.std_device.StdDevice.{StdDevice}
 
 -- the reader below a source with its buffer, or the writer below a sink, and how often the device has failed
-abbrev pub device_of : {D : Type 0} → StdDevice D → D
-device_of device = device.inner
+abbrev pub inner_of : {D : Type 0} → StdDevice D → D
+inner_of device = device.inner
 
 abbrev pub faults_of : {D : Type 0} → StdDevice D → ℕ
 faults_of device = device.faults

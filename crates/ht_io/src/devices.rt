@@ -51,8 +51,8 @@ pub trait Sink {
     /// borrow it is, where it is one.
     ghost shown: { Self → Device ℕ };
 
-    /// Puts the piece behind what the sink holds. A refusal leaves a part of the piece there, and only a refusal
-    /// is counted.
+    /// Puts the piece behind what the sink holds. A put that fails leaves a part of the piece there, from its front, which
+    /// may be none or all of it, and is counted; no other put is.
     fn put(&mut self, piece: &[u8]) -> Result<(), Failed>
         ensures grown { OnOk result (Grows (shown self.old) (shown self.new) piece.now) }
         ensures steady { OnOk result ((shown self.new).faults ≡ (shown self.old).faults) }

@@ -15,9 +15,9 @@ pub enum Kind {
     BadVersion = 2,
     /// The bandwidth is neither 0 (20 MHz) nor 1 (40 MHz).
     BadBandwidth = 3,
-    /// The modulation and coding scheme is above 31.
+    /// The MCS index is above 31; of a clause 18 frame, the number of the rate is above 7.
     BadMcs = 4,
-    /// A length or a count is outside its range.
+    /// A length or a count is outside the range of its format.
     BadLength = 5,
     /// The input ends before the file is whole.
     Truncated = 6,
@@ -96,7 +96,7 @@ pub enum InFault {
     /// It is not of its format; this is its first fault.
     #[error(transparent)]
     Format(FormatFault),
-    /// Its source failed.
+    /// Its source failed before a fault was found.
     #[error("the input can't be read")]
     Read,
     /// Memory ran out.

@@ -22,8 +22,8 @@ pub mod mem_sink;
 pub mod mem_source;
 mod space;
 pub mod std_device;
-pub mod std_sink;
-pub mod std_source;
+mod std_sink;
+mod std_source;
 pub mod sure_sink;
 pub mod sure_source;
 

@@ -16,6 +16,7 @@ pub(crate) fn copy_front(octets: &[u8], at: usize, count: usize, into: &mut [u8]
     requires octets { at + count ≤ length octets.now }
     requires room { count ≤ length into.old }
     ensures front { drop at octets.now ≡ take count into.new ++ drop (at + count) octets.now }
+    ensures behind { drop count into.new ≡ drop count into.old }
     ensures length { length into.new ≡ length into.old }
 {
     into[..count].copy_from_slice(&octets[at..at + count]);

@@ -1,7 +1,7 @@
 //! A reader or a writer of std, and how often it failed.
-ghost use Rattle.std.specs.Prelude.{◌≡◌, ◌≤◌, None, IsSome};
+ghost use Rattle.std.specs.Prelude.{◌≡◌, ◌≤◌, None, Some};
 ghost use Rattle.ht_io.specs.Causes.{HasRisen, one_more};
-ghost use Rattle.ht_io.specs.Standard.{device_of, faults_of, error_of};
+ghost use Rattle.ht_io.specs.Standard.{inner_of, faults_of, error_of};
 
 use crate::Failed;
 use std::io::{self, BufReader};
@@ -29,7 +29,7 @@ pub type StdSink<W> = StdDevice<W>;
 impl<D> StdDevice<D> {
     /// A device over the reader or the writer. It takes no memory.
     pub fn new(inner: D) -> StdDevice<D>
-        ensures device { device_of result ≡ inner }
+        ensures device { inner_of result ≡ inner }
         ensures faults { faults_of result ≡ 0 }
         ensures error { error_of result ≡ None }
     {
@@ -50,9 +50,9 @@ impl<D> StdDevice<D> {
 
     // Keeps the error of a call that failed, and counts it.
     pub(crate) fn fail(&mut self, error: io::Error) -> Failed
-        ensures device { device_of self.new ≡ device_of self.old }
+        ensures device { inner_of self.new ≡ inner_of self.old }
         ensures counted { faults_of self.new ≡ one_more (faults_of self.old) }
-        ensures because { IsSome (error_of self.new) }
+        ensures error { error_of self.new ≡ Some error }
         ensures cause { HasRisen (faults_of self.old) (faults_of self.new) }
         ensures later { faults_of self.old ≤ faults_of self.new }
     {

@@ -2,7 +2,7 @@
 ghost use Rattle.std.specs.Prelude.{◌≡◌, ◌≤◌, None, IsSome, OnOk, OnErr};
 ghost use Rattle.std.specs.Io.KnownBytes.{Keeps, Appends};
 ghost use Rattle.ht_io.specs.Causes.{HasRisen, one_more};
-ghost use Rattle.ht_io.specs.Standard.{device_of, faults_of, error_of, AppendsPart};
+ghost use Rattle.ht_io.specs.Standard.{inner_of, faults_of, error_of, AppendsPart};
 
 use crate::std_device::{RETRIES, StdSink};
 use crate::{Failed, Sink};
@@ -48,12 +48,13 @@ impl<W: Write> Sink for StdSink<W> {
 
     fn put(&mut self, piece: &[u8]) -> Result<(), Failed>
         // What the writer holds, where it is known, grows by the piece, or at a failure by a part of it.
-        ensures passed { OnOk result (Appends (W.contents (device_of self.old)) (W.contents (device_of self.new)) piece.now) }
-        ensures front { OnErr result (AppendsPart (W.contents (device_of self.old)) (W.contents (device_of self.new)) piece.now) }
+        ensures passed { OnOk result (Appends (W.contents (inner_of self.old)) (W.contents (inner_of self.new)) piece.now) }
+        ensures front { OnErr result (AppendsPart (W.contents (inner_of self.old)) (W.contents (inner_of self.new)) piece.now) }
 
         ensures steady { OnOk result (faults_of self.new ≡ faults_of self.old) }
         ensures counted { OnErr result (faults_of self.new ≡ one_more (faults_of self.old)) }
         ensures because { OnErr result (IsSome (error_of self.new)) }
+        ensures error { OnOk result (error_of self.new ≡ error_of self.old) }
 
         ensures cause { OnErr result (HasRisen (faults_of self.old) (faults_of self.new)) }
         ensures later { faults_of self.old ≤ faults_of self.new }

@@ -3,7 +3,7 @@ ghost use Rattle.std.specs.Prelude.{◌≡◌, ◌<◌, ◌≤◌, length, take,
 ghost use Rattle.std.specs.Io.Buffered.{reader_buffer, reader_remaining};
 ghost use Rattle.std.specs.Io.KnownBytes.{Keeps, Consumes, IsAtEnd};
 ghost use Rattle.ht_io.specs.Causes.{HasRisen, one_more};
-ghost use Rattle.ht_io.specs.Standard.{device_of, faults_of, error_of};
+ghost use Rattle.ht_io.specs.Standard.{inner_of, faults_of, error_of};
 
 use crate::std_device::{RETRIES, StdSource};
 use crate::{Failed, Source};
@@ -28,20 +28,21 @@ fn read_patiently<R: Read>(inner: &mut R, into: &mut [u8]) -> io::Result<usize>
 impl<R: Read> Source for StdSource<R> {
     ghost shown = { λ s. record { known = None; faults = faults_of s; borrow = 0 } };
 
-    ghost hand = { λ s. reader_buffer (device_of s) };
+    ghost hand = { λ s. reader_buffer (inner_of s) };
 
     fn read(&mut self, into: &mut [u8]) -> Result<usize, Failed>
         requires room { 0 < length into.old }
 
         // What the reader has left, where it is known, passes unchanged.
         ensures passed { IfOk result (λ count. Consumes
-            (reader_remaining R.remaining (device_of self.old)) (reader_remaining R.remaining (device_of self.new)) (take count into.new)) }
-        ensures whole { IfOk result (λ count. count ≡ 0 → IsAtEnd (reader_remaining R.remaining (device_of self.new))) }
-        ensures unread { OnErr result (Keeps (reader_remaining R.remaining (device_of self.old)) (reader_remaining R.remaining (device_of self.new))) }
+            (reader_remaining R.remaining (inner_of self.old)) (reader_remaining R.remaining (inner_of self.new)) (take count into.new)) }
+        ensures whole { IfOk result (λ count. count ≡ 0 → IsAtEnd (reader_remaining R.remaining (inner_of self.new))) }
+        ensures unread { OnErr result (Keeps (reader_remaining R.remaining (inner_of self.old)) (reader_remaining R.remaining (inner_of self.new))) }
 
         ensures steady { OnOk result (faults_of self.new ≡ faults_of self.old) }
         ensures counted { OnErr result (faults_of self.new ≡ one_more (faults_of self.old)) }
         ensures because { OnErr result (IsSome (error_of self.new)) }
+        ensures error { OnOk result (error_of self.new ≡ error_of self.old) }
 
         ensures within { IfOk result (λ count. count ≤ length into.new) }
         ensures cause { OnErr result (HasRisen (faults_of self.old) (faults_of self.new)) }
@@ -54,15 +55,15 @@ impl<R: Read> Source for StdSource<R> {
     }
 
     fn at_hand(&self) -> &[u8]
-        ensures { result.now ≡ reader_buffer (device_of self.now) }
+        ensures { result.now ≡ reader_buffer (inner_of self.now) }
     {
         self.inner.buffer()
     }
 
     fn consume(&mut self, count: usize)
-        requires { count ≤ length (reader_buffer (device_of self.old)) }
-        ensures passed { Consumes (reader_remaining R.remaining (device_of self.old)) (reader_remaining R.remaining (device_of self.new))
-            (take count (reader_buffer (device_of self.old))) }
+        requires { count ≤ length (reader_buffer (inner_of self.old)) }
+        ensures passed { Consumes (reader_remaining R.remaining (inner_of self.old)) (reader_remaining R.remaining (inner_of self.new))
+            (take count (reader_buffer (inner_of self.old))) }
         ensures error { error_of self.new ≡ error_of self.old }
         ensures steady { faults_of self.new ≡ faults_of self.old }
     {

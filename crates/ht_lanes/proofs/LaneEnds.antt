@@ -16,8 +16,7 @@ use Rattle.ht_feed.specs.Dues.{all_due, jobs_in}
 use Rattle.ht_feed.specs.Desks.{DeskView, desk_view}
 use Rattle.ht_feed.specs.Outcomes.{Comes}
 use Rattle.ht_feed.specs.Telling.{Seen, Tells, TellsBy, TellsPart, seen_by}
-use Rattle.ht_feed.proofs.Filling.{none_in}
-use Rattle.ht_feed.proofs.Finishing.{Heard, driven_so as heard_so, heard, puts_later, reads_later, steady}
+use Rattle.ht_feed.proofs.Finishing.{Heard, heard, puts_later, reads_later, runs_so, steady}
 use Rattle.ht_lanes.specs.DeskLanes.{driven_so, ended_so, is_over}
 
 -- readers of R mean this and are here; a reader in front of its source, and its account; and what a lane over a new desk left
@@ -35,11 +34,11 @@ module _ {R H P : Type 0} (means : R → List ℕ → Meaning (Item H)) (at : R 
   -- a call failed so, seen by any account in front of a device
   ill : (account : Telling H P) (fault : BookFault) → TellsPart first (seen_by means at new source' account) fault
       → Heard means at reader head source source' a account new (Some fault) (driven_so (Some fault))
-  ill account fault told = heard_so means at reader head source source' a account new (driven_so (Some fault)) told tt tt
+  ill account fault told = runs_so (driven_so (Some fault)) told tt tt
 
   -- none failed, and the reading stopped
   well : TellsBy None None first last → is_some new.stop ≡ true → jobs_in new.due ≡ [] → Heard means at reader head source source' a b new None (driven_so None)
-  well told stopped none = heard_so means at reader head source source' a b new (driven_so None) told stopped (none_in new.due none)
+  well told stopped none = runs_so (driven_so None) told stopped none
 
   -- what is put of hits that still come is all one where a call failed
   abbrev silent : Telling H P

@@ -133,6 +133,7 @@ module _ {L : Type 0} (due : L → List (List JobView)) (over : L → Bool) wher
   abbrev pub HasFewDue : ℕ → L → Type 0
   HasFewDue most l = over l ≡ false → count_in (due l) + most ≤ 4096
 
+  -- the same of each lane
   abbrev pub HaveFewDue : ℕ → List L → Type 0
   HaveFewDue most lanes = (l : L) (k : ℕ) → k < length lanes → HasFewDue most (slice_index_or lanes k l)
 
@@ -148,8 +149,8 @@ module _ {L : Type 0} (due : L → List (List JobView)) (rests : L → Bool) whe
     pub within : Within (length lanes) ring
     pub booked : AreBooked lanes ring
 
-  -- lanes, with so many sources and these blocks due, may be asked for a block of at most `most` jobs, behind `given` jobs
-  -- that all of them have given
+  -- lanes, with this number of sources and these blocks due, may be asked for a block of at most `most` jobs, behind the
+  -- `given` jobs that all of them together have given
   pub record MayBeAsked (lanes : List L) (sources : ℕ) (ring : List DueOf) (most given : ℕ) : Type 0 where
     pub pairs : sources ≡ length lanes
     pub booked : IsBooked lanes ring
@@ -161,6 +162,7 @@ module _ {L : Type 0} (due : L → List (List JobView)) (rests : L → Bool) whe
   abbrev pub SameBook : L → L → Type 0
   SameBook a b = (rests b ≡ rests a) × (due b ≡ due a)
 
+  -- the same of each lane of two lists
   abbrev pub SameBooks : List L → List L → Type 0
   SameBooks a b = (l : L) (k : ℕ) → k < length a → SameBook (slice_index_or a k l) (slice_index_or b k l)
 
@@ -170,7 +172,8 @@ module _ {L : Type 0} (due : L → List (List JobView)) (rests : L → Bool) whe
     pub others : (l : L) (k : ℕ) → k ≢ at → k < length a → SameBook (slice_index_or a k l) (slice_index_or b k l)
 
 module _ {L : Type 0} (due : L → List (List JobView)) (rests over : L → Bool) where
-  -- what holds of lanes, of so many sources and sinks and of the blocks that are due, where the feed has ended, or has not
+  -- what holds of lanes, of the numbers of sources and sinks and of the blocks that are due; and where the feed has ended, all
+  -- lanes are over
   pub record IsFeed (lanes : List L) (sources sinks : ℕ) (ring : List DueOf) (ended : Bool) : Type 0 where
     pub sources_are : sources ≡ length lanes
     pub sinks_are : sinks ≡ length lanes

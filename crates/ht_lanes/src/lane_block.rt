@@ -29,7 +29,7 @@ impl<B: Jobs> Model for LaneBlock<B> {
 }
 
 impl<B: Jobs> LaneBlock<B> {
-    /// A block of a lane that has given so many jobs before it, of lanes that together have given so many.
+    /// A block before which its lane has given `own` jobs, and all lanes together `first` jobs.
     pub(crate) fn new(block: B, own: u64, first: u64) -> LaneBlock<B>
         requires numbers { Numbered own (B.jobs block) }
         requires some { 1 ≤ length (B.jobs block) }

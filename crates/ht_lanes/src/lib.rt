@@ -3,9 +3,9 @@
 //! A [`Lane`] gives blocks out of a source of its own and puts what comes of their answers into a sink of its own.
 //! [`Lanes`] is a feed (`BlockFeed` of crate `ht_feed`) over lanes, sources and sinks that it borrows as slices: it
 //! asks the lanes that aren't over in turn, numbers the jobs of all of them from 0, and hands each answer to the lane
-//! of the oldest block that is due; a block ([`LaneBlock`]) carries the number that its first job has in its lane, too. A lane whose sink failed
-//! rests: what is still due of it is dropped, and the others go on. What a lane keeps back it puts once no answers come any
-//! more ([`finish_lanes`]). [`run_alone`] runs all blocks of lanes in the calling thread, and finishes them.
+//! of the oldest block that is due; a block ([`LaneBlock`]) also has the number of its first job in its lane. A lane whose
+//! sink failed rests: what is still due of it is dropped, and the others go on. What a lane keeps back it puts once no
+//! answers come any more ([`finish_lanes`]). [`run_alone`] runs all blocks of lanes in the calling thread, and finishes them.
 //!
 //! What the feed leads to is said lane by lane, by a relation that sees one lane with its own source and sink
 //! (`AllLead` in `specs/Lanes.antt`), so that nothing is said of an order, and no lane's share speaks of another.

@@ -14,9 +14,9 @@ use Rattle.ht_legacy_blocks.specs.Jobs.{diagonals_of}
 abbrev pub head_in : Front → LegacyHead
 head_in f = record { rate = f.rate; length = f.length; diagonals = diagonals_of f.diagonals }
 
--- However many frames are due in a capture, one at least: the answer is the next one's front, which was read whole, its head is
--- the one item that this gives, and as many symbols are due behind it as a frame of its rate and length has; or the reading
--- halts there.
+-- What a call answers that reads the front of the next frame, at this offset, where at least one frame is due, however many.
+-- With a front, the front was read whole, 107 octets; it gives one item, its head, and the symbols of a frame of its rate and
+-- length are due behind it. With a fault, the reading halts there.
 abbrev pub TellsFront : ℕ → Device ℕ → Device ℕ → Result Front InFault → Type 0
 TellsFront at source after result = (left : ℕ) → 0 < left → MatchResult result
     (λ (f : Front). Gives (reader_in captures (captures_due left) at source)

@@ -54,9 +54,11 @@ abbrev pub legacy_means : Progress → List ℕ → Meaning (Item LegacyFrameHea
 legacy_means r octets =
     before (map One (jobs_between r.symbol (first_of r.left) r.left)) (mapped_from r.course (meaning captures (state_of r.stage) r.at octets))
 
+-- the number of octets that it read
 abbrev pub legacy_at : Progress → ℕ
 legacy_at r = r.at
 
+-- the reader over its source
 abbrev pub seen : Progress → Device ℕ → ReaderView (Item LegacyFrameHead)
 seen = view legacy_means legacy_at
 
@@ -87,10 +89,12 @@ pub record IsFresh (r : Progress) : Type 0 where
   pub symbol : r.course.symbol ≡ 0
   pub number : r.course.number ≡ 0
 
+-- what holds of a reader in each stage
 abbrev pub Fits : Stage → Progress → Type 0
 Fits Start r = IsFresh r
 Fits (Due frames symbols) r = StageFits frames symbols r
 
+-- what holds of every reader
 pub record IsSound (r : Progress) : Type 0 where
   pub stage : Fits r.stage r
   pub few : r.left ≤ carriers

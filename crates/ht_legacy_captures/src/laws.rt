@@ -15,11 +15,10 @@ pub fn written()
     ensures { (frames : List LegacyCapture) → AreCaptures frames → IsFile captures (captures_file_of frames) (items_of frames) }
 {}
 
-/// What is clean so far can end as a capture: good fields, wherever they lead, are followed by more good fields up to the
-/// end of some capture. So octets are clean exactly where they are the beginning of some capture that is cut off within a
-/// field.
+/// Good fields, wherever they lead, can be followed by more good fields up to the end of some capture. So octets are clean
+/// exactly where they are the first whole fields of some capture, and then fewer octets than its next field has.
 ///
-/// `4c 47 43 50 01 00 01 05` is clean, and so it begins a capture, here of one frame at 36 Mbit/s.
+/// `4c 47 43 50 01 00 01 05` is clean: it begins a capture, here of one frame at 36 Mbit/s.
 pub fn clean_can_end()
     ensures { CleanCanEnd captures }
 {}

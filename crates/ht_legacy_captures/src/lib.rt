@@ -11,11 +11,11 @@
 //! octets in all. With an 8 as its rate it is BadMcs at 7, with no octets or with 4096 BadLength at 8, without its last
 //! octet Truncated at 945, and with an octet more Trailing at 946.
 //!
-//! `add_head` and `add_sample` are what stands in front of a frame's samples, and a sample. The format is `captures` of
-//! `specs/Formats.antt`: it gives the head of each frame, and the samples of each of its symbols.
+//! `add_head` adds what stands in front of a frame's samples, and `add_sample` of `ht_capture::numbers` a sample. The format
+//! is `captures` of `specs/Formats.antt`: it gives the head of each frame, and the samples of each of its symbols.
 #![tactic(auto)]
 
 pub mod laws;
 mod writing;
 
-pub use writing::{add_head, add_sample};
+pub use writing::add_head;

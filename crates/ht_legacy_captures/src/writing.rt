@@ -1,11 +1,9 @@
 //! Captures as they are written.
 ghost use Rattle.std.specs.Prelude.{◌≡◌, ◌≤◌, ◌+◌, ◌*◌, ◌++◌, length};
-ghost use Rattle.ht_capture.specs.Files.{sample_octets};
 ghost use Rattle.ht_legacy_captures.specs.Files.{head_octets};
 
 use ht_clause18::LegacyRate;
 use ht_fields::Chunk;
-use ht_metric::Sample;
 
 /// Adds what stands in front of the samples of a frame: its rate, the number of octets of its PSDU, and the diagonals.
 pub fn add_head(chunk: &mut Chunk, rate: LegacyRate, octets: u16, diagonals: &[u16])
@@ -17,13 +15,4 @@ pub fn add_head(chunk: &mut Chunk, rate: LegacyRate, octets: u16, diagonals: &[u
     for diagonal in diagonals {
         chunk.add(&diagonal.to_be_bytes());
     }
-}
-
-/// Adds a sample: the real part, and then the imaginary part.
-pub fn add_sample(chunk: &mut Chunk, sample: Sample)
-    requires room { length chunk.old + 8 ≤ 4096 }
-    ensures { chunk.new ≡ chunk.old ++ sample_octets sample }
-{
-    chunk.add(&sample.re.to_be_bytes());
-    chunk.add(&sample.im.to_be_bytes());
 }

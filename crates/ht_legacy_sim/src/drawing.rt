@@ -8,8 +8,8 @@ ghost use Rattle.ht_sim.specs.Draws.{drawn, each, several};
 ghost use Rattle.ht_legacy_sim.specs.Drawing.{diagonal_drawn, exact_from};
 
 use arrayvec::ArrayVec;
+use ht_capture::numbers;
 use ht_fields::Chunk;
-use ht_legacy_captures::add_sample;
 use ht_metric::Sample;
 use ht_pam::Point;
 use ht_sim::{Words, stretched};
@@ -60,7 +60,7 @@ pub fn fill(
     let mut place = first;
     for point in points {
         let diagonal = diagonals[place % CARRIERS];
-        add_sample(chunk, words.sample(noise, exact(diagonal, *point)));
+        numbers::add_sample(chunk, words.sample(noise, exact(diagonal, *point)));
         place += 1;
     }
 }

@@ -14,10 +14,8 @@
 #![tactic(auto)]
 
 mod drawing;
-mod faults;
 pub mod laws;
 mod passing;
 mod putting;
 
-pub use faults::LegacyFault;
 pub use passing::legacy_channel;

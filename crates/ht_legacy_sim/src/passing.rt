@@ -5,10 +5,10 @@ ghost use Rattle.ht_runs.specs.Filters.{SaysNothing};
 ghost use Rattle.ht_runs.specs.declared.faults.RunFault.TheVariants.{Write};
 ghost use Rattle.ht_legacy_sim.specs.Passing.{passing};
 
-use crate::faults::LegacyFault;
 use crate::putting::put_captures;
 use ht_io::{Sink, Source};
 use ht_legacy_files::read_legacy_frames;
+use ht_runs::RunFault;
 use std::alloc::Global;
 
 /// Reads a file of clause 18 frames (LGTX) to its end, passes what is sent of them through the channel that a seed makes,
@@ -24,7 +24,7 @@ pub fn legacy_channel<S: Source, K: Sink>(
     noise: u16,
     source: &mut S,
     sink: &mut K,
-) -> Result<(), LegacyFault>
+) -> Result<(), RunFault>
     ensures converts { Converted (passing seed noise) (S.shown source.old) (S.shown source.new) (K.shown sink.old) (K.shown sink.new) SaysNothing result }
     ensures writes { result ≢ Err Write → (K.shown sink.new).faults ≡ (K.shown sink.old).faults }
 {

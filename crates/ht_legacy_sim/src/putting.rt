@@ -10,13 +10,13 @@ ghost use Rattle.ht_legacy_captures.specs.Files.{capture_octets, captures_file_o
 ghost use Rattle.ht_legacy_sim.specs.Drawing.{capture_drawn, captures_of, exact_from};
 
 use crate::drawing::{diagonals, fill};
-use crate::faults::LegacyFault;
 use ht_clause18::{LegacyFrame, legacy_transmit};
 use ht_fields::Chunk;
 use ht_heads::start_of;
 use ht_io::{Failed, Sink};
 use ht_legacy_captures::add_head;
 use ht_pam::Point;
+use ht_runs::RunFault;
 use ht_sim::Words;
 use std::alloc::Global;
 
@@ -62,7 +62,7 @@ fn put_frame<K: Sink>(
     frame: &LegacyFrame,
     chunk: &mut Chunk,
     sink: &mut K,
-) -> Result<(), LegacyFault>
+) -> Result<(), RunFault>
     ensures grown { OnOk result (Grows (K.shown sink.old) (K.shown sink.new) (capture_octets (capture_drawn noise frame.now words.old).value)) }
     ensures words { OnOk result (words.new ≡ (capture_drawn noise frame.now words.old).state) }
     ensures steady { OnOk result ((K.shown sink.new).faults ≡ (K.shown sink.old).faults) }
@@ -87,7 +87,7 @@ pub fn put_captures<K: Sink>(
     noise: u16,
     frames: &[LegacyFrame],
     sink: &mut K,
-) -> Result<(), LegacyFault>
+) -> Result<(), RunFault>
     requires few { length frames.now ≤ 65535 }
     ensures grown { OnOk result (Grows (K.shown sink.old) (K.shown sink.new) (captures_file_of (captures_of seed noise frames.now))) }
     ensures steady { OnOk result ((K.shown sink.new).faults ≡ (K.shown sink.old).faults) }

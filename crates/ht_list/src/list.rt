@@ -35,6 +35,7 @@ impl<T> List<T> {
     }
 
     /// Gives the vector back. Takes no memory.
+    #[must_use]
     pub fn into_vec(self) -> Vec<T>
         ensures { result.items ≡ self }
     {
@@ -43,7 +44,7 @@ impl<T> List<T> {
 }
 
 impl<T: Drop> List<T> {
-    /// Adds an item behind the others.
+    /// Adds an item behind the others. The only error is lack of memory, and then the list has the items that it had before.
     pub fn push(&mut self, item: T) -> Result<(), AllocError>
         ensures added { OnOk result (self.new ≡ self.old ++ item ∷ []) }
         ensures err { OnErr result (self.new ≡ self.old) }
@@ -52,7 +53,7 @@ impl<T: Drop> List<T> {
         Ok(())
     }
 
-    /// Drops all items and keeps their memory.
+    /// Drops all items. It can't fail. The memory is kept for later ones, which no clause says.
     pub fn clear(&mut self)
         ensures { self.new ≡ [] }
     {
@@ -61,7 +62,8 @@ impl<T: Drop> List<T> {
 }
 
 impl<T: Copy> List<T> {
-    /// Adds copies of these items behind the others.
+    /// Adds copies of these items behind the others. The only error is lack of memory, and then none was added: the list has
+    /// the items that it had before.
     pub fn extend_from_slice(&mut self, items: &[T]) -> Result<(), AllocError>
         ensures added { OnOk result (self.new ≡ self.old ++ items.now) }
         ensures err { OnErr result (self.new ≡ self.old) }

@@ -11,6 +11,7 @@ use Rattle.ht_machine.specs.declared.event.Spot.{Spot}
 use Rattle.ht_machine.specs.declared.event.Spot.TheVariants.{Hand, Deque, Results, Booked, Emitted}
 use Rattle.ht_machine.specs.Machine.{CoreView, IsEnabled, hand, deque}
 
+-- the jobs of hits
 abbrev pub jobs_of : List Hit → List JobView
 jobs_of hits = map (λ hit. hit.job) hits
 
@@ -22,6 +23,7 @@ places c = flat_map option_to_list c.hands ++ flat_map (λ jobs. jobs) c.deques 
 abbrev pub IsIssued : List JobView → JobView → Type 0
 IsIssued issued job = slice_get issued job.number ≡ Some job
 
+-- what holds of every state of the machine
 pub record IsCore (c : CoreView) : Type 0 where
   -- an actor has a hand and a deque
   pub some : 1 ≤ c.workers
@@ -43,6 +45,7 @@ pub record IsCore (c : CoreView) : Type 0 where
   -- the emitted hits are those of the first issued jobs, in order
   pub emitted : jobs_of c.emitted ≡ take (length c.emitted) c.issued
 
+-- the event issues a job
 abbrev pub is_issue : Event → Bool
 is_issue (Issue job) = true
 is_issue (Push a) = false

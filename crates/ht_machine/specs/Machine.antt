@@ -89,6 +89,7 @@ abbrev pub after_all : CoreView → List Event → CoreView
 after_all c [] = c
 after_all c (e ∷ es) = after_all (after c e) es
 
+-- each of these events is enabled in its turn
 abbrev pub IsLegal : CoreView → List Event → Type 0
 IsLegal c [] = ⊤
 IsLegal c (e ∷ es) = IsEnabled c e × IsLegal (after c e) es

@@ -220,8 +220,8 @@ module _ {S K : Type 0} (source : S → Device ℕ) (sink : K → Device ℕ) wh
         → ReceivesEach source sink (Err lack) (devices a.sources a.sinks) (devices b.sources b.sinks)
     received_part run = record {
       ends = tt;
-      memory = lanes_part a b opened.new run.leads opened.read opened.put;
-      later = lanes_later a b opened.new run.leads opened.read opened.put;
+      memory = lanes_part a b opened.new run.leads opened.as_many_sources opened.as_many_sinks;
+      later = lanes_later a b opened.new run.leads opened.as_many_sources opened.as_many_sinks;
     }
 
     pub received : {A E F : Type 0} {x : A} {after : List K} {result : Result (Vec ManyEnd) F}
@@ -234,12 +234,13 @@ module _ {S K : Type 0} (source : S → Device ℕ) (sink : K → Device ℕ) wh
         let first : Devices S K = devices a.sources a.sinks in
         let mid : Devices S K = devices b.sources b.sinks in
         let last : Devices S K = devices b.sources after in
-        let heard = lanes_heard a b opened.new run.leads opened.read opened.put run.over run.taken run.finished in
-        let later = lanes_later a b opened.new run.leads opened.read opened.put in
+        let heard = lanes_heard a b opened.new run.leads opened.as_many_sources opened.as_many_sinks run.over run.taken run.finished in
+        let later = lanes_later a b opened.new run.leads opened.as_many_sources opened.as_many_sinks in
         record {
           ends = then_ok (λ (ends : Vec ManyEnd). EachFinishes sink b.sinks after answers ends.items)
               (λ (ends : Vec ManyEnd). EachEnds source sink first last ends.items) result
-              (λ ends finish. each_ends source sink first mid after answers heard later ends.items finish keep (opened.put ∙ sym opened.read)) finishes;
+              (λ ends finish. each_ends source sink first mid after answers heard later ends.items finish keep
+              (opened.as_many_sinks ∙ sym opened.as_many_sources)) finishes;
           memory = on_err_then (EachMayFinish sink b.sinks after answers) (EachInPart source sink first last) result
               (λ m. each_in_part source sink first mid after answers heard later m) may;
           later = last_later source sink first mid after answers heard later keep;

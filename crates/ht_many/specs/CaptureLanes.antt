@@ -82,5 +82,5 @@ AreNew lanes = (l : Lane) (k : ℕ) → k < length lanes → IsNew (slice_index_
 -- new lanes, and as many sources and sinks
 pub record AreOpen {S K : Type 0} (lanes : List Lane) (sources : List S) (sinks : List K) : Type 0 where
   pub new : AreNew lanes
-  pub read : length sources ≡ length lanes
-  pub put : length sinks ≡ length lanes
+  pub as_many_sources : length sources ≡ length lanes
+  pub as_many_sinks : length sinks ≡ length lanes

@@ -8,6 +8,7 @@ use Rattle.ht_results.specs.declared.frame_result.FrameResult.{FrameResult}
 use Rattle.ht_results.specs.Folding.{FrameSoFar, result_of, results_from}
 use Rattle.ht_results.specs.Texts.{result_line}
 
+-- what one lane keeps of the frames of its capture
 pub record KeptFrames : Type 0 where
   pub under_way : FrameSoFar
   pub whole : List FrameSoFar

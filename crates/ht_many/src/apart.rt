@@ -30,7 +30,7 @@ fn octets_in(captures: &[Bundled]) -> u64 {
 }
 
 /// Whether of captures that are dealt out in order among this many workers, captures by workers, rounded up, to each, no
-/// worker gets more than five quarters of its share of the octets. No clause says so; it is no matter of what comes of them.
+/// worker gets more than five quarters of its share of the octets. No clause says so, and no result depends on it.
 pub(crate) fn are_even(captures: &[Bundled], workers: u8) -> bool
     requires { 1 ≤ workers }
 {

@@ -2,7 +2,7 @@
 //!
 //! An axis has 1, 2, 4 or 8 levels. The one of index n, counted from the lowest, is 2n + 1 - size, and the bits that
 //! name it are the Gray code of its index, n ^ (n >> 1): those of neighbouring levels differ in one bit (clause
-//! 20.3.11.9, with tables 18-8 to 18-11 of clause 18.3.5.8). So no table is looked up, and no branch hangs on a level
+//! 20.3.11.9, with tables 18-8 to 18-11 of clause 18.3.5.8). So no table is looked up, and no branch depends on a level
 //! but whether it is on the axis.
 ghost use Rattle.std.specs.Prelude.{◌≡◌, ◌<◌, IfSome};
 ghost use Rattle.ht_map.specs.Axes.{IsSize, axis_of, index_of};

@@ -6,6 +6,7 @@ use Rattle.ht_metric.specs.declared.tap.Tap.{Tap}
 use Rattle.ht_metric.specs.declared.sample.Sample.{Sample}
 use Rattle.ht_metric.specs.Rows.{Row}
 
+-- the sum and the difference of complex numbers
 abbrev pub plus : Complex → Complex → Complex
 plus a b = record { re = a.re +ℤ b.re; im = a.im +ℤ b.im }
 
@@ -33,9 +34,11 @@ combined (r ∷ rs) (x ∷ xs) = plus (times r x) (combined rs xs)
 abbrev pub received : Sample → Complex
 received y = record { re = y.re; im = y.im }
 
+-- the square of a number
 abbrev pub square : ℤ → ℕ
 square z = unsigned_abs z * unsigned_abs z
 
+-- the squared length of a complex number
 abbrev pub squared_length : Complex → ℕ
 squared_length a = square a.re + square a.im
 

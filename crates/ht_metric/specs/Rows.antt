@@ -15,6 +15,7 @@ pub record Row : Type 0 where
   pub right : List Tap
   pub sample : Sample
 
+-- an entry, a sample and rows of zeros, which stand where there is none
 abbrev pub no_tap : Tap
 no_tap = record { re = pos 0; im = pos 0 }
 

@@ -13,6 +13,7 @@ use Rattle.ht_metric.specs.declared.system.System.TheInside.{Inside as SystemFie
 use Rattle.ht_metric.specs.declared.tap.Tap.{Tap}
 use Rattle.ht_metric.specs.declared.sample.Sample.{Sample}
 
+-- the fields of a vector
 abbrev pub vector_fields : List Point → VectorFields
 vector_fields x = record { points = filled 4 no_point x; len = length x }
 
@@ -24,6 +25,7 @@ vector_fields-shown v p =
     ap (λ (m : ℕ). let back : VectorFields = record { points = filled 4 no_point (take n xs); len = m } in back) count
     ∙ ap (λ (points : List Point). let back : VectorFields = record { points = points; len = n } in back) (filled-take 4 n no_point xs count p.unused)
 
+-- the fields of a triangle
 abbrev pub triangle_fields : List Leg → TriangleFields
 triangle_fields rows = record { streams = length rows; diagonal = filled 4 0 (diagonals rows); above = filled 6 no_tap (entries rows) }
 
@@ -46,6 +48,7 @@ triangle_fields-shown t p =
     ∙ ap (λ xs. at n xs (filled 6 no_tap (entries (legs_of n ds ts)))) ds_back
     ∙ ap (λ ys. at n ds ys) ts_back
 
+-- the fields of a system
 abbrev pub system_fields : List Row → SystemFields
 system_fields rows = record { triangle = legs rows; y = filled 4 no_sample (samples rows) }
 

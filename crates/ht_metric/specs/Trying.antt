@@ -13,6 +13,7 @@ pub record IsMeasured (system : List Row) (best : Found) : Type 0 where
   pub distance : best.distance ≡ distance_of system best.vector
   pub below : best.distance < 2 ^ 66
 
+-- the vector of what was found, if something was
 abbrev pub vector_of : Option Found → Option (List Point)
 vector_of None = None
 vector_of (Some best) = Some best.vector

@@ -13,8 +13,11 @@ use crate::vector::Vector;
 /// No vector of the job's grid is nearer, and none that comes before it is as near. The distance is below 2^66.
 #[derive(Debug, Drop)]
 pub struct Hit {
+    /// The job.
     pub job: Job,
+    /// Its first nearest vector, a point for each spatial stream.
     pub vector: Vector,
+    /// The squared distance of that vector.
     pub distance: u128,
     pub ghost near: { IsNear job vector },
     pub ghost far: { distance ≡ distance_of job.system vector },

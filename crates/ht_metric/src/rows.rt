@@ -39,7 +39,8 @@ fn squared(part: i64) -> u64
     size * size
 }
 
-/// A diagonal of a triangular channel times a level.
+/// A diagonal entry of a triangular channel times a level, I or Q of a point, from -7 to 7: where the channel puts that level
+/// before the other streams and noise are added.
 pub fn stretched(diagonal: u16, level: i8) -> i64
     requires { unsigned_abs level ≤ 7 }
     ensures value { result ≡ pos diagonal *ℤ level }

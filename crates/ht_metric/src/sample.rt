@@ -4,7 +4,9 @@ ghost use Rattle.std.specs.Prelude.{◌≡◌, IsTrue, ◌↔◌};
 /// What was received on one row of a system.
 #[derive(Clone, Copy, Debug, Default, PartialEq, Eq)]
 pub struct Sample {
+    /// The real part.
     pub re: i32,
+    /// The imaginary part.
     pub im: i32,
 }
 

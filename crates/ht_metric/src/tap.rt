@@ -8,7 +8,9 @@ use ht_pam::Point;
 /// An entry above the diagonal of the triangular channel: the gain from one stream to an earlier row.
 #[derive(Clone, Copy, Debug, Default, PartialEq, Eq)]
 pub struct Tap {
+    /// The real part.
     pub re: i16,
+    /// The imaginary part.
     pub im: i16,
 }
 

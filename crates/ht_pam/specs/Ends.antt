@@ -19,7 +19,7 @@ top mask = 31 - leading_zeros w32 mask
 abbrev pub bottom : ℕ → ℕ
 bottom mask = trailing_zeros w32 mask
 
--- each level costs less than so much
+-- each level costs less than `n`
 abbrev pub Under : (ℤ → ℕ) → ℕ → List ℤ → Type 0
 Under cost n [] = ⊤
 Under cost n (x ∷ xs) = (cost x < n) × Under cost n xs

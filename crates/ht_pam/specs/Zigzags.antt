@@ -16,7 +16,7 @@ abbrev pub nearest_first : (ℤ → ℕ) → List ℤ → List ℤ
 nearest_first cost [] = []
 nearest_first cost (x ∷ xs) = put cost x (nearest_first cost xs)
 
--- each level costs at least so much
+-- each level costs at least `n`
 abbrev pub From : (ℤ → ℕ) → ℕ → List ℤ → Type 0
 From cost n [] = ⊤
 From cost n (x ∷ xs) = (n ≤ cost x) × From cost n xs

@@ -6,7 +6,9 @@ use crate::ladder::Ladder;
 /// The ladders of one spatial stream's points: I is on one, Q on the other.
 #[derive(Clone, Copy, Debug, PartialEq, Eq)]
 pub struct Axes {
+    /// The levels of I, the real part.
     pub i: Ladder,
+    /// The levels of Q, the imaginary part.
     pub q: Ladder,
 }
 

@@ -6,6 +6,8 @@
 /// Points are ordered by I, and those of the same I by Q.
 #[derive(Clone, Copy, Debug, Default, PartialEq, Eq, PartialOrd, Ord, Drop)]
 pub struct Point {
+    /// The real part.
     pub i: i8,
+    /// The imaginary part.
     pub q: i8,
 }

@@ -4,6 +4,7 @@ use Rattle.atomic_table.specs.Seated.{TableId}
 use Rattle.ht_counts.specs.Counts.{SameCounts}
 use Rattle.ht_pool.specs.Seats.{DequeId, SeatView, OwnView, deques_at, taken_at}
 
+-- the caller's end of a pool
 pub record HelmView (T A : Type 0) : Type 0 where
   -- this number of tasks can be given for sure
   pub room : ℕ

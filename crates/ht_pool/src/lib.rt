@@ -1,10 +1,10 @@
 //! A pool of workers that steal, for any kind of work.
 //!
-//! A [`Work`](work::Work) says what a task is, what an answer is, which task an answer is of, and how much is in a task. [`Pool::open`](pool::Pool::open) takes
-//! all the memory that a pool needs. Its parts are what the threads share, the post of the caller, and the workers. At a
-//! [`Helm`](helm::Helm) the caller gives tasks to the pool, takes tasks back that no worker took and runs them, and
-//! receives answers. [`beside`](crew::beside) runs the workers, each in a thread of its own, while the caller works at
-//! its helm in the thread that called. [`close`](close::close) then joins what all have done.
+//! A [`Work`](work::Work) says what a task is, what an answer is, which task an answer is of, and how much is in a task.
+//! [`Pool::open`](pool::Pool::open) takes all the memory that a pool needs. Its parts are what the threads share, the post of
+//! the caller, and the workers. At a [`Helm`](helm::Helm) the caller gives tasks to the pool, takes tasks back that no worker
+//! took and runs them, and receives answers. [`beside`](crew::beside) runs the workers, each in a thread of its own, while
+//! the caller works at its helm in the thread that called. [`close`](close::close) then joins what all have done.
 //!
 //! Tasks go through deques (crate `crossbeam_deque`): the caller pushes on its own, and each worker moves tasks from
 //! another's deque to its own. Answers go through a queue with a bound (`crossbeam_queue`). Each thread has a seat at every

@@ -59,7 +59,8 @@ impl<T: Drop + Send, A: Drop + Send> Pool<T, A> {
     }
 }
 
-// Puts a pool together of its deques and seats, of which the caller gets the first deque and the last seats.
+// The pool with these deques and seats: the caller has the first deque and the last row of seats, and each other deque with
+// its row is a worker's. No worker is there yet in `members`, which has room for all. It takes no memory.
 fn assemble<T: Drop, A: Drop>(
     shared: Shared<A>,
     mut pass: AnswerPass<A>,

@@ -1,4 +1,4 @@
--- How the numbers of bits, symbols, pads and steps of a PSDU hang together.
+-- How the numbers of bits, symbols, pads and steps of a PSDU depend on one another.
 use Rattle.std.proofs.Common.{◌≡◌, ℕ, zero, suc, ◌+◌, ◌*◌, ◌/◌, ◌<◌, ◌≤◌, Bool, true, nat_eq, nat_le, refl, arith}
 use Rattle.std.proofs.lemmas.Bool.{eqb-true, leb-true}
 use Rattle.std.proofs.Math.Nat.{le_trans, lt_of_mul-lt-mul_right, mul-le-mul_right}

@@ -101,7 +101,7 @@ pub enum Pattern {
 }
 
 impl Pattern {
-    /// Numerator and denominator of the coding rate.
+    /// The coding rate that the pattern leaves, as its numerator and its denominator in lowest terms: (1, 2) to (5, 6).
     pub fn coding_rate(self) -> (u16, u16)
         ensures numerator { result.0 ≡ numerator_of self }
         ensures denominator { result.1 ≡ denominator_of self }

@@ -27,6 +27,7 @@ pub(crate) static STREAMS: [Streams; 4] = [
 ];
 
 impl Streams {
+    /// The number of spatial streams, 1 to 4.
     pub fn count(self) -> u8
         ensures value { result ≡ count_of self }
         ensures low { 1 ≤ result }
@@ -70,6 +71,7 @@ pub(crate) static SCHEMES: [Scheme; 8] = [
 ];
 
 impl Scheme {
+    /// The modulation.
     pub fn modulation(self) -> Modulation
         ensures { result ≡ scheme_modulation self }
     {
@@ -82,6 +84,7 @@ impl Scheme {
         }
     }
 
+    /// The puncturing pattern, by the coding rate that it leaves.
     pub fn pattern(self) -> Pattern
         ensures { result ≡ scheme_pattern self }
     {

@@ -1,31 +1,16 @@
-//! Runs over devices in memory that never fail, or fail at an offset, and how each status reads.
+//! Runs over devices in memory that never fail, or fail at an offset, runs by two workers, and how each status reads.
 //!
 //! What each command writes for a whole input and for one at fault is tried by `.ci/vectors`, and with many workers and
 //! windows by `checks/stress`.
+use crate::common::{Harm, TWO_FRAMES, zeros};
 use crate::equal::equal;
-use ht_cli::{Status, laws, run_alone};
+use crate::gate::{Rule, Watch};
+use ht_cli::{Status, laws, run, run_alone};
 use ht_feed::OpenGate;
 use ht_io::{MemSink, MemSource, SureSink, SureSource};
 use std::alloc::{AllocError, Global};
 use std::process::ExitCode;
 use std::test::Fail;
-
-/// What `rx` writes for `zeros`.
-static FRAMES: &str =
-    "frame 0 data 10400 pilot 800 code 0 seed zero\nframe 1 data 10400 pilot 800 code 0 seed zero\nend 2 frames\n";
-
-/// A capture of two frames of one octet at 20 MHz, MCS 0: the diagonal 10 on each subcarrier, every sample 0.
-fn zeros(alloc: Global) -> Result<Vec<u8>, AllocError> {
-    let mut octets = b"HTCP\x01\x00\x02".to_vec(alloc)?;
-    for _ in 0..2u8 {
-        octets.extend_from_slice(b"\x00\x00\x00\x01")?;
-        for _ in 0..56u8 {
-            octets.extend_from_slice(&[0, 10])?;
-        }
-        octets.extend_from_slice(&[0; 896])?;
-    }
-    Ok(octets)
-}
 
 /// The words of a text, in which a space stands between two.
 fn words_of(alloc: Global, text: &str) -> Result<Vec<String>, AllocError> {
@@ -36,7 +21,7 @@ fn words_of(alloc: Global, text: &str) -> Result<Vec<String>, AllocError> {
     Ok(words)
 }
 
-/// The status of a run over `zeros`, and the sink. The source and the sink fail at these offsets.
+/// The status of a run over a capture of two frames, and the sink. The source and the sink fail at these offsets.
 fn ran(
     alloc: Global,
     words: &str,
@@ -45,7 +30,7 @@ fn ran(
 ) -> Result<(Status, MemSink), AllocError> {
     let words = words_of(alloc, words)?;
     let failing = vec![in alloc; reads_to]?;
-    let mut source = MemSource::new(zeros(alloc)?, Vec::new(alloc), failing);
+    let mut source = MemSource::new(zeros(alloc, &[1, 1])?, Vec::new(alloc), failing);
     let failing = vec![in alloc; puts_to]?;
     let mut sink = MemSink::new(Vec::with_capacity(alloc, 4096)?, failing);
     let status = run_alone(alloc, &words, &mut source, &mut sink, &OpenGate);
@@ -89,14 +74,46 @@ fn failing(rt: HostRuntime) -> Result<(), Fail> {
 #[test]
 fn sure(rt: HostRuntime) -> Result<(), Fail> {
     let words = words_of(rt.alloc(), "rx")?;
-    let mut source = SureSource::new(zeros(rt.alloc())?);
+    let mut source = SureSource::new(zeros(rt.alloc(), &[1, 1])?);
     let mut sink = SureSink::new(Vec::with_capacity(rt.alloc(), 105)?);
     let status = laws::run_sure(rt.alloc(), &words, &mut source, &mut sink);
     equal(
         &rt,
         (status, sink.held()),
-        (Status::Done, Some(FRAMES.as_bytes())),
+        (Status::Done, Some(TWO_FRAMES.as_bytes())),
     );
+    Ok(())
+}
+
+// Two workers meet at a gate that one alone can't pass: job 0 is held until 111 others have left. By weights 104 jobs come
+// to two halves each, and eight pilots to one.
+#[test]
+fn threads_meet(rt: HostRuntime) -> Result<(), Fail> {
+    let alloc = rt.alloc();
+    let octets = zeros(alloc, &[1])?;
+    for (words, jobs) in [
+        ("detect --workers 2", 112),
+        ("rx --workers 2", 112),
+        ("soft --workers 2", 216),
+    ] {
+        let call = words_of(alloc, words)?;
+        let gate = Watch::new(Rule::OthersFirst(111));
+        let mut source = Harm::None.source(alloc, &octets)?;
+        let mut sink = Harm::None.sink(alloc)?;
+        let status = run(&rt, alloc, &call, &mut source, &mut sink, &gate);
+        let mut again = Harm::None.source(alloc, &octets)?;
+        let mut wanted = Harm::None.sink(alloc)?;
+        let alone = run_alone(alloc, &call, &mut again, &mut wanted, &OpenGate);
+        let answer = (words, status, alone, sink.held(), gate.counts());
+        let expected = (
+            words,
+            Status::Done,
+            Status::Done,
+            wanted.held(),
+            [jobs, jobs, 0],
+        );
+        equal(&rt, answer, expected);
+    }
     Ok(())
 }
 

@@ -19,7 +19,7 @@ pub(crate) fn job(number: u64, re: i32) -> Job
     Job::new(number, Place::default(), grid, System::new(triangle, y))
 }
 
-/// Appends a piece so many times.
+/// Appends a piece this number of times.
 pub(crate) fn push_times(octets: &mut Vec<u8>, times: u32, piece: &[u8]) -> Result<(), AllocError> {
     for _ in 0..times {
         octets.extend_from_slice(piece)?;
@@ -46,6 +46,11 @@ pub(crate) fn zeros(alloc: Global, lengths: &[u16]) -> Result<Vec<u8>, AllocErro
     }
     Ok(octets)
 }
+
+/// What is put of the frames of such a capture of two frames of one octet: each of the 104 data jobs and the 8 pilot jobs of
+/// a frame is at 100.
+pub(crate) const TWO_FRAMES: &str =
+    "frame 0 data 10400 pilot 800 code 0 seed zero\nframe 1 data 10400 pilot 800 code 0 seed zero\nend 2 frames\n";
 
 /// What befalls a capture that is received.
 #[derive(Clone, Copy, Debug, PartialEq, Eq)]

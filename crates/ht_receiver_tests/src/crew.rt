@@ -90,7 +90,7 @@ fn alone<G: Gate>(alloc: Global, window: u16, gate: &G, failing: &[u64]) -> Resu
     Ok((ran, feed))
 }
 
-// The same by so many workers.
+// The same by this number of workers.
 fn together<R: Threads + Wait + Sync, G: Gate + Sync>(
     rt: &R,
     alloc: Global,

@@ -12,7 +12,7 @@ use std::sync::Wait;
 use std::test::Fail;
 use std::thread::Threads;
 
-/// Holds that this is the line of a plan.
+/// Asserts that this is the line of a plan.
 fn says<R: Abort + Threads + Wait + Sync>(
     rt: &R,
     alloc: Global,

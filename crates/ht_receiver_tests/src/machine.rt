@@ -36,7 +36,7 @@ impl Move {
     }
 }
 
-// Holds that a move comes, or that it is refused.
+// Asserts that a move comes, or that it is refused.
 fn plays(rt: &impl Abort, core: &mut Core, next: Move, comes: bool) {
     let event = next.event();
     let is_enabled = enabled(core, &event);

@@ -1,6 +1,6 @@
 //! Captures beside one another: whole ones, one that is none, and ones that are cut, whose source fails, or whose sink does,
 //! at each offset; and bundles.
-use crate::common::{Harm, a5, zeros};
+use crate::common::{Harm, TWO_FRAMES, a5, zeros};
 use crate::equal::equal;
 use ht_feed::OpenGate;
 use ht_io::{FormatFault, GrowSink, Kind, MemSink, MemSource, SureSource};
@@ -59,7 +59,7 @@ fn sinks(alloc: Global, lanes: &[Lane]) -> Result<Vec<MemSink>, AllocError> {
     Ok(sinks)
 }
 
-// Holds what came of the captures.
+// Asserts what came of the captures.
 fn ends_as(rt: &impl Abort, lanes: &[Lane], ends: &[ManyEnd], sinks: &[MemSink]) {
     equal(rt, (ends.len(), sinks.len()), (lanes.len(), lanes.len()));
     for (lane, (end, sink)) in lanes.iter().zip(ends.iter().zip(sinks)) {
@@ -111,10 +111,6 @@ fn by_crew<R: Abort + Threads + Wait + Sync>(
 
 /// The text of the capture of one frame of one octet: of each of its 104 data jobs and 8 pilot jobs the distance is 100.
 const ZEROS: &str = "frame 0 data 10400 pilot 800 code 0 seed zero\nend 1 frames\n";
-
-/// The text of a capture of two such frames.
-const TWICE: &str =
-    "frame 0 data 10400 pilot 800 code 0 seed zero\nframe 1 data 10400 pilot 800 code 0 seed zero\nend 2 frames\n";
 
 /// The octets of a frame's line.
 const LINE: usize = 46;
@@ -213,7 +209,7 @@ fn lines_before(at: u64) -> usize {
 
 // The first octets of the text of this capture.
 fn first_octets(alloc: Global, count: usize) -> Result<Vec<u8>, AllocError> {
-    let mut octets = TWICE.as_bytes().to_vec(alloc)?;
+    let mut octets = TWO_FRAMES.as_bytes().to_vec(alloc)?;
     octets.truncate(count);
     Ok(octets)
 }
@@ -229,7 +225,7 @@ fn cut_text(alloc: Global, at: u64) -> Result<Vec<u8>, AllocError> {
 // This capture with a harm.
 fn harmed(alloc: Global, octets: &[u8], harm: Harm) -> Result<Lane, AllocError> {
     let (end, text) = match harm {
-        Harm::None => (ManyEnd::Done(2), first_octets(alloc, TWICE.len())?),
+        Harm::None => (ManyEnd::Done(2), first_octets(alloc, TWO_FRAMES.len())?),
         Harm::Cut(at) => (refused(Kind::Truncated, at), cut_text(alloc, at)?),
         Harm::Source(at) => (ManyEnd::Read, first_octets(alloc, lines_before(at))?),
         Harm::Sink(at) => (ManyEnd::Write, first_octets(alloc, at as usize)?),
@@ -247,7 +243,7 @@ fn harmed(alloc: Global, octets: &[u8], harm: Harm) -> Result<Lane, AllocError> 
 fn orders(at: u64) -> [[Harm; 3]; 3] {
     let cut = Harm::Cut(at.min(OCTETS - 1));
     let source = Harm::Source(at);
-    let sink = Harm::Sink(at % TWICE.len() as u64);
+    let sink = Harm::Sink(at % TWO_FRAMES.len() as u64);
     [
         [cut, source, sink],
         [source, sink, cut],

@@ -2,7 +2,7 @@
 //! give an octet at a time.
 ghost use Rattle.ht_feed.specs.Limits.{IsWindowSize};
 
-use crate::common::{Harm, zeros};
+use crate::common::{Harm, TWO_FRAMES, zeros};
 use crate::equal::equal;
 use crate::gate::{Rule, Watch};
 use ht_endings::put_end;
@@ -10,9 +10,9 @@ use ht_feed::{Gate, OpenGate};
 use ht_frames::ListBook;
 use ht_inverse::Outcome;
 use ht_io::{MemSink, MemSource};
-use ht_runs::RunFault;
+use ht_runs::{RunFault, StopFault};
 use ht_rx::{
-    Ended, FrameResult, RxFault, list_jobs, list_jobs_alone, receive, receive_alone, receive_text,
+    Ended, FrameResult, list_jobs, list_jobs_alone, receive, receive_alone, receive_text,
     receive_text_alone,
 };
 use std::alloc::{AllocError, Global};
@@ -34,7 +34,7 @@ fn alone(
     window: u16,
     source: &mut MemSource,
     sink: &mut MemSink,
-) -> Result<Ended, RxFault>
+) -> Result<Ended, StopFault>
     requires { IsWindowSize window }
 {
     match lines {
@@ -51,7 +51,7 @@ fn by_two<R: Threads + Wait + Sync, G: Gate + Sync>(
     source: &mut MemSource,
     sink: &mut MemSink,
     gate: &G,
-) -> Result<Ended, RxFault>
+) -> Result<Ended, StopFault>
     requires { IsWindowSize window }
 {
     match lines {
@@ -83,12 +83,12 @@ fn text_of(alloc: Global, lines: Lines) -> Result<String, AllocError> {
     Ok(text)
 }
 
-const WHOLE: Result<Ended, RxFault> = Ok(Ended::Done {
+const WHOLE: Result<Ended, StopFault> = Ok(Ended::Done {
     frames: 1,
     jobs: 112,
 });
 
-// Holds what is put of a frame of one octet by one thread.
+// Asserts what is put of a frame of one octet by one thread.
 fn puts_alone(rt: &impl Abort, alloc: Global, lines: Lines, text: &str) -> Result<(), AllocError> {
     let mut source = Harm::None.source(alloc, &zeros(alloc, &[1])?)?;
     let mut sink = Harm::None.sink(alloc)?;
@@ -101,7 +101,7 @@ fn puts_alone(rt: &impl Abort, alloc: Global, lines: Lines, text: &str) -> Resul
     Ok(())
 }
 
-// Holds what is put of it by two threads.
+// Asserts what is put of it by two threads.
 fn puts_by_two<R: Abort + Threads + Wait + Sync, G: Gate + Sync>(
     rt: &R,
     alloc: Global,
@@ -148,7 +148,7 @@ fn is_of(found: &FrameResult, frame: usize, symbols: u8) -> bool {
         && matches!(&found.outcome, Outcome::SeedZero)
 }
 
-// Whether these are the results of the first frames, with so many symbols.
+// Whether these are the results of the first frames, which have these numbers of symbols.
 fn are_of(results: &[FrameResult], symbols: &[u8]) -> bool {
     for (frame, (found, symbols)) in results.iter().zip(symbols).enumerate() {
         if !is_of(found, frame, *symbols) {
@@ -239,10 +239,6 @@ static ENDS: [End; 5] = [
     },
 ];
 
-/// What is put of two frames.
-static FRAMES: &str =
-    "frame 0 data 10400 pilot 800 code 0 seed zero\nframe 1 data 10400 pilot 800 code 0 seed zero\nend 2 frames\n";
-
 /// How many octets of lines of jobs there are, with the last line.
 const JOBS: usize = 4445;
 
@@ -268,7 +264,7 @@ impl Capture {
         })
     }
 
-    // Holds that a run with this harm ends with this fault, and that so many octets of the text are put.
+    // Asserts that a run with this harm ends with this fault, and that this number of octets of the text are put.
     fn breaks(
         &self,
         rt: &impl Abort,
@@ -296,7 +292,7 @@ fn broken_off(rt: HostRuntime) -> Result<(), Fail> {
     let jobs = Capture::new(&rt, rt.alloc(), Lines::Jobs)?;
     let frames = Capture::new(&rt, rt.alloc(), Lines::Frames)?;
     equal(&rt, jobs.text.len(), JOBS);
-    equal(&rt, frames.text.as_slice(), FRAMES.as_bytes());
+    equal(&rt, frames.text.as_slice(), TWO_FRAMES.as_bytes());
     let mut written = 0;
     for offset in 0..2032u64 {
         let harm = Harm::Source(offset);

@@ -198,7 +198,7 @@ impl Numbers {
         samples
     }
 
-    // Diagonals from `least`, below `least + 1000`.
+    // Four diagonals, each drawn from `least` to `least + count - 1`.
     fn diagonals(&mut self, least: u16, count: u16) -> [u16; 4]
         requires some { 0 < count }
         requires few { count ≤ 1000 }

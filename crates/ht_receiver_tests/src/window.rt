@@ -27,7 +27,7 @@ static OF_TWO: [Answer; 3] = [
     ((0, 4), (Accepted::Stranger, Some(0))),
 ];
 
-// Holds what the window says to answers.
+// Asserts what the window says to answers.
 fn accepts(rt: &impl Abort, window: &mut Window, answers: &[Answer]) {
     for &((number, re), wanted) in answers {
         let accepted = window.accept(plain_nearest(&job(number, re)));
@@ -36,7 +36,7 @@ fn accepts(rt: &impl Abort, window: &mut Window, answers: &[Answer]) {
     }
 }
 
-// Holds which hits the window emits, by their numbers.
+// Asserts which hits the window emits, by their numbers.
 fn emits(rt: &impl Abort, window: &mut Window, numbers: &[Option<u64>]) {
     for number in numbers {
         let emitted = window.emit().map(|hit| hit.job().number());

@@ -16,7 +16,8 @@ use Rattle.ht_capture_laws.proofs.Lists.{all_kept, all_weaker}
 use Rattle.ht_capture_laws.proofs.More.{frames_more}
 use Rattle.ht_capture_laws.proofs.Parts.{frames_of, heads_good, parted_of}
 use Rattle.ht_results.specs.declared.frame_result.FrameResult.{FrameResult}
-use Rattle.ht_results.specs.Heads.{Headed, headed, headed_in, headed_jobs, headed_of}
+use Rattle.ht_feed.specs.Items.{headed_of}
+use Rattle.ht_results.specs.Heads.{Headed, headed, headed_in, headed_jobs}
 use Rattle.ht_results.specs.Captured.{ComesTo}
 use Rattle.ht_results.specs.Distances.{distance_fold, distances_of, frame_distances, job_distance, one_value}
 use Rattle.ht_results.specs.Folding.{FrameSoFar, frame_after, frames_within, job_labels, label_fold, results_from, streams_in}

@@ -19,7 +19,8 @@ use Rattle.ht_capture_laws.specs.Items.{FrameJobs, HasSymbols, IsFrontOfFrame, I
 use Rattle.ht_capture_laws.specs.Items.{symbols_in}
 use Rattle.ht_capture_laws.proofs.Lists.{all_of_map, all_weaker, length-flat}
 use Rattle.ht_capture_laws.proofs.Parts.{places_good}
-use Rattle.ht_results.specs.Heads.{Headed, headed_of}
+use Rattle.ht_feed.specs.Items.{headed_of}
+use Rattle.ht_results.specs.Heads.{Headed}
 use Rattle.ht_results.specs.Captured.{ComesTo, capture_plan, kind_of, with_job_by, with_octets}
 use Rattle.ht_results.specs.Folding.{frame_begun, jobs_in_frame}
 use Rattle.ht_results.specs.Plans.{Fold, Follows, HasIndices, IsPlaced, Plan, SoFar, begun_by, given_from, under_way, with_kind_by}

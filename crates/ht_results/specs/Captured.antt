@@ -37,6 +37,7 @@ with_octets head = record head { length = max 1 head.length }
 abbrev pub frame_by : {V : Type 0} → Plan FrameHead V → FrameHead → SoFar FrameHead V → SoFar FrameHead V
 frame_by plan head f = if f.left == 0 then begun_by plan (with_octets head) else f
 
+-- the frame with one more job, which may begin it
 unfoldable pub with_job_by : {V : Type 0} → Plan FrameHead V → Headed → SoFar FrameHead V → SoFar FrameHead V
 with_job_by plan h f = with_kind_by plan h.job (frame_by plan h.head f)
 

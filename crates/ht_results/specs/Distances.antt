@@ -32,11 +32,14 @@ distances_of octets = map frame_distances (whole_frames (capture_of octets).item
 abbrev pub one_value : FrameHead → ℕ
 one_value head = 1
 
+-- the one value that is kept of a job: its distance
 abbrev pub job_distance : FrameHead → JobView → List ℕ
 job_distance head job = (near job).distance ∷ []
 
+-- the plan by which the distances of jobs are kept
 abbrev pub distance_plan : Plan FrameHead ℕ
 distance_plan = capture_plan one_value job_distance 0
 
+-- the fold whose result of a frame is the list of its distances
 abbrev pub distance_fold : Fold Headed FrameHead ℕ (List ℕ)
 distance_fold = record { step = with_job_by distance_plan; result = λ f. f.labels }

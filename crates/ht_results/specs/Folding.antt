@@ -31,6 +31,7 @@ label_at m p = unwrap_or (label_of m p) 0
 abbrev pub job_labels : FrameHead → JobView → List ℕ
 job_labels head job = map (label_at (modulation_of head.rate)) (near job).vector
 
+-- the number of streams of a frame
 abbrev pub streams_in : FrameHead → ℕ
 streams_in head = streams_of head.rate
 
@@ -62,6 +63,7 @@ label_place r symbol m = (symbol * data_carriers_of r + m) * streams_of r
 abbrev pub with_kind : JobView → FrameSoFar → FrameSoFar
 with_kind job f = with_kind_by label_plan job f
 
+-- the frame with one more job, which may begin it
 unfoldable pub with_job : Headed → FrameSoFar → FrameSoFar
 with_job h f = with_kind h.job (frame_of h.head f)
 

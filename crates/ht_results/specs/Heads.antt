@@ -1,20 +1,16 @@
 -- The jobs of a capture, each with the head of its frame.
 use Rattle.std.specs.Prelude.{ℕ, List, [], ◌∷◌, map}
 use Rattle.std.specs.List.{flat_map}
-use Rattle.ht_metric.specs.Jobs.{JobView}
 use Rattle.ht_capture.specs.declared.items.FrameHead.{FrameHead}
 use Rattle.ht_capture.specs.declared.items.Item.{Item}
 use Rattle.ht_capture.specs.declared.items.Item.TheVariants.{Frame, Job, Done}
 use Rattle.ht_capture.specs.Captures.{capture_of}
 use Rattle.ht_capture_laws.specs.Items.{FrameJobs, frames_in}
-use Rattle.ht_feed.specs.Items.{Headed as HeadedBy}
+use Rattle.ht_feed.specs.Items.{Headed as HeadedBy, headed_of}
 
 -- a job with the head of its frame
 abbrev pub Headed : Type 0
 Headed = HeadedBy FrameHead
-
-abbrev pub headed_of : FrameHead → JobView → Headed
-headed_of head job = record { head = head; job = job }
 
 -- the jobs among items that came behind this head, each with the head that came last before it
 abbrev pub headed : FrameHead → List Item → List Headed

@@ -66,6 +66,7 @@ with_hit_by plan job (Data m) f = record f {
 }
 with_hit_by plan job (Pilot k) f = record f { pilot_sum = f.pilot_sum + (near job).distance; left = f.left - 1 }
 
+-- the same, where the plan says what the job's subcarrier carries
 abbrev pub with_kind_by : {H V : Type 0} → Plan H V → JobView → SoFar H V → SoFar H V
 with_kind_by plan job f = with_hit_by plan job (plan.kind f.head job.place.carrier) f
 
@@ -74,6 +75,7 @@ pub record Fold (X H V R : Type 0) : Type 0 where
   pub step : X → SoFar H V → SoFar H V
   pub result : SoFar H V → R
 
+-- the result of a frame, where its last job came
 abbrev pub given_if : {X H V R : Type 0} → Fold X H V R → SoFar H V → List R
 given_if fold f = if f.left == 0 then fold.result f ∷ [] else []
 
@@ -100,9 +102,11 @@ abbrev pub kept_of : {H V : Type 0} → Plan H V → H → Option JobView → Li
 kept_of plan head None = replicate (plan.width head) plan.none
 kept_of plan head (Some job) = plan.values head job
 
+-- what is kept at a symbol and a data subcarrier
 abbrev pub kept_at : {H V : Type 0} → Plan H V → H → List JobView → ℕ → ℕ → List V
 kept_at plan head jobs symbol m = kept_of plan head (job_at plan head jobs symbol m)
 
+-- what is kept of a symbol, in the order of its data subcarriers
 abbrev pub kept_in : {H V : Type 0} → Plan H V → H → List JobView → ℕ → List V
 kept_in plan head jobs symbol = flat_map (kept_at plan head jobs symbol) (range_with_len 0 (plan.data_carriers head))
 
@@ -110,10 +114,12 @@ kept_in plan head jobs symbol = flat_map (kept_at plan head jobs symbol) (range_
 unfoldable pub kept_by_place : {H V : Type 0} → Plan H V → H → List JobView → List V
 kept_by_place plan head jobs = flat_map (kept_in plan head jobs) (range_with_len 0 (plan.symbols head))
 
+-- the subcarrier carries data
 abbrev pub is_data : Carrier → Bool
 is_data (Data m) = true
 is_data (Pilot k) = false
 
+-- the job stands on a data subcarrier
 abbrev pub on_data_by : {H V : Type 0} → Plan H V → H → JobView → Bool
 on_data_by plan head job = is_data (plan.kind head job.place.carrier)
 

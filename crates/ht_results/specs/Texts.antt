@@ -21,6 +21,7 @@ octets_in SeedZero = None
 unfoldable pub result_line : FrameResult → List ℕ
 result_line r = frame_text r.frame r.data_sum r.pilot_sum r.code (octets_in r.outcome)
 
+-- the lines of frames, one after another
 abbrev pub result_lines : List FrameResult → List ℕ
 result_lines results = flat_map result_line results
 
@@ -40,6 +41,7 @@ abbrev pub last_of : Option FormatFault → ℕ → List ℕ
 last_of None frames = end_text frames
 last_of (Some fault) frames = refused_text (name_of fault.kind) fault.offset
 
+-- the last line of the text of a list of octets
 unfoldable pub last_line : List ℕ → List ℕ
 last_line octets = last_of (capture_of octets).fault (frames_of (capture_of octets).items)
 

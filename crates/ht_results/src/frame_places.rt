@@ -30,7 +30,8 @@ fn present_in(head: &FrameHead) -> u8
     count
 }
 
-/// The number of a frame's jobs: its symbols, times the subcarriers that are present. The frame has an octet at least.
+/// The number of a frame's jobs, at most 2298924: its symbols times the subcarriers that are present. The frame has at least
+/// one octet.
 pub fn jobs_in(head: &FrameHead) -> u64
     requires { 1 ≤ head.now.length }
     ensures value { result ≡ jobs_in_frame head.now }
@@ -52,7 +53,7 @@ pub fn kind(rate: &Rate, carrier: u8) -> Carrier
     }
 }
 
-/// Some head, which stands for the one that came last until one comes.
+/// A head that stands for the one that came last as long as none has come. Nothing is said of what it holds.
 #[tactic(auto, unfolding(ht_rate::specs::Rates::rate_of))]
 pub fn no_head() -> FrameHead {
     let Ok(rate) = Rate::of(0, 0) else {

@@ -8,7 +8,7 @@ use ht_inverse::{Decoded, Outcome};
 pub struct FrameResult {
     /// The frame's number in the capture, counted from 0.
     pub frame: u16,
-    /// The sum of the distances of the nearest vectors, over the jobs on data subcarriers.
+    /// The sum of the squared distances of the nearest vectors, over the jobs on data subcarriers.
     pub data_sum: u128,
     /// The same sum over the jobs on pilot subcarriers.
     pub pilot_sum: u128,
@@ -20,7 +20,8 @@ pub struct FrameResult {
 }
 
 impl FrameResult {
-    /// The result of the frame with this number, from its sums and what its labels are decoded to.
+    /// The result of a frame: its number in the capture, counted from 0, the sums of the squared distances over its data jobs
+    /// and over its pilot jobs, and what its labels are decoded to.
     pub fn of(frame: u16, data_sum: u128, pilot_sum: u128, decoded: Decoded) -> FrameResult
         ensures { result ≡ record { frame = frame; data_sum = data_sum; pilot_sum = pilot_sum; code = decoded.code; outcome = decoded.outcome } }
     {

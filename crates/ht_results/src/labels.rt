@@ -6,7 +6,8 @@ use ht_map::label;
 use ht_pam::Point;
 use ht_rate::Modulation;
 
-/// The label of a point of the constellation, and 0 for any other point.
+/// The label of a point of the constellation (IEEE Std 802.11-2012, clause 20.3.11.9), as a number with its first bit as the
+/// most significant one; 0 for a point that isn't on it.
 #[inline]
 pub fn label_for(modulation: Modulation, point: Point) -> u8
     ensures { result ≡ label_at modulation point }
@@ -14,7 +15,7 @@ pub fn label_for(modulation: Modulation, point: Point) -> u8
     label(modulation, point).unwrap_or(0)
 }
 
-/// Puts a label, or what else is kept of a job, on its place, where the frame has one.
+/// Puts a label, or what else is kept of a job, on the place `at`. A place behind the last one is passed over.
 #[inline]
 #[tactic(auto, using(std::proofs::lemmas::List::set_past))]
 pub fn put_kept<T: Copy>(kept: &mut [T], at: usize, value: T)

@@ -12,7 +12,7 @@
 //! labels on their places, and a frame's last job gives its result. The module [`laws`] says that both come to the same,
 //! for any octets and any front of their jobs. So a receiver that follows the second keeps the first.
 //!
-//! Nothing of this hangs on labels. A `Plan` of `specs/Plans.antt` says which places a frame has and what is kept of a
+//! Nothing of this depends on labels. A `Plan` of `specs/Plans.antt` says which places a frame has and what is kept of a
 //! job, and a `Fold` what its jobs come to one after another; `specs/Captured.antt` has the plans of captures, and
 //! `ComesTo` what such a fold owes. Labels are one instance, and the distances of `specs/Distances.antt` another.
 //!

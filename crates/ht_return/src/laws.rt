@@ -6,7 +6,7 @@ ghost use Rattle.ht_inverse.specs.declared.outcome.Outcome.TheVariants.{Octets};
 ghost use Rattle.ht_inverse.specs.Decoding.{decoded_frame};
 ghost use Rattle.ht_return.specs.Returns.{AreLabelsOf, AreOctets};
 
-/// The labels of a frame are decoded to its octets, with no place that differs, at every rate and by any seed.
+/// The labels that are sent of a frame are decoded to its octets, with no place that differs, at every rate and with any seed.
 pub fn sent_comes_back()
     ensures { (f : FrameView) (labels : List ℕ) → IsSeed f.seed → AreOctets f.octets → AreLabelsOf f labels
         → decoded_frame f.rate (length f.octets) 0 labels ≡ record { outcome = Octets f.octets; code = 0 } }

@@ -56,7 +56,8 @@ pub fn simulated_comes_back()
         → rx_text (capture_file_of version (captures_of seed 0 sent)) ≡ returned_text frames }
 {}
 
-/// The same of files: whatever capture the file of the symbols that are sent passes to, with noise 0.
+/// Files come back too: whatever capture the file of the symbols that are sent for frames passes to, with noise 0, its results
+/// are the octets of these frames, and its text is theirs.
 pub fn passed_comes_back()
     ensures results { (seed : ℕ) (frames : List FrameView) (sent : List SymbolsView) (output : List ℕ)
         → AreFrames frames → HoldOctets frames → AreTransmitted frames sent → PassesTo seed 0 (symbols_file_of sent) output
@@ -66,7 +67,8 @@ pub fn passed_comes_back()
         → rx_text output ≡ returned_text frames }
 {}
 
-/// Frames whose file is a list of octets have octets, so the laws above speak of each file that there is.
+/// Frames whose file consists of octets, numbers below 256, have octets themselves, so the laws above speak of each file that
+/// there is.
 pub fn files_hold_octets()
     ensures { (frames : List FrameView) → AreBytes (frames_file_of frames) → HoldOctets frames }
 {}

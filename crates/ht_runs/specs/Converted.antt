@@ -21,6 +21,7 @@ module _ (f : Conversion) (source source' sink sink' : Device ℕ) where
   abbrev pub PutsOutput : Type 0
   PutsOutput = TakesWhole (Grows sink sink')
 
+  -- a part of it was put, from its front
   abbrev pub PutsPartOfOutput : Type 0
   PutsPartOfOutput = TakesWhole (GrowsByPart sink sink')
 

@@ -51,6 +51,7 @@ pub record IsLined {S I : Type 0} (f : Grammar S I) (text lines : List ℕ → L
 abbrev pub lines_by : {S I : Type 0} → Grammar S I → (List I → List ℕ) → List ℕ → List ℕ
 lines_by f lines_of octets = lines_of (meaning f f.start 0 octets).items
 
+-- the text of octets whose lines and whose end are made of the items
 abbrev pub text_by : {S I : Type 0} → Grammar S I → (List I → List ℕ) → (List I → List ℕ) → List ℕ → List ℕ
 text_by f lines_of end_of octets =
     lines_by f lines_of octets ++ last_text (fault_in f octets) (end_of (meaning f f.start 0 octets).items)

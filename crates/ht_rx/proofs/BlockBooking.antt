@@ -13,7 +13,6 @@ use Rattle.ht_capture.specs.declared.items.FrameHead.{FrameHead}
 use Rattle.ht_runs.specs.declared.faults.StopFault.{StopFault}
 use Rattle.ht_feed.specs.declared.ended.Ended.{Ended}
 use Rattle.ht_results.specs.declared.frame_result.FrameResult.{FrameResult}
-use Rattle.ht_results.specs.Heads.{headed_of}
 use Rattle.ht_results.specs.Folding.{FrameSoFar, frame_of, kind_of, label_plan, results_from, with_job}
 use Rattle.ht_results.specs.Plans.{with_hit_by}
 use Rattle.ht_results.proofs.Folded.{folds}
@@ -22,7 +21,7 @@ use Rattle.ht_frames.specs.Gathering.{booked_in}
 use Rattle.ht_rx.specs.Frames.{booked_of, with_found, with_found_as}
 use Rattle.ht_rx.specs.Outcomes.{StopsBy, TellsTo}
 use Rattle.ht_rx.specs.Telling.{TellsCapture}
-use Rattle.ht_feed.specs.Items.{Item}
+use Rattle.ht_feed.specs.Items.{Item, headed_of}
 use Rattle.ht_feed.specs.Inputs.{TellsInput}
 use Rattle.ht_fields.specs.Meanings.{Meaning}
 use Rattle.ht_capture.specs.Captures.{capture_of}

@@ -23,7 +23,7 @@ use Rattle.ht_feed.specs.declared.ended.Ended.TheVariants.{Done as EndedDone, Re
 use Rattle.ht_feed.specs.Accounts.{Telling}
 use Rattle.ht_capture_blocks.specs.Captures.{items_of, mapped}
 use Rattle.ht_feed.specs.Items.{Item, Begins, One}
-use Rattle.ht_feed.specs.Items.{headed as block_headed, headed_of as block_headed_of, frames_of as block_frames, jobs_of as block_jobs}
+use Rattle.ht_feed.specs.Items.{headed as block_headed, headed_of, frames_of as block_frames, jobs_of as block_jobs}
 use Rattle.ht_feed.specs.Outcomes.{Comes, StopsBy as BlockStops, TellsTo as BlockTells}
 use Rattle.ht_endings.proofs.Runs.{broken, from_front, front, in_part, refused, whole}
 use Rattle.ht_results.specs.Heads.{Headed, headed, headed_jobs}
@@ -69,7 +69,7 @@ same_meaning xs ys is =
 headed-items : (head : FrameHead) (items : List CaptureItem) → block_headed head (items_of items) ≡ headed head items
 headed-items head [] = refl
 headed-items head (Frame next ∷ items) = headed-items next items
-headed-items head (Job job ∷ items) = ap (λ (hs : List Headed). block_headed_of head job ∷ hs) (headed-items head items)
+headed-items head (Job job ∷ items) = ap (λ (hs : List Headed). headed_of head job ∷ hs) (headed-items head items)
 headed-items head (Done ∷ items) = headed-items head items
 
 frames-items : (items : List CaptureItem) → block_frames (items_of items) ≡ frames_of items

@@ -15,7 +15,8 @@ use Rattle.ht_feed.specs.Dues.{due_of, headed_due}
 use Rattle.ht_feed.specs.Numbers.{numbered, with_number}
 use Rattle.ht_feed.proofs.Numbering.{length_numbered}
 use Rattle.ht_frames.specs.Gathering.{finished}
-use Rattle.ht_results.specs.Heads.{Headed, headed_of}
+use Rattle.ht_feed.specs.Items.{headed_of}
+use Rattle.ht_results.specs.Heads.{Headed}
 use Rattle.ht_results.specs.Folding.{FrameSoFar, frame_begun, frame_of, kind_of, label_at, label_fold, label_place, label_plan, result_of, results_from, with_job, with_kind, with_octets}
 use Rattle.ht_results.specs.PlacedLabels.{Placed, put_each}
 use Rattle.ht_results.specs.Plans.{distances, given_if}

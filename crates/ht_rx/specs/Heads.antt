@@ -1,12 +1,11 @@
 -- The jobs of a capture, each with the head of its frame.
-use Rattle.std.specs.Prelude.{ℕ, List, [], ◌∷◌}
+use Rattle.std.specs.Prelude.{ℕ, List, map}
 use Rattle.ht_metric.specs.Jobs.{JobView}
 use Rattle.ht_results.specs.Heads.{Headed, headed_jobs}
 
 -- the jobs without their heads
 abbrev pub jobs_alone : List Headed → List JobView
-jobs_alone [] = []
-jobs_alone (h ∷ hs) = h.job ∷ jobs_alone hs
+jobs_alone jobs = map (λ (h : Headed). h.job) jobs
 
 -- what is put in all of a list of octets, by an account that puts this of jobs
 abbrev pub told_of : {P : Type 0} → (List Headed → List P) → List ℕ → List P

@@ -18,6 +18,7 @@ pub record HasCounts (frames jobs : ℕ) (octets : List ℕ) : Type 0 where
 
 -- these pieces are put of a list of octets; the source, and the device that they are put into, before and after
 module _ {P : Type 0} (pieces : List ℕ → List P) (source source' : Device ℕ) (device device' : Device P) where
+  -- what holds where a run answers so: of a whole capture, or of one with a first fault
   abbrev pub TellsTo : Ended → Type 0
   TellsTo (Done frames jobs) = TellsWhole captures pieces source source' device device' (HasCounts frames jobs)
   TellsTo (Refused fault) = TellsRefused captures pieces source source' device device' fault

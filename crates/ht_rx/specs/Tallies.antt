@@ -15,9 +15,11 @@ use Rattle.ht_rx.specs.declared.tally.Tally.{Tally}
 abbrev pub has_data : Rate → JobView → Bool
 has_data rate job = is_data (kind_of rate job.place.carrier)
 
+-- the sum of the distances of the jobs on data subcarriers
 abbrev pub data_distances : Rate → List JobView → ℕ
 data_distances rate jobs = distances (filter (has_data rate) jobs)
 
+-- the sum of the distances of the jobs on pilot subcarriers
 abbrev pub pilot_distances : Rate → List JobView → ℕ
 pilot_distances rate jobs = distances (filter (λ job. not (has_data rate job)) jobs)
 
@@ -26,9 +28,11 @@ abbrev pub placed_as : Rate → JobView → Carrier → List Placed
 placed_as rate job (Data m) = placed_from (label_place rate job.place.symbol m) (map (label_at (modulation_of rate)) (near job).vector)
 placed_as rate job (Pilot k) = []
 
+-- the labels of a job with their places, by what its subcarrier carries
 abbrev pub job_placed : Rate → JobView → List Placed
 job_placed rate job = placed_as rate job (kind_of rate job.place.carrier)
 
+-- those of jobs, one after another
 abbrev pub labels_placed : Rate → List JobView → List Placed
 labels_placed rate jobs = flat_map (job_placed rate) jobs
 

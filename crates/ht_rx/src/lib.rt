@@ -6,8 +6,8 @@
 //! came. They ask an [`OpenFrame`], which keeps the labels of the frame under way. With the frame's last job it decodes
 //! them, or the frame leaves as [`WholeLabels`]. With several workers a block comes back as its [`Tally`], with the labels
 //! looked up and the distances summed by the worker who ran it; whoever takes it copies labels and adds two numbers. What an
-//! account puts in all is a function of the jobs that come, so that one set of lemmas says for every account what a whole
-//! capture, a fault, a source that fails and a full memory come to (`specs/Outcomes.antt`).
+//! account puts in all is a function of the jobs that come, so that one set of lemmas says for every account what is put of
+//! a whole capture, at a fault, where a source fails and where memory runs out (`specs/Outcomes.antt`).
 //!
 //! [`list_jobs`] and [`receive`] read a capture from any source, and a crew of workers runs its jobs; [`list_jobs_alone`] and
 //! [`receive_alone`] promise the same, and run every job in the calling thread. [`receive_text`] and
@@ -31,7 +31,6 @@
 #![tactic(auto)]
 
 mod block_lines;
-mod faults;
 mod front;
 mod lines;
 mod lister;
@@ -45,7 +44,6 @@ mod under_way;
 mod whole_labels;
 
 pub use block_lines::Lines;
-pub use faults::RxFault;
 pub use ht_feed::{BookFault, Ended};
 pub use ht_results::FrameResult;
 pub use lister::Lister;

@@ -4,13 +4,13 @@ ghost use Rattle.ht_rx.specs.Telling.{TellsCapture};
 ghost use Rattle.ht_results.specs.JobTexts.{lines_of};
 
 use crate::block_lines::LineWork;
-use crate::faults::RxFault;
 use crate::lister::Lister;
 use ht_capture_blocks::CaptureReader;
 use ht_drive::tell;
 use ht_feed::{Ended, Gate, tell_alone};
 use ht_io::{Sink, Source};
 use ht_results::no_head;
+use ht_runs::StopFault;
 use std::alloc::Global;
 use std::sync::Wait;
 use std::thread::Threads;
@@ -22,7 +22,7 @@ use std::thread::Threads;
 /// not yet taken at any moment. Nothing of the capture is kept but the triangles of a frame, the samples of a
 /// symbol, these jobs and their lines.
 ///
-/// It answers `Done` for a capture, and `Refused` with the first fault of an input that is none. It refuses with
+/// It answers `Done` for a capture, and `Refused` with the first fault of an input that is no capture. It refuses with
 /// `Read` where the source failed, having put the lines of the symbols that were read whole; with `Write` where the
 /// sink failed, also if the source did; and with `NoMemory`. In the last two cases a part of the lines was put.
 pub fn list_jobs_alone<S: Source, K: Sink, G: Gate>(
@@ -31,7 +31,7 @@ pub fn list_jobs_alone<S: Source, K: Sink, G: Gate>(
     source: &mut S,
     sink: &mut K,
     gate: &G,
-) -> Result<Ended, RxFault>
+) -> Result<Ended, StopFault>
     requires window { IsWindowSize window }
     ensures { TellsCapture lines_of (S.shown source.old) (S.shown source.new) (K.shown sink.old) (K.shown sink.new) result }
 {
@@ -51,7 +51,7 @@ pub fn list_jobs<R: Threads + Wait + Sync, S: Source, K: Sink, G: Gate + Sync>(
     source: &mut S,
     sink: &mut K,
     gate: &G,
-) -> Result<Ended, RxFault>
+) -> Result<Ended, StopFault>
     requires crew { IsCrewSize workers }
     requires window { IsWindowSize window }
     ensures { TellsCapture lines_of (S.shown source.old) (S.shown source.new) (K.shown sink.old) (K.shown sink.new) result }

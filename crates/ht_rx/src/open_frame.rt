@@ -119,7 +119,7 @@ impl OpenFrame {
         }
     }
 
-    /// How many of its jobs are still to come.
+    /// How many of its jobs are still to come; 0 where no frame is under way.
     pub fn left(&self) -> u64
         ensures { result ≡ self.now.left }
     {
@@ -176,7 +176,8 @@ impl OpenFrame {
         self.begin(head)
     }
 
-    /// Takes what was found for a job of the frame that is under way, from this place; its distance is below 2^66.
+    /// Takes what was found for a job of the frame that is under way, from this place: its squared distance, below 2^66, goes
+    /// into the sum of the data or of the pilot subcarriers, and the labels of a data subcarrier on their places.
     #[inline]
     pub fn add_found(&mut self, place: Place, found: &Found)
         requires ready { IsOpenFrame self.old }
@@ -227,7 +228,8 @@ impl OpenFrame {
         tally.labels.put_into(&mut self.labels);
     }
 
-    /// The result of a frame whose last job came. The only error is lack of memory.
+    /// The result of a frame whose last job came: its labels are decoded (IEEE Std 802.11-2012, clauses 20.3.11.2 to 20.3.11.9
+    /// backwards). The only error is lack of memory.
     pub fn result<D: Decoder>(
         &self,
         alloc: Global,

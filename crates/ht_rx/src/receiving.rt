@@ -4,7 +4,6 @@ ghost use Rattle.ht_feed.specs.Limits.{IsCrewSize, IsWindowSize};
 ghost use Rattle.ht_rx.specs.Frames.{booked_of};
 ghost use Rattle.ht_rx.specs.Telling.{TellsCapture};
 
-use crate::faults::RxFault;
 use crate::open_frame::OpenFrame;
 use crate::tally::TallyWork;
 use ht_capture_blocks::CaptureReader;
@@ -12,19 +11,20 @@ use ht_feed::{Ended, Gate};
 use ht_frames::{BesideFrames, Book, Frames, HitWork};
 use ht_io::Source;
 use ht_results::{FrameResult, no_head};
+use ht_runs::StopFault;
 use std::alloc::Global;
 use std::sync::Wait;
 use std::thread::Threads;
 
 /// Reads a capture from the source, and books the result of each frame that is whole before the capture's first fault:
-/// the sums of the distances of its data jobs and of its pilot jobs, what its labels are decoded to, and at how many
-/// places the codewords differ from them.
+/// the sums of the squared distances of its data jobs and of its pilot jobs, what its labels are decoded to, and at how many
+/// places the codewords differ from the detected bits.
 ///
 /// Every job runs in this thread, between the two calls of the gate. At most `window` jobs, 1 to 4096, were read and
 /// not yet taken at any moment. Nothing of the capture is kept but the triangles of a frame, the samples of a symbol,
 /// these jobs and the labels of one frame.
 ///
-/// It answers `Done` for a capture, and `Refused` with the first fault of an input that is none. It refuses with
+/// It answers `Done` for a capture, and `Refused` with the first fault of an input that is no capture. It refuses with
 /// `Read` where the source failed, having booked the frames that were read whole; with `Write` where the book failed,
 /// also if the source did; and with `NoMemory`. In the last two cases a part of the frames was booked.
 pub fn receive_alone<S: Source, B: Book<FrameResult>, G: Gate>(
@@ -33,7 +33,7 @@ pub fn receive_alone<S: Source, B: Book<FrameResult>, G: Gate>(
     source: &mut S,
     book: &mut B,
     gate: &G,
-) -> Result<Ended, RxFault>
+) -> Result<Ended, StopFault>
     requires window { IsWindowSize window }
     ensures receives { TellsCapture (booked_of B.booked) (S.shown source.old) (S.shown source.new)
         (B.shown book.old) (B.shown book.new) result }
@@ -64,7 +64,7 @@ pub fn receive<R: Threads + Wait + Sync, S: Source, B: Book<FrameResult>, G: Gat
     source: &mut S,
     book: &mut B,
     gate: &G,
-) -> Result<Ended, RxFault>
+) -> Result<Ended, StopFault>
     requires crew { IsCrewSize workers }
     requires window { IsWindowSize window }
     ensures receives { TellsCapture (booked_of B.booked) (S.shown source.old) (S.shown source.new)

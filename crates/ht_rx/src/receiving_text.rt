@@ -3,11 +3,11 @@ ghost use Rattle.ht_feed.specs.Limits.{IsCrewSize, IsWindowSize};
 ghost use Rattle.ht_results.specs.Texts.{frame_lines_of};
 ghost use Rattle.ht_rx.specs.Telling.{TellsCapture};
 
-use crate::faults::RxFault;
 use crate::receiving::{receive, receive_alone};
 use ht_feed::{Ended, Gate};
 use ht_frames::TextBook;
 use ht_io::{Sink, Source};
+use ht_runs::StopFault;
 use std::alloc::Global;
 use std::sync::Wait;
 use std::thread::Threads;
@@ -20,7 +20,7 @@ pub fn receive_text_alone<S: Source, K: Sink, G: Gate>(
     source: &mut S,
     sink: &mut K,
     gate: &G,
-) -> Result<Ended, RxFault>
+) -> Result<Ended, StopFault>
     requires window { IsWindowSize window }
     ensures { TellsCapture frame_lines_of (S.shown source.old) (S.shown source.new) (K.shown sink.old) (K.shown sink.new) result }
 {
@@ -38,7 +38,7 @@ pub fn receive_text<R: Threads + Wait + Sync, S: Source, K: Sink, G: Gate + Sync
     source: &mut S,
     sink: &mut K,
     gate: &G,
-) -> Result<Ended, RxFault>
+) -> Result<Ended, StopFault>
     requires crew { IsCrewSize workers }
     requires window { IsWindowSize window }
     ensures { TellsCapture frame_lines_of (S.shown source.old) (S.shown source.new) (K.shown sink.old) (K.shown sink.new) result }

@@ -22,7 +22,7 @@ pub struct Tally {
     pub rate: Rate,
     /// The number of the jobs.
     pub jobs: u16,
-    /// The sum of the distances of the nearest vectors, over the jobs on data subcarriers.
+    /// The sum of the squared distances of the nearest vectors, over the jobs on data subcarriers.
     pub data_sum: u128,
     /// The same sum over the jobs on pilot subcarriers.
     pub pilot_sum: u128,

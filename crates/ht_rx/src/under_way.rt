@@ -25,6 +25,8 @@ impl UnderWay for OpenFrame {
 
     ghost comes_to = { result_of };
 
+    // It is called for each job; as a call it cost some 20 to 50 instructions more.
+    #[inline(always)]
     fn take(
         &mut self,
         alloc: Global,

@@ -32,5 +32,6 @@ module _ {K : Type 0} (sink : K → Device ℕ) (before after : List K) where
     MayFinish k = (t : K) → ((end : ManyEnd) × Finishes (answer_at answers k) (sink (slice_index_or before k t)) (sink (slice_index_or after k t)) end)
         ⊎ (slice_index_or after k t ≡ slice_index_or before k t)
 
+    -- the same of each capture
     abbrev pub EachMayFinish : Type 0
     EachMayFinish = (k : ℕ) → k < length answers → MayFinish k

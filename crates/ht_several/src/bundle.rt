@@ -15,7 +15,7 @@ use ht_runs::RunFault;
 use ht_text::capture_line;
 use std::alloc::{AllocError, Global};
 
-/// A source of the octets of each capture. The only error is lack of memory.
+/// A source of the octets of each capture, in their order, of which no read fails. The only error is lack of memory.
 pub fn sources_of(alloc: Global, captures: Vec<Bundled>) -> Result<Vec<SureSource>, AllocError>
     ensures { IfOk result (λ sources. sources.items ≡ captures.items) }
 {
@@ -29,7 +29,7 @@ pub fn sources_of(alloc: Global, captures: Vec<Bundled>) -> Result<Vec<SureSourc
     Ok(sources)
 }
 
-/// This many sinks that hold nothing. The only error is lack of memory.
+/// This number of sinks that hold nothing. The only error is lack of memory.
 pub fn sinks_of(alloc: Global, count: usize) -> Result<Vec<GrowSink>, AllocError>
     ensures { IfOk result (λ sinks. sinks.items ≡ replicate count (record { held = []; faults = 0 })) }
 {
@@ -82,7 +82,8 @@ fn put_text<K: Sink>(alloc: Global, number: u8, text: &[u8], sink: &mut K) -> Re
 
 /// Puts the line `capture K` and behind it the text that a sink holds, for each of at most 255 sinks.
 ///
-/// `Write` comes exactly where the sink failed, and `NoMemory` where a line found no room: then a part was put.
+/// K counts from 0. `Write` comes exactly where the sink failed, and `NoMemory` where a line found no room; in both cases a
+/// part of the text, from its front, was put.
 pub fn put_texts<K: Sink>(alloc: Global, texts: &[GrowSink], sink: &mut K) -> Result<(), RunFault>
     requires few { length texts.now ≤ 255 }
     ensures grown { OnOk result (Grows (K.shown sink.old) (K.shown sink.new) (texts_from 0 (map (λ (s : Growing). s.held) texts.now))) }

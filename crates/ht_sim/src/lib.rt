@@ -9,7 +9,6 @@
 #![tactic(auto)]
 
 mod captures;
-mod faults;
 pub mod laws;
 mod passing;
 mod rows;
@@ -18,7 +17,6 @@ mod triangles;
 mod words;
 
 pub use captures::through_channel;
-pub use faults::SimFault;
 pub use passing::channel;
 pub use rows::stretched;
 pub use samples::sample_frames;

@@ -6,10 +6,10 @@ ghost use Rattle.ht_runs.specs.declared.faults.RunFault.TheVariants.{Write};
 ghost use Rattle.ht_sim.specs.Passing.{passing};
 
 use crate::captures::through_channel;
-use crate::faults::SimFault;
 use ht_capture::write_captures;
 use ht_files::read_symbols;
 use ht_io::{Sink, Source};
+use ht_runs::RunFault;
 use std::alloc::Global;
 
 /// Reads a file of symbols (HTSY) to its end, passes its frames through the channel that a seed makes, with noise of at
@@ -23,7 +23,7 @@ pub fn channel<S: Source, K: Sink>(
     noise: u16,
     source: &mut S,
     sink: &mut K,
-) -> Result<(), SimFault>
+) -> Result<(), RunFault>
     ensures converts { Converted (passing seed noise) (S.shown source.old) (S.shown source.new) (K.shown sink.old) (K.shown sink.new) SaysNothing result }
     ensures writes { result ≢ Err Write → (K.shown sink.new).faults ≡ (K.shown sink.old).faults }
 {

@@ -19,7 +19,8 @@ fn multiplied(part: i16, level: i8) -> i32
     i32::from(part) * i32::from(level)
 }
 
-/// A diagonal times a level.
+/// A diagonal entry of a triangular channel times a level, I or Q of a point: where the channel puts that level before the
+/// other streams and noise are added.
 pub fn stretched(diagonal: u16, level: i8) -> i32
     ensures value { result ≡ pos diagonal *ℤ level }
     ensures bound { unsigned_abs result ≤ 8388480 }

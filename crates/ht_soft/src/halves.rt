@@ -11,21 +11,16 @@ use ht_metric::Job;
 use ht_pam::{Axes, Grid, Ladder};
 use ht_rate::Modulation;
 
-// The levels of which a bit is 1: a row for each number of bits that name a level, with a mask for each of the bits.
+// The levels of which a bit is 1: a row for one, two and three bits that name a level, with a mask for each of these bits. Bit
+// n of a mask is that of level n, counted from 0 at the lowest.
 const ONES: [[u8; 3]; 3] = [
     [0b10, 0, 0],
     [0b1100, 0b0110, 0],
     [0b1111_0000, 0b0011_1100, 0b0110_0110],
 ];
 
-// The levels of which it is 0.
-const ZEROS: [[u8; 3]; 3] = [
-    [0b01, 0, 0],
-    [0b0011, 0b1001, 0],
-    [0b0000_1111, 0b1100_0011, 0b1001_1001],
-];
-
-// Of the levels that `count` bits name, those of which bit `k` has this value.
+// Of the levels that `count` bits name, those whose bit `k` has this value, as a mask: bit n is set where level n, counted from
+// 0 at the least one, is among them. `k` counts from 0 at the first bit, which is the most significant one.
 fn mask(count: u8, k: u8, value: bool) -> u8
     requires few { count ≤ 3 }
     requires bit { k < count }
@@ -33,16 +28,15 @@ fn mask(count: u8, k: u8, value: bool) -> u8
     ensures some { 0 < result }
     ensures within { result < 2 ^ length (axis_named count) }
 {
-    let row = usize::from(count - 1);
-    let bit = usize::from(k);
+    let ones = ONES[usize::from(count - 1)][usize::from(k)];
     if value {
-        ONES[row][bit]
+        ones
     } else {
-        ZEROS[row][bit]
+        !ones & (255 >> (8 - levels(count)))
     }
 }
 
-// How many levels `count` bits name.
+// How many levels `count` bits name: 2, 4 or 8.
 #[tactic(auto, unfolding(crate::specs::Halves::axis_named))]
 fn levels(count: u8) -> u8
     requires { (1 ≤ count) × (count ≤ 3) }
@@ -56,7 +50,7 @@ fn levels(count: u8) -> u8
     }
 }
 
-// The ladder of those levels.
+// The ladder of the levels whose bit `k` has this value.
 fn cut(count: u8, k: u8, value: bool) -> Ladder
     requires few { count ≤ 3 }
     requires bit { k < count }
@@ -65,7 +59,8 @@ fn cut(count: u8, k: u8, value: bool) -> Ladder
     Ladder::of(levels(count), mask(count, k, value))
 }
 
-// Of all points of a modulation those whose label has this value at a bit.
+// The points of a modulation whose label has this value at a bit, as a ladder for I and one for Q. The first half of the bits,
+// or the one bit of BPSK, names I, and the others Q, so one of the two ladders is whole.
 fn half_axes(modulation: Modulation, all: Axes, bit: u8, value: bool) -> Axes
     requires all { all ≡ axes_of modulation }
     requires bit { bit < bits_of modulation }
@@ -86,7 +81,7 @@ fn half_axes(modulation: Modulation, all: Axes, bit: u8, value: bool) -> Axes
     }
 }
 
-// The ladders of a grid's stream.
+// The two ladders of a grid's stream, I and Q. Streams are counted from 1.
 fn axes_at(grid: &Grid, stream: u8) -> Axes
     requires first { 1 ≤ stream }
     requires last { stream ≤ length grid.now }
@@ -98,7 +93,7 @@ fn axes_at(grid: &Grid, stream: u8) -> Axes
     }
 }
 
-// The ladders of a grid's stream, where one stream has others.
+// The two ladders of a stream in the grid that has `axes` on the stream `changed`, and else is this one.
 fn axes_among(grid: &Grid, changed: u8, axes: &Axes, stream: u8) -> Axes
     requires changed_first { 1 ≤ changed }
     requires changed_last { changed ≤ length grid.now }
@@ -116,7 +111,7 @@ fn axes_among(grid: &Grid, changed: u8, axes: &Axes, stream: u8) -> Axes
     }
 }
 
-// The grid with other ladders on one stream.
+// The grid with these ladders on one stream, and its own on the others.
 fn changed(grid: &Grid, stream: u8, axes: &Axes) -> Grid
     requires first { 1 ≤ stream }
     requires last { stream ≤ length grid.now }

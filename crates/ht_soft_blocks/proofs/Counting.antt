@@ -61,7 +61,7 @@ split_last (suc k) (suc at) less = elim (split_last k at (omega (arith, less))) 
   | inr e ↦ inr (ap suc e)
 ]
 
--- the bits of so many jobs are there
+-- the bits of this many jobs are there
 abbrev pub AreSoFar : Rate → List JobView → ℕ → ℕ → Type 0
 AreSoFar rate jobs at pilots =
     (k : ℕ) (job : JobView) → k < at → slice_get jobs k ≡ Some job → (bit_at pilots k == 1) ≡ is_pilot (carrier_of rate job.place.carrier)
@@ -102,7 +102,7 @@ half_within rate m at job is within =
     let count = count_data rate m job.place.carrier (streams_of rate) (label_bits_of rate) job is refl refl refl in
     omega (arith, count, within)
 
--- so many grids are those of the first halves
+-- this many grids are those of the first halves
 abbrev pub AreGridsSoFar : Rate → List (List Axes) → Type 0
 AreGridsSoFar rate grids = (at : ℕ) (grid : List Axes) → slice_get grids at ≡ Some grid → grid ≡ half_grid_at rate at
 

@@ -29,7 +29,7 @@ module _ (rate : Rate) (jobs : List JobView) (pilots of_data : ℕ) (are : AreCo
   pub is_within : (at k start : ℕ) → IsStart rate jobs k start → start ≤ at → at < length (halves_of_all rate jobs) → k < length jobs
   is_within at k start s le less = within_by (nat_lt k (length jobs)) at k start refl s le less
 
-  -- where the halves behind so many jobs begin
+  -- where the halves behind this many jobs begin
   pub run_start : (n at k start : ℕ) → IsStart rate jobs k start → start + n * of_data ≤ at → at < length (halves_of_all rate jobs)
       → ((i : ℕ) → k ≤ i → i < k + n → bit_at pilots i ≡ 0) → IsStart rate jobs (k + n) (start + n * of_data)
   run_start zero at k start s le less unset =

@@ -20,6 +20,7 @@ pub record IsOfRate (rate : Rate) (job : JobView) : Type 0 where
   pub carrier : job.place.carrier < carriers_of rate
   pub grid : job.grid ≡ grid_at rate job.place.symbol job.place.carrier
 
+-- the same of each job
 abbrev pub AreOfRate : Rate → List JobView → Type 0
 AreOfRate rate jobs = AllByRecursion (IsOfRate rate) jobs
 

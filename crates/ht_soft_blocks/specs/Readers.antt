@@ -30,6 +30,7 @@ soft_means it octets =
     let inner = capture_means it.reader octets in
     record { items = map One it.kept ++ numbered_items (it.given + length it.kept) (in_halves it.head inner.items); fault = inner.fault }
 
+-- the number of octets that were read
 abbrev pub soft_at : HalvesView → ℕ
 soft_at it = capture_at it.reader
 
@@ -37,9 +38,11 @@ soft_at it = capture_at it.reader
 abbrev pub most_halves : ℕ
 most_halves = 48
 
+-- how many heads and halves still come at most
 abbrev pub soft_more : HalvesView → ℕ
 soft_more it = length it.kept + most_halves * (capture_counts it.reader).more
 
+-- what the reader counts
 abbrev pub soft_counts : HalvesView → Counts
 soft_counts it = record { given = it.given; more = soft_more it; going = it.going }
 

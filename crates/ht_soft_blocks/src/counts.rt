@@ -14,11 +14,11 @@ use ht_rate::{Carrier, Rate};
 /// How many halves each job of a block has.
 #[derive(Clone, Copy, Debug)]
 pub(crate) struct Counts {
-    // Bit k is set where job k is on a pilot, which stays as it is.
+    /// Bit k is set where job k is on a pilot, which stays as it is.
     pub pilots: u128,
-    // How many halves each other job has.
+    /// How many halves each other job has.
     pub of_data: u16,
-    // The only job that may be on a pilot; none where several are.
+    /// The only job that may be on a pilot; none where several are.
     pub lone: Option<u16>,
     pub ghost alone: { IfSome lone (λ at. (at < 128) × IsLone pilots at) } by { Prim.hlevel props },
 }

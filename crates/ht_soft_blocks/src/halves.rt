@@ -18,7 +18,9 @@ use ht_soft::half;
 /// Where a half stands: at a job of a block, of which the first half has `start` others before it.
 #[derive(Clone, Copy)]
 pub(crate) struct Spot {
+    /// How many jobs of the block stand before the job.
     pub job: u16,
+    /// How many halves stand before the job's first one.
     pub start: u16,
 }
 

@@ -17,8 +17,8 @@ use Rattle.ht_capture_blocks.specs.Captures.{items_of}
 use Rattle.ht_capture_laws.specs.Items.{FrameJobs, HasSymbols, IsPlaceIn, cut_frames, frames_in, symbols_in, whole_frames}
 use Rattle.ht_capture_laws.proofs.Lists.{all_of_map, all_weaker}
 use Rattle.ht_capture_laws.proofs.Parts.{parted_of, places_good}
-use Rattle.ht_feed.specs.Items.{Item, Begins, One, headed as block_headed}
-use Rattle.ht_results.specs.Heads.{Headed, headed, headed_in, headed_of}
+use Rattle.ht_feed.specs.Items.{Item, Begins, One, headed_of, headed as block_headed}
+use Rattle.ht_results.specs.Heads.{Headed, headed, headed_in}
 use Rattle.ht_results.specs.Captured.{frame_by, with_job_by}
 use Rattle.ht_results.specs.Folding.{jobs_in_frame, with_octets}
 use Rattle.ht_results.specs.Plans.{SoFar, begun_by, given_from, given_if, under_way, with_hit_by, with_kind_by}

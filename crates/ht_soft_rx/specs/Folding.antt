@@ -26,6 +26,7 @@ pub record Half : Type 0 where
 abbrev pub half_at : FrameHead → Place → ℕ → Half
 half_at head place distance = record { head = head; place = place; distance = distance }
 
+-- what is taken of a half that comes as a job
 abbrev pub taken_of : Headed FrameHead → Half
 taken_of h = half_at h.head h.job.place (near h.job).distance
 

@@ -15,7 +15,8 @@ pub fn jobs()
         → given_from weight_fold frame (headed_jobs octets) ≡ soft_results_of octets }
 {}
 
-/// So do the halves of the jobs, one half after another, behind whatever head.
+/// The halves of the jobs of a capture, one after another, give the same results, whatever head stands for the one before the
+/// first.
 pub fn halves()
     ensures { (octets : List ℕ) (head : FrameHead) (frame : Weighing) → frame.left ≡ 0
         → results_from frame (halves_of_capture head octets) ≡ soft_results_of octets }

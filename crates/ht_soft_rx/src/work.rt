@@ -7,15 +7,15 @@ use ht_metric::{Found, Job};
 use ht_soft_blocks::HalvesBlock;
 use std::alloc::AllocError;
 
-/// Finds the hits of blocks of halves as [`HitWork`] does, and makes each job but once.
+/// Finds the hits of blocks of halves as [`HitWork`] does, and makes each job of the capture only once for all its halves.
 #[derive(Drop)]
 pub struct HalvesWork<'g, G> {
     /// What finds the hit of a half.
     pub work: HitWork<'g, G>,
 }
 
-// Whether some halves may take a hundred times as long as others: with four streams of 64-QAM. A half leaves out levels of
-// one stream alone, so one of the first two streams has all of them.
+// Whether some halves may take a hundred times as long as others, as it is with four streams of 64-QAM. A half leaves out
+// levels of one stream alone, so at least one of the first two streams has all of its levels.
 fn has_dear_halves(half: &Job) -> bool {
     let grid = half.grid();
     grid.streams() == 4 && (grid.i_ladder(1).has(5) || grid.i_ladder(2).has(5))

@@ -10,7 +10,7 @@ use Rattle.ht_metric.specs.Rows.{Row, no_row, no_tap}
 use Rattle.ht_sphere.specs.Coordinates.{weighed, weights_of_i, weights_of_q, entries_behind, target, i_at}
 use Rattle.ht_sphere.proofs.Rows.{less_times, none_times}
 
--- the entries and the levels of the streams behind so many
+-- the entries and the levels of the streams behind this many
 entries_next : (right : List Tap) (n k l : ℕ) → k ≤ l → l < n
     → entries_behind (n - l) (drop (l - k) right) ≡ get_or right (l - k) no_tap ∷ entries_behind (n - (l + 1)) (drop (l + 1 - k) right)
 entries_next right n k l after below =

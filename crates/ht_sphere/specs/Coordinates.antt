@@ -39,7 +39,7 @@ cost_at c t x = square (t -ℤ (pos c.diagonal *ℤ x))
 abbrev pub first_of : Rungs → ℤ → ℕ → ℤ
 first_of l t d = slice_index_or (nearest_first (gap t d) (levels l)) 0 (pos 0)
 
--- each other level of a ladder costs more than this one, by so much at least
+-- each other level of a ladder costs at least `m` more than this one
 abbrev pub IsMargin : Rungs → ℤ → ℕ → ℤ → ℕ → Type 0
 IsMargin l t d x m = (y : ℤ) → has l y ≡ true → (y ≡ x) ⊎ (square (t -ℤ (pos d *ℤ x)) + m ≤ square (t -ℤ (pos d *ℤ y)))
 

@@ -13,6 +13,7 @@ module _ (leaves_under : List ℤ → ℕ → List Reached) (c : Real) (chosen :
   leaves_by [] = []
   leaves_by (x ∷ xs) = leaves_under (x ∷ chosen) (partial + cost c chosen x) ++ leaves_by xs
 
+-- the vectors that end in the chosen levels, each with its distance, for these coordinates in front
 abbrev pub leaves : List Real → List ℤ → ℕ → List Reached
 leaves [] chosen partial = (chosen, partial) ∷ []
 leaves (c ∷ cs) chosen partial = leaves_by (leaves cs) c chosen partial (order c chosen)
@@ -21,6 +22,7 @@ leaves (c ∷ cs) chosen partial = leaves_by (leaves cs) c chosen partial (order
 abbrev pub better : Reached → Reached → Bool
 better a b = nat_lt a.1 b.1 || (not (nat_lt b.1 a.1) && levels_before a.0 b.0)
 
+-- the vector is one of these
 abbrev pub Among : List Reached → Reached → Type 0
 Among [] v = ⊥
 Among (x ∷ xs) v = (v ≡ x) ⊎ Among xs v
@@ -46,7 +48,7 @@ pub record IsSearched (cs : List Real) (place p : ℕ) (xs : List ℤ) (old : Re
   pub less : now.1 ≤ old.1
   pub steps : (rho : ℕ) → p ≤ rho → old.1 ≤ rho → after + 1 ≤ before + 2 * inside rho cs (drop place xs) p
 
--- a job of so many streams, and levels that have room for each of its coordinates
+-- a job of this number of streams, and levels that have room for each of its coordinates
 pub record IsOpen (j : JobView) (n : ℕ) (xs : List ℤ) : Type 0 where
   pub job : IsJob j
   pub streams : n ≡ length j.system

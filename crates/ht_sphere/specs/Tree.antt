@@ -3,7 +3,7 @@ use Rattle.std.specs.Prelude.{ℕ, ◌+◌, ℤ, pos, List, [], ◌∷◌, Bool,
 use Rattle.ht_metric.specs.Jobs.{JobView}
 use Rattle.ht_sphere.specs.Coordinates.{Real, order, cost, from_last}
 
--- 1 if a partial distance is at most rho
+-- what a suffix counts, 1 if its partial distance is at most rho: the argument says whether rho is less than it
 abbrev pub one : Bool → ℕ
 one true = 0
 one false = 1

@@ -11,7 +11,9 @@ use std::sync::ledger::{Blank, Ledger};
 /// The nearest level of a coordinate, the lower one at a tie. Each other one costs more by `margin`, or by more than that.
 #[derive(Clone, Copy)]
 pub(crate) struct Nearest {
+    /// The level.
     pub level: i8,
+    /// How much more each other level costs at least.
     pub margin: u64,
 }
 

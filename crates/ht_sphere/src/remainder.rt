@@ -12,8 +12,11 @@ use ht_pam::Point;
 /// the row's own stream, the imaginary part that of Q.
 #[derive(Clone, Copy)]
 pub struct Remainder {
+    /// The real part, the target of I.
     pub re: i64,
+    /// The imaginary part, the target of Q.
     pub im: i64,
+    /// The diagonal entry.
     pub d: u16,
 }
 

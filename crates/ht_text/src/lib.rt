@@ -1,9 +1,9 @@
 //! The lines of text that `radio` prints, octet for octet.
 //!
 //! Each call makes one line with its line feed: what a detection job found, what a frame decoded to, whether a
-//! certificate holds, which capture follows, how an output ends, how the program is called, or the sums of a demonstration. Numbers are decimal
-//! without leading zeros, a negative number begins with a minus, and one space sets words apart. The texts are this
-//! receiver's own; the standard has none.
+//! certificate holds, which capture follows, how an output ends, how the program is called, or the sums of a demonstration.
+//! Numbers are decimal without leading zeros, a negative number begins with a minus, and one space sets words apart. The
+//! texts are this receiver's own; the standard has none.
 //!
 //! A job at the first data subcarrier of the first symbol, in BPSK on one spatial stream, whose
 //! nearest point is I = -1 at a squared distance of 100, and a frame of one octet without bit errors:

@@ -31,6 +31,8 @@ pub(crate) fn push_ascii(text: &mut String, character: char)
 }
 
 /// Appends a piece and the number behind it, for which the text has room.
+// Inlined, the length of the piece is known.
+#[inline(always)]
 pub(crate) fn push_with<I: Integer>(text: &mut String, piece: &str, number: I)
     requires room { string_len text.old + (length piece.now + I.MAX_STR_LEN) ≤ string_capacity text.old }
     ensures bytes { string_bytes text.new ≡ string_bytes text.old ++ piece.now ++ I.text number }

@@ -4,7 +4,8 @@ ghost use Rattle.ht_tx.specs.Frames.{FrameView, IsPsdu};
 ghost use Rattle.ht_tx.specs.Symbols.{IsSymbols, SymbolsView};
 ghost use Rattle.ht_tx.specs.Transmitted.{AreTransmitted, IsTransmitted};
 
-/// A frame has one list of symbols that is sent for it, and frames have one.
+/// For a frame no more than one list of symbols is sent, of those with as many points as its rate and length ask for; and for a
+/// list of frames no more than one list of these.
 pub fn one_transmission()
     ensures one { (f : FrameView) (sent other : SymbolsView)
         → IsTransmitted f sent → IsTransmitted f other
@@ -14,8 +15,8 @@ pub fn one_transmission()
         → AreTransmitted frames sent → AreTransmitted frames others → sent ≡ others }
 {}
 
-/// For a frame of 1 to 65535 octets there is such a list of symbols, at every rate and by every seed, and for such frames
-/// there are such lists. With [`one_transmission`] it is one list.
+/// For a frame of 1 to 65535 octets some list of symbols is sent, at every rate and with every seed, and so for each of a list
+/// of such frames. With [`one_transmission`] it is exactly one.
 pub fn some_transmission()
     ensures each { (f : FrameView) → IsPsdu f.octets
         → (sent : SymbolsView) × IsTransmitted f sent × IsSymbols sent.rate sent.length sent.points }

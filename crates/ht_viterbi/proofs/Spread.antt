@@ -6,17 +6,17 @@ use Rattle.ht_viterbi.specs.Lanes.{IsClose, IsLight}
 use Rattle.ht_viterbi.proofs.Nearest.{lesser_least, lesser_is, not_chosen}
 use Rattle.ht_viterbi.proofs.Steps.{moved-lt}
 
--- steps that cost at most so much each
+-- steps that cost at most `most` each
 abbrev pub AreLight : ℕ → List StepCosts → Type 0
 AreLight most [] = Unit {0}
 AreLight most (step ∷ steps) = IsLight most step × AreLight most steps
 
--- two states that come to one state in so many steps of the same bits
+-- two states that come to one state in this many steps of the same bits
 Alike : ℕ → ℕ → ℕ → Type 0
 Alike zero s t = s ≡ t
 Alike (suc n) s t = (bit : Bool) → Alike n (moved s bit) (moved t bit)
 
--- a number halved so many times
+-- a number halved `count` times
 abbrev halved : ℕ → ℕ → ℕ
 halved zero n = n
 halved (suc times) n = halved times (n / 2)
@@ -42,7 +42,7 @@ alike (suc times) s t few same =
     alike-more times s t (alike times (s / 2) (t / 2) (omega arith) same)
     (alike times (s / 2 + 32) (t / 2 + 32) (omega arith) (raised times (s / 2) (t / 2) (omega arith) same))
 
--- what so many steps cost at most
+-- what this many steps cost at most
 abbrev steps_cost : ℕ → ℕ → ℕ
 steps_cost most zero = 0
 steps_cost most (suc n) = most + steps_cost most n

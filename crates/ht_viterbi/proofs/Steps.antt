@@ -25,7 +25,7 @@ moved-lt k true p = omega arith
 pub way-same : (f g : ℕ → ℕ) → ((k : ℕ) → k < 64 → f k ≡ g k) → (pair : StepCosts) (k : ℕ) (bit : Bool) → k < 64 → way f pair k bit ≡ way g pair k bit
 way-same f g same pair k bit p = ap (λ n. branch_cost pair k bit + n) (same (moved k bit) (moved-lt k bit p))
 
--- what a step costs where each of its bits costs at most so much
+-- what a step costs where each of its bits costs at most `most`
 pub branch-few : (most : ℕ) (a b : BitCosts) → ((bit : Bool) → bit_cost a bit ≤ most) → ((bit : Bool) → bit_cost b bit ≤ most)
     → (state : ℕ) (bit : Bool) → branch_cost (a, b) state bit ≤ 2 * most
 unfolding branch_cost

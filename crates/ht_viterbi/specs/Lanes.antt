@@ -55,7 +55,7 @@ rise step state = (branch_cost step state true + (256 - branch_cost step state f
 abbrev pub HoldsRows : List (List ℕ) → (StepCosts → ℕ → ℕ) → Type 0
 HoldsRows table value = (pair : StepPlaces) → HasLanes (slice_index_or table (number_of_pair pair) []) (value (hard_costs pair))
 
--- a step that costs at most so much
+-- a step that costs at most `most`, from any state and with any bit
 abbrev pub IsLight : ℕ → StepCosts → Type 0
 IsLight most step = (state : ℕ) (bit : Bool) → branch_cost step state bit ≤ most
 

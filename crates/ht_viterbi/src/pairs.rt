@@ -9,7 +9,7 @@ use crate::words::is_set;
 use ht_conv::{Kept, kept_at};
 use ht_rate::Pattern;
 
-/// What a step's bits A and B cost.
+/// What the two coded bits of a step, A and B, cost as a 0 and as a 1. One that was punctured costs nothing.
 pub(crate) type StepCosts = (BitCosts, BitCosts);
 
 // The coded bits A and B that each state gives at an input bit of 0: bit n of the word is that of state n.
@@ -17,7 +17,7 @@ const A_OF_ZERO: u64 = 0x6699_9966_6699_9966;
 
 const B_OF_ZERO: u64 = 0x55aa_aa55_aa55_55aa;
 
-// How many places a step has.
+// How many places of the received codeword a step has: one for each coded bit that was kept of it.
 pub(crate) fn places_of(kept: Kept) -> usize
     ensures { result ≡ kept_count kept }
 {
@@ -27,7 +27,7 @@ pub(crate) fn places_of(kept: Kept) -> usize
     }
 }
 
-// What a step costs whose places begin at `start`.
+// What the two coded bits of a step cost, whose places begin at `start`.
 fn costs_from<P: Place>(received: &[P], start: usize, kept: Kept) -> StepCosts
     requires { start + kept_count kept ≤ length received.now }
     ensures value { result ≡ pair_of free_bit kept (map (costs_of P.cost) received.now) start }
@@ -43,7 +43,8 @@ fn costs_from<P: Place>(received: &[P], start: usize, kept: Kept) -> StepCosts
     }
 }
 
-// What step `at` costs. Those of the step behind it begin at `start`, which goes back to where its own places begin.
+// What the two coded bits of step `at` cost. `start` is where the places of the step behind it begin, and goes back to where
+// its own do.
 #[inline(always)]
 pub(crate) fn step_at<P: Place>(
     pattern: Pattern,
@@ -79,7 +80,7 @@ fn coded_b(state: usize, bit: bool) -> bool
     is_set(B_OF_ZERO, state) != bit
 }
 
-// What a step from a state adds to the cost.
+// What a step adds to the cost, from a state and with an input bit.
 #[tactic(auto, unfolding(crate::specs::Trellis::branch_cost))]
 pub(crate) fn cost_of_branch(step: StepCosts, state: usize, bit: bool) -> u64
     requires { state < 64 }
@@ -91,7 +92,7 @@ pub(crate) fn cost_of_branch(step: StepCosts, state: usize, bit: bool) -> u64
     u64::from(a) + u64::from(b)
 }
 
-// The state after an input bit.
+// The state after an input bit. A state is the last six input bits, the latest in the highest place.
 pub(crate) fn state_after(state: usize, bit: bool) -> usize
     requires { state < 64 }
     ensures value { result ≡ moved state bit }

@@ -14,7 +14,7 @@ use crate::words::with_flag;
 use ht_rate::Pattern;
 use std::alloc::{AllocError, Global};
 
-// The cost by a first bit.
+// The least cost of an input from this state on whose first bit is this one: that of the branch, and that of the state it leads to.
 fn way_of(costs: &[u64; 64], branches: StepCosts, state: usize, bit: bool) -> u64
     requires state { state < 64 }
     requires bound { (k : ℕ) → slice_index costs.now k ≤ 2 ^ 60 }
@@ -23,7 +23,7 @@ fn way_of(costs: &[u64; 64], branches: StepCosts, state: usize, bit: bool) -> u6
     cost_of_branch(branches, state, bit) + costs[state_after(state, bit)]
 }
 
-// Whether a 1 is taken, and the cost of the bit that is taken.
+// The bit that is taken of the two, and its cost. A 1 is taken where it is free to be chosen and costs less; at a tie 0 is.
 fn pick(free: bool, zero: u64, one: u64) -> (bool, u64)
     ensures taken { result.0 ≡ chosen free zero one }
     ensures least { result.1 ≡ lesser free zero one }
@@ -32,7 +32,7 @@ fn pick(free: bool, zero: u64, one: u64) -> (bool, u64)
     (taken, if taken { one } else { zero })
 }
 
-// The same of a state, where the costs afterwards and those of the step are these.
+// The bit that is taken in a state, and its cost, where the costs from the next step on and those of this step are these.
 fn picked(costs: &[u64; 64], branches: StepCosts, free: bool, state: usize) -> (bool, u64)
     requires state { state < 64 }
     requires bound { (k : ℕ) → slice_index costs.now k ≤ 2 ^ 60 }
@@ -44,7 +44,8 @@ fn picked(costs: &[u64; 64], branches: StepCosts, free: bool, state: usize) -> (
     pick(free, zero, one)
 }
 
-// One step of the trellis. The answer has the states at which a 1 is taken.
+// One step of the trellis, from the costs behind it to those before it, `into`. Bit n of the answer is set where a 1 is taken
+// in state n. In the tail no bit is free: it is 0.
 fn step(costs: &[u64; 64], branches: StepCosts, free: bool, into: &mut [u64; 64]) -> u64
     requires { (k : ℕ) → slice_index costs.now k ≤ 2 ^ 60 }
     ensures costs { (k : ℕ) → k < 64
@@ -68,7 +69,7 @@ fn no_costs() -> [u64; 64]
     [0; 64]
 }
 
-/// One state after the other, with costs of 64 bits.
+/// The plain way back through the trellis: one state after the other, with costs of 64 bits.
 pub(crate) struct Plain;
 
 impl<P: Place> Backwards<P> for Plain {
@@ -92,8 +93,8 @@ impl<P: Place> Backwards<P> for Plain {
 ///
 /// `steps` is the length of the input with its tail of six zeros, from 6 to 524302, and `received` has the places of the
 /// coded bits that `pattern` keeps of these steps, A before B: hard decisions or weights. It has 64 costs and 64
-/// comparisons a step. The memory for all steps is taken first, eight octets a step and one for each bit of the answer;
-/// lack of it is the only error, and then nothing has changed.
+/// comparisons a step. The memory for all steps is taken first, eight octets a step and one for each bit of the answer. The
+/// only refusal is lack of it.
 ///
 /// IEEE Std 802.11-2012, clauses 18.3.5.6 and 20.3.11.6.
 pub fn decode_places<P: Place>(
@@ -115,8 +116,8 @@ pub fn decode_places<P: Place>(
     word.decode::<Plain>(alloc)
 }
 
-/// Decodes a punctured codeword as [`decode`](crate::decode) does, in the plain form of [`decode_places`]: 64 costs and 64
-/// comparisons a step.
+/// Decodes a punctured codeword of hard decisions as [`decode`](crate::decode) does, in the plain form of [`decode_places`]:
+/// 64 costs and 64 comparisons a step. A place without a bit, `None`, costs nothing. The only refusal is lack of memory.
 ///
 /// IEEE Std 802.11-2012, clauses 18.3.5.6 and 20.3.11.6.
 pub fn plain_decode(

@@ -40,5 +40,6 @@ fault_from job certificate None =
     let distance = distance_of job.system certificate.vector in
     if certificate.distance == distance then walk_fault (claim_of certificate) (roots job) 0 certificate.marks else Some (WrongDistance distance)
 
+-- what is wrong with a certificate, if something is
 abbrev pub fault_of : JobView → Certificate → Option CheckFault
 fault_of job certificate = fault_from job certificate (first_off 1 job.grid certificate.vector)

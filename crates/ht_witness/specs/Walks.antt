@@ -10,8 +10,8 @@ use Rattle.ht_sphere.specs.Searching.{better}
 use Rattle.ht_witness.specs.declared.check_fault.CheckFault.{CheckFault}
 use Rattle.ht_witness.specs.declared.check_fault.CheckFault.TheVariants.{Early, Better, Short, Long}
 
--- a walk can go on from a stream, counted from 1: the levels have room for each coordinate of the job, and the partial distance
--- stays below a bound, whatever the streams up to this one add to it
+-- A walk can go on at stream k, counted from 1: there is such a stream in the job, the levels have room for each of its
+-- coordinates and each is from -7 to 7, and the partial distance, with 2^65 for each of the streams 1 to k, stays below a bound.
 pub record CanWalk (job : JobView) (k : ℕ) (xs : List ℤ) (partial bound : ℕ) : Type 0 where
   pub first : 1 ≤ k
   pub last : k ≤ length job.system

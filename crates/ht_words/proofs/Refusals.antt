@@ -1,6 +1,6 @@
--- Words whose form or values aren't accepted ask for nothing.
-use Rattle.std.proofs.Common.{◌≡◌, ℕ, zero, suc, Bool, true, false, List, [], ◌∷◌, Result, Ok, Err, refl, sym, ap, ◌∙◌, subst}
-use Rattle.std.specs.Prelude.{◌&&◌, Some, IfOk, slice_get}
+-- Words whose form or values aren't accepted ask for nothing, and others for what is made of the values that were read.
+use Rattle.std.proofs.Common.{◌≡◌, ℕ, zero, suc, Bool, true, false, List, [], ◌∷◌, Result, Ok, Err, true≢false, refl, sym, ap, ◌∙◌, subst}
+use Rattle.std.specs.Prelude.{◌&&◌, Some, IfOk, IsOkAnd, MatchResult, is_ok, option_map, slice_get}
 use Rattle.std.specs.List.{list_all}
 use Rattle.std.proofs.lemmas.Option.{none-some, same_Some}
 use Rattle.ht_words.specs.declared.asked.Asked.{Asked}
@@ -22,7 +22,7 @@ not_all holds (s ∷ ss) zero setting there fails = ap (λ (test : Bool). test &
 not_all holds (s ∷ ss) (suc k) setting there fails =
     ap (λ (test : Bool). holds s && test) (not_all holds ss k setting there fails) ∙ nor (holds s)
 
-abbrev refusal_in : Result Asked Refusal → Refusal
+abbrev refusal_in : {A : Type 0} → Result A Refusal → Refusal
 refusal_in (Ok asked) = Words
 refusal_in (Err refusal) = refusal
 
@@ -30,14 +30,35 @@ abbrev pub refused : {A : Type 0} → Refusal → Result A Refusal
 refused refusal = Err refusal
 
 -- an error, where it is that of words only if these aren't accepted
-refuses : (accepted : Bool) (asked : Asked) {given : Refusal} {result : Result Asked Refusal} → result ≡ Err given → (given ≡ Words → accepted ≡ false)
-    → Reads (only_if accepted asked) result
-refuses accepted asked {given} {result} is none = record {
-  asked = subst (λ (r : Result Asked Refusal). IfOk r (λ a. only_if accepted asked ≡ Some a)) (sym is) tt;
+refuses : {A : Type 0} (accepted : Bool) (asked : A) {given : Refusal} {result : Result A Refusal} → result ≡ Err given
+    → (given ≡ Words → accepted ≡ false) → Reads (only_if accepted asked) result
+refuses {A} accepted asked {given} {result} is none = record {
+  asked = subst (λ (r : Result A Refusal). IfOk r (λ a. only_if accepted asked ≡ Some a)) (sym is) tt;
   refused = λ words. ap (λ (test : Bool). only_if test asked) (none (ap refusal_in (sym is ∙ words)));
 }
 
-module _ (settings : List Setting) (words : List (List ℕ)) (asked : Asked) {fault : Refusal} {result : Result Asked Refusal}
+-- what is made of what was read, where that was asked for
+module _ {A : Type 0} (accepted : Bool) (wanted : A) (make : A → Asked) where
+  made_if : (test : Bool) → only_if test (make wanted) ≡ option_map make (only_if test wanted)
+  made_if true = refl
+  made_if false = refl
+
+  pub reads_made : (Gives : A → Asked → Type 0) → ((x : A) (made : Asked) → Gives x made → made ≡ make x)
+      → (read : Result A Refusal) (result : Result Asked Refusal) → Reads (only_if accepted wanted) read
+      → MatchResult read (λ x. IsOkAnd result (Gives x)) (λ e. result ≡ Err e) → Reads (only_if accepted (make wanted)) result
+  reads_made Gives gives (Ok x) (Ok made) reads is = record {
+    asked = made_if accepted ∙ (ap (option_map make) reads.asked ∙ ap Some (sym (gives x made is)));
+    refused = λ words. absurd (true≢false (ap is_ok words));
+  }
+  reads_made Gives gives (Ok x) (Err e) reads is = absurd is
+  reads_made Gives gives (Err e) result reads is = record {
+    asked = subst (λ (r : Result Asked Refusal). IfOk r (λ a. only_if accepted (make wanted) ≡ Some a)) (sym is) tt;
+    refused = λ words.
+        let none = reads.refused (ap (λ (r : Result Asked Refusal). refused {A = A} (refusal_in r)) (sym is ∙ words)) in
+        made_if accepted ∙ ap (option_map make) none;
+  }
+
+module _ {A : Type 0} (settings : List Setting) (words : List (List ℕ)) (asked : A) {fault : Refusal} {result : Result A Refusal}
     (error : (given : Refusal) × (result ≡ Err given) × (given ≡ fault)) where
   -- the words aren't in the plain form
   pub refuses_form : is_plain settings words ≡ false → Reads (only_if (are_accepted settings words) asked) result

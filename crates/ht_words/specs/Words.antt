@@ -95,7 +95,7 @@ commands =
     ∷ []
 
 -- what is asked, where the words are accepted
-abbrev pub only_if : Bool → Asked → Option Asked
+abbrev pub only_if : {A : Type 0} → Bool → A → Option A
 only_if accepted asked = if accepted then Some asked else None
 
 -- what the command of these that has this name asks for, where the words give some of its options

@@ -3,7 +3,7 @@ ghost use Rattle.std.specs.Prelude.{◌≡◌, ◌≤◌, ◌==◌, [], IfOk, If
 ghost use Rattle.ht_rate.specs.Rates.{rate_at};
 ghost use Rattle.ht_words.specs.declared.setting.Setting.TheVariants.{Noise, Seed, Window, Workers};
 ghost use Rattle.ht_words.specs.Words.{IsWithinRanges, are_accepted, asked, asked_of, commands, demo_in, for_channel, for_demo, for_workers, only_if, value_of};
-ghost use Rattle.ht_words.specs.Refusing.{Reads, in_noise, in_threads};
+ghost use Rattle.ht_words.specs.Refusing.{Reads};
 
 use crate::plain::{Refusal, accept, value};
 use crate::setting::Setting;
@@ -94,23 +94,26 @@ fn by_command(alloc: Global, words: &[String]) -> Result<Asked, Refusal>
     by_name(alloc, command.as_str(), options)
 }
 
-/// What the command of this name asks for with these options.
-fn by_name(alloc: Global, name: &str, options: &[String]) -> Result<Asked, Refusal>
-    ensures { Reads (asked_of commands name.now (map string_bytes options.now)) result }
+/// What the command of this name asks for with these words behind it.
+fn by_name(alloc: Global, name: &str, words: &[String]) -> Result<Asked, Refusal>
+    ensures { Reads (asked_of commands name.now (map string_bytes words.now)) result }
 {
     match name {
-        "detect" => by_workers(alloc, options, Threaded::Detect),
-        "rx" => by_workers(alloc, options, Threaded::Rx),
-        "soft" => by_workers(alloc, options, Threaded::Soft),
-        "many" => by_workers(alloc, options, Threaded::Many),
-        "tx" => alone(options, Asked::Tx),
-        "channel" => through_noise(alloc, options, Noisy::Channel),
-        "upgrade" => alone(options, Asked::Upgrade),
-        "certify" => alone(options, Asked::Certify),
-        "check" => alone(options, Asked::Check),
-        "lchannel" => through_noise(alloc, options, Noisy::LegacyChannel),
-        "lrx" => by_workers(alloc, options, Threaded::LegacyRx),
-        "demo" => demo(alloc, options),
+        "detect" => crew(alloc, words).map(|(workers, window)| Asked::Detect { workers, window }),
+        "rx" => crew(alloc, words).map(|(workers, window)| Asked::Rx { workers, window }),
+        "soft" => crew(alloc, words).map(|(workers, window)| Asked::Soft { workers, window }),
+        "many" => crew(alloc, words).map(|(workers, window)| Asked::Many { workers, window }),
+        "tx" => alone(words, Asked::Tx),
+        "channel" => channel(alloc, words).map(|(seed, noise)| Asked::Channel { seed, noise }),
+        "upgrade" => alone(words, Asked::Upgrade),
+        "certify" => alone(words, Asked::Certify),
+        "check" => alone(words, Asked::Check),
+        "lchannel" => channel(alloc, words).map(|(seed, noise)| Asked::LegacyChannel {
+            seed,
+            noise,
+        }),
+        "lrx" => crew(alloc, words).map(|(workers, window)| Asked::LegacyRx { workers, window }),
+        "demo" => demo(alloc, words),
         _ => Err(Refusal::Words),
     }
 }
@@ -126,70 +129,26 @@ fn alone(words: &[String], asked: Asked) -> Result<Asked, Refusal>
     }
 }
 
-/// The commands that workers run.
-#[derive(Clone, Copy)]
-pub(crate) enum Threaded {
-    Detect,
-    Rx,
-    Soft,
-    Many,
-    LegacyRx,
-}
-
-impl Threaded {
-    /// What the command asks for with this number of workers and this window.
-    fn asked(self, workers: u8, window: u16) -> Asked
-        ensures { result ≡ in_threads self workers window }
-    {
-        match self {
-            Threaded::Detect => Asked::Detect { workers, window },
-            Threaded::Rx => Asked::Rx { workers, window },
-            Threaded::Soft => Asked::Soft { workers, window },
-            Threaded::Many => Asked::Many { workers, window },
-            Threaded::LegacyRx => Asked::LegacyRx { workers, window },
-        }
-    }
-}
-
-/// A command that workers run.
-fn by_workers(alloc: Global, words: &[String], command: Threaded) -> Result<Asked, Refusal>
+/// The options of a command that a crew of workers runs: how many they are, and their window.
+fn crew(alloc: Global, words: &[String]) -> Result<(u8, u16), Refusal>
     ensures { let texts = map string_bytes words.now in
-        Reads (only_if (are_accepted for_workers texts) (in_threads command (value_of texts Workers) (value_of texts Window))) result }
+        Reads (only_if (are_accepted for_workers texts) (value_of texts Workers, value_of texts Window)) result }
 {
     accept(words, &[Setting::Workers, Setting::Window])?;
     let workers = value(alloc, words, Setting::Workers)?;
     let window = value(alloc, words, Setting::Window)?;
-    Ok(command.asked(workers as u8, window as u16))
+    Ok((workers as u8, window as u16))
 }
 
-/// The commands that send frames through a channel with noise.
-#[derive(Clone, Copy)]
-pub(crate) enum Noisy {
-    Channel,
-    LegacyChannel,
-}
-
-impl Noisy {
-    /// What the command asks for with this seed and this size of the noise.
-    fn asked(self, seed: u64, noise: u16) -> Asked
-        ensures { result ≡ in_noise self seed noise }
-    {
-        match self {
-            Noisy::Channel => Asked::Channel { seed, noise },
-            Noisy::LegacyChannel => Asked::LegacyChannel { seed, noise },
-        }
-    }
-}
-
-/// A command that sends frames through a channel with noise.
-fn through_noise(alloc: Global, words: &[String], command: Noisy) -> Result<Asked, Refusal>
+/// The options of a command that sends frames through a channel: the seed, and the size of the noise.
+fn channel(alloc: Global, words: &[String]) -> Result<(u64, u16), Refusal>
     ensures { let texts = map string_bytes words.now in
-        Reads (only_if (are_accepted for_channel texts) (in_noise command (value_of texts Seed) (value_of texts Noise))) result }
+        Reads (only_if (are_accepted for_channel texts) (value_of texts Seed, value_of texts Noise)) result }
 {
     accept(words, &[Setting::Seed, Setting::Noise])?;
     let seed = value(alloc, words, Setting::Seed)?;
     let noise = value(alloc, words, Setting::Noise)?;
-    Ok(command.asked(seed, noise as u16))
+    Ok((seed, noise as u16))
 }
 
 /// The options of `demo`.

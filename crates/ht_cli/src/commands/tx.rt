@@ -10,7 +10,11 @@ use ht_runs::RunFault;
 use ht_tx::transmit_all;
 use std::alloc::Global;
 
-/// Reads a file of frames to its end, and then puts the file of the symbols that are sent for them.
+/// Reads a file of frames (HTTX) to its end, and then puts the file of the symbols (HTSY) that are sent for them (IEEE Std
+/// 802.11-2012, clause 20.3.11).
+///
+/// It refuses with the first fault of what is no file of frames, with `Read` where the source failed, and with `NoMemory`, and
+/// puts nothing then; and with `Write` where the sink failed, when a part of the file was put.
 pub fn send<S: Source, K: Sink>(alloc: Global, source: &mut S, sink: &mut K) -> Result<(), RunFault>
     ensures converts { Converted sending (S.shown source.old) (S.shown source.new) (K.shown sink.old) (K.shown sink.new) SaysNothing result }
     ensures writes { result ≢ Err RunFault.Write → (K.shown sink.new).faults ≡ (K.shown sink.old).faults }

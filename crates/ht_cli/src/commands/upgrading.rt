@@ -9,7 +9,10 @@ use ht_io::{Sink, Source};
 use ht_runs::RunFault;
 use std::alloc::Global;
 
-/// Reads a capture of either version to its end, and then puts the capture of version 2 of its frames.
+/// Reads a capture (HTCP) of either version to its end, and then puts the capture of version 2 of its frames.
+///
+/// It refuses with the first fault of what is no capture, with `Read` where the source failed, and with `NoMemory`, and puts
+/// nothing then; and with `Write` where the sink failed, when a part of the capture was put.
 pub fn upgrade<S: Source, K: Sink>(
     alloc: Global,
     source: &mut S,

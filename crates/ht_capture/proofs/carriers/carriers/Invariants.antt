@@ -7,7 +7,7 @@ use Rattle.ht_capture.specs.Taking.{AreRead, triangles_of}
 use Rattle.ht_capture.specs.Reading.{AreSeen, SameFrame, here}
 use Rattle.ht_capture.proofs.carriers.carriers.Given as goal
 
--- so many subcarriers were read
+-- this many subcarriers were read
 abbrev pub invariant-loop-index : goal.invariant-loop-index
 invariant-loop-index g l = record {
   told : Gives (here (carriers_due l.turn l.fn.head 0 []) l.at (g.S.Source.shown l.fn.source))

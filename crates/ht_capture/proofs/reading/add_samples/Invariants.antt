@@ -4,7 +4,7 @@ use Rattle.ht_capture.specs.Files.{sample_octets}
 use Rattle.ht_capture.specs.Contents.{AreSamples}
 use Rattle.ht_capture.proofs.reading.add_samples.Given as goal
 
--- so many samples were added
+-- this many samples were added
 abbrev pub invariant-loop-index : goal.invariant-loop-index
 invariant-loop-index l =
     (more : List Sample) × (l.samples.items ≡ l.fn.samples.items ++ more) × AreSamples more

@@ -6,7 +6,7 @@ use Rattle.ht_capture.proofs.Framed.{SoFar}
 use Rattle.ht_fields.specs.WholeFiles.{GivesFields}
 use Rattle.ht_capture.proofs.reading.read_captures.Given as goal
 
--- so many frames were read
+-- this many frames were read
 abbrev pub invariant-loop-index : goal.invariant-loop-index
 invariant-loop-index g l = record {
   told : GivesFields (here captures.start 0 (g.S.Source.shown l.fn.source)) (here (turn_due l.turn) l.at (g.S.Source.shown l.source));

@@ -10,7 +10,7 @@ use Rattle.ht_capture.specs.Taking.{SameTurn}
 use Rattle.ht_fields.specs.WholeFiles.{GivesFields}
 use Rattle.ht_capture.proofs.reading.samples.Given as goal
 
--- so many symbols were read
+-- this many symbols were read
 abbrev pub invariant-loop-due : goal.invariant-loop-due
 invariant-loop-due g l = record {
   told : (present : List Present)

@@ -3,7 +3,7 @@ use Rattle.ht_rate.specs.Rates.{carriers_of}
 use Rattle.ht_capture.specs.Files.{flagged_octets, present_among}
 use Rattle.ht_capture.proofs.writing.add_carriers.Given as goal
 
--- so many subcarriers are there, and the others complete the frame's, with the triangles that are left
+-- this many subcarriers are there, and the others complete the frame's, with the triangles that are left
 abbrev pub invariant-loop-carrier : goal.invariant-loop-carrier
 invariant-loop-carrier l = record {
   put : l.chunk ++ flagged_octets (carriers_of l.frame.rate - l.carrier) l.carrier l.frame.erased l.triangles

@@ -3,7 +3,7 @@ use Rattle.ht_metric.specs.Rows.{no_leg}
 use Rattle.ht_capture.specs.Files.{leg_octets, taps_octets}
 use Rattle.ht_capture.proofs.writing.add_row.Given as goal
 
--- so many entries are there, and the others complete the row
+-- this many entries are there, and the others complete the row
 abbrev pub invariant-loop-entry : goal.invariant-loop-entry
 invariant-loop-entry l = record {
   put : l.chunk ++ taps_octets (l.below - l.entry) (drop l.entry (slice_index_or l.triangle l.row no_leg).right)

@@ -2,7 +2,7 @@ use Rattle.std.proofs.Common.{◌≡◌, ◌≤◌, ◌+◌, ◌*◌, ◌++◌, 
 use Rattle.ht_capture.specs.Files.{legs_octets}
 use Rattle.ht_capture.proofs.writing.add_triangles.Given as goal
 
--- so many triangles are there
+-- this many triangles are there
 abbrev pub invariant-loop-triangle : goal.invariant-loop-triangle
 invariant-loop-triangle l = record {
   put : l.chunk ≡ l.fn.chunk ++ flat_map legs_octets (take l.triangle-index l.triangles);

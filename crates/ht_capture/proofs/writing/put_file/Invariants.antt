@@ -3,7 +3,7 @@ use Rattle.ht_io.specs.Devices.{Grows, IsLater}
 use Rattle.ht_capture.specs.Files.{capture_start, capture_frame_octets}
 use Rattle.ht_capture.proofs.writing.put_file.Given as goal
 
--- the octets of so many frames were put
+-- the octets of this many frames were put
 abbrev pub invariant-loop-frame : goal.invariant-loop-frame
 invariant-loop-frame g l = record {
   put : Grows (g.K.Sink.shown l.fn.sink) (g.K.Sink.shown l.sink)

@@ -1,4 +1,4 @@
-use Rattle.std.proofs.Common.{◌≡◌, ◌++◌, List, [], flat_map, take, refl, ap, ◌∙◌}
+use Rattle.std.proofs.Common.{◌≡◌, ◌++◌, List, [], flat_map, take, refl, ap, ◌∙◌, rules}
 use Rattle.ht_io.proofs.Calls.{later-refl, later-later, failed-later}
 use Rattle.ht_io.proofs.Pieces.{grown-none}
 use Rattle.ht_metric.specs.declared.sample.Sample.{Sample}
@@ -9,20 +9,20 @@ use Rattle.ht_capture.proofs.writing.put_samples.Goals as goal
 pub loop-rest-init : goal.loop-rest-init
 loop-rest-init g c = record { put = ([], refl, grown-none _); later = later-refl _; steady = refl }
 
-pub returns-in_err-put-clause-part : goal.returns-in_err-put-clause-part
-returns-in_err-put-clause-part g c =
+pub returns-in_err-put : goal.returns-in_err-put
+returns-in_err-put g c =
     let put : c.as_slice.result.now ≡ flat_map sample_octets (take c.min.result c.loop-rest.rest.now) =
     c.as_slice.ensures ∙ (c.fill.ensures ∙ ap (λ (s : List Sample). flat_map sample_octets s) c.split_at.ensures.front) in
     let so_far = c.loop-rest.invariant.put in
-    on_err _ _ (part_more _ _ _ so_far.0 _ _ _ _ _ so_far.2 c.in_err-put.ensures.part put (map_split sample_octets c.loop-rest.rest.now c.min.result) so_far.1)
-
-pub returns-in_err-put-clause-cause : goal.returns-in_err-put-clause-cause
-returns-in_err-put-clause-cause g c =
-    on_err _ _ (failed-later (g.K.Sink.shown c.args.sink.now) (g.K.Sink.shown c.loop-rest.sink)
-    (g.K.Sink.shown c.put.new.self) c.loop-rest.invariant.later c.in_err-put.ensures.cause)
-
-pub returns-in_err-put-clause-later : goal.returns-in_err-put-clause-later
-returns-in_err-put-clause-later g c = later-later _ _ _ c.loop-rest.invariant.later c.in_err-put.ensures.later
+    record {
+      grown = search rules;
+      steady = search rules;
+      part = on_err _ _ (part_more _ _ _ so_far.0 _ _ _ _ _ so_far.2 c.in_err-put.ensures.part put
+          (map_split sample_octets c.loop-rest.rest.now c.min.result) so_far.1);
+      cause = on_err _ _ (failed-later (g.K.Sink.shown c.args.sink.now) (g.K.Sink.shown c.loop-rest.sink) (g.K.Sink.shown c.put.new.self)
+          c.loop-rest.invariant.later c.in_err-put.ensures.cause);
+      later = later-later _ _ _ c.loop-rest.invariant.later c.in_err-put.ensures.later;
+    }
 
 pub loop-rest-preserved : goal.loop-rest-preserved
 loop-rest-preserved g c =

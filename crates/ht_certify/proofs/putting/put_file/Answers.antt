@@ -40,7 +40,7 @@ returns-in_err-put g c =
     let start = start_waits fs c.in_ok-count.field-0 _ _ a c.in_ok-count.ensures c.new-block.ensures c.in_ok-add_start.ensures.added in
     let breaks = put_breaks [] c.put_frames.new.block (file_of_frames fs) a _ (g.K.Sink.shown c.put.new.sink)
     (file_passes fs c.add_start.new.self _ a (g.K.Sink.shown c.put_frames.new.sink) start c.in_ok-put_frames.ensures)
-    c.in_err-put.ensures.part c.in_err-put.ensures.cause c.in_err-put.ensures.later in
+    c.in_err-put.ensures.puts.part c.in_err-put.ensures.puts.cause c.in_err-put.ensures.puts.later in
     search rules
 
 pub returns : goal.returns
@@ -50,4 +50,4 @@ returns g c =
     put_last [] c.put_frames.new.block (file_of_frames c.args.frames.now) a b (g.K.Sink.shown c.put.new.sink)
     (file_passes c.args.frames.now c.add_start.new.self _ a b
     (start_waits c.args.frames.now c.in_ok-count.field-0 _ _ a c.in_ok-count.ensures c.new-block.ensures c.in_ok-add_start.ensures.added)
-    c.in_ok-put_frames.ensures) c.in_ok-put.ensures.grown c.in_ok-put.ensures.steady c.in_ok-put.ensures.later
+    c.in_ok-put_frames.ensures) c.in_ok-put.ensures.puts.grown c.in_ok-put.ensures.puts.steady c.in_ok-put.ensures.puts.later

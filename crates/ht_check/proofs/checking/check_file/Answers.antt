@@ -95,7 +95,7 @@ returns-in_err-put-in-Ok-End-clause-checks g c =
     let old = shown_by c.loop-text.reader (g.S.Source.shown c.loop-text.source) in
     let completes = gives_end old (shown_by c.next.new.self (g.S.Source.shown c.next.new.source)) _ c.next.new.into c.in-Ok-End.field-0-is
     (c.in-Ok-End.ensures.told c.loop-text.invariant.going) in
-    let put = c.in_err-put-in-Ok-End.ensures in
+    let put = c.in_err-put-in-Ok-End.ensures.puts in
     let fails = ends_in_part (g.S.Source.shown c.args.source.now) (g.K.Sink.shown c.args.sink.now) old (g.K.Sink.shown c.loop-text.sink)
     c.loop-text.tally (string_bytes c.loop-text.text) c.loop-text.invariant.checks (g.S.Source.shown c.next.new.source) completes
     (g.K.Sink.shown c.put.new.sink) (string_bytes c.push_checked_line.new.text) c.in_ok-push_checked_line-in-Ok-End.ensures.ok put.part put.cause in
@@ -109,14 +109,14 @@ returns-in-Ok-End-clause-checks g c =
       ends (g.S.Source.shown c.args.source.now) (g.K.Sink.shown c.args.sink.now) old (g.K.Sink.shown c.loop-text.sink)
           c.loop-text.tally (string_bytes c.loop-text.text) c.loop-text.invariant.checks (g.S.Source.shown c.next.new.source) completes
           (g.K.Sink.shown c.put.new.sink) (string_bytes c.push_checked_line.new.text) c.in_ok-push_checked_line-in-Ok-End.ensures.ok
-          c.in_ok-put-in-Ok-End.ensures.grown,
+          c.in_ok-put-in-Ok-End.ensures.puts.grown,
       tt,
     )
 
 pub returns-in_err-put-in-Err-clause-checks : goal.returns-in_err-put-in-Err-clause-checks
 returns-in_err-put-in-Err-clause-checks g c =
     let old = shown_by c.loop-text.reader (g.S.Source.shown c.loop-text.source) in
-    let put = c.in_err-put-in-Err.ensures in
+    let put = c.in_err-put-in-Err.ensures.puts in
     let fails = halts_in_part (g.S.Source.shown c.args.source.now) (g.K.Sink.shown c.args.sink.now) old (g.K.Sink.shown c.loop-text.sink)
     c.loop-text.tally (string_bytes c.loop-text.text) c.loop-text.invariant.checks (g.S.Source.shown c.next.new.source) (g.K.Sink.shown c.put-in-Err.new.sink)
     c.in-Err.fault (c.in-Err.ensures.told c.loop-text.invariant.going) put.part put.cause in search rules
@@ -130,4 +130,4 @@ returns-in-Err-clause-checks g c =
     let old = shown_by c.loop-text.reader (g.S.Source.shown c.loop-text.source) in
     subst (λ (fault : RunFault). StreamFails checking a b k l fault) (sym c.from.ensures)
     (halts a k old (g.K.Sink.shown c.loop-text.sink) c.loop-text.tally (string_bytes c.loop-text.text) c.loop-text.invariant.checks b l c.in-Err.fault
-    (c.in-Err.ensures.told c.loop-text.invariant.going) c.in_ok-put-in-Err.ensures.grown c.in_ok-put-in-Err.ensures.later)
+    (c.in-Err.ensures.told c.loop-text.invariant.going) c.in_ok-put-in-Err.ensures.puts.grown c.in_ok-put-in-Err.ensures.puts.later)

@@ -14,22 +14,32 @@ along-given g c =
     let i = c.loop-block.invariant in
     along_more c.args.window (seen c.args.feed.now).left (seen c.loop-block.feed) (seen c.next.new.self) jobs i.along i.running gives
 
-pub returns-in_default-clause-leaves : goal.returns-in_default-clause-leaves
-returns-in_default-clause-leaves g c = record {
-  leads = search rules;
-  due = search rules;
-  in_turn = (along-given g (goal.at.returns-in_default-clause-leaves g c).In-Ok-Some).in_turn;
+pub returns-in_default : goal.returns-in_default
+returns-in_default g c = record {
+  leaves = record {
+    leads = search rules;
+    due = search rules;
+    in_turn = (along-given g (goal.at.returns-in_default g c).In-Ok-Some).in_turn;
+  };
+  through = tt;
+  jobs = tt;
+  refuses = search rules;
 }
 
-pub returns-in-Err-take-clause-leaves : goal.returns-in-Err-take-clause-leaves
-returns-in-Err-take-clause-leaves g c =
+pub returns-in-Err-take : goal.returns-in-Err-take
+returns-in-Err-take g c =
     let seen = g.F.BlockFeed.shown in
     let goes_on = g.met.F.BlockFeed.goes_on in
     record {
-      leads = goes_on _ _ _ (goes_on _ _ _ c.loop-block.invariant.leads c.next.ensures.leads) c.take.ensures.leads;
-      due = search rules;
-      in_turn = in_turn_failed (seen c.args.feed.now).left (seen c.next.new.self) (seen c.take.new.self) c.in-Err-take.fault
-          (along-given g (goal.at.returns-in-Err-take-clause-leaves g c).In-Ok-Some) c.in-Err-take.ensures.fault;
+      leaves = record {
+        leads = goes_on _ _ _ (goes_on _ _ _ c.loop-block.invariant.leads c.next.ensures.leads) c.take.ensures.leads;
+        due = search rules;
+        in_turn = in_turn_failed (seen c.args.feed.now).left (seen c.next.new.self) (seen c.take.new.self) c.in-Err-take.fault
+            (along-given g (goal.at.returns-in-Err-take g c).In-Ok-Some) c.in-Err-take.ensures.fault;
+      };
+      through = tt;
+      jobs = tt;
+      refuses = search rules;
     }
 
 pub loop-block-preserved : goal.loop-block-preserved

@@ -3,7 +3,7 @@ use Rattle.ht_metric.specs.Jobs.{near}
 use Rattle.ht_feed.specs.Dues.{AreBounded}
 use Rattle.ht_feed.proofs.hits.hits_of.Given as goal
 
--- the hits of so many jobs are there
+-- the hits of this many jobs are there
 abbrev pub invariant-loop-at : goal.invariant-loop-at
 invariant-loop-at g l = record {
   count : vec_len l.found ≡ l.at;

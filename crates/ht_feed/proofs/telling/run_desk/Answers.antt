@@ -1,8 +1,9 @@
-use Rattle.std.proofs.Common.{◌∙◌, IfSome, Option, refl, ap, subst}
+use Rattle.std.proofs.Common.{◌∙◌, IfSome, Option, refl, ap, subst, rules}
 use Rattle.ht_feed.specs.declared.book_fault.BookFault.TheVariants.{NoMemory}
 use Rattle.ht_feed.specs.Desks.{AddsBlock, DeskView}
 use Rattle.ht_feed.specs.Dues.{due_of}
 use Rattle.ht_feed.specs.Leading.{tells-none, tells-on, tells-fails}
+use Rattle.ht_feed.proofs.Finishing.{runs_so}
 use Rattle.ht_feed.proofs.Leads.{read_on, tells_lacking, tells_refused, tells_taken}
 use Rattle.ht_feed.proofs.Taking.{one_gone}
 use Rattle.ht_feed.proofs.telling.run_desk.Goals as goal
@@ -15,24 +16,26 @@ loop-block-init g c = record {
   same = refl;
 }
 
-pub returns-in-Ok-None-clause-tells : goal.returns-in-Ok-None-clause-tells
-returns-in-Ok-None-clause-tells g c = read_on c.in-Ok-None.ensures.reads c.loop-block.invariant.tells (g.met.A.Account.more_due c.loop-block.account)
+pub returns-in-Ok-None-clause-runs : goal.returns-in-Ok-None-clause-runs
+returns-in-Ok-None-clause-runs g c =
+    runs_so _ (read_on c.in-Ok-None.ensures.reads c.loop-block.invariant.tells (g.met.A.Account.more_due c.loop-block.account)) (search rules) (search rules)
 
-pub returns-in-Err-clause-tells : goal.returns-in-Err-clause-tells
-returns-in-Err-clause-tells g c =
+pub returns-in-Err-clause-runs : goal.returns-in-Err-clause-runs
+returns-in-Err-clause-runs g c =
     let r = g.R.BlockReader in
     let same = c.in-Err.ensures.memory in
-    tells-fails _ _ _ NoMemory c.loop-block.invariant.tells (tells_lacking r.means r.at _ _ _ _ _ same.0 (ap g.S.Source.shown same.1))
+    runs_so _ (tells-fails _ _ _ NoMemory c.loop-block.invariant.tells (tells_lacking r.means r.at _ _ _ _ _ same.0 (ap g.S.Source.shown same.1))) tt tt
 
-pub returns-in_default-clause-tells : goal.returns-in_default-clause-tells
-returns-in_default-clause-tells g c = read_on c.in-Ok-Some.ensures.reads c.loop-block.invariant.tells (g.met.A.Account.more_due c.loop-block.account)
+pub returns-in_default-clause-runs : goal.returns-in_default-clause-runs
+returns-in_default-clause-runs g c =
+    runs_so _ (read_on c.in-Ok-Some.ensures.reads c.loop-block.invariant.tells (g.met.A.Account.more_due c.loop-block.account)) tt tt
 
-pub returns-in-Err-take-clause-tells : goal.returns-in-Err-take-clause-tells
-returns-in-Err-take-clause-tells g c =
+pub returns-in-Err-take-clause-runs : goal.returns-in-Err-take-clause-runs
+returns-in-Err-take-clause-runs g c =
     let r = g.R.BlockReader in
     let e = c.in-Err-take.ensures in
-    tells-fails _ _ _ _ (read_on c.in-Ok-Some.ensures.reads c.loop-block.invariant.tells (g.met.A.Account.more_due c.loop-block.account))
-    (tells_refused r.means r.at _ _ _ _ _ _ e.stays e.part c.take.ensures.later e.cause e.unfailed)
+    runs_so _ (tells-fails _ _ _ _ (read_on c.in-Ok-Some.ensures.reads c.loop-block.invariant.tells (g.met.A.Account.more_due c.loop-block.account))
+    (tells_refused r.means r.at _ _ _ _ _ _ e.stays e.part c.take.ensures.later e.cause e.unfailed)) tt tt
 
 pub loop-block-preserved : goal.loop-block-preserved
 loop-block-preserved g c =

@@ -1,4 +1,4 @@
-use Rattle.ht_feed.proofs.Finishing.{driven_so, told_input, told_lacking}
+use Rattle.ht_feed.proofs.Finishing.{told_input, told_lacking}
 use Rattle.ht_feed.proofs.telling.tell_alone.Goals as goal
 
 pub returns-in_err-desk : goal.returns-in_err-desk
@@ -7,5 +7,4 @@ returns-in_err-desk g c = told_lacking c.from_residual.ensures.0 c.from_residual
 pub returns : goal.returns
 returns g c =
     let e = c.run_desk-driven.ensures in
-    told_input (driven_so _ _ _ _ _ _ _ _ c.run_desk-driven.new.desk c.run_desk-driven.result (rw c.in_ok-desk.ensures at e.tells) e.ended e.taken)
-    c.requires.rests (g.met.A.Account.none_due c.run_desk-driven.new.account) c.end_of.ensures e.same
+    told_input (rw c.in_ok-desk.ensures at e.runs) c.requires.rests (g.met.A.Account.none_due c.run_desk-driven.new.account) c.end_of.ensures e.same

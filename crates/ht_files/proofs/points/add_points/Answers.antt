@@ -66,8 +66,8 @@ returns-then-not-is_fitting-clause-misfit c =
     let carrier = slice_index_or c.args.carriers.now k (Data 0) in
     let added = was.added.0 in
     let place : c.args.at + 2 * k ≡ c.args.at + length (flat_map point_octets added) = omega (arith, length-points added, was.added.2) in
-    let kinds : c.kind.result ≡ kind_on (carrier_at_place r (length points)) =
-    c.kind.ensures ∙ kind_at r (length points) c.args.symbol k carrier at.size at.few at.is in
+    let kinds : c.fault_kind.result ≡ kind_on (carrier_at_place r (length points)) =
+    c.fault_kind.ensures ∙ kind_at r (length points) c.args.symbol k carrier at.size at.few at.is in
     record {
       added = added;
       bad = a ∷ b ∷ [];
@@ -76,7 +76,7 @@ returns-then-not-is_fitting-clause-misfit c =
       split = two_behind octets k at.more ∙ ap (λ (z : List ℕ). z ++ ((a ∷ b ∷ []) ++ drop (2 * (k + 1)) octets)) was.added.3;
       two = refl;
       misfit = misfit_at r (length points) c.args.symbol k carrier (a ∷ b ∷ []) at.size at.few at.is
-          (misfit r c.args.symbol carrier (k % streams_of r + 1) (a ∷ b ∷ []) c.made-point.result c.made-point.ensures
+          (misfit r c.args.symbol carrier (k % streams_of r + 1) (a ∷ b ∷ []) c.point_of-point.result c.point_of-point.ensures
           (sym c.is_fitting.ensures ∙ c.if-not-is_fitting.true));
       fault_is = c.bad.ensures
           ∙ (ap (λ (x : Kind). let f : InFault = Format (record { kind = x; offset = c.args.at + 2 * k }) in f) kinds
@@ -92,7 +92,7 @@ loop-place-preserved c =
     let was = c.loop-place.invariant in
     let xs = c.loop-place.points.items in
     let ys = c.push_reserved.new.self.items in
-    let p = c.made-point.result in
+    let p = c.point_of-point.result in
     let a = slice_index octets (2 * k) in
     let b = slice_index octets (2 * k + 1) in
     let items : ys ≡ xs ++ p ∷ [] = c.push_reserved.ensures.items in
@@ -104,7 +104,7 @@ loop-place-preserved c =
     let high : b < 256 = omega (arith, c.type_inv.octets (2 * k + 1)) in
     record {
       added = added_more c.args.points.now.items xs ys was.added.0 p octets k a b was.added.1 was.added.2 was.added.3 items
-          (point_again a b p low high c.made-point.ensures) (two_more octets k at.more);
+          (point_again a b p low high c.point_of-point.ensures) (two_more octets k at.more);
       fitting = fitting_more r xs ys c.args.symbol k p at.size at.few items fits was.fitting;
       room = c.push_reserved.ensures.capacity ∙ was.room;
     }

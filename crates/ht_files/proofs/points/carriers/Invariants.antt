@@ -11,7 +11,7 @@ invariant-loop-index l = record {
   made : (place : ℕ) → place < l.index * streams_of l.rate → get_or l.carriers place (Data 0) ≡ carrier_of l.rate (place / streams_of l.rate);
 }
 
--- and so many of the next one
+-- and this many of the next one
 abbrev pub invariant-loop-stream : goal.invariant-loop-stream
 invariant-loop-stream l = record {
   size : length l.carriers ≡ 456;

@@ -3,7 +3,7 @@ use Rattle.ht_frames.specs.Gathering.{BooksJobs, booked_behind}
 use Rattle.ht_frames.proofs.Taking.{heads}
 use Rattle.ht_frames.proofs.gatherer.gather_block.Given as goal
 
--- what was found for so many jobs was taken
+-- what was found for this many jobs was taken
 abbrev pub invariant-loop-at : goal.invariant-loop-at
 invariant-loop-at g l =
     let b = g.B.Book in

@@ -3,7 +3,7 @@ use Rattle.byteorder.specs.Endian.{big_bytes}
 use Rattle.ht_clause18.specs.Rates.{index_of}
 use Rattle.ht_legacy_captures.proofs.writing.add_head.Given as goal
 
--- so many diagonals are there
+-- this many diagonals are there
 abbrev pub invariant-loop-diagonal : goal.invariant-loop-diagonal
 invariant-loop-diagonal l = record {
   put : l.chunk ≡ (l.fn.chunk ++ (index_of l.fn.rate ∷ big_bytes 2 l.fn.octets)) ++ flat_map (big_bytes 2) (take l.diagonal-index l.diagonals);

@@ -10,7 +10,7 @@ returns-in-Ok-drive g c =
     let f = c.drive.new.feed in
     let e = c.finish_lanes.ensures in
     let none : HaveNone g.L.Lane.due g.L.Lane.rests f.lanes.now =
-    none_left g.L.Lane.due g.L.Lane.rests f.lanes.now f.due.now.items f.feed.rings c.in-Ok-drive.ensures.through.taken in
+    none_left g.L.Lane.due g.L.Lane.rests f.lanes.now f.due.now.items f.feed.rings c.in-Ok-drive.ensures.drives.through.taken in
     record {
       leads = all-on g.L.Lane.leads met.stays met.goes_on (sides_of c.args.lanes.now c.args.sources.now c.args.sinks.now)
           (sides_of f.lanes.now f.sources.now f.sinks.now) _ (search rules) (search (rules, e.leads));

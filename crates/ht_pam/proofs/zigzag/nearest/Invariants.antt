@@ -3,7 +3,7 @@ use Rattle.std.specs.Int.Signed.{◌<ℤ◌, ◌≤ℤ◌}
 use Rattle.ht_pam.specs.Ladders.{level}
 use Rattle.ht_pam.proofs.zigzag.nearest.Given as goal
 
--- the nearest level is one of so many
+-- the nearest level is among `width` levels in a row, the first of them level `at * width`
 abbrev pub invariant-loop-width : goal.invariant-loop-width
 invariant-loop-width l = record {
   width : (l.width ≡ 1) ⊎ (l.width ≡ 2) ⊎ (l.width ≡ 4) ⊎ (l.width ≡ 8);

@@ -6,7 +6,7 @@ use Rattle.ht_soft_blocks.specs.Blocks.{some_halves}
 use Rattle.ht_soft_blocks.specs.Turns.{IsTurn}
 use Rattle.ht_soft_blocks.proofs.finding.hits_of_halves.Given as goal
 
--- the hits of so many halves are there, and the next one is of this turn's job or the first of the next
+-- the hits of this many halves are there, and the next one is of this turn's job or the first of the next
 abbrev pub invariant-loop-at : goal.invariant-loop-at
 invariant-loop-at g l = record {
   done : vec_len l.found ≡ l.at;

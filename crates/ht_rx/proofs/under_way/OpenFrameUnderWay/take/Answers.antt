@@ -1,6 +1,6 @@
 use Rattle.std.proofs.Common.{◌≡◌, ◌==◌, ◌∙◌, ap}
 use Rattle.ht_results.specs.Folding.{FrameSoFar, with_job}
-use Rattle.ht_results.specs.Heads.{headed_of}
+use Rattle.ht_feed.specs.Items.{headed_of}
 use Rattle.ht_rx.specs.Frames.{with_found}
 use Rattle.ht_rx.proofs.BlockBooking.{found_is}
 use Rattle.ht_rx.proofs.Gathered.{gathers}
