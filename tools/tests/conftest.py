@@ -1,4 +1,4 @@
-"""What the tests share: the repository's folders, the program, and small captures."""
+"""What the tests share: the repository's folders, the program, other programs that look at what was written, and small captures."""
 
 from __future__ import annotations
 
@@ -17,6 +17,40 @@ from mizgaure import CaptureFrame, Radio, Rate, cli, write_htcp
 TOP = Path(__file__).resolve().parents[2]
 VECTORS = TOP / "vectors"
 BUILT = TOP / "crates" / "ht_radio" / "out" / "ht_radio"
+
+
+# Other programs that look at what was written: the package of each, and how its version in Debian 12 begins.
+DEBIAN_12 = {"fish": ("fish", "3.6."), "man": ("man-db", "2.11."), "mandoc": ("mandoc", "1.14.6-"), "tshark": ("tshark", "4.0."), "zsh": ("zsh", "5.9-")}
+
+# Pictures are drawn by matplotlib's own settings, and by no user's.
+os.environ["MATPLOTLIBRC"] = os.devnull
+
+
+def other_program(name: str) -> str:
+    """The path of another program in its version of Debian 12; with no other version, which may say other things, is anything compared."""
+    package, version = DEBIAN_12[name]
+    try:
+        asked = subprocess.run(["dpkg-query", "-W", "-f", "${db:Status-Status} ${Version}", package], capture_output=True, text=True, check=False).stdout
+    except OSError:
+        asked = ""
+    path = f"/usr/bin/{name}"
+    if not asked.startswith(f"installed {version}") or not os.access(path, os.X_OK):
+        pytest.skip(f"there is no {name} of Debian 12, which .ci/tools installs there")
+    return path
+
+
+@pytest.fixture
+def tshark(tmp_path_factory):
+    """Wireshark's reading, without a user's settings: words to the lines that it prints."""
+    path, home = other_program("tshark"), str(tmp_path_factory.mktemp("home"))
+
+    def run(*words: object) -> list[str]:
+        environment = {"PATH": "/usr/bin:/bin", "HOME": home, "LANG": "C.UTF-8"}
+        done = subprocess.run([path, *map(str, words)], capture_output=True, text=True, env=environment, check=False)
+        assert done.returncode == 0, done.stderr
+        return done.stdout.splitlines()
+
+    return run
 
 
 def vectors(ending: str) -> list:

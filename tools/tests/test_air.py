@@ -2,7 +2,6 @@
 
 import json
 import re
-import shutil
 import signal
 import subprocess
 
@@ -399,7 +398,7 @@ LINE = (r"packet (\d) at sample \d+, 0\.\d{6} s: 20 MHz, MCS (2|7|15) \([^)]*\),
         r"offset [+-]\d+\.\d\d kHz, noise -\d\d\.\d dB")
 
 
-def test_from_symbols_to_wireshark(here, command, sent, tmp_path):
+def test_from_symbols_to_packets(here, command, sent, tmp_path):
     made = here("waveform", "sent.htsy", "-o", "air", "--guard", "short", "--spread", 50, "--antennas", 3, "--offset", -17)
     assert made.returncode == 0, made.stderr
     assert re.fullmatch(rb"3 packets, 3 channels of \d+ samples at 20 million a second, cf32_le\n", made.stderr)
@@ -419,13 +418,15 @@ def test_from_symbols_to_wireshark(here, command, sent, tmp_path):
     assert [packet.octets for packet in packets] == sent and [packet.radiotap.mcs for packet in packets] == [2, 15, 7]
     assert all(packet.radiotap.short_guard and packet.radiotap.frequency == 5180 and not packet.radiotap.bad_fcs for packet in packets)
     assert here("receive", "air").stdout == done.stdout
-    if shutil.which("tshark"):
-        fields = [word for name in ("wlan.fc.type_subtype", "wlan.fcs.status", "radiotap.mcs.index") for word in ("-e", name)]
-        shown = subprocess.run(["tshark", "-r", tmp_path / "air.pcap", "-o", "wlan.check_checksum:TRUE", "-T", "fields", *fields],
-                               capture_output=True, text=True, check=False)
-        rows = [row.split("\t") for row in shown.stdout.splitlines()]
-        assert [row[2] for row in rows] == ["2", "15", "7"] and all(int(row[0], 0) == 0x28 for row in rows), shown.stderr
-        assert all(row[1] in ("1", "Good") for row in rows)
+
+
+def test_wireshark_reads_what_was_received(here, sent, tshark, tmp_path):
+    assert here("waveform", "sent.htsy", "-o", "air", "--guard", "short", "--spread", 50, "--antennas", 3, "--offset", -17).returncode == 0
+    assert here("receive", "air", "-o", "air.pcap").returncode == 0
+    fields = [word for name in ("wlan.fc.type_subtype", "wlan.fcs.status", "radiotap.mcs.index") for word in ("-e", name)]
+    rows = [row.split("\t") for row in tshark("-r", tmp_path / "air.pcap", "-o", "wlan.check_checksum:TRUE", "-T", "fields", *fields)]
+    assert [row[2] for row in rows] == ["2", "15", "7"] and all(int(row[0], 0) == 0x28 for row in rows)
+    assert all(row[1] in ("1", "Good") for row in rows)
 
 
 def test_raw_and_whole_numbers(here, sent, tmp_path):

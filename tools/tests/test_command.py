@@ -2,7 +2,6 @@
 
 import os
 import re
-import shutil
 import signal
 import subprocess
 import sys
@@ -10,7 +9,7 @@ import time
 
 import numpy as np
 import pytest
-from conftest import TOP, VECTORS, octets_of, random_frame
+from conftest import TOP, VECTORS, octets_of, other_program, random_frame
 
 from mizgaure import Rate, cli
 from mizgaure.sweep import Setting, random_symbols, received_frame
@@ -221,22 +220,20 @@ def test_manual_pages_are_in_good_style(page):
     assert sections[:3] == [b".SH NAME", b".SH SYNOPSIS", b".SH DESCRIPTION"] and len(set(sections)) == len(sections)
 
 
-@pytest.mark.skipif("MIZGAURE_LINT" not in os.environ, reason="MIZGAURE_LINT isn't set: other versions of man and mandoc may find more")
 @pytest.mark.parametrize("page", ["radio", "mizgaure"])
-def test_manual_pages_have_no_warning(page):
-    path = str(TOP / "man" / f"{page}.1")
-    for words in (["man", "--warnings", "-E", "UTF-8", "-l", "-Tutf8", "-Z", path], ["mandoc", "-T", "lint", path]):
-        done = subprocess.run(words, stdout=subprocess.PIPE, stderr=subprocess.PIPE, check=False)
-        said = done.stdout if words[0] == "mandoc" else b""
-        assert (done.returncode, said, done.stderr) == (0, b"", b"")
+@pytest.mark.parametrize("reader, words", [("man", ["--warnings", "-E", "UTF-8", "-l", "-Tutf8", "-Z"]), ("mandoc", ["-T", "lint"])], ids=["man", "mandoc"])
+def test_manual_pages_have_no_warning(reader, words, page, tmp_path):
+    environment = {"PATH": "/usr/bin:/bin", "HOME": str(tmp_path), "LANG": "C.UTF-8"}
+    done = subprocess.run([other_program(reader), *words, str(TOP / "man" / f"{page}.1")], capture_output=True, env=environment, check=False)
+    said = done.stdout if reader == "mandoc" else b""
+    assert (done.returncode, said, done.stderr) == (0, b"", b"")
 
 
-@pytest.mark.parametrize("shell, ending", [("bash", "bash"), ("zsh", "zsh"), ("fish", "fish")])
-def test_completions_parse(shell, ending):
-    if not shutil.which(shell):
-        pytest.skip(f"there is no {shell}")
+@pytest.mark.parametrize("shell, words", [("bash", ["-n"]), ("zsh", ["-f", "-n"]), ("fish", ["--no-config", "-n"])], ids=["bash", "zsh", "fish"])
+def test_completions_parse(shell, words):
+    path = "bash" if shell == "bash" else other_program(shell)
     for name in ("radio", "mizgaure"):
-        assert subprocess.run([shell, "-n", str(TOP / "completions" / f"{name}.{ending}")], check=False).returncode == 0
+        assert subprocess.run([path, *words, str(TOP / "completions" / f"{name}.{shell}")], check=False).returncode == 0
 
 
 def test_installed_and_removed(radio, tmp_path):

@@ -1,9 +1,7 @@
 """MPDUs, A-MPDUs, MAC headers and pcap files."""
 
 import io
-import shutil
 import struct
-import subprocess
 
 import numpy as np
 import pytest
@@ -177,8 +175,7 @@ def test_files_that_are_no_pcap(octets, said):
     assert str(error.value) == said
 
 
-@pytest.mark.skipif(not shutil.which("tshark"), reason="there is no tshark")
-def test_wireshark_reads_them(tmp_path):
+def test_wireshark_reads_them(tshark, tmp_path):
     """Wireshark's own reading of each field."""
     spoiled = data_frame(number=9)[:-1] + b"\0"
     packets = [*packets_of(take_apart(ANNEX), Radiotap(rate=36.0, frequency=2412), time=1_500_000_000),
@@ -188,9 +185,8 @@ def test_wireshark_reads_them(tmp_path):
               "radiotap.mcs.bw", "radiotap.mcs.gi", "radiotap.ampdu.reference", "radiotap.ampdu.flags.last", "radiotap.dbm_antsignal",
               "wlan.fcs", "wlan.fcs.status", "wlan.fc.type_subtype", "wlan.seq", "wlan.sa"]
     words = [word for name in fields for word in ("-e", name)]
-    done = subprocess.run(["tshark", "-o", "wlan.check_checksum:TRUE", "-r", str(tmp_path / "made.pcap"), "-T", "fields", "-E", "separator=;", *words],
-                          capture_output=True, text=True, check=True)
-    annex, first, second = (dict(zip(fields, line.split(";"))) for line in done.stdout.splitlines())
+    told = tshark("-o", "wlan.check_checksum:TRUE", "-r", tmp_path / "made.pcap", "-T", "fields", "-E", "separator=;", *words)
+    annex, first, second = (dict(zip(fields, line.split(";"))) for line in told)
     assert float(annex["frame.time_epoch"]) == 1.5 and annex["radiotap.datarate"] in ("36", "36.0") and annex["radiotap.channel.freq"] == "2412"
     assert annex["wlan.fcs"] == "0xb6213367" and annex["wlan.fcs.status"] == first["wlan.fcs.status"] == "1"
     assert (first["radiotap.mcs.index"], first["radiotap.mcs.bw"], first["radiotap.mcs.gi"], first["radiotap.dbm_antsignal"]) == ("15", "1", "1", "-40")

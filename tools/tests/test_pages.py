@@ -47,31 +47,45 @@ def shown(page):
             yield command, lines
 
 
-def test_the_examples_of_packets(here, radio, tmp_path):
-    """From lines to a capture, its packets, Wireshark, an A-MPDU, the frames again, a report, and the same from Python."""
-    pytest.importorskip("matplotlib")
+@pytest.fixture
+def bash(here, radio, tmp_path):
+    """The shell in which the page's commands are run: a command to the lines that it prints."""
     if not radio.knows("channel"):
         pytest.skip("the program has no command channel")
     for name in ("tools", "examples"):
         (tmp_path / name).symlink_to(TOP / name)
     (tmp_path / "radio").symlink_to(radio.path)
 
-    def bash(command):
+    def run(command):
         done = subprocess.run(["bash", "-o", "pipefail", "-c", command], capture_output=True, text=True, env={**os.environ, "MIZGAURE_PYTHON": sys.executable},
                               check=False)
         assert done.returncode == 0, done.stderr
         return done.stdout.splitlines()
 
+    return run
+
+
+def test_wireshark_shows_the_lines_of_packets(bash, tshark, tmp_path):
+    """The addresses and the kind of each packet."""
+    for command, lines in shown(PACKETS):
+        if command.startswith("tshark"):
+            break
+        bash(command)
+    words = shlex.split(command)
+    told = tshark(*words[1:-1], tmp_path / words[-1])
+    assert len(told) == len(lines) == 4
+    for said, line in zip(told, lines):
+        assert re.findall(TOLD, said) == re.findall(TOLD, line) != []
+
+
+def test_the_examples_of_packets(bash, here, tmp_path):
+    """From lines to a capture, its packets, an A-MPDU, the frames again, a report, and the same from Python."""
+    pytest.importorskip("matplotlib")
     commands = list(shown(PACKETS))
     assert len(commands) == 5
     for command, lines in commands:
         if not command.startswith("tshark"):
             assert bash(command) == lines
-        elif shutil.which("tshark"):  # whose versions differ in columns and in other words
-            told = bash(command)
-            assert len(told) == len(lines)
-            for said, line in zip(told, lines):
-                assert re.findall(TOLD, said) == re.findall(TOLD, line) != []
     (again,) = re.findall(r"`(mizgaure frames made\.pcap [^`]*)`", PACKETS)
     assert here(*again.split()[1:]).returncode == 0
     lines = [line.replace(" ", "") for line in (TOP / "examples" / "mpdus.hex").read_text().splitlines() if not line.startswith("#")]

@@ -1,17 +1,13 @@
 """Packets, frames, the report and merged sweeps as a user meets them."""
 
 import html.parser
-import io
 import json
 import re
-import shutil
-import subprocess
-import sys
 
 import pytest
 from conftest import TOP, VECTORS
 
-from mizgaure import cli, read_htsy, read_httx
+from mizgaure import read_htsy, read_httx
 from mizgaure.packets import aggregate, take_apart, with_fcs
 
 MPDUS = ["88010000020000000001020000000002020000000003100000006869", "b400000002000000000102:00:00:00:00:02"]
@@ -69,13 +65,18 @@ def test_packets_of_a_capture(sent, here, radio, tmp_path):
     assert other.returncode == 2 and other.stderr.endswith(b", and in these answers 0\n") and not (tmp_path / "other.pcap").exists()
 
 
-def test_packets_of_an_a_mpdu(sent, here, radio, tmp_path):
-    octets = (tmp_path / "both.httx").read_bytes()
-    psdu = next(iter(read_httx(octets))).octets
+@pytest.fixture
+def both(sent):
+    """The octets of the A-MPDU, the same with one bit wrong in it, and lines of both and of a frame whose seed is zero."""
+    psdu = next(iter(read_httx((sent / "both.httx").read_bytes()))).octets
     spoiled = bytearray(psdu)
     spoiled[20] ^= 1
     lines = b"".join(b"frame %d data 0 pilot 0 code 0 octets %b\n" % (n, each.hex().encode()) for n, each in enumerate((psdu, bytes(spoiled))))
-    lines += b"frame 2 data 0 pilot 0 code 0 seed zero\nend 3 frames\n"
+    return psdu, bytes(spoiled), lines + b"frame 2 data 0 pilot 0 code 0 seed zero\nend 3 frames\n"
+
+
+def test_packets_of_an_a_mpdu(both, here, tmp_path):
+    psdu, spoiled, lines = both
     done = here("packets", "-", "-o", "both.pcap", given=lines)
     said = done.stdout.decode().splitlines()
     assert said[0] == "frame 0: A-MPDU of 60 octets, 2 MPDUs, 2 with a good FCS" and said[3].endswith("2 MPDUs, 1 with a good FCS")
@@ -83,13 +84,15 @@ def test_packets_of_an_a_mpdu(sent, here, radio, tmp_path):
     assert said[7] == "3 frames, 4 MPDUs: 3 with a good FCS; 1 without octets"
     assert here("frames", "both.pcap", "-o", "again.httx").returncode == 0
     again = list(read_httx(tmp_path / "again.httx"))
-    assert [frame.octets for frame in again] == [psdu, aggregate([part.octets for part in take_apart(bytes(spoiled)).mpdus])]
+    assert [frame.octets for frame in again] == [psdu, aggregate([part.octets for part in take_apart(spoiled).mpdus])]
     forced = here("packets", "-", "--aggregated", "no", given=lines).stdout.decode().splitlines()
     assert forced[0].startswith("frame 0: MPDU of 60 octets, FCS bad")
-    if shutil.which("tshark"):
-        told = subprocess.run(["tshark", "-r", str(tmp_path / "both.pcap"), "-T", "fields", "-e", "radiotap.ampdu.reference", "-e", "radiotap.flags.badfcs"],
-                              capture_output=True, text=True, check=True).stdout.splitlines()
-        assert told == ["0\t0", "0\t0", "1\t1", "1\t0"]
+
+
+def test_wireshark_reads_an_a_mpdu(both, here, tshark, tmp_path):
+    assert here("packets", "-", "-o", "both.pcap", given=both[2]).returncode == 0
+    fields = ("-e", "radiotap.ampdu.reference", "-e", "radiotap.flags.badfcs")
+    assert tshark("-r", tmp_path / "both.pcap", "-T", "fields", *fields) == ["0\t0", "0\t0", "1\t1", "1\t0"]
 
 
 def bad_words():

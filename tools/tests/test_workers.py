@@ -4,6 +4,7 @@ import gc
 import os
 import random
 import signal
+import socket
 import threading
 import time
 
@@ -74,9 +75,12 @@ def test_there_has_to_be_a_scheduler(monkeypatch):
     pytest.importorskip("distributed")
     monkeypatch.setattr("mizgaure.workers.CONNECT_SECONDS", 1)
     begin = time.monotonic()
-    for address in ("tcp://127.0.0.1:9", "nowhere.invalid"):
-        with pytest.raises(InputError, match=f"there is no scheduler of dask.distributed at {address}"):
-            list(Workers(scheduler=address).run(squared, range(4)))
+    with socket.socket() as held:  # a port on which nothing listens
+        held.bind(("127.0.0.1", 0))
+        place = f"127.0.0.1:{held.getsockname()[1]}"
+        for address in (f"tcp://{place}", place):
+            with pytest.raises(InputError, match=f"there is no scheduler of dask.distributed at {address}"):
+                list(Workers(scheduler=address).run(squared, range(4)))
     gc.collect()  # nothing that is dropped waits for a scheduler that isn't there
     assert time.monotonic() - begin < 15
 

@@ -7,7 +7,7 @@ use Rattle.ht_io.specs.declared.faults.InFault.TheVariants.{Format}
 use Rattle.ht_fields.specs.Grammar.{Due, End, Wants, Verdict, Good, Bad}
 use Rattle.ht_fields.specs.Cases.{IsField}
 use Rattle.ht_fields.specs.Readers.{Gives}
-use Rattle.ht_fields.specs.WholeFiles.{Halts}
+use Rattle.ht_fields.specs.WholeFiles.{StopsWithCause}
 use Rattle.ht_fields.proofs.Halting.{halts_as}
 use Rattle.ht_fields.proofs.Readers.{HasWidth, IsNamed, field_gives, field_refuses}
 use Rattle.ht_capture.specs.declared.items.Item.{Item}
@@ -17,7 +17,7 @@ use Rattle.ht_capture.specs.Reading.{here}
 -- the field is bad
 pub bad_halts : (s : CaptureState) (at : ℕ) (kind : Kind) (source after : Device ℕ) (x : List ℕ) (fault : InFault)
     → IsField (capture_due s) x (Bad kind) → IsNamed kind → Takes source after x
-    → fault ≡ Format (record { kind = kind; offset = at }) → Halts (here s at source) after fault
+    → fault ≡ Format (record { kind = kind; offset = at }) → StopsWithCause (here s at source) after fault
 bad_halts s at kind source after x fault bad named taken is =
     halts_as (here s at source) after _ fault is (inl (field_refuses captures s at kind source after x taken bad named), tt)
 

@@ -6,7 +6,7 @@ use Rattle.std.proofs.lemmas.Bool.Decides.{nat_tests}
 use Rattle.ht_io.specs.declared.faults.InFault.{InFault}
 use Rattle.ht_fields.specs.Grammar.{Good}
 use Rattle.ht_io.specs.declared.faults.InFault.TheVariants.{NoMemory}
-use Rattle.ht_fields.specs.Readers.{ReaderView, Gives, Finishes}
+use Rattle.ht_fields.specs.Readers.{ReaderView, Gives, Finishes, Completes}
 use Rattle.ht_fields.proofs.Joins.{gives_none, gives_more}
 use Rattle.ht_io.proofs.Calls.{takes-all}
 use Rattle.ht_io.specs.Devices.{Device, IsLater}
@@ -24,12 +24,12 @@ use Rattle.ht_capture.specs.declared.places.SymbolTurn.{SymbolTurn}
 use Rattle.ht_capture.specs.Frames.{erase, jobs_at}
 use Rattle.ht_capture.specs.Fields.{CaptureState, Bandwidth, Flag, Triangle, Symbol, Over, turn_due}
 use Rattle.ht_capture.specs.Fields.{carrier_due, carriers_due, first_symbol, head_given, judge_symbol, next_symbol, symbol_due}
-use Rattle.ht_capture.specs.Readers.{Completes, GivesItem, symbol_octets}
+use Rattle.ht_capture.specs.Readers.{GivesItem, symbol_octets}
 use Rattle.ht_capture.proofs.Grids.{asks_legs, ones}
 use Rattle.ht_capture.proofs.Judges.{good_triangle}
 use Rattle.ht_capture.specs.Reading.{Flagged, IsGood, ReachesCarrier, SameFrame, here}
 use Rattle.ht_fields.proofs.Halting.{gives_halts}
-use Rattle.ht_fields.specs.WholeFiles.{Caused, Halts}
+use Rattle.ht_fields.specs.WholeFiles.{Caused, StopsWithCause}
 use Rattle.ht_fields.proofs.Choices.{when_true, when_false}
 
 pub frame_is : (turn : Turn) → 0 < turn.left → turn_due turn ≡ Bandwidth turn
@@ -83,8 +83,8 @@ gives_to old s t at place left items e p g =
     subst (λ (x : CaptureState). Gives old (here x place left) items) e (subst (λ (n : ℕ). Gives old (here s n left) items) p g)
 
 pub halts_from : (s t : CaptureState) (at : ℕ) (left after : Device ℕ) (fault : InFault)
-    → s ≡ t → Halts (here t at left) after fault → Halts (here s at left) after fault
-halts_from s t at left after fault e h = subst (λ (x : CaptureState). Halts (here x at left) after fault) (sym e) h
+    → s ≡ t → StopsWithCause (here t at left) after fault → StopsWithCause (here s at left) after fault
+halts_from s t at left after fault e h = subst (λ (x : CaptureState). StopsWithCause (here x at left) after fault) (sym e) h
 
 pub gives_items : (old new : ReaderView Item) (items others : List Item) → items ≡ others → Gives old new items → Gives old new others
 gives_items old new items others e g = subst (λ (x : List Item). Gives old new x) e g
@@ -135,7 +135,7 @@ pub completes_over : (turn : Turn) (at : ℕ) (left after : Device ℕ) → turn
 completes_over turn at left after none f =
     subst (λ (s : CaptureState). Completes (here s at left) after) (sym (over_is turn none)) (record { taken = []; octets = f.octets; means = f.means })
 
-pub halts_real : (old : ReaderView Item) (after : Device ℕ) (fault : InFault) → Halts old after fault → fault ≡ NoMemory → ⊥
+pub halts_real : (old : ReaderView Item) (after : Device ℕ) (fault : InFault) → StopsWithCause old after fault → fault ≡ NoMemory → ⊥
 halts_real old after fault h e = subst (λ (f : InFault). Caused old.source after f) e h.1
 
 -- the samples of a symbol are a good field
@@ -172,7 +172,7 @@ gives_item old mid new Done a b = gives_completes old mid new.source a b
 -- octets that give no item, and then an answer
 pub gives_answer : (old mid new : ReaderView Item) (after : Device ℕ) (answer : Result Item InFault)
     → Gives old mid [] → IsLater old.source mid.source
-    → MatchResult answer (GivesItem mid new) (Halts mid after) → MatchResult answer (GivesItem old new) (Halts old after)
+    → MatchResult answer (GivesItem mid new) (StopsWithCause mid after) → MatchResult answer (GivesItem old new) (StopsWithCause old after)
 gives_answer old mid new after (Ok item) a later b = gives_item old mid new item a b
 gives_answer old mid new after (Err fault) a later b = gives_halts old mid after fault a later b
 

@@ -4,8 +4,8 @@ use Rattle.std.specs.Arc.{arc_value}
 use Rattle.ht_io.specs.Devices.{Device, IsLater}
 use Rattle.ht_io.specs.declared.faults.InFault.{InFault}
 use Rattle.ht_io.specs.declared.faults.InFault.TheVariants.{Format, Read, NoMemory}
-use Rattle.ht_fields.specs.Readers.{ReaderView, Gives}
-use Rattle.ht_fields.specs.WholeFiles.{Halts}
+use Rattle.ht_fields.specs.Readers.{ReaderView, Gives, Completes}
+use Rattle.ht_fields.specs.WholeFiles.{StopsWithCause}
 use Rattle.ht_rate.specs.Rates.{symbols_of}
 use Rattle.ht_capture.specs.declared.block_item.BlockItem.{BlockItem}
 use Rattle.ht_capture.specs.declared.block_item.BlockItem.TheVariants.{Frame, Block, Done}
@@ -20,7 +20,7 @@ use Rattle.ht_capture.specs.declared.stage.Stage.{Stage}
 use Rattle.ht_capture.specs.declared.stage.Stage.TheVariants.{Begin, NextFrame, NextSymbol, Giving, Ended, Stopped}
 use Rattle.ht_capture.specs.Parts.{SymbolPart, jobs_of, symbol_part}
 use Rattle.ht_capture.specs.Reading.{AreSeen}
-use Rattle.ht_capture.specs.Readers.{Completes, Counted, Counts, IsPlaced, Progress, StaysInFrame, counted, counts, finished, more, shown_by}
+use Rattle.ht_capture.specs.Readers.{Counted, Counts, IsPlaced, Progress, StaysInFrame, counted, counts, finished, more, shown_by}
 use Rattle.ht_capture.specs.Readers.{symbol_under_way}
 
 -- the jobs of a part, as items
@@ -35,8 +35,8 @@ GivesBlock old new Done = Completes old new.source
 
 -- the reading stopped; where memory lacked, no job is lost
 abbrev pub StopsBlocks : ReaderView Item → ReaderView Item → InFault → Type 0
-StopsBlocks old new (Format fault) = Halts old new.source (Format fault)
-StopsBlocks old new Read = Halts old new.source Read
+StopsBlocks old new (Format fault) = StopsWithCause old new.source (Format fault)
+StopsBlocks old new Read = StopsWithCause old new.source Read
 StopsBlocks old new NoMemory = Gives old new []
 
 -- at least one job and at most this number, numbered on from those that were given

@@ -4,9 +4,9 @@ use Rattle.std.specs.Prelude.{None, Result, Ok, Err, MatchResult, IfOk, IfErr}
 use Rattle.ht_io.specs.declared.faults.InFault.{InFault}
 use Rattle.ht_io.specs.declared.faults.InFault.TheVariants.{Format, Read, NoMemory}
 use Rattle.ht_fields.specs.Meanings.{Meaning, before, ended, refused, meaning}
-use Rattle.ht_fields.specs.Readers.{ReaderView, Gives}
-use Rattle.ht_fields.specs.WholeFiles.{Halts}
-use Rattle.ht_io.specs.Devices.{Device, TakesAll, IsLater}
+use Rattle.ht_fields.specs.Readers.{ReaderView, Gives, Completes}
+use Rattle.ht_fields.specs.WholeFiles.{StopsWithCause}
+use Rattle.ht_io.specs.Devices.{Device, IsLater}
 use Rattle.ht_rate.specs.Rates.{carriers_of, symbols_of}
 use Rattle.ht_map.specs.Constellation.{grid_of}
 use Rattle.ht_pam.specs.declared.axes.Axes.{Axes}
@@ -73,12 +73,6 @@ shown_by reader source = shown_at reader.stage reader.at reader.present reader.s
 abbrev pub stage_after : SymbolTurn → Stage
 stage_after due =
     if nat_lt (due.symbol + 1) due.symbols then NextSymbol (next_symbol due) else NextFrame (next_turn (next_symbol due).turn)
-
--- the octets taken were all that was left: the reader meant no item more, and no fault
-pub record Completes (old : ReaderView Item) (after : Device ℕ) : Type 0 where
-  pub taken : List ℕ
-  pub octets : TakesAll old.source after taken
-  pub means : old.means taken ≡ ended
 
 -- the octets taken give the item, and Done says that the capture is whole
 abbrev pub GivesItem : ReaderView Item → ReaderView Item → Item → Type 0
@@ -215,7 +209,7 @@ pub record AnswersItem {S : Type 0} (shown : S → Device ℕ) (old new : Progre
   -- what the octets that this call took mean
   pub told : finished old ≡ None → MatchResult result
       (GivesItem (shown_by old (shown source)) (shown_by new (shown source')))
-      (Halts (shown_by old (shown source)) (shown source'))
+      (StopsWithCause (shown_by old (shown source)) (shown source'))
   -- heads and jobs are numbered from 0
   pub counted : IfOk result (Counted (counts old) (counts new))
   -- a job is one of the symbol that was due, on a subcarrier of its frame's rate
@@ -238,7 +232,7 @@ pub record AnswersItem {S : Type 0} (shown : S → Device ℕ) (old new : Progre
 -- and jobs that `given` counts, and had at most `most` of them still to give
 pub record ReadsFrame (before : ReaderView Item) (given : Counts) (most : ℕ) (new : Progress) (after : Device ℕ) (result : Result Item InFault) : Type 0 where
   -- what the octets that this call took mean
-  pub told : MatchResult result (GivesItem before (shown_by new after)) (Halts before after)
+  pub told : MatchResult result (GivesItem before (shown_by new after)) (StopsWithCause before after)
   -- behind a fault the reader has stopped, and behind the end it has ended
   pub stopped : IfErr result (λ fault. new.stage ≡ Stopped fault)
   pub done : result ≡ Ok Done → new.stage ≡ Ended

@@ -1,18 +1,16 @@
 //! The subcarriers of a frame, with their triangles.
-ghost use Rattle.std.specs.Prelude.{◌≡◌, ◌<◌, ◌≤◌, ◌+◌, ◌*◌, ◌^◌, List, [], ◌∷◌, ◌++◌, Ok, true, length, take, MatchResult, IfOk};
+ghost use Rattle.std.specs.Prelude.{◌≡◌, ◌<◌, ◌≤◌, ◌+◌, ◌*◌, ◌^◌, List, [], ◌∷◌, ◌++◌, Ok, true, length, take, IfOk};
 ghost use Rattle.ht_io.specs.Devices.{IsLater};
-ghost use Rattle.ht_fields.specs.Readers.{Gives};
 ghost use Rattle.ht_rate.specs.declared.rates.Rate.{Rate as RateValue};
 ghost use Rattle.ht_rate.specs.Rates.{carriers_of, streams_of};
 ghost use Rattle.ht_capture.specs.declared.items.FrameHead.{FrameHead as FrameHeadValue};
 ghost use Rattle.ht_capture.specs.declared.places.Present.{Present as PresentValue};
 ghost use Rattle.ht_capture.specs.declared.places.Turn.{Turn as TurnValue};
 ghost use Rattle.ht_capture.specs.Frames.{erase};
-ghost use Rattle.ht_capture.specs.Fields.{carriers_due, first_symbol, head_given};
-ghost use Rattle.ht_capture.specs.Gathered.{at_carrier, at_triangle};
-ghost use Rattle.ht_capture.specs.Reading.{AreSeen, Flagged, ReachesSymbol, SameFrame, here};
+ghost use Rattle.ht_capture.specs.Fields.{carriers_due, first_symbol};
+ghost use Rattle.ht_capture.specs.Gathered.{ReadsCarrier, at_carrier, at_triangle};
+ghost use Rattle.ht_capture.specs.Reading.{AreSeen, ReadsFlag, ReadsToSymbol, SameFrame, here};
 ghost use Rattle.ht_capture.specs.Taking.{Adds, AreRead, Keeps, TakesFlag, triangles_of};
-ghost use Rattle.ht_fields.specs.WholeFiles.{Halts};
 
 use crate::items::FrameHead;
 use crate::places::{Present, Turn};
@@ -64,10 +62,8 @@ fn plain<S: Source>(
     requires space { so_far.count < length present.old }
     requires carrier { carrier < carriers_of rate.now }
     requires seen { AreSeen rate.now so_far.count present.old }
-    ensures told { (turn : TurnValue) (head : FrameHeadValue) → head.rate ≡ rate.now → MatchResult result
-        (λ g. Gives (at_triangle turn head carrier present.old so_far (S.shown source.old))
-        (at_carrier turn head (carrier + 1) present.new g (S.shown source.new)) (head_given head (carrier + 1)))
-        (Halts (at_triangle turn head carrier present.old so_far (S.shown source.old)) (S.shown source.new)) }
+    ensures told { (turn : TurnValue) (head : FrameHeadValue) → head.rate ≡ rate.now
+        → ReadsCarrier result (at_triangle turn head carrier present.old so_far (S.shown source.old)) turn head carrier present.new (S.shown source.new) }
     ensures count { IfOk result (λ g. g.count ≡ so_far.count + 1) }
     ensures place { IfOk result (λ g. g.at ≤ so_far.at + 32) }
     ensures seen { IfOk result (λ g. AreSeen rate.now g.count present.new) }
@@ -99,9 +95,8 @@ fn is_erased<S: Source>(
 ) -> Result<bool, InFault>
     requires offset { at.old + 1 < 2 ^ 64 }
     requires carrier { carrier < carriers_of head.now.rate }
-    ensures told { (present : List PresentValue) → length present ≡ count → MatchResult result
-        (Flagged (carriers_due turn.now head.now carrier present) turn.now head.now carrier present at.old at.new (S.shown source.old) (S.shown source.new))
-        (Halts (here (carriers_due turn.now head.now carrier present) at.old (S.shown source.old)) (S.shown source.new)) }
+    ensures told { (present : List PresentValue) → length present ≡ count → ReadsFlag result (carriers_due turn.now head.now carrier present)
+        turn.now head.now carrier present at.old at.new (S.shown source.old) (S.shown source.new) }
     ensures some { result ≡ Ok true → (carrier + 1 ≡ carriers_of head.now.rate) → 0 < count }
     ensures place { at.new ≤ at.old + 1 }
     ensures octets { IfOk result (TakesFlag turn.now.version (S.shown source.old) (S.shown source.new)) }
@@ -133,10 +128,8 @@ fn carrier<S: Source>(
     requires carrier { carrier < carriers_of head.old.rate }
     requires few { carriers_of head.old.rate ≤ 114 }
     requires seen { AreSeen head.old.rate so_far.count present.old }
-    ensures told { MatchResult result
-        (λ g. Gives (at_carrier turn.now head.old carrier present.old so_far (S.shown source.old))
-        (at_carrier turn.now head.new (carrier + 1) present.new g (S.shown source.new)) (head_given head.new (carrier + 1)))
-        (Halts (at_carrier turn.now head.old carrier present.old so_far (S.shown source.old)) (S.shown source.new)) }
+    ensures told { ReadsCarrier result (at_carrier turn.now head.old carrier present.old so_far (S.shown source.old))
+        turn.now head.new carrier present.new (S.shown source.new) }
     ensures same { SameFrame head.new head.old }
     ensures count { IfOk result (λ g. (so_far.count ≤ g.count) × (g.count ≤ so_far.count + 1)) }
     ensures some { IfOk result (λ g. carrier + 1 ≡ carriers_of head.old.rate → 0 < g.count) }
@@ -177,10 +170,8 @@ pub fn carriers<S: Source>(
     requires offset { at + 3762 < 2 ^ 64 }
     requires space { length present.old ≡ 114 }
     requires none { head.old.erased ≡ 0 }
-    ensures told { MatchResult result
-        (λ g. ReachesSymbol (here (carriers_due turn.now head.old 0 []) at (S.shown source.old))
-        (first_symbol turn.now head.new g.count) present.new g.at (S.shown source.new))
-        (Halts (here (carriers_due turn.now head.old 0 []) at (S.shown source.old)) (S.shown source.new)) }
+    ensures told { ReadsToSymbol result (here (carriers_due turn.now head.old 0 []) at (S.shown source.old))
+        (λ g. first_symbol turn.now head.new g.count) present.new (λ g. g.at) (S.shown source.new) }
     ensures same { SameFrame head.new head.old }
     ensures some { IfOk result (λ g. 0 < g.count) }
     ensures count { IfOk result (λ g. g.count ≤ carriers_of head.old.rate) }

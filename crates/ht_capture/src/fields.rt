@@ -1,22 +1,19 @@
 //! The fields that only captures have, each read whole and judged.
-ghost use Rattle.std.specs.Prelude.{◌≡◌, ◌<◌, ◌≤◌, ◌+◌, ◌^◌, ℕ, List, [], ◌∷◌, true, Ok, length, take, MatchResult, IfOk, OnOk};
+ghost use Rattle.std.specs.Prelude.{◌≡◌, ◌<◌, ◌≤◌, ◌+◌, ◌^◌, List, [], ◌∷◌, true, Ok, length, take, IfOk, OnOk};
 ghost use Rattle.byteorder.specs.Endian.{big_bytes};
 ghost use Rattle.ht_io.specs.Devices.{Takes, IsLater};
-ghost use Rattle.ht_fields.specs.Readers.{Gives};
 ghost use Rattle.ht_fields.specs.Tests.{AreBytes};
-ghost use Rattle.ht_fields.specs.WholeFiles.{Halts};
+ghost use Rattle.ht_fields.specs.WholeFiles.{ReadsTo};
 ghost use Rattle.ht_rate.specs.Rates.{carriers_of, streams_of};
-ghost use Rattle.ht_capture.specs.declared.items.FrameHead.{FrameHead as FrameHeadValue};
 ghost use Rattle.ht_capture.specs.declared.items.Item.{Item as ItemValue};
 ghost use Rattle.ht_capture.specs.declared.places.Present.{Present as PresentValue};
 ghost use Rattle.ht_capture.specs.declared.places.Turn.{Turn as TurnValue};
-ghost use Rattle.ht_capture.specs.Fields.{CaptureState, Version, Count, Flag, Triangle as TriangleState};
+ghost use Rattle.ht_capture.specs.Fields.{CaptureState, Version, Count, Flag};
 ghost use Rattle.ht_capture.specs.Fields.{turn_due, known_version, bad_flag};
 ghost use Rattle.ht_capture.specs.Gathered.{ReadsTriangle};
 ghost use Rattle.ht_capture.specs.Files.{flag_octet, legs_octets};
 ghost use Rattle.ht_capture.specs.Contents.{AreLegs};
-ghost use Rattle.ht_capture.specs.Systems.{triangle_octets};
-ghost use Rattle.ht_capture.specs.Reading.{Flagged, IsGood, here};
+ghost use Rattle.ht_capture.specs.Reading.{IsGood, ReadsFlag, here};
 
 use crate::items::FrameHead;
 use crate::numbers;
@@ -36,9 +33,8 @@ fn is_known(version: u8) -> bool
 /// Reads the version, 1 or 2.
 pub fn version<S: Source>(source: &mut S, at: u64) -> Result<u8, InFault>
     requires offset { at + 1 < 2 ^ 64 }
-    ensures told { MatchResult result
-        (λ version. Gives (here Version at (S.shown source.old)) (here (Count version) (at + 1) (S.shown source.new)) [])
-        (Halts (here Version at (S.shown source.old)) (S.shown source.new)) }
+    ensures told { ReadsTo result (here Version at (S.shown source.old))
+        (λ version. here (Count version) (at + 1) (S.shown source.new)) (λ _. []) (S.shown source.new) }
     ensures octets { IfOk result (λ version. Takes (S.shown source.old) (S.shown source.new) (version ∷ [])) }
     ensures known { IfOk result (λ version. known_version version ≡ true) }
     ensures later { IsLater (S.shown source.old) (S.shown source.new) }
@@ -58,9 +54,8 @@ pub fn version<S: Source>(source: &mut S, at: u64) -> Result<u8, InFault>
 /// Reads the number of frames.
 pub fn frames<S: Source>(source: &mut S, at: u64, version: u8) -> Result<Turn, InFault>
     requires offset { at + 2 < 2 ^ 64 }
-    ensures told { MatchResult result
-        (λ turn. Gives (here (Count version) at (S.shown source.old)) (here (turn_due turn) (at + 2) (S.shown source.new)) [])
-        (Halts (here (Count version) at (S.shown source.old)) (S.shown source.new)) }
+    ensures told { ReadsTo result (here (Count version) at (S.shown source.old))
+        (λ turn. here (turn_due turn) (at + 2) (S.shown source.new)) (λ _. []) (S.shown source.new) }
     ensures first { IfOk result (λ turn. (turn.frame ≡ 0) × (turn.number ≡ 0)) }
     ensures octets { IfOk result (λ turn. Takes (S.shown source.old) (S.shown source.new) (big_bytes 2 turn.left)) }
     ensures version { IfOk result (λ turn. turn.version ≡ version) }
@@ -97,9 +92,8 @@ pub fn flag<S: Source>(
 ) -> Result<bool, InFault>
     requires offset { at + 1 < 2 ^ 64 }
     requires carrier { carrier < carriers_of head.now.rate }
-    ensures told { (turn : TurnValue) (present : List PresentValue) → length present ≡ count → MatchResult result
-        (Flagged (Flag turn head.now carrier present) turn head.now carrier present at (at + 1) (S.shown source.old) (S.shown source.new))
-        (Halts (here (Flag turn head.now carrier present) at (S.shown source.old)) (S.shown source.new)) }
+    ensures told { (turn : TurnValue) (present : List PresentValue) → length present ≡ count → ReadsFlag result (Flag turn head.now carrier present)
+        turn head.now carrier present at (at + 1) (S.shown source.old) (S.shown source.new) }
     ensures some { result ≡ Ok true → (carrier + 1 ≡ carriers_of head.now.rate) → 0 < count }
     ensures octets { IfOk result (λ erased. Takes (S.shown source.old) (S.shown source.new) (flag_octet erased ∷ [])) }
     ensures later { IsLater (S.shown source.old) (S.shown source.new) }
@@ -127,9 +121,8 @@ pub fn field<S: Source>(
 ) -> Result<(), InFault>
     requires offset { at + width < 2 ^ 64 }
     requires space { width ≤ length buffer.old }
-    ensures told { (due next : CaptureState) (items : List ItemValue) → IsGood due (take width buffer.new) next items → MatchResult result
-        (λ _. Gives (here due at (S.shown source.old)) (here next (at + width) (S.shown source.new)) items)
-        (Halts (here due at (S.shown source.old)) (S.shown source.new)) }
+    ensures told { (due next : CaptureState) (items : List ItemValue) → IsGood due (take width buffer.new) next items
+        → ReadsTo result (here due at (S.shown source.old)) (λ _. here next (at + width) (S.shown source.new)) (λ _. items) (S.shown source.new) }
     ensures octets { OnOk result (Takes (S.shown source.old) (S.shown source.new) (take width buffer.new)) }
     ensures size { length (take width buffer.new) ≡ width }
     ensures bytes { AreBytes (take width buffer.new) }
@@ -144,9 +137,7 @@ pub fn field<S: Source>(
 /// Reads the triangle of a subcarrier.
 pub fn triangle<S: Source>(source: &mut S, at: u64, rate: &Rate) -> Result<Triangle, InFault>
     requires offset { at + 32 < 2 ^ 64 }
-    ensures told { (turn : TurnValue) (head : FrameHeadValue) (carrier : ℕ) (present : List PresentValue) → head.rate ≡ rate.now → MatchResult result
-        (ReadsTriangle turn head carrier present at (at + triangle_octets (streams_of rate.now)) (S.shown source.old) (S.shown source.new))
-        (Halts (here (TriangleState turn head carrier present) at (S.shown source.old)) (S.shown source.new)) }
+    ensures told { ReadsTriangle result rate.now at (S.shown source.old) (S.shown source.new) }
     ensures streams { IfOk result (λ legs. length legs ≡ streams_of rate.now) }
     ensures octets { IfOk result (λ legs. Takes (S.shown source.old) (S.shown source.new) (legs_octets legs)) }
     ensures typed { IfOk result AreLegs }

@@ -1,14 +1,13 @@
 //! The parts of a capture that a reader reads at once.
-ghost use Rattle.std.specs.Prelude.{◌≡◌, ◌<◌, ◌≤◌, ◌+◌, ◌*◌, ◌^◌, List, length, take, MatchResult, IfOk};
+ghost use Rattle.std.specs.Prelude.{◌≡◌, ◌<◌, ◌≤◌, ◌+◌, ◌*◌, ◌^◌, length, take, MatchResult, IfOk};
 ghost use Rattle.ht_io.specs.Devices.{Takes, IsLater};
 ghost use Rattle.ht_fields.specs.Readers.{Finishes};
 ghost use Rattle.ht_rate.specs.Rates.{carriers_of, symbols_of};
-ghost use Rattle.ht_capture.specs.declared.places.Present.{Present as PresentValue};
-ghost use Rattle.ht_capture.specs.Fields.{Over, Symbol, turn_due};
+ghost use Rattle.ht_capture.specs.Fields.{Over, turn_due};
 ghost use Rattle.ht_capture.specs.Gathered.{ReadsSymbol};
-ghost use Rattle.ht_capture.specs.Reading.{AreSeen, ReachesSymbol, here};
+ghost use Rattle.ht_capture.specs.Reading.{AreSeen, ReadsToSymbol, here};
 ghost use Rattle.ht_capture.specs.Readers.{HasRoom, symbol_octets};
-ghost use Rattle.ht_fields.specs.WholeFiles.{Halts};
+ghost use Rattle.ht_fields.specs.WholeFiles.{StopsWithCause};
 
 use crate::carriers::carriers;
 use crate::fields::field;
@@ -21,7 +20,7 @@ use ht_io::{InFault, Source};
 pub fn finish<S: Source>(source: &mut S, at: u64) -> Result<(), InFault>
     ensures told { MatchResult result
         (λ _. Finishes (here Over at (S.shown source.old)) (S.shown source.new))
-        (Halts (here Over at (S.shown source.old)) (S.shown source.new)) }
+        (StopsWithCause (here Over at (S.shown source.old)) (S.shown source.new)) }
     ensures later { IsLater (S.shown source.old) (S.shown source.new) }
 {
     match end(source, at) {
@@ -40,9 +39,7 @@ pub fn frame<S: Source>(
     requires offset { at + 3766 < 2 ^ 64 }
     requires left { 0 < turn.now.left }
     requires space { length present.old ≡ 114 }
-    ensures told { MatchResult result
-        (λ got. ReachesSymbol (here (turn_due turn.now) at (S.shown source.old)) got.0 present.new got.1 (S.shown source.new))
-        (Halts (here (turn_due turn.now) at (S.shown source.old)) (S.shown source.new)) }
+    ensures told { ReadsToSymbol result (here (turn_due turn.now) at (S.shown source.old)) (λ got. got.0) present.new (λ got. got.1) (S.shown source.new) }
     ensures turn { IfOk result (λ got. (got.0.turn ≡ turn.now) × (got.0.symbol ≡ 0)) }
     ensures number { IfOk result (λ got. got.0.head.frame ≡ turn.now.frame) }
     ensures some { IfOk result (λ got. 1 ≤ got.0.count) }
@@ -108,9 +105,7 @@ pub fn symbol<S: Source>(
     samples: &mut [u8],
 ) -> Result<u64, InFault>
     requires { HasRoom due.now at samples.old }
-    ensures told { (present : List PresentValue) → MatchResult result
-        (ReadsSymbol due.now present (take (symbol_octets due.now) samples.new) at (S.shown source.old) (S.shown source.new))
-        (Halts (here (Symbol due.now present) at (S.shown source.old)) (S.shown source.new)) }
+    ensures told { ReadsSymbol result due.now (take (symbol_octets due.now) samples.new) at (S.shown source.old) (S.shown source.new) }
     ensures octets { IfOk result (λ _. Takes (S.shown source.old) (S.shown source.new) (take (symbol_octets due.now) samples.new)) }
     ensures size { IfOk result (λ _. length (take (symbol_octets due.now) samples.new) ≡ symbol_octets due.now) }
     ensures place { IfOk result (λ behind. behind ≤ at + 3648) }

@@ -1,6 +1,6 @@
 //! The reader of captures.
 ghost use Rattle.std.specs.Prelude.{◌≡◌, ◌<◌, ◌≤◌, ◌+◌, ◌-◌, ◌*◌, ℕ, List, [], ◌∷◌, None, Some, Ok, Err, Result, length, take, is_some, false};
-ghost use Rattle.std.specs.Prelude.{MatchResult, IfOk, IfErr, IfSome, IfNone};
+ghost use Rattle.std.specs.Prelude.{IfOk, IfErr, IfSome, IfNone};
 ghost use Rattle.ht_io.specs.Devices.{Device, IsLater};
 ghost use Rattle.ht_io.specs.declared.faults.InFault.{InFault as InFaultValue};
 ghost use Rattle.ht_io.specs.declared.faults.InFault.TheVariants.{NoMemory};
@@ -17,7 +17,7 @@ ghost use Rattle.ht_capture.specs.Blocks.{AnswersBlock, GivesPart};
 ghost use Rattle.ht_capture.specs.Readers.{AnswersItem, GivesJob, IsOfSymbol, IsReady, KeepsGrid, ReadsFrame, StageFits, StaysInFrame, SymbolFits, TurnFits};
 ghost use Rattle.ht_capture.specs.Readers.{counted, counts, counts_at, finished, finished_stage, has_job, more, more_at, most_of};
 ghost use Rattle.ht_capture.specs.Readers.{shown_at, shown_by, stage_after, symbol_at, symbol_under_way};
-ghost use Rattle.ht_fields.specs.WholeFiles.{Halts};
+ghost use Rattle.ht_fields.specs.WholeFiles.{ReadsTo};
 
 use crate::block::SymbolBlock;
 use crate::block_item::BlockItem;
@@ -271,9 +271,7 @@ impl Reader {
 
     // Reads the symbol that is due, if one is.
     fn ready<S: Source>(&mut self, source: &mut S) -> Result<(), InFault>
-        ensures told { MatchResult result
-            (λ _. Gives (shown_by self.old (S.shown source.old)) (shown_by self.new (S.shown source.new)) [])
-            (Halts (shown_by self.old (S.shown source.old)) (S.shown source.new)) }
+        ensures told { ReadsTo result (shown_by self.old (S.shown source.old)) (λ _. shown_by self.new (S.shown source.new)) (λ _. []) (S.shown source.new) }
         ensures again { (answer : Result ItemValue InFaultValue) → finished self.old ≡ Some answer
             → (result ≡ Ok tt) × (self.new ≡ self.old) × (source.new ≡ source.old) }
         ensures going { IfOk result (λ _. finished self.new ≡ finished self.old) }
@@ -357,9 +355,8 @@ impl Reader {
     fn symbol<S: Source>(&mut self, source: &mut S, due: SymbolTurn) -> Result<(), InFault>
         requires stage { self.old.stage ≡ Stage.NextSymbol due }
         requires fits { SymbolFits due 0 self.old.at self.old.present }
-        ensures told { MatchResult result
-            (λ _. Gives (here (Symbol due (take due.count self.old.present)) self.old.at (S.shown source.old)) (shown_by self.new (S.shown source.new)) [])
-            (Halts (here (Symbol due (take due.count self.old.present)) self.old.at (S.shown source.old)) (S.shown source.new)) }
+        ensures told { ReadsTo result (here (Symbol due (take due.count self.old.present)) self.old.at (S.shown source.old))
+            (λ _. shown_by self.new (S.shown source.new)) (λ _. []) (S.shown source.new) }
         ensures ready { IfOk result (λ _. self.new.stage ≡ Stage.Giving due 0) }
         ensures stopped { IfErr result (λ fault. self.new.stage ≡ Stage.Stopped fault) }
         ensures memory { IfErr result (λ fault. fault ≡ NoMemory → ⊥) }

@@ -1,5 +1,5 @@
 //! Captures that are read whole.
-ghost use Rattle.std.specs.Prelude.{◌≡◌, ◌≤◌, ◌<◌, ◌+◌, ◌*◌, ◌/◌, ◌^◌, ℕ, List, length, flat_map, MatchResult, IfOk, IfErr, OnOk};
+ghost use Rattle.std.specs.Prelude.{◌≡◌, ◌≤◌, ◌<◌, ◌+◌, ◌*◌, ◌/◌, ◌^◌, ℕ, List, length, flat_map, IfOk, IfErr, OnOk};
 ghost use Rattle.ht_io.specs.Devices.{Takes, IsLater};
 ghost use Rattle.ht_io.specs.declared.faults.InFault.TheVariants.{NoMemory};
 ghost use Rattle.ht_rate.specs.Rates.{streams_of, symbols_of};
@@ -10,7 +10,7 @@ ghost use Rattle.ht_capture.specs.Contents.{AreSamples, IsTyped};
 ghost use Rattle.ht_capture.specs.Readers.{HasRoom};
 ghost use Rattle.ht_capture.specs.Reading.{here};
 ghost use Rattle.ht_capture.specs.Taking.{AddsSamples, IsBehind, ReadsCaptures, SameTurn, triangles_of};
-ghost use Rattle.ht_fields.specs.WholeFiles.{EndsEarly, GivesFields};
+ghost use Rattle.ht_fields.specs.WholeFiles.{EndsEarly, ReadsFieldsTo};
 
 use crate::carriers::carriers;
 use crate::frames::{CaptureFrame, Samples, Triangles};
@@ -52,10 +52,8 @@ fn symbol<S: Source>(
     samples: &mut Vec<Sample>,
 ) -> Result<u64, InFault>
     requires { HasRoom due.now at buffer.old }
-    ensures told { (present : List PresentValue) → MatchResult result
-        (λ behind. GivesFields (here (Symbol due.now present) at (S.shown source.old))
-        (here (symbol_due (next_symbol due.now) present) behind (S.shown source.new)))
-        (EndsEarly (here (Symbol due.now present) at (S.shown source.old)) (S.shown source.new)) }
+    ensures told { (present : List PresentValue) → ReadsFieldsTo result (here (Symbol due.now present) at (S.shown source.old))
+        (λ behind. here (symbol_due (next_symbol due.now) present) behind (S.shown source.new)) (S.shown source.new) }
     ensures added { OnOk result ((octets : List ℕ) × Takes (S.shown source.old) (S.shown source.new) octets
         × (length octets ≡ due.now.count * (8 * streams_of due.now.head.rate)) × AddsSamples samples.old.items samples.new.items octets) }
     ensures place { IfOk result (λ behind. behind ≤ at + 3648) }
@@ -117,9 +115,8 @@ fn samples<S: Source>(
     requires high { due.old.symbols ≤ 20166 }
     requires some { 1 ≤ due.old.count }
     requires few { due.old.count ≤ 114 }
-    ensures told { (present : List PresentValue) → MatchResult result
-        (λ _. GivesFields (here (Symbol due.old present) at.old (S.shown source.old)) (here (turn_due (next_turn due.new.turn)) at.new (S.shown source.new)))
-        (EndsEarly (here (Symbol due.old present) at.old (S.shown source.old)) (S.shown source.new)) }
+    ensures told { (present : List PresentValue) → ReadsFieldsTo result (here (Symbol due.old present) at.old (S.shown source.old))
+        (λ _. here (turn_due (next_turn due.new.turn)) at.new (S.shown source.new)) (S.shown source.new) }
     ensures octets { IfOk result (λ samples. Takes (S.shown source.old) (S.shown source.new) (flat_map sample_octets samples.items)) }
     ensures typed { IfOk result (λ samples. AreSamples samples.items) }
     ensures count { IfOk result (λ samples. length samples.items
@@ -163,9 +160,8 @@ fn frame<S: Source>(
     requires number { turn.old.number + 2298924 < 2 ^ 64 }
     requires left { 0 < turn.old.left }
     requires frames { turn.old.frame + turn.old.left ≤ 65535 }
-    ensures told { MatchResult result
-        (λ _. GivesFields (here (turn_due turn.old) at.old (S.shown source.old)) (here (turn_due turn.new) at.new (S.shown source.new)))
-        (EndsEarly (here (turn_due turn.old) at.old (S.shown source.old)) (S.shown source.new)) }
+    ensures told { ReadsFieldsTo result (here (turn_due turn.old) at.old (S.shown source.old))
+        (λ _. here (turn_due turn.new) at.new (S.shown source.new)) (S.shown source.new) }
     ensures octets { IfOk result (λ frame. Takes (S.shown source.old) (S.shown source.new) (capture_frame_octets turn.old.version frame)) }
     ensures fits { IfOk result FitsFrame }
     ensures typed { IfOk result IsTyped }

@@ -6,7 +6,7 @@ use Rattle.ht_io.specs.Devices.{Device}
 use Rattle.ht_io.specs.declared.faults.InFault.{InFault}
 use Rattle.ht_io.specs.declared.faults.InFault.TheVariants.{Format, Read, NoMemory}
 use Rattle.ht_io.specs.declared.faults.FormatFault.{FormatFault}
-use Rattle.ht_fields.specs.Readers.{ReaderView, Gives, Refuses, RunsOut, Breaks}
+use Rattle.ht_fields.specs.Readers.{ReaderView, Gives, Refuses, RunsOut, Breaks, Completes}
 use Rattle.ht_metric.specs.Jobs.{JobView}
 use Rattle.ht_capture.specs.declared.items.FrameHead.{FrameHead}
 use Rattle.ht_capture.specs.declared.items.Item.{Item as CaptureItem}
@@ -16,9 +16,9 @@ use Rattle.ht_capture.specs.Blocks.{CountsPart, StopsBlocks, items_in}
 use Rattle.ht_capture.specs.Frames.{carrier_octets, job_at}
 use Rattle.ht_capture.specs.Parts.{SymbolPart, jobs_of, views_at}
 use Rattle.ht_capture.proofs.Sharing.{views_length}
-use Rattle.ht_capture.specs.Readers.{Progress, Completes as CaptureCompletes, Counted, counted, counts, finished, more, shown_by}
+use Rattle.ht_capture.specs.Readers.{Progress, Counted, counted, counts, finished, more, shown_by}
 use Rattle.ht_feed.specs.Items.{Item, Begins, One, Numbered}
-use Rattle.ht_feed.specs.Reading.{Completes, CountsBlock, CountsHead, Halts, view}
+use Rattle.ht_feed.specs.Reading.{CountsBlock, CountsHead, Halts, view}
 use Rattle.ht_capture_blocks.specs.Captures.{capture_at, capture_counts, capture_means, items_of, mapped}
 
 abbrev pub seen : Progress → Device ℕ → ReaderView (Item FrameHead)
@@ -52,7 +52,7 @@ module _ (old : Progress) (source : Device ℕ) where
   gives_block new after part g =
       subst (λ (items : List (Item FrameHead)). Gives (seen old source) (seen new after) items) (items_of-jobs (jobs_of part)) (gives new after (items_in part) g)
 
-  pub completes : (after : Device ℕ) → CaptureCompletes (shown_by old source) after → Completes (seen old source) after
+  pub completes : (after : Device ℕ) → Completes (shown_by old source) after → Completes (seen old source) after
   completes after c = record { taken = c.taken; octets = c.octets; means = ap mapped c.means }
 
   refuses : (after : Device ℕ) (fault : FormatFault) → Refuses (shown_by old source) after fault → Refuses (seen old source) after fault

@@ -6,7 +6,7 @@ use Rattle.std.specs.List.{range_with_len, AllByRecursion}
 use Rattle.ht_rate.specs.Rates.{carriers_of, streams_of}
 use Rattle.ht_metric.specs.declared.place.Place.{Place}
 use Rattle.ht_metric.specs.Jobs.{JobView}
-use Rattle.ht_metric.specs.Arrays.{length-rows_of}
+use Rattle.ht_metric.proofs.RowLemmas.{length-rows_of}
 use Rattle.ht_capture.specs.declared.items.FrameHead.{FrameHead}
 use Rattle.ht_capture.specs.declared.items.Item.{Item}
 use Rattle.ht_capture.specs.declared.items.Item.TheVariants.{Job}

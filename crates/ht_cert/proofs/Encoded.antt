@@ -11,7 +11,8 @@ use Rattle.ht_heads.proofs.Counts.{bytes_back_as}
 use Rattle.ht_rate.specs.declared.kinds.Modulation.{Modulation}
 use Rattle.ht_metric.specs.declared.sample.Sample.{Sample}
 use Rattle.ht_metric.specs.Rows.{Leg, rows_of}
-use Rattle.ht_metric.specs.Arrays.{legs, samples, legs-rows_of, length-rows_of, samples-rows_of}
+use Rattle.ht_metric.specs.Arrays.{legs, samples, legs-rows_of, samples-rows_of}
+use Rattle.ht_metric.proofs.RowLemmas.{length-rows_of}
 use Rattle.ht_capture.specs.Systems.{samples_at, triangle_of}
 use Rattle.ht_capture.specs.Files.{legs_octets, sample_octets}
 use Rattle.ht_capture.specs.Contents.{AreLegs, AreSamples}

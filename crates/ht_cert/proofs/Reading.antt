@@ -9,7 +9,7 @@ use Rattle.ht_io.specs.declared.faults.Kind.TheVariants.{BadModulation, BadStrea
 use Rattle.ht_fields.specs.Lacking.{FailsField, GoesFurther, LacksField}
 use Rattle.ht_fields.proofs.Halting.{further_halts}
 use Rattle.ht_fields.proofs.Steps.{whole_file}
-use Rattle.ht_fields.specs.Readers.{ReaderView, Gives}
+use Rattle.ht_fields.specs.Readers.{ReaderView, Gives, Completes}
 use Rattle.ht_fields.specs.Tests.{is_above}
 use Rattle.ht_fields.proofs.Joins.{gives_more}
 use Rattle.ht_fields.proofs.Routes.{route_gives}
@@ -17,13 +17,13 @@ use Rattle.ht_heads.specs.Starts.{StartState, Body, Over}
 use Rattle.ht_rate.specs.declared.kinds.Modulation.{Modulation}
 use Rattle.ht_cert.specs.declared.record.Record.{Record}
 use Rattle.ht_cert.specs.declared.turn.Turn.{Turn}
-use Rattle.ht_metric.specs.Arrays.{length-rows_of}
+use Rattle.ht_metric.proofs.RowLemmas.{length-rows_of}
 use Rattle.ht_capture.specs.Systems.{samples_at, triangle_of}
 use Rattle.ht_capture.proofs.Grids.{length-triangle_of}
 use Rattle.ht_cert.specs.Records.{claim_width, claimed, code_of, points_begin, samples_begin, with_marks}
 use Rattle.ht_cert.proofs.Encoded.{length-points_at}
 use Rattle.ht_cert.specs.Formats.{RecordState, Modulated, Streams, Claim, Marks, Mark, certificates, is_no_streams, marks_due, marks_given, next_turn, records_due}
-use Rattle.ht_cert.specs.Readers.{Completes, Fails, GivesRecord, HasItsPoints, ReadsClaim, TakesSome, here}
+use Rattle.ht_cert.specs.Readers.{Fails, GivesRecord, HasItsPoints, ReadsClaim, TakesSome, here}
 use Rattle.ht_cert.specs.declared.reader.Came.{Came}
 use Rattle.ht_cert.specs.declared.reader.Came.TheVariants.{Whole, End}
 use Rattle.std.specs.Prelude.{MatchResult}

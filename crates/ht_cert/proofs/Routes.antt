@@ -13,7 +13,7 @@ use Rattle.ht_fields.specs.Grammar.{Verdict, Good}
 use Rattle.ht_fields.specs.Lacking.{FailsField, LacksField}
 use Rattle.ht_fields.specs.Readers.{ReaderView, Gives}
 use Rattle.ht_fields.specs.Tests.{is_above}
-use Rattle.ht_fields.specs.WholeFiles.{Halts}
+use Rattle.ht_fields.specs.WholeFiles.{StopsWithCause}
 use Rattle.ht_fields.proofs.Choices.{when_true, when_false, checked_good}
 use Rattle.ht_fields.proofs.Halting.{fails_halts, gives_halts, judges_checked, lacks_halts}
 use Rattle.ht_fields.proofs.Readers.{field_is, width_is}
@@ -145,37 +145,37 @@ mark_back (suc (suc n)) low = absurd (omega (arith, low))
 
 -- each field, where it was not read
 pub modulation_halts : (turn : Turn) (at : ℕ) (source after : Device ℕ) (fault : InFault)
-    → FailsField 1 BadModulation (is_above 3) at source after fault → Halts (here (Body (Modulated turn)) at source) after fault
+    → FailsField 1 BadModulation (is_above 3) at source after fault → StopsWithCause (here (Body (Modulated turn)) at source) after fault
 modulation_halts turn at source after fault fails =
     fails_halts certificates (Body (Modulated turn)) at 1 BadModulation (is_above 3) source after fault
     (judges_checked certificates (Body (Modulated turn)) 1 BadModulation (is_above 3) (good_modulation turn) refl (omega arith) (λ e. cc, λ e. cc)) fails
 
 pub streams_halts : (turn : Turn) (m : Modulation) (at : ℕ) (source after : Device ℕ) (fault : InFault)
-    → FailsField 1 BadStreams is_no_streams at source after fault → Halts (here (Body (Streams turn m)) at source) after fault
+    → FailsField 1 BadStreams is_no_streams at source after fault → StopsWithCause (here (Body (Streams turn m)) at source) after fault
 streams_halts turn m at source after fault fails =
     fails_halts certificates (Body (Streams turn m)) at 1 BadStreams is_no_streams source after fault
     (judges_checked certificates (Body (Streams turn m)) 1 BadStreams is_no_streams (good_streams turn m) refl (omega arith) (λ e. cc, λ e. cc)) fails
 
 pub claim_halts : (turn : Turn) (m : Modulation) (streams at : ℕ) (source after : Device ℕ) (fault : InFault)
-    → LacksField (claim_width streams) at source after fault → Halts (here (Body (Claim turn m streams)) at source) after fault
+    → LacksField (claim_width streams) at source after fault → StopsWithCause (here (Body (Claim turn m streams)) at source) after fault
 claim_halts turn m streams at source after fault lacks =
     lacks_halts certificates (Body (Claim turn m streams)) at (claim_width streams) source after fault
     (width_is (claim_width streams) (good_claim turn m streams) (some_claim streams)) lacks
 
 pub marks_halts : (turn : Turn) (r : Record) (at : ℕ) (source after : Device ℕ) (fault : InFault)
-    → FailsField 4 BadLength (is_outside mark_limits) at source after fault → Halts (here (Body (Marks turn r)) at source) after fault
+    → FailsField 4 BadLength (is_outside mark_limits) at source after fault → StopsWithCause (here (Body (Marks turn r)) at source) after fault
 marks_halts turn r at source after fault fails =
     fails_halts certificates (Body (Marks turn r)) at 4 BadLength (is_outside mark_limits) source after fault
     (judges_checked certificates (Body (Marks turn r)) 4 BadLength (is_outside mark_limits) (good_marks turn r) refl (omega arith) (λ e. cc, λ e. cc)) fails
 
 pub mark_halts : (turn : Turn) (r : Record) (left at : ℕ) (source after : Device ℕ) (fault : InFault)
-    → FailsField 1 BadMark (is_above 1) at source after fault → Halts (here (Body (Mark turn r left)) at source) after fault
+    → FailsField 1 BadMark (is_above 1) at source after fault → StopsWithCause (here (Body (Mark turn r left)) at source) after fault
 mark_halts turn r left at source after fault fails =
     fails_halts certificates (Body (Mark turn r left)) at 1 BadMark (is_above 1) source after fault
     (judges_checked certificates (Body (Mark turn r left)) 1 BadMark (is_above 1) (good_mark turn r left) refl (omega arith) (λ e. cc, λ e. cc)) fails
 
 -- what halts a reader makes it fail
-pub halts_fails : (old : ReaderView Record) (after : Device ℕ) (fault : InFault) → Halts old after fault → Fails old after fault
+pub halts_fails : (old : ReaderView Record) (after : Device ℕ) (fault : InFault) → StopsWithCause old after fault → Fails old after fault
 halts_fails old after (Format fault) h = h
 halts_fails old after Read h = h
 halts_fails old after NoMemory h = absurd h.1

@@ -4,7 +4,7 @@ use Rattle.std.proofs.lemmas.Bool.Decides.{nat_tests}
 use Rattle.ht_io.specs.Devices.{Device, Takes}
 use Rattle.ht_io.specs.declared.faults.InFault.{InFault}
 use Rattle.ht_fields.specs.Readers.{Gives}
-use Rattle.ht_fields.specs.WholeFiles.{Halts}
+use Rattle.ht_fields.specs.WholeFiles.{StopsWithCause}
 use Rattle.ht_fields.proofs.Choices.{when_false}
 use Rattle.ht_fields.proofs.Routes.{route_gives}
 use Rattle.ht_heads.specs.declared.starting.Limits.{Limits}
@@ -46,7 +46,7 @@ start_gives limits count source after is few taken =
 
 -- they were not
 pub start_stops : (limits : Limits) (source after : Device ℕ) (fault : InFault) → limits ≡ record_limits
-    → StartedFails certificates_magic limits source after fault → Halts (here certificates.start 0 source) after fault
+    → StartedFails certificates_magic limits source after fault → StopsWithCause (here certificates.start 0 source) after fault
 start_stops limits source after fault is fails =
     started_halts recorded source after fault (omega arith) (λ e. cc, λ e. cc)
     (subst (λ (l : Limits). StartedFails certificates_magic l source after fault) is fails)

@@ -1,13 +1,13 @@
 -- What a reader of certificates still gives.
-use Rattle.std.specs.Prelude.{◌≡◌, ◌⊎◌, ⊤, ℕ, ◌+◌, ◌*◌, ◌<◌, ◌≤◌, List, [], ◌∷◌, ◌++◌, length, map, Bool, nat_eq, Option, Some, None, Result, Ok, Err}
-use Rattle.ht_io.specs.Devices.{Device, Takes, TakesAll}
+use Rattle.std.specs.Prelude.{◌≡◌, ◌⊎◌, ⊤, ℕ, ◌+◌, ◌*◌, ◌<◌, ◌≤◌, List, [], ◌∷◌, ◌++◌, length, map, Bool, nat_eq, Option, Some, None, Result, Ok, Err, MatchResult}
+use Rattle.ht_io.specs.Devices.{Device, Takes}
 use Rattle.ht_io.specs.declared.faults.InFault.{InFault}
 use Rattle.ht_io.specs.declared.faults.InFault.TheVariants.{Format, Read, NoMemory}
 use Rattle.ht_io.specs.declared.faults.Kind.TheVariants.{BadMark}
 use Rattle.ht_fields.specs.Lacking.{FailsAmong}
 use Rattle.ht_fields.specs.Meanings.{Meaning, ended, refused, meaning}
-use Rattle.ht_fields.specs.Readers.{ReaderView, reader_in, Gives}
-use Rattle.ht_fields.specs.WholeFiles.{Halts}
+use Rattle.ht_fields.specs.Readers.{ReaderView, reader_in, Gives, Completes}
+use Rattle.ht_fields.specs.WholeFiles.{StopsWithCause}
 use Rattle.ht_heads.specs.Starts.{StartState}
 use Rattle.ht_cert.specs.declared.record.Record.{Record}
 use Rattle.ht_cert.specs.declared.reader.Came.{Came}
@@ -16,7 +16,7 @@ use Rattle.ht_cert.specs.declared.turn.Turn.{Turn}
 use Rattle.ht_cert.specs.declared.turn.Stage.{Stage}
 use Rattle.ht_cert.specs.declared.turn.Stage.TheVariants.{Begin, Next, Ended, Stopped}
 use Rattle.ht_rate.specs.declared.kinds.Modulation.{Modulation}
-use Rattle.ht_cert.specs.Formats.{RecordState, certificates, records_due}
+use Rattle.ht_cert.specs.Formats.{RecordState, certificates, next_turn, records_due}
 use Rattle.ht_cert.specs.Files.{mark_octet}
 use Rattle.ht_cert.specs.Records.{claim_width, claimed}
 
@@ -49,9 +49,15 @@ FailsMarks count at before after fault =
 
 -- a reader stopped: at the first fault of the file, where its source failed, or for lack of memory, having taken some octets
 abbrev pub Fails : ReaderView Record → Device ℕ → InFault → Type 0
-Fails old after (Format fault) = Halts old after (Format fault)
-Fails old after Read = Halts old after Read
+Fails old after (Format fault) = StopsWithCause old after (Format fault)
+Fails old after Read = StopsWithCause old after Read
 Fails old after NoMemory = TakesSome old.source after
+
+-- What a call comes to that reads on to the end of a record. Where the answer is Ok, this record is given, and what follows it
+-- is due at the offset that is answered. Where it is a fault, the reading stopped on the way, before the record.
+abbrev pub ReadsRecord : Result ℕ InFault → ReaderView Record → Turn → Record → Device ℕ → Type 0
+ReadsRecord result old turn r after =
+    MatchResult result (λ behind. Gives old (here (records_due (next_turn turn)) behind after) (r ∷ [])) (Fails old after)
 
 -- a reader that stopped gives its fault again, and no record
 abbrev pub stopped_means : InFault → List ℕ → Meaning Record
@@ -74,12 +80,6 @@ pub record Progress : Type 0 where
 abbrev pub shown_by : Progress → Device ℕ → ReaderView Record
 shown_by reader source = record { means = stage_means reader.stage reader.at; at = reader.at; source = source }
 
--- the octets taken were all that was left: the reader meant no record more, and no fault
-pub record Completes (old : ReaderView Record) (after : Device ℕ) : Type 0 where
-  pub taken : List ℕ
-  pub octets : TakesAll old.source after taken
-  pub means : old.means taken ≡ ended
-
 -- a point is claimed for each stream of the job
 abbrev pub HasItsPoints : Record → Type 0
 HasItsPoints r = length r.certificate.vector ≡ length r.job.system
@@ -88,6 +88,11 @@ HasItsPoints r = length r.certificate.vector ≡ length r.job.system
 abbrev pub GivesRecord : ReaderView Record → ReaderView Record → Came → Record → Type 0
 GivesRecord old new Whole r = Gives old new (r ∷ [])
 GivesRecord old new End r = Completes old new.source
+
+-- What a call comes to that reads the next record, or sees that the file ends. Where it is a fault, the reading stopped on the
+-- way, before any record.
+abbrev pub ReadsNext : Result Came InFault → ReaderView Record → ReaderView Record → Record → Type 0
+ReadsNext result old new r = MatchResult result (λ came. GivesRecord old new came r) (Fails old new.source)
 
 -- the answer that a reader gives again and again
 abbrev pub finished_stage : Stage → Option (Result Came InFault)
@@ -121,9 +126,9 @@ abbrev pub number : Progress → ℕ
 number reader = number_at reader.stage
 
 -- behind each record the bound is less, and the number one more
-abbrev pub Passes : Progress → Progress → Came → Record → Type 0
-Passes old new Whole r = (more new < more old) × (r.job.number ≡ number old) × (number new ≡ number old + 1) × (finished new ≡ None)
-Passes old new End r = more new ≤ more old
+abbrev pub Advances : Progress → Progress → Came → Record → Type 0
+Advances old new Whole r = (more new < more old) × (r.job.number ≡ number old) × (number new ≡ number old + 1) × (finished new ≡ None)
+Advances old new End r = more new ≤ more old
 
 -- the offset stays far below the end of its type: a record has at most 33,554,526 octets
 abbrev pub StageFits : Stage → ℕ → Type 0

@@ -1,16 +1,15 @@
 //! The fields of a record, each read whole and judged.
-ghost use Rattle.std.specs.Prelude.{◌≡◌, ◌<◌, ◌≤◌, ◌+◌, ◌^◌, ◌||◌, nat_eq, nat_lt, [], ◌∷◌, length, map, take, MatchResult, IfOk, IfErr, OnOk};
+ghost use Rattle.std.specs.Prelude.{◌≡◌, ◌<◌, ◌≤◌, ◌+◌, ◌^◌, ◌||◌, nat_eq, nat_lt, [], ◌∷◌, length, map, take, IfOk, IfErr, OnOk};
 ghost use Rattle.ht_io.specs.Devices.{Takes, IsLater};
 ghost use Rattle.ht_io.specs.declared.faults.Kind.TheVariants.{BadModulation, BadStreams};
 ghost use Rattle.ht_fields.specs.Lacking.{FailsField, LacksField};
-ghost use Rattle.ht_fields.specs.Readers.{Gives};
 ghost use Rattle.ht_fields.specs.Tests.{is_above};
-ghost use Rattle.ht_fields.specs.WholeFiles.{Halts};
+ghost use Rattle.ht_fields.specs.WholeFiles.{ReadsTo};
 ghost use Rattle.ht_heads.specs.Starts.{Body};
-ghost use Rattle.ht_cert.specs.Formats.{Marks as MarksState, certificates, is_no_streams, next_turn, records_due};
+ghost use Rattle.ht_cert.specs.Formats.{Marks as MarksState, certificates, is_no_streams, records_due};
 ghost use Rattle.ht_cert.specs.Formats.{mark_limits as mark_limits_of, record_limits as record_limits_of};
 ghost use Rattle.ht_cert.specs.Records.{claim_width as claim_width_of, code_of};
-ghost use Rattle.ht_cert.specs.Readers.{Fails, FailsMarks, HasItsPoints, ReadsClaim, ReadsMarks, here, is_open};
+ghost use Rattle.ht_cert.specs.Readers.{FailsMarks, HasItsPoints, ReadsClaim, ReadsMarks, ReadsRecord, here, is_open};
 
 use crate::decoding::{claim_width, fill_record, modulation_of};
 use crate::record::Record;
@@ -53,9 +52,8 @@ fn mark_limits() -> Limits
 
 /// Reads the 13 octets in front of the records.
 pub fn start<S: Source>(source: &mut S) -> Result<Turn, InFault>
-    ensures told { MatchResult result
-        (λ turn. Gives (here certificates.start 0 (S.shown source.old)) (here (records_due turn) 13 (S.shown source.new)) [])
-        (Halts (here certificates.start 0 (S.shown source.old)) (S.shown source.new)) }
+    ensures told { ReadsTo result (here certificates.start 0 (S.shown source.old))
+        (λ turn. here (records_due turn) 13 (S.shown source.new)) (λ _. []) (S.shown source.new) }
     ensures first { IfOk result (λ turn. turn.number ≡ 0) }
     ensures few { IfOk result (λ turn. turn.left ≤ 137438953472) }
     ensures later { IsLater (S.shown source.old) (S.shown source.new) }
@@ -181,10 +179,7 @@ fn some_marks<S: Source>(
 fn marks<S: Source>(source: &mut S, at: u64, turn: &Turn, into: &mut Record) -> Result<u64, InFault>
     requires offset { at + 33554440 < 2 ^ 64 }
     requires none { into.old.certificate.marks ≡ [] }
-    ensures told { MatchResult result
-        (λ behind. Gives (here (Body (MarksState turn.now into.old)) at (S.shown source.old))
-        (here (records_due (next_turn turn.now)) behind (S.shown source.new)) (into.new ∷ []))
-        (Fails (here (Body (MarksState turn.now into.old)) at (S.shown source.old)) (S.shown source.new)) }
+    ensures told { ReadsRecord result (here (Body (MarksState turn.now into.old)) at (S.shown source.old)) turn.now into.new (S.shown source.new) }
     ensures number { IfOk result (λ _. into.new.job.number ≡ into.old.job.number) }
     ensures points { IfOk result (λ _. HasItsPoints into.old → HasItsPoints into.new) }
     ensures place { IfOk result (λ behind. behind ≤ at + 33554436) }
@@ -215,10 +210,7 @@ pub fn record<S: Source>(
 ) -> Result<u64, InFault>
     requires offset { at + 33554600 < 2 ^ 64 }
     requires left { 0 < turn.now.left }
-    ensures told { MatchResult result
-        (λ behind. Gives (here (records_due turn.now) at (S.shown source.old))
-        (here (records_due (next_turn turn.now)) behind (S.shown source.new)) (into.new ∷ []))
-        (Fails (here (records_due turn.now) at (S.shown source.old)) (S.shown source.new)) }
+    ensures told { ReadsRecord result (here (records_due turn.now) at (S.shown source.old)) turn.now into.new (S.shown source.new) }
     ensures number { IfOk result (λ _. into.new.job.number ≡ turn.now.number) }
     ensures points { IfOk result (λ _. HasItsPoints into.new) }
     ensures place { IfOk result (λ behind. behind ≤ at + 33554526) }

@@ -1,10 +1,10 @@
 //! The reader of certificates.
-ghost use Rattle.std.specs.Prelude.{◌≡◌, ◌<◌, ◌≤◌, ◌+◌, ◌*◌, ℕ, None, Some, Ok, Err, Result, MatchResult, IfOk, IfErr};
+ghost use Rattle.std.specs.Prelude.{◌≡◌, ◌<◌, ◌≤◌, ◌+◌, ◌*◌, ℕ, None, Some, Ok, Err, Result, IfOk, IfErr};
 ghost use Rattle.ht_io.specs.Devices.{Device, IsLater};
 ghost use Rattle.ht_io.specs.declared.faults.InFault.{InFault as InFaultValue};
 ghost use Rattle.ht_cert.specs.declared.reader.Came.{Came as CameValue};
 ghost use Rattle.ht_cert.specs.Formats.{certificates, records_due};
-ghost use Rattle.ht_cert.specs.Readers.{Fails, GivesRecord, HasItsPoints, Passes, StageFits, finished, here, more, number as number_of, shown_by};
+ghost use Rattle.ht_cert.specs.Readers.{Advances, HasItsPoints, ReadsNext, StageFits, finished, here, more, number as number_of, shown_by};
 
 use crate::fields;
 use crate::record::Record;
@@ -62,12 +62,11 @@ impl RecordReader {
     /// Behind these and `End` each further call answers the same, and takes nothing.
     pub fn next<S: Source>(&mut self, source: &mut S, into: &mut Record) -> Result<Came, InFault>
         // What the octets that this call took mean.
-        ensures told { finished self.old ≡ None → MatchResult result
-            (λ came. GivesRecord (shown_by self.old (S.shown source.old)) (shown_by self.new (S.shown source.new)) came into.new)
-            (Fails (shown_by self.old (S.shown source.old)) (S.shown source.new)) }
+        ensures told { finished self.old ≡ None
+            → ReadsNext result (shown_by self.old (S.shown source.old)) (shown_by self.new (S.shown source.new)) into.new }
 
         // Records are numbered from 0, and fewer are left behind each.
-        ensures passed { IfOk result (λ came. Passes self.old self.new came into.new) }
+        ensures passed { IfOk result (λ came. Advances self.old self.new came into.new) }
 
         // Each claims a point for each stream of its job.
         ensures points { result ≡ Ok Came.Whole → HasItsPoints into.new }
@@ -89,10 +88,8 @@ impl RecordReader {
 
     // Reads what stands in front of the records, and then as `go_on` does.
     fn begin<S: Source>(&mut self, source: &mut S, into: &mut Record) -> Result<Came, InFault>
-        ensures told { MatchResult result
-            (λ came. GivesRecord (here certificates.start 0 (S.shown source.old)) (shown_by self.new (S.shown source.new)) came into.new)
-            (Fails (here certificates.start 0 (S.shown source.old)) (S.shown source.new)) }
-        ensures passed { IfOk result (λ came. Passes (record { stage = Stage.Begin; at = 0 }) self.new came into.new) }
+        ensures told { ReadsNext result (here certificates.start 0 (S.shown source.old)) (shown_by self.new (S.shown source.new)) into.new }
+        ensures passed { IfOk result (λ came. Advances (record { stage = Stage.Begin; at = 0 }) self.new came into.new) }
         ensures points { result ≡ Ok Came.Whole → HasItsPoints into.new }
         ensures stopped { IfErr result (λ fault. self.new.stage ≡ Stage.Stopped fault) }
         ensures done { result ≡ Ok Came.End → self.new.stage ≡ Stage.Ended }
@@ -118,10 +115,8 @@ impl RecordReader {
     ) -> Result<Came, InFault>
         requires few { turn.number + turn.left ≤ 137438953472 }
         requires place { self.old.at ≤ 13 + 33554526 * turn.number }
-        ensures told { MatchResult result
-            (λ came. GivesRecord (here (records_due turn) self.old.at (S.shown source.old)) (shown_by self.new (S.shown source.new)) came into.new)
-            (Fails (here (records_due turn) self.old.at (S.shown source.old)) (S.shown source.new)) }
-        ensures passed { IfOk result (λ came. Passes (record { stage = Stage.Next turn; at = self.old.at }) self.new came into.new) }
+        ensures told { ReadsNext result (here (records_due turn) self.old.at (S.shown source.old)) (shown_by self.new (S.shown source.new)) into.new }
+        ensures passed { IfOk result (λ came. Advances (record { stage = Stage.Next turn; at = self.old.at }) self.new came into.new) }
         ensures points { result ≡ Ok Came.Whole → HasItsPoints into.new }
         ensures stopped { IfErr result (λ fault. self.new.stage ≡ Stage.Stopped fault) }
         ensures done { result ≡ Ok Came.End → self.new.stage ≡ Stage.Ended }

@@ -4,20 +4,20 @@ use Rattle.ht_io.specs.Devices.{Device, Grows, GrowsByPart, IsLater, Rose}
 use Rattle.ht_io.proofs.Calls.{failed-later, grows-append, grows-none, grows_by_part-append, grows_by_part-front, grows_by_part-none, later-later, later-refl}
 use Rattle.ht_runs.specs.declared.faults.RunFault.{RunFault}
 use Rattle.ht_runs.specs.declared.faults.RunFault.TheVariants.{Format, Read, Write, NoMemory}
-use Rattle.ht_certify.specs.Writing.{Breaks, IsCause, Passes, PassesFront}
+use Rattle.ht_certify.specs.Writing.{Breaks, IsCause, PutsThrough, PutsFrontThrough}
 
 -- nothing was given
-pub passes_none : (waits : List ℕ) (sink : Device ℕ) → Passes waits sink sink [] waits
+pub passes_none : (waits : List ℕ) (sink : Device ℕ) → PutsThrough waits sink sink [] waits
 passes_none waits sink =
     record { front = []; put = grows-none sink; all = append-nil waits; steady = refl; later = later-refl sink }
 
 -- what was given waits
-pub passes_waiting : (waits given waits' : List ℕ) (sink : Device ℕ) → waits' ≡ waits ++ given → Passes waits sink sink given waits'
+pub passes_waiting : (waits given waits' : List ℕ) (sink : Device ℕ) → waits' ≡ waits ++ given → PutsThrough waits sink sink given waits'
 passes_waiting waits given waits' sink is =
     record { front = []; put = grows-none sink; all = sym is; steady = refl; later = later-refl sink }
 
 -- some octets, and then more
-pub passes_more : (w x y given more : List ℕ) (a b c : Device ℕ) → Passes w a b given x → Passes x b c more y → Passes w a c (given ++ more) y
+pub passes_more : (w x y given more : List ℕ) (a b c : Device ℕ) → PutsThrough w a b given x → PutsThrough x b c more y → PutsThrough w a c (given ++ more) y
 passes_more w x y given more a b c p q = record {
   front = p.front ++ q.front;
   put = grows-append a b c p.front q.front p.put q.put;
@@ -35,7 +35,7 @@ cause_later a b c NoMemory later steady cause = cause ∙ steady
 
 -- some octets, and then a part of more, where others follow
 pub breaks_later : (w x given more rest whole : List ℕ) (a b c : Device ℕ) (fault : RunFault) → given ++ (more ++ rest) ≡ whole
-    → Passes w a b given x → Breaks x b c more fault → Breaks w a c whole fault
+    → PutsThrough w a b given x → Breaks x b c more fault → Breaks w a c whole fault
 breaks_later w x given more rest whole a b c fault all p q =
     let both : (p.front ++ (x ++ more)) ++ rest ≡ w ++ whole =
     ap (λ z. z ++ rest) (sym (append_assoc p.front x more) ∙ (ap (λ z. z ++ more) (sym p.all) ∙ append_assoc w given more))
@@ -52,24 +52,24 @@ pub breaks_before : (w given : List ℕ) (sink : Device ℕ) → Breaks w sink s
 breaks_before w given sink = record { part = grows_by_part-none sink (w ++ given); cause = refl; later = later-refl sink }
 
 -- what was left was a piece and less, and the piece was given
-pub one_more : (w x y piece left less whole : List ℕ) (a b c : Device ℕ) → PassesFront w a b left whole x → left ≡ piece ++ less
-    → Passes x b c piece y → PassesFront w a c less whole y
+pub one_more : (w x y piece left less whole : List ℕ) (a b c : Device ℕ) → PutsFrontThrough w a b left whole x → left ≡ piece ++ less
+    → PutsThrough x b c piece y → PutsFrontThrough w a c less whole y
 one_more w x y piece left less whole a b c (done, p, all) is q =
     (done ++ piece, passes_more w x y done piece a b c p q, append_assoc done piece less ∙ (ap (λ z. done ++ z) (sym is) ∙ all))
 
 -- and a part of the piece was put
-pub one_breaks : (w x piece left less whole : List ℕ) (a b c : Device ℕ) (fault : RunFault) → PassesFront w a b left whole x → left ≡ piece ++ less
+pub one_breaks : (w x piece left less whole : List ℕ) (a b c : Device ℕ) (fault : RunFault) → PutsFrontThrough w a b left whole x → left ≡ piece ++ less
     → Breaks x b c piece fault → Breaks w a c whole fault
 one_breaks w x piece left less whole a b c fault (done, p, all) is q =
     breaks_later w x done piece less whole a b c fault (ap (λ z. done ++ z) (sym is) ∙ all) p q
 
 -- nothing is left
-pub all_passes : (w x done left whole : List ℕ) (a b : Device ℕ) → left ≡ [] → done ++ left ≡ whole → Passes w a b done x → Passes w a b whole x
+pub all_passes : (w x done left whole : List ℕ) (a b : Device ℕ) → left ≡ [] → done ++ left ≡ whole → PutsThrough w a b done x → PutsThrough w a b whole x
 all_passes w x done left whole a b none all p =
-    subst (λ z. Passes w a b z x) (sym (append-nil done) ∙ (ap (λ z. done ++ z) (sym none) ∙ all)) p
+    subst (λ z. PutsThrough w a b z x) (sym (append-nil done) ∙ (ap (λ z. done ++ z) (sym none) ∙ all)) p
 
 -- what waits is put at last, or a part of it
-pub put_last : (w x given : List ℕ) (a b c : Device ℕ) → Passes w a b given x → Grows b c x → c.faults ≡ b.faults → IsLater b c → Passes w a c given []
+pub put_last : (w x given : List ℕ) (a b c : Device ℕ) → PutsThrough w a b given x → Grows b c x → c.faults ≡ b.faults → IsLater b c → PutsThrough w a c given []
 put_last w x given a b c p put steady later = record {
   front = p.front ++ x;
   put = grows-append a b c p.front x p.put put;
@@ -78,7 +78,7 @@ put_last w x given a b c p put steady later = record {
   later = later-later a b c p.later later;
 }
 
-pub put_breaks : (w x given : List ℕ) (a b c : Device ℕ) → Passes w a b given x → GrowsByPart b c x → Rose b c → IsLater b c → Breaks w a c given Write
+pub put_breaks : (w x given : List ℕ) (a b c : Device ℕ) → PutsThrough w a b given x → GrowsByPart b c x → Rose b c → IsLater b c → Breaks w a c given Write
 put_breaks w x given a b c p part rose later = record {
   part = subst (λ z. GrowsByPart a c z) (sym p.all) (grows_by_part-append a b c p.front x p.put part);
   cause = failed-later a b c p.later rose;

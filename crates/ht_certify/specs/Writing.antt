@@ -14,7 +14,7 @@ IsCause sink sink' NoMemory = sink'.faults ≡ sink.faults
 -- the octets that waited, the sink before and after, and the octets that were given
 module _ (waits : List ℕ) (sink sink' : Device ℕ) (given : List ℕ) where
   -- a front of them was put, and the others wait
-  pub record Passes (waits' : List ℕ) : Type 0 where
+  pub record PutsThrough (waits' : List ℕ) : Type 0 where
     pub front : List ℕ
     pub put : Grows sink sink' front
     pub all : waits ++ given ≡ front ++ waits'
@@ -28,9 +28,9 @@ module _ (waits : List ℕ) (sink sink' : Device ℕ) (given : List ℕ) where
     pub later : IsLater sink sink'
 
   abbrev pub Writes : List ℕ → Result (Unit {0}) RunFault → Type 0
-  Writes waits' (Ok done) = Passes waits'
+  Writes waits' (Ok done) = PutsThrough waits'
   Writes waits' (Err fault) = Breaks fault
 
 -- a front of the whole was given, and this of it is left
-abbrev pub PassesFront : List ℕ → Device ℕ → Device ℕ → List ℕ → List ℕ → List ℕ → Type 0
-PassesFront waits sink sink' left whole waits' = (done : List ℕ) × Passes waits sink sink' done waits' × (done ++ left ≡ whole)
+abbrev pub PutsFrontThrough : List ℕ → Device ℕ → Device ℕ → List ℕ → List ℕ → List ℕ → Type 0
+PutsFrontThrough waits sink sink' left whole waits' = (done : List ℕ) × PutsThrough waits sink sink' done waits' × (done ++ left ≡ whole)

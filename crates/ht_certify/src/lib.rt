@@ -1,4 +1,4 @@
-//! The certificates of a capture: what lets somebody check each detected vector without trust in the detector.
+//! The certificates of a capture, by which anyone can check each detected vector without trusting the detector.
 //!
 //! `certify_capture` reads a capture of either version (HTCP, crate `ht_capture`) to its end, and then puts the file of
 //! certificates (HTCT, crate `ht_cert`) of its data jobs, in their order. A record has the modulation of the job's frame,

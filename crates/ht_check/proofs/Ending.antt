@@ -5,7 +5,7 @@ use Rattle.ht_io.proofs.Calls.{failed-later, grows-append, grows_by_part-append,
 use Rattle.ht_io.specs.declared.faults.InFault.{InFault}
 use Rattle.ht_io.specs.declared.faults.InFault.TheVariants.{Format, Read, NoMemory as ReadMemory}
 use Rattle.ht_fields.specs.Meanings.{Meaning, before, meaning}
-use Rattle.ht_fields.specs.Readers.{ReaderView, Gives}
+use Rattle.ht_fields.specs.Readers.{ReaderView, Gives, Completes}
 use Rattle.ht_fields.proofs.Answered.{alone, file_found}
 use Rattle.ht_fields.proofs.Joins.{gives_more}
 use Rattle.ht_runs.specs.Faults.{fault_of_reading}
@@ -22,7 +22,7 @@ use Rattle.ht_runs.proofs.Outcomes.{Saw, StartsWith, saw_behind, saw_gives, saw_
 use Rattle.ht_runs.proofs.Streaming.{ends_with_its_fault, lacked, lined, written_in_part}
 use Rattle.ht_cert.specs.declared.record.Record.{Record}
 use Rattle.ht_cert.specs.Formats.{certificates}
-use Rattle.ht_cert.specs.Readers.{Completes, Fails, TakesSome, here}
+use Rattle.ht_cert.specs.Readers.{Fails, TakesSome, here}
 use Rattle.ht_check.specs.declared.tally.Tally.{Tally}
 use Rattle.ht_check.specs.Checks.{check_end_of, check_line, check_lines, check_lines_from, check_lines_of, check_text, checking}
 use Rattle.ht_check.specs.Running.{Checks}

@@ -23,7 +23,8 @@ use Rattle.ht_pam.specs.declared.axes.Axes.{Axes}
 use Rattle.ht_pam.specs.declared.point.Point.{Point}
 use Rattle.ht_pam.specs.Grids.{IsGrid}
 use Rattle.ht_metric.specs.declared.sample.Sample.{Sample}
-use Rattle.ht_metric.specs.Arrays.{legs-rows_of, length-rows_of, samples}
+use Rattle.ht_metric.specs.Arrays.{legs-rows_of, samples}
+use Rattle.ht_metric.proofs.RowLemmas.{length-rows_of}
 use Rattle.ht_metric.specs.Distance.{IsInRange}
 use Rattle.ht_metric.specs.Jobs.{IsJob, IsNear, JobView, near}
 use Rattle.ht_metric.specs.Rows.{Leg, rows_of}

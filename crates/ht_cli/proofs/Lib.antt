@@ -3,7 +3,6 @@ pub mod Answering
 pub mod Certified
 pub mod Certifying
 pub mod Exactly
-pub mod Heard
 pub mod Making
 pub mod Nothing
 pub mod Returning

@@ -1,5 +1,5 @@
 -- The command that the words ask for, and what its run promises.
-use Rattle.std.specs.Prelude.{◌≡◌, ◌≢◌, ℕ, List, Option, Some, None}
+use Rattle.std.specs.Prelude.{◌≡◌, ◌≢◌, ℕ, Option, Some, None}
 use Rattle.ht_io.specs.Devices.{Device}
 use Rattle.ht_capture.specs.Fields.{captures}
 use Rattle.ht_text.specs.Lines.{usage_text}

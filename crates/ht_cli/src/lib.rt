@@ -37,14 +37,13 @@ use commands::{send, upgrade};
 use ht_certify::certify_capture;
 use ht_check::check_file;
 use ht_demo::{Plan, demo, demo_alone};
-use ht_endings::put_end;
 use ht_feed::Gate;
 use ht_io::{Sink, Source};
 use ht_legacy_rx::{legacy_receive, legacy_receive_alone};
 use ht_legacy_sim::legacy_channel;
 use ht_many::{many_bundle, many_bundle_alone};
 use ht_rate::Rate;
-use ht_rx::{list_jobs, list_jobs_alone, receive_text, receive_text_alone};
+use ht_rx::{list_text, list_text_alone, receive_text, receive_text_alone};
 use ht_sim::channel;
 use ht_soft_rx::{receive_soft, receive_soft_alone};
 pub use ht_words::Asked;
@@ -83,13 +82,11 @@ pub fn run<R: Threads + Wait + Sync, S: Source, K: Sink, G: Gate + Sync>(
     };
     match asked {
         Some(Asked::Detect { workers, window }) if workers > 1 => {
-            let heard = list_jobs(rt, alloc, workers, window, source, sink, gate);
-            let listed = put_end(alloc, heard, sink);
+            let listed = list_text(rt, alloc, workers, window, source, sink, gate);
             settle(alloc, listed, sink)
         }
         Some(Asked::Rx { workers, window }) if workers > 1 => {
-            let heard = receive_text(rt, alloc, workers, window, source, sink, gate);
-            let received = put_end(alloc, heard, sink);
+            let received = receive_text(rt, alloc, workers, window, source, sink, gate);
             settle(alloc, received, sink)
         }
         Some(Asked::Soft { workers, window }) if workers > 1 => {
@@ -162,13 +159,11 @@ fn carry_out<S: Source, K: Sink, G: Gate>(
 {
     match asked {
         Some(Asked::Detect { window, .. }) => {
-            let heard = list_jobs_alone(alloc, window, source, sink, gate);
-            let listed = put_end(alloc, heard, sink);
+            let listed = list_text_alone(alloc, window, source, sink, gate);
             settle(alloc, listed, sink)
         }
         Some(Asked::Rx { window, .. }) => {
-            let heard = receive_text_alone(alloc, window, source, sink, gate);
-            let received = put_end(alloc, heard, sink);
+            let received = receive_text_alone(alloc, window, source, sink, gate);
             settle(alloc, received, sink)
         }
         Some(Asked::Soft { window, .. }) => {

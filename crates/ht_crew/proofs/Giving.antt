@@ -26,12 +26,12 @@ drop_next {A} xs n x e =
     drop_more xs n x below ∙ ap (λ (y : A). y ∷ drop (n + 1) xs) (get_or_from_slice_get xs n x x e)
 
 -- what is due after one more was given
-pub due_more : {A : Type 0} (xs : List A) (taken given : ℕ) (x : A) → taken ≤ given
-    → slice_get xs given ≡ Some x → drop taken (take (given + 1) xs) ≡ drop taken (take given xs) ++ x ∷ []
-due_more {A} xs taken given x within e =
+pub due_more : {A : Type 0} (xs : List A) (hits given : ℕ) (x : A) → hits ≤ given
+    → slice_get xs given ≡ Some x → drop hits (take (given + 1) xs) ≡ drop hits (take given xs) ++ x ∷ []
+due_more {A} xs hits given x within e =
     let below = slice_get_within xs given x e in
-    ap (λ (ys : List A). drop taken ys) (take_next xs given x e)
-    ∙ drop-append-le taken (take given xs) (x ∷ []) (omega (arith, below, length-take-le given xs (omega (arith, below))))
+    ap (λ (ys : List A). drop hits ys) (take_next xs given x e)
+    ∙ drop-append-le hits (take given xs) (x ∷ []) (omega (arith, below, length-take-le given xs (omega (arith, below))))
 
 -- the next job of a feed over a list
 pub gives_next : (a : Listed) (job : JobView) → IsListed (called a) → a.ended ≡ false
@@ -42,22 +42,22 @@ gives_next a job listed running e =
       running = running;
       number = listed.numbered a.given job e;
       count = refl;
-      due = due_more a.jobs (length a.taken) a.given job listed.taken e;
+      due = due_more a.jobs (length a.hits) a.given job listed.hits e;
       more = omega (arith, below);
       left = drop_next a.jobs a.given job e;
       failed = refl;
     }
 
 -- a call that changed neither list leads on
-pub unmoved : (a b : Listed) → b.jobs ≡ a.jobs → b.taken ≡ a.taken → TakesInTurn a b
-unmoved a b jobs taken =
-    let n : ℕ = length a.taken in
-    let long : length b.taken ≡ n = ap (λ (hits : List Hit). length hits) taken in
-    let none : drop n (take (length b.taken) a.jobs) ≡ [] = ap (λ (m : ℕ). drop n (take m a.jobs)) long ∙ no_part n a.jobs in
+pub unmoved : (a b : Listed) → b.jobs ≡ a.jobs → b.hits ≡ a.hits → TakesInTurn a b
+unmoved a b jobs hits =
+    let n : ℕ = length a.hits in
+    let long : length b.hits ≡ n = ap (λ (hits : List Hit). length hits) hits in
+    let none : drop n (take (length b.hits) a.jobs) ≡ [] = ap (λ (m : ℕ). drop n (take m a.jobs)) long ∙ no_part n a.jobs in
     record {
       jobs = jobs;
-      taken = ap (λ (hits : List Hit). map answer_of hits) taken
-          ∙ sym (ap (λ (left : List JobView). map answer_of a.taken ++ map nearest_answer left) none ∙ append-nil (map answer_of a.taken));
+      hits = ap (λ (hits : List Hit). map answer_of hits) hits
+          ∙ sym (ap (λ (left : List JobView). map answer_of a.hits ++ map nearest_answer left) none ∙ append-nil (map answer_of a.hits));
     }
 
 -- what stands first behind a place, before another one
@@ -80,33 +80,33 @@ pub length_more : {A : Type 0} (xs : List A) (x : A) → length (xs ++ x ∷ [])
 length_more xs x = length-append xs (x ∷ [])
 
 -- no more hits were taken than jobs given
-pub still_listed : (a : Listed) (hit : Hit) → IsListed a → slice_get (shown a).due 0 ≡ Some hit.job → IsListed (record a { taken = a.taken ++ hit ∷ [] })
+pub still_listed : (a : Listed) (hit : Hit) → IsListed a → slice_get (shown a).due 0 ≡ Some hit.job → IsListed (record a { hits = a.hits ++ hit ∷ [] })
 still_listed a hit listed first =
-    let below = (first_between a.jobs (length a.taken) a.given hit.job first).0 in
+    let below = (first_between a.jobs (length a.hits) a.given hit.job first).0 in
     record {
       numbered = listed.numbered;
       given = listed.given;
-      taken = omega (arith, below, length_more a.taken hit);
+      hits = omega (arith, below, length_more a.hits hit);
     }
 
 -- the first job due is due no more
 pub takes_first : (a : Listed) (hit : Hit) → TakesHit (shown a) (shown (took a hit))
 takes_first a hit = record {
-  due = ap (λ (n : ℕ). drop n (take a.given a.jobs)) (length_more a.taken hit) ∙ sym (drop-drop 1 (length a.taken) (take a.given a.jobs));
+  due = ap (λ (n : ℕ). drop n (take a.given a.jobs)) (length_more a.hits hit) ∙ sym (drop-drop 1 (length a.hits) (take a.given a.jobs));
   failed = refl;
 }
 
 -- the hit of the first job due is the one next in turn
 pub takes_in_turn : (a : Listed) (hit : Hit) → slice_get (shown a).due 0 ≡ Some hit.job → TakesInTurn a (took a hit)
 takes_in_turn a hit first =
-    let n : ℕ = length a.taken in
+    let n : ℕ = length a.hits in
     let there = (first_between a.jobs n a.given hit.job first).1 in
     let next : drop n (take (n + 1) a.jobs) ≡ hit.job ∷ [] =
     drop-take n 1 a.jobs ∙ ap (λ (jobs : List JobView). take 1 jobs) (drop_next a.jobs n hit.job there) in
     record {
       jobs = refl;
-      taken = map-append answer_of a.taken (hit ∷ [])
-          ∙ (ap (λ (x : JobAnswer). map answer_of a.taken ++ x ∷ []) (hit_answers hit)
-          ∙ ap (λ (jobs : List JobView). map answer_of a.taken ++ map nearest_answer jobs)
-          (sym (ap (λ (m : ℕ). drop n (take m a.jobs)) (length_more a.taken hit) ∙ next)));
+      hits = map-append answer_of a.hits (hit ∷ [])
+          ∙ (ap (λ (x : JobAnswer). map answer_of a.hits ++ x ∷ []) (hit_answers hit)
+          ∙ ap (λ (jobs : List JobView). map answer_of a.hits ++ map nearest_answer jobs)
+          (sym (ap (λ (m : ℕ). drop n (take m a.jobs)) (length_more a.hits hit) ∙ next)));
     }

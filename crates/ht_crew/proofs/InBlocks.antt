@@ -63,7 +63,7 @@ leaves shown leads window a b left = record {
 
 module _ {Fault : Type 0} where
   through : (noted : Bool) (old new : FeedView Fault) → Notes false noted old new → BlocksThrough (block_view noted new) → IsThrough old new
-  through false old new same is = record { ended = is.ended; taken = none_due new.due is.taken; left = is.left; unfailed = same }
+  through false old new same is = record { ended = is.ended; none_due = none_due new.due is.none_due; left = is.left; unfailed = same }
   through true old new risen is = absurd (false≢true (subst (λ (failed : Option Fault). IsSome failed) is.well risen.1))
 
 -- a drive has gone through a feed whose blocks it has gone through

@@ -23,7 +23,7 @@ module _ {Fault : Type 0} where
     -- the feed has said that no job comes any more
     pub ended : new.ended ≡ true
     -- every job was run and taken
-    pub taken : new.due ≡ []
+    pub none_due : new.due ≡ []
     -- none is left
     pub left : IsLeft new.left []
     -- no call of the feed failed

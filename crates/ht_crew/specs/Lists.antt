@@ -1,6 +1,6 @@
 -- What is seen of a feed over a list of jobs.
 use Rattle.std.specs.Prelude.{◌≡◌, ℕ, ◌+◌, ◌-◌, ◌≤◌, List, [], ◌∷◌, ◌++◌, length, map, take}
-use Rattle.std.specs.Prelude.{drop, slice_get, Option, Some, None, Bool, true, false}
+use Rattle.std.specs.Prelude.{◌↔◌, drop, slice_get, Option, Some, None, Bool, true, false, Contains, IfErr, IsErr, OnErr, Result}
 use Rattle.ht_io.specs.Causes.{one_more}
 use Rattle.ht_metric.specs.Jobs.{JobView, near}
 use Rattle.ht_metric.specs.Hits.{found_of}
@@ -31,7 +31,7 @@ AreNumbered jobs = (k : ℕ) (job : JobView) → slice_get jobs k ≡ Some job �
 pub record Listed : Type 0 where
   pub jobs : List JobView
   pub given : ℕ
-  pub taken : List Hit
+  pub hits : List Hit
   pub failing : List ℕ
   pub calls : ℕ
   pub ended : Bool
@@ -39,10 +39,10 @@ pub record Listed : Type 0 where
   pub failed : Option ListFault
 
 abbrev pub listed : List JobView → ℕ → List Hit → List ℕ → ℕ → Bool → ℕ → Option ListFault → Listed
-listed jobs given taken failing calls ended faults failed = record {
+listed jobs given hits failing calls ended faults failed = record {
   jobs = jobs;
   given = given;
-  taken = taken;
+  hits = hits;
   failing = failing;
   calls = calls;
   ended = ended;
@@ -62,16 +62,22 @@ called feed = record feed { calls = one_more feed.calls }
 abbrev pub refused : Listed → Listed
 refused feed = record feed { calls = one_more feed.calls; faults = one_more feed.faults; failed = Some (record { call = feed.calls }) }
 
+-- exactly a call whose number is to fail is refused, with that number, and it changes neither list
+pub record FailsAsNamed {A : Type 0} (result : Result A ListFault) (old new : Listed) : Type 0 where
+  pub exact : IsErr result ↔ Contains old.failing old.calls
+  pub number : IfErr result (λ fault. fault.call ≡ old.calls)
+  pub unchanged : OnErr result (new ≡ refused old)
+
 -- no more jobs were given than there are, and no more hits taken than jobs given
 pub record IsListed (feed : Listed) : Type 0 where
   pub numbered : AreNumbered feed.jobs
   pub given : feed.given ≤ length feed.jobs
-  pub taken : length feed.taken ≤ feed.given
+  pub hits : length feed.hits ≤ feed.given
 
 abbrev pub shown : Listed → FeedView ListFault
 shown feed = record {
   count = feed.given;
-  due = drop (length feed.taken) (take feed.given feed.jobs);
+  due = drop (length feed.hits) (take feed.given feed.jobs);
   left = Some (drop feed.given feed.jobs);
   more = length feed.jobs - feed.given;
   ended = feed.ended;
@@ -82,7 +88,7 @@ shown feed = record {
 -- the jobs are the same, and the hits taken grew by the first nearest vectors of the jobs next in turn
 pub record TakesInTurn (old new : Listed) : Type 0 where
   pub jobs : new.jobs ≡ old.jobs
-  pub taken : map answer_of new.taken ≡ map answer_of old.taken ++ map nearest_answer (drop (length old.taken) (take (length new.taken) old.jobs))
+  pub hits : map answer_of new.hits ≡ map answer_of old.hits ++ map nearest_answer (drop (length old.hits) (take (length new.hits) old.jobs))
 
 -- the feed after a call that gave a job
 abbrev pub gave : Listed → Listed
@@ -94,4 +100,4 @@ ended feed = record feed { calls = one_more feed.calls; ended = true }
 
 -- the feed after a call that took a hit
 abbrev pub took : Listed → Hit → Listed
-took feed hit = record feed { calls = one_more feed.calls; taken = feed.taken ++ hit ∷ [] }
+took feed hit = record feed { calls = one_more feed.calls; hits = feed.hits ++ hit ∷ [] }

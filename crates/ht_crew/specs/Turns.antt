@@ -38,25 +38,25 @@ grew before after jobs e =
 pub stays : (a : Listed) → TakesInTurn a a
 stays a = record {
   jobs = refl;
-  taken = sym (ap (λ (jobs : List JobView). map answer_of a.taken ++ map nearest_answer jobs) (no_part (length a.taken) a.jobs) ∙ append-nil (map answer_of a.taken));
+  hits = sym (ap (λ (jobs : List JobView). map answer_of a.hits ++ map nearest_answer jobs) (no_part (length a.hits) a.jobs) ∙ append-nil (map answer_of a.hits));
 }
 
 pub goes_on : (a b c : Listed) → TakesInTurn a b → TakesInTurn b c → TakesInTurn a c
 goes_on a b c ab bc =
-    let start : ℕ = length a.taken in
-    let mid : ℕ = length b.taken in
-    let end : ℕ = length c.taken in
+    let start : ℕ = length a.hits in
+    let mid : ℕ = length b.hits in
+    let end : ℕ = length c.hits in
     let same : drop mid (take end b.jobs) ≡ drop mid (take end a.jobs) = ap (λ (jobs : List JobView). drop mid (take end jobs)) ab.jobs in
     let joined : drop start (take mid a.jobs) ++ drop mid (take end b.jobs) ≡ drop start (take end a.jobs) =
     ap (λ (jobs : List JobView). drop start (take mid a.jobs) ++ jobs) same
     ∙ sym (parts start mid end a.jobs
-    (grew a.taken b.taken (drop start (take mid a.jobs)) ab.taken)
-    (grew b.taken c.taken (drop mid (take end b.jobs)) bc.taken)) in
+    (grew a.hits b.hits (drop start (take mid a.jobs)) ab.hits)
+    (grew b.hits c.hits (drop mid (take end b.jobs)) bc.hits)) in
     record {
       jobs = bc.jobs ∙ ab.jobs;
-      taken = bc.taken
-          ∙ (ap (λ (answers : List JobAnswer). answers ++ map nearest_answer (drop mid (take end b.jobs))) ab.taken
-          ∙ (append_assoc (map answer_of a.taken) (map nearest_answer (drop start (take mid a.jobs))) (map nearest_answer (drop mid (take end b.jobs)))
-          ∙ ap (λ (answers : List JobAnswer). map answer_of a.taken ++ answers)
+      hits = bc.hits
+          ∙ (ap (λ (answers : List JobAnswer). answers ++ map nearest_answer (drop mid (take end b.jobs))) ab.hits
+          ∙ (append_assoc (map answer_of a.hits) (map nearest_answer (drop start (take mid a.jobs))) (map nearest_answer (drop mid (take end b.jobs)))
+          ∙ ap (λ (answers : List JobAnswer). map answer_of a.hits ++ answers)
           (sym (map-append nearest_answer (drop start (take mid a.jobs)) (drop mid (take end b.jobs))) ∙ ap (λ (jobs : List JobView). map nearest_answer jobs) joined)));
     }

@@ -40,7 +40,7 @@ pub trait Feed {
     /// Takes the hit of the first job due. A call that fails is counted and leaves the job due.
     fn take(&mut self, hit: Hit) -> Result<(), Self::Fault>
         requires first { slice_get (shown self.old).due 0 ≡ Some hit.job }
-        ensures taken { OnOk result (TakesHit (shown self.old) (shown self.new)) }
+        ensures takes { OnOk result (TakesHit (shown self.old) (shown self.new)) }
         ensures fault { IfErr result (Fails (shown self.old) (shown self.new)) }
         ensures as_before { GivesAsBefore (shown self.old) (shown self.new) }
         ensures later { (shown self.old).faults ≤ (shown self.new).faults }

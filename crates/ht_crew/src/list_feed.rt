@@ -1,9 +1,9 @@
 //! A feed over a list of jobs, for tests: it fails at the calls that are named, and keeps the hits.
-ghost use Rattle.std.specs.Prelude.{◌≡◌, ◌↔◌, ◌+◌, ◌-◌, ◌^◌, ◌<◌, ◌≤◌};
-ghost use Rattle.std.specs.Prelude.{length, take, true, false, Some, Contains, slice_get};
-ghost use Rattle.std.specs.Prelude.{IsErr, IfOk, IfErr, IfSome, IfNone, OnOk, OnErr, OnSome};
+ghost use Rattle.std.specs.Prelude.{◌≡◌, ◌+◌, ◌-◌, ◌^◌, ◌<◌, ◌≤◌};
+ghost use Rattle.std.specs.Prelude.{length, take, true, false, Some, slice_get};
+ghost use Rattle.std.specs.Prelude.{IfOk, IfErr, IfSome, IfNone, OnOk, OnSome};
 ghost use Rattle.ht_crew.specs.Feeds.{GivesJob, EndsJobs, TakesHit, Fails, GivesAsBefore};
-ghost use Rattle.ht_crew.specs.Lists.{AreNumbered, Listed, IsListed, fresh, called, refused, gave, ended, took, shown, TakesInTurn};
+ghost use Rattle.ht_crew.specs.Lists.{AreNumbered, FailsAsNamed, Listed, IsListed, fresh, called, gave, ended, took, shown, TakesInTurn};
 ghost use Rattle.ht_crew.specs.Turns.{stays, goes_on};
 
 use crate::feed::Feed;
@@ -18,7 +18,7 @@ use std::marker::Model;
 pub struct ListFeed {
     jobs: Vec<Job>,
     given: usize,
-    taken: Vec<Hit>,
+    hits: Vec<Hit>,
     failing: Vec<u64>,
     calls: u64,
     ended: bool,
@@ -32,10 +32,10 @@ impl Model for ListFeed {
 
     ghost Value = { Listed };
 
-    ghost view = { λ s. listed s.jobs.items s.given s.taken.items s.failing.items s.calls s.ended s.faults s.failed };
+    ghost view = { λ s. listed s.jobs.items s.given s.hits.items s.failing.items s.calls s.ended s.faults s.failed };
 
-    ghost invariant = { λ s. IsListed (listed s.jobs.items s.given s.taken.items s.failing.items s.calls s.ended s.faults s.failed)
-        × (vec_len s.jobs ≤ vec_capacity s.taken) };
+    ghost invariant = { λ s. IsListed (listed s.jobs.items s.given s.hits.items s.failing.items s.calls s.ended s.faults s.failed)
+        × (vec_len s.jobs ≤ vec_capacity s.hits) };
 }
 
 impl ListFeed {
@@ -45,11 +45,11 @@ impl ListFeed {
         requires numbered { AreNumbered jobs.items }
         ensures { IfOk result (λ feed. feed ≡ fresh jobs.items failing.items) }
     {
-        let taken = Vec::with_capacity(alloc, jobs.len())?;
+        let hits = Vec::with_capacity(alloc, jobs.len())?;
         Ok(ListFeed {
             jobs,
             given: 0,
-            taken,
+            hits,
             failing,
             calls: 0,
             ended: false,
@@ -59,18 +59,16 @@ impl ListFeed {
     }
 
     /// The hits taken, in the order of the jobs.
-    pub fn taken(&self) -> &[Hit]
-        ensures { result.now ≡ self.now.taken }
+    pub fn hits(&self) -> &[Hit]
+        ensures { result.now ≡ self.now.hits }
     {
-        self.taken.as_slice()
+        self.hits.as_slice()
     }
 
     // Counts a call, and refuses it where its number is to fail.
     fn call(&mut self) -> Result<(), ListFault>
-        ensures exact { IsErr result ↔ Contains self.old.failing self.old.calls }
-        ensures number { IfErr result (λ fault. fault.call ≡ self.old.calls) }
+        ensures fails { FailsAsNamed result self.old self.new }
         ensures counted { OnOk result (self.new ≡ called self.old) }
-        ensures refused { OnErr result (self.new ≡ refused self.old) }
         ensures later { self.old.faults ≤ self.new.faults }
         ensures listed { IsListed self.new }
         ensures few { length self.new.jobs < 2 ^ 63 }
@@ -104,10 +102,7 @@ impl Feed for ListFeed {
         ensures bound { (shown self.new).count + (shown self.new).more < 2 ^ 64 - 1 }
         ensures leads { TakesInTurn self.old self.new }
 
-        // Exactly the calls that are to fail are refused, and change neither list.
-        ensures exact { IsErr result ↔ Contains self.old.failing self.old.calls }
-        ensures number { IfErr result (λ fault. fault.call ≡ self.old.calls) }
-        ensures refused { OnErr result (self.new ≡ refused self.old) }
+        ensures fails { FailsAsNamed result self.old self.new }
         ensures gave { IfOk result (λ given. OnSome given (self.new ≡ gave self.old)) }
         ensures ended { IfOk result (λ given. IfNone given (self.new ≡ ended self.old)) }
     {
@@ -122,20 +117,17 @@ impl Feed for ListFeed {
 
     fn take(&mut self, hit: Hit) -> Result<(), ListFault>
         requires first { slice_get (shown self.old).due 0 ≡ Some hit.job }
-        ensures taken { OnOk result (TakesHit (shown self.old) (shown self.new)) }
+        ensures takes { OnOk result (TakesHit (shown self.old) (shown self.new)) }
         ensures fault { IfErr result (Fails (shown self.old) (shown self.new)) }
         ensures as_before { GivesAsBefore (shown self.old) (shown self.new) }
         ensures later { (shown self.old).faults ≤ (shown self.new).faults }
         ensures leads { TakesInTurn self.old self.new }
 
-        // Exactly the calls that are to fail are refused, and change neither list.
-        ensures exact { IsErr result ↔ Contains self.old.failing self.old.calls }
-        ensures number { IfErr result (λ fault. fault.call ≡ self.old.calls) }
-        ensures refused { OnErr result (self.new ≡ refused self.old) }
+        ensures fails { FailsAsNamed result self.old self.new }
         ensures took { OnOk result (self.new ≡ took self.old hit) }
     {
         self.call()?;
-        match self.taken.push(hit) {
+        match self.hits.push(hit) {
             Ok(()) => Ok(()),
             Err(_) => unreachable!(),
         }

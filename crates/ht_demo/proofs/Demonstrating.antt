@@ -1,5 +1,5 @@
 -- The line of a demonstration, from what the book holds once the capture was received.
-use Rattle.std.specs.Prelude.{◌≡◌, ℕ, ◌≤◌, List, [], ◌∷◌}
+use Rattle.std.specs.Prelude.{◌≡◌, ℕ, List, [], ◌∷◌}
 use Rattle.std.proofs.Common.{refl, sym, subst}
 use Rattle.ht_tx.specs.Frames.{FrameView}
 use Rattle.ht_feed.specs.declared.ended.Ended.{Ended}
@@ -7,7 +7,7 @@ use Rattle.ht_results.specs.declared.frame_result.FrameResult.{FrameResult}
 use Rattle.ht_rx.specs.Frames.{booked_of}
 use Rattle.ht_rx.specs.Outcomes.{TellsTo}
 use Rattle.ht_demo.specs.declared.plan.Plan.{Plan}
-use Rattle.ht_demo.specs.Demos.{AreReceived, AreSent, Demonstrates, HaveRoom, line_of}
+use Rattle.ht_demo.specs.Demos.{AreReceived, AreSent, CanBeSent, Demonstrates, HaveRoom, line_of}
 use Rattle.ht_demo.proofs.Passing.{booked_results, demo_line, device}
 use Rattle.ht_demo.proofs.Returning.{noiseless_returns}
 
@@ -24,8 +24,7 @@ pub received_room : (plan : Plan) (frames : List FrameView) (results : List Fram
 received_room plan frames results (octets, sent, are) = subst HaveRoom (sym are) sent.room
 
 pub demonstrates : (plan : Plan) (frames : List FrameView) (results : List FrameResult) (line : List ℕ)
-    → 1 ≤ plan.length → plan.length ≤ 65535 → plan.frames ≤ 65535 → AreReceived plan frames results → line ≡ line_of plan results
-    → Demonstrates plan line
-demonstrates plan frames results line some few many (octets, sent, are) is =
+    → CanBeSent plan → AreReceived plan frames results → line ≡ line_of plan results → Demonstrates plan line
+demonstrates plan frames results line can (octets, sent, are) is =
     let of_plan = demo_line plan frames octets results line sent.of_plan sent.passed are is in
-    record { of_plan = of_plan; noiseless = noiseless_returns plan line some few many of_plan }
+    record { of_plan = of_plan; noiseless = noiseless_returns plan line can of_plan }

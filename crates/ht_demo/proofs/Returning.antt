@@ -1,5 +1,5 @@
 -- Without noise every frame comes back, at distance 0.
-use Rattle.std.proofs.Common.{◌≡◌, ℕ, ◌+◌, ◌≤◌, List, [], ◌∷◌, length, Bool, true, cond, inl, refl, ap, ◌∙◌, arith}
+use Rattle.std.proofs.Common.{◌≡◌, ℕ, ◌+◌, List, [], ◌∷◌, length, Bool, true, cond, inl, refl, ap, ◌∙◌, arith}
 use Rattle.std.specs.Str.{bytes_eq}
 use Rattle.std.proofs.lemmas.List.Sums.{sum_by-cons}
 use Rattle.std.proofs.lemmas.Slice.Eq.{bytes_eq-Decides}
@@ -13,7 +13,7 @@ use Rattle.ht_round.specs.Returned.{returned_from, returned_result, returned_res
 use Rattle.ht_round.proofs.Drawn.{drawn_frames, drawn_octets}
 use Rattle.ht_round.proofs.Simulated.{simulated_results}
 use Rattle.ht_demo.specs.declared.plan.Plan.{Plan}
-use Rattle.ht_demo.specs.Demos.{IsDemoLine, all_jobs, all_symbols, capture_for, code_in, data_in, line_of, matched_in, pilot_in, planned, returned_line}
+use Rattle.ht_demo.specs.Demos.{CanBeSent, IsDemoLine, all_jobs, all_symbols, capture_for, code_in, data_in, line_of, matched_in, pilot_in, planned, returned_line}
 use Rattle.ht_demo.proofs.Matching.{matched-cons}
 use Rattle.ht_demo.proofs.Passing.{length-planned}
 
@@ -58,14 +58,12 @@ line-returned plan =
     ∙ ap (λ n. text plan.frames 0 0 n) (no_code 0 (planned plan))
 
 -- the results of frames that pass without noise
-results_returned : (plan : Plan) → 1 ≤ plan.length → plan.length ≤ 65535 → plan.frames ≤ 65535 → (line : List ℕ) → (is : IsDemoLine plan line)
-    → plan.noise ≡ 0 → results_of (capture_for plan is.sent) ≡ returned_results (planned plan)
-results_returned plan some few frames line is quiet =
+results_returned : (plan : Plan) (line : List ℕ) → CanBeSent plan → (is : IsDemoLine plan line) → plan.noise ≡ 0 → results_of (capture_for plan is.sent) ≡ returned_results (planned plan)
+results_returned plan line can is quiet =
     ap (λ (noise : ℕ). results_of (capture_file_of 1 (captures_of plan.seed noise is.sent))) quiet
-    ∙ simulated_results 1 plan.seed (planned plan) is.sent (inl refl) (drawn_frames plan.seed plan.rate plan.length plan.frames some few frames)
+    ∙ simulated_results 1 plan.seed (planned plan) is.sent (inl refl) (drawn_frames plan.seed plan.rate plan.length plan.frames can.some can.fits can.few)
     (drawn_octets plan.seed plan.rate plan.length plan.frames) is.transmitted
 
-pub noiseless_returns : (plan : Plan) (line : List ℕ) → 1 ≤ plan.length → plan.length ≤ 65535 → plan.frames ≤ 65535
-    → IsDemoLine plan line → plan.noise ≡ 0 → line ≡ returned_line plan
-noiseless_returns plan line some few frames is quiet =
-    is.is ∙ ap (λ (results : List FrameResult). line_of plan results) (results_returned plan some few frames line is quiet) ∙ line-returned plan
+pub noiseless_returns : (plan : Plan) (line : List ℕ) → CanBeSent plan → IsDemoLine plan line → plan.noise ≡ 0 → line ≡ returned_line plan
+noiseless_returns plan line can is quiet =
+    is.is ∙ ap (λ (results : List FrameResult). line_of plan results) (results_returned plan line can is quiet) ∙ line-returned plan

@@ -17,6 +17,12 @@ use Rattle.ht_results.specs.Results.{results_of}
 use Rattle.ht_text.specs.Lines.{demo_text}
 use Rattle.ht_demo.specs.declared.plan.Plan.{Plan}
 
+-- a plan of frames that can be sent: at most 65535 of them, of 1 to 65535 octets
+pub record CanBeSent (plan : Plan) : Type 0 where
+  pub some : 1 ≤ plan.length
+  pub fits : plan.length ≤ 65535
+  pub few : plan.frames ≤ 65535
+
 -- the frames of a plan
 abbrev pub planned : Plan → List FrameView
 planned plan = frames_drawn plan.seed plan.rate plan.length plan.frames

@@ -1,7 +1,7 @@
 //! The whole way: sample frames are sent, pass the channel and are received.
 ghost use Rattle.std.specs.Prelude.{◌≤◌, IfOk};
 ghost use Rattle.ht_feed.specs.Limits.{IsCrewSize, IsWindowSize};
-ghost use Rattle.ht_demo.specs.Demos.{AreReceived, Demonstrates};
+ghost use Rattle.ht_demo.specs.Demos.{AreReceived, CanBeSent, Demonstrates};
 
 use crate::line::line;
 use crate::plan::Plan;
@@ -17,15 +17,13 @@ use std::thread::Threads;
 
 // The line of a plan, made of its frames as they were sent and of the results that were received for them. The only error is
 // lack of memory.
-fn received(
+fn demo_line_of(
     alloc: Global,
     plan: &Plan,
     frames: &[Frame],
     results: &[FrameResult],
 ) -> Result<Vec<u8>, AllocError>
-    requires some { 1 ≤ plan.now.length }
-    requires fits { plan.now.length ≤ 65535 }
-    requires few { plan.now.frames ≤ 65535 }
+    requires plan { CanBeSent plan.now }
     requires received { AreReceived plan.now frames.now results.now }
     ensures { IfOk result (λ line. Demonstrates plan.now line.items) }
 {
@@ -51,7 +49,7 @@ pub fn demo_alone<G: Gate>(
     let (frames, mut source) = send(alloc, plan)?;
     let mut book = ListBook::new(alloc);
     match receive_alone(alloc, window, &mut source, &mut book, gate) {
-        Ok(_) => received(alloc, plan, &frames, book.results()),
+        Ok(_) => demo_line_of(alloc, plan, &frames, book.results()),
         Err(_) => Err(AllocError),
     }
 }
@@ -74,7 +72,7 @@ pub fn demo<R: Threads + Wait + Sync, G: Gate + Sync>(
     let (frames, mut source) = send(alloc, plan)?;
     let mut book = ListBook::new(alloc);
     match receive(rt, alloc, workers, window, &mut source, &mut book, gate) {
-        Ok(_) => received(alloc, plan, &frames, book.results()),
+        Ok(_) => demo_line_of(alloc, plan, &frames, book.results()),
         Err(_) => Err(AllocError),
     }
 }

@@ -4,7 +4,7 @@ use ht_rate::Rate;
 /// Which frames are sampled, and what they are sent through.
 #[derive(Clone, Copy, Debug, PartialEq, Eq)]
 pub struct Plan {
-    /// Where random numbers begin: those of the frames, and anew those of the channel.
+    /// The seed of two random generators: that of the frames and that of the channel.
     pub seed: u64,
     /// The most noise in each part of a sample, to either side.
     pub noise: u16,

@@ -3,7 +3,7 @@ ghost use Rattle.std.specs.Prelude.{◌≡◌, ◌≤◌, All, IfOk, length};
 ghost use Rattle.ht_capture.specs.Contents.{AreTyped};
 ghost use Rattle.ht_capture.specs.Files.{AreCaptureFrames, HasAllCarriers, capture_file_of};
 ghost use Rattle.ht_results.specs.Results.{results_of};
-ghost use Rattle.ht_demo.specs.Demos.{ArePassed, AreSent, HaveRoom, IsPassed};
+ghost use Rattle.ht_demo.specs.Demos.{ArePassed, AreSent, CanBeSent, HaveRoom, IsPassed};
 
 use crate::plan::Plan;
 use ht_capture::{CaptureFrame, write_captures};
@@ -53,8 +53,9 @@ fn capture(alloc: Global, plan: &Plan, frames: &[Frame]) -> Result<Vec<u8>, Allo
 pub(crate) fn send(alloc: Global, plan: &Plan) -> Result<(Vec<Frame>, SureSource), AllocError>
     requires { 1 ≤ plan.now.length }
     ensures sent { IfOk result (λ sent. AreSent plan.now sent.0.items sent.1) }
-    ensures fits { IfOk result (λ _. plan.now.length ≤ 65535) }
-    ensures few { IfOk result (λ _. plan.now.frames ≤ 65535) }
+
+    // What the types of the plan's numbers say; proofs need it said.
+    ensures plan { IfOk result (λ _. CanBeSent plan.now) }
 {
     let frames = sample_frames(alloc, plan.seed, &plan.rate, plan.length, plan.frames)?;
     let octets = capture(alloc, plan, &frames)?;

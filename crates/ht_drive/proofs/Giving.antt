@@ -6,7 +6,7 @@ use Rattle.std.proofs.lemmas.Bool.Decides.{nat_tests}
 use Rattle.std.proofs.lemmas.List.{length-append, drop-drop}
 use Rattle.std.proofs.lemmas.List.Sums.{sum_by-append, sum_by-cons, sum_by_push}
 use Rattle.ht_metric.specs.Jobs.{JobView}
-use Rattle.ht_feed.specs.OwnNumbers.{AreTold, HaveNumbers, is_below, is_number}
+use Rattle.ht_feed.specs.OwnNumbers.{AreByNumber, HaveNumbers, is_below, is_number}
 use Rattle.ht_feed.specs.Dues.{NoneEmpty, all_in}
 use Rattle.ht_feed.specs.Feeds.{FeedView, GivesBlock, IsAlong}
 use Rattle.ht_feed.specs.Items.{Numbered}
@@ -41,13 +41,13 @@ numbers_later count more given was n = omega (arith, was n, below_later n count 
 -- it is the same helm still
 pub same_on : (a b c : BlockHelm) → IsSameHelm a b → IsSameHelm b c → IsSameHelm a c
 same_on a b c ab bc = record {
-  room_is = bc.room_is ∙ ab.room_is;
+  capacity_is = bc.capacity_is ∙ ab.capacity_is;
   deques_are = bc.deques_are ∙ ab.deques_are;
   queue_is = bc.queue_is ∙ ab.queue_is;
 }
 
 -- the same was given to the same pool
-pub tallies_still : (t : Tally) (h h' : BlockHelm) → Tallies t h → h'.given ≡ h.given → h'.room ≡ h.room → Tallies t h'
+pub tallies_still : (t : Tally) (h h' : BlockHelm) → Tallies t h → h'.given ≡ h.given → h'.capacity ≡ h.capacity → Tallies t h'
 tallies_still t h h' was given room =
     let same = ap (λ (xs : List (List JobView)). length xs) given in
     record {
@@ -73,7 +73,7 @@ module _ (t : Tally) (h : BlockHelm) (jobs : List JobView) (tallies : Tallies t 
             (numbers_more t.issued (all_in h.given) jobs tallies.numbers numbered));
       }
 
-  pub issues_kept : (t' : Tally) → t'.issued ≡ t.issued + length jobs → t'.own ≡ t.own + length jobs → h.room ≤ length h.given → Tallies t' h
+  pub issues_kept : (t' : Tally) → t'.issued ≡ t.issued + length jobs → t'.own ≡ t.own + length jobs → h.capacity ≤ length h.given → Tallies t' h
   issues_kept t' issued own full = record {
     jobs = omega (arith, tallies.jobs, issued, own);
     blocks = omega (arith, tallies.blocks, issued);
@@ -83,14 +83,14 @@ module _ (t : Tally) (h : BlockHelm) (jobs : List JobView) (tallies : Tallies t 
   }
 
 -- jobs that are told behind others
-told_more : (all given jobs : List JobView) → AreTold all given → AreTold all jobs → AreTold all (given ++ jobs)
+told_more : (all given jobs : List JobView) → AreByNumber all given → AreByNumber all jobs → AreByNumber all (given ++ jobs)
 told_more all [] jobs told more = more
 told_more all (g ∷ given) jobs told more = (told.0, told_more all given jobs told.1 more)
 
-pub told_given : (all : List JobView) (h : BlockHelm) (jobs : List JobView) → AreTold all (all_in h.given) → AreTold all jobs
-    → AreTold all (all_in (gave h jobs).given)
+pub told_given : (all : List JobView) (h : BlockHelm) (jobs : List JobView) → AreByNumber all (all_in h.given) → AreByNumber all jobs
+    → AreByNumber all (all_in (gave h jobs).given)
 told_given all h jobs told more =
-    subst (λ (xs : List JobView). AreTold all xs) (sym (all_in-more h.given jobs)) (told_more all (all_in h.given) jobs told more)
+    subst (λ (xs : List JobView). AreByNumber all xs) (sym (all_in-more h.given jobs)) (told_more all (all_in h.given) jobs told more)
 
 at_dropped : (n : ℕ) (xs : List JobView) (x : JobView) (rest : List JobView) → drop n xs ≡ x ∷ rest → slice_get xs n ≡ Some x
 at_dropped zero xs x rest e = ap (λ (ys : List JobView). slice_get ys 0) e
@@ -98,7 +98,7 @@ at_dropped (suc n) [] x rest e = let none : 0 ≡ length (x ∷ rest) = ap (λ (
 at_dropped (suc n) (y ∷ ys) x rest e = at_dropped n ys x rest e
 
 -- jobs that stand behind this number of others, and are numbered so
-told_behind : (n : ℕ) (all jobs after : List JobView) → drop n all ≡ jobs ++ after → Numbered n jobs → AreTold all jobs
+told_behind : (n : ℕ) (all jobs after : List JobView) → drop n all ≡ jobs ++ after → Numbered n jobs → AreByNumber all jobs
 told_behind n all [] after e numbered = tt
 told_behind n all (job ∷ jobs) after e numbered = (
   ap (λ (k : ℕ). slice_get all k) numbered.0 ∙ at_dropped n all job (jobs ++ after) e,
@@ -107,7 +107,7 @@ told_behind n all (job ∷ jobs) after e numbered = (
 
 -- the jobs of a block that a feed gives in turn are those of their numbers
 pub told_block : {Fault : Type 0} (most : ℕ) (all : List JobView) (f f' : FeedView Fault) (jobs : List JobView) → IsAlong (Some all) f
-    → f.ended ≡ false → GivesBlock most f f' jobs → AreTold all jobs
+    → f.ended ≡ false → GivesBlock most f f' jobs → AreByNumber all jobs
 told_block most all f f' jobs along running gives =
     let came = came_of most (Some all) f f' jobs along running gives all refl in
     told_behind f.count all jobs came.after came.is gives.numbers

@@ -2,3 +2,4 @@ mod Windows
 mod Supplying
 mod Giving
 mod Settling
+mod Going

@@ -78,7 +78,7 @@ module _ (t : Tally) (h : BlockHelm) (members : List (Member (List JobView) (Lis
 
   -- a report that says so
   pub has_run_in_pool : (report : Report) → report.jobs ≡ t.issued → report.own ≡ t.own → report.ran ≡ c.ran
-      → HasRunInPool (length h.deques) h.room report passes_of
+      → HasRunInPool (length h.deques) h.capacity report passes_of
   has_run_in_pool report jobs own ran =
       let items = ap (λ v. v.items) ran in
       record {
@@ -87,15 +87,15 @@ module _ (t : Tally) (h : BlockHelm) (members : List (Member (List JobView) (Lis
         full = subst NoneEmpty (sym run.pushed) tallies.full;
         sure = omega (
           arith,
-          kept t.own (jobs_of h.given) (length h.given) t.issued h.room tallies.jobs (few_given h.given tallies.full) tallies.sure,
+          kept t.own (jobs_of h.given) (length h.given) t.issued h.capacity tallies.jobs (few_given h.given tallies.full) tallies.sure,
           jobs,
           own,
-          ap (λ n. min n h.room) jobs,
+          ap (λ n. min n h.capacity) jobs,
         );
         numbers = subst (λ (n : ℕ). HaveNumbers n (all_in (blocks_pushed passes_of))) (sym jobs)
             (subst (λ (blocks : List (List JobView)). HaveNumbers t.issued (all_in blocks)) (sym run.pushed) tallies.numbers);
         emptied = run.emptied;
-        run = subst (λ (blocks : List (List JobView)). SameCounts (taken_on (deques_of passes_of)) (blocks ++ moved_on (deques_of passes_of)))
+        each_once = subst (λ (blocks : List (List JobView)). SameCounts (taken_on (deques_of passes_of)) (blocks ++ moved_on (deques_of passes_of)))
             (sym run.pushed) run.taken;
         each = ap length items ∙ run.each;
         ran = omega (arith, ap sum items, run.ran, tallies.jobs, jobs, own);

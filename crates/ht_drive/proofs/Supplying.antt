@@ -5,7 +5,7 @@ use Rattle.std.specs.Result.{is_err}
 use Rattle.ht_metric.specs.Jobs.{JobView}
 use Rattle.ht_feed.specs.Dues.{count_in}
 use Rattle.ht_feed.specs.Feeds.{EndsBlocks, FeedView, GivesBlock, IsLeft}
-use Rattle.ht_drive.specs.Blocks.{WindowView, window_view}
+use Rattle.ht_drive.specs.Blocks.{BlockWindow, block_window}
 use Rattle.ht_drive.specs.Driving.{Holds, IsUnderWay, OnlyTakes}
 use Rattle.ht_feed.proofs.Turning.{count_in-more}
 
@@ -15,10 +15,10 @@ on_ok (Ok x) P e p = p
 on_ok (Err x) P e p = search rules
 
 module _ {Fault : Type 0} where
-  pub holds_more : (most : ℕ) (w after : WindowView) (old new : FeedView Fault) (jobs : List JobView) → Holds w old → GivesBlock most old new jobs
-      → count_in w.due + length jobs ≤ w.capacity → after ≡ window_view w.capacity (w.due ++ jobs ∷ []) → Holds after new
+  pub holds_more : (most : ℕ) (w after : BlockWindow) (old new : FeedView Fault) (jobs : List JobView) → Holds w old → GivesBlock most old new jobs
+      → count_in w.due + length jobs ≤ w.capacity → after ≡ block_window w.capacity (w.due ++ jobs ∷ []) → Holds after new
   holds_more most w after old new jobs holds gives room is =
-      subst (λ (x : WindowView). Holds x new) (sym is) (record {
+      subst (λ (x : BlockWindow). Holds x new) (sym is) (record {
         due = ap (λ (blocks : List (List JobView)). blocks ++ jobs ∷ []) holds.due ∙ sym gives.due;
         few =
             let e = ap count_in gives.due ∙ count_in-more old.due jobs in
@@ -36,13 +36,14 @@ module _ {Fault : Type 0} where
   pub is_running : (running : Bool) (f : FeedView Fault) → running ≡ true → IsUnderWay running f → f.ended ≡ false
   is_running running f on way = way.ended ∙ ap not on
 
-  -- the feed ended
-  pub holds_end : (w : WindowView) (old new : FeedView Fault) → Holds w old → EndsBlocks old new → Holds w new
-  holds_end w old new holds ends =
-      let d = ap count_in ends.due in
+  -- where the same is due, it stands there still
+  pub holds_still : (w : BlockWindow) (old new : FeedView Fault) → Holds w old → new.due ≡ old.due → Holds w new
+  holds_still w old new holds due =
+      let d = ap count_in due in
       let f = holds.few in
-      record { due = holds.due ∙ sym ends.due; few = omega (arith, d, f) }
+      record { due = holds.due ∙ sym due; few = omega (arith, d, f) }
 
+  -- the feed ended
   pub goes_on_end : (running : Bool) (old new : FeedView Fault) → IsUnderWay running old → EndsBlocks old new → IsUnderWay false new
   goes_on_end running old new before ends = record { ended = ends.ended; left = λ off. ends.left; well = ends.failed ∙ before.well }
 

@@ -5,7 +5,7 @@ use Rattle.std.specs.Prelude.{slice_get, slice_set, Some}
 use Rattle.ht_metric.specs.Jobs.{JobView}
 use Rattle.ht_feed.specs.Dues.{NoneEmpty, count_in}
 use Rattle.ht_feed.proofs.Turning.{count_in-more}
-use Rattle.ht_drive.specs.Blocks.{IsBlock, IsWindow, WindowView, window_view}
+use Rattle.ht_drive.specs.Blocks.{IsBlock, IsBlockWindow, BlockWindow, block_window}
 
 -- what is put back is no change
 pub put_same : {A : Type 0} (xs : List A) (at : ℕ) (x : A) → slice_get xs at ≡ Some x → slice_set xs at x ≡ xs
@@ -23,7 +23,7 @@ full-more [] jobs full some = (some, tt)
 full-more (b ∷ bs) jobs full some = (full.0, full-more bs jobs full.1 some)
 
 -- where there is room for the jobs of one more block, there is a slot for it
-pub has_place : (places held : ℕ) (w : WindowView) (jobs : List JobView) → IsWindow places held w → IsBlock jobs → count_in w.due + length jobs ≤ w.capacity
+pub has_place : (places held : ℕ) (w : BlockWindow) (jobs : List JobView) → IsBlockWindow places held w → IsBlock jobs → count_in w.due + length jobs ≤ w.capacity
     → length w.due < places
 has_place places held w jobs is block room =
     let e = few_blocks w.due is.full in
@@ -32,9 +32,9 @@ has_place places held w jobs is block room =
     omega (arith, e, p, s, room)
 
 -- it stands behind the others
-pub pushed : (places held size : ℕ) (w : WindowView) (jobs : List JobView) → IsWindow places held w → IsBlock jobs
+pub pushed : (places held size : ℕ) (w : BlockWindow) (jobs : List JobView) → IsBlockWindow places held w → IsBlock jobs
     → count_in w.due + length jobs ≤ w.capacity → size ≡ length jobs → (after : ℕ) (due : List (List JobView)) → after ≡ places → due ≡ w.due ++ jobs ∷ []
-    → IsWindow after (held + size) (window_view w.capacity due)
+    → IsBlockWindow after (held + size) (block_window w.capacity due)
 pushed places held size w jobs is block room size_is after due after_is due_is =
     let e = ap count_in due_is ∙ count_in-more w.due jobs in
     let h = is.held_is in

@@ -27,7 +27,7 @@ abbrev pub BlockHelm : Type 0
 BlockHelm = HelmView (List JobView) (List JobView)
 
 -- a block that is out is one of those that were given, and each of the others has come back
-pub record IsCounted (out : ℕ) (helm : BlockHelm) : Type 0 where
+pub record CountsOut (out : ℕ) (helm : BlockHelm) : Type 0 where
   pub back : length helm.given ≤ out + (length helm.taken + length helm.answers)
   pub few : out ≤ length helm.given
 
@@ -38,15 +38,15 @@ pub record ComesBack (old new : BlockHelm) : Type 0 where
   pub one : length new.taken + length new.answers ≡ length old.taken + length old.answers + 1
 
 -- for how many jobs a window has room in all, and the jobs of its blocks, in order
-pub record WindowView : Type 0 where
+pub record BlockWindow : Type 0 where
   pub capacity : ℕ
   pub due : List (List JobView)
 
-abbrev pub window_view : ℕ → List (List JobView) → WindowView
-window_view capacity due = record { capacity = capacity; due = due }
+abbrev pub block_window : ℕ → List (List JobView) → BlockWindow
+block_window capacity due = record { capacity = capacity; due = due }
 
 -- what holds of every window with this number of slots, whose jobs are counted in `held`
-pub record IsWindow (places held : ℕ) (w : WindowView) : Type 0 where
+pub record IsBlockWindow (places held : ℕ) (w : BlockWindow) : Type 0 where
   pub held_is : held ≡ count_in w.due
   pub room : held ≤ w.capacity
   pub places_are : places ≡ w.capacity

@@ -1,14 +1,14 @@
 -- How the window of a drive, its counts and its feed stand to each other.
-use Rattle.std.specs.Prelude.{◌≡◌, ◌+◌, ◌<◌, ◌≤◌, ℕ, List, [], length, Bool, not, false, Some, None, Result, IfErr, IfOk}
+use Rattle.std.specs.Prelude.{◌≡◌, ◌+◌, ◌<◌, ◌≤◌, ℕ, List, [], length, Bool, not, false, Option, Some, None, Result, IfErr, IfOk}
 use Rattle.ht_metric.specs.Jobs.{JobView}
 use Rattle.ht_pool.specs.Helms.{IsSameHelm, IsSettled}
-use Rattle.ht_feed.specs.OwnNumbers.{AreTold, HaveNumbers}
+use Rattle.ht_feed.specs.OwnNumbers.{AreByNumber, HaveNumbers}
 use Rattle.ht_feed.specs.Drives.{IsThrough, LeavesInTurn}
 use Rattle.ht_feed.specs.Dues.{NoneEmpty, all_in, count_in}
-use Rattle.ht_feed.specs.Feeds.{FeedView, IsLeft}
+use Rattle.ht_feed.specs.Feeds.{FeedView, IsAlong, IsFreshFeed, IsInTurn, IsLeft}
 use Rattle.ht_feed.specs.declared.drive.DriveFault.{DriveFault}
 use Rattle.ht_feed.specs.declared.drive.DriveFault.TheVariants.{Feed, NoMemory, Work}
-use Rattle.ht_drive.specs.Blocks.{BlockHelm, WindowView, jobs_of}
+use Rattle.ht_drive.specs.Blocks.{BlockHelm, BlockWindow, jobs_of}
 use Rattle.ht_drive.specs.declared.tally.Tally.{Tally}
 
 -- the counts of a caller fit the blocks that it gave to the pool
@@ -18,12 +18,12 @@ pub record Tallies (t : Tally) (helm : BlockHelm) : Type 0 where
   pub blocks : length helm.given ≤ t.issued
   pub full : NoneEmpty helm.given
   -- the caller kept none before the pool had as many blocks as there is room for
-  pub sure : 0 < t.own → helm.room ≤ length helm.given
+  pub sure : 0 < t.own → helm.capacity ≤ length helm.given
   pub numbers : HaveNumbers t.issued (all_in helm.given)
 
 module _ {Fault : Type 0} where
   -- the window holds the blocks due, and has room for their jobs
-  pub record Holds (window : WindowView) (feed : FeedView Fault) : Type 0 where
+  pub record Holds (window : BlockWindow) (feed : FeedView Fault) : Type 0 where
     pub due : window.due ≡ feed.due
     pub few : count_in feed.due ≤ window.capacity
 
@@ -41,6 +41,54 @@ module _ {Fault : Type 0} where
     pub left : running ≡ false → IsLeft feed.left []
     pub well : feed.failed ≡ None
 
+  -- a caller that has begun nothing yet: its window is empty, its feed is fresh, and nothing was given to its pool
+  pub record HasYetToLead (window : BlockWindow) (helm : BlockHelm) (feed : FeedView Fault) : Type 0 where
+    pub few : window.capacity ≤ 4096
+    pub empty : window.due ≡ []
+    pub fresh : IsFreshFeed feed
+    pub untouched : helm.given ≡ []
+
+  -- how a caller stands between two calls of its feed
+  pub record Stands (running : Bool) (window : BlockWindow) (helm : BlockHelm) (t : Tally) (feed : FeedView Fault) : Type 0 where
+    -- its window holds what is due
+    pub holds : Holds window feed
+    -- its counts fit what it gave to the pool, and what the feed gave
+    pub tallies : Tallies t helm
+    pub issued : t.issued ≡ feed.count
+    -- the feed goes on, or has ended
+    pub under_way : IsUnderWay running feed
+
+  -- a feed that gave its jobs in turn has gone on so
+  abbrev pub KeepsTurn : FeedView Fault → FeedView Fault → Type 0
+  KeepsTurn old new = (known : Option (List JobView)) → IsAlong known old → IsAlong known new
+
+  -- where the feed gave its jobs in turn and each job given to the pool was the one of its number, each still is
+  abbrev pub KeepsNumbers : FeedView Fault → BlockHelm → BlockHelm → Type 0
+  KeepsNumbers feed before after = (all : List JobView) → IsAlong (Some all) feed → AreByNumber all (all_in before.given) → AreByNumber all (all_in after.given)
+
+  -- how a step of a caller leaves its window and its feed, however it ends
+  pub record StepsOn {F : Type 0} (shown : F → FeedView Fault) (Leads : F → F → Type 0) (window window' : BlockWindow) (old new : F) : Type 0 where
+    -- only calls of the feed changed it
+    pub leads : Leads old new
+    pub capacity : window'.capacity ≡ window.capacity
+    -- no more jobs are due than the window has room for
+    pub due : count_in (shown new).due ≤ window.capacity
+    -- and they are the last of those given, where the feed gave its jobs in turn
+    pub in_turn : (known : Option (List JobView)) → IsAlong known (shown old) → IsInTurn known (shown new)
+
+  -- a caller has gone on, and stands so
+  pub record GoesOn {F : Type 0} (shown : F → FeedView Fault) (Leads : F → F → Type 0) (running : Bool) (window window' : BlockWindow)
+      (helm helm' : BlockHelm) (t' : Tally) (old new : F) : Type 0 where
+    pub stands : Stands running window' helm' t' (shown new)
+    -- only calls of the feed changed it
+    pub leads : Leads old new
+    -- it has the same window and the same pool
+    pub capacity : window'.capacity ≡ window.capacity
+    pub same : IsSameHelm helm helm'
+    -- the feed was asked in turn, and what was given to the pool is what it gave
+    pub turn : KeepsTurn (shown old) (shown new)
+    pub by_number : KeepsNumbers (shown old) helm helm'
+
   -- once its feed was called a drive refuses with what a call of it answered; or no call failed, and there was no memory
   -- for the work on a block or for a copy, where either may lack it
   abbrev pub Refuses : Type 0 → FeedView Fault → DriveFault Fault → Type 0
@@ -54,7 +102,7 @@ module _ {Fault : Type 0} where
     pub jobs : t.issued ≡ new.count
     pub tallies : Tallies t helm
     -- where the jobs to come were known, each one given to the pool is that of its number
-    pub by_number : (all : List JobView) → old.left ≡ Some all → AreTold all (all_in helm.given)
+    pub by_number : (all : List JobView) → old.left ≡ Some all → AreByNumber all (all_in helm.given)
     pub settled : IsSettled helm
 
   -- a caller leads the blocks of a feed through a window of this number of jobs and its end of a pool, and answers this

@@ -7,7 +7,7 @@ use Rattle.ht_counts.specs.Counts.{SameCounts}
 use Rattle.ht_pool.specs.Pools.{IsEmptied, moved_on, taken_on}
 use Rattle.ht_pool.specs.Through.{first_of, through}
 use Rattle.ht_pool.specs.declared.hand.Hand.{Hand}
-use Rattle.ht_feed.specs.OwnNumbers.{AreTold, HaveNumbers}
+use Rattle.ht_feed.specs.OwnNumbers.{AreByNumber, HaveNumbers}
 use Rattle.ht_feed.specs.Dues.{NoneEmpty, all_in}
 use Rattle.ht_drive.specs.Blocks.{jobs_of}
 use Rattle.ht_drive.specs.declared.report.Passes.{Passes as PassesOf}
@@ -21,8 +21,8 @@ abbrev pub Passes : Type 0
 Passes = PassesOf (List JobView) (List JobView)
 
 -- how many jobs the feed gave, as a report says
-abbrev pub jobs_told : Report → ℕ
-jobs_told report = report.jobs
+abbrev pub jobs_reported : Report → ℕ
+jobs_reported report = report.jobs
 
 -- what went through the deques
 abbrev pub deques_of : Passes → List (Hand (List JobView))
@@ -55,21 +55,21 @@ pub record IsShared (ran : List ℕ) (passes : Passes) : Type 0 where
   pub numbers : ran ≡ jobs_of mine ∷ map jobs_of others
 
 -- this number of workers ran the jobs, where the pool had room for that number of blocks for sure
-pub record HasRunInPool (workers room : ℕ) (report : Report) (passes : Passes) : Type 0 where
+pub record HasRunInPool (workers capacity : ℕ) (report : Report) (passes : Passes) : Type 0 where
   -- there is a deque for each worker, the caller's first
   pub deques : length passes.deques.items ≡ workers
   -- all jobs but the caller's own were pushed on the caller's deque, in blocks, none of which is empty
   pub pushed : jobs_of (blocks_pushed passes) + report.own ≡ report.jobs
   pub full : NoneEmpty (blocks_pushed passes)
   -- and for sure as many of them as there was room for blocks
-  pub sure : report.own + min report.jobs room ≤ report.jobs
+  pub sure : report.own + min report.jobs capacity ≤ report.jobs
   -- each of them has a number of its own below the number of jobs
   pub numbers : HaveNumbers report.jobs (all_in (blocks_pushed passes))
   -- on each deque the blocks taken are those pushed, so nothing is left
   pub emptied : All IsEmptied (deques_of passes)
   -- the blocks run, which are those taken on all deques less those moved on, are those pushed on the caller's, each
   -- once
-  pub run : SameCounts (taken_on (deques_of passes)) (blocks_pushed passes ++ moved_on (deques_of passes))
+  pub each_once : SameCounts (taken_on (deques_of passes)) (blocks_pushed passes ++ moved_on (deques_of passes))
   -- by this number of workers, the caller first, each of whom counted the jobs of its blocks: with the caller's own
   -- they are all jobs
   pub each : length report.ran.items ≡ workers
@@ -89,4 +89,4 @@ pub record HasRunJobs (workers window : ℕ) (left : Option (List JobView)) (rep
   pub passes : 2 ≤ workers → IsSome report.passes
   pub in_pool : 2 ≤ workers → IfSome report.passes (HasRunInPool workers window report)
   -- where the jobs to come were known, each one that was pushed is that of its number
-  pub by_number : (all : List JobView) → left ≡ Some all → IfSome report.passes (λ passes. AreTold all (all_in (blocks_pushed passes)))
+  pub by_number : (all : List JobView) → left ≡ Some all → IfSome report.passes (λ passes. AreByNumber all (all_in (blocks_pushed passes)))

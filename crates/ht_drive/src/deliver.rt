@@ -1,9 +1,6 @@
 //! How a caller hands a feed its answers.
-ghost use Rattle.std.specs.Prelude.{◌≡◌, ◌≤◌, List, Option, Some, IfErr, OnOk};
-ghost use Rattle.ht_metric.specs.Jobs.{JobView};
-ghost use Rattle.ht_feed.specs.Dues.{count_in};
-ghost use Rattle.ht_feed.specs.Feeds.{IsAlong, IsInTurn};
-ghost use Rattle.ht_drive.specs.Driving.{Holds, OnlyTakes};
+ghost use Rattle.std.specs.Prelude.{◌≡◌, Some, IfErr, OnOk};
+ghost use Rattle.ht_drive.specs.Driving.{Holds, KeepsTurn, OnlyTakes, StepsOn};
 
 use crate::window::Window;
 use ht_feed::{Answer, BlockFeed, Shared};
@@ -14,14 +11,11 @@ pub(crate) fn deliver<B: Shared + Drop, A: Answer + Drop, F: BlockFeed<Block = B
     feed: &mut F,
 ) -> Result<(), F::Fault>
     requires holds { Holds window.old (F.shown feed.old) }
+    ensures steps { StepsOn F.shown F.leads window.old window.new feed.old feed.new }
     ensures holds { OnOk result (Holds window.new (F.shown feed.new)) }
-    ensures few { count_in (F.shown feed.new).due ≤ window.old.capacity }
-    ensures capacity { window.new.capacity ≡ window.old.capacity }
-    ensures in_turn { (known : Option (List JobView)) → IsAlong known (F.shown feed.old) → IsInTurn known (F.shown feed.new) }
-    ensures along { OnOk result ((known : Option (List JobView)) → IsAlong known (F.shown feed.old) → IsAlong known (F.shown feed.new)) }
+    ensures turn { OnOk result (KeepsTurn (F.shown feed.old) (F.shown feed.new)) }
     ensures takes { OnOk result (OnlyTakes (F.shown feed.old) (F.shown feed.new)) }
     ensures fault { IfErr result (λ fault. (F.shown feed.new).failed ≡ Some fault) }
-    ensures leads { F.leads feed.old feed.new }
 {
     while let Some((block, answer)) = window.emit() {
         feed.take(&block, &answer)?;

@@ -25,13 +25,13 @@ pub(crate) struct BlockHelm<
 
 impl<'p, 'w, B: Jobs + Drop + Send, A: Answer + Drop + Send, W: Work<B, Answer = A>> Model
     for BlockHelm<'p, 'w, B, A, W> {
-    ghost use Rattle.ht_drive.specs.Blocks.{BlockHelm, IsCounted};
+    ghost use Rattle.ht_drive.specs.Blocks.{BlockHelm, CountsOut};
 
     ghost Value = { BlockHelm };
 
     ghost view = { λ h. h.helm };
 
-    ghost invariant = { λ h. IsCounted h.out h.helm };
+    ghost invariant = { λ h. CountsOut h.out h.helm };
 }
 
 impl<'p, 'w, B: Jobs + Drop + Send, A: Answer + Drop + Send, W: Work<B, Answer = A>> BlockHelm<
@@ -49,12 +49,12 @@ impl<'p, 'w, B: Jobs + Drop + Send, A: Answer + Drop + Send, W: Work<B, Answer =
         BlockHelm { helm, out: 0 }
     }
 
-    /// Gives a task to the pool, if that has memory for it. Answers whether it has; if not, at least `room` tasks were
+    /// Gives a task to the pool, if that has memory for it. Answers whether it has; if not, at least `capacity` tasks were
     /// given before.
     pub(crate) fn give(&mut self, task: Task<B>) -> bool
         requires { length self.old.given < 2 ^ 64 - 1 }
         ensures given { self.new ≡ (if result then gave self.old task else self.old) }
-        ensures full { result ≡ false → self.old.room ≤ length self.old.given }
+        ensures full { result ≡ false → self.old.capacity ≤ length self.old.given }
     {
         let given = self.helm.give(task).is_ok();
         if given {

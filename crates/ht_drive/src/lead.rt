@@ -1,7 +1,6 @@
 //! The caller's part of a drive.
-ghost use Rattle.std.specs.Prelude.{◌≡◌, ◌≤◌, ◌⊎◌, []};
-ghost use Rattle.ht_feed.specs.Feeds.{IsFreshFeed};
-ghost use Rattle.ht_drive.specs.Driving.{LeadsBlocks};
+ghost use Rattle.std.specs.Prelude.{◌⊎◌};
+ghost use Rattle.ht_drive.specs.Driving.{HasYetToLead, LeadsBlocks};
 
 use crate::deliver::deliver;
 use crate::helm::BlockHelm;
@@ -30,10 +29,7 @@ pub(crate) fn lead<
     helm: &mut BlockHelm<'_, '_, B, A, W>,
     feed: &mut F,
 ) -> Result<Tally, DriveFault<F::Fault>>
-    requires capacity { window.old.capacity ≤ 4096 }
-    requires empty { window.old.due ≡ [] }
-    requires fresh { IsFreshFeed (F.shown feed.old) }
-    requires untouched { helm.old.given ≡ [] }
+    requires { HasYetToLead window.old helm.old (F.shown feed.old) }
     ensures { LeadsBlocks F.shown F.leads (A.may_lack ⊎ B.may_lack) window.old.capacity feed.old feed.new helm.old helm.new result }
 {
     let mut tally = Tally { issued: 0, own: 0 };

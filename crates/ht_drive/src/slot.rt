@@ -61,7 +61,7 @@ impl<B: Shared + Drop, A: Answer + Drop> Slot<B, A> {
     }
 
     /// Runs the block where it is. The only error is lack of memory.
-    pub(crate) fn run<W: Work<B, Answer = A>>(&mut self, work: &W) -> Result<(), AllocError>
+    pub(crate) fn find_answer<W: Work<B, Answer = A>>(&mut self, work: &W) -> Result<(), AllocError>
         ensures same { self.new ≡ self.old }
         ensures lacks { OnErr result A.may_lack }
     {

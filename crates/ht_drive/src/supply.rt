@@ -1,13 +1,12 @@
 //! How a caller fills its window and gives blocks to its pool.
-ghost use Rattle.std.specs.Prelude.{◌≡◌, ◌⊎◌, ◌+◌, ◌-◌, ◌<◌, ◌≤◌, ◌^◌, ◌++◌, ◌∷◌, [], length, List, Option, Some, IfErr, IfOk, OnErr, OnOk};
+ghost use Rattle.std.specs.Prelude.{◌≡◌, ◌⊎◌, ◌+◌, ◌-◌, ◌<◌, ◌≤◌, ◌^◌, ◌++◌, ◌∷◌, [], length, List, IfErr, IfOk, OnErr, OnOk};
 ghost use Rattle.ht_metric.specs.Jobs.{JobView};
-ghost use Rattle.ht_feed.specs.OwnNumbers.{AreTold};
+ghost use Rattle.ht_feed.specs.OwnNumbers.{AreByNumber};
 ghost use Rattle.ht_feed.specs.Dues.{all_in, count_in};
-ghost use Rattle.ht_feed.specs.Feeds.{IsAlong, IsInTurn};
 ghost use Rattle.ht_feed.specs.Items.{Numbered};
 ghost use Rattle.ht_pool.specs.Helms.{IsSameHelm};
-ghost use Rattle.ht_drive.specs.Blocks.{IsBlock, window_view};
-ghost use Rattle.ht_drive.specs.Driving.{Holds, IsUnderWay, Refuses, Tallies};
+ghost use Rattle.ht_drive.specs.Blocks.{IsBlock, block_window};
+ghost use Rattle.ht_drive.specs.Driving.{GoesOn, Holds, Refuses, Stands, StepsOn, Tallies};
 
 use crate::helm::BlockHelm;
 use crate::tally::Tally;
@@ -29,10 +28,10 @@ fn issue<B: Shared + Drop + Send, A: Answer + Drop + Send, W: Work<B, Answer = A
     requires tallies { Tallies tally.old helm.old }
     requires numbers { Numbered tally.old.issued (B.jobs block) }
     requires last { tally.old.issued + length (B.jobs block) < 2 ^ 64 - 1 }
-    ensures window { window.new ≡ window_view window.old.capacity (window.old.due ++ B.jobs block ∷ []) }
+    ensures window { window.new ≡ block_window window.old.capacity (window.old.due ++ B.jobs block ∷ []) }
     ensures tallies { OnOk result (Tallies tally.new helm.new) }
-    ensures by_number { OnOk result ((all : List JobView) → AreTold all (all_in helm.old.given) → AreTold all (B.jobs block)
-        → AreTold all (all_in helm.new.given)) }
+    ensures by_number { OnOk result ((all : List JobView) → AreByNumber all (all_in helm.old.given) → AreByNumber all (B.jobs block)
+        → AreByNumber all (all_in helm.new.given)) }
     ensures issued { tally.new.issued ≡ tally.old.issued + length (B.jobs block) }
     ensures same { IsSameHelm helm.old helm.new }
     ensures lacks { OnErr result B.may_lack }
@@ -67,27 +66,16 @@ pub(crate) fn supply<
 ) -> Result<bool, DriveFault<F::Fault>>
     requires some { 1 ≤ size }
     requires capacity { window.old.capacity ≤ 4096 }
-    requires holds { Holds window.old (F.shown feed.old) }
-    requires tallies { Tallies tally.old helm.old }
-    requires issued { tally.old.issued ≡ (F.shown feed.old).count }
-    requires running { IsUnderWay running (F.shown feed.old) }
+    requires stands { Stands running window.old helm.old tally.old (F.shown feed.old) }
 
-    // What is due stands in the window, and was given to the pool or is the caller's own.
+    // However it ends.
+    ensures steps { StepsOn F.shown F.leads window.old window.new feed.old feed.new }
     ensures holds { Holds window.new (F.shown feed.new) }
-    ensures capacity { window.new.capacity ≡ window.old.capacity }
-    ensures tallies { OnOk result (Tallies tally.new helm.new) }
     ensures issued { tally.new.issued ≡ (F.shown feed.new).count }
     ensures same { IsSameHelm helm.old helm.new }
 
-    // The feed was asked in turn.
-    ensures in_turn { (known : Option (List JobView)) → IsAlong known (F.shown feed.old) → IsInTurn known (F.shown feed.new) }
-    ensures along { OnOk result ((known : Option (List JobView)) → IsAlong known (F.shown feed.old) → IsAlong known (F.shown feed.new)) }
-    ensures by_number { OnOk result ((all : List JobView) → IsAlong (Some all) (F.shown feed.old) → AreTold all (all_in helm.old.given)
-        → AreTold all (all_in helm.new.given)) }
-
-    ensures running { IfOk result (λ on. IsUnderWay on (F.shown feed.new)) }
+    ensures goes_on { IfOk result (λ on. GoesOn F.shown F.leads on window.old window.new helm.old helm.new tally.new feed.old feed.new) }
     ensures refuses { IfErr result (Refuses (A.may_lack ⊎ B.may_lack) (F.shown feed.new)) }
-    ensures leads { F.leads feed.old feed.new }
 {
     let mut running = running;
     while running && window.room() >= size {

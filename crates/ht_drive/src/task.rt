@@ -44,7 +44,7 @@ impl<B: Jobs + Drop> Task<B> {
     }
 
     // Runs the block.
-    fn run<W: Work<B>>(self, work: &W) -> Done<B, W::Answer>
+    fn answered<W: Work<B>>(self, work: &W) -> Done<B, W::Answer>
         ensures { result ≡ self }
     {
         let found = work.answer_to(&self.block);
@@ -132,7 +132,7 @@ impl<'w, B: Jobs + Drop + Send, A: Answer + Drop + Send, W: Work<B, Answer = A>>
     }
 
     fn answer_to(&self, task: Task<B>) -> Done<B, A> {
-        task.run(self.work)
+        task.answered(self.work)
     }
 
     fn help<R: Wait>(&self, rt: &R) -> bool {

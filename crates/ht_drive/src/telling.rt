@@ -1,6 +1,6 @@
 //! A whole input, whose blocks workers run, and what becomes of its hits.
 ghost use Rattle.std.specs.Prelude.{◌≡◌, ◌-◌, ◌<◌, []};
-ghost use Rattle.ht_feed.specs.Accounts.{told_by};
+ghost use Rattle.ht_feed.specs.Accounts.{telling_of};
 ghost use Rattle.ht_feed.specs.Desks.{feed_view};
 ghost use Rattle.ht_feed.specs.Feeds.{IsFreshFeed};
 ghost use Rattle.ht_feed.specs.Inputs.{TellsInput};
@@ -52,8 +52,8 @@ where
     requires crew { IsCrewSize crew.now.workers }
     requires window { IsWindowSize crew.now.window }
     requires fresh { IsFreshFeed (feed_view R.counts (D.seen desk.old) failed.old) }
-    ensures runs { RunsDesk (seen_by R.means R.at (D.seen desk.old) (S.shown source.old) (told_by A.shown A.pieces A.waits account.old))
-        (seen_by R.means R.at (D.seen desk.new) (S.shown source.new) (told_by A.shown A.pieces A.waits account.new))
+    ensures runs { RunsDesk (seen_by R.means R.at (D.seen desk.old) (S.shown source.old) (telling_of A.shown A.pieces A.waits account.old))
+        (seen_by R.means R.at (D.seen desk.new) (S.shown source.new) (telling_of A.shown A.pieces A.waits account.new))
         (D.seen desk.new) failed.old failed.new result }
     ensures same { A.lent account.new ≡ A.lent account.old }
 {
@@ -96,7 +96,7 @@ where
     requires fresh { IsFreshReader (R.counts reader) }
     requires rests { A.waits account.old [] }
     ensures { TellsInput R.means R.at reader head (S.shown source.old) (S.shown source.new)
-        (told_by A.shown A.pieces A.waits account.old) (told_by A.shown A.pieces A.waits account.new)
+        (telling_of A.shown A.pieces A.waits account.old) (telling_of A.shown A.pieces A.waits account.new)
         (A.lent account.old) (A.lent account.new) result }
 {
     let mut desk = Desk::new(alloc, reader, head, window)?;

@@ -8,8 +8,8 @@ ghost use Rattle.ht_pool.specs.Helms.{IsSettled};
 ghost use Rattle.ht_pool.specs.Members.{HasServed, berth_of, berths};
 ghost use Rattle.ht_pool.specs.Pools.{IsOpened, IsVacant};
 ghost use Rattle.ht_drive.specs.Blocks.{jobs_in, task_of};
-ghost use Rattle.ht_drive.specs.Driving.{Tallies};
-ghost use Rattle.ht_drive.specs.Reports.{HasRunInPool, HasRunJobs, blocks_pushed, jobs_told};
+ghost use Rattle.ht_drive.specs.Driving.{HasYetToLead, Tallies};
+ghost use Rattle.ht_drive.specs.Reports.{HasRunInPool, HasRunJobs, blocks_pushed, jobs_reported};
 
 use crate::helm::BlockHelm;
 use crate::lead::lead;
@@ -59,7 +59,7 @@ where
     requires crew { IsCrewSize workers }
     requires window { IsWindowSize window }
     requires fresh { IsFreshFeed (F.shown feed.old) }
-    ensures drives { DrivesBlocks F.shown F.leads (F.Answer.may_lack ⊎ F.Block.may_lack) jobs_told window feed.old feed.new result }
+    ensures drives { DrivesBlocks F.shown F.leads (F.Answer.may_lack ⊎ F.Block.may_lack) jobs_reported window feed.old feed.new result }
 
     // What the workers did.
     ensures ran { IfOk result (HasRunJobs workers window (F.shown feed.old).left) }
@@ -105,7 +105,7 @@ fn in_pool<
     requires capacity { window.capacity ≤ 4096 }
     requires empty { window.due ≡ [] }
     requires fresh { IsFreshFeed (F.shown feed.old) }
-    ensures drives { DrivesBlocks F.shown F.leads (A.may_lack ⊎ B.may_lack) jobs_told window.capacity feed.old feed.new result }
+    ensures drives { DrivesBlocks F.shown F.leads (A.may_lack ⊎ B.may_lack) jobs_reported window.capacity feed.old feed.new result }
     ensures ran { IfOk result (HasRunJobs (length pool.post.deques) window.capacity (F.shown feed.old).left) }
 {
     let Pool {
@@ -129,7 +129,7 @@ fn in_pool<
         shared,
         members,
         &mut || -> Result<Tally, DriveFault<E>>
-            requires { (window.capacity ≤ 4096) × (window.due ≡ []) × IsFreshFeed (F.shown feed.now) × (helm.given ≡ []) }
+            requires { HasYetToLead window helm (F.shown feed.now) }
         { lead(rt, runner, &mut window, &mut pace, &mut helm, feed) },
     );
     match led {
@@ -152,7 +152,7 @@ fn finish<B: Jobs + Drop + Send, A: Answer + Drop + Send, W: Work<B, Answer = A>
     requires tallies { Tallies tally helm }
     ensures jobs { result.jobs ≡ tally.issued }
     ensures passes { IsSome result.passes }
-    ensures ran { IfSome result.passes (HasRunInPool (length helm.entry.deques) helm.entry.room result) }
+    ensures ran { IfSome result.passes (HasRunInPool (length helm.entry.deques) helm.entry.capacity result) }
     ensures given { IfSome result.passes (λ passes. blocks_pushed passes ≡ helm.entry.given) }
 {
     let Closed { deques, pass, ran } = close(helm.into_helm(), members, space);

@@ -28,7 +28,7 @@ pub(crate) fn turn<B: Shared + Drop + Send, A: Answer + Drop + Send, W: Work<B, 
         return window.accept(done);
     }
     if helm.is_home() {
-        return window.run_first(work);
+        return window.answer_first(work);
     }
     thread::yield_now();
     Ok(())

@@ -2,7 +2,7 @@
 ghost use Rattle.std.specs.Prelude.{◌≡◌, ◌+◌, ◌<◌, ◌≤◌, ◌++◌, ◌∷◌, [], length, Some, None, IfOk, IfNone, IfSome, IsTrue, OnErr};
 ghost use Rattle.circular_buffer.specs.Buffer.{buffer};
 ghost use Rattle.ht_feed.specs.Dues.{count_in};
-ghost use Rattle.ht_drive.specs.Blocks.{IsBlock, IsFirst, IsWindow, window_view};
+ghost use Rattle.ht_drive.specs.Blocks.{IsBlock, IsFirst, IsBlockWindow, block_window};
 
 use crate::slot::Slot;
 use crate::task::Done;
@@ -24,13 +24,13 @@ pub(crate) struct Window<B: Shared, A: Answer> {
 }
 
 impl<B: Shared, A: Answer> Model for Window<B, A> {
-    ghost use Rattle.ht_drive.specs.Blocks.{IsWindow, WindowView, window_view};
+    ghost use Rattle.ht_drive.specs.Blocks.{IsBlockWindow, BlockWindow, block_window};
 
-    ghost Value = { WindowView };
+    ghost Value = { BlockWindow };
 
-    ghost view = { λ w. window_view w.capacity w.slots.items };
+    ghost view = { λ w. block_window w.capacity w.slots.items };
 
-    ghost invariant = { λ w. IsWindow w.slots.capacity w.held (window_view w.capacity w.slots.items) };
+    ghost invariant = { λ w. IsBlockWindow w.slots.capacity w.held (block_window w.capacity w.slots.items) };
 }
 
 impl<B: Shared + Drop, A: Answer + Drop> Window<B, A> {
@@ -38,7 +38,7 @@ impl<B: Shared + Drop, A: Answer + Drop> Window<B, A> {
     pub(crate) fn new(alloc: Global, capacity: u16) -> Result<Window<B, A>, AllocError>
         requires some { 1 ≤ capacity }
         requires few { capacity ≤ 4096 }
-        ensures { IfOk result (λ window. window ≡ window_view capacity []) }
+        ensures { IfOk result (λ window. window ≡ block_window capacity []) }
     {
         Ok(Window {
             slots: HeapCircularBuffer::with_capacity(alloc, usize::from(capacity))?,
@@ -66,7 +66,7 @@ impl<B: Shared + Drop, A: Answer + Drop> Window<B, A> {
     pub(crate) fn push(&mut self, block: B) -> u64
         requires block { IsBlock (B.jobs block) }
         requires room { count_in self.old.due + length (B.jobs block) ≤ self.old.capacity }
-        ensures { self.new ≡ window_view self.old.capacity (self.old.due ++ B.jobs block ∷ []) }
+        ensures { self.new ≡ block_window self.old.capacity (self.old.due ++ B.jobs block ∷ []) }
     {
         let place = self.front.wrapping_add(self.slots.len() as u64);
         let slot = Slot::new(block);
@@ -90,16 +90,19 @@ impl<B: Shared + Drop, A: Answer + Drop> Window<B, A> {
     }
 
     /// Runs the first block, where one is due that waits for its answer. The only error is lack of memory.
-    pub(crate) fn run_first<W: Work<B, Answer = A>>(&mut self, work: &W) -> Result<(), AllocError>
+    pub(crate) fn answer_first<W: Work<B, Answer = A>>(
+        &mut self,
+        work: &W,
+    ) -> Result<(), AllocError>
         ensures same { self.new ≡ self.old }
         ensures lacks { OnErr result A.may_lack }
     {
-        run_first(&mut self.slots, work)
+        answer_first(&mut self.slots, work)
     }
 
     /// Takes the first block out, with its answer. None where no block is due or the first one waits.
     pub(crate) fn emit(&mut self) -> Option<(B, A)>
-        ensures block { IfSome result (λ parts. self.old ≡ window_view self.new.capacity (B.jobs parts.0 ∷ self.new.due)) }
+        ensures block { IfSome result (λ parts. self.old ≡ block_window self.new.capacity (B.jobs parts.0 ∷ self.new.due)) }
         ensures right { IfSome result (λ parts. A.answers parts.1 (B.jobs parts.0)) }
         ensures none { IfNone result (self.new ≡ self.old) }
     {
@@ -144,7 +147,7 @@ fn book<B: Shared + Drop, A: Answer + Drop>(
 
 // Runs the block of the first slot, where that waits.
 #[tactic(auto, using(crate::proofs::Windows::put_same))]
-fn run_first<B: Shared + Drop, A: Answer + Drop, W: Work<B, Answer = A>>(
+fn answer_first<B: Shared + Drop, A: Answer + Drop, W: Work<B, Answer = A>>(
     slots: &mut HeapCircularBuffer<Slot<B, A>>,
     work: &W,
 ) -> Result<(), AllocError>
@@ -152,7 +155,7 @@ fn run_first<B: Shared + Drop, A: Answer + Drop, W: Work<B, Answer = A>>(
     ensures lacks { OnErr result A.may_lack }
 {
     match slots.get_mut(0) {
-        Some(slot) if !slot.is_answered() => slot.run(work),
+        Some(slot) if !slot.is_answered() => slot.find_answer(work),
         _ => Ok(()),
     }
 }

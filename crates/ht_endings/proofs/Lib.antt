@@ -1,3 +1,4 @@
 pub mod Runs
+pub mod EndLines
 pub mod Endings
 pub mod Nothing

@@ -19,12 +19,12 @@ use Rattle.ht_feed.specs.Reading.{view}
 use Rattle.ht_feed.specs.Outcomes.{
   Comes,
   EndsWith,
-  StopsBy as BlockStops,
-  TellsBroken as BlockBroken,
-  TellsPieces as BlockPieces,
-  TellsRefused as BlockRefused,
-  TellsTo as BlockTells,
-  TellsWhole as BlockWhole,
+  StopsAs as BlockStops,
+  EndsBroken as BlockBroken,
+  EndsPartly as BlockPieces,
+  EndsRefused as BlockRefused,
+  EndsAs as BlockTells,
+  EndsWhole as BlockWhole,
   pieces_of,
 }
 use Rattle.ht_endings.specs.Endings.{seen_as}

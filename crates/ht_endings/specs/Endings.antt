@@ -1,6 +1,6 @@
 -- What the end of a run over blocks puts, and what such a run comes to.
-use Rattle.std.specs.Prelude.{◌≡◌, ◌⊎◌, ℕ, List, Result, Ok, Err}
-use Rattle.ht_io.specs.Devices.{Device, Grows, GrowsByPart, Rose}
+use Rattle.std.specs.Prelude.{◌≡◌, ◌≢◌, ◌⊎◌, ℕ, List, Result, Ok, Err}
+use Rattle.ht_io.specs.Devices.{Device, Grows, GrowsByPart, IsLater, Rose}
 use Rattle.ht_fields.specs.Grammar.{Grammar}
 use Rattle.ht_fields.specs.Meanings.{Meaning, meaning}
 use Rattle.ht_text.specs.Lines.{end_text}
@@ -9,22 +9,35 @@ use Rattle.ht_runs.specs.Formats.{IsLined}
 use Rattle.ht_runs.specs.declared.faults.RunFault.{RunFault}
 use Rattle.ht_runs.specs.declared.faults.RunFault.TheVariants.{Format, Write, NoMemory}
 use Rattle.ht_runs.specs.declared.faults.StopFault.{StopFault}
+use Rattle.ht_runs.specs.declared.faults.StopFault.TheVariants.{Write as WriteStop}
 use Rattle.ht_feed.specs.declared.ended.Ended.{Ended}
 use Rattle.ht_feed.specs.declared.ended.Ended.TheVariants.{Done, Refused}
 use Rattle.ht_feed.specs.Items.{Headed, Item, frames_of, headed}
 
--- this text was put, and the answer is a good one; or a part of it, by a sink that failed; or nothing, without memory for it
-abbrev pub PutsText : {A : Type 0} → A → List ℕ → Device ℕ → Device ℕ → Result A RunFault → Type 0
-PutsText good text sink sink' result =
-    ((result ≡ Ok good) × Grows sink sink' text)
-    ⊎ ((result ≡ Err Write) × GrowsByPart sink sink' text × Rose sink sink')
-    ⊎ ((result ≡ Err NoMemory) × (sink' ≡ sink))
+-- This text was put, and the answer is the one for that; or a part of it, by a sink that failed; or nothing, without memory for
+-- it. Each has an answer of its own, of whatever type.
+abbrev pub PutsText : {A : Type 0} → A → A → A → List ℕ → Device ℕ → Device ℕ → A → Type 0
+PutsText whole failed lacking text sink sink' answer =
+    ((answer ≡ whole) × Grows sink sink' text)
+    ⊎ ((answer ≡ failed) × GrowsByPart sink sink' text × Rose sink sink')
+    ⊎ ((answer ≡ lacking) × (sink' ≡ sink))
 
 -- the end line was put behind the lines of a whole input; where these are not the lines of a whole one nothing was
 abbrev pub PutsEnd : Result Ended StopFault → Device ℕ → Device ℕ → Result ℕ RunFault → Type 0
-PutsEnd (Ok (Done frames jobs)) sink sink' result = PutsText frames (end_text frames) sink sink' result
+PutsEnd (Ok (Done frames jobs)) sink sink' result = PutsText (Ok frames) (Err Write) (Err NoMemory) (end_text frames) sink sink' result
 PutsEnd (Ok (Refused fault)) sink sink' result = (result ≡ Err (Format fault)) × (sink' ≡ sink)
 PutsEnd (Err stop) sink sink' result = (result ≡ Err (fault_of_stop stop)) × (sink' ≡ sink)
+
+-- what the end line behind lines comes to, by how their run ended: the sink before and after, and the answer
+pub record EndsLines (ended : Result Ended StopFault) (sink sink' : Device ℕ) (result : Result ℕ RunFault) : Type 0 where
+  -- the end line of a whole input was put, and nothing behind other lines
+  pub puts : PutsEnd ended sink sink' result
+  -- where the sink failed the answer is `Write`, whatever else failed
+  pub writes : result ≢ Err Write → sink'.faults ≡ sink.faults
+  -- so it is where the sink had failed before
+  pub failed : ended ≡ Err WriteStop → result ≡ Err Write
+  -- the sink is the same, and takes back no fault
+  pub later : IsLater sink sink'
 
 -- what octets mean to a reader of blocks that sees the items of a format so
 abbrev pub seen_as : {I H : Type 0} → (List I → List (Item H)) → Meaning I → Meaning (Item H)

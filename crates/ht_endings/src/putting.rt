@@ -1,9 +1,8 @@
 //! The line that ends the lines of an input.
-ghost use Rattle.std.specs.Prelude.{◌≡◌, ◌≢◌, ℕ, List, Err, IfOk, OnErr};
+ghost use Rattle.std.specs.Prelude.{◌≡◌, ◌≢◌, ℕ, List, Ok, Err, IfOk, OnErr};
 ghost use Rattle.ht_io.specs.Devices.{IsLater};
 ghost use Rattle.ht_runs.specs.declared.faults.RunFault.TheVariants.{NoMemory as LackOfMemory, Write as FailedWrite};
-ghost use Rattle.ht_runs.specs.declared.faults.StopFault.TheVariants.{Write as WriteStop};
-ghost use Rattle.ht_endings.specs.Endings.{PutsEnd, PutsText};
+ghost use Rattle.ht_endings.specs.Endings.{EndsLines, PutsText};
 
 use ht_feed::Ended;
 use ht_io::Sink;
@@ -13,7 +12,8 @@ use std::alloc::{AllocError, Global};
 
 // Puts a text. Without memory for it the sink is as before.
 fn put_text<K: Sink>(text: Result<Vec<u8>, AllocError>, sink: &mut K) -> Result<(), RunFault>
-    ensures puts { (whole : List ℕ) → IfOk text (λ octets. octets.items ≡ whole) → PutsText tt whole (K.shown sink.old) (K.shown sink.new) result }
+    ensures puts { (whole : List ℕ) → IfOk text (λ octets. octets.items ≡ whole) → PutsText (Ok tt) (Err FailedWrite) (Err LackOfMemory) whole
+        (K.shown sink.old) (K.shown sink.new) result }
     ensures lacks { OnErr text (result ≡ Err LackOfMemory) }
     ensures nothing { result ≡ Err LackOfMemory → sink.new ≡ sink.old }
     ensures writes { result ≢ Err FailedWrite → (K.shown sink.new).faults ≡ (K.shown sink.old).faults }
@@ -34,10 +34,7 @@ pub fn put_end<K: Sink>(
     ended: Result<Ended, StopFault>,
     sink: &mut K,
 ) -> Result<u64, RunFault>
-    ensures puts { PutsEnd ended (K.shown sink.old) (K.shown sink.new) result }
-    ensures writes { result ≢ Err FailedWrite → (K.shown sink.new).faults ≡ (K.shown sink.old).faults }
-    ensures failed { ended ≡ Err WriteStop → result ≡ Err FailedWrite }
-    ensures later { IsLater (K.shown sink.old) (K.shown sink.new) }
+    ensures { EndsLines ended (K.shown sink.old) (K.shown sink.new) result }
 {
     match ended {
         Ok(Ended::Done { frames, .. }) => {

@@ -1,12 +1,11 @@
 //! The least receiver, and an example of how a program calls the library: it reads a capture (HTCP) from standard input and
-//! writes the lines of its frames to standard output, each once its frame is whole, and the last line behind them. That is
-//! what `radio rx` writes of a capture without a fault.
+//! writes the lines of its frames to standard output, each once its frame is whole, and then the last line. That is what
+//! `radio rx` writes for a capture without a fault.
 //!
-//! It ends with status 0 where the capture is whole, and else with status 1: where the capture has a fault, where reading or
-//! writing failed, or out of memory.
+//! It ends with status 0 if the capture is whole. Otherwise the status is 1: the capture has a fault, reading or writing
+//! failed, or memory ran out.
 #![tactic(auto)]
 
-use ht_endings::put_end;
 use ht_feed::OpenGate;
 use ht_io::{StdSink, StdSource};
 use ht_rx::receive_text_alone;
@@ -22,8 +21,7 @@ fn main(rt: HostRuntime) -> ExitCode {
     };
     let mut source = StdSource::new(reader);
     let mut sink = StdSink::new(writer(&rt));
-    let heard = receive_text_alone(rt.alloc(), WINDOW, &mut source, &mut sink, &OpenGate);
-    match put_end(rt.alloc(), heard, &mut sink) {
+    match receive_text_alone(rt.alloc(), WINDOW, &mut source, &mut sink, &OpenGate) {
         Ok(_) => ExitCode::SUCCESS,
         Err(_) => ExitCode::FAILURE,
     }

@@ -6,7 +6,7 @@ use Rattle.ht_io.proofs.Calls.{takes-append, takes-all, takes-none, grows_by_par
 use Rattle.ht_io.specs.declared.faults.FormatFault.{FormatFault}
 use Rattle.ht_io.specs.declared.faults.Kind.TheVariants.{Truncated}
 use Rattle.ht_fields.specs.Meanings.{Meaning, before}
-use Rattle.ht_fields.specs.Readers.{ReaderView, Gives, Refuses, RunsOut, Breaks}
+use Rattle.ht_fields.specs.Readers.{ReaderView, Gives, Refuses, RunsOut, Breaks, Completes}
 use Rattle.ht_fields.proofs.Answered.{alone}
 use Rattle.ht_fields.proofs.Joins.{gives_broke, ends_behind}
 use Rattle.ht_runs.proofs.Known.{known, known_all, takes_of}
@@ -15,8 +15,8 @@ use Rattle.ht_feed.specs.declared.stop.Stop.TheVariants.{Whole, Refused, Broken,
 use Rattle.ht_feed.specs.Items.{Item, Headed, headed, last_head, frames_of, jobs_of}
 use Rattle.ht_feed.specs.Accounts.{PutsPartOf}
 use Rattle.ht_feed.specs.Leading.{headed-append}
-use Rattle.ht_feed.specs.Outcomes.{TellsBroken, TellsPieces, TellsRefused, TellsWhole, pieces_of}
-use Rattle.ht_feed.specs.Reading.{Closes, Completes, ReadsBy}
+use Rattle.ht_feed.specs.Outcomes.{EndsBroken, EndsPartly, EndsRefused, EndsWhole, pieces_of}
+use Rattle.ht_feed.specs.Reading.{Closes, ReadsBy}
 
 -- what a meaning's items and fault are
 items_are : {I : Type 0} (m : Meaning I) (items : List I) (fault : Option FormatFault) → m ≡ record { items = items; fault = fault } → m.items ≡ items
@@ -37,7 +37,7 @@ module _ {H P : Type 0} (start : ReaderView (Item H)) (pieces : List (Headed H) 
     puts_all octets is = subst (λ (xs : List (Item H)). Grows device device' (pieces (headed head xs))) (sym is) put
 
     pub whole : (frames jobs : ℕ) → Completes mid source' → frames ≡ frames_of items → jobs ≡ length (jobs_of items)
-        → TellsWhole start all_pieces source' device device' frames jobs
+        → EndsWhole start all_pieces source' device device' frames jobs
     whole frames jobs c f j =
         let taken = g.taken ++ c.taken in
         let here : start.means taken ≡ record { items = items; fault = None } = g.means c.taken ∙ (ap (before items) c.means ∙ alone items None) in
@@ -51,7 +51,7 @@ module _ {H P : Type 0} (start : ReaderView (Item H)) (pieces : List (Headed H) 
           put = puts_all taken is;
         }
 
-    refused_at : (fault : FormatFault) → Refuses mid source' fault → TellsRefused start all_pieces source' device device' fault
+    refused_at : (fault : FormatFault) → Refuses mid source' fault → EndsRefused start all_pieces source' device device' fault
     refused_at fault r =
         let taken = g.taken ++ r.taken in
         let all_mean : (rest : List ℕ) → start.means (taken ++ rest) ≡ record { items = items; fault = Some fault } =
@@ -67,7 +67,7 @@ module _ {H P : Type 0} (start : ReaderView (Item H)) (pieces : List (Headed H) 
           put = puts_all taken (items_are (start.means taken) items (Some fault) here);
         }
 
-    refused_early : (fault : FormatFault) → RunsOut mid source' fault → TellsRefused start all_pieces source' device device' fault
+    refused_early : (fault : FormatFault) → RunsOut mid source' fault → EndsRefused start all_pieces source' device device' fault
     refused_early fault r =
         let taken = g.taken ++ r.taken in
         let here : start.means taken ≡ record { items = items; fault = Some fault } = g.means r.taken ∙ (ap (before items) r.means ∙ alone items (Some fault)) in
@@ -82,11 +82,11 @@ module _ {H P : Type 0} (start : ReaderView (Item H)) (pieces : List (Headed H) 
           put = puts_all taken (items_are (start.means taken) items (Some fault) here);
         }
 
-    pub refused : (fault : FormatFault) → Refuses mid source' fault ⊎ RunsOut mid source' fault → TellsRefused start all_pieces source' device device' fault
+    pub refused : (fault : FormatFault) → Refuses mid source' fault ⊎ RunsOut mid source' fault → EndsRefused start all_pieces source' device device' fault
     refused fault (inl r) = refused_at fault r
     refused fault (inr r) = refused_early fault r
 
-    pub broken : Breaks mid source' → TellsBroken start all_pieces source' device device'
+    pub broken : Breaks mid source' → EndsBroken start all_pieces source' device device'
     broken b =
         let broke = gives_broke start mid source' items g b in
         record { taken = broke.taken; octets = broke.octets; front = broke.early; put = puts_all broke.taken broke.means }
@@ -148,14 +148,14 @@ module _ {H P : Type 0} (start : ReaderView (Item H)) (pieces : List (Headed H) 
   -- a part was put of the pieces of the first jobs of these items
   pub in_part : (mid : ReaderView (Item H)) (items : List (Item H)) (stop : Option Stop) (taken rest : List (Headed H)) → mid.source ≡ source'
       → ReadsBy None stop start mid items → headed head items ≡ taken ++ rest → PutsPartOf device device' pieces taken
-      → TellsPieces start all_pieces source' device device'
+      → EndsPartly start all_pieces source' device device'
   in_part mid items stop taken rest is reads jobs part =
       let s = saw_reads mid items stop is reads in
       let puts : (octets : List ℕ) → StartsWith items octets → GrowsByPart device device' (all_pieces octets) = λ octets front. part_of octets items taken rest front jobs part in
       record { taken = s.taken; octets = s.octets; put = puts s.taken s.front; of_all = each start.source.known items s.of_all puts }
 
 -- nothing was taken and nothing put
-pub told_nothing : {H P : Type 0} (start : ReaderView (Item H)) (pieces : List ℕ → List P) (device : Device P) → TellsPieces start pieces start.source device device
+pub told_nothing : {H P : Type 0} (start : ReaderView (Item H)) (pieces : List ℕ → List P) (device : Device P) → EndsPartly start pieces start.source device device
 told_nothing start pieces device =
     record {
       taken = [];

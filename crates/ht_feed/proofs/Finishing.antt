@@ -24,7 +24,7 @@ use Rattle.ht_feed.specs.Reading.{ClosesBehind, ReadsBy, view}
 use Rattle.ht_feed.specs.Stops.{ended_at, ended_by, failed_by, fault_of}
 use Rattle.ht_feed.specs.Telling.{RunsDesk, Seen, Tells, TellsBy, TellsPart, seen_by}
 use Rattle.ht_feed.specs.Inputs.{TellsInput}
-use Rattle.ht_feed.specs.Outcomes.{Comes, StopsBy, TellsPieces, TellsTo, pieces_of}
+use Rattle.ht_feed.specs.Outcomes.{Comes, StopsAs, EndsPartly, EndsAs, pieces_of}
 use Rattle.ht_feed.proofs.Ending.{broken, in_part, refused, told_nothing, whole}
 use Rattle.ht_feed.proofs.Filling.{none_in}
 
@@ -49,7 +49,7 @@ pub runs_so : {R H P X : Type 0} {before after : Seen H P} {desk : DeskView R H}
 runs_so {X = X} driven tells ended none = record {
   tells = tells;
   ended = ended;
-  taken = none;
+  none_due = none;
   well = none_failed driven;
   fault = λ fault is. ap (λ (r : Result X (DriveFault BookFault)). failed_by r) is;
   memory = λ is. ap (λ (r : Result X (DriveFault BookFault)). failed_by r) is;
@@ -86,8 +86,8 @@ module _ {R H P : Type 0} (means : R → List ℕ → Meaning (Item H)) (at : R 
     module _ (tells : Tells first last) (none : all_due new.due ≡ []) (rests : a.Waits []) (nothing : b.Waits [] → b.pieces [] ≡ []) where
       all_put : Grows a.device b.device (a.pieces (headed head tells.items))
       all_put =
-          let taken = jobs_taken (all_due new.due) tells.taken (headed head tells.items) none tells.jobs in
-          let put = pieces_put a.pieces b.pieces tells.taken tells.put tells.first (nothing (subst b.Waits none (tells.waits rests))) in
+          let taken = jobs_taken (all_due new.due) tells.answered (headed head tells.items) none tells.jobs in
+          let put = pieces_put a.pieces b.pieces tells.answered tells.put tells.first (nothing (subst b.Waits none (tells.waits rests))) in
           subst (λ (xs : List P). Grows a.device b.device xs) (sym put ∙ ap a.pieces (sym taken)) tells.grows
 
       frames_are : new.frames ≡ frames_of tells.items
@@ -96,9 +96,9 @@ module _ {R H P : Type 0} (means : R → List ℕ → Meaning (Item H)) (at : R 
       jobs_are : new.count ≡ length (jobs_of tells.items)
       jobs_are = let e = tells.count in omega (arith, e)
 
-      lacked : (stop : Option Stop) → new.stop ≡ stop → TellsPieces start pieces source' a.device b.device
+      lacked : (stop : Option Stop) → new.stop ≡ stop → EndsPartly start pieces source' a.device b.device
       lacked stop is =
-          in_part start a.pieces head source' a.device b.device last.standing.reader tells.items stop tells.taken (all_due new.due) refl
+          in_part start a.pieces head source' a.device b.device last.standing.reader tells.items stop tells.answered (all_due new.due) refl
           (subst (λ (e : Option Stop). ReadsBy None e start last.standing.reader tells.items) is tells.reads) tells.jobs
           (λ more. subst (λ (xs : List P). GrowsByPart a.device b.device xs) (sym (tells.first more))
           (grows_by_part-front a.device b.device tells.put (b.pieces more) (by_part a.device b.device tells.put tells.grows)))
@@ -118,11 +118,11 @@ module _ {R H P : Type 0} (means : R → List ℕ → Meaning (Item H)) (at : R 
           )
       ends (Some Lacking) is some = lacked (Some Lacking) is
 
-    part_told : (fault : BookFault) → TellsPart first last fault → TellsPieces start pieces source' a.device b.device
+    part_told : (fault : BookFault) → TellsPart first last fault → EndsPartly start pieces source' a.device b.device
     part_told fault part =
-        in_part start a.pieces head source' a.device b.device last.standing.reader part.items new.stop part.taken part.rest refl part.reads part.jobs part.part
+        in_part start a.pieces head source' a.device b.device last.standing.reader part.items new.stop part.answered part.rest refl part.reads part.jobs part.part
 
-    stops_as : (fault : BookFault) → TellsPart first last fault → StopsBy start pieces source' a.device b.device (fault_of fault)
+    stops_as : (fault : BookFault) → TellsPart first last fault → StopsAs start pieces source' a.device b.device (fault_of fault)
     stops_as Failed part = (part_told Failed part, part.cause refl)
     stops_as NoMemory part = part_told NoMemory part
 
@@ -131,9 +131,9 @@ module _ {R H P : Type 0} (means : R → List ℕ → Meaning (Item H)) (at : R 
     Heard failed driven = RunsDesk first last new None failed driven
 
     -- where memory lacked before all was read, a part was put
-    told_in_part : Tells first last → TellsPieces start pieces source' a.device b.device
+    told_in_part : Tells first last → EndsPartly start pieces source' a.device b.device
     told_in_part tells =
-        in_part start a.pieces head source' a.device b.device last.standing.reader tells.items new.stop tells.taken (all_due new.due) refl tells.reads tells.jobs
+        in_part start a.pieces head source' a.device b.device last.standing.reader tells.items new.stop tells.answered (all_due new.due) refl tells.reads tells.jobs
         (λ more. subst (λ (xs : List P). GrowsByPart a.device b.device xs) (sym (tells.first more))
         (grows_by_part-front a.device b.device tells.put (b.pieces more) (by_part a.device b.device tells.put tells.grows)))
 
@@ -168,7 +168,7 @@ module _ {R H P : Type 0} (means : R → List ℕ → Meaning (Item H)) (at : R 
     heard_by : {X : Type 0} (failed : Option BookFault) (driven : Result X (DriveFault BookFault)) → Heard failed driven → a.Waits [] → (b.Waits [] → b.pieces [] ≡ [])
         → Came (ended_by new.stop new.frames new.count driven)
     heard_by failed (Ok done) h rests nothing =
-        ends (told_well failed h.well h.tells) (ap all_due (none_in new.due h.taken)) rests nothing new.stop refl h.ended
+        ends (told_well failed h.well h.tells) (ap all_due (none_in new.due h.none_due)) rests nothing new.stop refl h.ended
     heard_by failed (Err (Feed fault)) h rests nothing = stops_as fault (told_ill failed fault (h.fault fault refl) h.tells)
     heard_by failed (Err DriveMemory) h rests nothing = told_in_part (told_well failed (h.memory refl) h.tells)
     heard_by failed (Err Work) h rests nothing = told_in_part (told_well failed (h.work refl) h.tells)
@@ -192,8 +192,8 @@ module _ {R H P : Type 0} {means : R → List ℕ → Meaning (Item H)} {at : R 
       let start = view means at reader source in
       let pieces = pieces_of a.pieces head start in
       record {
-        tells = stops_with result (TellsTo start pieces source a.device a.device) (StopsBy start pieces source a.device a.device) (λ f. f ≡ StopMemory) is and
-            (λ f same. subst (λ (fault : StopFault). StopsBy start pieces source a.device a.device fault) (sym same) (told_nothing start pieces a.device));
+        tells = stops_with result (EndsAs start pieces source a.device a.device) (StopsAs start pieces source a.device a.device) (λ f. f ≡ StopMemory) is and
+            (λ f same. subst (λ (fault : StopFault). StopsAs start pieces source a.device a.device fault) (sym same) (told_nothing start pieces a.device));
         writes = λ other. refl;
         reads_later = later-refl source;
         puts_later = later-refl a.device;

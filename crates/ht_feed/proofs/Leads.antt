@@ -39,7 +39,7 @@ module _ {R H P : Type 0} (means : R → List ℕ → Meaning (Item H)) (at : R 
       let f = r.finds in
       record {
         items = f.items;
-        taken = [];
+        answered = [];
         put = [];
         reads = f.reads;
         head = f.head;
@@ -62,7 +62,7 @@ module _ {R H P : Type 0} (means : R → List ℕ → Meaning (Item H)) (at : R 
   tells_part desk source a b fault taken rest all part le cause steady =
       record {
         items = [];
-        taken = taken;
+        answered = taken;
         rest = rest;
         reads = reads_none (standing means at desk.reader desk.stop source);
         jobs = all;
@@ -81,7 +81,7 @@ module _ {R H P : Type 0} (means : R → List ℕ → Meaning (Item H)) (at : R 
   tells_put desk left source a b taken all puts waits le steady =
       record {
         items = [];
-        taken = taken;
+        answered = taken;
         put = puts.0;
         reads = reads_none (standing means at desk.reader desk.stop source);
         head = refl;

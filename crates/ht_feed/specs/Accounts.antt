@@ -1,7 +1,19 @@
 -- What an account of hits puts.
-use Rattle.std.specs.Prelude.{◌≡◌, List, ◌++◌}
-use Rattle.ht_io.specs.Devices.{Device, Grows, GrowsByPart}
+use Rattle.std.specs.Prelude.{◌≡◌, ℕ, List, ◌++◌, Result, IfErr, OnOk}
+use Rattle.ht_io.specs.Devices.{Device, Grows, GrowsByPart, IsLater, Rose}
+use Rattle.ht_feed.specs.declared.book_fault.BookFault.{BookFault}
+use Rattle.ht_feed.specs.declared.book_fault.BookFault.TheVariants.{Failed, NoMemory}
 use Rattle.ht_feed.specs.Items.{Headed}
+
+-- What calls that put pieces and gave this answer did to their device, apart from the pieces. `lent`: which borrows lead to it.
+pub record CountsFaults {A P : Type 0} (result : Result A BookFault) (before after : Device P) (lent lent' : List ℕ) : Type 0 where
+  -- it has counted a fault exactly where the answer is Failed
+  pub steady : OnOk result (after.faults ≡ before.faults)
+  pub cause : IfErr result (λ fault. fault ≡ Failed → Rose before after)
+  pub unfailed : IfErr result (λ fault. fault ≡ NoMemory → after.faults ≡ before.faults)
+  -- it is the same device, and the same borrows lead to it
+  pub later : IsLater before after
+  pub same : lent' ≡ lent
 
 -- an account of jobs with heads of H, which puts pieces of P
 module _ {H P : Type 0} where
@@ -24,5 +36,5 @@ pub record Telling (H P : Type 0) : Type 1 where
   pub pieces : List (Headed H) → List P
   pub Waits : List (Headed H) → Type 0
 
-abbrev pub told_by : {A H P : Type 0} → (A → Device P) → (A → List (Headed H) → List P) → (A → List (Headed H) → Type 0) → A → Telling H P
-told_by shown pieces waits account = record { device = shown account; pieces = pieces account; Waits = waits account }
+abbrev pub telling_of : {A H P : Type 0} → (A → Device P) → (A → List (Headed H) → List P) → (A → List (Headed H) → Type 0) → A → Telling H P
+telling_of shown pieces waits account = record { device = shown account; pieces = pieces account; Waits = waits account }

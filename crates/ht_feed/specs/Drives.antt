@@ -20,7 +20,7 @@ module _ {Fault : Type 0} where
     -- it has said that no block comes any more
     pub ended : feed.ended ≡ true
     -- every block was run and taken
-    pub taken : feed.due ≡ []
+    pub none_due : feed.due ≡ []
     -- none is left
     pub left : IsLeft feed.left []
     -- no call of it failed

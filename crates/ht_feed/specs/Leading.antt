@@ -75,14 +75,14 @@ module _ {H : Type 0} where
   headed-on head mid xs ys is = headed-append head xs ys ∙ ap (λ (h : H). headed head xs ++ headed h ys) (sym is)
 
   -- the jobs of items and more items, behind jobs that were due
-  jobs-on : (due mid last taken more came others : List (Headed H)) → due ++ came ≡ taken ++ mid → mid ++ others ≡ more ++ last
-      → due ++ (came ++ others) ≡ (taken ++ more) ++ last
-  jobs-on due mid last taken more came others first later =
+  jobs-on : (due mid last answered more came others : List (Headed H)) → due ++ came ≡ answered ++ mid → mid ++ others ≡ more ++ last
+      → due ++ (came ++ others) ≡ (answered ++ more) ++ last
+  jobs-on due mid last answered more came others first later =
       sym (append_assoc due came others)
       ∙ (ap (λ (xs : List (Headed H)). xs ++ others) first
-      ∙ (append_assoc taken mid others
-      ∙ (ap (λ (xs : List (Headed H)). taken ++ xs) later
-      ∙ sym (append_assoc taken more last))))
+      ∙ (append_assoc answered mid others
+      ∙ (ap (λ (xs : List (Headed H)). answered ++ xs) later
+      ∙ sym (append_assoc answered more last))))
 
   -- what both give read, in turn
   reads-both : (old mid new : Standing (Item H)) (items more : List (Item H)) → IsLater old.reader.source mid.reader.source
@@ -90,22 +90,22 @@ module _ {H : Type 0} where
   reads-both old mid new items more p first later = reads_on old.stop mid.stop new.stop old.reader mid.reader new.reader items more p first later
 
   module _ {P : Type 0} where
-    pub puts-on : (old mid new : List (Headed H) → List P) (taken more : List (Headed H)) (p q : List P) → PutsFirst old mid taken p → PutsFirst mid new more q
-        → PutsFirst old new (taken ++ more) (p ++ q)
-    puts-on old mid new taken more p q first later = λ ys.
-        ap old (append_assoc taken more ys) ∙ (first (more ++ ys) ∙ (ap (λ (xs : List P). p ++ xs) (later ys) ∙ sym (append_assoc p q (new ys))))
+    pub puts-on : (old mid new : List (Headed H) → List P) (answered more : List (Headed H)) (p q : List P) → PutsFirst old mid answered p → PutsFirst mid new more q
+        → PutsFirst old new (answered ++ more) (p ++ q)
+    puts-on old mid new answered more p q first later = λ ys.
+        ap old (append_assoc answered more ys) ∙ (first (more ++ ys) ∙ (ap (λ (xs : List P). p ++ xs) (later ys) ∙ sym (append_assoc p q (new ys))))
 
-    pub part-on : (a b c : Device P) (old mid : List (Headed H) → List P) (taken more : List (Headed H)) (p : List P) → Grows a b p → PutsFirst old mid taken p
-        → PutsPartOf b c mid more → PutsPartOf a c old (taken ++ more)
-    part-on a b c old mid taken more p grows first part = λ ys.
-        subst (λ (xs : List P). GrowsByPart a c xs) (sym (ap old (append_assoc taken more ys) ∙ first (more ++ ys)))
+    pub part-on : (a b c : Device P) (old mid : List (Headed H) → List P) (answered more : List (Headed H)) (p : List P) → Grows a b p → PutsFirst old mid answered p
+        → PutsPartOf b c mid more → PutsPartOf a c old (answered ++ more)
+    part-on a b c old mid answered more p grows first part = λ ys.
+        subst (λ (xs : List P). GrowsByPart a c xs) (sym (ap old (append_assoc answered more ys) ∙ first (more ++ ys)))
         (grows_by_part-append a b c p (mid (more ++ ys)) grows (part ys))
 
     pub tells-none : (seen : Seen H P) → Tells seen seen
     tells-none seen =
         record {
           items = [];
-          taken = [];
+          answered = [];
           put = [];
           reads = reads_none seen.standing;
           head = refl;
@@ -124,13 +124,13 @@ module _ {H : Type 0} where
     tells-on old mid new a b =
         record {
           items = a.items ++ b.items;
-          taken = a.taken ++ b.taken;
+          answered = a.answered ++ b.answered;
           put = a.put ++ b.put;
           reads = reads-both old.standing mid.standing new.standing a.items b.items a.reads_later a.reads b.reads;
           head = heads-on old.head mid.head new.head a.items b.items a.head b.head;
           jobs = ap (λ (xs : List (Headed H)). old.due ++ xs) (headed-on old.head mid.head a.items b.items a.head)
-              ∙ jobs-on old.due mid.due new.due a.taken b.taken (headed old.head a.items) (headed mid.head b.items) a.jobs b.jobs;
-          first = puts-on old.account.pieces mid.account.pieces new.account.pieces a.taken b.taken a.put b.put a.first b.first;
+              ∙ jobs-on old.due mid.due new.due a.answered b.answered (headed old.head a.items) (headed mid.head b.items) a.jobs b.jobs;
+          first = puts-on old.account.pieces mid.account.pieces new.account.pieces a.answered b.answered a.put b.put a.first b.first;
           grows = grows-append old.account.device mid.account.device new.account.device a.put b.put a.grows b.grows;
           waits = λ w. b.waits (a.waits w);
           steady = b.steady ∙ a.steady;
@@ -148,13 +148,13 @@ module _ {H : Type 0} where
     tells-fails old mid new fault a b =
         record {
           items = a.items ++ b.items;
-          taken = a.taken ++ b.taken;
+          answered = a.answered ++ b.answered;
           rest = b.rest;
           reads = reads-both old.standing mid.standing new.standing a.items b.items a.reads_later a.reads b.reads;
           jobs = ap (λ (xs : List (Headed H)). old.due ++ xs) (headed-on old.head mid.head a.items b.items a.head)
-              ∙ jobs-on old.due mid.due b.rest a.taken b.taken (headed old.head a.items) (headed mid.head b.items) a.jobs b.jobs;
+              ∙ jobs-on old.due mid.due b.rest a.answered b.answered (headed old.head a.items) (headed mid.head b.items) a.jobs b.jobs;
           part = part-on old.account.device mid.account.device new.account.device
-              old.account.pieces mid.account.pieces a.taken b.taken a.put a.grows a.first b.part;
+              old.account.pieces mid.account.pieces a.answered b.answered a.put a.grows a.first b.part;
           reads_later = later-later old.standing.reader.source mid.standing.reader.source new.standing.reader.source a.reads_later b.reads_later;
           puts_later = later-later old.account.device mid.account.device new.account.device a.puts_later b.puts_later;
           cause = λ is. failed-later old.account.device mid.account.device new.account.device a.puts_later (b.cause is);
@@ -165,11 +165,11 @@ module _ {H : Type 0} where
     fails-rests old mid new fault other is a b =
         record {
           items = a.items;
-          taken = a.taken;
+          answered = a.answered;
           rest = a.rest;
           reads = subst (λ (standing : Standing (Item H)). ReadsOn old.standing standing a.items) b.standing a.reads;
           jobs = a.jobs;
-          part = subst (λ (device : Device P). PutsPartOf old.account.device device old.account.pieces a.taken) b.device a.part;
+          part = subst (λ (device : Device P). PutsPartOf old.account.device device old.account.pieces a.answered) b.device a.part;
           reads_later = subst (λ (standing : Standing (Item H)). IsLater old.standing.reader.source standing.reader.source) b.standing a.reads_later;
           puts_later = subst (λ (device : Device P). IsLater old.account.device device) b.device a.puts_later;
           cause = λ write. subst (λ (device : Device P). Rose old.account.device device) b.device (a.cause (is ∙ write));

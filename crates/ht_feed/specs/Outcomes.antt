@@ -21,7 +21,7 @@ pieces_of pieces head start octets = pieces (headed head (start.means octets).it
 -- device that they are put into, before and after
 module _ {H P : Type 0} (start : ReaderView (Item H)) (pieces : List ℕ → List P) (source' : Device ℕ) (device device' : Device P) where
   -- all octets that were left are a whole input with this number of frames and of jobs, and its pieces were put
-  pub record TellsWhole (frames jobs : ℕ) : Type 0 where
+  pub record EndsWhole (frames jobs : ℕ) : Type 0 where
     pub taken : List ℕ
     pub octets : TakesAll start.source source' taken
     pub whole : (start.means taken).fault ≡ None
@@ -34,7 +34,7 @@ module _ {H P : Type 0} (start : ReaderView (Item H)) (pieces : List ℕ → Lis
   EndsWith taken fault = EndsAt start taken fault ⊎ (fault ≡ record { kind = Truncated; offset = start.at + length taken })
 
   -- the octets taken end with the first fault; the pieces of what is whole before it were put
-  pub record TellsRefused (fault : FormatFault) : Type 0 where
+  pub record EndsRefused (fault : FormatFault) : Type 0 where
     pub taken : List ℕ
     pub octets : Takes start.source source' taken
     pub refused : (start.means taken).fault ≡ Some fault
@@ -44,29 +44,29 @@ module _ {H P : Type 0} (start : ReaderView (Item H)) (pieces : List ℕ → Lis
 
   -- the octets taken before the source failed are a whole input, or the front of one; the pieces of what is whole in
   -- them were put
-  pub record TellsBroken : Type 0 where
+  pub record EndsBroken : Type 0 where
     pub taken : List ℕ
     pub octets : Takes start.source source' taken
     pub front : IsEarly (start.at + length taken) (start.means taken).fault
     pub put : Grows device device' (pieces taken)
 
   -- a part of the pieces of what is whole in the octets taken was put
-  pub record TellsPieces : Type 0 where
+  pub record EndsPartly : Type 0 where
     pub taken : List ℕ
     pub octets : Takes start.source source' taken
     pub put : GrowsByPart device device' (pieces taken)
     pub of_all : IfSome start.source.known (λ all. GrowsByPart device device' (pieces all))
 
   -- what a run came to that ended
-  abbrev pub TellsTo : Ended → Type 0
-  TellsTo (Done frames jobs) = TellsWhole frames jobs
-  TellsTo (Refused fault) = TellsRefused fault
+  abbrev pub EndsAs : Ended → Type 0
+  EndsAs (Done frames jobs) = EndsWhole frames jobs
+  EndsAs (Refused fault) = EndsRefused fault
 
   -- what it came to where it stopped; a failed device has counted it
-  abbrev pub StopsBy : StopFault → Type 0
-  StopsBy Read = TellsBroken × Rose start.source source'
-  StopsBy Write = TellsPieces × Rose device device'
-  StopsBy NoMemory = TellsPieces
+  abbrev pub StopsAs : StopFault → Type 0
+  StopsAs Read = EndsBroken × Rose start.source source'
+  StopsAs Write = EndsPartly × Rose device device'
+  StopsAs NoMemory = EndsPartly
 
 -- What a run came to, from a reader that means this and the head that stands for the one that came last: the source and
 -- the account, before and after, and the answer.
@@ -75,4 +75,4 @@ abbrev pub Comes : {R H P : Type 0} → (R → List ℕ → Meaning (Item H)) �
 Comes means at reader head source source' a b result =
     let start = view means at reader source in
     let pieces = pieces_of a.pieces head start in
-    MatchResult result (TellsTo start pieces source' a.device b.device) (StopsBy start pieces source' a.device b.device)
+    MatchResult result (EndsAs start pieces source' a.device b.device) (StopsAs start pieces source' a.device b.device)

@@ -16,6 +16,6 @@ abbrev pub HaveNumbers : ℕ → List JobView → Type 0
 HaveNumbers count jobs = (n : ℕ) → sum_by (is_number n) jobs ≤ is_below count n
 
 -- each of these jobs is the one of its number in the list of all
-abbrev pub AreTold : List JobView → List JobView → Type 0
-AreTold all [] = Unit {0}
-AreTold all (job ∷ jobs) = (slice_get all job.number ≡ Some job) × AreTold all jobs
+abbrev pub AreByNumber : List JobView → List JobView → Type 0
+AreByNumber all [] = Unit {0}
+AreByNumber all (job ∷ jobs) = (slice_get all job.number ≡ Some job) × AreByNumber all jobs

@@ -1,11 +1,11 @@
 -- What a call of a reader of blocks does with the octets that it takes, and how far an input was read over several
 -- calls.
 use Rattle.std.specs.Prelude.{◌≡◌, ◌⊎◌, ℕ, ◌+◌, ◌-◌, ◌^◌, ◌<◌, ◌≤◌, List, [], ◌∷◌, map, length, Option, None, Some, Bool, true}
-use Rattle.ht_io.specs.Devices.{Device, Takes, TakesAll, Rose, IsLater}
+use Rattle.ht_io.specs.Devices.{Device, Takes, Rose, IsLater}
 use Rattle.ht_io.specs.declared.faults.InFault.{InFault}
 use Rattle.ht_io.specs.declared.faults.InFault.TheVariants.{Format, Read, NoMemory}
-use Rattle.ht_fields.specs.Meanings.{Meaning, ended}
-use Rattle.ht_fields.specs.Readers.{ReaderView, Gives, Refuses, RunsOut, Breaks}
+use Rattle.ht_fields.specs.Meanings.{Meaning}
+use Rattle.ht_fields.specs.Readers.{ReaderView, Gives, Refuses, RunsOut, Breaks, Completes}
 use Rattle.ht_metric.specs.Jobs.{JobView}
 use Rattle.ht_feed.specs.declared.came.Came.{Came}
 use Rattle.ht_feed.specs.declared.came.Came.TheVariants.{Head, Block, End}
@@ -43,12 +43,6 @@ pub record CountsBlock (most : ℕ) (old new : Counts) (jobs : List JobView) : T
   pub some : 1 ≤ length jobs
   pub few : length jobs ≤ most
   pub fewer : new.more + length jobs ≤ old.more
-
--- the octets taken were all that was left: the reader meant no item more, and no fault
-pub record Completes {I : Type 0} (old : ReaderView I) (after : Device ℕ) : Type 0 where
-  pub taken : List ℕ
-  pub octets : TakesAll old.source after taken
-  pub means : old.means taken ≡ ended
 
 -- memory lacked behind octets of which nothing is said
 pub record Lacks {I : Type 0} (old : ReaderView I) (after : Device ℕ) : Type 0 where

@@ -37,12 +37,12 @@ module _ {H P : Type 0} where
   -- account's device never failed
   pub record Tells (old new : Seen H P) : Type 0 where
     pub items : List (Item H)
-    pub taken : List (Headed H)
+    pub answered : List (Headed H)
     pub put : List P
     pub reads : ReadsOn old.standing new.standing items
     pub head : new.head ≡ last_head old.head items
-    pub jobs : old.due ++ headed old.head items ≡ taken ++ new.due
-    pub first : PutsFirst old.account.pieces new.account.pieces taken put
+    pub jobs : old.due ++ headed old.head items ≡ answered ++ new.due
+    pub first : PutsFirst old.account.pieces new.account.pieces answered put
     pub grows : Grows old.account.device new.account.device put
     pub waits : old.account.Waits old.due → new.account.Waits new.due
     pub steady : new.account.device.faults ≡ old.account.device.faults
@@ -55,11 +55,11 @@ module _ {H P : Type 0} where
   -- exactly where it failed
   pub record TellsPart (old new : Seen H P) (fault : BookFault) : Type 0 where
     pub items : List (Item H)
-    pub taken : List (Headed H)
+    pub answered : List (Headed H)
     pub rest : List (Headed H)
     pub reads : ReadsOn old.standing new.standing items
-    pub jobs : old.due ++ headed old.head items ≡ taken ++ rest
-    pub part : PutsPartOf old.account.device new.account.device old.account.pieces taken
+    pub jobs : old.due ++ headed old.head items ≡ answered ++ rest
+    pub part : PutsPartOf old.account.device new.account.device old.account.pieces answered
     pub reads_later : IsLater old.standing.reader.source new.standing.reader.source
     pub puts_later : IsLater old.account.device new.account.device
     pub cause : fault ≡ Failed → Rose old.account.device new.account.device
@@ -86,7 +86,7 @@ pub record RunsDesk {R H P T : Type 0} (before after : Seen H P) (desk : DeskVie
   -- where all went well, the reading has stopped
   pub ended : OnOk driven (is_some desk.stop ≡ true)
   -- the answer to each block was taken
-  pub taken : OnOk driven (jobs_in desk.due ≡ [])
+  pub none_due : OnOk driven (jobs_in desk.due ≡ [])
   -- and no call failed
   pub well : OnOk driven (failed' ≡ None)
   -- a fault is what a call failed with

@@ -1,9 +1,9 @@
 //! What becomes of hits.
-ghost use Rattle.std.specs.Prelude.{◌≡◌, ℕ, List, [], ◌∷◌, ◌++◌, drop, slice_get, Some, IfErr, OnErr, OnOk};
-ghost use Rattle.ht_io.specs.Devices.{Device, Rose, IsLater};
+ghost use Rattle.std.specs.Prelude.{◌≡◌, ℕ, List, [], ◌∷◌, ◌++◌, drop, slice_get, Some, OnErr, OnOk};
+ghost use Rattle.ht_io.specs.Devices.{Device};
 ghost use Rattle.ht_feed.specs.Items.{Headed};
 ghost use Rattle.ht_feed.specs.Dues.{all_due, due_of, headed_due};
-ghost use Rattle.ht_feed.specs.Accounts.{PutsBlock, PutsPartOf};
+ghost use Rattle.ht_feed.specs.Accounts.{CountsFaults, PutsBlock, PutsPartOf};
 
 use crate::answer::Answer;
 use crate::book_fault::BookFault;
@@ -32,12 +32,11 @@ pub trait Account<R: BlockReader> {
     /// What is put in all if the hits of exactly these jobs still come.
     ghost pieces: { Self → List (Headed R.Head) → List Self.Piece };
 
-    /// What is kept back is of jobs in front of these, which are due; where none is due, nothing is kept back.
+    /// What is kept back belongs to jobs before these jobs, which are due; if none is due, nothing is kept back.
     ghost waits: { Self → List (Headed R.Head) → Type 0 };
 
     /// Takes the answer to the first block due, whose frame has this head. In `due` are all blocks that are due, in
-    /// order, this one first. Behind a refusal nothing is said of the pieces still to come, and nothing of the ones
-    /// that were kept back.
+    /// order, this one first. After a refusal nothing is promised about the pieces still to come or kept back.
     fn take(
         &mut self,
         head: &R::Head,
@@ -54,12 +53,8 @@ pub trait Account<R: BlockReader> {
         ensures part { OnErr result (PutsPartOf (shown self.old) (shown self.new) (pieces self.old) (headed_due (due_of head.now (R.Block.jobs block.now)))) }
         ensures waits { OnOk result (waits self.old (all_due due.now.items) → waits self.new (all_due (drop 1 due.now.items))) }
 
-        // The device has counted a fault exactly where it failed.
-        ensures cause { IfErr result (λ fault. fault ≡ BookFault.Failed → Rose (shown self.old) (shown self.new)) }
-        ensures steady { OnOk result ((shown self.new).faults ≡ (shown self.old).faults) }
-        ensures unfailed { IfErr result (λ fault. fault ≡ BookFault.NoMemory → (shown self.new).faults ≡ (shown self.old).faults) }
-        ensures later { IsLater (shown self.old) (shown self.new) }
-        ensures same { lent self.new ≡ lent self.old };
+        // It is the same device, which has counted a fault exactly where it failed.
+        ensures faults { CountsFaults result (shown self.old) (shown self.new) (lent self.old) (lent self.new) };
 
     /// What is kept back may wait while more jobs are due.
     ghost more_due: { (a : Self) (due : List (Headed R.Head)) (h : Headed R.Head) → waits a due → waits a (due ++ h ∷ []) };

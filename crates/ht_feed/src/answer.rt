@@ -27,8 +27,8 @@ pub trait Work<B: Jobs> {
         ensures right { IfOk result (λ answer. Self.Answer.answers answer (B.jobs block.now)) }
         ensures lacks { OnErr result Self.Answer.may_lack };
 
-    /// Whether the block of this answer took so long that the next ones are better given job by job. Nothing but the
-    /// size of blocks rests on it.
+    /// Whether the block of this answer took so long that the next ones are better given job by job. Only the size of
+    /// blocks depends on it.
     fn is_hard(&self, _block: &B, _answer: &Self::Answer) -> bool
         requires few { length (B.jobs _block.now) < 2 ^ 16 }
     {

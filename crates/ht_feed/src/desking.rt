@@ -1,7 +1,6 @@
 //! What a feed asks of its desk.
-ghost use Rattle.std.specs.Prelude.{◌≡◌, ◌+◌, ◌≤◌, None, Some, take, drop, slice_get, IfErr, IfNone, IfOk, IfSome, OnErr, OnOk};
-ghost use Rattle.ht_io.specs.Devices.{IsLater, Rose};
-ghost use Rattle.ht_feed.specs.Accounts.{PutsBlock, PutsPartOf};
+ghost use Rattle.std.specs.Prelude.{◌≡◌, ◌+◌, ◌≤◌, None, Some, take, drop, slice_get, IfNone, IfOk, IfSome, OnErr, OnOk};
+ghost use Rattle.ht_feed.specs.Accounts.{CountsFaults, PutsBlock, PutsPartOf};
 ghost use Rattle.ht_feed.specs.Desks.{AddsBlock, AddsNone, DeskView, IsSoundDesk, ReadsMore};
 ghost use Rattle.ht_feed.specs.Dues.{all_due, count_in, jobs_in};
 
@@ -30,8 +29,8 @@ pub trait Desking<R: BlockReader + Drop> {
         ensures memory { OnErr result ((seen self.new ≡ seen self.old) × (source.new ≡ source.old)) }
         ensures sound { IsSoundDesk R.counts (seen self.new) };
 
-    /// Hands an account the answer to the first block due, which is due no longer. Where the account refuses, the desk
-    /// stays as it was; of the account that isn't said.
+    /// Hands an account the answer to the first block due, which is then no longer due. If the account refuses, the desk
+    /// stays as it was, but the account may have changed.
     fn take<A: Account<R>>(
         &mut self,
         block: &R::Block,
@@ -52,10 +51,6 @@ pub trait Desking<R: BlockReader + Drop> {
         ensures stays { OnErr result (seen self.new ≡ seen self.old) }
         ensures sound { IsSoundDesk R.counts (seen self.new) }
 
-        // The device has counted a fault exactly where it failed.
-        ensures cause { IfErr result (λ fault. fault ≡ BookFault.Failed → Rose (A.shown account.old) (A.shown account.new)) }
-        ensures steady { OnOk result ((A.shown account.new).faults ≡ (A.shown account.old).faults) }
-        ensures unfailed { IfErr result (λ fault. fault ≡ BookFault.NoMemory → (A.shown account.new).faults ≡ (A.shown account.old).faults) }
-        ensures later { IsLater (A.shown account.old) (A.shown account.new) }
-        ensures same { A.lent account.new ≡ A.lent account.old };
+        // The account's device is the same, and has counted a fault exactly where it failed.
+        ensures faults { CountsFaults result (A.shown account.old) (A.shown account.new) (A.lent account.old) (A.lent account.new) };
 }

@@ -47,7 +47,7 @@ pub trait BlockFeed {
     fn take(&mut self, block: &Self::Block, answer: &Self::Answer) -> Result<(), Self::Fault>
         requires right { Self.Answer.answers answer.now (Self.Block.jobs block.now) }
         requires first { slice_get (shown self.old).due 0 ≡ Some (Self.Block.jobs block.now) }
-        ensures taken { OnOk result (TakesBlock (shown self.old) (shown self.new)) }
+        ensures takes { OnOk result (TakesBlock (shown self.old) (shown self.new)) }
         ensures fault { IfErr result (Fails (shown self.old) (shown self.new)) }
         ensures leads { leads self.old self.new };
 

@@ -1,6 +1,6 @@
 //! A desk as a feed.
 ghost use Rattle.std.specs.Prelude.{◌≡◌, slice_get, Some, IfErr, OnOk};
-ghost use Rattle.ht_feed.specs.Accounts.{told_by};
+ghost use Rattle.ht_feed.specs.Accounts.{telling_of};
 ghost use Rattle.ht_feed.specs.Feeds.{Fails, TakesBlock};
 ghost use Rattle.ht_feed.specs.Feeding.{FeedsOn, feed_of, feeds_on-more, feeds_on-none, names, names_of};
 
@@ -51,7 +51,7 @@ impl<'a, R: BlockReader + Drop, D: Desking<R>, S: Source, A: Account<R>> BlockFe
 
     ghost shown = { feed_of D.seen R.counts };
 
-    ghost leads = { FeedsOn D.seen R.means R.at S.shown A.lent (told_by A.shown A.pieces A.waits) };
+    ghost leads = { FeedsOn D.seen R.means R.at S.shown A.lent (telling_of A.shown A.pieces A.waits) };
 
     fn next(&mut self, most: u16) -> Result<Option<R::Block>, BookFault> {
         if let Some(fault) = *self.failed {
@@ -69,9 +69,9 @@ impl<'a, R: BlockReader + Drop, D: Desking<R>, S: Source, A: Account<R>> BlockFe
     fn take(&mut self, block: &R::Block, answer: &A::Answer) -> Result<(), BookFault>
         requires right { A.Answer.answers answer.now (R.Block.jobs block.now) }
         requires first { slice_get (feed_of D.seen R.counts self.old).due 0 ≡ Some (R.Block.jobs block.now) }
-        ensures taken { OnOk result (TakesBlock (feed_of D.seen R.counts self.old) (feed_of D.seen R.counts self.new)) }
+        ensures takes { OnOk result (TakesBlock (feed_of D.seen R.counts self.old) (feed_of D.seen R.counts self.new)) }
         ensures fault { IfErr result (Fails (feed_of D.seen R.counts self.old) (feed_of D.seen R.counts self.new)) }
-        ensures leads { FeedsOn D.seen R.means R.at S.shown A.lent (told_by A.shown A.pieces A.waits) self.old self.new }
+        ensures leads { FeedsOn D.seen R.means R.at S.shown A.lent (telling_of A.shown A.pieces A.waits) self.old self.new }
     {
         if let Some(fault) = *self.failed {
             return Err(fault);
@@ -85,7 +85,7 @@ impl<'a, R: BlockReader + Drop, D: Desking<R>, S: Source, A: Account<R>> BlockFe
         }
     }
 
-    ghost stays = { feeds_on-none D.seen R.means R.at S.shown A.lent (told_by A.shown A.pieces A.waits) };
+    ghost stays = { feeds_on-none D.seen R.means R.at S.shown A.lent (telling_of A.shown A.pieces A.waits) };
 
-    ghost goes_on = { feeds_on-more D.seen R.means R.at S.shown A.lent (told_by A.shown A.pieces A.waits) };
+    ghost goes_on = { feeds_on-more D.seen R.means R.at S.shown A.lent (telling_of A.shown A.pieces A.waits) };
 }

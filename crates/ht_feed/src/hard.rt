@@ -4,14 +4,14 @@ ghost use Rattle.std.specs.Prelude.{◌^◌, ◌<◌, length};
 use crate::jobs::Jobs;
 use ht_metric::{Found, Job};
 
-/// The streams of a hard job, at least.
+/// A hard job has at least this number of streams.
 const STREAMS: u8 = 3;
 
-/// How often the distance of a hard job has its measure in it, at least.
+/// The distance of a hard job is at least this number of times its measure.
 const FAR: u64 = 64;
 
 /// Whether the search for a job whose hit has this distance may have looked at thousands of vectors: many are in the
-/// grid, and the one that was found is far. Nothing but the size of blocks rests on it.
+/// grid, and the one that was found is far. Only the size of blocks depends on it.
 pub fn is_hard(job: &Job, distance: u128) -> bool {
     let grid = job.grid();
     if grid.streams() < STREAMS || !grid.i_ladder(1).has(3) {
@@ -20,7 +20,7 @@ pub fn is_hard(job: &Job, distance: u128) -> bool {
     u64::try_from(distance).unwrap_or(u64::MAX) / measure(job).max(1) >= FAR
 }
 
-/// Whether the last job of a block, which speaks for all, was hard, where this was found for its jobs.
+/// Whether the last job of a block, which stands for all of them, was hard, given what was found for its jobs.
 pub fn is_last_hard<B: Jobs>(block: &B, found: &[Found]) -> bool
     requires few { length (B.jobs block.now) < 2 ^ 16 }
 {

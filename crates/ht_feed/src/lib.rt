@@ -1,20 +1,20 @@
 //! What a receiver does between any reader of blocks and the detector.
 //!
-//! A [`BlockReader`] gives the heads of frames, and behind each the jobs of its frame in blocks: a block stands for a
-//! list of jobs ([`Jobs`]), and every contract speaks of that list, so that nothing depends on the division. A [`Desk`]
-//! keeps a reader and what is due, a ring of the blocks that were given and whose hits weren't taken yet; how much may
-//! be due is counted in jobs. Whoever runs a block gives an [`Answer`] for it ([`Work`]), which the desk hands, in
-//! order, to an [`Account`]: what is put in all is the account's alone, as a function of the jobs that come, each with
-//! the head of its frame. A [`DeskFeed`] is a desk between its source and its account as a [`BlockFeed`], which a drive
-//! asks for blocks and gives their answers back to; it names the desk that it borrows by a type of its own, of which
+//! A [`BlockReader`] gives the heads of frames, and after each head the jobs of its frame in blocks. A block stands for a
+//! list of jobs ([`Jobs`]), and every contract is about that list, so that nothing depends on how jobs are divided. A
+//! [`Desk`] has a reader and a ring of the blocks that are due, which means given and their answers not taken yet; how
+//! much may be due is counted in jobs. The thread that runs a block makes an [`Answer`] to it ([`Work`]), which the desk
+//! hands, in order, to an [`Account`]. What is put in all is decided by the account alone, as a function of the jobs that
+//! come, each with the head of its frame. A [`DeskFeed`] is a desk between its source and its account as a [`BlockFeed`],
+//! which gives blocks to a drive and takes their answers back; the type of the desk that it borrows is a parameter, and
 //! [`Desking`] says what a desk does. [`tell_alone`] goes through a whole input in this thread.
 //!
-//! What a run comes to is said once for all readers and accounts: for an input that is whole, for one with a first
-//! fault, where the source or the account's device failed, and where memory lacked (`specs/Outcomes.antt`).
+//! The outcome of a run is defined once for all readers and accounts: for a whole input, for one with a fault, where the
+//! source or the account's device failed, and where memory ran out (`specs/Outcomes.antt`).
 //!
 //! A block may be [one job](OneJob), whose answer is [one hit](OneHit); [`Hits`] are the answers of the [`Detector`]; a
-//! [`Meter`] puts an octet for each; and a [`Gate`] is called before and after a job, by whoever runs it. So of a frame of
-//! two BPSK symbols with 56 subcarriers in one spatial stream, whose diagonals are 10 and whose samples are 0,
+//! [`Meter`] puts an octet for each; and a [`Gate`] is called before and after a job, by the thread that runs it. So for a
+//! frame of two BPSK symbols with 56 subcarriers in one spatial stream, whose diagonals are 10 and whose samples are 0,
 //! [`tell_alone`] puts 112 octets of 100, whatever the blocks are, and answers `Done { frames: 1, jobs: 112 }`.
 #![tactic(auto)]
 

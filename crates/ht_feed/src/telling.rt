@@ -1,6 +1,6 @@
 //! A whole input, and what becomes of its hits.
 ghost use Rattle.std.specs.Prelude.{◌≡◌, ◌-◌, ◌<◌, [], None, true, is_some, OnOk};
-ghost use Rattle.ht_feed.specs.Accounts.{told_by};
+ghost use Rattle.ht_feed.specs.Accounts.{telling_of};
 ghost use Rattle.ht_feed.specs.Inputs.{TellsInput};
 ghost use Rattle.ht_feed.specs.Limits.{IsWindowSize};
 ghost use Rattle.ht_feed.specs.Reading.{IsFreshReader};
@@ -54,8 +54,8 @@ fn run_desk<R: BlockReader + Drop, S: Source, A: Account<R>, W: Work<R::Block, A
     requires window { IsWindowSize window }
     requires going { desk.old.stop ≡ None }
     requires none { desk.old.due ≡ [] }
-    ensures runs { RunsDesk (seen_by R.means R.at desk.old (S.shown source.old) (told_by A.shown A.pieces A.waits account.old))
-        (seen_by R.means R.at desk.new (S.shown source.new) (told_by A.shown A.pieces A.waits account.new)) desk.new None (failed_by result) result }
+    ensures runs { RunsDesk (seen_by R.means R.at desk.old (S.shown source.old) (telling_of A.shown A.pieces A.waits account.old))
+        (seen_by R.means R.at desk.new (S.shown source.new) (telling_of A.shown A.pieces A.waits account.new)) desk.new None (failed_by result) result }
     ensures same { A.lent account.new ≡ A.lent account.old }
 {
     loop {
@@ -101,7 +101,7 @@ pub fn tell_alone<
     requires fresh { IsFreshReader (R.counts reader) }
     requires rests { A.waits account.old [] }
     ensures { TellsInput R.means R.at reader head (S.shown source.old) (S.shown source.new)
-        (told_by A.shown A.pieces A.waits account.old) (told_by A.shown A.pieces A.waits account.new)
+        (telling_of A.shown A.pieces A.waits account.old) (telling_of A.shown A.pieces A.waits account.new)
         (A.lent account.old) (A.lent account.new) result }
 {
     let mut desk = Desk::new(alloc, reader, head, 1)?;

@@ -8,12 +8,12 @@ use Rattle.ht_io.specs.declared.faults.InFault.TheVariants.{Format, Read, NoMemo
 use Rattle.ht_fields.specs.Grammar.{Grammar}
 use Rattle.ht_fields.specs.Meanings.{Meaning}
 use Rattle.ht_fields.specs.Readers.{ReaderView, reader_in, Gives, IsEarly}
-use Rattle.ht_fields.specs.WholeFiles.{EndsEarly, GivesFields, Halts, HasFirstFault, IsCleanSoFar}
+use Rattle.ht_fields.specs.WholeFiles.{EndsEarly, GivesFields, StopsWithCause, HasFirstFault, IsCleanSoFar}
 use Rattle.ht_fields.proofs.Joins.{gives_none, gives_more}
 use Rattle.ht_fields.proofs.Routes.{Route, route_gives}
 
 -- what stops a reader ends the reading
-pub halts_ends : {I : Type 0} (old : ReaderView I) (after : Device ℕ) (fault : InFault) → Halts old after fault → EndsEarly old after fault
+pub halts_ends : {I : Type 0} (old : ReaderView I) (after : Device ℕ) (fault : InFault) → StopsWithCause old after fault → EndsEarly old after fault
 halts_ends {I = I} old after (Format fault) (inl r, cause) = (r.taken, inl (r.octets, λ rest. ap (λ (m : Meaning I). m.fault) (r.means rest)))
 halts_ends {I = I} old after (Format fault) (inr r, cause) = (r.taken, inr (r.octets, ap (λ (m : Meaning I). m.fault) r.means))
 halts_ends old after Read (r, cause) = (cause, (r.taken, r.octets, r.early))

@@ -22,6 +22,10 @@ ended = record { items = []; fault = None }
 abbrev pub refused : {I : Type 0} → Kind → ℕ → Meaning I
 refused kind offset = record { items = []; fault = Some (record { kind = kind; offset = offset }) }
 
+-- these items, and then the octets end within a field, at this offset
+abbrev pub cut_off : {I : Type 0} → List I → ℕ → Meaning I
+cut_off items offset = record { items = items; fault = Some (record { kind = Truncated; offset = offset }) }
+
 -- what a verdict means: the items, and then what the rest means in the next state, or a fault at the field's first octet
 abbrev pub judged : {S I : Type 0} → Verdict S I → ℕ → (S → Meaning I) → Meaning I
 judged (Good next items) began rest = before items (rest next)

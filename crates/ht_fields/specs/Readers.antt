@@ -71,3 +71,9 @@ Stops old after NoMemory = Unit {0}
 pub record Finishes {I : Type 0} (old : ReaderView I) (after : Device ℕ) : Type 0 where
   pub octets : TakesAll old.source after []
   pub means : old.means [] ≡ ended
+
+-- the octets taken were all that was left: the reader meant no item more, and no fault
+pub record Completes {I : Type 0} (old : ReaderView I) (after : Device ℕ) : Type 0 where
+  pub taken : List ℕ
+  pub octets : TakesAll old.source after taken
+  pub means : old.means taken ≡ ended

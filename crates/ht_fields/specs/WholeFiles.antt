@@ -1,5 +1,5 @@
 -- How a reading ends, in any format: why it stopped, and what a file that is read whole is.
-use Rattle.std.specs.Prelude.{◌≡◌, ◌⊎◌, ℕ, ◌+◌, List, ◌++◌, length, Some}
+use Rattle.std.specs.Prelude.{◌≡◌, ◌⊎◌, ℕ, ◌+◌, List, ◌++◌, length, Some, Result, MatchResult}
 use Rattle.ht_io.specs.Devices.{Device, Takes, TakesAll, Rose}
 use Rattle.ht_io.specs.declared.faults.FormatFault.{FormatFault}
 use Rattle.ht_io.specs.declared.faults.InFault.{InFault}
@@ -12,9 +12,15 @@ Caused before after (Format fault) = Unit {0}
 Caused before after Read = Rose before after
 Caused before after NoMemory = ⊥
 
--- a reader stopped with this fault, and its source tells why
-abbrev pub Halts : {I : Type 0} → ReaderView I → Device ℕ → InFault → Type 0
-Halts old after fault = Stops old after fault × Caused old.source after fault
+-- a reader stopped with this fault, on the way to its next item, and its source tells why
+abbrev pub StopsWithCause : {I : Type 0} → ReaderView I → Device ℕ → InFault → Type 0
+StopsWithCause old after fault = Stops old after fault × Caused old.source after fault
+
+-- What a call comes to that reads some fields, for the reader as it stood in front of them. Where the answer is Ok, the octets
+-- taken give the items that go with it, and the reader stands where the answer says. Where it is a fault, the reading stopped
+-- at one of these fields, before any item.
+abbrev pub ReadsTo : {A I : Type 0} → Result A InFault → ReaderView I → (A → ReaderView I) → (A → List I) → Device ℕ → Type 0
+ReadsTo result old new items after = MatchResult result (λ answer. Gives old (new answer) (items answer)) (StopsWithCause old after)
 
 -- the octets that were taken are good fields
 abbrev pub GivesFields : {I : Type 0} → ReaderView I → ReaderView I → Type 0
@@ -37,6 +43,12 @@ abbrev pub EndsEarly : {I : Type 0} → ReaderView I → Device ℕ → InFault 
 EndsEarly old after (Format fault) = HasFirstFault old after fault
 EndsEarly old after Read = Rose old.source after × IsCleanSoFar old after
 EndsEarly old after NoMemory = Unit {0}
+
+-- What a call comes to that reads fields of a file that is read whole, for the reader as it stood in front of them. Where the
+-- answer is Ok, they are good, and the reader stands where the answer says. Where it is a fault, the reading of the file ended
+-- at one of them, or memory ran out.
+abbrev pub ReadsFieldsTo : {A I : Type 0} → Result A InFault → ReaderView I → (A → ReaderView I) → Device ℕ → Type 0
+ReadsFieldsTo result old new after = MatchResult result (λ answer. GivesFields old (new answer)) (EndsEarly old after)
 
 -- the octets that were left are the file of such values, and were all taken
 abbrev pub ReadsWhole : {V : Type 0} → (List V → Type 0) → (List V → List ℕ) → Device ℕ → Device ℕ → List V → Type 0

@@ -4,7 +4,7 @@ ghost use Rattle.ht_io.specs.declared.faults.Kind.{Kind};
 ghost use Rattle.ht_io.specs.declared.faults.Kind.TheVariants.{Truncated, Trailing};
 ghost use Rattle.ht_fields.specs.Grammar.{Grammar, Good, Bad};
 ghost use Rattle.ht_fields.specs.Cases.{Case, Meets, IsFile, IsClean, HasTrailing, HasFault, IsEnd, IsField, IsShort, IsCut, CanEnd, Leads, octets_of_fields};
-ghost use Rattle.ht_fields.specs.Meanings.{meaning, before, ended, refused, fault_of};
+ghost use Rattle.ht_fields.specs.Meanings.{meaning, before, cut_off, ended, refused, fault_of};
 
 /// Each list of octets meets exactly one of the four cases, with one list of items.
 pub fn one_case<S, I>()
@@ -80,13 +80,9 @@ pub fn stops<S, I>()
 
 /// Octets that are good fields and then fewer than the next field has have no fault but their early end.
 pub fn clean<S, I>()
-    ensures { (f : Grammar S I) (s t : S) (at : ℕ)
-        (fields : List (List ℕ)) (items : List I) (rest : List ℕ)
+    ensures { (f : Grammar S I) (s t : S) (at : ℕ) (fields : List (List ℕ)) (items : List I) (rest : List ℕ)
         → Leads f s fields items t → IsShort (f.due t) rest
-        → meaning f s at (octets_of_fields fields ++ rest) ≡ record {
-          items = items;
-          fault = Some (record { kind = Truncated; offset = at + length (octets_of_fields fields ++ rest) });
-        } }
+        → meaning f s at (octets_of_fields fields ++ rest) ≡ cut_off items (at + length (octets_of_fields fields ++ rest)) }
 {}
 
 /// The first whole fields of a file, and then fewer octets than its next field has, are clean. In a format where good fields

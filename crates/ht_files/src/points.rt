@@ -131,7 +131,7 @@ fn count_of(rate: &Rate, length: u16) -> usize
 }
 
 /// Room for the points of a frame.
-pub fn room(alloc: Global, rate: &Rate, length: u16) -> Result<Vec<Point>, InFault>
+pub fn reserve_points(alloc: Global, rate: &Rate, length: u16) -> Result<Vec<Point>, InFault>
     requires some { 1 ≤ length }
     ensures none { IfOk result (λ points. points.items ≡ []) }
     ensures room { IfOk result (λ points. points_of rate.now length ≤ vec_capacity points) }

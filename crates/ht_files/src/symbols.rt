@@ -7,7 +7,7 @@ ghost use Rattle.ht_files.specs.HeadedFormats.{HeadBody, frame_due, headed};
 ghost use Rattle.ht_files.specs.Points.{PointDue, pointed, symbols as symbols_format};
 ghost use Rattle.ht_files.specs.SymbolFiles.{AreSymbolFrames, IsSymbolFrame, symbols_octets, symbols_file_of};
 
-use crate::points::{read_points, room};
+use crate::points::{read_points, reserve_points};
 use ht_counted::{Entries, frame_limits, read_whole};
 use ht_heads::head;
 use ht_io::{InFault, Source};
@@ -27,7 +27,7 @@ fn frame<S: Source>(alloc: Global, source: &mut S, at: u64) -> Result<Symbols, I
         Ok(head) => head,
         Err(fault) => return Err(fault),
     };
-    let mut points = match room(alloc, &rate, length) {
+    let mut points = match reserve_points(alloc, &rate, length) {
         Ok(points) => points,
         Err(fault) => return Err(fault),
     };

@@ -1,25 +1,15 @@
 -- Whole frames whose results are still to be booked, and what is booked of them and of the frames that are whole later.
-use Rattle.std.specs.Prelude.{◌≡◌, ℕ, Bool, true, false, Result, IfErr, OnErr, OnOk, List, [], ◌∷◌, ◌++◌, map, slice_get}
+use Rattle.std.specs.Prelude.{◌≡◌, ℕ, Bool, true, false, Result, OnErr, OnOk, List, [], ◌∷◌, ◌++◌, map, slice_get}
 use Rattle.std.specs.List.{flat_map}
 use Rattle.std.proofs.Common.{ap, refl, sym, ◌∙◌}
 use Rattle.std.proofs.lemmas.Option.{none-some}
-use Rattle.ht_io.specs.Devices.{Device, Grows, IsLater, Rose}
+use Rattle.ht_io.specs.Devices.{Device, Grows}
 use Rattle.ht_metric.specs.Jobs.{JobView, near}
 use Rattle.ht_metric.specs.declared.found.Found.{Found}
 use Rattle.ht_metric.specs.declared.place.Place.{Place}
 use Rattle.ht_feed.specs.declared.book_fault.BookFault.{BookFault}
-use Rattle.ht_feed.specs.declared.book_fault.BookFault.TheVariants.{Failed, NoMemory}
-use Rattle.ht_feed.specs.Accounts.{PutsBlock, PutsPartOf}
+use Rattle.ht_feed.specs.Accounts.{CountsFaults, PutsBlock, PutsPartOf}
 use Rattle.ht_feed.specs.Items.{Headed, headed_of}
-
--- what calls that booked and gave this answer did to the book's device: it counted a fault exactly where the answer is
--- Failed, and it is the same device
-pub record CountsFaults {A P : Type 0} (result : Result A BookFault) (before after : Device P) (lent lent' : List ℕ) : Type 0 where
-  pub steady : OnOk result (after.faults ≡ before.faults)
-  pub cause : IfErr result (λ fault. fault ≡ Failed → Rose before after)
-  pub unfailed : IfErr result (λ fault. fault ≡ NoMemory → after.faults ≡ before.faults)
-  pub later : IsLater before after
-  pub same : lent' ≡ lent
 
 -- What calls that took the hits of these jobs booked, by their answer. `old` and `new` say what is still to be booked in all,
 -- before and after, where some jobs come. With Ok some pieces were put, and whatever jobs come behind these, what was to be

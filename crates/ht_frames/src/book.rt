@@ -1,8 +1,8 @@
 //! Where the results of frames go.
-ghost use Rattle.std.specs.Prelude.{◌≡◌, ◌∷◌, [], ℕ, List, Option, IfErr, OnErr, OnOk};
-ghost use Rattle.ht_io.specs.Devices.{Device, Grows, GrowsByPart, Rose, IsLater};
+ghost use Rattle.std.specs.Prelude.{◌≡◌, ◌∷◌, [], ℕ, List, Option, OnErr, OnOk};
+ghost use Rattle.ht_io.specs.Devices.{Device, Grows, GrowsByPart};
 ghost use Rattle.ht_io.specs.Pieces.{KnownGrown};
-ghost use Rattle.ht_feed.specs.declared.book_fault.BookFault.TheVariants.{Failed as BookFailed, NoMemory as BookMemory};
+ghost use Rattle.ht_feed.specs.Accounts.{CountsFaults};
 
 use ht_feed::BookFault;
 
@@ -33,12 +33,6 @@ pub trait Book<T> {
         ensures kept { OnOk result (KnownGrown (results self.old) (results self.new) (frame ∷ [])) }
         ensures unkept { OnErr result (results self.new ≡ results self.old) }
 
-        // A fault is counted exactly where the answer is Failed.
-        ensures steady { OnOk result ((shown self.new).faults ≡ (shown self.old).faults) }
-        ensures cause { IfErr result (λ fault. fault ≡ BookFailed → Rose (shown self.old) (shown self.new)) }
-        ensures unfailed { IfErr result (λ fault. fault ≡ BookMemory → (shown self.new).faults ≡ (shown self.old).faults) }
-
-        // It is the same device.
-        ensures later { IsLater (shown self.old) (shown self.new) }
-        ensures same { lent self.new ≡ lent self.old };
+        // It is the same device, which has counted a fault exactly where the answer is Failed.
+        ensures faults { CountsFaults result (shown self.old) (shown self.new) (lent self.old) (lent self.new) };
 }

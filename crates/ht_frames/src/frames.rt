@@ -90,7 +90,7 @@ impl<W: WholeFrame + Drop> Frames<W> {
         Ok(number)
     }
 
-    /// The octets of the frames that were given and are still to be taken, all together.
+    /// The number of octets in all frames that were given and not taken yet.
     pub(crate) fn octets(&self) -> u64 {
         self.octets.load(Ordering::SeqCst)
     }

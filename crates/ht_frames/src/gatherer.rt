@@ -88,7 +88,7 @@ fn another_is_due<R: BlockReader>(due: &HeapCircularBuffer<DueBlock<R>>) -> bool
     }
 }
 
-// Who decodes whole frames: the caller at once where `room` is 0, or else workers.
+// Who decodes whole frames: the caller at once where `keep` is 0, or else workers.
 #[derive(Drop)]
 struct Decoders<'a, R, W: WholeFrame> {
     rt: &'a R,
@@ -96,7 +96,7 @@ struct Decoders<'a, R, W: WholeFrame> {
     // Where workers find whole frames.
     frames: &'a Frames<W>,
     // How many whole frames are left at most behind each that becomes whole.
-    room: usize,
+    keep: usize,
 }
 
 // The whole frame leaves, and stands behind the others.
@@ -112,8 +112,8 @@ fn finish_frame<R: Threads + Wait, U: UnderWay, B: Book<<U::Whole as WholeFrame>
         (booked_behind U.Whole.result_of B.booked queue.new.items (U.results under_way.new)) [] (B.lent book.old) (B.lent book.new) }
 {
     let frame = under_way.leave(by.alloc);
-    decode(by.rt, by.alloc, by.frames, queue, frame, by.room > 0)?;
-    book_frames(by.rt, by.frames, by.room, queue, book)
+    decode(by.rt, by.alloc, by.frames, queue, frame, by.keep > 0)?;
+    book_frames(by.rt, by.frames, by.keep, queue, book)
 }
 
 // Takes what was found for a job of the frame that is under way, or that begins with this head.
@@ -140,8 +140,8 @@ fn take_found<R: Threads + Wait, U: UnderWay, B: Book<<U::Whole as WholeFrame>::
 }
 
 /// Takes what a worker made of a block of the frame with this head, as a [`Gatherer`] does that keeps whole frames back: of
-/// those whose results aren't booked at most `room` are left behind each frame that becomes whole, as [`book_frames`] leaves
-/// them; no clause says so here. Where `room` is 0 the caller decodes the frame, and all are booked.
+/// those whose results aren't booked at most `keep` are left behind each frame that becomes whole, as [`book_frames`] leaves
+/// them; no clause says so here. Where `keep` is 0 the caller decodes the frame, and all are booked.
 pub fn gather_block<
     J: Jobs,
     R: Threads + Wait,
@@ -150,7 +150,7 @@ pub fn gather_block<
 >(
     rt: &R,
     alloc: Global,
-    room: usize,
+    keep: usize,
     frames: &Frames<U::Whole>,
     under_way: &mut U,
     queue: &mut VecDeque<Decoding<U::Whole>>,
@@ -169,7 +169,7 @@ pub fn gather_block<
         rt,
         alloc,
         frames,
-        room,
+        keep,
     };
     match under_way.take_block(alloc, head, block, answer)? {
         Some(true) => finish_frame(&by, under_way, queue, book),
@@ -212,11 +212,11 @@ impl<
         due: &HeapCircularBuffer<DueBlock<T>>,
     ) -> Result<(), BookFault> {
         let more = another_is_due(due);
-        let room = if more { usize::from(self.beside) } else { 0 };
+        let keep = if more { usize::from(self.beside) } else { 0 };
         gather_block(
             self.rt,
             self.alloc,
-            room,
+            keep,
             self.frames,
             self.under_way,
             self.queue,

@@ -1,7 +1,8 @@
 //! Whole frames are decoded while more jobs come, and their results are booked in order.
 ghost use Rattle.std.specs.Prelude.{◌≡◌, ◌≤◌, ◌∷◌, [], ◌++◌, false, None, length, option_to_list, IfOk, OnErr, OnOk};
 ghost use Rattle.ht_io.specs.Devices.{Grows, GrowsByPart};
-ghost use Rattle.ht_frames.specs.Gathering.{BooksFirst, CountsFaults, booked_whole};
+ghost use Rattle.ht_feed.specs.Accounts.{CountsFaults};
+ghost use Rattle.ht_frames.specs.Gathering.{BooksFirst, booked_whole};
 
 use crate::book::Book;
 use crate::decoding::Decoding;
@@ -59,12 +60,12 @@ pub(crate) fn decode<R: Threads + Wait, W: WholeFrame + Drop>(
 fn is_time<W: WholeFrame + Drop>(
     frames: &Frames<W>,
     queue: &VecDeque<Decoding<W>>,
-    room: usize,
+    keep: usize,
 ) -> bool
-    ensures { result ≡ false → length queue.now.items ≤ room }
+    ensures { result ≡ false → length queue.now.items ≤ keep }
 {
     match queue.front() {
-        Some(oldest) => queue.len() > room || oldest.is_done() || frames.octets() > MOST,
+        Some(oldest) => queue.len() > keep || oldest.is_done() || frames.octets() > MOST,
         None => false,
     }
 }
@@ -73,12 +74,12 @@ fn is_time<W: WholeFrame + Drop>(
 fn take_oldest<W: WholeFrame + Drop>(
     frames: &Frames<W>,
     queue: &mut VecDeque<Decoding<W>>,
-    room: usize,
+    keep: usize,
 ) -> Option<Decoding<W>>
     ensures items { queue.old.items ≡ option_to_list result ++ queue.new.items }
-    ensures few { result ≡ None → length queue.new.items ≤ room }
+    ensures few { result ≡ None → length queue.new.items ≤ keep }
 {
-    if is_time(frames, queue, room) {
+    if is_time(frames, queue, keep) {
         queue.pop_front()
     } else {
         None
@@ -116,22 +117,22 @@ fn abandon<R: Wait, W: WholeFrame + Drop>(
     }
 }
 
-/// Books the results of the oldest frames, until at most `room` frames are left and the oldest of them is with the
+/// Books the results of the oldest frames, until at most `keep` frames are left and the oldest of them is with the
 /// workers, who have at most 131,072 octets of frames, those of other queues among them, or until none is left. Where a
 /// result can't be booked, the frames behind it are given up.
 pub fn book_frames<R: Wait, W: WholeFrame + Drop, B: Book<W::Result>>(
     rt: &R,
     frames: &Frames<W>,
-    room: usize,
+    keep: usize,
     queue: &mut VecDeque<Decoding<W>>,
     book: &mut B,
 ) -> Result<(), BookFault>
     ensures put { OnOk result (BooksFirst W.result_of B.booked (B.shown book.old) (B.shown book.new) queue.old.items queue.new.items) }
-    ensures few { OnOk result (length queue.new.items ≤ room) }
+    ensures few { OnOk result (length queue.new.items ≤ keep) }
     ensures part { OnErr result (GrowsByPart (B.shown book.old) (B.shown book.new) (booked_whole W.result_of B.booked queue.old.items)) }
     ensures faults { CountsFaults result (B.shown book.old) (B.shown book.new) (B.lent book.old) (B.lent book.new) }
 {
-    while let Some(oldest) = take_oldest(frames, queue, room) {
+    while let Some(oldest) = take_oldest(frames, queue, keep) {
         if let Err(fault) = book_one(rt, frames, oldest, book) {
             abandon(rt, frames, queue);
             return Err(fault);

@@ -1,13 +1,13 @@
-//! Frames under way, and what becomes of their results.
+//! Frames under way, and where their results go.
 //!
-//! Whoever receives frames says by an [`UnderWay`] what their jobs come to: it takes what was found for one job after
-//! another, each with its place and the head of its frame. With its last job a frame is whole, and is decoded where it
-//! stands or leaves as a [`WholeFrame`]. All else is here. A [`Receiver`] decodes each whole frame and books its result
-//! in a [`Book`]; a [`Gatherer`] has them leave, and has workers decode long ones ([`Frames`]) while more answers come.
-//! What a worker makes of a block may be taken as a whole, where the frame under way is one that [`TakesBlocks`].
-//! Both are accounts (`Account` of crate `ht_feed`): the jobs that come put what is booked of the results that they
-//! come to, `booked_in` in `specs/Gathering.antt`, whatever the blocks and the threads are. Whoever keeps whole frames
-//! back longer than a gatherer does so by [`gather_block`] and [`book_frames`]. A [`ListBook`] keeps the results, and a
+//! A receiver of frames of some kind brings an [`UnderWay`], which says what a frame keeps of its jobs: it takes what was
+//! found for one job after another, each with its place and the head of its frame. With its last job a frame is whole, and
+//! is decoded in place or handed over as a [`WholeFrame`]. This crate does the rest. A [`Receiver`] decodes each whole
+//! frame and books its result in a [`Book`]; a [`Gatherer`] hands frames over, and has workers decode long ones
+//! ([`Frames`]) while more answers come. If the frame under way [`TakesBlocks`], what a worker makes of a block is taken as
+//! a whole. Both are accounts (`Account` of crate `ht_feed`): what they put is what is booked of the results that the jobs
+//! give, `booked_in` in `specs/Gathering.antt`, whatever the blocks and the threads are. A caller that keeps whole frames
+//! back longer than a gatherer uses [`gather_block`] and [`book_frames`]. A [`ListBook`] keeps the results, and a
 //! [`TextBook`] puts the [`Line`] of each into a sink. [`HitWork`] finds the hits, each job between the two calls of a
 //! gate.
 //!

@@ -1,9 +1,10 @@
 //! An account that books the result of each frame.
 ghost use Rattle.std.specs.Prelude.{◌≡◌, ◌^◌, ◌<◌, ◌∷◌, List, OnErr, OnOk};
 ghost use Rattle.ht_io.specs.Devices.{Grows, GrowsByPart};
+ghost use Rattle.ht_feed.specs.Accounts.{CountsFaults};
 ghost use Rattle.ht_feed.specs.Dues.{AreHits, due_of, headed_due};
 ghost use Rattle.ht_feed.specs.Items.{Headed};
-ghost use Rattle.ht_frames.specs.Gathering.{BooksFound, BooksJobs, CountsFaults, booked_in, none_booked};
+ghost use Rattle.ht_frames.specs.Gathering.{BooksFound, BooksJobs, booked_in, none_booked};
 
 use crate::book::Book;
 use crate::under_way::UnderWay;

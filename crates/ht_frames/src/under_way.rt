@@ -8,10 +8,10 @@ use crate::whole_frame::WholeFrame;
 use ht_metric::{Found, Place};
 use std::alloc::{AllocError, Global};
 
-/// What the jobs of frames come to while they come: one frame is under way, or none.
+/// What is kept of the jobs of frames while they come: one frame is under way, or none.
 ///
-/// With its last job a frame is whole, and none is under way. It stands here until the next job comes, so that it can
-/// be decoded in its place, or leave.
+/// With its last job a frame is whole, and none is under way. The whole frame stays here until the next job comes, so
+/// that it can be decoded in place or handed over.
 pub trait UnderWay {
     /// The head of a frame.
     type Head: Copy + Drop;
@@ -22,10 +22,10 @@ pub trait UnderWay {
     /// The results of the frames whose last jobs are among these, which come one after another.
     ghost results: { Self → List (Headed Self.Head) → List Self.Whole.Result };
 
-    /// A whole frame stands here.
+    /// A whole frame is here.
     ghost is_whole: { Self → Type 0 };
 
-    /// What the whole frame that stands here comes to.
+    /// The result of the whole frame that is here.
     ghost comes_to: { Self → Self.Whole.Result };
 
     /// Takes what was found for the next job, from this place: of the frame that is under way or, where none is, of one
@@ -43,14 +43,14 @@ pub trait UnderWay {
             → results self.old (headed_of head.now job ∷ more) ≡ finished last (comes_to self.new) ++ results self.new more) }
         ensures whole { IfOk result (λ last. last ≡ true → is_whole self.new) };
 
-    /// What the whole frame comes to, decoded here, in memory that the next frame has again. The only error is lack of
+    /// The result of the whole frame, decoded here, in memory that the next frame uses again. The only error is lack of
     /// memory.
     fn decode(&mut self, alloc: Global) -> Result<<Self::Whole as WholeFrame>::Result, AllocError>
         requires whole { is_whole self.old }
         ensures value { IfOk result (λ r. r ≡ comes_to self.old) }
         ensures kept { (more : List (Headed Self.Head)) → results self.new more ≡ results self.old more };
 
-    /// The whole frame leaves, to be decoded elsewhere.
+    /// Hands the whole frame over, to be decoded elsewhere.
     fn leave(&mut self, alloc: Global) -> Self::Whole
         requires whole { is_whole self.old }
         ensures value { Self.Whole.result_of result ≡ comes_to self.old }

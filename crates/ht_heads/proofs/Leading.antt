@@ -11,7 +11,7 @@ use Rattle.ht_io.specs.declared.faults.Kind.TheVariants.{BadMagic, BadBandwidth,
 use Rattle.ht_fields.specs.Grammar.{Grammar}
 use Rattle.ht_fields.specs.Readers.{reader_in}
 use Rattle.ht_fields.specs.Tests.{differs, is_above, is_zero}
-use Rattle.ht_fields.specs.WholeFiles.{Halts}
+use Rattle.ht_fields.specs.WholeFiles.{StopsWithCause}
 use Rattle.ht_fields.proofs.Choices.{when_true, when_false}
 use Rattle.ht_fields.proofs.Halting.{Judges, behind_halts, fails_halts}
 use Rattle.ht_fields.proofs.Routes.{Route, route_as, route_from, route_none, route_then}
@@ -60,7 +60,7 @@ route_magic f due magic (suc k) m le =
 
 -- the magic was not read
 pub magic_halts : {S I : Type 0} (f : Grammar S I) (due : List ℕ → S) (magic : List ℕ) (at : ℕ) (source after : Device ℕ) (fault : InFault)
-    → HasMagic f due → MagicFails magic at source after fault → Halts (reader_in f (due magic) at source) after fault
+    → HasMagic f due → MagicFails magic at source after fault → StopsWithCause (reader_in f (due magic) at source) after fault
 magic_halts {S = S} f due magic at source after fault m (k, few, fails) =
     let x = slice_index magic k in
     let judges : Judges f (due (drop k magic)) 1 BadMagic (differs x) =
@@ -78,7 +78,7 @@ pub record HasHead {S I : Type 0} (f : Grammar S I) (s : S) (mcs : ℕ → S) (l
 
 -- the head of a frame was not read
 pub head_halts : {S I : Type 0} (f : Grammar S I) (s : S) (mcs : ℕ → S) (len : Rate → S) (at : ℕ) (source after : Device ℕ) (fault : InFault)
-    → HasHead f s mcs len → HeadFails at source after fault → Halts (reader_in f s at source) after fault
+    → HasHead f s mcs len → HeadFails at source after fault → StopsWithCause (reader_in f s at source) after fault
 head_halts f s mcs len at source after fault h (inl fails) =
     fails_halts f s at 1 BadBandwidth (is_above 1) source after fault h.bandwidth fails
 head_halts f s mcs len at source after fault h (inr (inl (code, low, fails))) =

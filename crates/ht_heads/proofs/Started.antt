@@ -1,6 +1,6 @@
 -- How the octets in front of what is counted lead through the fields of a file, in any format that begins so.
 use Rattle.std.proofs.Common.{◌≡◌, ◌⊎◌, inl, inr, ℕ, ◌+◌, ◌^◌, ◌<◌, ◌≤◌, List, [], ◌∷◌, ◌++◌, length, take, drop}
-use Rattle.std.proofs.Common.{nat_lt, Bool, ◌||◌, true, false, refl, sym, ap, ◌∙◌, append_assoc, arith}
+use Rattle.std.proofs.Common.{nat_lt, ◌||◌, false, refl, sym, ap, ◌∙◌, append_assoc, arith}
 use Rattle.std.proofs.lemmas.Bool.Decides.{nat_tests}
 use Rattle.std.proofs.lemmas.List.{append-nil, drop_all, take_all}
 use Rattle.byteorder.specs.Endian.{big_bytes, big_number}
@@ -11,7 +11,7 @@ use Rattle.ht_io.specs.declared.faults.Kind.TheVariants.{BadMagic, BadVersion}
 use Rattle.ht_fields.specs.Grammar.{Verdict, Good}
 use Rattle.ht_fields.specs.Readers.{reader_in}
 use Rattle.ht_fields.specs.Tests.{checked, differs}
-use Rattle.ht_fields.specs.WholeFiles.{Halts}
+use Rattle.ht_fields.specs.WholeFiles.{StopsWithCause}
 use Rattle.ht_fields.proofs.Choices.{checked_good}
 use Rattle.ht_fields.proofs.Halting.{behind_halts, judges_checked}
 use Rattle.ht_fields.proofs.Readers.{IsNamed, field_is}
@@ -80,7 +80,7 @@ route_started h count some small least most =
 
 -- these octets were not read
 pub started_halts : {B I : Type 0} (h : StartedFormat B I) (source after : Device ℕ) (fault : InFault) → 0 < h.limits.width → IsNamed h.limits.kind
-    → StartedFails h.magic h.limits source after fault → Halts (reader_in (started h) (magic_due h.magic) 0 source) after fault
+    → StartedFails h.magic h.limits source after fault → StopsWithCause (reader_in (started h) (magic_due h.magic) 0 source) after fault
 started_halts {B = B} h source after fault some named (inl fails) =
     magic_halts (started h) (magic_due {B = B}) h.magic 0 source after fault (has_magic h) fails
 started_halts h source after fault some named (inr (inl fails)) =

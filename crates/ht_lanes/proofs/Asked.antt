@@ -4,8 +4,8 @@ use Rattle.std.specs.Prelude.{IfNone, IfSome}
 use Rattle.std.proofs.Common.{refl, ap, ◌∙◌, sym, subst, arith}
 use Rattle.std.proofs.lemmas.Bool.{false≢true}
 use Rattle.ht_metric.specs.Jobs.{JobView}
-use Rattle.ht_lanes.specs.Lanes.{AreOver, HasFewDue, HaveFewDue, OneLeads, OneMoreAt, SameBook, SameBooks, Side, Sides}
-use Rattle.ht_lanes.specs.Leading.{other_number, same_number}
+use Rattle.ht_lanes.specs.Lanes.{AreOver, HasFewDue, HaveFewDue, OneChanges, OneLeads, OneMoreAt, SameBook, SameBooks, Side, Sides}
+use Rattle.ht_lanes.proofs.EachLane.{other_number, same_number}
 
 -- what is said of an answer that is there, and of one that isn't
 pub some_so : {X : Type 0} (o : Option X) (x : X) (P : X → Type 0) → o ≡ Some x → IfSome o P → P x
@@ -15,12 +15,12 @@ pub none_so : {X : Type 0} (o : Option X) (P : Type 0) → o ≡ None → IfNone
 none_so o P is so = subst (λ z. IfNone z P) is so
 
 -- the lane with this number alone was asked
-module _ {L : Type 0} (b c : List L) (at : ℕ) (others : (l : L) (k : ℕ) → k ≢ at → get_or c k l ≡ get_or b k l) where
+module _ {L : Type 0} (b c : List L) (at : ℕ) (one : OneChanges b c at) where
   module _ (due : L → List (List JobView)) (rests : L → Bool) (a : List L) (same : SameBooks due rests a b)
       (rest : (l : L) → rests (get_or c at l) ≡ rests (get_or b at l)) where
     same_other : (l : L) (k : ℕ) → k ≢ at → k < length a → SameBook due rests (get_or a k l) (get_or c k l)
     same_other l k far few =
-        let o = others l k far in
+        let o = one.others l k far in
         let s = same l k few in
         (ap rests o ∙ s.0, ap due o ∙ s.1)
 
@@ -52,17 +52,17 @@ module _ {L : Type 0} (b c : List L) (at : ℕ) (others : (l : L) (k : ℕ) → 
     few_due_as due most room true l k e few going =
         absurd (false≢true (sym going ∙ (ap (λ (n : ℕ). over (get_or c n l)) (same_number at k e) ∙ ended l)))
     few_due_as due most room false l k e few going =
-        subst (λ (x : L). HasFewDue due over most x) (sym (others l k (other_number at k e))) (room l k few) going
+        subst (λ (x : L). HasFewDue due over most x) (sym (one.others l k (other_number at k e))) (room l k few) going
 
-    pub few_due_none : (due : L → List (List JobView)) (most : ℕ) → length c ≡ length b → HaveFewDue due over most b → HaveFewDue due over most c
-    few_due_none due most as_many room l k few = few_due_as due most room (nat_eq k at) l k refl (subst (λ (n : ℕ). k < n) as_many few)
+    pub few_due_none : (due : L → List (List JobView)) (most : ℕ) → HaveFewDue due over most b → HaveFewDue due over most c
+    few_due_none due most room l k few = few_due_as due most room (nat_eq k at) l k refl (subst (λ (n : ℕ). k < n) one.as_many few)
 
     over_as : (from : ℕ) → ((l : L) (k : ℕ) → from ≤ k → k < at → over (get_or b k l) ≡ true)
         → (t : Bool) (l : L) (k : ℕ) → nat_eq k at ≡ t → from ≤ k → k < at + 1 → over (get_or c k l) ≡ true
     over_as from before true l k e high low = ap (λ (n : ℕ). over (get_or c n l)) (same_number at k e) ∙ ended l
     over_as from before false l k e high low =
         let far = other_number at k e in
-        ap over (others l k far) ∙ before l k high (omega (arith, low, far))
+        ap over (one.others l k far) ∙ before l k high (omega (arith, low, far))
 
     pub over_none : (from : ℕ) → ((l : L) (k : ℕ) → from ≤ k → k < at → over (get_or b k l) ≡ true)
         → (l : L) (k : ℕ) → from ≤ k → k < at + 1 → over (get_or c k l) ≡ true
@@ -72,10 +72,10 @@ module _ {L : Type 0} (b c : List L) (at : ℕ) (others : (l : L) (k : ℕ) → 
 pub over_settled : {L S K : Type 0} {does : Side L S K → Side L S K → Type 0} (over : L → Bool) {b c : Sides L S K} {at : ℕ} → OneLeads does b c at
     → ((l : L) → over (get_or b.lanes at l) ≡ true → over (get_or c.lanes at l) ≡ true) → AreOver over 0 b.lanes → AreOver over 0 c.lanes
 over_settled over {b = b} {c = c} {at = at} one here all l k high low =
-    still (nat_eq k at) refl (all l k high (subst (λ (n : ℕ). k < n) one.lanes low))
+    still (nat_eq k at) refl (all l k high (subst (λ (n : ℕ). k < n) one.lanes.as_many low))
   where
     still : (t : Bool) → nat_eq k at ≡ t → over (get_or b.lanes k l) ≡ true → over (get_or c.lanes k l) ≡ true
     still true e was =
         let is = same_number at k e in
         ap (λ (n : ℕ). over (get_or c.lanes n l)) is ∙ here l (ap (λ (n : ℕ). over (get_or b.lanes n l)) (sym is) ∙ was)
-    still false e was = ap over (one.other_lanes l k (other_number at k e)) ∙ was
+    still false e was = ap over (one.lanes.others l k (other_number at k e)) ∙ was

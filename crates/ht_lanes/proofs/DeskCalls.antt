@@ -1,5 +1,5 @@
 -- What the calls of a lane over a desk lead to.
-use Rattle.std.specs.Prelude.{◌≡◌, ℕ, List, [], ◌∷◌, ◌++◌, drop, take, Option, Some, None, true, false, is_some, Result, Ok, Err, OnErr, OnOk}
+use Rattle.std.specs.Prelude.{◌≡◌, ℕ, List, [], ◌∷◌, ◌++◌, Option, Some, None, true, false, is_some, Result, Ok, Err, OnErr, OnOk}
 use Rattle.std.proofs.Common.{refl, ap, ◌∙◌, sym, subst, append-nil}
 use Rattle.std.proofs.lemmas.Bool.{false≢true}
 use Rattle.ht_io.specs.Devices.{Device}
@@ -16,8 +16,8 @@ use Rattle.ht_feed.specs.Reading.{Counts}
 use Rattle.ht_feed.specs.Telling.{Seen, Tells, TellsBy, seen_by}
 use Rattle.ht_feed.proofs.Filling.{jobs_in-append}
 use Rattle.ht_feed.proofs.Leads.{ill, tells_given, tells_part, tells_put, tells_refused, tells_taken, well}
-use Rattle.ht_lanes.specs.Bookings.{BooksHits}
-use Rattle.ht_lanes.specs.DeskLanes.{is_over, lane_told}
+use Rattle.ht_lanes.specs.Bookings.{BooksFirst, BooksHits}
+use Rattle.ht_lanes.specs.DeskLanes.{is_over, lane_telling}
 
 -- a lane that goes on neither failed nor stopped
 pub goes : (failed : Option BookFault) (stop : Option Stop) → is_over failed stop ≡ false → (failed ≡ None) × (stop ≡ None)
@@ -49,39 +49,40 @@ module _ {R H : Type 0} (means : R → List ℕ → Meaning (Item H)) (at : R �
   module _ {A : Type 0} (pieces : A → List (Headed H) → List ℕ) (x y : A) (desk : DeskView R H) (source before after : Device ℕ) (failed : Option BookFault)
       (none : failed ≡ None) where
     abbrev seen : DeskView R H → Device ℕ → A → Seen H ℕ
-    seen d device booking = seen_by means at d source (lane_told pieces booking device)
+    seen d device booking = seen_by means at d source (lane_telling pieces booking device)
 
     -- it took the hits of the first block
-    pub took : {B : Type 0} {b : B} (new : DeskView R H) → new ≡ record desk { due = drop 1 desk.due }
-        → BooksHits (Ok b) before after (pieces x) (pieces y) (all_due (take 1 desk.due)) → TellsBy failed failed (seen desk before x) (seen new after y)
-    took new is books =
+    pub took : {B : Type 0} {b : B} (new : DeskView R H) → BooksFirst (Ok b) desk new before after (pieces x) (pieces y)
+        → TellsBy failed failed (seen desk before x) (seen new after y)
+    took new first =
+        let books = first.books in
         well failed failed (seen desk before x) (seen new after y) none refl
-        (tells_taken means at desk new source (lane_told pieces x before) (lane_told pieces y after) is books.put (λ w. tt) books.later books.steady)
+        (tells_taken means at desk new source (lane_telling pieces x before) (lane_telling pieces y after) first.due books.put (λ w. tt) books.faults.later books.faults.steady)
 
     -- it could not put their pieces, or not make them
-    pub took_none : {B : Type 0} {fault : BookFault} (new : DeskView R H) → new ≡ desk
-        → BooksHits {A = B} (Err fault) before after (pieces x) (pieces y) (all_due (take 1 desk.due))
+    pub took_none : {B : Type 0} {fault : BookFault} (new : DeskView R H) → BooksFirst {A = B} (Err fault) desk new before after (pieces x) (pieces y)
         → TellsBy failed (Some fault) (seen desk before x) (seen new after y)
-    took_none {fault = fault} new is books =
+    took_none {fault = fault} new first =
+        let books = first.books in
         ill failed (seen desk before x) (seen new after y) fault none
-        (tells_refused means at desk new source (lane_told pieces x before) (lane_told pieces y after) fault is books.part books.later books.cause
-        books.unfailed)
+        (tells_refused means at desk new source (lane_telling pieces x before) (lane_telling pieces y after) fault first.stays books.part books.faults.later books.faults.cause
+        books.faults.unfailed)
 
     -- it put what was kept back
     pub finished : {B : Type 0} {b : B} → BooksHits (Ok b) before after (pieces x) (pieces y) []
         → TellsBy failed failed (seen desk before x) (seen desk after y)
     finished books =
         well failed failed (seen desk before x) (seen desk after y) none refl
-        (tells_put means at desk desk.due source (lane_told pieces x before) (lane_told pieces y after) [] (append-nil (all_due desk.due)) books.put (λ w. tt)
-        books.later books.steady)
+        (tells_put means at desk desk.due source (lane_telling pieces x before) (lane_telling pieces y after) [] (append-nil (all_due desk.due)) books.put (λ w. tt)
+        books.faults.later books.faults.steady)
 
     -- not all of it could be put, or made
     pub unfinished : {B : Type 0} {fault : BookFault} → BooksHits {A = B} (Err fault) before after (pieces x) (pieces y) []
         → TellsBy failed (Some fault) (seen desk before x) (seen desk after y)
     unfinished {fault = fault} books =
         ill failed (seen desk before x) (seen desk after y) fault none
-        (tells_part means at desk source (lane_told pieces x before) (lane_told pieces y after) fault [] (all_due desk.due) (append-nil (all_due desk.due))
-        books.part books.later books.cause books.unfailed)
+        (tells_part means at desk source (lane_telling pieces x before) (lane_telling pieces y after) fault [] (all_due desk.due) (append-nil (all_due desk.due))
+        books.part books.faults.later books.faults.cause books.faults.unfailed)
 
 -- a block more is due
 pub one_more_due : {R H : Type 0} (counts : R → Counts) (most : ℕ) (old new : DeskView R H) (jobs : List JobView) → AddsBlock counts most old new jobs

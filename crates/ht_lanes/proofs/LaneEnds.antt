@@ -47,7 +47,7 @@ module _ {R H P : Type 0} (means : R → List ℕ → Meaning (Item H)) (at : R 
   unheard : (fault : BookFault) → TellsPart first last fault → TellsPart first (seen_by means at new source' silent) fault
   unheard fault told = record {
     items = told.items;
-    taken = told.taken;
+    answered = told.answered;
     rest = told.rest;
     reads = told.reads;
     jobs = told.jobs;
@@ -68,7 +68,7 @@ module _ {R H P : Type 0} (means : R → List ℕ → Meaning (Item H)) (at : R 
   lacks_elsewhere : Tells first last → TellsPart first last NoMemory
   lacks_elsewhere told = record {
     items = told.items;
-    taken = told.taken;
+    answered = told.answered;
     rest = all_due new.due;
     reads = told.reads;
     jobs = told.jobs;

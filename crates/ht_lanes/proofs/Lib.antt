@@ -4,3 +4,5 @@ pub mod Asked
 pub mod Finished
 pub mod DeskCalls
 pub mod LaneEnds
+pub mod OneLane
+pub mod EachLane

@@ -1,5 +1,5 @@
 -- What is due of each lane is what that lane waits for.
-use Rattle.std.proofs.Common.{◌≡◌, ◌≢◌, ℕ, zero, suc, ◌+◌, ◌<◌, ◌≤◌, List, [], ◌∷◌, ◌++◌, drop, length, get_or, slice_get, Option, Some, Bool, true, false, nat_eq, if◌then◌else◌}
+use Rattle.std.proofs.Common.{◌≡◌, ℕ, zero, suc, ◌+◌, ◌<◌, ◌≤◌, List, [], ◌∷◌, ◌++◌, drop, length, get_or, slice_get, Option, Some, Bool, true, false, nat_eq, if◌then◌else◌}
 use Rattle.std.proofs.Common.{refl, ap, ◌∙◌, sym, subst, arith}
 use Rattle.std.proofs.lemmas.Bool.{false≢true}
 use Rattle.std.proofs.lemmas.Bool.Decides.{nat_tests}
@@ -8,8 +8,8 @@ use Rattle.ht_metric.specs.Jobs.{JobView}
 use Rattle.ht_feed.specs.Items.{Numbered}
 use Rattle.ht_feed.specs.Dues.{count_in}
 use Rattle.ht_feed.specs.Feeds.{GivesBlock}
-use Rattle.ht_lanes.specs.Lanes.{AreBooked, AreFresh, DueOf, HaveNone, HaveFewDue, IsBooked, IsFeed, LaneJobs, OneMoreAt, SameBooks, Within, due_at, due_of, lanes_view, most_jobs, whole_due, whole_jobs}
-use Rattle.ht_lanes.specs.Leading.{other_number, same_number}
+use Rattle.ht_lanes.specs.Lanes.{AreBooked, AreFresh, DueOf, HaveNone, HaveFewDue, IsBooked, IsFeed, LaneJobs, OneChanges, OneMoreAt, SameBooks, Within, due_at, due_of, lanes_view, most_jobs, whole_due, whole_jobs}
+use Rattle.ht_lanes.proofs.EachLane.{other_number, same_number}
 use Rattle.ht_feed.proofs.Numbering.{are_numbered, length_numbered}
 use Rattle.ht_lanes.proofs.Numbering.{same_jobs}
 
@@ -169,15 +169,14 @@ module _ {L : Type 0} (due : L → List (List JobView)) (rests : L → Bool) whe
             booked = λ l k few takes. more_at (nat_eq k at) l k refl (within_now k few) takes;
           })
 
-    module _ (first : DueOf) (is : slice_get ring 0 ≡ Some first)
-        (others : (l : L) (k : ℕ) → k ≢ first.lane → get_or now k l ≡ get_or lanes k l) where
+    module _ (first : DueOf) (is : slice_get ring 0 ≡ Some first) (one : OneChanges lanes now first.lane) where
       -- its lane rests from now on
       lacks_at : (b : Bool) (l : L) (k : ℕ) → nat_eq k first.lane ≡ b → ((x : L) → rests (get_or now first.lane x) ≡ true) → k < length lanes
           → rests (get_or now k l) ≡ false → due_at k ring ≡ due (get_or now k l)
       lacks_at true l k e rested few takes =
           absurd (false≢true (sym takes ∙ (ap (λ (n : ℕ). rests (get_or now n l)) (same_number first.lane k e) ∙ rested l)))
       lacks_at false l k e rested few takes =
-          let o = others l k (other_number first.lane k e) in
+          let o = one.others l k (other_number first.lane k e) in
           booked.booked l k few (ap rests (sym o) ∙ takes) ∙ ap due (sym o)
 
       pub booked_lacks : (after : List DueOf) → after ≡ ring → ((x : L) → rests (get_or now first.lane x) ≡ true) → IsBooked due rests now after
@@ -187,7 +186,7 @@ module _ {L : Type 0} (due : L → List (List JobView)) (rests : L → Bool) whe
       })
 
   module _ (lanes now : List L) (at : ℕ) (d : DueOf) (ds : List DueOf) (booked : AreBooked due rests lanes (d ∷ ds)) (low : d.lane < length lanes)
-      (others : (l : L) (k : ℕ) → k ≢ d.lane → get_or now k l ≡ get_or lanes k l)
+      (one : OneChanges lanes now d.lane)
       (gone : (l : L) → rests (get_or now d.lane l) ≡ false → due (get_or now d.lane l) ≡ drop 1 (due (get_or lanes d.lane l)))
       (took : (l : L) → rests (get_or now d.lane l) ≡ false → rests (get_or lanes d.lane l) ≡ false) where
     taken_at : (b : Bool) (l : L) (k : ℕ) → nat_eq k d.lane ≡ b → k < length lanes → rests (get_or now k l) ≡ false → due_at k ds ≡ due (get_or now k l)
@@ -197,28 +196,27 @@ module _ {L : Type 0} (due : L → List (List JobView)) (rests : L → Bool) whe
         (λ here.
         ap (λ (bs : List (List JobView)). drop 1 bs) (sym (due_at-here d.lane d ds (same_test d.lane)) ∙ booked l d.lane low (took l here)) ∙ sym (gone l here)) takes
     taken_at false l k e few takes =
-        let o = others l k (other_number d.lane k e) in
+        let o = one.others l k (other_number d.lane k e) in
         sym (due_at-other k d ds (other_turned k d.lane e)) ∙ (booked l k few (ap rests (sym o) ∙ takes) ∙ ap due (sym o))
 
   -- the first block due is due no longer
-  pub booked_taken : (lanes now : List L) (ring after : List DueOf) (first : DueOf) → IsBooked due rests lanes ring → length now ≡ length lanes
-      → slice_get ring 0 ≡ Some first → after ≡ drop 1 ring
-      → ((l : L) (k : ℕ) → k ≢ first.lane → get_or now k l ≡ get_or lanes k l)
+  pub booked_taken : (lanes now : List L) (ring after : List DueOf) (first : DueOf) → IsBooked due rests lanes ring
+      → slice_get ring 0 ≡ Some first → after ≡ drop 1 ring → OneChanges lanes now first.lane
       → ((l : L) → rests (get_or now first.lane l) ≡ false → due (get_or now first.lane l) ≡ drop 1 (due (get_or lanes first.lane l)))
       → ((l : L) → rests (get_or now first.lane l) ≡ false → rests (get_or lanes first.lane l) ≡ false)
       → IsBooked due rests now after
-  booked_taken lanes now [] after first booked as_many is left others gone took = absurd (none-some first is)
-  booked_taken lanes now (d ∷ ds) after first booked as_many is left others gone took =
+  booked_taken lanes now [] after first booked is left one gone took = absurd (none-some first is)
+  booked_taken lanes now (d ∷ ds) after first booked is left one gone took =
       let same : first ≡ d = sym (same_Some d first is) in
       let taken : (l : L) (k : ℕ) → k < length lanes → rests (get_or now k l) ≡ false → due_at k ds ≡ due (get_or now k l) =
       λ l k few takes. taken_at lanes now 0 d ds booked.booked (booked.within 0 d refl).0
-      (subst (λ (x : DueOf). (l : L) (k : ℕ) → k ≢ x.lane → get_or now k l ≡ get_or lanes k l) same others)
+      (subst (λ (x : DueOf). OneChanges lanes now x.lane) same one)
       (subst (λ (x : DueOf). (l : L) → rests (get_or now x.lane l) ≡ false → due (get_or now x.lane l) ≡ drop 1 (due (get_or lanes x.lane l))) same gone)
       (subst (λ (x : DueOf). (l : L) → rests (get_or now x.lane l) ≡ false → rests (get_or lanes x.lane l) ≡ false) same took)
       (nat_eq k d.lane) l k refl few takes in
       subst (λ (r : List DueOf). IsBooked due rests now r) (sym left) (record {
-        within = subst (λ (n : ℕ). Within n ds) (sym as_many) (within-drop (length lanes) (d ∷ ds) booked.within);
-        booked = λ l k few takes. taken l k (subst (λ (n : ℕ). k < n) as_many few) takes;
+        within = subst (λ (n : ℕ). Within n ds) (sym one.as_many) (within-drop (length lanes) (d ∷ ds) booked.within);
+        booked = λ l k few takes. taken l k (subst (λ (n : ℕ). k < n) one.as_many few) takes;
       })
 
 -- a block was given

@@ -32,5 +32,5 @@ abbrev pub ended_so : Option BookFault → Option Stop → ℕ → ℕ → Resul
 ended_so failed stop frames jobs = ended_by stop frames jobs (driven_so failed)
 
 -- a booking in front of a device: what it puts in all if these hits still come; it says nothing of what it keeps back
-abbrev pub lane_told : {A H : Type 0} → (A → List (Headed H) → List ℕ) → A → Device ℕ → Telling H ℕ
-lane_told pieces booking device = record { device = device; pieces = pieces booking; Waits = λ due. Unit {0} }
+abbrev pub lane_telling : {A H : Type 0} → (A → List (Headed H) → List ℕ) → A → Device ℕ → Telling H ℕ
+lane_telling pieces booking device = record { device = device; pieces = pieces booking; Waits = λ due. Unit {0} }

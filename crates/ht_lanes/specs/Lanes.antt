@@ -17,6 +17,10 @@ pub record LaneJobs : Type 0 where
 abbrev pub lane_jobs : List JobView → ℕ → ℕ → LaneJobs
 lane_jobs jobs own first = record { jobs = jobs; own = own; first = first }
 
+-- its jobs as its lane numbers them
+abbrev pub own_jobs : LaneJobs → List JobView
+own_jobs b = b.jobs
+
 -- its jobs as the whole numbers them
 abbrev pub whole_jobs : LaneJobs → List JobView
 whole_jobs b = numbered b.first b.jobs
@@ -52,6 +56,11 @@ Within count due = (k : ℕ) (d : DueOf) → slice_get due k ≡ Some d → (d.l
 abbrev pub most_jobs : ℕ
 most_jobs = 2 ^ 64 - 2
 
+-- a block of at most `most` jobs may be asked for, behind `given` jobs that all lanes together have given
+pub record AsksFor (most given : ℕ) : Type 0 where
+  pub some : 1 ≤ most
+  pub bound : given + most < 2 ^ 64
+
 -- several lanes as one feed
 abbrev pub lanes_view : {F : Type 0} → ℕ → List DueOf → Bool → Option F → FeedView F
 lanes_view count due ended failed =
@@ -85,6 +94,11 @@ pub record Sides (L S K : Type 0) : Type 0 where
 abbrev pub sides_of : {L S K : Type 0} → List L → List S → List K → Sides L S K
 sides_of lanes sources sinks = record { lanes = lanes; sources = sources; sinks = sinks }
 
+-- two lists of one length, which differ at this number at most
+pub record OneChanges {X : Type 0} (old new : List X) (at : ℕ) : Type 0 where
+  pub as_many : length new ≡ length old
+  pub others : (x : X) (k : ℕ) → k ≢ at → slice_index_or new k x ≡ slice_index_or old k x
+
 module _ {L S K : Type 0} where
   -- the lane with this number and its devices
   abbrev pub side_at : Sides L S K → L → S → K → ℕ → Side L S K
@@ -94,12 +108,9 @@ module _ {L S K : Type 0} where
   module _ (leads : Side L S K → Side L S K → Type 0) where
     -- only the lane with this number did something
     pub record OneLeads (a b : Sides L S K) (at : ℕ) : Type 0 where
-      pub lanes : length b.lanes ≡ length a.lanes
-      pub sources : length b.sources ≡ length a.sources
-      pub sinks : length b.sinks ≡ length a.sinks
-      pub other_lanes : (l : L) (k : ℕ) → k ≢ at → slice_index_or b.lanes k l ≡ slice_index_or a.lanes k l
-      pub other_sources : (s : S) (k : ℕ) → k ≢ at → slice_index_or b.sources k s ≡ slice_index_or a.sources k s
-      pub other_sinks : (t : K) (k : ℕ) → k ≢ at → slice_index_or b.sinks k t ≡ slice_index_or a.sinks k t
+      pub lanes : OneChanges a.lanes b.lanes at
+      pub sources : OneChanges a.sources b.sources at
+      pub sinks : OneChanges a.sinks b.sinks at
       pub here : (l : L) (s : S) (t : K) → leads (side_at a l s t at) (side_at b l s t at)
 
     -- each lane did what its own devices and its own blocks made it do
@@ -118,6 +129,12 @@ module _ {L : Type 0} (over : L → Bool) where
 -- no block of any lane is due
 abbrev pub AreFresh : {L : Type 0} → (L → List (List JobView)) → List L → Type 0
 AreFresh {L = L} due lanes = (l : L) (k : ℕ) → k < length lanes → due (slice_index_or lanes k l) ≡ []
+
+-- lanes of which no block is due, each with a source and a sink of its own
+pub record MayRun {L S K : Type 0} (due : L → List (List JobView)) (a : Sides L S K) : Type 0 where
+  pub fresh : AreFresh due a.lanes
+  pub sources : length a.sources ≡ length a.lanes
+  pub sinks : length a.sinks ≡ length a.lanes
 
 -- no lane that takes answers waits for one
 abbrev pub HaveNone : {L : Type 0} → (L → List (List JobView)) → (L → Bool) → List L → Type 0
@@ -154,8 +171,7 @@ module _ {L : Type 0} (due : L → List (List JobView)) (rests : L → Bool) whe
   pub record MayBeAsked (lanes : List L) (sources : ℕ) (ring : List DueOf) (most given : ℕ) : Type 0 where
     pub pairs : sources ≡ length lanes
     pub booked : IsBooked lanes ring
-    pub some : 1 ≤ most
-    pub bound : given + most < 2 ^ 64
+    pub asks : AsksFor most given
     pub few_due : count_in (whole_due ring) + most ≤ 4096
 
   -- a lane waits for the same blocks, and rests if it did
@@ -180,31 +196,54 @@ module _ {L : Type 0} (due : L → List (List JobView)) (rests over : L → Bool
     pub rings : IsBooked due rests lanes ring
     pub ends : ended ≡ true → AreOver over 0 lanes
 
--- `count` lanes were asked in turn, from lane `from` on, for a block of at most `most` jobs, behind `given` jobs that all
--- lanes together had given; the lanes then, the blocks that are due before and then, and the answer: the number of a lane and
--- its block, or none
+-- What was answered where a block of at most `most` jobs was asked for, behind `given` jobs that all lanes together had given;
+-- `block` is what of an answer is the block.
+pub record AnswersBlock {B E : Type 0} (block : B → LaneJobs) (most given : ℕ) (result : Result (Option B) E) : Type 0 where
+  -- a block begins with the next number
+  pub first : IfOk result (λ asked. IfSome asked (λ b. (block b).first ≡ given))
+  -- it has a job, and no more than were asked for
+  pub some : IfOk result (λ asked. IfSome asked (λ b. 1 ≤ length (block b).jobs))
+  pub few : IfOk result (λ asked. IfSome asked (λ b. length (block b).jobs ≤ most))
+
+-- the block of one lane, and the block beside the number of its lane
+abbrev pub of_one : LaneJobs → LaneJobs
+of_one block = block
+
+abbrev pub of_several : ℕ × LaneJobs → LaneJobs
+of_several asked = asked.1
+
+-- What was answered where `count` lanes were asked in turn, beginning with lane `from`, until one gave a block: the number of
+-- that lane and its block, or that none of them gives one any more. `ends` says of a lane, here as it is behind the call, that it
+-- is over.
+pub record AnswersInTurn {L E : Type 0} (ends : L → Bool) (count from most given : ℕ) (lanes : List L) (result : Result (Option (ℕ × LaneJobs)) E) : Type 0
+  where
+    -- the number is that of one of the lanes
+    pub lane : IfOk result (λ asked. IfSome asked (λ a. a.0 < count))
+    pub block : AnswersBlock of_several most given result
+    -- where no block came, each lane that was asked is over
+    pub over : IfOk result (λ asked. IfNone asked (AreOver ends from lanes))
+
+-- The next block of several lanes: what was answered, and which blocks were due before, and are due then.
 pub record GivesNext {L E : Type 0} (ends : L → Bool) (count from most given : ℕ) (lanes : List L) (ring ring' : List DueOf)
     (result : Result (Option (ℕ × LaneJobs)) E) : Type 0 where
-  -- the block is of one of the lanes, is due behind the others and begins with the next number
-  pub lane : IfOk result (λ asked. IfSome asked (λ a. a.0 < count))
+  pub answers : AnswersInTurn ends count from most given lanes result
+  -- a block is due behind the others
   pub due : IfOk result (λ asked. IfSome asked (λ a. ring' ≡ ring ++ due_of a.0 a.1 ∷ []))
-  pub first : IfOk result (λ asked. IfSome asked (λ a. a.1.first ≡ given))
-  -- it has a job, and no more than were asked for
-  pub some : IfOk result (λ asked. IfSome asked (λ a. 1 ≤ length a.1.jobs))
-  pub few : IfOk result (λ asked. IfSome asked (λ a. length a.1.jobs ≤ most))
-  -- where none came, the same blocks are due, and all lanes that were asked are over
+  -- where none came, or memory lacked, the same blocks are due
   pub none : IfOk result (λ asked. IfNone asked (ring' ≡ ring))
-  pub over : IfOk result (λ asked. IfNone asked (AreOver ends from lanes))
-  -- without memory the same blocks are due
   pub memory : OnErr result (ring' ≡ ring)
 
--- what a run of lanes that gave no block yet leaves, with their sources and sinks, by its answer
+-- What a run of lanes leaves of which none had given a block: all lanes with their sources and sinks, before and after, by what
+-- the run answered. `does` is what one lane may do with its own devices, and `waits_for` which blocks it waits for the answers to.
+-- A lane that `rests` takes no answers any more, one that is over by `ends` gives no blocks any more, and one that `keeps_none`
+-- keeps nothing back of what is to be put.
 module _ {L S K A E : Type 0} (does : Side L S K → Side L S K → Type 0) (waits_for : L → List (List JobView)) (rests ends : L → Bool)
     (keeps_none : L → Type 0) (result : Result A E) where
   pub record RunsLanes (a b : Sides L S K) : Type 0 where
-    -- however it ends, each lane did what its own devices and its own blocks made it do
+    -- However the run ended, each lane did what its own devices and its own blocks made it do.
     pub leads : AllLead does a b
-    -- where memory suffices, all are over, and none that takes answers waits for one or keeps something back
+    -- Where memory sufficed, all lanes are over.
     pub over : OnOk result (AreOver ends 0 b.lanes)
-    pub taken : OnOk result (HaveNone waits_for rests b.lanes)
+    -- Those that don't rest have had all their answers, and have put all that came of them.
+    pub none_due : OnOk result (HaveNone waits_for rests b.lanes)
     pub finished : OnOk result (AreFinished keeps_none rests b.lanes)

@@ -1,13 +1,6 @@
 -- What each lane did over several calls.
-use Rattle.std.proofs.Common.{◌≡◌, ◌≢◌, ℕ, ◌<◌, get_or, Bool, true, false, nat_eq, refl, ap, sym, ◌∙◌, subst, arith}
-use Rattle.std.proofs.lemmas.Bool.Decides.{nat_tests}
-use Rattle.ht_lanes.specs.Lanes.{AllLead, OneLeads, Side, Sides, side_at, side_of}
-
-pub same_number : (i k : ℕ) → nat_eq k i ≡ true → k ≡ i
-same_number i k e = grind (arith, nat_tests)
-
-pub other_number : (i k : ℕ) → nat_eq k i ≡ false → k ≢ i
-other_number i k e = grind (arith, nat_tests)
+use Rattle.std.proofs.Common.{ℕ, ◌<◌, refl, sym, ◌∙◌, subst}
+use Rattle.ht_lanes.specs.Lanes.{AllLead, Side, Sides, side_at}
 
 module _ {L S K : Type 0} (leads : Side L S K → Side L S K → Type 0) (stays : (a : Side L S K) → leads a a)
     (goes_on : (a b c : Side L S K) → leads a b → leads b c → leads a c) where
@@ -22,30 +15,3 @@ module _ {L S K : Type 0} (leads : Side L S K → Side L S K → Type 0) (stays 
     each = λ l s t k within. goes_on (side_at a l s t k) (side_at b l s t k) (side_at c l s t k) (p.each l s t k within)
         (q.each l s t k (subst (λ (n : ℕ). k < n) (sym p.lanes) within));
   }
-
-  stays_as : (a : Side L S K) (lane : L) (source : S) (sink : K) → lane ≡ a.lane → source ≡ a.source → sink ≡ a.sink → leads a (side_of lane source sink)
-  stays_as a lane source sink p q r =
-      let is : side_of lane source sink ≡ a =
-      ap (λ (z : L). side_of z source sink) p ∙ (ap (λ (z : S). side_of a.lane z sink) q ∙ ap (λ (z : K). side_of a.lane a.source z) r) in
-      subst (λ (z : Side L S K). leads a z) (sym is) (stays a)
-
-  module _ {a b : Sides L S K} {at : ℕ} (one : OneLeads leads a b at) where
-    each : (t : Bool) (l : L) (s : S) (x : K) (k : ℕ) → nat_eq k at ≡ t → leads (side_at a l s x k) (side_at b l s x k)
-    each true l s x k e =
-        subst (λ (n : ℕ). leads (side_at a l s x n) (side_at b l s x n)) (sym (same_number at k e)) (one.here l s x)
-    each false l s x k e =
-        let far = other_number at k e in
-        stays_as (side_at a l s x k) (get_or b.lanes k l) (get_or b.sources k s) (get_or b.sinks k x)
-        (one.other_lanes l k far) (one.other_sources s k far) (one.other_sinks x k far)
-
-    pub all-one : AllLead leads a b
-    all-one = record {
-      lanes = one.lanes;
-      sources = one.sources;
-      sinks = one.sinks;
-      each = λ l s t k within. each (nat_eq k at) l s t k refl;
-    }
-
-    -- behind what all did before
-    pub all-more : (before : Sides L S K) → AllLead leads before a → AllLead leads before b
-    all-more before did = all-on before a b did all-one

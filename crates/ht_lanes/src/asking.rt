@@ -1,6 +1,8 @@
 //! Lanes are asked for a block.
-ghost use Rattle.std.specs.Prelude.{◌≡◌, ◌+◌, ◌^◌, ◌<◌, ◌≤◌, ℕ, List, [], ◌∷◌, ◌++◌, true, length, slice_index_or, IfNone, IfOk, IfSome, OnErr};
-ghost use Rattle.ht_lanes.specs.Lanes.{AllLead, HasFewDue, HaveFewDue, OneLeads, OneMoreAt, SameBooks, side_of, sides_of};
+ghost use Rattle.std.specs.Prelude.{◌≡◌, ◌<◌, List, length, slice_index_or, IfNone, IfOk, IfSome, OnErr};
+ghost use Rattle.ht_lanes.specs.Calls.{GivesLaneBlock};
+ghost use Rattle.ht_lanes.specs.Lanes.{AllLead, AnswersBlock, AnswersInTurn, AsksFor, HasFewDue, HaveFewDue, OneLeads};
+ghost use Rattle.ht_lanes.specs.Lanes.{OneMoreAt, SameBooks, of_one, own_jobs, side_of, sides_of};
 
 use crate::lane::Lane;
 use crate::lane_block::LaneBlock;
@@ -13,17 +15,10 @@ fn ask<L: Lane<S, K>, S, K>(
     most: u16,
     first: u64,
 ) -> Result<Option<LaneBlock<L::Block>>, AllocError>
-    requires some { 1 ≤ most }
-    requires bound { first + most < 2 ^ 64 }
+    requires asks { AsksFor most first }
     requires few_due { HasFewDue L.due L.over most lane.old }
-    ensures due { IfOk result (λ given. IfSome given (λ block. L.due lane.new ≡ L.due lane.old ++ block.jobs ∷ [])) }
-    ensures first { IfOk result (λ given. IfSome given (λ block. block.first ≡ first)) }
-    ensures some { IfOk result (λ given. IfSome given (λ block. 1 ≤ length block.jobs)) }
-    ensures few { IfOk result (λ given. IfSome given (λ block. length block.jobs ≤ most)) }
-    ensures none { IfOk result (λ given. IfNone given (L.due lane.new ≡ L.due lane.old)) }
-    ensures over { IfOk result (λ given. IfNone given (L.over lane.new ≡ true)) }
-    ensures memory { OnErr result (L.due lane.new ≡ L.due lane.old) }
-    ensures rests { L.rests lane.new ≡ L.rests lane.old }
+    ensures gives { GivesLaneBlock L.due L.rests L.over own_jobs lane.old lane.new result }
+    ensures block { AnswersBlock of_one most first result }
     ensures leads { (sink : K) → L.leads (side_of lane.old source.old sink) (side_of lane.new source.new sink) }
 {
     if lane.is_over() {
@@ -47,18 +42,11 @@ fn ask_at<L: Lane<S, K>, S, K>(
 ) -> Result<Option<LaneBlock<L::Block>>, AllocError>
     requires lane { at < length lanes.old }
     requires source { at < length sources.old }
-    requires some { 1 ≤ most }
-    requires bound { first + most < 2 ^ 64 }
+    requires asks { AsksFor most first }
     requires few_due { (l : L) → HasFewDue L.due L.over most (slice_index_or lanes.old at l) }
-    ensures due { IfOk result (λ given. IfSome given (λ block. (l : L)
-        → L.due (slice_index_or lanes.new at l) ≡ L.due (slice_index_or lanes.old at l) ++ block.jobs ∷ [])) }
-    ensures first { IfOk result (λ given. IfSome given (λ block. block.first ≡ first)) }
-    ensures some { IfOk result (λ given. IfSome given (λ block. 1 ≤ length block.jobs)) }
-    ensures few { IfOk result (λ given. IfSome given (λ block. length block.jobs ≤ most)) }
-    ensures none { IfOk result (λ given. IfNone given ((l : L) → L.due (slice_index_or lanes.new at l) ≡ L.due (slice_index_or lanes.old at l))) }
-    ensures over { IfOk result (λ given. IfNone given ((l : L) → L.over (slice_index_or lanes.new at l) ≡ true)) }
-    ensures memory { OnErr result ((l : L) → L.due (slice_index_or lanes.new at l) ≡ L.due (slice_index_or lanes.old at l)) }
-    ensures rests { (l : L) → L.rests (slice_index_or lanes.new at l) ≡ L.rests (slice_index_or lanes.old at l) }
+    ensures gives { (l : L)
+        → GivesLaneBlock L.due L.rests L.over own_jobs (slice_index_or lanes.old at l) (slice_index_or lanes.new at l) result }
+    ensures block { AnswersBlock of_one most first result }
     ensures leads { (sinks : List K) → OneLeads L.leads (sides_of lanes.old sources.old sinks) (sides_of lanes.new sources.new sinks) at }
 {
     ask::<L, S, K>(&mut lanes[at], &mut sources[at], most, first)
@@ -73,16 +61,11 @@ pub(crate) fn ask_from<L: Lane<S, K>, S, K>(
     first: u64,
 ) -> Result<Option<(usize, LaneBlock<L::Block>)>, AllocError>
     requires pairs { length sources.old ≡ length lanes.old }
-    requires some { 1 ≤ most }
-    requires bound { first + most < 2 ^ 64 }
+    requires asks { AsksFor most first }
     requires few_due { HaveFewDue L.due L.over most lanes.old }
-    ensures lane { IfOk result (λ given. IfSome given (λ asked. asked.0 < length lanes.old)) }
+    ensures answers { AnswersInTurn L.over (length lanes.old) from most first lanes.new result }
     ensures due { IfOk result (λ given. IfSome given (λ asked. OneMoreAt L.due L.rests lanes.old lanes.new asked.0 asked.1.jobs)) }
-    ensures first { IfOk result (λ given. IfSome given (λ asked. asked.1.first ≡ first)) }
-    ensures some { IfOk result (λ given. IfSome given (λ asked. 1 ≤ length asked.1.jobs)) }
-    ensures few { IfOk result (λ given. IfSome given (λ asked. length asked.1.jobs ≤ most)) }
     ensures none { IfOk result (λ given. IfNone given (SameBooks L.due L.rests lanes.old lanes.new)) }
-    ensures over { IfOk result (λ given. IfNone given ((l : L) (k : ℕ) → from ≤ k → k < length lanes.new → L.over (slice_index_or lanes.new k l) ≡ true)) }
     ensures memory { OnErr result (SameBooks L.due L.rests lanes.old lanes.new) }
     ensures leads { (sinks : List K) → AllLead L.leads (sides_of lanes.old sources.old sinks) (sides_of lanes.new sources.new sinks) }
 {

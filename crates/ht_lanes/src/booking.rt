@@ -1,10 +1,10 @@
 //! What becomes of the hits of one lane.
-ghost use Rattle.std.specs.Prelude.{◌≡◌, ℕ, List, [], drop, slice_get, take, Some, OnErr, OnOk};
+ghost use Rattle.std.specs.Prelude.{◌≡◌, ℕ, List, [], slice_get, Some, OnOk};
 ghost use Rattle.ht_metric.specs.Jobs.{JobView};
-ghost use Rattle.ht_feed.specs.Dues.{all_due, jobs_in};
+ghost use Rattle.ht_feed.specs.Dues.{jobs_in};
 ghost use Rattle.ht_feed.specs.Items.{Headed};
 ghost use Rattle.ht_feed.specs.Numbers.{numbered};
-ghost use Rattle.ht_lanes.specs.Bookings.{BooksHits};
+ghost use Rattle.ht_lanes.specs.Bookings.{BooksFirst, BooksHits};
 
 use ht_feed::{Answer, BlockReader, BookFault, Desk};
 use ht_io::Sink;
@@ -30,12 +30,7 @@ pub trait Booking<R: BlockReader + Drop, K: Sink> {
     ) -> Result<(), BookFault>
         requires right { Self.Answer.answers answer.now (R.Block.jobs block.now) }
         requires first { slice_get (jobs_in desk.old.due) 0 ≡ Some (R.Block.jobs block.now) }
-
-        ensures books { BooksHits result (K.shown sink.old) (K.shown sink.new) (pieces self.old) (pieces self.new) (all_due (take 1 desk.old.due)) }
-
-        // What is due.
-        ensures due { OnOk result (desk.new ≡ record desk.old { due = drop 1 desk.old.due }) }
-        ensures stays { OnErr result (desk.new ≡ desk.old) };
+        ensures { BooksFirst result desk.old desk.new (K.shown sink.old) (K.shown sink.new) (pieces self.old) (pieces self.new) };
 
     /// Puts all that is kept back, once no hits come any more. Behind a refusal nothing is said of what is left.
     fn finish(&mut self, sink: &mut K) -> Result<(), BookFault>

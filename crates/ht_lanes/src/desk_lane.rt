@@ -5,7 +5,7 @@ ghost use Rattle.ht_feed.specs.Dues.{jobs_in};
 ghost use Rattle.ht_feed.specs.Leading.{tells_by-none, tells_by-on};
 ghost use Rattle.ht_feed.specs.Reading.{IsFreshReader};
 ghost use Rattle.ht_feed.specs.Telling.{TellsBy, seen_by};
-ghost use Rattle.ht_lanes.specs.DeskLanes.{ended_so, is_over, lane_told, rests_over};
+ghost use Rattle.ht_lanes.specs.DeskLanes.{ended_so, is_over, lane_telling, rests_over};
 
 use crate::booking::Booking;
 use crate::lane::Lane;
@@ -36,7 +36,7 @@ impl<R: BlockReader + Drop, A: Drop> DeskLane<R, A> {
         alloc: Global,
         reader: R,
         head: R::Head,
-        room: u16,
+        blocks: u16,
         booking: A,
     ) -> Result<DeskLane<R, A>, AllocError>
         requires fresh { IsFreshReader (R.counts reader) }
@@ -44,7 +44,7 @@ impl<R: BlockReader + Drop, A: Drop> DeskLane<R, A> {
         ensures booking { IfOk result (λ lane. lane.booking ≡ booking) }
         ensures well { IfOk result (λ lane. lane.failed ≡ None) }
     {
-        match Desk::new(alloc, reader, head, room) {
+        match Desk::new(alloc, reader, head, blocks) {
             Ok(desk) => Ok(DeskLane {
                 desk,
                 booking,
@@ -94,8 +94,8 @@ impl<R: BlockReader + Drop, A: Booking<R, K>, S: Source, K: Sink> Lane<S, K> for
     ghost over = { λ l. is_over l.failed l.desk.stop };
 
     ghost leads = { λ a b. TellsBy a.lane.failed b.lane.failed
-        (seen_by R.means R.at a.lane.desk (S.shown a.source) (lane_told A.pieces a.lane.booking (K.shown a.sink)))
-        (seen_by R.means R.at b.lane.desk (S.shown b.source) (lane_told A.pieces b.lane.booking (K.shown b.sink))) };
+        (seen_by R.means R.at a.lane.desk (S.shown a.source) (lane_telling A.pieces a.lane.booking (K.shown a.sink)))
+        (seen_by R.means R.at b.lane.desk (S.shown b.source) (lane_telling A.pieces b.lane.booking (K.shown b.sink))) };
 
     fn count(&self) -> u64 {
         self.desk.count()
@@ -144,10 +144,10 @@ impl<R: BlockReader + Drop, A: Booking<R, K>, S: Source, K: Sink> Lane<S, K> for
     ghost numberless = { A.numberless };
 
     ghost stays = { λ a. tells_by-none a.lane.failed
-        (seen_by R.means R.at a.lane.desk (S.shown a.source) (lane_told A.pieces a.lane.booking (K.shown a.sink))) };
+        (seen_by R.means R.at a.lane.desk (S.shown a.source) (lane_telling A.pieces a.lane.booking (K.shown a.sink))) };
 
     ghost goes_on = { λ a b c. tells_by-on a.lane.failed b.lane.failed c.lane.failed
-        (seen_by R.means R.at a.lane.desk (S.shown a.source) (lane_told A.pieces a.lane.booking (K.shown a.sink)))
-        (seen_by R.means R.at b.lane.desk (S.shown b.source) (lane_told A.pieces b.lane.booking (K.shown b.sink)))
-        (seen_by R.means R.at c.lane.desk (S.shown c.source) (lane_told A.pieces c.lane.booking (K.shown c.sink))) };
+        (seen_by R.means R.at a.lane.desk (S.shown a.source) (lane_telling A.pieces a.lane.booking (K.shown a.sink)))
+        (seen_by R.means R.at b.lane.desk (S.shown b.source) (lane_telling A.pieces b.lane.booking (K.shown b.sink)))
+        (seen_by R.means R.at c.lane.desk (S.shown c.source) (lane_telling A.pieces c.lane.booking (K.shown c.sink))) };
 }

@@ -1,7 +1,6 @@
 //! All blocks of several lanes.
-ghost use Rattle.std.specs.Prelude.{◌≡◌, length};
 ghost use Rattle.ht_feed.specs.Limits.{IsWindowSize};
-ghost use Rattle.ht_lanes.specs.Lanes.{AreFresh, RunsLanes, sides_of};
+ghost use Rattle.ht_lanes.specs.Lanes.{MayRun, RunsLanes, sides_of};
 
 use crate::finishing::finish_lanes;
 use crate::lane::Lane;
@@ -14,7 +13,7 @@ use std::alloc::{AllocError, Global};
 /// Runs all blocks of lanes that gave none yet, in this thread, and hands each lane the answers to its own. Behind the
 /// last one each puts what it keeps back. One block is due at a time, of at most `window` jobs, 1 to 4096. The only error
 /// is lack of memory.
-pub fn run_alone<L: Lane<S, K>, S, K, W: Work<LaneBlock<L::Block>, Answer = L::Answer>>(
+pub fn drive_lanes_alone<L: Lane<S, K>, S, K, W: Work<LaneBlock<L::Block>, Answer = L::Answer>>(
     alloc: Global,
     window: u16,
     work: &W,
@@ -23,9 +22,7 @@ pub fn run_alone<L: Lane<S, K>, S, K, W: Work<LaneBlock<L::Block>, Answer = L::A
     sinks: &mut [K],
 ) -> Result<(), AllocError>
     requires window { IsWindowSize window }
-    requires fresh { AreFresh L.due lanes.old }
-    requires sources { length sources.old ≡ length lanes.old }
-    requires sinks { length sinks.old ≡ length lanes.old }
+    requires fresh { MayRun L.due (sides_of lanes.old sources.old sinks.old) }
     ensures { RunsLanes L.leads L.due L.rests L.over L.finished result
         (sides_of lanes.old sources.old sinks.old) (sides_of lanes.new sources.new sinks.new) }
 {

@@ -1,5 +1,6 @@
 //! Lanes put what they kept back.
-ghost use Rattle.std.specs.Prelude.{◌≡◌, ◌<◌, List, true, false, length, slice_index_or};
+ghost use Rattle.std.specs.Prelude.{◌≡◌, ◌<◌, List, length, slice_index_or};
+ghost use Rattle.ht_lanes.specs.Calls.{FinishesLane};
 ghost use Rattle.ht_lanes.specs.Lanes.{AllLead, AreFinished, AreOver, HaveNone, OneLeads, sides_of};
 
 use crate::lane::Lane;
@@ -8,10 +9,8 @@ use crate::lane::Lane;
 fn finish_at<L: Lane<S, K>, S, K>(lanes: &mut [L], sinks: &mut [K], at: usize)
     requires lane { at < length lanes.old }
     requires sink { at < length sinks.old }
-    ensures finished { (l : L) → L.rests (slice_index_or lanes.new at l) ≡ false → L.finished (slice_index_or lanes.new at l) }
-    ensures rests { (l : L) → L.rests (slice_index_or lanes.new at l) ≡ false → L.rests (slice_index_or lanes.old at l) ≡ false }
-    ensures due { (l : L) → L.due (slice_index_or lanes.new at l) ≡ L.due (slice_index_or lanes.old at l) }
-    ensures over { (l : L) → L.over (slice_index_or lanes.old at l) ≡ true → L.over (slice_index_or lanes.new at l) ≡ true }
+    ensures finishes { (l : L)
+        → FinishesLane L.due L.rests L.over L.finished (slice_index_or lanes.old at l) (slice_index_or lanes.new at l) }
     ensures leads { (sources : List S) → OneLeads L.leads (sides_of lanes.old sources sinks.old) (sides_of lanes.new sources sinks.new) at }
 {
     lanes[at].finish(&mut sinks[at]);
@@ -23,7 +22,7 @@ pub fn finish_lanes<L: Lane<S, K>, S, K>(lanes: &mut [L], sinks: &mut [K])
     requires pairs { length sinks.old ≡ length lanes.old }
     ensures finished { AreFinished L.finished L.rests lanes.new }
     ensures over { AreOver L.over 0 lanes.old → AreOver L.over 0 lanes.new }
-    ensures taken { HaveNone L.due L.rests lanes.old → HaveNone L.due L.rests lanes.new }
+    ensures none_due { HaveNone L.due L.rests lanes.old → HaveNone L.due L.rests lanes.new }
     ensures leads { (sources : List S) → AllLead L.leads (sides_of lanes.old sources sinks.old) (sides_of lanes.new sources sinks.new) }
 {
     for at in 0..lanes.len() {

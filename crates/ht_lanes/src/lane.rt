@@ -1,9 +1,9 @@
 //! One lane among several.
-ghost use Rattle.std.specs.Prelude.{◌≡◌, ◌+◌, ◌-◌, ◌<◌, ◌≤◌, ℕ, List, [], ◌∷◌, ◌++◌, Bool, true, false, drop, length};
-ghost use Rattle.std.specs.Prelude.{slice_get, Some, IfNone, IfOk, IfSome, OnErr, OnOk};
+ghost use Rattle.std.specs.Prelude.{◌≡◌, ◌+◌, ◌≤◌, ℕ, List, Bool, true, false, length, slice_get, Some, IfOk, IfSome, OnErr};
 ghost use Rattle.ht_metric.specs.Jobs.{JobView};
 ghost use Rattle.ht_feed.specs.Dues.{count_in};
 ghost use Rattle.ht_feed.specs.Items.{Numbered};
+ghost use Rattle.ht_lanes.specs.Calls.{FinishesLane, GivesLaneBlock, SettlesLane};
 ghost use Rattle.ht_lanes.specs.Lanes.{Side, side_of};
 ghost use Rattle.ht_feed.specs.Numbers.{numbered};
 
@@ -58,15 +58,11 @@ pub trait Lane<S, K> {
         requires going { over self.old ≡ false }
         requires some { 1 ≤ most }
         requires few_due { count_in (due self.old) + most ≤ 4096 }
-        ensures due { IfOk result (λ given. IfSome given (λ block. due self.new ≡ due self.old ++ Self.Block.jobs block ∷ [])) }
+        ensures gives { GivesLaneBlock due rests over Self.Block.jobs self.old self.new result }
         ensures numbers { IfOk result (λ given. IfSome given (λ block. Numbered (count self.old) (Self.Block.jobs block))) }
         ensures some { IfOk result (λ given. IfSome given (λ block. 1 ≤ length (Self.Block.jobs block))) }
         ensures few { IfOk result (λ given. IfSome given (λ block. length (Self.Block.jobs block) ≤ most)) }
-        ensures none { IfOk result (λ given. IfNone given (due self.new ≡ due self.old)) }
-        ensures over { IfOk result (λ given. IfNone given (over self.new ≡ true)) }
-        ensures memory { OnErr result (due self.new ≡ due self.old) }
         ensures unread { OnErr result (source.new ≡ source.old) }
-        ensures rests { rests self.new ≡ rests self.old }
         ensures leads { (sink : K) → leads (side_of self.old source.old sink) (side_of self.new source.new sink) };
 
     /// Takes the answer to the first block due. Where the sink fails the lane rests from then on, and so does it
@@ -80,18 +76,13 @@ pub trait Lane<S, K> {
         requires going { rests self.old ≡ false }
         requires right { Self.Answer.answers answer.now (Self.Block.jobs block.now) }
         requires first { slice_get (due self.old) 0 ≡ Some (Self.Block.jobs block.now) }
-        ensures due { OnOk result (rests self.new ≡ false → due self.new ≡ drop 1 (due self.old)) }
-        ensures memory { OnErr result (rests self.new ≡ true) }
-        ensures over { over self.old ≡ true → over self.new ≡ true }
+        ensures settles { SettlesLane due rests over self.old self.new result }
         ensures leads { (source : S) → leads (side_of self.old source sink.old) (side_of self.new source sink.new) };
 
     /// Puts what is kept back, unless it rests, once no answers come any more. Where the sink fails or memory runs out
     /// the lane rests from then on.
     fn finish(&mut self, sink: &mut K)
-        ensures finished { rests self.new ≡ false → finished self.new }
-        ensures rests { rests self.new ≡ false → rests self.old ≡ false }
-        ensures due { due self.new ≡ due self.old }
-        ensures over { over self.old ≡ true → over self.new ≡ true }
+        ensures finishes { FinishesLane due rests over finished self.old self.new }
         ensures leads { (source : S) → leads (side_of self.old source sink.old) (side_of self.new source sink.new) };
 
     /// A lane that takes no answers gives no blocks either.

@@ -52,9 +52,10 @@ impl<'a, L: Lane<S, K>, S, K> Lanes<'a, L, S, K> {
     ) -> Lanes<'a, L, S, K>
         requires feed { IsFeed L.due L.rests L.over lanes.old (length sources.old) (length sinks.old) due.old.items false }
         requires none { due.old.items ≡ [] }
-        ensures names { names result.lanes.ghost_name result.sources.ghost_name result.sinks.ghost_name result.due.ghost_name
-            ≡ names lanes.entry.ghost_name sources.entry.ghost_name sinks.entry.ghost_name due.entry.ghost_name }
-        ensures sides { sides_of result.lanes.now result.sources.now result.sinks.now ≡ sides_of lanes.old sources.old sinks.old }
+        ensures lanes { result.lanes ≡ lanes.entry }
+        ensures sources { result.sources ≡ sources.entry }
+        ensures sinks { result.sinks ≡ sinks.entry }
+        ensures due { result.due ≡ due.entry }
         ensures shown { lanes_view result.count result.due.now.items result.ended result.failed ≡ lanes_view 0 [] false None }
     {
         Lanes {

@@ -5,7 +5,7 @@
 //! asks the lanes that aren't over in turn, numbers the jobs of all of them from 0, and hands each answer to the lane
 //! of the oldest block that is due; a block ([`LaneBlock`]) also has the number of its first job in its lane. A lane whose
 //! sink failed rests: what is still due of it is dropped, and the others go on. What a lane keeps back it puts once no
-//! answers come any more ([`finish_lanes`]). [`run_alone`] runs all blocks of lanes in the calling thread, and finishes them.
+//! answers come any more ([`finish_lanes`]). [`drive_lanes_alone`] runs all blocks of lanes in the calling thread, and finishes them.
 //!
 //! What the feed leads to is said lane by lane, by a relation that sees one lane with its own source and sink
 //! (`AllLead` in `specs/Lanes.antt`), so that nothing is said of an order, and no lane's share speaks of another.
@@ -33,7 +33,7 @@ mod settling;
 
 pub use booking::Booking;
 pub use desk_lane::DeskLane;
-pub use driving::run_alone;
+pub use driving::drive_lanes_alone;
 pub use finishing::finish_lanes;
 pub use lane::Lane;
 pub use lane_block::LaneBlock;

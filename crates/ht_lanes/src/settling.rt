@@ -1,5 +1,6 @@
 //! The answer to a block goes back to its lane.
-ghost use Rattle.std.specs.Prelude.{◌≡◌, ◌<◌, List, true, false, drop, length, slice_get, slice_index_or, Some, OnErr, OnOk};
+ghost use Rattle.std.specs.Prelude.{◌≡◌, ◌<◌, List, false, drop, length, slice_get, slice_index_or, Some, OnErr, OnOk};
+ghost use Rattle.ht_lanes.specs.Calls.{SettlesLane};
 ghost use Rattle.ht_lanes.specs.Lanes.{AllLead, AreOver, IsBooked, OneLeads, side_of, sides_of, whole_due, whole_jobs};
 
 use crate::lane::Lane;
@@ -18,10 +19,7 @@ fn settle<L: Lane<S, K>, S, K>(
 ) -> Result<(), AllocError>
     requires right { L.Answer.answers answer.now (L.Block.jobs block.now) }
     requires first { L.rests lane.old ≡ false → slice_get (L.due lane.old) 0 ≡ Some (L.Block.jobs block.now) }
-    ensures due { OnOk result (L.rests lane.new ≡ false → L.due lane.new ≡ drop 1 (L.due lane.old)) }
-    ensures memory { OnErr result (L.rests lane.new ≡ true) }
-    ensures rests { L.rests lane.new ≡ false → L.rests lane.old ≡ false }
-    ensures over { L.over lane.old ≡ true → L.over lane.new ≡ true }
+    ensures settles { SettlesLane L.due L.rests L.over lane.old lane.new result }
     ensures leads { (source : S) → L.leads (side_of lane.old source sink.old) (side_of lane.new source sink.new) }
 {
     if lane.is_resting() {
@@ -43,11 +41,8 @@ fn settle_at<L: Lane<S, K>, S, K>(
     requires right { L.Answer.answers answer.now (L.Block.jobs block.now) }
     requires first { (l : L) → L.rests (slice_index_or lanes.old at l) ≡ false
         → slice_get (L.due (slice_index_or lanes.old at l)) 0 ≡ Some (L.Block.jobs block.now) }
-    ensures due { OnOk result ((l : L) → L.rests (slice_index_or lanes.new at l) ≡ false
-        → L.due (slice_index_or lanes.new at l) ≡ drop 1 (L.due (slice_index_or lanes.old at l))) }
-    ensures memory { OnErr result ((l : L) → L.rests (slice_index_or lanes.new at l) ≡ true) }
-    ensures rests { (l : L) → L.rests (slice_index_or lanes.new at l) ≡ false → L.rests (slice_index_or lanes.old at l) ≡ false }
-    ensures over { (l : L) → L.over (slice_index_or lanes.old at l) ≡ true → L.over (slice_index_or lanes.new at l) ≡ true }
+    ensures settles { (l : L)
+        → SettlesLane L.due L.rests L.over (slice_index_or lanes.old at l) (slice_index_or lanes.new at l) result }
     ensures leads { (sources : List S) → OneLeads L.leads (sides_of lanes.old sources sinks.old) (sides_of lanes.new sources sinks.new) at }
 {
     settle::<L, S, K>(&mut lanes[at], &mut sinks[at], block, answer)
@@ -65,7 +60,7 @@ pub(crate) fn settle_first<L: Lane<S, K>, S, K>(
     requires sinks { length sinks.old ≡ length lanes.old }
     requires right { L.Answer.answers answer.now (whole_jobs block.now) }
     requires first { slice_get (whole_due due.old.items) 0 ≡ Some (whole_jobs block.now) }
-    ensures taken { OnOk result (due.new.items ≡ drop 1 due.old.items) }
+    ensures rest { OnOk result (due.new.items ≡ drop 1 due.old.items) }
     ensures memory { OnErr result (due.new.items ≡ due.old.items) }
     ensures booked { IsBooked L.due L.rests lanes.new due.new.items }
     ensures over { AreOver L.over 0 lanes.old → AreOver L.over 0 lanes.new }

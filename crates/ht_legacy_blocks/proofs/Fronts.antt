@@ -6,7 +6,7 @@ use Rattle.ht_io.specs.declared.faults.InFault.{InFault}
 use Rattle.ht_io.proofs.Calls.{later-later, takes-append}
 use Rattle.ht_fields.specs.Lacking.{LacksField}
 use Rattle.ht_fields.specs.Readers.{Gives, reader_in}
-use Rattle.ht_fields.specs.WholeFiles.{Halts}
+use Rattle.ht_fields.specs.WholeFiles.{StopsWithCause}
 use Rattle.ht_fields.proofs.Halting.{gives_halts, lacks_halts}
 use Rattle.ht_fields.proofs.Readers.{field_is, width_is}
 use Rattle.ht_fields.proofs.Routes.{Route, route_field, route_from, route_gives, route_then}
@@ -37,7 +37,7 @@ start_gives count source after few taken =
     (route_start (headed captured) count (record { some = omega arith; small = omega (arith, few); least = omega arith; most = few })) (length_start count) taken
 
 pub start_halts : (source after : Device ℕ) (fault : InFault) → StartedFails captures_magic frame_limits source after fault
-    → Halts (reader_in captures captures.start 0 source) after fault
+    → StopsWithCause (reader_in captures captures.start 0 source) after fault
 start_halts source after fault fails = started_halts (counted_format (headed captured)) source after fault (omega arith) (λ e. cc, λ e. cc) fails
 
 -- what stands in front of the symbols of a frame
@@ -70,7 +70,7 @@ route_samples left n octets some wide =
 -- the diagonals did not come whole behind rate and length
 pub diagonals_halts : (left at : ℕ) (source first between after : Device ℕ) (fault : InFault) (r : LegacyRate) (len width : ℕ) → 0 < left → 1 ≤ len
     → len ≤ 4095 → width ≡ 104 → Takes source first (index_of r ∷ []) → Takes first between (big_bytes 2 len) → IsLater source first
-    → IsLater first between → LacksField width (at + 3) between after fault → Halts (reader_in captures (captures_due left) at source) after fault
+    → IsLater first between → LacksField width (at + 3) between after fault → StopsWithCause (reader_in captures (captures_due left) at source) after fault
 diagonals_halts left at source first between after fault r len width some least most wide rate size later still lacks =
     let s : State = behind_head (Diagonals left r len) in
     let place : at + 3 ≡ at + length (index_of r ∷ big_bytes 2 len) = refl in
@@ -102,8 +102,8 @@ samples_gives left n at source after octets some wide taken =
 
 -- the samples of a symbol did not come whole
 pub samples_halts : (left n at width : ℕ) (source after : Device ℕ) (fault : InFault) → 0 < n → width ≡ 416 → LacksField width at source after fault
-    → Halts (reader_in captures (symbols_due left n) at source) after fault
+    → StopsWithCause (reader_in captures (symbols_due left n) at source) after fault
 samples_halts left n at width source after fault some wide lacks =
-    subst (λ (s : State). Halts (reader_in captures s at source) after fault) (sym (symbol_is left n some))
+    subst (λ (s : State). StopsWithCause (reader_in captures s at source) after fault) (sym (symbol_is left n some))
     (lacks_halts captures (behind_head (Samples left n)) at 416 source after fault (width_is 416 (good_samples left n) (omega arith))
     (subst (λ k. LacksField k at source after fault) wide lacks))

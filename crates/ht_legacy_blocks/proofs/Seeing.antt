@@ -8,8 +8,8 @@ use Rattle.ht_io.specs.declared.faults.InFault.TheVariants.{Format, Read, NoMemo
 use Rattle.ht_io.proofs.Calls.{failed-later, later-later, takes-all, takes-append, takes-none}
 use Rattle.ht_fields.specs.Lacking.{GoesFurther}
 use Rattle.ht_fields.specs.Meanings.{Meaning, before, meaning}
-use Rattle.ht_fields.specs.Readers.{ReaderView, Breaks, Finishes, Gives, IsEarly, Refuses, RunsOut, reader_in}
-use Rattle.ht_fields.specs.WholeFiles.{Halts as FormatHalts}
+use Rattle.ht_fields.specs.Readers.{ReaderView, Breaks, Finishes, Gives, IsEarly, Refuses, RunsOut, reader_in, Completes}
+use Rattle.ht_fields.specs.WholeFiles.{StopsWithCause}
 use Rattle.ht_fields.proofs.Halting.{ended_finishes, further_halts}
 use Rattle.ht_fields.proofs.Joins.{gives_breaks, gives_more, gives_refuses, gives_runs_out}
 use Rattle.ht_metric.specs.Jobs.{JobView}
@@ -18,7 +18,7 @@ use Rattle.ht_clause18.specs.Carriers.{carriers}
 use Rattle.ht_feed.specs.declared.came.Came.{Came}
 use Rattle.ht_feed.specs.declared.came.Came.TheVariants.{Head, Block, End}
 use Rattle.ht_feed.specs.Items.{Item, Begins, One, Numbered}
-use Rattle.ht_feed.specs.Reading.{Completes, Counts, CountsCame, GivesCame, Halts}
+use Rattle.ht_feed.specs.Reading.{Counts, CountsCame, GivesCame, Halts}
 use Rattle.ht_heads.specs.Starts.{Over}
 use Rattle.ht_counted.proofs.Counting.{over_is}
 use Rattle.ht_legacy_files.specs.HeadedFormats.{Index}
@@ -116,7 +116,7 @@ module _ (r : Progress) (c : Course) (t : State) (at : ℕ) (stands : Stands r c
       }
 
   pub halts_seen : (source after : Device ℕ) (fault : InFault) → r.left ≡ 0
-      → FormatHalts (reader_in captures t at source) after fault → Halts (seen r source) after fault
+      → StopsWithCause (reader_in captures t at source) after fault → Halts (seen r source) after fault
   halts_seen source after (Format fault) none (inl f, cause) = inl (refuses_seen source after fault none f)
   halts_seen source after (Format fault) none (inr f, cause) = inr (runs_out_seen source after fault none f)
   halts_seen source after Read none (b, rose) = (breaks_seen source after none b, rose)

@@ -3,7 +3,7 @@ use Rattle.std.specs.Prelude.{◌≡◌, ℕ, ◌+◌, ◌-◌, ◌*◌, ◌<◌
 use Rattle.ht_io.specs.Devices.{Device, IsLater}
 use Rattle.ht_io.specs.declared.faults.InFault.{InFault}
 use Rattle.ht_fields.specs.Meanings.{Meaning, before, meaning}
-use Rattle.ht_fields.specs.Readers.{ReaderView}
+use Rattle.ht_fields.specs.Readers.{ReaderView, Gives}
 use Rattle.ht_metric.specs.Jobs.{JobView}
 use Rattle.ht_clause18.specs.Carriers.{carriers}
 use Rattle.ht_heads.specs.Starts.{StartState}
@@ -100,6 +100,11 @@ pub record IsSound (r : Progress) : Type 0 where
   pub few : r.left ≤ carriers
   pub given : r.left ≤ r.course.number
   pub number : 0 < r.left → r.symbol.number + carriers ≡ r.course.number
+
+-- What a call comes to that reads some fields. Where the answer is Ok, the octets taken give the items that go with it. Where it
+-- is a fault, the reader gives no more, and none of them was given.
+abbrev pub ReadsItems : {A : Type 0} → Result A InFault → ReaderView (Item LegacyFrameHead) → ReaderView (Item LegacyFrameHead) → (A → List (Item LegacyFrameHead)) → Type 0
+ReadsItems result old new items = MatchResult result (λ answer. Gives old new (items answer)) (Halts old new.source)
 
 -- what came when it was asked, or why it gives no more
 pub record ReadsOn (most : ℕ) (old new : Progress) (source after : Device ℕ) (result : Result (Came LegacyFrameHead (List JobView)) InFault) : Type 0 where

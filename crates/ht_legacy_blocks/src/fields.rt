@@ -1,8 +1,8 @@
 //! What stands in front of the frames of a capture, and in front of a frame's symbols, each read whole and judged.
-ghost use Rattle.std.specs.Prelude.{◌<◌, ◌≤◌, ◌+◌, ◌^◌, [], IfOk, MatchResult};
+ghost use Rattle.std.specs.Prelude.{◌<◌, ◌≤◌, ◌+◌, ◌^◌, [], IfOk};
 ghost use Rattle.ht_io.specs.Devices.{IsLater};
-ghost use Rattle.ht_fields.specs.Readers.{Gives, reader_in};
-ghost use Rattle.ht_fields.specs.WholeFiles.{Halts};
+ghost use Rattle.ht_fields.specs.Readers.{reader_in};
+ghost use Rattle.ht_fields.specs.WholeFiles.{ReadsTo};
 ghost use Rattle.ht_legacy_captures.specs.Formats.{captures, captures_due};
 ghost use Rattle.ht_legacy_blocks.specs.Fronts.{TellsFront};
 
@@ -26,9 +26,8 @@ pub struct Front {
 
 /// Reads what stands in front of the frames, and gives their number.
 pub fn start<S: Source>(source: &mut S) -> Result<u16, InFault>
-    ensures told { MatchResult result
-        (λ count. Gives (reader_in captures captures.start 0 (S.shown source.old)) (reader_in captures (captures_due count) 7 (S.shown source.new)) [])
-        (Halts (reader_in captures captures.start 0 (S.shown source.old)) (S.shown source.new)) }
+    ensures told { ReadsTo result (reader_in captures captures.start 0 (S.shown source.old))
+        (λ count. reader_in captures (captures_due count) 7 (S.shown source.new)) (λ _. []) (S.shown source.new) }
     ensures later { IsLater (S.shown source.old) (S.shown source.new) }
 {
     match ht_heads::start(source, b"LGCP", &frame_limits()) {

@@ -3,12 +3,12 @@ ghost use Rattle.std.specs.Prelude.{◌≡◌, ◌+◌, ◌-◌, ◌*◌, ◌<�
 ghost use Rattle.std.specs.Arc.{arc_value};
 ghost use Rattle.ht_io.specs.Devices.{Device, IsLater};
 ghost use Rattle.ht_fields.specs.Meanings.{meaning};
-ghost use Rattle.ht_fields.specs.Readers.{Gives};
+ghost use Rattle.ht_fields.specs.Readers.{Gives, Completes};
 ghost use Rattle.ht_feed.specs.Items.{Begins, One};
-ghost use Rattle.ht_feed.specs.Reading.{Completes, CountsBlock, CountsHead, Halts};
+ghost use Rattle.ht_feed.specs.Reading.{CountsBlock, CountsHead, Halts};
 ghost use Rattle.ht_legacy_captures.specs.Formats.{captures};
 ghost use Rattle.ht_legacy_blocks.specs.Frames.{mapped};
-ghost use Rattle.ht_legacy_blocks.specs.Readers.{ReadsOn, has_begun, legacy_at, legacy_counts, legacy_means, seen};
+ghost use Rattle.ht_legacy_blocks.specs.Readers.{ReadsItems, ReadsOn, has_begun, legacy_at, legacy_counts, legacy_means, seen};
 
 use crate::block::LegacyBlock;
 use crate::fields;
@@ -150,8 +150,7 @@ impl LegacyReader {
     fn start<S: Source>(&mut self, source: &mut S) -> Result<(), InFault>
         requires stage { self.old.stage ≡ Stage.Start }
         requires none { self.old.left ≡ 0 }
-        ensures told { MatchResult result (λ _. Gives (seen self.old (S.shown source.old)) (seen self.new (S.shown source.new)) [])
-            (Halts (seen self.old (S.shown source.old)) (S.shown source.new)) }
+        ensures told { ReadsItems result (seen self.old (S.shown source.old)) (seen self.new (S.shown source.new)) (λ _. []) }
         ensures stage { OnOk result (has_begun self.new.stage ≡ true) }
         ensures none { self.new.left ≡ 0 }
         ensures given { (legacy_counts self.new).given ≡ (legacy_counts self.old).given }
@@ -173,8 +172,7 @@ impl LegacyReader {
         requires stage { self.old.stage ≡ Stage.Due frames 0 }
         requires some { 1 ≤ frames }
         requires none { self.old.left ≡ 0 }
-        ensures told { MatchResult result (λ head. Gives (seen self.old (S.shown source.old)) (seen self.new (S.shown source.new)) (Begins head ∷ []))
-            (Halts (seen self.old (S.shown source.old)) (S.shown source.new)) }
+        ensures told { ReadsItems result (seen self.old (S.shown source.old)) (seen self.new (S.shown source.new)) (λ head. Begins head ∷ []) }
         ensures counted { OnOk result (CountsHead (legacy_counts self.old) (legacy_counts self.new)) }
         ensures never_more { (legacy_counts self.new).more ≤ (legacy_counts self.old).more }
         ensures later { IsLater (S.shown source.old) (S.shown source.new) }
@@ -211,8 +209,7 @@ impl LegacyReader {
         requires stage { self.old.stage ≡ Stage.Due frames symbols }
         requires some { 1 ≤ symbols }
         requires none { self.old.left ≡ 0 }
-        ensures told { MatchResult result (λ _. Gives (seen self.old (S.shown source.old)) (seen self.new (S.shown source.new)) [])
-            (Halts (seen self.old (S.shown source.old)) (S.shown source.new)) }
+        ensures told { ReadsItems result (seen self.old (S.shown source.old)) (seen self.new (S.shown source.new)) (λ _. []) }
         ensures due { OnOk result (1 ≤ self.new.left) }
         ensures given { OnOk result ((legacy_counts self.new).given ≡ (legacy_counts self.old).given) }
         ensures never_more { (legacy_counts self.new).more ≤ (legacy_counts self.old).more }

@@ -9,7 +9,7 @@ use Rattle.ht_fields.specs.Grammar.{Verdict, Good}
 use Rattle.ht_fields.specs.Lacking.{FailsBehind, FailsField}
 use Rattle.ht_fields.specs.Readers.{reader_in}
 use Rattle.ht_fields.specs.Tests.{is_above}
-use Rattle.ht_fields.specs.WholeFiles.{Halts}
+use Rattle.ht_fields.specs.WholeFiles.{StopsWithCause}
 use Rattle.ht_fields.proofs.Choices.{checked_good}
 use Rattle.ht_fields.proofs.Halting.{behind_halts, fails_halts, judges_checked}
 use Rattle.ht_fields.proofs.Routes.{Route, route_field, route_from, route_then}
@@ -76,7 +76,7 @@ module _ {B I : Type 0} (h : HeadedFormat B I) where
 
   -- the rate of a frame was not read, or its length
   pub rate_halts : (left at : ℕ) (source after : Device ℕ) (fault : InFault) → 0 < left → FailsField 1 BadMcs (is_above 7) at source after fault
-      → Halts (reader_in (grammar_of h) (frames_due left) at source) after fault
+      → StopsWithCause (reader_in (grammar_of h) (frames_due left) at source) after fault
   rate_halts left at source after fault some fails =
       let f = grammar_of h in
       fails_halts f (frames_due left) at 1 BadMcs (is_above 7) source after fault
@@ -85,7 +85,7 @@ module _ {B I : Type 0} (h : HeadedFormat B I) where
 
   pub length_halts : (left at : ℕ) (r : LegacyRate) (source after : Device ℕ) (fault : InFault) → 0 < left
       → FailsBehind (index_of r ∷ []) 2 BadLength (is_outside length_limits) at source after fault
-      → Halts (reader_in (grammar_of h) (frames_due left) at source) after fault
+      → StopsWithCause (reader_in (grammar_of h) (frames_due left) at source) after fault
   length_halts left at r source after fault some fails =
       let f = grammar_of h in
       behind_halts f (frames_due left) (Body (Length left r)) (index_of r ∷ []) at 2 BadLength (is_outside length_limits) source after fault

@@ -45,7 +45,6 @@ use Rattle.ht_legacy_rx.specs.Texts.{end_of_legacy, legacy_items, legacy_meaning
 use Rattle.ht_legacy_rx.proofs.Frames.{first_append, frames_append}
 use Rattle.ht_legacy_return.specs.Exact.{AreExact, HoldOctets, IsExact}
 use Rattle.ht_round.specs.Returned.{own_lines, own_results}
-use Rattle.ht_round.proofs.Round.{lines_back}
 use Rattle.ht_legacy_return.specs.Returned.{octets_of, returned_results, returned_text}
 use Rattle.ht_legacy_return.proofs.Captured.{length-exact}
 use Rattle.ht_legacy_return.proofs.Decoded.{decoded_back}
@@ -270,7 +269,7 @@ pub text_back : (frames : List LegacyFrameView) (captured : List LegacyCapture) 
 unfolding legacy_text
 text_back frames captured good octets exact =
     let lines : lines_in (items_of captured) ≡ own_lines octets_of 0 frames =
-    ap result_lines (in_items frames captured good octets exact) ∙ lines_back octets_of 0 frames in
+    ap result_lines (in_items frames captured good octets exact) in
     let count : frames_of (legacy_items (items_of captured)) ≡ length frames = frames_count at_first captured ∙ counted frames captured exact in
     ap (λ (m : Meaning LegacyItem). lines_in m.items ++ last_text m.fault (end_of_legacy m.items)) (meant captured (exact_written frames captured good exact))
     ∙ (ap (λ (z : List ℕ). z ++ end_of_legacy (items_of captured)) lines ∙ ap (λ (n : ℕ). own_lines octets_of 0 frames ++ end_text n) count)

@@ -7,6 +7,7 @@ use Rattle.ht_clause18.specs.Frames.{LegacyFrameView}
 use Rattle.ht_sim.specs.Draws.{several}
 use Rattle.ht_sim.specs.Words.{first, next, word}
 use Rattle.ht_legacy_sim.specs.Drawing.{diagonal_drawn, exact_from}
+use Rattle.ht_results.specs.Texts.{result_line}
 use Rattle.ht_legacy_return.specs.Returned.{returned_text}
 
 -- the text of it, and of a second frame behind it
@@ -15,7 +16,7 @@ frames = record { rate = Mbit6; seed = 127; octets = 165 ∷ [] } ∷ record { r
 
 text : returned_text frames
     ≡ codes "frame 0 data 0 pilot 0 code 0 octets a5" ++ 10 ∷ (codes "frame 1 data 0 pilot 0 code 0 octets 0700" ++ 10 ∷ (codes "end 2 frames" ++ 10 ∷ []))
-unfolding frames frame_text sums_text outcome_text end_text digits
+unfolding frames result_line frame_text sums_text outcome_text end_text digits
 text = refl
 
 -- the first diagonals

@@ -3,8 +3,8 @@
 //! `ht_clause18` says which points are sent of a frame, `ht_legacy_captures` which octets a capture of samples has,
 //! and `ht_legacy_rx` what the receiver makes of any octets. The laws of [`laws`] join the three definitions: where
 //! each sample is exactly a diagonal times the point that was sent, and no diagonal is 0, the receiver gives each
-//! frame's own octets, at distance 0, and no bit of a codeword differs. So it is for what passes the simulated channel
-//! without noise.
+//! frame's own octets, at distance 0, and no bit of a codeword differs. The same holds for what passes the simulated
+//! channel without noise.
 //!
 //! One frame at 6 Mbit/s with the octet a5 comes back as
 //!
@@ -13,8 +13,8 @@
 //! end 1 frames
 //! ```
 //!
-//! `specs/Exact.antt` says what it is to be received exactly, and `specs/Returned.antt` what comes of frames that come
-//! back.
+//! `specs/Exact.antt` says what it means to be received exactly, and `specs/Returned.antt` which results and text frames
+//! have that come back.
 #![tactic(auto)]
 
 pub mod laws;

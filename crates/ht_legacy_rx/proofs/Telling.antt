@@ -9,20 +9,21 @@ use Rattle.ht_runs.proofs.Streaming.{lined}
 use Rattle.ht_feed.specs.declared.ended.Ended.{Ended}
 use Rattle.ht_feed.specs.Inputs.{TellsInput}
 use Rattle.ht_feed.specs.Items.{Item}
-use Rattle.ht_endings.specs.Endings.{HasFrames, IsTold, end_as, seen_as}
+use Rattle.ht_endings.specs.Endings.{EndsLines, HasFrames, IsTold, end_as, seen_as}
 use Rattle.ht_frames.specs.Gathering.{booked_in}
 use Rattle.ht_results.specs.Texts.{result_line, result_lines}
 use Rattle.ht_legacy_captures.specs.Formats.{captures}
 use Rattle.ht_legacy_blocks.specs.declared.head.LegacyFrameHead.{LegacyFrameHead}
 use Rattle.ht_receive.specs.Ends.{StreamsText}
 use Rattle.ht_receive.specs.Receiving.{books}
-use Rattle.ht_receive.proofs.Streaming.{EndsLines, streams}
+use Rattle.ht_receive.proofs.Streaming.{streams}
 use Rattle.ht_legacy_rx.specs.Folding.{legacy_results_from, no_frame}
 use Rattle.ht_legacy_rx.specs.Results.{LegacySoFar}
 use Rattle.ht_legacy_rx.specs.Texts.{end_of_legacy, legacy_items, legacy_lines_of, legacy_meaning, legacy_results_of, legacy_text, lines_in}
 use Rattle.ht_legacy_rx.proofs.Folded.{folds}
 
-lines_lined : IsLined captures legacy_text legacy_lines_of (end_as captures legacy_items)
+-- the text of a capture ends with the line of its fault, or with the number of its frames
+pub lines_lined : IsLined captures legacy_text legacy_lines_of (end_as captures legacy_items)
 unfolding legacy_text legacy_lines_of
 lines_lined = lined captures lines_in end_of_legacy
 

@@ -1,6 +1,6 @@
 //! The capture of frames, put frame after frame.
 ghost use Rattle.std.specs.Prelude.{◌≡◌, ◌⊎◌, ◌<◌, ◌≤◌, length, flat_map, OnErr, OnOk, IfErr};
-ghost use Rattle.ht_io.specs.Devices.{Grows, GrowsByPart, IsLater, Rose};
+ghost use Rattle.ht_io.specs.Devices.{Grows, GrowsByPart, IsLater, Puts, Rose};
 ghost use Rattle.ht_runs.specs.declared.faults.RunFault.TheVariants.{NoMemory, Write};
 ghost use Rattle.ht_capture.specs.Files.{sample_octets};
 ghost use Rattle.ht_clause18.specs.Carriers.{carriers};
@@ -33,14 +33,9 @@ fn put_samples<K: Sink>(
     sink: &mut K,
 ) -> Result<(), Failed>
     requires diagonals { length diagonals.now ≡ carriers }
-    ensures grown { OnOk result (Grows (K.shown sink.old) (K.shown sink.new)
-        (flat_map sample_octets (each (sample_drawn noise) (exact_from diagonals.now 0 points.now) words.old).value)) }
+    ensures puts { Puts (K.shown sink.old) (K.shown sink.new)
+        (flat_map sample_octets (each (sample_drawn noise) (exact_from diagonals.now 0 points.now) words.old).value) result }
     ensures words { OnOk result (words.new ≡ (each (sample_drawn noise) (exact_from diagonals.now 0 points.now) words.old).state) }
-    ensures steady { OnOk result ((K.shown sink.new).faults ≡ (K.shown sink.old).faults) }
-    ensures part { OnErr result (GrowsByPart (K.shown sink.old) (K.shown sink.new)
-        (flat_map sample_octets (each (sample_drawn noise) (exact_from diagonals.now 0 points.now) words.old).value)) }
-    ensures cause { OnErr result (Rose (K.shown sink.old) (K.shown sink.new)) }
-    ensures later { IsLater (K.shown sink.old) (K.shown sink.new) }
 {
     let mut rest = points;
     let mut place = 0;

@@ -9,11 +9,11 @@ use Rattle.ht_metric.specs.Jobs.{JobView}
 use Rattle.ht_metric.specs.declared.hit.Hit.{Hit}
 use Rattle.ht_machine.specs.declared.event.Event.{Event}
 use Rattle.ht_machine.specs.declared.event.Event.TheVariants.{Issue, Push, Pop, Steal, Finish, Accept, Emit}
-use Rattle.ht_machine.specs.Machine.{CoreView, IsEnabled, after, hand, deque, hit_of, taken, without}
+use Rattle.ht_machine.specs.Machine.{MachineView, IsEnabled, after, hand, deque, hit_of, taken, without}
 use Rattle.std.specs.List.{All}
 use Rattle.std.proofs.lemmas.List.Elements.{All-nil, All-cons, All-append, All-set, All-drop, All-weaker}
 use Rattle.ht_counts.specs.Counts.{SameCounts}
-use Rattle.ht_machine.specs.Facts.{IsIssued, IsCore, jobs_of, places}
+use Rattle.ht_machine.specs.Facts.{IsIssued, IsMachine, jobs_of, places}
 use Rattle.ht_machine.proofs.Lists.{some_is, all_at, all_front, all_option, option_weaker, all_without, all_hit_of}
 use Rattle.ht_machine.proofs.Lists.{issued_more, issued_last, get_more, take_next, jobs_append, jobs_length, found_number}
 use Rattle.ht_machine.proofs.Sums.{weigh_put, weigh_front, weigh_without, weigh_jobs, weigh_places}
@@ -28,16 +28,16 @@ abbrev pub in_hits : (JobView → ℕ) → List Hit → ℕ
 in_hits h hits = sum_by h (jobs_of hits)
 
 -- what all places weigh is what the issued jobs weigh
-pub weighed : (c : CoreView) → SameCounts (places c) c.issued → (h : JobView → ℕ)
+pub weighed : (c : MachineView) → SameCounts (places c) c.issued → (h : JobView → ℕ)
     → in_hands h c.hands + (in_deques h c.deques + (in_hits h c.results + (in_hits h c.booked + in_hits h c.emitted))) ≡ sum_by h c.issued
 weighed c once h = sym (weigh_places h c) ∙ once h
 
-pub emitted_few : (c : CoreView) → IsCore c → length c.emitted ≤ length c.issued
+pub emitted_few : (c : MachineView) → IsMachine c → length c.emitted ≤ length c.issued
 emitted_few c w =
     let e : length (jobs_of c.emitted) ≡ length (take (length c.emitted) c.issued) = ap (λ (js : List JobView). length js) w.emitted in
     omega (arith, e, jobs_length c.emitted, length-take (length c.emitted) c.issued)
 
-kept_issue : (c : CoreView) (job : JobView) → IsCore c → IsEnabled c (Issue job) → IsCore (after c (Issue job))
+kept_issue : (c : MachineView) (job : JobView) → IsMachine c → IsEnabled c (Issue job) → IsMachine (after c (Issue job))
 kept_issue c job w on =
     let before = emitted_few c w in
     let room = on.1 in
@@ -71,12 +71,12 @@ kept_issue c job w on =
     }
 
 -- what holds where jobs went from place to place, and none was issued or emitted
-kept_moved : (c : CoreView) (hands : List (Option JobView)) (deques : List (List JobView)) (results booked : List Hit) → IsCore c
+kept_moved : (c : MachineView) (hands : List (Option JobView)) (deques : List (List JobView)) (results booked : List Hit) → IsMachine c
     → length hands ≡ length c.hands → length deques ≡ length c.deques
     → SameCounts (places (record c { hands = hands; deques = deques; results = results; booked = booked })) c.issued
     → All (λ o. IfSome o (IsIssued c.issued)) hands → All (All (IsIssued c.issued)) deques → All (λ (hit : Hit). IsIssued c.issued hit.job) results
     → All (λ (hit : Hit). IsIssued c.issued hit.job) booked
-    → IsCore (record c { hands = hands; deques = deques; results = results; booked = booked })
+    → IsMachine (record c { hands = hands; deques = deques; results = results; booked = booked })
 kept_moved c hands deques results booked w as_many_hands as_many_deques once in_hand in_deque in_results in_booked = record {
   some = w.some;
   few = w.few;
@@ -94,7 +94,7 @@ kept_moved c hands deques results booked w as_many_hands as_many_deques once in_
   emitted = w.emitted;
 }
 
-kept_push : (c : CoreView) (a : ℕ) → IsCore c → IsEnabled c (Push a) → IsCore (after c (Push a))
+kept_push : (c : MachineView) (a : ℕ) → IsMachine c → IsEnabled c (Push a) → IsMachine (after c (Push a))
 kept_push c a w on =
     let lt = on.0 in
     let hands = w.hands in
@@ -113,7 +113,7 @@ kept_push c a w on =
     w.in_deque)
     w.in_results w.in_booked
 
-pub kept_taken : (c : CoreView) (a owner : ℕ) → IsCore c → a < c.workers → owner < c.workers → hand c a ≡ None → IsCore (taken c a owner)
+pub kept_taken : (c : MachineView) (a owner : ℕ) → IsMachine c → a < c.workers → owner < c.workers → hand c a ≡ None → IsMachine (taken c a owner)
 kept_taken c a owner w here there none =
     let hands = w.hands in
     let deques = w.deques in
@@ -131,7 +131,7 @@ kept_taken c a owner w here there none =
     (All-set (All (IsIssued c.issued)) c.deques owner rest (All-drop (IsIssued c.issued) 1 (deque c owner) all) w.in_deque)
     w.in_results w.in_booked
 
-kept_finish : (c : CoreView) (a : ℕ) (hit : Hit) → IsCore c → IsEnabled c (Finish a hit) → IsCore (after c (Finish a hit))
+kept_finish : (c : MachineView) (a : ℕ) (hit : Hit) → IsMachine c → IsEnabled c (Finish a hit) → IsMachine (after c (Finish a hit))
 kept_finish c a hit w on =
     let lt = on.0 in
     let hands = w.hands in
@@ -148,7 +148,7 @@ kept_finish c a hit w on =
     (All-cons (λ (x : Hit). IsIssued c.issued x.job) hit [] issued (All-nil (λ (x : Hit). IsIssued c.issued x.job))))
     w.in_booked
 
-pub kept_accept : (c : CoreView) (n : ℕ) → IsCore c → IsCore (after c (Accept n))
+pub kept_accept : (c : MachineView) (n : ℕ) → IsMachine c → IsMachine (after c (Accept n))
 kept_accept c n w =
     let found = option_to_list (hit_of n c.results) in
     kept_moved c c.hands c.deques (without n c.results) (c.booked ++ found) w refl refl
@@ -157,7 +157,7 @@ kept_accept c n w =
     (All-append (λ (x : Hit). IsIssued c.issued x.job) c.booked found w.in_booked
     (all_option (λ (x : Hit). IsIssued c.issued x.job) (hit_of n c.results) (all_hit_of (λ (x : Hit). IsIssued c.issued x.job) n c.results w.in_results)))
 
-pub kept_emit : (c : CoreView) → IsCore c → IsEnabled c Emit → IsCore (after c Emit)
+pub kept_emit : (c : MachineView) → IsMachine c → IsEnabled c Emit → IsMachine (after c Emit)
 kept_emit c w on =
     let n = length c.emitted in
     let some = some_is (hit_of n c.booked) on in
@@ -190,7 +190,7 @@ kept_emit c w on =
           ∙ ap (λ (k : ℕ). take k c.issued) (sym long);
     }
 
-pub kept : (c : CoreView) (e : Event) → IsCore c → IsEnabled c e → IsCore (after c e)
+pub kept : (c : MachineView) (e : Event) → IsMachine c → IsEnabled c e → IsMachine (after c e)
 kept c (Issue job) w on = kept_issue c job w on
 kept c (Push a) w on = kept_push c a w on
 kept c (Pop a) w on = kept_taken c a a w on.0 on.0 on.1

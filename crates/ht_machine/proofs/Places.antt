@@ -10,8 +10,8 @@ use Rattle.std.proofs.lemmas.List.Sums.{sum_by-append}
 use Rattle.ht_metric.specs.Jobs.{JobView}
 use Rattle.ht_machine.specs.declared.event.Spot.{Spot}
 use Rattle.ht_machine.specs.declared.event.Spot.TheVariants.{Hand, Deque, Results, Booked, Emitted}
-use Rattle.ht_machine.specs.Machine.{CoreView}
-use Rattle.ht_machine.specs.Facts.{IsCore, jobs_at, numbered, places}
+use Rattle.ht_machine.specs.Machine.{MachineView}
+use Rattle.ht_machine.specs.Facts.{IsMachine, jobs_at, numbered, places}
 use Rattle.ht_machine.proofs.Numbers.{one_of, present, beyond}
 use Rattle.ht_machine.proofs.Kept.{in_hands, in_deques, in_hits, weighed}
 use Rattle.ht_machine.proofs.Going.{from_zero}
@@ -33,24 +33,24 @@ module _ {X : Type 0} (h : JobView → ℕ) (f : X → List JobView) (d : X) (no
       omega (arith, groups_le xs a b apart, sum_by-append h (f x) (flat_map f xs))
 
 -- all places together
-abbrev all_of : CoreView → ℕ → ℕ
+abbrev all_of : MachineView → ℕ → ℕ
 all_of c n = in_hands (one_of n) c.hands
     + (in_deques (one_of n) c.deques + (in_hits (one_of n) c.results + (in_hits (one_of n) c.booked + in_hits (one_of n) c.emitted)))
 
-hand_le : (c : CoreView) (n a : ℕ) → numbered n (jobs_at c (Hand a)) ≤ in_hands (one_of n) c.hands
+hand_le : (c : MachineView) (n a : ℕ) → numbered n (jobs_at c (Hand a)) ≤ in_hands (one_of n) c.hands
 hand_le c n a = group_le (one_of n) option_to_list None refl c.hands a
 
-deque_le : (c : CoreView) (n a : ℕ) → numbered n (jobs_at c (Deque a)) ≤ in_deques (one_of n) c.deques
+deque_le : (c : MachineView) (n a : ℕ) → numbered n (jobs_at c (Deque a)) ≤ in_deques (one_of n) c.deques
 deque_le c n a = group_le (one_of n) (λ (jobs : List JobView). jobs) [] refl c.deques a
 
-alone : (c : CoreView) (n : ℕ) (spot : Spot) → numbered n (jobs_at c spot) ≤ all_of c n
+alone : (c : MachineView) (n : ℕ) (spot : Spot) → numbered n (jobs_at c spot) ≤ all_of c n
 alone c n (Hand a) = omega (arith, hand_le c n a)
 alone c n (Deque a) = omega (arith, deque_le c n a)
 alone c n Results = omega arith
 alone c n Booked = omega arith
 alone c n Emitted = omega arith
 
-two : (c : CoreView) (n : ℕ) (spot other : Spot) → other ≢ spot → numbered n (jobs_at c spot) + numbered n (jobs_at c other) ≤ all_of c n
+two : (c : MachineView) (n : ℕ) (spot other : Spot) → other ≢ spot → numbered n (jobs_at c spot) + numbered n (jobs_at c other) ≤ all_of c n
 two c n (Hand a) (Hand b) apart = let e : a ≢ b = λ e. apart (ap (λ (i : ℕ). Hand i) (sym e)) in
     omega (arith, groups_le (one_of n) option_to_list None refl c.hands a b e)
 two c n (Hand a) (Deque b) apart = omega (arith, hand_le c n a, deque_le c n b)
@@ -80,32 +80,32 @@ two c n Emitted Booked apart = omega arith
 two c n Emitted Emitted apart = absurd (apart refl)
 
 -- all places together have an issued number once, and no other number
-at_most_one_from : (c : CoreView) → IsCore c → (n left : ℕ) → length c.issued - n ≡ left → all_of c n ≤ 1
+at_most_one_from : (c : MachineView) → IsMachine c → (n left : ℕ) → length c.issued - n ≡ left → all_of c n ≤ 1
 at_most_one_from c w n zero e = let none = beyond n 0 c.issued (from_zero c w) (omega (arith, e)) in omega (arith, weighed c w.once (one_of n), none)
 at_most_one_from c w n (suc left) e = let one = present n 0 n c.issued (from_zero c w) (omega arith) (omega (arith, e)) in
     omega (arith, weighed c w.once (one_of n), one)
 
-nowhere_from : (c : CoreView) → IsCore c → (n : ℕ) → all_of c n ≡ 0 → (left : ℕ) → length c.issued - n ≡ left → length c.issued ≤ n
+nowhere_from : (c : MachineView) → IsMachine c → (n : ℕ) → all_of c n ≡ 0 → (left : ℕ) → length c.issued - n ≡ left → length c.issued ≤ n
 nowhere_from c w n none zero e = omega (arith, e)
 nowhere_from c w n none (suc left) e = let one = present n 0 n c.issued (from_zero c w) (omega arith) (omega (arith, e)) in
     absurd (omega (arith, weighed c w.once (one_of n), one, none))
 
-somewhere_from : (c : CoreView) → IsCore c → (n : ℕ) → 0 < all_of c n → (left : ℕ) → length c.issued - n ≡ left → n < length c.issued
+somewhere_from : (c : MachineView) → IsMachine c → (n : ℕ) → 0 < all_of c n → (left : ℕ) → length c.issued - n ≡ left → n < length c.issued
 somewhere_from c w n some zero e = let none = beyond n 0 c.issued (from_zero c w) (omega (arith, e)) in
     absurd (omega (arith, weighed c w.once (one_of n), none, some))
 somewhere_from c w n some (suc left) e = omega (arith, e)
 
-at_most_one : (c : CoreView) → IsCore c → (n : ℕ) → all_of c n ≤ 1
+at_most_one : (c : MachineView) → IsMachine c → (n : ℕ) → all_of c n ≤ 1
 at_most_one c w n = at_most_one_from c w n (length c.issued - n) refl
 
-pub nowhere : (c : CoreView) → IsCore c → (n : ℕ) → all_of c n ≡ 0 → length c.issued ≤ n
+pub nowhere : (c : MachineView) → IsMachine c → (n : ℕ) → all_of c n ≡ 0 → length c.issued ≤ n
 nowhere c w n none = nowhere_from c w n none (length c.issued - n) refl
 
-pub somewhere : (c : CoreView) → IsCore c → (n : ℕ) → 0 < all_of c n → n < length c.issued
+pub somewhere : (c : MachineView) → IsMachine c → (n : ℕ) → 0 < all_of c n → n < length c.issued
 somewhere c w n some = somewhere_from c w n some (length c.issued - n) refl
 
 -- a place that has a number has it once, and no other place has it
-pub one_place : (c : CoreView) → IsCore c → (n : ℕ) (spot : Spot) → 0 < numbered n (jobs_at c spot)
+pub one_place : (c : MachineView) → IsMachine c → (n : ℕ) (spot : Spot) → 0 < numbered n (jobs_at c spot)
     → (n < length c.issued) × (numbered n (jobs_at c spot) ≡ 1) × ((other : Spot) → other ≢ spot → numbered n (jobs_at c other) ≡ 0)
 one_place c w n spot some =
     let one = at_most_one c w n in
@@ -117,7 +117,7 @@ one_place c w n spot some =
     )
 
 -- a place that was found is the place
-pub is_place : (c : CoreView) → IsCore c → (n : ℕ) (found : Option Spot)
+pub is_place : (c : MachineView) → IsMachine c → (n : ℕ) (found : Option Spot)
     → IfSome found (λ spot. 0 < numbered n (jobs_at c spot)) → IfNone found (numbered n (places c) ≡ 0)
     → (is_some found ≡ false ↔ (length c.issued ≤ n))
     × (IfSome found (λ spot. numbered n (jobs_at c spot) ≡ 1)

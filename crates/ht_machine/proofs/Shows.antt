@@ -15,8 +15,8 @@ use Rattle.ht_metric.proofs.Finding.{found_near}
 use Rattle.ht_machine.specs.declared.event.Event.TheVariants.{Issue, Emit}
 use Rattle.ht_machine.specs.declared.event.Spot.{Spot}
 use Rattle.ht_machine.specs.declared.event.Spot.TheVariants.{Hand, Deque, Results, Booked, Emitted}
-use Rattle.ht_machine.specs.Machine.{CoreView, IsEnabled, hit_of, without}
-use Rattle.ht_machine.specs.Facts.{IsCore, IsIssued, jobs_of, numbered, jobs_at}
+use Rattle.ht_machine.specs.Machine.{MachineView, IsEnabled, hit_of, without}
+use Rattle.ht_machine.specs.Facts.{IsMachine, IsIssued, jobs_of, numbered, jobs_at}
 use Rattle.std.proofs.lemmas.Option.{none-some, same_Some}
 use Rattle.ht_machine.proofs.Lists.{some_is, found_number, all_hit_of}
 use Rattle.ht_machine.proofs.Numbers.{one_of, IsFrom, present, hit_counts}
@@ -30,22 +30,22 @@ use Rattle.ht_machine.specs.Shown.{slot_of, window_of}
 use Rattle.ht_machine.proofs.Slots.{slots_less, slots_booked, slot_at, slot_there, get_drop, drop_more, slots_append, slots_length}
 
 -- the jobs that are issued and not emitted
-abbrev left : CoreView → List JobView
+abbrev left : MachineView → List JobView
 left c = drop (length c.emitted) c.issued
 
-left_from : (c : CoreView) → IsCore c → IsFrom (length c.emitted) (left c)
+left_from : (c : MachineView) → IsMachine c → IsFrom (length c.emitted) (left c)
 left_from c w k j e = w.numbered (length c.emitted + k) j (sym (get_drop (length c.emitted) k c.issued) ∙ e)
 
 -- a booked hit is of an issued job
-booked_is : (c : CoreView) → IsCore c → (n : ℕ) (hit : Hit) → hit_of n c.booked ≡ Some hit → IsIssued c.issued hit.job
+booked_is : (c : MachineView) → IsMachine c → (n : ℕ) (hit : Hit) → hit_of n c.booked ≡ Some hit → IsIssued c.issued hit.job
 booked_is c w n hit e =
     subst (λ (o : Option Hit). IfSome o (λ x. IsIssued c.issued x.job)) e (all_hit_of (λ (x : Hit). IsIssued c.issued x.job) n c.booked w.in_booked)
 
-result_is : (c : CoreView) → IsCore c → (n : ℕ) (hit : Hit) → hit_of n c.results ≡ Some hit → IsIssued c.issued hit.job
+result_is : (c : MachineView) → IsMachine c → (n : ℕ) (hit : Hit) → hit_of n c.results ≡ Some hit → IsIssued c.issued hit.job
 result_is c w n hit e =
     subst (λ (o : Option Hit). IfSome o (λ x. IsIssued c.issued x.job)) e (all_hit_of (λ (x : Hit). IsIssued c.issued x.job) n c.results w.in_results)
 
-own_hit : (c : CoreView) → IsCore c → (k : ℕ) (j : JobView) (hit : Hit) → slice_get (left c) k ≡ Some j → hit_of j.number c.booked ≡ Some hit → hit.job ≡ j
+own_hit : (c : MachineView) → IsMachine c → (k : ℕ) (j : JobView) (hit : Hit) → slice_get (left c) k ≡ Some j → hit_of j.number c.booked ≡ Some hit → hit.job ≡ j
 own_hit c w k j hit at e =
     let there : slice_get c.issued (length c.emitted + k) ≡ Some j = sym (get_drop (length c.emitted) k c.issued) ∙ at in
     let number : j.number ≡ length c.emitted + k = w.numbered (length c.emitted + k) j there in
@@ -54,13 +54,13 @@ own_hit c w k j hit at e =
     same_Some hit.job j (sym issued ∙ ap (λ (i : ℕ). slice_get c.issued i) same ∙ there)
 
 -- what is in the slot of a job is the first nearest vector of the job
-own_found : (c : CoreView) → IsCore c → (k : ℕ) (j : JobView) (found : Found) (o : Option Hit)
+own_found : (c : MachineView) → IsMachine c → (k : ℕ) (j : JobView) (found : Found) (o : Option Hit)
     → slice_get (left c) k ≡ Some j → hit_of j.number c.booked ≡ o → option_map found_of o ≡ Some found → found ≡ near j
 own_found c w k j found None at is e = absurd (none-some found e)
 own_found c w k j found (Some hit) at is e =
     sym (same_Some (found_of hit) found e) ∙ found_near hit ∙ ap (λ (job : JobView). near job) (own_hit c w k j hit at is)
 
-pub window_is : (c : CoreView) → IsCore c → length c.issued < 2 ^ 64 → IsWindow (window_of c)
+pub window_is : (c : MachineView) → IsMachine c → length c.issued < 2 ^ 64 → IsWindow (window_of c)
 window_is c w few =
     let before = emitted_few c w in
     let room = w.window in
@@ -80,23 +80,23 @@ window_is c w few =
           ∙ ap (λ (t : Slot). near t.job) (sym p.2));
     }
 
-slots_long : (c : CoreView) → length (window_of c).slots ≡ length c.issued - length c.emitted
+slots_long : (c : MachineView) → length (window_of c).slots ≡ length c.issued - length c.emitted
 slots_long c = slots_length c.booked (left c) ∙ length-drop (length c.emitted) c.issued
 
-pub issue_free : (c : CoreView) (job : JobView) → IsCore c → IsEnabled c (Issue job) → length (window_of c).slots < (window_of c).capacity
+pub issue_free : (c : MachineView) (job : JobView) → IsMachine c → IsEnabled c (Issue job) → length (window_of c).slots < (window_of c).capacity
 issue_free c job w on = let room = on.1 in let wide = w.wide in omega (arith, slots_long c, room, wide)
 
-pub issue_next : (c : CoreView) (job : JobView) → IsCore c → IsEnabled c (Issue job) → job.number ≡ (window_of c).front + length (window_of c).slots
+pub issue_next : (c : MachineView) (job : JobView) → IsMachine c → IsEnabled c (Issue job) → job.number ≡ (window_of c).front + length (window_of c).slots
 issue_next c job w on = let number = on.2 in omega (arith, slots_long c, number, emitted_few c w)
 
 -- no hit of a job that isn't issued is booked
-not_booked_from : (c : CoreView) → IsCore c → (n : ℕ) (o : Option Hit) → hit_of n c.booked ≡ o → length c.issued ≤ n → hit_of n c.booked ≡ None
+not_booked_from : (c : MachineView) → IsMachine c → (n : ℕ) (o : Option Hit) → hit_of n c.booked ≡ o → length c.issued ≤ n → hit_of n c.booked ≡ None
 not_booked_from c w n None e ge = e
 not_booked_from c w n (Some hit) e ge =
     let within = slice_get_within c.issued hit.job.number hit.job (booked_is c w n hit e) in
     absurd (omega (arith, within, ge, found_number n c.booked hit e))
 
-pub issue_shown : (c : CoreView) (job : JobView) → IsCore c → IsEnabled c (Issue job)
+pub issue_shown : (c : MachineView) (job : JobView) → IsMachine c → IsEnabled c (Issue job)
     → map (slot_of c.booked) (drop (length c.emitted) (c.issued ++ job ∷ [])) ≡ map (slot_of c.booked) (left c) ++ unbooked job ∷ []
 issue_shown c job w on =
     let number = on.2 in
@@ -107,7 +107,7 @@ issue_shown c job w on =
     ∙ ap (λ (o : Option Hit). map (slot_of c.booked) (left c) ++ with_hit o ∷ []) none
 
 -- a result's job is neither emitted nor booked
-result_behind_from : (c : CoreView) → IsCore c → (n : ℕ) → numbered n (jobs_of c.emitted) ≡ 0
+result_behind_from : (c : MachineView) → IsMachine c → (n : ℕ) → numbered n (jobs_of c.emitted) ≡ 0
     → n < length c.issued → (d : ℕ) → length c.emitted - n ≡ d → length c.emitted ≤ n
 result_behind_from c w n none lt zero e = omega (arith, e)
 result_behind_from c w n none lt (suc d) e =
@@ -123,7 +123,7 @@ no_hit_from n hits None e none = e
 no_hit_from n hits (Some hit) e none = let some = hit_counts n hits (ap (λ (o : Option Hit). is_some o) e) in absurd (omega (arith, some, none))
 
 -- where the slot of a result's job is, and that it waits
-pub record Waits (c : CoreView) (n : ℕ) (hit : Hit) : Type 0 where
+pub record Waits (c : MachineView) (n : ℕ) (hit : Hit) : Type 0 where
   pub number : hit.job.number ≡ n
   pub behind : length c.emitted ≤ n
   pub there : slice_get (left c) (n - length c.emitted) ≡ Some hit.job
@@ -136,7 +136,7 @@ is_results Results = true
 is_results Booked = false
 is_results Emitted = false
 
-pub waits : (c : CoreView) (n : ℕ) (hit : Hit) → IsCore c → hit_of n c.results ≡ Some hit → Waits c n hit
+pub waits : (c : MachineView) (n : ℕ) (hit : Hit) → IsMachine c → hit_of n c.results ≡ Some hit → Waits c n hit
 waits c n hit w e =
     let some : 0 < numbered n (jobs_at c Results) = hit_counts n c.results (ap (λ (o : Option Hit). is_some o) e) in
     let p = one_place c w n Results some in
@@ -153,7 +153,7 @@ waits c n hit w e =
       none = no_hit_from n c.booked (hit_of n c.booked) refl no_booked;
     }
 
-pub accept_unbooked : (c : CoreView) (n : ℕ) (hit : Hit) → IsCore c → hit_of n c.results ≡ Some hit → IsUnbooked (window_of c) hit.job
+pub accept_unbooked : (c : MachineView) (n : ℕ) (hit : Hit) → IsMachine c → hit_of n c.results ≡ Some hit → IsUnbooked (window_of c) hit.job
 accept_unbooked c n hit w e =
     let p = waits c n hit w e in
     let slot : Option Hit → Slot = λ o. record { job = hit.job; found = option_map found_of o } in (
@@ -162,7 +162,7 @@ accept_unbooked c n hit w e =
           ∙ ap (λ (i : ℕ). Some (slot (hit_of i c.booked))) p.number ∙ ap (λ (o : Option Hit). Some (slot o)) p.none,
     )
 
-pub accept_shown : (c : CoreView) (n : ℕ) (hit : Hit) → IsCore c → hit_of n c.results ≡ Some hit
+pub accept_shown : (c : MachineView) (n : ℕ) (hit : Hit) → IsMachine c → hit_of n c.results ≡ Some hit
     → map (slot_of (c.booked ++ option_to_list (hit_of n c.results))) (left c)
     ≡ slice_set (map (slot_of c.booked) (left c)) (hit.job.number - length c.emitted) (booked hit.job)
 accept_shown c n hit w e =
@@ -176,7 +176,7 @@ accept_shown c n hit w e =
     (ap (λ (i : ℕ). hit_of i c.booked) number ∙ p.none)
 
 -- what the hit of the first job says is that job and what was found for it
-own_parts : (c : CoreView) → IsCore c → (j : JobView) (o : Option Hit) → slice_get (left c) 0 ≡ Some j → hit_of j.number c.booked ≡ o
+own_parts : (c : MachineView) → IsMachine c → (j : JobView) (o : Option Hit) → slice_get (left c) 0 ≡ Some j → hit_of j.number c.booked ≡ o
     → option_map parts_of o ≡ option_map (λ found. (j, found)) (option_map found_of o)
 own_parts c w j None first is = refl
 own_parts c w j (Some hit) first is =
@@ -184,7 +184,7 @@ own_parts c w j (Some hit) first is =
     ap with_job (own_hit c w 0 j hit first is)
 
 -- the first slot is that of the lowest number that isn't emitted
-front_from : (c : CoreView) → IsCore c → (jobs : List JobView) → left c ≡ jobs
+front_from : (c : MachineView) → IsMachine c → (jobs : List JobView) → left c ≡ jobs
     → option_map parts_of (hit_of (length c.emitted) c.booked) ≡ front_hit (map (slot_of c.booked) jobs)
 front_from c w [] e =
     let rest = length-drop (length c.emitted) c.issued in
@@ -197,7 +197,7 @@ front_from c w (j ∷ jobs) e =
     let number : length c.emitted ≡ j.number = omega (arith, is) in
     ap (λ (i : ℕ). option_map parts_of (hit_of i c.booked)) number ∙ own_parts c w j (hit_of j.number c.booked) first refl
 
-pub front_is : (c : CoreView) → IsCore c → option_map parts_of (hit_of (length c.emitted) c.booked) ≡ front_hit (window_of c).slots
+pub front_is : (c : MachineView) → IsMachine c → option_map parts_of (hit_of (length c.emitted) c.booked) ≡ front_hit (window_of c).slots
 front_is c w = front_from c w (left c) refl
 
 pub some_parts : (o : Option Hit) → is_some (option_map parts_of o) ≡ is_some o
@@ -210,14 +210,14 @@ drop_slots zero hits (j ∷ jobs) = refl
 drop_slots (suc n) hits [] = refl
 drop_slots (suc n) hits (j ∷ jobs) = drop_slots n hits jobs
 
-pub emit_long : (c : CoreView) → IsEnabled c Emit → length (c.emitted ++ option_to_list (hit_of (length c.emitted) c.booked)) ≡ suc (length c.emitted)
+pub emit_long : (c : MachineView) → IsEnabled c Emit → length (c.emitted ++ option_to_list (hit_of (length c.emitted) c.booked)) ≡ suc (length c.emitted)
 emit_long c on =
     let p = some_is (hit_of (length c.emitted) c.booked) on in
     let long = length-append c.emitted (p.0 ∷ []) in
     ap (λ (o : Option Hit). length (c.emitted ++ option_to_list o)) p.1
     ∙ (let e : length (c.emitted ++ p.0 ∷ []) ≡ suc (length c.emitted) = omega (arith, long) in e)
 
-pub emit_shown : (c : CoreView) → IsCore c → IsEnabled c Emit
+pub emit_shown : (c : MachineView) → IsMachine c → IsEnabled c Emit
     → map (slot_of (without (length c.emitted) c.booked)) (drop (suc (length c.emitted)) c.issued) ≡ drop 1 (window_of c).slots
 emit_shown c w on =
     let from : IsFrom (suc (length c.emitted)) (drop (suc (length c.emitted)) c.issued) =

@@ -6,7 +6,7 @@ use Rattle.std.specs.Option.{option_to_list}
 use Rattle.std.proofs.lemmas.List.Sums.{sum_by-append, sum_by-cons}
 use Rattle.ht_metric.specs.Jobs.{JobView}
 use Rattle.ht_metric.specs.declared.hit.Hit.{Hit}
-use Rattle.ht_machine.specs.Machine.{CoreView, has_number, hit_of, without}
+use Rattle.ht_machine.specs.Machine.{MachineView, has_number, hit_of, without}
 use Rattle.ht_machine.specs.Facts.{jobs_of, places}
 use Rattle.ht_machine.proofs.Lists.{jobs_append}
 
@@ -41,7 +41,7 @@ pub weigh_jobs : (h : JobView → ℕ) (xs ys : List Hit) → sum_by h (jobs_of 
 weigh_jobs h xs ys = ap (λ (js : List JobView). sum_by h js) (jobs_append xs ys) ∙ sum_by-append h (jobs_of xs) (jobs_of ys)
 
 -- what all places weigh is what each weighs
-pub weigh_places : (h : JobView → ℕ) (c : CoreView) → sum_by h (places c)
+pub weigh_places : (h : JobView → ℕ) (c : MachineView) → sum_by h (places c)
     ≡ sum_by h (flat_map option_to_list c.hands)
     + (sum_by h (flat_map (λ jobs. jobs) c.deques) + (sum_by h (jobs_of c.results) + (sum_by h (jobs_of c.booked) + sum_by h (jobs_of c.emitted))))
 weigh_places h c =

@@ -5,10 +5,10 @@ use Rattle.ht_metric.specs.Jobs.{JobView}
 use Rattle.ht_metric.specs.declared.hit.Hit.{Hit}
 use Rattle.ht_machine.specs.declared.event.Event.TheVariants.{Issue, Push, Pop, Steal, Finish}
 use Rattle.ht_machine.specs.declared.event.Spot.TheVariants.{Hand, Deque, Results}
-use Rattle.ht_machine.specs.Machine.{CoreView, after, after_all, empty, hit_of, without}
+use Rattle.ht_machine.specs.Machine.{MachineView, after, after_all, empty, hit_of, without}
 use Rattle.ht_machine.specs.Facts.{places, jobs_at}
 
-abbrev none_yet : CoreView
+abbrev none_yet : MachineView
 none_yet = record { workers = 2; window = 2; issued = []; hands = None ∷ None ∷ []; deques = [] ∷ [] ∷ []; results = []; booked = []; emitted = [] }
 
 begins : empty 2 2 ≡ none_yet
@@ -18,7 +18,7 @@ issued : (a : JobView) → after_all (empty 2 2) (Issue a ∷ [])
     ≡ record { workers = 2; window = 2; issued = a ∷ []; hands = Some a ∷ None ∷ []; deques = [] ∷ [] ∷ []; results = []; booked = []; emitted = [] }
 issued a = refl
 
-abbrev pushed : JobView → JobView → CoreView
+abbrev pushed : JobView → JobView → MachineView
 pushed a b = after_all (empty 2 2) (Issue a ∷ Push 0 ∷ Issue b ∷ Push 0 ∷ [])
 
 -- what is pushed later is behind
@@ -35,7 +35,7 @@ left a b = refl
 popped : (a b : JobView) → (after (pushed a b) (Pop 0)).hands ≡ Some a ∷ None ∷ []
 popped a b = refl
 
-abbrev both : JobView → JobView → Hit → CoreView
+abbrev both : JobView → JobView → Hit → MachineView
 both a b hit = after_all (pushed a b) (Steal 1 0 ∷ Pop 0 ∷ Finish 0 hit ∷ [])
 
 finished : (a b : JobView) (hit : Hit) → (both a b hit).results ≡ hit ∷ []

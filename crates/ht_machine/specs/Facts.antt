@@ -9,14 +9,14 @@ use Rattle.ht_machine.specs.declared.event.Event.{Event}
 use Rattle.ht_machine.specs.declared.event.Event.TheVariants.{Issue, Push, Pop, Steal, Finish, Accept, Emit}
 use Rattle.ht_machine.specs.declared.event.Spot.{Spot}
 use Rattle.ht_machine.specs.declared.event.Spot.TheVariants.{Hand, Deque, Results, Booked, Emitted}
-use Rattle.ht_machine.specs.Machine.{CoreView, IsEnabled, hand, deque}
+use Rattle.ht_machine.specs.Machine.{MachineView, IsEnabled, hand, deque}
 
 -- the jobs of hits
 abbrev pub jobs_of : List Hit → List JobView
 jobs_of hits = map (λ hit. hit.job) hits
 
 -- the jobs in all places
-abbrev pub places : CoreView → List JobView
+abbrev pub places : MachineView → List JobView
 places c = flat_map option_to_list c.hands ++ flat_map (λ jobs. jobs) c.deques ++ jobs_of c.results ++ jobs_of c.booked ++ jobs_of c.emitted
 
 -- the job is the issued one of its number
@@ -24,7 +24,7 @@ abbrev pub IsIssued : List JobView → JobView → Type 0
 IsIssued issued job = slice_get issued job.number ≡ Some job
 
 -- what holds of every state of the machine
-pub record IsCore (c : CoreView) : Type 0 where
+pub record IsMachine (c : MachineView) : Type 0 where
   -- an actor has a hand and a deque
   pub some : 1 ≤ c.workers
   pub few : c.workers ≤ 64
@@ -56,11 +56,11 @@ is_issue (Accept n) = false
 is_issue Emit = false
 
 -- while an issued job is not emitted, some event other than Issue may come
-abbrev pub CanGoOn : CoreView → Type 0
+abbrev pub CanGoOn : MachineView → Type 0
 CanGoOn c = length c.emitted < length c.issued → (e : Event) × IsEnabled c e × (is_issue e ≡ false)
 
 -- the jobs at a place, and how many of them have this number
-abbrev pub jobs_at : CoreView → Spot → List JobView
+abbrev pub jobs_at : MachineView → Spot → List JobView
 jobs_at c (Hand a) = option_to_list (hand c a)
 jobs_at c (Deque a) = deque c a
 jobs_at c Results = jobs_of c.results

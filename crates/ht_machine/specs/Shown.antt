@@ -3,7 +3,7 @@ use Rattle.std.specs.Prelude.{List, length, drop, map, option_map}
 use Rattle.ht_metric.specs.Jobs.{JobView}
 use Rattle.ht_metric.specs.Hits.{found_of}
 use Rattle.ht_metric.specs.declared.hit.Hit.{Hit}
-use Rattle.ht_machine.specs.Machine.{CoreView, hit_of}
+use Rattle.ht_machine.specs.Machine.{MachineView, hit_of}
 use Rattle.ht_window.specs.declared.slot.Slot.{Slot}
 use Rattle.ht_window.specs.Windows.{WindowView}
 
@@ -12,7 +12,7 @@ abbrev pub slot_of : List Hit → JobView → Slot
 slot_of booked job = record { job = job; found = option_map found_of (hit_of job.number booked) }
 
 -- a slot for each job that is issued and not emitted
-abbrev pub window_of : CoreView → WindowView
+abbrev pub window_of : MachineView → WindowView
 window_of c = record {
   capacity = c.window;
   front = length c.emitted;

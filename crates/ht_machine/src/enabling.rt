@@ -2,10 +2,10 @@
 ghost use Rattle.std.specs.Prelude.{◌≡◌, ◌↔◌, ◌<◌, ◌≤◌, length, Some, None, IfSome, IfNone, IsSome, IsTrue};
 ghost use Rattle.std.specs.List.{position_or_len};
 ghost use Rattle.ht_machine.specs.Machine.{IsEnabled, hand, deque, has_number, hit_of};
-ghost use Rattle.ht_machine.specs.Facts.{IsCore};
+ghost use Rattle.ht_machine.specs.Facts.{IsMachine};
 
 use crate::event::Event;
-use crate::machine::Core;
+use crate::machine::Machine;
 use ht_metric::{Hit, Job};
 
 /// Whether an event may come now.
@@ -21,25 +21,25 @@ use ht_metric::{Hit, Job};
 ///
 /// An event of an actor that the pool does not have is not enabled.
 #[must_use]
-pub fn enabled(core: &Core, event: &Event) -> bool
-    ensures enabled { IsTrue result ↔ IsEnabled core.now event.now }
-    ensures core { IsCore core.now }
+pub fn enabled(machine: &Machine, event: &Event) -> bool
+    ensures enabled { IsTrue result ↔ IsEnabled machine.now event.now }
+    ensures machine { IsMachine machine.now }
 {
     match event {
-        Event::Issue(job) => core.can_issue(job),
-        Event::Push(actor) => core.can_push(*actor),
-        Event::Pop(actor) => core.can_take(*actor, *actor),
-        Event::Steal { thief, from } => core.can_take(*thief, *from) && *thief != *from,
-        Event::Finish { actor, hit } => core.can_finish(*actor, hit.job()),
-        Event::Accept(number) => core.can_accept(*number),
-        Event::Emit => core.can_emit(),
+        Event::Issue(job) => machine.can_issue(job),
+        Event::Push(actor) => machine.can_push(*actor),
+        Event::Pop(actor) => machine.can_take(*actor, *actor),
+        Event::Steal { thief, from } => machine.can_take(*thief, *from) && *thief != *from,
+        Event::Finish { actor, hit } => machine.can_finish(*actor, hit.job()),
+        Event::Accept(number) => machine.can_accept(*number),
+        Event::Emit => machine.can_emit(),
     }
 }
 
-impl Core {
+impl Machine {
     fn can_issue(&self, job: &Job) -> bool
         ensures enabled { IsTrue result ↔ IsEnabled self.now (Event.Issue job.now) }
-        ensures core { IsCore self.now }
+        ensures machine { IsMachine self.now }
     {
         let under_way = self.issued.len() - self.emitted.len();
         self.hands[0].is_none()
@@ -49,7 +49,7 @@ impl Core {
 
     fn can_push(&self, actor: u8) -> bool
         ensures enabled { IsTrue result ↔ IsEnabled self.now (Event.Push actor) }
-        ensures core { IsCore self.now }
+        ensures machine { IsMachine self.now }
     {
         actor < self.workers && self.hands[usize::from(actor)].is_some()
     }
@@ -57,7 +57,7 @@ impl Core {
     fn can_take(&self, actor: u8, owner: u8) -> bool
         ensures enabled { IsTrue result ↔ ((actor < self.now.workers) × (owner < self.now.workers)
             × (hand self.now actor ≡ None) × (0 < length (deque self.now owner))) }
-        ensures core { IsCore self.now }
+        ensures machine { IsMachine self.now }
     {
         let there = actor < self.workers && owner < self.workers;
         there
@@ -67,21 +67,21 @@ impl Core {
 
     fn can_finish(&self, actor: u8, job: &Job) -> bool
         ensures enabled { IsTrue result ↔ ((actor < self.now.workers) × (hand self.now actor ≡ Some job.now)) }
-        ensures core { IsCore self.now }
+        ensures machine { IsMachine self.now }
     {
         actor < self.workers && holds(&self.hands[usize::from(actor)], job)
     }
 
     fn can_accept(&self, number: u64) -> bool
         ensures enabled { IsTrue result ↔ IsEnabled self.now (Event.Accept number) }
-        ensures core { IsCore self.now }
+        ensures machine { IsMachine self.now }
     {
         has(&self.results, number)
     }
 
     fn can_emit(&self) -> bool
         ensures enabled { IsTrue result ↔ IsEnabled self.now Event.Emit }
-        ensures core { IsCore self.now }
+        ensures machine { IsMachine self.now }
     {
         has(&self.booked, self.emitted.len() as u64)
     }

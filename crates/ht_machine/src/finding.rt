@@ -4,29 +4,29 @@ ghost use Rattle.std.specs.List.{flat_map};
 ghost use Rattle.std.specs.Option.{option_to_list};
 ghost use Rattle.ht_machine.specs.declared.event.Spot.{Spot as SpotValue};
 ghost use Rattle.ht_machine.specs.Machine.{hand, deque};
-ghost use Rattle.ht_machine.specs.Facts.{IsCore, jobs_at, numbered, places};
+ghost use Rattle.ht_machine.specs.Facts.{IsMachine, jobs_at, numbered, places};
 
 use crate::enabling::has;
 use crate::event::Spot;
-use crate::machine::Core;
+use crate::machine::Machine;
 use ht_metric::Job;
 
 /// The place of the issued job of this number, which is its only one. `None` where no job of this number is issued.
 #[must_use]
-pub fn place_of(core: &Core, number: u64) -> Option<Spot>
-    ensures issued { IsNone result ↔ (length core.now.issued ≤ number) }
-    ensures place { IfSome result (λ spot. numbered number (jobs_at core.now spot) ≡ 1) }
-    ensures only { (spot other : SpotValue) → result ≡ Some spot → other ≢ spot → numbered number (jobs_at core.now other) ≡ 0 }
+pub fn place_of(machine: &Machine, number: u64) -> Option<Spot>
+    ensures issued { IsNone result ↔ (length machine.now.issued ≤ number) }
+    ensures place { IfSome result (λ spot. numbered number (jobs_at machine.now spot) ≡ 1) }
+    ensures only { (spot other : SpotValue) → result ≡ Some spot → other ≢ spot → numbered number (jobs_at machine.now other) ≡ 0 }
 {
-    core.find(number)
+    machine.find(number)
 }
 
-impl Core {
+impl Machine {
     // A place that has a job of this number, if there is one.
     fn find(&self, number: u64) -> Option<Spot>
         ensures some { IfSome result (λ spot. 0 < numbered number (jobs_at self.now spot)) }
         ensures none { IfNone result (numbered number (places self.now) ≡ 0) }
-        ensures core { IsCore self.now }
+        ensures machine { IsMachine self.now }
     {
         if let Some(actor) = self.hand_with(number) {
             return Some(Spot::Hand(actor));
@@ -50,7 +50,7 @@ impl Core {
     fn hand_with(&self, number: u64) -> Option<u8>
         ensures some { IfSome result (λ actor. 0 < numbered number (option_to_list (hand self.now actor))) }
         ensures none { IfNone result (numbered number (flat_map option_to_list self.now.hands) ≡ 0) }
-        ensures core { IsCore self.now }
+        ensures machine { IsMachine self.now }
     {
         for actor in 0..self.workers {
             if is_numbered(&self.hands[usize::from(actor)], number) {
@@ -64,7 +64,7 @@ impl Core {
     fn deque_with(&self, number: u64) -> Option<u8>
         ensures some { IfSome result (λ actor. 0 < numbered number (deque self.now actor)) }
         ensures none { IfNone result (numbered number (flat_map (λ jobs. jobs) self.now.deques) ≡ 0) }
-        ensures core { IsCore self.now }
+        ensures machine { IsMachine self.now }
     {
         for actor in 0..self.workers {
             if self.deques[usize::from(actor)].has(number) {

@@ -4,15 +4,15 @@ ghost use Rattle.ht_machine.specs.declared.event.Event.{Event as EventValue};
 ghost use Rattle.ht_machine.specs.declared.event.Spot.{Spot as SpotValue};
 ghost use Rattle.ht_metric.specs.Hits.{found_of};
 ghost use Rattle.ht_metric.specs.Jobs.{near};
-ghost use Rattle.ht_machine.specs.Machine.{CoreView, after_all, empty, IsLegal};
-ghost use Rattle.ht_machine.specs.Facts.{IsCore, CanGoOn, jobs_at, numbered};
+ghost use Rattle.ht_machine.specs.Machine.{MachineView, after_all, empty, IsLegal};
+ghost use Rattle.ht_machine.specs.Facts.{IsMachine, CanGoOn, jobs_at, numbered};
 
-/// What holds after every list of events, begun with the empty core, of which each is enabled in its turn.
+/// What holds after every list of events, begun with the empty machine, of which each is enabled in its turn.
 pub fn after_legal_events()
-    ensures core { (workers window : ℕ) (events : List EventValue)
+    ensures machine { (workers window : ℕ) (events : List EventValue)
         → 1 ≤ workers → workers ≤ 64 → 1 ≤ window → window ≤ 4096
         → IsLegal (empty workers window) events
-        → IsCore (after_all (empty workers window) events) }
+        → IsMachine (after_all (empty workers window) events) }
     ensures going { (workers window : ℕ) (events : List EventValue)
         → 1 ≤ workers → workers ≤ 64 → 1 ≤ window → window ≤ 4096
         → IsLegal (empty workers window) events
@@ -21,13 +21,13 @@ pub fn after_legal_events()
 
 /// The emitted hits have the first nearest vectors of the first issued jobs, in order.
 pub fn emitted_are_near()
-    ensures { (c : CoreView) → IsCore c → map found_of c.emitted ≡ map near (take (length c.emitted) c.issued) }
+    ensures { (c : MachineView) → IsMachine c → map found_of c.emitted ≡ map near (take (length c.emitted) c.issued) }
 {}
 
 /// A place that has a job of some number has it once, the number is issued, and no other place has it.
 pub fn one_place()
-    ensures { (c : CoreView) (number : ℕ) (spot : SpotValue)
-        → IsCore c → 0 < numbered number (jobs_at c spot)
+    ensures { (c : MachineView) (number : ℕ) (spot : SpotValue)
+        → IsMachine c → 0 < numbered number (jobs_at c spot)
         → (number < length c.issued) × (numbered number (jobs_at c spot) ≡ 1)
         × ((other : SpotValue) → other ≢ spot → numbered number (jobs_at c other) ≡ 0) }
 {}

@@ -1,6 +1,6 @@
 //! The pool of workers as a machine with no threads: what may happen, and what holds whatever happens.
 //!
-//! A [`Core`] has the issued jobs, what each actor has in hand, each actor's deque, the results (hits that are finished
+//! A [`Machine`] has the issued jobs, what each actor has in hand, each actor's deque, the results (hits that are finished
 //! and not booked), the booked hits and the emitted ones. Actor 0 is the caller. An [`Event`] is one step: [`enabled`]
 //! says whether it may come, [`step`] makes it, and [`place_of`] says where a job is.
 //!
@@ -25,5 +25,5 @@ pub mod window_laws;
 pub use enabling::enabled;
 pub use event::{Event, Spot, StepFault};
 pub use finding::place_of;
-pub use machine::Core;
+pub use machine::Machine;
 pub use moves::step;

@@ -1,7 +1,7 @@
 //! The state of a pool.
 ghost use Rattle.std.specs.Prelude.{◌≡◌, ◌≤◌, [], replicate, None, IfOk};
 ghost use Rattle.ht_machine.specs.Machine.{empty};
-ghost use Rattle.ht_machine.specs.Facts.{IsCore, CanGoOn};
+ghost use Rattle.ht_machine.specs.Facts.{IsMachine, CanGoOn};
 
 use crate::deque::Deque;
 use ht_metric::{Hit, Job};
@@ -14,7 +14,7 @@ use std::marker::Model;
 /// emitted. At most as many jobs as the window are issued and not emitted. The emitted hits are those of the first
 /// issued jobs, in order.
 #[derive(Drop)]
-pub struct Core {
+pub struct Machine {
     pub(crate) workers: u8,
     pub(crate) window: u16,
     pub(crate) issued: Vec<Job>,
@@ -25,30 +25,30 @@ pub struct Core {
     pub(crate) emitted: Vec<Hit>,
 }
 
-impl Model for Core {
-    ghost use Rattle.ht_machine.specs.Machine.{CoreView, core};
-    ghost use Rattle.ht_machine.specs.Facts.{IsCore};
+impl Model for Machine {
+    ghost use Rattle.ht_machine.specs.Machine.{MachineView, machine_view};
+    ghost use Rattle.ht_machine.specs.Facts.{IsMachine};
 
-    ghost Value = { CoreView };
+    ghost Value = { MachineView };
 
-    ghost view = { λ c. core c.workers c.window c.issued.items c.hands.items c.deques.items c.results.items c.booked.items c.emitted.items };
+    ghost view = { λ c. machine_view c.workers c.window c.issued.items c.hands.items c.deques.items c.results.items c.booked.items c.emitted.items };
 
-    ghost invariant = { λ c. IsCore
-        (core c.workers c.window c.issued.items c.hands.items c.deques.items c.results.items c.booked.items c.emitted.items) };
+    ghost invariant = { λ c. IsMachine
+        (machine_view c.workers c.window c.issued.items c.hands.items c.deques.items c.results.items c.booked.items c.emitted.items) };
 }
 
-impl Core {
+impl Machine {
     /// A pool of 1 to 64 actors, the caller among them, and a window of 1 to 4096 jobs. Nothing is issued.
-    pub fn new(alloc: Global, workers: u8, window: u16) -> Result<Core, AllocError>
+    pub fn new(alloc: Global, workers: u8, window: u16) -> Result<Machine, AllocError>
         requires some { 1 ≤ workers }
         requires few { workers ≤ 64 }
         requires wide { 1 ≤ window }
         requires narrow { window ≤ 4096 }
         ensures empty { IfOk result (λ c. c ≡ empty workers window) }
-        ensures core { IfOk result IsCore }
+        ensures machine { IfOk result IsMachine }
         ensures going { IfOk result CanGoOn }
     {
-        Ok(Core {
+        Ok(Machine {
             workers,
             window,
             issued: Vec::new(alloc),

@@ -1,16 +1,16 @@
 //! What the events do.
 ghost use Rattle.std.specs.Prelude.{◌≡◌, ◌↔◌, ◌<◌, ◌++◌, None, Err, OnOk, OnErr};
 ghost use Rattle.std.specs.Option.{option_to_list};
-ghost use Rattle.ht_machine.specs.Machine.{IsEnabled, after, taken, hand, hit_of, without};
-ghost use Rattle.ht_machine.specs.Facts.{IsCore, CanGoOn};
+ghost use Rattle.ht_machine.specs.Machine.{IsEnabled, Makes, after, taken, hand, hit_of, without};
+ghost use Rattle.ht_machine.specs.Facts.{IsMachine, CanGoOn};
 
 use crate::enabling::{enabled, index_of};
 use crate::event::{Event, StepFault};
-use crate::machine::Core;
+use crate::machine::Machine;
 use ht_metric::{Hit, Job};
 use std::alloc::AllocError;
 
-/// Makes one step, if the event is enabled. The core is unchanged where it isn't, and where memory runs out.
+/// Makes one step, if the event is enabled. The machine is unchanged where it isn't, and where memory runs out.
 ///
 /// - `Issue`: the job is in the caller's hand.
 /// - `Push`: the job is at the back of the actor's deque.
@@ -18,29 +18,28 @@ use std::alloc::AllocError;
 /// - `Finish`: the hit is among the results.
 /// - `Accept`: the result is booked.
 /// - `Emit`: the booked hit is the last one emitted.
-pub fn step(core: &mut Core, event: Event) -> Result<(), StepFault>
-    ensures made { OnOk result (core.new ≡ after core.old event) }
-    ensures enabled { result ≡ Err StepFault.NotEnabled ↔ ¬ IsEnabled core.old event }
-    ensures unchanged { OnErr result (core.new ≡ core.old) }
+pub fn step(machine: &mut Machine, event: Event) -> Result<(), StepFault>
+    ensures made { OnOk result (machine.new ≡ after machine.old event) }
+    ensures enabled { result ≡ Err StepFault.NotEnabled ↔ ¬ IsEnabled machine.old event }
+    ensures unchanged { OnErr result (machine.new ≡ machine.old) }
 
     // What holds whatever happens.
-    ensures core { IsCore core.new }
-    ensures going { CanGoOn core.new }
+    ensures machine { IsMachine machine.new }
+    ensures going { CanGoOn machine.new }
 {
-    if !enabled(core, &event) {
+    if !enabled(machine, &event) {
         return Err(StepFault::NotEnabled);
     }
-    match core.make(event) {
+    match machine.make(event) {
         Ok(()) => Ok(()),
         Err(_) => Err(StepFault::NoMemory),
     }
 }
 
-impl Core {
+impl Machine {
     fn make(&mut self, event: Event) -> Result<(), AllocError>
         requires { IsEnabled self.old event }
-        ensures ok { OnOk result (self.new ≡ after self.old event) }
-        ensures err { OnErr result (self.new ≡ self.old) }
+        ensures { Makes event self.old self.new result }
     {
         match event {
             Event::Issue(job) => self.issue(job),
@@ -55,8 +54,7 @@ impl Core {
 
     fn issue(&mut self, job: Job) -> Result<(), AllocError>
         requires { IsEnabled self.old (Event.Issue job) }
-        ensures ok { OnOk result (self.new ≡ after self.old (Event.Issue job)) }
-        ensures err { OnErr result (self.new ≡ self.old) }
+        ensures { Makes (Event.Issue job) self.old self.new result }
     {
         self.issued.push(job.copy())?;
         self.hands[0] = Some(job);
@@ -65,8 +63,7 @@ impl Core {
 
     fn push(&mut self, actor: u8) -> Result<(), AllocError>
         requires { IsEnabled self.old (Event.Push actor) }
-        ensures ok { OnOk result (self.new ≡ after self.old (Event.Push actor)) }
-        ensures err { OnErr result (self.new ≡ self.old) }
+        ensures { Makes (Event.Push actor) self.old self.new result }
     {
         let actor = usize::from(actor);
         self.deques[actor].push(&self.hands[actor])?;
@@ -85,8 +82,7 @@ impl Core {
 
     fn finish(&mut self, actor: u8, hit: Hit) -> Result<(), AllocError>
         requires { IsEnabled self.old (Event.Finish actor hit) }
-        ensures ok { OnOk result (self.new ≡ after self.old (Event.Finish actor hit)) }
-        ensures err { OnErr result (self.new ≡ self.old) }
+        ensures { Makes (Event.Finish actor hit) self.old self.new result }
     {
         self.results.push(hit)?;
         self.hands[usize::from(actor)] = None;
@@ -94,8 +90,7 @@ impl Core {
     }
 
     fn accept(&mut self, number: u64) -> Result<(), AllocError>
-        ensures ok { OnOk result (self.new ≡ after self.old (Event.Accept number)) }
-        ensures err { OnErr result (self.new ≡ self.old) }
+        ensures { Makes (Event.Accept number) self.old self.new result }
     {
         hand_over(number, &mut self.results, &mut self.booked)?;
         Ok(())
@@ -103,8 +98,7 @@ impl Core {
 
     fn emit(&mut self) -> Result<(), AllocError>
         requires { IsEnabled self.old Event.Emit }
-        ensures ok { OnOk result (self.new ≡ after self.old Event.Emit) }
-        ensures err { OnErr result (self.new ≡ self.old) }
+        ensures { Makes Event.Emit self.old self.new result }
     {
         let number = self.emitted.len() as u64;
         hand_over(number, &mut self.booked, &mut self.emitted)?;

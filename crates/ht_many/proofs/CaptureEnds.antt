@@ -1,9 +1,9 @@
 -- What the lanes of captures came to, capture by capture.
-use Rattle.std.specs.Prelude.{◌≡◌, ◌≢◌, ℕ, ◌<◌, ◌≤◌, List, [], ◌∷◌, length, map, get_or, Bool, true, false, nat_lt, Option, None, Result, Ok, Err, IfOk, MatchResult, OnErr}
+use Rattle.std.specs.Prelude.{◌≡◌, ◌≢◌, ℕ, ◌<◌, ◌≤◌, List, [], length, map, get_or, Bool, true, false, nat_lt, Option, None, Result, Ok, Err, IfOk, MatchResult}
 use Rattle.std.proofs.Common.{refl, ap, ◌∙◌, sym, subst, arith}
 use Rattle.std.specs.Global.{Vec}
 use Rattle.std.proofs.lemmas.Bool.Decides.{nat_tests}
-use Rattle.std.proofs.lemmas.List.{get_or-map, get_or_past, length-map}
+use Rattle.std.proofs.lemmas.List.{get_or-map, length-map}
 use Rattle.ht_io.specs.Devices.{Device, IsLater}
 use Rattle.ht_io.proofs.Calls.{later-refl}
 use Rattle.ht_capture_blocks.specs.declared.reader.CaptureReader.{CaptureReader}
@@ -22,16 +22,17 @@ use Rattle.ht_rx.specs.Outcomes.{StopsBy, TellsTo}
 use Rattle.ht_rx.proofs.Blocks.{comes_to}
 use Rattle.ht_rx.proofs.Gathered.{gathered_told}
 use Rattle.ht_rx.proofs.Booking.{lines_told}
-use Rattle.ht_lanes.specs.DeskLanes.{lane_told}
+use Rattle.ht_lanes.specs.DeskLanes.{lane_telling}
 use Rattle.ht_lanes.specs.Lanes.{AreFinished, AreOver, HaveNone, RunsLanes, Side, Sides, side_at}
 use Rattle.ht_lanes.proofs.LaneEnds.{lane_ends, lane_lacks, lane_puts_later, lane_reads_later, lane_steady}
+use Rattle.ht_lanes.proofs.OneLane.{past_both, some_of}
 use Rattle.ht_fields.proofs.Putting.{on_err_then}
 use Rattle.ht_runs.proofs.Outcomes.{told_nothing}
 use Rattle.ht_capture.specs.Fields.{captures}
 use Rattle.ht_several.specs.declared.many_end.ManyEnd.{ManyEnd}
 use Rattle.ht_several.specs.Alone.{Heard, PutsPart}
 use Rattle.ht_several.specs.Several.{AreLater, Devices, EachEnds, EachHeard, EachInPart, answer_at, devices}
-use Rattle.ht_several.specs.LastLines.{EachFinishes, EachMayFinish, KeepSinks}
+use Rattle.ht_several.specs.LastLines.{EachFinishes, EachMayFinish, FinishesEach}
 use Rattle.ht_several.proofs.LastLines.{each_ends, each_in_part, last_later}
 use Rattle.ht_several.proofs.Ending.{heard_part}
 use Rattle.ht_many.specs.CaptureLanes.{AreNew, AreOpen, IsNew, Lane, LaneLeads, LanesLead, lane_answer, lane_due, lane_finished, lane_over, lane_rests, lane_seen, reader_at, reader_means}
@@ -53,17 +54,6 @@ pub then_ok : {A E : Type 0} (P Q : A → Type 0) (result : Result A E) → ((x 
 then_ok P Q (Ok x) follows holds = follows x holds
 then_ok P Q (Err e) follows holds = tt
 
--- one of them, where there are some
-some_of : {X : Type 0} (xs : List X) (k : ℕ) → k < length xs → X
-some_of [] k few = absurd (omega (arith, few))
-some_of (x ∷ xs) k few = x
-
--- beyond two lists of one length the same stands for none
-past_both : {X : Type 0} (xs ys : List X) (k : ℕ) (x : X) → length ys ≡ length xs → length xs ≤ k → get_or ys k x ≡ get_or xs k x
-past_both xs ys k x same high =
-    let beyond : length ys ≤ k = omega (arith, same, high) in
-    get_or_past ys k x beyond ∙ sym (get_or_past xs k x high)
-
 -- of as many devices, each is the same at a later time, where the first ones are
 later_at : {X : Type 0} (shown : X → Device ℕ) (xs ys : List X) (count : ℕ) → length ys ≡ length xs → length xs ≡ count
     → ((k : ℕ) (x : X) → k < count → IsLater (shown (get_or xs k x)) (shown (get_or ys k x)))
@@ -82,10 +72,10 @@ module _ {S K : Type 0} (source : S → Device ℕ) (sink : K → Device ℕ) wh
   -- a new lane did this
   module _ (a b : Side Lane S K) (new : IsNew a.lane) (leads : LaneLeads source sink a b) where
     abbrev before : Telling FrameHead ℕ
-    before = lane_told lines_left a.lane.booking (sink a.sink)
+    before = lane_telling lines_left a.lane.booking (sink a.sink)
 
     abbrev after : Telling FrameHead ℕ
-    after = lane_told lines_left b.lane.booking (sink b.sink)
+    after = lane_telling lines_left b.lane.booking (sink b.sink)
 
     from_new : TellsBy None b.lane.failed
         (seen_by reader_means reader_at (desk_view new.reader None new.head 0 [] 0) (source a.source) before) (lane_seen source sink b)
@@ -226,24 +216,23 @@ module _ {S K : Type 0} (source : S → Device ℕ) (sink : K → Device ℕ) wh
 
     pub received : {A E F : Type 0} {x : A} {after : List K} {result : Result (Vec ManyEnd) F}
         → RunsLanes {E = E} (LaneLeads source sink) lane_due lane_rests lane_over lane_finished (Ok x) a b
-        → IfOk result (λ ends. EachFinishes sink b.sinks after (map lane_answer b.lanes) ends.items)
-        → OnErr result (EachMayFinish sink b.sinks after (map lane_answer b.lanes)) → KeepSinks sink b.sinks after
+        → FinishesEach sink b.sinks after (map lane_answer b.lanes) result
         → ReceivesEach source sink result (devices a.sources a.sinks) (devices b.sources after)
-    received {after = after} {result = result} run finishes may keep =
+    received {after = after} {result = result} run finish =
         let answers : List (Result Ended StopFault) = map lane_answer b.lanes in
         let first : Devices S K = devices a.sources a.sinks in
         let mid : Devices S K = devices b.sources b.sinks in
         let last : Devices S K = devices b.sources after in
-        let heard = lanes_heard a b opened.new run.leads opened.as_many_sources opened.as_many_sinks run.over run.taken run.finished in
+        let heard = lanes_heard a b opened.new run.leads opened.as_many_sources opened.as_many_sinks run.over run.none_due run.finished in
         let later = lanes_later a b opened.new run.leads opened.as_many_sources opened.as_many_sinks in
         record {
           ends = then_ok (λ (ends : Vec ManyEnd). EachFinishes sink b.sinks after answers ends.items)
               (λ (ends : Vec ManyEnd). EachEnds source sink first last ends.items) result
-              (λ ends finish. each_ends source sink first mid after answers heard later ends.items finish keep
-              (opened.as_many_sinks ∙ sym opened.as_many_sources)) finishes;
+              (λ ends each. each_ends source sink first mid after answers heard later ends.items each finish.later
+              (opened.as_many_sinks ∙ sym opened.as_many_sources)) finish.finishes;
           memory = on_err_then (EachMayFinish sink b.sinks after answers) (EachInPart source sink first last) result
-              (λ m. each_in_part source sink first mid after answers heard later m) may;
-          later = last_later source sink first mid after answers heard later keep;
+              (λ m. each_in_part source sink first mid after answers heard later m) finish.memory;
+          later = last_later source sink first mid after answers heard later finish.later;
         }
 
   -- memory lacked before anything was taken or put

@@ -7,8 +7,8 @@ use Rattle.ht_several.proofs.Texts.{held_by, nothing_held, written_back}
 use Rattle.ht_many.specs.declared.apart.Apart.{Apart}
 use Rattle.ht_many.specs.Apart.{AreReceived, HoldsText, captures_in, held_all, texts_in}
 
-abbrev some_of : Growing → Option Growing
-some_of s = Some s
+abbrev in_some : Growing → Option Growing
+in_some s = Some s
 
 -- where no text is lacking, these are the texts of the captures
 pub texts_apart_are : (captures : List (List ℕ)) (before after : List Apart) (sinks : List Growing) (none : Apart) → captures_in before ≡ captures
@@ -17,7 +17,7 @@ texts_apart_are captures before after sinks none are as_many received held =
     ext_get_or [] (map held_by sinks) (map rx_text captures) lengths same
   where
     as_held : length sinks ≡ length after
-    as_held = sym (length-map sinks some_of) ∙ (ap (λ (z : List (Option Growing)). length z) (sym held) ∙ length-map after (λ (a : Apart). a.text))
+    as_held = sym (length-map sinks in_some) ∙ (ap (λ (z : List (Option Growing)). length z) (sym held) ∙ length-map after (λ (a : Apart). a.text))
 
     as_given : length captures ≡ length before
     as_given = ap (λ (z : List (List ℕ)). length z) (sym are) ∙ length-map before (λ (a : Apart). a.capture)
@@ -32,10 +32,10 @@ texts_apart_are captures before after sinks none are as_many received held =
         let within : k < length before = omega (arith, held_there, as_many) in
         let given : k < length captures = omega (arith, within, as_given) in
         let s : Growing = get_or sinks k nothing_held in
-        let text : (get_or after k none).text ≡ some_of s =
-        sym (get_or-map (λ (a : Apart). a.text) after k none (some_of nothing_held) held_there)
-        ∙ (ap (λ (z : List (Option Growing)). get_or z k (some_of nothing_held)) held
-        ∙ get_or-map some_of sinks k nothing_held (some_of nothing_held) below) in
+        let text : (get_or after k none).text ≡ in_some s =
+        sym (get_or-map (λ (a : Apart). a.text) after k none (in_some nothing_held) held_there)
+        ∙ (ap (λ (z : List (Option Growing)). get_or z k (in_some nothing_held)) held
+        ∙ get_or-map in_some sinks k nothing_held (in_some nothing_held) below) in
         let capture : (get_or before k none).capture ≡ get_or captures k [] =
         sym (get_or-map (λ (a : Apart). a.capture) before k none [] within) ∙ ap (λ (z : List (List ℕ)). get_or z k []) are in
         let here : s.held ≡ rx_text (get_or before k none).capture =

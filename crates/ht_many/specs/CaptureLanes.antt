@@ -15,7 +15,7 @@ use Rattle.ht_feed.specs.Dues.{jobs_in}
 use Rattle.ht_feed.specs.Items.{Item}
 use Rattle.ht_feed.specs.Telling.{Seen, TellsBy, seen_by}
 use Rattle.ht_lanes.specs.declared.desk_lane.DeskLane.{DeskLane}
-use Rattle.ht_lanes.specs.DeskLanes.{ended_so, is_over, lane_told}
+use Rattle.ht_lanes.specs.DeskLanes.{ended_so, is_over, lane_telling}
 use Rattle.ht_lanes.specs.Lanes.{AllLead, Side, Sides}
 use Rattle.ht_many.specs.KeptFrames.{KeptFrames, lines_left}
 
@@ -55,7 +55,7 @@ lane_finished l = lines_left l.booking [] ≡ []
 -- the devices of a lane are seen so
 module _ {S K : Type 0} (source : S → Device ℕ) (sink : K → Device ℕ) where
   abbrev pub lane_seen : Side Lane S K → Seen FrameHead ℕ
-  lane_seen a = seen_by reader_means reader_at a.lane.desk (source a.source) (lane_told lines_left a.lane.booking (sink a.sink))
+  lane_seen a = seen_by reader_means reader_at a.lane.desk (source a.source) (lane_telling lines_left a.lane.booking (sink a.sink))
 
   -- what one lane did with its devices: what was read of its capture, which hits were taken, and which lines were put
   abbrev pub LaneLeads : Side Lane S K → Side Lane S K → Type 0
@@ -78,6 +78,11 @@ pub record IsNew (l : Lane) : Type 0 where
 
 abbrev pub AreNew : List Lane → Type 0
 AreNew lanes = (l : Lane) (k : ℕ) → k < length lanes → IsNew (slice_index_or lanes k l)
+
+-- so many lanes, all of them new
+pub record AreOpened (count : ℕ) (lanes : List Lane) : Type 0 where
+  pub as_many : length lanes ≡ count
+  pub new : AreNew lanes
 
 -- new lanes, and as many sources and sinks
 pub record AreOpen {S K : Type 0} (lanes : List Lane) (sources : List S) (sinks : List K) : Type 0 where

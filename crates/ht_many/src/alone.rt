@@ -13,7 +13,7 @@ use ht_bundles::Bundled;
 use ht_feed::Gate;
 use ht_frames::HitWork;
 use ht_io::{GrowSink, Sink, Source};
-use ht_lanes::run_alone;
+use ht_lanes::drive_lanes_alone;
 use ht_several::{ManyEnd, have_text, sinks_of, sources_of};
 use std::alloc::{AllocError, Global};
 
@@ -41,7 +41,7 @@ impl<'g, G: Gate> Alone<'g, G> {
 
     // Runs the jobs of all lanes until no lane gives a block any more, has each lane put what it keeps back, and then puts the
     // last line of each capture.
-    fn run<S: Source, K: Sink>(
+    fn receive_lanes<S: Source, K: Sink>(
         &self,
         lanes: &mut [CaptureLane],
         sources: &mut [S],
@@ -54,7 +54,7 @@ impl<'g, G: Gate> Alone<'g, G> {
             alloc: self.alloc,
             gate: self.gate,
         };
-        match run_alone::<CaptureLane, S, K, HitWork<G>>(
+        match drive_lanes_alone::<CaptureLane, S, K, HitWork<G>>(
             self.alloc,
             self.window,
             &work,
@@ -81,7 +81,7 @@ impl<'g, G: Gate> Alone<'g, G> {
             Ok(lanes) => lanes,
             Err(lack) => return Err(lack),
         };
-        self.run(&mut lanes, sources, sinks)
+        self.receive_lanes(&mut lanes, sources, sinks)
     }
 
     /// The text of each capture. These sources never fail, and these sinks only for lack of memory.

@@ -13,7 +13,7 @@ use std::alloc::{AllocError, Global};
 use std::mem;
 use std::thread::{Threads, for_each_mut};
 
-/// A capture that one worker receives, and its text once it is received; none where memory lacked.
+/// A capture that one worker receives, and its text once it is received, or none if memory ran out.
 #[derive(Drop)]
 pub(crate) struct Apart {
     pub(crate) capture: Bundled,
@@ -29,8 +29,9 @@ fn octets_in(captures: &[Bundled]) -> u64 {
     octets
 }
 
-/// Whether of captures that are dealt out in order among this many workers, captures by workers, rounded up, to each, no
-/// worker gets more than five quarters of its share of the octets. No clause says so, and no result depends on it.
+/// Whether no worker gets more than five quarters of its share of the octets, where the captures are dealt out in order and
+/// each worker gets the number of captures over the number of workers, rounded up. No clause says so, and no result depends
+/// on it.
 pub(crate) fn are_even(captures: &[Bundled], workers: u8) -> bool
     requires { 1 ≤ workers }
 {
@@ -151,8 +152,8 @@ pub(crate) fn texts_apart<R: Threads + Sync, G: Gate + Sync>(
     gate: &G,
 ) -> Result<Vec<GrowSink>, AllocError>
     requires least { 1 ≤ workers }
-    requires some { workers ≤ window }
-    requires few { window ≤ 4096 }
+    requires window { IsWindowSize window }
+    requires shares { workers ≤ window }
     ensures { IfOk result (λ sinks. map (λ (s : Growing). s.held) sinks.items ≡ map rx_text captures.items) }
 {
     let mut all = match unreceived(alloc, captures) {

@@ -1,6 +1,6 @@
 //! Several captures in this thread, with one crew of workers, or each whole by one worker.
-ghost use Rattle.std.specs.Prelude.{◌≡◌, ◌≢◌, ◌≤◌, length, Err};
-ghost use Rattle.ht_feed.specs.Limits.{IsWindowSize};
+ghost use Rattle.std.specs.Prelude.{◌≡◌, ◌≢◌, length, Err};
+ghost use Rattle.ht_feed.specs.Limits.{IsCrewSize, IsWindowSize};
 ghost use Rattle.ht_runs.specs.declared.faults.RunFault.TheVariants.{Write};
 ghost use Rattle.ht_several.specs.Several.{devices};
 ghost use Rattle.ht_many.specs.Receiving.{ReceivesBundle, ReceivesEach};
@@ -20,13 +20,13 @@ use std::thread::Threads;
 /// frame that is whole before the capture's first fault, and the last line. It answers how each capture ended, in
 /// their order.
 ///
-/// There are as many sinks as sources. Blocks of jobs are taken from the captures beside one another, so each
-/// has a frame under way, and at most `window` jobs, 1 to 4096, of all captures together are due at a time. Every job
+/// There are as many sinks as sources. Blocks of jobs are taken from the captures in turn, so each capture has a frame
+/// under way, and at most `window` jobs, 1 to 4096, of all captures together are due at a time. Every job
 /// is run in this thread, between the two calls of the gate, which knows it by its number among the jobs of all
 /// captures. The last lines are put once no capture gives a job any more.
 ///
-/// A fault of one capture's octets, source or sink ends that capture alone. The only error is lack of memory, and then
-/// a part of each text was put.
+/// A fault of one capture's octets, source or sink ends only that capture. The only error is lack of memory, and then a
+/// part of each text was put.
 pub fn many_alone<S: Source, K: Sink, G: Gate>(
     alloc: Global,
     window: u16,
@@ -58,8 +58,7 @@ pub fn many<R: Threads + Wait + Sync, S: Source, K: Sink, G: Gate + Sync>(
     sinks: &mut [K],
     gate: &G,
 ) -> Result<Vec<ManyEnd>, AllocError>
-    requires least { 1 ≤ workers }
-    requires most { workers ≤ 64 }
+    requires crew { IsCrewSize workers }
     requires window { IsWindowSize window }
     requires pairs { length sinks.old ≡ length sources.old }
     ensures { ReceivesEach S.shown K.shown result (devices sources.old sinks.old) (devices sources.new sinks.new) }
@@ -107,8 +106,7 @@ pub fn many_bundle<R: Threads + Wait + Sync, S: Source, K: Sink, G: Gate + Sync>
     sink: &mut K,
     gate: &G,
 ) -> Result<(), RunFault>
-    requires least { 1 ≤ workers }
-    requires most { workers ≤ 64 }
+    requires crew { IsCrewSize workers }
     requires window { IsWindowSize window }
     ensures converts { ReceivesBundle (S.shown source.old) (S.shown source.new) (K.shown sink.old) (K.shown sink.new) result }
     ensures writes { result ≢ Err Write → (K.shown sink.new).faults ≡ (K.shown sink.old).faults }

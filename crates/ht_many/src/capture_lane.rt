@@ -1,7 +1,8 @@
 //! A lane for each capture.
-ghost use Rattle.std.specs.Prelude.{◌≡◌, ◌≤◌, length, map, IfOk};
+ghost use Rattle.std.specs.Prelude.{◌≡◌, map, IfOk};
+ghost use Rattle.ht_feed.specs.Limits.{IsCrewSize};
 ghost use Rattle.ht_lanes.specs.Lanes.{AreOver};
-ghost use Rattle.ht_many.specs.CaptureLanes.{AreNew, IsNew, lane_answer, lane_over};
+ghost use Rattle.ht_many.specs.CaptureLanes.{AreOpened, IsNew, lane_answer, lane_over};
 
 use crate::frame_lines::FrameLines;
 use crate::gathered_lines::GatheredLines;
@@ -31,8 +32,7 @@ fn open_lane(alloc: Global) -> Result<CaptureLane, AllocError>
 
 /// This many lanes that have read nothing. The only error is lack of memory.
 pub(crate) fn open_lanes(alloc: Global, count: usize) -> Result<Vec<CaptureLane>, AllocError>
-    ensures as_many { IfOk result (λ lanes. length lanes.items ≡ count) }
-    ensures new { IfOk result (λ lanes. AreNew lanes.items) }
+    ensures { IfOk result (λ lanes. AreOpened count lanes.items) }
 {
     let mut lanes = Vec::new(alloc);
     for _index in 0..count {
@@ -48,8 +48,7 @@ fn open_crew_lane<'f, R>(
     workers: u8,
     frames: &'f Frames<WholeLabels>,
 ) -> Result<CrewLane<'f, R>, AllocError>
-    requires least { 1 ≤ workers }
-    requires most { workers ≤ 64 }
+    requires crew { IsCrewSize workers }
     ensures { IfOk result IsNew }
 {
     let reader = CaptureReader::new(alloc)?;
@@ -66,10 +65,8 @@ pub(crate) fn open_crew_lanes<'f, R>(
     frames: &'f Frames<WholeLabels>,
     count: usize,
 ) -> Result<Vec<CrewLane<'f, R>>, AllocError>
-    requires least { 1 ≤ workers }
-    requires most { workers ≤ 64 }
-    ensures as_many { IfOk result (λ lanes. length lanes.items ≡ count) }
-    ensures new { IfOk result (λ lanes. AreNew lanes.items) }
+    requires crew { IsCrewSize workers }
+    ensures { IfOk result (λ lanes. AreOpened count lanes.items) }
 {
     let mut lanes = Vec::new(alloc);
     for _index in 0..count {
@@ -78,7 +75,7 @@ pub(crate) fn open_crew_lanes<'f, R>(
     Ok(lanes)
 }
 
-/// What the receiving of each capture came to, once all lanes are over. The only error is lack of memory.
+/// How the receiving of each capture ended, once all lanes are over. The only error is lack of memory.
 pub(crate) fn answers_of<A: Drop>(
     alloc: Global,
     lanes: &[DeskLane<CaptureReader, A>],

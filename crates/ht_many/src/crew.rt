@@ -1,9 +1,9 @@
 //! A crew of workers receives captures, or each worker receives its own whole.
-ghost use Rattle.std.specs.Prelude.{◌≡◌, ◌≤◌, length, map, IfOk};
-ghost use Rattle.ht_feed.specs.Limits.{IsWindowSize};
+ghost use Rattle.std.specs.Prelude.{◌≡◌, length, map, IfOk};
+ghost use Rattle.ht_feed.specs.Limits.{IsCrewSize, IsWindowSize};
 ghost use Rattle.ht_io.specs.Writing.{Growing};
 ghost use Rattle.ht_results.specs.Texts.{rx_text};
-ghost use Rattle.ht_lanes.specs.Lanes.{AreFresh, RunsLanes, sides_of};
+ghost use Rattle.ht_lanes.specs.Lanes.{MayRun, RunsLanes, sides_of};
 ghost use Rattle.ht_several.specs.Several.{devices};
 ghost use Rattle.ht_many.specs.CaptureLanes.{AreOpen};
 ghost use Rattle.ht_many.specs.Receiving.{ReceivesEach};
@@ -27,7 +27,7 @@ use std::thread::Threads;
 
 // Runs all blocks of lanes that gave none yet by a crew, and hands each lane the answers to its own. Behind the last one each
 // puts what it keeps back. Of what a lane is nothing is known here but that it is one. The only error is lack of memory.
-fn run_in_crew<
+fn drive_lanes<
     R: Threads + Wait + Sync,
     L: Lane<S, K>,
     S,
@@ -46,12 +46,9 @@ fn run_in_crew<
 where
     L::Block: Shared + Send + Sync,
     L::Answer: Send + Sync,
-    requires least { 1 ≤ workers }
-    requires most { workers ≤ 64 }
+    requires crew { IsCrewSize workers }
     requires window { IsWindowSize window }
-    requires fresh { AreFresh L.due lanes.old }
-    requires sources { length sources.old ≡ length lanes.old }
-    requires sinks { length sinks.old ≡ length lanes.old }
+    requires fresh { MayRun L.due (sides_of lanes.old sources.old sinks.old) }
     ensures { RunsLanes L.leads L.due L.rests L.over L.finished result
         (sides_of lanes.old sources.old sinks.old) (sides_of lanes.new sources.new sinks.new) }
 {
@@ -77,8 +74,7 @@ pub(crate) struct Crew<'c, R, G> {
     workers: u8,
     window: u16,
     gate: &'c G,
-    ghost least: { 1 ≤ workers },
-    ghost most: { workers ≤ 64 },
+    ghost crew: { IsCrewSize workers },
     ghost due: { IsWindowSize window },
 }
 
@@ -91,8 +87,7 @@ impl<'c, R, G> Crew<'c, R, G> {
         window: u16,
         gate: &'c G,
     ) -> Crew<'c, R, G>
-        requires least { 1 ≤ workers }
-        requires most { workers ≤ 64 }
+        requires crew { IsCrewSize workers }
         requires window { IsWindowSize window }
     {
         Crew {
@@ -106,9 +101,9 @@ impl<'c, R, G> Crew<'c, R, G> {
 }
 
 impl<'c, R: Threads + Wait + Sync, G: Gate + Sync> Crew<'c, R, G> {
-    // Does as `Alone::run`, and the jobs are run by the workers, who decode the whole frames that they find there before they
+    // Does as `Alone::receive_lanes`, and the jobs are run by the workers, who decode the whole frames that they find there before they
     // look for jobs.
-    fn run<S: Source, K: Sink>(
+    fn receive_lanes<S: Source, K: Sink>(
         &self,
         frames: &Frames<WholeLabels>,
         lanes: &mut [CrewLane<'_, R>],
@@ -125,7 +120,7 @@ impl<'c, R: Threads + Wait + Sync, G: Gate + Sync> Crew<'c, R, G> {
             },
             frames,
         };
-        match run_in_crew::<R, CrewLane<R>, S, K, BesideFrames<TallyWork<G>, WholeLabels>>(
+        match drive_lanes::<R, CrewLane<R>, S, K, BesideFrames<TallyWork<G>, WholeLabels>>(
             self.rt,
             self.alloc,
             self.workers,
@@ -164,7 +159,7 @@ impl<'c, R: Threads + Wait + Sync, G: Gate + Sync> Crew<'c, R, G> {
             Ok(lanes) => lanes,
             Err(lack) => return Err(lack),
         };
-        self.run(&frames, &mut lanes, sources, sinks)
+        self.receive_lanes(&frames, &mut lanes, sources, sinks)
     }
 
     // The text of each capture, of captures that are received beside one another.

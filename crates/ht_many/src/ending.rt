@@ -1,7 +1,7 @@
 //! How captures ended whose lanes are over.
-ghost use Rattle.std.specs.Prelude.{◌≡◌, length, map, IfOk, OnErr};
+ghost use Rattle.std.specs.Prelude.{◌≡◌, length, map};
 ghost use Rattle.ht_lanes.specs.Lanes.{AreOver};
-ghost use Rattle.ht_several.specs.LastLines.{EachFinishes, EachMayFinish, KeepSinks};
+ghost use Rattle.ht_several.specs.LastLines.{FinishesEach};
 ghost use Rattle.ht_many.specs.CaptureLanes.{lane_answer, lane_over};
 
 use crate::capture_lane::answers_of;
@@ -20,9 +20,7 @@ pub(crate) fn end_all<A: Drop, K: Sink>(
 ) -> Result<Vec<ManyEnd>, AllocError>
     requires over { AreOver lane_over 0 lanes.now }
     requires pairs { length sinks.old ≡ length lanes.now }
-    ensures finishes { IfOk result (λ ends. EachFinishes K.shown sinks.old sinks.new (map lane_answer lanes.now) ends.items) }
-    ensures memory { OnErr result (EachMayFinish K.shown sinks.old sinks.new (map lane_answer lanes.now)) }
-    ensures later { KeepSinks K.shown sinks.old sinks.new }
+    ensures { FinishesEach K.shown sinks.old sinks.new (map lane_answer lanes.now) result }
 {
     let answers = match answers_of(alloc, lanes) {
         Ok(answers) => answers,

@@ -1,8 +1,8 @@
 //! What becomes of the hits of one capture among several, in one thread.
-ghost use Rattle.std.specs.Prelude.{◌≡◌, [], drop, slice_get, take, Some, OnErr, OnOk};
-ghost use Rattle.ht_feed.specs.Dues.{AreHits, all_due, jobs_in};
+ghost use Rattle.std.specs.Prelude.{◌≡◌, [], slice_get, Some};
+ghost use Rattle.ht_feed.specs.Dues.{AreHits, jobs_in};
 ghost use Rattle.ht_capture.specs.Parts.{jobs_of};
-ghost use Rattle.ht_lanes.specs.Bookings.{BooksHits};
+ghost use Rattle.ht_lanes.specs.Bookings.{BooksFirst};
 ghost use Rattle.ht_many.specs.KeptFrames.{booked_left, lines_left};
 ghost use Rattle.ht_many.specs.Renumbering.{hits_numberless};
 
@@ -18,7 +18,7 @@ use std::marker::Model;
 
 /// Puts the line of each frame of a capture into the sink that it is handed, once the hit of its last job was taken.
 ///
-/// Until then it keeps what the jobs of the frame come to, so that captures beside one another have a frame under way each.
+/// Until then it keeps what was found for the jobs of the frame, so that each of several captures has a frame under way.
 /// No whole frame waits.
 #[derive(Drop)]
 pub(crate) struct FrameLines {
@@ -51,7 +51,7 @@ impl FrameLines {
     fn none_waits(&self)
         ensures { self.now.whole ≡ [] }
     {
-        // What is seen of it is known once it was looked at.
+        // For the proof alone: what is seen of it is known once it was looked at.
         let _alloc = self.alloc;
     }
 
@@ -66,13 +66,9 @@ impl FrameLines {
         requires right { AreHits hits.now.found.items (jobs_of block.now.block) }
         requires first { slice_get (jobs_in desk.old.due) 0 ≡ Some (jobs_of block.now.block) }
 
-        ensures books { BooksHits result (B.shown book.old) (B.shown book.new)
-            (booked_left B.booked self.old) (booked_left B.booked self.new) (all_due (take 1 desk.old.due)) }
+        ensures books { BooksFirst result desk.old desk.new (B.shown book.old) (B.shown book.new)
+            (booked_left B.booked self.old) (booked_left B.booked self.new) }
         ensures none { self.new.whole ≡ [] }
-
-        // What is due.
-        ensures due { OnOk result (desk.new ≡ record desk.old { due = drop 1 desk.old.due }) }
-        ensures stays { OnErr result (desk.new ≡ desk.old) }
         ensures same { B.lent book.new ≡ B.lent book.old }
     {
         let mut receiver = Receiver::new(self.alloc, &mut self.under_way, book);

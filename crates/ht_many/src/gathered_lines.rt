@@ -1,9 +1,10 @@
 //! What becomes of the tallies of one capture among several, where workers decode whole frames.
-ghost use Rattle.std.specs.Prelude.{◌≡◌, ◌≤◌, [], drop, slice_get, take, Some, OnErr, OnOk};
-ghost use Rattle.ht_feed.specs.Dues.{all_due, jobs_in};
+ghost use Rattle.std.specs.Prelude.{◌≡◌, [], slice_get, Some, OnOk};
+ghost use Rattle.ht_feed.specs.Dues.{jobs_in};
+ghost use Rattle.ht_feed.specs.Limits.{IsCrewSize};
 ghost use Rattle.ht_capture.specs.Parts.{jobs_of};
 ghost use Rattle.ht_rx.specs.Tallies.{IsTally};
-ghost use Rattle.ht_lanes.specs.Bookings.{BooksHits};
+ghost use Rattle.ht_lanes.specs.Bookings.{BooksFirst, BooksHits};
 ghost use Rattle.ht_many.specs.KeptFrames.{booked_left, lines_left};
 ghost use Rattle.ht_rx.proofs.Tallying.{numberless};
 
@@ -25,7 +26,7 @@ use std::thread::Threads;
 /// more tallies come, of this capture or of others. Behind each tally at most two frames for each worker beside the
 /// caller have no line, not counting the one under way. No clause says so.
 ///
-/// Captures beside one another have a frame under way each, and each its own whole frames, whose lines it puts in order.
+/// Each of several captures has a frame under way and whole frames of its own, whose lines it puts in order.
 /// The workers find the frames of all captures in one place.
 #[derive(Drop)]
 pub(crate) struct GatheredLines<'f, R> {
@@ -40,14 +41,14 @@ pub(crate) struct GatheredLines<'f, R> {
 }
 
 impl<'f, R> Model for GatheredLines<'f, R> {
-    ghost use Rattle.std.specs.Prelude.{◌≤◌};
+    ghost use Rattle.ht_feed.specs.Limits.{IsCrewSize};
     ghost use Rattle.ht_many.specs.KeptFrames.{KeptFrames, kept_frames};
 
     ghost Value = { KeptFrames };
 
     ghost view = { λ l. kept_frames l.under_way l.queue.items };
 
-    ghost invariant = { λ l. (1 ≤ l.workers) × (l.workers ≤ 64) };
+    ghost invariant = { λ l. IsCrewSize l.workers };
 }
 
 impl<'f, R> GatheredLines<'f, R> {
@@ -59,8 +60,7 @@ impl<'f, R> GatheredLines<'f, R> {
         workers: u8,
         frames: &'f Frames<WholeLabels>,
     ) -> GatheredLines<'f, R>
-        requires least { 1 ≤ workers }
-        requires most { workers ≤ 64 }
+        requires crew { IsCrewSize workers }
         ensures idle { result.under_way.left ≡ 0 }
         ensures none { result.whole ≡ [] }
     {
@@ -87,12 +87,8 @@ impl<'f, R: Threads + Wait> GatheredLines<'f, R> {
         requires right { IsTally tally.now.rate (jobs_of block.now.block) tally.now }
         requires first { slice_get (jobs_in desk.old.due) 0 ≡ Some (jobs_of block.now.block) }
 
-        ensures books { BooksHits result (B.shown book.old) (B.shown book.new)
-            (booked_left B.booked self.old) (booked_left B.booked self.new) (all_due (take 1 desk.old.due)) }
-
-        // What is due.
-        ensures due { OnOk result (desk.new ≡ record desk.old { due = drop 1 desk.old.due }) }
-        ensures stays { OnErr result (desk.new ≡ desk.old) }
+        ensures books { BooksFirst result desk.old desk.new (B.shown book.old) (B.shown book.new)
+            (booked_left B.booked self.old) (booked_left B.booked self.new) }
         ensures same { B.lent book.new ≡ B.lent book.old }
     {
         let mut lines = KeepingLines::new(

@@ -1,5 +1,6 @@
 //! An account that keeps whole frames back also where no other block is due yet.
-ghost use Rattle.std.specs.Prelude.{◌≡◌, ◌≤◌, ◌∷◌};
+ghost use Rattle.std.specs.Prelude.{◌≡◌, ◌∷◌};
+ghost use Rattle.ht_feed.specs.Limits.{IsCrewSize};
 ghost use Rattle.ht_frames.specs.Gathering.{booked_behind};
 ghost use Rattle.ht_results.specs.Folding.{result_of, results_from};
 
@@ -49,14 +50,10 @@ impl<'a, R, B> KeepingLines<'a, R, B> {
         queue: &'a mut VecDeque<Decoding<WholeLabels>>,
         book: &'a mut B,
     ) -> KeepingLines<'a, R, B>
-        requires one { 1 ≤ workers }
-        requires many { workers ≤ 64 }
-        ensures under_way { result.under_way.now ≡ under_way.old }
-        ensures queue { result.queue.now ≡ queue.old }
-        ensures frame_name { result.under_way.ghost_name ≡ under_way.entry.ghost_name }
-        ensures queue_name { result.queue.ghost_name ≡ queue.entry.ghost_name }
-        ensures book { result.book.now ≡ book.old }
-        ensures name { result.book.ghost_name ≡ book.entry.ghost_name }
+        requires crew { IsCrewSize workers }
+        ensures under_way { result.under_way ≡ under_way.entry }
+        ensures queue { result.queue ≡ queue.entry }
+        ensures book { result.book ≡ book.entry }
     {
         KeepingLines {
             rt,

@@ -1,10 +1,19 @@
 -- A row of a triangle or of a system, by its number.
 use Rattle.std.proofs.Common.{◌≡◌, ℕ, zero, suc, ◌+◌, ◌-◌, ◌*◌, ◌/◌, ◌<◌, ◌≤◌, List, [], ◌∷◌, get_or, length, drop, take, refl, arith, ap, ◌∙◌, sym}
 use Rattle.std.proofs.lemmas.List.{drop-drop, get_or-drop, get_or-take}
-use Rattle.ht_metric.specs.Arrays.{length-rows_of}
+use Rattle.ht_metric.specs.Arrays.{legs}
 use Rattle.ht_metric.specs.Rows.{Leg, Row, no_leg, no_row, no_tap, no_sample, entries_of, legs_of, rows_of}
 use Rattle.ht_metric.specs.declared.tap.Tap.{Tap}
 use Rattle.ht_metric.specs.declared.sample.Sample.{Sample}
+
+-- as many rows as a triangle has, with samples or without
+pub length-rows_of : (rows : List Leg) (ys : List Sample) → length (rows_of rows ys) ≡ length rows
+length-rows_of [] ys = refl
+length-rows_of (leg ∷ rows) ys = ap suc (length-rows_of rows (drop 1 ys))
+
+pub length-legs : (rows : List Row) → length (legs rows) ≡ length rows
+length-legs [] = refl
+length-legs (row ∷ rows) = ap suc (length-legs rows)
 
 entries_less : (m j : ℕ) → entries_of (m - j) ≤ entries_of m
 entries_less zero j = let e : 0 - j ≡ 0 = omega arith in rw e (omega arith)

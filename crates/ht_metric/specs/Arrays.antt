@@ -35,14 +35,6 @@ pub length-legs_of : (n : ℕ) (ds : List ℕ) (ts : List Tap) → length (legs_
 length-legs_of zero ds ts = refl
 length-legs_of (suc n) ds ts = ap suc (length-legs_of n (drop 1 ds) (drop n ts))
 
-pub length-rows_of : (rows : List Leg) (ys : List Sample) → length (rows_of rows ys) ≡ length rows
-length-rows_of [] ys = refl
-length-rows_of (leg ∷ rows) ys = ap suc (length-rows_of rows (drop 1 ys))
-
-pub length-legs : (rows : List Row) → length (legs rows) ≡ length rows
-length-legs [] = refl
-length-legs (row ∷ rows) = ap suc (length-legs rows)
-
 pub legs-rows_of : (rows : List Leg) (ys : List Sample) → legs (rows_of rows ys) ≡ rows
 legs-rows_of [] ys = refl
 legs-rows_of (leg ∷ rows) ys = ap (λ (rest : List Leg). leg ∷ rest) (legs-rows_of rows (drop 1 ys))

@@ -45,7 +45,7 @@ module _ {T A : Type 0} (queue : TableId) (answers : List A) where
   pub takes-own : (own own' : OwnView T) (seats : List (SeatView T)) (task : T) → own' ≡ popped_from own task
       → TakesBack (helm_view own seats queue answers) (helm_view own' seats queue answers) task
   takes-own own own' seats task popped = record {
-    same = record { room_is = ap (λ (v : OwnView T). v.room) popped; deques_are = refl; queue_is = refl };
+    same = record { capacity_is = ap (λ (v : OwnView T). v.capacity) popped; deques_are = refl; queue_is = refl };
     given_is = ap (λ (v : OwnView T). v.pushed) popped;
     took = took-own seats own own' task popped;
     longer = same_length (own'.taken ++ taken_at seats) ((own.taken ++ taken_at seats) ++ task ∷ []) (took-own seats own own' task popped)
@@ -57,7 +57,7 @@ module _ {T A : Type 0} (queue : TableId) (answers : List A) where
       → IfSome task (TakesBack (helm_view own seats queue answers) (helm_view own seats' queue answers))
   takes-other own seats seats' None steals = tt
   takes-other own seats seats' (Some task) steals = record {
-    same = record { room_is = refl; deques_are = steals.at; queue_is = refl };
+    same = record { capacity_is = refl; deques_are = steals.at; queue_is = refl };
     given_is = refl;
     took = took-other seats own own task seats' refl steals;
     longer = same_length (own.taken ++ taken_at seats') ((own.taken ++ taken_at seats) ++ task ∷ [])
@@ -70,15 +70,15 @@ module _ {T A : Type 0} (queue : TableId) (answers : List A) where
   taken-none [] = refl
   taken-none (deque ∷ deques) = taken-none deques
 
-  pub new_helm : (own : OwnView T) (seats : List (SeatView T)) (parts : ℕ) → own ≡ fresh_own parts own.room own.deque
-      → seats ≡ map fresh_seat (deques_at seats) → answers ≡ [] → helm_view own seats queue answers ≡ unused own.room (deques_at seats) queue
+  pub new_helm : (own : OwnView T) (seats : List (SeatView T)) (parts : ℕ) → own ≡ fresh_own parts own.capacity own.deque
+      → seats ≡ map fresh_seat (deques_at seats) → answers ≡ [] → helm_view own seats queue answers ≡ unused own.capacity (deques_at seats) queue
   new_helm own seats parts fresh seats_are none =
       let given : own.pushed ≡ [] = ap (λ (v : OwnView T). v.pushed) fresh in
       let own_taken : own.taken ≡ [] = ap (λ (v : OwnView T). v.taken) fresh in
       let seats_taken : taken_at seats ≡ [] = ap (λ (ss : List (SeatView T)). taken_at ss) seats_are ∙ taken-none (deques_at seats) in
       let taken : own.taken ++ taken_at seats ≡ [] = ap (λ (xs : List T). xs ++ taken_at seats) own_taken ∙ seats_taken in
       let at : List T → List T → List A → HelmView T A = λ xs ys zs. record {
-        room = own.room;
+        capacity = own.capacity;
         deques = deques_at seats;
         queue = queue;
         given = xs;

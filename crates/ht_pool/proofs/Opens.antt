@@ -12,18 +12,18 @@ use Rattle.ht_pool.specs.Members.{AnswersTo, HasYetToServe, berth, berth_of, ans
 use Rattle.ht_pool.specs.declared.member.Member.{Member}
 use Rattle.ht_pool.proofs.Lists.{all_first, written_back}
 
-fresh-parts : (T : Type 0) (room : ℕ) (ids : List DequeId) → AllByRecursion (λ (o : OwnView T). o.parts ≡ 1024) (map (fresh_own 1024 room) ids)
-fresh-parts T room [] = tt
-fresh-parts T room (id ∷ ids) = (refl, fresh-parts T room ids)
+fresh-parts : (T : Type 0) (capacity : ℕ) (ids : List DequeId) → AllByRecursion (λ (o : OwnView T). o.parts ≡ 1024) (map (fresh_own 1024 capacity) ids)
+fresh-parts T capacity [] = tt
+fresh-parts T capacity (id ∷ ids) = (refl, fresh-parts T capacity ids)
 
-fresh-lent : (T : Type 0) (room n : ℕ) (ids : List DequeId)
-    → AllByRecursion (λ (o : OwnView T). o ≡ fresh_own (1024 - n) o.room o.deque) (lent n (map (fresh_own 1024 room) ids))
-fresh-lent T room n [] = tt
-fresh-lent T room n (id ∷ ids) = (refl, fresh-lent T room n ids)
+fresh-lent : (T : Type 0) (capacity n : ℕ) (ids : List DequeId)
+    → AllByRecursion (λ (o : OwnView T). o ≡ fresh_own (1024 - n) o.capacity o.deque) (lent n (map (fresh_own 1024 capacity) ids))
+fresh-lent T capacity n [] = tt
+fresh-lent T capacity n (id ∷ ids) = (refl, fresh-lent T capacity n ids)
 
-rooms-lent : (T : Type 0) (room n : ℕ) (ids : List DequeId) → AllByRecursion (λ (o : OwnView T). o.room ≡ room) (lent n (map (fresh_own 1024 room) ids))
-rooms-lent T room n [] = tt
-rooms-lent T room n (id ∷ ids) = (refl, rooms-lent T room n ids)
+capacities-lent : (T : Type 0) (capacity n : ℕ) (ids : List DequeId) → AllByRecursion (λ (o : OwnView T). o.capacity ≡ capacity) (lent n (map (fresh_own 1024 capacity) ids))
+capacities-lent T capacity n [] = tt
+capacities-lent T capacity n (id ∷ ids) = (refl, capacities-lent T capacity n ids)
 
 pub deques-fresh : (T : Type 0) (ids : List DequeId) → deques_at (map (fresh_seat {T = T}) ids) ≡ ids
 deques-fresh T [] = refl
@@ -109,29 +109,29 @@ module _ {T : Type 0} where
   same-deques k [] = refl
   same-deques k (o ∷ os) = ap (λ (ids : List DequeId). o.deque ∷ ids) (same-deques k os)
 
-  pub all_fresh : (room : ℕ) (os : List (OwnView T)) → os ≡ map (fresh_own 1024 room) (own_deques os) → All (λ (o : OwnView T). o.parts ≡ 1024) os
-  all_fresh room os fresh = subst (λ (xs : List (OwnView T)). All (λ (o : OwnView T). o.parts ≡ 1024) xs) (sym fresh)
-      (All-from_recursion (λ (o : OwnView T). o.parts ≡ 1024) (map (fresh_own 1024 room) (own_deques os)) (fresh-parts T room (own_deques os)))
+  pub all_fresh : (capacity : ℕ) (os : List (OwnView T)) → os ≡ map (fresh_own 1024 capacity) (own_deques os) → All (λ (o : OwnView T). o.parts ≡ 1024) os
+  all_fresh capacity os fresh = subst (λ (xs : List (OwnView T)). All (λ (o : OwnView T). o.parts ≡ 1024) xs) (sym fresh)
+      (All-from_recursion (λ (o : OwnView T). o.parts ≡ 1024) (map (fresh_own 1024 capacity) (own_deques os)) (fresh-parts T capacity (own_deques os)))
 
-  pub all_ready : (room n : ℕ) (os made : List (OwnView T)) (rows : List (Vec (SeatView T))) → os ≡ map (fresh_own 1024 room) (own_deques os)
+  pub all_ready : (capacity n : ℕ) (os made : List (OwnView T)) (rows : List (Vec (SeatView T))) → os ≡ map (fresh_own 1024 capacity) (own_deques os)
       → length os ≡ n → n ≤ 64 → made ≡ lent n os → All (λ (ss : Vec (SeatView T)). ss.items ≡ map fresh_seat (own_deques os)) rows
-      → AreReady (own_deques made) made rows × All (λ (o : OwnView T). o.room ≡ room) made
-  all_ready room n os made rows fresh count few made_are rows_are =
+      → AreReady (own_deques made) made rows × All (λ (o : OwnView T). o.capacity ≡ capacity) made
+  all_ready capacity n os made rows fresh count few made_are rows_are =
       let ids : List DequeId = own_deques os in
-      let made' : made ≡ lent n (map (fresh_own 1024 room) ids) = made_are ∙ ap (lent n) fresh in
+      let made' : made ≡ lent n (map (fresh_own 1024 capacity) ids) = made_are ∙ ap (lent n) fresh in
       let deques : own_deques made ≡ ids = ap (λ (xs : List (OwnView T)). own_deques xs) made_are ∙ same-deques n os in
       let long : n ≡ length (own_deques made) =
       sym (ap (λ (xs : List DequeId). length xs) deques ∙ (length-map os (λ (o : OwnView T). o.deque) ∙ count)) in
-      let owners = subst (λ (xs : List (OwnView T)). All (λ (o : OwnView T). o ≡ fresh_own (1024 - n) o.room o.deque) xs) (sym made')
-      (All-from_recursion (λ (o : OwnView T). o ≡ fresh_own (1024 - n) o.room o.deque) (lent n (map (fresh_own 1024 room) ids)) (fresh-lent T room n ids)) in
-      let rooms = subst (λ (xs : List (OwnView T)). All (λ (o : OwnView T). o.room ≡ room) xs) (sym made')
-      (All-from_recursion (λ (o : OwnView T). o.room ≡ room) (lent n (map (fresh_own 1024 room) ids)) (rooms-lent T room n ids)) in (
+      let owners = subst (λ (xs : List (OwnView T)). All (λ (o : OwnView T). o ≡ fresh_own (1024 - n) o.capacity o.deque) xs) (sym made')
+      (All-from_recursion (λ (o : OwnView T). o ≡ fresh_own (1024 - n) o.capacity o.deque) (lent n (map (fresh_own 1024 capacity) ids)) (fresh-lent T capacity n ids)) in
+      let capacities = subst (λ (xs : List (OwnView T)). All (λ (o : OwnView T). o.capacity ≡ capacity) xs) (sym made')
+      (All-from_recursion (λ (o : OwnView T). o.capacity ≡ capacity) (lent n (map (fresh_own 1024 capacity) ids)) (capacities-lent T capacity n ids)) in (
         record {
-          owners_are = subst (λ (k : ℕ). All (λ (o : OwnView T). o ≡ fresh_own (1024 - k) o.room o.deque) made) long owners;
+          owners_are = subst (λ (k : ℕ). All (λ (o : OwnView T). o ≡ fresh_own (1024 - k) o.capacity o.deque) made) long owners;
           rows_are = subst (λ (xs : List DequeId). All (λ (ss : Vec (SeatView T)). ss.items ≡ map fresh_seat xs) rows) (sym deques) rows_are;
           few = omega (arith, few, long);
         },
-        rooms,
+        capacities,
       )
 
   module _ (len : ℕ) (os new : List (OwnView T)) where
@@ -149,13 +149,13 @@ module _ {T : Type 0} where
     seated-long n value count all is lent_is =
         ap (λ (xs : List (OwnView T)). length xs) (seated-back n value count all is lent_is) ∙ (length-map os (less n) ∙ count)
 
-    pub seated : (room n : ℕ) (value : List (OwnView T)) (rows : List (Vec (SeatView T))) → os ≡ map (fresh_own 1024 room) (own_deques os)
+    pub seated : (capacity n : ℕ) (value : List (OwnView T)) (rows : List (Vec (SeatView T))) → os ≡ map (fresh_own 1024 capacity) (own_deques os)
         → length os ≡ n → n ≤ 64 → length os ≡ len → value ≡ os → new ≡ lent (length value) value
         → All (λ (ss : Vec (SeatView T)). ss.items ≡ map fresh_seat (own_deques value)) rows
-        → AreReady (own_deques back) back rows × All (λ (o : OwnView T). o.room ≡ room) back
-    seated room n value rows fresh count few all is lent_is rows_are =
+        → AreReady (own_deques back) back rows × All (λ (o : OwnView T). o.capacity ≡ capacity) back
+    seated capacity n value rows fresh count few all is lent_is rows_are =
         let at_owners = subst (λ (xs : List (OwnView T)). All (λ (ss : Vec (SeatView T)). ss.items ≡ map fresh_seat (own_deques xs)) rows) is rows_are in
-        all_ready room n os back rows fresh count few (seated-back n value count all is lent_is) at_owners
+        all_ready capacity n os back rows fresh count few (seated-back n value count all is lent_is) at_owners
 
   taken-fresh : (ids : List DequeId) → taken_at (map (fresh_seat {T = T}) ids) ≡ []
   taken-fresh [] = refl
@@ -164,15 +164,15 @@ module _ {T : Type 0} where
   -- the first owner and the last row go to one thread
   pub ready-less : (ids : List DequeId) (owners rest : List (OwnView T)) (rows others : List (Vec (SeatView T))) (own : OwnView T) (seats : Vec (SeatView T))
       → owners ≡ own ∷ rest → rows ≡ others ++ seats ∷ [] → AreReady ids owners rows
-      → AreReady ids rest others × (own ≡ fresh_own (1024 - length ids) own.room own.deque) × (seats.items ≡ map fresh_seat ids)
+      → AreReady ids rest others × (own ≡ fresh_own (1024 - length ids) own.capacity own.deque) × (seats.items ≡ map fresh_seat ids)
   ready-less ids owners rest rows others own seats first last ready =
-      let o = all_first (λ (o : OwnView T). o ≡ fresh_own (1024 - length ids) o.room o.deque) owners rest own first ready.owners_are in
+      let o = all_first (λ (o : OwnView T). o ≡ fresh_own (1024 - length ids) o.capacity o.deque) owners rest own first ready.owners_are in
       let r = All-pop (λ (ss : Vec (SeatView T)). ss.items ≡ map fresh_seat ids) rows others (Some seats) last ready.rows_are in
       (record { owners_are = o.1; rows_are = r.0; few = ready.few }, o.0, r.1)
 
   module _ {A : Type 0} where
     -- a new worker
-    pub member_new : (queue : TableId) (ids : List DequeId) (m : Member T A) → m.own ≡ fresh_own (1024 - length ids) m.own.room m.own.deque
+    pub member_new : (queue : TableId) (ids : List DequeId) (m : Member T A) → m.own ≡ fresh_own (1024 - length ids) m.own.capacity m.own.deque
         → m.seats.items ≡ map fresh_seat ids → length ids ≤ 64 → AnswersTo queue m → (answers_of m).pushed ≡ []
         → HasYetToServe queue m × (berth_of m ≡ berth ids m.own.deque)
     member_new queue ids m own_is seats_are few answers none =

@@ -7,7 +7,7 @@ use Rattle.ht_pool.specs.Seats.{DequeId, SeatView, OwnView, deques_at, taken_at}
 -- the caller's end of a pool
 pub record HelmView (T A : Type 0) : Type 0 where
   -- this number of tasks can be given for sure
-  pub room : ℕ
+  pub capacity : ℕ
   -- a deque for each worker, the caller's first, and the queue of answers
   pub deques : List DequeId
   pub queue : TableId
@@ -22,7 +22,7 @@ module _ {T A : Type 0} where
   -- a caller with this end of its own deque and these seats, who received these answers
   abbrev pub helm_view : OwnView T → List (SeatView T) → TableId → List A → HelmView T A
   helm_view own seats queue answers = record {
-    room = own.room;
+    capacity = own.capacity;
     deques = deques_at seats;
     queue = queue;
     given = own.pushed;
@@ -32,7 +32,7 @@ module _ {T A : Type 0} where
 
   -- nothing was given yet
   abbrev pub unused : ℕ → List DequeId → TableId → HelmView T A
-  unused room deques queue = record { room = room; deques = deques; queue = queue; given = []; taken = []; answers = [] }
+  unused capacity deques queue = record { capacity = capacity; deques = deques; queue = queue; given = []; taken = []; answers = [] }
 
   -- one more task was given
   abbrev pub gave : HelmView T A → T → HelmView T A
@@ -48,7 +48,7 @@ module _ {T A : Type 0} where
 
   -- it is the same helm, of the same pool
   pub record IsSameHelm (old new : HelmView T A) : Type 0 where
-    pub room_is : new.room ≡ old.room
+    pub capacity_is : new.capacity ≡ old.capacity
     pub deques_are : new.deques ≡ old.deques
     pub queue_is : new.queue ≡ old.queue
 

@@ -15,6 +15,6 @@ module _ {T : Type 0} where
 
   -- nothing was pushed or taken, and each row has a seat at each of these deques, of which as many parts are out
   pub record AreReady (deques : List DequeId) (owners : List (OwnView T)) (rows : List (Vec (SeatView T))) : Type 0 where
-    pub owners_are : All (λ (o : OwnView T). o ≡ fresh_own (1024 - length deques) o.room o.deque) owners
+    pub owners_are : All (λ (o : OwnView T). o ≡ fresh_own (1024 - length deques) o.capacity o.deque) owners
     pub rows_are : All (λ (seats : Vec (SeatView T)). seats.items ≡ map fresh_seat deques) rows
     pub few : length deques ≤ 64

@@ -35,8 +35,8 @@ module _ {T : Type 0} where
 
 module _ {T A : Type 0} where
   -- a pool with this room in each deque
-  pub record IsOpened (room : ℕ) (p : Pool T A) : Type 0 where
-    pub post : p.post ≡ unused room p.post.deques p.shared
+  pub record IsOpened (capacity : ℕ) (p : Pool T A) : Type 0 where
+    pub post : p.post ≡ unused capacity p.post.deques p.shared
     pub fresh : All (HasYetToServe p.shared) p.members.items
     pub berths_are : map berth_of p.members.items ≡ berths p.post.deques
     pub seats : vec_len p.members ≤ vec_capacity p.members

@@ -32,7 +32,7 @@ pub record SeatView (T : Type 0) : Type 0 where
 -- the tasks that it pushed and took, in order
 pub record OwnView (T : Type 0) : Type 0 where
   pub deque : DequeId
-  pub room : ℕ
+  pub capacity : ℕ
   pub parts : ℕ
   pub pushed : List T
   pub taken : List T
@@ -48,7 +48,7 @@ module _ {T : Type 0} where
 
   -- nothing was pushed or taken yet, and this number of parts is left
   abbrev pub fresh_own : ℕ → ℕ → DequeId → OwnView T
-  fresh_own parts room deque = record { deque = deque; room = room; parts = parts; pushed = []; taken = [] }
+  fresh_own parts capacity deque = record { deque = deque; capacity = capacity; parts = parts; pushed = []; taken = [] }
 
   -- one more task was pushed
   abbrev pub pushed_on : OwnView T → T → OwnView T

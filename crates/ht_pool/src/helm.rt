@@ -49,19 +49,19 @@ impl<'a, W: Work> Helm<'a, W> {
     }
 
     /// How many tasks can be given for sure.
-    pub fn room(&self) -> u16
-        ensures { result ≡ self.now.room }
+    pub fn capacity(&self) -> u16
+        ensures { result ≡ self.now.capacity }
     {
-        self.post.room()
+        self.post.capacity()
     }
 
     /// Gives a task to the pool, and then wakes a worker if any sleeps. The task comes back where there is no memory for it,
-    /// and then at least `room` tasks were given before.
+    /// and then at least `capacity` tasks were given before.
     pub fn give(&mut self, task: W::Task) -> Result<(), W::Task>
         ensures given { OnOk result (self.new ≡ gave self.old task) }
         ensures refused { IfErr result (λ back. back ≡ task) }
         ensures same { IfErr result (λ _. self.new ≡ self.old) }
-        ensures room { IfErr result (λ _. self.old.room ≤ length self.old.given) }
+        ensures full { IfErr result (λ _. self.old.capacity ≤ length self.old.given) }
     {
         let given = self.post.give(task);
         if given.is_ok() {

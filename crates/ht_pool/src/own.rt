@@ -15,7 +15,7 @@ use std::marker::Model;
 #[derive(Drop)]
 pub struct OwnDeque<T: Drop> {
     owner: Owner<T>,
-    room: u16,
+    capacity: u16,
 }
 
 impl<T: Drop> Model for OwnDeque<T> {
@@ -27,7 +27,7 @@ impl<T: Drop> Model for OwnDeque<T> {
 
     ghost view = { λ d. record {
       deque = worker_deque d.owner;
-      room = d.room;
+      capacity = d.capacity;
       parts = (worker_view d.owner).parts;
       pushed = (worker_view d.owner).pushed;
       taken = (worker_view d.owner).taken;
@@ -37,23 +37,23 @@ impl<T: Drop> Model for OwnDeque<T> {
         (worker_flavor d.owner ≡ 0)
         × (0 < (worker_view d.owner).parts)
         × (worker_index d.owner ≤ length (worker_view d.owner).pushed)
-        × (d.room ≤ worker_capacity d.owner) };
+        × (d.capacity ≤ worker_capacity d.owner) };
 }
 
 impl<T: Drop> OwnDeque<T> {
     /// A new deque with room for a number of tasks.
-    pub(crate) fn open(alloc: Global, room: u16) -> Result<OwnDeque<T>, AllocError>
-        ensures { IfOk result (λ own. own ≡ fresh_own 1024 room own.deque) }
+    pub(crate) fn open(alloc: Global, capacity: u16) -> Result<OwnDeque<T>, AllocError>
+        ensures { IfOk result (λ own. own ≡ fresh_own 1024 capacity own.deque) }
     {
-        let owner: Owner<T> = Owner::fifo_as(alloc, usize::from(room))?;
-        Ok(OwnDeque { owner, room })
+        let owner: Owner<T> = Owner::fifo_as(alloc, usize::from(capacity))?;
+        Ok(OwnDeque { owner, capacity })
     }
 
     /// For how many tasks there is room for sure.
-    pub(crate) fn room(&self) -> u16
-        ensures { result ≡ self.now.room }
+    pub(crate) fn capacity(&self) -> u16
+        ensures { result ≡ self.now.capacity }
     {
-        self.room
+        self.capacity
     }
 
     /// A new seat at the deque.
@@ -67,13 +67,13 @@ impl<T: Drop> OwnDeque<T> {
         Ok(Seat::new(thief, pass))
     }
 
-    /// Pushes a task at the back. It comes back where there is no memory for it, and then at least `room` tasks were
+    /// Pushes a task at the back. It comes back where there is no memory for it, and then at least `capacity` tasks were
     /// pushed before.
     pub(crate) fn push(&mut self, task: T) -> Result<(), T>
         ensures pushed { OnOk result (self.new ≡ pushed_on self.old task) }
         ensures refused { IfErr result (λ back. back ≡ task) }
         ensures same { IfErr result (λ _. self.new ≡ self.old) }
-        ensures room { IfErr result (λ _. self.old.room ≤ length self.old.pushed) }
+        ensures full { IfErr result (λ _. self.old.capacity ≤ length self.old.pushed) }
     {
         self.owner.push_as::<Push>(task)
     }

@@ -32,12 +32,12 @@ pub struct Pool<T: Drop, A: Drop> {
 }
 
 impl<T: Drop + Send, A: Drop + Send> Pool<T, A> {
-    /// A pool of the caller and `helpers` workers, at most 63. Each deque can hold `room` tasks, and the queue as many
+    /// A pool of the caller and `helpers` workers, at most 63. Each deque can hold `capacity` tasks, and the queue as many
     /// answers at least. It takes all the memory for these now, and that for the end of the pool.
-    pub fn open(alloc: Global, helpers: u8, room: u16) -> Result<Pool<T, A>, AllocError>
+    pub fn open(alloc: Global, helpers: u8, capacity: u16) -> Result<Pool<T, A>, AllocError>
         requires few { helpers ≤ 63 }
-        requires some { 1 ≤ room }
-        ensures opened { IfOk result (IsOpened room) }
+        requires some { 1 ≤ capacity }
+        ensures opened { IfOk result (IsOpened capacity) }
         ensures workers { IfOk result (λ pool. length pool.post.deques ≡ helpers + 1) }
     {
         let workers = usize::from(helpers) + 1;
@@ -46,9 +46,9 @@ impl<T: Drop + Send, A: Drop + Send> Pool<T, A> {
         let deques = Vec::with_capacity(alloc, workers)?;
         let (answers, pass): (AnswerQueue<A>, AnswerPass<A>) = AnswerQueue::ruled(
             alloc,
-            usize::from(room),
+            usize::from(capacity),
         )?;
-        let (owners, rows) = open_seated(alloc, workers, room)?;
+        let (owners, rows) = open_seated(alloc, workers, capacity)?;
         let space = Space {
             ran,
             owners,
@@ -79,7 +79,7 @@ fn assemble<T: Drop, A: Drop>(
     requires deques { (space.deques.items ≡ []) × (length space.owners.items ≤ vec_capacity space.deques) }
     requires queue { IsOnQueue shared pass }
     requires pass { answer_view pass ≡ hand 1024 [] [] }
-    ensures opened { (room : ℕ) → All (λ (o : OwnView T). o.room ≡ room) space.owners.items → IsOpened room result }
+    ensures opened { (capacity : ℕ) → All (λ (o : OwnView T). o.capacity ≡ capacity) space.owners.items → IsOpened capacity result }
     ensures workers { length result.post.deques ≡ length space.owners.items }
 {
     let Space {

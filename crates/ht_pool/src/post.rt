@@ -44,10 +44,10 @@ impl<T: Drop, A: Drop> Post<T, A> {
         requires few { length seats.items ≤ 64 }
         requires first { deques_at seats.items ≡ own.deque ∷ drop 1 (deques_at seats.items) }
         requires seats { seats.items ≡ map fresh_seat (deques_at seats.items) }
-        requires own { own ≡ fresh_own (1024 - length seats.items) own.room own.deque }
+        requires own { own ≡ fresh_own (1024 - length seats.items) own.capacity own.deque }
         requires idle { pass.me.1 ≡ [] }
         requires answers { answer_view pass ≡ hand (1025 - length seats.items) [] [] }
-        ensures { result ≡ unused own.room (deques_at seats.items) pass.table_id }
+        ensures { result ≡ unused own.capacity (deques_at seats.items) pass.table_id }
     {
         // For the proof alone: the call says that the vector's length fits its type.
         let _seats = seats.len();
@@ -55,10 +55,10 @@ impl<T: Drop, A: Drop> Post<T, A> {
     }
 
     /// How many tasks can be given for sure.
-    pub(crate) fn room(&self) -> u16
-        ensures { result ≡ self.now.room }
+    pub(crate) fn capacity(&self) -> u16
+        ensures { result ≡ self.now.capacity }
     {
-        self.own.room()
+        self.own.capacity()
     }
 
     /// Gives a task to the pool. It comes back where there is no memory for it.
@@ -66,7 +66,7 @@ impl<T: Drop, A: Drop> Post<T, A> {
         ensures given { OnOk result (self.new ≡ gave self.old task) }
         ensures refused { IfErr result (λ back. back ≡ task) }
         ensures same { IfErr result (λ _. self.new ≡ self.old) }
-        ensures room { IfErr result (λ _. self.old.room ≤ length self.old.given) }
+        ensures full { IfErr result (λ _. self.old.capacity ≤ length self.old.given) }
     {
         self.own.push(task)
     }

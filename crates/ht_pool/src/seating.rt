@@ -8,20 +8,20 @@ use crate::own::OwnDeque;
 use crate::seat::Seat;
 use std::alloc::{AllocError, Global};
 
-// A number of deques, each with room for a number of tasks.
+// A number of deques, each surely with room for `capacity` tasks.
 fn open_all<T: Drop>(
     alloc: Global,
     workers: usize,
-    room: u16,
+    capacity: u16,
 ) -> Result<Vec<OwnDeque<T>>, AllocError>
     requires few { workers ≤ 64 }
-    ensures fresh { IfOk result (λ owners. owners.items ≡ map (fresh_own 1024 room) (own_deques owners.items)) }
+    ensures fresh { IfOk result (λ owners. owners.items ≡ map (fresh_own 1024 capacity) (own_deques owners.items)) }
     ensures count { IfOk result (λ owners. length owners.items ≡ workers) }
     ensures room { IfOk result (λ owners. workers ≤ vec_capacity owners) }
 {
     let mut owners = Vec::with_capacity(alloc, workers)?;
     for _ in 0..workers {
-        owners.push_reserved(OwnDeque::open(alloc, room)?);
+        owners.push_reserved(OwnDeque::open(alloc, capacity)?);
     }
     Ok(owners)
 }
@@ -63,15 +63,15 @@ fn seat_rows<T: Drop>(
 pub(crate) fn open_seated<T: Drop>(
     alloc: Global,
     workers: usize,
-    room: u16,
+    capacity: u16,
 ) -> Result<(Vec<OwnDeque<T>>, Vec<Vec<Seat<T>>>), AllocError>
     requires few { workers ≤ 64 }
     ensures ready { IfOk result (λ made. AreReady (own_deques made.0.items) made.0.items made.1.items) }
-    ensures rooms { IfOk result (λ made. All (λ (o : OwnView T). o.room ≡ room) made.0.items) }
+    ensures capacities { IfOk result (λ made. All (λ (o : OwnView T). o.capacity ≡ capacity) made.0.items) }
     ensures count { IfOk result (λ made. (length made.0.items ≡ workers) × (workers ≤ vec_capacity made.0)) }
     ensures rows { IfOk result (λ made. (length made.1.items ≡ workers) × (workers ≤ vec_capacity made.1)) }
 {
-    let mut owners = open_all(alloc, workers, room)?;
+    let mut owners = open_all(alloc, workers, capacity)?;
     let rows = seat_rows(alloc, owners.as_mut_slice())?;
     Ok((owners, rows))
 }

@@ -6,7 +6,7 @@ use Rattle.ht_runs.specs.declared.faults.StopFault.{StopFault}
 use Rattle.ht_feed.specs.declared.ended.Ended.{Ended}
 use Rattle.ht_feed.specs.Accounts.{Telling}
 use Rattle.ht_feed.specs.Items.{Headed, Item}
-use Rattle.ht_feed.specs.Outcomes.{Comes, StopsBy, TellsTo, pieces_of}
+use Rattle.ht_feed.specs.Outcomes.{Comes, StopsAs, EndsAs, pieces_of}
 use Rattle.ht_feed.specs.Reading.{view}
 use Rattle.ht_frames.specs.Gathering.{booked_behind, booked_in}
 use Rattle.ht_receive.specs.Receiving.{books}
@@ -29,5 +29,5 @@ module _ {R H T P : Type 0} (means : R → List ℕ → Meaning (Item H)) (at : 
       let start = view means at reader source in
       subst (λ (k : Device P). Comes means at reader head source source' (books booked (results u) k) after result) devices
       (subst (λ (p : List (Headed H) → List P).
-      MatchResult result (TellsTo start (pieces_of p head start) source' d after.device)
-      (StopsBy start (pieces_of p head start) source' d after.device)) kept comes)
+      MatchResult result (EndsAs start (pieces_of p head start) source' d after.device)
+      (StopsAs start (pieces_of p head start) source' d after.device)) kept comes)

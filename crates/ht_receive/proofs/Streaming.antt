@@ -8,14 +8,14 @@ use Rattle.ht_runs.specs.Filters.{Filter}
 use Rattle.ht_runs.specs.Formats.{filter}
 use Rattle.ht_runs.specs.Streamed.{Streamed}
 use Rattle.ht_runs.specs.declared.faults.RunFault.{RunFault}
-use Rattle.ht_runs.specs.declared.faults.RunFault.TheVariants.{NoMemory, Write}
+use Rattle.ht_runs.specs.declared.faults.RunFault.TheVariants.{NoMemory}
 use Rattle.ht_runs.specs.declared.faults.StopFault.{StopFault}
 use Rattle.ht_runs.specs.declared.faults.StopFault.TheVariants.{Write as WriteStop}
 use Rattle.ht_feed.specs.declared.ended.Ended.{Ended}
 use Rattle.ht_feed.specs.Inputs.{TellsInput}
 use Rattle.ht_feed.specs.Items.{Headed, Item}
 use Rattle.ht_frames.specs.Gathering.{booked_in}
-use Rattle.ht_endings.specs.Endings.{HasFrames, IsTold, PutsEnd, seen_as}
+use Rattle.ht_endings.specs.Endings.{EndsLines, HasFrames, IsTold, seen_as}
 use Rattle.ht_endings.proofs.Endings.{ends}
 use Rattle.ht_endings.proofs.Nothing.{nothing_put}
 use Rattle.ht_receive.specs.Ends.{StreamsText}
@@ -32,12 +32,17 @@ lacks f Says source sink result is =
       puts_later = later-refl sink;
     }
 
--- what the end line behind lines comes to, from how the run ended and the sink before and after
-pub record EndsLines (ended : Result Ended StopFault) (mid sink' : Device ℕ) (result : Result ℕ RunFault) : Type 0 where
-  pub puts : PutsEnd ended mid sink' result
-  pub writes : result ≢ Err Write → sink'.faults ≡ mid.faults
-  pub failed : ended ≡ Err WriteStop → result ≡ Err Write
-  pub later : IsLater mid sink'
+-- the text of an input, whose lines a run put that ended so, and the end line behind them
+pub with_end_line : (f : Filter) (Says : ℕ → List ℕ → Type 0) (source source' sink mid sink' : Device ℕ) (ended : Result Ended StopFault)
+    (result : Result ℕ RunFault) → Streamed f source source' sink sink' Says result
+    → (ended ≢ Err WriteStop → mid.faults ≡ sink.faults) → IsLater source source' → IsLater sink mid
+    → EndsLines ended mid sink' result → StreamsText f Says source source' sink sink' result
+with_end_line f Says source source' sink mid sink' ended result streamed steady reads puts last = record {
+  streams = streamed;
+  writes = λ well. last.writes well ∙ steady (λ is. well (last.failed is));
+  reads_later = reads;
+  puts_later = later-later sink mid sink' puts last.later;
+}
 
 -- a format, how a reader of blocks sees its items, and a line of each result
 module _ {S I H T R : Type 0} (f : Grammar S I) (items_as : List I → List (Item H)) (means : R → List ℕ → Meaning (Item H)) (at : R → ℕ) (reader : R)
@@ -51,10 +56,7 @@ module _ {S I H T R : Type 0} (f : Grammar S I) (items_as : List I → List (Ite
   streams source source' sink start mid sink' lent lent' ended result told same zero from told_from last =
       let tells : TellsInput means at reader head source source' (books line results sink) (books line results mid) lent lent' ended =
       subst (λ (d : Device ℕ). TellsInput means at reader head source source' (books line results d) (books line results mid) lent lent' ended) from told_from in
-      record {
-        streams = ends f items_as head (booked_in line results) text lines told means at reader source source' (books line results sink)
-            (books line results mid) ended sink' result same zero refl tells.tells tells.puts_later last.puts;
-        writes = λ well. last.writes well ∙ tells.writes (λ is. well (last.failed is));
-        reads_later = tells.reads_later;
-        puts_later = later-later sink mid sink' tells.puts_later last.later;
-      }
+      with_end_line (filter f text lines) (HasFrames f items_as) source source' sink mid sink' ended result
+      (ends f items_as head (booked_in line results) text lines told means at reader source source' (books line results sink)
+      (books line results mid) ended sink' result same zero refl tells.tells tells.puts_later last.puts)
+      tells.writes tells.reads_later tells.puts_later last

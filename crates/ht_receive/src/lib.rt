@@ -1,14 +1,14 @@
 //! Frames received from an input, of whatever kind.
 //!
-//! A kind of frames is an `UnderWay` of crate `ht_frames`: the head of a frame, what its jobs come to, its whole frame and
-//! its result. Any reader of blocks whose heads are of that kind gives the jobs, and any work of crate `ht_feed` finds
+//! A kind of frames is an `UnderWay` of crate `ht_frames`: it says what a frame's head is, what it keeps of its jobs, and
+//! what its result is. Any reader of blocks whose heads are of that kind gives the jobs, and any work of crate `ht_feed` finds
 //! their hits. [`receive_alone`] books the result of each whole frame, and runs every block in the calling thread;
 //! [`receive`] promises the same, and has the blocks run and whole frames decoded by workers, where the frame under way
 //! `TakesBlocks`.
 //!
-//! What is booked of an input is said of the jobs that its reader means: `booked_in` of crate `ht_frames`, of the results
-//! that the frame under way gives of them. Whoever calls says what results these are of the octets; where a `TextBook` puts
-//! their lines, and `put_end` of crate `ht_endings` the end line behind them, `streams` in `proofs/Streaming.antt` says then
+//! What is booked for an input is defined by the jobs that its reader gives: `booked_in` of crate `ht_frames`, of the
+//! results that the frame under way makes of them. The caller says which results of the octets these are. Where a `TextBook`
+//! puts their lines, and `put_end` of crate `ht_endings` the end line after them, `streams` in `proofs/Streaming.antt` shows
 //! that all that was put is the text of a format (`StreamsText` in `specs/Ends.antt`).
 //!
 //! Say a frame is whole with its second job, its result is the sum of the two distances, and its line is that number. Of an

@@ -69,7 +69,7 @@ fn is_first(number: u64, hit: &Hit) -> bool {
 // How many hits were taken, if they are those of the first jobs.
 fn taken(feed: &ListFeed) -> Option<u64> {
     let mut number = 0;
-    for hit in feed.taken() {
+    for hit in feed.hits() {
         if !is_first(number, hit) {
             return None;
         }

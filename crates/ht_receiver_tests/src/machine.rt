@@ -1,7 +1,7 @@
 //! Runs of a few jobs and actors, and events that must not come.
 use crate::common::job;
 use crate::equal::equal;
-use ht_machine::{Core, Event, Spot, StepFault, enabled, place_of, step};
+use ht_machine::{Event, Machine, Spot, StepFault, enabled, place_of, step};
 use ht_metric::plain_nearest;
 use std::process::Abort;
 use std::test::Fail;
@@ -37,10 +37,10 @@ impl Move {
 }
 
 // Asserts that a move comes, or that it is refused.
-fn plays(rt: &impl Abort, core: &mut Core, next: Move, comes: bool) {
+fn plays(rt: &impl Abort, machine: &mut Machine, next: Move, comes: bool) {
     let event = next.event();
-    let is_enabled = enabled(core, &event);
-    let made = step(core, event);
+    let is_enabled = enabled(machine, &event);
+    let made = step(machine, event);
     let wanted = if comes {
         Ok(())
     } else {
@@ -113,61 +113,61 @@ static TURNS: [Turn; 12] = [
 
 #[test]
 fn two_jobs(rt: HostRuntime) -> Result<(), Fail> {
-    let mut core = Core::new(rt.alloc(), 2, 2)?;
+    let mut machine = Machine::new(rt.alloc(), 2, 2)?;
     for &(refused, next, places) in &TURNS {
         for other in refused {
-            plays(&rt, &mut core, *other, false);
+            plays(&rt, &mut machine, *other, false);
         }
-        plays(&rt, &mut core, next, true);
-        let found = [place_of(&core, 0), place_of(&core, 1)];
+        plays(&rt, &mut machine, next, true);
+        let found = [place_of(&machine, 0), place_of(&machine, 1)];
         equal(&rt, (next, found), (next, places));
     }
     Ok(())
 }
 
 // Issues jobs and pushes each on the caller's deque.
-fn push_jobs(rt: &impl Abort, core: &mut Core, count: u64) {
+fn push_jobs(rt: &impl Abort, machine: &mut Machine, count: u64) {
     for number in 0..count {
-        plays(rt, core, Move::Issue(number, 3), true);
-        plays(rt, core, Move::Push(0), true);
+        plays(rt, machine, Move::Issue(number, 3), true);
+        plays(rt, machine, Move::Push(0), true);
     }
 }
 
 #[test]
 fn window_of_two(rt: HostRuntime) -> Result<(), Fail> {
-    let mut core = Core::new(rt.alloc(), 2, 2)?;
-    push_jobs(&rt, &mut core, 2);
-    plays(&rt, &mut core, Move::Issue(2, 3), false);
+    let mut machine = Machine::new(rt.alloc(), 2, 2)?;
+    push_jobs(&rt, &mut machine, 2);
+    plays(&rt, &mut machine, Move::Issue(2, 3), false);
     for next in [
         Move::Steal(1, 0),
         Move::Finish(1, 0, 3),
         Move::Accept(0),
         Move::Emit,
     ] {
-        plays(&rt, &mut core, next, true);
+        plays(&rt, &mut machine, next, true);
     }
-    let found = [place_of(&core, 0), place_of(&core, 1)];
+    let found = [place_of(&machine, 0), place_of(&machine, 1)];
     equal(&rt, found, [Some(Spot::Emitted), Some(Spot::Deque(0))]);
     Ok(())
 }
 
 // A worker moves a number of jobs from another's deque to its own, one steal and one push each, and pops its own front.
-fn take_over(rt: &impl Abort, core: &mut Core, thief: u8, from: u8, count: u8) {
+fn take_over(rt: &impl Abort, machine: &mut Machine, thief: u8, from: u8, count: u8) {
     for _ in 0..count {
-        plays(rt, core, Move::Steal(thief, from), true);
-        plays(rt, core, Move::Push(thief), true);
+        plays(rt, machine, Move::Steal(thief, from), true);
+        plays(rt, machine, Move::Push(thief), true);
     }
-    plays(rt, core, Move::Pop(thief), true);
+    plays(rt, machine, Move::Pop(thief), true);
 }
 
 // Worker 1 moves eight of ten jobs and takes the first in hand; worker 2 moves the seven others on.
 #[test]
 fn jobs_moved_on(rt: HostRuntime) -> Result<(), Fail> {
-    let mut core = Core::new(rt.alloc(), 3, 16)?;
-    push_jobs(&rt, &mut core, 10);
-    take_over(&rt, &mut core, 1, 0, 8);
-    take_over(&rt, &mut core, 2, 1, 7);
-    plays(&rt, &mut core, Move::Steal(0, 1), false);
+    let mut machine = Machine::new(rt.alloc(), 3, 16)?;
+    push_jobs(&rt, &mut machine, 10);
+    take_over(&rt, &mut machine, 1, 0, 8);
+    take_over(&rt, &mut machine, 2, 1, 7);
+    plays(&rt, &mut machine, Move::Steal(0, 1), false);
     for number in 0..10u64 {
         let spot = match number {
             0 => Spot::Hand(1),
@@ -175,7 +175,7 @@ fn jobs_moved_on(rt: HostRuntime) -> Result<(), Fail> {
             2..=7 => Spot::Deque(2),
             _ => Spot::Deque(0),
         };
-        let found = place_of(&core, number);
+        let found = place_of(&machine, number);
         equal(&rt, (number, found), (number, Some(spot)));
     }
     Ok(())

@@ -1,4 +1,4 @@
-//! Captures beside one another: whole ones, one that is none, and ones that are cut, whose source fails, or whose sink does,
+//! Several captures: whole ones, one that is none, and ones that are cut, whose source fails, or whose sink does,
 //! at each offset; and bundles.
 use crate::common::{Harm, TWO_FRAMES, a5, zeros};
 use crate::equal::equal;

@@ -5,15 +5,14 @@ ghost use Rattle.ht_feed.specs.Limits.{IsWindowSize};
 use crate::common::{Harm, TWO_FRAMES, zeros};
 use crate::equal::equal;
 use crate::gate::{Rule, Watch};
-use ht_endings::put_end;
 use ht_feed::{Gate, OpenGate};
 use ht_frames::ListBook;
 use ht_inverse::Outcome;
 use ht_io::{MemSink, MemSource};
-use ht_runs::{RunFault, StopFault};
+use ht_runs::RunFault;
 use ht_rx::{
-    Ended, FrameResult, list_jobs, list_jobs_alone, receive, receive_alone, receive_text,
-    receive_text_alone,
+    Ended, FrameResult, list_jobs_alone, list_text, list_text_alone, receive, receive_alone,
+    receive_text, receive_text_alone,
 };
 use std::alloc::{AllocError, Global};
 use std::process::Abort;
@@ -34,11 +33,11 @@ fn alone(
     window: u16,
     source: &mut MemSource,
     sink: &mut MemSink,
-) -> Result<Ended, StopFault>
+) -> Result<u64, RunFault>
     requires { IsWindowSize window }
 {
     match lines {
-        Lines::Jobs => list_jobs_alone(alloc, window, source, sink, &OpenGate),
+        Lines::Jobs => list_text_alone(alloc, window, source, sink, &OpenGate),
         Lines::Frames => receive_text_alone(alloc, window, source, sink, &OpenGate),
     }
 }
@@ -51,11 +50,11 @@ fn by_two<R: Threads + Wait + Sync, G: Gate + Sync>(
     source: &mut MemSource,
     sink: &mut MemSink,
     gate: &G,
-) -> Result<Ended, StopFault>
+) -> Result<u64, RunFault>
     requires { IsWindowSize window }
 {
     match lines {
-        Lines::Jobs => list_jobs(rt, alloc, 2, window, source, sink, gate),
+        Lines::Jobs => list_text(rt, alloc, 2, window, source, sink, gate),
         Lines::Frames => receive_text(rt, alloc, 2, window, source, sink, gate),
     }
 }
@@ -68,8 +67,8 @@ fn nearest(symbol: u8, carrier: u8) -> i8 {
     }
 }
 
-// The lines of a frame of one octet.
-fn text_of(alloc: Global, lines: Lines) -> Result<String, AllocError> {
+// The lines of a frame of one octet, without the last one.
+fn lines_of(alloc: Global, lines: Lines) -> Result<String, AllocError> {
     if lines == Lines::Frames {
         return String::from_str(alloc, "frame 0 data 10400 pilot 800 code 0 seed zero\n");
     }
@@ -83,20 +82,22 @@ fn text_of(alloc: Global, lines: Lines) -> Result<String, AllocError> {
     Ok(text)
 }
 
-const WHOLE: Result<Ended, StopFault> = Ok(Ended::Done {
-    frames: 1,
-    jobs: 112,
-});
+// The text of a frame of one octet.
+fn text_of(alloc: Global, lines: Lines) -> Result<String, AllocError> {
+    let mut text = lines_of(alloc, lines)?;
+    text.push_str("end 1 frames\n")?;
+    Ok(text)
+}
 
 // Asserts what is put of a frame of one octet by one thread.
 fn puts_alone(rt: &impl Abort, alloc: Global, lines: Lines, text: &str) -> Result<(), AllocError> {
     let mut source = Harm::None.source(alloc, &zeros(alloc, &[1])?)?;
     let mut sink = Harm::None.sink(alloc)?;
-    let ended = alone(alloc, lines, 16, &mut source, &mut sink);
+    let frames = alone(alloc, lines, 16, &mut source, &mut sink);
     equal(
         rt,
-        (lines, ended, sink.held()),
-        (lines, WHOLE, text.as_bytes()),
+        (lines, frames, sink.held()),
+        (lines, Ok(1), text.as_bytes()),
     );
     Ok(())
 }
@@ -114,11 +115,11 @@ fn puts_by_two<R: Abort + Threads + Wait + Sync, G: Gate + Sync>(
 {
     let mut source = Harm::None.source(alloc, &zeros(alloc, &[1])?)?;
     let mut sink = Harm::None.sink(alloc)?;
-    let ended = by_two(rt, alloc, lines, window, &mut source, &mut sink, gate);
+    let frames = by_two(rt, alloc, lines, window, &mut source, &mut sink, gate);
     equal(
         rt,
-        (window, ended, sink.held()),
-        (window, WHOLE, text.as_bytes()),
+        (window, frames, sink.held()),
+        (window, Ok(1), text.as_bytes()),
     );
     Ok(())
 }
@@ -134,6 +135,22 @@ fn whole(rt: HostRuntime) -> Result<(), Fail> {
         puts_by_two(&rt, rt.alloc(), lines, 256, &gate, &text)?;
         equal(&rt, (lines, gate.counts()), (lines, [112, 112, 0]));
     }
+    Ok(())
+}
+
+// The lines of jobs alone, and how many frames and jobs there were.
+#[test]
+fn listed(rt: HostRuntime) -> Result<(), Fail> {
+    let alloc = rt.alloc();
+    let lines = lines_of(alloc, Lines::Jobs)?;
+    let mut source = Harm::None.source(alloc, &zeros(alloc, &[1])?)?;
+    let mut sink = Harm::None.sink(alloc)?;
+    let ended = list_jobs_alone(alloc, 16, &mut source, &mut sink, &OpenGate);
+    let wanted = Ok(Ended::Done {
+        frames: 1,
+        jobs: 112,
+    });
+    equal(&rt, (ended, sink.held()), (wanted, lines.as_bytes()));
     Ok(())
 }
 
@@ -196,11 +213,11 @@ fn booked_in_order(rt: HostRuntime) -> Result<(), Fail> {
 /// How a run to the last line ends, and the sink.
 type Ran = (Result<u64, RunFault>, MemSink);
 
-/// Puts the lines of a capture and the last line.
+/// Puts the text of a capture.
 fn ran(alloc: Global, lines: Lines, source: &mut MemSource, harm: Harm) -> Result<Ran, AllocError> {
     let mut sink = harm.sink(alloc)?;
-    let heard = alone(alloc, lines, 256, source, &mut sink);
-    Ok((put_end(alloc, heard, &mut sink), sink))
+    let ended = alone(alloc, lines, 256, source, &mut sink);
+    Ok((ended, sink))
 }
 
 /// A place in a capture of two frames of one octet where a symbol ends, and how many octets of lines of jobs and of frames

@@ -9,7 +9,7 @@ use Rattle.ht_pam.specs.declared.point.Point.{Point}
 use Rattle.ht_metric.specs.declared.complex.Complex.{Complex}
 use Rattle.ht_metric.specs.declared.place.Place.{Place}
 use Rattle.ht_metric.specs.declared.sample.Sample.{Sample}
-use Rattle.ht_metric.specs.Arrays.{length-rows_of}
+use Rattle.ht_metric.proofs.RowLemmas.{length-rows_of}
 use Rattle.ht_metric.specs.Distance.{received}
 use Rattle.ht_metric.specs.Jobs.{JobView, near}
 use Rattle.ht_metric.specs.declared.found.Found.{Found}

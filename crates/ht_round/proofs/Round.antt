@@ -1,5 +1,5 @@
 -- Files of frames that were received exactly: their results, and their text.
-use Rattle.std.proofs.Common.{◌≡◌, ◌⊎◌, inl, inr, ℕ, suc, ◌+◌, ◌*◌, List, [], ◌∷◌, ◌++◌, length, map, All, Bool, true, None, Some, if◌then◌else◌}
+use Rattle.std.proofs.Common.{◌≡◌, ◌⊎◌, inl, inr, ℕ, suc, ◌+◌, ◌*◌, List, [], ◌∷◌, ◌++◌, length, map, All, Bool, true, None, if◌then◌else◌}
 use Rattle.std.proofs.Common.{refl, sym, ap, subst, ◌∙◌, arith}
 use Rattle.std.specs.List.{AllByRecursion, filter}
 use Rattle.std.proofs.lemmas.Bool.{eq-eqb}
@@ -24,7 +24,7 @@ use Rattle.ht_capture_laws.specs.Items.{items_of_frame, place_in, symbol_places,
 use Rattle.ht_capture_laws.proofs.Lists.{length-flat}
 use Rattle.ht_capture_laws.proofs.More.{all_whole}
 use Rattle.ht_capture_laws.proofs.Parts.{frames_back}
-use Rattle.ht_text.specs.Lines.{end_text, frame_text}
+use Rattle.ht_text.specs.Lines.{end_text}
 use Rattle.ht_tx.specs.Frames.{FrameView}
 use Rattle.ht_tx.specs.Symbols.{SymbolsView}
 use Rattle.ht_tx.specs.Transmitted.{AreTransmitted}
@@ -32,9 +32,9 @@ use Rattle.ht_files.specs.Files.{AreFrames, IsFrame}
 use Rattle.ht_return.specs.Returns.{AreOctets}
 use Rattle.ht_results.specs.declared.frame_result.FrameResult.{FrameResult}
 use Rattle.ht_results.specs.Results.{frame_result, results_of}
-use Rattle.ht_results.specs.Texts.{frame_lines_of, frames_of, last_line, last_of, result_line, result_lines, rx_text}
+use Rattle.ht_results.specs.Texts.{frame_lines_of, frames_of, last_line, last_of, result_lines, rx_text}
 use Rattle.ht_round.specs.Exact.{AreExact, HoldOctets}
-use Rattle.ht_round.specs.Returned.{own_lines, own_results, returned_from, returned_lines, returned_results, returned_text}
+use Rattle.ht_round.specs.Returned.{returned_from, returned_lines, returned_results, returned_text}
 use Rattle.ht_round.proofs.Frame.{frame_back, frame_fits, frame_typed, made_frame, as_received}
 use Rattle.ht_round.proofs.Jobs.{frame_items}
 
@@ -162,13 +162,6 @@ results_back version frames sent captured either good octets out exact =
     (recursion_from_All (λ (f : FrameView). AreOctets f.octets) frames octets) out exact whole))
 
 -- their text
-pub lines_back : {F : Type 0} (octets_of : F → List ℕ) (number : ℕ) (frames : List F)
-    → result_lines (own_results octets_of number frames) ≡ own_lines octets_of number frames
-unfolding result_line
-lines_back octets_of number [] = refl
-lines_back octets_of number (f ∷ frames) =
-    ap (λ (z : List ℕ). frame_text number 0 0 0 (Some (octets_of f)) ++ z) (lines_back octets_of (number + 1) frames)
-
 jobs_count : (jobs : List JobView) (items : List Item) → frames_of (map Job jobs ++ items) ≡ frames_of items
 jobs_count [] items = refl
 jobs_count (job ∷ jobs) items = jobs_count jobs items
@@ -192,7 +185,7 @@ text_back version frames sent captured either good octets out exact =
     let gs : List FrameJobs = made_frames 0 0 captured in
     let file : List ℕ = capture_file_of version captured in
     let lines : result_lines (results_of file) ≡ returned_lines 0 frames =
-    ap result_lines (results_back version frames sent captured either good octets out exact) ∙ lines_back (λ (f : FrameView). f.octets) 0 frames in
+    ap result_lines (results_back version frames sent captured either good octets out exact) in
     let count : frames_of (items_in gs) ≡ length frames = frames_count gs ∙ (length-made 0 0 captured ∙ counted frames sent captured out exact) in
     let last : last_of (capture_of file).fault (frames_of (capture_of file).items) ≡ end_text (length frames) =
     ap (λ (m : Meaning Item). last_of m.fault (frames_of m.items)) (meant version captured w.0 w.1 w.2) ∙ ap end_text count in

@@ -11,6 +11,7 @@ use Rattle.ht_metric.specs.Rows.{Leg}
 use Rattle.ht_sim.specs.Channel.{symbols_mixed}
 use Rattle.ht_text.specs.Lines.{end_text, frame_text, outcome_text, sums_text}
 use Rattle.ht_tx.specs.Frames.{FrameView}
+use Rattle.ht_results.specs.Texts.{result_line}
 use Rattle.ht_round.specs.Returned.{returned_text}
 
 -- two frames of one octet
@@ -19,7 +20,7 @@ frames = record { rate = rate_at 0 0; seed = 1; octets = 165 ∷ [] } ∷ record
 
 text : returned_text frames
     ≡ codes "frame 0 data 0 pilot 0 code 0 octets a5" ++ 10 ∷ (codes "frame 1 data 0 pilot 0 code 0 octets 07" ++ 10 ∷ (codes "end 2 frames" ++ 10 ∷ []))
-unfolding frames frame_text sums_text outcome_text end_text digits
+unfolding frames result_line frame_text sums_text outcome_text end_text digits
 text = refl
 
 -- One symbol at 20 MHz, MCS 8, with 1 on stream 1 and -1 on stream 2 of all 56 subcarriers. Each triangle has 2 and then

@@ -1,9 +1,10 @@
 -- What comes of frames that come back: their own octets, with no distance and no bit that differs.
-use Rattle.std.specs.Prelude.{ℕ, ◌+◌, List, [], ◌∷◌, ◌++◌, length, Some}
+use Rattle.std.specs.Prelude.{ℕ, ◌+◌, List, [], ◌∷◌, ◌++◌, length}
 use Rattle.ht_tx.specs.Frames.{FrameView}
 use Rattle.ht_inverse.specs.declared.outcome.Outcome.TheVariants.{Octets}
-use Rattle.ht_text.specs.Lines.{end_text, frame_text}
+use Rattle.ht_text.specs.Lines.{end_text}
 use Rattle.ht_results.specs.declared.frame_result.FrameResult.{FrameResult}
+use Rattle.ht_results.specs.Texts.{result_lines}
 
 -- the result of a frame of this number with these octets
 abbrev pub own_result : ℕ → List ℕ → FrameResult
@@ -16,8 +17,7 @@ own_results octets_of number (f ∷ frames) = own_result number (octets_of f) �
 
 -- their lines: `frame N data 0 pilot 0 code 0 octets HEX`
 abbrev pub own_lines : {F : Type 0} → (F → List ℕ) → ℕ → List F → List ℕ
-own_lines octets_of number [] = []
-own_lines octets_of number (f ∷ frames) = frame_text number 0 0 0 (Some (octets_of f)) ++ own_lines octets_of (number + 1) frames
+own_lines octets_of number frames = result_lines (own_results octets_of number frames)
 
 -- the same of frames that are sent
 abbrev pub returned_result : ℕ → FrameView → FrameResult

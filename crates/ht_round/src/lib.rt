@@ -9,8 +9,8 @@
 //! vector that was sent is the only one at distance 0 (`ht_metric`). And the labels of a frame are decoded to its octets
 //! (`ht_return`).
 //!
-//! `specs/Exact.antt` says what it is to be received exactly, and `specs/Returned.antt` what comes of frames that come
-//! back. `proofs/Worked.antt` works out the text of two frames, and a symbol of two streams: where 1 and -1 are sent over
+//! `specs/Exact.antt` says what it means to be received exactly, and `specs/Returned.antt` which results and text frames
+//! have that come back. `proofs/Worked.antt` works out the text of two frames, and a symbol of two streams: where 1 and -1 are sent over
 //! a triangle with 2 and 1 - j in its first row and 3 in its second one, the samples are 1 + j and -3.
 #![tactic(auto)]
 

@@ -7,8 +7,8 @@ use Rattle.ht_io.specs.declared.faults.InFault.TheVariants.{Format, Read, NoMemo
 use Rattle.ht_io.proofs.Calls.{failed-later, grows-append, grows-none, grows_by_part-append, grows_by_part-front, later-later, later-refl}
 use Rattle.ht_fields.specs.Grammar.{Grammar}
 use Rattle.ht_fields.specs.Meanings.{meaning}
-use Rattle.ht_fields.specs.Readers.{ReaderView, Gives, Finishes, reader_in}
-use Rattle.ht_fields.specs.WholeFiles.{Halts}
+use Rattle.ht_fields.specs.Readers.{ReaderView, Gives, Completes, reader_in}
+use Rattle.ht_fields.specs.WholeFiles.{StopsWithCause}
 use Rattle.ht_fields.proofs.Joins.{gives_more, gives_none}
 use Rattle.ht_runs.specs.Faults.{fault_of_reading}
 use Rattle.ht_runs.specs.Formats.{IsLined, filter}
@@ -84,7 +84,7 @@ module _ {S I : Type 0} (f : Grammar S I) (lines_of : List I → List ℕ) (sour
 
     -- the reader halted
     pub goes_halted : (reader : ReaderView I) (source' sink' : Device ℕ) (items : List I) (fault : InFault) → Goes f lines_of source sink reader sink' items
-        → Halts reader source' fault → StreamFails (filter f text lines) source source' sink sink' (fault_of_reading fault)
+        → StopsWithCause reader source' fault → StreamFails (filter f text lines) source source' sink sink' (fault_of_reading fault)
     goes_halted reader source' sink' items (Format fault) goes (stops, cause) =
         stopped f text lines end_of s source source' sink sink' fault
         (told_refused f source source' lines sink sink' items (lines_of items) (lines_are items) reader fault goes.gives stops goes.put)
@@ -96,11 +96,11 @@ module _ {S I : Type 0} (f : Grammar S I) (lines_of : List I → List ℕ) (sour
 
   -- the file ended behind the items, and its end was put, or a part of that
   module _ (reader : ReaderView I) (source' mid sink' : Device ℕ) (items : List I) (goes : Goes f lines_of source sink reader mid items)
-      (finishes : Finishes reader source') where
+      (completes : Completes reader source') where
     whole_told : TellsWhole f lines source source' sink mid (λ octets. (meaning f f.start 0 octets).items ≡ items)
     whole_told =
-        told_whole f source source' lines sink mid items (lines_of items) (lines_are items) reader []
-        (λ octets. (meaning f f.start 0 octets).items ≡ items) goes.gives finishes.octets finishes.means (λ octets is. is) goes.put
+        told_whole f source source' lines sink mid items (lines_of items) (lines_are items) reader completes.taken
+        (λ octets. (meaning f f.start 0 octets).items ≡ items) goes.gives completes.octets completes.means (λ octets is. is) goes.put
 
     end_is : (octets : List ℕ) → (meaning f f.start 0 octets).items ≡ items → end_of items ≡ end_of (meaning f f.start 0 octets).items
     end_is octets is = ap end_of (sym is)

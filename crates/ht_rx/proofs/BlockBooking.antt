@@ -1,5 +1,5 @@
 -- What was found for a job of a block is its hit, and the results that jobs give are those of the octets.
-use Rattle.std.proofs.Common.{◌≡◌, ℕ, ◌≤◌, List, [], ◌∷◌, Result, MatchResult}
+use Rattle.std.proofs.Common.{◌≡◌, ℕ, ◌≤◌, List, Result, MatchResult}
 use Rattle.std.proofs.Common.{refl, sym, ap, ◌∙◌, subst, arith}
 use Rattle.std.specs.List.{flat_map}
 use Rattle.std.proofs.Math.Path.{fun_ext}
@@ -16,7 +16,7 @@ use Rattle.ht_results.specs.declared.frame_result.FrameResult.{FrameResult}
 use Rattle.ht_results.specs.Folding.{FrameSoFar, frame_of, kind_of, label_plan, results_from, with_job}
 use Rattle.ht_results.specs.Plans.{with_hit_by}
 use Rattle.ht_results.proofs.Folded.{folds}
-use Rattle.ht_rx.specs.Heads.{told_of}
+use Rattle.ht_rx.specs.Heads.{pieces_of_octets}
 use Rattle.ht_frames.specs.Gathering.{booked_in}
 use Rattle.ht_rx.specs.Frames.{booked_of, with_found, with_found_as}
 use Rattle.ht_rx.specs.Outcomes.{StopsBy, TellsTo}
@@ -46,12 +46,12 @@ module _ (head : FrameHead) where
 -- where no frame is under way, the results are those of the octets
 pub frames_told : {P : Type 0} (booked : FrameResult → List P) (f : FrameSoFar) (result : Result Ended StopFault)
     (source source' : Device ℕ) (book book' : Device P) → f.left ≤ 0
-    → MatchResult result (TellsTo (told_of (booked_in booked (results_from f))) source source' book book')
-    (StopsBy (told_of (booked_in booked (results_from f))) source source' book book')
+    → MatchResult result (TellsTo (pieces_of_octets (booked_in booked (results_from f))) source source' book book')
+    (StopsBy (pieces_of_octets (booked_in booked (results_from f))) source source' book book')
     → MatchResult result (TellsTo (booked_of booked) source source' book book') (StopsBy (booked_of booked) source source' book book')
 frames_told {P = P} booked f result source source' book book' none told =
     let zero : f.left ≡ 0 = omega (arith, none) in
-    let same : told_of (booked_in booked (results_from f)) ≡ booked_of booked = fun_ext (λ octets.
+    let same : pieces_of_octets (booked_in booked (results_from f)) ≡ booked_of booked = fun_ext (λ octets.
     ap (λ (rs : List FrameResult). flat_map booked rs) (folds octets f zero)) in
     subst (λ (g : List ℕ → List P). MatchResult result (TellsTo g source source' book book') (StopsBy g source source' book book')) same told
 

@@ -20,7 +20,7 @@ use Rattle.ht_fields.specs.Meanings.{Meaning}
 use Rattle.ht_capture.specs.Captures.{capture_of}
 use Rattle.ht_capture_blocks.specs.Captures.{mapped}
 use Rattle.ht_results.specs.Heads.{Headed}
-use Rattle.ht_rx.specs.Heads.{jobs_alone, told_of}
+use Rattle.ht_rx.specs.Heads.{jobs_alone, pieces_of_octets}
 use Rattle.ht_rx.specs.Outcomes.{StopsBy, TellsTo}
 use Rattle.ht_rx.specs.Telling.{TellsCapture}
 use Rattle.ht_results.specs.JobTexts.{job_line_of, job_lines, line_at, lines_of}
@@ -71,7 +71,7 @@ module _ (head : FrameHead) where
     pub part : GrowsByPart a b text → PutsPartOf a b (λ js. job_lines (jobs_alone js)) (headed_due (due_of head jobs))
     part grows = λ more. subst (λ (xs : List ℕ). GrowsByPart a b xs) (sym (whole more)) (grows_by_part-front a b text (job_lines (jobs_alone more)) grows)
 
-lines_are : (octets : List ℕ) → told_of (λ js. job_lines (jobs_alone js)) octets ≡ lines_of octets
+lines_are : (octets : List ℕ) → pieces_of_octets (λ js. job_lines (jobs_alone js)) octets ≡ lines_of octets
 unfolding lines_of
 lines_are octets = ap job_lines (jobs_of_octets octets)
 

@@ -24,12 +24,12 @@ use Rattle.ht_feed.specs.Accounts.{Telling}
 use Rattle.ht_capture_blocks.specs.Captures.{items_of, mapped}
 use Rattle.ht_feed.specs.Items.{Item, Begins, One}
 use Rattle.ht_feed.specs.Items.{headed as block_headed, headed_of, frames_of as block_frames, jobs_of as block_jobs}
-use Rattle.ht_feed.specs.Outcomes.{Comes, StopsBy as BlockStops, TellsTo as BlockTells}
+use Rattle.ht_feed.specs.Outcomes.{Comes, StopsAs as BlockStops, EndsAs as BlockTells}
 use Rattle.ht_endings.proofs.Runs.{broken, from_front, front, in_part, refused, whole}
 use Rattle.ht_results.specs.Heads.{Headed, headed, headed_jobs}
 use Rattle.ht_results.specs.Texts.{frames_of}
 use Rattle.ht_results.proofs.Folded.{headed_is}
-use Rattle.ht_rx.specs.Heads.{told_of}
+use Rattle.ht_rx.specs.Heads.{pieces_of_octets}
 use Rattle.ht_rx.specs.Outcomes.{HasCounts, StopsBy, TellsTo}
 use Rattle.ht_rx.specs.Telling.{TellsCapture}
 use Rattle.ht_results.specs.JobTexts.{jobs_of}
@@ -113,10 +113,10 @@ pub comes_to : {R P : Type 0} (means : R → List ℕ → Meaning (Item FrameHea
     (source source' : Device ℕ) (a b : Telling FrameHead P) (result : Result Ended StopFault)
     → ((octets : List ℕ) → means reader octets ≡ mapped (capture_of octets)) → at reader ≡ 0
     → Comes means at reader head source source' a b result
-    → MatchResult result (TellsTo (told_of a.pieces) source source' a.device b.device) (StopsBy (told_of a.pieces) source source' a.device b.device)
+    → MatchResult result (TellsTo (pieces_of_octets a.pieces) source source' a.device b.device) (StopsBy (pieces_of_octets a.pieces) source source' a.device b.device)
 comes_to means at reader head source source' a b result same zero came =
-    told (told_of a.pieces) source source' a.device b.device result
-    (from_front captures items_of means at reader head (told_of a.pieces) source source' a b result same zero
+    told (pieces_of_octets a.pieces) source source' a.device b.device result
+    (from_front captures items_of means at reader head (pieces_of_octets a.pieces) source source' a b result same zero
     (λ octets. ap a.pieces (headed-octets head octets)) came)
 
 -- without memory for a reader nothing is taken, and nothing put

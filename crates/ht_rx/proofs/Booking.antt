@@ -26,7 +26,7 @@ pub same_result : (f g : FrameSoFar) → f.head ≡ g.head → f.data_sum ≡ g.
 unfolding result_of
 same_result = alike (λ (h : FrameHead). h.frame) decoded
 
-lines_booked : booked_of result_line ≡ frame_lines_of
+pub lines_booked : booked_of result_line ≡ frame_lines_of
 unfolding frame_lines_of
 lines_booked = refl
 

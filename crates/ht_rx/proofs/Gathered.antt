@@ -9,7 +9,7 @@ use Rattle.ht_results.specs.Folding.{FrameSoFar, frame_begun, frame_of, label_fo
 use Rattle.ht_results.proofs.Taking.{begins_alike, takes}
 use Rattle.ht_feed.specs.declared.ended.Ended.{Ended}
 use Rattle.ht_runs.specs.declared.faults.StopFault.{StopFault}
-use Rattle.ht_rx.specs.Heads.{told_of}
+use Rattle.ht_rx.specs.Heads.{pieces_of_octets}
 use Rattle.ht_rx.specs.Frames.{booked_of}
 use Rattle.ht_rx.proofs.BlockBooking.{frames_told}
 use Rattle.ht_rx.specs.Outcomes.{StopsBy, TellsTo}
@@ -35,10 +35,10 @@ begin_as f g jobs a b = begins_alike label_fold f g (λ h. begins_as h f g a b) 
 -- where no frame waits and none is under way, the results are those of the octets
 pub gathered_told : {P : Type 0} (booked : FrameResult → List P) (whole : List FrameSoFar) (f : FrameSoFar) (result : Result Ended StopFault)
     (source source' : Device ℕ) (book book' : Device P) → whole ≡ [] → f.left ≤ 0
-    → MatchResult result (TellsTo (told_of (booked_behind result_of booked whole (results_from f))) source source' book book')
-    (StopsBy (told_of (booked_behind result_of booked whole (results_from f))) source source' book book')
+    → MatchResult result (TellsTo (pieces_of_octets (booked_behind result_of booked whole (results_from f))) source source' book book')
+    (StopsBy (pieces_of_octets (booked_behind result_of booked whole (results_from f))) source source' book book')
     → MatchResult result (TellsTo (booked_of booked) source source' book book') (StopsBy (booked_of booked) source source' book book')
 gathered_told booked whole f result source source' book book' none idle told =
     frames_told booked f result source source' book book' idle
-    (subst (λ (fs : List FrameSoFar). MatchResult result (TellsTo (told_of (booked_behind result_of booked fs (results_from f))) source source' book book')
-    (StopsBy (told_of (booked_behind result_of booked fs (results_from f))) source source' book book')) none told)
+    (subst (λ (fs : List FrameSoFar). MatchResult result (TellsTo (pieces_of_octets (booked_behind result_of booked fs (results_from f))) source source' book book')
+    (StopsBy (pieces_of_octets (booked_behind result_of booked fs (results_from f))) source source' book book')) none told)

@@ -23,7 +23,7 @@ jobs_alone-headed head (Job job ∷ items) = ap (λ (xs : List JobView). job ∷
 jobs_alone-headed head (Done ∷ items) = jobs_alone-headed head items
 
 -- some head
-any_head : FrameHead
+pub any_head : FrameHead
 any_head = record { frame = 0; rate = rate_at 0 0; length = 1; erased = 0 }
 
 pub jobs_of_octets : (octets : List ℕ) → jobs_alone (headed_jobs octets) ≡ jobs_of (capture_of octets).items

@@ -7,3 +7,4 @@ pub mod Gathered
 pub mod Stamping
 pub mod Writing
 pub mod Tallying
+pub mod Texts

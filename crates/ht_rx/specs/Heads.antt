@@ -8,5 +8,5 @@ abbrev pub jobs_alone : List Headed → List JobView
 jobs_alone jobs = map (λ (h : Headed). h.job) jobs
 
 -- what is put in all of a list of octets, by an account that puts this of jobs
-abbrev pub told_of : {P : Type 0} → (List Headed → List P) → List ℕ → List P
-told_of pieces octets = pieces (headed_jobs octets)
+abbrev pub pieces_of_octets : {P : Type 0} → (List Headed → List P) → List ℕ → List P
+pieces_of_octets pieces octets = pieces (headed_jobs octets)

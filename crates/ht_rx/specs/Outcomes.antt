@@ -11,9 +11,13 @@ use Rattle.ht_feed.specs.declared.ended.Ended.{Ended}
 use Rattle.ht_feed.specs.declared.ended.Ended.TheVariants.{Done, Refused}
 use Rattle.ht_results.specs.JobTexts.{jobs_of}
 
+-- a capture has this number of frames
+abbrev pub HasFrames : ℕ → List ℕ → Type 0
+HasFrames frames octets = frames ≡ frames_of (capture_of octets).items
+
 -- a capture has this number of frames and of jobs
 pub record HasCounts (frames jobs : ℕ) (octets : List ℕ) : Type 0 where
-  pub frames_are : frames ≡ frames_of (capture_of octets).items
+  pub frames_are : HasFrames frames octets
   pub jobs_are : jobs ≡ length (jobs_of (capture_of octets).items)
 
 -- these pieces are put of a list of octets; the source, and the device that they are put into, before and after

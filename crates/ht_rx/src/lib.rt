@@ -10,8 +10,9 @@
 //! a whole capture, at a fault, where a source fails and where memory runs out (`specs/Outcomes.antt`).
 //!
 //! [`list_jobs`] and [`receive`] read a capture from any source, and a crew of workers runs its jobs; [`list_jobs_alone`] and
-//! [`receive_alone`] promise the same, and run every job in the calling thread. [`receive_text`] and
-//! [`receive_text_alone`] put the line of each frame into a sink. For each present subcarrier of each symbol (IEEE Std
+//! [`receive_alone`] promise the same, and run every job in the calling thread. [`list_text`] and [`receive_text`], and those
+//! that end in `_alone`, put the whole text of a capture into a sink: the line of each job or frame, and the last line.
+//! For each present subcarrier of each symbol (IEEE Std
 //! 802.11-2012, clause 20.3.11, for symbols and subcarriers) the first nearest vector is found; the labels of a frame's
 //! data subcarriers are decoded by crate `ht_inverse`.
 //!
@@ -25,9 +26,10 @@
 //! job 0 0 1 100 -1 0
 //! ```
 //!
-//! and 110 more, and the answer is `Done { frames: 1, jobs: 112 }`. Its frame's line is
-//! `frame 0 data 10400 pilot 800 code 0 seed zero`: 104 data jobs and 8 pilot jobs, each at 100. Without the last octet
-//! 56 lines are put, no frame is whole, and the answer is `Refused` with Truncated at 1018.
+//! and 110 more, and the answer of `list_jobs` is `Done { frames: 1, jobs: 112 }`. Its frame's line is
+//! `frame 0 data 10400 pilot 800 code 0 seed zero`: 104 data jobs and 8 pilot jobs, each at 100. Behind either `list_text` and
+//! `receive_text` put `end 1 frames`, and answer 1. Without the last octet 56 lines are put, no frame is whole, and the answer
+//! is `Refused` with Truncated at 1018, or that fault.
 #![tactic(auto)]
 
 mod block_lines;
@@ -35,6 +37,7 @@ mod front;
 mod lines;
 mod lister;
 mod listing;
+mod listing_text;
 mod open_frame;
 mod pieces;
 mod receiving;
@@ -48,6 +51,7 @@ pub use ht_feed::{BookFault, Ended};
 pub use ht_results::FrameResult;
 pub use lister::Lister;
 pub use listing::{list_jobs, list_jobs_alone};
+pub use listing_text::{list_text, list_text_alone};
 pub use open_frame::OpenFrame;
 pub use receiving::{receive, receive_alone};
 pub use receiving_text::{receive_text, receive_text_alone};

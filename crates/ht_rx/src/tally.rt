@@ -14,8 +14,8 @@ use ht_rate::{Carrier, Modulation, Rate};
 use ht_results::{PlacedLabels, kind, label_for};
 use std::alloc::{AllocError, Global};
 
-/// What the jobs of a block come to, where they are of a frame of some rate: a worker makes it without the frame, and
-/// whoever has the frame adds two numbers and copies labels.
+/// What the jobs of a block add to a frame of some rate: a worker makes it without the frame, and the receiver that has the
+/// frame adds two numbers and copies labels.
 #[derive(Debug, Drop)]
 pub struct Tally {
     /// The rate by which the jobs' subcarriers, labels and places were looked up.

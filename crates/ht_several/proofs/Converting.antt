@@ -1,11 +1,11 @@
 -- What is read of a bundle and received is put.
-use Rattle.std.proofs.Common.{◌≡◌, ◌≢◌, ◌⊎◌, ℕ, ◌≤◌, List, Result, Ok, Err, OnOk, OnErr, IfErr, length, map, refl, sym, ap, subst, inl, inr, ◌∙◌, arith}
+use Rattle.std.proofs.Common.{◌≡◌, ◌≢◌, ℕ, ◌≤◌, List, Result, Ok, Err, OnOk, IfErr, length, map, refl, sym, ap, subst, inl, inr, ◌∙◌, arith}
 use Rattle.std.proofs.lemmas.List.{length-map}
-use Rattle.ht_io.specs.Devices.{Device, Grows, GrowsByPart, Rose}
+use Rattle.ht_io.specs.Devices.{Device, Grows, GrowsByPart}
 use Rattle.ht_io.specs.Writing.{Growing}
 use Rattle.ht_fields.specs.WholeFiles.{ReadsWhole}
 use Rattle.ht_runs.specs.declared.faults.RunFault.{RunFault}
-use Rattle.ht_runs.specs.declared.faults.RunFault.TheVariants.{NoMemory, Write}
+use Rattle.ht_runs.specs.declared.faults.RunFault.TheVariants.{Write}
 use Rattle.ht_runs.specs.Converted.{ConversionFails, Converted, TakesWhole}
 use Rattle.ht_runs.specs.Filters.{SaysNothing, WithinOutput}
 use Rattle.ht_runs.proofs.Converting.{takes_whole}
@@ -13,12 +13,8 @@ use Rattle.ht_results.specs.Texts.{rx_text}
 use Rattle.ht_bundles.specs.Files.{AreCaptures, bundle_of}
 use Rattle.ht_bundles.specs.Formats.{bundles}
 use Rattle.ht_bundles.proofs.Routes.{bundle_written}
-use Rattle.ht_several.specs.Bundles.{ReceivesTo, many_text, receiving, texts_from}
+use Rattle.ht_several.specs.Bundles.{BreaksOff, PutsOrBreaksOff, ReceivesTo, many_text, receiving, texts_from}
 use Rattle.ht_several.proofs.Texts.{held_by}
-
--- why a part was put: the sink failed, or memory ran out and the sink didn't fail
-abbrev Cause : Device ℕ → Device ℕ → RunFault → Type 0
-Cause c d fault = ((fault ≡ Write) × Rose c d) ⊎ ((fault ≡ NoMemory) × (d.faults ≡ c.faults))
 
 -- what is held is the text of the captures
 pub text_is : (captures : List (List ℕ)) (held : List (List ℕ)) → held ≡ map rx_text captures → texts_from 0 held ≡ many_text captures
@@ -34,16 +30,15 @@ module _ (a b c d : Device ℕ) (captures held : List (List ℕ)) (read : ReadsW
       takes_whole bundles WithinOutput ReceivesTo a b c (bundle_of captures) (texts_from 0 held) captures
       read.1 (bundle_written captures read.0) comes d Puts put
 
-  why : (fault : RunFault) → GrowsByPart c d (texts_from 0 held) → Cause c d fault → ConversionFails receiving a b c d fault
+  why : (fault : RunFault) → GrowsByPart c d (texts_from 0 held) → BreaksOff c d fault → ConversionFails receiving a b c d fault
   why fault part (inl (is, rose)) =
       subst (λ (f : RunFault). ConversionFails receiving a b c d f) (sym is) (takes (λ xs. GrowsByPart c d xs) part, rose)
   why fault part (inr (is, steady)) =
       subst (λ (f : RunFault). ConversionFails receiving a b c d f) (sym is) (inr (takes (λ xs. GrowsByPart c d xs) part))
 
-  pub converts : (result : Result (Unit {0}) RunFault) → OnOk result (Grows c d (texts_from 0 held))
-      → OnErr result (GrowsByPart c d (texts_from 0 held)) → IfErr result (Cause c d) → Converted receiving a b c d SaysNothing result
-  converts (Ok done) grown part cause = (takes (λ xs. Grows c d xs) grown, tt)
-  converts (Err fault) grown part cause = why fault part cause
+  pub converts : (result : Result (Unit {0}) RunFault) → PutsOrBreaksOff c d (texts_from 0 held) result → Converted receiving a b c d SaysNothing result
+  converts (Ok done) puts = (takes (λ xs. Grows c d xs) puts.grown, tt)
+  converts (Err fault) puts = why fault puts.part puts.cause
 
 -- there are few texts
 pub few_texts : (captures : List (List ℕ)) (sinks : List Growing) → AreCaptures captures → map held_by sinks ≡ map rx_text captures → length sinks ≤ 255
@@ -53,7 +48,7 @@ few_texts captures sinks are same =
     omega (arith, as_many, are.few)
 
 -- the sink didn't fail but where the answer says so
-pub steady_else : (result : Result (Unit {0}) RunFault) (c d : Device ℕ) → OnOk result (d.faults ≡ c.faults) → IfErr result (Cause c d)
+pub steady_else : (result : Result (Unit {0}) RunFault) (c d : Device ℕ) → OnOk result (d.faults ≡ c.faults) → IfErr result (BreaksOff c d)
     → result ≢ Err Write → d.faults ≡ c.faults
 steady_else (Ok done) c d steady cause other = steady
 steady_else (Err fault) c d steady (inl (is, rose)) other =

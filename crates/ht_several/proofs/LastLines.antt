@@ -12,7 +12,7 @@ use Rattle.ht_several.specs.declared.many_end.ManyEnd.{ManyEnd}
 use Rattle.ht_several.specs.declared.many_end.ManyEnd.TheVariants.{Read, Write}
 use Rattle.ht_several.specs.Alone.{Alone, Finishes, PutsPart}
 use Rattle.ht_several.specs.Several.{AreLater, Devices, EachEnds, EachHeard, EachInPart, answer_at, devices, end_at, sink_at, source_at}
-use Rattle.ht_several.specs.LastLines.{EachFinishes, EachMayFinish, FinishesAt, KeepSinks}
+use Rattle.ht_several.specs.LastLines.{EachFinishes, EachMayFinish, FinishesAt, KeepSinks, OthersStay}
 use Rattle.ht_several.proofs.Ending.{ended_part, heard_ends, heard_part}
 
 other_number : (i k : ℕ) → nat_eq k i ≡ false → k ≢ i
@@ -47,17 +47,12 @@ module _ {K : Type 0} (sink : K → Device ℕ) (answers : List (Result Ended St
       subst (λ (x : Result Ended StopFault). Finishes x (sink (get_or a at t)) (sink (get_or b at t)) end)
       (get_or_default answers at none (Err StopRead) low) (f t)
 
-  -- only the sink of the capture with this number is another
-  pub record OneChanges (b c : List K) (at : ℕ) : Type 0 where
-    pub others : (t : K) (k : ℕ) → k ≢ at → get_or c k t ≡ get_or b k t
-    pub later : (t : K) → IsLater (sink (get_or b at t)) (sink (get_or c at t))
-    pub as_many : length c ≡ length b
-
-  module _ (a b c : List K) (at : ℕ) (ends : List ManyEnd) (so : SoFar a b at ends) (one : OneChanges b c at) where
+  module _ (a b c : List K) (at : ℕ) (ends : List ManyEnd) (so : SoFar a b at ends) (one : OthersStay b c at)
+      (here-later : (t : K) → IsLater (sink (get_or b at t)) (sink (get_or c at t))) where
     keeps-at : (u : Bool) (k : ℕ) (t : K) → nat_eq k at ≡ u → IsLater (sink (get_or a k t)) (sink (get_or c k t))
     keeps-at true k t e =
         let here : IsLater (sink (get_or b k t)) (sink (get_or c k t)) =
-        subst (λ (n : ℕ). IsLater (sink (get_or b n t)) (sink (get_or c n t))) (sym (same_number at k e)) (one.later t) in
+        subst (λ (n : ℕ). IsLater (sink (get_or b n t)) (sink (get_or c n t))) (sym (same_number at k e)) (here-later t) in
         later-later (sink (get_or a k t)) (sink (get_or b k t)) (sink (get_or c k t)) (so.later.puts k t) here
     keeps-at false k t e =
         subst (λ (x : K). IsLater (sink (get_or a k t)) (sink x)) (sym (one.others t k (other_number at k e))) (so.later.puts k t)

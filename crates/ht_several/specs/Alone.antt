@@ -1,6 +1,6 @@
 -- What is said of one capture among several: its own source and its own sink, before and after, and nothing of another capture.
-use Rattle.std.specs.Prelude.{◌≡◌, ◌⊎◌, ◌<◌, ℕ, List, length, slice_index_or, Result, Ok, Err}
-use Rattle.ht_io.specs.Devices.{Device, Grows, GrowsByPart, Rose}
+use Rattle.std.specs.Prelude.{◌≡◌, ◌≢◌, ◌⊎◌, ◌<◌, ℕ, List, length, slice_index_or, Result, Ok, Err, IfOk, OnErr}
+use Rattle.ht_io.specs.Devices.{Device, Grows, GrowsByPart, IsLater, Rose}
 use Rattle.ht_io.specs.Kinds.{name_of}
 use Rattle.ht_capture.specs.Captures.{capture_of}
 use Rattle.ht_capture.specs.Fields.{captures}
@@ -64,3 +64,14 @@ Finishes (Ok (EndedRefused fault)) sink sink' end = PutsLast (refused_text (name
 Finishes (Err StopRead) sink sink' end = (end ≡ Read) × (sink' ≡ sink)
 Finishes (Err StopWrite) sink sink' end = (end ≡ Write) × (sink' ≡ sink)
 Finishes (Err StopMemory) sink sink' end = ⊥
+
+-- A call answered how a capture ends, behind a last line that it put or didn't: the sink, which is seen so, before and after.
+-- `Ends` says what that end means of the sink.
+pub record EndsCapture {K E : Type 0} (sink : K → Device ℕ) (Ends : Device ℕ → Device ℕ → ManyEnd → Type 0) (before after : K) (result : Result ManyEnd E)
+    : Type 0 where
+  pub ends : IfOk result (Ends (sink before) (sink after))
+  -- where the end isn't `Write`, the sink didn't fail
+  pub writes : IfOk result (λ end. end ≢ Write → (sink after).faults ≡ (sink before).faults)
+  -- without memory for the line the sink is as before
+  pub memory : OnErr result (after ≡ before)
+  pub later : IsLater (sink before) (sink after)

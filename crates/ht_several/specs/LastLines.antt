@@ -1,5 +1,6 @@
 -- What is said of the last lines of several captures.
-use Rattle.std.specs.Prelude.{◌≡◌, ◌≢◌, ◌⊎◌, ℕ, ◌<◌, List, length, slice_index_or, Result}
+use Rattle.std.specs.Prelude.{◌≡◌, ◌≢◌, ◌⊎◌, ℕ, ◌<◌, List, length, slice_index_or, Result, IfOk, OnErr}
+use Rattle.std.specs.Global.{Vec}
 use Rattle.ht_io.specs.Devices.{Device, IsLater}
 use Rattle.ht_runs.specs.declared.faults.StopFault.{StopFault}
 use Rattle.ht_feed.specs.declared.ended.Ended.{Ended}
@@ -7,6 +8,11 @@ use Rattle.ht_several.specs.declared.many_end.ManyEnd.{ManyEnd}
 use Rattle.ht_several.specs.declared.many_end.ManyEnd.TheVariants.{Write}
 use Rattle.ht_several.specs.Alone.{Finishes}
 use Rattle.ht_several.specs.Several.{answer_at, end_at}
+
+-- as many sinks as before, of which all but the one with this number stay as they were
+pub record OthersStay {K : Type 0} (before after : List K) (at : ℕ) : Type 0 where
+  pub as_many : length after ≡ length before
+  pub others : (t : K) (k : ℕ) → k ≢ at → slice_index_or after k t ≡ slice_index_or before k t
 
 -- the sinks of several captures, which are seen so, before and after
 module _ {K : Type 0} (sink : K → Device ℕ) (before after : List K) where
@@ -35,3 +41,10 @@ module _ {K : Type 0} (sink : K → Device ℕ) (before after : List K) where
     -- the same of each capture
     abbrev pub EachMayFinish : Type 0
     EachMayFinish = (k : ℕ) → k < length answers → MayFinish k
+
+    -- A call put the last lines, and answered how each capture ended.
+    pub record FinishesEach {E : Type 0} (result : Result (Vec ManyEnd) E) : Type 0 where
+      pub finishes : IfOk result (λ ends. EachFinishes ends.items)
+      -- where memory ran out, some captures have their last line, each whole or, where its sink failed, in part
+      pub memory : OnErr result EachMayFinish
+      pub later : KeepSinks

@@ -1,12 +1,10 @@
 //! The devices of the captures of a bundle, and their texts.
-ghost use Rattle.std.specs.Prelude.{◌≡◌, ◌⊎◌, ◌+◌, ◌≤◌, [], ◌++◌, length, map, replicate, Err, IfOk, IfErr, OnErr, OnOk};
+ghost use Rattle.std.specs.Prelude.{◌≡◌, ◌≤◌, [], ◌++◌, length, map, replicate, IfOk};
 ghost use Rattle.std.specs.Bool.{MatchBool};
-ghost use Rattle.ht_io.specs.Devices.{Grows, GrowsByPart, IsLater, Rose};
 ghost use Rattle.ht_io.specs.Writing.{Growing};
-ghost use Rattle.ht_runs.specs.declared.faults.RunFault.TheVariants.{NoMemory, Write};
 ghost use Rattle.ht_text.specs.Lines.{capture_text};
 ghost use Rattle.ht_several.specs.Alone.{HasText, HaveText};
-ghost use Rattle.ht_several.specs.Bundles.{texts_from};
+ghost use Rattle.ht_several.specs.Bundles.{PutsOrBreaksOff, texts_from};
 
 use crate::many_end::ManyEnd;
 use ht_bundles::Bundled;
@@ -67,12 +65,7 @@ pub fn have_text(ends: &[ManyEnd]) -> bool
 
 // Puts the line `capture K`, and behind it the capture's text.
 fn put_text<K: Sink>(alloc: Global, number: u8, text: &[u8], sink: &mut K) -> Result<(), RunFault>
-    ensures grown { OnOk result (Grows (K.shown sink.old) (K.shown sink.new) (capture_text number ++ text.now)) }
-    ensures steady { OnOk result ((K.shown sink.new).faults ≡ (K.shown sink.old).faults) }
-    ensures part { OnErr result (GrowsByPart (K.shown sink.old) (K.shown sink.new) (capture_text number ++ text.now)) }
-    ensures cause { IfErr result (λ fault. ((fault ≡ Write) × Rose (K.shown sink.old) (K.shown sink.new))
-        ⊎ ((fault ≡ NoMemory) × ((K.shown sink.new).faults ≡ (K.shown sink.old).faults))) }
-    ensures later { IsLater (K.shown sink.old) (K.shown sink.new) }
+    ensures { PutsOrBreaksOff (K.shown sink.old) (K.shown sink.new) (capture_text number ++ text.now) result }
 {
     let line = capture_line(alloc, number)?;
     sink.put(&line)?;
@@ -86,12 +79,7 @@ fn put_text<K: Sink>(alloc: Global, number: u8, text: &[u8], sink: &mut K) -> Re
 /// part of the text, from its front, was put.
 pub fn put_texts<K: Sink>(alloc: Global, texts: &[GrowSink], sink: &mut K) -> Result<(), RunFault>
     requires few { length texts.now ≤ 255 }
-    ensures grown { OnOk result (Grows (K.shown sink.old) (K.shown sink.new) (texts_from 0 (map (λ (s : Growing). s.held) texts.now))) }
-    ensures steady { OnOk result ((K.shown sink.new).faults ≡ (K.shown sink.old).faults) }
-    ensures part { OnErr result (GrowsByPart (K.shown sink.old) (K.shown sink.new) (texts_from 0 (map (λ (s : Growing). s.held) texts.now))) }
-    ensures cause { IfErr result (λ fault. ((fault ≡ Write) × Rose (K.shown sink.old) (K.shown sink.new))
-        ⊎ ((fault ≡ NoMemory) × ((K.shown sink.new).faults ≡ (K.shown sink.old).faults))) }
-    ensures later { IsLater (K.shown sink.old) (K.shown sink.new) }
+    ensures { PutsOrBreaksOff (K.shown sink.old) (K.shown sink.new) (texts_from 0 (map (λ (s : Growing). s.held) texts.now)) result }
 {
     for at in 0..texts.len() {
         let text = texts[at].held();

@@ -1,9 +1,7 @@
 //! The last lines of several captures.
-ghost use Rattle.std.specs.Prelude.{◌≡◌, ◌≢◌, ℕ, ◌<◌, length, slice_index_or, IfOk, OnErr};
-ghost use Rattle.ht_io.specs.Devices.{IsLater};
-ghost use Rattle.ht_several.specs.declared.many_end.ManyEnd.TheVariants.{Write as WriteEnd};
-ghost use Rattle.ht_several.specs.Alone.{Finishes};
-ghost use Rattle.ht_several.specs.LastLines.{EachFinishes, EachMayFinish, KeepSinks};
+ghost use Rattle.std.specs.Prelude.{◌≡◌, ◌<◌, length, slice_index_or};
+ghost use Rattle.ht_several.specs.Alone.{EndsCapture, Finishes};
+ghost use Rattle.ht_several.specs.LastLines.{FinishesEach, OthersStay};
 
 use crate::last_line::finish_one;
 use crate::many_end::ManyEnd;
@@ -20,13 +18,8 @@ fn finish_at<K: Sink>(
     at: usize,
 ) -> Result<ManyEnd, AllocError>
     requires sink { at < length sinks.old }
-    ensures finishes { IfOk result (λ end. (t : K) → Finishes answer (K.shown (slice_index_or sinks.old at t)) (K.shown (slice_index_or sinks.new at t)) end) }
-    ensures writes { IfOk result (λ end. (t : K) → end ≢ WriteEnd
-        → (K.shown (slice_index_or sinks.new at t)).faults ≡ (K.shown (slice_index_or sinks.old at t)).faults) }
-    ensures memory { OnErr result ((t : K) → slice_index_or sinks.new at t ≡ slice_index_or sinks.old at t) }
-    ensures later { (t : K) → IsLater (K.shown (slice_index_or sinks.old at t)) (K.shown (slice_index_or sinks.new at t)) }
-    ensures others { (t : K) (k : ℕ) → k ≢ at → slice_index_or sinks.new k t ≡ slice_index_or sinks.old k t }
-    ensures as_many { length sinks.new ≡ length sinks.old }
+    ensures ends { (t : K) → EndsCapture K.shown (Finishes answer) (slice_index_or sinks.old at t) (slice_index_or sinks.new at t) result }
+    ensures others { OthersStay sinks.old sinks.new at }
 {
     finish_one(alloc, answer, &mut sinks[at])
 }
@@ -42,9 +35,7 @@ pub fn finish<K: Sink>(
     sinks: &mut [K],
 ) -> Result<Vec<ManyEnd>, AllocError>
     requires pairs { length sinks.old ≡ length answers.now }
-    ensures finishes { IfOk result (λ ends. EachFinishes K.shown sinks.old sinks.new answers.now ends.items) }
-    ensures memory { OnErr result (EachMayFinish K.shown sinks.old sinks.new answers.now) }
-    ensures later { KeepSinks K.shown sinks.old sinks.new }
+    ensures { FinishesEach K.shown sinks.old sinks.new answers.now result }
 {
     let mut ends = Vec::new(alloc);
     for at in 0..answers.len() {

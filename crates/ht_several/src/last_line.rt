@@ -1,10 +1,8 @@
 //! The last line of a capture.
-ghost use Rattle.std.specs.Prelude.{◌≡◌, ◌≢◌, ℕ, List, IfOk, OnErr};
-ghost use Rattle.ht_io.specs.Devices.{IsLater};
+ghost use Rattle.std.specs.Prelude.{◌≡◌, ℕ, List, IfOk};
 ghost use Rattle.ht_io.specs.Kinds.{name_of};
 ghost use Rattle.ht_text.specs.Lines.{end_text, refused_text};
-ghost use Rattle.ht_several.specs.declared.many_end.ManyEnd.TheVariants.{Write as WriteEnd};
-ghost use Rattle.ht_several.specs.Alone.{Finishes, PutsLast};
+ghost use Rattle.ht_several.specs.Alone.{EndsCapture, Finishes, PutsLast};
 
 use crate::many_end::ManyEnd;
 use ht_feed::Ended;
@@ -19,11 +17,8 @@ fn put_last<K: Sink>(
     then: ManyEnd,
     sink: &mut K,
 ) -> Result<ManyEnd, AllocError>
-    ensures puts { IfOk result (λ end. (text : List ℕ) → IfOk line (λ octets. octets.items ≡ text)
-        → PutsLast text then (K.shown sink.old) (K.shown sink.new) end) }
-    ensures memory { OnErr result (sink.new ≡ sink.old) }
-    ensures writes { IfOk result (λ end. end ≢ WriteEnd → (K.shown sink.new).faults ≡ (K.shown sink.old).faults) }
-    ensures later { IsLater (K.shown sink.old) (K.shown sink.new) }
+    ensures { EndsCapture K.shown (λ before after end. (text : List ℕ) → IfOk line (λ octets. octets.items ≡ text)
+        → PutsLast text then before after end) sink.old sink.new result }
 {
     let Ok(line) = line else {
         return Err(AllocError);
@@ -36,10 +31,7 @@ fn put_last<K: Sink>(
 
 // Ends a whole capture. One counts its frames by two octets, so there are never more of them.
 fn put_end<K: Sink>(alloc: Global, frames: u64, sink: &mut K) -> Result<ManyEnd, AllocError>
-    ensures puts { IfOk result (PutsLast (end_text frames) (ManyEnd.Done frames) (K.shown sink.old) (K.shown sink.new)) }
-    ensures memory { OnErr result (sink.new ≡ sink.old) }
-    ensures writes { IfOk result (λ end. end ≢ WriteEnd → (K.shown sink.new).faults ≡ (K.shown sink.old).faults) }
-    ensures later { IsLater (K.shown sink.old) (K.shown sink.new) }
+    ensures { EndsCapture K.shown (PutsLast (end_text frames) (ManyEnd.Done frames)) sink.old sink.new result }
 {
     if frames > 65535 {
         return Err(AllocError);
@@ -53,10 +45,7 @@ fn put_refused<K: Sink>(
     fault: FormatFault,
     sink: &mut K,
 ) -> Result<ManyEnd, AllocError>
-    ensures puts { IfOk result (PutsLast (refused_text (name_of fault.kind) fault.offset) (ManyEnd.Refused fault) (K.shown sink.old) (K.shown sink.new)) }
-    ensures memory { OnErr result (sink.new ≡ sink.old) }
-    ensures writes { IfOk result (λ end. end ≢ WriteEnd → (K.shown sink.new).faults ≡ (K.shown sink.old).faults) }
-    ensures later { IsLater (K.shown sink.old) (K.shown sink.new) }
+    ensures { EndsCapture K.shown (PutsLast (refused_text (name_of fault.kind) fault.offset) (ManyEnd.Refused fault)) sink.old sink.new result }
 {
     let line = refused_line(alloc, fault.kind.name(), fault.offset);
     put_last(line, ManyEnd::Refused(fault), sink)
@@ -69,10 +58,7 @@ pub(crate) fn finish_one<K: Sink>(
     answer: Result<Ended, StopFault>,
     sink: &mut K,
 ) -> Result<ManyEnd, AllocError>
-    ensures finishes { IfOk result (Finishes answer (K.shown sink.old) (K.shown sink.new)) }
-    ensures writes { IfOk result (λ end. end ≢ WriteEnd → (K.shown sink.new).faults ≡ (K.shown sink.old).faults) }
-    ensures memory { OnErr result (sink.new ≡ sink.old) }
-    ensures later { IsLater (K.shown sink.old) (K.shown sink.new) }
+    ensures { EndsCapture K.shown (Finishes answer) sink.old sink.new result }
 {
     match answer {
         Ok(Ended::Done { frames, .. }) => put_end(alloc, frames, sink),

@@ -8,12 +8,12 @@ use Rattle.ht_io.specs.declared.faults.InFault.{InFault}
 use Rattle.ht_io.specs.declared.faults.InFault.TheVariants.{Format, Read, NoMemory}
 use Rattle.ht_io.specs.declared.faults.FormatFault.{FormatFault}
 use Rattle.ht_fields.specs.Meanings.{Meaning}
-use Rattle.ht_fields.specs.Readers.{ReaderView, Gives, Refuses, RunsOut, Breaks}
+use Rattle.ht_fields.specs.Readers.{ReaderView, Gives, Refuses, RunsOut, Breaks, Completes}
 use Rattle.ht_metric.specs.Jobs.{JobView}
 use Rattle.ht_capture.specs.declared.items.FrameHead.{FrameHead}
 use Rattle.ht_capture.specs.Readers.{Progress}
 use Rattle.ht_feed.specs.Items.{Item, Begins, One, Numbered}
-use Rattle.ht_feed.specs.Reading.{Completes, CountsBlock, CountsHead, Halts, view}
+use Rattle.ht_feed.specs.Reading.{CountsBlock, CountsHead, Halts, view}
 use Rattle.ht_capture_blocks.specs.Captures.{capture_at, capture_counts, capture_means}
 use Rattle.ht_soft_blocks.specs.Blocks.{AreOfRate}
 use Rattle.ht_soft_blocks.specs.Halved.{halves_of_all, in_halves, numbered_items}

@@ -27,7 +27,7 @@ use Rattle.ht_results.proofs.Folded.{IsCutOff, IsGood, cut_good, headed_is, whol
 use Rattle.ht_results.proofs.Whole.{whole_ends}
 use Rattle.ht_soft_blocks.specs.Halved.{halves_of, in_halves, numbered_items}
 use Rattle.ht_soft_rx.specs.declared.soft_result.SoftResult.{SoftResult}
-use Rattle.ht_soft_rx.specs.Folding.{Half, Weighing, result_if, results_from, taken_of, weighing_of, with_found}
+use Rattle.ht_soft_rx.specs.Folding.{Half, Weighing, result_if, results_from, half_found, weighing_of, with_found}
 use Rattle.ht_soft_rx.specs.Jobs.{weight_fold, weight_plan}
 use Rattle.ht_soft_rx.specs.Results.{soft_result, soft_results_of}
 use Rattle.ht_soft_rx.specs.Weights.{job_weights, weights_of_job}
@@ -152,13 +152,13 @@ halves_fold octets g over =
 
 -- nothing is taken of the number of a half
 number_free : (head : FrameHead) (n : ℕ) (items : List (Item FrameHead))
-    → map taken_of (block_headed head (numbered_items n items)) ≡ map taken_of (block_headed head items)
+    → map half_found (block_headed head (numbered_items n items)) ≡ map half_found (block_headed head items)
 number_free head n [] = refl
 number_free head n (Begins next ∷ items) = number_free next n items
 number_free head n (One job ∷ items) = ap (λ (hs : List Half). seen head job ∷ hs) (number_free head (n + 1) items)
 
 ones_headed : (head : FrameHead) (jobs : List JobView) (items : List (Item FrameHead))
-    → map taken_of (block_headed head (map One jobs ++ items)) ≡ map (seen head) jobs ++ map taken_of (block_headed head items)
+    → map half_found (block_headed head (map One jobs ++ items)) ≡ map (seen head) jobs ++ map half_found (block_headed head items)
 ones_headed head [] items = refl
 ones_headed head (job ∷ jobs) items = ap (λ (hs : List Half). seen head job ∷ hs) (ones_headed head jobs items)
 
@@ -167,7 +167,7 @@ abbrev taken_with : Headed → List Half
 taken_with h = map (seen h.head) (halves_of h.head.rate h.job)
 
 halves_headed : (head : FrameHead) (items : List CaptureItem)
-    → map taken_of (block_headed head (in_halves head (items_of items))) ≡ flat_map taken_with (headed head items)
+    → map half_found (block_headed head (in_halves head (items_of items))) ≡ flat_map taken_with (headed head items)
 halves_headed head [] = refl
 halves_headed head (Frame next ∷ items) = halves_headed next items
 halves_headed head (Job job ∷ items) =
@@ -194,7 +194,7 @@ any_start v w (h ∷ hs) none over =
 
 -- the halves of a capture's jobs, numbered anew, behind whatever head
 pub halves_give : (octets : List ℕ) (head : FrameHead) (w : Weighing) → w.left ≡ 0
-    → results_from w (map taken_of (block_headed head (numbered_items 0 (in_halves head (items_of (capture_of octets).items))))) ≡ soft_results_of octets
+    → results_from w (map half_found (block_headed head (numbered_items 0 (in_halves head (items_of (capture_of octets).items))))) ≡ soft_results_of octets
 halves_give octets head w none =
     let items : List CaptureItem = (capture_of octets).items in
     let start : SoFar FrameHead ℤ = record { head = head; data_sum = 0; pilot_sum = 0; labels = []; left = 0 } in

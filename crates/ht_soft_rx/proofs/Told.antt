@@ -16,20 +16,20 @@ use Rattle.ht_runs.specs.declared.faults.StopFault.{StopFault}
 use Rattle.ht_runs.specs.Streamed.{Streamed}
 use Rattle.ht_soft_blocks.specs.Readers.{HalvesView, soft_at, soft_means}
 use Rattle.ht_capture_laws.specs.Items.{whole_frames}
-use Rattle.ht_endings.specs.Endings.{HasFrames as BlockFrames, IsTold, end_as}
+use Rattle.ht_endings.specs.Endings.{EndsLines, HasFrames as BlockFrames, IsTold, end_as}
 use Rattle.ht_receive.specs.Ends.{StreamsText}
 use Rattle.ht_receive.specs.Receiving.{books}
-use Rattle.ht_receive.proofs.Streaming.{EndsLines, streams}
+use Rattle.ht_receive.proofs.Streaming.{streams}
 use Rattle.ht_feed.specs.declared.ended.Ended.{Ended}
 use Rattle.ht_feed.specs.Inputs.{TellsInput}
 use Rattle.ht_feed.specs.Items.{Item, Begins, One, frames_of as block_frames, headed as block_headed}
 use Rattle.ht_results.specs.Texts.{frames_of, last_line, last_of}
-use Rattle.ht_runs.specs.Formats.{filter, last_text}
+use Rattle.ht_runs.specs.Formats.{IsLined, filter, last_text}
 use Rattle.ht_soft_blocks.specs.Halved.{halved, halves_of, in_halves, numbered_items}
 use Rattle.ht_text.specs.Lines.{end_text}
 use Rattle.ht_soft_rx.specs.declared.soft_result.SoftResult.{SoftResult}
 use Rattle.ht_frames.specs.Gathering.{booked_in}
-use Rattle.ht_soft_rx.specs.Folding.{Weighing, results_from, results_in, taken_of}
+use Rattle.ht_soft_rx.specs.Folding.{Weighing, results_from, results_in, half_found}
 use Rattle.ht_soft_rx.specs.Halved.{HasFrames, halved_items}
 use Rattle.ht_soft_rx.specs.Results.{soft_result, soft_results_of}
 use Rattle.ht_soft_rx.specs.Texts.{soft_line, soft_lines_of, soft_rx_text}
@@ -70,8 +70,12 @@ same_lines : (a b : List ℕ) → capture_of a ≡ capture_of b → soft_lines_o
 unfolding soft_lines_of soft_results_of
 same_lines a b is = ap (λ (m : Meaning CaptureItem). flat_map soft_line (map soft_result (whole_frames m.items))) is
 
+-- the text of a capture ends with the line of its fault, or with the number of its frames
+pub lines_lined : (head : FrameHead) → IsLined captures soft_rx_text soft_lines_of (end_as captures (halved_items head))
+lines_lined head = record { text_is = text_is head; same = same_lines }
+
 lines_are : (head : FrameHead) (w : Weighing) (octets : List ℕ) → w.left ≡ 0
-    → flat_map soft_line (results_from w (map taken_of (block_headed head (halved_items head (capture_of octets).items)))) ≡ soft_lines_of octets
+    → flat_map soft_line (results_from w (map half_found (block_headed head (halved_items head (capture_of octets).items)))) ≡ soft_lines_of octets
 unfolding soft_lines_of
 lines_are head w octets none = ap (λ (rs : List SoftResult). flat_map soft_line rs) (halves_give octets head w none)
 
@@ -79,7 +83,7 @@ pub soft_told : (head : FrameHead) (w : Weighing) → w.left ≡ 0
     → IsTold captures (halved_items head) head (booked_in soft_line (results_in w))
     soft_rx_text soft_lines_of
 soft_told head w none = record {
-  lined = record { text_is = text_is head; same = same_lines };
+  lined = lines_lined head;
   are = λ octets. lines_are head w octets none;
 }
 

@@ -27,8 +27,8 @@ abbrev pub half_at : FrameHead → Place → ℕ → Half
 half_at head place distance = record { head = head; place = place; distance = distance }
 
 -- what is taken of a half that comes as a job
-abbrev pub taken_of : Headed FrameHead → Half
-taken_of h = half_at h.head h.job.place (near h.job).distance
+abbrev pub half_found : Headed FrameHead → Half
+half_found h = half_at h.head h.job.place (near h.job).distance
 
 -- a frame under way: its head, its weights so far by their places, how many of its jobs are still to come, how many
 -- weights of the next job are there, and the least distance where its next bit is 0, once that half came
@@ -91,7 +91,7 @@ results_from w (h ∷ hs) = result_if (with_half h w) ++ results_from (with_half
 
 -- the results that the halves of blocks give
 abbrev pub results_in : Weighing → List (Headed FrameHead) → List SoftResult
-results_in w halves = results_from w (map taken_of halves)
+results_in w halves = results_from w (map half_found halves)
 
 -- no frame is under way
 abbrev pub no_frame : Weighing

@@ -7,7 +7,7 @@ use Rattle.ht_capture.specs.declared.items.Item.{Item as CaptureItem}
 use Rattle.ht_capture_blocks.specs.Captures.{items_of, mapped}
 use Rattle.ht_feed.specs.Items.{Item, headed}
 use Rattle.ht_soft_blocks.specs.Halved.{halved, in_halves, numbered_items}
-use Rattle.ht_soft_rx.specs.Folding.{Half, taken_of}
+use Rattle.ht_soft_rx.specs.Folding.{Half, half_found}
 
 -- the heads and the halves of the items of a capture, which stand behind this head
 abbrev pub halved_items : FrameHead → List CaptureItem → List (Item FrameHead)
@@ -19,4 +19,4 @@ HasFrames frames octets = frames ≡ frames_of (capture_of octets).items
 
 -- what is taken of the halves of a capture's jobs, one after another, which stand behind this head
 abbrev pub halves_of_capture : FrameHead → List ℕ → List Half
-halves_of_capture head octets = map taken_of (headed head (halved head (mapped (capture_of octets))).items)
+halves_of_capture head octets = map half_found (headed head (halved head (mapped (capture_of octets))).items)

@@ -33,9 +33,9 @@ pub record IsBestOf (old : Reached) (all : List Reached) (new : Reached) : Type 
   pub old_is_not : better old new ≡ false
   pub none_is : (v : Reached) → Among all v → better v new ≡ false
 
--- the levels of a search and the best ones so far have room for each coordinate
-pub record HasRoom (job : JobView) (xs best : List ℤ) : Type 0 where
-  pub room : length xs ≡ 2 * length job.system
+-- the levels of a search and the best ones so far are two for each stream
+pub record AreSized (job : JobView) (xs best : List ℤ) : Type 0 where
+  pub size : length xs ≡ 2 * length job.system
   pub same : length best ≡ length xs
   pub levels : All (λ x. unsigned_abs x ≤ 7) xs
 
@@ -48,16 +48,16 @@ pub record IsSearched (cs : List Real) (place p : ℕ) (xs : List ℤ) (old : Re
   pub less : now.1 ≤ old.1
   pub steps : (rho : ℕ) → p ≤ rho → old.1 ≤ rho → after + 1 ≤ before + 2 * inside rho cs (drop place xs) p
 
--- a job of this number of streams, and levels that have room for each of its coordinates
+-- a job of this number of streams, and two levels for each
 pub record IsOpen (j : JobView) (n : ℕ) (xs : List ℤ) : Type 0 where
   pub job : IsJob j
   pub streams : n ≡ length j.system
-  pub room : length xs ≡ 2 * length j.system
+  pub size : length xs ≡ 2 * length j.system
   pub levels : All (λ x. unsigned_abs x ≤ 7) xs
 
 -- the best vector of a job, its distance, and the steps before and after the search
 pub record IsBest (job : JobView) (old levels : List ℤ) (distance before after : ℕ) : Type 0 where
-  pub room : length levels ≡ length old
+  pub size : length levels ≡ length old
   pub best : IsBestOf (rounding (from_last job.system job.grid) [] 0) (leaves (from_last job.system job.grid) [] 0) (levels, distance)
   pub bound : distance < 2 ^ 66
   pub steps : after + 1 ≤ before + 2 * inside_of job

@@ -144,7 +144,7 @@ struct Rounding {
 #[inline(always)]
 fn rounded<A: Look>(job: &Job, streams: u8, levels: &mut [i8]) -> Rounding
     requires { IsOpen job.now streams levels.old }
-    ensures room { length levels.new ≡ length levels.old }
+    ensures size { length levels.new ≡ length levels.old }
     ensures levels { All (λ x. unsigned_abs x ≤ 7) levels.new }
     ensures found { rounding (from_last job.now.system job.now.grid) [] 0 ≡ (levels.new, result.distance) }
     ensures alone { result.is_alone ≡ true
@@ -163,8 +163,8 @@ fn rounded<A: Look>(job: &Job, streams: u8, levels: &mut [i8]) -> Rounding
 // The best of a vector and all others, and its distance.
 #[inline(never)]
 fn better<L: Ledger>(job: &Job, best: &mut [i8], distance: u128, steps: &mut Steps<L>) -> u128
-    requires room { length best.old ≡ 2 * length job.now.system }
-    ensures room { length best.new ≡ length best.old }
+    requires size { length best.old ≡ 2 * length job.now.system }
+    ensures size { length best.new ≡ length best.old }
     ensures less { result ≤ distance }
     ensures best { IsBestOf (best.old, distance) (leaves (from_last job.now.system job.now.grid) [] 0) (best.new, result) }
     ensures steps { steps.new + 1 ≤ steps.old + 2 * inside distance (from_last job.now.system job.now.grid) [] 0 }

@@ -25,7 +25,7 @@ pub struct Remainder {
 pub fn remainder_of(job: &Job, k: u8, levels: &[i8]) -> Remainder
     requires first { 1 ≤ k }
     requires last { k ≤ length job.now.system }
-    requires room { length levels.now ≡ 2 * length job.now.system }
+    requires size { length levels.now ≡ 2 * length job.now.system }
     requires levels { All (λ x. unsigned_abs x ≤ 7) levels.now }
     ensures d { result.d ≡ (q_at job.now.system job.now.grid (k - 1)).diagonal }
     ensures re { (q : ℤ) → result.re ≡ target (i_at job.now.system job.now.grid (k - 1)) (q ∷ drop (2 * k) levels.now) }
@@ -45,7 +45,7 @@ pub fn remainder_of(job: &Job, k: u8, levels: &[i8]) -> Remainder
 fn left_of(system: &System, k: u8, levels: &[i8]) -> Complex
     requires first { 1 ≤ k }
     requires last { k ≤ length system.now }
-    requires room { length levels.now ≡ 2 * length system.now }
+    requires size { length levels.now ≡ 2 * length system.now }
     requires levels { All (λ x. unsigned_abs x ≤ 7) levels.now }
     ensures re { result.re ≡ left_i system.now k (drop (2 * k) levels.now) }
     ensures im { result.im ≡ left_q system.now k (drop (2 * k) levels.now) }

@@ -22,11 +22,11 @@ pub(crate) fn round<A: Look>(
     spare: &mut u64,
 )
     requires last { k ≤ length job.now.system }
-    requires room { length levels.old ≡ 2 * length job.now.system }
+    requires size { length levels.old ≡ 2 * length job.now.system }
     requires levels { All (λ x. unsigned_abs x ≤ 7) levels.old }
     requires small { distance.old + 2 ^ 65 * k < 2 ^ 128 }
     ensures found { rounding (down job.now.system job.now.grid k) (drop (2 * k) levels.old) distance.old ≡ (levels.new, distance.new) }
-    ensures room { distance.new ≤ distance.old + (2 ^ 63 + 2 ^ 56) * k }
+    ensures bound { distance.new ≤ distance.old + (2 ^ 63 + 2 ^ 56) * k }
     ensures others { 0 < spare.new → (v : Reached) → Among (leaves (down job.now.system job.now.grid k) (drop (2 * k) levels.old) distance.old) v
         → (v ≡ (levels.new, distance.new)) ⊎ (distance.new + spare.new ≤ v.1) }
     ensures less { 0 < spare.new → distance.new + spare.new ≤ distance.old + spare.old }

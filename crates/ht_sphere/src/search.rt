@@ -1,7 +1,7 @@
 //! The search through the tree of suffixes.
 ghost use Rattle.std.specs.Prelude.{◌≡◌, [], ◌∷◌, ◌+◌, ◌-◌, ◌*◌, ◌^◌, ◌<◌, ◌≤◌, length, drop};
 ghost use Rattle.ht_sphere.specs.Coordinates.{i_at, down, from_q, from_i, IsAimed};
-ghost use Rattle.ht_sphere.specs.Searching.{better, HasRoom, IsBestOf, IsSearched};
+ghost use Rattle.ht_sphere.specs.Searching.{better, AreSized, IsBestOf, IsSearched};
 
 use crate::remainder::{cost, remainder_of};
 use ht_metric::Job;
@@ -39,7 +39,7 @@ pub(crate) fn search<L: Ledger>(
     steps: &mut Steps<L>,
 )
     requires last { k ≤ length job.now.system }
-    requires room { HasRoom job.now levels.old best.old }
+    requires size { AreSized job.now levels.old best.old }
     requires small { partial + 2 ^ 65 * k < 2 ^ 128 }
     ensures { IsSearched (down job.now.system job.now.grid k) (2 * k) partial levels.old (best.old, distance.old) steps.old
         levels.new (best.new, distance.new) steps.new }
@@ -64,7 +64,7 @@ fn quadrature<L: Ledger>(
 )
     requires first { 1 ≤ k }
     requires last { k ≤ length job.now.system }
-    requires room { HasRoom job.now levels.old best.old }
+    requires size { AreSized job.now levels.old best.old }
     requires small { partial + 2 ^ 65 * k < 2 ^ 128 }
     ensures { IsSearched (from_q job.now.system job.now.grid (k - 1)) (2 * k) partial levels.old (best.old, distance.old) steps.old
         levels.new (best.new, distance.new) steps.new }
@@ -97,7 +97,7 @@ fn in_phase<L: Ledger>(
 )
     requires first { 1 ≤ k }
     requires last { k ≤ length job.now.system }
-    requires room { HasRoom job.now levels.old best.old }
+    requires size { AreSized job.now levels.old best.old }
     requires small { partial + 2 ^ 65 * k < 2 ^ 128 + 2 ^ 64 }
     requires aimed { IsAimed (i_at job.now.system job.now.grid (k - 1)) (drop (2 * k - 1) levels.old) d target }
     ensures { IsSearched (from_i job.now.system job.now.grid (k - 1)) (2 * k - 1) partial levels.old (best.old, distance.old) steps.old

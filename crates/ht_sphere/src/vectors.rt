@@ -13,7 +13,7 @@ const NO_POINT: Point = Point { i: 0, q: 0 };
 pub(crate) fn vector_of(streams: u8, levels: &[i8]) -> Vector
     requires some { 1 ≤ streams }
     requires few { streams ≤ 4 }
-    requires room { length levels.now ≡ 2 * streams }
+    requires size { length levels.now ≡ 2 * streams }
     ensures { result ≡ points_from levels.now }
 {
     Vector::of(streams, points_of(streams, levels))
@@ -24,7 +24,7 @@ pub(crate) fn vector_of(streams: u8, levels: &[i8]) -> Vector
 fn points_of(streams: u8, levels: &[i8]) -> [Point; 4]
     requires some { 1 ≤ streams }
     requires few { streams ≤ 4 }
-    requires room { length levels.now ≡ 2 * streams }
+    requires size { length levels.now ≡ 2 * streams }
     ensures front { take streams result ≡ points_from levels.now }
     ensures unused { drop streams result ≡ replicate (4 - streams) no_point }
 {

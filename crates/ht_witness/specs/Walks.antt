@@ -10,19 +10,19 @@ use Rattle.ht_sphere.specs.Searching.{better}
 use Rattle.ht_witness.specs.declared.check_fault.CheckFault.{CheckFault}
 use Rattle.ht_witness.specs.declared.check_fault.CheckFault.TheVariants.{Early, Better, Short, Long}
 
--- A walk can go on at stream k, counted from 1: there is such a stream in the job, the levels have room for each of its
--- coordinates and each is from -7 to 7, and the partial distance, with 2^65 for each of the streams 1 to k, stays below a bound.
+-- A walk can go on at stream k, counted from 1: there is such a stream in the job, the levels are two for each of its
+-- streams and each is from -7 to 7, and the partial distance, with 2^65 for each of the streams 1 to k, stays below a bound.
 pub record CanWalk (job : JobView) (k : ℕ) (xs : List ℤ) (partial bound : ℕ) : Type 0 where
   pub first : 1 ≤ k
   pub last : k ≤ length job.system
-  pub room : length xs ≡ 2 * length job.system
+  pub size : length xs ≡ 2 * length job.system
   pub levels : All (λ x. unsigned_abs x ≤ 7) xs
   pub small : partial + 2 ^ 65 * k < bound
 
 -- levels that are the chosen ones from a place on
 pub record AreChosen (place : ℕ) (old xs : List ℤ) : Type 0 where
   pub levels : All (λ x. unsigned_abs x ≤ 7) xs
-  pub room : length xs ≡ length old
+  pub size : length xs ≡ length old
   pub chosen : drop place xs ≡ drop place old
 
 -- a suffix: the coordinates in front of it, the next one first, its levels, and its partial distance

@@ -50,15 +50,15 @@ value_of words setting = option_map_or (digits_value 10) (given (name_of setting
 abbrev pub are_accepted : List Setting → List (List ℕ) → Bool
 are_accepted settings words = is_plain settings words && list_all (λ setting. admits setting (value_of words setting)) settings
 
--- the options of `detect`, `rx`, `soft`, `many` and `lrx`
+-- the options of a command with workers
 abbrev pub for_workers : List Setting
 for_workers = Workers ∷ Window ∷ []
 
--- the options of `channel` and `lchannel`
+-- the options of a command that passes frames through a channel
 abbrev pub for_channel : List Setting
 for_channel = Seed ∷ Noise ∷ []
 
--- the options of `demo`
+-- the options of a command that makes its frames
 abbrev pub for_demo : List Setting
 for_demo = Seed ∷ Noise ∷ Frames ∷ Mcs ∷ Bandwidth ∷ Length ∷ Workers ∷ Window ∷ []
 

@@ -1,7 +1,6 @@
-use Rattle.std.specs.Prelude.{◌≡◌, ℕ, Vec}
+use Rattle.std.specs.Prelude.{ℕ, Vec}
 use Rattle.std.specs.Global.{Global}
 use Rattle.std.proofs.Common.{ap, refl, rules}
-use Rattle.ht_io.proofs.Calls.{later-later}
 use Rattle.ht_results.specs.JobTexts.{detect_text, lines_of}
 use Rattle.ht_results.specs.Texts.{frame_lines_of, rx_text}
 use Rattle.ht_runs.specs.Filters.{SaysNothing}
@@ -14,33 +13,32 @@ use Rattle.ht_cli.specs.Converting.{sending, upgrading}
 use Rattle.ht_demo.specs.Demos.{Demonstrates}
 use Rattle.ht_cli.specs.Tasks.{plan_of}
 use Rattle.ht_cli.proofs.Answering.{converts, streams}
-use Rattle.ht_cli.proofs.Heard.{ends}
 use Rattle.ht_capture.specs.Fields.{captures}
 use Rattle.ht_runs.specs.Formats.{filter}
-use Rattle.ht_endings.specs.Endings.{HasFrames}
+use Rattle.ht_endings.specs.Endings.{HasFrames as LegacyFrames}
 use Rattle.ht_legacy_captures.specs.Formats.{captures as legacy_captures}
 use Rattle.ht_legacy_rx.specs.Texts.{legacy_items, legacy_lines_of, legacy_text}
 use Rattle.ht_soft_rx.specs.Halved.{HasFrames as SoftFrames}
 use Rattle.ht_soft_rx.specs.Texts.{soft_lines_of, soft_rx_text}
+use Rattle.ht_rx.specs.Outcomes.{HasFrames}
 use Rattle.ht_several.specs.Bundles.{receiving}
 use Rattle.ht_cli.proofs.Making.{done_is_not, makes}
-use Rattle.ht_cli.proofs.Texts.{detects, legacy_ends, receives, soft_ends}
+use Rattle.ht_cli.proofs.Texts.{detect_ends, legacy_ends, rx_ends, soft_ends}
 use Rattle.ht_cli.proofs.carry_out.Goals as goal
 
 pub returns-in-Some-Detect : goal.returns-in-Some-Detect
 returns-in-Some-Detect g c =
     let asked = c.in-Some-Detect.field-0-is in
-    let run = ends detect_text lines_of detects _ _ _ c.list_jobs_alone-heard.result _ _ _ c.put_end-listed.result c.settle.result
-    c.list_jobs_alone-heard.ensures.tells c.list_jobs_alone-heard.ensures.puts_later c.put_end-listed.ensures.puts
-    (later-later _ _ _ c.list_jobs_alone-heard.ensures.puts_later c.put_end-listed.ensures.later) c.settle.ensures.settles in search rules
+    let run = streams (filter captures detect_text lines_of) detect_ends _ _ _ HasFrames c.list_text_alone-listed.result _ _ c.settle.result
+    c.list_text_alone-listed.ensures.streams c.list_text_alone-listed.ensures.puts_later c.settle.ensures.settles in
+    search rules
 
 pub returns-in-Some-Rx : goal.returns-in-Some-Rx
 returns-in-Some-Rx g c =
     let asked = c.in-Some-Rx.field-0-is in
-    let run = ends rx_text frame_lines_of receives _ _ _ c.receive_text_alone-heard.result _ _ _ c.put_end-received.result
-    c.settle-in-Some-Rx.result c.receive_text_alone-heard.ensures.tells c.receive_text_alone-heard.ensures.puts_later
-    c.put_end-received.ensures.puts (later-later _ _ _ c.receive_text_alone-heard.ensures.puts_later c.put_end-received.ensures.later)
-    c.settle-in-Some-Rx.ensures.settles in search rules
+    let run = streams (filter captures rx_text frame_lines_of) rx_ends _ _ _ HasFrames c.receive_text_alone-received.result _ _ c.settle-in-Some-Rx.result
+    c.receive_text_alone-received.ensures.streams c.receive_text_alone-received.ensures.puts_later c.settle-in-Some-Rx.ensures.settles in
+    search rules
 
 pub returns-in-Some-Soft : goal.returns-in-Some-Soft
 returns-in-Some-Soft g c =
@@ -52,7 +50,7 @@ returns-in-Some-Soft g c =
 pub returns-in-Some-LegacyRx : goal.returns-in-Some-LegacyRx
 returns-in-Some-LegacyRx g c =
     let asked = c.in-Some-LegacyRx.field-0-is in
-    let run = streams (filter legacy_captures legacy_text legacy_lines_of) legacy_ends _ _ _ (HasFrames legacy_captures legacy_items) c.legacy_receive_alone-received.result _ _ c.settle-in-Some-LegacyRx.result
+    let run = streams (filter legacy_captures legacy_text legacy_lines_of) legacy_ends _ _ _ (LegacyFrames legacy_captures legacy_items) c.legacy_receive_alone-received.result _ _ c.settle-in-Some-LegacyRx.result
     c.legacy_receive_alone-received.ensures.streams c.legacy_receive_alone-received.ensures.puts_later
     c.settle-in-Some-LegacyRx.ensures.settles in search rules
 

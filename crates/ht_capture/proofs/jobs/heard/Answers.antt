@@ -1,6 +1,7 @@
 use Rattle.std.proofs.Common.{◌≡◌, ◌∙◌, ap, length, List, sym}
 use Rattle.ht_metric.specs.declared.place.Place.{Place}
-use Rattle.ht_metric.specs.Arrays.{legs, length-legs, length-rows_of}
+use Rattle.ht_metric.specs.Arrays.{legs}
+use Rattle.ht_metric.proofs.RowLemmas.{length-legs, length-rows_of}
 use Rattle.ht_metric.specs.Jobs.{JobView}
 use Rattle.ht_metric.specs.Rows.{Leg, Row, rows_of}
 use Rattle.ht_capture.specs.Presents.{present_of}

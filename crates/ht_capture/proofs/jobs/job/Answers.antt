@@ -1,5 +1,5 @@
 use Rattle.std.proofs.Common.{◌∙◌, sym, ap, List, length}
-use Rattle.ht_metric.specs.Arrays.{length-rows_of}
+use Rattle.ht_metric.proofs.RowLemmas.{length-rows_of}
 use Rattle.ht_metric.specs.Rows.{Row}
 use Rattle.ht_capture.proofs.Grids.{job_made}
 use Rattle.ht_capture.proofs.jobs.job.Goals as goal

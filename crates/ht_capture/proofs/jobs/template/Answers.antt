@@ -1,5 +1,5 @@
 use Rattle.std.proofs.Common.{◌∙◌, List, ap, length, sym}
-use Rattle.ht_metric.specs.Arrays.{length-rows_of}
+use Rattle.ht_metric.proofs.RowLemmas.{length-rows_of}
 use Rattle.ht_metric.specs.Jobs.{JobView}
 use Rattle.ht_metric.specs.Rows.{Row}
 use Rattle.ht_capture.specs.Presents.{present_of}

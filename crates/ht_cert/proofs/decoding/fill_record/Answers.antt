@@ -1,7 +1,7 @@
 use Rattle.std.proofs.Common.{List, length, sym, ap, ◌∙◌, arith}
 use Rattle.std.proofs.lemmas.List.{length-replicate}
 use Rattle.ht_pam.specs.declared.axes.Axes.{Axes}
-use Rattle.ht_metric.specs.Arrays.{length-rows_of}
+use Rattle.ht_metric.proofs.RowLemmas.{length-rows_of}
 use Rattle.ht_metric.specs.Rows.{Row}
 use Rattle.ht_capture.proofs.Grids.{length-triangle_of, unused_samples}
 use Rattle.ht_cert.proofs.Starting.{claim_made}

@@ -1,5 +1,5 @@
 use Rattle.std.proofs.Common.{◌≡◌, List, length, take, sym, ap, ◌∙◌, arith}
-use Rattle.ht_metric.specs.Arrays.{length-rows_of}
+use Rattle.ht_metric.proofs.RowLemmas.{length-rows_of}
 use Rattle.ht_metric.specs.declared.sample.Sample.{Sample}
 use Rattle.ht_metric.specs.Jobs.{JobView}
 use Rattle.ht_metric.specs.Rows.{Row, rows_of}

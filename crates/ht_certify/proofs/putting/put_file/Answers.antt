@@ -3,23 +3,23 @@ use Rattle.ht_io.specs.Devices.{Device}
 use Rattle.ht_capture.specs.declared.frames.CaptureFrame.{CaptureFrame}
 use Rattle.ht_cert.specs.Files.{record_octets, records_start}
 use Rattle.ht_certify.specs.Making.{file_of_frames, records_of_frames}
-use Rattle.ht_certify.specs.Writing.{Passes}
+use Rattle.ht_certify.specs.Writing.{PutsThrough}
 use Rattle.ht_certify.proofs.Passing.{breaks_later, passes_more, passes_waiting, put_breaks, put_last}
 use Rattle.ht_certify.proofs.Shown.{file_parts}
 use Rattle.ht_certify.proofs.putting.put_file.Goals as goal
 
 -- the start of the file waits in a block that had nothing
 start_waits : (fs : List CaptureFrame) (count : ℕ) (block block' : List ℕ) (a : Device ℕ) → count ≡ length (records_of_frames fs) → block ≡ []
-    → block' ≡ block ++ records_start count → Passes [] a a (records_start (length (records_of_frames fs))) block'
+    → block' ≡ block ++ records_start count → PutsThrough [] a a (records_start (length (records_of_frames fs))) block'
 start_waits fs count block block' a is none added =
     passes_waiting [] (records_start (length (records_of_frames fs))) block' a
     (added ∙ (ap (λ (w : List ℕ). w ++ records_start count) none ∙ ap (λ n. records_start n) is))
 
 -- and with the records behind it it is the file
-file_passes : (fs : List CaptureFrame) (block block' : List ℕ) (a b : Device ℕ) → Passes [] a a (records_start (length (records_of_frames fs))) block
-    → Passes block a b (flat_map record_octets (records_of_frames fs)) block' → Passes [] a b (file_of_frames fs) block'
+file_passes : (fs : List CaptureFrame) (block block' : List ℕ) (a b : Device ℕ) → PutsThrough [] a a (records_start (length (records_of_frames fs))) block
+    → PutsThrough block a b (flat_map record_octets (records_of_frames fs)) block' → PutsThrough [] a b (file_of_frames fs) block'
 file_passes fs block block' a b start records =
-    subst (λ (z : List ℕ). Passes [] a b z block') (file_parts fs)
+    subst (λ (z : List ℕ). PutsThrough [] a b z block') (file_parts fs)
     (passes_more [] block block' (records_start (length (records_of_frames fs))) (flat_map record_octets (records_of_frames fs)) a a b start records)
 
 pub returns-in_err-put_frames : goal.returns-in_err-put_frames

@@ -1,5 +1,5 @@
 use Rattle.std.proofs.Common.{◌≡◌, List, [], Bool, length, flat_map, sym, ap, ◌∙◌, rules, arith}
-use Rattle.ht_metric.specs.Arrays.{length-rows_of}
+use Rattle.ht_metric.proofs.RowLemmas.{length-rows_of}
 use Rattle.ht_metric.specs.Jobs.{IsJob, JobView, near}
 use Rattle.ht_sphere.specs.Coordinates.{from_last}
 use Rattle.ht_witness.specs.Marking.{marks_of}

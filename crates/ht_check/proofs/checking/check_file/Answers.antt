@@ -1,7 +1,7 @@
 use Rattle.std.proofs.Common.{◌≡◌, ℕ, ◌+◌, List, [], ◌∷◌, ap, sym, subst, ◌∙◌, arith, rules}
 use Rattle.std.specs.Prelude.{length, string_bytes}
-use Rattle.ht_fields.specs.Readers.{Gives, ReaderView}
-use Rattle.ht_cert.specs.Readers.{Completes, GivesRecord, Passes, shown_by}
+use Rattle.ht_fields.specs.Readers.{Gives, ReaderView, Completes}
+use Rattle.ht_cert.specs.Readers.{GivesRecord, Advances, shown_by}
 use Rattle.ht_cert.specs.declared.record.Record.{Record}
 use Rattle.ht_cert.specs.declared.reader.Came.{Came}
 use Rattle.ht_cert.specs.declared.reader.Came.TheVariants.{Whole, End}
@@ -56,8 +56,8 @@ loop-text-preserved g c =
     let r = c.next.new.into in
     let tally = c.loop-text.tally in
     let gives = gives_whole old new _ c.next.new.into c.in-Ok-Whole.field-0-is (c.in-Ok-Whole.ensures.told c.loop-text.invariant.going) in
-    let passes : Passes c.loop-text.reader c.next.new.self Whole r =
-    subst (λ (came : Came). Passes c.loop-text.reader c.next.new.self came r) c.in-Ok-Whole.field-0-is c.in-Ok-Whole.ensures.passed in
+    let passes : Advances c.loop-text.reader c.next.new.self Whole r =
+    subst (λ (came : Came). Advances c.loop-text.reader c.next.new.self came r) c.in-Ok-Whole.field-0-is c.in-Ok-Whole.ensures.passed in
     let line = c.in_ok-is_right-in-Ok-Whole.ensures in
     let put = c.in_ok-put_block-in-Ok-Whole.ensures in
     let few = c.loop-text.invariant.few in

@@ -3,11 +3,17 @@ use Rattle.ht_feed.specs.Feeds.{TakesBlock}
 use Rattle.ht_feed.proofs.Turning.{along_less, in_turn_failed}
 use Rattle.ht_drive.proofs.deliver.deliver.Goals as goal
 
-pub returns-in_err-take-clause-in_turn : goal.returns-in_err-take-clause-in_turn
-returns-in_err-take-clause-in_turn g c =
+pub returns-in_err-take-clause-steps : goal.returns-in_err-take-clause-steps
+returns-in_err-take-clause-steps g c =
     let seen = g.F.BlockFeed.shown in
-    λ known start. in_turn_failed known (seen c.loop-block.feed) (seen c.take.new.self) c.in_err-take.field-0.0
-    (c.loop-block.invariant.along known start) c.in_err-take.ensures.fault
+    let so_far = c.loop-block.invariant in
+    record {
+      leads = g.met.F.BlockFeed.goes_on _ _ _ so_far.leads c.take.ensures.leads;
+      capacity = search rules;
+      due = search rules;
+      in_turn = λ known start. in_turn_failed known (seen c.loop-block.feed) (seen c.take.new.self) c.in_err-take.field-0.0
+          (so_far.turn known start) c.in_err-take.ensures.fault;
+    }
 
 pub loop-block-preserved : goal.loop-block-preserved
 loop-block-preserved g c =
@@ -20,9 +26,16 @@ loop-block-preserved g c =
       holds = search rules;
       capacity = search rules;
       takes = search rules;
-      along = λ known start. along_less known old new (so_far.along known start) takes;
+      turn = λ known start. along_less known old new (so_far.turn known start) takes;
       leads = g.met.F.BlockFeed.goes_on c.args.feed.now c.loop-block.feed c.take.new.self so_far.leads c.take.ensures.leads;
     }
 
-pub returns-clause-in_turn : goal.returns-clause-in_turn
-returns-clause-in_turn g c = λ known start. (c.loop-block.invariant.along known start).in_turn
+pub returns-clause-steps : goal.returns-clause-steps
+returns-clause-steps g c =
+    let so_far = c.loop-block.invariant in
+    record {
+      leads = so_far.leads;
+      capacity = search rules;
+      due = search rules;
+      in_turn = λ known start. (so_far.turn known start).in_turn;
+    }

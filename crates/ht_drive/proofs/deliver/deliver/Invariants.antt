@@ -1,7 +1,5 @@
-use Rattle.std.proofs.Common.{◌≡◌, length, List, Option}
-use Rattle.ht_metric.specs.Jobs.{JobView}
-use Rattle.ht_feed.specs.Feeds.{IsAlong}
-use Rattle.ht_drive.specs.Driving.{Holds, OnlyTakes}
+use Rattle.std.proofs.Common.{◌≡◌, length}
+use Rattle.ht_drive.specs.Driving.{Holds, KeepsTurn, OnlyTakes}
 use Rattle.ht_drive.proofs.deliver.deliver.Given as goal
 
 abbrev pub invariant-loop-block : goal.invariant-loop-block
@@ -9,7 +7,7 @@ invariant-loop-block g l = record {
   holds : Holds l.window (g.F.BlockFeed.shown l.feed);
   capacity : l.window.capacity ≡ l.fn.window.capacity;
   takes : OnlyTakes (g.F.BlockFeed.shown l.fn.feed) (g.F.BlockFeed.shown l.feed);
-  along : (known : Option (List JobView)) → IsAlong known (g.F.BlockFeed.shown l.fn.feed) → IsAlong known (g.F.BlockFeed.shown l.feed);
+  turn : KeepsTurn (g.F.BlockFeed.shown l.fn.feed) (g.F.BlockFeed.shown l.feed);
   leads : g.F.BlockFeed.leads l.fn.feed l.feed;
 }
 

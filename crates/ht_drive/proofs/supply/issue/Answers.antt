@@ -1,5 +1,5 @@
 use Rattle.std.proofs.Common.{◌≡◌, ◌+◌, length, sym, subst, refl, rules}
-use Rattle.ht_feed.specs.OwnNumbers.{AreTold}
+use Rattle.ht_feed.specs.OwnNumbers.{AreByNumber}
 use Rattle.ht_feed.specs.Dues.{all_in}
 use Rattle.ht_pool.specs.Helms.{gave}
 use Rattle.ht_drive.specs.Blocks.{BlockHelm}
@@ -22,4 +22,4 @@ pub returns-else-not-give-clause-by_number : goal.returns-else-not-give-clause-b
 returns-else-not-give-clause-by_number g c =
     let jobs = g.B.Jobs.jobs c.args.block in
     let is : c.give.new.self ≡ gave c.args.helm.now jobs = search rules in
-    λ all by_number more. subst (λ (helm : BlockHelm). AreTold all (all_in helm.given)) (sym is) (told_given all c.args.helm.now jobs by_number more)
+    λ all by_number more. subst (λ (helm : BlockHelm). AreByNumber all (all_in helm.given)) (sym is) (told_given all c.args.helm.now jobs by_number more)

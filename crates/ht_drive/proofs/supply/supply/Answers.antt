@@ -1,14 +1,15 @@
-use Rattle.std.proofs.Common.{◌≡◌, ◌+◌, ◌≤◌, length, List, Option, Some, false, ap, sym, ◌∙◌, arith, rules}
+use Rattle.std.proofs.Common.{◌≡◌, ◌+◌, ◌≤◌, length, List, Some, false, ap, sym, ◌∙◌, arith, rules}
 use Rattle.std.specs.Result.{is_err}
 use Rattle.ht_metric.specs.Jobs.{JobView}
-use Rattle.ht_feed.specs.OwnNumbers.{AreTold}
+use Rattle.ht_feed.specs.OwnNumbers.{AreByNumber}
 use Rattle.ht_feed.specs.Dues.{all_in, count_in}
-use Rattle.ht_feed.specs.Feeds.{EndsBlocks, GivesBlock, IsAlong}
+use Rattle.ht_feed.specs.Feeds.{EndsBlocks, GivesBlock}
 use Rattle.ht_feed.proofs.Turning.{along_end, along_more, in_turn_failed}
-use Rattle.ht_drive.specs.Blocks.{WindowView}
-use Rattle.ht_drive.specs.Driving.{Holds, Tallies}
+use Rattle.ht_drive.specs.Blocks.{BlockWindow}
+use Rattle.ht_drive.specs.Driving.{Holds, KeepsTurn, Tallies}
 use Rattle.ht_drive.proofs.Giving.{same_on, told_block}
-use Rattle.ht_drive.proofs.Supplying.{goes_on_end, goes_on_more, holds_end, holds_more, is_running, on_ok}
+use Rattle.ht_drive.proofs.Going.{steps_held}
+use Rattle.ht_drive.proofs.Supplying.{goes_on_end, goes_on_more, holds_more, holds_still, is_running, on_ok}
 use Rattle.ht_drive.proofs.supply.supply.Goals as goal
 use Rattle.ht_drive.proofs.supply.supply.Goals.{After-issue}
 
@@ -19,14 +20,13 @@ gives g c = search rules
 
 -- the feed went on before
 running : (g : _) (c : After-issue g) → (g.F.BlockFeed.shown c.loop-running.feed).ended ≡ false
-running g c = is_running c.loop-running.running (g.F.BlockFeed.shown c.loop-running.feed) c.loop-running-test.true c.loop-running.invariant.goes_on
+running g c = is_running c.loop-running.running (g.F.BlockFeed.shown c.loop-running.feed) c.loop-running-test.true c.loop-running.invariant.stands.under_way
 
 -- and goes on in turn
-along : (g : _) (c : After-issue g) → (known : Option (List JobView)) → IsAlong known (g.F.BlockFeed.shown c.args.feed.now)
-    → IsAlong known (g.F.BlockFeed.shown c.next.new.self)
-along g c = λ known start.
+turn : (g : _) (c : After-issue g) → KeepsTurn (g.F.BlockFeed.shown c.args.feed.now) (g.F.BlockFeed.shown c.next.new.self)
+turn g c = λ known start.
     along_more c.args.size known (g.F.BlockFeed.shown c.loop-running.feed) (g.F.BlockFeed.shown c.next.new.self) (g.B.Jobs.jobs c.in-Ok-Some.block)
-    (c.loop-running.invariant.along known start) (running g c) (gives g c)
+    (c.loop-running.invariant.turn known start) (running g c) (gives g c)
 
 -- the block stands in the window
 holds : (g : _) (c : After-issue g) → Holds c.issue.new.window (g.F.BlockFeed.shown c.next.new.self)
@@ -38,13 +38,24 @@ holds g c =
     let left = c.room.ensures in
     let room : count_in before.window.due + length jobs ≤ before.window.capacity = omega (arith, few, size, left) in
     holds_more c.args.size before.window c.issue.new.window (g.F.BlockFeed.shown before.feed) (g.F.BlockFeed.shown c.next.new.self) jobs
-    before.invariant.holds (gives g c) room c.issue.ensures.window
+    before.invariant.stands.holds (gives g c) room c.issue.ensures.window
+
+-- which has the same room
+capacity : (g : _) (c : After-issue g) → c.issue.new.window.capacity ≡ c.args.window.now.capacity
+capacity g c =
+    ◌∙◌ {a = c.issue.new.window.capacity} {b = c.loop-running.window.capacity} (ap (λ (w : BlockWindow). w.capacity) c.issue.ensures.window)
+    c.loop-running.invariant.capacity
 
 pub returns-then-is_err-clause-holds : goal.returns-then-is_err-clause-holds
 returns-then-is_err-clause-holds g c = holds g (goal.at.returns-then-is_err-clause-holds g c).After-issue
 
-pub returns-then-is_err-clause-in_turn : goal.returns-then-is_err-clause-in_turn
-returns-then-is_err-clause-in_turn g c = λ known start. (along g (goal.at.returns-then-is_err-clause-in_turn g c).After-issue known start).in_turn
+pub returns-then-is_err-clause-steps : goal.returns-then-is_err-clause-steps
+returns-then-is_err-clause-steps g c =
+    let so_far = c.loop-running.invariant in
+    let here = (goal.at.returns-then-is_err-clause-steps g c).After-issue in
+    steps_held g.F.BlockFeed.shown g.F.BlockFeed.leads c.args.window.now c.issue.new.window c.args.feed.now c.next.new.self
+    (g.met.F.BlockFeed.goes_on c.args.feed.now c.loop-running.feed c.next.new.self so_far.leads c.next.ensures.leads)
+    (capacity g here) (holds g here) (λ known start. (turn g here known start).in_turn)
 
 pub loop-running-preserved-else-is_err : goal.loop-running-preserved-else-is_err
 loop-running-preserved-else-is_err g c =
@@ -55,19 +66,21 @@ loop-running-preserved-else-is_err g c =
     let here = (goal.at.loop-running-preserved-else-is_err g c).After-issue in
     let given = gives g here in
     let good : is_err c.issue.result ≡ false = sym c.is_err.ensures.value ∙ c.if-is_err.false in
-    let by_number = on_ok c.issue.result ((all : List JobView) → AreTold all (all_in before.helm.given) → AreTold all jobs
-    → AreTold all (all_in c.issue.new.helm.given)) good c.issue.ensures.by_number in
+    let by_number = on_ok c.issue.result ((all : List JobView) → AreByNumber all (all_in before.helm.given) → AreByNumber all jobs
+    → AreByNumber all (all_in c.issue.new.helm.given)) good c.issue.ensures.by_number in
     record {
-      holds = holds g here;
-      capacity = ap (λ (w : WindowView). w.capacity) c.issue.ensures.window ∙ so_far.capacity;
-      tallies = on_ok c.issue.result (Tallies c.issue.new.tally c.issue.new.helm) good c.issue.ensures.tallies;
-      issued = omega (arith, c.issue.ensures.issued, so_far.issued, given.count);
+      stands = record {
+        holds = holds g here;
+        tallies = on_ok c.issue.result (Tallies c.issue.new.tally c.issue.new.helm) good c.issue.ensures.tallies;
+        issued = omega (arith, c.issue.ensures.issued, so_far.stands.issued, given.count);
+        under_way = goes_on_more c.args.size before.running (seen before.feed) (seen c.next.new.self) jobs c.loop-running-test.true so_far.stands.under_way given;
+      };
+      leads = g.met.F.BlockFeed.goes_on c.args.feed.now c.loop-running.feed c.next.new.self so_far.leads c.next.ensures.leads;
+      capacity = capacity g here;
       same = same_on c.args.helm.now before.helm c.issue.new.helm so_far.same c.issue.ensures.same;
-      along = along g here;
+      turn = turn g here;
       by_number = λ all start first. by_number all (so_far.by_number all start first)
-          (told_block c.args.size all (seen before.feed) (seen c.next.new.self) jobs (so_far.along (Some all) start) (running g here) given);
-      goes_on = goes_on_more c.args.size before.running (seen before.feed) (seen c.next.new.self) jobs c.loop-running-test.true so_far.goes_on given;
-      leads = g.met.F.BlockFeed.goes_on _ _ _ so_far.leads c.next.ensures.leads;
+          (told_block c.args.size all (seen before.feed) (seen c.next.new.self) jobs (so_far.turn (Some all) start) (running g here) given);
     }
 
 pub loop-running-preserved : goal.loop-running-preserved
@@ -79,22 +92,32 @@ loop-running-preserved g c =
     let new = seen c.next.new.self in
     let ends : EndsBlocks old new = search rules in
     record {
-      holds = holds_end before.window old new so_far.holds ends;
+      stands = record {
+        holds = holds_still before.window old new so_far.stands.holds ends.due;
+        tallies = so_far.stands.tallies;
+        issued = so_far.stands.issued ∙ sym ends.count;
+        under_way = goes_on_end before.running old new so_far.stands.under_way ends;
+      };
+      leads = g.met.F.BlockFeed.goes_on c.args.feed.now c.loop-running.feed c.next.new.self so_far.leads c.next.ensures.leads;
       capacity = so_far.capacity;
-      tallies = so_far.tallies;
-      issued = so_far.issued ∙ sym ends.count;
       same = so_far.same;
-      along = λ known start. along_end known old new (so_far.along known start) ends;
+      turn = λ known start. along_end known old new (so_far.turn known start) ends;
       by_number = so_far.by_number;
-      goes_on = goes_on_end before.running old new so_far.goes_on ends;
-      leads = g.met.F.BlockFeed.goes_on _ _ _ so_far.leads c.next.ensures.leads;
     }
 
-pub returns-in-Err-clause-in_turn : goal.returns-in-Err-clause-in_turn
-returns-in-Err-clause-in_turn g c =
+pub returns-in-Err-clause-steps : goal.returns-in-Err-clause-steps
+returns-in-Err-clause-steps g c =
     let seen = g.F.BlockFeed.shown in
-    λ known start. in_turn_failed known (seen c.loop-running.feed) (seen c.next.new.self) c.in-Err.fault
-    (c.loop-running.invariant.along known start) c.in-Err.ensures.fault
+    let old = seen c.loop-running.feed in
+    let new = seen c.next.new.self in
+    let so_far = c.loop-running.invariant in
+    let fails = c.in-Err.ensures.fault in
+    steps_held seen g.F.BlockFeed.leads c.args.window.now c.loop-running.window c.args.feed.now c.next.new.self
+    (g.met.F.BlockFeed.goes_on c.args.feed.now c.loop-running.feed c.next.new.self so_far.leads c.next.ensures.leads) so_far.capacity
+    (holds_still c.loop-running.window old new so_far.stands.holds fails.due)
+    (λ known start. in_turn_failed known old new c.in-Err.fault (so_far.turn known start) fails)
 
-pub returns-clause-in_turn : goal.returns-clause-in_turn
-returns-clause-in_turn g c = λ known start. (c.loop-running.invariant.along known start).in_turn
+pub returns-clause-steps : goal.returns-clause-steps
+returns-clause-steps g c =
+    let so_far = c.loop-running.invariant in
+    steps_held g.F.BlockFeed.shown g.F.BlockFeed.leads c.args.window.now c.loop-running.window c.args.feed.now c.loop-running.feed so_far.leads so_far.capacity so_far.stands.holds (λ known start. (so_far.turn known start).in_turn)

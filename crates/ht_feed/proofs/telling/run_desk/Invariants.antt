@@ -1,5 +1,5 @@
 use Rattle.std.proofs.Common.{◌≡◌, [], None}
-use Rattle.ht_feed.specs.Accounts.{told_by}
+use Rattle.ht_feed.specs.Accounts.{telling_of}
 use Rattle.ht_feed.specs.Telling.{Tells, seen_by}
 use Rattle.ht_feed.proofs.telling.run_desk.Given as goal
 
@@ -8,7 +8,7 @@ abbrev pub invariant-loop-block : goal.invariant-loop-block
 invariant-loop-block g l =
     let r = g.R.BlockReader in
     let a = g.A.Account in
-    let told = told_by a.shown a.pieces a.waits in
+    let told = telling_of a.shown a.pieces a.waits in
     record {
       going : l.desk.stop ≡ None;
       none : l.desk.due ≡ [];

@@ -1,7 +1,8 @@
 use Rattle.std.proofs.Common.{◌≡◌, [], ◌∷◌, ◌++◌, get_or, true, refl, arith}
-use Rattle.ht_lanes.specs.Lanes.{sides_of}
+use Rattle.ht_lanes.specs.Lanes.{LaneJobs, sides_of}
 use Rattle.ht_lanes.proofs.Asked.{none_so, one_more, over_none, few_due_none, same_none, some_so}
-use Rattle.ht_lanes.specs.Leading.{all-more, all-none}
+use Rattle.ht_lanes.specs.Leading.{all-none}
+use Rattle.ht_lanes.proofs.EachLane.{all-more}
 use Rattle.ht_lanes.proofs.asking.ask_from.Goals as goal
 
 pub loop-at-init : goal.loop-at-init
@@ -27,10 +28,12 @@ ask_at-requires-clause-few_due g c = λ l.
 pub returns-in-Ok-Some-clause-due : goal.returns-in-Ok-Some-clause-due
 returns-in-Ok-Some-clause-due g c =
     let e = c.in-Ok-Some.ensures in
-    one_more c.loop-at.lanes c.ask_at.new.lanes c.loop-at.at (e.leads []).other_lanes g.L.Lane.due g.L.Lane.rests c.args.lanes.now c.loop-at.invariant.same
-    e.rests c.in-Ok-Some.block.jobs (omega (arith, c.loop-at-test.true, (c.loop-at.invariant.leads []).lanes)) (some_so c.in-Ok-Some.field-0 c.in-Ok-Some.block
-    (λ block. (l : g.row.L.Denot) → g.L.Lane.due (get_or c.ask_at.new.lanes c.loop-at.at l) ≡ g.L.Lane.due (get_or c.loop-at.lanes c.loop-at.at l) ++ block.jobs ∷ [])
-    c.in-Ok-Some.field-0-is e.due)
+    let at = c.loop-at.at in
+    let due = g.L.Lane.due in
+    one_more c.loop-at.lanes c.ask_at.new.lanes at (e.leads []).lanes due g.L.Lane.rests c.args.lanes.now c.loop-at.invariant.same (λ l. (e.gives l).takes) c.in-Ok-Some.block.jobs
+    (omega (arith, c.loop-at-test.true, (c.loop-at.invariant.leads []).lanes))
+    (λ l. some_so c.in-Ok-Some.field-0 c.in-Ok-Some.block
+    (λ (block : LaneJobs). due (get_or c.ask_at.new.lanes at l) ≡ due (get_or c.loop-at.lanes at l) ++ block.jobs ∷ []) c.in-Ok-Some.field-0-is (e.gives l).given)
 
 pub returns-in-Ok-Some-clause-leads : goal.returns-in-Ok-Some-clause-leads
 returns-in-Ok-Some-clause-leads g c = λ sinks.
@@ -43,8 +46,7 @@ returns-in-Err-clause-leads g c = λ sinks.
 pub returns-in-Err-clause-memory : goal.returns-in-Err-clause-memory
 returns-in-Err-clause-memory g c =
     let e = c.in-Err.ensures in
-    same_none c.loop-at.lanes c.ask_at.new.lanes c.loop-at.at (e.leads []).other_lanes g.L.Lane.due g.L.Lane.rests c.args.lanes.now c.loop-at.invariant.same
-    e.rests e.memory
+    same_none c.loop-at.lanes c.ask_at.new.lanes c.loop-at.at (e.leads []).lanes g.L.Lane.due g.L.Lane.rests c.args.lanes.now c.loop-at.invariant.same (λ l. (e.gives l).takes) (λ l. (e.gives l).memory)
 
 pub loop-at-preserved : goal.loop-at-preserved
 loop-at-preserved g c =
@@ -52,16 +54,17 @@ loop-at-preserved g c =
     let i = c.loop-at.invariant in
     let e = c.in-Ok-None.ensures in
     let at = c.loop-at.at in
+    let is = c.in-Ok-None.field-0-is in
+    let one = (e.leads []).lanes in
+    let lanes = c.loop-at.lanes in
+    let now = c.ask_at.new.lanes in
     let none : (l : g.row.L.Denot) → g.L.Lane.due (get_or c.ask_at.new.lanes at l) ≡ g.L.Lane.due (get_or c.loop-at.lanes at l) =
-    none_so c.in-Ok-None.field-0 ((l : g.row.L.Denot) → g.L.Lane.due (get_or c.ask_at.new.lanes at l) ≡ g.L.Lane.due (get_or c.loop-at.lanes at l))
-    c.in-Ok-None.field-0-is e.none in
+    λ l. none_so c.in-Ok-None.field-0 (g.L.Lane.due (get_or c.ask_at.new.lanes at l) ≡ g.L.Lane.due (get_or c.loop-at.lanes at l)) is (e.gives l).none in
     let over : (l : g.row.L.Denot) → g.L.Lane.over (get_or c.ask_at.new.lanes at l) ≡ true =
-    none_so c.in-Ok-None.field-0 ((l : g.row.L.Denot) → g.L.Lane.over (get_or c.ask_at.new.lanes at l) ≡ true) c.in-Ok-None.field-0-is e.over in
+    λ l. none_so c.in-Ok-None.field-0 (g.L.Lane.over (get_or c.ask_at.new.lanes at l) ≡ true) is (e.gives l).ended in
     record {
-      same = same_none c.loop-at.lanes c.ask_at.new.lanes c.loop-at.at (e.leads []).other_lanes g.L.Lane.due g.L.Lane.rests c.args.lanes.now i.same
-          e.rests none;
-      few_due = few_due_none c.loop-at.lanes c.ask_at.new.lanes c.loop-at.at (e.leads []).other_lanes g.L.Lane.over over g.L.Lane.due
-          c.args.most (e.leads []).lanes i.few_due;
-      over = over_none c.loop-at.lanes c.ask_at.new.lanes c.loop-at.at (e.leads []).other_lanes g.L.Lane.over over c.args.from i.over;
+      same = same_none lanes now at one g.L.Lane.due g.L.Lane.rests c.args.lanes.now i.same (λ l. (e.gives l).takes) none;
+      few_due = few_due_none lanes now at one g.L.Lane.over over g.L.Lane.due c.args.most i.few_due;
+      over = over_none lanes now at one g.L.Lane.over over c.args.from i.over;
       leads = λ sinks. all-more g.L.Lane.leads lane.stays lane.goes_on (c.ask_at.ensures.leads sinks) _ (i.leads sinks);
     }

@@ -1,6 +1,7 @@
 use Rattle.std.proofs.Common.{◌≡◌, [], length, arith}
 use Rattle.ht_lanes.specs.Lanes.{sides_of}
-use Rattle.ht_lanes.specs.Leading.{all-more, all-none}
+use Rattle.ht_lanes.specs.Leading.{all-none}
+use Rattle.ht_lanes.proofs.EachLane.{all-more}
 use Rattle.ht_lanes.proofs.Finished.{all_finished, none_yet, one_more, still_none, still_over}
 use Rattle.ht_lanes.proofs.finishing.finish_lanes.Goals as goal
 
@@ -27,7 +28,7 @@ loop-at-preserved g c =
     let e = c.finish_at.ensures in
     record {
       so = one_more lane.due lane.rests lane.over lane.finished c.args.lanes.now c.loop-at.lanes c.finish_at.new.lanes c.loop-at.at
-          (e.leads []).other_lanes i.so (λ l. record { takes = e.rests l; waits = e.due l; stays = e.over l }) e.finished;
+          (e.leads []).lanes i.so e.finishes;
       leads = λ sources. all-more lane.leads met.stays met.goes_on (e.leads sources) _ (i.leads sources);
     }
 
@@ -44,8 +45,8 @@ returns-clause-over g c =
     let i = c.loop-at.invariant in
     still_over lane.due lane.rests lane.over lane.finished c.args.lanes.now c.loop-at.lanes c.loop-at.at (i.leads []).lanes i.so
 
-pub returns-clause-taken : goal.returns-clause-taken
-returns-clause-taken g c =
+pub returns-clause-none_due : goal.returns-clause-none_due
+returns-clause-none_due g c =
     let lane = g.L.Lane in
     let i = c.loop-at.invariant in
     still_none lane.due lane.rests lane.over lane.finished c.args.lanes.now c.loop-at.lanes c.loop-at.at (i.leads []).lanes i.so

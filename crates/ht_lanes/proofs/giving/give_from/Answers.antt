@@ -26,8 +26,8 @@ returns-in-Ok-Some-clause-booked g c =
     let asked : ℕ × LaneJobs = (c.in-Ok-Some.lane, c.in-Ok-Some.block) in
     let is = c.in-Ok-Some.field-0-is in
     let more = some_so c.in-Ok-Some.field-0 asked (λ (a : ℕ × LaneJobs). OneMoreAt g.L.Lane.due g.L.Lane.rests lanes c.ask_from.new.lanes a.0 a.1.jobs) is e.due in
-    let low = some_so c.in-Ok-Some.field-0 asked (λ (a : ℕ × LaneJobs). a.0 < length lanes) is e.lane in
-    let some = some_so c.in-Ok-Some.field-0 asked (λ (a : ℕ × LaneJobs). 1 ≤ length a.1.jobs) is e.some in
+    let low = some_so c.in-Ok-Some.field-0 asked (λ (a : ℕ × LaneJobs). a.0 < length lanes) is e.answers.lane in
+    let some = some_so c.in-Ok-Some.field-0 asked (λ (a : ℕ × LaneJobs). 1 ≤ length a.1.jobs) is e.answers.block.some in
     let items : c.keep.new.due.items ≡ c.args.due.now.items ++ due_of c.in-Ok-Some.lane c.in-Ok-Some.block ∷ [] = ap (λ b. b.items) c.keep.ensures in
     booked_more g.L.Lane.due g.L.Lane.rests lanes c.ask_from.new.lanes c.args.due.now.items c.requires.asked.booked (c.ask_from.ensures.leads []).lanes
     c.in-Ok-Some.lane c.in-Ok-Some.block more low c.keep.new.due.items items some

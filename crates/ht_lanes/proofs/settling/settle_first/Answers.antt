@@ -1,5 +1,5 @@
 use Rattle.std.proofs.Common.{rules, ◌≡◌, length, drop, [], slice_get, Some, refl, ap, ◌∙◌, sym, arith}
-use Rattle.ht_lanes.specs.Leading.{all-one}
+use Rattle.ht_lanes.proofs.EachLane.{all-one}
 use Rattle.ht_lanes.proofs.Asked.{over_settled}
 use Rattle.ht_lanes.proofs.Rings.{booked_lacks, booked_taken, first_waits, within-first}
 use Rattle.ht_lanes.proofs.settling.settle_first.Goals as goal
@@ -35,15 +35,15 @@ returns-in-Ok-clause-booked g c =
     let at = c.lane-at.ensures in
     let left : c.pop_front.new.self.items ≡ drop 1 c.args.due.now.items = ap (λ b. b.items) c.pop_front.ensures.items in
     booked_taken g.L.Lane.due g.L.Lane.rests c.args.lanes.now c.settle_at.new.lanes c.args.due.now.items c.pop_front.new.self.items c.in-Some.first.now
-    c.requires.booked (e.leads []).lanes is left (rw (sym at) (e.leads []).other_lanes) (rw (sym at) e.due) (rw (sym at) e.rests)
+    c.requires.booked is left (rw (sym at) (e.leads []).lanes) (rw (sym at) (λ l. (e.settles l).taken)) (rw (sym at) (λ l. (e.settles l).takes))
 
 pub returns-in-Err-clause-booked : goal.returns-in-Err-clause-booked
 returns-in-Err-clause-booked g c =
     let is : slice_get c.args.due.now.items 0 ≡ Some c.in-Some.first.now = search rules in
     let e = c.in-Err.ensures in
     let at = c.lane-at.ensures in
-    booked_lacks g.L.Lane.due g.L.Lane.rests c.args.lanes.now c.settle_at.new.lanes c.args.due.now.items c.requires.booked (e.leads []).lanes
-    c.in-Some.first.now is (rw (sym at) (e.leads []).other_lanes) c.args.due.now.items refl (rw (sym at) e.memory)
+    booked_lacks g.L.Lane.due g.L.Lane.rests c.args.lanes.now c.settle_at.new.lanes c.args.due.now.items c.requires.booked (e.leads []).lanes.as_many
+    c.in-Some.first.now is (rw (sym at) (e.leads []).lanes) c.args.due.now.items refl (rw (sym at) (λ l. (e.settles l).memory))
 
 pub returns-in-Ok-clause-leads : goal.returns-in-Ok-clause-leads
 returns-in-Ok-clause-leads g c = λ sources.
@@ -54,7 +54,7 @@ returns-in-Err-clause-leads g c = λ sources.
     all-one g.L.Lane.leads g.met.L.Lane.stays g.met.L.Lane.goes_on (c.settle_at.ensures.leads sources)
 
 pub returns-in-Ok-clause-over : goal.returns-in-Ok-clause-over
-returns-in-Ok-clause-over g c = over_settled g.L.Lane.over (c.settle_at.ensures.leads []) c.settle_at.ensures.over
+returns-in-Ok-clause-over g c = over_settled g.L.Lane.over (c.settle_at.ensures.leads []) (λ l. (c.settle_at.ensures.settles l).ended)
 
 pub returns-in-Err-clause-over : goal.returns-in-Err-clause-over
-returns-in-Err-clause-over g c = over_settled g.L.Lane.over (c.settle_at.ensures.leads []) c.settle_at.ensures.over
+returns-in-Err-clause-over g c = over_settled g.L.Lane.over (c.settle_at.ensures.leads []) (λ l. (c.settle_at.ensures.settles l).ended)

@@ -23,7 +23,7 @@ returns-in_err-put_samples-clause-part g c =
     c.deref-2.result.now c.deref-3.result.now c.args.words.now c.diagonals-diagonals.new.words c.diagonals-diagonals.ensures.value
     c.deref.ensures.0 c.deref-2.ensures.0 (c.deref-3.ensures.value ∙ c.in_ok-points.ensures) c.rate.ensures
     (ap (λ (o : List ℕ). length o) c.octets.ensures.value) c.as_slice.result.now c.add_head.new.chunk c.clear.new.self
-    c.as_slice.ensures c.add_head.ensures c.clear.ensures) c.in_ok-put.ensures.grown c.in_err-put_samples.ensures.part)
+    c.as_slice.ensures c.add_head.ensures c.clear.ensures) c.in_ok-put.ensures.grown c.in_err-put_samples.ensures.puts.part)
 
 pub returns-clause-grown : goal.returns-clause-grown
 returns-clause-grown g c =
@@ -33,7 +33,7 @@ returns-clause-grown g c =
     c.deref.ensures.0 c.deref-2.ensures.0 (c.deref-3.ensures.value ∙ c.in_ok-points.ensures) c.rate.ensures
     (ap (λ (o : List ℕ). length o) c.octets.ensures.value) c.as_slice.result.now c.add_head.new.chunk c.clear.new.self
     c.as_slice.ensures c.add_head.ensures c.clear.ensures)
-    (grown-append _ _ _ c.as_slice.result.now _ c.in_ok-put.ensures.grown c.in_ok-put_samples.ensures.grown)
+    (grown-append _ _ _ c.as_slice.result.now _ c.in_ok-put.ensures.grown c.in_ok-put_samples.ensures.puts.grown)
 
 pub returns-clause-words : goal.returns-clause-words
 returns-clause-words g c =

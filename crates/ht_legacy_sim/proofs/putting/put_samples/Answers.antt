@@ -1,4 +1,4 @@
-use Rattle.std.proofs.Common.{◌≡◌, ◌+◌, ◌++◌, List, ℕ, [], flat_map, length, refl, ap, ◌∙◌, arith}
+use Rattle.std.proofs.Common.{◌≡◌, ◌+◌, ◌++◌, List, ℕ, [], flat_map, length, refl, ap, ◌∙◌, arith, rules}
 use Rattle.ht_io.proofs.Calls.{later-refl, later-later, failed-later}
 use Rattle.ht_io.proofs.Pieces.{grown-none, grown-append}
 use Rattle.ht_fields.proofs.Putting.{on_err, part_more}
@@ -12,21 +12,20 @@ use Rattle.ht_legacy_sim.proofs.putting.put_samples.Goals as goal
 pub loop-rest-init : goal.loop-rest-init
 loop-rest-init g c = record { put = ([], refl, grown-none _); place = omega arith; later = later-refl _; steady = refl }
 
-pub returns-in_err-put-clause-part : goal.returns-in_err-put-clause-part
-returns-in_err-put-clause-part g c =
+pub returns-in_err-put-clause-puts : goal.returns-in_err-put-clause-puts
+returns-in_err-put-clause-puts g c =
     let so_far = c.loop-rest.invariant.put in
-    on_err _ _ (part_more _ _ _ so_far.0 _ _ _ _ _ so_far.2 c.in_err-put.ensures.part (c.as_slice.ensures ∙ c.fill.ensures.samples)
-    (part-octets sample_octets (sample_drawn c.args.noise) _ _ _ c.loop-rest.words
-    (exact-split c.args.diagonals.now c.loop-rest.place c.min.result c.loop-rest.rest.now c.split_at.result.0.now c.split_at.result.1.now
-    c.split_at.ensures.front c.split_at.ensures.back)) (ap (λ (d : Drawn (List ℕ)). d.value) so_far.1))
-
-pub returns-in_err-put-clause-cause : goal.returns-in_err-put-clause-cause
-returns-in_err-put-clause-cause g c =
-    on_err _ _ (failed-later (g.K.Sink.shown c.args.sink.now) (g.K.Sink.shown c.loop-rest.sink)
-    (g.K.Sink.shown c.put.new.self) c.loop-rest.invariant.later c.in_err-put.ensures.cause)
-
-pub returns-in_err-put-clause-later : goal.returns-in_err-put-clause-later
-returns-in_err-put-clause-later g c = later-later _ _ _ c.loop-rest.invariant.later c.in_err-put.ensures.later
+    record {
+      grown = search rules;
+      steady = search rules;
+      part = on_err _ _ (part_more _ _ _ so_far.0 _ _ _ _ _ so_far.2 c.in_err-put.ensures.part (c.as_slice.ensures ∙ c.fill.ensures.samples)
+          (part-octets sample_octets (sample_drawn c.args.noise) _ _ _ c.loop-rest.words
+          (exact-split c.args.diagonals.now c.loop-rest.place c.min.result c.loop-rest.rest.now c.split_at.result.0.now c.split_at.result.1.now
+          c.split_at.ensures.front c.split_at.ensures.back)) (ap (λ (d : Drawn (List ℕ)). d.value) so_far.1));
+      cause = on_err _ _ (failed-later (g.K.Sink.shown c.args.sink.now) (g.K.Sink.shown c.loop-rest.sink)
+          (g.K.Sink.shown c.put.new.self) c.loop-rest.invariant.later c.in_err-put.ensures.cause);
+      later = later-later _ _ _ c.loop-rest.invariant.later c.in_err-put.ensures.later;
+    }
 
 pub loop-rest-preserved : goal.loop-rest-preserved
 loop-rest-preserved g c =

@@ -5,17 +5,17 @@ use Rattle.ht_machine.proofs.Going.{can_go_on}
 use Rattle.ht_machine.proofs.moves.step.Goals as goal
 
 pub returns-then-not-enabled-clause-going : goal.returns-then-not-enabled-clause-going
-returns-then-not-enabled-clause-going c = can_go_on _ c.enabled.ensures.core
+returns-then-not-enabled-clause-going c = can_go_on _ c.enabled.ensures.machine
 
-pub returns-in-Ok-clause-core : goal.returns-in-Ok-clause-core
-returns-in-Ok-clause-core c =
-    let on : IsEnabled c.args.core.now c.args.event = search rules in
-    rw c.in-Ok.ensures.ok (kept c.args.core.now c.args.event c.enabled.ensures.core on)
+pub returns-in-Ok-clause-machine : goal.returns-in-Ok-clause-machine
+returns-in-Ok-clause-machine c =
+    let on : IsEnabled c.args.machine.now c.args.event = search rules in
+    rw c.in-Ok.ensures.made (kept c.args.machine.now c.args.event c.enabled.ensures.machine on)
 
 pub returns-in-Ok-clause-going : goal.returns-in-Ok-clause-going
 returns-in-Ok-clause-going c =
-    let on : IsEnabled c.args.core.now c.args.event = search rules in
-    rw c.in-Ok.ensures.ok (can_go_on _ (kept c.args.core.now c.args.event c.enabled.ensures.core on))
+    let on : IsEnabled c.args.machine.now c.args.event = search rules in
+    rw c.in-Ok.ensures.made (can_go_on _ (kept c.args.machine.now c.args.event c.enabled.ensures.machine on))
 
 pub returns-in-Err-clause-going : goal.returns-in-Err-clause-going
-returns-in-Err-clause-going c = rw c.in-Err.ensures.err (can_go_on _ c.enabled.ensures.core)
+returns-in-Err-clause-going c = rw c.in-Err.ensures.unchanged (can_go_on _ c.enabled.ensures.machine)

@@ -9,6 +9,6 @@ pub returns-clause-unbooked : goal.returns-clause-unbooked
 returns-clause-unbooked c = accept_unbooked
 
 pub returns-clause-books : goal.returns-clause-books
-returns-clause-books c = λ core number hit w e.
-    let with_slots : List Slot → WindowView = λ slots. record { capacity = core.window; front = length core.emitted; slots = slots } in
-    ap with_slots (accept_shown core number hit w e)
+returns-clause-books c = λ machine number hit w e.
+    let with_slots : List Slot → WindowView = λ slots. record { capacity = machine.window; front = length machine.emitted; slots = slots } in
+    ap with_slots (accept_shown machine number hit w e)

@@ -11,22 +11,22 @@ use Rattle.ht_machine.proofs.Shows.{front_is, some_parts, emit_long, emit_shown}
 use Rattle.ht_machine.proofs.window_laws.emit.Goals as goal
 
 pub returns-clause-enabled : goal.returns-clause-enabled
-returns-clause-enabled c = λ core w.
-    let hit = hit_of (length core.emitted) core.booked in
-    let e : is_some hit ≡ is_some (front_hit (window_of core).slots) =
-    sym (some_parts hit) ∙ ap (λ (o : Option (JobView × Found)). is_some o) (front_is core w) in
+returns-clause-enabled c = λ machine w.
+    let hit = hit_of (length machine.emitted) machine.booked in
+    let e : is_some hit ≡ is_some (front_hit (window_of machine).slots) =
+    sym (some_parts hit) ∙ ap (λ (o : Option (JobView × Found)). is_some o) (front_is machine w) in
     (λ on. sym e ∙ on, λ some. e ∙ some)
 
 pub returns-clause-hit : goal.returns-clause-hit
 returns-clause-hit c = front_is
 
 pub returns-clause-emitted : goal.returns-clause-emitted
-returns-clause-emitted c = λ core w on.
+returns-clause-emitted c = λ machine w on.
     let at : ℕ → ℕ → WindowView =
-    λ n k. record { capacity = core.window; front = n; slots = map (slot_of (without (length core.emitted) core.booked)) (drop k core.issued) } in
-    let with_slots : List Slot → WindowView = λ slots. record { capacity = core.window; front = length core.emitted + 1; slots = slots } in
-    let long = emit_long core on in
-    let next : length (core.emitted ++ option_to_list (hit_of (length core.emitted) core.booked)) ≡ length core.emitted + 1 = omega (arith, long) in
-    ap (λ (n : ℕ). at n (length (core.emitted ++ option_to_list (hit_of (length core.emitted) core.booked)))) next
-    ∙ ap (λ (k : ℕ). at (length core.emitted + 1) k) long
-    ∙ ap with_slots (emit_shown core w on)
+    λ n k. record { capacity = machine.window; front = n; slots = map (slot_of (without (length machine.emitted) machine.booked)) (drop k machine.issued) } in
+    let with_slots : List Slot → WindowView = λ slots. record { capacity = machine.window; front = length machine.emitted + 1; slots = slots } in
+    let long = emit_long machine on in
+    let next : length (machine.emitted ++ option_to_list (hit_of (length machine.emitted) machine.booked)) ≡ length machine.emitted + 1 = omega (arith, long) in
+    ap (λ (n : ℕ). at n (length (machine.emitted ++ option_to_list (hit_of (length machine.emitted) machine.booked)))) next
+    ∙ ap (λ (k : ℕ). at (length machine.emitted + 1) k) long
+    ∙ ap with_slots (emit_shown machine w on)

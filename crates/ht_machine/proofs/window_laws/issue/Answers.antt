@@ -12,6 +12,6 @@ pub returns-clause-next : goal.returns-clause-next
 returns-clause-next c = issue_next
 
 pub returns-clause-issued : goal.returns-clause-issued
-returns-clause-issued c = λ core job w on.
-    let with_slots : List Slot → WindowView = λ slots. record { capacity = core.window; front = length core.emitted; slots = slots } in
-    ap with_slots (issue_shown core job w on)
+returns-clause-issued c = λ machine job w on.
+    let with_slots : List Slot → WindowView = λ slots. record { capacity = machine.window; front = length machine.emitted; slots = slots } in
+    ap with_slots (issue_shown machine job w on)

@@ -21,4 +21,4 @@ returns-clause-converts g c =
     ap (λ (z : List Growing). map held_by z) c.deref.ensures.value ∙ c.in_ok-texts.ensures in
     converts (g.S.Source.shown c.args.source.now) (g.S.Source.shown c.read_bundle.new.source)
     (g.K.Sink.shown c.args.sink.now) (g.K.Sink.shown c.put_texts.new.sink) c.in_ok-captures.captures.items (map held_by c.deref.result.now)
-    c.in_ok-captures.ensures.file same c.put_texts.result c.put_texts.ensures.grown c.put_texts.ensures.part c.put_texts.ensures.cause
+    c.in_ok-captures.ensures.file same c.put_texts.result c.put_texts.ensures

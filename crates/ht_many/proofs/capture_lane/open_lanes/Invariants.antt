@@ -1,7 +1,6 @@
 -- So many lanes were made, and all are new.
-use Rattle.std.proofs.Common.{◌≡◌, length}
-use Rattle.ht_many.specs.CaptureLanes.{AreNew}
+use Rattle.ht_many.specs.CaptureLanes.{AreOpened}
 use Rattle.ht_many.proofs.capture_lane.open_lanes.Given as goal
 
 abbrev pub invariant-loop-index : goal.invariant-loop-index
-invariant-loop-index l = (length l.lanes.items ≡ l._index) × AreNew l.lanes.items
+invariant-loop-index l = AreOpened l._index l.lanes.items

@@ -13,7 +13,7 @@ use Rattle.ht_pool.proofs.pool.assemble.Goals.{In-Some-pop}
 
 -- what the deque and the seats of the caller are, and what is left for the workers
 first_ready : (g : _) (c : In-Some-pop g) → AreReady (own_deques c.args.space.owners.items) c.take_first.new.all.items c.pop.new.self.items
-    × (c.in-Some.own ≡ fresh_own (1024 - length (own_deques c.args.space.owners.items)) c.in-Some.own.room c.in-Some.own.deque)
+    × (c.in-Some.own ≡ fresh_own (1024 - length (own_deques c.args.space.owners.items)) c.in-Some.own.capacity c.in-Some.own.deque)
     × (c.in-Some-pop.seats.items ≡ map fresh_seat (own_deques c.args.space.owners.items))
 first_ready g c =
     ready-less (own_deques c.args.space.owners.items) c.args.space.owners.items c.take_first.new.all.items c.args.space.rows.items
@@ -36,7 +36,7 @@ new-post-requires-clause-seats g c =
 pub new-post-requires-clause-own : goal.new-post-requires-clause-own
 new-post-requires-clause-own g c =
     let taken = (goal.at.new-post-requires-clause-own g c).In-Some-pop in
-    (first_ready g taken).1 ∙ ap (λ (n : ℕ). fresh_own (1024 - n) c.in-Some.own.room c.in-Some.own.deque) (sym (seats_long g taken))
+    (first_ready g taken).1 ∙ ap (λ (n : ℕ). fresh_own (1024 - n) c.in-Some.own.capacity c.in-Some.own.deque) (sym (seats_long g taken))
 
 pub new-post-requires-clause-answers : goal.new-post-requires-clause-answers
 new-post-requires-clause-answers g c =
@@ -70,11 +70,11 @@ returns-clause-workers g c =
     ∙ length-map c.args.space.owners.items (λ (o : OwnView g.row.T.Denot). o.deque))
 
 pub returns-clause-opened : goal.returns-clause-opened
-returns-clause-opened g c = λ room alike.
+returns-clause-opened g c = λ capacity alike.
     let ids : List DequeId = own_deques c.args.space.owners.items in
     let ready = first_ready g (goal.at.returns-clause-opened g c).In-Some-pop in
     let at = at_ids g (goal.at.returns-clause-opened g c).In-Some-pop in
-    let rooms = all_first (λ (o : OwnView g.row.T.Denot). o.room ≡ room) c.args.space.owners.items c.take_first.new.all.items c.in-Some.own
+    let capacities = all_first (λ (o : OwnView g.row.T.Denot). o.capacity ≡ capacity) c.args.space.owners.items c.take_first.new.all.items c.in-Some.own
     c.in-Some.ensures.items alike in
     let post = c.new-post.ensures in
     let deques : c.new-post.result.deques ≡ ids = ap (λ (v : HelmView g.row.T.Denot g.row.A.Denot). v.deques) post ∙ at in
@@ -84,9 +84,9 @@ returns-clause-opened g c = λ room alike.
     let rest : drop 1 ids ≡ own_deques c.take_first.new.all.items =
     ap (λ (os : List (OwnView g.row.T.Denot)). drop 1 (own_deques os)) c.in-Some.ensures.items in
     record {
-      post = post ∙ (ap (λ (n : ℕ). unused n (deques_at c.in-Some-pop.seats.items) c.seat_all.new.pass.table_id) rooms.0
-          ∙ (ap (λ (xs : List DequeId). unused room xs c.seat_all.new.pass.table_id) (at ∙ sym deques)
-          ∙ ap (unused room c.new-post.result.deques) queue));
+      post = post ∙ (ap (λ (n : ℕ). unused n (deques_at c.in-Some-pop.seats.items) c.seat_all.new.pass.table_id) capacities.0
+          ∙ (ap (λ (xs : List DequeId). unused capacity xs c.seat_all.new.pass.table_id) (at ∙ sym deques)
+          ∙ ap (unused capacity c.new-post.result.deques) queue));
       fresh = c.seat_all.ensures.fresh ids ready.0;
       berths_are = c.seat_all.ensures.berths ids ready.0
           ∙ (ap (λ (xs : List DequeId). map (berth ids) xs) (sym rest) ∙ ap (λ (xs : List DequeId). berths xs) (sym deques));

@@ -5,7 +5,7 @@ use Rattle.ht_pool.proofs.seating.open_all.Given as goal
 
 abbrev pub invariant-loop : goal.invariant-loop
 invariant-loop g l = record {
-  fresh : l.owners.items ≡ map (fresh_own 1024 l.room) (own_deques l.owners.items);
+  fresh : l.owners.items ≡ map (fresh_own 1024 l.capacity) (own_deques l.owners.items);
   count : length l.owners.items ≡ l.counter;
   room : l.workers ≤ vec_capacity l.owners;
 }

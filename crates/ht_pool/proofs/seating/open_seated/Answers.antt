@@ -7,17 +7,17 @@ use Rattle.ht_pool.proofs.seating.open_seated.Goals as goal
 pub seat_rows-requires-clause-all : goal.seat_rows-requires-clause-all
 seat_rows-requires-clause-all g c =
     subst (λ (os : List (OwnView g.row.T.Denot)). All (λ (o : OwnView g.row.T.Denot). o.parts ≡ 1024) os) (sym c.as_mut_slice.ensures.value)
-    (all_fresh c.args.room c.in_ok-owners.owners.items c.in_ok-owners.ensures.fresh)
+    (all_fresh c.args.capacity c.in_ok-owners.owners.items c.in_ok-owners.ensures.fresh)
 
 pub returns-clause-ready : goal.returns-clause-ready
 returns-clause-ready g c =
-    (seated c.in_ok-owners.owners.len c.in_ok-owners.owners.items c.seat_rows.new.owners c.args.room c.args.workers c.as_mut_slice.result.now
+    (seated c.in_ok-owners.owners.len c.in_ok-owners.owners.items c.seat_rows.new.owners c.args.capacity c.args.workers c.as_mut_slice.result.now
     c.in_ok-rows.rows.items c.in_ok-owners.ensures.fresh c.in_ok-owners.ensures.count c.requires.few (search rules) c.as_mut_slice.ensures.value
     c.in_ok-rows.ensures.owners c.in_ok-rows.ensures.rows).0
 
-pub returns-clause-rooms : goal.returns-clause-rooms
-returns-clause-rooms g c =
-    (seated c.in_ok-owners.owners.len c.in_ok-owners.owners.items c.seat_rows.new.owners c.args.room c.args.workers c.as_mut_slice.result.now
+pub returns-clause-capacities : goal.returns-clause-capacities
+returns-clause-capacities g c =
+    (seated c.in_ok-owners.owners.len c.in_ok-owners.owners.items c.seat_rows.new.owners c.args.capacity c.args.workers c.as_mut_slice.result.now
     c.in_ok-rows.rows.items c.in_ok-owners.ensures.fresh c.in_ok-owners.ensures.count c.requires.few (search rules) c.as_mut_slice.ensures.value
     c.in_ok-rows.ensures.owners c.in_ok-rows.ensures.rows).1
 

@@ -1,9 +1,10 @@
-use Rattle.std.proofs.Common.{rules}
-use Rattle.ht_rx.proofs.Booking.{lines_told}
+use Rattle.std.proofs.Common.{rules, ap}
+use Rattle.ht_endings.specs.Endings.{EndsLines}
+use Rattle.ht_rx.proofs.Texts.{received}
 use Rattle.ht_rx.proofs.receiving_text.receive_text.Goals as goal
 
 pub returns : goal.returns
 returns g c =
-    let told = lines_told c.receive.result (g.S.Source.shown c.args.source.now) (g.S.Source.shown c.receive.new.source)
-    (g.K.Sink.shown c.new-book.result.sink.now) (g.K.Sink.shown c.receive.new.book.sink.now) c.receive.ensures.receives.tells in
-    search rules
+    let e = c.receive-ended in
+    let last : EndsLines e.result (g.K.Sink.shown e.new.book.sink.now) (g.K.Sink.shown c.put_end.new.sink) c.put_end.result = search rules in
+    received e.ensures.receives (ap g.K.Sink.shown c.new-book.ensures.sink) last

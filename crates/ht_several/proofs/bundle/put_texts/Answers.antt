@@ -1,4 +1,4 @@
-use Rattle.std.proofs.Common.{◌≡◌, ◌+◌, ◌++◌, ◌<◌, [], drop, length, map, get_or, refl, ◌∙◌, arith}
+use Rattle.std.proofs.Common.{◌≡◌, ◌+◌, ◌++◌, ◌<◌, [], drop, length, map, get_or, refl, ◌∙◌, arith, rules}
 use Rattle.std.proofs.lemmas.List.{length-map}
 use Rattle.ht_io.proofs.Calls.{later-later}
 use Rattle.ht_io.proofs.Pieces.{grown-append}
@@ -16,15 +16,23 @@ low g c = omega (arith, c.loop-at-test.true, length-map c.args.texts.now held_by
 text_is : (g : _) (c : After-put_text g) → c.held-text.result.now ≡ get_or (map held_by c.args.texts.now) c.loop-at.at []
 text_is g c = held_at c.args.texts.now c.loop-at.at c.index-texts-at.result _ c.held-text.result.now c.loop-at-test.true c.index-texts-at.is c.held-text.ensures
 
-pub returns-in_err-put_text-clause-part : goal.returns-in_err-put_text-clause-part
-returns-in_err-put_text-clause-part g c =
-    let at = (goal.at.returns-in_err-put_text-clause-part g c).After-put_text in
+pub returns-in_err-put_text : goal.returns-in_err-put_text
+returns-in_err-put_text g c =
+    let at = (goal.at.returns-in_err-put_text g c).After-put_text in
     let k = c.loop-at.at in
     let texts = map held_by c.args.texts.now in
     let more = capture_text k ++ c.held-text.result.now in
-    let so_far = c.loop-at.invariant.put in
-    on_err _ _ (part_more _ _ _ so_far.0 more more (texts_from (k + 1) (drop (k + 1) texts)) (texts_from k (drop k texts)) (texts_from 0 texts)
-    so_far.2 c.in_err-put_text.ensures.part refl (texts_step texts k c.held-text.result.now (low g at) (text_is g at)) so_far.1)
+    let i = c.loop-at.invariant in
+    let so_far = i.put in
+    let e = c.in_err-put_text.ensures in
+    record {
+      grown = search rules;
+      steady = search rules;
+      part = on_err _ _ (part_more _ _ _ so_far.0 more more (texts_from (k + 1) (drop (k + 1) texts)) (texts_from k (drop k texts)) (texts_from 0 texts)
+          so_far.2 e.part refl (texts_step texts k c.held-text.result.now (low g at) (text_is g at)) so_far.1);
+      cause = search rules;
+      later = later-later _ _ _ i.later e.later;
+    }
 
 pub loop-at-preserved : goal.loop-at-preserved
 loop-at-preserved g c =

@@ -15,7 +15,7 @@ alone_is_best job old levels distance steps long found best bound =
     let cs = from_last job.system job.grid in
     let some = inside_some (rounding cs [] 0).1 cs in
     record {
-      room = long;
+      size = long;
       best = subst (λ (first : Reached). IsBestOf first (leaves cs [] 0) (levels, distance)) (sym found) best;
       bound = bound;
       steps = omega (arith, some);
@@ -24,9 +24,9 @@ alone_is_best job old levels distance steps long found best bound =
 pub returns-then-first : goal.returns-then-first
 returns-then-first g c =
     let first = c.rounded-first.ensures in
-    alone_is_best c.args.job.now _ _ _ _ first.room first.found (first.alone c.if-first.true) first.bound
+    alone_is_best c.args.job.now _ _ _ _ first.size first.found (first.alone c.if-first.true) first.bound
 
 pub returns-then-second : goal.returns-then-second
 returns-then-second g c =
     let second = c.rounded-second.ensures in
-    alone_is_best c.args.job.now _ _ _ _ (second.room ∙ c.rounded-first.ensures.room) second.found (second.alone c.if-second.true) second.bound
+    alone_is_best c.args.job.now _ _ _ _ (second.size ∙ c.rounded-first.ensures.size) second.found (second.alone c.if-second.true) second.bound

@@ -13,7 +13,7 @@ returns-clause-found g c =
     let k = c.args.streams in
     let w : Reached = (c.round.new.levels, c.round.new.distance) in
     let all = down_system c.args.job.now c.args.job.now.system k c.requires.job refl c.requires.streams in
-    let none = none_left c.args.levels.now k (omega (arith, c.requires.room, c.requires.streams)) in
+    let none = none_left c.args.levels.now k (omega (arith, c.requires.size, c.requires.streams)) in
     found_all (down rows grid k) (from_last rows grid) (drop (2 * k) c.args.levels.now) w all none c.round.ensures.found
 
 some_left : (n : ℕ) → nat_lt 0 n ≡ true → 0 < n
@@ -28,7 +28,7 @@ returns-clause-alone g c is =
     let off = c.round.new.distance + c.round.new.spare in
     let w : Reached = (c.round.new.levels, c.round.new.distance) in
     let all = down_system c.args.job.now c.args.job.now.system k c.requires.job refl c.requires.streams in
-    let none = none_left c.args.levels.now k (omega (arith, c.requires.room, c.requires.streams)) in
+    let none = none_left c.args.levels.now k (omega (arith, c.requires.size, c.requires.streams)) in
     let others : OthersFrom (from_last rows grid) [] 0 w off =
     subst (λ (cs : List Real). OthersFrom cs [] 0 w off) all
     (subst (λ (s : List ℤ). OthersFrom (down rows grid k) s 0 w off) none (c.round.ensures.others some)) in

@@ -49,10 +49,10 @@ loop-l-preserved c =
     let re = c.times-part.ensures.re ∙ product_i c.above.result (get_or row.right (l - k) no_tap) _ _ _ _ tap i q in
     let im = c.times-part.ensures.im ∙ product_q c.above.result (get_or row.right (l - k) no_tap) _ _ _ _ tap i q in
     record {
-      re = heard_i row.right xs n k l after last c.requires.room (to_z w64 c.loop-l.re-bits) _ c.times-part.result.re _ re
+      re = heard_i row.right xs n k l after last c.requires.size (to_z w64 c.loop-l.re-bits) _ c.times-part.result.re _ re
           (less_by (to_z w64 c.loop-l.re-bits) c.times-part.result.re (l - k) few c.loop-l.invariant.re_bound c.times-part.ensures.re_bound)
           c.loop-l.invariant.re;
-      im = heard_q row.right xs n k l after last c.requires.room (to_z w64 c.loop-l.im-bits) _ c.times-part.result.im _ im
+      im = heard_q row.right xs n k l after last c.requires.size (to_z w64 c.loop-l.im-bits) _ c.times-part.result.im _ im
           (less_by (to_z w64 c.loop-l.im-bits) c.times-part.result.im (l - k) few c.loop-l.invariant.im_bound c.times-part.ensures.im_bound)
           c.loop-l.invariant.im;
       re_bound = less_bound (to_z w64 c.loop-l.re-bits) c.times-part.result.re (l - k) _ few

@@ -53,7 +53,7 @@ round-requires g t c =
         (
           omega (arith, c.requires.last),
           (
-            ap (λ (l : List ℤ). length l) c.set_both.ensures ∙ same2 ∙ same ∙ c.requires.room,
+            ap (λ (l : List ℤ). length l) c.set_both.ensures ∙ same2 ∙ same ∙ c.requires.size,
             (
               subst (λ (l : List ℤ). All (λ z. unsigned_abs z ≤ 7) l) (sym c.set_both.ensures)
                   (All-set (λ z. unsigned_abs z ≤ 7) one at (to_z w8 (of_z w8 y)) y_small
@@ -92,9 +92,9 @@ two_written g t c =
     let y_fits : SFits w8 c.nearest-i.result.level = search rules in
     let at = 2 * c.from.result - 2 in
     let here : at + 2 ≡ 2 * c.args.k = omega (arith, c.from.ensures, c.if-k-eq0.false) in
-    let room : at + 2 ≤ length c.args.levels.now = omega (arith, here, c.requires.room, c.requires.last) in
+    let size : at + 2 ≤ length c.args.levels.now = omega (arith, here, c.requires.size, c.requires.last) in
     ap (λ (l : List ℤ). drop (2 * (c.args.k - 1)) l) c.set_both.ensures
-    ∙ two_set c.args.levels.now c.args.k at _ _ _ _ here room (to_z-of_z x_fits) (to_z-of_z y_fits)
+    ∙ two_set c.args.levels.now c.args.k at _ _ _ _ here size (to_z-of_z x_fits) (to_z-of_z y_fits)
 
 pub returns-clause-found : goal.returns-clause-found
 returns-clause-found g t c =

@@ -16,7 +16,7 @@ pub search-returns-then-k-eq0 : goal.search-returns-then-k-eq0
 search-returns-then-k-eq0 g t c =
     subst (λ (k : ℕ). IsSearched (down c.args.job.now.system c.args.job.now.grid k) (2 * k) c.args.partial c.args.levels.now
     (c.args.best.now, c.args.distance.now) c.args.steps.now c.args.levels.now (c.settle.new.best, c.settle.new.distance) c.args.steps.now)
-    (sym c.if-k-eq0.true) (whole _ _ _ _ _ c.requires.room.levels c.settle.ensures.best c.settle.ensures.less)
+    (sym c.if-k-eq0.true) (whole _ _ _ _ _ c.requires.size.levels c.settle.ensures.best c.settle.ensures.less)
 
 -- the whole tree is that of the last open stream
 pub search-returns-else-k-eq0 : goal.search-returns-else-k-eq0
@@ -33,7 +33,7 @@ q_step g t c =
     let wide : SFits w64 c.remainder_of-left.result.im = search rules in
     let fits : SFits w8 c.in-Some.level = search rules in
     step _ _ c.loop-level.levels _ _ (2 * c.args.k) c.remainder_of-left.result.d _ _ _ _
-    (omega (arith, c.loop-level.invariant.room, c.requires.room.room, c.requires.last, c.from.ensures)) (omega (arith, c.from.ensures))
+    (omega (arith, c.loop-level.invariant.size, c.requires.size.size, c.requires.last, c.from.ensures)) (omega (arith, c.from.ensures))
     (omega (arith, c.from.ensures)) c.loop-level.invariant.chosen c.loop-level.invariant.levels (to_z-of_z fits) c.in-Some.ensures.level
     (c.from-in-Some.ensures ∙ c.cost.ensures.value) c.remainder_of-left.ensures.d (to_z-of_z wide ∙ c.remainder_of-left.ensures.im)
 
@@ -44,7 +44,7 @@ i_step g t c =
     let wide : SFits w64 c.args.target = search rules in
     let fits : SFits w8 c.in-Some.level = search rules in
     step _ _ c.loop-level.levels _ _ (2 * c.args.k - 1) c.args.d _ _ _ _
-    (omega (arith, c.loop-level.invariant.room, c.requires.room.room, c.requires.last, c.from.ensures)) (omega (arith, c.from.ensures))
+    (omega (arith, c.loop-level.invariant.size, c.requires.size.size, c.requires.last, c.from.ensures)) (omega (arith, c.from.ensures))
     (omega (arith, c.from.ensures)) c.loop-level.invariant.chosen c.loop-level.invariant.levels (to_z-of_z fits) c.in-Some.ensures.level
     (c.from-in-Some.ensures ∙ c.cost.ensures.value) c.requires.aimed.diagonal (to_z-of_z wide ∙ c.requires.aimed.target)
 
@@ -56,9 +56,9 @@ pub quadrature-loop-level-init : goal.quadrature-loop-level-init
 quadrature-loop-level-init g t c =
     let wide : SFits w64 c.remainder_of-left.result.im = search rules in
     record {
-      room = refl;
+      size = refl;
       same = refl;
-      levels = c.requires.room.levels;
+      levels = c.requires.size.levels;
       chosen = refl;
       left = starts (q_at c.args.job.now.system c.args.job.now.grid (c.args.k - 1)) (from_i c.args.job.now.system c.args.job.now.grid (c.args.k - 1)) _ _ _ _
           (c.args.best.now, c.args.distance.now) _
@@ -82,8 +82,8 @@ quadrature-in_phase-requires g t c =
             c.requires.last,
             (
               record {
-                room = kept ∙ c.loop-level.invariant.room ∙ c.requires.room.room;
-                same = omega (arith, kept, c.loop-level.invariant.room, c.loop-level.invariant.same, c.requires.room.same);
+                size = kept ∙ c.loop-level.invariant.size ∙ c.requires.size.size;
+                same = omega (arith, kept, c.loop-level.invariant.size, c.loop-level.invariant.same, c.requires.size.same);
                 levels = next.levels;
               },
               (
@@ -101,7 +101,7 @@ pub quadrature-loop-level-preserved : goal.quadrature-loop-level-preserved
 quadrature-loop-level-preserved g t c =
     let next = q_step g t (goal.at.quadrature-loop-level-preserved g t c).After-from-in-Some in
     record {
-      room = search (rules, c.in_phase.auto.levels, c.loop-level.invariant.room);
+      size = search (rules, c.in_phase.auto.levels, c.loop-level.invariant.size);
       same = search (rules, c.in_phase.auto.best, c.loop-level.invariant.same);
       levels = c.in_phase.ensures.levels;
       chosen = behind _ _ _ c.in_phase.new.levels _ _ _ _ next (omega (arith, c.requires.first)) c.in_phase.ensures.chosen;
@@ -127,9 +127,9 @@ pub in_phase-loop-level-init : goal.in_phase-loop-level-init
 in_phase-loop-level-init g t c =
     let wide : SFits w64 c.args.target = search rules in
     record {
-      room = refl;
+      size = refl;
       same = refl;
-      levels = c.requires.room.levels;
+      levels = c.requires.size.levels;
       chosen = refl;
       left = starts (i_at c.args.job.now.system c.args.job.now.grid (c.args.k - 1)) (down c.args.job.now.system c.args.job.now.grid (c.args.k - 1)) _ _ _ _
           (c.args.best.now, c.args.distance.now) _
@@ -150,8 +150,8 @@ in_phase-search-requires g t c =
           omega (arith, c.requires.last),
           (
             record {
-              room = kept ∙ c.loop-level.invariant.room ∙ c.requires.room.room;
-              same = omega (arith, kept, c.loop-level.invariant.room, c.loop-level.invariant.same, c.requires.room.same);
+              size = kept ∙ c.loop-level.invariant.size ∙ c.requires.size.size;
+              same = omega (arith, kept, c.loop-level.invariant.size, c.loop-level.invariant.same, c.requires.size.same);
               levels = next.levels;
             },
             omega (arith, c.from-in-Some.ensures, c.requires.small, c.requires.first),
@@ -164,7 +164,7 @@ pub in_phase-loop-level-preserved : goal.in_phase-loop-level-preserved
 in_phase-loop-level-preserved g t c =
     let next = i_step g t (goal.at.in_phase-loop-level-preserved g t c).After-from-in-Some in
     record {
-      room = search (rules, c.search.auto.levels, c.loop-level.invariant.room);
+      size = search (rules, c.search.auto.levels, c.loop-level.invariant.size);
       same = search (rules, c.search.auto.best, c.loop-level.invariant.same);
       levels = c.search.ensures.levels;
       chosen = behind _ _ _ c.search.new.levels _ _ _ _ next (omega (arith, c.requires.first)) c.search.ensures.chosen;

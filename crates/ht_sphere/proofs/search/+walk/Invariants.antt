@@ -15,7 +15,7 @@ decreases-in_phase g l = 3 * l.k - 2
 
 abbrev pub invariant-quadrature-loop-level : goal.invariant-quadrature-loop-level
 invariant-quadrature-loop-level g l = record {
-  room : length l.levels ≡ length l.fn.levels;
+  size : length l.levels ≡ length l.fn.levels;
   same : length l.best ≡ length l.fn.best;
   levels : All (λ x. unsigned_abs x ≤ 7) l.levels;
   chosen : drop (2 * l.fn.k) l.levels ≡ drop (2 * l.fn.k) l.fn.levels;
@@ -28,7 +28,7 @@ decreases-quadrature-loop-level g l = length l.walk
 
 abbrev pub invariant-in_phase-loop-level : goal.invariant-in_phase-loop-level
 invariant-in_phase-loop-level g l = record {
-  room : length l.levels ≡ length l.fn.levels;
+  size : length l.levels ≡ length l.fn.levels;
   same : length l.best ≡ length l.fn.best;
   levels : All (λ x. unsigned_abs x ≤ 7) l.levels;
   chosen : drop (2 * l.fn.k - 1) l.levels ≡ drop (2 * l.fn.k - 1) l.fn.levels;

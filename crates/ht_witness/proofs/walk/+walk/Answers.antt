@@ -18,7 +18,7 @@ quadrature-cost-requires-clause-target g t c =
 
 pub quadrature-loop-level-init : goal.quadrature-loop-level-init
 quadrature-loop-level-init g t c = record {
-  levels = record { levels = c.requires.levels; room = refl; chosen = refl };
+  levels = record { levels = c.requires.levels; size = refl; chosen = refl };
   goes = λ rest.
       begun (g.V.Visitor.outcome c.args.visitor.now) (q_at c.args.job.now.system c.args.job.now.grid (c.args.k - 1)) _ _ _ _ c.q_ladder.result _ rest
       (c.q_ladder.ensures.value ∙ ap (λ (a : List Axes). (get_or a (c.args.k - 1) no_axes).q) c.grid.ensures.grid) c.ascending-walk.ensures;
@@ -39,7 +39,7 @@ q_step g t c =
     let wide : SFits w64 c.remainder_of-left.result.im = search rules in
     let fits : SFits w8 c.in-Some.level = search rules in
     step _ _ c.loop-level.levels _ _ (2 * c.args.k) c.remainder_of-left.result.d _ _ _ _
-    (omega (arith, c.loop-level.invariant.levels.room, c.requires.room, c.requires.last, c.from.ensures)) (omega (arith, c.from.ensures))
+    (omega (arith, c.loop-level.invariant.levels.size, c.requires.size, c.requires.last, c.from.ensures)) (omega (arith, c.from.ensures))
     (omega (arith, c.from.ensures)) c.loop-level.invariant.levels.chosen c.loop-level.invariant.levels.levels (to_z-of_z fits) c.in-Some.ensures.level
     (c.from-in-Some.ensures ∙ c.cost.ensures.value) c.remainder_of-left.ensures.d (to_z-of_z wide ∙ c.remainder_of-left.ensures.im)
 
@@ -85,7 +85,7 @@ quadrature-in_phase-requires g t c κs within =
               record {
                 first = c.requires.first;
                 last = c.requires.last;
-                room = length-set c.loop-level.levels _ _ ∙ c.loop-level.invariant.levels.room ∙ c.requires.room;
+                size = length-set c.loop-level.levels _ _ ∙ c.loop-level.invariant.levels.size ∙ c.requires.size;
                 levels = next.levels;
                 small = omega (arith, c.from-in-Some.ensures, c.requires.small);
               },
@@ -102,7 +102,7 @@ quadrature-loop-level-preserved-in-Ok g t c =
     let at = (goal.at.quadrature-loop-level-preserved-in-Ok g t c).After-from-in-Some in
     record {
       levels = record {
-        room = c.in-Ok.ensures.levels.room ∙ length-set c.loop-level.levels _ _ ∙ c.loop-level.invariant.levels.room;
+        size = c.in-Ok.ensures.levels.size ∙ length-set c.loop-level.levels _ _ ∙ c.loop-level.invariant.levels.size;
         levels = c.in-Ok.ensures.levels.levels;
         chosen = behind _ _ _ c.in_phase.new.levels _ _ _ _ (q_step g t at) (omega (arith, c.requires.first)) c.in-Ok.ensures.levels.chosen;
       };
@@ -125,7 +125,7 @@ quadrature-loop-level-preserved g t c =
     let at = (goal.at.quadrature-loop-level-preserved g t c).After-from-in-Some in
     record {
       levels = record {
-        room = length-set c.loop-level.levels _ _ ∙ c.loop-level.invariant.levels.room;
+        size = length-set c.loop-level.levels _ _ ∙ c.loop-level.invariant.levels.size;
         levels = (q_step g t at).levels;
         chosen = behind _ _ _ (q_all g t at) _ _ _ _ (q_step g t at) (omega (arith, c.requires.first)) refl;
       };
@@ -142,7 +142,7 @@ quadrature-returns-in-Err-clause-walked g t c = λ rest.
 
 pub in_phase-loop-level-init : goal.in_phase-loop-level-init
 in_phase-loop-level-init g t c = record {
-  levels = record { levels = c.requires.ready.levels; room = refl; chosen = refl };
+  levels = record { levels = c.requires.ready.levels; size = refl; chosen = refl };
   goes = λ rest.
       begun (g.V.Visitor.outcome c.args.visitor.now) (i_at c.args.job.now.system c.args.job.now.grid (c.args.k - 1)) _ _ _ _ c.i_ladder.result _ rest
       (c.i_ladder.ensures.value ∙ ap (λ (a : List Axes). (get_or a (c.args.k - 1) no_axes).i) c.grid.ensures.grid) c.ascending-walk.ensures;
@@ -163,7 +163,7 @@ i_step g t c =
     let wide : SFits w64 c.args.target = search rules in
     let fits : SFits w8 c.in-Some.level = search rules in
     step _ _ c.loop-level.levels _ _ (2 * c.args.k - 1) c.args.d _ _ _ _
-    (omega (arith, c.loop-level.invariant.levels.room, c.requires.ready.room, c.requires.ready.last, c.from.ensures)) (omega (arith, c.from.ensures))
+    (omega (arith, c.loop-level.invariant.levels.size, c.requires.ready.size, c.requires.ready.last, c.from.ensures)) (omega (arith, c.from.ensures))
     (omega (arith, c.from.ensures)) c.loop-level.invariant.levels.chosen c.loop-level.invariant.levels.levels (to_z-of_z fits) c.in-Some.ensures.level
     (c.from-in-Some.ensures ∙ c.cost.ensures.value) c.requires.aimed.diagonal (to_z-of_z wide ∙ c.requires.aimed.target)
 
@@ -207,7 +207,7 @@ in_phase-quadrature-requires g t c κs within =
             record {
               first = omega arith;
               last = omega (arith, c.requires.ready.last);
-              room = length-set c.loop-level.levels _ _ ∙ c.loop-level.invariant.levels.room ∙ c.requires.ready.room;
+              size = length-set c.loop-level.levels _ _ ∙ c.loop-level.invariant.levels.size ∙ c.requires.ready.size;
               levels = next.levels;
               small = omega (arith, c.from-in-Some.ensures, c.requires.ready.small, c.requires.ready.first);
             },
@@ -219,7 +219,7 @@ in_phase-quadrature-requires g t c κs within =
 -- the next level is written in front of the chosen ones
 i_chosen : (g : _) (t : _) (c : in_phase-After-from-in-Some g t) → AreChosen (2 * c.args.k - 1) c.args.levels.now (i_all g t c)
 i_chosen g t c = record {
-  room = length-set c.loop-level.levels _ _ ∙ c.loop-level.invariant.levels.room;
+  size = length-set c.loop-level.levels _ _ ∙ c.loop-level.invariant.levels.size;
   levels = (i_step g t c).levels;
   chosen = behind _ _ _ (i_all g t c) _ _ _ _ (i_step g t c) (omega (arith, c.requires.ready.first)) refl;
 }
@@ -247,7 +247,7 @@ in_phase-loop-level-preserved-in-Ok g t c =
     let at = (goal.at.in_phase-loop-level-preserved-in-Ok g t c).After-from-in-Some in
     record {
       levels = record {
-        room = c.in-Ok.ensures.levels.room ∙ length-set c.loop-level.levels _ _ ∙ c.loop-level.invariant.levels.room;
+        size = c.in-Ok.ensures.levels.size ∙ length-set c.loop-level.levels _ _ ∙ c.loop-level.invariant.levels.size;
         levels = c.in-Ok.ensures.levels.levels;
         chosen = behind _ _ _ c.quadrature.new.levels _ _ _ _ (i_step g t at) (omega (arith, c.requires.ready.first)) c.in-Ok.ensures.levels.chosen;
       };

@@ -6,8 +6,8 @@ use Rattle.ht_bench.specs.contracts.rounds.Rounds.{the_view}
 use Rattle.ht_bench.proofs.Numbering.{takes, some_due}
 use Rattle.ht_bench.proofs.rounds.RoundsFeed.take.Goals as goal
 
-pub returns-clause-taken : goal.returns-clause-taken
-returns-clause-taken c =
+pub returns-clause-takes : goal.returns-clause-takes
+returns-clause-takes c =
     let f : RoundsView = the_view c.self.inside in
     let first : slice_get (shown {Fault = Infallible} f).due 0 ≡ Some c.args.hit.job =
     ap (λ (s : RoundsView). slice_get (shown {Fault = Infallible} s).due 0) c.self.view_is ∙ c.requires.first in

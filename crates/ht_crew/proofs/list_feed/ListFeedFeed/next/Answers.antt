@@ -22,9 +22,9 @@ returns-clause-job c =
 pub returns-clause-leads : goal.returns-clause-leads
 returns-clause-leads c =
     let is = c.self.view_is ∙ c.in_ok-call.ensures.counted in
-    unmoved c.args.self.now _ (ap (λ (s : Listed). s.jobs) is) (ap (λ (s : Listed). s.taken) is)
+    unmoved c.args.self.now _ (ap (λ (s : Listed). s.jobs) is) (ap (λ (s : Listed). s.hits) is)
 
 pub returns-in_default-clause-leads : goal.returns-in_default-clause-leads
 returns-in_default-clause-leads c =
     let is = c.self.view_is ∙ c.in_ok-call.ensures.counted in
-    unmoved c.args.self.now _ (ap (λ (s : Listed). s.jobs) is) (ap (λ (s : Listed). s.taken) is)
+    unmoved c.args.self.now _ (ap (λ (s : Listed). s.jobs) is) (ap (λ (s : Listed). s.hits) is)

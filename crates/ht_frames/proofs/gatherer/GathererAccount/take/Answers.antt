@@ -28,9 +28,11 @@ returns g c =
       part = all_part result_of b.booked old mid new start whole left (results c.gather_block.new.under_way) jobs put c.book_frames.result e.part;
       waits = none_kept c.book_frames.result left (WaitForJobs self.queue.now.items (all_due c.args.due.now.items))
           (all_due (drop 1 c.args.due.now.items)) e.few;
-      cause = failed_behind c.book_frames.result old mid new c.gather_block.ensures.faults.later e.faults.cause;
-      steady = search rules;
-      unfailed = search rules;
-      later = search rules;
-      same = search rules;
+      faults = record {
+        steady = search rules;
+        cause = failed_behind c.book_frames.result old mid new c.gather_block.ensures.faults.later e.faults.cause;
+        unfailed = search rules;
+        later = search rules;
+        same = search rules;
+      };
     }

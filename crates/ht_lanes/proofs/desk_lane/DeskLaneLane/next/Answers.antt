@@ -1,6 +1,6 @@
 use Rattle.std.proofs.Common.{refl}
 use Rattle.ht_feed.proofs.Leads.{well}
-use Rattle.ht_lanes.specs.DeskLanes.{lane_told}
+use Rattle.ht_lanes.specs.DeskLanes.{lane_telling}
 use Rattle.ht_lanes.proofs.DeskCalls.{asked, goes, lacking}
 use Rattle.ht_lanes.proofs.desk_lane.DeskLaneLane.next.Goals as goal
 
@@ -8,7 +8,7 @@ pub returns-clause-leads : goal.returns-clause-leads
 returns-clause-leads g c = λ sink.
     let r = g.R.BlockReader in
     let self = c.args.self.now in
-    let told = lane_told g.A.Booking.pieces self.booking (g.K.Sink.shown sink) in
+    let told = lane_telling g.A.Booking.pieces self.booking (g.K.Sink.shown sink) in
     let none = goes self.failed self.desk.stop c.requires.going in
     let e = c.next.ensures in
     well self.failed self.failed _ _ none.0 refl

@@ -6,11 +6,11 @@ returns-in-Ok-clause-leads g c = λ source.
     let self = c.args.self.now in
     took g.R.BlockReader.means g.R.BlockReader.at g.A.Booking.pieces self.booking c.take.new.self self.desk (g.S.Source.shown source)
     (g.K.Sink.shown c.args.sink.now) (g.K.Sink.shown c.take.new.sink) self.failed (well_so self.failed c.requires.going) c.take.new.desk
-    c.in-Ok.ensures.due c.in-Ok.ensures.books
+    c.in-Ok.ensures
 
 pub returns-in-Err-clause-leads : goal.returns-in-Err-clause-leads
 returns-in-Err-clause-leads g c = λ source.
     let self = c.args.self.now in
     took_none g.R.BlockReader.means g.R.BlockReader.at g.A.Booking.pieces self.booking c.take.new.self self.desk (g.S.Source.shown source)
     (g.K.Sink.shown c.args.sink.now) (g.K.Sink.shown c.take.new.sink) self.failed (well_so self.failed c.requires.going) c.take.new.desk
-    c.in-Err.ensures.stays c.in-Err.ensures.books
+    c.in-Err.ensures

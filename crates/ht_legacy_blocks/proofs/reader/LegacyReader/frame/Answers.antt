@@ -1,7 +1,7 @@
 use Rattle.std.proofs.Common.{◌≡◌, ◌<◌, ◌+◌, ◌-◌, ℕ, ap, subst, ◌∙◌, refl, arith}
 use Rattle.ht_clause18.specs.Rates.{symbols_of}
 use Rattle.ht_fields.specs.Readers.{reader_in}
-use Rattle.ht_fields.specs.WholeFiles.{Halts}
+use Rattle.ht_fields.specs.WholeFiles.{StopsWithCause}
 use Rattle.ht_legacy_captures.specs.Formats.{captures, captures_due, symbols_due}
 use Rattle.ht_legacy_captures.specs.Items.{LegacyHead}
 use Rattle.ht_legacy_blocks.specs.declared.stage.Stage.TheVariants.{Due}
@@ -42,5 +42,5 @@ returns-in-Err-clause-told g c =
     let some : 0 < c.args.frames = omega (arith, c.requires.some) in
     halts_seen old old.course (captures_due c.args.frames) old.at
     (record { course = refl; state = ap state_of c.requires.stage ∙ next_frame c.args.frames; at = refl }) source after c.in-Err.fault c.requires.none
-    (subst (λ (n : ℕ). Halts (reader_in captures (captures_due c.args.frames) n source) after c.in-Err.fault) (ap (λ (r : Progress). r.at) c.self.view_is)
+    (subst (λ (n : ℕ). StopsWithCause (reader_in captures (captures_due c.args.frames) n source) after c.in-Err.fault) (ap (λ (r : Progress). r.at) c.self.view_is)
     (c.in-Err.ensures.told c.args.frames some))

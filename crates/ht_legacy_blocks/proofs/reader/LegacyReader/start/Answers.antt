@@ -1,6 +1,6 @@
 use Rattle.std.proofs.Common.{◌≡◌, [], ℕ, sym, ap, subst, ◌∙◌, refl}
 use Rattle.ht_fields.specs.Readers.{Gives, reader_in}
-use Rattle.ht_fields.specs.WholeFiles.{Halts}
+use Rattle.ht_fields.specs.WholeFiles.{StopsWithCause}
 use Rattle.ht_legacy_captures.specs.Formats.{captures, captures_due}
 use Rattle.std.specs.Arc.{arc_value}
 use Rattle.ht_legacy_blocks.specs.declared.stage.Stage.TheVariants.{Due}
@@ -34,4 +34,4 @@ returns-in-Err-clause-told g c =
     let zero : old.at ≡ 0 = at_start old c.requires.stage sound in
     halts_seen old old.course captures.start old.at (record { course = refl; state = ap state_of c.requires.stage; at = refl }) source after c.in-Err.fault
     c.requires.none
-    (subst (λ (n : ℕ). Halts (reader_in captures captures.start n source) after c.in-Err.fault) (sym zero) c.in-Err.ensures.told)
+    (subst (λ (n : ℕ). StopsWithCause (reader_in captures captures.start n source) after c.in-Err.fault) (sym zero) c.in-Err.ensures.told)

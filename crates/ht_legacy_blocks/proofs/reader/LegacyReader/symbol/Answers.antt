@@ -1,7 +1,7 @@
 use Rattle.std.proofs.Common.{◌≡◌, ◌<◌, ◌+◌, ◌-◌, ℕ, length, refl, ap, subst, ◌∙◌, arith}
 use Rattle.std.specs.Arc.{arc_value}
 use Rattle.ht_fields.specs.Readers.{reader_in}
-use Rattle.ht_fields.specs.WholeFiles.{Halts}
+use Rattle.ht_fields.specs.WholeFiles.{StopsWithCause}
 use Rattle.ht_legacy_captures.specs.Formats.{captures, symbols_due}
 use Rattle.ht_legacy_blocks.specs.declared.stage.Stage.TheVariants.{Due}
 use Rattle.ht_legacy_blocks.specs.Frames.{Course}
@@ -18,7 +18,7 @@ returns-in-Err-clause-told g c =
     let after = g.S.Source.shown c.fill.new.source in
     let due = symbols_due (c.args.frames + 1) c.args.symbols in
     halts_seen old old.course due old.at (record { course = refl; state = ap state_of c.requires.stage; at = refl }) source after c.in-Err.fault c.requires.none
-    (subst (λ (n : ℕ). Halts (reader_in captures due n source) after c.in-Err.fault) (ap (λ (r : Progress). r.at) c.self.view_is)
+    (subst (λ (n : ℕ). StopsWithCause (reader_in captures due n source) after c.in-Err.fault) (ap (λ (r : Progress). r.at) c.self.view_is)
     (samples_halts (c.args.frames + 1) c.args.symbols c.self.inside.at _ source after c.in-Err.fault (omega (arith, c.requires.some)) (omega arith)
     c.in-Err.ensures.lacking))
 

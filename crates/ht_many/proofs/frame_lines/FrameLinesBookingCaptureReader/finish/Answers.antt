@@ -8,7 +8,11 @@ use Rattle.ht_many.proofs.frame_lines.FrameLinesBookingCaptureReader.finish.Goal
 pub returns-clause-books : goal.returns-clause-books
 returns-clause-books g c =
     let sink = g.K.Sink.shown c.args._sink.now in
-    record { put = ([], grows-none sink, λ more. refl); part = tt; cause = tt; steady = refl; unfailed = tt; later = later-refl sink }
+    record {
+      put = ([], grows-none sink, λ more. refl);
+      part = tt;
+      faults = record { steady = refl; cause = tt; unfailed = tt; later = later-refl sink; same = refl };
+    }
 
 pub returns-clause-none : goal.returns-clause-none
 returns-clause-none g c =

@@ -4,6 +4,7 @@ use Rattle.ht_frames.specs.Gathering.{booked_behind}
 use Rattle.ht_frames.proofs.Gathered.{all_part, all_put}
 use Rattle.ht_results.specs.Folding.{result_of, results_from}
 use Rattle.ht_many.specs.KeptFrames.{KeptFrames, booked_left}
+use Rattle.ht_many.proofs.Parts.{here}
 use Rattle.ht_many.proofs.gathered_lines.GatheredLines.finish_into.Goals as goal
 
 pub returns-clause-books : goal.returns-clause-books
@@ -22,8 +23,5 @@ returns-clause-books g c =
           c.book_frames.result e.put;
       part = all_part result_of b.booked before before after start whole left results [] ([], grows-none before, λ more. ap (λ f. f more) same)
           c.book_frames.result e.part;
-      cause = e.faults.cause;
-      steady = e.faults.steady;
-      unfailed = e.faults.unfailed;
-      later = e.faults.later;
+      faults = here e.faults;
     }

@@ -3,7 +3,7 @@ use Rattle.ht_feed.specs.Dues.{all_due}
 use Rattle.ht_lanes.specs.Bookings.{BooksHits}
 use Rattle.ht_results.specs.Folding.{FrameSoFar}
 use Rattle.ht_many.specs.KeptFrames.{KeptFrames, booked_left, kept_frames}
-use Rattle.ht_many.proofs.Parts.{books_of}
+use Rattle.ht_many.proofs.Parts.{books_of, here}
 use Rattle.ht_many.proofs.gathered_lines.GatheredLines.take_into.Goals as goal
 
 pub returns-clause-books : goal.returns-clause-books
@@ -17,10 +17,13 @@ returns-clause-books g c =
     let new : KeptFrames = kept_frames after.under_way.now after.queue.now.items in
     let books : BooksHits c.take.result (b.shown before.book.now) (b.shown after.book.now) (booked_left b.booked old) (booked_left b.booked new)
     (all_due (take 1 c.args.desk.now.due)) =
-    record { put = e.put; part = e.part; cause = e.cause; steady = e.steady; unfailed = e.unfailed; later = e.later } in
+    record { put = e.put; part = e.part; faults = here e.faults } in
     let same : c.args.self.now ≡ old =
     sym c.self.view_is
-    ∙ (sym (ap (λ (fs : List FrameSoFar). kept_frames c.self.inside.under_way fs) (ap (λ q. q.items) lines.queue))
-    ∙ sym (ap (λ (f : FrameSoFar). kept_frames f before.queue.now.items) lines.under_way)) in
-    books_of b.shown (booked_left b.booked) before.book.now after.book.now c.args.book.now _ old new c.args.self.now _ (search rules) (search rules)
-    same (search rules) books
+    ∙ (sym (ap (λ (fs : List FrameSoFar). kept_frames c.self.inside.under_way fs) (ap (λ q. q.now.items) lines.queue))
+    ∙ sym (ap (λ (f : FrameSoFar). kept_frames f before.queue.now.items) (ap (λ f. f.now) lines.under_way))) in
+    record {
+      books = books_of b.shown (booked_left b.booked) before.book.now after.book.now c.args.book.now _ old new c.args.self.now _ (search rules) (search rules) same (search rules) books;
+      due = e.due;
+      stays = e.stays;
+    }

@@ -1,5 +1,5 @@
 use Rattle.std.proofs.Common.{arith, ap, length}
-use Rattle.ht_metric.specs.Arrays.{length-rows_of}
+use Rattle.ht_metric.proofs.RowLemmas.{length-rows_of}
 use Rattle.ht_metric.proofs.system.System.distance.Goals as goal
 
 pub distance-requires-clause-streams : goal.distance-requires-clause-streams
