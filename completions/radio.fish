@@ -15,7 +15,7 @@ complete -c radio -n 'test (count (commandline -opc)) -eq 1' -a demo -d 'reads n
 complete -c radio -n 'test (count (commandline -opc)) -eq 1' -l help -d 'print the commands and options'
 complete -c radio -n 'test (count (commandline -opc)) -eq 1' -l version -d 'print the version'
 complete -c radio -n '__fish_seen_subcommand_from detect rx soft many lrx demo' -l workers -x -d 'threads that detect, including the calling one, 1 to 64'
-complete -c radio -n '__fish_seen_subcommand_from detect rx soft many lrx demo' -l window -x -d 'how many jobs may be under way: given out, and their hits not taken yet, 1 to 4096'
+complete -c radio -n '__fish_seen_subcommand_from detect rx soft many lrx demo' -l window -x -d 'how many jobs may be under way, their answers not taken back yet, 1 to 4096'
 complete -c radio -n '__fish_seen_subcommand_from channel lchannel demo' -l seed -x -d 'seed of the generator of channels and of sample frames, 0 to 18446744073709551615'
 complete -c radio -n '__fish_seen_subcommand_from channel lchannel demo' -l noise -x -d 'largest noise in each part of a sample, 0 to 65535'
 complete -c radio -n '__fish_seen_subcommand_from demo' -l frames -x -d 'number of sample frames, 1 to 64'

@@ -88,7 +88,7 @@ are_counted = record {
   count = is_count;
   leads = λ left c some is. leads_by bundles (captures_due left) (captures_due (left - 1)) (sized_octets c) (c ∷ []) (route_capture left c some is);
   short = λ c is. omega (arith, length_capture c (length c) refl, is);
-  room = omega arith;
+  bound = omega arith;
 }
 
 -- what holds of bundles

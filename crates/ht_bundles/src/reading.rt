@@ -47,7 +47,7 @@ fn size<S: Source>(source: &mut S, at: u64) -> Result<u32, InFault>
     }
 }
 
-// Reads a piece of a capture into the front of the room for one, and appends it.
+// Reads a piece of a capture into the front of the buffer for one, and appends it.
 fn piece<S: Source>(
     source: &mut S,
     at: u64,
@@ -75,11 +75,11 @@ fn octets<S: Source>(
     source: &mut S,
     at: u64,
     size: u32,
-    room: &mut [u8],
+    buffer: &mut [u8],
 ) -> Result<Vec<u8>, InFault>
     requires offset { at + size < 2 ^ 64 }
-    requires piece { length room.old ≡ 65536 }
-    ensures piece { length room.new ≡ length room.old }
+    requires piece { length buffer.old ≡ 65536 }
+    ensures piece { length buffer.new ≡ length buffer.old }
     ensures whole { IfOk result (λ octets. Takes (S.shown source.old) (S.shown source.new) octets.items) }
     ensures size { IfOk result (λ octets. length octets.items ≡ size) }
     ensures failed { IfErr result (λ fault. (fault ≡ NoMemory) ⊎ LacksField size at (S.shown source.old) (S.shown source.new) fault) }
@@ -90,7 +90,7 @@ fn octets<S: Source>(
     let mut read = 0;
     while read < size {
         let more = (size - read).min(PIECE);
-        match piece(source, at + read as u64, more, room, &mut octets) {
+        match piece(source, at + read as u64, more, buffer, &mut octets) {
             Ok(()) => read += more,
             Err(fault) => return Err(fault),
         }
@@ -103,11 +103,11 @@ fn capture<S: Source>(
     alloc: Global,
     source: &mut S,
     at: u64,
-    room: &mut [u8],
+    buffer: &mut [u8],
 ) -> Result<Bundled, InFault>
     requires offset { at + 4294967300 < 2 ^ 64 }
-    requires piece { length room.old ≡ 65536 }
-    ensures piece { length room.new ≡ length room.old }
+    requires piece { length buffer.old ≡ 65536 }
+    ensures piece { length buffer.new ≡ length buffer.old }
     ensures whole { IfOk result (λ capture. Takes (S.shown source.old) (S.shown source.new) (sized_octets capture)) }
     ensures sized { IfOk result IsSized }
     ensures failed { (left : ℕ) → 0 < left
@@ -118,17 +118,17 @@ fn capture<S: Source>(
         Ok(size) => size,
         Err(fault) => return Err(fault),
     };
-    match octets(alloc, source, at + 4, size, room) {
+    match octets(alloc, source, at + 4, size, buffer) {
         Ok(octets) => Ok(Bundled::from(octets)),
         Err(fault) => Err(fault),
     }
 }
 
-// The captures of a bundle, one by one, each piece by piece through the room for one.
+// The captures of a bundle, one by one, each piece by piece through the buffer for one.
 #[derive(Drop)]
 struct Captures {
     alloc: Global,
-    room: Vec<u8>,
+    buffer: Vec<u8>,
 }
 
 impl Entries for Captures {
@@ -144,10 +144,10 @@ impl Entries for Captures {
 
     ghost most = { 4294967300 };
 
-    ghost ready = { λ captures. length captures.room.items ≡ 65536 };
+    ghost ready = { λ captures. length captures.buffer.items ≡ 65536 };
 
     fn read<S: Source>(&mut self, source: &mut S, at: u64) -> Result<Bundled, InFault> {
-        capture(self.alloc, source, at, &mut self.room)
+        capture(self.alloc, source, at, &mut self.buffer)
     }
 
     fn size(capture: &Bundled) -> u64 {
@@ -168,8 +168,8 @@ pub fn read_bundle<S: Source>(alloc: Global, source: &mut S) -> Result<Vec<Bundl
     ensures later { IsLater (S.shown source.old) (S.shown source.new) }
 {
     match vec![in alloc; 0u8; PIECE] {
-        Ok(room) => {
-            let mut captures = Captures { alloc, room };
+        Ok(buffer) => {
+            let mut captures = Captures { alloc, buffer };
             read_whole(alloc, b"HTMB", &capture_limits(), &mut captures, source)
         }
         Err(_) => Err(InFault::NoMemory),

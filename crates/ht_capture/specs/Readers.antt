@@ -29,7 +29,7 @@ symbol_octets due = due.count * carrier_octets due.head.rate
 
 -- a buffer holds the octets of any symbol, and this symbol has some and ends at an offset that fits
 pub record HasRoom (due : SymbolTurn) (at : ℕ) (buffer : List ℕ) : Type 0 where
-  pub room : at + 3648 < 2 ^ 64
+  pub bound : at + 3648 < 2 ^ 64
   pub space : length buffer ≡ 3648
   pub some : 1 ≤ due.count
   pub few : due.count ≤ 114

@@ -27,25 +27,25 @@ fn data_among(subcarriers: &[Subcarrier]) -> u64
 
 // The number of records of a frame: one for each symbol and each subcarrier that carries data.
 #[tactic(auto, unfolding(crate::specs::Making::records_of_frame))]
-fn count_frame(frame: &CaptureFrame, room: &mut Vec<Subcarrier>) -> Result<u64, AllocError>
+fn count_frame(frame: &CaptureFrame, buffer: &mut Vec<Subcarrier>) -> Result<u64, AllocError>
     requires { FitsFrame frame.now }
     ensures count { IfOk result (λ count. count ≡ length (records_of_frame frame.now)) }
     ensures few { IfOk result (λ count. count ≤ 1129296) }
 {
-    gather_subcarriers(frame, room)?;
-    let data = data_among(room);
+    gather_subcarriers(frame, buffer)?;
+    let data = data_among(buffer);
     let symbols = u64::from(frame.rate.symbols(frame.length));
     Ok(symbols * data)
 }
 
 // The number of records of frames.
-fn count(frames: &[CaptureFrame], room: &mut Vec<Subcarrier>) -> Result<u64, AllocError>
+fn count(frames: &[CaptureFrame], buffer: &mut Vec<Subcarrier>) -> Result<u64, AllocError>
     requires { AreCaptureFrames frames.now }
     ensures { IfOk result (λ count. count ≡ length (records_of_frames frames.now)) }
 {
     let mut records = 0;
     for frame in frames {
-        records += count_frame(frame, room)?;
+        records += count_frame(frame, buffer)?;
     }
     Ok(records)
 }
@@ -141,7 +141,7 @@ fn put_symbols<K: Sink>(
 #[tactic(auto, unfolding(crate::specs::Making::records_of_frame))]
 fn put_frame<K: Sink>(
     frame: &CaptureFrame,
-    room: &mut Vec<Subcarrier>,
+    buffer: &mut Vec<Subcarrier>,
     recorded: &mut Record,
     block: &mut Block,
     sink: &mut K,
@@ -149,14 +149,14 @@ fn put_frame<K: Sink>(
     requires { FitsFrame frame.now }
     ensures { Writes block.old (K.shown sink.old) (K.shown sink.new) (flat_map record_octets (records_of_frame frame.now)) block.new result }
 {
-    gather_subcarriers(frame, room)?;
+    gather_subcarriers(frame, buffer)?;
     recorded.modulation = frame.rate.modulation();
     let symbols = frame.rate.symbols(frame.length);
     let samples = frame.samples.as_slice();
     put_symbols(
         &grid(&frame.rate),
         symbols,
-        room,
+        buffer,
         samples,
         recorded,
         block,
@@ -168,7 +168,7 @@ fn put_frame<K: Sink>(
 fn put_frames<K: Sink>(
     alloc: Global,
     frames: &[CaptureFrame],
-    room: &mut Vec<Subcarrier>,
+    buffer: &mut Vec<Subcarrier>,
     block: &mut Block,
     sink: &mut K,
 ) -> Result<(), RunFault>
@@ -177,7 +177,7 @@ fn put_frames<K: Sink>(
 {
     let mut recorded = Record::empty(alloc);
     for frame in frames {
-        put_frame(frame, room, &mut recorded, block, sink)?;
+        put_frame(frame, buffer, &mut recorded, block, sink)?;
     }
     Ok(())
 }
@@ -191,10 +191,10 @@ pub fn put_file<K: Sink>(
     requires { AreCaptureFrames frames.now }
     ensures { Writes [] (K.shown sink.old) (K.shown sink.new) (file_of_frames frames.now) [] result }
 {
-    let mut room = Vec::new(alloc);
+    let mut buffer = Vec::new(alloc);
     let mut block = Block::new(alloc);
-    block.add_start(count(frames, &mut room)?)?;
-    put_frames(alloc, frames, &mut room, &mut block, sink)?;
+    block.add_start(count(frames, &mut buffer)?)?;
+    put_frames(alloc, frames, &mut buffer, &mut block, sink)?;
     block.put(sink)?;
     Ok(())
 }

@@ -65,7 +65,7 @@ pub(crate) fn push_symbol(
     requires room { vec_len points.old + carriers ≤ vec_capacity points.old }
     ensures items { points.new.items ≡ points.old.items ++ symbol_points rate bits.now symbol }
     ensures len { vec_len points.new ≡ vec_len points.old + carriers }
-    ensures room { vec_capacity points.new ≡ vec_capacity points.old }
+    ensures capacity { vec_capacity points.new ≡ vec_capacity points.old }
 {
     for index in 0..CARRIERS {
         points.push_reserved(point_for(rate, sources, bits, symbol, legacy_carrier(index)));

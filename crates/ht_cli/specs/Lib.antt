@@ -3,6 +3,7 @@ pub mod Converting
 pub mod Exactly
 pub mod Filters
 pub mod Putting
+pub mod Returning
 pub mod Statuses
 pub mod Stopping
 pub mod Streaming

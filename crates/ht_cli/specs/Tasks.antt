@@ -1,12 +1,13 @@
 -- The command that the words ask for, and what its run promises.
-use Rattle.std.specs.Prelude.{◌≡◌, ◌≢◌, ℕ, Option, Some, None}
+use Rattle.std.specs.Prelude.{◌≡◌, ◌≢◌, ℕ, List, [], Option, Some, None}
 use Rattle.ht_io.specs.Devices.{Device}
+use Rattle.ht_fields.specs.Tests.{AreBytes}
 use Rattle.ht_capture.specs.Fields.{captures}
 use Rattle.ht_text.specs.Lines.{usage_text}
 use Rattle.ht_results.specs.JobTexts.{detect_text, lines_of}
 use Rattle.ht_results.specs.Texts.{frame_lines_of, rx_text}
 use Rattle.ht_cli.specs.declared.status.Status.{Status}
-use Rattle.ht_cli.specs.declared.status.Status.TheVariants.{NoMemory, WriteFault}
+use Rattle.ht_cli.specs.declared.status.Status.TheVariants.{Done, NoMemory, WriteFault}
 use Rattle.ht_words.specs.declared.asked.Asked.{Asked}
 use Rattle.ht_words.specs.declared.asked.Asked.TheVariants.{Detect, Rx, Soft, LegacyRx, Many, Tx, Channel, Upgrade, Certify, Check, LegacyChannel, Demo}
 use Rattle.ht_cli.specs.Commands.{Command, Reads, Converts, Makes, Answers, Rejects}
@@ -50,6 +51,17 @@ command_of (Demo seed noise count rate length workers window) = Makes (Demonstra
 abbrev pub Answered : Option Asked → Device ℕ → Device ℕ → Device ℕ → Device ℕ → Status → Type 0
 Answered (Some asked) source source' sink sink' status = Answers (command_of asked) source source' sink sink' status
 Answered None source source' sink sink' status = Rejects usage_text sink sink' status
+
+-- what a status says of a run of the one command, it also says of a run of the other, over the same devices
+abbrev pub AnswersAs : Asked → Asked → Type 0
+AnswersAs one other = (a b c d : Device ℕ) (status : Status) → Answered (Some one) a b c d status → Answered (Some other) a b c d status
+
+-- A run of `certify` is done: these are the octets that its source had left, and this output is what its sink, which was
+-- empty, holds then.
+abbrev pub HasCertified : List ℕ → List ℕ → Device ℕ → Device ℕ → Device ℕ → Device ℕ → Type 0
+HasCertified all output source source' sink sink' =
+    AreBytes all × (source.known ≡ Some all) × (sink.known ≡ Some []) × (sink'.known ≡ Some output)
+    × Answered (Some Certify) source source' sink sink' Done
 
 -- the command reads nothing
 abbrev pub IsMaker : Command → Type 0

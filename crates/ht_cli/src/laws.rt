@@ -1,4 +1,4 @@
-//! What the statuses of a run say, spelled out.
+//! What the statuses of a run say, spelled out for `detect`, `rx`, `soft`, `upgrade`, `certify`, `check` and `demo`.
 //!
 //! The clauses of [`run`](crate::run) are the same for every command. Each law is a function with an empty body: its
 //! clauses follow from `Answered`, where a run goes from the source `a` to `b` and from the sink `c` to `d`.
@@ -23,10 +23,8 @@ ghost use Rattle.ht_capture.specs.Contents.{AreTyped};
 ghost use Rattle.ht_capture.specs.Files.{AreCaptureFrames, capture_file_of};
 ghost use Rattle.ht_tx.specs.Frames.{FrameView};
 ghost use Rattle.ht_tx.specs.Symbols.{SymbolsView};
-ghost use Rattle.ht_files.specs.Files.{AreFrames, frames_file_of};
-ghost use Rattle.ht_files.specs.SymbolFiles.{AreSymbolFrames, symbols_file_of};
+ghost use Rattle.ht_files.specs.SymbolFiles.{symbols_file_of};
 ghost use Rattle.ht_sim.specs.Passing.{PassesTo};
-ghost use Rattle.ht_round.specs.Exact.{AreExact, HoldOctets};
 ghost use Rattle.ht_round.specs.Returned.{returned_text};
 ghost use Rattle.ht_text.specs.Lines.{usage_text};
 ghost use Rattle.ht_results.specs.Texts.{frame_lines_of, rx_text};
@@ -37,10 +35,11 @@ ghost use Rattle.ht_demo.specs.Demos.{Demonstrates, returned_line};
 ghost use Rattle.ht_words.specs.Accepted.{IsAccepted};
 ghost use Rattle.ht_words.specs.Words.{asked};
 ghost use Rattle.ht_cli.specs.Commands.{MakesPart, MakesText};
-ghost use Rattle.ht_cli.specs.Converting.{SendsTo, UpgradesTo};
+ghost use Rattle.ht_cli.specs.Converting.{UpgradesTo};
+ghost use Rattle.ht_cli.specs.Returning.{AreReceivedExactly, SendsFrames};
 ghost use Rattle.ht_cli.specs.Streaming.{IsCapture, StreamsAs, StreamsFront, StreamsLines, StreamsPart, StreamsRefused, StreamsWhole};
 ghost use Rattle.ht_cli.specs.Exactly.{WritesExactly, sure_sink, sure_source};
-ghost use Rattle.ht_cli.specs.Tasks.{Answered, ReadsNothing, command_of, plan_of};
+ghost use Rattle.ht_cli.specs.Tasks.{Answered, AnswersAs, HasCertified, ReadsNothing, command_of, plan_of};
 
 use crate::run_alone;
 use crate::status::Status;
@@ -87,19 +86,13 @@ pub fn clauses_of_words()
         → (status ≡ Status.Done) ⊎ (status ≡ Status.Refused) ⊎ (status ≡ Status.ReadFault) → IsAccepted (map string_bytes words) }
 
     // How many workers detect, and how large their window is, changes nothing of what a run says or writes.
-    ensures detects { (workers window others room : ℕ) (a b c d : Device ℕ) (status : Status)
-        → Answered (Some (Asked.Detect workers window)) a b c d status → Answered (Some (Asked.Detect others room)) a b c d status }
-    ensures receives { (workers window others room : ℕ) (a b c d : Device ℕ) (status : Status)
-        → Answered (Some (Asked.Rx workers window)) a b c d status → Answered (Some (Asked.Rx others room)) a b c d status }
-    ensures decodes_by_weights { (workers window others room : ℕ) (a b c d : Device ℕ) (status : Status)
-        → Answered (Some (Asked.Soft workers window)) a b c d status → Answered (Some (Asked.Soft others room)) a b c d status }
-    ensures receives_clause_18 { (workers window others room : ℕ) (a b c d : Device ℕ) (status : Status)
-        → Answered (Some (Asked.LegacyRx workers window)) a b c d status → Answered (Some (Asked.LegacyRx others room)) a b c d status }
-    ensures receives_many { (workers window others room : ℕ) (a b c d : Device ℕ) (status : Status)
-        → Answered (Some (Asked.Many workers window)) a b c d status → Answered (Some (Asked.Many others room)) a b c d status }
-    ensures demonstrates { (seed noise count length workers window others room : ℕ) (rate : RateValue) (a b c d : Device ℕ) (status : Status)
-        → Answered (Some (Asked.Demo seed noise count rate length workers window)) a b c d status
-        → Answered (Some (Asked.Demo seed noise count rate length others room)) a b c d status }
+    ensures detects { (workers window others size : ℕ) → AnswersAs (Asked.Detect workers window) (Asked.Detect others size) }
+    ensures receives { (workers window others size : ℕ) → AnswersAs (Asked.Rx workers window) (Asked.Rx others size) }
+    ensures decodes_by_weights { (workers window others size : ℕ) → AnswersAs (Asked.Soft workers window) (Asked.Soft others size) }
+    ensures receives_clause_18 { (workers window others size : ℕ) → AnswersAs (Asked.LegacyRx workers window) (Asked.LegacyRx others size) }
+    ensures receives_many { (workers window others size : ℕ) → AnswersAs (Asked.Many workers window) (Asked.Many others size) }
+    ensures demonstrates { (seed noise count length workers window others size : ℕ) (rate : RateValue)
+        → AnswersAs (Asked.Demo seed noise count rate length workers window) (Asked.Demo seed noise count rate length others size) }
 {}
 
 /// What a status says of the octets that `detect`, `rx` or `soft` took and of the text that it put, in the words of captures.
@@ -230,13 +223,10 @@ pub fn certified_is_accepted()
         → check_text output ≡ all_yes_text (length (certified octets)) }
 
     // From run to run: what `certify` put into an empty sink in memory, `check` reads, and puts that text.
-    ensures runs { (all output : List ℕ) (a b c d e f g h : Device ℕ) → AreBytes all → a.known ≡ Some all → c.known ≡ Some []
-        → d.known ≡ Some output → Answered (Some Asked.Certify) a b c d Status.Done
-        → e.known ≡ Some output → Answered (Some Asked.Check) e f g h Status.Done
-        → Grows g h (all_yes_text (length (certified all))) }
-    ensures never_refused { (all output : List ℕ) (a b c d e f g h : Device ℕ) → AreBytes all → a.known ≡ Some all → c.known ≡ Some []
-        → d.known ≡ Some output → Answered (Some Asked.Certify) a b c d Status.Done
-        → e.known ≡ Some output → Answered (Some Asked.Check) e f g h Status.Refused → ⊥ }
+    ensures runs { (all output : List ℕ) (a b c d e f g h : Device ℕ) → HasCertified all output a b c d → e.known ≡ Some output
+        → Answered (Some Asked.Check) e f g h Status.Done → Grows g h (all_yes_text (length (certified all))) }
+    ensures never_refused { (all output : List ℕ) (a b c d e f g h : Device ℕ) → HasCertified all output a b c d → e.known ≡ Some output
+        → Answered (Some Asked.Check) e f g h Status.Refused → ⊥ }
 {}
 
 /// What a status says of `demo`, which reads nothing.
@@ -266,19 +256,17 @@ pub fn clauses_of_demo()
 ///
 /// Of each frame there is one line with its own octets and sums of 0, and then the end line, whatever the channel's seed.
 pub fn returned()
-    ensures passed { (frames : List FrameView) (seed : ℕ) (symbols capture : List ℕ) → AreFrames frames → HoldOctets frames
-        → SendsTo (frames_file_of frames) symbols → PassesTo seed 0 symbols capture → rx_text capture ≡ returned_text frames }
+    ensures passed { (frames : List FrameView) (seed : ℕ) (symbols capture : List ℕ) → SendsFrames frames symbols
+        → PassesTo seed 0 symbols capture → rx_text capture ≡ returned_text frames }
 
     // So they do where the capture is upgraded before.
-    ensures upgraded { (frames : List FrameView) (seed : ℕ) (symbols capture output : List ℕ) → AreFrames frames → HoldOctets frames
-        → SendsTo (frames_file_of frames) symbols → PassesTo seed 0 symbols capture → UpgradesTo capture output
-        → rx_text output ≡ returned_text frames }
+    ensures upgraded { (frames : List FrameView) (seed : ℕ) (symbols capture output : List ℕ) → SendsFrames frames symbols
+        → PassesTo seed 0 symbols capture → UpgradesTo capture output → rx_text output ≡ returned_text frames }
 
     // And so they do through any channel without a 0 on its diagonal, where what is received is exactly what it makes of
     // the symbols.
     ensures exact { (version : ℕ) (frames : List FrameView) (sent : List SymbolsView) (captured : List CaptureFrame)
-        → (version ≡ 1) ⊎ (version ≡ 2) → AreFrames frames → HoldOctets frames → AreSymbolFrames sent
-        → SendsTo (frames_file_of frames) (symbols_file_of sent) → AreExact sent captured
+        → SendsFrames frames (symbols_file_of sent) → AreReceivedExactly version sent captured
         → rx_text (capture_file_of version captured) ≡ returned_text frames }
 {}
 

@@ -2,8 +2,8 @@
 //!
 //! [`run`] is the whole program but for the world outside. It takes the words of a call, reads octets from a source, puts
 //! text into a sink and answers how the run ended. Crate `ht_words` says which lists of words are accepted, and what they
-//! ask for: a command with a value for each of its options. What the command writes is a definition over the octets that
-//! it reads, `command_of` in `specs/Tasks.antt`, in which the workers and their window don't stand: the text is the same
+//! ask for: a command with a value for each of its options. What a command writes is a definition over the octets that it
+//! reads, `command_of` in `specs/Tasks.antt`. It depends neither on the workers nor on their window, so the text is the same
 //! for all of them.
 //!
 //! `detect` and `rx` read a capture of either version as it comes, and find for each subcarrier that is present in
@@ -17,11 +17,9 @@
 //!
 //! and 111 lines more, in which a pilot has its own value, and then `end 1 frames`. `rx` on it gives
 //! `frame 0 data 10400 pilot 800 code 0 seed zero` before that line. With 02 in octet 7 either refuses it, by the one
-//! line `refused BadBandwidth at 7`. What must be written for a list of octets is `detect_text` or `rx_text`, of
-//! crate `ht_results`.
+//! line `refused BadBandwidth at 7`. Crate `ht_results` defines these texts: `detect_text` and `rx_text`.
 //!
-//! `specs/Tasks.antt` has a line for each command, which names the definition of what it writes; what each reads and writes,
-//! in words, stands in `docs/COMMANDS.md`.
+//! `docs/COMMANDS.md` says in words what each command reads and writes.
 #![tactic(auto)]
 
 ghost use Rattle.std.specs.Prelude.{◌≡◌, ◌≤◌, IfSome};
@@ -53,19 +51,15 @@ use std::alloc::Global;
 use std::sync::Wait;
 use std::thread::Threads;
 
-/// Runs the command that the words name, and answers how it ended.
+/// Runs the command that the words name, without the program's name, and answers how it ended.
 ///
-/// The words come without the program's name. The lines of a block are put once its jobs were run, and the line of a
-/// frame once all its jobs were. The clauses on octets speak of some octets that the call took: of those that the source
-/// had left, where they are known, as those in memory are; those of standard input and output aren't. The gate is called
-/// before and after each job.
+/// The lines of a block are put once its jobs were run, that of a frame once all of its were. Clauses on octets speak of those
+/// taken, and of all that the source had left where these are known, as in memory. The gate is called before and after a job.
 ///
-/// Where the words ask for two workers or more, the jobs are run in at most as many threads, of which the caller's is one, and
-/// the call waits for them; else it does as [`run_alone`]. Where memory runs out before it is known what the words ask
-/// for, nothing is read and nothing put.
+/// With two workers or more the jobs run in at most that many threads, the caller's among them, and the call waits for all;
+/// else it is [`run_alone`]. Where memory runs out before the words are known, nothing is read or put.
 ///
-/// `CarriesOut` is what a run promises: its field `answered` says what each status means, for each command, and [`laws`]
-/// spells that out for `detect`, `rx`, `soft`, `upgrade`, `certify`, `check` and `demo`.
+/// `answered` of `CarriesOut` says what each status means; [`laws`] spells it out for some commands.
 pub fn run<R: Threads + Wait + Sync, S: Source, K: Sink, G: Gate + Sync>(
     rt: &R,
     alloc: Global,

@@ -91,7 +91,7 @@ module _ {B R V : Type 0} (f : CountedFormat B V) (h : Framing B R V) (is : IsFr
     count = subst IsCount (sym is.limits) is_count;
     leads = λ left v some good. leads_by (counted f) (frames_due left) (frames_due (left - 1)) (framed_octets h v) (v ∷ []) (route_frame left v some good);
     short = λ v good. omega (arith, length_frame v, good.octets.1);
-    room = subst (λ (l : Limits). 13 + l.most * framed_most h < 2 ^ 64) (sym is.limits) is.room;
+    bound = subst (λ (l : Limits). 13 + l.most * framed_most h < 2 ^ 64) (sym is.limits) is.bound;
   }
 
   -- what holds of its files

@@ -42,7 +42,7 @@ pub octets_end : {S I : Type 0} (f : Grammar S I) (s t : S) (front : List ℕ) (
 octets_end f s t front at behind count source between after fault route wide place taken later lacks =
     route_ends f s t front [] at behind source between after fault route place taken later (lacks_end f t behind count between after fault wide lacks)
 
--- octets that filled their room
+-- octets that filled their buffer
 pub filled : (n : ℕ) (into rest : List ℕ) → n ≡ length into → take n (into ++ rest) ≡ into
 filled n into rest wide =
     let all : n ≡ length into + 0 = omega (arith, wide) in

@@ -58,4 +58,4 @@ pub record IsCounted {B V : Type 0} (h : CountedFormat B V) (octets : V → List
   pub leads : (left : ℕ) (v : V) → 0 < left → Fits v
       → LeadsBy (counted h) (entries_due h.first left) (entries_due h.first (left - 1)) (octets v) (v ∷ [])
   pub short : (v : V) → Fits v → length (octets v) ≤ most
-  pub room : 13 + h.limits.most * most < 2 ^ 64
+  pub bound : 13 + h.limits.most * most < 2 ^ 64

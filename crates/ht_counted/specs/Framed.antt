@@ -81,6 +81,6 @@ pub record IsFraming {B R V : Type 0} (f : CountedFormat B V) (h : Framing B R V
   pub head : (left : ℕ) (rate : R) (len : ℕ) → 0 < left → 1 ≤ len → len ≤ h.most
       → LeadsBy (counted f) (entries_due f.first left) (Body (h.behind (Seed left rate len))) (h.head rate len) []
   pub width : (rate : R) (len : ℕ) → length (h.head rate len) ≡ h.width
-  pub room : 13 + 65535 * framed_most h < 2 ^ 64
+  pub bound : 13 + 65535 * framed_most h < 2 ^ 64
   pub parts : (p : FrameParts R) → h.parts (h.frame p) ≡ p
   pub whole : (v : V) → h.frame (h.parts v) ≡ v

@@ -1,7 +1,7 @@
 -- Lists of jobs that are given one after the other.
 use Rattle.std.proofs.Common.{◌≡◌, ℕ, ◌+◌, ◌<◌, ◌≤◌, List, [], ◌∷◌, ◌++◌, length, map, take, drop}
 use Rattle.std.proofs.Common.{slice_get, get_or, Some, false, ap, ◌∙◌, sym, refl, arith}
-use Rattle.std.proofs.lemmas.List.{take_more, drop_more, drop-append-le, drop-take, drop-drop, get_or-drop}
+use Rattle.std.proofs.lemmas.List.{take_more, drop_more, drop-append-le, drop-take, drop-drop, drop_all, get_or-drop}
 use Rattle.std.proofs.lemmas.List.{length-take, length-take-le, length-drop, length-append, map-append}
 use Rattle.std.proofs.lemmas.List.{get_or-take, append-nil}
 use Rattle.std.proofs.lemmas.Option.{slice_get_within, slice_get-get_or, get_or_from_slice_get}
@@ -11,7 +11,6 @@ use Rattle.ht_metric.specs.declared.hit.Hit.{Hit}
 use Rattle.ht_metric.proofs.Finding.{found_near}
 use Rattle.ht_crew.specs.Feeds.{GivesJob, TakesHit}
 use Rattle.ht_crew.specs.Lists.{JobAnswer, nearest_answer, answer_of, Listed, IsListed, called, gave, took, shown, TakesInTurn}
-use Rattle.ht_crew.specs.Turns.{no_part}
 
 -- an entry that is there, behind those before it
 pub take_next : {A : Type 0} (xs : List A) (n : ℕ) (x : A) → slice_get xs n ≡ Some x → take (n + 1) xs ≡ take n xs ++ x ∷ []
@@ -47,6 +46,10 @@ gives_next a job listed running e =
       left = drop_next a.jobs a.given job e;
       failed = refl;
     }
+
+-- no entry stands between a place and itself
+no_part : {A : Type 0} (n : ℕ) (xs : List A) → drop n (take n xs) ≡ []
+no_part n xs = drop_all n (take n xs) (omega (arith, length-take n xs))
 
 -- a call that changed neither list leads on
 pub unmoved : (a b : Listed) → b.jobs ≡ a.jobs → b.hits ≡ a.hits → TakesInTurn a b

@@ -7,39 +7,14 @@ use Rattle.ht_metric.specs.Jobs.{JobView}
 use Rattle.ht_metric.specs.declared.hit.Hit.{Hit}
 use Rattle.ht_crew.specs.Lists.{JobAnswer, nearest_answer, answer_of, Listed, TakesInTurn}
 
--- a part of a list, in two parts
-pub parts : {A : Type 0} (a b c : ℕ) (xs : List A) → a ≤ b → b ≤ c → drop a (take c xs) ≡ drop a (take b xs) ++ drop b (take c xs)
-parts {A} a b c xs ab bc =
-    let m : ℕ = b - a in
-    let k : ℕ = c - b in
-    let to_b : a + m ≡ b = omega arith in
-    let to_c : b + k ≡ c = omega arith in
-    let all : a + (m + k) ≡ c = omega arith in
-    let whole : drop a (take c xs) ≡ take (m + k) (drop a xs) = ap (λ (n : ℕ). drop a (take n xs)) (sym all) ∙ drop-take a (m + k) xs in
-    let front : drop a (take b xs) ≡ take m (drop a xs) = ap (λ (n : ℕ). drop a (take n xs)) (sym to_b) ∙ drop-take a m xs in
-    let back : drop b (take c xs) ≡ take k (drop b xs) = ap (λ (n : ℕ). drop b (take n xs)) (sym to_c) ∙ drop-take b k xs in
-    let rest : take k (drop m (drop a xs)) ≡ take k (drop b xs) = ap (λ (ys : List A). take k ys) (drop-drop m a xs ∙ ap (λ (n : ℕ). drop n xs) to_b) in
-    whole
-    ∙ (take-add m k (drop a xs)
-    ∙ (ap (λ (ys : List A). take m (drop a xs) ++ ys) (rest ∙ sym back)
-    ∙ ap (λ (ys : List A). ys ++ drop b (take c xs)) (sym front)))
-
--- no entry stands between a place and itself
-pub no_part : {A : Type 0} (n : ℕ) (xs : List A) → drop n (take n xs) ≡ []
-no_part n xs = drop_all n (take n xs) (omega (arith, length-take n xs))
-
--- hits that grew by answers are no fewer
-pub grew : (before after : List Hit) (jobs : List JobView) → map answer_of after ≡ map answer_of before ++ map nearest_answer jobs → length before ≤ length after
-grew before after jobs e =
-    let lengths : length (map answer_of after) ≡ length (map answer_of before) + length (map nearest_answer jobs) =
-    ap (λ (xs : List JobAnswer). length xs) e ∙ length-append (map answer_of before) (map nearest_answer jobs) in
-    omega (arith, lengths, length-map after answer_of, length-map before answer_of)
-
 pub stays : (a : Listed) → TakesInTurn a a
-stays a = record {
-  jobs = refl;
-  hits = sym (ap (λ (jobs : List JobView). map answer_of a.hits ++ map nearest_answer jobs) (no_part (length a.hits) a.jobs) ∙ append-nil (map answer_of a.hits));
-}
+stays a =
+    let n : ℕ = length a.hits in
+    let none : drop n (take n a.jobs) ≡ [] = drop_all n (take n a.jobs) (omega (arith, length-take n a.jobs)) in
+    record {
+      jobs = refl;
+      hits = sym (ap (λ (jobs : List JobView). map answer_of a.hits ++ map nearest_answer jobs) none ∙ append-nil (map answer_of a.hits));
+    }
 
 pub goes_on : (a b c : Listed) → TakesInTurn a b → TakesInTurn b c → TakesInTurn a c
 goes_on a b c ab bc =
@@ -60,3 +35,29 @@ goes_on a b c ab bc =
           ∙ ap (λ (answers : List JobAnswer). map answer_of a.hits ++ answers)
           (sym (map-append nearest_answer (drop start (take mid a.jobs)) (drop mid (take end b.jobs))) ∙ ap (λ (jobs : List JobView). map nearest_answer jobs) joined)));
     }
+  where
+    -- a part of a list, in two parts
+    parts : (p q r : ℕ) (xs : List JobView) → p ≤ q → q ≤ r → drop p (take r xs) ≡ drop p (take q xs) ++ drop q (take r xs)
+    parts p q r xs pq qr =
+        let m : ℕ = q - p in
+        let k : ℕ = r - q in
+        let to_q : p + m ≡ q = omega arith in
+        let to_r : q + k ≡ r = omega arith in
+        let all : p + (m + k) ≡ r = omega arith in
+        let whole : drop p (take r xs) ≡ take (m + k) (drop p xs) = ap (λ (n : ℕ). drop p (take n xs)) (sym all) ∙ drop-take p (m + k) xs in
+        let front : drop p (take q xs) ≡ take m (drop p xs) = ap (λ (n : ℕ). drop p (take n xs)) (sym to_q) ∙ drop-take p m xs in
+        let back : drop q (take r xs) ≡ take k (drop q xs) = ap (λ (n : ℕ). drop q (take n xs)) (sym to_r) ∙ drop-take q k xs in
+        let rest : take k (drop m (drop p xs)) ≡ take k (drop q xs) =
+        ap (λ (ys : List JobView). take k ys) (drop-drop m p xs ∙ ap (λ (n : ℕ). drop n xs) to_q) in
+        whole
+        ∙ (take-add m k (drop p xs)
+        ∙ (ap (λ (ys : List JobView). take m (drop p xs) ++ ys) (rest ∙ sym back)
+        ∙ ap (λ (ys : List JobView). ys ++ drop q (take r xs)) (sym front)))
+
+    -- hits that grew by answers are no fewer
+    grew : (before after : List Hit) (jobs : List JobView) → map answer_of after ≡ map answer_of before ++ map nearest_answer jobs
+        → length before ≤ length after
+    grew before after jobs e =
+        let lengths : length (map answer_of after) ≡ length (map answer_of before) + length (map nearest_answer jobs) =
+        ap (λ (xs : List JobAnswer). length xs) e ∙ length-append (map answer_of before) (map nearest_answer jobs) in
+        omega (arith, lengths, length-map after answer_of, length-map before answer_of)

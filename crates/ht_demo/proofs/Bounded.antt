@@ -44,7 +44,7 @@ use Rattle.ht_fields.specs.Meanings.{Meaning}
 use Rattle.ht_fields.proofs.Answered.{met}
 use Rattle.ht_results.specs.declared.frame_result.FrameResult.{FrameResult}
 use Rattle.ht_results.specs.Results.{distances, frame_result, on_data, results_of}
-use Rattle.ht_demo.specs.Demos.{HaveRoom}
+use Rattle.ht_demo.specs.Demos.{SumsFit}
 use Rattle.ht_round.proofs.Points.{ladders_for, length-grid}
 use Rattle.ht_demo.proofs.Small.{rows_small}
 
@@ -214,8 +214,8 @@ small_data r small = small.0
 small_pilot : (r : FrameResult) → HasSmallSums r → r.pilot_sum ≤ 2 ^ 96
 small_pilot r small = small.1
 
-room_of : (results : List FrameResult) → length results ≤ 65535 → All HasSmallSums results → HaveRoom results
-room_of results few small =
+fit_of : (results : List FrameResult) → length results ≤ 65535 → All HasSmallSums results → SumsFit results
+fit_of results few small =
     let d = sum_by-le (λ (r : FrameResult). r.data_sum) (2 ^ 96) results (All-weaker HasSmallSums (λ r. r.data_sum ≤ 2 ^ 96) small_data results small) in
     let p = sum_by-le (λ (r : FrameResult). r.pilot_sum) (2 ^ 96) results (All-weaker HasSmallSums (λ r. r.pilot_sum ≤ 2 ^ 96) small_pilot results small) in
     let most : length results * 2 ^ 96 ≤ 65535 * 2 ^ 96 = mul-le-mul_right (2 ^ 96) few in
@@ -225,15 +225,15 @@ whole_all : (frames : List CaptureFrame) → All HasAllCarriers frames → AreWh
 whole_all [] whole = tt
 whole_all (f ∷ frames) whole = (All-head HasAllCarriers f frames whole, whole_all frames (All-tail HasAllCarriers f frames whole))
 
-pub have_room : (frames : List CaptureFrame) → AreCaptureFrames frames → AreTyped frames → All HasAllCarriers frames
-    → HaveRoom (results_of (capture_file_of 1 frames))
+pub have_fit : (frames : List CaptureFrame) → AreCaptureFrames frames → AreTyped frames → All HasAllCarriers frames
+    → SumsFit (results_of (capture_file_of 1 frames))
 unfolding results_of
-have_room frames fit typed whole =
+have_fit frames fit typed whole =
     let items : List Item = items_of frames in
     let kept = all_kept IsSmallFrame has_all_jobs (frames_in items) (frames_small items (items_small 0 0 frames typed)) in
     let most = filter_few has_all_jobs (frames_in items) in
     let count = frames_counted frames in
     let few = fit.few in
     let len = length-map (whole_frames items) frame_result in
-    let here = room_of (map frame_result (whole_frames items)) (omega (arith, most, count, few, len)) (results_small (whole_frames items) kept) in
-    subst (λ (is : List Item). HaveRoom (map frame_result (whole_frames is))) (sym (items_written frames fit typed (inl (refl, whole_all frames whole)))) here
+    let here = fit_of (map frame_result (whole_frames items)) (omega (arith, most, count, few, len)) (results_small (whole_frames items) kept) in
+    subst (λ (is : List Item). SumsFit (map frame_result (whole_frames is))) (sym (items_written frames fit typed (inl (refl, whole_all frames whole)))) here

@@ -7,7 +7,7 @@ use Rattle.ht_results.specs.declared.frame_result.FrameResult.{FrameResult}
 use Rattle.ht_rx.specs.Frames.{booked_of}
 use Rattle.ht_rx.specs.Outcomes.{TellsTo}
 use Rattle.ht_demo.specs.declared.plan.Plan.{Plan}
-use Rattle.ht_demo.specs.Demos.{AreReceived, AreSent, CanBeSent, Demonstrates, HaveRoom, line_of}
+use Rattle.ht_demo.specs.Demos.{AreResults, AreSent, CanBeSent, Demonstrates, SumsFit, line_of}
 use Rattle.ht_demo.proofs.Passing.{booked_results, demo_line, device}
 use Rattle.ht_demo.proofs.Returning.{noiseless_returns}
 
@@ -15,16 +15,16 @@ use Rattle.ht_demo.proofs.Returning.{noiseless_returns}
 pub are_received : (plan : Plan) (frames made : List FrameView) (octets left : List ℕ) (start held shown : List FrameResult) (ended : Ended)
     → frames ≡ made → AreSent plan made octets → start ≡ []
     → TellsTo (booked_of (λ frame. frame ∷ [])) (device octets) (device left) (device start) (device held) ended
-    → shown ≡ held → AreReceived plan frames shown
+    → shown ≡ held → AreResults plan frames shown
 are_received plan frames made octets left start held shown ended same sent none tells is =
     (octets, subst (λ (fs : List FrameView). AreSent plan fs octets) (sym same) sent, booked_results octets octets left start held shown ended refl none tells is)
 
--- such results have room
-pub received_room : (plan : Plan) (frames : List FrameView) (results : List FrameResult) → AreReceived plan frames results → HaveRoom results
-received_room plan frames results (octets, sent, are) = subst HaveRoom (sym are) sent.room
+-- the sums of such results fit
+pub received_fit : (plan : Plan) (frames : List FrameView) (results : List FrameResult) → AreResults plan frames results → SumsFit results
+received_fit plan frames results (octets, sent, are) = subst SumsFit (sym are) sent.sums
 
 pub demonstrates : (plan : Plan) (frames : List FrameView) (results : List FrameResult) (line : List ℕ)
-    → CanBeSent plan → AreReceived plan frames results → line ≡ line_of plan results → Demonstrates plan line
+    → CanBeSent plan → AreResults plan frames results → line ≡ line_of plan results → Demonstrates plan line
 demonstrates plan frames results line can (octets, sent, are) is =
     let of_plan = demo_line plan frames octets results line sent.of_plan sent.passed are is in
     record { of_plan = of_plan; noiseless = noiseless_returns plan line can of_plan }

@@ -1,22 +1,17 @@
 -- How many frames are captured, and what is known of their results once they were received.
-use Rattle.std.proofs.Common.{◌≡◌, ℕ, ◌^◌, ◌<◌, ◌≤◌, List, [], ◌∷◌, ◌++◌, length, map, Some, sym, ap, subst, ◌∙◌, arith}
+use Rattle.std.proofs.Common.{◌≡◌, ℕ, ◌^◌, ◌<◌, ◌≤◌, List, [], ◌∷◌, ◌++◌, length, Some, sym, ap, subst, ◌∙◌, arith}
 use Rattle.std.proofs.lemmas.List.{map-id}
 use Rattle.std.proofs.lemmas.List.Concat.{flat_map_single}
 use Rattle.ht_io.specs.Devices.{Device}
 use Rattle.ht_io.specs.Pieces.{KnownGrown}
-use Rattle.ht_fields.specs.Meanings.{Meaning}
 use Rattle.ht_tx.specs.Frames.{FrameView}
 use Rattle.ht_tx.specs.Transmitted.{AreTransmitted}
-use Rattle.ht_capture.specs.declared.items.Item.{Item}
-use Rattle.ht_capture.specs.Captures.{capture_of}
-use Rattle.ht_capture_laws.specs.Items.{whole_frames}
 use Rattle.ht_results.specs.declared.frame_result.FrameResult.{FrameResult}
-use Rattle.ht_results.specs.Results.{frame_result, results_of}
+use Rattle.ht_results.specs.Results.{results_of}
 use Rattle.ht_sim.proofs.Drawing.{length-several}
 use Rattle.ht_sim.specs.Samples.{frames_drawn, sample_frame_drawn}
 use Rattle.ht_sim.specs.Words.{first}
 use Rattle.ht_feed.specs.declared.ended.Ended.{Ended}
-use Rattle.ht_feed.specs.declared.ended.Ended.TheVariants.{Done, Refused}
 use Rattle.ht_rx.specs.Frames.{booked_of}
 use Rattle.ht_rx.specs.Outcomes.{TellsTo}
 use Rattle.ht_demo.specs.declared.plan.Plan.{Plan}
@@ -33,17 +28,12 @@ planned_few plan frames is few =
     let count = ap length is ∙ length-planned plan in
     omega (arith, count)
 
--- what a book without results holds once a capture was read to its end or to its first fault
+-- what a book without results holds once a capture was read to its end
 grown_results : (octets : List ℕ) (start held : List FrameResult) → start ≡ []
     → KnownGrown (Some start) (Some held) (booked_of (λ frame. frame ∷ []) octets) → held ≡ results_of octets
 grown_results octets start held none grown =
     grown ∙ ap (λ (rs : List FrameResult). rs ++ booked_of (λ frame. frame ∷ []) octets) none
     ∙ flat_map_single (λ (r : FrameResult). r) (results_of octets) ∙ map-id (results_of octets)
-
--- octets of one meaning have the same results
-same_results : (octets others : List ℕ) → capture_of octets ≡ capture_of others → results_of octets ≡ results_of others
-unfolding results_of
-same_results octets others same = ap (λ (m : Meaning Item). map frame_result (whole_frames m.items)) same
 
 abbrev pub device : {P : Type 0} → List P → Device P
 device known = record { known = Some known; faults = 0; borrow = 0 }
@@ -51,10 +41,8 @@ device known = record { known = Some known; faults = 0; borrow = 0 }
 received_results : (octets left : List ℕ) (start held : List FrameResult) (ended : Ended) → start ≡ []
     → TellsTo (booked_of (λ frame. frame ∷ [])) (device octets) (device left) (device start) (device held) ended
     → held ≡ results_of octets
-received_results octets left start held (Done frames jobs) none tells =
+received_results octets left start held ended none tells =
     grown_results tells.taken start held none tells.put ∙ ap results_of (sym tells.octets.0)
-received_results octets left start held (Refused fault) none tells =
-    grown_results tells.taken start held none tells.put ∙ same_results tells.taken octets (sym tells.comes)
 
 -- what the book shows once a source of these octets was received, into a book without results
 pub booked_results : (octets source left : List ℕ) (start held shown : List FrameResult) (ended : Ended) → source ≡ octets → start ≡ []

@@ -61,7 +61,7 @@ abbrev pub code_in : List FrameResult → ℕ
 code_in results = sum_by (λ r. r.code) results
 
 -- results of at most 65535 frames, whose sums of distances fit 128 bits
-pub record HaveRoom (results : List FrameResult) : Type 0 where
+pub record SumsFit (results : List FrameResult) : Type 0 where
   pub few : length results ≤ 65535
   pub data_sums : data_in results < 2 ^ 128
   pub pilot_sums : pilot_in results < 2 ^ 128
@@ -98,8 +98,8 @@ IsPassed plan frames octets = (sent : List SymbolsView) × AreTransmitted frames
 pub record AreSent (plan : Plan) (frames : List FrameView) (octets : List ℕ) : Type 0 where
   pub of_plan : frames ≡ planned plan
   pub passed : IsPassed plan frames octets
-  pub room : HaveRoom (results_of octets)
+  pub sums : SumsFit (results_of octets)
 
 -- these are the results of the capture of what was sent
-abbrev pub AreReceived : Plan → List FrameView → List FrameResult → Type 0
-AreReceived plan frames results = (octets : List ℕ) × AreSent plan frames octets × (results ≡ results_of octets)
+abbrev pub AreResults : Plan → List FrameView → List FrameResult → Type 0
+AreResults plan frames results = (octets : List ℕ) × AreSent plan frames octets × (results ≡ results_of octets)

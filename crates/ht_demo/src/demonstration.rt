@@ -1,7 +1,7 @@
 //! The whole way: sample frames are sent, pass the channel and are received.
 ghost use Rattle.std.specs.Prelude.{◌≤◌, IfOk};
 ghost use Rattle.ht_feed.specs.Limits.{IsCrewSize, IsWindowSize};
-ghost use Rattle.ht_demo.specs.Demos.{AreReceived, CanBeSent, Demonstrates};
+ghost use Rattle.ht_demo.specs.Demos.{AreResults, CanBeSent, Demonstrates};
 
 use crate::line::line;
 use crate::plan::Plan;
@@ -24,7 +24,7 @@ fn demo_line_of(
     results: &[FrameResult],
 ) -> Result<Vec<u8>, AllocError>
     requires plan { CanBeSent plan.now }
-    requires received { AreReceived plan.now frames.now results.now }
+    requires received { AreResults plan.now frames.now results.now }
     ensures { IfOk result (λ line. Demonstrates plan.now line.items) }
 {
     line(alloc, plan, frames, results)

@@ -1,6 +1,6 @@
 //! The line of a demonstration.
 ghost use Rattle.std.specs.Prelude.{◌≡◌, ◌^◌, ◌<◌, ◌≤◌, IfOk, length};
-ghost use Rattle.ht_demo.specs.Demos.{HaveRoom, all_symbols, code_in, data_in, is_outcome as is_outcome_of, line_of, matched_in, pilot_in, planned};
+ghost use Rattle.ht_demo.specs.Demos.{SumsFit, all_symbols, code_in, data_in, is_outcome as is_outcome_of, line_of, matched_in, pilot_in, planned};
 
 use crate::plan::Plan;
 use ht_inverse::Outcome;
@@ -79,7 +79,7 @@ pub(crate) fn line(
     results: &[FrameResult],
 ) -> Result<Vec<u8>, AllocError>
     requires planned { frames.now ≡ planned plan.now }
-    requires room { HaveRoom results.now }
+    requires sums { SumsFit results.now }
     requires some { 1 ≤ plan.now.length }
     ensures { IfOk result (λ line. line.items ≡ line_of plan.now results.now) }
 {

@@ -3,7 +3,7 @@ ghost use Rattle.std.specs.Prelude.{◌≡◌, ◌≤◌, All, IfOk, length};
 ghost use Rattle.ht_capture.specs.Contents.{AreTyped};
 ghost use Rattle.ht_capture.specs.Files.{AreCaptureFrames, HasAllCarriers, capture_file_of};
 ghost use Rattle.ht_results.specs.Results.{results_of};
-ghost use Rattle.ht_demo.specs.Demos.{ArePassed, AreSent, CanBeSent, HaveRoom, IsPassed};
+ghost use Rattle.ht_demo.specs.Demos.{ArePassed, AreSent, CanBeSent, IsPassed, SumsFit};
 
 use crate::plan::Plan;
 use ht_capture::{CaptureFrame, write_captures};
@@ -42,7 +42,7 @@ fn written(alloc: Global, captured: Vec<CaptureFrame>) -> Result<Vec<u8>, AllocE
 fn capture(alloc: Global, plan: &Plan, frames: &[Frame]) -> Result<Vec<u8>, AllocError>
     requires { length frames.now ≤ 65535 }
     ensures passed { IfOk result (λ octets. IsPassed plan.now frames.now octets.items) }
-    ensures room { IfOk result (λ octets. HaveRoom (results_of octets.items)) }
+    ensures sums { IfOk result (λ octets. SumsFit (results_of octets.items)) }
 {
     let captured = passed(alloc, plan, frames)?;
     written(alloc, captured)

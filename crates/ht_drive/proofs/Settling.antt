@@ -95,7 +95,7 @@ module _ (t : Tally) (h : BlockHelm) (members : List (Member (List JobView) (Lis
         numbers = subst (λ (n : ℕ). HaveNumbers n (all_in (blocks_pushed passes_of))) (sym jobs)
             (subst (λ (blocks : List (List JobView)). HaveNumbers t.issued (all_in blocks)) (sym run.pushed) tallies.numbers);
         emptied = run.emptied;
-        each_once = subst (λ (blocks : List (List JobView)). SameCounts (taken_on (deques_of passes_of)) (blocks ++ moved_on (deques_of passes_of)))
+        taken = subst (λ (blocks : List (List JobView)). SameCounts (taken_on (deques_of passes_of)) (blocks ++ moved_on (deques_of passes_of)))
             (sym run.pushed) run.taken;
         each = ap length items ∙ run.each;
         ran = omega (arith, ap sum items, run.ran, tallies.jobs, jobs, own);

@@ -37,7 +37,7 @@ pub record ComesBack (old new : BlockHelm) : Type 0 where
   pub given_are : new.given ≡ old.given
   pub one : length new.taken + length new.answers ≡ length old.taken + length old.answers + 1
 
--- for how many jobs a window has room in all, and the jobs of its blocks, in order
+-- the number of jobs for which a window has room in all, and the jobs of its blocks, in order
 pub record BlockWindow : Type 0 where
   pub capacity : ℕ
   pub due : List (List JobView)
@@ -54,7 +54,7 @@ pub record IsBlockWindow (places held : ℕ) (w : BlockWindow) : Type 0 where
   pub few : w.capacity ≤ 4096
   pub full : NoneEmpty w.due
 
--- there is a first block, and its jobs are such
+-- there is a first block, and this holds of its jobs
 abbrev pub IsFirst : (List JobView → Type 0) → List (List JobView) → Type 0
 IsFirst P [] = ⊥
 IsFirst P (jobs ∷ blocks) = P jobs

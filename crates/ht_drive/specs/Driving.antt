@@ -1,4 +1,4 @@
--- How the window of a drive, its counts and its feed stand to each other.
+-- What the window of a drive, its counts and its feed have to do with one another.
 use Rattle.std.specs.Prelude.{◌≡◌, ◌+◌, ◌<◌, ◌≤◌, ℕ, List, [], length, Bool, not, false, Option, Some, None, Result, IfErr, IfOk}
 use Rattle.ht_metric.specs.Jobs.{JobView}
 use Rattle.ht_pool.specs.Helms.{IsSameHelm, IsSettled}
@@ -77,7 +77,7 @@ module _ {Fault : Type 0} where
     pub in_turn : (known : Option (List JobView)) → IsAlong known (shown old) → IsInTurn known (shown new)
 
   -- a caller has gone on, and stands so
-  pub record GoesOn {F : Type 0} (shown : F → FeedView Fault) (Leads : F → F → Type 0) (running : Bool) (window window' : BlockWindow)
+  pub record IsLeading {F : Type 0} (shown : F → FeedView Fault) (Leads : F → F → Type 0) (running : Bool) (window window' : BlockWindow)
       (helm helm' : BlockHelm) (t' : Tally) (old new : F) : Type 0 where
     pub stands : Stands running window' helm' t' (shown new)
     -- only calls of the feed changed it

@@ -54,14 +54,14 @@ pub record IsShared (ran : List ℕ) (passes : Passes) : Type 0 where
   -- the numbers are those of the jobs of their blocks
   pub numbers : ran ≡ jobs_of mine ∷ map jobs_of others
 
--- this number of workers ran the jobs, where the pool had room for that number of blocks for sure
+-- this number of workers ran the jobs, with room for at least `capacity` blocks in the pool
 pub record HasRunInPool (workers capacity : ℕ) (report : Report) (passes : Passes) : Type 0 where
   -- there is a deque for each worker, the caller's first
   pub deques : length passes.deques.items ≡ workers
   -- all jobs but the caller's own were pushed on the caller's deque, in blocks, none of which is empty
   pub pushed : jobs_of (blocks_pushed passes) + report.own ≡ report.jobs
   pub full : NoneEmpty (blocks_pushed passes)
-  -- and for sure as many of them as there was room for blocks
+  -- and at least as many of them as there was room for blocks, or all
   pub sure : report.own + min report.jobs capacity ≤ report.jobs
   -- each of them has a number of its own below the number of jobs
   pub numbers : HaveNumbers report.jobs (all_in (blocks_pushed passes))
@@ -69,7 +69,7 @@ pub record HasRunInPool (workers capacity : ℕ) (report : Report) (passes : Pas
   pub emptied : All IsEmptied (deques_of passes)
   -- the blocks run, which are those taken on all deques less those moved on, are those pushed on the caller's, each
   -- once
-  pub each_once : SameCounts (taken_on (deques_of passes)) (blocks_pushed passes ++ moved_on (deques_of passes))
+  pub taken : SameCounts (taken_on (deques_of passes)) (blocks_pushed passes ++ moved_on (deques_of passes))
   -- by this number of workers, the caller first, each of whom counted the jobs of its blocks: with the caller's own
   -- they are all jobs
   pub each : length report.ran.items ≡ workers

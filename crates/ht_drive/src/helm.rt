@@ -19,7 +19,7 @@ pub(crate) struct BlockHelm<
     W: Work<B, Answer = A>,
 > {
     helm: Helm<'p, Runner<'w, B, A, W>>,
-    // A number of blocks that has to come back before all have, and never too low.
+    // At least the number of blocks that have yet to come back.
     out: u64,
 }
 

@@ -5,8 +5,8 @@
 //! window that has room for a number of jobs, and gives a copy of it to the pool. What comes back is kept beside the
 //! block if both are known to be the same (`Shared`), and the feed takes it as soon as all blocks before it were taken.
 //! [`drive`] promises of the feed what `drive_alone` does, and says in a [`Report`] how many jobs each worker ran, and
-//! which blocks went through the deques and came back through the queue. [`tell`] goes through a whole input of any reader
-//! in this way, and hands the hits to an account.
+//! which blocks went through the deques and the queue. [`tell`] goes through a whole input of any reader in this way, and
+//! hands the hits to an account.
 //!
 //! For a capture of 112 jobs, two workers and a window of 256, the report may say that the caller ran 50 jobs and the
 //! other worker 62: `jobs` is 112, `own` is 0, and `ran` is 50 and 62.

@@ -6,7 +6,7 @@ ghost use Rattle.ht_feed.specs.Dues.{all_in, count_in};
 ghost use Rattle.ht_feed.specs.Items.{Numbered};
 ghost use Rattle.ht_pool.specs.Helms.{IsSameHelm};
 ghost use Rattle.ht_drive.specs.Blocks.{IsBlock, block_window};
-ghost use Rattle.ht_drive.specs.Driving.{GoesOn, Holds, Refuses, Stands, StepsOn, Tallies};
+ghost use Rattle.ht_drive.specs.Driving.{Holds, IsLeading, Refuses, Stands, StepsOn, Tallies};
 
 use crate::helm::BlockHelm;
 use crate::tally::Tally;
@@ -74,7 +74,7 @@ pub(crate) fn supply<
     ensures issued { tally.new.issued ≡ (F.shown feed.new).count }
     ensures same { IsSameHelm helm.old helm.new }
 
-    ensures goes_on { IfOk result (λ on. GoesOn F.shown F.leads on window.old window.new helm.old helm.new tally.new feed.old feed.new) }
+    ensures goes_on { IfOk result (λ on. IsLeading F.shown F.leads on window.old window.new helm.old helm.new tally.new feed.old feed.new) }
     ensures refuses { IfErr result (Refuses (A.may_lack ⊎ B.may_lack) (F.shown feed.new)) }
 {
     let mut running = running;

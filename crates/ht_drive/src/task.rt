@@ -110,7 +110,7 @@ impl<B: Jobs + Drop, A: Answer> Done<B, A> {
     }
 }
 
-/// A work over blocks as one over tasks. A task counts as many as it has jobs.
+/// Work over blocks as work over tasks. A task counts as the number of its jobs.
 #[derive(Drop)]
 pub(crate) struct Runner<'w, B, A, W> {
     pub(crate) work: &'w W,

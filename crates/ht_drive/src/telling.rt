@@ -16,7 +16,7 @@ use ht_feed::{
     end_of,
 };
 use ht_io::Source;
-use ht_runs::StopFault;
+use ht_runs::RunFault;
 use std::alloc::Global;
 use std::sync::Wait;
 use std::thread::Threads;
@@ -87,7 +87,7 @@ pub fn tell<
     work: &W,
     source: &mut S,
     account: &mut A,
-) -> Result<Ended, StopFault>
+) -> Result<Ended, RunFault>
 where
     R::Block: Shared + Send + Sync,
     A::Answer: Send + Sync,

@@ -33,18 +33,15 @@ use std::marker::PhantomData;
 use std::sync::Wait;
 use std::thread::Threads;
 
-/// Runs all blocks of a feed by 1 to 64 workers, of which the caller is one, and hands it their answers in the order of
-/// the blocks.
+/// Runs all blocks of a fresh feed by 1 to 64 workers, of which the caller is one, and hands it the answers in order. With one
+/// worker it is [`drive_alone`](ht_feed::drive_alone).
 ///
-/// The feed has given nothing yet. The caller asks it for blocks until a whole one finds no room among the `window` jobs
-/// that may be due, 1 to 4096, or it has ended, and gives a copy of each to the pool, from which the other workers take
-/// them, each in a thread of its own. So whichever call of the feed fails, no more than `window` jobs are due. Blocks
-/// begin with single jobs and grow with each answer that comes back, at the [`Pace`] of crate `ht_pace`, up to half a
-/// worker's share of a full window, `window / (2 * workers)` jobs, at least 1 and at most 57; where the work calls a block
-/// hard they are single jobs again. With one worker it is [`drive_alone`](ht_feed::drive_alone).
+/// At most `window` jobs, 1 to 4096, are due, whichever call of the feed fails: the caller asks for blocks until a whole one
+/// finds no room among them, and copies each to the pool, which has a thread for each other worker. A block has at most as
+/// many jobs as the [`Pace`] of crate `ht_pace` says, never more than 57.
 ///
-/// It refuses with the feed's fault; with `NoMemory` before the first call of the feed; or with `Work`, where there was no
-/// memory for a copy or for the work. Threads that can't be started leave more to the caller.
+/// It refuses with the feed's fault, with `NoMemory` before any call of it, or later with `Work` for lack of memory. Threads
+/// that can't be started leave more to the caller.
 pub fn drive<R: Threads + Wait + Sync, F: BlockFeed, W: Work<F::Block, Answer = F::Answer> + Sync>(
     rt: &R,
     alloc: Global,

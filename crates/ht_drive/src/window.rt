@@ -48,7 +48,7 @@ impl<B: Shared + Drop, A: Answer + Drop> Window<B, A> {
         })
     }
 
-    /// For how many jobs more there is room.
+    /// The number of jobs for which there is still room.
     pub(crate) fn room(&self) -> u16
         ensures { result + count_in self.now.due ≡ self.now.capacity }
     {

@@ -12,16 +12,14 @@ use Rattle.ht_runs.specs.Formats.{IsFaultless, filter}
 use Rattle.ht_runs.specs.Outcomes.{IsFrontOf, TellsWhole}
 use Rattle.ht_runs.specs.Streamed.{StopsAtFault, Streamed}
 use Rattle.ht_runs.specs.declared.faults.RunFault.{RunFault}
-use Rattle.ht_runs.specs.declared.faults.StopFault.{StopFault}
-use Rattle.ht_runs.specs.declared.faults.StopFault.TheVariants.{Read, Write, NoMemory}
+use Rattle.ht_runs.specs.declared.faults.RunFault.TheVariants.{Format, Read, Write, NoMemory}
 use Rattle.ht_runs.proofs.Streaming.{no_file}
 use Rattle.ht_fields.proofs.Joins.{early_text}
 use Rattle.ht_feed.specs.declared.ended.Ended.{Ended}
-use Rattle.ht_feed.specs.declared.ended.Ended.TheVariants.{Done, Refused}
 use Rattle.ht_feed.specs.Accounts.{Telling}
 use Rattle.ht_feed.specs.Items.{Headed, Item, headed}
-use Rattle.ht_feed.specs.Outcomes.{Comes, StopsAs as BlockStops, EndsRefused as BlockRefused, EndsAs as BlockTells, EndsWhole as BlockWhole}
-use Rattle.ht_endings.specs.Endings.{HasFrames, IsTold, PutsEnd, end_as, seen_as}
+use Rattle.ht_feed.specs.Outcomes.{Comes, StopsAs as BlockStops, EndsRefused as BlockRefused, EndsWhole as BlockWhole}
+use Rattle.ht_endings.specs.Endings.{IsTold, MeansFrames, PutsEnd, end_as, seen_as}
 use Rattle.ht_endings.proofs.EndLines.{PutsLines, with_end}
 use Rattle.ht_endings.proofs.Runs.{broken, ends_at, from_front, front, in_part, means_in, whole}
 
@@ -36,9 +34,9 @@ module _ {S I H : Type 0} (f : Grammar S I) (items_as : List I → List (Item H)
           let place : length octets ≡ 0 + length octets = omega arith in
           early_text f octets (subst (λ n. IsEarly n (means_in f octets).fault) place early)
 
-      whole_so : (frames jobs : ℕ) → BlockWhole (front f items_as source) lines source' sink mid frames jobs
-          → TellsWhole f lines source source' sink mid (HasFrames f items_as frames)
-      whole_so frames jobs w = whole f items_as lines source source' sink mid (HasFrames f items_as frames) frames jobs (λ octets are jobs_are. are) w
+      whole_so : (ended : Ended) → BlockWhole (front f items_as source) lines source' sink mid ended
+          → TellsWhole f lines source source' sink mid (MeansFrames f items_as ended.frames)
+      whole_so ended w = whole f items_as lines source source' sink mid (MeansFrames f items_as ended.frames) ended (λ octets are jobs_are. are) w
 
       same_lines : (xs ys : List ℕ) → seen_as items_as (means_in f xs) ≡ seen_as items_as (means_in f ys) → lines xs ≡ lines ys
       same_lines xs ys is = sym (s.are xs) ∙ (ap (λ (m : Meaning (Item H)). pieces (headed head m.items)) is ∙ s.are ys)
@@ -60,11 +58,11 @@ module _ {S I H : Type 0} (f : Grammar S I) (items_as : List I → List (Item H)
           }
 
     -- what a run over blocks came to is what its lines came to
-    lines_put : (run : Result Ended StopFault) (mid : Device ℕ)
-        → MatchResult run (BlockTells (front f items_as source) lines source' sink mid) (BlockStops (front f items_as source) lines source' sink mid)
-        → PutsLines f text lines source source' sink (HasFrames f items_as) run mid
-    lines_put (Ok (Done frames jobs)) mid t = whole_so mid frames jobs t
-    lines_put (Ok (Refused fault)) mid t = stopped mid fault t
+    lines_put : (run : Result Ended RunFault) (mid : Device ℕ)
+        → MatchResult run (BlockWhole (front f items_as source) lines source' sink mid) (BlockStops (front f items_as source) lines source' sink mid)
+        → PutsLines f text lines source source' sink (MeansFrames f items_as) run mid
+    lines_put (Ok ended) mid t = whole_so mid ended t
+    lines_put (Err (Format fault)) mid t = stopped mid fault t
     lines_put (Err Read) mid t = (broken f items_as lines source source' sink mid t.0, t.1)
     lines_put (Err Write) mid t = (in_part f items_as lines source source' sink mid t.0, t.1)
     lines_put (Err NoMemory) mid t = in_part f items_as lines source source' sink mid t
@@ -72,14 +70,14 @@ module _ {S I H : Type 0} (f : Grammar S I) (items_as : List I → List (Item H)
   -- A run of blocks from a reader in front of an input, by an account that keeps nothing back and shows these pieces, and
   -- then its end line: what the whole call promises.
   pub ends : {R : Type 0} (means_of : R → List ℕ → Meaning (Item H)) (at : R → ℕ) (reader : R) (source source' : Device ℕ) (a b : Telling H ℕ)
-      (run : Result Ended StopFault) (sink' : Device ℕ) (result : Result ℕ RunFault)
+      (run : Result Ended RunFault) (sink' : Device ℕ) (result : Result ℕ RunFault)
       → ((octets : List ℕ) → means_of reader octets ≡ seen_as items_as (means_in f octets)) → at reader ≡ 0 → a.pieces ≡ pieces
       → Comes means_of at reader head source source' a b run → IsLater a.device b.device → PutsEnd run b.device sink' result
-      → Streamed (filter f text lines) source source' a.device sink' (HasFrames f items_as) result
+      → Streamed (filter f text lines) source source' a.device sink' (MeansFrames f items_as) result
   ends means_of at reader source source' a b run sink' result same zero shown came later puts =
       let are : (octets : List ℕ) → a.pieces (headed head (items_as (means_in f octets).items)) ≡ lines octets =
       λ octets. ap (λ (g : List (Headed H) → List ℕ). g (headed head (items_as (means_in f octets).items))) shown ∙ s.are octets in
-      with_end f text lines source source' a.device (HasFrames f items_as) (end_as f items_as) s.lined (λ frames octets is. ap end_text is) run b.device
+      with_end f text lines source source' a.device (MeansFrames f items_as) (end_as f items_as) s.lined (λ frames octets is. ap end_text is) run b.device
       sink' result
       (lines_put source source' a.device run b.device
       (from_front f items_as means_of at reader head lines source source' a b run same zero are came)) later puts

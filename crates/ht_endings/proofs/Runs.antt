@@ -9,7 +9,7 @@ use Rattle.ht_fields.specs.Grammar.{Grammar}
 use Rattle.ht_fields.specs.Meanings.{Meaning, meaning}
 use Rattle.ht_fields.specs.Readers.{EndsAt, IsEarly, ReaderView}
 use Rattle.ht_runs.specs.Outcomes.{IsFrontOf, TellsBroken, TellsPieces, TellsRefused, TellsWhole}
-use Rattle.ht_runs.specs.declared.faults.StopFault.{StopFault}
+use Rattle.ht_runs.specs.declared.faults.RunFault.{RunFault}
 use Rattle.ht_runs.proofs.Fronts.{before_end, before_fault}
 use Rattle.ht_runs.proofs.Outcomes.{start as start_of}
 use Rattle.ht_feed.specs.declared.ended.Ended.{Ended}
@@ -23,7 +23,6 @@ use Rattle.ht_feed.specs.Outcomes.{
   EndsBroken as BlockBroken,
   EndsPartly as BlockPieces,
   EndsRefused as BlockRefused,
-  EndsAs as BlockTells,
   EndsWhole as BlockWhole,
   pieces_of,
 }
@@ -57,10 +56,11 @@ module _ {S I H : Type 0} (f : Grammar S I) (items_as : List I → List (Item H)
         front_is taken n few (before_fault f taken fault n is (omega (arith, few, place)) few)
 
     -- a whole file, of which this follows from the numbers of its frames and of its jobs
-    pub whole : (Says : List ℕ → Type 0) (frames jobs : ℕ)
-        → ((octets : List ℕ) → frames ≡ frames_of (items_as (means_in f octets).items) → jobs ≡ length (jobs_of (items_as (means_in f octets).items)) → Says octets)
-        → BlockWhole (front source) pieces source' device device' frames jobs → TellsWhole f pieces source source' device device' Says
-    whole Says frames jobs says w =
+    pub whole : (Says : List ℕ → Type 0) (ended : Ended)
+        → ((octets : List ℕ) → ended.frames ≡ frames_of (items_as (means_in f octets).items) → ended.jobs ≡ length (jobs_of (items_as (means_in f octets).items))
+        → Says octets)
+        → BlockWhole (front source) pieces source' device device' ended → TellsWhole f pieces source source' device device' Says
+    whole Says ended says w =
         record { taken = w.taken; octets = w.octets; whole = w.whole; says = says w.taken w.frames_are w.jobs_are; put = w.put }
 
     -- an input with a fault, where octets that the reader sees alike mean the same
@@ -86,18 +86,18 @@ module _ {S I H : Type 0} (f : Grammar S I) (items_as : List I → List (Item H)
 
   -- a run from a reader in front of an input came to this, said of the octets
   pub from_front : {R P : Type 0} (means_of : R → List ℕ → Meaning (Item H)) (at : R → ℕ) (reader : R) (head : H) (pieces : List ℕ → List P)
-      (source source' : Device ℕ) (a b : Telling H P) (result : Result Ended StopFault)
+      (source source' : Device ℕ) (a b : Telling H P) (result : Result Ended RunFault)
       → ((octets : List ℕ) → means_of reader octets ≡ seen_as items_as (means_in f octets)) → at reader ≡ 0
       → ((octets : List ℕ) → a.pieces (headed head (items_as (means_in f octets).items)) ≡ pieces octets)
       → Comes means_of at reader head source source' a b result
-      → MatchResult result (BlockTells (front source) pieces source' a.device b.device) (BlockStops (front source) pieces source' a.device b.device)
+      → MatchResult result (BlockWhole (front source) pieces source' a.device b.device) (BlockStops (front source) pieces source' a.device b.device)
   from_front {P = P} means_of at reader head pieces source source' a b result same zero are came =
       let is : view means_of at reader source ≡ front source =
       ap (λ (m : List ℕ → Meaning (Item H)). let v : ReaderView (Item H) = record { means = m; at = at reader; source = source } in v) (fun_ext same)
       ∙ ap (λ (n : ℕ). let v : ReaderView (Item H) = record { means = λ octets. seen_as items_as (means_in f octets); at = n; source = source } in v) zero in
       let pieces_same : pieces_of a.pieces head (front source) ≡ pieces = fun_ext are in
       subst (λ (g : List ℕ → List P).
-      MatchResult result (BlockTells (front source) g source' a.device b.device) (BlockStops (front source) g source' a.device b.device)) pieces_same
+      MatchResult result (BlockWhole (front source) g source' a.device b.device) (BlockStops (front source) g source' a.device b.device)) pieces_same
       (subst (λ (v : ReaderView (Item H)).
-      MatchResult result (BlockTells v (pieces_of a.pieces head v) source' a.device b.device)
+      MatchResult result (BlockWhole v (pieces_of a.pieces head v) source' a.device b.device)
       (BlockStops v (pieces_of a.pieces head v) source' a.device b.device)) is came)

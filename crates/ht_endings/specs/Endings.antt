@@ -4,14 +4,10 @@ use Rattle.ht_io.specs.Devices.{Device, Grows, GrowsByPart, IsLater, Rose}
 use Rattle.ht_fields.specs.Grammar.{Grammar}
 use Rattle.ht_fields.specs.Meanings.{Meaning, meaning}
 use Rattle.ht_text.specs.Lines.{end_text}
-use Rattle.ht_runs.specs.Faults.{fault_of_stop}
 use Rattle.ht_runs.specs.Formats.{IsLined}
 use Rattle.ht_runs.specs.declared.faults.RunFault.{RunFault}
-use Rattle.ht_runs.specs.declared.faults.RunFault.TheVariants.{Format, Write, NoMemory}
-use Rattle.ht_runs.specs.declared.faults.StopFault.{StopFault}
-use Rattle.ht_runs.specs.declared.faults.StopFault.TheVariants.{Write as WriteStop}
+use Rattle.ht_runs.specs.declared.faults.RunFault.TheVariants.{Write, NoMemory}
 use Rattle.ht_feed.specs.declared.ended.Ended.{Ended}
-use Rattle.ht_feed.specs.declared.ended.Ended.TheVariants.{Done, Refused}
 use Rattle.ht_feed.specs.Items.{Headed, Item, frames_of, headed}
 
 -- This text was put, and the answer is the one for that; or a part of it, by a sink that failed; or nothing, without memory for
@@ -23,19 +19,18 @@ PutsText whole failed lacking text sink sink' answer =
     ⊎ ((answer ≡ lacking) × (sink' ≡ sink))
 
 -- the end line was put behind the lines of a whole input; where these are not the lines of a whole one nothing was
-abbrev pub PutsEnd : Result Ended StopFault → Device ℕ → Device ℕ → Result ℕ RunFault → Type 0
-PutsEnd (Ok (Done frames jobs)) sink sink' result = PutsText (Ok frames) (Err Write) (Err NoMemory) (end_text frames) sink sink' result
-PutsEnd (Ok (Refused fault)) sink sink' result = (result ≡ Err (Format fault)) × (sink' ≡ sink)
-PutsEnd (Err stop) sink sink' result = (result ≡ Err (fault_of_stop stop)) × (sink' ≡ sink)
+abbrev pub PutsEnd : Result Ended RunFault → Device ℕ → Device ℕ → Result ℕ RunFault → Type 0
+PutsEnd (Ok ended) sink sink' result = PutsText (Ok ended.frames) (Err Write) (Err NoMemory) (end_text ended.frames) sink sink' result
+PutsEnd (Err fault) sink sink' result = (result ≡ Err fault) × (sink' ≡ sink)
 
 -- what the end line behind lines comes to, by how their run ended: the sink before and after, and the answer
-pub record EndsLines (ended : Result Ended StopFault) (sink sink' : Device ℕ) (result : Result ℕ RunFault) : Type 0 where
+pub record EndsLines (ended : Result Ended RunFault) (sink sink' : Device ℕ) (result : Result ℕ RunFault) : Type 0 where
   -- the end line of a whole input was put, and nothing behind other lines
   pub puts : PutsEnd ended sink sink' result
   -- where the sink failed the answer is `Write`, whatever else failed
   pub writes : result ≢ Err Write → sink'.faults ≡ sink.faults
   -- so it is where the sink had failed before
-  pub failed : ended ≡ Err WriteStop → result ≡ Err Write
+  pub failed : ended ≡ Err Write → result ≡ Err Write
   -- the sink is the same, and takes back no fault
   pub later : IsLater sink sink'
 
@@ -49,8 +44,8 @@ module _ {S I H : Type 0} (f : Grammar S I) (items_as : List I → List (Item H)
   end_as items = end_text (frames_of (items_as items))
 
   -- a file of the format has this number of frames
-  abbrev pub HasFrames : ℕ → List ℕ → Type 0
-  HasFrames frames octets = frames ≡ frames_of (items_as (meaning f f.start 0 octets).items)
+  abbrev pub MeansFrames : ℕ → List ℕ → Type 0
+  MeansFrames frames octets = frames ≡ frames_of (items_as (meaning f f.start 0 octets).items)
 
   -- The text and the lines of octets, where an account puts these pieces of the jobs that the reader sees, behind a head
   -- that stands for the one that came last.

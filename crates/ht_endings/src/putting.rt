@@ -6,7 +6,7 @@ ghost use Rattle.ht_endings.specs.Endings.{EndsLines, PutsText};
 
 use ht_feed::Ended;
 use ht_io::Sink;
-use ht_runs::{RunFault, StopFault};
+use ht_runs::RunFault;
 use ht_text::end_line;
 use std::alloc::{AllocError, Global};
 
@@ -31,17 +31,12 @@ fn put_text<K: Sink>(text: Result<Vec<u8>, AllocError>, sink: &mut K) -> Result<
 /// and with `NoMemory` where there is none for the line, and nothing of it was put.
 pub fn put_end<K: Sink>(
     alloc: Global,
-    ended: Result<Ended, StopFault>,
+    ended: Result<Ended, RunFault>,
     sink: &mut K,
 ) -> Result<u64, RunFault>
     ensures { EndsLines ended (K.shown sink.old) (K.shown sink.new) result }
 {
-    match ended {
-        Ok(Ended::Done { frames, .. }) => {
-            put_text(end_line(alloc, frames), sink)?;
-            Ok(frames)
-        }
-        Ok(Ended::Refused(fault)) => Err(RunFault::Format(fault)),
-        Err(fault) => Err(RunFault::from(fault)),
-    }
+    let frames = ended?.frames;
+    put_text(end_line(alloc, frames), sink)?;
+    Ok(frames)
 }

@@ -10,6 +10,7 @@ use Rattle.ht_fields.specs.Readers.{ReaderView, Gives, Refuses, RunsOut, Breaks,
 use Rattle.ht_fields.proofs.Answered.{alone}
 use Rattle.ht_fields.proofs.Joins.{gives_broke, ends_behind}
 use Rattle.ht_runs.proofs.Known.{known, known_all, takes_of}
+use Rattle.ht_feed.specs.declared.ended.Ended.{Ended}
 use Rattle.ht_feed.specs.declared.stop.Stop.{Stop}
 use Rattle.ht_feed.specs.declared.stop.Stop.TheVariants.{Whole, Refused, Broken, Lacking}
 use Rattle.ht_feed.specs.Items.{Item, Headed, headed, last_head, frames_of, jobs_of}
@@ -36,9 +37,9 @@ module _ {H P : Type 0} (start : ReaderView (Item H)) (pieces : List (Headed H) 
     puts_all : (octets : List ℕ) → (start.means octets).items ≡ items → Grows device device' (all_pieces octets)
     puts_all octets is = subst (λ (xs : List (Item H)). Grows device device' (pieces (headed head xs))) (sym is) put
 
-    pub whole : (frames jobs : ℕ) → Completes mid source' → frames ≡ frames_of items → jobs ≡ length (jobs_of items)
-        → EndsWhole start all_pieces source' device device' frames jobs
-    whole frames jobs c f j =
+    pub whole : (ended : Ended) → Completes mid source' → ended.frames ≡ frames_of items → ended.jobs ≡ length (jobs_of items)
+        → EndsWhole start all_pieces source' device device' ended
+    whole ended c f j =
         let taken = g.taken ++ c.taken in
         let here : start.means taken ≡ record { items = items; fault = None } = g.means c.taken ∙ (ap (before items) c.means ∙ alone items None) in
         let is = items_are (start.means taken) items None here in

@@ -7,8 +7,8 @@ use Rattle.ht_io.proofs.Calls.{failed-later, grows_by_part-front, later-refl}
 use Rattle.ht_fields.specs.Meanings.{Meaning}
 use Rattle.ht_fields.specs.Readers.{ReaderView}
 use Rattle.ht_runs.proofs.Known.{by_part}
-use Rattle.ht_runs.specs.declared.faults.StopFault.{StopFault}
-use Rattle.ht_runs.specs.declared.faults.StopFault.TheVariants.{Write, NoMemory as StopMemory}
+use Rattle.ht_runs.specs.declared.faults.RunFault.{RunFault}
+use Rattle.ht_runs.specs.declared.faults.RunFault.TheVariants.{Write, NoMemory as RunMemory}
 use Rattle.ht_feed.specs.declared.stop.Stop.{Stop}
 use Rattle.ht_feed.specs.declared.stop.Stop.TheVariants.{Whole, Refused, Broken, Lacking}
 use Rattle.ht_feed.specs.declared.book_fault.BookFault.{BookFault}
@@ -24,7 +24,7 @@ use Rattle.ht_feed.specs.Reading.{ClosesBehind, ReadsBy, view}
 use Rattle.ht_feed.specs.Stops.{ended_at, ended_by, failed_by, fault_of}
 use Rattle.ht_feed.specs.Telling.{RunsDesk, Seen, Tells, TellsBy, TellsPart, seen_by}
 use Rattle.ht_feed.specs.Inputs.{TellsInput}
-use Rattle.ht_feed.specs.Outcomes.{Comes, StopsAs, EndsPartly, EndsAs, pieces_of}
+use Rattle.ht_feed.specs.Outcomes.{Comes, StopsAs, EndsPartly, EndsWhole, pieces_of}
 use Rattle.ht_feed.proofs.Ending.{broken, in_part, refused, told_nothing, whole}
 use Rattle.ht_feed.proofs.Filling.{none_in}
 
@@ -68,7 +68,7 @@ module _ {R H P : Type 0} (means : R → List ℕ → Meaning (Item H)) (at : R 
   abbrev fresh : DeskView R H
   fresh = desk_view reader None head 0 [] 0
 
-  abbrev Came : Result Ended StopFault → Type 0
+  abbrev Came : Result Ended RunFault → Type 0
   Came result = Comes means at reader head source source' a b result
 
   -- what is seen of a desk that the feed leaves
@@ -107,7 +107,8 @@ module _ {R H P : Type 0} (means : R → List ℕ → Meaning (Item H)) (at : R 
       ends None is some = absurd (false≢true some)
       ends (Some Whole) is some =
           let c = stopped Whole new.stop tells.items is tells.reads in
-          whole start a.pieces head source' a.device b.device c.between tells.items c.gives all_put new.frames new.count c.closes frames_are jobs_are
+          whole start a.pieces head source' a.device b.device c.between tells.items c.gives all_put (record { frames = new.frames; jobs = new.count })
+          c.closes frames_are jobs_are
       ends (Some (Refused fault)) is some =
           let c = stopped (Refused fault) new.stop tells.items is tells.reads in
           refused start a.pieces head source' a.device b.device c.between tells.items c.gives all_put fault c.closes
@@ -161,7 +162,7 @@ module _ {R H P : Type 0} (means : R → List ℕ → Meaning (Item H)) (at : R 
     steady_by failed (Err DriveMemory) h other = (told_well failed (h.memory refl) h.tells).steady
     steady_by failed (Err Work) h other = (told_well failed (h.work refl) h.tells).steady
 
-    pub steady : {X : Type 0} (failed : Option BookFault) (driven : Result X (DriveFault BookFault)) (result : Result Ended StopFault)
+    pub steady : {X : Type 0} (failed : Option BookFault) (driven : Result X (DriveFault BookFault)) (result : Result Ended RunFault)
         → Heard failed driven → result ≡ ended_by new.stop new.frames new.count driven → result ≢ Err Write → b.device.faults ≡ a.device.faults
     steady failed driven result h is other = steady_by failed driven h (λ e. other (is ∙ e))
 
@@ -174,26 +175,26 @@ module _ {R H P : Type 0} (means : R → List ℕ → Meaning (Item H)) (at : R 
     heard_by failed (Err Work) h rests nothing = told_in_part (told_well failed (h.work refl) h.tells)
 
     -- the end of the reading, as its drive and its desk tell it
-    pub heard : {X : Type 0} (failed : Option BookFault) (driven : Result X (DriveFault BookFault)) (result : Result Ended StopFault)
+    pub heard : {X : Type 0} (failed : Option BookFault) (driven : Result X (DriveFault BookFault)) (result : Result Ended RunFault)
         → Heard failed driven → a.Waits [] → (b.Waits [] → b.pieces [] ≡ []) → result ≡ ended_by new.stop new.frames new.count driven → Came result
     heard failed driven result h rests nothing is = subst Came (sym is) (heard_by failed driven h rests nothing)
 
 -- an answer that is a fault of this kind
-pub stops_with : (result : Result Ended StopFault) (P : Ended → Type 0) (R Q : StopFault → Type 0) → IsErr result → IsErrAnd result Q → ((e : StopFault) → Q e → R e)
+pub stops_with : (result : Result Ended RunFault) (P : Ended → Type 0) (R Q : RunFault → Type 0) → IsErr result → IsErrAnd result Q → ((e : RunFault) → Q e → R e)
     → MatchResult result P R
 stops_with (Ok x) P R Q is and so = absurd (false≢true is)
 stops_with (Err e) P R Q is and so = so e and
 
 module _ {R H P : Type 0} {means : R → List ℕ → Meaning (Item H)} {at : R → ℕ} {reader : R} {head : H} where
   -- memory lacked before the first call of a desk
-  pub told_lacking : {source : Device ℕ} {a : Telling H P} {lent : List ℕ} {result : Result Ended StopFault}
-      → IsErr result → IsErrAnd result (λ f. f ≡ StopMemory) → TellsInput means at reader head source source a a lent lent result
+  pub told_lacking : {source : Device ℕ} {a : Telling H P} {lent : List ℕ} {result : Result Ended RunFault}
+      → IsErr result → IsErrAnd result (λ f. f ≡ RunMemory) → TellsInput means at reader head source source a a lent lent result
   told_lacking {source} {a} {lent} {result} is and =
       let start = view means at reader source in
       let pieces = pieces_of a.pieces head start in
       record {
-        tells = stops_with result (EndsAs start pieces source a.device a.device) (StopsAs start pieces source a.device a.device) (λ f. f ≡ StopMemory) is and
-            (λ f same. subst (λ (fault : StopFault). StopsAs start pieces source a.device a.device fault) (sym same) (told_nothing start pieces a.device));
+        tells = stops_with result (EndsWhole start pieces source a.device a.device) (StopsAs start pieces source a.device a.device) (λ f. f ≡ RunMemory) is and
+            (λ f same. subst (λ (fault : RunFault). StopsAs start pieces source a.device a.device fault) (sym same) (told_nothing start pieces a.device));
         writes = λ other. refl;
         reads_later = later-refl source;
         puts_later = later-refl a.device;
@@ -202,7 +203,7 @@ module _ {R H P : Type 0} {means : R → List ℕ → Meaning (Item H)} {at : R 
 
   -- what a drive and its desk say of an input
   pub told_input : {X : Type 0} {source source' : Device ℕ} {a b : Telling H P} {new : DeskView R H} {failed : Option BookFault}
-      {driven : Result X (DriveFault BookFault)} {lent lent' : List ℕ} {result : Result Ended StopFault}
+      {driven : Result X (DriveFault BookFault)} {lent lent' : List ℕ} {result : Result Ended RunFault}
       → Heard means at reader head source source' a b new failed driven → a.Waits [] → (b.Waits [] → b.pieces [] ≡ [])
       → result ≡ ended_by new.stop new.frames new.count driven → lent' ≡ lent → TellsInput means at reader head source source' a b lent lent' result
   told_input {X} {source} {source'} {a} {b} {new} {failed} {driven} {lent} {lent'} {result} h rests nothing is same = record {

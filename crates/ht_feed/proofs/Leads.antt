@@ -1,14 +1,14 @@
 -- What the calls of a desk between a source and an account lead to.
-use Rattle.std.proofs.Common.{◌≡◌, ℕ, ◌+◌, List, [], ◌∷◌, ◌++◌, drop, take, length, Option, None, Some, refl, ap, ◌∙◌, sym, subst, arith}
+use Rattle.std.proofs.Common.{◌≡◌, ℕ, ◌+◌, List, [], ◌∷◌, ◌++◌, drop, take, length, Option, None, Some, Ok, Err, refl, ap, ◌∙◌, sym, subst, arith}
 use Rattle.std.proofs.Common.{append-nil, append_assoc}
-use Rattle.ht_io.specs.Devices.{Device, Rose, IsLater}
+use Rattle.ht_io.specs.Devices.{Device}
 use Rattle.ht_io.proofs.Calls.{grows-none, grows_by_part-none, later-refl}
 use Rattle.ht_fields.specs.Meanings.{Meaning}
 use Rattle.ht_feed.specs.declared.book_fault.BookFault.{BookFault}
-use Rattle.ht_feed.specs.declared.book_fault.BookFault.TheVariants.{Failed, NoMemory}
+use Rattle.ht_feed.specs.declared.book_fault.BookFault.TheVariants.{NoMemory}
 use Rattle.ht_feed.specs.Items.{Item, Begins, One, Headed, headed, jobs_of}
 use Rattle.ht_feed.specs.Dues.{Due, all_due, headed_due}
-use Rattle.ht_feed.specs.Accounts.{PutsBlock, PutsPartOf, Telling}
+use Rattle.ht_feed.specs.Accounts.{BooksJobs, Telling}
 use Rattle.ht_feed.specs.Desks.{DeskView, ReadsMore, standing}
 use Rattle.ht_feed.specs.Leading.{reads_none, tells-on}
 use Rattle.ht_feed.specs.Telling.{Seen, Tells, TellsBy, TellsPart, seen_by}
@@ -55,45 +55,45 @@ module _ {R H P : Type 0} (means : R → List ℕ → Meaning (Item H)) (at : R 
       }
 
   -- nothing was read, and a part was put of the pieces of the first jobs that are due
-  pub tells_part : (desk : DeskView R H) (source : Device ℕ) (a b : Telling H P) (fault : BookFault) (taken rest : List (Headed H))
-      → all_due desk.due ++ [] ≡ taken ++ rest → PutsPartOf a.device b.device a.pieces taken → IsLater a.device b.device
-      → (fault ≡ Failed → Rose a.device b.device) → (fault ≡ NoMemory → b.device.faults ≡ a.device.faults)
+  pub tells_part : {A : Type 0} {lent lent' : List ℕ} (desk : DeskView R H) (source : Device ℕ) (a b : Telling H P) (fault : BookFault)
+      (taken rest : List (Headed H)) → all_due desk.due ++ [] ≡ taken ++ rest
+      → BooksJobs {A = A} (Err fault) a.device b.device a.pieces b.pieces taken lent lent'
       → TellsPart (seen_by means at desk source a) (seen_by means at desk source b) fault
-  tells_part desk source a b fault taken rest all part le cause steady =
+  tells_part desk source a b fault taken rest all books =
       record {
         items = [];
         answered = taken;
         rest = rest;
         reads = reads_none (standing means at desk.reader desk.stop source);
         jobs = all;
-        part = part;
+        part = books.part;
         reads_later = later-refl source;
-        puts_later = le;
-        cause = cause;
-        steady = steady;
+        puts_later = books.faults.later;
+        cause = books.faults.cause;
+        steady = books.faults.unfailed;
       }
 
   -- nothing was read, and the pieces of the first jobs that were due were put; these are due still
-  pub tells_put : (desk : DeskView R H) (left : List (Due H)) (source : Device ℕ) (a b : Telling H P) (taken : List (Headed H))
-      → all_due desk.due ++ [] ≡ taken ++ all_due left → PutsBlock a.device b.device a.pieces b.pieces taken
-      → (a.Waits (all_due desk.due) → b.Waits (all_due left)) → IsLater a.device b.device → b.device.faults ≡ a.device.faults
+  pub tells_put : {A : Type 0} {x : A} {lent lent' : List ℕ} (desk : DeskView R H) (left : List (Due H)) (source : Device ℕ) (a b : Telling H P)
+      (taken : List (Headed H)) → all_due desk.due ++ [] ≡ taken ++ all_due left
+      → BooksJobs (Ok x) a.device b.device a.pieces b.pieces taken lent lent' → (a.Waits (all_due desk.due) → b.Waits (all_due left))
       → Tells (seen_by means at desk source a) (seen_by means at (record desk { due = left }) source b)
-  tells_put desk left source a b taken all puts waits le steady =
+  tells_put desk left source a b taken all books waits =
       record {
         items = [];
         answered = taken;
-        put = puts.0;
+        put = books.put.0;
         reads = reads_none (standing means at desk.reader desk.stop source);
         head = refl;
         jobs = all;
-        first = puts.2;
-        grows = puts.1;
+        first = books.put.2;
+        grows = books.put.1;
         waits = waits;
-        steady = steady;
+        steady = books.faults.steady;
         frames = omega arith;
         count = omega arith;
         reads_later = later-refl source;
-        puts_later = le;
+        puts_later = books.faults.later;
       }
 
   -- memory lacked before anything was read
@@ -101,29 +101,32 @@ module _ {R H P : Type 0} (means : R → List ℕ → Meaning (Item H)) (at : R 
       → TellsPart (seen_by means at old source account) (seen_by means at new after account) NoMemory
   tells_lacking old new source after account is same =
       let here = seen_by means at old source account in
+      let none : BooksJobs {A = Unit {0}} (Err NoMemory) account.device account.device account.pieces account.pieces [] [] [] =
+      record {
+        put = tt;
+        part = λ more. grows_by_part-none account.device (account.pieces more);
+        faults = record { steady = tt; cause = λ failed. cc; unfailed = λ lack. refl; later = later-refl account.device; same = refl };
+      } in
       let part : TellsPart here here NoMemory =
-      tells_part old source account account NoMemory [] (all_due old.due) (append-nil (all_due old.due))
-      (λ more. grows_by_part-none account.device (account.pieces more)) (later-refl account.device) (λ write. cc) (λ memory. refl) in
+      tells_part old source account account NoMemory [] (all_due old.due) (append-nil (all_due old.due)) none in
       subst (λ (d : DeskView R H). TellsPart here (seen_by means at d after account) NoMemory) (sym is)
       (subst (λ (s : Device ℕ). TellsPart here (seen_by means at old s account) NoMemory) (sym same) part)
 
   -- the answer to the first block was taken, and pieces were put
-  pub tells_taken : (old new : DeskView R H) (source : Device ℕ) (a b : Telling H P) → new ≡ record old { due = drop 1 old.due }
-      → PutsBlock a.device b.device a.pieces b.pieces (all_due (take 1 old.due)) → (a.Waits (all_due old.due) → b.Waits (all_due (drop 1 old.due)))
-      → IsLater a.device b.device → b.device.faults ≡ a.device.faults
-      → Tells (seen_by means at old source a) (seen_by means at new source b)
-  tells_taken old new source a b is puts waits le steady =
+  pub tells_taken : {A : Type 0} {x : A} {lent lent' : List ℕ} (old new : DeskView R H) (source : Device ℕ) (a b : Telling H P)
+      → new ≡ record old { due = drop 1 old.due } → BooksJobs (Ok x) a.device b.device a.pieces b.pieces (all_due (take 1 old.due)) lent lent'
+      → (a.Waits (all_due old.due) → b.Waits (all_due (drop 1 old.due))) → Tells (seen_by means at old source a) (seen_by means at new source b)
+  tells_taken old new source a b is books waits =
       subst (λ (d : DeskView R H). Tells (seen_by means at old source a) (seen_by means at d source b)) (sym is)
-      (tells_put old (drop 1 old.due) source a b (all_due (take 1 old.due)) (all_due-first old.due) puts waits le steady)
+      (tells_put old (drop 1 old.due) source a b (all_due (take 1 old.due)) (all_due-first old.due) books waits)
 
   -- the pieces of the first block could not be put, or not made
-  pub tells_refused : (old new : DeskView R H) (source : Device ℕ) (a b : Telling H P) (fault : BookFault) → new ≡ old
-      → PutsPartOf a.device b.device a.pieces (all_due (take 1 old.due)) → IsLater a.device b.device
-      → (fault ≡ Failed → Rose a.device b.device) → (fault ≡ NoMemory → b.device.faults ≡ a.device.faults)
+  pub tells_refused : {A : Type 0} {lent lent' : List ℕ} (old new : DeskView R H) (source : Device ℕ) (a b : Telling H P) (fault : BookFault) → new ≡ old
+      → BooksJobs {A = A} (Err fault) a.device b.device a.pieces b.pieces (all_due (take 1 old.due)) lent lent'
       → TellsPart (seen_by means at old source a) (seen_by means at new source b) fault
-  tells_refused old new source a b fault is part le cause steady =
+  tells_refused old new source a b fault is books =
       subst (λ (d : DeskView R H). TellsPart (seen_by means at old source a) (seen_by means at d source b) fault) (sym is)
-      (tells_part old source a b fault (all_due (take 1 old.due)) (all_due (drop 1 old.due)) (all_due-first old.due) part le cause steady)
+      (tells_part old source a b fault (all_due (take 1 old.due)) (all_due (drop 1 old.due)) (all_due-first old.due) books)
 
 module _ {R H P : Type 0} {means : R → List ℕ → Meaning (Item H)} {at : R → ℕ} where
   -- the desk read on, and so it has gone on from where it began

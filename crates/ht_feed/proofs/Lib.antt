@@ -1,5 +1,6 @@
 pub mod Finding
 pub mod Numbering
+pub mod Others
 pub mod Filling
 pub mod Taking
 pub mod Leads

@@ -1,10 +1,11 @@
 -- The first block due is taken.
-use Rattle.std.proofs.Common.{◌≡◌, List, [], ◌∷◌, ◌++◌, drop, take, slice_get, None, Some, ap, ◌∙◌, sym, subst, append-nil}
+use Rattle.std.proofs.Common.{◌≡◌, ℕ, List, [], ◌∷◌, ◌++◌, drop, take, slice_get, None, Some, Result, ap, ◌∙◌, sym, subst, append-nil}
 use Rattle.std.proofs.lemmas.Option.{none-some, same_Some}
 use Rattle.ht_io.specs.Devices.{Device}
 use Rattle.ht_metric.specs.Jobs.{JobView}
+use Rattle.ht_feed.specs.declared.book_fault.BookFault.{BookFault}
 use Rattle.ht_feed.specs.Items.{Headed}
-use Rattle.ht_feed.specs.Accounts.{PutsBlock, PutsPartOf}
+use Rattle.ht_feed.specs.Accounts.{BooksJobs}
 use Rattle.ht_feed.specs.Desks.{DeskView}
 use Rattle.ht_feed.specs.Dues.{Due, all_due, due_of, headed_due, jobs_in}
 
@@ -38,9 +39,8 @@ module _ {H : Type 0} where
   pub one_gone : (old new : List (Due H)) (d : Due H) → old ≡ [] → new ≡ old ++ d ∷ [] → drop 1 new ≡ []
   one_gone old new d none is = ap (λ (ds : List (Due H)). drop 1 ds) (is ∙ ap (λ (ds : List (Due H)). ds ++ d ∷ []) none)
 
-  module _ {P : Type 0} (a b : Device P) (old new : List (Headed H) → List P) where
-    pub puts_of : (due : List (Due H)) (d : Due H) → due ≡ d ∷ drop 1 due → PutsBlock a b old new (headed_due d) → PutsBlock a b old new (all_due (take 1 due))
-    puts_of due d is puts = subst (λ (hs : List (Headed H)). PutsBlock a b old new hs) (sym (first_all due d is)) puts
-
-    pub part_of : (due : List (Due H)) (d : Due H) → due ≡ d ∷ drop 1 due → PutsPartOf a b old (headed_due d) → PutsPartOf a b old (all_due (take 1 due))
-    part_of due d is part = subst (λ (hs : List (Headed H)). PutsPartOf a b old hs) (sym (first_all due d is)) part
+  -- the hits of a block were taken, which is the first one due
+  module _ {A P : Type 0} {result : Result A BookFault} {a b : Device P} {old new : List (Headed H) → List P} {lent lent' : List ℕ} where
+    pub books_of : (due : List (Due H)) (d : Due H) → due ≡ d ∷ drop 1 due → BooksJobs result a b old new (headed_due d) lent lent'
+        → BooksJobs result a b old new (all_due (take 1 due)) lent lent'
+    books_of due d is books = subst (λ (hs : List (Headed H)). BooksJobs result a b old new hs lent lent') (sym (first_all due d is)) books

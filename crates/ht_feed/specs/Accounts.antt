@@ -1,5 +1,5 @@
 -- What an account of hits puts.
-use Rattle.std.specs.Prelude.{◌≡◌, ℕ, List, ◌++◌, Result, IfErr, OnOk}
+use Rattle.std.specs.Prelude.{◌≡◌, ℕ, List, ◌++◌, Result, IfErr, OnErr, OnOk}
 use Rattle.ht_io.specs.Devices.{Device, Grows, GrowsByPart, IsLater, Rose}
 use Rattle.ht_feed.specs.declared.book_fault.BookFault.{BookFault}
 use Rattle.ht_feed.specs.declared.book_fault.BookFault.TheVariants.{Failed, NoMemory}
@@ -29,6 +29,15 @@ module _ {H P : Type 0} where
   -- the hits of the jobs of a block were taken, and the first pieces were put
   abbrev pub PutsBlock : Device P → Device P → (List (Headed H) → List P) → (List (Headed H) → List P) → List (Headed H) → Type 0
   PutsBlock before after old new jobs = (put : List P) × Grows before after put × PutsFirst old new jobs put
+
+-- What calls put that took the hits of these jobs, or of none, by their answer. `old` and `new` say what is put in all of hits
+-- that still come, before and after.
+pub record BooksJobs {A H P : Type 0} (result : Result A BookFault) (before after : Device P) (old new : List (Headed H) → List P) (jobs : List (Headed H))
+    (lent lent' : List ℕ) : Type 0 where
+  -- what was put, and what is left to put
+  pub put : OnOk result (PutsBlock before after old new jobs)
+  pub part : OnErr result (PutsPartOf before after old jobs)
+  pub faults : CountsFaults result before after lent lent'
 
 -- an account in a state: its device, what it puts in all if these hits still come, and which jobs may be due
 pub record Telling (H P : Type 0) : Type 1 where

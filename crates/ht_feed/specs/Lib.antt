@@ -1,6 +1,7 @@
 pub mod Limits
 pub mod Items
 pub mod Numbers
+pub mod Others
 pub mod OwnNumbers
 pub mod Reading
 pub mod Dues

@@ -4,10 +4,9 @@ use Rattle.ht_io.specs.Devices.{Device, Takes, TakesAll, Grows, GrowsByPart, Ros
 use Rattle.ht_io.specs.declared.faults.FormatFault.{FormatFault}
 use Rattle.ht_io.specs.declared.faults.Kind.TheVariants.{Truncated}
 use Rattle.ht_fields.specs.Readers.{ReaderView, EndsAt, IsEarly}
-use Rattle.ht_runs.specs.declared.faults.StopFault.{StopFault}
-use Rattle.ht_runs.specs.declared.faults.StopFault.TheVariants.{Read, Write, NoMemory}
+use Rattle.ht_runs.specs.declared.faults.RunFault.{RunFault}
+use Rattle.ht_runs.specs.declared.faults.RunFault.TheVariants.{Format, Read, Write, NoMemory}
 use Rattle.ht_feed.specs.declared.ended.Ended.{Ended}
-use Rattle.ht_feed.specs.declared.ended.Ended.TheVariants.{Done, Refused}
 use Rattle.ht_fields.specs.Meanings.{Meaning}
 use Rattle.ht_feed.specs.Accounts.{Telling}
 use Rattle.ht_feed.specs.Reading.{view}
@@ -21,12 +20,12 @@ pieces_of pieces head start octets = pieces (headed head (start.means octets).it
 -- device that they are put into, before and after
 module _ {H P : Type 0} (start : ReaderView (Item H)) (pieces : List ℕ → List P) (source' : Device ℕ) (device device' : Device P) where
   -- all octets that were left are a whole input with this number of frames and of jobs, and its pieces were put
-  pub record EndsWhole (frames jobs : ℕ) : Type 0 where
+  pub record EndsWhole (ended : Ended) : Type 0 where
     pub taken : List ℕ
     pub octets : TakesAll start.source source' taken
     pub whole : (start.means taken).fault ≡ None
-    pub frames_are : frames ≡ frames_of (start.means taken).items
-    pub jobs_are : jobs ≡ length (jobs_of (start.means taken).items)
+    pub frames_are : ended.frames ≡ frames_of (start.means taken).items
+    pub jobs_are : ended.jobs ≡ length (jobs_of (start.means taken).items)
     pub put : Grows device device' (pieces taken)
 
   -- the octets end with the field at fault, or are too few
@@ -57,13 +56,9 @@ module _ {H P : Type 0} (start : ReaderView (Item H)) (pieces : List ℕ → Lis
     pub put : GrowsByPart device device' (pieces taken)
     pub of_all : IfSome start.source.known (λ all. GrowsByPart device device' (pieces all))
 
-  -- what a run came to that ended
-  abbrev pub EndsAs : Ended → Type 0
-  EndsAs (Done frames jobs) = EndsWhole frames jobs
-  EndsAs (Refused fault) = EndsRefused fault
-
-  -- what it came to where it stopped; a failed device has counted it
-  abbrev pub StopsAs : StopFault → Type 0
+  -- what a run came to that answers with a fault; a failed device has counted it
+  abbrev pub StopsAs : RunFault → Type 0
+  StopsAs (Format fault) = EndsRefused fault
   StopsAs Read = EndsBroken × Rose start.source source'
   StopsAs Write = EndsPartly × Rose device device'
   StopsAs NoMemory = EndsPartly
@@ -71,8 +66,8 @@ module _ {H P : Type 0} (start : ReaderView (Item H)) (pieces : List ℕ → Lis
 -- What a run came to, from a reader that means this and the head that stands for the one that came last: the source and
 -- the account, before and after, and the answer.
 abbrev pub Comes : {R H P : Type 0} → (R → List ℕ → Meaning (Item H)) → (R → ℕ) → R → H → Device ℕ → Device ℕ → Telling H P → Telling H P
-    → Result Ended StopFault → Type 0
+    → Result Ended RunFault → Type 0
 Comes means at reader head source source' a b result =
     let start = view means at reader source in
     let pieces = pieces_of a.pieces head start in
-    MatchResult result (EndsAs start pieces source' a.device b.device) (StopsAs start pieces source' a.device b.device)
+    MatchResult result (EndsWhole start pieces source' a.device b.device) (StopsAs start pieces source' a.device b.device)

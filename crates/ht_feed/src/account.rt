@@ -1,9 +1,9 @@
 //! What becomes of hits.
-ghost use Rattle.std.specs.Prelude.{◌≡◌, ℕ, List, [], ◌∷◌, ◌++◌, drop, slice_get, Some, OnErr, OnOk};
+ghost use Rattle.std.specs.Prelude.{◌≡◌, ℕ, List, [], ◌∷◌, ◌++◌, drop, slice_get, Some, OnOk};
 ghost use Rattle.ht_io.specs.Devices.{Device};
 ghost use Rattle.ht_feed.specs.Items.{Headed};
 ghost use Rattle.ht_feed.specs.Dues.{all_due, due_of, headed_due};
-ghost use Rattle.ht_feed.specs.Accounts.{CountsFaults, PutsBlock, PutsPartOf};
+ghost use Rattle.ht_feed.specs.Accounts.{BooksJobs};
 
 use crate::answer::Answer;
 use crate::book_fault::BookFault;
@@ -48,13 +48,9 @@ pub trait Account<R: BlockReader> {
         requires right { Self.Answer.answers answer.now (R.Block.jobs block.now) }
 
         // What was put, and what is left to put.
-        ensures put { OnOk result (PutsBlock (shown self.old) (shown self.new) (pieces self.old) (pieces self.new)
-            (headed_due (due_of head.now (R.Block.jobs block.now)))) }
-        ensures part { OnErr result (PutsPartOf (shown self.old) (shown self.new) (pieces self.old) (headed_due (due_of head.now (R.Block.jobs block.now)))) }
-        ensures waits { OnOk result (waits self.old (all_due due.now.items) → waits self.new (all_due (drop 1 due.now.items))) }
-
-        // It is the same device, which has counted a fault exactly where it failed.
-        ensures faults { CountsFaults result (shown self.old) (shown self.new) (lent self.old) (lent self.new) };
+        ensures books { BooksJobs result (shown self.old) (shown self.new) (pieces self.old) (pieces self.new)
+            (headed_due (due_of head.now (R.Block.jobs block.now))) (lent self.old) (lent self.new) }
+        ensures waits { OnOk result (waits self.old (all_due due.now.items) → waits self.new (all_due (drop 1 due.now.items))) };
 
     /// What is kept back may wait while more jobs are due.
     ghost more_due: { (a : Self) (due : List (Headed R.Head)) (h : Headed R.Head) → waits a due → waits a (due ++ h ∷ []) };

@@ -2,7 +2,7 @@
 ghost use Rattle.std.specs.Prelude.{◌≡◌};
 
 use ht_io::Failed;
-use ht_runs::StopFault;
+use ht_runs::RunFault;
 use std::alloc::AllocError;
 use thiserror::Error;
 
@@ -37,15 +37,15 @@ impl From<Failed> for BookFault {
     }
 }
 
-impl From<BookFault> for StopFault {
+impl From<BookFault> for RunFault {
     ghost use Rattle.ht_feed.specs.Stops.{fault_of};
 
-    ghost from_gives = { λ fault stop. stop ≡ fault_of fault };
+    ghost from_gives = { λ booked fault. fault ≡ fault_of booked };
 
-    fn from(fault: BookFault) -> StopFault {
-        match fault {
-            BookFault::Failed => StopFault::Write,
-            BookFault::NoMemory => StopFault::NoMemory,
+    fn from(booked: BookFault) -> RunFault {
+        match booked {
+            BookFault::Failed => RunFault::Write,
+            BookFault::NoMemory => RunFault::NoMemory,
         }
     }
 }

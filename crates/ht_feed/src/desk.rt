@@ -46,10 +46,14 @@ impl<R: BlockReader + Drop> Model for Desk<R> {
 }
 
 impl<R: BlockReader + Drop> Desk<R> {
-    /// A desk in front of a reader that gave nothing yet, with room for this many blocks that are due. Where more become
-    /// due it takes more memory. Until a head comes, `head` stands for the one that came last. The only error is lack of
-    /// memory.
-    pub fn new(alloc: Global, reader: R, head: R::Head, room: u16) -> Result<Desk<R>, AllocError>
+    /// A desk in front of a reader that gave nothing yet, with memory for `capacity` blocks that are due. Where more become
+    /// due it takes more. Until a head comes, `head` stands for the one that came last. The only error is lack of memory.
+    pub fn new(
+        alloc: Global,
+        reader: R,
+        head: R::Head,
+        capacity: u16,
+    ) -> Result<Desk<R>, AllocError>
         requires fresh { IsFreshReader (R.counts reader) }
         ensures { IfOk result (λ desk. desk ≡ desk_view reader None head 0 [] 0) }
     {
@@ -58,7 +62,7 @@ impl<R: BlockReader + Drop> Desk<R> {
             stop: None,
             head,
             frames: 0,
-            due: HeapCircularBuffer::with_capacity(alloc, usize::from(room))?,
+            due: HeapCircularBuffer::with_capacity(alloc, usize::from(capacity))?,
             count: 0,
         })
     }

@@ -1,6 +1,6 @@
 //! What a feed asks of its desk.
 ghost use Rattle.std.specs.Prelude.{◌≡◌, ◌+◌, ◌≤◌, None, Some, take, drop, slice_get, IfNone, IfOk, IfSome, OnErr, OnOk};
-ghost use Rattle.ht_feed.specs.Accounts.{CountsFaults, PutsBlock, PutsPartOf};
+ghost use Rattle.ht_feed.specs.Accounts.{BooksJobs};
 ghost use Rattle.ht_feed.specs.Desks.{AddsBlock, AddsNone, DeskView, IsSoundDesk, ReadsMore};
 ghost use Rattle.ht_feed.specs.Dues.{all_due, count_in, jobs_in};
 
@@ -41,16 +41,12 @@ pub trait Desking<R: BlockReader + Drop> {
         requires first { slice_get (jobs_in (seen self.old).due) 0 ≡ Some (R.Block.jobs block.now) }
 
         // What was put, and what is left to put.
-        ensures put { OnOk result (PutsBlock (A.shown account.old) (A.shown account.new) (A.pieces account.old) (A.pieces account.new)
-            (all_due (take 1 (seen self.old).due))) }
-        ensures part { OnErr result (PutsPartOf (A.shown account.old) (A.shown account.new) (A.pieces account.old) (all_due (take 1 (seen self.old).due))) }
+        ensures books { BooksJobs result (A.shown account.old) (A.shown account.new) (A.pieces account.old) (A.pieces account.new)
+            (all_due (take 1 (seen self.old).due)) (A.lent account.old) (A.lent account.new) }
         ensures waits { OnOk result (A.waits account.old (all_due (seen self.old).due) → A.waits account.new (all_due (drop 1 (seen self.old).due))) }
 
         // What is due.
         ensures due { OnOk result (seen self.new ≡ record (seen self.old) { due = drop 1 (seen self.old).due }) }
         ensures stays { OnErr result (seen self.new ≡ seen self.old) }
-        ensures sound { IsSoundDesk R.counts (seen self.new) }
-
-        // The account's device is the same, and has counted a fault exactly where it failed.
-        ensures faults { CountsFaults result (A.shown account.old) (A.shown account.new) (A.lent account.old) (A.lent account.new) };
+        ensures sound { IsSoundDesk R.counts (seen self.new) };
 }

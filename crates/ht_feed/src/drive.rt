@@ -8,7 +8,7 @@ use crate::answer::Work;
 use crate::book_fault::BookFault;
 use crate::feed::BlockFeed;
 use crate::jobs::Jobs;
-use ht_runs::StopFault;
+use ht_runs::RunFault;
 use thiserror::Error;
 
 /// Why a drive ended before its feed did.
@@ -25,15 +25,15 @@ pub enum DriveFault<F> {
     Work,
 }
 
-impl From<DriveFault<BookFault>> for StopFault {
-    ghost use Rattle.ht_feed.specs.Stops.{stop_fault_of};
+impl From<DriveFault<BookFault>> for RunFault {
+    ghost use Rattle.ht_feed.specs.Stops.{fault_of_drive};
 
-    ghost from_gives = { λ fault stop. stop ≡ stop_fault_of fault };
+    ghost from_gives = { λ driven fault. fault ≡ fault_of_drive driven };
 
-    fn from(fault: DriveFault<BookFault>) -> StopFault {
-        match fault {
-            DriveFault::Feed(fault) => StopFault::from(fault),
-            DriveFault::NoMemory | DriveFault::Work => StopFault::NoMemory,
+    fn from(driven: DriveFault<BookFault>) -> RunFault {
+        match driven {
+            DriveFault::Feed(fault) => RunFault::from(fault),
+            DriveFault::NoMemory | DriveFault::Work => RunFault::NoMemory,
         }
     }
 }

@@ -1,11 +1,10 @@
-//! How a run ended.
-use ht_io::FormatFault;
+//! What an input had that was read to its end.
 
-/// How the reading of an input ended, where all was put that had to be.
+/// What a whole input had, where all was put that had to be.
 #[derive(Clone, Copy, Debug, PartialEq, Eq)]
-pub enum Ended {
-    /// The input is whole, with this number of frames and of jobs.
-    Done { frames: u64, jobs: u64 },
-    /// The input isn't whole; this is its first fault.
-    Refused(FormatFault),
+pub struct Ended {
+    /// The number of its frames.
+    pub frames: u64,
+    /// The number of their jobs.
+    pub jobs: u64,
 }

@@ -15,7 +15,7 @@
 //! A block may be [one job](OneJob), whose answer is [one hit](OneHit); [`Hits`] are the answers of the [`Detector`]; a
 //! [`Meter`] puts an octet for each; and a [`Gate`] is called before and after a job, by the thread that runs it. So for a
 //! frame of two BPSK symbols with 56 subcarriers in one spatial stream, whose diagonals are 10 and whose samples are 0,
-//! [`tell_alone`] puts 112 octets of 100, whatever the blocks are, and answers `Done { frames: 1, jobs: 112 }`.
+//! [`tell_alone`] puts 112 octets of 100, whatever the blocks are, and answers `Ended { frames: 1, jobs: 112 }`.
 #![tactic(auto)]
 
 mod account;

@@ -17,28 +17,28 @@ use crate::ended::Ended;
 use crate::reader::BlockReader;
 use crate::stop::Stop;
 use ht_io::Source;
-use ht_runs::StopFault;
+use ht_runs::RunFault;
 use std::alloc::Global;
 
 /// How the reading of an input ended whose drive answered this, at `Ok` whatever.
 pub fn end_of<R: BlockReader + Drop, T: Drop>(
     desk: &Desk<R>,
     driven: Result<T, DriveFault<BookFault>>,
-) -> Result<Ended, StopFault>
+) -> Result<Ended, RunFault>
     requires stopped { OnOk driven (is_some desk.now.stop ≡ true) }
     ensures { result ≡ ended_by desk.now.stop desk.now.frames desk.now.count driven }
 {
     if let Err(fault) = driven {
-        return Err(StopFault::from(fault));
+        return Err(RunFault::from(fault));
     }
     match desk.stop() {
-        Some(Stop::Whole) => Ok(Ended::Done {
+        Some(Stop::Whole) => Ok(Ended {
             frames: desk.frames(),
             jobs: desk.count(),
         }),
-        Some(Stop::Refused(fault)) => Ok(Ended::Refused(fault)),
-        Some(Stop::Broken) => Err(StopFault::Read),
-        Some(Stop::Lacking) => Err(StopFault::NoMemory),
+        Some(Stop::Refused(fault)) => Err(RunFault::Format(fault)),
+        Some(Stop::Broken) => Err(RunFault::Read),
+        Some(Stop::Lacking) => Err(RunFault::NoMemory),
         None => unreachable!(),
     }
 }
@@ -80,9 +80,9 @@ fn run_desk<R: BlockReader + Drop, S: Source, A: Account<R>, W: Work<R::Block, A
 /// What is put for a list of octets is what the account shows at the call, of the jobs that the reader shows. Until a
 /// head comes, `head` stands for the one that came last.
 ///
-/// It answers `Done` for a whole input, and `Refused` with the first fault of another. It refuses with `Read` where the
-/// source failed, having put the pieces of what was read whole; with `Write` where the account's device failed, also if
-/// the source did; and with `NoMemory`. In the last two cases a part of the pieces was put.
+/// It answers the numbers of frames and of jobs of a whole input. It refuses with the first fault of another, or with `Read`
+/// where the source failed, having put the pieces of what was read whole; with `Write` where the account's device failed,
+/// also if the source did; and with `NoMemory`. In the last two cases a part of the pieces was put.
 pub fn tell_alone<
     R: BlockReader + Drop,
     S: Source,
@@ -96,7 +96,7 @@ pub fn tell_alone<
     work: &W,
     source: &mut S,
     account: &mut A,
-) -> Result<Ended, StopFault>
+) -> Result<Ended, RunFault>
     requires window { IsWindowSize window }
     requires fresh { IsFreshReader (R.counts reader) }
     requires rests { A.waits account.old [] }

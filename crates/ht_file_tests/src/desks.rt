@@ -10,7 +10,7 @@ use ht_feed::{BlockReader, Came, Detector, Ended, Meter, Shared, tell_alone};
 use ht_io::{FormatFault, GrowSink, Kind};
 use ht_legacy_blocks::{LegacyBlock, LegacyFrameHead, LegacyReader};
 use ht_rate::{Rate, RateFault};
-use ht_runs::StopFault;
+use ht_runs::RunFault;
 use ht_soft_blocks::HalvesReader;
 use std::alloc::{AllocError, Global};
 use std::process::Abort;
@@ -20,7 +20,7 @@ use std::test::Fail;
 type Parts = [(u16, &'static [u8]); 3];
 
 /// How a run of a capture ends, and what is put: an octet for each job.
-type Told = (Result<Ended, StopFault>, Vec<u8>);
+type Told = (Result<Ended, RunFault>, Vec<u8>);
 
 /// Runs a capture with at most `window` jobs due.
 fn told<R: BlockReader + Drop>(
@@ -43,8 +43,8 @@ fn told<R: BlockReader + Drop>(
 }
 
 /// The answer of a run that went through one frame of this number of jobs.
-fn done(jobs: u64) -> Result<Ended, StopFault> {
-    Ok(Ended::Done { frames: 1, jobs })
+fn done(jobs: u64) -> Result<Ended, RunFault> {
+    Ok(Ended { frames: 1, jobs })
 }
 
 /// The head that stands for none.
@@ -139,7 +139,7 @@ fn ends(
     alloc: Global,
     octets: Vec<u8>,
     window: u16,
-    wanted: Result<Ended, StopFault>,
+    wanted: Result<Ended, RunFault>,
     count: usize,
 ) -> Result<(), Fail> {
     let mut distances = [0u8; 104];
@@ -158,8 +158,8 @@ fn ends(
 }
 
 // That a capture has this fault.
-fn refused(kind: Kind, offset: u64) -> Result<Ended, StopFault> {
-    Ok(Ended::Refused(FormatFault { kind, offset }))
+fn refused(kind: Kind, offset: u64) -> Result<Ended, RunFault> {
+    Err(RunFault::Format(FormatFault { kind, offset }))
 }
 
 // Job by job, in blocks of 50 and 2 jobs, and in blocks of a whole symbol; with an octet behind the capture, and

@@ -412,7 +412,7 @@ symbols_counted = record {
   count = is_count;
   leads = λ left f some is. leads_by symbols (frame_due left) (frame_due (left - 1)) (symbols_octets f) (f ∷ []) (route_symbols left f some is);
   short = λ f is. omega (arith, length_symbols f f.points refl, points_few f.rate f.length f.points is);
-  room = omega arith;
+  bound = omega arith;
 }
 
 -- what holds of files of symbols

@@ -57,7 +57,7 @@ fn add_points(
     ensures fitting { AreFitting rate.now points.new.items }
     ensures added { OnOk result (AddsPoints points.old.items points.new.items octets.now) }
     ensures misfit { IfErr result (MeetsMisfit rate.now at points.old.items points.new.items octets.now) }
-    ensures room { vec_capacity points.new ≡ vec_capacity points.old }
+    ensures capacity { vec_capacity points.new ≡ vec_capacity points.old }
 {
     for place in 0..octets.len() / 2 {
         let point = point_of([octets[2 * place], octets[2 * place + 1]]);
@@ -91,7 +91,7 @@ fn symbol<S: Source>(
     ensures failed { (left len : ℕ) → length points.old.items + carriers_of rate.now * streams_of rate.now ≤ points_of rate.now len
         → IfErr result (EndsEarly (reader_in symbols (behind_head (points_due left rate.now len points.old.items)) at (S.shown source.old))
         (S.shown source.new)) }
-    ensures room { vec_capacity points.new ≡ vec_capacity points.old }
+    ensures capacity { vec_capacity points.new ≡ vec_capacity points.old }
     ensures later { IsLater (S.shown source.old) (S.shown source.new) }
 {
     match read_front(source, block) {

@@ -9,11 +9,10 @@ use Rattle.ht_metric.specs.declared.found.Found.{Found}
 use Rattle.ht_metric.specs.declared.place.Place.{Place}
 use Rattle.ht_metric.specs.Jobs.{JobView, near}
 use Rattle.ht_feed.specs.declared.book_fault.BookFault.{BookFault}
-use Rattle.ht_feed.specs.Accounts.{PutsBlock, PutsPartOf}
+use Rattle.ht_feed.specs.Accounts.{BooksJobs, PutsBlock, PutsPartOf}
 use Rattle.ht_feed.specs.Dues.{IsPlaceAt}
 use Rattle.ht_feed.specs.Items.{Headed, headed_of}
 use Rattle.ht_feed.specs.Leading.{part-on, puts-on}
-use Rattle.ht_frames.specs.Gathering.{BooksJobs}
 
 pub err_so : {A E : Type 0} (result : Result A E) (X : Type 0) → X → OnErr result X
 err_so (Ok x) X holds = tt

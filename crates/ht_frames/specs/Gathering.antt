@@ -3,29 +3,23 @@ use Rattle.std.specs.Prelude.{◌≡◌, ℕ, Bool, true, false, Result, OnErr, 
 use Rattle.std.specs.List.{flat_map}
 use Rattle.std.proofs.Common.{ap, refl, sym, ◌∙◌}
 use Rattle.std.proofs.lemmas.Option.{none-some}
-use Rattle.ht_io.specs.Devices.{Device, Grows}
+use Rattle.ht_io.specs.Devices.{Device, Grows, GrowsByPart}
 use Rattle.ht_metric.specs.Jobs.{JobView, near}
 use Rattle.ht_metric.specs.declared.found.Found.{Found}
 use Rattle.ht_metric.specs.declared.place.Place.{Place}
 use Rattle.ht_feed.specs.declared.book_fault.BookFault.{BookFault}
-use Rattle.ht_feed.specs.Accounts.{CountsFaults, PutsBlock, PutsPartOf}
+use Rattle.ht_feed.specs.Accounts.{BooksJobs, CountsFaults}
 use Rattle.ht_feed.specs.Items.{Headed, headed_of}
 
--- What calls that took the hits of these jobs booked, by their answer. `old` and `new` say what is still to be booked in all,
--- before and after, where some jobs come. With Ok some pieces were put, and whatever jobs come behind these, what was to be
--- booked of all of them is those pieces and then what is still to be booked. With an error a part of it was put.
-pub record BooksJobs {A H P : Type 0} (result : Result A BookFault) (before after : Device P) (old new : List (Headed H) → List P) (jobs : List (Headed H))
-    (lent lent' : List ℕ) : Type 0 where
-  pub put : OnOk result (PutsBlock before after old new jobs)
-  pub part : OnErr result (PutsPartOf before after old jobs)
+-- What calls that book these pieces put, by their answer.
+pub record BooksPieces {A P : Type 0} (result : Result A BookFault) (before after : Device P) (pieces : List P) (lent lent' : List ℕ) : Type 0 where
+  pub put : OnOk result (Grows before after pieces)
+  pub part : OnErr result (GrowsByPart before after pieces)
   pub faults : CountsFaults result before after lent lent'
 
--- What was found for a job was taken, and booked as BooksJobs says: for each job with this place for which this was found, of a
--- frame with this head.
-abbrev pub BooksFound : {A H P : Type 0} → Result A BookFault → Device P → Device P → (List (Headed H) → List P) → (List (Headed H) → List P)
-    → H → Place → Found → List ℕ → List ℕ → Type 0
-BooksFound result before after old new head place found lent lent' =
-    (job : JobView) → job.place ≡ place → found ≡ near job → BooksJobs result before after old new (headed_of head job ∷ []) lent lent'
+-- What is said of jobs holds of any one job with this place for which this was found, of a frame with this head.
+abbrev pub OfFound : {H : Type 0} → H → Place → Found → (List (Headed H) → Type 0) → Type 0
+OfFound head place found Said = (job : JobView) → job.place ≡ place → found ≡ near job → Said (headed_of head job ∷ [])
 
 -- the result of a frame, where its last job came
 abbrev pub finished : {T : Type 0} → Bool → T → List T
@@ -61,6 +55,14 @@ module _ {W T P : Type 0} (result : W → T) (booked : T → List P) where
   -- what is booked in all, where these frames are whole and the jobs that still come give results of their own
   abbrev pub booked_behind : {H : Type 0} → List W → (List (Headed H) → List T) → List (Headed H) → List P
   booked_behind whole results jobs = flat_map booked (map result whole ++ results jobs)
+
+  -- BooksJobs in a book of K, which shows this device and to which these borrows lead, where results of whole frames are still to be
+  -- booked: the book, these frames, and the results of the jobs that still come, before and after.
+  module _ {K : Type 0} (shown : K → Device P) (lent : K → List ℕ) where
+    abbrev pub GathersJobs : {A H : Type 0} → Result A BookFault → K → K → List W → List W → (List (Headed H) → List T) → (List (Headed H) → List T)
+        → List (Headed H) → Type 0
+    GathersJobs answer book book' whole whole' old new jobs =
+        BooksJobs answer (shown book) (shown book') (booked_behind whole old) (booked_behind whole' new) jobs (lent book) (lent book')
 
 -- where a job is due, some are
 pub some_due : {X : Type 0} (x : X) (xs : List X) → x ∷ xs ≡ [] → ⊥

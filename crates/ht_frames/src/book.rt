@@ -1,8 +1,8 @@
 //! Where the results of frames go.
 ghost use Rattle.std.specs.Prelude.{◌≡◌, ◌∷◌, [], ℕ, List, Option, OnErr, OnOk};
-ghost use Rattle.ht_io.specs.Devices.{Device, Grows, GrowsByPart};
+ghost use Rattle.ht_io.specs.Devices.{Device};
 ghost use Rattle.ht_io.specs.Pieces.{KnownGrown};
-ghost use Rattle.ht_feed.specs.Accounts.{CountsFaults};
+ghost use Rattle.ht_frames.specs.Gathering.{BooksPieces};
 
 use ht_feed::BookFault;
 
@@ -26,13 +26,9 @@ pub trait Book<T> {
     /// Books a result behind the others. A refusal leaves a part of its pieces there, and the results that are kept as
     /// they were.
     fn frame(&mut self, frame: T) -> Result<(), BookFault>
-        ensures grown { OnOk result (Grows (shown self.old) (shown self.new) (booked frame)) }
-        ensures part { OnErr result (GrowsByPart (shown self.old) (shown self.new) (booked frame)) }
+        ensures books { BooksPieces result (shown self.old) (shown self.new) (booked frame) (lent self.old) (lent self.new) }
 
         // A result is kept whole, or not at all.
         ensures kept { OnOk result (KnownGrown (results self.old) (results self.new) (frame ∷ [])) }
-        ensures unkept { OnErr result (results self.new ≡ results self.old) }
-
-        // It is the same device, which has counted a fault exactly where the answer is Failed.
-        ensures faults { CountsFaults result (shown self.old) (shown self.new) (lent self.old) (lent self.new) };
+        ensures unkept { OnErr result (results self.new ≡ results self.old) };
 }

@@ -2,7 +2,7 @@
 ghost use Rattle.std.specs.Prelude.{◌≡◌, ◌-◌, ◌^◌, ◌<◌, ◌∷◌, [], true, drop};
 ghost use Rattle.ht_feed.specs.Dues.{all_due, due_of, headed_due};
 ghost use Rattle.ht_feed.specs.Limits.{IsCrewSize};
-ghost use Rattle.ht_frames.specs.Gathering.{BooksFound, BooksJobs, WaitForJobs, behind_one, booked_behind, none_behind, wait_on};
+ghost use Rattle.ht_frames.specs.Gathering.{GathersJobs, OfFound, WaitForJobs, behind_one, booked_behind, none_behind, wait_on};
 
 use crate::book::Book;
 use crate::decoding::Decoding;
@@ -107,9 +107,8 @@ fn finish_frame<R: Threads + Wait, U: UnderWay, B: Book<<U::Whole as WholeFrame>
     book: &mut B,
 ) -> Result<(), BookFault>
     requires whole { U.is_whole under_way.old }
-    ensures { BooksJobs result (B.shown book.old) (B.shown book.new)
-        (booked_behind U.Whole.result_of B.booked queue.old.items (behind_one (U.comes_to under_way.old) (U.results under_way.old)))
-        (booked_behind U.Whole.result_of B.booked queue.new.items (U.results under_way.new)) [] (B.lent book.old) (B.lent book.new) }
+    ensures { GathersJobs U.Whole.result_of B.booked B.shown B.lent result book.old book.new queue.old.items queue.new.items
+        (behind_one (U.comes_to under_way.old) (U.results under_way.old)) (U.results under_way.new) [] }
 {
     let frame = under_way.leave(by.alloc);
     decode(by.rt, by.alloc, by.frames, queue, frame, by.keep > 0)?;
@@ -127,10 +126,8 @@ fn take_found<R: Threads + Wait, U: UnderWay, B: Book<<U::Whole as WholeFrame>::
     found: &Found,
 ) -> Result<(), BookFault>
     requires below { found.now.distance < 2 ^ 66 }
-    ensures { BooksFound result (B.shown book.old) (B.shown book.new)
-        (booked_behind U.Whole.result_of B.booked queue.old.items (U.results under_way.old))
-        (booked_behind U.Whole.result_of B.booked queue.new.items (U.results under_way.new))
-        head.now place found.now (B.lent book.old) (B.lent book.new) }
+    ensures { OfFound head.now place found.now (GathersJobs U.Whole.result_of B.booked B.shown B.lent result book.old book.new
+        queue.old.items queue.new.items (U.results under_way.old) (U.results under_way.new)) }
 {
     if under_way.take(by.alloc, head, place, found)? {
         finish_frame(by, under_way, queue, book)
@@ -160,10 +157,8 @@ pub fn gather_block<
     answer: &U::Answer,
 ) -> Result<(), BookFault>
     requires right { U.Answer.answers answer.now (J.jobs block.now) }
-    ensures { BooksJobs result (B.shown book.old) (B.shown book.new)
-        (booked_behind U.Whole.result_of B.booked queue.old.items (U.results under_way.old))
-        (booked_behind U.Whole.result_of B.booked queue.new.items (U.results under_way.new)) (headed_due (due_of head.now (J.jobs block.now)))
-        (B.lent book.old) (B.lent book.new) }
+    ensures { GathersJobs U.Whole.result_of B.booked B.shown B.lent result book.old book.new queue.old.items queue.new.items
+        (U.results under_way.old) (U.results under_way.new) (headed_due (due_of head.now (J.jobs block.now))) }
 {
     let by = Decoders {
         rt,

@@ -1,8 +1,8 @@
 //! Whole frames are decoded while more jobs come, and their results are booked in order.
 ghost use Rattle.std.specs.Prelude.{◌≡◌, ◌≤◌, ◌∷◌, [], ◌++◌, false, None, length, option_to_list, IfOk, OnErr, OnOk};
-ghost use Rattle.ht_io.specs.Devices.{Grows, GrowsByPart};
+ghost use Rattle.ht_io.specs.Devices.{GrowsByPart};
 ghost use Rattle.ht_feed.specs.Accounts.{CountsFaults};
-ghost use Rattle.ht_frames.specs.Gathering.{BooksFirst, booked_whole};
+ghost use Rattle.ht_frames.specs.Gathering.{BooksFirst, BooksPieces, booked_whole};
 
 use crate::book::Book;
 use crate::decoding::Decoding;
@@ -93,9 +93,7 @@ fn book_one<R: Wait, W: WholeFrame + Drop, B: Book<W::Result>>(
     frame: Decoding<W>,
     book: &mut B,
 ) -> Result<(), BookFault>
-    ensures put { OnOk result (Grows (B.shown book.old) (B.shown book.new) (B.booked (W.result_of frame))) }
-    ensures part { OnErr result (GrowsByPart (B.shown book.old) (B.shown book.new) (B.booked (W.result_of frame))) }
-    ensures faults { CountsFaults result (B.shown book.old) (B.shown book.new) (B.lent book.old) (B.lent book.new) }
+    ensures { BooksPieces result (B.shown book.old) (B.shown book.new) (B.booked (W.result_of frame)) (B.lent book.old) (B.lent book.new) }
 {
     let result = frame.finish(rt, frames)?;
     book.frame(result)?;

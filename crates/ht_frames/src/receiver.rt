@@ -1,10 +1,9 @@
 //! An account that books the result of each frame.
-ghost use Rattle.std.specs.Prelude.{◌≡◌, ◌^◌, ◌<◌, ◌∷◌, List, OnErr, OnOk};
-ghost use Rattle.ht_io.specs.Devices.{Grows, GrowsByPart};
-ghost use Rattle.ht_feed.specs.Accounts.{CountsFaults};
+ghost use Rattle.std.specs.Prelude.{◌≡◌, ◌^◌, ◌<◌, ◌∷◌, List};
+ghost use Rattle.ht_feed.specs.Accounts.{BooksJobs};
 ghost use Rattle.ht_feed.specs.Dues.{AreHits, due_of, headed_due};
 ghost use Rattle.ht_feed.specs.Items.{Headed};
-ghost use Rattle.ht_frames.specs.Gathering.{BooksFound, BooksJobs, booked_in, none_booked};
+ghost use Rattle.ht_frames.specs.Gathering.{BooksPieces, OfFound, booked_in, none_booked};
 
 use crate::book::Book;
 use crate::under_way::UnderWay;
@@ -48,9 +47,7 @@ fn book_whole<U: UnderWay, B: Book<<U::Whole as WholeFrame>::Result>>(
 ) -> Result<(), BookFault>
     requires whole { U.is_whole under_way.old }
     ensures kept { (more : List (Headed U.Head)) → U.results under_way.new more ≡ U.results under_way.old more }
-    ensures put { OnOk result (Grows (B.shown book.old) (B.shown book.new) (B.booked (U.comes_to under_way.old))) }
-    ensures part { OnErr result (GrowsByPart (B.shown book.old) (B.shown book.new) (B.booked (U.comes_to under_way.old))) }
-    ensures faults { CountsFaults result (B.shown book.old) (B.shown book.new) (B.lent book.old) (B.lent book.new) }
+    ensures books { BooksPieces result (B.shown book.old) (B.shown book.new) (B.booked (U.comes_to under_way.old)) (B.lent book.old) (B.lent book.new) }
 {
     let result = under_way.decode(alloc)?;
     book.frame(result)?;
@@ -68,9 +65,8 @@ fn take_found<U: UnderWay, B: Book<<U::Whole as WholeFrame>::Result>>(
     found: &Found,
 ) -> Result<(), BookFault>
     requires below { found.now.distance < 2 ^ 66 }
-    ensures { BooksFound result (B.shown book.old) (B.shown book.new)
-        (booked_in B.booked (U.results under_way.old)) (booked_in B.booked (U.results under_way.new))
-        head.now place found.now (B.lent book.old) (B.lent book.new) }
+    ensures { OfFound head.now place found.now (λ jobs. BooksJobs result (B.shown book.old) (B.shown book.new)
+        (booked_in B.booked (U.results under_way.old)) (booked_in B.booked (U.results under_way.new)) jobs (B.lent book.old) (B.lent book.new)) }
 {
     if under_way.take(alloc, head, place, found)? {
         book_whole(alloc, under_way, book)

@@ -75,10 +75,10 @@ AreLostBelow r erased lost index =
     (m : ℕ) → m < data_carriers_of r → index_of r (Data m) < index → slice_index_or lost m false ≡ is_lost r erased m
 
 -- a loop has the first places of a share
-pub record ListsPlaces (r : Rate) (erased j i count : ℕ) (places : List LabelBit) (len capacity : ℕ) : Type 0 where
+pub record ListsPlaces (r : Rate) (erased j i count : ℕ) (places : List LabelBit) (len space : ℕ) : Type 0 where
   pub items : places ≡ label_bits_to r erased j i
   pub len_is : len ≡ i
-  pub room : capacity ≡ count
+  pub capacity : space ≡ count
 
 -- an input without its tail of six bits
 abbrev pub untailed : List Bool → List Bool

@@ -136,7 +136,7 @@ impl Share {
             ≡ map (known_at (L.known labels.now) self.now.rate self.now.erased self.now.encoder) (range_with_len 0 (symbol * share_of self.now.rate)) }
         ensures items { bits.new.items
             ≡ map (known_at (L.known labels.now) self.now.rate self.now.erased self.now.encoder) (range_with_len 0 (symbol * share_of self.now.rate + count)) }
-        ensures room { vec_capacity bits.new ≡ vec_capacity bits.old }
+        ensures capacity { vec_capacity bits.new ≡ vec_capacity bits.old }
     {
         let places = self.places.as_slice();
         let per_symbol = usize::from(self.rate.data_carriers()) * usize::from(self.rate.streams());

@@ -26,8 +26,8 @@ pub(crate) fn stream_place(rate: &Rate, encoder: u8, i: u32) -> (u8, u16)
 {
     let encoders = u32::from(rate.encoders());
     let streams = u32::from(rate.streams());
-    let run = u32::from(rate.axis_bits());
-    let stream = i / run % streams + 1;
-    let bit = encoders * run * (i / (streams * run)) + u32::from(encoder) * run + i % run;
+    let group = u32::from(rate.axis_bits());
+    let stream = i / group % streams + 1;
+    let bit = encoders * group * (i / (streams * group)) + u32::from(encoder) * group + i % group;
     (stream as u8, bit as u16)
 }

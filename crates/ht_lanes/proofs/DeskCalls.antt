@@ -7,7 +7,7 @@ use Rattle.ht_fields.specs.Meanings.{Meaning}
 use Rattle.ht_metric.specs.Jobs.{JobView}
 use Rattle.ht_feed.specs.declared.stop.Stop.{Stop}
 use Rattle.ht_feed.specs.declared.book_fault.BookFault.{BookFault}
-use Rattle.ht_feed.specs.Accounts.{Telling}
+use Rattle.ht_feed.specs.Accounts.{BooksJobs, Telling}
 use Rattle.ht_feed.specs.Items.{Item, Headed}
 use Rattle.ht_feed.specs.Dues.{Due, all_due, jobs_in}
 use Rattle.ht_feed.specs.Desks.{AddsBlock, DeskView, ReadsMore}
@@ -16,7 +16,7 @@ use Rattle.ht_feed.specs.Reading.{Counts}
 use Rattle.ht_feed.specs.Telling.{Seen, Tells, TellsBy, seen_by}
 use Rattle.ht_feed.proofs.Filling.{jobs_in-append}
 use Rattle.ht_feed.proofs.Leads.{ill, tells_given, tells_part, tells_put, tells_refused, tells_taken, well}
-use Rattle.ht_lanes.specs.Bookings.{BooksFirst, BooksHits}
+use Rattle.ht_lanes.specs.Bookings.{BooksFirstDue}
 use Rattle.ht_lanes.specs.DeskLanes.{is_over, lane_telling}
 
 -- a lane that goes on neither failed nor stopped
@@ -52,37 +52,32 @@ module _ {R H : Type 0} (means : R → List ℕ → Meaning (Item H)) (at : R �
     seen d device booking = seen_by means at d source (lane_telling pieces booking device)
 
     -- it took the hits of the first block
-    pub took : {B : Type 0} {b : B} (new : DeskView R H) → BooksFirst (Ok b) desk new before after (pieces x) (pieces y)
+    pub took : {B : Type 0} {b : B} (new : DeskView R H) → BooksFirstDue (Ok b) desk new before after (pieces x) (pieces y)
         → TellsBy failed failed (seen desk before x) (seen new after y)
     took new first =
-        let books = first.books in
         well failed failed (seen desk before x) (seen new after y) none refl
-        (tells_taken means at desk new source (lane_telling pieces x before) (lane_telling pieces y after) first.due books.put (λ w. tt) books.faults.later books.faults.steady)
+        (tells_taken means at desk new source (lane_telling pieces x before) (lane_telling pieces y after) first.due first.books (λ w. tt))
 
     -- it could not put their pieces, or not make them
-    pub took_none : {B : Type 0} {fault : BookFault} (new : DeskView R H) → BooksFirst {A = B} (Err fault) desk new before after (pieces x) (pieces y)
+    pub took_none : {B : Type 0} {fault : BookFault} (new : DeskView R H) → BooksFirstDue {A = B} (Err fault) desk new before after (pieces x) (pieces y)
         → TellsBy failed (Some fault) (seen desk before x) (seen new after y)
     took_none {fault = fault} new first =
-        let books = first.books in
         ill failed (seen desk before x) (seen new after y) fault none
-        (tells_refused means at desk new source (lane_telling pieces x before) (lane_telling pieces y after) fault first.stays books.part books.faults.later books.faults.cause
-        books.faults.unfailed)
+        (tells_refused means at desk new source (lane_telling pieces x before) (lane_telling pieces y after) fault first.stays first.books)
 
     -- it put what was kept back
-    pub finished : {B : Type 0} {b : B} → BooksHits (Ok b) before after (pieces x) (pieces y) []
+    pub finished : {B : Type 0} {b : B} → BooksJobs (Ok b) before after (pieces x) (pieces y) [] [] []
         → TellsBy failed failed (seen desk before x) (seen desk after y)
     finished books =
         well failed failed (seen desk before x) (seen desk after y) none refl
-        (tells_put means at desk desk.due source (lane_telling pieces x before) (lane_telling pieces y after) [] (append-nil (all_due desk.due)) books.put (λ w. tt)
-        books.faults.later books.faults.steady)
+        (tells_put means at desk desk.due source (lane_telling pieces x before) (lane_telling pieces y after) [] (append-nil (all_due desk.due)) books (λ w. tt))
 
     -- not all of it could be put, or made
-    pub unfinished : {B : Type 0} {fault : BookFault} → BooksHits {A = B} (Err fault) before after (pieces x) (pieces y) []
+    pub unfinished : {B : Type 0} {fault : BookFault} → BooksJobs {A = B} (Err fault) before after (pieces x) (pieces y) [] [] []
         → TellsBy failed (Some fault) (seen desk before x) (seen desk after y)
     unfinished {fault = fault} books =
         ill failed (seen desk before x) (seen desk after y) fault none
-        (tells_part means at desk source (lane_telling pieces x before) (lane_telling pieces y after) fault [] (all_due desk.due) (append-nil (all_due desk.due))
-        books.part books.faults.later books.faults.cause books.faults.unfailed)
+        (tells_part means at desk source (lane_telling pieces x before) (lane_telling pieces y after) fault [] (all_due desk.due) (append-nil (all_due desk.due)) books)
 
 -- a block more is due
 pub one_more_due : {R H : Type 0} (counts : R → Counts) (most : ℕ) (old new : DeskView R H) (jobs : List JobView) → AddsBlock counts most old new jobs

@@ -1,14 +1,8 @@
 -- What one lane did that was asked alone is what each lane did.
-use Rattle.std.proofs.Common.{◌≡◌, ◌≢◌, ℕ, get_or, Bool, true, false, nat_eq, refl, ap, sym, ◌∙◌, subst, arith}
-use Rattle.std.proofs.lemmas.Bool.Decides.{nat_tests}
+use Rattle.std.proofs.Common.{◌≡◌, ℕ, get_or, Bool, true, false, nat_eq, refl, ap, sym, ◌∙◌, subst}
+use Rattle.ht_feed.proofs.Others.{other_number, same_number}
 use Rattle.ht_lanes.specs.Lanes.{AllLead, OneLeads, Side, Sides, side_at, side_of}
 use Rattle.ht_lanes.specs.Leading.{all-on}
-
-pub same_number : (i k : ℕ) → nat_eq k i ≡ true → k ≡ i
-same_number i k e = grind (arith, nat_tests)
-
-pub other_number : (i k : ℕ) → nat_eq k i ≡ false → k ≢ i
-other_number i k e = grind (arith, nat_tests)
 
 module _ {L S K : Type 0} (leads : Side L S K → Side L S K → Type 0) (stays : (a : Side L S K) → leads a a)
     (goes_on : (a b c : Side L S K) → leads a b → leads b c → leads a c) where

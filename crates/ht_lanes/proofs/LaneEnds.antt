@@ -5,8 +5,8 @@ use Rattle.ht_io.specs.Devices.{Device, GrowsByPart, IsLater}
 use Rattle.ht_io.proofs.Calls.{grows_by_part-front}
 use Rattle.ht_fields.specs.Meanings.{Meaning}
 use Rattle.ht_runs.proofs.Known.{by_part}
-use Rattle.ht_runs.specs.declared.faults.StopFault.{StopFault}
-use Rattle.ht_runs.specs.declared.faults.StopFault.TheVariants.{Write, NoMemory as StopMemory}
+use Rattle.ht_runs.specs.declared.faults.RunFault.{RunFault}
+use Rattle.ht_runs.specs.declared.faults.RunFault.TheVariants.{Write, NoMemory as RunMemory}
 use Rattle.ht_feed.specs.declared.ended.Ended.{Ended}
 use Rattle.ht_feed.specs.declared.book_fault.BookFault.{BookFault}
 use Rattle.ht_feed.specs.declared.book_fault.BookFault.TheVariants.{Failed, NoMemory}
@@ -28,7 +28,7 @@ module _ {R H P : Type 0} (means : R → List ℕ → Meaning (Item H)) (at : R 
   abbrev last : Seen H P
   last = seen_by means at new source' b
 
-  abbrev Came : Result Ended StopFault → Type 0
+  abbrev Came : Result Ended RunFault → Type 0
   Came result = Comes means at reader head source source' a b result
 
   -- a call failed so, seen by any account in front of a device
@@ -40,7 +40,7 @@ module _ {R H P : Type 0} (means : R → List ℕ → Meaning (Item H)) (at : R 
   well : TellsBy None None first last → is_some new.stop ≡ true → jobs_in new.due ≡ [] → Heard means at reader head source source' a b new None (driven_so None)
   well told stopped none = runs_so (driven_so None) told stopped none
 
-  -- what is put of hits that still come is all one where a call failed
+  -- where a call failed it doesn't matter what is put of hits that still come
   abbrev silent : Telling H P
   silent = record { device = b.device; pieces = λ jobs. []; Waits = λ due. Unit {0} }
 
@@ -91,7 +91,7 @@ module _ {R H P : Type 0} (means : R → List ℕ → Meaning (Item H)) (at : R 
         (well told over (none refl)) rests (λ w. nothing refl) refl
 
     -- memory lacked, here or elsewhere
-    pub lane_lacks : (failed : Option BookFault) → TellsBy None failed first last → Came (Err StopMemory)
+    pub lane_lacks : (failed : Option BookFault) → TellsBy None failed first last → Came (Err RunMemory)
     lane_lacks (Some Failed) told = (failed_ends Failed rests told).0
     lane_lacks (Some NoMemory) told = failed_ends NoMemory rests told
     lane_lacks None told = failed_ends NoMemory rests (lacks_elsewhere told)

@@ -1,11 +1,11 @@
 -- Jobs under other numbers are the same jobs.
-use Rattle.std.proofs.Common.{◌≡◌, ℕ, zero, suc, ◌+◌, List, [], ◌∷◌, length, map, slice_get, Option, Some, refl, ap, ◌∙◌, sym}
+use Rattle.std.proofs.Common.{◌≡◌, ℕ, zero, suc, ◌+◌, List, [], ◌∷◌, length, map, slice_get, Option, Some, refl, ap, ◌∙◌, sym, arith}
 use Rattle.std.specs.Option.{option_map}
 use Rattle.ht_metric.specs.Jobs.{JobView, near}
 use Rattle.ht_metric.specs.declared.found.Found.{Found}
 use Rattle.ht_metric.specs.declared.place.Place.{Place}
 use Rattle.ht_feed.specs.Items.{Numbered}
-use Rattle.ht_feed.specs.Dues.{IsPlaceAt, StartsAt}
+use Rattle.ht_feed.specs.Dues.{AreHits, IsPlaceAt, StartsAt}
 use Rattle.ht_feed.specs.Numbers.{numbered, with_number}
 use Rattle.ht_feed.proofs.Numbering.{get_numbered, length_numbered}
 use Rattle.ht_lanes.specs.Lanes.{LaneJobs, whole_jobs}
@@ -27,9 +27,17 @@ same_jobs own m n xs ys p q is =
     ∙ (ap (numbered own) is
     ∙ (numbered-again own n ys ∙ numbered-own own ys q)))
 
-pub near-numbered : (n : ℕ) (jobs : List JobView) → map near (numbered n jobs) ≡ map near jobs
+near-numbered : (n : ℕ) (jobs : List JobView) → map near (numbered n jobs) ≡ map near jobs
 near-numbered n [] = refl
 near-numbered n (job ∷ jobs) = ap (λ (fs : List Found). near job ∷ fs) (near-numbered (n + 1) jobs)
+
+-- hits of jobs under other numbers are theirs
+pub hits_numberless : (found : List Found) (n : ℕ) (jobs : List JobView) → AreHits found (numbered n jobs) → AreHits found jobs
+hits_numberless found n jobs right = record {
+  are = right.are ∙ near-numbered n jobs;
+  below = right.below;
+  few = let e = length_numbered n jobs in let f = right.few in omega (arith, e, f);
+}
 
 -- a job of them
 pub job_at : (n : ℕ) (jobs : List JobView) (at number : ℕ) (job : JobView) → Some job ≡ slice_get jobs at → number ≡ n + at

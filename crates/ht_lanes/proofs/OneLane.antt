@@ -7,7 +7,7 @@ pub some_of : {X : Type 0} (xs : List X) (k : ℕ) → k < length xs → X
 some_of [] k few = absurd (omega (arith, few))
 some_of (x ∷ xs) k few = x
 
--- beyond two lists of one length the same stands for none
+-- behind the end of two lists of the same length the same value stands for an entry
 pub past_both : {X : Type 0} (xs ys : List X) (k : ℕ) (x : X) → length ys ≡ length xs → length xs ≤ k → get_or ys k x ≡ get_or xs k x
 past_both xs ys k x same high =
     let beyond : length ys ≤ k = omega (arith, same, high) in

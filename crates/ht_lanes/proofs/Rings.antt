@@ -1,5 +1,5 @@
 -- What is due of each lane is what that lane waits for.
-use Rattle.std.proofs.Common.{◌≡◌, ℕ, zero, suc, ◌+◌, ◌<◌, ◌≤◌, List, [], ◌∷◌, ◌++◌, drop, length, get_or, slice_get, Option, Some, Bool, true, false, nat_eq, if◌then◌else◌}
+use Rattle.std.proofs.Common.{◌≡◌, ◌≢◌, ℕ, zero, suc, ◌+◌, ◌<◌, ◌≤◌, List, [], ◌∷◌, ◌++◌, drop, length, get_or, slice_get, Option, Some, Bool, true, false, nat_eq, if◌then◌else◌}
 use Rattle.std.proofs.Common.{refl, ap, ◌∙◌, sym, subst, arith}
 use Rattle.std.proofs.lemmas.Bool.{false≢true}
 use Rattle.std.proofs.lemmas.Bool.Decides.{nat_tests}
@@ -8,9 +8,10 @@ use Rattle.ht_metric.specs.Jobs.{JobView}
 use Rattle.ht_feed.specs.Items.{Numbered}
 use Rattle.ht_feed.specs.Dues.{count_in}
 use Rattle.ht_feed.specs.Feeds.{GivesBlock}
-use Rattle.ht_lanes.specs.Lanes.{AreBooked, AreFresh, DueOf, HaveNone, HaveFewDue, IsBooked, IsFeed, LaneJobs, OneChanges, OneMoreAt, SameBooks, Within, due_at, due_of, lanes_view, most_jobs, whole_due, whole_jobs}
-use Rattle.ht_lanes.proofs.EachLane.{other_number, same_number}
+use Rattle.ht_feed.specs.Others.{OthersStay}
+use Rattle.ht_lanes.specs.Lanes.{AreBooked, AreFresh, DueOf, HaveNone, HaveFewDue, IsBooked, IsFeed, LaneJobs, OneMoreAt, SameBooks, Within, due_at, due_of, lanes_view, most_jobs, whole_due, whole_jobs}
 use Rattle.ht_feed.proofs.Numbering.{are_numbered, length_numbered}
+use Rattle.ht_feed.proofs.Others.{each_of, other_number, same_number}
 use Rattle.ht_lanes.proofs.Numbering.{same_jobs}
 
 same_test : (k : ℕ) → nat_eq k k ≡ true
@@ -19,8 +20,8 @@ same_test k = grind (arith, nat_tests)
 turned : (i k : ℕ) → nat_eq i k ≡ true → nat_eq k i ≡ true
 turned i k e = grind (arith, nat_tests)
 
-other_turned : (i k : ℕ) → nat_eq i k ≡ false → nat_eq k i ≡ false
-other_turned i k e = grind (arith, nat_tests)
+other_test : (i k : ℕ) → k ≢ i → nat_eq i k ≡ false
+other_test i k far = grind (arith, nat_tests)
 
 due_at-here : (k : ℕ) (d : DueOf) (ds : List DueOf) → nat_eq d.lane k ≡ true → due_at k (d ∷ ds) ≡ d.block.jobs ∷ due_at k ds
 due_at-here k d ds e = ap (λ (b : Bool). if b then d.block.jobs ∷ due_at k ds else due_at k ds) e
@@ -156,9 +157,10 @@ module _ {L : Type 0} (due : L → List (List JobView)) (rests : L → Bool) whe
           ∙ (ap (λ (bs : List (List JobView)). due_at at ring ++ bs) (due_at-here at (due_of at block) [] (same_test at))
           ∙ (ap (λ (bs : List (List JobView)). bs ++ block.jobs ∷ []) (booked.booked l at low (sym h.0 ∙ here)) ∙ sym h.1))) takes
       more_at false l k e few takes =
-          let o = more.others l k (other_number at k e) few in
+          let far = other_number at k e in
+          let o = more.others l k far few in
           due_at-append k ring (due_of at block ∷ [])
-          ∙ (ap (λ (bs : List (List JobView)). due_at k ring ++ bs) (due_at-other k (due_of at block) [] (other_turned k at e))
+          ∙ (ap (λ (bs : List (List JobView)). due_at k ring ++ bs) (due_at-other k (due_of at block) [] (other_test at k far))
           ∙ (append-none (due_at k ring) ∙ (booked.booked l k few (sym o.0 ∙ takes) ∙ sym o.1)))
 
       -- one lane waits for one block more
@@ -169,39 +171,30 @@ module _ {L : Type 0} (due : L → List (List JobView)) (rests : L → Bool) whe
             booked = λ l k few takes. more_at (nat_eq k at) l k refl (within_now k few) takes;
           })
 
-    module _ (first : DueOf) (is : slice_get ring 0 ≡ Some first) (one : OneChanges lanes now first.lane) where
+    module _ (first : DueOf) (is : slice_get ring 0 ≡ Some first) (one : OthersStay lanes now first.lane) where
       -- its lane rests from now on
-      lacks_at : (b : Bool) (l : L) (k : ℕ) → nat_eq k first.lane ≡ b → ((x : L) → rests (get_or now first.lane x) ≡ true) → k < length lanes
-          → rests (get_or now k l) ≡ false → due_at k ring ≡ due (get_or now k l)
-      lacks_at true l k e rested few takes =
-          absurd (false≢true (sym takes ∙ (ap (λ (n : ℕ). rests (get_or now n l)) (same_number first.lane k e) ∙ rested l)))
-      lacks_at false l k e rested few takes =
-          let o = one.others l k (other_number first.lane k e) in
-          booked.booked l k few (ap rests (sym o) ∙ takes) ∙ ap due (sym o)
-
       pub booked_lacks : (after : List DueOf) → after ≡ ring → ((x : L) → rests (get_or now first.lane x) ≡ true) → IsBooked due rests now after
       booked_lacks after same rested = subst (λ (r : List DueOf). IsBooked due rests now r) (sym same) (record {
         within = subst (λ (n : ℕ). Within n ring) (sym as_many) booked.within;
-        booked = λ l k few takes. lacks_at (nat_eq k first.lane) l k refl rested (within_now k few) takes;
+        booked = λ l k few.
+            each_of one (λ n x. n < length lanes → rests x ≡ false → due_at n ring ≡ due x) l (λ low takes. absurd (false≢true (sym takes ∙ rested l)))
+            (λ n far. booked.booked l n) k (within_now k few);
       })
 
-  module _ (lanes now : List L) (at : ℕ) (d : DueOf) (ds : List DueOf) (booked : AreBooked due rests lanes (d ∷ ds)) (low : d.lane < length lanes)
-      (one : OneChanges lanes now d.lane)
+  module _ (lanes now : List L) (d : DueOf) (ds : List DueOf) (booked : AreBooked due rests lanes (d ∷ ds)) (low : d.lane < length lanes)
+      (one : OthersStay lanes now d.lane)
       (gone : (l : L) → rests (get_or now d.lane l) ≡ false → due (get_or now d.lane l) ≡ drop 1 (due (get_or lanes d.lane l)))
       (took : (l : L) → rests (get_or now d.lane l) ≡ false → rests (get_or lanes d.lane l) ≡ false) where
-    taken_at : (b : Bool) (l : L) (k : ℕ) → nat_eq k d.lane ≡ b → k < length lanes → rests (get_or now k l) ≡ false → due_at k ds ≡ due (get_or now k l)
-    taken_at true l k e few takes =
-        let is = same_number d.lane k e in
-        subst (λ (n : ℕ). rests (get_or now n l) ≡ false → due_at n ds ≡ due (get_or now n l)) (sym is)
-        (λ here.
-        ap (λ (bs : List (List JobView)). drop 1 bs) (sym (due_at-here d.lane d ds (same_test d.lane)) ∙ booked l d.lane low (took l here)) ∙ sym (gone l here)) takes
-    taken_at false l k e few takes =
-        let o = one.others l k (other_number d.lane k e) in
-        sym (due_at-other k d ds (other_turned k d.lane e)) ∙ (booked l k few (ap rests (sym o) ∙ takes) ∙ ap due (sym o))
+    taken_at : (l : L) (k : ℕ) → k < length lanes → rests (get_or now k l) ≡ false → due_at k ds ≡ due (get_or now k l)
+    taken_at l =
+        each_of one (λ k x. k < length lanes → rests x ≡ false → due_at k ds ≡ due x) l
+        (λ few takes.
+        ap (λ (bs : List (List JobView)). drop 1 bs) (sym (due_at-here d.lane d ds (same_test d.lane)) ∙ booked l d.lane low (took l takes)) ∙ sym (gone l takes))
+        (λ k far few takes. sym (due_at-other k d ds (other_test d.lane k far)) ∙ booked l k few takes)
 
   -- the first block due is due no longer
   pub booked_taken : (lanes now : List L) (ring after : List DueOf) (first : DueOf) → IsBooked due rests lanes ring
-      → slice_get ring 0 ≡ Some first → after ≡ drop 1 ring → OneChanges lanes now first.lane
+      → slice_get ring 0 ≡ Some first → after ≡ drop 1 ring → OthersStay lanes now first.lane
       → ((l : L) → rests (get_or now first.lane l) ≡ false → due (get_or now first.lane l) ≡ drop 1 (due (get_or lanes first.lane l)))
       → ((l : L) → rests (get_or now first.lane l) ≡ false → rests (get_or lanes first.lane l) ≡ false)
       → IsBooked due rests now after
@@ -209,11 +202,10 @@ module _ {L : Type 0} (due : L → List (List JobView)) (rests : L → Bool) whe
   booked_taken lanes now (d ∷ ds) after first booked is left one gone took =
       let same : first ≡ d = sym (same_Some d first is) in
       let taken : (l : L) (k : ℕ) → k < length lanes → rests (get_or now k l) ≡ false → due_at k ds ≡ due (get_or now k l) =
-      λ l k few takes. taken_at lanes now 0 d ds booked.booked (booked.within 0 d refl).0
-      (subst (λ (x : DueOf). OneChanges lanes now x.lane) same one)
+      taken_at lanes now d ds booked.booked (booked.within 0 d refl).0
+      (subst (λ (x : DueOf). OthersStay lanes now x.lane) same one)
       (subst (λ (x : DueOf). (l : L) → rests (get_or now x.lane l) ≡ false → due (get_or now x.lane l) ≡ drop 1 (due (get_or lanes x.lane l))) same gone)
-      (subst (λ (x : DueOf). (l : L) → rests (get_or now x.lane l) ≡ false → rests (get_or lanes x.lane l) ≡ false) same took)
-      (nat_eq k d.lane) l k refl few takes in
+      (subst (λ (x : DueOf). (l : L) → rests (get_or now x.lane l) ≡ false → rests (get_or lanes x.lane l) ≡ false) same took) in
       subst (λ (r : List DueOf). IsBooked due rests now r) (sym left) (record {
         within = subst (λ (n : ℕ). Within n ds) (sym one.as_many) (within-drop (length lanes) (d ∷ ds) booked.within);
         booked = λ l k few takes. taken l k (subst (λ (n : ℕ). k < n) one.as_many few) takes;

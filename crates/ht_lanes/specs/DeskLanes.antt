@@ -3,15 +3,20 @@ use Rattle.std.specs.Prelude.{◌≡◌, ℕ, List, Option, Some, None, Bool, tr
 use Rattle.std.proofs.Common.{refl}
 use Rattle.std.proofs.lemmas.Bool.{false≢true}
 use Rattle.ht_io.specs.Devices.{Device}
-use Rattle.ht_runs.specs.declared.faults.StopFault.{StopFault}
+use Rattle.ht_fields.specs.Meanings.{Meaning}
+use Rattle.ht_runs.specs.declared.faults.RunFault.{RunFault}
 use Rattle.ht_feed.specs.declared.stop.Stop.{Stop}
 use Rattle.ht_feed.specs.declared.ended.Ended.{Ended}
 use Rattle.ht_feed.specs.declared.book_fault.BookFault.{BookFault}
 use Rattle.ht_feed.specs.declared.drive.DriveFault.{DriveFault}
 use Rattle.ht_feed.specs.declared.drive.DriveFault.TheVariants.{Feed}
 use Rattle.ht_feed.specs.Accounts.{Telling}
-use Rattle.ht_feed.specs.Items.{Headed}
+use Rattle.ht_feed.specs.Items.{Headed, Item}
+use Rattle.ht_feed.specs.Leading.{tells_by-none, tells_by-on}
 use Rattle.ht_feed.specs.Stops.{ended_by}
+use Rattle.ht_feed.specs.Telling.{Seen, TellsBy, seen_by}
+use Rattle.ht_lanes.specs.declared.desk_lane.DeskLane.{DeskLane}
+use Rattle.ht_lanes.specs.Lanes.{Side}
 
 -- the booking failed, or the reading stopped
 abbrev pub is_over : Option BookFault → Option Stop → Bool
@@ -28,9 +33,25 @@ driven_so (Some fault) = Err (Feed fault)
 driven_so None = Ok tt
 
 -- how the reading of its input ended
-abbrev pub ended_so : Option BookFault → Option Stop → ℕ → ℕ → Result Ended StopFault
+abbrev pub ended_so : Option BookFault → Option Stop → ℕ → ℕ → Result Ended RunFault
 ended_so failed stop frames jobs = ended_by stop frames jobs (driven_so failed)
 
 -- a booking in front of a device: what it puts in all if these hits still come; it says nothing of what it keeps back
 abbrev pub lane_telling : {A H : Type 0} → (A → List (Headed H) → List ℕ) → A → Device ℕ → Telling H ℕ
 lane_telling pieces booking device = record { device = device; pieces = pieces booking; Waits = λ due. Unit {0} }
+
+-- a lane's reader of R means this and is here, and its booking of A puts this in all; its devices show this
+module _ {R A H B S K : Type 0} (means : R → List ℕ → Meaning (Item H)) (at : R → ℕ) (pieces : A → List (Headed H) → List ℕ) (source : S → Device ℕ)
+    (sink : K → Device ℕ) where
+  abbrev pub seen_of : Side (DeskLane R A H B) S K → Seen H ℕ
+  seen_of a = seen_by means at a.lane.desk (source a.source) (lane_telling pieces a.lane.booking (sink a.sink))
+
+  -- what a lane did with its devices: what was read, which hits were taken, and what was put
+  abbrev pub LeadsOn : Side (DeskLane R A H B) S K → Side (DeskLane R A H B) S K → Type 0
+  LeadsOn a b = TellsBy a.lane.failed b.lane.failed (seen_of a) (seen_of b)
+
+  pub leads_on-none : (a : Side (DeskLane R A H B) S K) → LeadsOn a a
+  leads_on-none a = tells_by-none a.lane.failed (seen_of a)
+
+  pub leads_on-more : (a b c : Side (DeskLane R A H B) S K) → LeadsOn a b → LeadsOn b c → LeadsOn a c
+  leads_on-more a b c = tells_by-on a.lane.failed b.lane.failed c.lane.failed (seen_of a) (seen_of b) (seen_of c)

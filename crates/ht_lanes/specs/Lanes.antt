@@ -1,11 +1,13 @@
 -- Several lanes at one moment: what gives blocks, and the blocks that are due, of which each is of one of them.
 use Rattle.std.specs.Prelude.{◌≡◌, ◌≢◌, ℕ, ◌++◌, ◌+◌, ◌-◌, ◌^◌, ◌<◌, ◌≤◌, List, [], ◌∷◌, map, length, slice_get, slice_index_or, Option, Some, None, Bool, true, false, nat_eq, if◌then◌else◌}
 use Rattle.std.specs.Prelude.{Result, IfNone, IfOk, IfSome, OnErr, OnOk}
+use Rattle.std.specs.Borrow.{MutBor}
 use Rattle.ht_metric.specs.Jobs.{JobView}
 use Rattle.ht_feed.specs.Items.{Numbered}
 use Rattle.ht_feed.specs.Dues.{count_in}
 use Rattle.ht_feed.specs.Feeds.{FeedView}
 use Rattle.ht_feed.specs.Numbers.{numbered}
+use Rattle.ht_feed.specs.Others.{OthersStay}
 
 -- a block among those of several lanes: its jobs as its lane numbers them, from its own number on, and the number of its
 -- first job among those of all lanes
@@ -66,16 +68,6 @@ abbrev pub lanes_view : {F : Type 0} → ℕ → List DueOf → Bool → Option 
 lanes_view count due ended failed =
     record { count = count; due = whole_due due; left = None; more = most_jobs - count; ended = ended; failed = failed }
 
--- which borrows the lanes, the sources, the sinks and the blocks due are
-pub record Names : Type 0 where
-  pub lanes : ℕ
-  pub sources : ℕ
-  pub sinks : ℕ
-  pub due : ℕ
-
-abbrev pub names : ℕ → ℕ → ℕ → ℕ → Names
-names lanes sources sinks due = record { lanes = lanes; sources = sources; sinks = sinks; due = due }
-
 -- a lane with its own source and sink
 pub record Side (L S K : Type 0) : Type 0 where
   pub lane : L
@@ -94,11 +86,6 @@ pub record Sides (L S K : Type 0) : Type 0 where
 abbrev pub sides_of : {L S K : Type 0} → List L → List S → List K → Sides L S K
 sides_of lanes sources sinks = record { lanes = lanes; sources = sources; sinks = sinks }
 
--- two lists of one length, which differ at this number at most
-pub record OneChanges {X : Type 0} (old new : List X) (at : ℕ) : Type 0 where
-  pub as_many : length new ≡ length old
-  pub others : (x : X) (k : ℕ) → k ≢ at → slice_index_or new k x ≡ slice_index_or old k x
-
 module _ {L S K : Type 0} where
   -- the lane with this number and its devices
   abbrev pub side_at : Sides L S K → L → S → K → ℕ → Side L S K
@@ -108,9 +95,9 @@ module _ {L S K : Type 0} where
   module _ (leads : Side L S K → Side L S K → Type 0) where
     -- only the lane with this number did something
     pub record OneLeads (a b : Sides L S K) (at : ℕ) : Type 0 where
-      pub lanes : OneChanges a.lanes b.lanes at
-      pub sources : OneChanges a.sources b.sources at
-      pub sinks : OneChanges a.sinks b.sinks at
+      pub lanes : OthersStay a.lanes b.lanes at
+      pub sources : OthersStay a.sources b.sources at
+      pub sinks : OthersStay a.sinks b.sinks at
       pub here : (l : L) (s : S) (t : K) → leads (side_at a l s t at) (side_at b l s t at)
 
     -- each lane did what its own devices and its own blocks made it do
@@ -119,6 +106,21 @@ module _ {L S K : Type 0} where
       pub sources : length b.sources ≡ length a.sources
       pub sinks : length b.sinks ≡ length a.sinks
       pub each : (l : L) (s : S) (t : K) (k : ℕ) → k < length a.lanes → leads (side_at a l s t k) (side_at b l s t k)
+
+-- what is lent to a feed over lanes: which borrows lead to it and to the blocks due, and all lanes, their sources and their sinks
+pub record Lent (L S K : Type 0) : Type 0 where
+  pub borrows : List ℕ
+  pub sides : Sides L S K
+
+abbrev pub lent : {L S K D : Type 0} → MutBor (List L) → MutBor (List S) → MutBor (List K) → MutBor D → Lent L S K
+lent lanes sources sinks due = record {
+  borrows = lanes.ghost_name ∷ sources.ghost_name ∷ sinks.ghost_name ∷ due.ghost_name ∷ [];
+  sides = sides_of lanes.now sources.now sinks.now;
+}
+
+-- the same is lent, and each lane did what its own devices and its own blocks made it do
+abbrev pub LentLead : {L S K : Type 0} → (Side L S K → Side L S K → Type 0) → Lent L S K → Lent L S K → Type 0
+LentLead leads a b = (a.borrows ≡ b.borrows) × AllLead leads a.sides b.sides
 
 -- a lane that is over gives no block any more
 module _ {L : Type 0} (over : L → Bool) where
@@ -198,7 +200,7 @@ module _ {L : Type 0} (due : L → List (List JobView)) (rests over : L → Bool
 
 -- What was answered where a block of at most `most` jobs was asked for, behind `given` jobs that all lanes together had given;
 -- `block` is what of an answer is the block.
-pub record AnswersBlock {B E : Type 0} (block : B → LaneJobs) (most given : ℕ) (result : Result (Option B) E) : Type 0 where
+pub record AnswersLaneBlock {B E : Type 0} (block : B → LaneJobs) (most given : ℕ) (result : Result (Option B) E) : Type 0 where
   -- a block begins with the next number
   pub first : IfOk result (λ asked. IfSome asked (λ b. (block b).first ≡ given))
   -- it has a job, and no more than were asked for
@@ -219,7 +221,7 @@ pub record AnswersInTurn {L E : Type 0} (ends : L → Bool) (count from most giv
   where
     -- the number is that of one of the lanes
     pub lane : IfOk result (λ asked. IfSome asked (λ a. a.0 < count))
-    pub block : AnswersBlock of_several most given result
+    pub block : AnswersLaneBlock of_several most given result
     -- where no block came, each lane that was asked is over
     pub over : IfOk result (λ asked. IfNone asked (AreOver ends from lanes))
 

@@ -1,7 +1,7 @@
 //! Lanes are asked for a block.
 ghost use Rattle.std.specs.Prelude.{◌≡◌, ◌<◌, List, length, slice_index_or, IfNone, IfOk, IfSome, OnErr};
 ghost use Rattle.ht_lanes.specs.Calls.{GivesLaneBlock};
-ghost use Rattle.ht_lanes.specs.Lanes.{AllLead, AnswersBlock, AnswersInTurn, AsksFor, HasFewDue, HaveFewDue, OneLeads};
+ghost use Rattle.ht_lanes.specs.Lanes.{AllLead, AnswersInTurn, AnswersLaneBlock, AsksFor, HasFewDue, HaveFewDue, OneLeads};
 ghost use Rattle.ht_lanes.specs.Lanes.{OneMoreAt, SameBooks, of_one, own_jobs, side_of, sides_of};
 
 use crate::lane::Lane;
@@ -18,7 +18,7 @@ fn ask<L: Lane<S, K>, S, K>(
     requires asks { AsksFor most first }
     requires few_due { HasFewDue L.due L.over most lane.old }
     ensures gives { GivesLaneBlock L.due L.rests L.over own_jobs lane.old lane.new result }
-    ensures block { AnswersBlock of_one most first result }
+    ensures block { AnswersLaneBlock of_one most first result }
     ensures leads { (sink : K) → L.leads (side_of lane.old source.old sink) (side_of lane.new source.new sink) }
 {
     if lane.is_over() {
@@ -46,7 +46,7 @@ fn ask_at<L: Lane<S, K>, S, K>(
     requires few_due { (l : L) → HasFewDue L.due L.over most (slice_index_or lanes.old at l) }
     ensures gives { (l : L)
         → GivesLaneBlock L.due L.rests L.over own_jobs (slice_index_or lanes.old at l) (slice_index_or lanes.new at l) result }
-    ensures block { AnswersBlock of_one most first result }
+    ensures block { AnswersLaneBlock of_one most first result }
     ensures leads { (sinks : List K) → OneLeads L.leads (sides_of lanes.old sources.old sinks) (sides_of lanes.new sources.new sinks) at }
 {
     ask::<L, S, K>(&mut lanes[at], &mut sources[at], most, first)

@@ -1,10 +1,11 @@
 //! What becomes of the hits of one lane.
 ghost use Rattle.std.specs.Prelude.{◌≡◌, ℕ, List, [], slice_get, Some, OnOk};
 ghost use Rattle.ht_metric.specs.Jobs.{JobView};
+ghost use Rattle.ht_feed.specs.Accounts.{BooksJobs};
 ghost use Rattle.ht_feed.specs.Dues.{jobs_in};
 ghost use Rattle.ht_feed.specs.Items.{Headed};
 ghost use Rattle.ht_feed.specs.Numbers.{numbered};
-ghost use Rattle.ht_lanes.specs.Bookings.{BooksFirst, BooksHits};
+ghost use Rattle.ht_lanes.specs.Bookings.{BooksFirstDue};
 
 use ht_feed::{Answer, BlockReader, BookFault, Desk};
 use ht_io::Sink;
@@ -30,11 +31,11 @@ pub trait Booking<R: BlockReader + Drop, K: Sink> {
     ) -> Result<(), BookFault>
         requires right { Self.Answer.answers answer.now (R.Block.jobs block.now) }
         requires first { slice_get (jobs_in desk.old.due) 0 ≡ Some (R.Block.jobs block.now) }
-        ensures { BooksFirst result desk.old desk.new (K.shown sink.old) (K.shown sink.new) (pieces self.old) (pieces self.new) };
+        ensures { BooksFirstDue result desk.old desk.new (K.shown sink.old) (K.shown sink.new) (pieces self.old) (pieces self.new) };
 
     /// Puts all that is kept back, once no hits come any more. Behind a refusal nothing is said of what is left.
     fn finish(&mut self, sink: &mut K) -> Result<(), BookFault>
-        ensures books { BooksHits result (K.shown sink.old) (K.shown sink.new) (pieces self.old) (pieces self.new) [] }
+        ensures books { BooksJobs result (K.shown sink.old) (K.shown sink.new) (pieces self.old) (pieces self.new) [] [] [] }
 
         // Nothing is left where no hits come.
         ensures none { OnOk result (pieces self.new [] ≡ []) };

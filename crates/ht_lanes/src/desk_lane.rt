@@ -2,16 +2,14 @@
 ghost use Rattle.std.specs.Prelude.{◌≡◌, ◌-◌, ◌<◌, [], None, true, is_some, IfOk, IsErr, IsOk};
 ghost use Rattle.ht_feed.specs.Desks.{desk_view};
 ghost use Rattle.ht_feed.specs.Dues.{jobs_in};
-ghost use Rattle.ht_feed.specs.Leading.{tells_by-none, tells_by-on};
 ghost use Rattle.ht_feed.specs.Reading.{IsFreshReader};
-ghost use Rattle.ht_feed.specs.Telling.{TellsBy, seen_by};
-ghost use Rattle.ht_lanes.specs.DeskLanes.{ended_so, is_over, lane_telling, rests_over};
+ghost use Rattle.ht_lanes.specs.DeskLanes.{LeadsOn, ended_so, is_over, leads_on-more, leads_on-none, rests_over};
 
 use crate::booking::Booking;
 use crate::lane::Lane;
 use ht_feed::{BlockReader, BookFault, Desk, Desking, DriveFault, Ended, end_of};
 use ht_io::{Sink, Source};
-use ht_runs::StopFault;
+use ht_runs::RunFault;
 use std::alloc::{AllocError, Global};
 
 /// A lane whose blocks come from the desk of a reader, and whose hits go into a booking.
@@ -55,7 +53,7 @@ impl<R: BlockReader + Drop, A: Drop> DeskLane<R, A> {
     }
 
     /// How the reading of its input ended, once the lane is over.
-    pub fn end(&self) -> Result<Ended, StopFault>
+    pub fn end(&self) -> Result<Ended, RunFault>
         requires over { is_over self.now.failed self.now.desk.stop ≡ true }
         ensures { result ≡ ended_so self.now.failed self.now.desk.stop self.now.desk.frames self.now.desk.count }
     {
@@ -93,9 +91,7 @@ impl<R: BlockReader + Drop, A: Booking<R, K>, S: Source, K: Sink> Lane<S, K> for
 
     ghost over = { λ l. is_over l.failed l.desk.stop };
 
-    ghost leads = { λ a b. TellsBy a.lane.failed b.lane.failed
-        (seen_by R.means R.at a.lane.desk (S.shown a.source) (lane_telling A.pieces a.lane.booking (K.shown a.sink)))
-        (seen_by R.means R.at b.lane.desk (S.shown b.source) (lane_telling A.pieces b.lane.booking (K.shown b.sink))) };
+    ghost leads = { LeadsOn R.means R.at A.pieces S.shown K.shown };
 
     fn count(&self) -> u64 {
         self.desk.count()
@@ -143,11 +139,7 @@ impl<R: BlockReader + Drop, A: Booking<R, K>, S: Source, K: Sink> Lane<S, K> for
 
     ghost numberless = { A.numberless };
 
-    ghost stays = { λ a. tells_by-none a.lane.failed
-        (seen_by R.means R.at a.lane.desk (S.shown a.source) (lane_telling A.pieces a.lane.booking (K.shown a.sink))) };
+    ghost stays = { leads_on-none R.means R.at A.pieces S.shown K.shown };
 
-    ghost goes_on = { λ a b c. tells_by-on a.lane.failed b.lane.failed c.lane.failed
-        (seen_by R.means R.at a.lane.desk (S.shown a.source) (lane_telling A.pieces a.lane.booking (K.shown a.sink)))
-        (seen_by R.means R.at b.lane.desk (S.shown b.source) (lane_telling A.pieces b.lane.booking (K.shown b.sink)))
-        (seen_by R.means R.at c.lane.desk (S.shown c.source) (lane_telling A.pieces c.lane.booking (K.shown c.sink))) };
+    ghost goes_on = { leads_on-more R.means R.at A.pieces S.shown K.shown };
 }

@@ -52,7 +52,7 @@ fn give_from<L: Lane<S, K>, S, K>(
     ensures gives { GivesNext L.over (length lanes.old) from most first lanes.new due.old.items due.new.items result }
     ensures booked { IsBooked L.due L.rests lanes.new due.new.items }
     ensures leads { (sinks : List K) → AllLead L.leads (sides_of lanes.old sources.old sinks) (sides_of lanes.new sources.new sinks) }
-    ensures room { due.new.capacity ≡ due.old.capacity }
+    ensures capacity { due.new.capacity ≡ due.old.capacity }
 {
     match ask_from::<L, S, K>(lanes, sources, from, most, first) {
         Ok(Some((lane, block))) => {

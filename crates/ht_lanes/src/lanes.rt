@@ -1,8 +1,7 @@
 //! Several lanes as one feed.
 ghost use Rattle.std.specs.Prelude.{◌≡◌, ◌≤◌, [], false, length, None};
-ghost use Rattle.std.proofs.Common.{refl, ◌∙◌};
-ghost use Rattle.ht_lanes.specs.Lanes.{AllLead, IsFeed, lanes_view, most_jobs, names, sides_of};
-ghost use Rattle.ht_lanes.specs.Leading.{all-none, all-on};
+ghost use Rattle.ht_lanes.specs.Lanes.{IsFeed, LentLead, lanes_view, lent, most_jobs};
+ghost use Rattle.ht_lanes.specs.Leading.{lent-none, lent-on};
 
 use crate::giving::give;
 use crate::lane::Lane;
@@ -20,9 +19,8 @@ const MOST: u64 = u64::MAX - 1;
 ///
 /// It asks the lanes that aren't over in turn, a block each, and numbers the jobs of all of them from 0. An answer goes
 /// back to the lane of the oldest block that is due. A lane that rests gives no blocks, and what is still due of it is
-/// dropped; the others go on as if it weren't there. The feed ends
-/// where all lanes are over. Lack of memory makes it fail, and so does a job of number 2^64 - 2: from then on each call
-/// fails.
+/// dropped; the others go on as if it weren't there. The feed ends where all lanes are over. Lack of memory makes it fail, and
+/// so does a job of number 2^64 - 2: from then on each call fails.
 #[derive(Drop)]
 pub struct Lanes<'a, L: Lane<S, K>, S, K> {
     lanes: &'a mut [L],
@@ -80,9 +78,7 @@ impl<'a, L: Lane<S, K>, S, K> BlockFeed for Lanes<'a, L, S, K> {
 
     ghost shown = { λ f. lanes_view f.count f.due.now.items f.ended f.failed };
 
-    ghost leads = { λ a b. (names a.lanes.ghost_name a.sources.ghost_name a.sinks.ghost_name a.due.ghost_name
-        ≡ names b.lanes.ghost_name b.sources.ghost_name b.sinks.ghost_name b.due.ghost_name)
-        × AllLead L.leads (sides_of a.lanes.now a.sources.now a.sinks.now) (sides_of b.lanes.now b.sources.now b.sinks.now) };
+    ghost leads = { λ a b. LentLead L.leads (lent a.lanes a.sources a.sinks a.due) (lent b.lanes b.sources b.sinks b.due) };
 
     fn next(&mut self, most: u16) -> Result<Option<LaneBlock<L::Block>>, AllocError> {
         if let Some(lack) = self.failed {
@@ -129,11 +125,8 @@ impl<'a, L: Lane<S, K>, S, K> BlockFeed for Lanes<'a, L, S, K> {
         }
     }
 
-    ghost stays = { λ a. (refl, all-none L.leads L.stays L.goes_on (sides_of a.lanes.now a.sources.now a.sinks.now)) };
+    ghost stays = { λ a. lent-none L.leads L.stays L.goes_on (lent a.lanes a.sources a.sinks a.due) };
 
-    ghost goes_on = { λ a b c p q. (
-      p.0 ∙ q.0,
-      all-on L.leads L.stays L.goes_on (sides_of a.lanes.now a.sources.now a.sinks.now)
-          (sides_of b.lanes.now b.sources.now b.sinks.now) (sides_of c.lanes.now c.sources.now c.sinks.now) p.1 q.1,
-    ) };
+    ghost goes_on = { λ a b c. lent-on L.leads L.stays L.goes_on (lent a.lanes a.sources a.sinks a.due)
+        (lent b.lanes b.sources b.sinks b.due) (lent c.lanes c.sources c.sinks c.due) };
 }

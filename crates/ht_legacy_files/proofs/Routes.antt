@@ -17,7 +17,7 @@ frames_framed = record {
   head = λ left rate len left_some some few. leads_by frames (frames_due left) (behind_head (Seed left rate len)) (head_octets rate len) []
       (route_head framed left rate len left_some some few);
   width = λ rate len. refl;
-  room = omega arith;
+  bound = omega arith;
   parts = λ p. refl;
   whole = λ f. refl;
 }

@@ -78,7 +78,7 @@ fn push_symbol(
     requires before { map known_of bits.old.items ≡ map (received_at rate labels.now) (range_with_len 0 (symbol * coded_bits_of rate)) }
     ensures bits { map known_of bits.new.items ≡ map (received_at rate labels.now) (range_with_len 0 (symbol * coded_bits_of rate + count)) }
     ensures len { vec_len bits.new ≡ vec_len bits.old + count }
-    ensures room { vec_capacity bits.new ≡ vec_capacity bits.old }
+    ensures capacity { vec_capacity bits.new ≡ vec_capacity bits.old }
 {
     for k in 0..count {
         bits.push_reserved(coded_bit(rate, places, labels, symbol, k));

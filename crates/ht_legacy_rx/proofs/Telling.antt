@@ -4,12 +4,11 @@ use Rattle.ht_io.specs.Devices.{Device}
 use Rattle.ht_fields.specs.Meanings.{Meaning}
 use Rattle.ht_runs.specs.Formats.{IsLined, filter}
 use Rattle.ht_runs.specs.declared.faults.RunFault.{RunFault}
-use Rattle.ht_runs.specs.declared.faults.StopFault.{StopFault}
 use Rattle.ht_runs.proofs.Streaming.{lined}
 use Rattle.ht_feed.specs.declared.ended.Ended.{Ended}
 use Rattle.ht_feed.specs.Inputs.{TellsInput}
 use Rattle.ht_feed.specs.Items.{Item}
-use Rattle.ht_endings.specs.Endings.{EndsLines, HasFrames, IsTold, end_as, seen_as}
+use Rattle.ht_endings.specs.Endings.{EndsLines, IsTold, MeansFrames, end_as, seen_as}
 use Rattle.ht_frames.specs.Gathering.{booked_in}
 use Rattle.ht_results.specs.Texts.{result_line, result_lines}
 use Rattle.ht_legacy_captures.specs.Formats.{captures}
@@ -40,11 +39,11 @@ told head f none = record {
 
 -- what a receiver puts that begins with no frame under way, and the end line behind it
 pub streamed : {R : Type 0} {means : R → List ℕ → Meaning (Item LegacyFrameHead)} {at : R → ℕ} {reader : R} {head : LegacyFrameHead} {f : LegacySoFar}
-    {source source' sink start mid sink' : Device ℕ} {lent lent' : List ℕ} {ended : Result Ended StopFault} {result : Result ℕ RunFault}
+    {source source' sink start mid sink' : Device ℕ} {lent lent' : List ℕ} {ended : Result Ended RunFault} {result : Result ℕ RunFault}
     → TellsInput means at reader head source source' (books result_line (legacy_results_from f) start) (books result_line (legacy_results_from f) mid) lent lent' ended
     → start ≡ sink → ((octets : List ℕ) → means reader octets ≡ seen_as legacy_items (legacy_meaning octets)) → at reader ≡ 0 → f ≡ no_frame
     → EndsLines ended mid sink' result
-    → StreamsText (filter captures legacy_text legacy_lines_of) (HasFrames captures legacy_items) source source' sink sink' result
+    → StreamsText (filter captures legacy_text legacy_lines_of) (MeansFrames captures legacy_items) source source' sink sink' result
 streamed {means = means} {at = at} {reader = reader} {head = head} {f = f} {source = source} {source' = source'} {sink = sink} {start = start} {mid = mid}
     {sink' = sink'} {lent = lent} {lent' = lent'} {ended = ended} {result = result} tells from same zero fresh last =
     streams captures legacy_items means at reader head result_line (legacy_results_from f) legacy_text legacy_lines_of source source' sink start mid sink'

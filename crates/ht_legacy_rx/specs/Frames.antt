@@ -24,8 +24,8 @@ pub record IsWhole (f : LegacySoFar) : Type 0 where
 pub record IsOpenFrame (f : LegacySoFar) : Type 0 where
   pub left : 1 ≤ f.left
   pub kept : HasLabels f
-  pub data_room : f.data_sum + f.left * 2 ^ 66 ≤ 2 ^ 96
-  pub pilot_room : f.pilot_sum + f.left * 2 ^ 66 ≤ 2 ^ 96
+  pub data_bound : f.data_sum + f.left * 2 ^ 66 ≤ 2 ^ 96
+  pub pilot_bound : f.pilot_sum + f.left * 2 ^ 66 ≤ 2 ^ 96
 
 -- the frame with what was found for one more job, which comes from this place and carries this
 abbrev pub with_found_as : Place → Found → Carrier → LegacySoFar → LegacySoFar

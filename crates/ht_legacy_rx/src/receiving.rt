@@ -1,7 +1,7 @@
 //! Receiving the frames of a capture as lines of text.
 ghost use Rattle.ht_feed.specs.Limits.{IsCrewSize, IsWindowSize};
 ghost use Rattle.ht_runs.specs.Formats.{filter};
-ghost use Rattle.ht_endings.specs.Endings.{HasFrames};
+ghost use Rattle.ht_endings.specs.Endings.{MeansFrames};
 ghost use Rattle.ht_legacy_captures.specs.Formats.{captures};
 ghost use Rattle.ht_receive.specs.Ends.{StreamsText};
 ghost use Rattle.ht_legacy_rx.specs.Texts.{legacy_items, legacy_lines_of, legacy_text};
@@ -37,7 +37,7 @@ pub fn legacy_receive_alone<S: Source, K: Sink, G: Gate>(
     gate: &G,
 ) -> Result<u64, RunFault>
     requires window { IsWindowSize window }
-    ensures { StreamsText (filter captures legacy_text legacy_lines_of) (HasFrames captures legacy_items) (S.shown source.old) (S.shown source.new)
+    ensures { StreamsText (filter captures legacy_text legacy_lines_of) (MeansFrames captures legacy_items) (S.shown source.old) (S.shown source.new)
         (K.shown sink.old) (K.shown sink.new) result }
 {
     let reader = LegacyReader::new(alloc)?;
@@ -70,7 +70,7 @@ pub fn legacy_receive<R: Threads + Wait + Sync, S: Source, K: Sink, G: Gate + Sy
 ) -> Result<u64, RunFault>
     requires crew { IsCrewSize workers }
     requires window { IsWindowSize window }
-    ensures { StreamsText (filter captures legacy_text legacy_lines_of) (HasFrames captures legacy_items) (S.shown source.old) (S.shown source.new)
+    ensures { StreamsText (filter captures legacy_text legacy_lines_of) (MeansFrames captures legacy_items) (S.shown source.old) (S.shown source.new)
         (K.shown sink.old) (K.shown sink.new) result }
 {
     if workers == 1 {

@@ -8,10 +8,9 @@ use Rattle.ht_io.specs.Devices.{Device, IsLater}
 use Rattle.ht_io.proofs.Calls.{later-refl}
 use Rattle.ht_capture_blocks.specs.declared.reader.CaptureReader.{CaptureReader}
 use Rattle.ht_capture.specs.declared.items.FrameHead.{FrameHead}
-use Rattle.ht_runs.specs.declared.faults.StopFault.{StopFault}
-use Rattle.ht_runs.specs.declared.faults.StopFault.TheVariants.{Read, Write, NoMemory}
+use Rattle.ht_runs.specs.declared.faults.RunFault.{RunFault}
+use Rattle.ht_runs.specs.declared.faults.RunFault.TheVariants.{Format, Read, Write, NoMemory}
 use Rattle.ht_feed.specs.declared.ended.Ended.{Ended}
-use Rattle.ht_feed.specs.declared.ended.Ended.TheVariants.{Done, Refused}
 use Rattle.ht_feed.specs.declared.book_fault.BookFault.{BookFault}
 use Rattle.ht_feed.specs.Accounts.{Telling}
 use Rattle.ht_feed.specs.Desks.{DeskView, desk_view}
@@ -30,7 +29,7 @@ use Rattle.ht_fields.proofs.Putting.{on_err_then}
 use Rattle.ht_runs.proofs.Outcomes.{told_nothing}
 use Rattle.ht_capture.specs.Fields.{captures}
 use Rattle.ht_several.specs.declared.many_end.ManyEnd.{ManyEnd}
-use Rattle.ht_several.specs.Alone.{Heard, PutsPart}
+use Rattle.ht_several.specs.Alone.{Heard, PutsPieces}
 use Rattle.ht_several.specs.Several.{AreLater, Devices, EachEnds, EachHeard, EachInPart, answer_at, devices}
 use Rattle.ht_several.specs.LastLines.{EachFinishes, EachMayFinish, FinishesEach}
 use Rattle.ht_several.proofs.LastLines.{each_ends, each_in_part, last_later}
@@ -40,11 +39,11 @@ use Rattle.ht_many.specs.KeptFrames.{lines_left}
 use Rattle.ht_many.specs.Receiving.{ReceivesEach}
 
 -- what an answer says of the octets of a capture
-told_heard : (a b c d : Device ℕ) (answer : Result Ended StopFault) → MatchResult answer (TellsTo frame_lines_of a b c d) (StopsBy frame_lines_of a b c d)
+told_heard : (a b c d : Device ℕ) (answer : Result Ended RunFault) → MatchResult answer (TellsTo frame_lines_of a b c d) (StopsBy frame_lines_of a b c d)
     → Heard a b c d answer
-told_heard a b c d (Ok (Done frames jobs)) l =
+told_heard a b c d (Ok ended) l =
     record { taken = l.taken; octets = l.octets; whole = l.whole; says = l.says.frames_are; put = l.put }
-told_heard a b c d (Ok (Refused fault)) l = l
+told_heard a b c d (Err (Format fault)) l = l
 told_heard a b c d (Err Read) l = l
 told_heard a b c d (Err Write) l = l
 told_heard a b c d (Err NoMemory) l = l
@@ -67,7 +66,7 @@ later_at {X = X} shown xs ys count same as_many first k x = all (nat_lt k count)
         subst (λ (y : X). IsLater (shown (get_or xs k x)) (shown y)) (sym (past_both xs ys k x same (omega (arith, high, as_many))))
         (later-refl (shown (get_or xs k x)))
 
--- the devices of a lane are seen so
+-- how contracts see the source and the sink of a lane
 module _ {S K : Type 0} (source : S → Device ℕ) (sink : K → Device ℕ) where
   -- a new lane did this
   module _ (a b : Side Lane S K) (new : IsNew a.lane) (leads : LaneLeads source sink a b) where
@@ -85,7 +84,7 @@ module _ {S K : Type 0} (source : S → Device ℕ) (sink : K → Device ℕ) wh
         (subst (λ (f : Option BookFault). TellsBy f b.lane.failed (lane_seen source sink a) (lane_seen source sink b)) new.well leads)
 
     -- what a run of any reader and account came to is said of the octets of the capture
-    came_heard : (answer : Result Ended StopFault)
+    came_heard : (answer : Result Ended RunFault)
         → Comes reader_means reader_at new.reader new.head (source a.source) (source b.source) before after answer
         → Heard (source a.source) (source b.source) (sink a.sink) (sink b.sink) answer
     came_heard answer came =
@@ -111,7 +110,7 @@ module _ {S K : Type 0} (source : S → Device ℕ) (sink : K → Device ℕ) wh
         b.lane.desk b.lane.failed from_new over taken other
 
     -- memory lacked, here or elsewhere
-    side_part : PutsPart (source a.source) (source b.source) (sink a.sink) (sink b.sink)
+    side_part : PutsPieces (source a.source) (source b.source) (sink a.sink) (sink b.sink)
     side_part =
         heard_part (source a.source) (source b.source) (sink a.sink) (Err NoMemory) (sink b.sink)
         (came_heard (Err NoMemory)
@@ -177,7 +176,7 @@ module _ {S K : Type 0} (source : S → Device ℕ) (sink : K → Device ℕ) wh
         answer_is : (k : ℕ) (l : Lane) → k < length a.lanes → lane_answer (get_or b.lanes k l) ≡ answer_at (map lane_answer b.lanes) k
         answer_is k l few = sym (get_or-map lane_answer b.lanes k l (Err Read) (still k few))
 
-        abbrev Steady : ℕ → K → Result Ended StopFault → Type 0
+        abbrev Steady : ℕ → K → Result Ended RunFault → Type 0
         Steady k t answer = answer ≢ Err Write → (sink (get_or b.sinks k t)).faults ≡ (sink (get_or a.sinks k t)).faults
 
         steady : (u : Bool) (k : ℕ) (t : K) → nat_lt k (length a.lanes) ≡ u → Steady k t (answer_at (map lane_answer b.lanes) k)
@@ -185,7 +184,7 @@ module _ {S K : Type 0} (source : S → Device ℕ) (sink : K → Device ℕ) wh
             let few : k < length a.lanes = grind (arith, nat_tests, e) in
             let l = some_of a.lanes k few in
             let s = source_here k few in
-            subst (λ (r : Result Ended StopFault). Steady k t r) (answer_is k l few)
+            subst (λ (r : Result Ended RunFault). Steady k t r) (answer_is k l few)
             (side_steady (side_at a l s t k) (side_at b l s t k) (new l k few) (leads.each l s t k few) (over l k (omega arith) (still k few))
             (taken l k (still k few)))
         steady false k t e = λ other. ap (λ (x : K). (sink x).faults) (sink_past k t (grind (arith, nat_tests, e)))
@@ -198,7 +197,7 @@ module _ {S K : Type 0} (source : S → Device ℕ) (sink : K → Device ℕ) wh
               let l = some_of a.lanes k low in
               let x = side_at a l s t k in
               let y = side_at b l s t k in
-              subst (λ (r : Result Ended StopFault). Heard (source x.source) (source y.source) (sink x.sink) (sink y.sink) r) (answer_is k l low)
+              subst (λ (r : Result Ended RunFault). Heard (source x.source) (source y.source) (sink x.sink) (sink y.sink) r) (answer_is k l low)
               (side_heard x y (new l k low) (leads.each l s t k low) (over l k (omega arith) (still k low)) (taken l k (still k low))
               (finished l k (still k low)));
           writes = λ k t. steady (nat_lt k (length a.lanes)) k t refl;
@@ -219,7 +218,7 @@ module _ {S K : Type 0} (source : S → Device ℕ) (sink : K → Device ℕ) wh
         → FinishesEach sink b.sinks after (map lane_answer b.lanes) result
         → ReceivesEach source sink result (devices a.sources a.sinks) (devices b.sources after)
     received {after = after} {result = result} run finish =
-        let answers : List (Result Ended StopFault) = map lane_answer b.lanes in
+        let answers : List (Result Ended RunFault) = map lane_answer b.lanes in
         let first : Devices S K = devices a.sources a.sinks in
         let mid : Devices S K = devices b.sources b.sinks in
         let last : Devices S K = devices b.sources after in

@@ -8,14 +8,14 @@ use Rattle.ht_capture.specs.Captures.{capture_of}
 use Rattle.ht_capture_blocks.specs.declared.block.CaptureBlock.{CaptureBlock}
 use Rattle.ht_capture_blocks.specs.declared.reader.CaptureReader.{CaptureReader}
 use Rattle.ht_capture_blocks.specs.Captures.{capture_at, capture_means, mapped}
-use Rattle.ht_runs.specs.declared.faults.StopFault.{StopFault}
+use Rattle.ht_runs.specs.declared.faults.RunFault.{RunFault}
 use Rattle.ht_feed.specs.declared.ended.Ended.{Ended}
 use Rattle.ht_feed.specs.Desks.{desk_view}
 use Rattle.ht_feed.specs.Dues.{jobs_in}
 use Rattle.ht_feed.specs.Items.{Item}
-use Rattle.ht_feed.specs.Telling.{Seen, TellsBy, seen_by}
+use Rattle.ht_feed.specs.Telling.{Seen}
 use Rattle.ht_lanes.specs.declared.desk_lane.DeskLane.{DeskLane}
-use Rattle.ht_lanes.specs.DeskLanes.{ended_so, is_over, lane_telling}
+use Rattle.ht_lanes.specs.DeskLanes.{LeadsOn, ended_so, is_over, seen_of}
 use Rattle.ht_lanes.specs.Lanes.{AllLead, Side, Sides}
 use Rattle.ht_many.specs.KeptFrames.{KeptFrames, lines_left}
 
@@ -45,21 +45,21 @@ module _ {K : Type 0} where
   lane_due l = jobs_in l.desk.due
 
   -- what the receiving of its capture came to
-  abbrev pub lane_answer : LaneOf K → Result Ended StopFault
+  abbrev pub lane_answer : LaneOf K → Result Ended RunFault
   lane_answer l = ended_so l.failed l.desk.stop l.desk.frames l.desk.count
 
 -- no line of a whole frame is still to be put
 abbrev pub lane_finished : Lane → Type 0
 lane_finished l = lines_left l.booking [] ≡ []
 
--- the devices of a lane are seen so
+-- how contracts see the source and the sink of a lane
 module _ {S K : Type 0} (source : S → Device ℕ) (sink : K → Device ℕ) where
   abbrev pub lane_seen : Side Lane S K → Seen FrameHead ℕ
-  lane_seen a = seen_by reader_means reader_at a.lane.desk (source a.source) (lane_telling lines_left a.lane.booking (sink a.sink))
+  lane_seen = seen_of reader_means reader_at lines_left source sink
 
   -- what one lane did with its devices: what was read of its capture, which hits were taken, and which lines were put
   abbrev pub LaneLeads : Side Lane S K → Side Lane S K → Type 0
-  LaneLeads a b = TellsBy a.lane.failed b.lane.failed (lane_seen a) (lane_seen b)
+  LaneLeads = LeadsOn reader_means reader_at lines_left source sink
 
   -- each lane did what its own devices and its own blocks made it do
   abbrev pub LanesLead : Sides Lane S K → Sides Lane S K → Type 0
@@ -79,8 +79,8 @@ pub record IsNew (l : Lane) : Type 0 where
 abbrev pub AreNew : List Lane → Type 0
 AreNew lanes = (l : Lane) (k : ℕ) → k < length lanes → IsNew (slice_index_or lanes k l)
 
--- so many lanes, all of them new
-pub record AreOpened (count : ℕ) (lanes : List Lane) : Type 0 where
+-- this number of lanes, all of them new
+pub record AreNewLanes (count : ℕ) (lanes : List Lane) : Type 0 where
   pub as_many : length lanes ≡ count
   pub new : AreNew lanes
 

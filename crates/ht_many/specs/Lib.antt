@@ -1,4 +1,3 @@
-pub mod Renumbering
 pub mod KeptFrames
 pub mod CaptureLanes
 pub mod Apart

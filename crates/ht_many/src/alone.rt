@@ -67,8 +67,8 @@ impl<'g, G: Gate> Alone<'g, G> {
         }
     }
 
-    /// Receives captures beside one another, each from its own source and into its own sink, and answers how each ended, in
-    /// their order. The only error is lack of memory.
+    /// Receives several captures at the same time, each from its own source and into its own sink, and answers how each ended,
+    /// in their order. The only error is lack of memory.
     pub(crate) fn receive<S: Source, K: Sink>(
         &self,
         sources: &mut [S],

@@ -16,17 +16,15 @@ use std::alloc::{AllocError, Global};
 use std::sync::Wait;
 use std::thread::Threads;
 
-/// Receives several captures, each from its own source, and puts the text of each into its own sink: the line of each
-/// frame that is whole before the capture's first fault, and the last line. It answers how each capture ended, in
-/// their order.
+/// Receives several captures, each from its own source, and puts the text of each into its own sink: the lines of the whole
+/// frames before the first fault, and the last line. It answers how each ended, in their order.
 ///
-/// There are as many sinks as sources. Blocks of jobs are taken from the captures in turn, so each capture has a frame
-/// under way, and at most `window` jobs, 1 to 4096, of all captures together are due at a time. Every job
-/// is run in this thread, between the two calls of the gate, which knows it by its number among the jobs of all
-/// captures. The last lines are put once no capture gives a job any more.
+/// Blocks of jobs come from the captures in turn; at most `window` jobs, 1 to 4096, of all together are due. Every job runs in
+/// this thread, between the two calls of the gate, by its number among all jobs. The last lines are put once no capture gives
+/// a job.
 ///
-/// A fault of one capture's octets, source or sink ends only that capture. The only error is lack of memory, and then a
-/// part of each text was put.
+/// A fault of a capture's octets, source or sink ends only that capture. The only error is lack of memory; then a part of each
+/// text was put.
 pub fn many_alone<S: Source, K: Sink, G: Gate>(
     alloc: Global,
     window: u16,
@@ -41,14 +39,13 @@ pub fn many_alone<S: Source, K: Sink, G: Gate>(
     Alone::new(alloc, window, gate).receive(sources, sinks)
 }
 
-/// Does as [`many_alone`], and the jobs of all captures are run by one crew of 1 to 64 workers, of
-/// which the caller is one. The caller alone reads the sources and puts the lines.
+/// Does as [`many_alone`], with one crew of 1 to 64 workers for all captures, of which the caller is one. The caller alone
+/// reads the sources and puts the lines.
 ///
-/// A whole frame of 100 octets or more is given to the workers, who decode it before they look for jobs; the caller decodes
-/// shorter ones, one that is whole with the last block due of a capture whose end was read, and while it waits those that no
-/// worker has begun. The lines of each capture are put in order. Behind each block taken, at most two whole frames of each
-/// capture for each worker beside the caller have no line yet, and those that were given to the workers have at most 131,072
-/// octets together; no clause says so. Once no capture gives a job any more, the lines of all whole frames are put.
+/// The workers decode whole frames of 100 octets or more, before they look for jobs; the caller decodes shorter ones, and
+/// others while it waits or where a capture ends. Behind each block taken, at most two whole frames of each capture for each
+/// worker beside the caller have no line yet, and those with the workers have at most 131,072 octets together; no clause says
+/// so. The lines of a capture are put in order, all of them once no capture gives a job.
 pub fn many<R: Threads + Wait + Sync, S: Source, K: Sink, G: Gate + Sync>(
     rt: &R,
     alloc: Global,
@@ -66,13 +63,13 @@ pub fn many<R: Threads + Wait + Sync, S: Source, K: Sink, G: Gate + Sync>(
     Crew::new(rt, alloc, workers, window, gate).receive(sources, sinks)
 }
 
-/// Reads a bundle of captures (HTMB) to its end, receives all of them, and puts for each the line
-/// `capture K` and what the command `rx` writes for it, the line of a fault at its end where it has one.
+/// Reads a bundle of captures (HTMB) to its end, receives all of them, and puts for each the line `capture K` and what the
+/// command `rx` writes for it, with the line of its fault at the end where it has one.
 ///
-/// Every job is run in this thread, and at most `window` jobs, 1 to 4096, are due at a time. Nothing is put before the
-/// last capture was received. `Format` comes at the first fault of the bundle, and `Read` where the source failed
-/// before any fault; what a capture holds is no fault of the bundle. `Write` comes exactly where the sink failed, and
-/// `NoMemory` also within the output: in both cases a part of the text was put.
+/// Every job runs in this thread, and at most `window` jobs, 1 to 4096, are due at a time. Nothing is put before the last
+/// capture was received. `Format` comes at the first fault of the bundle, and `Read` where the source failed before any; what a
+/// capture holds is no fault of the bundle. `Write` comes exactly where the sink failed, and `NoMemory` also within the
+/// output: with both a part of the text was put.
 pub fn many_bundle_alone<S: Source, K: Sink, G: Gate>(
     alloc: Global,
     window: u16,

@@ -2,7 +2,7 @@
 ghost use Rattle.std.specs.Prelude.{◌≡◌, map, IfOk};
 ghost use Rattle.ht_feed.specs.Limits.{IsCrewSize};
 ghost use Rattle.ht_lanes.specs.Lanes.{AreOver};
-ghost use Rattle.ht_many.specs.CaptureLanes.{AreOpened, IsNew, lane_answer, lane_over};
+ghost use Rattle.ht_many.specs.CaptureLanes.{AreNewLanes, IsNew, lane_answer, lane_over};
 
 use crate::frame_lines::FrameLines;
 use crate::gathered_lines::GatheredLines;
@@ -11,7 +11,7 @@ use ht_feed::Ended;
 use ht_frames::Frames;
 use ht_lanes::DeskLane;
 use ht_results::no_head;
-use ht_runs::StopFault;
+use ht_runs::RunFault;
 use ht_rx::WholeLabels;
 use std::alloc::{AllocError, Global};
 
@@ -32,7 +32,7 @@ fn open_lane(alloc: Global) -> Result<CaptureLane, AllocError>
 
 /// This many lanes that have read nothing. The only error is lack of memory.
 pub(crate) fn open_lanes(alloc: Global, count: usize) -> Result<Vec<CaptureLane>, AllocError>
-    ensures { IfOk result (λ lanes. AreOpened count lanes.items) }
+    ensures { IfOk result (λ lanes. AreNewLanes count lanes.items) }
 {
     let mut lanes = Vec::new(alloc);
     for _index in 0..count {
@@ -66,7 +66,7 @@ pub(crate) fn open_crew_lanes<'f, R>(
     count: usize,
 ) -> Result<Vec<CrewLane<'f, R>>, AllocError>
     requires crew { IsCrewSize workers }
-    ensures { IfOk result (λ lanes. AreOpened count lanes.items) }
+    ensures { IfOk result (λ lanes. AreNewLanes count lanes.items) }
 {
     let mut lanes = Vec::new(alloc);
     for _index in 0..count {
@@ -79,7 +79,7 @@ pub(crate) fn open_crew_lanes<'f, R>(
 pub(crate) fn answers_of<A: Drop>(
     alloc: Global,
     lanes: &[DeskLane<CaptureReader, A>],
-) -> Result<Vec<Result<Ended, StopFault>>, AllocError>
+) -> Result<Vec<Result<Ended, RunFault>>, AllocError>
     requires over { AreOver lane_over 0 lanes.now }
     ensures { IfOk result (λ answers. answers.items ≡ map lane_answer lanes.now) }
 {

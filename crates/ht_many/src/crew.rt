@@ -26,7 +26,7 @@ use std::sync::Wait;
 use std::thread::Threads;
 
 // Runs all blocks of lanes that gave none yet by a crew, and hands each lane the answers to its own. Behind the last one each
-// puts what it keeps back. Of what a lane is nothing is known here but that it is one. The only error is lack of memory.
+// puts what it keeps back. Any kind of lane will do. The only error is lack of memory.
 fn drive_lanes<
     R: Threads + Wait + Sync,
     L: Lane<S, K>,
@@ -101,8 +101,8 @@ impl<'c, R, G> Crew<'c, R, G> {
 }
 
 impl<'c, R: Threads + Wait + Sync, G: Gate + Sync> Crew<'c, R, G> {
-    // Does as `Alone::receive_lanes`, and the jobs are run by the workers, who decode the whole frames that they find there before they
-    // look for jobs.
+    // Does as `Alone::receive_lanes`, and the jobs are run by the workers, who decode the whole frames that they find there
+    // before they look for jobs.
     fn receive_lanes<S: Source, K: Sink>(
         &self,
         frames: &Frames<WholeLabels>,
@@ -135,8 +135,9 @@ impl<'c, R: Threads + Wait + Sync, G: Gate + Sync> Crew<'c, R, G> {
         }
     }
 
-    /// Does as [`Alone::receive`]. The workers decode the whole frames of 100 octets or more of all captures, but those that
-    /// the caller decodes, except where it is the only worker.
+    /// Does as [`Alone::receive`], and the workers decode whole frames of 100 octets or more of all captures. The caller decodes
+    /// shorter ones, one that is whole with the last block due of a capture whose end was read, and those that no worker has
+    /// begun when it waits for them; where it is the only worker, all.
     pub(crate) fn receive<S: Source, K: Sink>(
         &self,
         sources: &mut [S],
@@ -162,7 +163,7 @@ impl<'c, R: Threads + Wait + Sync, G: Gate + Sync> Crew<'c, R, G> {
         self.receive_lanes(&frames, &mut lanes, sources, sinks)
     }
 
-    // The text of each capture, of captures that are received beside one another.
+    // The text of each capture, where one crew receives all of them at the same time.
     fn texts_together(&self, captures: Vec<Bundled>) -> Result<Vec<GrowSink>, AllocError>
         ensures { IfOk result (λ sinks. map (λ (s : Growing). s.held) sinks.items ≡ map rx_text captures.items) }
     {
@@ -177,8 +178,8 @@ impl<'c, R: Threads + Wait + Sync, G: Gate + Sync> Crew<'c, R, G> {
         }
     }
 
-    /// The text of each capture. Where the captures that are dealt to each worker have about as many octets, each worker
-    /// receives its own whole, and else one crew the jobs of all.
+    /// The text of each capture. Where the captures dealt to each worker have about the same number of octets, each worker
+    /// receives its own whole; elsewhere one crew runs the jobs of all.
     pub(crate) fn texts(&self, captures: Vec<Bundled>) -> Result<Vec<GrowSink>, AllocError>
         ensures { IfOk result (λ sinks. map (λ (s : Growing). s.held) sinks.items ≡ map rx_text captures.items) }
     {

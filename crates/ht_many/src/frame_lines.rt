@@ -2,9 +2,9 @@
 ghost use Rattle.std.specs.Prelude.{◌≡◌, [], slice_get, Some};
 ghost use Rattle.ht_feed.specs.Dues.{AreHits, jobs_in};
 ghost use Rattle.ht_capture.specs.Parts.{jobs_of};
-ghost use Rattle.ht_lanes.specs.Bookings.{BooksFirst};
+ghost use Rattle.ht_lanes.specs.Bookings.{BooksFirstDue};
+ghost use Rattle.ht_lanes.proofs.Numbering.{hits_numberless};
 ghost use Rattle.ht_many.specs.KeptFrames.{booked_left, lines_left};
-ghost use Rattle.ht_many.specs.Renumbering.{hits_numberless};
 
 use ht_capture_blocks::{CaptureBlock, CaptureReader};
 use ht_feed::{BookFault, Desk, Desking, Hits};
@@ -51,7 +51,7 @@ impl FrameLines {
     fn none_waits(&self)
         ensures { self.now.whole ≡ [] }
     {
-        // For the proof alone: what is seen of it is known once it was looked at.
+        // For the proof alone: its model is known once the body reads it.
         let _alloc = self.alloc;
     }
 
@@ -66,7 +66,7 @@ impl FrameLines {
         requires right { AreHits hits.now.found.items (jobs_of block.now.block) }
         requires first { slice_get (jobs_in desk.old.due) 0 ≡ Some (jobs_of block.now.block) }
 
-        ensures books { BooksFirst result desk.old desk.new (B.shown book.old) (B.shown book.new)
+        ensures books { BooksFirstDue result desk.old desk.new (B.shown book.old) (B.shown book.new)
             (booked_left B.booked self.old) (booked_left B.booked self.new) }
         ensures none { self.new.whole ≡ [] }
         ensures same { B.lent book.new ≡ B.lent book.old }

@@ -1,10 +1,11 @@
 //! What becomes of the tallies of one capture among several, where workers decode whole frames.
 ghost use Rattle.std.specs.Prelude.{◌≡◌, [], slice_get, Some, OnOk};
+ghost use Rattle.ht_feed.specs.Accounts.{BooksJobs};
 ghost use Rattle.ht_feed.specs.Dues.{jobs_in};
 ghost use Rattle.ht_feed.specs.Limits.{IsCrewSize};
 ghost use Rattle.ht_capture.specs.Parts.{jobs_of};
 ghost use Rattle.ht_rx.specs.Tallies.{IsTally};
-ghost use Rattle.ht_lanes.specs.Bookings.{BooksFirst, BooksHits};
+ghost use Rattle.ht_lanes.specs.Bookings.{BooksFirstDue};
 ghost use Rattle.ht_many.specs.KeptFrames.{booked_left, lines_left};
 ghost use Rattle.ht_rx.proofs.Tallying.{numberless};
 
@@ -87,7 +88,7 @@ impl<'f, R: Threads + Wait> GatheredLines<'f, R> {
         requires right { IsTally tally.now.rate (jobs_of block.now.block) tally.now }
         requires first { slice_get (jobs_in desk.old.due) 0 ≡ Some (jobs_of block.now.block) }
 
-        ensures books { BooksFirst result desk.old desk.new (B.shown book.old) (B.shown book.new)
+        ensures books { BooksFirstDue result desk.old desk.new (B.shown book.old) (B.shown book.new)
             (booked_left B.booked self.old) (booked_left B.booked self.new) }
         ensures same { B.lent book.new ≡ B.lent book.old }
     {
@@ -106,8 +107,8 @@ impl<'f, R: Threads + Wait> GatheredLines<'f, R> {
 
     // Books the results of all whole frames.
     fn finish_into<B: Book<FrameResult>>(&mut self, book: &mut B) -> Result<(), BookFault>
-        ensures books { BooksHits result (B.shown book.old) (B.shown book.new)
-            (booked_left B.booked self.old) (booked_left B.booked self.new) [] }
+        ensures books { BooksJobs result (B.shown book.old) (B.shown book.new)
+            (booked_left B.booked self.old) (booked_left B.booked self.new) [] [] [] }
         ensures none { OnOk result (self.new.whole ≡ []) }
         ensures same { B.lent book.new ≡ B.lent book.old }
     {

@@ -18,8 +18,8 @@ use std::thread::Threads;
 
 /// Books the result of each frame in a book, and has workers decode whole frames, as a `Gatherer` of crate `ht_frames`
 /// does. But it keeps them back whether or not another block is due, as long as its capture is read: blocks of other captures
-/// come in between. So it may end with whole frames in the queue, and its owner books them. A frame that is whole with the
-/// last block due of a capture whose end was read has the caller decode it and book all, so that they don't count against
+/// come in between. So it may end with whole frames in the queue, and its owner books them. With the last block due of a
+/// capture whose end was read, the caller decodes the frame that is whole then and books all, so that they don't count against
 /// other captures.
 #[derive(Drop)]
 pub(crate) struct KeepingLines<'a, R, B> {
@@ -38,7 +38,7 @@ pub(crate) struct KeepingLines<'a, R, B> {
 }
 
 impl<'a, R, B> KeepingLines<'a, R, B> {
-    /// One beside this number of workers, of which the caller is one, for a capture that is read no more or still is. It
+    /// An account for this number of workers, of which the caller is one; `stopped` says that its capture is read no more. It
     /// books results in this book, and goes on from the frame that is under way and those that are whole. It takes no memory.
     pub(crate) fn new(
         rt: &'a R,
@@ -90,11 +90,11 @@ impl<'a, R: Threads + Wait, B: Book<FrameResult>> Account<CaptureReader>
         due: &HeapCircularBuffer<DueBlock<CaptureReader>>,
     ) -> Result<(), BookFault> {
         let is_last = self.stopped && due.len() == 1;
-        let room = if is_last { 0 } else { usize::from(self.beside) };
+        let keep = if is_last { 0 } else { usize::from(self.beside) };
         gather_block(
             self.rt,
             self.alloc,
-            room,
+            keep,
             self.frames,
             self.under_way,
             self.queue,

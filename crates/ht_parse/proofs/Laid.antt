@@ -1,29 +1,29 @@
--- The place maps of the stream parser, where a place is given by its stream, its round, its encoder and its place in the run.
+-- The place maps of the stream parser, where a place is given by its stream, its round, its encoder and its place in the group.
 use Rattle.std.proofs.Common.{◌≡◌, ℕ, zero, suc, ◌+◌, ◌-◌, ◌*◌, ◌/◌, ◌%◌, ◌<◌, List, Bool, false, length, get_or, ap, sym, ◌∙◌, arith}
 use Rattle.std.proofs.lemmas.Nat.{div-mul-add, mod-mul-add}
 use Rattle.ht_rate.specs.declared.rates.Rate.{Rate}
 use Rattle.ht_rate.specs.Rates.{encoders_of, streams_of, stream_bits_of, axis_bits_of}
 use Rattle.ht_parse.specs.Encoders.{list_of, AreShares}
 use Rattle.ht_parse.specs.Streams.{source_of, stream_place_of}
-use Rattle.ht_parse.specs.Runs.{AreSizes, FollowsRule, laid_bit, gathered_bit}
+use Rattle.ht_parse.specs.Groups.{AreSizes, FollowsRule, laid_bit, gathered_bit}
 use Rattle.ht_rate.proofs.RateFacts.{encoders_of-range}
 use Rattle.ht_parse.proofs.Filled.{follows-more}
-use Rattle.ht_parse.proofs.Places.{run-place, place-below}
+use Rattle.ht_parse.proofs.Places.{group-place, place-below}
 use Rattle.ht_parse.proofs.Sizes.{sizes-stream}
 
--- the place of a run in its row, where the rate's numbers of runs and of places are given as others
-sized-place : (runs size n s q j x k : ℕ) → runs ≡ n → size ≡ s → j < n → x < s → k ≡ n * s * q + j * s + x
-    → (k / size % runs ≡ j) × (k / (runs * size) ≡ q) × (k % size ≡ x)
-sized-place runs size n s q j x k is_runs is_size lj lx e =
-    run-place runs size q j x k (omega arith) (omega arith)
-    (e ∙ ap (λ (y : ℕ). y * s * q + j * s + x) (sym is_runs) ∙ ap (λ (y : ℕ). runs * y * q + j * y + x) (sym is_size))
+-- the place of a group in its row, where the rate's numbers of groups and of places are given as others
+sized-place : (groups size n s q j x k : ℕ) → groups ≡ n → size ≡ s → j < n → x < s → k ≡ n * s * q + j * s + x
+    → (k / size % groups ≡ j) × (k / (groups * size) ≡ q) × (k % size ≡ x)
+sized-place groups size n s q j x k is_groups is_size lj lx e =
+    group-place groups size q j x k (omega arith) (omega arith)
+    (e ∙ ap (λ (y : ℕ). y * s * q + j * s + x) (sym is_groups) ∙ ap (λ (y : ℕ). groups * y * q + j * y + x) (sym is_size))
 
 -- the bit that a place of a stream comes from
 pub source-at : (r : Rate) (e n s m t q j x k : ℕ) → AreSizes r e n s m → j < e
     → x < s → k ≡ e * s * q + j * s + x → source_of r (t + 1) k ≡ (j, (q * n + t) * s + x)
 unfolding source_of
 source-at r e n s m t q j x k a lj lx is =
-    let dn = a.streams_is in let ds = a.run_is in
+    let dn = a.streams_is in let ds = a.group_is in
     let parts = sized-place (encoders_of r) (axis_bits_of r) e s q j x k (sym a.encoders_is) (sym ds) lj lx is in
     let encoder = parts.0 in let row = parts.1 in let rest = parts.2 in
     let back : t + 1 - 1 ≡ t = omega arith in
@@ -35,12 +35,12 @@ pub place-at : (r : Rate) (e n s m t q j x i : ℕ) → AreSizes r e n s m → t
     → i ≡ n * s * q + t * s + x → stream_place_of r j i ≡ (t + 1, e * s * q + j * s + x)
 unfolding stream_place_of
 place-at r e n s m t q j x i a lt lx is =
-    let de = a.encoders_is in let ds = a.run_is in
+    let de = a.encoders_is in let ds = a.group_is in
     let parts = sized-place (streams_of r) (axis_bits_of r) n s q t x i (sym a.streams_is) (sym ds) lt lx is in
     let stream = parts.0 in let row = parts.1 in let rest = parts.2 in
     cc
 
--- what stands in the symbol at a place of an encoder's run
+-- what stands in the symbol at a place of an encoder's group
 pub laid-at : (r : Rate) (e n s m t q j x p : ℕ) (first second : List Bool) → AreSizes r e n s m → q < m → j < e → x < s → p ≡ ((t * m + q) * e + j) * s + x
     → laid_bit r first second p ≡ get_or (list_of first second j) ((q * n + t) * s + x) false
 unfolding laid_bit
@@ -56,7 +56,7 @@ laid-at r e n s m t q j x p first second a lq lj lx is =
     ap (λ (y : ℕ). source_of r (y + 1) (p % stream_bits_of r)) is_stream ∙ source-at r e n s m t q j x (p % stream_bits_of r) a lj lx is_place in
     ap (λ (z : ℕ × ℕ). get_or (list_of first second z.0) z.1 false) source
 
--- what stands in an encoder's list at a place of a stream's run
+-- what stands in an encoder's list at a place of a stream's group
 pub gathered-at : (r : Rate) (e n s m t q j x i : ℕ) (bits : List Bool) → AreSizes r e n s m → t < n → x < s → i ≡ (q * n + t) * s + x
     → gathered_bit r bits j i ≡ get_or bits (((t * m + q) * e + j) * s + x) false
 unfolding gathered_bit
@@ -80,7 +80,7 @@ length-list_of r first second share (suc j) len shares lj =
     let same : (encoders_of r - 1) * length first ≡ 1 * length first = ap (λ (y : ℕ). y * length first) one in
     omega arith
 
--- a run of an encoder's list is laid behind the places that are laid
+-- a group of an encoder's list is laid behind the places that are laid
 pub laid-step : (r : Rate) (e n s m t q j at len : ℕ) (first second from old new : List Bool) → AreSizes r e n s m → q < m → j < e
     → from ≡ list_of first second j → at ≡ (q * n + t) * s → len ≡ ((t * m + q) * e + j) * s → length old ≡ len → length new ≡ len + s
     → ((p : ℕ) → p < len → get_or new p false ≡ get_or old p false) → ((x : ℕ) → x < s → get_or new (len + x) false ≡ get_or from (at + x) false)
@@ -93,7 +93,7 @@ laid-step r e n s m t q j at len first second from old new a lq lj is_from is_at
     ∙ (ap (λ (y : ℕ). get_or (list_of first second j) (y + x) false) is_at
     ∙ sym (laid-at r e n s m t q j x (len + x) first second a lq lj lx (ap (λ (y : ℕ). y + x) is_len)))))
 
--- a run of a stream is gathered behind the places that are gathered
+-- a group of a stream is gathered behind the places that are gathered
 pub gathered-step : (r : Rate) (e n s m t q j at len : ℕ) (bits old new : List Bool) → AreSizes r e n s m → t < n
     → at ≡ ((t * m + q) * e + j) * s → len ≡ (q * n + t) * s → length old ≡ len → length new ≡ len + s
     → ((p : ℕ) → p < len → get_or new p false ≡ get_or old p false) → ((x : ℕ) → x < s → get_or new (len + x) false ≡ get_or bits (at + x) false)
@@ -106,11 +106,14 @@ gathered-step r e n s m t q j at len bits old new a lt is_at is_len len_old len_
     ∙ sym (gathered-at r e n s m t q j x (len + x) bits a lt lx (ap (λ (y : ℕ). y + x) is_len))))
 
 -- the length and the capacity of a list that is being filled
-pub record HasSize (len capacity held most : ℕ) : Type 0 where
+pub record HasSize (len space held most : ℕ) : Type 0 where
   pub count : len ≡ held
-  pub room : capacity ≡ most
+  pub capacity : space ≡ most
 
--- and with one run more
-pub size-more : (len capacity held most run new_len new_capacity next : ℕ) → HasSize len capacity held most → new_len ≡ len + run → new_capacity ≡ capacity
-    → next ≡ held + run → HasSize new_len new_capacity next most
-size-more len capacity held most run new_len new_capacity next was longer same is = record { count = omega (arith, was.count); room = same ∙ was.room }
+-- and with one group more
+pub size-more : (len space held most group new_len new_space next : ℕ) → HasSize len space held most → new_len ≡ len + group → new_space ≡ space
+    → next ≡ held + group → HasSize new_len new_space next most
+size-more len space held most group new_len new_space next was longer same is = record {
+  count = omega (arith, was.count);
+  capacity = same ∙ was.capacity;
+}

@@ -6,7 +6,7 @@ use Rattle.ht_rate.specs.Rates.{encoders_of, streams_of, stream_bits_of, coded_b
 use Rattle.ht_rate.proofs.RateFacts.{encoders_of-range}
 use Rattle.ht_parse.specs.Encoders.{list_of, AreShares}
 use Rattle.ht_parse.specs.Streams.{share_of, source_of, stream_place_of, IsLaid}
-use Rattle.ht_parse.specs.Runs.{AreSizes, FollowsRule, laid_bit, gathered_bit}
+use Rattle.ht_parse.specs.Groups.{AreSizes, FollowsRule, laid_bit, gathered_bit}
 use Rattle.ht_parse.proofs.Laid.{length-list_of}
 use Rattle.ht_parse.proofs.Sizes.{coded_bits_of-streams}
 use Rattle.ht_parse.proofs.Inverse.{IsStreamPlace, from-place}

@@ -1,3 +1,3 @@
 pub mod Encoders
-pub mod Runs
+pub mod Groups
 pub mod Streams

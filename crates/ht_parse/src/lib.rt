@@ -2,9 +2,9 @@
 //! bit, and which spatial stream gets a coded bit.
 //!
 //! With N_ES encoders, scrambled bit N_ES * i + j is bit i of encoder j's input. Within a symbol the coded bits go
-//! to the streams in runs of s = max(1, N_BPSCS / 2) bits, the bits of one axis of the constellation: in each round
-//! every stream in turn takes a run, and takes it from every encoder. So bit k of stream iss, iss from 1 on, is
-//! bit (iss - 1) * s + N_SS * s * floor(k / (N_ES * s)) + k mod s of encoder floor(k / s) mod N_ES.
+//! to the streams in groups of s = max(1, N_BPSCS / 2) bits, the bits of one axis of the constellation: in each round
+//! every stream in turn takes a group from every encoder. So bit k of stream iss, iss from 1 on, is bit
+//! (iss - 1) * s + N_SS * s * floor(k / (N_ES * s)) + k mod s of encoder floor(k / s) mod N_ES.
 //!
 //! At 40 MHz, MCS 31 (four streams of 64-QAM, two encoders, s = 3), bit 3 of stream 2 is bit 3 of encoder 1, and
 //! bit 7 of stream 2 is bit 16 of encoder 0. The bits 0110 are split into 01 and 10.

@@ -3,7 +3,7 @@
 ghost use Rattle.std.specs.Prelude.{◌≡◌, ◌+◌, ◌-◌, ◌*◌, ◌<◌, ◌≤◌, ℕ, IfOk, length, slice_index_or, false, vec_len, vec_capacity};
 ghost use Rattle.ht_rate.specs.Rates.{coded_bits_of};
 ghost use Rattle.ht_parse.specs.Encoders.{AreShares, list_of};
-ghost use Rattle.ht_parse.specs.Runs.{FollowsRule, laid_bit, gathered_bit};
+ghost use Rattle.ht_parse.specs.Groups.{FollowsRule, laid_bit, gathered_bit};
 ghost use Rattle.ht_parse.specs.Streams.{share_of, IsLaid};
 
 use crate::layout::Layout;
@@ -36,7 +36,7 @@ pub fn to_streams(
     Ok(bits)
 }
 
-// Appends one round of a stream: a run of each encoder.
+// Appends one round of a stream: a group of each encoder.
 fn push_laid_round(
     bits: &mut Vec<bool>,
     layout: &Layout,
@@ -49,16 +49,16 @@ fn push_laid_round(
     requires shares { AreShares layout.now.rate first.now second.now }
     requires stream { stream < layout.now.streams }
     requires round { round < layout.now.rounds }
-    requires len { vec_len bits.old ≡ (stream * layout.now.rounds + round) * layout.now.encoders * layout.now.run }
-    requires room { vec_capacity bits.old ≡ coded_bits_of layout.now.rate }
+    requires len { vec_len bits.old ≡ (stream * layout.now.rounds + round) * layout.now.encoders * layout.now.group }
+    requires capacity { vec_capacity bits.old ≡ coded_bits_of layout.now.rate }
     requires laid { FollowsRule (laid_bit layout.now.rate first.now second.now) bits.old.items }
-    ensures len { vec_len bits.new ≡ (stream * layout.now.rounds + (round + 1)) * layout.now.encoders * layout.now.run }
-    ensures room { vec_capacity bits.new ≡ coded_bits_of layout.now.rate }
+    ensures len { vec_len bits.new ≡ (stream * layout.now.rounds + (round + 1)) * layout.now.encoders * layout.now.group }
+    ensures capacity { vec_capacity bits.new ≡ coded_bits_of layout.now.rate }
     ensures laid { FollowsRule (laid_bit layout.now.rate first.now second.now) bits.new.items }
 {
     let at = layout.bit(stream, round);
     for encoder in 0..layout.encoders {
-        push_run(bits, of_encoder(first, second, encoder), at, layout.run);
+        push_group(bits, of_encoder(first, second, encoder), at, layout.group);
     }
 }
 
@@ -69,16 +69,16 @@ fn of_encoder<'a>(first: &'a [bool], second: &'a [bool], encoder: usize) -> &'a 
     if encoder == 0 { first } else { second }
 }
 
-// Appends a run of bits from a place on.
-fn push_run(bits: &mut Vec<bool>, from: &[bool], at: usize, run: usize)
-    requires within { at + run ≤ length from.now }
-    requires room { vec_len bits.old + run ≤ vec_capacity bits.old }
-    ensures len { vec_len bits.new ≡ vec_len bits.old + run }
-    ensures room { vec_capacity bits.new ≡ vec_capacity bits.old }
+// Appends a group of bits from a place on.
+fn push_group(bits: &mut Vec<bool>, from: &[bool], at: usize, group: usize)
+    requires within { at + group ≤ length from.now }
+    requires room { vec_len bits.old + group ≤ vec_capacity bits.old }
+    ensures len { vec_len bits.new ≡ vec_len bits.old + group }
+    ensures capacity { vec_capacity bits.new ≡ vec_capacity bits.old }
     ensures kept { (p : ℕ) → p < vec_len bits.old → slice_index_or bits.new.items p false ≡ slice_index_or bits.old.items p false }
-    ensures copied { (x : ℕ) → x < run → slice_index_or bits.new.items (vec_len bits.old + x) false ≡ slice_index_or from.now (at + x) false }
+    ensures copied { (x : ℕ) → x < group → slice_index_or bits.new.items (vec_len bits.old + x) false ≡ slice_index_or from.now (at + x) false }
 {
-    for bit in &from[at..at + run] {
+    for bit in &from[at..at + group] {
         bits.push_reserved(*bit);
     }
 }
@@ -116,19 +116,19 @@ fn gathered(
 ) -> Result<Vec<bool>, AllocError>
     requires encoder { encoder < layout.now.encoders }
     requires whole { length bits.now ≡ coded_bits_of layout.now.rate }
-    ensures len { IfOk result (λ list. length list.items ≡ share_of layout.now.rate) }
-    ensures gathered { IfOk result (λ list. FollowsRule (gathered_bit layout.now.rate bits.now encoder) list.items) }
+    ensures len { IfOk result (λ gathered. length gathered.items ≡ share_of layout.now.rate) }
+    ensures gathered { IfOk result (λ gathered. FollowsRule (gathered_bit layout.now.rate bits.now encoder) gathered.items) }
 {
-    let mut list = Vec::with_capacity(alloc, layout.share())?;
+    let mut gathered = Vec::with_capacity(alloc, layout.share())?;
     for round in 0..layout.rounds {
-        push_gathered_round(&mut list, layout, round, bits, encoder);
+        push_gathered_round(&mut gathered, layout, round, bits, encoder);
     }
-    Ok(list)
+    Ok(gathered)
 }
 
-// Appends the bits of the next round: a run of each stream.
+// Appends the bits of the next round: a group of each stream.
 fn push_gathered_round(
-    list: &mut Vec<bool>,
+    gathered: &mut Vec<bool>,
     layout: &Layout,
     round: usize,
     bits: &[bool],
@@ -137,14 +137,19 @@ fn push_gathered_round(
     requires encoder { encoder < layout.now.encoders }
     requires whole { length bits.now ≡ coded_bits_of layout.now.rate }
     requires round { round < layout.now.rounds }
-    requires len { vec_len list.old ≡ round * layout.now.streams * layout.now.run }
-    requires room { vec_capacity list.old ≡ share_of layout.now.rate }
-    requires gathered { FollowsRule (gathered_bit layout.now.rate bits.now encoder) list.old.items }
-    ensures len { vec_len list.new ≡ (round + 1) * layout.now.streams * layout.now.run }
-    ensures room { vec_capacity list.new ≡ share_of layout.now.rate }
-    ensures gathered { FollowsRule (gathered_bit layout.now.rate bits.now encoder) list.new.items }
+    requires len { vec_len gathered.old ≡ round * layout.now.streams * layout.now.group }
+    requires capacity { vec_capacity gathered.old ≡ share_of layout.now.rate }
+    requires gathered { FollowsRule (gathered_bit layout.now.rate bits.now encoder) gathered.old.items }
+    ensures len { vec_len gathered.new ≡ (round + 1) * layout.now.streams * layout.now.group }
+    ensures capacity { vec_capacity gathered.new ≡ share_of layout.now.rate }
+    ensures gathered { FollowsRule (gathered_bit layout.now.rate bits.now encoder) gathered.new.items }
 {
     for stream in 0..layout.streams {
-        push_run(list, bits, layout.place(stream, round, encoder), layout.run);
+        push_group(
+            gathered,
+            bits,
+            layout.place(stream, round, encoder),
+            layout.group,
+        );
     }
 }

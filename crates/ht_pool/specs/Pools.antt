@@ -34,7 +34,7 @@ module _ {T : Type 0} where
   IsEmptied v = SameCounts v.taken v.pushed
 
 module _ {T A : Type 0} where
-  -- a pool with this room in each deque
+  -- a pool whose deques have this capacity
   pub record IsOpened (capacity : ℕ) (p : Pool T A) : Type 0 where
     pub post : p.post ≡ unused capacity p.post.deques p.shared
     pub fresh : All (HasYetToServe p.shared) p.members.items

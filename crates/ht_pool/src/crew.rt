@@ -23,7 +23,7 @@ fn crew<W: Work + Sync, R: Threads + Wait + Sync>(
     requires room { vec_len members ≤ vec_capacity members }
     ensures served { HaveServed W.asked W.weight shared.now members.items result.items }
     ensures count { vec_len result ≡ vec_len members }
-    ensures room { vec_capacity members ≤ vec_capacity result }
+    ensures capacity { vec_capacity members ≤ vec_capacity result }
 {
     let Some(mine) = members.pop() else {
         return members;
@@ -39,7 +39,7 @@ fn crew<W: Work + Sync, R: Threads + Wait + Sync>(
             requires { IsSync R.row × (vec_len members ≤ vec_capacity members) × All (HasYetToServe shared.now) members.items }
             ensures served { HaveServed W.asked W.weight shared.entry.now members.items result.items }
             ensures count { vec_len result ≡ vec_len members }
-            ensures room { vec_capacity members ≤ vec_capacity result }
+            ensures capacity { vec_capacity members ≤ vec_capacity result }
         { crew(rt, work, shared, members) },
     );
     members.push_reserved(mine);

@@ -127,7 +127,7 @@ fn seat_all<T: Drop, A: Drop>(
     ensures berths { (deques : List DequeId) → AreReady deques owners.old.items rows.old.items
         → map berth_of members.new.items ≡ map (berth deques) (own_deques owners.old.items) }
     ensures count { length members.new.items ≡ length owners.old.items }
-    ensures room { vec_capacity members.new ≡ vec_capacity members.old }
+    ensures capacity { vec_capacity members.new ≡ vec_capacity members.old }
     ensures owners { (owners.new.items ≡ []) × (vec_capacity owners.new ≡ vec_capacity owners.old) }
     ensures rows { (rows.new.items ≡ []) × (vec_capacity rows.new ≡ vec_capacity rows.old) }
     ensures queue { IsOnQueue shared.now pass.new }

@@ -2,11 +2,11 @@
 use Rattle.std.proofs.Common.{◌≡◌, ℕ, List, [], MatchResult, Result, ap, subst, ◌∙◌}
 use Rattle.ht_io.specs.Devices.{Device}
 use Rattle.ht_fields.specs.Meanings.{Meaning}
-use Rattle.ht_runs.specs.declared.faults.StopFault.{StopFault}
+use Rattle.ht_runs.specs.declared.faults.RunFault.{RunFault}
 use Rattle.ht_feed.specs.declared.ended.Ended.{Ended}
 use Rattle.ht_feed.specs.Accounts.{Telling}
 use Rattle.ht_feed.specs.Items.{Headed, Item}
-use Rattle.ht_feed.specs.Outcomes.{Comes, StopsAs, EndsAs, pieces_of}
+use Rattle.ht_feed.specs.Outcomes.{Comes, StopsAs, EndsWhole, pieces_of}
 use Rattle.ht_feed.specs.Reading.{view}
 use Rattle.ht_frames.specs.Gathering.{booked_behind, booked_in}
 use Rattle.ht_receive.specs.Receiving.{books}
@@ -20,7 +20,7 @@ module _ {R H T P : Type 0} (means : R → List ℕ → Meaning (Item H)) (at : 
     (booked : T → List P) where
   -- it keeps no whole frame yet
   pub gathered : {U W : Type 0} (results : U → List (Headed H) → List T) (result_of : W → T) (whole : List W) (d e : Device P) (v u : U)
-      (after : Telling H P) (result : Result Ended StopFault) → whole ≡ [] → d ≡ e → v ≡ u
+      (after : Telling H P) (result : Result Ended RunFault) → whole ≡ [] → d ≡ e → v ≡ u
       → Comes means at reader head source source' (behind result_of booked whole (results v) d) after result
       → Comes means at reader head source source' (books booked (results u) e) after result
   gathered {U = U} {W = W} results result_of whole d e v u after result none devices frames comes =
@@ -29,5 +29,5 @@ module _ {R H T P : Type 0} (means : R → List ℕ → Meaning (Item H)) (at : 
       let start = view means at reader source in
       subst (λ (k : Device P). Comes means at reader head source source' (books booked (results u) k) after result) devices
       (subst (λ (p : List (Headed H) → List P).
-      MatchResult result (EndsAs start (pieces_of p head start) source' d after.device)
+      MatchResult result (EndsWhole start (pieces_of p head start) source' d after.device)
       (StopsAs start (pieces_of p head start) source' d after.device)) kept comes)

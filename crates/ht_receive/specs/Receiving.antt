@@ -2,7 +2,7 @@
 use Rattle.std.specs.Prelude.{ℕ, List, Result}
 use Rattle.ht_io.specs.Devices.{Device}
 use Rattle.ht_fields.specs.Meanings.{Meaning}
-use Rattle.ht_runs.specs.declared.faults.StopFault.{StopFault}
+use Rattle.ht_runs.specs.declared.faults.RunFault.{RunFault}
 use Rattle.ht_feed.specs.declared.ended.Ended.{Ended}
 use Rattle.ht_feed.specs.Accounts.{Telling}
 use Rattle.ht_feed.specs.Inputs.{TellsInput}
@@ -16,6 +16,6 @@ books booked results device = record { device = device; pieces = booked_in booke
 -- a whole input is told to a book: what is booked of a result, the results that the jobs give, and the book and its borrows,
 -- before and after
 abbrev pub BooksInput : {R H T P : Type 0} → (R → List ℕ → Meaning (Item H)) → (R → ℕ) → R → H → Device ℕ → Device ℕ
-    → (T → List P) → (List (Headed H) → List T) → Device P → Device P → List ℕ → List ℕ → Result Ended StopFault → Type 0
+    → (T → List P) → (List (Headed H) → List T) → Device P → Device P → List ℕ → List ℕ → Result Ended RunFault → Type 0
 BooksInput means at reader head source source' booked results book book' lent lent' result =
     TellsInput means at reader head source source' (books booked results book) (books booked results book') lent lent' result

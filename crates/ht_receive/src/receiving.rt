@@ -7,7 +7,7 @@ use ht_drive::tell;
 use ht_feed::{BlockReader, Ended, Hits, Shared, Work, tell_alone};
 use ht_frames::{Book, Frames, Gatherer, Receiver, TakesBlocks, UnderWay, WholeFrame};
 use ht_io::Source;
-use ht_runs::StopFault;
+use ht_runs::RunFault;
 use std::alloc::Global;
 use std::collections::VecDeque;
 use std::sync::Wait;
@@ -19,9 +19,9 @@ use std::thread::Threads;
 /// the frame under way gives of the jobs that the reader means. Every block is run in this thread, by the work, and has at
 /// most `window` jobs, 1 to 4096. Of the frames one is kept.
 ///
-/// It answers `Done` for a whole input, and `Refused` with the first fault of another. It refuses with `Read` where the
-/// source failed, having booked the frames that were read whole; with `Write` where the book failed, also if the source did;
-/// and with `NoMemory`. In the last two cases a part of the frames was booked.
+/// It answers the numbers of frames and of jobs of a whole input. It refuses with the first fault of another, or with `Read`
+/// where the source failed, having booked the frames that were read whole; with `Write` where the book failed, also if the
+/// source did; and with `NoMemory`. In the last two cases a part of the frames was booked.
 pub fn receive_alone<
     U: UnderWay + Drop,
     R: BlockReader<Head = U::Head> + Drop,
@@ -37,7 +37,7 @@ pub fn receive_alone<
     source: &mut S,
     under_way: U,
     book: &mut B,
-) -> Result<Ended, StopFault>
+) -> Result<Ended, RunFault>
     requires window { IsWindowSize window }
     requires fresh { IsFreshReader (R.counts reader) }
     ensures { BooksInput R.means R.at reader head (S.shown source.old) (S.shown source.new)
@@ -70,7 +70,7 @@ pub fn receive<
     source: &mut S,
     under_way: U,
     book: &mut B,
-) -> Result<Ended, StopFault>
+) -> Result<Ended, RunFault>
 where
     R::Block: Shared + Send + Sync,
     U::Answer: Send + Sync,

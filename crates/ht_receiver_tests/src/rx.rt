@@ -146,7 +146,7 @@ fn listed(rt: HostRuntime) -> Result<(), Fail> {
     let mut source = Harm::None.source(alloc, &zeros(alloc, &[1])?)?;
     let mut sink = Harm::None.sink(alloc)?;
     let ended = list_jobs_alone(alloc, 16, &mut source, &mut sink, &OpenGate);
-    let wanted = Ok(Ended::Done {
+    let wanted = Ok(Ended {
         frames: 1,
         jobs: 112,
     });
@@ -182,7 +182,7 @@ fn booked(rt: HostRuntime) -> Result<(), Fail> {
     let mut book = ListBook::new(alloc);
     let mut source = Harm::None.source(alloc, &zeros(alloc, &[1, 1])?)?;
     let ended = receive_alone(alloc, 1, &mut source, &mut book, &OpenGate);
-    let wanted = Ok(Ended::Done {
+    let wanted = Ok(Ended {
         frames: 2,
         jobs: 224,
     });
@@ -200,7 +200,7 @@ fn booked_in_order(rt: HostRuntime) -> Result<(), Fail> {
         let mut book = ListBook::new(alloc);
         let mut source = Harm::None.source(alloc, &octets)?;
         let ended = receive(&rt, alloc, workers, 256, &mut source, &mut book, &OpenGate);
-        let wanted = Ok(Ended::Done {
+        let wanted = Ok(Ended {
             frames: 3,
             jobs: 14000,
         });

@@ -12,4 +12,4 @@ pub mod Folded
 mod Worked
 pub mod Present
 pub mod Taking
-pub mod Runs
+pub mod Stretches

@@ -1,6 +1,6 @@
 -- Labels with the places on which they stand in a frame, without the frame.
 use Rattle.std.specs.Prelude.{ℕ, ◌+◌, List, [], ◌∷◌, ◌++◌, set, take, drop}
-use Rattle.ht_results.specs.declared.placed_labels.Run.{Run}
+use Rattle.ht_results.specs.declared.placed_labels.Stretch.{Stretch}
 
 -- a label, or whatever stands for it, with its place
 pub record Placed : Type 0 where
@@ -20,16 +20,16 @@ abbrev pub placed_from : ℕ → List ℕ → List Placed
 placed_from at [] = []
 placed_from at (v ∷ vs) = placed at v ∷ placed_from (at + 1) vs
 
--- how many labels runs have
-abbrev pub count_of : List Run → ℕ
+-- how many labels stretches have
+abbrev pub count_of : List Stretch → ℕ
 count_of [] = 0
-count_of (run ∷ runs) = run.count + count_of runs
+count_of (stretch ∷ stretches) = stretch.count + count_of stretches
 
--- the labels of runs, which are the first of these
-abbrev pub placed_in : List Run → List ℕ → List Placed
+-- the labels of stretches, which are the first of these
+abbrev pub placed_in : List Stretch → List ℕ → List Placed
 placed_in [] labels = []
-placed_in (run ∷ runs) labels = placed_from run.at (take run.count labels) ++ placed_in runs (drop run.count labels)
+placed_in (stretch ∷ stretches) labels = placed_from stretch.at (take stretch.count labels) ++ placed_in stretches (drop stretch.count labels)
 
--- those of a last run, which begins on this place, are the labels behind them
-abbrev pub placed_by : List Run → ℕ → List ℕ → List Placed
-placed_by runs at labels = placed_in runs labels ++ placed_from at (drop (count_of runs) labels)
+-- those of a last stretch, which begins on this place, are the labels behind them
+abbrev pub placed_by : List Stretch → ℕ → List ℕ → List Placed
+placed_by stretches at labels = placed_in stretches labels ++ placed_from at (drop (count_of stretches) labels)

@@ -1,5 +1,5 @@
 -- What `rx` writes for a list of octets: a line for each frame that is whole, and a last line.
-use Rattle.std.specs.Prelude.{ℕ, ◌+◌, List, [], ◌∷◌, ◌++◌, Option, None, Some}
+use Rattle.std.specs.Prelude.{◌≡◌, ℕ, ◌+◌, List, [], ◌∷◌, ◌++◌, Option, None, Some}
 use Rattle.std.specs.List.{flat_map}
 use Rattle.ht_io.specs.declared.faults.FormatFault.{FormatFault}
 use Rattle.ht_io.specs.Kinds.{name_of}
@@ -35,6 +35,10 @@ frames_of [] = 0
 frames_of (Frame head ∷ items) = 1 + frames_of items
 frames_of (Job job ∷ items) = frames_of items
 frames_of (Done ∷ items) = frames_of items
+
+-- a capture has this number of frames
+abbrev pub HasFrames : ℕ → List ℕ → Type 0
+HasFrames frames octets = frames ≡ frames_of (capture_of octets).items
 
 -- the last line: the number of frames, or the first fault
 abbrev pub last_of : Option FormatFault → ℕ → List ℕ

@@ -6,25 +6,25 @@ ghost use Rattle.ht_results.specs.PlacedLabels.{count_of, placed, placed_by, pla
 use std::alloc::{AllocError, Global};
 use std::marker::Model;
 
-/// A run of places that follow one another.
+/// A stretch of places that follow one another.
 #[derive(Clone, Copy, Debug, Drop)]
-struct Run {
+struct Stretch {
     /// The first place.
     at: usize,
     /// How many they are.
     count: usize,
 }
 
-/// Labels, each with its place in a frame, as contracts see them. They are kept as runs of places that follow one
-/// another, so that whoever has the frame copies a run at once.
+/// Labels, each with its place in a frame, as contracts see them. They are kept as stretches of places that follow one
+/// another, so that whoever has the frame copies a stretch at once.
 #[derive(Debug, Drop)]
 pub struct PlacedLabels {
-    // The labels of all runs, one octet each.
+    // The labels of all stretches, one octet each.
     labels: Vec<u8>,
-    // The runs that have ended.
-    ended: Vec<Run>,
-    // The run behind them, which may go on.
-    last: Run,
+    // The stretches that have ended.
+    ended: Vec<Stretch>,
+    // The stretch behind them, which may go on.
+    last: Stretch,
 }
 
 impl Model for PlacedLabels {
@@ -46,7 +46,7 @@ impl PlacedLabels {
         Ok(PlacedLabels {
             labels: Vec::with_capacity(alloc, labels)?,
             ended: Vec::new(alloc),
-            last: Run { at: 0, count: 0 },
+            last: Stretch { at: 0, count: 0 },
         })
     }
 
@@ -67,13 +67,13 @@ impl PlacedLabels {
     pub fn put_into(&self, kept: &mut [u8])
         ensures { kept.new ≡ put_each self.now kept.old }
     {
-        let behind = put_runs(&self.ended, &self.labels, kept);
-        put_run(kept, self.last.at, &self.labels[behind..]);
+        let behind = put_stretches(&self.ended, &self.labels, kept);
+        put_stretch(kept, self.last.at, &self.labels[behind..]);
     }
 }
 
-// Makes this place the next one of the last run. Where it isn't, that run ends, and another one begins.
-fn turn_to(ended: &mut Vec<Run>, last: &mut Run, at: usize) -> Result<(), AllocError>
+// Makes this place the next one of the last stretch. Where it isn't, that stretch ends, and another one begins.
+fn turn_to(ended: &mut Vec<Stretch>, last: &mut Stretch, at: usize) -> Result<(), AllocError>
     ensures next { OnOk result (last.new.at + last.new.count ≡ at) }
     ensures count { OnOk result (count_of ended.new.items + last.new.count ≡ count_of ended.old.items + last.old.count) }
     ensures same { OnOk result ((labels : List ℕ) → length labels ≡ count_of ended.old.items + last.old.count
@@ -83,41 +83,41 @@ fn turn_to(ended: &mut Vec<Run>, last: &mut Run, at: usize) -> Result<(), AllocE
     if at.checked_sub(last.at) == Some(last.count) {
         return Ok(());
     }
-    end_run(ended, *last)?;
-    *last = Run { at, count: 0 };
+    end_stretch(ended, *last)?;
+    *last = Stretch { at, count: 0 };
     Ok(())
 }
 
-// Ends a run behind others, where it has a place.
-fn end_run(ended: &mut Vec<Run>, run: Run) -> Result<(), AllocError>
-    ensures count { OnOk result (count_of ended.new.items ≡ count_of ended.old.items + run.count) }
-    ensures runs { OnOk result ((labels : List ℕ) → placed_in ended.new.items labels ≡ placed_in ended.old.items labels
-        ++ placed_from run.at (take run.count (drop (count_of ended.old.items) labels))) }
+// Ends a stretch behind others, where it has a place.
+fn end_stretch(ended: &mut Vec<Stretch>, stretch: Stretch) -> Result<(), AllocError>
+    ensures count { OnOk result (count_of ended.new.items ≡ count_of ended.old.items + stretch.count) }
+    ensures stretches { OnOk result ((labels : List ℕ) → placed_in ended.new.items labels ≡ placed_in ended.old.items labels
+        ++ placed_from stretch.at (take stretch.count (drop (count_of ended.old.items) labels))) }
     ensures refused { OnErr result (ended.new.items ≡ ended.old.items) }
 {
-    if run.count > 0 {
-        ended.push(run)?;
+    if stretch.count > 0 {
+        ended.push(stretch)?;
     }
     Ok(())
 }
 
-// Puts the labels of runs on their places, and answers how many they are.
-#[tactic(auto, using(crate::proofs::Runs::count_next))]
-fn put_runs(runs: &[Run], labels: &[u8], kept: &mut [u8]) -> usize
-    requires { count_of runs.now ≤ length labels.now }
-    ensures put { kept.new ≡ put_each (placed_in runs.now labels.now) kept.old }
-    ensures count { result ≡ count_of runs.now }
+// Puts the labels of stretches on their places, and answers how many they are.
+#[tactic(auto, using(crate::proofs::Stretches::count_next))]
+fn put_stretches(stretches: &[Stretch], labels: &[u8], kept: &mut [u8]) -> usize
+    requires { count_of stretches.now ≤ length labels.now }
+    ensures put { kept.new ≡ put_each (placed_in stretches.now labels.now) kept.old }
+    ensures count { result ≡ count_of stretches.now }
 {
     let mut behind = 0;
-    for run in runs {
-        put_run(kept, run.at, &labels[behind..behind + run.count]);
-        behind += run.count;
+    for stretch in stretches {
+        put_stretch(kept, stretch.at, &labels[behind..behind + stretch.count]);
+        behind += stretch.count;
     }
     behind
 }
 
 // Puts labels on the places from this one on, as far as there are any.
-fn put_run(kept: &mut [u8], at: usize, labels: &[u8])
+fn put_stretch(kept: &mut [u8], at: usize, labels: &[u8])
     ensures { kept.new ≡ put_values kept.old at labels.now }
 {
     if at < kept.len() {

@@ -1,13 +1,15 @@
 -- Frames that were received exactly: each sample is what a triangle makes of the points that were sent.
-use Rattle.std.specs.Prelude.{◌≡◌, ◌<◌, List, [], ◌∷◌, length, map, All}
+use Rattle.std.specs.Prelude.{◌≡◌, ◌⊎◌, ◌<◌, ℕ, List, [], ◌∷◌, length, map, All}
 use Rattle.ht_rate.specs.Rates.{carriers_of, streams_of, symbols_of}
 use Rattle.ht_metric.specs.Distance.{received}
 use Rattle.ht_metric.specs.Rows.{Leg}
 use Rattle.ht_capture.specs.declared.frames.CaptureFrame.{CaptureFrame}
-use Rattle.ht_capture.specs.Contents.{AreTriangles}
-use Rattle.ht_capture.specs.Files.{HasAllCarriers}
+use Rattle.ht_capture.specs.Contents.{AreTriangles, AreTyped, IsVersion}
+use Rattle.ht_capture.specs.Files.{AreCaptureFrames, HasAllCarriers, capture_file_of}
+use Rattle.ht_files.specs.Files.{AreFrames}
 use Rattle.ht_tx.specs.Frames.{FrameView}
 use Rattle.ht_tx.specs.Symbols.{SymbolsView}
+use Rattle.ht_tx.specs.Transmitted.{AreTransmitted}
 use Rattle.ht_return.specs.Returns.{AreOctets}
 use Rattle.ht_sim.specs.Channel.{symbols_mixed}
 
@@ -40,3 +42,16 @@ PairByPair Belong (a ∷ more) (b ∷ bs) = Belong a b × PairByPair Belong more
 -- frame by frame
 abbrev pub AreExact : List SymbolsView → List CaptureFrame → Type 0
 AreExact sent captured = PairByPair IsExact sent captured
+
+-- frames that a file can have, which hold octets; the symbols that are sent for them; and what is received of these symbols
+-- exactly, for a capture of version 1 or 2
+abbrev pub ArriveExactly : ℕ → List FrameView → List SymbolsView → List CaptureFrame → Type 0
+ArriveExactly version frames sent captured =
+    ((version ≡ 1) ⊎ (version ≡ 2)) × AreFrames frames × HoldOctets frames × AreTransmitted frames sent × AreExact sent captured
+
+-- The capture is also that of other frames, in a version that they can have: such frames are read of it. They are written
+-- again in version 1 or 2.
+abbrev pub AreWrittenAgain : ℕ → List CaptureFrame → ℕ → List CaptureFrame → ℕ → Type 0
+AreWrittenAgain version captured other others into =
+    ((into ≡ 1) ⊎ (into ≡ 2)) × AreCaptureFrames others × AreTyped others × IsVersion other others
+    × (capture_file_of version captured ≡ capture_file_of other others)

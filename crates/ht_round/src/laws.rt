@@ -16,7 +16,7 @@ ghost use Rattle.ht_results.specs.Texts.{rx_text};
 ghost use Rattle.ht_sim.specs.Channel.{captures_of};
 ghost use Rattle.ht_sim.specs.Passing.{PassesTo};
 ghost use Rattle.ht_sim.specs.Samples.{frames_drawn};
-ghost use Rattle.ht_round.specs.Exact.{AreExact, HoldOctets};
+ghost use Rattle.ht_round.specs.Exact.{AreExact, AreWrittenAgain, ArriveExactly, HoldOctets};
 ghost use Rattle.ht_round.specs.Returned.{returned_results, returned_text};
 
 /// Frames that are sent, and received exactly, come back: each frame's result is its own octets, with sums of 0, and the
@@ -26,11 +26,9 @@ ghost use Rattle.ht_round.specs.Returned.{returned_results, returned_text};
 /// Of one frame of the octet A5, say, the text is `frame 0 data 0 pilot 0 code 0 octets a5` and then `end 1 frames`.
 pub fn exact_comes_back()
     ensures results { (version : ℕ) (frames : List FrameView) (sent : List SymbolsView) (captured : List CaptureFrame)
-        → (version ≡ 1) ⊎ (version ≡ 2) → AreFrames frames → HoldOctets frames → AreTransmitted frames sent → AreExact sent captured
-        → results_of (capture_file_of version captured) ≡ returned_results frames }
+        → ArriveExactly version frames sent captured → results_of (capture_file_of version captured) ≡ returned_results frames }
     ensures text { (version : ℕ) (frames : List FrameView) (sent : List SymbolsView) (captured : List CaptureFrame)
-        → (version ≡ 1) ⊎ (version ≡ 2) → AreFrames frames → HoldOctets frames → AreTransmitted frames sent → AreExact sent captured
-        → rx_text (capture_file_of version captured) ≡ returned_text frames }
+        → ArriveExactly version frames sent captured → rx_text (capture_file_of version captured) ≡ returned_text frames }
 
     // Such frames can be written in both versions: every sample fits its 32 bits.
     ensures written { (version : ℕ) (frames : List FrameView) (sent : List SymbolsView) (captured : List CaptureFrame)
@@ -39,9 +37,7 @@ pub fn exact_comes_back()
 
     // Read as frames and written again, as `upgrade` does, such a capture comes back too.
     ensures rewritten { (version other into : ℕ) (frames : List FrameView) (sent : List SymbolsView) (captured others : List CaptureFrame)
-        → (version ≡ 1) ⊎ (version ≡ 2) → (into ≡ 1) ⊎ (into ≡ 2)
-        → AreFrames frames → HoldOctets frames → AreTransmitted frames sent → AreExact sent captured
-        → AreCaptureFrames others → AreTyped others → IsVersion other others → capture_file_of version captured ≡ capture_file_of other others
+        → ArriveExactly version frames sent captured → AreWrittenAgain version captured other others into
         → rx_text (capture_file_of into others) ≡ returned_text frames }
 {}
 

@@ -5,20 +5,6 @@ use ht_io::{Failed, FormatFault, InFault};
 use std::alloc::AllocError;
 use thiserror::Error;
 
-/// Why a run stopped, whatever its input is.
-#[derive(Clone, Copy, Debug, PartialEq, Eq, Error)]
-pub enum StopFault {
-    /// The source failed.
-    #[error("the input can't be read")]
-    Read,
-    /// The sink failed.
-    #[error("the output can't be written")]
-    Write,
-    /// Out of memory.
-    #[error("out of memory")]
-    NoMemory,
-}
-
 /// Why a run over a source and a sink didn't put its whole output.
 #[derive(Clone, Copy, Debug, PartialEq, Eq, Error)]
 pub enum RunFault {
@@ -36,16 +22,6 @@ pub enum RunFault {
     NoMemory,
 }
 
-impl From<AllocError> for StopFault {
-    ghost use Rattle.ht_runs.specs.declared.faults.StopFault.TheVariants.{NoMemory};
-
-    ghost from_gives = { λ _ fault. fault ≡ NoMemory };
-
-    fn from(_: AllocError) -> StopFault {
-        StopFault::NoMemory
-    }
-}
-
 impl From<InFault> for RunFault {
     ghost use Rattle.ht_runs.specs.Faults.{fault_of_reading};
 
@@ -56,20 +32,6 @@ impl From<InFault> for RunFault {
             InFault::Format(fault) => RunFault::Format(fault),
             InFault::Read => RunFault::Read,
             InFault::NoMemory => RunFault::NoMemory,
-        }
-    }
-}
-
-impl From<StopFault> for RunFault {
-    ghost use Rattle.ht_runs.specs.Faults.{fault_of_stop};
-
-    ghost from_gives = { λ stop fault. fault ≡ fault_of_stop stop };
-
-    fn from(stop: StopFault) -> RunFault {
-        match stop {
-            StopFault::Read => RunFault::Read,
-            StopFault::Write => RunFault::Write,
-            StopFault::NoMemory => RunFault::NoMemory,
         }
     }
 }

@@ -16,4 +16,4 @@
 pub mod faults;
 pub mod laws;
 
-pub use faults::{RunFault, StopFault};
+pub use faults::RunFault;

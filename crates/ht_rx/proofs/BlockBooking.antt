@@ -10,7 +10,7 @@ use Rattle.ht_metric.specs.declared.found.Found.{Found}
 use Rattle.ht_metric.specs.declared.place.Place.{Place}
 use Rattle.ht_metric.specs.Jobs.{JobView, near}
 use Rattle.ht_capture.specs.declared.items.FrameHead.{FrameHead}
-use Rattle.ht_runs.specs.declared.faults.StopFault.{StopFault}
+use Rattle.ht_runs.specs.declared.faults.RunFault.{RunFault}
 use Rattle.ht_feed.specs.declared.ended.Ended.{Ended}
 use Rattle.ht_results.specs.declared.frame_result.FrameResult.{FrameResult}
 use Rattle.ht_results.specs.Folding.{FrameSoFar, frame_of, kind_of, label_plan, results_from, with_job}
@@ -44,7 +44,7 @@ module _ (head : FrameHead) where
       ∙ (ap (λ (x : Found). with_found job.place x g) is ∙ found_as job (kind_of g.head.rate job.place.carrier) g)
 
 -- where no frame is under way, the results are those of the octets
-pub frames_told : {P : Type 0} (booked : FrameResult → List P) (f : FrameSoFar) (result : Result Ended StopFault)
+pub frames_told : {P : Type 0} (booked : FrameResult → List P) (f : FrameSoFar) (result : Result Ended RunFault)
     (source source' : Device ℕ) (book book' : Device P) → f.left ≤ 0
     → MatchResult result (TellsTo (pieces_of_octets (booked_in booked (results_from f))) source source' book book')
     (StopsBy (pieces_of_octets (booked_in booked (results_from f))) source source' book book')
@@ -57,7 +57,7 @@ frames_told {P = P} booked f result source source' book book' none told =
 
 -- a receiver that begins with no frame under way books the results of the octets
 pub received : {R P : Type 0} {means : R → List ℕ → Meaning (Item FrameHead)} {at : R → ℕ} {reader : R} {head : FrameHead}
-    {source source' : Device ℕ} {book book' : Device P} {lent lent' : List ℕ} {result : Result Ended StopFault} (booked : FrameResult → List P) (f : FrameSoFar)
+    {source source' : Device ℕ} {book book' : Device P} {lent lent' : List ℕ} {result : Result Ended RunFault} (booked : FrameResult → List P) (f : FrameSoFar)
     → TellsInput means at reader head source source' (books booked (results_from f) book) (books booked (results_from f) book') lent lent' result
     → ((octets : List ℕ) → means reader octets ≡ mapped (capture_of octets)) → at reader ≡ 0 → f.left ≡ 0
     → TellsCapture (booked_of booked) source source' book book' result

@@ -10,7 +10,7 @@ use Rattle.ht_metric.specs.declared.found.Found.{Found}
 use Rattle.ht_metric.specs.declared.place.Place.{Place}
 use Rattle.ht_metric.specs.Jobs.{JobView, near}
 use Rattle.ht_capture.specs.declared.items.FrameHead.{FrameHead}
-use Rattle.ht_runs.specs.declared.faults.StopFault.{StopFault}
+use Rattle.ht_runs.specs.declared.faults.RunFault.{RunFault}
 use Rattle.ht_feed.specs.declared.ended.Ended.{Ended}
 use Rattle.ht_feed.specs.Accounts.{PutsBlock, PutsPartOf, Telling}
 use Rattle.ht_feed.specs.Dues.{due_of, headed_due}
@@ -81,7 +81,7 @@ lists sink = record { device = sink; pieces = λ jobs. job_lines (jobs_alone job
 
 -- the lines of all jobs are the lines of the octets
 pub listed : {R : Type 0} {means : R → List ℕ → Meaning (Item FrameHead)} {at : R → ℕ} {reader : R} {head : FrameHead}
-    {source source' sink start sink' : Device ℕ} {lent lent' : List ℕ} {result : Result Ended StopFault}
+    {source source' sink start sink' : Device ℕ} {lent lent' : List ℕ} {result : Result Ended RunFault}
     → TellsInput means at reader head source source' (lists start) (lists sink') lent lent' result → start ≡ sink
     → ((octets : List ℕ) → means reader octets ≡ mapped (capture_of octets)) → at reader ≡ 0
     → TellsCapture lines_of source source' sink sink' result

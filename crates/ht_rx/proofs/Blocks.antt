@@ -1,5 +1,5 @@
 -- What a run of the feed over blocks comes to, said of the octets of a capture.
-use Rattle.std.specs.Prelude.{◌≡◌, ℕ, ◌+◌, List, [], ◌∷◌, ◌++◌, length, map, Option, Result, Ok, Err, IsErr, IsErrAnd, MatchResult}
+use Rattle.std.specs.Prelude.{◌≡◌, ℕ, List, [], ◌∷◌, ◌++◌, length, map, Option, Result, Ok, Err, IsErr, IsErrAnd, MatchResult}
 use Rattle.std.proofs.Common.{refl, ap, ◌∙◌, sym, subst, arith}
 use Rattle.ht_io.specs.Devices.{Device}
 use Rattle.ht_io.proofs.Calls.{later-refl}
@@ -16,15 +16,14 @@ use Rattle.ht_runs.proofs.Outcomes.{told_nothing}
 use Rattle.ht_feed.proofs.Finishing.{stops_with}
 use Rattle.ht_capture_laws.specs.Items.{FrameJobs, frames_in, items_in}
 use Rattle.ht_capture_laws.proofs.Parts.{frames_of as parts_of}
-use Rattle.ht_runs.specs.declared.faults.StopFault.{StopFault}
-use Rattle.ht_runs.specs.declared.faults.StopFault.TheVariants.{Read, Write, NoMemory}
+use Rattle.ht_runs.specs.declared.faults.RunFault.{RunFault}
+use Rattle.ht_runs.specs.declared.faults.RunFault.TheVariants.{Format, Read, Write, NoMemory}
 use Rattle.ht_feed.specs.declared.ended.Ended.{Ended}
-use Rattle.ht_feed.specs.declared.ended.Ended.TheVariants.{Done as EndedDone, Refused as EndedRefused}
 use Rattle.ht_feed.specs.Accounts.{Telling}
 use Rattle.ht_capture_blocks.specs.Captures.{items_of, mapped}
 use Rattle.ht_feed.specs.Items.{Item, Begins, One}
 use Rattle.ht_feed.specs.Items.{headed as block_headed, headed_of, frames_of as block_frames, jobs_of as block_jobs}
-use Rattle.ht_feed.specs.Outcomes.{Comes, StopsAs as BlockStops, EndsAs as BlockTells}
+use Rattle.ht_feed.specs.Outcomes.{Comes, StopsAs as BlockStops, EndsWhole as BlockWhole}
 use Rattle.ht_endings.proofs.Runs.{broken, from_front, front, in_part, refused, whole}
 use Rattle.ht_results.specs.Heads.{Headed, headed, headed_jobs}
 use Rattle.ht_results.specs.Texts.{frames_of}
@@ -98,19 +97,19 @@ module _ {P : Type 0} (pieces : List ℕ → List P) (source source' : Device �
       let items = (capture_of octets).items in
       record { frames_are = begun ∙ frames-items items; jobs_are = all ∙ ap (λ (js : List JobView). length js) (jobs-items items) }
 
-  told : (result : Result Ended StopFault)
-      → MatchResult result (BlockTells start pieces source' device device') (BlockStops start pieces source' device device')
+  told : (result : Result Ended RunFault)
+      → MatchResult result (BlockWhole start pieces source' device device') (BlockStops start pieces source' device device')
       → MatchResult result (TellsTo pieces source source' device device') (StopsBy pieces source source' device device')
-  told (Ok (EndedDone frames jobs)) t =
-      whole captures items_of pieces source source' device device' (HasCounts frames jobs) frames jobs (counted frames jobs) t
-  told (Ok (EndedRefused fault)) t = refused captures items_of pieces source source' device device' same_meaning fault t
+  told (Ok ended) t =
+      whole captures items_of pieces source source' device device' (HasCounts ended.frames ended.jobs) ended (counted ended.frames ended.jobs) t
+  told (Err (Format fault)) t = refused captures items_of pieces source source' device device' same_meaning fault t
   told (Err Read) t = (broken captures items_of pieces source source' device device' t.0, t.1)
   told (Err Write) t = (in_part captures items_of pieces source source' device device' t.0, t.1)
   told (Err NoMemory) t = in_part captures items_of pieces source source' device device' t
 
 -- a run from a reader in front of a capture
 pub comes_to : {R P : Type 0} (means : R → List ℕ → Meaning (Item FrameHead)) (at : R → ℕ) (reader : R) (head : FrameHead)
-    (source source' : Device ℕ) (a b : Telling FrameHead P) (result : Result Ended StopFault)
+    (source source' : Device ℕ) (a b : Telling FrameHead P) (result : Result Ended RunFault)
     → ((octets : List ℕ) → means reader octets ≡ mapped (capture_of octets)) → at reader ≡ 0
     → Comes means at reader head source source' a b result
     → MatchResult result (TellsTo (pieces_of_octets a.pieces) source source' a.device b.device) (StopsBy (pieces_of_octets a.pieces) source source' a.device b.device)
@@ -120,12 +119,12 @@ comes_to means at reader head source source' a b result same zero came =
     (λ octets. ap a.pieces (headed-octets head octets)) came)
 
 -- without memory for a reader nothing is taken, and nothing put
-pub lacks : {P : Type 0} {pieces : List ℕ → List P} {source : Device ℕ} {device : Device P} {result : Result Ended StopFault}
+pub lacks : {P : Type 0} {pieces : List ℕ → List P} {source : Device ℕ} {device : Device P} {result : Result Ended RunFault}
     → IsErr result → IsErrAnd result (λ r. r ≡ NoMemory) → TellsCapture pieces source source device device result
 lacks {pieces = pieces} {source = source} {device = device} {result = result} failed memory =
     record {
       tells = stops_with result (TellsTo pieces source source device device) (StopsBy pieces source source device device) (λ r. r ≡ NoMemory) failed memory
-          (λ r is. subst (λ (x : StopFault). StopsBy pieces source source device device x) (sym is) (told_nothing captures source pieces device));
+          (λ r is. subst (λ (x : RunFault). StopsBy pieces source source device device x) (sym is) (told_nothing captures source pieces device));
       writes = λ well. refl;
       reads_later = later-refl source;
       puts_later = later-refl device;

@@ -5,7 +5,7 @@ use Rattle.ht_io.specs.Devices.{Device}
 use Rattle.ht_inverse.specs.declared.decoded.Decoded.{Decoded}
 use Rattle.ht_inverse.specs.Decoding.{decoded_frame}
 use Rattle.ht_feed.specs.declared.ended.Ended.{Ended}
-use Rattle.ht_runs.specs.declared.faults.StopFault.{StopFault}
+use Rattle.ht_runs.specs.declared.faults.RunFault.{RunFault}
 use Rattle.ht_results.specs.Folding.{FrameSoFar, result_by, result_of}
 use Rattle.ht_results.specs.Texts.{frame_lines_of, result_line}
 use Rattle.ht_results.proofs.Taking.{result_is as result_so, same_result as alike}
@@ -30,7 +30,7 @@ pub lines_booked : booked_of result_line ≡ frame_lines_of
 unfolding frame_lines_of
 lines_booked = refl
 
-pub lines_told : (result : Result Ended StopFault) (source source' sink sink' : Device ℕ)
+pub lines_told : (result : Result Ended RunFault) (source source' sink sink' : Device ℕ)
     → MatchResult result (TellsTo (booked_of result_line) source source' sink sink') (StopsBy (booked_of result_line) source source' sink sink')
     → MatchResult result (TellsTo frame_lines_of source source' sink sink') (StopsBy frame_lines_of source source' sink sink')
 lines_told result source source' sink sink' told =

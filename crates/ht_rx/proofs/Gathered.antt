@@ -8,7 +8,7 @@ use Rattle.ht_results.specs.Heads.{Headed}
 use Rattle.ht_results.specs.Folding.{FrameSoFar, frame_begun, frame_of, label_fold, result_of, results_from, with_job, with_kind, with_octets}
 use Rattle.ht_results.proofs.Taking.{begins_alike, takes}
 use Rattle.ht_feed.specs.declared.ended.Ended.{Ended}
-use Rattle.ht_runs.specs.declared.faults.StopFault.{StopFault}
+use Rattle.ht_runs.specs.declared.faults.RunFault.{RunFault}
 use Rattle.ht_rx.specs.Heads.{pieces_of_octets}
 use Rattle.ht_rx.specs.Frames.{booked_of}
 use Rattle.ht_rx.proofs.BlockBooking.{frames_told}
@@ -33,7 +33,7 @@ pub begin_as : (f g : FrameSoFar) (jobs : List Headed) → f.left ≡ 0 → g.le
 begin_as f g jobs a b = begins_alike label_fold f g (λ h. begins_as h f g a b) jobs
 
 -- where no frame waits and none is under way, the results are those of the octets
-pub gathered_told : {P : Type 0} (booked : FrameResult → List P) (whole : List FrameSoFar) (f : FrameSoFar) (result : Result Ended StopFault)
+pub gathered_told : {P : Type 0} (booked : FrameResult → List P) (whole : List FrameSoFar) (f : FrameSoFar) (result : Result Ended RunFault)
     (source source' : Device ℕ) (book book' : Device P) → whole ≡ [] → f.left ≤ 0
     → MatchResult result (TellsTo (pieces_of_octets (booked_behind result_of booked whole (results_from f))) source source' book book')
     (StopsBy (pieces_of_octets (booked_behind result_of booked whole (results_from f))) source source' book book')

@@ -20,7 +20,7 @@ use Rattle.ht_results.specs.Heads.{Headed}
 use Rattle.ht_results.specs.Folding.{FrameSoFar, frame_begun, frame_of, kind_of, label_at, label_fold, label_place, label_plan, result_of, results_from, with_job, with_kind, with_octets}
 use Rattle.ht_results.specs.PlacedLabels.{Placed, put_each}
 use Rattle.ht_results.specs.Plans.{distances, given_if}
-use Rattle.ht_results.proofs.Runs.{put_each-append, put_from}
+use Rattle.ht_results.proofs.Stretches.{put_each-append, put_from}
 use Rattle.ht_results.proofs.Steps.{all_jobs, data_after, data_is, labels_after, labels_with, parts, pilot_after, pilot_is, with_all}
 use Rattle.ht_results.proofs.Taking.{some_left, takes_all}
 use Rattle.ht_rx.specs.declared.tally.Tally.{Tally}

@@ -10,21 +10,19 @@ use Rattle.ht_capture.specs.Fields.{captures}
 use Rattle.ht_capture_laws.specs.Items.{whole_frames}
 use Rattle.ht_results.specs.JobTexts.{detect_text, job_lines, jobs_of, lines_of}
 use Rattle.ht_results.specs.Results.{frame_result, results_of}
-use Rattle.ht_results.specs.Texts.{frame_lines_of, frames_of, last_line, last_of, result_line, rx_text}
+use Rattle.ht_results.specs.Texts.{HasFrames, frame_lines_of, frames_of, last_line, last_of, result_line, rx_text}
 use Rattle.ht_runs.specs.Formats.{IsLined, filter, last_text}
 use Rattle.ht_runs.specs.declared.faults.RunFault.{RunFault}
-use Rattle.ht_runs.specs.declared.faults.StopFault.{StopFault}
-use Rattle.ht_runs.specs.declared.faults.StopFault.TheVariants.{Read, Write, NoMemory}
+use Rattle.ht_runs.specs.declared.faults.RunFault.TheVariants.{Format, Read, Write, NoMemory}
 use Rattle.ht_runs.proofs.Streaming.{stopped}
 use Rattle.ht_feed.specs.declared.ended.Ended.{Ended}
-use Rattle.ht_feed.specs.declared.ended.Ended.TheVariants.{Done, Refused}
 use Rattle.ht_text.specs.Lines.{end_text}
 use Rattle.ht_endings.specs.Endings.{EndsLines}
 use Rattle.ht_endings.proofs.EndLines.{PutsLines, with_end}
 use Rattle.ht_receive.specs.Ends.{StreamsText}
 use Rattle.ht_receive.proofs.Streaming.{with_end_line}
 use Rattle.ht_rx.specs.Frames.{booked_of}
-use Rattle.ht_rx.specs.Outcomes.{HasFrames, StopsBy, TellsTo}
+use Rattle.ht_rx.specs.Outcomes.{StopsBy, TellsTo}
 use Rattle.ht_rx.specs.Telling.{TellsCapture}
 use Rattle.ht_rx.proofs.Booking.{lines_booked}
 
@@ -67,17 +65,17 @@ receives = record { text_is = λ octets. with_last frame_lines_of octets ∙ rx_
 -- the text of captures and its lines; the source before and after, and the sink before
 module _ (text lines : List ℕ → List ℕ) (s : IsLined captures text lines end_of_capture) (source source' sink : Device ℕ) where
   -- what the reading of a capture came to is what its lines came to
-  lines_put : (run : Result Ended StopFault) (mid : Device ℕ) → MatchResult run (TellsTo lines source source' sink mid) (StopsBy lines source source' sink mid)
+  lines_put : (run : Result Ended RunFault) (mid : Device ℕ) → MatchResult run (TellsTo lines source source' sink mid) (StopsBy lines source source' sink mid)
       → PutsLines captures text lines source source' sink HasFrames run mid
-  lines_put (Ok (Done frames jobs)) mid told =
+  lines_put (Ok ended) mid told =
       record { taken = told.taken; octets = told.octets; whole = told.whole; says = told.says.frames_are; put = told.put }
-  lines_put (Ok (Refused fault)) mid told = stopped captures text lines end_of_capture s source source' sink mid fault told
+  lines_put (Err (Format fault)) mid told = stopped captures text lines end_of_capture s source source' sink mid fault told
   lines_put (Err Read) mid told = told
   lines_put (Err Write) mid told = told
   lines_put (Err NoMemory) mid told = told
 
   -- the lines of a capture, and the end line behind them
-  ends : (run : Result Ended StopFault) (mid sink' : Device ℕ) (result : Result ℕ RunFault) → TellsCapture lines source source' sink mid run
+  ends : (run : Result Ended RunFault) (mid sink' : Device ℕ) (result : Result ℕ RunFault) → TellsCapture lines source source' sink mid run
       → EndsLines run mid sink' result → StreamsText (filter captures text lines) HasFrames source source' sink sink' result
   ends run mid sink' result told last =
       with_end_line (filter captures text lines) HasFrames source source' sink mid sink' run result
@@ -86,14 +84,14 @@ module _ (text lines : List ℕ → List ℕ) (s : IsLined captures text lines e
       told.writes told.reads_later told.puts_later last
 
 -- so of the lines of jobs
-pub detected : {source source' sink mid sink' : Device ℕ} {run : Result Ended StopFault} {result : Result ℕ RunFault}
+pub detected : {source source' sink mid sink' : Device ℕ} {run : Result Ended RunFault} {result : Result ℕ RunFault}
     → TellsCapture lines_of source source' sink mid run → EndsLines run mid sink' result
     → StreamsText (filter captures detect_text lines_of) HasFrames source source' sink sink' result
 detected {source = source} {source' = source'} {sink = sink} {mid = mid} {sink' = sink'} {run = run} {result = result} told last =
     ends detect_text lines_of detects source source' sink run mid sink' result told last
 
 -- and of the lines of frames, from a book of them
-pub received : {source source' sink start mid sink' : Device ℕ} {run : Result Ended StopFault} {result : Result ℕ RunFault}
+pub received : {source source' sink start mid sink' : Device ℕ} {run : Result Ended RunFault} {result : Result ℕ RunFault}
     → TellsCapture (booked_of result_line) source source' start mid run → start ≡ sink → EndsLines run mid sink' result
     → StreamsText (filter captures rx_text frame_lines_of) HasFrames source source' sink sink' result
 received {source = source} {source' = source'} {sink = sink} {mid = mid} {sink' = sink'} {run = run} {result = result} told from last =

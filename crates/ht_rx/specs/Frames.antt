@@ -34,12 +34,12 @@ KnowsBelow count carriers rate = (c : ℕ) → c < count → slice_index_or carr
 abbrev pub KnowsCarriers : List Carrier → Rate → Type 0
 KnowsCarriers carriers rate = KnowsBelow (length carriers) carriers rate
 
--- a frame of which a job is still to come; its sums can't leave their type
+-- a frame of which a job is still to come; its sums will fit their type
 pub record IsOpenFrame (f : FrameSoFar) : Type 0 where
   pub left : 1 ≤ f.left
   pub kept : HasLabels f
-  pub data_room : f.data_sum + f.left * 2 ^ 66 ≤ 2 ^ 96
-  pub pilot_room : f.pilot_sum + f.left * 2 ^ 66 ≤ 2 ^ 96
+  pub data_bound : f.data_sum + f.left * 2 ^ 66 ≤ 2 ^ 96
+  pub pilot_bound : f.pilot_sum + f.left * 2 ^ 66 ≤ 2 ^ 96
 
 -- the frame with what was found for one more job, which comes from this place and carries this
 abbrev pub with_found_as : Place → Found → Carrier → FrameSoFar → FrameSoFar

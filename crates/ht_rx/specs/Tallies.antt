@@ -23,7 +23,7 @@ data_distances rate jobs = distances (filter (has_data rate) jobs)
 abbrev pub pilot_distances : Rate → List JobView → ℕ
 pilot_distances rate jobs = distances (filter (λ job. not (has_data rate job)) jobs)
 
--- the labels of a job's first nearest vector, stream by stream, which a pilot has none of
+-- the labels of a job's first nearest vector, stream by stream; a pilot has none
 abbrev pub placed_as : Rate → JobView → Carrier → List Placed
 placed_as rate job (Data m) = placed_from (label_place rate job.place.symbol m) (map (label_at (modulation_of rate)) (near job).vector)
 placed_as rate job (Pilot k) = []

@@ -93,13 +93,13 @@ fn is_hard_as_last(is_last: bool, job: &Job, found: &Found) -> bool {
     is_last && is_hard(job, found.distance)
 }
 
-// Zeros of this number. They are put part by part, since what counts instructions counts a longer fill octet by octet.
-fn zeros(alloc: Global, room: usize) -> Result<Vec<u8>, AllocError>
-    ensures { IfOk result (λ zeros. length zeros.items ≡ room) }
+// This number of zeros. They are put in parts, since tools that count instructions count a longer fill octet by octet.
+fn zeros(alloc: Global, count: usize) -> Result<Vec<u8>, AllocError>
+    ensures { IfOk result (λ zeros. length zeros.items ≡ count) }
 {
-    let mut zeros = Vec::with_capacity(alloc, room)?;
-    while zeros.len() < room {
-        let more = (room - zeros.len()).min(ZEROS);
+    let mut zeros = Vec::with_capacity(alloc, count)?;
+    while zeros.len() < count {
+        let more = (count - zeros.len()).min(ZEROS);
         zeros.resize(zeros.len() + more, 0)?;
     }
     Ok(zeros)

@@ -10,28 +10,27 @@ use ht_drive::tell;
 use ht_feed::{Ended, Gate, tell_alone};
 use ht_io::{Sink, Source};
 use ht_results::no_head;
-use ht_runs::StopFault;
+use ht_runs::RunFault;
 use std::alloc::Global;
 use std::sync::Wait;
 use std::thread::Threads;
 
-/// Reads a capture from the source, and puts a line into the sink for each job of each symbol that is whole before
-/// the capture's first fault: its place, the distance of its first nearest vector, and that vector.
+/// Reads a capture, and puts a line for each job of each symbol that is whole before the first fault: its place, the distance
+/// of its first nearest vector, and that vector.
 ///
-/// Every job runs in this thread, between the two calls of the gate. At most `window` jobs, 1 to 4096, were given and
-/// not yet taken at any moment. Nothing of the capture is kept but the triangles of a frame, the samples of a
-/// symbol, these jobs and their lines.
+/// Every job runs in this thread, between the two calls of the gate; at most `window` jobs, 1 to 4096, are due. Only these and
+/// their lines, a frame's triangles and a symbol's samples are kept.
 ///
-/// It answers `Done` for a capture, and `Refused` with the first fault of an input that is no capture. It refuses with
-/// `Read` where the source failed, having put the lines of the symbols that were read whole; with `Write` where the
-/// sink failed, also if the source did; and with `NoMemory`. In the last two cases a part of the lines was put.
+/// It answers the numbers of frames and of jobs of a capture. It refuses with the first fault of an input that is no capture,
+/// and with `Read` where the source failed, both behind the lines of all symbols read whole; with `Write` where the sink
+/// failed, even if the source did, and with `NoMemory`, both behind a part of the lines.
 pub fn list_jobs_alone<S: Source, K: Sink, G: Gate>(
     alloc: Global,
     window: u16,
     source: &mut S,
     sink: &mut K,
     gate: &G,
-) -> Result<Ended, StopFault>
+) -> Result<Ended, RunFault>
     requires window { IsWindowSize window }
     ensures { TellsCapture lines_of (S.shown source.old) (S.shown source.new) (K.shown sink.old) (K.shown sink.new) result }
 {
@@ -51,7 +50,7 @@ pub fn list_jobs<R: Threads + Wait + Sync, S: Source, K: Sink, G: Gate + Sync>(
     source: &mut S,
     sink: &mut K,
     gate: &G,
-) -> Result<Ended, StopFault>
+) -> Result<Ended, RunFault>
     requires crew { IsCrewSize workers }
     requires window { IsWindowSize window }
     ensures { TellsCapture lines_of (S.shown source.old) (S.shown source.new) (K.shown sink.old) (K.shown sink.new) result }

@@ -3,8 +3,8 @@ ghost use Rattle.ht_capture.specs.Fields.{captures};
 ghost use Rattle.ht_feed.specs.Limits.{IsCrewSize, IsWindowSize};
 ghost use Rattle.ht_receive.specs.Ends.{StreamsText};
 ghost use Rattle.ht_results.specs.JobTexts.{detect_text, lines_of};
+ghost use Rattle.ht_results.specs.Texts.{HasFrames};
 ghost use Rattle.ht_runs.specs.Formats.{filter};
-ghost use Rattle.ht_rx.specs.Outcomes.{HasFrames};
 
 use crate::listing::{list_jobs, list_jobs_alone};
 use ht_endings::put_end;

@@ -214,7 +214,7 @@ impl OpenFrame {
 
     /// Takes what was made of jobs of the frame that is under way.
     #[inline]
-    #[tactic(auto, using(ht_results::proofs::Runs::length_put_each))]
+    #[tactic(auto, using(ht_results::proofs::Stretches::length_put_each))]
     pub(crate) fn add_tally(&mut self, tally: &Tally)
         requires ready { IsOpenFrame self.old }
         requires few { tally.now.jobs ≤ self.old.left }

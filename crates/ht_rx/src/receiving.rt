@@ -11,29 +11,27 @@ use ht_feed::{Ended, Gate};
 use ht_frames::{BesideFrames, Book, Frames, HitWork};
 use ht_io::Source;
 use ht_results::{FrameResult, no_head};
-use ht_runs::StopFault;
+use ht_runs::RunFault;
 use std::alloc::Global;
 use std::sync::Wait;
 use std::thread::Threads;
 
-/// Reads a capture from the source, and books the result of each frame that is whole before the capture's first fault:
-/// the sums of the squared distances of its data jobs and of its pilot jobs, what its labels are decoded to, and at how many
-/// places the codewords differ from the detected bits.
+/// Reads a capture, and books the [`FrameResult`] of each whole frame before the first fault: its sums of squared distances,
+/// what its labels are decoded to, and at how many places the codewords differ from the detected bits.
 ///
-/// Every job runs in this thread, between the two calls of the gate. At most `window` jobs, 1 to 4096, were read and
-/// not yet taken at any moment. Nothing of the capture is kept but the triangles of a frame, the samples of a symbol,
-/// these jobs and the labels of one frame.
+/// Every job runs in this thread, between the two calls of the gate; at most `window` jobs, 1 to 4096, are due. Only these, a
+/// frame's triangles and labels and a symbol's samples are kept.
 ///
-/// It answers `Done` for a capture, and `Refused` with the first fault of an input that is no capture. It refuses with
-/// `Read` where the source failed, having booked the frames that were read whole; with `Write` where the book failed,
-/// also if the source did; and with `NoMemory`. In the last two cases a part of the frames was booked.
+/// It answers the numbers of frames and of jobs of a capture. It refuses with the first fault of an input that is no capture,
+/// and with `Read` where the source failed, both behind all frames read whole; with `Write` where the book failed, even if the
+/// source did, and with `NoMemory`, both behind a part of the frames.
 pub fn receive_alone<S: Source, B: Book<FrameResult>, G: Gate>(
     alloc: Global,
     window: u16,
     source: &mut S,
     book: &mut B,
     gate: &G,
-) -> Result<Ended, StopFault>
+) -> Result<Ended, RunFault>
     requires window { IsWindowSize window }
     ensures receives { TellsCapture (booked_of B.booked) (S.shown source.old) (S.shown source.new)
         (B.shown book.old) (B.shown book.new) result }
@@ -46,16 +44,13 @@ pub fn receive_alone<S: Source, B: Book<FrameResult>, G: Gate>(
     ht_receive::receive_alone(alloc, reader, head, window, &work, source, under_way, book)
 }
 
-/// Does as [`receive_alone`], and the jobs are run by 1 to 64 workers, of which the caller is one. The results are the
-/// same, in the same order.
+/// Does as [`receive_alone`], with 1 to 64 workers, of which the caller is one, and books the same results in the same order.
 ///
-/// A frame of 100 octets or more that is whole is given to the workers, who decode it before they look for jobs; a
-/// shorter one is decoded by the caller. Results are booked in order. While jobs are due, at most two frames for each
-/// worker beside the caller have no booked result, not counting the frame under way, and those with the workers have at
-/// most 131,072 octets together; where one more is whole the caller waits for the oldest ones, and decodes what no worker
-/// has begun. So at most three of the longest frames are kept, whatever the workers. Where no job is due any more the
-/// caller waits for all of them. It decodes the frame that is whole then, and the codewords of two encoders in two threads.
-/// No clause says so of frames, octets and threads. However it ends, no thread is left behind.
+/// Whole frames are decoded as a `Gatherer` of crate `ht_frames` has it done: those of 100 octets or more by the workers,
+/// before they look for jobs, shorter ones by the caller. While jobs are due, at most two frames for each worker beside the
+/// caller have no booked result, not counting the frame under way, and at most three of the longest frames are kept. Once no
+/// job is due the caller decodes the frame that is whole then, the codewords of two encoders in two threads. No clause says
+/// so. No thread is left behind.
 pub fn receive<R: Threads + Wait + Sync, S: Source, B: Book<FrameResult>, G: Gate + Sync>(
     rt: &R,
     alloc: Global,
@@ -64,7 +59,7 @@ pub fn receive<R: Threads + Wait + Sync, S: Source, B: Book<FrameResult>, G: Gat
     source: &mut S,
     book: &mut B,
     gate: &G,
-) -> Result<Ended, StopFault>
+) -> Result<Ended, RunFault>
     requires crew { IsCrewSize workers }
     requires window { IsWindowSize window }
     ensures receives { TellsCapture (booked_of B.booked) (S.shown source.old) (S.shown source.new)

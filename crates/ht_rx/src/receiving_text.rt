@@ -2,9 +2,8 @@
 ghost use Rattle.ht_capture.specs.Fields.{captures};
 ghost use Rattle.ht_feed.specs.Limits.{IsCrewSize, IsWindowSize};
 ghost use Rattle.ht_receive.specs.Ends.{StreamsText};
-ghost use Rattle.ht_results.specs.Texts.{frame_lines_of, rx_text};
+ghost use Rattle.ht_results.specs.Texts.{HasFrames, frame_lines_of, rx_text};
 ghost use Rattle.ht_runs.specs.Formats.{filter};
-ghost use Rattle.ht_rx.specs.Outcomes.{HasFrames};
 
 use crate::receiving::{receive, receive_alone};
 use ht_endings::put_end;

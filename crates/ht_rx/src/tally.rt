@@ -41,7 +41,7 @@ impl EachFound for Tally {
         self.jobs
     }
 
-    /// Finds it once more: a tally keeps sums alone. No receiver asks for it but of a block that doesn't fit its frame.
+    /// Finds it again, since a tally keeps only sums. A receiver asks for it only where a block doesn't fit its frame.
     fn found<J: Jobs>(&self, block: &J, at: u16) -> Found {
         detect(&block.job(at))
     }
@@ -142,8 +142,8 @@ fn tally_of<B: Jobs, G: Gate>(
     ensures is { IfOk result (λ tally. IsTally rate (B.jobs block.now) tally) }
 {
     let size = block.size();
-    let room = usize::from(size) * usize::from(rate.streams());
-    let mut tally = Tally::none(alloc, rate, room)?;
+    let labels = usize::from(size) * usize::from(rate.streams());
+    let mut tally = Tally::none(alloc, rate, labels)?;
     let mut hard = false;
     for at in 0..size {
         let job = block.job(at);

@@ -13,7 +13,7 @@ use Rattle.ht_results.specs.Texts.{rx_text}
 use Rattle.ht_bundles.specs.Files.{AreCaptures, bundle_of}
 use Rattle.ht_bundles.specs.Formats.{bundles}
 use Rattle.ht_bundles.proofs.Routes.{bundle_written}
-use Rattle.ht_several.specs.Bundles.{BreaksOff, PutsOrBreaksOff, ReceivesTo, many_text, receiving, texts_from}
+use Rattle.ht_several.specs.Bundles.{LeavesPart, PutsOrLeavesPart, ReceivesTo, many_text, receiving, texts_from}
 use Rattle.ht_several.proofs.Texts.{held_by}
 
 -- what is held is the text of the captures
@@ -30,13 +30,13 @@ module _ (a b c d : Device ℕ) (captures held : List (List ℕ)) (read : ReadsW
       takes_whole bundles WithinOutput ReceivesTo a b c (bundle_of captures) (texts_from 0 held) captures
       read.1 (bundle_written captures read.0) comes d Puts put
 
-  why : (fault : RunFault) → GrowsByPart c d (texts_from 0 held) → BreaksOff c d fault → ConversionFails receiving a b c d fault
+  why : (fault : RunFault) → GrowsByPart c d (texts_from 0 held) → LeavesPart c d fault → ConversionFails receiving a b c d fault
   why fault part (inl (is, rose)) =
       subst (λ (f : RunFault). ConversionFails receiving a b c d f) (sym is) (takes (λ xs. GrowsByPart c d xs) part, rose)
   why fault part (inr (is, steady)) =
       subst (λ (f : RunFault). ConversionFails receiving a b c d f) (sym is) (inr (takes (λ xs. GrowsByPart c d xs) part))
 
-  pub converts : (result : Result (Unit {0}) RunFault) → PutsOrBreaksOff c d (texts_from 0 held) result → Converted receiving a b c d SaysNothing result
+  pub converts : (result : Result (Unit {0}) RunFault) → PutsOrLeavesPart c d (texts_from 0 held) result → Converted receiving a b c d SaysNothing result
   converts (Ok done) puts = (takes (λ xs. Grows c d xs) puts.grown, tt)
   converts (Err fault) puts = why fault puts.part puts.cause
 
@@ -48,7 +48,7 @@ few_texts captures sinks are same =
     omega (arith, as_many, are.few)
 
 -- the sink didn't fail but where the answer says so
-pub steady_else : (result : Result (Unit {0}) RunFault) (c d : Device ℕ) → OnOk result (d.faults ≡ c.faults) → IfErr result (BreaksOff c d)
+pub steady_else : (result : Result (Unit {0}) RunFault) (c d : Device ℕ) → OnOk result (d.faults ≡ c.faults) → IfErr result (LeavesPart c d)
     → result ≢ Err Write → d.faults ≡ c.faults
 steady_else (Ok done) c d steady cause other = steady
 steady_else (Err fault) c d steady (inl (is, rose)) other =

@@ -14,18 +14,17 @@ use Rattle.ht_capture.specs.Captures.{capture_of}
 use Rattle.ht_capture.specs.Fields.{captures}
 use Rattle.ht_capture_laws.specs.Items.{whole_frames}
 use Rattle.ht_results.specs.Results.{frame_result, results_of}
-use Rattle.ht_results.specs.Texts.{frame_lines_of, frames_of, last_line, last_of, result_line, rx_text}
+use Rattle.ht_results.specs.Texts.{HasFrames, frame_lines_of, frames_of, last_line, last_of, result_line, rx_text}
 use Rattle.ht_results.proofs.Folded.{more_lines}
 use Rattle.ht_runs.specs.Outcomes.{TellsBroken, TellsPieces, TellsRefused, TellsWhole}
 use Rattle.ht_runs.proofs.Known.{by_part, known, known_all, takes_of}
-use Rattle.ht_runs.specs.declared.faults.StopFault.{StopFault}
-use Rattle.ht_runs.specs.declared.faults.StopFault.TheVariants.{Read as StopRead, Write as StopWrite, NoMemory as StopMemory}
+use Rattle.ht_runs.specs.declared.faults.RunFault.{RunFault}
+use Rattle.ht_runs.specs.declared.faults.RunFault.TheVariants.{Format, Read as RunRead, Write as RunWrite, NoMemory as RunMemory}
 use Rattle.ht_feed.specs.declared.ended.Ended.{Ended}
-use Rattle.ht_feed.specs.declared.ended.Ended.TheVariants.{Done as EndedDone, Refused as EndedRefused}
 use Rattle.ht_text.specs.Lines.{end_text, refused_text}
 use Rattle.ht_several.specs.declared.many_end.ManyEnd.{ManyEnd}
 use Rattle.ht_several.specs.declared.many_end.ManyEnd.TheVariants.{Done, Refused, Read, Write}
-use Rattle.ht_several.specs.Alone.{Alone, Finishes, HasFrames, Heard, HasText, PutsLast, PutsPart}
+use Rattle.ht_several.specs.Alone.{Alone, FinishesCapture, HasText, Heard, PutsLast, PutsPieces}
 
 -- the lines of octets with this fault, or with none, and then the last line, are their text
 with_last : (octets : List ℕ) (fault : Option FormatFault) → (capture_of octets).fault ≡ fault
@@ -48,7 +47,7 @@ module _ (a b c : Device ℕ) where
       subst (λ (z : List ℕ). GrowsByPart c d z) (with_last octets (capture_of octets).fault refl)
       (grows_by_part-front c d (frame_lines_of octets) (last_of (capture_of octets).fault (frames_of (capture_of octets).items)) part)
 
-  pub pieces_part : (d : Device ℕ) → TellsPieces captures frame_lines_of a b c d → PutsPart a b c d
+  pub pieces_part : (d : Device ℕ) → TellsPieces captures frame_lines_of a b c d → PutsPieces a b c d
   pieces_part d l = record {
     taken = l.taken;
     octets = l.octets;
@@ -57,7 +56,7 @@ module _ (a b c : Device ℕ) where
   }
 
   -- a part of the text of a whole capture
-  whole_part : (d : Device ℕ) (taken : List ℕ) → TakesAll a b taken → GrowsByPart c d (rx_text taken) → PutsPart a b c d
+  whole_part : (d : Device ℕ) (taken : List ℕ) → TakesAll a b taken → GrowsByPart c d (rx_text taken) → PutsPieces a b c d
   whole_part d taken octets put = record {
     taken = taken;
     octets = takes_of a b taken octets;
@@ -67,7 +66,7 @@ module _ (a b c : Device ℕ) where
 
   -- a part of the text of octets that mean what all mean
   refused_part : (d : Device ℕ) (taken : List ℕ) → Takes a b taken → IfSome a.known (λ all. capture_of all ≡ capture_of taken)
-      → GrowsByPart c d (rx_text taken) → PutsPart a b c d
+      → GrowsByPart c d (rx_text taken) → PutsPieces a b c d
   refused_part d taken octets comes put = record {
     taken = taken;
     octets = octets;
@@ -76,7 +75,7 @@ module _ (a b c : Device ℕ) where
   }
 
   -- the lines of a front are a part of the text of all octets
-  broken_part : (d : Device ℕ) → TellsBroken captures frame_lines_of a b c d → PutsPart a b c d
+  broken_part : (d : Device ℕ) → TellsBroken captures frame_lines_of a b c d → PutsPieces a b c d
   broken_part d l =
       let front : (rest : List ℕ) → GrowsByPart c d (frame_lines_of (l.taken ++ rest)) =
       λ rest.
@@ -91,7 +90,7 @@ module _ (a b c : Device ℕ) where
       }
 
   -- however a capture ended, a part of its text was put
-  pub ended_part : (d : Device ℕ) (end : ManyEnd) → Alone a b c d end → PutsPart a b c d
+  pub ended_part : (d : Device ℕ) (end : ManyEnd) → Alone a b c d end → PutsPieces a b c d
   ended_part d (Done frames) l = whole_part d l.taken l.octets (by_part c d (rx_text l.taken) l.put)
   ended_part d (Refused fault) l = refused_part d l.taken l.octets l.comes (by_part c d (rx_text l.taken) l.put)
   ended_part d Read l = broken_part d l.0
@@ -146,30 +145,30 @@ module _ (a b c : Device ℕ) where
         )
 
   -- without memory for the last line
-  pub whole_lacks : (d : Device ℕ) (Says : List ℕ → Type 0) → TellsWhole captures frame_lines_of a b c d Says → PutsPart a b c d
+  pub whole_lacks : (d : Device ℕ) (Says : List ℕ → Type 0) → TellsWhole captures frame_lines_of a b c d Says → PutsPieces a b c d
   whole_lacks d Says l = whole_part d l.taken l.octets (text_part d l.taken (by_part c d (frame_lines_of l.taken) l.put))
 
-  pub refused_lacks : (d : Device ℕ) (fault : FormatFault) → TellsRefused captures frame_lines_of a b c d fault → PutsPart a b c d
+  pub refused_lacks : (d : Device ℕ) (fault : FormatFault) → TellsRefused captures frame_lines_of a b c d fault → PutsPieces a b c d
   refused_lacks d fault l = refused_part d l.taken l.octets l.comes (text_part d l.taken (by_part c d (frame_lines_of l.taken) l.put))
 
   -- how a capture ended whose receiving answered this
-  pub heard_ends : (answer : Result Ended StopFault) (mid d : Device ℕ) (end : ManyEnd) → Heard a b c mid answer → IsLater c mid
-      → Finishes answer mid d end → Alone a b c d end
-  heard_ends (Ok (EndedDone frames jobs)) mid d end l later puts = done_with mid d frames end later l puts
-  heard_ends (Ok (EndedRefused fault)) mid d end l later puts = refused_with mid d fault end later l puts
-  heard_ends (Err StopRead) mid d end l later (is, same) =
+  pub heard_ends : (answer : Result Ended RunFault) (mid d : Device ℕ) (end : ManyEnd) → Heard a b c mid answer → IsLater c mid
+      → FinishesCapture answer mid d end → Alone a b c d end
+  heard_ends (Ok ended) mid d end l later puts = done_with mid d ended.frames end later l puts
+  heard_ends (Err (Format fault)) mid d end l later puts = refused_with mid d fault end later l puts
+  heard_ends (Err RunRead) mid d end l later (is, same) =
       subst (λ (e : ManyEnd). Alone a b c d e) (sym is) (subst (λ (k : Device ℕ). TellsBroken captures frame_lines_of a b c k) (sym same) l.0, l.1)
-  heard_ends (Err StopWrite) mid d end l later (is, same) =
-      subst (λ (e : ManyEnd). Alone a b c d e) (sym is) (subst (λ (k : Device ℕ). PutsPart a b c k × Rose c k) (sym same) (pieces_part mid l.0, l.1))
-  heard_ends (Err StopMemory) mid d end l later puts = absurd puts
+  heard_ends (Err RunWrite) mid d end l later (is, same) =
+      subst (λ (e : ManyEnd). Alone a b c d e) (sym is) (subst (λ (k : Device ℕ). PutsPieces a b c k × Rose c k) (sym same) (pieces_part mid l.0, l.1))
+  heard_ends (Err RunMemory) mid d end l later puts = absurd puts
 
   -- without its last line a part of its text was put
-  pub heard_part : (answer : Result Ended StopFault) (d : Device ℕ) → Heard a b c d answer → PutsPart a b c d
-  heard_part (Ok (EndedDone frames jobs)) d l = whole_lacks d (HasFrames frames) l
-  heard_part (Ok (EndedRefused fault)) d l = refused_lacks d fault l
-  heard_part (Err StopRead) d l = broken_part d l.0
-  heard_part (Err StopWrite) d l = pieces_part d l.0
-  heard_part (Err StopMemory) d l = pieces_part d l
+  pub heard_part : (answer : Result Ended RunFault) (d : Device ℕ) → Heard a b c d answer → PutsPieces a b c d
+  heard_part (Ok ended) d l = whole_lacks d (HasFrames ended.frames) l
+  heard_part (Err (Format fault)) d l = refused_lacks d fault l
+  heard_part (Err RunRead) d l = broken_part d l.0
+  heard_part (Err RunWrite) d l = pieces_part d l.0
+  heard_part (Err RunMemory) d l = pieces_part d l
 
   -- neither device failed
   pub unfailed_ends : (d : Device ℕ) (end : ManyEnd) → Alone a b c d end → (Rose a b → ⊥) → (Rose c d → ⊥)

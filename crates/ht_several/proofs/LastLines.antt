@@ -5,24 +5,20 @@ use Rattle.std.proofs.lemmas.Bool.Decides.{nat_tests}
 use Rattle.std.proofs.lemmas.List.{get_or_append_left, get_or_default, get_or_past, get_or_push, length_push}
 use Rattle.ht_io.specs.Devices.{Device, IsLater}
 use Rattle.ht_io.proofs.Calls.{later-later, later-refl}
-use Rattle.ht_runs.specs.declared.faults.StopFault.{StopFault}
-use Rattle.ht_runs.specs.declared.faults.StopFault.TheVariants.{Read as StopRead, Write as StopWrite}
+use Rattle.ht_runs.specs.declared.faults.RunFault.{RunFault}
+use Rattle.ht_runs.specs.declared.faults.RunFault.TheVariants.{Read as RunRead, Write as RunWrite}
 use Rattle.ht_feed.specs.declared.ended.Ended.{Ended}
+use Rattle.ht_feed.specs.Others.{OthersStay}
+use Rattle.ht_feed.proofs.Others.{each_of, other_number, same_number}
 use Rattle.ht_several.specs.declared.many_end.ManyEnd.{ManyEnd}
 use Rattle.ht_several.specs.declared.many_end.ManyEnd.TheVariants.{Read, Write}
-use Rattle.ht_several.specs.Alone.{Alone, Finishes, PutsPart}
+use Rattle.ht_several.specs.Alone.{Alone, FinishesCapture, PutsPieces}
 use Rattle.ht_several.specs.Several.{AreLater, Devices, EachEnds, EachHeard, EachInPart, answer_at, devices, end_at, sink_at, source_at}
-use Rattle.ht_several.specs.LastLines.{EachFinishes, EachMayFinish, FinishesAt, KeepSinks, OthersStay}
+use Rattle.ht_several.specs.LastLines.{EachFinishes, EachMayFinish, FinishesAt, KeepSinks}
 use Rattle.ht_several.proofs.Ending.{ended_part, heard_ends, heard_part}
 
-other_number : (i k : ℕ) → nat_eq k i ≡ false → k ≢ i
-other_number i k e = grind (arith, nat_tests)
-
-same_number : (i k : ℕ) → nat_eq k i ≡ true → k ≡ i
-same_number i k e = grind (arith, nat_tests)
-
 -- how sinks are seen, and what receiving answered of each capture
-module _ {K : Type 0} (sink : K → Device ℕ) (answers : List (Result Ended StopFault)) where
+module _ {K : Type 0} (sink : K → Device ℕ) (answers : List (Result Ended RunFault)) where
   -- the first captures ended so, and the sinks of the others are as they were
   pub record SoFar (a b : List K) (count : ℕ) (ends : List ManyEnd) : Type 0 where
     pub as_many : length ends ≡ count
@@ -40,39 +36,36 @@ module _ {K : Type 0} (sink : K → Device ℕ) (answers : List (Result Ended St
     later = record { as_many = refl; puts = λ k t. later-refl (sink (get_or a k t)) };
   }
 
-  -- within the answers it is all one which answer stands for none
-  pub answered_so : (a b : List K) (at : ℕ) (none : Result Ended StopFault) (end : ManyEnd) → at < length answers
-      → ((t : K) → Finishes (get_or answers at none) (sink (get_or a at t)) (sink (get_or b at t)) end) → FinishesAt sink a b answers at end
+  -- within the answers it doesn't matter which answer stands for a missing one
+  pub answered_so : (a b : List K) (at : ℕ) (none : Result Ended RunFault) (end : ManyEnd) → at < length answers
+      → ((t : K) → FinishesCapture (get_or answers at none) (sink (get_or a at t)) (sink (get_or b at t)) end) → FinishesAt sink a b answers at end
   answered_so a b at none end low f = λ t.
-      subst (λ (x : Result Ended StopFault). Finishes x (sink (get_or a at t)) (sink (get_or b at t)) end)
-      (get_or_default answers at none (Err StopRead) low) (f t)
+      subst (λ (x : Result Ended RunFault). FinishesCapture x (sink (get_or a at t)) (sink (get_or b at t)) end)
+      (get_or_default answers at none (Err RunRead) low) (f t)
 
   module _ (a b c : List K) (at : ℕ) (ends : List ManyEnd) (so : SoFar a b at ends) (one : OthersStay b c at)
       (here-later : (t : K) → IsLater (sink (get_or b at t)) (sink (get_or c at t))) where
-    keeps-at : (u : Bool) (k : ℕ) (t : K) → nat_eq k at ≡ u → IsLater (sink (get_or a k t)) (sink (get_or c k t))
-    keeps-at true k t e =
-        let here : IsLater (sink (get_or b k t)) (sink (get_or c k t)) =
-        subst (λ (n : ℕ). IsLater (sink (get_or b n t)) (sink (get_or c n t))) (sym (same_number at k e)) (here-later t) in
-        later-later (sink (get_or a k t)) (sink (get_or b k t)) (sink (get_or c k t)) (so.later.puts k t) here
-    keeps-at false k t e =
-        subst (λ (x : K). IsLater (sink (get_or a k t)) (sink x)) (sym (one.others t k (other_number at k e))) (so.later.puts k t)
-
     pub keep_on : KeepSinks sink a c
-    keep_on = record { as_many = one.as_many ∙ so.later.as_many; puts = λ k t. keeps-at (nat_eq k at) k t refl }
+    keep_on = record {
+      as_many = one.as_many ∙ so.later.as_many;
+      puts = λ k t.
+          each_of one (λ n x. IsLater (sink (get_or a n t)) (sink x)) t
+          (later-later (sink (get_or a at t)) (sink (get_or b at t)) (sink (get_or c at t)) (so.later.puts at t) (here-later t)) (λ n far. so.later.puts n t) k;
+    }
 
     -- before it, the sinks stay as they are
     stay : (k : ℕ) (t : K) → k < at → get_or c k t ≡ get_or b k t
     stay k t low = one.others t k (λ e. absurd (omega (arith, low, e)))
 
     stays : (k : ℕ) (end : ManyEnd) → k < at → FinishesAt sink a b answers k end → FinishesAt sink a c answers k end
-    stays k end low f = λ t. subst (λ (x : K). Finishes (answer_at answers k) (sink (get_or a k t)) (sink x) end) (sym (stay k t low)) (f t)
+    stays k end low f = λ t. subst (λ (x : K). FinishesCapture (answer_at answers k) (sink (get_or a k t)) (sink x) end) (sym (stay k t low)) (f t)
 
     -- and behind it they are as they were
     behind : (k : ℕ) (t : K) → at + 1 ≤ k → get_or c k t ≡ get_or a k t
     behind k t high = one.others t k (λ e. absurd (omega (arith, high, e))) ∙ so.others k t (omega (arith, high))
 
     here : (end : ManyEnd) → FinishesAt sink b c answers at end → FinishesAt sink a c answers at end
-    here end f = λ t. subst (λ (x : K). Finishes (answer_at answers at) (sink x) (sink (get_or c at t)) end) (so.others at t (omega arith)) (f t)
+    here end f = λ t. subst (λ (x : K). FinishesCapture (answer_at answers at) (sink x) (sink (get_or c at t)) end) (so.others at t (omega arith)) (f t)
 
     -- the sink of the capture with this number didn't fail, unless the capture ended with Write
     abbrev Steady : ℕ → K → ManyEnd → Type 0
@@ -114,7 +107,7 @@ module _ {K : Type 0} (sink : K → Device ℕ) (answers : List (Result Ended St
           (λ else. ap (λ (x : K). (sink x).faults) (stay k t low) ∙ so.writes k t low else)
 
     abbrev MayEndAt : ℕ → K → Type 0
-    MayEndAt k t = ((end : ManyEnd) × Finishes (answer_at answers k) (sink (get_or a k t)) (sink (get_or c k t)) end) ⊎ (get_or c k t ≡ get_or a k t)
+    MayEndAt k t = ((end : ManyEnd) × FinishesCapture (answer_at answers k) (sink (get_or a k t)) (sink (get_or c k t)) end) ⊎ (get_or c k t ≡ get_or a k t)
 
     before-so : (k : ℕ) (t : K) → k < at → MayEndAt k t
     before-so k t low = inl (end_at ends k, stays k (end_at ends k) low (so.each k low) t)
@@ -135,7 +128,7 @@ module _ {K : Type 0} (sink : K → Device ℕ) (answers : List (Result Ended St
   pub lacks_after : (a c : List K) (count : ℕ) (ends : List ManyEnd) → SoFar a c count ends → EachMayFinish sink a c answers
   lacks_after a c count ends so = λ k few t. within (nat_lt k count) k t refl where
     within : (u : Bool) (k : ℕ) (t : K) → nat_lt k count ≡ u
-        → ((end : ManyEnd) × Finishes (answer_at answers k) (sink (get_or a k t)) (sink (get_or c k t)) end) ⊎ (get_or c k t ≡ get_or a k t)
+        → ((end : ManyEnd) × FinishesCapture (answer_at answers k) (sink (get_or a k t)) (sink (get_or c k t)) end) ⊎ (get_or c k t ≡ get_or a k t)
     within true k t e = inl (end_at ends k, so.each k (grind (arith, nat_tests, e)) t)
     within false k t e = inr (so.others k t (grind (arith, nat_tests, e)))
 
@@ -151,13 +144,13 @@ module _ {K : Type 0} (sink : K → Device ℕ) (answers : List (Result Ended St
     steady false k t e = λ else. ap (λ (x : K). (sink x).faults) (so.others k t (grind (arith, nat_tests, e)))
 
 -- a capture that is heard to have failed at its sink ends so
-failed_ends : (answer : Result Ended StopFault) (c d : Device ℕ) (end : ManyEnd) → answer ≡ Err StopWrite → Finishes answer c d end → end ≡ Write
+failed_ends : (answer : Result Ended RunFault) (c d : Device ℕ) (end : ManyEnd) → answer ≡ Err RunWrite → FinishesCapture answer c d end → end ≡ Write
 failed_ends answer c d end is f =
-    let so : Finishes (Err StopWrite) c d end = subst (λ (x : Result Ended StopFault). Finishes x c d end) is f in
+    let so : FinishesCapture (Err RunWrite) c d end = subst (λ (x : Result Ended RunFault). FinishesCapture x c d end) is f in
     so.0
 
 -- captures were received, between the first two moments, and got their last lines between the last two
-module _ {S K : Type 0} (source : S → Device ℕ) (sink : K → Device ℕ) (a b : Devices S K) (after : List K) (answers : List (Result Ended StopFault))
+module _ {S K : Type 0} (source : S → Device ℕ) (sink : K → Device ℕ) (a b : Devices S K) (after : List K) (answers : List (Result Ended RunFault))
     (heard : EachHeard source sink a b answers) (later : AreLater source sink a b) where
   abbrev last : Devices S K
   last = devices b.sources after
@@ -207,14 +200,14 @@ module _ {S K : Type 0} (source : S → Device ℕ) (sink : K → Device ℕ) (a
     steady false k t e = λ else. steady-past keep pairs k t (grind (arith, nat_tests, e))
 
   part : (k : ℕ) (s : S) (t : K) → k < length a.sources
-      → ((end : ManyEnd) × Finishes (answer_at answers k) (sink_at sink b k t) (sink (get_or after k t)) end) ⊎ (get_or after k t ≡ get_or b.sinks k t)
-      → PutsPart (source_at source a k s) (source_at source b k s) (sink_at sink a k t) (sink (get_or after k t))
+      → ((end : ManyEnd) × FinishesCapture (answer_at answers k) (sink_at sink b k t) (sink (get_or after k t)) end) ⊎ (get_or after k t ≡ get_or b.sinks k t)
+      → PutsPieces (source_at source a k s) (source_at source b k s) (sink_at sink a k t) (sink (get_or after k t))
   part k s t few (inl (end, f)) =
       ended_part (source_at source a k s) (source_at source b k s) (sink_at sink a k t) (sink (get_or after k t)) end
       (heard_ends (source_at source a k s) (source_at source b k s) (sink_at sink a k t) (answer_at answers k) (sink_at sink b k t)
       (sink (get_or after k t)) end (heard.each k few s t) (later.puts k t) f)
   part k s t few (inr same) =
-      subst (λ (x : K). PutsPart (source_at source a k s) (source_at source b k s) (sink_at sink a k t) (sink x)) (sym same)
+      subst (λ (x : K). PutsPieces (source_at source a k s) (source_at source b k s) (sink_at sink a k t) (sink x)) (sym same)
       (heard_part (source_at source a k s) (source_at source b k s) (sink_at sink a k t) (answer_at answers k) (sink_at sink b k t) (heard.each k few s t))
 
   -- memory ran out between the last lines

@@ -20,15 +20,15 @@ unfoldable pub many_text : List (List ℕ) → List ℕ
 many_text captures = texts_from 0 (map rx_text captures)
 
 -- why a text was put in part: the sink failed, or memory ran out and the sink didn't fail
-abbrev pub BreaksOff : Device ℕ → Device ℕ → RunFault → Type 0
-BreaksOff before after fault = ((fault ≡ Write) × Rose before after) ⊎ ((fault ≡ NoMemory) × (after.faults ≡ before.faults))
+abbrev pub LeavesPart : Device ℕ → Device ℕ → RunFault → Type 0
+LeavesPart before after fault = ((fault ≡ Write) × Rose before after) ⊎ ((fault ≡ NoMemory) × (after.faults ≡ before.faults))
 
--- what a call comes to that puts a text, and takes memory for it: all of it was put, or a part
-pub record PutsOrBreaksOff {A : Type 0} (before after : Device ℕ) (text : List ℕ) (result : Result A RunFault) : Type 0 where
+-- what a call leaves that puts a text and takes memory for it: all of the text was put, or a part of it
+pub record PutsOrLeavesPart {A : Type 0} (before after : Device ℕ) (text : List ℕ) (result : Result A RunFault) : Type 0 where
   pub grown : OnOk result (Grows before after text)
   pub steady : OnOk result (after.faults ≡ before.faults)
   pub part : OnErr result (GrowsByPart before after text)
-  pub cause : IfErr result (BreaksOff before after)
+  pub cause : IfErr result (LeavesPart before after)
   pub later : IsLater before after
 
 -- a bundle of captures, and what is written of it

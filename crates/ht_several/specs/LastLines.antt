@@ -2,17 +2,12 @@
 use Rattle.std.specs.Prelude.{◌≡◌, ◌≢◌, ◌⊎◌, ℕ, ◌<◌, List, length, slice_index_or, Result, IfOk, OnErr}
 use Rattle.std.specs.Global.{Vec}
 use Rattle.ht_io.specs.Devices.{Device, IsLater}
-use Rattle.ht_runs.specs.declared.faults.StopFault.{StopFault}
+use Rattle.ht_runs.specs.declared.faults.RunFault.{RunFault}
 use Rattle.ht_feed.specs.declared.ended.Ended.{Ended}
 use Rattle.ht_several.specs.declared.many_end.ManyEnd.{ManyEnd}
 use Rattle.ht_several.specs.declared.many_end.ManyEnd.TheVariants.{Write}
-use Rattle.ht_several.specs.Alone.{Finishes}
+use Rattle.ht_several.specs.Alone.{FinishesCapture}
 use Rattle.ht_several.specs.Several.{answer_at, end_at}
-
--- as many sinks as before, of which all but the one with this number stay as they were
-pub record OthersStay {K : Type 0} (before after : List K) (at : ℕ) : Type 0 where
-  pub as_many : length after ≡ length before
-  pub others : (t : K) (k : ℕ) → k ≢ at → slice_index_or after k t ≡ slice_index_or before k t
 
 -- the sinks of several captures, which are seen so, before and after
 module _ {K : Type 0} (sink : K → Device ℕ) (before after : List K) where
@@ -22,10 +17,10 @@ module _ {K : Type 0} (sink : K → Device ℕ) (before after : List K) where
     pub puts : (k : ℕ) (t : K) → IsLater (sink (slice_index_or before k t)) (sink (slice_index_or after k t))
 
   -- receiving answered so of each
-  module _ (answers : List (Result Ended StopFault)) where
+  module _ (answers : List (Result Ended RunFault)) where
     -- the capture with this number ended so, with its last line
     abbrev pub FinishesAt : ℕ → ManyEnd → Type 0
-    FinishesAt k end = (t : K) → Finishes (answer_at answers k) (sink (slice_index_or before k t)) (sink (slice_index_or after k t)) end
+    FinishesAt k end = (t : K) → FinishesCapture (answer_at answers k) (sink (slice_index_or before k t)) (sink (slice_index_or after k t)) end
 
     -- each capture ended so; where that isn't Write its sink didn't fail
     pub record EachFinishes (ends : List ManyEnd) : Type 0 where
@@ -35,7 +30,7 @@ module _ {K : Type 0} (sink : K → Device ℕ) (before after : List K) where
 
     -- the capture with this number ended somehow, or nothing was put
     abbrev pub MayFinish : ℕ → Type 0
-    MayFinish k = (t : K) → ((end : ManyEnd) × Finishes (answer_at answers k) (sink (slice_index_or before k t)) (sink (slice_index_or after k t)) end)
+    MayFinish k = (t : K) → ((end : ManyEnd) × FinishesCapture (answer_at answers k) (sink (slice_index_or before k t)) (sink (slice_index_or after k t)) end)
         ⊎ (slice_index_or after k t ≡ slice_index_or before k t)
 
     -- the same of each capture

@@ -1,12 +1,12 @@
 -- What is said of several captures, one by one.
 use Rattle.std.specs.Prelude.{◌≡◌, ◌≢◌, ℕ, ◌<◌, List, length, slice_index_or, Result, Err}
 use Rattle.ht_io.specs.Devices.{Device, IsLater}
-use Rattle.ht_runs.specs.declared.faults.StopFault.{StopFault}
-use Rattle.ht_runs.specs.declared.faults.StopFault.TheVariants.{Read as StopRead, Write as StopWrite}
+use Rattle.ht_runs.specs.declared.faults.RunFault.{RunFault}
+use Rattle.ht_runs.specs.declared.faults.RunFault.TheVariants.{Read as RunRead, Write as RunWrite}
 use Rattle.ht_feed.specs.declared.ended.Ended.{Ended}
 use Rattle.ht_several.specs.declared.many_end.ManyEnd.{ManyEnd}
 use Rattle.ht_several.specs.declared.many_end.ManyEnd.TheVariants.{Read, Write}
-use Rattle.ht_several.specs.Alone.{Alone, Heard, PutsPart}
+use Rattle.ht_several.specs.Alone.{Alone, Heard, PutsPieces}
 
 -- the sources and the sinks of several captures at one moment
 pub record Devices (S K : Type 0) : Type 0 where
@@ -16,7 +16,7 @@ pub record Devices (S K : Type 0) : Type 0 where
 abbrev pub devices : {S K : Type 0} → List S → List K → Devices S K
 devices sources sinks = record { sources = sources; sinks = sinks }
 
--- the source and the sink of the capture with this number; they are seen so
+-- the source and the sink of the capture with this number, as the devices that contracts see
 abbrev pub source_at : {S K : Type 0} → (S → Device ℕ) → Devices S K → ℕ → S → Device ℕ
 source_at source d k none = source (slice_index_or d.sources k none)
 
@@ -24,14 +24,14 @@ abbrev pub sink_at : {S K : Type 0} → (K → Device ℕ) → Devices S K → �
 sink_at sink d k none = sink (slice_index_or d.sinks k none)
 
 -- what the receiving of the capture with this number answered
-abbrev pub answer_at : List (Result Ended StopFault) → ℕ → Result Ended StopFault
-answer_at answers k = slice_index_or answers k (Err StopRead)
+abbrev pub answer_at : List (Result Ended RunFault) → ℕ → Result Ended RunFault
+answer_at answers k = slice_index_or answers k (Err RunRead)
 
 -- how the capture with this number ended
 abbrev pub end_at : List ManyEnd → ℕ → ManyEnd
 end_at ends k = slice_index_or ends k Read
 
--- a source and a sink are seen so; from the one moment to the other
+-- how contracts see a source and a sink; from one moment to a later one
 module _ {S K : Type 0} (source : S → Device ℕ) (sink : K → Device ℕ) (a b : Devices S K) where
   -- the capture with this number ended so
   abbrev pub EndsAlone : ℕ → ManyEnd → Type 0
@@ -43,7 +43,7 @@ module _ {S K : Type 0} (source : S → Device ℕ) (sink : K → Device ℕ) (a
 
   -- a part of its text was put
   abbrev pub EndsInPart : ℕ → Type 0
-  EndsInPart k = (s : S) (t : K) → PutsPart (source_at source a k s) (source_at source b k s) (sink_at sink a k t) (sink_at sink b k t)
+  EndsInPart k = (s : S) (t : K) → PutsPieces (source_at source a k s) (source_at source b k s) (sink_at sink a k t) (sink_at sink b k t)
 
   -- they are the same devices at a later time
   pub record AreLater : Type 0 where
@@ -64,8 +64,8 @@ module _ {S K : Type 0} (source : S → Device ℕ) (sink : K → Device ℕ) (a
 
   -- the lines of the frames of each capture were put, but not its last line, and this was answered; where it isn't Write
   -- its sink didn't fail
-  pub record EachHeard (answers : List (Result Ended StopFault)) : Type 0 where
+  pub record EachHeard (answers : List (Result Ended RunFault)) : Type 0 where
     pub as_many : length answers ≡ length a.sources
     pub each : (k : ℕ) → k < length a.sources → (s : S) (t : K)
         → Heard (source_at source a k s) (source_at source b k s) (sink_at sink a k t) (sink_at sink b k t) (answer_at answers k)
-    pub writes : (k : ℕ) (t : K) → answer_at answers k ≢ Err StopWrite → (sink_at sink b k t).faults ≡ (sink_at sink a k t).faults
+    pub writes : (k : ℕ) (t : K) → answer_at answers k ≢ Err RunWrite → (sink_at sink b k t).faults ≡ (sink_at sink a k t).faults

@@ -4,7 +4,7 @@ ghost use Rattle.std.specs.Bool.{MatchBool};
 ghost use Rattle.ht_io.specs.Writing.{Growing};
 ghost use Rattle.ht_text.specs.Lines.{capture_text};
 ghost use Rattle.ht_several.specs.Alone.{HasText, HaveText};
-ghost use Rattle.ht_several.specs.Bundles.{PutsOrBreaksOff, texts_from};
+ghost use Rattle.ht_several.specs.Bundles.{PutsOrLeavesPart, texts_from};
 
 use crate::many_end::ManyEnd;
 use ht_bundles::Bundled;
@@ -65,7 +65,7 @@ pub fn have_text(ends: &[ManyEnd]) -> bool
 
 // Puts the line `capture K`, and behind it the capture's text.
 fn put_text<K: Sink>(alloc: Global, number: u8, text: &[u8], sink: &mut K) -> Result<(), RunFault>
-    ensures { PutsOrBreaksOff (K.shown sink.old) (K.shown sink.new) (capture_text number ++ text.now) result }
+    ensures { PutsOrLeavesPart (K.shown sink.old) (K.shown sink.new) (capture_text number ++ text.now) result }
 {
     let line = capture_line(alloc, number)?;
     sink.put(&line)?;
@@ -79,7 +79,7 @@ fn put_text<K: Sink>(alloc: Global, number: u8, text: &[u8], sink: &mut K) -> Re
 /// part of the text, from its front, was put.
 pub fn put_texts<K: Sink>(alloc: Global, texts: &[GrowSink], sink: &mut K) -> Result<(), RunFault>
     requires few { length texts.now ≤ 255 }
-    ensures { PutsOrBreaksOff (K.shown sink.old) (K.shown sink.new) (texts_from 0 (map (λ (s : Growing). s.held) texts.now)) result }
+    ensures { PutsOrLeavesPart (K.shown sink.old) (K.shown sink.new) (texts_from 0 (map (λ (s : Growing). s.held) texts.now)) result }
 {
     for at in 0..texts.len() {
         let text = texts[at].held();

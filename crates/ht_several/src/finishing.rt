@@ -1,24 +1,25 @@
 //! The last lines of several captures.
 ghost use Rattle.std.specs.Prelude.{◌≡◌, ◌<◌, length, slice_index_or};
-ghost use Rattle.ht_several.specs.Alone.{EndsCapture, Finishes};
-ghost use Rattle.ht_several.specs.LastLines.{FinishesEach, OthersStay};
+ghost use Rattle.ht_feed.specs.Others.{OthersStay};
+ghost use Rattle.ht_several.specs.Alone.{EndsCapture, FinishesCapture};
+ghost use Rattle.ht_several.specs.LastLines.{FinishesEach};
 
 use crate::last_line::finish_one;
 use crate::many_end::ManyEnd;
 use ht_feed::Ended;
 use ht_io::Sink;
-use ht_runs::StopFault;
+use ht_runs::RunFault;
 use std::alloc::{AllocError, Global};
 
 // Puts the last line of the capture with this number; the sinks of the others stay as they are.
 fn finish_at<K: Sink>(
     alloc: Global,
-    answer: Result<Ended, StopFault>,
+    answer: Result<Ended, RunFault>,
     sinks: &mut [K],
     at: usize,
 ) -> Result<ManyEnd, AllocError>
     requires sink { at < length sinks.old }
-    ensures ends { (t : K) → EndsCapture K.shown (Finishes answer) (slice_index_or sinks.old at t) (slice_index_or sinks.new at t) result }
+    ensures ends { (t : K) → EndsCapture K.shown (FinishesCapture answer) (slice_index_or sinks.old at t) (slice_index_or sinks.new at t) result }
     ensures others { OthersStay sinks.old sinks.new at }
 {
     finish_one(alloc, answer, &mut sinks[at])
@@ -31,7 +32,7 @@ fn finish_at<K: Sink>(
 /// failed, in part. An answer that is lack of memory is handed on so.
 pub fn finish<K: Sink>(
     alloc: Global,
-    answers: &[Result<Ended, StopFault>],
+    answers: &[Result<Ended, RunFault>],
     sinks: &mut [K],
 ) -> Result<Vec<ManyEnd>, AllocError>
     requires pairs { length sinks.old ≡ length answers.now }

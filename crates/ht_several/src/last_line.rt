@@ -2,12 +2,12 @@
 ghost use Rattle.std.specs.Prelude.{◌≡◌, ℕ, List, IfOk};
 ghost use Rattle.ht_io.specs.Kinds.{name_of};
 ghost use Rattle.ht_text.specs.Lines.{end_text, refused_text};
-ghost use Rattle.ht_several.specs.Alone.{EndsCapture, Finishes, PutsLast};
+ghost use Rattle.ht_several.specs.Alone.{EndsCapture, FinishesCapture, PutsLast};
 
 use crate::many_end::ManyEnd;
 use ht_feed::Ended;
 use ht_io::{FormatFault, Sink};
-use ht_runs::StopFault;
+use ht_runs::RunFault;
 use ht_text::{end_line, refused_line};
 use std::alloc::{AllocError, Global};
 
@@ -29,14 +29,11 @@ fn put_last<K: Sink>(
     }
 }
 
-// Ends a whole capture. One counts its frames by two octets, so there are never more of them.
+// Ends a whole capture with this number of frames.
 fn put_end<K: Sink>(alloc: Global, frames: u64, sink: &mut K) -> Result<ManyEnd, AllocError>
     ensures { EndsCapture K.shown (PutsLast (end_text frames) (ManyEnd.Done frames)) sink.old sink.new result }
 {
-    if frames > 65535 {
-        return Err(AllocError);
-    }
-    put_last(end_line(alloc, frames), ManyEnd::Done(frames as u16), sink)
+    put_last(end_line(alloc, frames), ManyEnd::Done(frames), sink)
 }
 
 // Ends a capture with this first fault.
@@ -55,16 +52,16 @@ fn put_refused<K: Sink>(
 /// with `Write` where a sink failed, this time or before. The only error is lack of memory, and then nothing was put.
 pub(crate) fn finish_one<K: Sink>(
     alloc: Global,
-    answer: Result<Ended, StopFault>,
+    answer: Result<Ended, RunFault>,
     sink: &mut K,
 ) -> Result<ManyEnd, AllocError>
-    ensures { EndsCapture K.shown (Finishes answer) sink.old sink.new result }
+    ensures { EndsCapture K.shown (FinishesCapture answer) sink.old sink.new result }
 {
     match answer {
-        Ok(Ended::Done { frames, .. }) => put_end(alloc, frames, sink),
-        Ok(Ended::Refused(fault)) => put_refused(alloc, fault, sink),
-        Err(StopFault::Read) => Ok(ManyEnd::Read),
-        Err(StopFault::Write) => Ok(ManyEnd::Write),
-        Err(StopFault::NoMemory) => Err(AllocError),
+        Ok(ended) => put_end(alloc, ended.frames, sink),
+        Err(RunFault::Format(fault)) => put_refused(alloc, fault, sink),
+        Err(RunFault::Read) => Ok(ManyEnd::Read),
+        Err(RunFault::Write) => Ok(ManyEnd::Write),
+        Err(RunFault::NoMemory) => Err(AllocError),
     }
 }

@@ -5,7 +5,7 @@ use ht_io::FormatFault;
 #[derive(Clone, Copy, Debug, PartialEq, Eq)]
 pub enum ManyEnd {
     /// It is whole, with this number of frames.
-    Done(u16),
+    Done(u64),
     /// It isn't whole; this is its first fault.
     Refused(FormatFault),
     /// Its source failed.

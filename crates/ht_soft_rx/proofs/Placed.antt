@@ -19,7 +19,7 @@ use Rattle.ht_soft_rx.specs.Jobs.{weight_fold, weight_plan}
 use Rattle.ht_soft_rx.specs.Results.{result_of, soft_result, soft_results_of}
 use Rattle.ht_soft_rx.specs.Weights.{carrier_weights, frame_weights, job_weights, weight_in, weights_in, weights_of_job}
 
--- the weights of a job are as many as the plan says
+-- a job has the number of weights that the plan says
 pub job_long : (head : FrameHead) (job : Option JobView) → length (weights_in head job) ≡ weights_of_job head
 job_long head job =
     let bits = label_bits_of head.rate in

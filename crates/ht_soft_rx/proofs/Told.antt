@@ -12,25 +12,24 @@ use Rattle.ht_capture.specs.Captures.{capture_of}
 use Rattle.ht_capture.specs.Fields.{captures}
 use Rattle.ht_capture_blocks.specs.Captures.{items_of, mapped}
 use Rattle.ht_runs.specs.declared.faults.RunFault.{RunFault}
-use Rattle.ht_runs.specs.declared.faults.StopFault.{StopFault}
 use Rattle.ht_runs.specs.Streamed.{Streamed}
 use Rattle.ht_soft_blocks.specs.Readers.{HalvesView, soft_at, soft_means}
 use Rattle.ht_capture_laws.specs.Items.{whole_frames}
-use Rattle.ht_endings.specs.Endings.{EndsLines, HasFrames as BlockFrames, IsTold, end_as}
+use Rattle.ht_endings.specs.Endings.{EndsLines, IsTold, MeansFrames, end_as}
 use Rattle.ht_receive.specs.Ends.{StreamsText}
 use Rattle.ht_receive.specs.Receiving.{books}
 use Rattle.ht_receive.proofs.Streaming.{streams}
 use Rattle.ht_feed.specs.declared.ended.Ended.{Ended}
 use Rattle.ht_feed.specs.Inputs.{TellsInput}
 use Rattle.ht_feed.specs.Items.{Item, Begins, One, frames_of as block_frames, headed as block_headed}
-use Rattle.ht_results.specs.Texts.{frames_of, last_line, last_of}
+use Rattle.ht_results.specs.Texts.{HasFrames, frames_of, last_line, last_of}
 use Rattle.ht_runs.specs.Formats.{IsLined, filter, last_text}
 use Rattle.ht_soft_blocks.specs.Halved.{halved, halves_of, in_halves, numbered_items}
 use Rattle.ht_text.specs.Lines.{end_text}
 use Rattle.ht_soft_rx.specs.declared.soft_result.SoftResult.{SoftResult}
 use Rattle.ht_frames.specs.Gathering.{booked_in}
 use Rattle.ht_soft_rx.specs.Folding.{Weighing, results_from, results_in, half_found}
-use Rattle.ht_soft_rx.specs.Halved.{HasFrames, halved_items}
+use Rattle.ht_soft_rx.specs.Halved.{halved_items}
 use Rattle.ht_soft_rx.specs.Results.{soft_result, soft_results_of}
 use Rattle.ht_soft_rx.specs.Texts.{soft_line, soft_lines_of, soft_rx_text}
 use Rattle.ht_soft_rx.proofs.Folded.{halves_give}
@@ -89,14 +88,14 @@ soft_told head w none = record {
 
 -- the number of frames is that of the capture
 framed : (head : FrameHead) (source source' sink sink' : Device ℕ) (result : Result ℕ RunFault)
-    → Streamed (filter captures soft_rx_text soft_lines_of) source source' sink sink' (BlockFrames captures (halved_items head)) result
+    → Streamed (filter captures soft_rx_text soft_lines_of) source source' sink sink' (MeansFrames captures (halved_items head)) result
     → Streamed (filter captures soft_rx_text soft_lines_of) source source' sink sink' HasFrames result
 framed head source source' sink sink' (Ok frames) run = (run.0, run.1 ∙ frames_same head (capture_of run.0.taken).items)
 framed head source source' sink sink' (Err fault) run = run
 
 -- the lines of frames were put, from where no frame was under way, and then the end line
 pub finished : {reader : HalvesView} {head : FrameHead} {w : Weighing} {source source' sink start mid sink' : Device ℕ} {lent lent' : List ℕ}
-    {ended : Result Ended StopFault} {result : Result ℕ RunFault}
+    {ended : Result Ended RunFault} {result : Result ℕ RunFault}
     → TellsInput soft_means soft_at reader head source source' (books soft_line (results_in w) start) (books soft_line (results_in w) mid) lent lent' ended
     → start ≡ sink → ((octets : List ℕ) → soft_means reader octets ≡ halved head (mapped (capture_of octets))) → soft_at reader ≡ 0 → w.left ≡ 0
     → EndsLines ended mid sink' result

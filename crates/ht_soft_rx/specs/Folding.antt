@@ -103,7 +103,7 @@ pub record HasWeights (head : FrameHead) (weights : List ℤ) : Type 0 where
   pub all : length weights ≡ weights_in_frame head
 
 -- a frame under way of which a job is still to come
-pub record IsUnderWay (w : Weighing) : Type 0 where
+pub record IsOpenFrame (w : Weighing) : Type 0 where
   pub left : 1 ≤ w.left
   pub kept : HasWeights w.head w.weights
   pub bits : w.bits < weights_of_job w.head

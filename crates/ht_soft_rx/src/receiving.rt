@@ -2,8 +2,8 @@
 ghost use Rattle.ht_feed.specs.Limits.{IsCrewSize, IsWindowSize};
 ghost use Rattle.ht_capture.specs.Fields.{captures};
 ghost use Rattle.ht_receive.specs.Ends.{StreamsText};
+ghost use Rattle.ht_results.specs.Texts.{HasFrames};
 ghost use Rattle.ht_runs.specs.Formats.{filter};
-ghost use Rattle.ht_soft_rx.specs.Halved.{HasFrames};
 ghost use Rattle.ht_soft_rx.specs.Texts.{soft_lines_of, soft_rx_text};
 
 use crate::under_way::SoftUnderWay;
@@ -20,23 +20,14 @@ use std::alloc::Global;
 use std::sync::Wait;
 use std::thread::Threads;
 
-/// Reads a capture from the source, and puts the line `soft N cost C octets HEX`, or `soft N cost C seed zero`, of each
-/// frame that is whole before the capture's first fault into the sink, each in one put, and behind them the line
-/// `end N frames` of a whole capture. The answer is the number of its frames.
+/// Reads a capture, and puts `soft N cost C octets HEX`, or `soft N cost C seed zero`, for each whole frame before the first
+/// fault, and `end F frames` behind a whole capture; it answers F.
 ///
-/// Each label bit of a frame weighs the least distance of the vectors where it is 0, less the least one of those where it
-/// is 1, cut to the range from -65535 to 65535; on an erased subcarrier it weighs 0. Octets and cost are those of the first
-/// of the inputs that cost least at these weights.
+/// A frame is decoded by its weights (IEEE Std 802.11-2012, clause 20.3.11 backwards), four octets each. Pilot jobs and
+/// halves of data jobs run in this thread, between the gate's two calls; at most `window`, 1 to 4096, are due.
 ///
-/// The halves of data jobs and the pilot jobs run in this thread, each between the two calls of the gate, by their numbers
-/// from 0. At most `window` of them, 1 to 4096, were given to be run and not yet taken at any moment; behind them one symbol
-/// is read. Of the frames the weights of one are kept, four octets each.
-///
-/// It refuses with the first fault of an input that is no capture, whose line it leaves to the caller; with `Read` where
-/// the source failed, having put the lines of the frames that were read whole; with `Write` where the sink failed, also
-/// if the source did; and with `NoMemory`. In the last two cases a part of the text was put.
-///
-/// IEEE Std 802.11-2012, clause 20.3.11 backwards.
+/// It refuses with an input's first fault, without its line; with `Read` where the source failed, behind all frames read
+/// whole; with `Write` where the sink failed, even if the source did, and with `NoMemory`, both behind a part of the text.
 #[tactic(auto, using(ht_receive::proofs::Streaming::lacks))]
 pub fn receive_soft_alone<S: Source, K: Sink, G: Gate>(
     alloc: Global,
@@ -62,16 +53,12 @@ pub fn receive_soft_alone<S: Source, K: Sink, G: Gate>(
     put_end(alloc, ended, sink)
 }
 
-/// Does as [`receive_soft_alone`], and the jobs are run by 1 to 64 workers, of which the caller is one. The lines are the
-/// same, in the same order.
+/// Does as [`receive_soft_alone`], with 1 to 64 workers, of which the caller is one. The lines are the same, in the same order.
 ///
-/// Whole frames are decoded while the jobs behind them are read and run, as a `Gatherer` of crate `ht_frames` does it: a
-/// frame of 100 octets or more is given to the workers, who decode it before they look for blocks, and a shorter one is
-/// decoded by the caller.
-/// While jobs are due, at most two frames for each worker beside the caller have no booked result, not counting the frame
-/// under way, and those with the workers have at most 131,072 octets together. So the weights of at most three of the
-/// longest frames are kept, 4.2 MB each, whatever the workers. No clause says so of frames, octets and threads. However it
-/// ends, no thread is left behind.
+/// Whole frames are decoded while the jobs behind them are read and run, as a `Gatherer` of crate `ht_frames` does it: those
+/// of 100 octets or more by the workers, before they look for blocks, and shorter ones by the caller. While jobs are due, at
+/// most two frames for each worker beside the caller have no booked result, not counting the frame under way, and the weights
+/// of at most three of the longest frames are kept, 4.2 MB each. No clause says so. However it ends, no thread is left behind.
 #[tactic(auto, using(ht_receive::proofs::Streaming::lacks))]
 pub fn receive_soft<R: Threads + Wait + Sync, S: Source, K: Sink, G: Gate + Sync>(
     rt: &R,

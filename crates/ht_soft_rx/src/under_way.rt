@@ -1,7 +1,7 @@
 //! A frame under way.
 ghost use Rattle.std.specs.Prelude.{◌≡◌, ◌+◌, ◌*◌, ◌^◌, ◌<◌, ◌≤◌, length, refl, IfOk, OnOk};
 ghost use Rattle.ht_results.specs.Folding.{with_octets};
-ghost use Rattle.ht_soft_rx.specs.Folding.{HasWeights, IsUnderWay, IsWhole, results_in, weight_place};
+ghost use Rattle.ht_soft_rx.specs.Folding.{HasWeights, IsOpenFrame, IsWhole, results_in, weight_place};
 ghost use Rattle.ht_soft_rx.specs.Folding.{weighing_begun, weighing_of, weights_in_frame};
 ghost use Rattle.ht_soft_rx.specs.Folding.{with_bit, with_distance, with_found};
 ghost use Rattle.ht_soft_rx.specs.Results.{result_of};
@@ -38,14 +38,14 @@ pub struct SoftUnderWay {
 
 impl Model for SoftUnderWay {
     ghost use Rattle.std.specs.Prelude.{◌≤◌};
-    ghost use Rattle.ht_soft_rx.specs.Folding.{IsUnderWay, Weighing};
+    ghost use Rattle.ht_soft_rx.specs.Folding.{IsOpenFrame, Weighing};
 
     ghost Value = { Weighing };
 
     ghost view = { λ f. record { head = f.head; weights = f.weights.items; left = f.left; bits = f.bits; zero = f.zero } };
 
     ghost invariant = { λ f. 1 ≤ f.left
-        → IsUnderWay (record { head = f.head; weights = f.weights.items; left = f.left; bits = f.bits; zero = f.zero }) };
+        → IsOpenFrame (record { head = f.head; weights = f.weights.items; left = f.left; bits = f.bits; zero = f.zero }) };
 }
 
 // The number of the weights of a job.
@@ -95,7 +95,7 @@ impl SoftUnderWay {
     #[tactic(auto, using(crate::proofs::Widths::some_bits))]
     fn begin(&mut self, head: &FrameHead) -> Result<(), AllocError>
         ensures begun { OnOk result (self.new ≡ weighing_begun (with_octets head.now)) }
-        ensures ready { OnOk result (IsUnderWay self.new) }
+        ensures ready { OnOk result (IsOpenFrame self.new) }
     {
         let head = FrameHead {
             length: head.length.max(1),
@@ -114,7 +114,7 @@ impl SoftUnderWay {
     // Goes on with the frame that is under way, or begins the one with this head. The only error is lack of memory.
     fn enter(&mut self, head: &FrameHead) -> Result<(), AllocError>
         ensures entered { OnOk result (self.new ≡ weighing_of head.now self.old) }
-        ensures ready { OnOk result (IsUnderWay self.new) }
+        ensures ready { OnOk result (IsOpenFrame self.new) }
     {
         if self.left > 0 {
             return Ok(());
@@ -124,7 +124,7 @@ impl SoftUnderWay {
 
     // One weight more of the next job is there, and that may be the job's last.
     fn add_bit(&mut self)
-        requires ready { IsUnderWay self.old }
+        requires ready { IsOpenFrame self.old }
         ensures added { self.new ≡ with_bit self.old }
         ensures kept { HasWeights self.new.head self.new.weights }
     {
@@ -140,7 +140,7 @@ impl SoftUnderWay {
 
     // Takes the least distance of a half of a data job, whose weights stand from this place on.
     fn add_distance(&mut self, at: usize, distance: u128)
-        requires ready { IsUnderWay self.old }
+        requires ready { IsOpenFrame self.old }
         requires place { at < 2 ^ 63 }
         ensures added { self.new ≡ with_distance at distance self.old.zero self.old }
         ensures kept { HasWeights self.new.head self.new.weights }
@@ -157,7 +157,7 @@ impl SoftUnderWay {
 
     // Takes the least distance of a half from this place, or of a pilot job.
     fn add(&mut self, place: Place, distance: u128)
-        requires ready { IsUnderWay self.old }
+        requires ready { IsOpenFrame self.old }
         ensures added { self.new ≡ with_found place distance self.old }
         ensures kept { HasWeights self.new.head self.new.weights }
     {
@@ -201,7 +201,7 @@ impl UnderWay for SoftUnderWay {
 
     ghost comes_to = { λ frame. result_of frame.head frame.weights };
 
-    // It is called for each job; as a call it cost some 20 to 50 instructions more.
+    // It is called for each job, and without inlining it takes 20 to 50 instructions more.
     #[inline(always)]
     fn take(
         &mut self,

@@ -37,9 +37,9 @@ impl<'g, G: Gate> Work<HalvesBlock> for HalvesWork<'g, G> {
         block.hits(self.work.alloc, &self.work)
     }
 
-    /// Whether the last job was hard, or has halves that are worth the way to another worker one by one. Of its halves
-    /// only those that have its first nearest vector show it, and among three halves that follow one another are both of one
-    /// bit.
+    /// Whether the last job was hard, or has halves that may take so long that each had best go to another worker. How hard a
+    /// job is shows in its least distance, which one of the two halves of each bit has; of three halves that follow one
+    /// another two are of one bit.
     fn is_hard(&self, block: &HalvesBlock, hits: &Hits) -> bool {
         let last = block.job(block.count() - 1);
         has_dear_halves(&last) || is_hard(&last, least_of_last(hits.found.as_slice()))

@@ -105,10 +105,10 @@ pilot-carried f symbol carrier k stream r v is_pilot dr is_v unit =
     subst (λ (x : Carrier). Carries f symbol x stream (record { i = to_z w8 (of_z w8 v); q = pos 0 })) (sym is_pilot)
     (ap (λ (x : ℤ). let p : Point = record { i = x; q = pos 0 } in p) (unit-fits v unit ∙ is_v ∙ ap (λ (x : Rate). pilot_of x symbol k stream) dr))
 
--- at the start there is room for all points
-pub room-for-all : (f : FrameView) (r : Rate) (octets : List ℕ) (n a b capacity : ℕ) → r ≡ f.rate → octets ≡ f.octets → n ≡ symbols_of r (length octets)
+-- at the start the capacity is the number of all points
+pub capacity-for-all : (f : FrameView) (r : Rate) (octets : List ℕ) (n a b capacity : ℕ) → r ≡ f.rate → octets ≡ f.octets → n ≡ symbols_of r (length octets)
     → a ≡ carriers_of r → b ≡ streams_of r → capacity ≡ n * (a * b) → capacity ≡ symbols_of f.rate (length f.octets) * carriers_of f.rate * streams_of f.rate
-room-for-all f r octets n a b capacity dr d_o dn da db e =
+capacity-for-all f r octets n a b capacity dr d_o dn da db e =
     e
     ∙ sym (mul_assoc n a b)
     ∙ ap (λ (x : ℕ). x * a * b) (dn ∙ ap (λ (x : Rate). symbols_of x (length octets)) dr ∙ ap (λ (x : List ℕ). symbols_of f.rate (length x)) d_o)
@@ -118,7 +118,7 @@ room-for-all f r octets n a b capacity dr d_o dn da db e =
 pub none-carried : (f : FrameView) (points : List Point) → points ≡ [] → AreCarried f points
 none-carried f points e p lt = absurd (omega (arith, ap length e))
 
--- and later for those of each symbol
+-- and later there is room for those of each symbol
 pub room-left : (f : FrameView) (r : Rate) (octets : List ℕ) (n symbol capacity : ℕ) → r ≡ f.rate → octets ≡ f.octets → n ≡ symbols_of r (length octets)
     → symbol < n → capacity ≡ symbols_of f.rate (length f.octets) * carriers_of f.rate * streams_of f.rate
     → (symbol + 1) * carriers_of f.rate * streams_of f.rate ≤ capacity

@@ -71,7 +71,7 @@ fn push_carrier(
     requires room { vec_len points.old + streams_of frame.now.rate ≤ vec_capacity points.old }
     requires carried { AreCarried frame.now points.old.items }
     ensures len { vec_len points.new ≡ (symbol * carriers_of frame.now.rate + (index + 1)) * streams_of frame.now.rate }
-    ensures room { vec_capacity points.new ≡ vec_capacity points.old }
+    ensures capacity { vec_capacity points.new ≡ vec_capacity points.old }
     ensures carried { AreCarried frame.now points.new.items }
 {
     let carrier = frame.rate().carrier(index);
@@ -93,7 +93,7 @@ pub(crate) fn push_symbol(
     requires room { (symbol + 1) * carriers_of frame.now.rate * streams_of frame.now.rate ≤ vec_capacity points.old }
     requires carried { AreCarried frame.now points.old.items }
     ensures len { vec_len points.new ≡ (symbol + 1) * carriers_of frame.now.rate * streams_of frame.now.rate }
-    ensures room { vec_capacity points.new ≡ vec_capacity points.old }
+    ensures capacity { vec_capacity points.new ≡ vec_capacity points.old }
     ensures carried { AreCarried frame.now points.new.items }
 {
     for index in 0..frame.rate().carriers() {

@@ -48,9 +48,9 @@ fn parsed(rate: &Rate, reach: u32, stream: u8, k: u16) -> u32
     ensures { result ≡ (source_of rate.now stream k).0 * reach + (source_of rate.now stream k).1 }
 {
     let bit = u32::from(k);
-    let run = u32::from(rate.axis_bits());
+    let group = u32::from(rate.axis_bits());
     let encoders = u32::from(rate.encoders());
-    let round = bit / (encoders * run);
-    let start = u32::from(stream - 1) * run + u32::from(rate.streams()) * run * round;
-    bit / run % encoders * reach + (start + bit % run)
+    let round = bit / (encoders * group);
+    let start = u32::from(stream - 1) * group + u32::from(rate.streams()) * group * round;
+    bit / group % encoders * reach + (start + bit % group)
 }

@@ -2,19 +2,17 @@ use Rattle.std.specs.Prelude.{ℕ, Vec}
 use Rattle.std.specs.Global.{Global}
 use Rattle.std.proofs.Common.{ap, refl, rules}
 use Rattle.ht_results.specs.JobTexts.{detect_text, lines_of}
-use Rattle.ht_results.specs.Texts.{frame_lines_of, rx_text}
+use Rattle.ht_results.specs.Texts.{HasFrames, frame_lines_of, rx_text}
 use Rattle.ht_words.specs.Words.{asked}
 use Rattle.ht_demo.specs.Demos.{Demonstrates}
 use Rattle.ht_cli.specs.Tasks.{plan_of}
 use Rattle.ht_cli.proofs.Answering.{converts, streams}
 use Rattle.ht_capture.specs.Fields.{captures}
 use Rattle.ht_runs.specs.Formats.{filter}
-use Rattle.ht_endings.specs.Endings.{HasFrames as LegacyFrames}
+use Rattle.ht_endings.specs.Endings.{MeansFrames}
 use Rattle.ht_legacy_captures.specs.Formats.{captures as legacy_captures}
 use Rattle.ht_legacy_rx.specs.Texts.{legacy_items, legacy_lines_of, legacy_text}
-use Rattle.ht_soft_rx.specs.Halved.{HasFrames as SoftFrames}
 use Rattle.ht_soft_rx.specs.Texts.{soft_lines_of, soft_rx_text}
-use Rattle.ht_rx.specs.Outcomes.{HasFrames}
 use Rattle.ht_several.specs.Bundles.{receiving}
 use Rattle.ht_runs.specs.Filters.{SaysNothing}
 use Rattle.ht_cli.proofs.Making.{done_is_not, makes}
@@ -40,13 +38,13 @@ returns-in-Some-Rx g c =
 
 pub returns-in-Some-Soft : goal.returns-in-Some-Soft
 returns-in-Some-Soft g c =
-    let run = streams (filter captures soft_rx_text soft_lines_of) soft_ends _ _ _ SoftFrames c.receive_soft-received.result _ _ c.settle-in-Some-Soft.result
+    let run = streams (filter captures soft_rx_text soft_lines_of) soft_ends _ _ _ HasFrames c.receive_soft-received.result _ _ c.settle-in-Some-Soft.result
     c.receive_soft-received.ensures.streams c.receive_soft-received.ensures.puts_later c.settle-in-Some-Soft.ensures.settles in
     let words = c.in-Ok.ensures.value in search rules
 
 pub returns-in-Some-LegacyRx : goal.returns-in-Some-LegacyRx
 returns-in-Some-LegacyRx g c =
-    let run = streams (filter legacy_captures legacy_text legacy_lines_of) legacy_ends _ _ _ (LegacyFrames legacy_captures legacy_items)
+    let run = streams (filter legacy_captures legacy_text legacy_lines_of) legacy_ends _ _ _ (MeansFrames legacy_captures legacy_items)
     c.legacy_receive-received.result _ _ c.settle-in-Some-LegacyRx.result c.legacy_receive-received.ensures.streams
     c.legacy_receive-received.ensures.puts_later c.settle-in-Some-LegacyRx.ensures.settles in
     let words = c.in-Ok.ensures.value in search rules

@@ -15,7 +15,7 @@ loop-read-init g c =
       came = ap length none;
       taken = takes_as a a _ _ (sym none) (takes-none a);
       later = later-refl a;
-      room = search rules;
+      buffer = search rules;
     }
 
 pub loop-read-preserved : goal.loop-read-preserved
@@ -30,7 +30,7 @@ loop-read-preserved g c =
       came = ap length items ∙ (length-append c.loop-read.octets.items p ∙ (ap (λ n. n + length p) was.came ∙ ap (λ n. c.loop-read.read + n) size));
       taken = takes_as a z _ _ (sym items) (takes-append a b z c.loop-read.octets.items p was.taken taken);
       later = later-later a b z was.later c.in-Ok.ensures.later;
-      room = search rules;
+      buffer = search rules;
     }
 
 pub returns-in-Err-clause-failed : goal.returns-in-Err-clause-failed

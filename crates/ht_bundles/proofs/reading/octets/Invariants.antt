@@ -9,7 +9,7 @@ invariant-loop-read g l = record {
   came : length l.octets.items ≡ l.read;
   taken : Takes (g.S.Source.shown l.fn.source) (g.S.Source.shown l.source) l.octets.items;
   later : IsLater (g.S.Source.shown l.fn.source) (g.S.Source.shown l.source);
-  room : length l.room ≡ 65536;
+  buffer : length l.buffer ≡ 65536;
 }
 
 abbrev pub decreases-loop-read : goal.decreases-loop-read

@@ -46,9 +46,9 @@ returns-clause-fits g c =
     let same = c.in-Ok-carriers.ensures.same in
     let count = c.in-Ok-carriers.gathered.count in
     let listed : triangles_of (take count c.carriers.new.present) ≡ c.from.result = sym (c.from.ensures ∙ c.in-Ok-triangles.ensures.listed) in
-    let room : count ≤ length c.carriers.new.present =
+    let within : count ≤ length c.carriers.new.present =
     omega (arith, c.in-Ok-carriers.ensures.places, c.carriers.auto.present, c.no_subcarriers-present.ensures) in
-    let size : length c.from.result ≡ count = ap (λ (ts : List (List Leg)). length ts) (sym listed) ∙ length-triangles c.carriers.new.present count room in
+    let size : length c.from.result ≡ count = ap (λ (ts : List (List Leg)). length ts) (sym listed) ∙ length-triangles c.carriers.new.present count within in
     frame_fits _ c.args.turn.now.version count _ _ (omega (arith, same.2, c.in-Ok.ensures.some.1))
     (read_as _ _ _ _ _ _ _ _ listed c.in-Ok-carriers.ensures.read) size (omega (arith, c.in-Ok-carriers.ensures.some))
     (ap (λ (s : List Sample). length s) c.from-2.ensures ∙ c.in-Ok-samples.ensures.count)

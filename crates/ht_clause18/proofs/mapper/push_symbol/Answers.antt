@@ -14,7 +14,7 @@ loop-index-preserved c = record {
       c.loop-index.invariant.items c.push_reserved.ensures.items
       (c.point_for.ensures ∙ ap (carried c.args.rate (interleaved c.args.rate c.args.bits.now) c.args.symbol) c.legacy_carrier.ensures.value);
   count = omega (arith, c.push_reserved.ensures.len, c.loop-index.invariant.count);
-  room = c.push_reserved.ensures.capacity ∙ c.loop-index.invariant.room;
+  capacity = c.push_reserved.ensures.capacity ∙ c.loop-index.invariant.capacity;
 }
 
 pub returns-clause-items : goal.returns-clause-items

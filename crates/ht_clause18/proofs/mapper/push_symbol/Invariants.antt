@@ -11,5 +11,5 @@ invariant-loop-index l = record {
   items : l.points.items
       ≡ l.fn.points.items ++ map (λ index. carried l.rate (interleaved l.rate l.bits) l.symbol (carrier_of index)) (range_with_len 0 l.index);
   count : vec_len l.points ≡ vec_len l.fn.points + l.index;
-  room : vec_capacity l.points ≡ vec_capacity l.fn.points;
+  capacity : vec_capacity l.points ≡ vec_capacity l.fn.points;
 }

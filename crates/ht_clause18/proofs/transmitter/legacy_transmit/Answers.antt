@@ -31,5 +31,5 @@ loop-symbol-preserved c =
           (symbol_points c.rate-rate.result c.part-bits.result.now n) n c.loop-symbol.invariant.items c.push_symbol.ensures.items
           (ap (λ r. symbol_points r c.part-bits.result.now n) c.rate-rate.ensures ∙ ap (λ l. symbol_points f.rate l n) part);
       count = omega (arith, c.push_symbol.ensures.len, c.loop-symbol.invariant.count);
-      room = c.push_symbol.ensures.room ∙ c.loop-symbol.invariant.room;
+      capacity = c.push_symbol.ensures.capacity ∙ c.loop-symbol.invariant.capacity;
     }

@@ -11,5 +11,5 @@ abbrev pub invariant-loop-symbol : goal.invariant-loop-symbol
 invariant-loop-symbol l = record {
   items : l.points.items ≡ flat_map (λ n. symbol_points l.frame.rate (symbol_bits l.frame n) n) (range_with_len 0 l.symbol);
   count : vec_len l.points ≡ l.symbol * carriers;
-  room : vec_capacity l.points ≡ symbols_of l.frame.rate (length l.frame.octets) * carriers;
+  capacity : vec_capacity l.points ≡ symbols_of l.frame.rate (length l.frame.octets) * carriers;
 }

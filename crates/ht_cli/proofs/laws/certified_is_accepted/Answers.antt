@@ -25,9 +25,9 @@ pub returns-clause-accepted : goal.returns-clause-accepted
 returns-clause-accepted c = is_accepted
 
 pub returns-clause-runs : goal.returns-clause-runs
-returns-clause-runs c = λ all output a b k l e f g h bytes is empty full first read second.
-    run_accepted all output a b k l e f g h bytes is empty full first read second
+returns-clause-runs c = λ all output a b k l e f g h first.
+    run_accepted all output a b k l e f g h first.0 first.1 first.2 first.3 first.4
 
 pub returns-clause-never_refused : goal.returns-clause-never_refused
-returns-clause-never_refused c = λ all output a b k l e f g h bytes is empty full first read second.
-    run_not_refused all output a b k l e f g h bytes is empty full first read second
+returns-clause-never_refused c = λ all output a b k l e f g h first.
+    run_not_refused all output a b k l e f g h first.0 first.1 first.2 first.3 first.4

@@ -1,9 +1,9 @@
 use Rattle.std.proofs.lemmas.Result.{IfOk-weaker}
-use Rattle.ht_demo.proofs.Demonstrating.{demonstrates, received_room}
+use Rattle.ht_demo.proofs.Demonstrating.{demonstrates, received_fit}
 use Rattle.ht_demo.proofs.demonstration.demo_line_of.Goals as goal
 
-pub line-requires-clause-room : goal.line-requires-clause-room
-line-requires-clause-room c = received_room c.args.plan.now c.args.frames.now c.args.results.now c.requires.received
+pub line-requires-clause-sums : goal.line-requires-clause-sums
+line-requires-clause-sums c = received_fit c.args.plan.now c.args.frames.now c.args.results.now c.requires.received
 
 pub returns : goal.returns
 returns c =

@@ -1,7 +1,7 @@
-use Rattle.ht_drive.specs.Driving.{GoesOn}
+use Rattle.ht_drive.specs.Driving.{IsLeading}
 use Rattle.ht_drive.proofs.lead.lead.Given as goal
 
 abbrev pub invariant-loop : goal.invariant-loop
 invariant-loop g l =
     let f = g.F.BlockFeed in
-    GoesOn f.shown f.leads l.running l.fn.window l.window l.fn.helm l.helm l.tally l.fn.feed l.feed
+    IsLeading f.shown f.leads l.running l.fn.window l.window l.fn.helm l.helm l.tally l.fn.feed l.feed

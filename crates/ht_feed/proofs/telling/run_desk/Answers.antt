@@ -35,7 +35,7 @@ returns-in-Err-take-clause-runs g c =
     let r = g.R.BlockReader in
     let e = c.in-Err-take.ensures in
     runs_so _ (tells-fails _ _ _ _ (read_on c.in-Ok-Some.ensures.reads c.loop-block.invariant.tells (g.met.A.Account.more_due c.loop-block.account))
-    (tells_refused r.means r.at _ _ _ _ _ _ e.stays e.part c.take.ensures.faults.later e.faults.cause e.faults.unfailed)) tt tt
+    (tells_refused r.means r.at _ _ _ _ _ _ e.stays e.books)) tt tt
 
 pub loop-block-preserved : goal.loop-block-preserved
 loop-block-preserved g c =
@@ -50,6 +50,6 @@ loop-block-preserved g c =
       going = ap (λ (d : DeskView g.row.R.Denot g.row.R-Head.Denot). d.stop) e.due ∙ adds.going;
       none = ap (λ (d : DeskView g.row.R.Denot g.row.R-Head.Denot). d.due) e.due ∙ one;
       tells = tells-on _ _ _ (read_on c.in-Ok-Some.ensures.reads c.loop-block.invariant.tells (g.met.A.Account.more_due c.loop-block.account))
-          (tells_taken r.means r.at _ _ _ _ _ e.due e.put e.waits c.take.ensures.faults.later e.faults.steady);
-      same = c.take.ensures.faults.same ∙ c.loop-block.invariant.same;
+          (tells_taken r.means r.at _ _ _ _ _ e.due e.books e.waits);
+      same = c.take.ensures.books.faults.same ∙ c.loop-block.invariant.same;
     }

@@ -106,7 +106,7 @@ loop-place-preserved c =
       added = added_more c.args.points.now.items xs ys was.added.0 p octets k a b was.added.1 was.added.2 was.added.3 items
           (point_again a b p low high c.point_of-point.ensures) (two_more octets k at.more);
       fitting = fitting_more r xs ys c.args.symbol k p at.size at.few items fits was.fitting;
-      room = c.push_reserved.ensures.capacity ∙ was.room;
+      capacity = c.push_reserved.ensures.capacity ∙ was.capacity;
     }
 
 pub returns-clause-added : goal.returns-clause-added

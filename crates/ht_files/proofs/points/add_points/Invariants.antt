@@ -10,5 +10,5 @@ invariant-loop-place l = record {
   added : (added : List Point) × (l.points.items ≡ l.fn.points.items ++ added) × (length added ≡ l.place)
       × (take (2 * l.place) l.octets ≡ flat_map point_octets added);
   fitting : AreFitting l.rate l.points.items;
-  room : vec_capacity l.points ≡ vec_capacity l.fn.points;
+  capacity : vec_capacity l.points ≡ vec_capacity l.fn.points;
 }

@@ -18,7 +18,7 @@ symbol-requires-clause-room g c =
       arith,
       room_left c.args.rate.now c.args.length (length c.loop-index.points.items) c.loop-index.index was.size
           (omega (arith, c.loop-index-test.true, c.symbols-index-end.ensures.value)),
-      was.room,
+      was.capacity,
       c.requires.room,
     )
 
@@ -49,7 +49,7 @@ loop-index-preserved g c =
       size = omega (arith, more, was.size, add-mul c.loop-index.index 1 w);
       place = omega (arith, more, was.place, c.width-width.ensures.value);
       fitting = c.in-Ok.ensures.fitting;
-      room = c.in-Ok.ensures.room ∙ was.room;
+      capacity = c.in-Ok.ensures.capacity ∙ was.capacity;
       block = omega (
         arith,
         length-append c.symbol.new.block (drop c.width-width.result c.loop-index.block),

@@ -12,7 +12,7 @@ invariant-loop-index g l = record {
   size : length l.points.items ≡ l.index * (carriers_of l.rate * streams_of l.rate);
   place : l.at ≡ l.fn.at + 2 * length l.points.items;
   fitting : AreFitting l.rate l.points.items;
-  room : vec_capacity l.points ≡ vec_capacity l.fn.points;
+  capacity : vec_capacity l.points ≡ vec_capacity l.fn.points;
   block : length l.block ≡ 912;
   later : IsLater (g.S.Source.shown l.fn.source) (g.S.Source.shown l.source);
 }

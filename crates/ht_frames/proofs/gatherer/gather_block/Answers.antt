@@ -4,9 +4,10 @@ use Rattle.std.proofs.lemmas.Result.{err_from_is_err_and}
 use Rattle.ht_io.specs.Devices.{Device}
 use Rattle.ht_metric.specs.Jobs.{JobView, near}
 use Rattle.ht_feed.specs.declared.book_fault.BookFault.{BookFault}
+use Rattle.ht_feed.specs.Accounts.{BooksJobs}
 use Rattle.ht_feed.specs.Dues.{due_of, headed_due}
 use Rattle.ht_feed.specs.Items.{Headed}
-use Rattle.ht_frames.specs.Gathering.{BooksJobs, booked_behind, finished}
+use Rattle.ht_frames.specs.Gathering.{booked_behind, finished}
 use Rattle.ht_frames.proofs.Gathered.{books_alike, books_whole}
 use Rattle.ht_frames.proofs.Taking.{books_all, books_more, books_none, books_part, heads, job_within}
 use Rattle.ht_frames.proofs.gatherer.gather_block.Goals as goal

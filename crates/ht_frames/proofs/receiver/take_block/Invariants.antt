@@ -1,5 +1,6 @@
 use Rattle.std.proofs.Common.{Ok, take}
-use Rattle.ht_frames.specs.Gathering.{BooksJobs, booked_in}
+use Rattle.ht_feed.specs.Accounts.{BooksJobs}
+use Rattle.ht_frames.specs.Gathering.{booked_in}
 use Rattle.ht_frames.proofs.Taking.{heads}
 use Rattle.ht_frames.proofs.receiver.take_block.Given as goal
 

@@ -13,5 +13,5 @@ loop-i-preserved c =
       items = c.push_reserved.ensures.items
           ∙ value-added rule c.loop-i.places.items c.place_of_bit.result c.loop-i.i (c.loop-i.i + 1) place (omega arith) h.items;
       len_is = omega (arith, len, c.push_reserved.ensures.len);
-      room = c.push_reserved.ensures.capacity ∙ h.room;
+      capacity = c.push_reserved.ensures.capacity ∙ h.capacity;
     }

@@ -12,12 +12,12 @@ loop-k-init c =
     record {
       items = c.requires.before ∙ ap (λ (n : ℕ). map (received_at c.args.rate c.args.labels.now) (range_with_len 0 n)) same;
       len = omega arith;
-      room = refl;
+      capacity = refl;
     }
 
 pub push_reserved-requires : goal.push_reserved-requires
 push_reserved-requires c =
-    omega (arith, c.requires.room, c.loop-k.invariant.len, c.loop-k.invariant.room, c.loop-k-test.true)
+    omega (arith, c.requires.room, c.loop-k.invariant.len, c.loop-k.invariant.capacity, c.loop-k-test.true)
 
 pub loop-k-preserved : goal.loop-k-preserved
 loop-k-preserved c =
@@ -28,7 +28,7 @@ loop-k-preserved c =
           c.push_reserved.ensures.items c.coded_bit.ensures c.loop-k.invariant.items
           ∙ ap (λ (n : ℕ). map (received_at c.args.rate c.args.labels.now) (range_with_len 0 n)) next;
       len = omega (arith, c.push_reserved.ensures.len, c.loop-k.invariant.len);
-      room = c.push_reserved.ensures.capacity ∙ c.loop-k.invariant.room;
+      capacity = c.push_reserved.ensures.capacity ∙ c.loop-k.invariant.capacity;
     }
 
 pub returns-clause-bits : goal.returns-clause-bits

@@ -10,5 +10,5 @@ abbrev pub invariant-loop-k : goal.invariant-loop-k
 invariant-loop-k l = record {
   items : map known_of l.bits.items ≡ map (received_at l.rate l.labels) (range_with_len 0 (l.symbol * coded_bits_of l.rate + l.k));
   len : vec_len l.bits ≡ vec_len l.fn.bits + l.k;
-  room : vec_capacity l.bits ≡ vec_capacity l.fn.bits;
+  capacity : vec_capacity l.bits ≡ vec_capacity l.fn.bits;
 }

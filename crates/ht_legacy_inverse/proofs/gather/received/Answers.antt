@@ -15,7 +15,7 @@ loop-left-init c =
     record {
       items = start ∙ ap (λ (n : ℕ). map (received_at c.args.rate c.args.labels.now) (range_with_len 0 n)) none;
       len = omega (arith, c.in_ok-bits.ensures.len);
-      room = search rules;
+      capacity = search rules;
       before = λ some. omega arith;
     }
 
@@ -29,7 +29,7 @@ push_symbol-requires-clause-labels c =
 pub push_symbol-requires-clause-room : goal.push_symbol-requires-clause-room
 push_symbol-requires-clause-room c =
     let few = min-le_left c.loop-left.left c.from.result in
-    omega (arith, few, c.min-taken.ensures, c.loop-left.invariant.len, c.loop-left.invariant.room)
+    omega (arith, few, c.min-taken.ensures, c.loop-left.invariant.len, c.loop-left.invariant.capacity)
 
 pub push_symbol-requires-clause-before : goal.push_symbol-requires-clause-before
 push_symbol-requires-clause-before c =
@@ -58,7 +58,7 @@ loop-left-preserved c =
     record {
       items = c.push_symbol.ensures.bits ∙ ap (λ (m : ℕ). map (received_at c.args.rate c.args.labels.now) (range_with_len 0 m)) done;
       len = omega (arith, c.push_symbol.ensures.len, c.loop-left.invariant.len, taken, few, c.from-left.ensures);
-      room = c.push_symbol.ensures.room ∙ c.loop-left.invariant.room;
+      capacity = c.push_symbol.ensures.capacity ∙ c.loop-left.invariant.capacity;
       before = λ more.
           let whole = whole-symbol n left size (subst (λ (m : ℕ). 1 ≤ left - m) taken more) in
           omega (arith, whole, at, taken);

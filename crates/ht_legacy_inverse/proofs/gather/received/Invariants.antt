@@ -10,7 +10,7 @@ abbrev pub invariant-loop-left : goal.invariant-loop-left
 invariant-loop-left l = record {
   items : map known_of l.bits.items ≡ map (received_at l.rate l.labels) (range_with_len 0 (l.count - l.left));
   len : vec_len l.bits + l.left ≡ l.count;
-  room : vec_capacity l.bits ≡ l.count;
+  capacity : vec_capacity l.bits ≡ l.count;
   before : 1 ≤ l.left → l.symbol * coded_bits_of l.rate + l.left ≡ l.count;
 }
 

@@ -1,6 +1,6 @@
 use Rattle.std.proofs.Common.{◌≡◌, ◌<◌, ◌∙◌, List, [], ◌∷◌, ◌++◌, Result, length, map, take, sym, ap, arith}
 use Rattle.std.proofs.lemmas.List.{map_more}
-use Rattle.ht_runs.specs.declared.faults.StopFault.{StopFault}
+use Rattle.ht_runs.specs.declared.faults.RunFault.{RunFault}
 use Rattle.ht_feed.specs.declared.ended.Ended.{Ended}
 use Rattle.ht_many.specs.CaptureLanes.{LaneOf, lane_answer, lane_over}
 use Rattle.ht_many.proofs.capture_lane.answers_of.Goals as goal
@@ -21,5 +21,5 @@ loop-lane-preserved g c =
     let less : k < length lanes = omega (arith, c.loop-lane-test.true) in
     let answer = c.end.ensures ∙ ap (λ (x : LaneOf g.row.A.Denot). lane_answer x) c.lane-item.is in
     c.in_ok-push.ensures.items
-    ∙ (ap (λ (answers : List (Result Ended StopFault)). answers ++ c.end.result ∷ []) l.invariant
-    ∙ (ap (λ (a : Result Ended StopFault). map lane_answer (take k lanes) ++ a ∷ []) answer ∙ sym (map_more lane_answer lanes k lane less)))
+    ∙ (ap (λ (answers : List (Result Ended RunFault)). answers ++ c.end.result ∷ []) l.invariant
+    ∙ (ap (λ (a : Result Ended RunFault). map lane_answer (take k lanes) ++ a ∷ []) answer ∙ sym (map_more lane_answer lanes k lane less)))

@@ -16,7 +16,7 @@ loop-i-preserved c =
     let count : length xs ≡ 2 * i = omega (arith, was.count, c.loop-i.bits.ok.0) in
     record {
       count = omega (arith, was.count, one.len, two.len);
-      room = search rules;
+      capacity = search rules;
       firsts = λ k below. ap (λ (l : List Bool). get_or l (2 * k) false) longer ∙ firsts_more xs c.args.first.now a b i count refl was.firsts k below;
       seconds = λ k below.
           ap (λ (l : List Bool). get_or l (2 * k + 1) false) longer ∙ seconds_more xs c.args.second.now a b i count refl was.seconds k below;

@@ -6,8 +6,8 @@ use Rattle.ht_parse.proofs.Places.{place-within}
 use Rattle.ht_parse.proofs.Sizes.{sizes-symbol}
 use Rattle.ht_parse.proofs.streams.push_laid_round.Goals as goal
 
-pub push_run-requires-clause-within : goal.push_run-requires-clause-within
-push_run-requires-clause-within c =
+pub push_group-requires-clause-within : goal.push_group-requires-clause-within
+push_group-requires-clause-within c =
     let here = c.args.layout.now.sizes.encoders_is in
     let test = c.loop-encoder-test.true in
     let share : length (list_of c.args.first.now c.args.second.now c.loop-encoder.encoder) ≡ share_of c.args.layout.now.rate =
@@ -15,27 +15,29 @@ push_run-requires-clause-within c =
     (share_of c.args.layout.now.rate) c.loop-encoder.encoder c.requires.share c.requires.shares (omega arith) in
     omega (arith, c.bit-at.ensures.within, share, ap length c.of_encoder.ensures)
 
-pub push_run-requires-clause-room : goal.push_run-requires-clause-room
-push_run-requires-clause-room c =
+pub push_group-requires-clause-room : goal.push_group-requires-clause-room
+push_group-requires-clause-room c =
     let l = c.args.layout.now in
     omega (
       arith,
       sizes-symbol _ _ _ _ _ l.sizes,
-      place-within l.encoders l.streams l.run l.rounds c.args.stream c.args.round c.loop-encoder.encoder
+      place-within l.encoders l.streams l.group l.rounds c.args.stream c.args.round c.loop-encoder.encoder
           c.requires.stream c.requires.round c.loop-encoder-test.true,
       c.loop-encoder.invariant.size.count,
-      c.loop-encoder.invariant.size.room,
+      c.loop-encoder.invariant.size.capacity,
     )
 
 pub loop-encoder-preserved : goal.loop-encoder-preserved
 loop-encoder-preserved c = record {
-  size = size-more _ _ _ _ c.args.layout.now.run _ _ _ c.loop-encoder.invariant.size c.push_run.ensures.len c.push_run.ensures.room (omega arith);
+  size =
+      size-more _ _ _ _ c.args.layout.now.group _ _ _ c.loop-encoder.invariant.size
+      c.push_group.ensures.len c.push_group.ensures.capacity (omega arith);
   laid =
       laid-step c.args.layout.now.rate c.args.layout.now.encoders c.args.layout.now.streams
-      c.args.layout.now.run c.args.layout.now.rounds c.args.stream c.args.round c.loop-encoder.encoder
+      c.args.layout.now.group c.args.layout.now.rounds c.args.stream c.args.round c.loop-encoder.encoder
       c.bit-at.result _ c.args.first.now c.args.second.now c.of_encoder.result.now c.loop-encoder.bits.items
-      c.push_run.new.bits.items c.args.layout.now.sizes c.requires.round c.loop-encoder-test.true
+      c.push_group.new.bits.items c.args.layout.now.sizes c.requires.round c.loop-encoder-test.true
       c.of_encoder.ensures c.bit-at.ensures.value c.loop-encoder.invariant.size.count
-      (sym c.loop-encoder.bits.ok.0) (sym c.push_run.new.bits.ok.0 ∙ c.push_run.ensures.len)
-      c.push_run.ensures.kept c.push_run.ensures.copied c.loop-encoder.invariant.laid;
+      (sym c.loop-encoder.bits.ok.0) (sym c.push_group.new.bits.ok.0 ∙ c.push_group.ensures.len)
+      c.push_group.ensures.kept c.push_group.ensures.copied c.loop-encoder.invariant.laid;
 }

@@ -12,9 +12,9 @@ invariant-loop-own g l = record {
   count : length l.members.items + length l.owners.items ≡ length l.fn.owners.items;
   rows_left : length l.rows.items ≡ length l.owners.items;
   place : l.place ≡ length l.members.items;
-  room : vec_capacity l.members ≡ vec_capacity l.fn.members;
-  owners_room : vec_capacity l.owners ≡ vec_capacity l.fn.owners;
-  rows_room : vec_capacity l.rows ≡ vec_capacity l.fn.rows;
+  capacity : vec_capacity l.members ≡ vec_capacity l.fn.members;
+  owners_capacity : vec_capacity l.owners ≡ vec_capacity l.fn.owners;
+  rows_capacity : vec_capacity l.rows ≡ vec_capacity l.fn.rows;
   queue : IsOnQueue l.shared l.pass;
   parts : answer_view l.pass ≡ hand (1024 - length l.members.items) [] [];
   ready : (deques : List DequeId) → AreReady deques l.fn.owners.items l.fn.rows.items → AreReady deques l.owners.items l.rows.items;

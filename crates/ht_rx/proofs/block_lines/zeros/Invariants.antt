@@ -2,7 +2,7 @@ use Rattle.std.proofs.Common.{◌≤◌, ◌-◌, length}
 use Rattle.ht_rx.proofs.block_lines.zeros.Given as goal
 
 abbrev pub invariant-loop-zeros : goal.invariant-loop-zeros
-invariant-loop-zeros l = length l.zeros.items ≤ l.room
+invariant-loop-zeros l = length l.zeros.items ≤ l.count
 
 abbrev pub decreases-loop-zeros : goal.decreases-loop-zeros
-decreases-loop-zeros l = l.room - length l.zeros.items
+decreases-loop-zeros l = l.count - length l.zeros.items

@@ -1,5 +1,4 @@
 use Rattle.std.proofs.Common.{◌≡◌, ◌+◌, ◌++◌, ◌∷◌, [], length, Ok, refl, arith}
-use Rattle.ht_feed.specs.declared.ended.Ended.TheVariants.{Done}
 use Rattle.ht_several.proofs.LastLines.{all_finish, answered_so, keep_on, lacks_after, lacks_within, none_yet, one_more}
 use Rattle.ht_several.proofs.finishing.finish.Goals as goal
 
@@ -20,8 +19,8 @@ returns-in-Err g c =
 pub returns-in-Err-push : goal.returns-in-Err-push
 returns-in-Err-push g c =
     let e = c.in-Ok.ensures in
-    let ended = answered_so g.K.Sink.shown c.args.answers.now c.loop-at.sinks c.finish_at.new.sinks c.loop-at.at (Ok (Done 0 0)) c.in-Ok.end
-    c.loop-at-test.true (λ t. (e.ends t).ends) in
+    let ended = answered_so g.K.Sink.shown c.args.answers.now c.loop-at.sinks c.finish_at.new.sinks c.loop-at.at
+    (Ok (record { frames = 0; jobs = 0 })) c.in-Ok.end c.loop-at-test.true (λ t. (e.ends t).ends) in
     let more = c.loop-at.ends.items ++ c.in-Ok.end ∷ [] in
     let so_far = one_more g.K.Sink.shown c.args.answers.now c.args.sinks.now c.loop-at.sinks c.finish_at.new.sinks c.loop-at.at c.loop-at.ends.items
     c.loop-at.invariant e.others (λ t. (e.ends t).later) c.in-Ok.end more refl ended (λ t. (e.ends t).writes) in
@@ -34,8 +33,8 @@ returns-in-Err-push g c =
 pub loop-at-preserved : goal.loop-at-preserved
 loop-at-preserved g c =
     let e = c.in-Ok.ensures in
-    let ended = answered_so g.K.Sink.shown c.args.answers.now c.loop-at.sinks c.finish_at.new.sinks c.loop-at.at (Ok (Done 0 0)) c.in-Ok.end
-    c.loop-at-test.true (λ t. (e.ends t).ends) in
+    let ended = answered_so g.K.Sink.shown c.args.answers.now c.loop-at.sinks c.finish_at.new.sinks c.loop-at.at
+    (Ok (record { frames = 0; jobs = 0 })) c.in-Ok.end c.loop-at-test.true (λ t. (e.ends t).ends) in
     one_more g.K.Sink.shown c.args.answers.now c.args.sinks.now c.loop-at.sinks c.finish_at.new.sinks c.loop-at.at c.loop-at.ends.items
     c.loop-at.invariant e.others (λ t. (e.ends t).later) c.in-Ok.end c.push.new.self.items c.in-Ok-push.ensures.items ended (λ t. (e.ends t).writes)
 

@@ -20,7 +20,7 @@ loop-stream-preserved c =
     (c.carrier-carrier.ensures.value ∙ ap (λ r. carrier_of r c.args.index) c.rate.ensures) c.point_for.ensures in
     record {
       count = omega (arith, c.push_reserved.ensures.len);
-      room = c.push_reserved.ensures.capacity ∙ c.loop-stream.invariant.room;
+      capacity = c.push_reserved.ensures.capacity ∙ c.loop-stream.invariant.capacity;
       carried =
           carried-more f c.loop-stream.points.items c.push_reserved.new.self.items c.args.symbol c.args.index c.loop-stream.stream c.point_for.result
           c.requires.index below len c.push_reserved.ensures.items fits c.loop-stream.invariant.carried;

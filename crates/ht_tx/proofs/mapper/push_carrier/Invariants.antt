@@ -6,6 +6,6 @@ use Rattle.ht_tx.proofs.mapper.push_carrier.Given as goal
 abbrev pub invariant-loop-stream : goal.invariant-loop-stream
 invariant-loop-stream l = record {
   count : vec_len l.points ≡ vec_len l.fn.points + l.stream;
-  room : vec_capacity l.points ≡ vec_capacity l.fn.points;
+  capacity : vec_capacity l.points ≡ vec_capacity l.fn.points;
   carried : AreCarried l.frame l.points.items;
 }

@@ -7,6 +7,6 @@ use Rattle.ht_tx.proofs.mapper.push_symbol.Given as goal
 abbrev pub invariant-loop-index : goal.invariant-loop-index
 invariant-loop-index l = record {
   count : vec_len l.points ≡ (l.symbol * carriers_of l.frame.rate + l.index) * streams_of l.frame.rate;
-  room : vec_capacity l.points ≡ vec_capacity l.fn.points;
+  capacity : vec_capacity l.points ≡ vec_capacity l.fn.points;
   carried : AreCarried l.frame l.points.items;
 }

@@ -20,7 +20,7 @@ loop-slot-preserved c =
     let here : length c.loop-slot.sources.items ≡ c.loop-slot.slot = sym c.loop-slot.sources.ok.0 ∙ was.count in
     record {
       count = omega (arith, c.push_reserved.ensures.len, was.count);
-      room = c.push_reserved.ensures.capacity ∙ was.room;
+      capacity = c.push_reserved.ensures.capacity ∙ was.capacity;
       filled =
           one-more (source_of_slot c.args.rate.now c.args.reach) c.loop-slot.sources.items c.push_reserved.new.self.items c.source.result
           c.push_reserved.ensures.items (c.source.ensures ∙ ap (source_of_slot c.args.rate.now c.args.reach) (sym here)) was.filled;

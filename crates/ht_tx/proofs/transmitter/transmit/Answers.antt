@@ -1,14 +1,14 @@
 use Rattle.std.proofs.Common.{◌≡◌, ◌∙◌, sym, subst, arith}
 use Rattle.ht_tx.specs.Symbols.{IsSymbols, SymbolsView}
-use Rattle.ht_tx.proofs.Carried.{room-for-all, room-left, none-carried, finished, sent-out}
+use Rattle.ht_tx.proofs.Carried.{capacity-for-all, room-left, none-carried, finished, sent-out}
 use Rattle.ht_tx.proofs.Wired.{symbol-starts, wired-out}
 use Rattle.ht_tx.proofs.transmitter.transmit.Goals as goal
 
 pub loop-symbol-init : goal.loop-symbol-init
 loop-symbol-init c = record {
   count = c.in_ok-points.ensures.len ∙ omega arith;
-  room =
-      room-for-all c.args.frame.now c.rate-rate.result c.octets.result.now c.symbols-symbols.result c.from-3.result c.from-4.result _
+  capacity =
+      capacity-for-all c.args.frame.now c.rate-rate.result c.octets.result.now c.symbols-symbols.result c.from-3.result c.from-4.result _
       c.rate-rate.ensures c.octets.ensures.value c.symbols-symbols.ensures.value
       (c.from-3.ensures ∙ c.carriers.ensures.value) (c.from-4.ensures ∙ c.streams.ensures.value)
       c.in_ok-points.ensures.exact;
@@ -34,12 +34,12 @@ push_symbol-requires-clause-wired c =
 pub push_symbol-requires-clause-room : goal.push_symbol-requires-clause-room
 push_symbol-requires-clause-room c =
     room-left c.args.frame.now c.rate-rate.result c.octets.result.now c.symbols-symbols.result c.loop-symbol.symbol _
-    c.rate-rate.ensures c.octets.ensures.value c.symbols-symbols.ensures.value c.loop-symbol-test.true c.loop-symbol.invariant.room
+    c.rate-rate.ensures c.octets.ensures.value c.symbols-symbols.ensures.value c.loop-symbol-test.true c.loop-symbol.invariant.capacity
 
 pub loop-symbol-preserved : goal.loop-symbol-preserved
 loop-symbol-preserved c = record {
   count = c.push_symbol.ensures.len;
-  room = c.push_symbol.ensures.room ∙ c.loop-symbol.invariant.room;
+  capacity = c.push_symbol.ensures.capacity ∙ c.loop-symbol.invariant.capacity;
   carried = c.push_symbol.ensures.carried;
 }
 

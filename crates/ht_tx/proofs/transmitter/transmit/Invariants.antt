@@ -7,6 +7,6 @@ use Rattle.ht_tx.proofs.transmitter.transmit.Given as goal
 abbrev pub invariant-loop-symbol : goal.invariant-loop-symbol
 invariant-loop-symbol l = record {
   count : vec_len l.points ≡ l.symbol * carriers_of l.frame.rate * streams_of l.frame.rate;
-  room : vec_capacity l.points ≡ symbols_of l.frame.rate (length l.frame.octets) * carriers_of l.frame.rate * streams_of l.frame.rate;
+  capacity : vec_capacity l.points ≡ symbols_of l.frame.rate (length l.frame.octets) * carriers_of l.frame.rate * streams_of l.frame.rate;
   carried : AreCarried l.frame l.points.items;
 }

@@ -24,15 +24,17 @@ returns g c =
     let put = c.in_ok-gather_block.ensures.put in
     let e = c.book_frames.ensures in
     record {
-      put = all_put result_of b.booked old mid new start whole left (results c.gather_block.new.under_way) jobs put c.book_frames.result e.put;
-      part = all_part result_of b.booked old mid new start whole left (results c.gather_block.new.under_way) jobs put c.book_frames.result e.part;
+      books = record {
+        put = all_put result_of b.booked old mid new start whole left (results c.gather_block.new.under_way) jobs put c.book_frames.result e.put;
+        part = all_part result_of b.booked old mid new start whole left (results c.gather_block.new.under_way) jobs put c.book_frames.result e.part;
+        faults = record {
+          steady = search rules;
+          cause = failed_behind c.book_frames.result old mid new c.gather_block.ensures.faults.later e.faults.cause;
+          unfailed = search rules;
+          later = search rules;
+          same = search rules;
+        };
+      };
       waits = none_kept c.book_frames.result left (WaitForJobs self.queue.now.items (all_due c.args.due.now.items))
           (all_due (drop 1 c.args.due.now.items)) e.few;
-      faults = record {
-        steady = search rules;
-        cause = failed_behind c.book_frames.result old mid new c.gather_block.ensures.faults.later e.faults.cause;
-        unfailed = search rules;
-        later = search rules;
-        same = search rules;
-      };
     }

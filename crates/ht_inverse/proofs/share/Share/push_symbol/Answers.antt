@@ -15,7 +15,7 @@ loop-place-init g c =
     record {
       items = c.requires.so_far ∙ ap (λ (n : ℕ). map f (range_with_len 0 n)) none;
       len = omega (arith, long);
-      room = refl;
+      capacity = refl;
     }
 
 pub loop-place-preserved : goal.loop-place-preserved
@@ -28,5 +28,5 @@ loop-place-preserved g c =
           ∙ value-added (known_at (g.L.LabelValues.known c.args.labels.now) s.rate s.erased s.encoder) c.loop-place.bits.items c.bit.result at
           (c.args.symbol * share_of s.rate + (c.loop-place.place + 1)) c.bit.ensures (omega arith) was.items;
       len = omega (arith, was.len, c.push_reserved.ensures.len);
-      room = c.push_reserved.ensures.capacity ∙ was.room;
+      capacity = c.push_reserved.ensures.capacity ∙ was.capacity;
     }

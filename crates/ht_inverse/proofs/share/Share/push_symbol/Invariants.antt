@@ -8,5 +8,5 @@ abbrev pub invariant-loop-place : goal.invariant-loop-place
 invariant-loop-place g l = record {
   items : l.bits.items ≡ map (known_at (g.L.LabelValues.known l.labels) l.self.rate l.self.erased l.self.encoder) (range_with_len 0 (l.symbol * share_of l.self.rate + l.place));
   len : vec_len l.bits ≡ l.symbol * share_of l.self.rate + l.place;
-  room : vec_capacity l.bits ≡ vec_capacity l.fn.bits;
+  capacity : vec_capacity l.bits ≡ vec_capacity l.fn.bits;
 }

@@ -42,7 +42,7 @@ push_symbol-requires-clause-room g c =
     let s = c.args.self.now in
     let wide = width-of s c.len-share.result c.len-share.ensures in
     let inside = whole-within c.loop-symbol.symbol c.args.count c.len-share.result (share_of s.rate) wide c.loop-symbol-test.true in
-    omega (arith, inside, c.loop-symbol.invariant.room)
+    omega (arith, inside, c.loop-symbol.invariant.capacity)
 
 pub loop-symbol-preserved : goal.loop-symbol-preserved
 loop-symbol-preserved g c =
@@ -53,7 +53,7 @@ loop-symbol-preserved g c =
     record {
       items = c.push_symbol.ensures.items
           ∙ ap (λ (n : ℕ). map (known_at (g.L.LabelValues.known c.args.labels.now) s.rate s.erased s.encoder) (range_with_len 0 n)) next;
-      room = c.push_symbol.ensures.room ∙ c.loop-symbol.invariant.room;
+      capacity = c.push_symbol.ensures.capacity ∙ c.loop-symbol.invariant.capacity;
     }
 
 pub push_symbol-requires-2-clause-share : goal.push_symbol-requires-2-clause-share
@@ -74,7 +74,7 @@ push_symbol-requires-2-clause-room g c =
     let s = c.args.self.now in
     let wide = width-of s c.len-share.result c.len-share.ensures in
     let all = (parted c.args.count c.len-share.result (share_of s.rate) wide (share-some s.rate)).0 in
-    omega (arith, all, c.loop-symbol.invariant.room)
+    omega (arith, all, c.loop-symbol.invariant.capacity)
 
 pub returns : goal.returns
 returns g c =

@@ -1,6 +1,6 @@
-use Rattle.std.proofs.Common.{◌≡◌, ◌∙◌, List, ap, sym, take, rules}
+use Rattle.std.proofs.Common.{◌≡◌, ◌∙◌, List, [], ap, sym, take, rules}
+use Rattle.ht_feed.specs.Accounts.{BooksJobs}
 use Rattle.ht_feed.specs.Dues.{all_due}
-use Rattle.ht_lanes.specs.Bookings.{BooksHits}
 use Rattle.ht_results.specs.Folding.{FrameSoFar}
 use Rattle.ht_many.specs.KeptFrames.{KeptFrames, booked_left, kept_frames}
 use Rattle.ht_many.proofs.Parts.{books_of, here}
@@ -15,9 +15,9 @@ returns-clause-books g c =
     let e = c.take.ensures in
     let old : KeptFrames = kept_frames before.under_way.now before.queue.now.items in
     let new : KeptFrames = kept_frames after.under_way.now after.queue.now.items in
-    let books : BooksHits c.take.result (b.shown before.book.now) (b.shown after.book.now) (booked_left b.booked old) (booked_left b.booked new)
-    (all_due (take 1 c.args.desk.now.due)) =
-    record { put = e.put; part = e.part; faults = here e.faults } in
+    let books : BooksJobs c.take.result (b.shown before.book.now) (b.shown after.book.now) (booked_left b.booked old) (booked_left b.booked new)
+    (all_due (take 1 c.args.desk.now.due)) [] [] =
+    record { put = e.books.put; part = e.books.part; faults = here e.books.faults } in
     let same : c.args.self.now ≡ old =
     sym c.self.view_is
     ∙ (sym (ap (λ (fs : List FrameSoFar). kept_frames c.self.inside.under_way fs) (ap (λ q. q.now.items) lines.queue))

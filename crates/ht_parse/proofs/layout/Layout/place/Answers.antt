@@ -30,11 +30,11 @@ pub overflow_mul-result-3 : goal.overflow_mul-result-3
 overflow_mul-result-3 c =
     let small = sizes-small _ _ _ _ _ c.args.self.now.sizes in
     let few : rounds c * c.args.self.now.encoders + c.args.encoder ≤ 1728 = omega (arith, (numbers c).3) in
-    omega (arith, product-small (rounds c * c.args.self.now.encoders + c.args.encoder) c.args.self.now.run few small.2)
+    omega (arith, product-small (rounds c * c.args.self.now.encoders + c.args.encoder) c.args.self.now.group few small.2)
 
 pub returns-clause-within : goal.returns-clause-within
 returns-clause-within c =
     let symbol = sizes-symbol _ _ _ _ _ c.args.self.now.sizes in
-    let within = place-within c.args.self.now.encoders c.args.self.now.streams c.args.self.now.run c.args.self.now.rounds
+    let within = place-within c.args.self.now.encoders c.args.self.now.streams c.args.self.now.group c.args.self.now.rounds
     c.args.stream c.args.round c.args.encoder c.requires.stream c.requires.round c.requires.encoder in
     omega (arith, symbol, within)

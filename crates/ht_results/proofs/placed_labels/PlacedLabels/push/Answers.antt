@@ -1,6 +1,6 @@
 use Rattle.std.proofs.Common.{◌≡◌, ◌+◌, ◌∙◌, ◌++◌, ◌∷◌, [], ap, sym, ℕ, List, length}
 use Rattle.ht_results.specs.PlacedLabels.{Placed, count_of, placed, placed_by}
-use Rattle.ht_results.proofs.Runs.{longer}
+use Rattle.ht_results.proofs.Stretches.{longer}
 use Rattle.ht_results.proofs.placed_labels.PlacedLabels.push.Goals as goal
 
 pub returns-clause-added : goal.returns-clause-added

@@ -1,4 +1,4 @@
--- A symbol as runs of s bits: in each round every stream takes one run from every encoder.
+-- A symbol as groups of s bits: in each round every stream takes one group from every encoder.
 use Rattle.std.specs.Prelude.{◌≡◌, ℕ, ◌+◌, ◌-◌, ◌*◌, ◌/◌, ◌%◌, ◌<◌, List, Bool, false, length, slice_index_or}
 use Rattle.ht_rate.specs.declared.rates.Rate.{Rate}
 use Rattle.ht_rate.specs.Rates.{encoders_of, streams_of, stream_bits_of, axis_bits_of}
@@ -10,10 +10,10 @@ unfoldable pub rounds_of : Rate → ℕ
 rounds_of r = stream_bits_of r / (encoders_of r * axis_bits_of r)
 
 -- numbers that are those of a rate
-pub record AreSizes (r : Rate) (encoders streams run rounds : ℕ) : Type 0 where
+pub record AreSizes (r : Rate) (encoders streams group rounds : ℕ) : Type 0 where
   pub encoders_is : encoders ≡ encoders_of r
   pub streams_is : streams ≡ streams_of r
-  pub run_is : run ≡ axis_bits_of r
+  pub group_is : group ≡ axis_bits_of r
   pub rounds_is : rounds ≡ rounds_of r
 
 -- a list that has at each of its places what a rule says

@@ -1,6 +1,6 @@
 use Rattle.std.proofs.Common.{rules, ◌≡◌, ◌+◌, ◌-◌, arith}
-use Rattle.ht_results.proofs.Runs.{copied, uncopied}
-use Rattle.ht_results.proofs.placed_labels.put_run.Goals as goal
+use Rattle.ht_results.proofs.Stretches.{copied, uncopied}
+use Rattle.ht_results.proofs.placed_labels.put_stretch.Goals as goal
 
 pub returns-then-at-kept : goal.returns-then-at-kept
 returns-then-at-kept c =
