@@ -6,6 +6,7 @@ use crate::complex::Complex;
 use ht_pam::Point;
 
 /// An entry above the diagonal of the triangular channel: the gain from one stream to an earlier row.
+#[repr(C)]
 #[derive(Clone, Copy, Debug, Default, PartialEq, Eq)]
 pub struct Tap {
     /// The real part.

@@ -1,7 +1,8 @@
 -- A walk whose two ends move apart.
 use Rattle.std.proofs.Common.{refl, ◌≡◌, ◌⊎◌, ℕ, zero, suc, ◌+◌, ◌-◌, ◌*◌, ◌/◌, ◌^◌, ◌<◌, ◌≤◌, ℤ, pos, ◌+ℤ◌, ◌-ℤ◌, ◌*ℤ◌, List, []}
-use Rattle.std.proofs.Common.{◌∷◌, ◌++◌, length, get_or, append_assoc, true, unsigned_abs, sym, arith, inl, inr, ap, ◌∙◌, subst}
+use Rattle.std.proofs.Common.{◌∷◌, ◌++◌, length, get_or, drop, Option, Some, None, append_assoc, true, unsigned_abs, sym, arith, inl, inr, ap, ◌∙◌, subst}
 use Rattle.std.specs.Prelude.{◌==◌}
+use Rattle.std.specs.Option.{MatchOption}
 use Rattle.std.specs.Int.{bit_at}
 use Rattle.std.specs.Int.Signed.{lt_z, ◌<ℤ◌, ◌≤ℤ◌}
 use Rattle.std.proofs.lemmas.Bool.{and_parts, cases_lt}
@@ -426,3 +427,12 @@ nearest_of l t u d size mask at ladder e f same diagonal below under_it over_it 
     (nearest_at u d size mask at is (subst (λ (m : ℕ). 0 < m) (sym f) ladder.some) within diagonal below under_it over_it set)
     ∙ ap (λ (n : ℕ). get_or (nearest_first (gap t d) (levels_in n mask)) 0 (pos 0)) e
     ∙ ap (λ (m : ℕ). get_or (nearest_first (gap t d) (levels_in l.size m)) 0 (pos 0)) f
+
+-- the first two of a walk: what is behind the first one, if anything is
+pub second_of : (r s : Option ℤ) (now xs ys zs : List ℤ) → xs ≡ now → 0 < length now → MatchOption r ((xs ≡ []) × (ys ≡ [])) (λ x. xs ≡ x ∷ ys)
+    → MatchOption s ((ys ≡ []) × (zs ≡ [])) (λ x. ys ≡ x ∷ zs) → MatchOption s (length now ≡ 1) (λ x. now ≡ get_or now 0 (pos 0) ∷ x ∷ drop 2 now)
+second_of None s now xs ys zs same some first next = absurd (omega (arith, some, ap length (sym same ∙ first.0)))
+second_of (Some x) None now xs ys zs same some first next = ap length (sym same ∙ first ∙ ap (λ (l : List ℤ). x ∷ l) next.0)
+second_of (Some x) (Some z) now xs ys zs same some first next =
+    let all : x ∷ z ∷ zs ≡ now = sym (sym same ∙ first ∙ ap (λ (l : List ℤ). x ∷ l) next) in
+    subst (λ (l : List ℤ). l ≡ get_or l 0 (pos 0) ∷ z ∷ drop 2 l) all refl

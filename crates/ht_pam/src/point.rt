@@ -4,6 +4,7 @@
 ///
 /// The points of 64-QAM have both parts among -7, -5, -3, -1, 1, 3, 5 and 7. In BPSK Q is 0.
 /// Points are ordered by I, and those of the same I by Q.
+#[repr(C)]
 #[derive(Clone, Copy, Debug, Default, PartialEq, Eq, PartialOrd, Ord, Drop)]
 pub struct Point {
     /// The real part.

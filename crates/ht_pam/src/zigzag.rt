@@ -1,5 +1,5 @@
 //! The levels of a coordinate, nearest first.
-ghost use Rattle.std.specs.Prelude.{◌≡◌, ◌⊎◌, ◌+◌, ◌-◌, ◌*◌, ◌^◌, ◌<◌, ◌≤◌, ◌==◌, true, false, [], ◌∷◌, length, slice_index_or, IfSome};
+ghost use Rattle.std.specs.Prelude.{◌≡◌, ◌⊎◌, ◌+◌, ◌-◌, ◌*◌, ◌^◌, ◌<◌, ◌≤◌, ◌==◌, true, false, [], ◌∷◌, length, slice_index_or, drop, IfSome};
 ghost use Rattle.std.specs.Prelude.{◌+ℤ◌, ◌-ℤ◌, ◌*ℤ◌, ◌<ℤ◌, ◌≤ℤ◌, pos, unsigned_abs};
 ghost use Rattle.std.specs.Option.{MatchOption};
 ghost use Rattle.std.specs.Int.{bit_at};
@@ -66,6 +66,14 @@ impl Zigzag {
         ensures steps { steps.new ≡ steps.old + 1 }
     {
         steps.tick();
+        self.take()
+    }
+
+    // The same without a counter.
+    fn take(&mut self) -> Option<i8>
+        ensures next { MatchOption result ((self.old ≡ []) × (self.new ≡ [])) (λ x. self.old ≡ x ∷ self.new) }
+        ensures level { IfSome result (λ x. unsigned_abs x ≤ 7) }
+    {
         if self.below == 0 && self.above == 0 {
             return None;
         }
@@ -91,6 +99,24 @@ impl Zigzag {
         } else {
             level_at(self.size, lowest(self.size, self.above))
         }
+    }
+
+    /// The level that `next` will give after the first one, where two are left. It takes no step.
+    #[inline(always)]
+    pub fn second(&self) -> Option<i8>
+        requires { 0 < length self.now }
+        ensures value { MatchOption result (length self.now ≡ 1) (λ x. self.now ≡ slice_index_or self.now 0 (pos 0) ∷ x ∷ drop 2 self.now) }
+        ensures level { IfSome result (λ x. unsigned_abs x ≤ 7) }
+    {
+        let mut behind = Zigzag {
+            target: self.target,
+            d: self.d,
+            size: self.size,
+            below: self.below,
+            above: self.above,
+        };
+        behind.take();
+        behind.take()
     }
 }
 

@@ -1,8 +1,7 @@
 -- How much more the other levels of a coordinate cost than its nearest one.
-use Rattle.std.proofs.Common.{◌≡◌, ◌⊎◌, ℕ, zero, suc, ◌+◌, ◌-◌, ◌*◌, ◌<◌, ◌≤◌, ℤ, pos, ◌+ℤ◌, ◌-ℤ◌, ◌*ℤ◌, List, [], ◌∷◌}
-use Rattle.std.proofs.Common.{◌++◌, get_or, Bool, true, false, unsigned_abs, Option, None, Some, length, arith, inl, inr, ap, sym, ◌∙◌, subst}
+use Rattle.std.proofs.Common.{◌≡◌, ◌⊎◌, ℕ, zero, suc, ◌+◌, ◌-◌, ◌*◌, ◌≤◌, ℤ, pos, ◌+ℤ◌, ◌-ℤ◌, ◌*ℤ◌, List, [], ◌∷◌}
+use Rattle.std.proofs.Common.{◌++◌, get_or, Bool, true, false, unsigned_abs, length, drop, arith, refl, inl, inr, ap, sym, ◌∙◌, subst}
 use Rattle.std.specs.Prelude.{◌==◌, if◌then◌else◌}
-use Rattle.std.specs.Option.{MatchOption}
 use Rattle.std.specs.Int.{bit_at}
 use Rattle.std.specs.Int.Signed.{◌<ℤ◌, ◌≤ℤ◌}
 use Rattle.std.proofs.Math.Nat.{mul-le-mul, mul-add, add-mul, mul_comm, mul_assoc, mul-zero}
@@ -61,13 +60,22 @@ far_down t d x y h = let e = far_up t d y x h in omega arith
 pub squares : (d : ℕ) (u t z x : ℤ) → u ≡ t → z ≡ x → square (u -ℤ (pos d *ℤ z)) ≡ square (t -ℤ (pos d *ℤ x))
 squares d u t z x e f = ap (λ (r : ℤ). square (r -ℤ (pos d *ℤ z))) e ∙ ap (λ (y : ℤ). square (t -ℤ (pos d *ℤ y))) f
 
--- the first level of a walk, and what is left of it
-pub walk_from : (r : Option ℤ) (walk later : List ℤ) (x : ℤ) → 0 < length walk → x ≡ get_or walk 0 (pos 0)
-    → MatchOption r ((walk ≡ []) × (later ≡ [])) (λ y. walk ≡ y ∷ later) → walk ≡ x ∷ later
-walk_from None walk later x some e next = absurd (omega (arith, some, ap length next.0))
-walk_from (Some y) walk later x some e next =
-    let first : x ≡ y = e ∙ ap (λ (xs : List ℤ). get_or xs 0 (pos 0)) next in
-    next ∙ ap (λ (z : ℤ). z ∷ later) (sym first)
+-- a walk of what was passed
+pub sorted_of : (l : Rungs) (t u : ℤ) (d n : ℕ) (walk : List ℤ) → walk ≡ nearest_first (gap u n) (levels l) → u ≡ t → n ≡ d
+    → walk ≡ nearest_first (gap t d) (levels l)
+sorted_of l t u d n walk is e f = is ∙ ap (λ (r : ℤ). nearest_first (gap r n) (levels l)) e ∙ ap (λ (m : ℕ). nearest_first (gap t m) (levels l)) f
+
+-- a walk by its first levels
+pub of_two : (all walk : List ℤ) (x z : ℤ) → walk ≡ all → x ≡ get_or walk 0 (pos 0) → walk ≡ get_or walk 0 (pos 0) ∷ z ∷ drop 2 walk → all ≡ x ∷ z ∷ drop 2 walk
+of_two all walk x z same first both = sym same ∙ both ∙ ap (λ (y : ℤ). y ∷ z ∷ drop 2 walk) (sym first)
+
+pub of_one : (all walk : List ℤ) (x : ℤ) → walk ≡ all → x ≡ get_or walk 0 (pos 0) → length walk ≡ 1 → all ≡ x ∷ []
+of_one all walk x same first one = sym same ∙ alone walk one ∙ ap (λ (y : ℤ). y ∷ []) (sym first)
+  where
+    alone : (walk : List ℤ) → length walk ≡ 1 → walk ≡ get_or walk 0 (pos 0) ∷ []
+    alone [] e = absurd (omega (arith, e))
+    alone (y ∷ []) e = refl
+    alone (y ∷ z ∷ rest) e = absurd (omega (arith, e))
 
 -- none costs less than the first of an ascending order
 pub least_of : (f : ℤ → ℕ) (n : ℕ) (xs : List ℤ) (y : ℤ) → From f n xs → bests.Among xs y → n ≤ f y

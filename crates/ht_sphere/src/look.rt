@@ -4,9 +4,7 @@ ghost use Rattle.ht_pam.specs.Ladders.{IsLadder};
 ghost use Rattle.ht_sphere.specs.Coordinates.{first_of, IsMargin};
 
 use crate::remainder::{cost, margin_of_lattice};
-use ht_pam::{Ladder, Steps, Zigzag};
-use std::marker::Brand;
-use std::sync::ledger::{Blank, Ledger};
+use ht_pam::{Ladder, Zigzag};
 
 /// The nearest level of a coordinate, the lower one at a tie. Each other one costs more by `margin`, or by more than that.
 #[derive(Clone, Copy)]
@@ -48,29 +46,12 @@ pub(crate) struct AtTwo;
 impl Look for AtTwo {
     #[inline(always)]
     fn nearest(ladder: Ladder, target: i64, d: u16) -> Nearest {
-        of_walk::<Brand>(ladder, target, d, Blank::new(1))
+        let walk = Zigzag::new(ladder, target, u32::from(d));
+        let level = walk.first();
+        let margin = match walk.second() {
+            Some(second) => cost(d, target, second) - cost(d, target, level),
+            None => u64::MAX,
+        };
+        Nearest { level, margin }
     }
-}
-
-// The first two levels of a walk, which has a counter of its own.
-#[inline(always)]
-fn of_walk<L: Ledger>(ladder: Ladder, target: i64, d: u16, blank: Blank) -> Nearest
-    requires target { unsigned_abs target ≤ 2 ^ 31 + 2 ^ 21 }
-    requires ladder { IsLadder ladder }
-    requires name { blank.name ≡ L.name }
-    requires parts { blank.parts ≡ L.parts }
-    requires some { 0 < blank.parts }
-    ensures level { result.level ≡ first_of ladder target d }
-    ensures bound { unsigned_abs result.level ≤ 7 }
-    ensures margin { IsMargin ladder target d result.level result.margin }
-{
-    let mut steps = Steps::<L>::new(blank);
-    let mut walk = Zigzag::new(ladder, target, u32::from(d));
-    let level = walk.first();
-    walk.next(&mut steps);
-    let margin = match walk.next(&mut steps) {
-        Some(second) => cost(d, target, second) - cost(d, target, level),
-        None => u64::MAX,
-    };
-    Nearest { level, margin }
 }
