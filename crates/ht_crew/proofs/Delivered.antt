@@ -1,9 +1,10 @@
 -- Jobs of blocks that came back are jobs of blocks that were pushed.
-use Rattle.std.proofs.Common.{◌≡◌, ℕ, List, [], ◌∷◌, Option, None, Some, IfSome, refl, arith}
+use Rattle.std.proofs.Common.{◌≡◌, ℕ, List, [], ◌∷◌, map, Option, None, Some, IfSome, refl, arith}
 use Rattle.std.specs.List.{sum_by}
 use Rattle.std.proofs.lemmas.List.Sums.{sum_by-append, sum_by-cons}
 use Rattle.ht_metric.specs.Jobs.{JobView}
 use Rattle.ht_feed.specs.Dues.{all_in}
+use Rattle.ht_drive.specs.Blocks.{task_of}
 use Rattle.ht_drive.specs.Reports.{HasRunInPool, Passes, Report, blocks_pushed, came_back}
 use Rattle.ht_crew.specs.Reports.{HasDelivered}
 
@@ -23,8 +24,8 @@ delivered workers room report passes has h =
     omega (
       arith,
       once,
-      sum_by-append weight has.shared.mine (came_back passes).pushed,
-      sum_all h (came_back passes).pushed,
+      sum_by-append weight (map task_of has.shared.mine) (map task_of (came_back passes).pushed),
+      sum_all h (map task_of (came_back passes).pushed),
       sum_all h (blocks_pushed passes),
     )
 

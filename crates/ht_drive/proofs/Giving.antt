@@ -11,7 +11,7 @@ use Rattle.ht_feed.specs.Dues.{NoneEmpty, all_in}
 use Rattle.ht_feed.specs.Feeds.{FeedView, GivesBlock, IsAlong}
 use Rattle.ht_feed.specs.Items.{Numbered}
 use Rattle.ht_feed.proofs.Turning.{all_in-more, came_of}
-use Rattle.ht_pool.specs.Helms.{IsSameHelm, gave}
+use Rattle.ht_drive.specs.Blocks.{IsSameHelm, gave}
 use Rattle.ht_drive.specs.Blocks.{BlockHelm, IsBlock, jobs_in, jobs_of}
 use Rattle.ht_drive.specs.Driving.{Tallies}
 use Rattle.ht_drive.specs.declared.tally.Tally.{Tally}

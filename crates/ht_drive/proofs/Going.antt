@@ -6,7 +6,7 @@ use Rattle.ht_feed.specs.Drives.{LeavesInTurn}
 use Rattle.ht_feed.specs.Dues.{all_in, count_in}
 use Rattle.ht_feed.specs.Feeds.{FeedView, IsAlong, IsFreshFeed, IsInTurn}
 use Rattle.ht_feed.proofs.Turning.{along_fresh}
-use Rattle.ht_pool.specs.Helms.{IsSameHelm}
+use Rattle.ht_drive.specs.Blocks.{IsSameHelm}
 use Rattle.ht_drive.specs.Blocks.{BlockHelm, BlockWindow}
 use Rattle.ht_drive.specs.Driving.{HasYetToLead, Holds, IsLeading, KeepsTurn, OnlyTakes, StepsOn}
 use Rattle.ht_drive.specs.declared.tally.Tally.{Tally}
@@ -33,6 +33,7 @@ module _ {F Fault : Type 0} (shown : F → FeedView Fault) (Leads : F → F → 
       leads = on f f' f'' first.leads later.leads;
       capacity = later.capacity ∙ first.capacity;
       same = same_on h h' h'' first.same later.same;
+      whole = later.whole ∙ first.whole;
       turn = λ known along. later.turn known (first.turn known along);
       by_number = λ all along told. later.by_number all (first.turn (Some all) along) (first.by_number all along told);
     }
@@ -40,8 +41,8 @@ module _ {F Fault : Type 0} (shown : F → FeedView Fault) (Leads : F → F → 
     -- the feed took answers, and then one came or a block was run
     pub goes_taken : {r : Bool} {w w' w'' last : BlockWindow} {h h' h'' : BlockHelm} {t : Tally} {f f' f'' : F} → IsLeading shown Leads r w w' h h' t f f'
         → StepsOn shown Leads w' w'' f' f'' → Holds w'' (shown f'') → KeepsTurn (shown f') (shown f'') → OnlyTakes (shown f') (shown f'')
-        → last ≡ w'' → h''.given ≡ h'.given → IsSameHelm h' h'' → IsLeading shown Leads r w last h h'' t f f''
-    goes_taken {r = r} {h = h} {h' = h'} {h'' = h''} {t = t} {f = f} {f' = f'} {f'' = f''} first steps holds turn takes window given same = record {
+        → last ≡ w'' → h''.given ≡ h'.given → IsSameHelm h' h'' → h''.whole ≡ h'.whole → IsLeading shown Leads r w last h h'' t f f''
+    goes_taken {r = r} {h = h} {h' = h'} {h'' = h''} {t = t} {f = f} {f' = f'} {f'' = f''} first steps holds turn takes window given same whole = record {
       stands = record {
         holds = subst (λ (x : BlockWindow). Holds x (shown f'')) (sym window) holds;
         tallies = tallies_still t h' h'' first.stands.tallies given same.capacity_is;
@@ -51,6 +52,7 @@ module _ {F Fault : Type 0} (shown : F → FeedView Fault) (Leads : F → F → 
       leads = on f f' f'' first.leads steps.leads;
       capacity = ap (λ (x : BlockWindow). x.capacity) window ∙ (steps.capacity ∙ first.capacity);
       same = same_on h h' h'' first.same same;
+      whole = whole ∙ first.whole;
       turn = λ known along. turn known (first.turn known along);
       by_number = λ all along told. subst (λ (blocks : List (List JobView)). AreByNumber all (all_in blocks)) (sym given) (first.by_number all along told);
     }

@@ -1,5 +1,5 @@
 -- Where every block was taken, the pool has run all that it was given.
-use Rattle.std.proofs.Common.{◌≡◌, ℕ, ◌+◌, ◌<◌, ◌≤◌, ◌++◌, List, [], ◌∷◌, length, map, sum, min, drop}
+use Rattle.std.proofs.Common.{◌≡◌, ℕ, ◌+◌, ◌<◌, ◌≤◌, ◌++◌, List, [], ◌∷◌, length, map, sum, min, drop, true}
 use Rattle.std.proofs.Common.{ap, ◌∙◌, sym, refl, arith, subst}
 use Rattle.std.specs.List.{flat_map}
 use Rattle.std.proofs.lemmas.List.Sums.{sum_by-append, sum_by-cons}
@@ -12,7 +12,7 @@ use Rattle.ht_pool.specs.declared.closed.Closed.{Closed}
 use Rattle.ht_pool.specs.declared.member.Member.{Member}
 use Rattle.ht_feed.specs.OwnNumbers.{HaveNumbers}
 use Rattle.ht_feed.specs.Dues.{NoneEmpty, all_in}
-use Rattle.ht_drive.specs.Blocks.{BlockHelm, jobs_in, jobs_of, task_of}
+use Rattle.ht_drive.specs.Blocks.{BlockHelm, RunBlock, jobs_in, jobs_of, jobs_run, lacking, lacks, pool_of, run_block, task_of}
 use Rattle.ht_drive.specs.Driving.{Tallies}
 use Rattle.ht_drive.specs.Reports.{HasRunInPool, IsShared, Passes, Report, blocks_pushed, came_back, deques_of}
 use Rattle.ht_drive.specs.declared.tally.Tally.{Tally}
@@ -26,55 +26,81 @@ few_given : (blocks : List (List JobView)) → NoneEmpty blocks → length block
 few_given [] full = omega arith
 few_given (jobs ∷ blocks) full = let f = full.0 in omega (arith, few_given blocks full.1, f, sum_by-cons jobs_in jobs blocks)
 
-same_blocks : (blocks : List (List JobView)) → map task_of blocks ≡ blocks
-same_blocks [] = refl
-same_blocks (jobs ∷ blocks) = ap (λ (rest : List (List JobView)). jobs ∷ rest) (same_blocks blocks)
+-- blocks that were taken back, and answered
+abbrev answered_all : List (List JobView) → List RunBlock
+answered_all blocks = map (λ (jobs : List JobView). run_block jobs true) blocks
 
--- the blocks that each of some workers delivered
-abbrev blocks_by : List (Member (List JobView) (List JobView)) → List (List (List JobView))
-blocks_by members = map (λ (m : Member (List JobView) (List JobView)). (answers_of m).pushed) members
+blocks_of : (blocks : List (List JobView)) → map task_of (answered_all blocks) ≡ blocks
+blocks_of [] = refl
+blocks_of (jobs ∷ blocks) = ap (λ (rest : List (List JobView)). jobs ∷ rest) (blocks_of blocks)
 
-all_delivered : (members : List (Member (List JobView) (List JobView)))
-    → answered_by members ≡ flat_map (λ (blocks : List (List JobView)). blocks) (blocks_by members)
-all_delivered [] = refl
-all_delivered (m ∷ members) = ap (λ (rest : List (List JobView)). (answers_of m).pushed ++ rest) (all_delivered members)
+none_lacks : (blocks : List (List JobView)) → lacking (answered_all blocks) ≡ 0
+none_lacks [] = refl
+none_lacks (jobs ∷ blocks) = omega (arith, none_lacks blocks, sum_by-cons lacks (run_block jobs true) (answered_all blocks))
 
-counted : (members : List (Member (List JobView) (List JobView))) → map (answered_weight task_of jobs_in) members ≡ map jobs_of (blocks_by members)
-counted [] = refl
-counted (m ∷ members) =
-    ap (λ (blocks : List (List JobView)). jobs_of blocks ∷ map (answered_weight task_of jobs_in) members) (same_blocks (answers_of m).pushed)
-    ∙ ap (λ (ns : List ℕ). jobs_of (answers_of m).pushed ∷ ns) (counted members)
-
--- their jobs add up to those of all blocks
-summed : (others : List (List (List JobView))) → sum (map jobs_of others) ≡ jobs_of (flat_map (λ (blocks : List (List JobView)). blocks) others)
-summed [] = refl
-summed (blocks ∷ others) = omega (
+-- how many jobs they have
+weighed : (runs : List RunBlock) → jobs_of (map task_of runs) ≡ jobs_run runs
+weighed [] = refl
+weighed (run ∷ runs) = omega (
   arith,
-  summed others,
-  sum_by-cons (λ (n : ℕ). n) (jobs_of blocks) (map jobs_of others),
-  sum_by-append jobs_in blocks (flat_map (λ (bs : List (List JobView)). bs) others),
+  weighed runs,
+  sum_by-cons jobs_in run.jobs (map task_of runs),
+  sum_by-cons (λ (r : RunBlock). length r.jobs) run runs,
 )
 
-module _ (t : Tally) (h : BlockHelm) (members : List (Member (List JobView) (List JobView))) (c : Closed (List JobView) (List JobView))
-    (tallies : Tallies t h) (run : HasRun task_of jobs_in h members c) where
+weighed_all : (blocks : List (List JobView)) → jobs_of blocks ≡ jobs_run (answered_all blocks)
+weighed_all blocks = ap jobs_of (sym (blocks_of blocks)) ∙ weighed (answered_all blocks)
+
+-- what came of the blocks that each of some workers delivered
+abbrev Helper : Type 0
+Helper = Member (List JobView) RunBlock
+
+abbrev runs_by : List Helper → List (List RunBlock)
+runs_by members = map (λ (m : Helper). (answers_of m).pushed) members
+
+all_delivered : (members : List Helper) → answered_by members ≡ flat_map (λ (runs : List RunBlock). runs) (runs_by members)
+all_delivered [] = refl
+all_delivered (m ∷ members) = ap (λ (rest : List RunBlock). (answers_of m).pushed ++ rest) (all_delivered members)
+
+counted : (members : List Helper) → map (answered_weight task_of jobs_in) members ≡ map jobs_run (runs_by members)
+counted [] = refl
+counted (m ∷ members) =
+    ap (λ (n : ℕ). n ∷ map (answered_weight task_of jobs_in) members) (weighed (answers_of m).pushed)
+    ∙ ap (λ (ns : List ℕ). jobs_run (answers_of m).pushed ∷ ns) (counted members)
+
+-- their jobs add up to those of all blocks
+summed : (others : List (List RunBlock)) → sum (map jobs_run others) ≡ jobs_run (flat_map (λ (runs : List RunBlock). runs) others)
+summed [] = refl
+summed (runs ∷ others) = omega (
+  arith,
+  summed others,
+  sum_by-cons (λ (n : ℕ). n) (jobs_run runs) (map jobs_run others),
+  sum_by-append (λ (r : RunBlock). length r.jobs) runs (flat_map (λ (rs : List RunBlock). rs) others),
+)
+
+module _ (t : Tally) (h : BlockHelm) (members : List Helper) (c : Closed (List JobView) RunBlock) (tallies : Tallies t h)
+    (run : HasRun task_of jobs_in (pool_of h) members c) (answered : lacking h.answers ≡ 0) where
   abbrev passes_of : Passes
   passes_of = record { deques = c.deques; results = c.pass }
 
-  abbrev delivered : List (List JobView)
+  abbrev delivered : List RunBlock
   delivered = (came_back passes_of).pushed
 
   shared : IsShared c.ran.items passes_of
   shared = record {
-    mine = h.taken;
-    others = blocks_by members;
+    mine = answered_all h.taken;
+    others = runs_by members;
     delivered = run.delivered ∙ all_delivered members;
-    once = subst (λ (blocks : List (List JobView)). SameCounts (h.taken ++ delivered) blocks) (sym run.pushed)
-        (subst (λ (blocks : List (List JobView)). SameCounts (h.taken ++ blocks) h.given) (same_blocks delivered) run.each_once);
-    numbers = run.numbers ∙ ap (λ (ns : List ℕ). jobs_of h.taken ∷ ns) (counted members);
+    once = subst (λ (blocks : List (List JobView)). SameCounts (map task_of (answered_all h.taken) ++ map task_of delivered) blocks) (sym run.pushed)
+        (subst (λ (blocks : List (List JobView)). SameCounts (blocks ++ map task_of delivered) h.given) (sym (blocks_of h.taken)) run.each_once);
+    mine_answered = none_lacks h.taken;
+    answered = sym (run.answers lacks) ∙ ap lacking run.received ∙ answered;
+    numbers = run.numbers ∙ ap (λ (n : ℕ). n ∷ map (answered_weight task_of jobs_in) members) (weighed_all h.taken)
+        ∙ ap (λ (ns : List ℕ). jobs_run (answered_all h.taken) ∷ ns) (counted members);
   }
 
-  helped : jobs_of delivered ≡ sum (drop 1 c.ran.items)
-  helped = ap jobs_of shared.delivered ∙ (sym (summed shared.others) ∙ sym (ap (λ (ns : List ℕ). sum (drop 1 ns)) shared.numbers))
+  helped : jobs_run delivered ≡ sum (drop 1 c.ran.items)
+  helped = ap jobs_run shared.delivered ∙ (sym (summed shared.others) ∙ sym (ap (λ (ns : List ℕ). sum (drop 1 ns)) shared.numbers))
 
   -- a report that says so
   pub has_run_in_pool : (report : Report) → report.jobs ≡ t.issued → report.own ≡ t.own → report.ran ≡ c.ran

@@ -1,17 +1,34 @@
 -- Blocks as the tasks of a pool, and in the window of a drive.
-use Rattle.std.specs.Prelude.{◌≡◌, ◌+◌, ◌<◌, ◌≤◌, ◌^◌, ℕ, List, [], ◌∷◌, length}
+use Rattle.std.specs.Prelude.{◌≡◌, ◌+◌, ◌<◌, ◌≤◌, ◌^◌, ℕ, List, [], ◌∷◌, ◌++◌, length, Bool, true, if◌then◌else◌}
 use Rattle.std.specs.List.{sum_by}
 use Rattle.ht_metric.specs.Jobs.{JobView}
 use Rattle.ht_feed.specs.Dues.{NoneEmpty, count_in}
-use Rattle.ht_pool.specs.Helms.{HelmView, IsSameHelm}
+use Rattle.atomic_table.specs.Seated.{TableId}
+use Rattle.ht_pool.specs.Helms.{HelmView, IsSameHelm as IsSamePool}
+use Rattle.ht_pool.specs.Seats.{DequeId}
 
 -- how many jobs a block has
 abbrev pub jobs_in : List JobView → ℕ
 jobs_in jobs = length jobs
 
+-- what came of a block that was run: its jobs, and whether the work has answered, which lacks memory where it hasn't
+pub record RunBlock : Type 0 where
+  pub jobs : List JobView
+  pub answered : Bool
+
+abbrev pub run_block : List JobView → Bool → RunBlock
+run_block jobs answered = record { jobs = jobs; answered = answered }
+
 -- the block that was run
-abbrev pub task_of : List JobView → List JobView
-task_of jobs = jobs
+abbrev pub task_of : RunBlock → List JobView
+task_of run = run.jobs
+
+-- how many of these blocks came back without an answer
+abbrev pub lacks : RunBlock → ℕ
+lacks run = if run.answered then 0 else 1
+
+abbrev pub lacking : List RunBlock → ℕ
+lacking runs = sum_by lacks runs
 
 -- how many these blocks have
 abbrev pub jobs_of : List (List JobView) → ℕ
@@ -22,20 +39,75 @@ pub record IsBlock (jobs : List JobView) : Type 0 where
   pub some : 1 ≤ length jobs
   pub few : length jobs < 2 ^ 16
 
--- the caller's end of a pool that runs blocks
-abbrev pub BlockHelm : Type 0
-BlockHelm = HelmView (List JobView) (List JobView)
+-- how many jobs blocks have that were run
+abbrev pub jobs_run : List RunBlock → ℕ
+jobs_run runs = sum_by (λ (run : RunBlock). length run.jobs) runs
 
--- a block that is out is one of those that were given, and each of the others has come back
+-- the end of a pool at which blocks are given and come back
+abbrev pub BlockPool : Type 0
+BlockPool = HelmView (List JobView) RunBlock
+
+-- the caller's end of a pool that runs blocks
+pub record BlockHelm : Type 0 where
+  -- this number of blocks can be given for sure
+  pub capacity : ℕ
+  -- a deque for each worker, the caller's first, and the queue of what came of blocks
+  pub deques : List DequeId
+  pub queue : TableId
+  -- the blocks that were given, those that were taken back and run, and what was received of the others, in order
+  pub given : List (List JobView)
+  pub taken : List (List JobView)
+  pub answers : List RunBlock
+  -- whether all that came back, of blocks taken back too, were answered
+  pub whole : Bool
+
+abbrev pub helm_of : BlockPool → Bool → BlockHelm
+helm_of pool whole = record {
+  capacity = pool.capacity;
+  deques = pool.deques;
+  queue = pool.queue;
+  given = pool.given;
+  taken = pool.taken;
+  answers = pool.answers;
+  whole = whole;
+}
+
+abbrev pub pool_of : BlockHelm → BlockPool
+pool_of helm = record {
+  capacity = helm.capacity;
+  deques = helm.deques;
+  queue = helm.queue;
+  given = helm.given;
+  taken = helm.taken;
+  answers = helm.answers;
+}
+
+-- one more block was given
+abbrev pub gave : BlockHelm → List JobView → BlockHelm
+gave helm jobs = record helm { given = helm.given ++ jobs ∷ [] }
+
+-- as many blocks were taken back or received as were given
+abbrev pub IsSettled : BlockHelm → Type 0
+IsSettled helm = length helm.given ≤ length helm.taken + length helm.answers
+
+-- it is the same helm, of the same pool
+pub record IsSameHelm (old new : BlockHelm) : Type 0 where
+  pub capacity_is : new.capacity ≡ old.capacity
+  pub deques_are : new.deques ≡ old.deques
+  pub queue_is : new.queue ≡ old.queue
+
+-- a block that is out is one of those that were given, and each of the others has come back, with its answer where all did
 pub record CountsOut (out : ℕ) (helm : BlockHelm) : Type 0 where
   pub back : length helm.given ≤ out + (length helm.taken + length helm.answers)
   pub few : out ≤ length helm.given
+  pub answered : helm.whole ≡ true → lacking helm.answers ≡ 0
 
--- one block more has come back
-pub record ComesBack (old new : BlockHelm) : Type 0 where
-  pub same : IsSameHelm old new
+-- one block more has come back, of which this came
+pub record ComesBack (old new : BlockPool) (run : RunBlock) : Type 0 where
+  pub same : IsSamePool old new
   pub given_are : new.given ≡ old.given
   pub one : length new.taken + length new.answers ≡ length old.taken + length old.answers + 1
+  pub answered : lacking new.answers ≤ lacking old.answers + lacks run
 
 -- the number of jobs for which a window has room in all, and the jobs of its blocks, in order
 pub record BlockWindow : Type 0 where

@@ -1,14 +1,13 @@
 -- What the window of a drive, its counts and its feed have to do with one another.
-use Rattle.std.specs.Prelude.{◌≡◌, ◌+◌, ◌<◌, ◌≤◌, ℕ, List, [], length, Bool, not, false, Option, Some, None, Result, IfErr, IfOk}
+use Rattle.std.specs.Prelude.{◌≡◌, ◌+◌, ◌<◌, ◌≤◌, ℕ, List, [], length, Bool, not, true, false, Option, Some, None, Result, IfErr, IfOk}
 use Rattle.ht_metric.specs.Jobs.{JobView}
-use Rattle.ht_pool.specs.Helms.{IsSameHelm, IsSettled}
 use Rattle.ht_feed.specs.OwnNumbers.{AreByNumber, HaveNumbers}
 use Rattle.ht_feed.specs.Drives.{IsThrough, LeavesInTurn}
 use Rattle.ht_feed.specs.Dues.{NoneEmpty, all_in, count_in}
 use Rattle.ht_feed.specs.Feeds.{FeedView, IsAlong, IsFreshFeed, IsInTurn, IsLeft}
 use Rattle.ht_feed.specs.declared.drive.DriveFault.{DriveFault}
 use Rattle.ht_feed.specs.declared.drive.DriveFault.TheVariants.{Feed, NoMemory, Work}
-use Rattle.ht_drive.specs.Blocks.{BlockHelm, BlockWindow, jobs_of}
+use Rattle.ht_drive.specs.Blocks.{BlockHelm, BlockWindow, IsSameHelm, IsSettled, jobs_of}
 use Rattle.ht_drive.specs.declared.tally.Tally.{Tally}
 
 -- the counts of a caller fit the blocks that it gave to the pool
@@ -47,6 +46,7 @@ module _ {Fault : Type 0} where
     pub empty : window.due ≡ []
     pub fresh : IsFreshFeed feed
     pub untouched : helm.given ≡ []
+    pub whole : helm.whole ≡ true
 
   -- how a caller stands between two calls of its feed
   pub record Stands (running : Bool) (window : BlockWindow) (helm : BlockHelm) (t : Tally) (feed : FeedView Fault) : Type 0 where
@@ -85,6 +85,8 @@ module _ {Fault : Type 0} where
     -- it has the same window and the same pool
     pub capacity : window'.capacity ≡ window.capacity
     pub same : IsSameHelm helm helm'
+    -- of which each block that came back since was answered
+    pub whole : helm'.whole ≡ helm.whole
     -- the feed was asked in turn, and what was given to the pool is what it gave
     pub turn : KeepsTurn (shown old) (shown new)
     pub by_number : KeepsNumbers (shown old) helm helm'
@@ -103,7 +105,9 @@ module _ {Fault : Type 0} where
     pub tallies : Tallies t helm
     -- where the jobs to come were known, each one given to the pool is that of its number
     pub by_number : (all : List JobView) → old.left ≡ Some all → AreByNumber all (all_in helm.given)
+    -- each was taken back or received, and all with their answers
     pub settled : IsSettled helm
+    pub whole : helm.whole ≡ true
 
   -- a caller leads the blocks of a feed through a window of this number of jobs and its end of a pool, and answers this
   pub record LeadsBlocks {F : Type 0} (shown : F → FeedView Fault) (Leads : F → F → Type 0) (MayLack : Type 0) (window : ℕ) (old new : F)

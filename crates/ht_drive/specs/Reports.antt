@@ -9,16 +9,16 @@ use Rattle.ht_pool.specs.Through.{first_of, through}
 use Rattle.ht_pool.specs.declared.hand.Hand.{Hand}
 use Rattle.ht_feed.specs.OwnNumbers.{AreByNumber, HaveNumbers}
 use Rattle.ht_feed.specs.Dues.{NoneEmpty, all_in}
-use Rattle.ht_drive.specs.Blocks.{jobs_of}
+use Rattle.ht_drive.specs.Blocks.{RunBlock, jobs_of, jobs_run, lacking, task_of}
 use Rattle.ht_drive.specs.declared.report.Passes.{Passes as PassesOf}
 use Rattle.ht_drive.specs.declared.report.Report.{Report as ReportOf}
 
--- a report of blocks that were given, and of blocks that came back with their answers
+-- a report of blocks that were given, and of what came of blocks
 abbrev pub Report : Type 0
-Report = ReportOf (List JobView) (List JobView)
+Report = ReportOf (List JobView) RunBlock
 
 abbrev pub Passes : Type 0
-Passes = PassesOf (List JobView) (List JobView)
+Passes = PassesOf (List JobView) RunBlock
 
 -- how many jobs the feed gave, as a report says
 abbrev pub jobs_reported : Report → ℕ
@@ -32,8 +32,8 @@ deques_of passes = map through passes.deques.items
 abbrev pub blocks_pushed : Passes → List (List JobView)
 blocks_pushed passes = (first_of (deques_of passes)).pushed
 
--- what went through the queue: the blocks that came back with their answers
-abbrev pub came_back : Passes → Hand (List JobView)
+-- what went through the queue: what came of the blocks that others ran
+abbrev pub came_back : Passes → Hand RunBlock
 came_back passes = view passes.results
 
 -- one worker ran all jobs without a pool
@@ -44,15 +44,18 @@ pub record HasRunAlone (report : Report) : Type 0 where
 
 -- who ran the blocks that were pushed, with a number for each worker, the caller first
 pub record IsShared (ran : List ℕ) (passes : Passes) : Type 0 where
-  -- the blocks that the caller took back and ran
-  pub mine : List (List JobView)
-  -- those that each of the others ran and delivered, which are those that were pushed on the queue
-  pub others : List (List (List JobView))
-  pub delivered : (came_back passes).pushed ≡ flat_map (λ (blocks : List (List JobView)). blocks) others
+  -- what came of the blocks that the caller took back and ran
+  pub mine : List RunBlock
+  -- of those that each of the others ran and delivered, which are those that were pushed on the queue
+  pub others : List (List RunBlock)
+  pub delivered : (came_back passes).pushed ≡ flat_map (λ (runs : List RunBlock). runs) others
   -- each block was run by the caller or by one of the others, and that once
-  pub once : SameCounts (mine ++ (came_back passes).pushed) (blocks_pushed passes)
+  pub once : SameCounts (map task_of mine ++ map task_of (came_back passes).pushed) (blocks_pushed passes)
+  -- none lacks its answer
+  pub mine_answered : lacking mine ≡ 0
+  pub answered : lacking (came_back passes).pushed ≡ 0
   -- the numbers are those of the jobs of their blocks
-  pub numbers : ran ≡ jobs_of mine ∷ map jobs_of others
+  pub numbers : ran ≡ jobs_run mine ∷ map jobs_run others
 
 -- this number of workers ran the jobs, with room for at least `capacity` blocks in the pool
 pub record HasRunInPool (workers capacity : ℕ) (report : Report) (passes : Passes) : Type 0 where
@@ -76,8 +79,8 @@ pub record HasRunInPool (workers capacity : ℕ) (report : Report) (passes : Pas
   pub ran : report.own + sum report.ran.items ≡ report.jobs
   pub shared : IsShared report.ran.items passes
   -- so the blocks on the queue have as many jobs as the workers beside the caller counted
-  pub helped : jobs_of (came_back passes).pushed ≡ sum (drop 1 report.ran.items)
-  -- and what the caller took from the queue is what was pushed on it, each block once
+  pub helped : jobs_run (came_back passes).pushed ≡ sum (drop 1 report.ran.items)
+  -- and what the caller took from the queue is what was pushed on it, each once
   pub received : SameCounts (came_back passes).taken (came_back passes).pushed
 
 -- This number of workers ran the jobs of a feed with a window of this number of jobs. `left`: the jobs to come, where they were

@@ -1,7 +1,6 @@
 //! The caller's end of a pool that runs blocks.
-ghost use Rattle.std.specs.Prelude.{if◌then◌else◌, ◌≡◌, ◌-◌, ◌^◌, ◌<◌, ◌≤◌, [], length, false, IfSome, IfNone, IsTrue};
-ghost use Rattle.ht_pool.specs.Helms.{IsSettled, IsSameHelm, gave};
-ghost use Rattle.ht_drive.specs.Blocks.{ComesBack};
+ghost use Rattle.std.specs.Prelude.{if◌then◌else◌, ◌≡◌, ◌-◌, ◌^◌, ◌<◌, ◌≤◌, [], length, true, false, IfSome, IfNone, IsTrue};
+ghost use Rattle.ht_drive.specs.Blocks.{ComesBack, IsSameHelm, IsSettled, gave, helm_of, lacking, pool_of};
 
 use crate::task::{Done, Runner, Task};
 use ht_feed::{Answer, Jobs, Work};
@@ -9,7 +8,7 @@ use ht_pool::helm::Helm;
 use std::marker::Model;
 
 /// Where a caller gives blocks to the pool and gets what came of them. Contracts see the blocks that it gave, in order,
-/// and those that came back.
+/// and what came back, and whether all of that was answered.
 #[derive(Drop)]
 pub(crate) struct BlockHelm<
     'p,
@@ -21,17 +20,19 @@ pub(crate) struct BlockHelm<
     helm: Helm<'p, Runner<'w, B, A, W>>,
     // At least the number of blocks that have yet to come back.
     out: u64,
+    // Whether each block that came back was answered.
+    whole: bool,
 }
 
 impl<'p, 'w, B: Jobs + Drop + Send, A: Answer + Drop + Send, W: Work<B, Answer = A>> Model
     for BlockHelm<'p, 'w, B, A, W> {
-    ghost use Rattle.ht_drive.specs.Blocks.{BlockHelm, CountsOut};
+    ghost use Rattle.ht_drive.specs.Blocks.{BlockHelm, CountsOut, helm_of};
 
     ghost Value = { BlockHelm };
 
-    ghost view = { λ h. h.helm };
+    ghost view = { λ h. helm_of h.helm h.whole };
 
-    ghost invariant = { λ h. CountsOut h.out h.helm };
+    ghost invariant = { λ h. CountsOut h.out (helm_of h.helm h.whole) };
 }
 
 impl<'p, 'w, B: Jobs + Drop + Send, A: Answer + Drop + Send, W: Work<B, Answer = A>> BlockHelm<
@@ -41,12 +42,17 @@ impl<'p, 'w, B: Jobs + Drop + Send, A: Answer + Drop + Send, W: Work<B, Answer =
     A,
     W,
 > {
-    /// The helm of a pool to which nothing was given.
+    /// The helm of a pool to which nothing was given, and from which nothing came.
     pub(crate) fn new(helm: Helm<'p, Runner<'w, B, A, W>>) -> BlockHelm<'p, 'w, B, A, W>
-        requires { helm.given ≡ [] }
-        ensures { result ≡ helm.entry }
+        requires given { helm.given ≡ [] }
+        requires answers { helm.answers ≡ [] }
+        ensures { result ≡ helm_of helm.entry true }
     {
-        BlockHelm { helm, out: 0 }
+        BlockHelm {
+            helm,
+            out: 0,
+            whole: true,
+        }
     }
 
     /// Gives a task to the pool, if that has memory for it. Answers whether it has; if not, at least `capacity` tasks were
@@ -67,9 +73,12 @@ impl<'p, 'w, B: Jobs + Drop + Send, A: Answer + Drop + Send, W: Work<B, Answer =
     pub(crate) fn next(&mut self) -> Option<Done<B, A>>
         ensures same { IsSameHelm self.old self.new }
         ensures given { self.new.given ≡ self.old.given }
+        ensures whole { IfSome result (λ done. self.new.whole ≡ (if done.answered then self.old.whole else false)) }
+        ensures none { IfNone result (self.new ≡ self.old) }
     {
         let done = next_done(&mut self.helm)?;
         self.out = self.out.saturating_sub(1);
+        self.whole = self.whole & done.is_answered();
         Some(done)
     }
 
@@ -82,7 +91,8 @@ impl<'p, 'w, B: Jobs + Drop + Send, A: Answer + Drop + Send, W: Work<B, Answer =
 
     /// The helm for tasks.
     pub(crate) fn into_helm(self) -> Helm<'p, Runner<'w, B, A, W>>
-        ensures { result ≡ self.entry }
+        ensures pool { result ≡ pool_of self.entry }
+        ensures answered { self.entry.whole ≡ true → lacking result.answers ≡ 0 }
     {
         self.helm
     }
@@ -92,7 +102,7 @@ impl<'p, 'w, B: Jobs + Drop + Send, A: Answer + Drop + Send, W: Work<B, Answer =
 fn next_done<B: Jobs + Drop + Send, A: Answer + Drop + Send, W: Work<B, Answer = A>>(
     helm: &mut Helm<'_, Runner<'_, B, A, W>>,
 ) -> Option<Done<B, A>>
-    ensures some { IfSome result (λ _. ComesBack helm.old helm.new) }
+    ensures some { IfSome result (λ done. ComesBack helm.old helm.new done) }
     ensures none { IfNone result (helm.new ≡ helm.old) }
 {
     let received = helm.receive();

@@ -4,8 +4,7 @@ ghost use Rattle.ht_metric.specs.Jobs.{JobView};
 ghost use Rattle.ht_feed.specs.OwnNumbers.{AreByNumber};
 ghost use Rattle.ht_feed.specs.Dues.{all_in, count_in};
 ghost use Rattle.ht_feed.specs.Items.{Numbered};
-ghost use Rattle.ht_pool.specs.Helms.{IsSameHelm};
-ghost use Rattle.ht_drive.specs.Blocks.{IsBlock, block_window};
+ghost use Rattle.ht_drive.specs.Blocks.{IsBlock, IsSameHelm, block_window};
 ghost use Rattle.ht_drive.specs.Driving.{Holds, IsLeading, Refuses, Stands, StepsOn, Tallies};
 
 use crate::helm::BlockHelm;
@@ -34,6 +33,7 @@ fn issue<B: Shared + Drop + Send, A: Answer + Drop + Send, W: Work<B, Answer = A
         → AreByNumber all (all_in helm.new.given)) }
     ensures issued { tally.new.issued ≡ tally.old.issued + length (B.jobs block) }
     ensures same { IsSameHelm helm.old helm.new }
+    ensures whole { helm.new.whole ≡ helm.old.whole }
     ensures lacks { OnErr result B.may_lack }
 {
     let size = u64::from(block.size());

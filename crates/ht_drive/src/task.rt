@@ -1,5 +1,5 @@
 //! Blocks as the tasks of a pool.
-ghost use Rattle.std.specs.Prelude.{◌≡◌, IfOk, OnErr};
+ghost use Rattle.std.specs.Prelude.{◌≡◌, true, IfOk, OnErr, OnOk};
 ghost use Rattle.ht_drive.specs.Blocks.{IsBlock, jobs_in, task_of};
 
 use ht_feed::{Answer, Jobs, Work};
@@ -45,7 +45,7 @@ impl<B: Jobs + Drop> Task<B> {
 
     // Runs the block.
     fn answered<W: Work<B>>(self, work: &W) -> Done<B, W::Answer>
-        ensures { result ≡ self }
+        ensures { task_of result ≡ self }
     {
         let found = work.answer_to(&self.block);
         Done {
@@ -56,8 +56,8 @@ impl<B: Jobs + Drop> Task<B> {
     }
 }
 
-/// A block that was run, with what the work answered. Contracts see its jobs, that the answer is one to these, and that
-/// it's there where no such answer is ever lacking.
+/// A block that was run, with what the work answered. Contracts see its jobs and whether the work has answered. They know
+/// that the answer is one to these jobs, and that it's there where no such answer is ever lacking.
 #[derive(Drop)]
 pub struct Done<B: Jobs, A: Answer> {
     number: u64,
@@ -66,13 +66,13 @@ pub struct Done<B: Jobs, A: Answer> {
 }
 
 impl<B: Jobs, A: Answer> Model for Done<B, A> {
-    ghost use Rattle.std.specs.Prelude.{List, IfOk, OnErr};
-    ghost use Rattle.ht_metric.specs.Jobs.{JobView};
-    ghost use Rattle.ht_drive.specs.Blocks.{IsBlock};
+    ghost use Rattle.std.specs.Prelude.{IfOk, OnErr};
+    ghost use Rattle.std.specs.Result.{is_ok};
+    ghost use Rattle.ht_drive.specs.Blocks.{IsBlock, RunBlock, run_block};
 
-    ghost Value = { List JobView };
+    ghost Value = { RunBlock };
 
-    ghost view = { λ d. B.jobs d.block };
+    ghost view = { λ d. run_block (B.jobs d.block) (is_ok d.found) };
 
     ghost invariant = { λ d. IsBlock (B.jobs d.block) × IfOk d.found (λ answer. A.answers answer (B.jobs d.block))
         × OnErr d.found A.may_lack };
@@ -92,10 +92,18 @@ impl<B: Jobs + Drop, A: Answer> Done<B, A> {
         }
     }
 
-    /// The block and the answer to it, or out of memory.
+    /// Whether the work has answered.
+    pub(crate) fn is_answered(&self) -> bool
+        ensures { result ≡ self.now.answered }
+    {
+        self.found.is_ok()
+    }
+
+    /// The block and the answer to it, or out of memory where the work hasn't answered.
     pub(crate) fn into_parts(self) -> Result<(B, A), AllocError>
-        ensures block { IfOk result (λ parts. B.jobs parts.0 ≡ self) }
-        ensures right { IfOk result (λ parts. A.answers parts.1 self) }
+        ensures block { IfOk result (λ parts. B.jobs parts.0 ≡ task_of self) }
+        ensures right { IfOk result (λ parts. A.answers parts.1 (task_of self)) }
+        ensures answered { OnOk result (self.answered ≡ true) }
         ensures lacks { OnErr result A.may_lack }
     {
         let Done {

@@ -1,13 +1,12 @@
 //! The drive of a feed of blocks.
-ghost use Rattle.std.specs.Prelude.{◌≡◌, ◌⊎◌, ◌+◌, ◌-◌, ◌<◌, ◌≤◌, [], length, map, IfOk, IfSome, IsSome};
+ghost use Rattle.std.specs.Prelude.{◌≡◌, ◌⊎◌, ◌+◌, ◌-◌, ◌<◌, ◌≤◌, [], length, map, true, IfOk, IfSome, IsSome};
 ghost use Rattle.std.specs.List.{All};
 ghost use Rattle.ht_feed.specs.Limits.{IsCrewSize, IsWindowSize};
 ghost use Rattle.ht_feed.specs.Drives.{DrivesBlocks};
 ghost use Rattle.ht_feed.specs.Feeds.{IsFreshFeed};
-ghost use Rattle.ht_pool.specs.Helms.{IsSettled};
 ghost use Rattle.ht_pool.specs.Members.{HasServed, berth_of, berths};
 ghost use Rattle.ht_pool.specs.Pools.{IsOpened, IsVacant};
-ghost use Rattle.ht_drive.specs.Blocks.{jobs_in, task_of};
+ghost use Rattle.ht_drive.specs.Blocks.{IsSettled, jobs_in, task_of};
 ghost use Rattle.ht_drive.specs.Driving.{HasYetToLead, Tallies};
 ghost use Rattle.ht_drive.specs.Reports.{HasRunInPool, HasRunJobs, blocks_pushed, jobs_reported};
 
@@ -146,6 +145,7 @@ fn finish<B: Jobs + Drop + Send, A: Answer + Drop + Send, W: Work<B, Answer = A>
     requires berths { map berth_of members.items ≡ berths helm.deques }
     requires space { IsVacant (length helm.deques) space }
     requires settled { IsSettled helm }
+    requires whole { helm.whole ≡ true }
     requires tallies { Tallies tally helm }
     ensures jobs { result.jobs ≡ tally.issued }
     ensures passes { IsSome result.passes }

@@ -1,6 +1,6 @@
 //! What a caller does while it waits.
-ghost use Rattle.std.specs.Prelude.{◌≡◌, OnErr};
-ghost use Rattle.ht_pool.specs.Helms.{IsSameHelm};
+ghost use Rattle.std.specs.Prelude.{◌≡◌, OnErr, OnOk};
+ghost use Rattle.ht_drive.specs.Blocks.{IsSameHelm};
 
 use crate::helm::BlockHelm;
 use crate::window::Window;
@@ -11,7 +11,7 @@ use std::thread;
 
 /// Keeps an answer that has come, or runs a block that no worker took. Where there is neither and all blocks have come
 /// back, it runs the first one due that still waits for its answer; else another thread may go on. The only error is
-/// that the work lacked memory.
+/// that the work lacked memory: without it, what came back was answered.
 pub(crate) fn turn<B: Shared + Drop + Send, A: Answer + Drop + Send, W: Work<B, Answer = A>>(
     work: &W,
     window: &mut Window<B, A>,
@@ -21,6 +21,7 @@ pub(crate) fn turn<B: Shared + Drop + Send, A: Answer + Drop + Send, W: Work<B, 
     ensures window { window.new ≡ window.old }
     ensures given { helm.new.given ≡ helm.old.given }
     ensures same { IsSameHelm helm.old helm.new }
+    ensures whole { OnOk result (helm.new.whole ≡ helm.old.whole) }
     ensures lacks { OnErr result A.may_lack }
 {
     if let Some(done) = helm.next() {

@@ -1,5 +1,5 @@
 //! The window of a drive.
-ghost use Rattle.std.specs.Prelude.{◌≡◌, ◌+◌, ◌<◌, ◌≤◌, ◌++◌, ◌∷◌, [], length, Some, None, IfOk, IfNone, IfSome, IsTrue, OnErr};
+ghost use Rattle.std.specs.Prelude.{◌≡◌, ◌+◌, ◌<◌, ◌≤◌, ◌++◌, ◌∷◌, [], length, Some, None, true, IfOk, IfNone, IfSome, IsTrue, OnErr, OnOk};
 ghost use Rattle.circular_buffer.specs.Buffer.{buffer};
 ghost use Rattle.ht_feed.specs.Dues.{count_in};
 ghost use Rattle.ht_drive.specs.Blocks.{IsBlock, IsFirst, IsBlockWindow, block_window};
@@ -76,9 +76,10 @@ impl<B: Shared + Drop, A: Answer + Drop> Window<B, A> {
     }
 
     /// Keeps what came of a task, where its block is due and waits for an answer. The only error is that the work
-    /// lacked memory.
+    /// lacked memory, and didn't answer.
     pub(crate) fn accept(&mut self, done: Done<B, A>) -> Result<(), AllocError>
         ensures same { self.new ≡ self.old }
+        ensures answered { OnOk result (done.answered ≡ true) }
         ensures lacks { OnErr result A.may_lack }
     {
         let at = done.number().wrapping_sub(self.front);

@@ -41,6 +41,7 @@ returns-then-is_home g c =
         tallies = so_far.stands.tallies;
         by_number = numbers_first _ _ c.requires so_far;
         settled = search rules;
+        whole = so_far.whole ∙ c.requires.whole;
       };
       refuses = tt;
     }
@@ -59,4 +60,4 @@ pub loop-preserved : goal.loop-preserved
 loop-preserved g c =
     let delivered = c.in_default.ensures in
     goes_taken _ _ g.met.F.BlockFeed.goes_on (supplied g (goal.at.loop-preserved g c).In-Ok) c.deliver.ensures.steps delivered.holds delivered.turn
-    delivered.takes c.turn.ensures.window c.turn.ensures.given c.turn.ensures.same
+    delivered.takes c.turn.ensures.window c.turn.ensures.given c.turn.ensures.same (search rules)

@@ -1,7 +1,7 @@
 use Rattle.std.proofs.Common.{◌≡◌, ◌+◌, length, sym, subst, refl, rules}
 use Rattle.ht_feed.specs.OwnNumbers.{AreByNumber}
 use Rattle.ht_feed.specs.Dues.{all_in}
-use Rattle.ht_pool.specs.Helms.{gave}
+use Rattle.ht_drive.specs.Blocks.{gave}
 use Rattle.ht_drive.specs.Blocks.{BlockHelm}
 use Rattle.ht_drive.specs.Driving.{Tallies}
 use Rattle.ht_drive.specs.declared.tally.Tally.{Tally}

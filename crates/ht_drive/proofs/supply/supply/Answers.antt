@@ -78,6 +78,7 @@ loop-running-preserved-else-is_err g c =
       leads = g.met.F.BlockFeed.goes_on c.args.feed.now c.loop-running.feed c.next.new.self so_far.leads c.next.ensures.leads;
       capacity = capacity g here;
       same = same_on c.args.helm.now before.helm c.issue.new.helm so_far.same c.issue.ensures.same;
+      whole = c.issue.ensures.whole ∙ so_far.whole;
       turn = turn g here;
       by_number = λ all start first. by_number all (so_far.by_number all start first)
           (told_block c.args.size all (seen before.feed) (seen c.next.new.self) jobs (so_far.turn (Some all) start) (running g here) given);
@@ -101,6 +102,7 @@ loop-running-preserved g c =
       leads = g.met.F.BlockFeed.goes_on c.args.feed.now c.loop-running.feed c.next.new.self so_far.leads c.next.ensures.leads;
       capacity = so_far.capacity;
       same = so_far.same;
+      whole = so_far.whole;
       turn = λ known start. along_end known old new (so_far.turn known start) ends;
       by_number = so_far.by_number;
     }
