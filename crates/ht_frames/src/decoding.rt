@@ -7,7 +7,6 @@ use std::alloc::{AllocError, Global};
 use std::marker::Model;
 use std::snapshot::Snapshot;
 use std::sync::{Arc, Wait};
-use std::thread::Threads;
 
 /// Where the result of a frame comes from.
 #[derive(Drop)]
@@ -54,12 +53,13 @@ impl<W: WholeFrame + Drop> Decoding<W> {
         })
     }
 
-    /// Decodes a frame in this thread, where another may help.
-    pub(crate) fn here<R: Threads>(rt: &R, alloc: Global, frame: W) -> Decoding<W>
+    /// A frame that was decoded.
+    pub(crate) fn done(frame: W, outcome: Result<W::Result, AllocError>) -> Decoding<W>
+        requires { IfOk outcome (λ r. r ≡ W.result_of frame) }
         ensures { result ≡ frame }
     {
         let seen = Snapshot::of(&frame);
-        let work = ResultSource::Done(frame.decode_together(rt, alloc));
+        let work = ResultSource::Done(outcome);
         Decoding { frame: seen, work }
     }
 

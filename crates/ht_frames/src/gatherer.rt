@@ -100,7 +100,7 @@ struct Decoders<'a, R, W: WholeFrame> {
 }
 
 // The whole frame leaves, and stands behind the others.
-fn finish_frame<R: Threads + Wait, U: UnderWay, B: Book<<U::Whole as WholeFrame>::Result>>(
+fn finish_frame<R: Threads + Wait, U: TakesBlocks, B: Book<<U::Whole as WholeFrame>::Result>>(
     by: &Decoders<'_, R, U::Whole>,
     under_way: &mut U,
     queue: &mut VecDeque<Decoding<U::Whole>>,
@@ -111,12 +111,12 @@ fn finish_frame<R: Threads + Wait, U: UnderWay, B: Book<<U::Whole as WholeFrame>
         (behind_one (U.comes_to under_way.old) (U.results under_way.old)) (U.results under_way.new) [] }
 {
     let frame = under_way.leave(by.alloc);
-    decode(by.rt, by.alloc, by.frames, queue, frame, by.keep > 0)?;
+    decode::<R, U>(by.rt, by.alloc, by.frames, queue, frame, by.keep > 0)?;
     book_frames(by.rt, by.frames, by.keep, queue, book)
 }
 
 // Takes what was found for a job of the frame that is under way, or that begins with this head.
-fn take_found<R: Threads + Wait, U: UnderWay, B: Book<<U::Whole as WholeFrame>::Result>>(
+fn take_found<R: Threads + Wait, U: TakesBlocks, B: Book<<U::Whole as WholeFrame>::Result>>(
     by: &Decoders<'_, R, U::Whole>,
     under_way: &mut U,
     queue: &mut VecDeque<Decoding<U::Whole>>,

@@ -7,6 +7,7 @@ ghost use Rattle.ht_frames.specs.Gathering.{BooksFirst, BooksPieces, booked_whol
 use crate::book::Book;
 use crate::decoding::Decoding;
 use crate::frames::Frames;
+use crate::takes_blocks::TakesBlocks;
 use crate::whole_frame::WholeFrame;
 use ht_feed::BookFault;
 use std::alloc::{AllocError, Global};
@@ -21,36 +22,37 @@ const LEAST: u16 = 100;
 const MOST: u64 = 131072;
 
 // Has a frame decoded by a worker, if it may be and is worth it, or else in this thread.
-fn decoding<R: Threads + Wait, W: WholeFrame + Drop>(
+fn decoding<R: Threads + Wait, U: TakesBlocks>(
     rt: &R,
     alloc: Global,
-    frames: &Frames<W>,
-    frame: W,
+    frames: &Frames<U::Whole>,
+    frame: U::Whole,
     apart: bool,
-) -> Result<Decoding<W>, AllocError>
+) -> Result<Decoding<U::Whole>, AllocError>
     ensures { IfOk result (λ d. d ≡ frame) }
 {
     if apart && frame.octets() >= LEAST {
         Decoding::apart(rt, alloc, frames, frame)
     } else {
-        Ok(Decoding::here(rt, alloc, frame))
+        let outcome = U::decode_together(&frame, rt, alloc);
+        Ok(Decoding::done(frame, outcome))
     }
 }
 
 /// Decodes a whole frame behind the others: by a worker, if it may be and is worth it, or else in this thread. The only
 /// error is lack of memory.
-pub(crate) fn decode<R: Threads + Wait, W: WholeFrame + Drop>(
+pub(crate) fn decode<R: Threads + Wait, U: TakesBlocks>(
     rt: &R,
     alloc: Global,
-    frames: &Frames<W>,
-    queue: &mut VecDeque<Decoding<W>>,
-    frame: W,
+    frames: &Frames<U::Whole>,
+    queue: &mut VecDeque<Decoding<U::Whole>>,
+    frame: U::Whole,
     apart: bool,
 ) -> Result<(), AllocError>
     ensures { OnOk result (queue.new.items ≡ queue.old.items ++ frame ∷ []) }
 {
     queue.reserve(1)?;
-    let decoding = decoding(rt, alloc, frames, frame, apart)?;
+    let decoding = decoding::<R, U>(rt, alloc, frames, frame, apart)?;
     queue.push_back_reserved(decoding);
     Ok(())
 }

@@ -6,9 +6,11 @@ ghost use Rattle.ht_feed.specs.Items.{Headed};
 ghost use Rattle.ht_frames.specs.Gathering.{finished};
 
 use crate::under_way::UnderWay;
+use crate::whole_frame::WholeFrame;
 use ht_feed::{Answer, Hits, Jobs};
 use ht_metric::Found;
 use std::alloc::{AllocError, Global};
+use std::thread::Threads;
 
 /// An answer that tells what was found for each job.
 pub trait EachFound: Answer {
@@ -60,5 +62,17 @@ pub trait TakesBlocks: UnderWay {
             ≡ Self.results self.old (headed_due (due_of _head.now (J.jobs _block.now)) ++ more))) }
     {
         Ok(None)
+    }
+
+    /// The result of a whole frame, where another thread may help. It stands here, so that what receives alone reaches no
+    /// thread. The only error is lack of memory.
+    fn decode_together<R: Threads>(
+        whole: &Self::Whole,
+        _rt: &R,
+        alloc: Global,
+    ) -> Result<<Self::Whole as WholeFrame>::Result, AllocError>
+        ensures { IfOk result (λ r. r ≡ Self.Whole.result_of whole.now) }
+    {
+        whole.decode(alloc, &mut <Self::Whole as WholeFrame>::decoder(alloc))
     }
 }

@@ -2,7 +2,6 @@
 ghost use Rattle.std.specs.Prelude.{◌≡◌, ℕ, IfOk, IsTrue};
 
 use std::alloc::{AllocError, Global};
-use std::thread::Threads;
 
 /// A frame whose last job came, so that it can be decoded.
 pub trait WholeFrame {
@@ -28,17 +27,6 @@ pub trait WholeFrame {
     /// What it comes to, decoded in this thread. The only error is lack of memory.
     fn decode(&self, alloc: Global, decoder: &mut Self::Decoder) -> Result<Self::Result, AllocError>
         ensures { IfOk result (λ r. r ≡ result_of self.now) };
-
-    /// The same, where another thread may help.
-    fn decode_together<R: Threads>(
-        &self,
-        _rt: &R,
-        alloc: Global,
-    ) -> Result<Self::Result, AllocError>
-        ensures { IfOk result (λ r. r ≡ result_of self.now) }
-    {
-        self.decode(alloc, &mut Self::decoder(alloc))
-    }
 
     /// `true` only where both come to the same. A frame that comes back from a worker and for which this is false counts as
     /// lost.

@@ -13,6 +13,7 @@ use ht_metric::{Found, Place};
 use ht_results::FrameResult;
 use std::alloc::{AllocError, Global};
 use std::mem;
+use std::thread::Threads;
 
 impl UnderWay for OpenFrame {
     type Head = FrameHead;
@@ -71,5 +72,13 @@ impl TakesBlocks for OpenFrame {
         }
         self.add_tally(tally);
         Ok(Some(self.left() == 0))
+    }
+
+    fn decode_together<R: Threads>(
+        whole: &WholeLabels,
+        rt: &R,
+        alloc: Global,
+    ) -> Result<FrameResult, AllocError> {
+        whole.together(rt, alloc)
     }
 }

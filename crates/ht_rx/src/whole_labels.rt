@@ -1,5 +1,5 @@
 //! A frame whose labels are all there.
-ghost use Rattle.std.specs.Prelude.{◌≡◌};
+ghost use Rattle.std.specs.Prelude.{◌≡◌, IfOk};
 ghost use Rattle.ht_results.specs.Folding.{result_of};
 ghost use Rattle.ht_rx.specs.Frames.{HasLabels};
 
@@ -36,6 +36,17 @@ impl WholeLabels {
     {
         WholeLabels { frame }
     }
+
+    /// Its result, the codewords of two encoders decoded in two threads.
+    pub(crate) fn together<R: Threads>(
+        &self,
+        rt: &R,
+        alloc: Global,
+    ) -> Result<FrameResult, AllocError>
+        ensures { IfOk result (λ r. r ≡ result_of self.now) }
+    {
+        self.frame.result(alloc, &mut Together::new(rt))
+    }
 }
 
 impl WholeFrame for WholeLabels {
@@ -61,13 +72,5 @@ impl WholeFrame for WholeLabels {
 
     fn same(&self, other: &WholeLabels) -> bool {
         self.frame.same(&other.frame)
-    }
-
-    fn decode_together<R: Threads>(
-        &self,
-        rt: &R,
-        alloc: Global,
-    ) -> Result<FrameResult, AllocError> {
-        self.frame.result(alloc, &mut Together::new(rt))
     }
 }
