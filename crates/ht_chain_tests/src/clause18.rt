@@ -49,6 +49,8 @@ fn annex(rt: HostRuntime) -> Result<(), Fail> {
 
 #[test]
 fn one_octet(rt: HostRuntime) -> Result<(), Fail> {
+    let rate = LegacyRate::of(0).ok_or("a rate")?;
+    equal(&rt, (rate.symbols(1), rate.pads(1)), (2, 18));
     let points = sent(&rt, 0, 127, &[0xa5])?;
     equal(&rt, points.len(), 2 * 52);
     let pilots = [5, 19, 32, 46];

@@ -63,19 +63,23 @@ static ONE_OCTET: [&str; 2] = [
     "0101110011111111011101100100001010001000001111101000",
 ];
 
-// The weight of a bit of the first stream's label, by trying all vectors of both halves.
-fn weigh(modulation: Modulation, job: &Job, bit: u8) -> i32
+// The least distances of the halves for 0 and for 1 of a bit of the first stream's label, by trying all vectors of both.
+fn least(modulation: Modulation, job: &Job, bit: u8) -> (u128, u128)
     requires full { job.now.grid ≡ replicate (length job.now.grid) (axes_of modulation) }
     requires bit { bit < bits_of modulation }
 {
     let _streams = job.grid().streams(); // at least one, which only the proof asks for
     let zero = plain_nearest(&half(modulation, job, 0, 1, bit, false));
     let one = plain_nearest(&half(modulation, job, 1, 1, bit, true));
-    weight(zero.distance(), one.distance())
+    (zero.distance(), one.distance())
 }
 
-// Appends the weights of a data subcarrier of one stream.
-fn push_weights(weights: &mut Vec<i32>, rate: &Rate, received: Received) -> Result<(), AllocError> {
+// Appends the least distances of both halves of each bit of a data subcarrier of one stream.
+fn push_least(
+    distances: &mut Vec<(u128, u128)>,
+    rate: &Rate,
+    received: Received,
+) -> Result<(), AllocError> {
     let (diagonal, re, im) = received;
     let grid = grid(rate);
     if grid.streams() != 1 {
@@ -92,19 +96,28 @@ fn push_weights(weights: &mut Vec<i32>, rate: &Rate, received: Received) -> Resu
     let job = Job::new(0, place, grid, system);
     let modulation = rate.modulation();
     for bit in 0..modulation.label_bits() {
-        weights.push(weigh(modulation, &job, bit))?;
+        distances.push(least(modulation, &job, bit))?;
     }
     Ok(())
+}
+
+// The weights of halves with these least distances.
+fn weigh(alloc: Global, distances: &[(u128, u128)]) -> Result<Vec<i32>, AllocError> {
+    let mut weights = Vec::new(alloc);
+    for (zero, one) in distances {
+        weights.push(weight(*zero, *one))?;
+    }
+    Ok(weights)
 }
 
 // The weights of a symbol.
 fn weights_of(alloc: Global, rate: &Rate, symbol: &Symbol) -> Result<Vec<i32>, AllocError> {
     let (diagonals, re, im) = symbol;
-    let mut weights = Vec::new(alloc);
+    let mut distances = Vec::new(alloc);
     for k in 0..52 {
-        push_weights(&mut weights, rate, (diagonals[k], re[k], im[k]))?;
+        push_least(&mut distances, rate, (diagonals[k], re[k], im[k]))?;
     }
-    Ok(weights)
+    weigh(alloc, &distances)
 }
 
 // The number of label bits of a frame.
@@ -138,10 +151,12 @@ fn meets(
 #[test]
 fn bits(rt: HostRuntime) -> Result<(), Fail> {
     let rate = Rate::of(0, 0)?;
-    let mut weights = Vec::new(rt.alloc());
+    let mut distances = Vec::new(rt.alloc());
     for received in [(10, 3, -4), (10, 0, 0), (40000, 40000, 0), (40000, -1, 7)] {
-        push_weights(&mut weights, &rate, received)?;
+        push_least(&mut distances, &rate, received)?;
     }
+    equal(&rt, distances.first().copied(), Some((185, 65)));
+    let weights = weigh(rt.alloc(), &distances)?;
     equal(&rt, weights.as_slice(), [120, 0, 65535, -65535].as_slice());
     Ok(())
 }

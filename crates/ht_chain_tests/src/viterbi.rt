@@ -78,6 +78,32 @@ fn vectors(rt: HostRuntime) -> Result<(), Fail> {
     Ok(())
 }
 
+// Words that are as they were sent but for a place, or but for the tail.
+#[test]
+fn nearly_clean(rt: HostRuntime) -> Result<(), Fail> {
+    let table = [
+        (Pattern::Half, "11 01 11 11 00 10 11", "1000000", 0),
+        (Pattern::Half, "01 01 11 11 00 10 11", "1000000", 1),
+        (Pattern::Half, "11 01 11 11 00 10 10", "1000000", 1),
+        (Pattern::Half, "11 01 11 11 00 10 1x", "1000000", 0),
+        // What 1000001 sends, whose last six bits aren't all 0.
+        (Pattern::Half, "11 01 11 11 00 10 00", "1000000", 2),
+        (Pattern::ThreeQuarters, "1101 1100 11", "1000000", 0),
+        (Pattern::ThreeQuarters, "1101 1100 10", "1000000", 1),
+        (Pattern::ThreeQuarters, "x101 1100 11", "1000000", 0),
+    ];
+    for (pattern, received, input, distance) in table {
+        let received = places(rt.alloc(), received)?;
+        for is_plain in [false, true] {
+            let codeword = answer(rt.alloc(), is_plain, 7, pattern, &received)?;
+            let wanted = bits(rt.alloc(), input)?;
+            let answer = (codeword.input.as_slice(), codeword.distance);
+            equal(&rt, answer, (wanted.as_slice(), distance));
+        }
+    }
+    Ok(())
+}
+
 // What both decoders of weights answer, the plain one last. A word of another length than asked for is an error.
 fn cheapest(
     alloc: Global,
@@ -252,6 +278,43 @@ fn alike(rt: HostRuntime) -> Result<(), Fail> {
                 if percent == 0 {
                     equal(&rt, (steps, found), (steps, input.as_slice()));
                 }
+            }
+        }
+    }
+    Ok(())
+}
+
+// The same places but for one, which is wrong or erased.
+fn but_one(
+    alloc: Global,
+    places: &[Option<bool>],
+    which: usize,
+    is_erased: bool,
+) -> Result<Vec<Option<bool>>, AllocError> {
+    let mut changed = Vec::new(alloc);
+    for (at, place) in places.iter().enumerate() {
+        changed.push(match *place {
+            Some(bit) if at == which && !is_erased => Some(!bit),
+            Some(bit) if at != which => Some(bit),
+            _ => None,
+        })?;
+    }
+    Ok(changed)
+}
+
+// Each place of a clean word in turn is wrong, and is erased.
+#[test]
+fn one_place(rt: HostRuntime) -> Result<(), Fail> {
+    for pattern in PATTERNS {
+        let (_, clean) = sent_with_errors(rt.alloc(), 14, pattern, 0)?;
+        for place in 0..clean.len() {
+            for is_erased in [false, true] {
+                let received = but_one(rt.alloc(), &clean, place, is_erased)?;
+                let (input, distance) = nearest(pattern, &received);
+                let codeword = answer(rt.alloc(), false, 14, pattern, &received)?;
+                let case = (place, pattern, is_erased);
+                let answer = (case, codeword.input.as_slice(), codeword.distance);
+                equal(&rt, answer, (case, input.as_slice(), distance));
             }
         }
     }

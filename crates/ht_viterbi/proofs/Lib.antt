@@ -15,3 +15,4 @@ pub mod RowFacts
 pub mod Carried
 pub mod Turns
 pub mod Filling
+pub mod Explaining

@@ -34,16 +34,16 @@ shifted state bit next lt few is =
     rw (a, b, c, d, e, f) refl
 
 -- the register after a bit, as the encoder's history
-half-bits : (state : ℕ) → state < 64 → (bit : Bool) → history_of (moved state bit) ≡ bit ∷ take 5 (history_of state)
+pub half-bits : (state : ℕ) → state < 64 → (bit : Bool) → history_of (moved state bit) ≡ bit ∷ take 5 (history_of state)
 half-bits state lt false = shifted state 0 (state / 2) lt (omega arith) (omega arith)
 half-bits state lt true = shifted state 1 (state / 2 + 32) lt (omega arith) (omega arith)
 
-moved-lt : (state : ℕ) (bit : Bool) → state < 64 → moved state bit < 64
+pub moved-lt : (state : ℕ) (bit : Bool) → state < 64 → moved state bit < 64
 moved-lt state false lt = omega arith
 moved-lt state true lt = omega arith
 
 -- the history is six bits long, so one bit more forgets the oldest
-agree-next : (h : List Bool) (bit a b c d e f : Bool) → h ≡ bit ∷ take 5 (a ∷ b ∷ c ∷ d ∷ e ∷ f ∷ []) → Agree (bit ∷ a ∷ b ∷ c ∷ d ∷ e ∷ f ∷ []) h
+pub agree-next : (h : List Bool) (bit a b c d e f : Bool) → h ≡ bit ∷ take 5 (a ∷ b ∷ c ∷ d ∷ e ∷ f ∷ []) → Agree (bit ∷ a ∷ b ∷ c ∷ d ∷ e ∷ f ∷ []) h
 agree-next h bit a b c d e f is zero lt = rw is refl
 agree-next h bit a b c d e f is (suc zero) lt = rw is refl
 agree-next h bit a b c d e f is (suc (suc zero)) lt = rw is refl
@@ -115,7 +115,7 @@ along pattern places (bit ∷ bits) step state lt len =
     (ap (λ (z : List Bool). total_cost bit_cost (drop (sent_count pattern (suc step)) places) z) next
     ∙ along pattern places bits (suc step) (moved state bit) (moved-lt state bit lt) len')
 
-agree-start : Agree [] (history_of 0)
+pub agree-start : Agree [] (history_of 0)
 agree-start zero lt = refl
 agree-start (suc zero) lt = refl
 agree-start (suc (suc zero)) lt = refl

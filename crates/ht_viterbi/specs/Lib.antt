@@ -3,3 +3,4 @@ pub mod Decoded
 pub mod Received
 pub mod Trellis
 pub mod Lanes
+pub mod Explained

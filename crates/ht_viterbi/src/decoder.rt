@@ -10,6 +10,7 @@ ghost use Rattle.ht_viterbi.specs.Lanes.{HasLanes, HoldsRows, IsClose, IsLight, 
 ghost use Rattle.ht_viterbi.specs.Received.{known_of};
 
 use crate::branches::{Branches, costs_of_zero, lanes_of, rises};
+use crate::clean::explain;
 use crate::codeword::Codeword;
 use crate::lanes::{after_zero, differences, falls, negative, sums, with_one};
 use crate::received_bit::ReceivedBit;
@@ -138,9 +139,9 @@ fn backwards(rows: &[u8], choices: &mut [u64]) -> u32
 /// Decodes a punctured codeword: the first terminated input whose coded bits are nearest to `received`.
 ///
 /// `steps` is the length of the input with its tail of six zeros, from 6 to 524302. `received` has the coded bits
-/// that `pattern` keeps of these steps, A before B; an erased place counts for nothing. The memory for all steps is taken
-/// first, nine octets a step and one for each bit of the answer; lack of it is the only error, and then nothing has
-/// changed.
+/// that `pattern` keeps of these steps, A before B; an erased place counts for nothing. A codeword with no place wrong or
+/// erased takes an octet for each bit of the answer, and any other one nine octets a step more, before the first step of
+/// the trellis. Lack of memory is the only error, and then nothing has changed.
 ///
 /// IEEE Std 802.11-2012, clauses 18.3.5.6 and 20.3.11.6.
 pub fn decode_received(
@@ -154,9 +155,16 @@ pub fn decode_received(
     requires received { length received.now ≡ sent_count pattern steps }
     ensures { IfOk result (λ c. IsFound place_cost steps pattern (map known_of received.now) c.input c.distance) }
 {
+    let mut input = Vec::with_capacity(alloc, steps as usize)?;
+    if explain(pattern, steps as usize, received, &mut input) {
+        return Ok(Codeword {
+            input: Bits::from(input),
+            distance: 0,
+        });
+    }
+    input.clear();
     let mut rows = Vec::from_elem(alloc, 0u8, steps as usize)?;
     let mut choices = Vec::from_elem(alloc, 0u64, steps as usize)?;
-    let mut input = Vec::with_capacity(alloc, steps as usize)?;
     fill_rows(pattern, received, rows.as_mut_slice());
     let distance = backwards(&rows, choices.as_mut_slice());
     forwards(&choices, &mut input);

@@ -15,7 +15,8 @@
 //!
 //! [`decode`] keeps the costs of all 64 states, modulo 256, in the lanes of one vector, from the last step to the
 //! first, so that one way forwards gives the first of the nearest inputs. [`decode_received`] does the same with an
-//! octet for each hard decision, a [`ReceivedBit`]. [`decode_weights`] keeps whole costs in lanes of 32 bits.
+//! octet for each hard decision, a [`ReceivedBit`]. Both decode a codeword that came as it was sent in one pass, without
+//! the trellis. [`decode_weights`] keeps whole costs in lanes of 32 bits.
 //! [`decode_places`] answers for any places, one state after the other, and [`plain_decode`] is its form for hard
 //! decisions. The definitions are in `specs/Inputs.antt`: a minimum over all inputs, with no trellis in it.
 //! `specs/Decoded.antt` has the same as a function of what is received, over the list of all inputs. The laws that
@@ -25,6 +26,7 @@
 mod backwards;
 mod bit_costs;
 mod branches;
+mod clean;
 mod codeword;
 mod cost_lanes;
 mod decoder;

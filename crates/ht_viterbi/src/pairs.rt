@@ -65,7 +65,7 @@ pub(crate) fn step_at<P: Place>(
 }
 
 // The coded bit A of a step: its generator taps the input, so a 1 flips what a 0 gives.
-fn coded_a(state: usize, bit: bool) -> bool
+pub(crate) fn coded_a(state: usize, bit: bool) -> bool
     requires { state < 64 }
     ensures { result ≡ output_a state bit }
 {
@@ -73,7 +73,7 @@ fn coded_a(state: usize, bit: bool) -> bool
 }
 
 // The coded bit B of a step: its generator taps the input, so a 1 flips what a 0 gives.
-fn coded_b(state: usize, bit: bool) -> bool
+pub(crate) fn coded_b(state: usize, bit: bool) -> bool
     requires { state < 64 }
     ensures { result ≡ output_b state bit }
 {

@@ -1,5 +1,5 @@
 //! A coded bit as it was received.
-ghost use Rattle.std.specs.Prelude.{◌≡◌, ◌<◌};
+ghost use Rattle.std.specs.Prelude.{◌≡◌, ◌<◌, Some, true};
 ghost use Rattle.ht_viterbi.specs.Lanes.{number_of_place};
 ghost use Rattle.ht_viterbi.specs.Received.{known_of};
 
@@ -39,5 +39,12 @@ impl ReceivedBit {
             ReceivedBit::Zero => 1,
             ReceivedBit::One => 2,
         }
+    }
+    // Whether it is known to be this bit.
+    #[inline(always)]
+    pub(crate) fn is(self, bit: bool) -> bool
+        ensures { result ≡ true → known_of self ≡ Some bit }
+    {
+        self.number() == 1 + u8::from(bit)
     }
 }

@@ -4,7 +4,7 @@ use Rattle.ht_viterbi.specs.Inputs.{place_cost}
 use Rattle.ht_viterbi.specs.Lanes.{HasRows, steps_at}
 use Rattle.ht_viterbi.specs.Received.{known_of}
 use Rattle.ht_viterbi.specs.Trellis.{word_steps}
-use Rattle.ht_viterbi.proofs.Found.{found}
+use Rattle.ht_viterbi.proofs.Found.{found, found-sent}
 use Rattle.ht_viterbi.proofs.RowFacts.{rows-word}
 use Rattle.ht_viterbi.proofs.Steps.{written}
 use Rattle.ht_viterbi.proofs.decoder.decode_received.Goals as goal
@@ -23,9 +23,14 @@ steps-are c =
 pub returns : goal.returns
 returns c =
     found place_cost c.args.steps c.args.pattern (map known_of c.args.received.now) (steps_at c.deref.result.now 0)
-    c.backwards-distance.new.choices c.deref-2.result.now c.from.result c.backwards-distance.result c.requires.least
+    c.backwards-distance.new.choices c.deref-2.result.now c.from-2.result c.backwards-distance.result c.requires.least
     (length-map c.args.received.now known_of ∙ c.requires.received) (steps-are c) c.backwards-distance.ensures.choices
     (c.deref-2.ensures.value ∙ written c.backwards-distance.new.choices _ c.in_ok-choices.choices.len
     (c.backwards-distance.auto.choices ∙ c.as_mut_slice-2.ensures.len))
     (c.deref-2.ensures.len ∙ c.in_ok-choices.ensures.len) c.backwards-distance.ensures.least
-    (λ all many are. c.from.ensures ∙ c.forwards.ensures all many are)
+    (λ all many are. c.from-2.ensures ∙ c.forwards.ensures all many are)
+
+pub returns-then-explain : goal.returns-then-explain
+returns-then-explain c =
+    found-sent c.args.steps c.args.pattern (map known_of c.args.received.now) c.explain.new.input.items c.from.result c.requires.least
+    (c.explain.ensures.explained c.if-explain.true) (c.explain.ensures.terminated c.if-explain.true c.requires.least) c.from.ensures
