@@ -59,9 +59,10 @@ fn cut(count: u8, k: u8, value: bool) -> Ladder
     Ladder::of(levels(count), mask(count, k, value))
 }
 
-// The points of a modulation whose label has this value at a bit, as a ladder for I and one for Q. The first half of the bits,
-// or the one bit of BPSK, names I, and the others Q, so one of the two ladders is whole.
-fn half_axes(modulation: Modulation, all: Axes, bit: u8, value: bool) -> Axes
+/// The points of a modulation whose label has this value at a bit, as a ladder for I and one for Q, of `all` points.
+///
+/// The first half of the bits, or the one bit of BPSK, names I, and the others Q, so one of the two ladders is whole.
+pub fn half_axes(modulation: Modulation, all: Axes, bit: u8, value: bool) -> Axes
     requires all { all ≡ axes_of modulation }
     requires bit { bit < bits_of modulation }
     ensures { result ≡ half_axes modulation bit value }

@@ -1,0 +1,5 @@
+pub mod Lowered
+pub mod Labels
+pub mod Leaf
+pub mod Walking
+pub mod Whole
