@@ -1,0 +1,67 @@
+-- A job and its lane.
+use Rattle.std.proofs.Common.{◌≡◌, ℕ, zero, suc, ◌+◌, ◌<◌, ◌≤◌, [], ◌∷◌, length, take, replicate, set, slice_index_or, arith, refl, ap, sym, inl, inr, ◌∙◌}
+use Rattle.std.proofs.lemmas.List.{get_or-set_same, get_or-set_other, length-set}
+use Rattle.std.proofs.lemmas.Bool.{cases_lt}
+use Rattle.ht_metric.specs.declared.found.Found.{Found}
+use Rattle.ht_pam.specs.declared.axes.Axes.{Axes}
+use Rattle.ht_pam.specs.declared.point.Point.{Point}
+use Rattle.ht_metric.specs.Distance.{IsInRange}
+use Rattle.ht_metric.specs.Jobs.{JobView, IsJob, near}
+use Rattle.std.specs.Prelude.{List}
+use Rattle.std.proofs.lemmas.Simd.{length-replicate}
+use Rattle.ht_rounding.specs.declared.levels.Levels.{Levels}
+use Rattle.ht_rounding.specs.declared.streams.Channel.{Channel}
+use Rattle.ht_rounding.specs.declared.streams.Samples.{Samples}
+use Rattle.ht_rounding.specs.InLanes.{AreFew, AreRowsIn, IsInLane, axes_of}
+use Rattle.ht_rounding.specs.Loading.{HaveSmall, no_found, no_job}
+
+pub second-few : (n : ℕ) (a b c d : Point) → 1 < n → AreFew (take n (a ∷ b ∷ c ∷ d ∷ [])) → IsInRange b
+second-few zero a b c d some few = absurd (omega (arith, some))
+second-few (suc zero) a b c d some few = absurd (omega (arith, some))
+second-few (suc (suc n)) a b c d some few = few.1.0
+
+pub third-few : (n : ℕ) (a b c d : Point) → 2 < n → AreFew (take n (a ∷ b ∷ c ∷ d ∷ [])) → IsInRange c
+third-few zero a b c d some few = absurd (omega (arith, some))
+third-few (suc zero) a b c d some few = absurd (omega (arith, some))
+third-few (suc (suc zero)) a b c d some few = absurd (omega (arith, some))
+third-few (suc (suc (suc n))) a b c d some few = few.1.1.0
+
+pub in-lane : (i q : Levels) (channel : Channel) (samples : Samples) (k n : ℕ) (job : JobView) (grid : List Axes) → IsJob job → job.grid ≡ grid → grid ≡ replicate n (axes_of i q)
+    → HaveSmall job.system
+    → (length job.system ≤ 4 → HaveSmall job.system → AreRowsIn (channel.first ∷ channel.second ∷ channel.third ∷ channel.fourth ∷ [])
+    (samples.first ∷ samples.second ∷ samples.third ∷ samples.fourth ∷ []) k job.system)
+    → IsInLane i q channel samples k n job
+in-lane i q channel samples k n job grid valid same full small rows =
+    let few = valid.grid.few in
+    record {
+      valid = valid;
+      streams = sym valid.streams ∙ ap length (same ∙ full) ∙ length-replicate {A = Axes} n (axes_of i q);
+      grid = same ∙ full;
+      rows = rows (omega (arith, few, valid.streams)) small;
+    }
+
+-- an element is the same whatever stands where there is none
+pub element : {A : Type 0} (xs : List A) (k : ℕ) (a b : A) → k < length xs → slice_index_or xs k a ≡ slice_index_or xs k b
+element [] k a b lt = absurd (omega (arith, lt))
+element (x ∷ xs) zero a b lt = refl
+element (x ∷ xs) (suc k) a b lt = element xs k a b (omega (arith, lt))
+
+-- one more answer
+pub one-more : (jobs : List JobView) (founds : List Found) (k : ℕ) (job : JobView) (found : Found) → length jobs ≡ 8 → k < 8
+    → (length founds ≡ 8) × ((j : ℕ) → j < k → slice_index_or founds j no_found ≡ near (slice_index_or jobs j no_job))
+    → found ≡ near job → job ≡ slice_index_or jobs k no_job
+    → (length (set founds k found) ≡ 8) × ((j : ℕ) → j < k + 1 → slice_index_or (set founds k found) j no_found ≡ near (slice_index_or jobs j no_job))
+one-more jobs founds k job found eight lt before e is = (
+  length-set founds k found ∙ before.0,
+  λ j less. elim (cases_lt j k) [
+    | inl earlier ↦ get_or-set_other founds k j found no_found (λ same. omega (arith, same, earlier)) ∙ before.1 j earlier
+    | inr later ↦
+        let same : j ≡ k = omega (arith, less, later) in
+        ap (λ (m : ℕ). slice_index_or (set founds k found) m no_found) same ∙ get_or-set_same founds k found no_found (omega (arith, before.0, lt)) ∙ e ∙ ap near is
+        ∙ ap (λ (m : ℕ). near (slice_index_or jobs m no_job)) (sym same)
+  ],
+)
+
+abbrev pub IsLoaded : Channel → Samples → ℕ → JobView → Type 0
+IsLoaded channel samples k job = length job.system ≤ 4 → HaveSmall job.system → AreRowsIn (channel.first ∷ channel.second ∷ channel.third ∷ channel.fourth ∷ [])
+    (samples.first ∷ samples.second ∷ samples.third ∷ samples.fourth ∷ []) k job.system

@@ -1,0 +1,10 @@
+mod LaneFacts
+mod Folding
+mod Nearest
+mod Rooms
+mod RowLemmas
+mod Hearing
+mod Settling
+mod FoundLanes
+mod Loaded
+mod Answered

@@ -1,0 +1,4 @@
+use Rattle.ht_rounding.proofs.tests.founds_of.Given as goal
+
+abbrev pub ghosts-answered : goal.ghosts-answered
+ghosts-answered a = record { name = a.blank.name; parts = a.blank.parts }

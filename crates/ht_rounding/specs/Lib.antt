@@ -1,0 +1,5 @@
+pub mod Words
+pub mod Proposals
+pub mod RowSteps
+pub mod InLanes
+pub mod Loading

@@ -1,0 +1,25 @@
+//! Detection of eight jobs at once, in the lanes of vectors.
+//!
+//! Successive rounding gives each coordinate of a job, from the last stream's on, the level that is nearest to what the
+//! streams behind leave of the sample. Here it is done for eight jobs of the same constellations together. Lanes only
+//! propose: all arithmetic is modulo 2^32, and a test certifies at the end that the rounded vector of a lane is its job's
+//! first nearest one. Where the test fails, as at each tie, the lane says nothing, and `find` of `ht_sphere` answers.
+//!
+//! [`detect_one`] to [`detect_four`] do this for one to four streams. [`find_eight`] answers eight jobs of any kind.
+#![tactic(auto)]
+
+mod block;
+mod levels;
+mod loading;
+mod rows;
+mod streams;
+#[cfg(test)]
+mod tests;
+mod words;
+
+pub use block::find_eight;
+pub use levels::Levels;
+pub use rows::{Parts, Reached};
+pub use streams::{
+    Channel, Four, RowLanes, Samples, Three, Two, detect_four, detect_one, detect_three, detect_two,
+};

@@ -1,0 +1,206 @@
+//! Jobs to lanes.
+ghost use Rattle.std.specs.Prelude.{◌≡◌, ◌<◌, ◌≤◌, ℕ, [], ◌∷◌, length, slice_index_or};
+ghost use Rattle.ht_rounding.specs.declared.loading.Part.TheVariants.{Diagonal, SampleRe, SampleIm, EntryRe, EntryIm};
+ghost use Rattle.ht_rounding.specs.InLanes.{AreRowsIn, IsSmall};
+ghost use Rattle.ht_rounding.specs.Proposals.{AreSmall};
+ghost use Rattle.ht_rounding.specs.Loading.{HaveDiagonals, HaveParts, HaveSmall, IsPartOf, IsRowOf, IsShort, IsWord, no_job};
+
+use crate::rows::Parts;
+use crate::streams::{Channel, RowLanes, Samples};
+use crate::words::lesser;
+use ht_metric::Job;
+use std::simd::prelude::*;
+
+/// A part of a row of a system.
+#[derive(Clone, Copy, Debug)]
+pub(crate) enum Part {
+    /// The diagonal entry.
+    Diagonal,
+    /// The real part of the sample.
+    SampleRe,
+    /// The imaginary part of the sample.
+    SampleIm,
+    /// The real part of an entry: 0 for that of the next stream, and so on.
+    EntryRe(u8),
+    /// The imaginary part of an entry.
+    EntryIm(u8),
+}
+
+// A number with a sign as a word.
+#[inline(always)]
+fn word(number: i32) -> u32
+    ensures { IsWord result number }
+{
+    number.cast_unsigned()
+}
+
+// A short number with a sign as a word.
+#[inline(always)]
+fn short(number: i16) -> u32
+    ensures { IsShort result number }
+{
+    i32::from(number).cast_unsigned()
+}
+
+// A part of row `row`, counted from 1, as a word; 0 where the job hasn't it.
+#[inline(always)]
+fn part_of(job: &Job, row: u8, part: Part) -> u32
+    requires { 1 ≤ row }
+    ensures { IsPartOf part row job.now.system result }
+{
+    let system = job.system();
+    let streams = system.streams();
+    if row > streams {
+        return 0;
+    }
+    match part {
+        Part::Diagonal => u32::from(system.diagonal(row)),
+        Part::SampleRe => word(system.sample(row).re),
+        Part::SampleIm => word(system.sample(row).im),
+        Part::EntryRe(m) => {
+            if m < streams - row {
+                short(system.above(row, row + 1 + m).re)
+            } else {
+                0
+            }
+        }
+        Part::EntryIm(m) => {
+            if m < streams - row {
+                short(system.above(row, row + 1 + m).im)
+            } else {
+                0
+            }
+        }
+    }
+}
+
+// A part of row `row` of eight jobs.
+#[inline(always)]
+fn lanes_of(jobs: &[Job], row: u8, part: Part) -> u32x8
+    requires jobs { length jobs.now ≡ 8 }
+    requires row { 1 ≤ row }
+    ensures { HaveParts part row jobs.now result }
+{
+    let mut lanes = [0u32; 8];
+    for k in 0..8 {
+        lanes[k] = part_of(&jobs[k], row, part);
+    }
+    u32x8::from_array(lanes)
+}
+
+// The diagonals of row `row` of eight jobs, each cut at 2^14 - 1.
+#[inline(always)]
+fn small_diagonals(jobs: &[Job], row: u8) -> u32x8
+    requires jobs { length jobs.now ≡ 8 }
+    requires row { 1 ≤ row }
+    ensures small { AreSmall result }
+    ensures diagonal { HaveDiagonals row jobs.now result }
+{
+    lesser(lanes_of(jobs, row, Part::Diagonal), u32x8::splat(16383))
+}
+
+// The entries of row `row` of eight jobs: at 0 those of the next stream.
+#[inline(always)]
+fn entries_of(jobs: &[Job], row: u8, at: u8) -> Parts
+    requires jobs { length jobs.now ≡ 8 }
+    requires row { 1 ≤ row }
+    ensures re { HaveParts (EntryRe at) row jobs.now result.re }
+    ensures im { HaveParts (EntryIm at) row jobs.now result.im }
+{
+    Parts {
+        re: lanes_of(jobs, row, Part::EntryRe(at)),
+        im: lanes_of(jobs, row, Part::EntryIm(at)),
+    }
+}
+
+// The samples of row `row` of eight jobs.
+#[inline(always)]
+fn samples_of(jobs: &[Job], row: u8) -> Parts
+    requires jobs { length jobs.now ≡ 8 }
+    requires row { 1 ≤ row }
+    ensures re { HaveParts SampleRe row jobs.now result.re }
+    ensures im { HaveParts SampleIm row jobs.now result.im }
+{
+    Parts {
+        re: lanes_of(jobs, row, Part::SampleRe),
+        im: lanes_of(jobs, row, Part::SampleIm),
+    }
+}
+
+// Row `row` of eight jobs, without what was received.
+#[inline(always)]
+fn row_of(jobs: &[Job], row: u8) -> RowLanes
+    requires jobs { length jobs.now ≡ 8 }
+    requires row { 1 ≤ row }
+    ensures small { AreSmall result.diagonal }
+    ensures diagonal { HaveDiagonals row jobs.now result.diagonal }
+    ensures next_re { HaveParts (EntryRe 0) row jobs.now result.next.re }
+    ensures next_im { HaveParts (EntryIm 0) row jobs.now result.next.im }
+    ensures second_re { HaveParts (EntryRe 1) row jobs.now result.second.re }
+    ensures second_im { HaveParts (EntryIm 1) row jobs.now result.second.im }
+    ensures third_re { HaveParts (EntryRe 2) row jobs.now result.third.re }
+    ensures third_im { HaveParts (EntryIm 2) row jobs.now result.third.im }
+{
+    RowLanes {
+        diagonal: small_diagonals(jobs, row),
+        next: entries_of(jobs, row, 0),
+        second: entries_of(jobs, row, 1),
+        third: entries_of(jobs, row, 2),
+    }
+}
+
+// A row of eight jobs and what was received on it.
+#[derive(Clone, Copy)]
+struct RowLoad {
+    row: RowLanes,
+    samples: Parts,
+}
+
+// Row `row` of eight jobs.
+#[inline(always)]
+fn load_row(jobs: &[Job], row: u8) -> RowLoad
+    requires jobs { length jobs.now ≡ 8 }
+    requires row { 1 ≤ row }
+    ensures small { AreSmall result.row.diagonal }
+    ensures row { (k : ℕ) → k < 8 → IsRowOf result.row result.samples k row (slice_index_or jobs.now k no_job).system }
+{
+    RowLoad {
+        row: row_of(jobs, row),
+        samples: samples_of(jobs, row),
+    }
+}
+
+/// Eight jobs in lanes.
+#[derive(Clone, Copy)]
+pub(crate) struct Loaded {
+    pub channel: Channel,
+    pub samples: Samples,
+}
+
+// Eight jobs in lanes.
+#[inline(always)]
+pub(crate) fn load(jobs: &[Job]) -> Loaded
+    requires { length jobs.now ≡ 8 }
+    ensures small { IsSmall result.channel }
+    ensures rows { (k : ℕ) → k < 8 → length (slice_index_or jobs.now k no_job).system ≤ 4 → HaveSmall (slice_index_or jobs.now k no_job).system → AreRowsIn (result.channel.first ∷ result.channel.second ∷ result.channel.third ∷ result.channel.fourth ∷ [])
+        (result.samples.first ∷ result.samples.second ∷ result.samples.third ∷ result.samples.fourth ∷ []) k (slice_index_or jobs.now k no_job).system }
+{
+    let first = load_row(jobs, 1);
+    let second = load_row(jobs, 2);
+    let third = load_row(jobs, 3);
+    let fourth = load_row(jobs, 4);
+    Loaded {
+        channel: Channel {
+            first: first.row,
+            second: second.row,
+            third: third.row,
+            fourth: fourth.row,
+        },
+        samples: Samples {
+            first: first.samples,
+            second: second.samples,
+            third: third.samples,
+            fourth: fourth.samples,
+        },
+    }
+}
