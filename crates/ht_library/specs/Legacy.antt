@@ -1,0 +1,10 @@
+-- The sizes of a clause 18 frame's parts, as C passes them.
+use Rattle.std.specs.Prelude.{◌≡◌, ℕ, ◌≤◌}
+use Rattle.ht_clause18.specs.declared.rates.LegacyRate.{LegacyRate}
+use Rattle.ht_clause18.specs.Points.{points_of}
+
+-- the frame of a PSDU of so many octets has so many points
+pub record HasLegacyPointsOf (rate : LegacyRate) (octets points : ℕ) : Type 0 where
+  pub some : 1 ≤ octets
+  pub bounded : octets ≤ 4095
+  pub all : points ≡ points_of rate octets

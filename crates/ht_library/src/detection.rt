@@ -1,0 +1,158 @@
+//! The detector: the first nearest vector of a data subcarrier.
+ghost use Rattle.std.specs.Prelude.{◌≡◌, ◌⊎◌, ◌↔◌, ◌%◌, ◌^◌, ◌<◌, ◌≤◌, length, Ok};
+ghost use Rattle.ht_rate.specs.Rates.{rate_of};
+ghost use Rattle.ht_rate.specs.declared.rates.Rate.{Rate as RateView};
+ghost use Rattle.ht_metric.specs.Jobs.{near};
+ghost use Rattle.ht_library.specs.Detected.{AreHits, AreSymbols, IsHit, job_of, system_of};
+
+use crate::crossing::{MizgaureChannel, MizgaureHit, MizgaureReceived};
+use crate::fault::{BAD_LENGTH, DONE, NO_RATE};
+use ht_feed::detect;
+use ht_map::grid;
+use ht_metric::{Found, Job, Place, Sample, System, Tap, Triangle};
+use ht_pam::Point;
+use ht_rate::Rate;
+
+const NO_TAP: Tap = Tap { re: 0, im: 0 };
+
+const NO_SAMPLE: Sample = Sample { re: 0, im: 0 };
+
+// The system of one to four streams.
+pub(crate) fn system(streams: u8, channel: &MizgaureChannel, received: &MizgaureReceived) -> System
+    requires some { 1 ≤ streams }
+    requires few { streams ≤ 4 }
+    ensures value { result ≡ system_of streams channel.now received.now }
+    ensures rows { length result ≡ streams }
+{
+    let [d1, d2, d3, d4] = channel.diagonal;
+    let [a, b, c, d, e, f] = channel.above;
+    let [y1, y2, y3, y4] = received.samples;
+    match streams {
+        1 => System::new(
+            Triangle::new(1, [d1, 0, 0, 0], [NO_TAP; 6]),
+            [y1, NO_SAMPLE, NO_SAMPLE, NO_SAMPLE],
+        ),
+        2 => System::new(
+            Triangle::new(
+                2,
+                [d1, d2, 0, 0],
+                [a, NO_TAP, NO_TAP, NO_TAP, NO_TAP, NO_TAP],
+            ),
+            [y1, y2, NO_SAMPLE, NO_SAMPLE],
+        ),
+        3 => System::new(
+            Triangle::new(3, [d1, d2, d3, 0], [a, b, c, NO_TAP, NO_TAP, NO_TAP]),
+            [y1, y2, y3, NO_SAMPLE],
+        ),
+        4 => System::new(
+            Triangle::new(4, [d1, d2, d3, d4], [a, b, c, d, e, f]),
+            [y1, y2, y3, y4],
+        ),
+        _ => unreachable!(),
+    }
+}
+
+// The job of a data subcarrier.
+pub(crate) fn job(rate: &Rate, channel: &MizgaureChannel, received: &MizgaureReceived) -> Job
+    ensures { result ≡ job_of rate.now channel.now received.now }
+{
+    let place = Place {
+        frame: 0,
+        symbol: 0,
+        carrier: 0,
+    };
+    Job::new(
+        0,
+        place,
+        grid(rate),
+        system(rate.streams(), channel, received),
+    )
+}
+
+// What was found, in the form that crosses.
+#[tactic(auto, unfolding(crate::specs::Detected::IsHit))]
+fn hit_of(found: &Found) -> MizgaureHit
+    requires { found.now.distance < 2 ^ 66 }
+    ensures { IsHit found.now result }
+{
+    let mut points = [Point { i: 0, q: 0 }; 4];
+    for k in 0..found.vector.len() {
+        points[usize::from(k)] = found.vector.point(k + 1);
+    }
+    MizgaureHit {
+        points,
+        low: (found.distance % (1 << 64)) as u64,
+        high: (found.distance / (1 << 64)) as u64,
+    }
+}
+
+// The hit of a data subcarrier.
+fn hit(rate: &Rate, channel: &MizgaureChannel, received: &MizgaureReceived) -> MizgaureHit
+    ensures { IsHit (near (job_of rate.now channel.now received.now)) result }
+{
+    hit_of(&detect(&job(rate, channel, received)))
+}
+
+/// The first nearest vector of a data subcarrier (clause 20.3.11.9), and its squared distance.
+#[unsafe(no_mangle)]
+pub extern "C" fn mizgaure_nearest(
+    bandwidth: u8,
+    mcs: u8,
+    channel: &MizgaureChannel,
+    received: &MizgaureReceived,
+    found: &mut MizgaureHit,
+) -> u32
+    ensures done { (result ≡ 0) ↔ ((bandwidth ≤ 1) × (mcs ≤ 31)) }
+    ensures fault { (result ≡ 0) ⊎ (result ≡ 2) }
+    ensures kept { (result ≡ 0 → ⊥) → found.new ≡ found.old }
+    ensures value { result ≡ 0 → (rate : RateView) → rate_of bandwidth mcs ≡ Ok rate → IsHit (near (job_of rate channel.now received.now)) found.new }
+{
+    let Ok(rate) = Rate::of(bandwidth, mcs) else {
+        return NO_RATE;
+    };
+    *found = hit(&rate, channel, received);
+    DONE
+}
+
+// Finds the hits of all samples.
+fn fill_hits(
+    rate: &Rate,
+    channels: &[MizgaureChannel],
+    received: &[MizgaureReceived],
+    hits: &mut [MizgaureHit],
+)
+    requires some { 1 ≤ length channels.now }
+    requires received { length hits.old ≡ length received.now }
+    ensures length { length hits.new ≡ length hits.old }
+    ensures hits { AreHits rate.now channels.now received.now hits.new }
+{
+    for k in 0..hits.len() {
+        hits[k] = hit(rate, &channels[k % channels.len()], &received[k]);
+    }
+}
+
+/// Does as [`mizgaure_nearest`] for each data subcarrier of any number of symbols, which have the same channels. The samples
+/// and the hits stand symbol by symbol.
+#[unsafe(no_mangle)]
+pub extern "C" fn mizgaure_detect_symbols(
+    bandwidth: u8,
+    mcs: u8,
+    channels: &[MizgaureChannel],
+    received: &[MizgaureReceived],
+    hits: &mut [MizgaureHit],
+) -> u32
+    ensures no_rate { (result ≡ 2) ↔ ((1 < bandwidth) ⊎ (31 < mcs)) }
+    ensures done { (result ≡ 0) ↔ ((bandwidth ≤ 1) × (mcs ≤ 31) × AreSymbols (length channels.now) (length received.now) (length hits.old)) }
+    ensures fault { (result ≡ 0) ⊎ (result ≡ 2) ⊎ (result ≡ 5) }
+    ensures kept { (result ≡ 0 → ⊥) → hits.new ≡ hits.old }
+    ensures value { result ≡ 0 → (rate : RateView) → rate_of bandwidth mcs ≡ Ok rate → AreHits rate channels.now received.now hits.new }
+{
+    let Ok(rate) = Rate::of(bandwidth, mcs) else {
+        return NO_RATE;
+    };
+    if channels.is_empty() || hits.len() != received.len() || received.len() % channels.len() != 0 {
+        return BAD_LENGTH;
+    }
+    fill_hits(&rate, channels, received, hits);
+    DONE
+}

@@ -1,0 +1,21 @@
+//! The layers of the reference receiver as calls for C: each export is one call of a layer, and promises what the layer's own
+//! definitions say.
+//!
+//! A call answers a number: 0 where it did what it promises, else the fault, by the names in [`fault`]. Where it is a fault
+//! each output is as it was. No call starts a thread, and none keeps anything once it has answered.
+#![tactic(auto)]
+
+mod captures;
+mod chain;
+mod crossing;
+mod detection;
+mod fault;
+mod frames;
+mod legacy;
+mod mapping;
+mod parsing;
+mod sending;
+mod version;
+mod weights;
+
+pub use crossing::{MizgaureChannel, MizgaureCost, MizgaureHit, MizgaureReceived, MizgaureRefusal};

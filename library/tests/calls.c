@@ -1,0 +1,315 @@
+/* Each call once on what the standard or arithmetic says, and each fault, with what it leaves. */
+#include "mizgaure.h"
+
+#include <stdio.h>
+#include <stdlib.h>
+#include <string.h>
+
+static int passed, failed;
+
+#define EXPECT(fact)                                                 \
+    do {                                                             \
+        if (fact) {                                                  \
+            passed++;                                                \
+        } else {                                                     \
+            failed++;                                                \
+            printf("%s:%d: not so: %s\n", __FILE__, __LINE__, #fact); \
+        }                                                            \
+    } while (0)
+
+/* Whether the octets are all `mark`, as they were before a call that did nothing. */
+static bool kept(const void *octets, size_t n, int mark) {
+    for (size_t k = 0; k < n; k++)
+        if (((const unsigned char *)octets)[k] != mark) return false;
+    return true;
+}
+
+/* The sequence of the seed of all ones (clause 18.3.5.5). */
+static const char *const SEQUENCE = "0000111011110010110010010000001000100110001011101011011000001100"
+                                    "110101001110011110110100001010101111101001010001101110001111111";
+
+static void scrambler(void) {
+    bool bits[127] = {0};
+    uint8_t seed = 99;
+    EXPECT(mizgaure_scramble(127, bits, 127) == MIZGAURE_DONE);
+    for (int k = 0; k < 127; k++) EXPECT(bits[k] == (SEQUENCE[k] == '1'));
+    EXPECT(mizgaure_recover(bits, 7, &seed) == MIZGAURE_DONE && seed == 127);
+    EXPECT(mizgaure_scramble(127, bits, 127) == MIZGAURE_DONE && kept(bits, 127, 0));
+    EXPECT(mizgaure_scramble(0, bits, 127) == MIZGAURE_NO_SEED && mizgaure_scramble(128, bits, 127) == MIZGAURE_NO_SEED);
+    EXPECT(kept(bits, 127, 0));
+    seed = 99;
+    EXPECT(mizgaure_recover(bits, 7, &seed) == MIZGAURE_NO_SEED && mizgaure_recover(bits, 6, &seed) == MIZGAURE_BAD_LENGTH);
+    EXPECT(mizgaure_recover(bits, 8, &seed) == MIZGAURE_BAD_LENGTH && seed == 99);
+}
+
+static void code(void) {
+    /* The answer to a single 1 has the generators 133 and 171 (clause 18.3.5.6). */
+    const bool one[7] = {1};
+    const bool answer[14] = {1, 1, 0, 1, 1, 1, 1, 1, 0, 0, 1, 0, 1, 1};
+    bool coded[14];
+    EXPECT(mizgaure_encode(0, one, 7, coded, 14) == MIZGAURE_DONE && !memcmp(coded, answer, 14));
+    /* At rate 3/4 A1 B1 A2 B3 stand of three steps (clause 18.3.5.6). */
+    const bool three[4] = {1, 1, 0, 1};
+    memset(coded, 1, 14);
+    EXPECT(mizgaure_encode(2, one, 3, coded, 4) == MIZGAURE_DONE && !memcmp(coded, three, 4) && coded[4]);
+    memset(coded, 1, 14);
+    EXPECT(mizgaure_encode(4, one, 7, coded, 14) == MIZGAURE_NO_PATTERN && mizgaure_encode(0, one, 7, coded, 13) == MIZGAURE_BAD_LENGTH);
+    EXPECT(mizgaure_encode(0, one, 6, coded, 14) == MIZGAURE_BAD_LENGTH && kept(coded, 14, 1));
+
+    enum { STEPS = 606 };
+    bool input[STEPS] = {0}, sent[2 * STEPS], found[STEPS];
+    uint8_t received[2 * STEPS];
+    int32_t weights[2 * STEPS];
+    uint32_t distance = 77;
+    uint64_t cost = 77;
+    for (int k = 0; k < STEPS - 6; k++) input[k] = k * k % 7 < 3;
+    EXPECT(mizgaure_encode(0, input, STEPS, sent, 2 * STEPS) == MIZGAURE_DONE);
+    for (int k = 0; k < 2 * STEPS; k++) received[k] = sent[k], weights[k] = sent[k] ? 10 : -10;
+    received[100] ^= 1, received[500] ^= 1, received[300] = 255, received[301] = 2;
+    weights[100] = -weights[100], weights[700] = 0;
+    EXPECT(mizgaure_decode(0, received, 2 * STEPS, found, STEPS, &distance) == MIZGAURE_DONE);
+    EXPECT(distance == 2 && !memcmp(found, input, STEPS));
+    EXPECT(mizgaure_soft_decode(0, weights, 2 * STEPS, found, STEPS, &cost) == MIZGAURE_DONE);
+    EXPECT(cost == 10 && !memcmp(found, input, STEPS));
+    /* An erasure counts for nothing, so the codeword of zeros is at no distance from nothing but erasures and zeros. */
+    uint8_t zeros[12] = {0, 255, 0, 255, 0, 0, 9, 0, 0, 0, 0, 0};
+    EXPECT(mizgaure_decode(0, zeros, 12, found, 6, &distance) == MIZGAURE_DONE && distance == 0 && kept(found, 6, 0));
+
+    memset(found, 1, STEPS), distance = 77, cost = 77;
+    EXPECT(mizgaure_decode(4, received, 2 * STEPS, found, STEPS, &distance) == MIZGAURE_NO_PATTERN);
+    EXPECT(mizgaure_decode(0, received, 2 * STEPS - 1, found, STEPS, &distance) == MIZGAURE_BAD_LENGTH);
+    EXPECT(mizgaure_decode(0, received, 10, found, 5, &distance) == MIZGAURE_BAD_LENGTH);
+    EXPECT(mizgaure_decode(0, received, 2 * 524303, found, 524303, &distance) == MIZGAURE_BAD_LENGTH);
+    EXPECT(mizgaure_soft_decode(4, weights, 2 * STEPS, found, STEPS, &cost) == MIZGAURE_NO_PATTERN);
+    EXPECT(mizgaure_soft_decode(0, weights, 2 * STEPS + 1, found, STEPS, &cost) == MIZGAURE_BAD_LENGTH);
+    EXPECT(kept(found, STEPS, 1) && distance == 77 && cost == 77);
+}
+
+static void interleaver(void) {
+    /* BPSK at 20 MHz: bit k stands at N_ROW * (k mod 13) + floor(k / 13), with 4 rows (clause 20.3.11.8.3). */
+    uint16_t places[52], origins[52];
+    EXPECT(mizgaure_places(0, 0, 1, places, 52) == MIZGAURE_DONE && mizgaure_origins(0, 0, 1, origins, 52) == MIZGAURE_DONE);
+    for (int k = 0; k < 52; k++) EXPECT(places[k] == 4 * (k % 13) + k / 13 && origins[places[k]] == k);
+    memset(places, 0x55, sizeof places);
+    EXPECT(mizgaure_places(2, 0, 1, places, 52) == MIZGAURE_NO_RATE && mizgaure_places(0, 32, 1, places, 52) == MIZGAURE_NO_RATE);
+    EXPECT(mizgaure_places(0, 0, 0, places, 52) == MIZGAURE_NO_STREAM && mizgaure_places(0, 0, 2, places, 52) == MIZGAURE_NO_STREAM);
+    EXPECT(mizgaure_places(0, 0, 1, places, 51) == MIZGAURE_BAD_LENGTH && mizgaure_origins(0, 1, 1, places, 52) == MIZGAURE_BAD_LENGTH);
+    EXPECT(mizgaure_origins(0, 0, 2, places, 52) == MIZGAURE_NO_STREAM && mizgaure_origins(9, 0, 1, places, 52) == MIZGAURE_NO_RATE);
+    EXPECT(kept(places, sizeof places, 0x55));
+}
+
+static void mapping(void) {
+    /* 64-QAM: 100 names 7 and 000 names -7 (table 18-11). */
+    const uint8_t labels[3] = {32, 0, 63};
+    const mizgaure_point wanted[3] = {{7, -7}, {-7, -7}, {3, 3}};
+    mizgaure_point points[3];
+    uint8_t back[3];
+    EXPECT(mizgaure_points(6, labels, 3, points, 3) == MIZGAURE_DONE && !memcmp(points, wanted, sizeof wanted));
+    EXPECT(mizgaure_labels(6, points, 3, back, 3) == MIZGAURE_DONE && !memcmp(back, labels, 3));
+    memset(points, 0x55, sizeof points), memset(back, 0x55, sizeof back);
+    EXPECT(mizgaure_points(3, labels, 3, points, 3) == MIZGAURE_NO_MODULATION && mizgaure_points(6, labels, 3, points, 2) == MIZGAURE_BAD_LENGTH);
+    EXPECT(mizgaure_points(4, labels, 3, points, 3) == MIZGAURE_NO_LABEL && kept(points, sizeof points, 0x55));
+    EXPECT(mizgaure_labels(0, wanted, 3, back, 3) == MIZGAURE_NO_MODULATION && mizgaure_labels(6, wanted, 3, back, 2) == MIZGAURE_BAD_LENGTH);
+    EXPECT(mizgaure_labels(4, wanted, 3, back, 3) == MIZGAURE_NO_POINT && kept(back, sizeof back, 0x55));
+
+    /* Symbol 0 at 20 MHz on one stream: the polarity p3 is 1, and the pilot k where (0 + k + 1) mod 4 is 0 has the other sign. */
+    int8_t pilots[6];
+    memset(pilots, 0x55, sizeof pilots);
+    EXPECT(mizgaure_pilots(2, 0, 0, 1, pilots, 4) == MIZGAURE_NO_RATE && mizgaure_pilots(0, 0, 0, 2, pilots, 4) == MIZGAURE_NO_STREAM);
+    EXPECT(mizgaure_pilots(0, 0, 0, 1, pilots, 6) == MIZGAURE_BAD_LENGTH && mizgaure_pilots(1, 0, 0, 1, pilots, 4) == MIZGAURE_BAD_LENGTH);
+    EXPECT(kept(pilots, sizeof pilots, 0x55));
+    EXPECT(mizgaure_pilots(0, 0, 0, 1, pilots, 4) == MIZGAURE_DONE);
+    EXPECT(pilots[0] == 1 && pilots[1] == 1 && pilots[2] == 1 && pilots[3] == -1);
+}
+
+/* Clause 18.3.5.7 at 6 Mbit/s: bit k stands at 3 * (k mod 16) + floor(k / 16). Clause 18.3.5.9: p1 to p3 of the polarity are 1, 1
+ * and 1, and p4 is -1; the highest pilot has the other sign. */
+static void legacy(void) {
+    uint16_t places[48], origins[48];
+    int8_t pilots[4];
+    EXPECT(mizgaure_legacy_places(0, places, 48) == MIZGAURE_DONE && mizgaure_legacy_origins(0, origins, 48) == MIZGAURE_DONE);
+    for (int k = 0; k < 48; k++) EXPECT(places[k] == 3 * (k % 16) + k / 16 && origins[places[k]] == k);
+    EXPECT(mizgaure_legacy_pilots(0, pilots, 4) == MIZGAURE_DONE && pilots[0] == 1 && pilots[1] == 1 && pilots[2] == 1 && pilots[3] == -1);
+    EXPECT(mizgaure_legacy_pilots(3, pilots, 4) == MIZGAURE_DONE && pilots[0] == -1 && pilots[3] == 1);
+    const uint8_t octet = 0xa5;
+    mizgaure_point points[104];
+    EXPECT(mizgaure_legacy_transmit(0, 127, &octet, 1, points, 104) == MIZGAURE_DONE && points[0].i == -1 && points[0].q == 0);
+    memset(places, 0x55, sizeof places), memset(points, 0x55, sizeof points), memset(pilots, 0x55, sizeof pilots);
+    EXPECT(mizgaure_legacy_places(8, places, 48) == MIZGAURE_NO_RATE && mizgaure_legacy_places(0, places, 47) == MIZGAURE_BAD_LENGTH);
+    EXPECT(mizgaure_legacy_origins(8, places, 48) == MIZGAURE_NO_RATE && mizgaure_legacy_origins(2, places, 48) == MIZGAURE_BAD_LENGTH);
+    EXPECT(mizgaure_legacy_transmit(8, 127, &octet, 1, points, 104) == MIZGAURE_NO_RATE);
+    EXPECT(mizgaure_legacy_transmit(0, 128, &octet, 1, points, 104) == MIZGAURE_NO_SEED);
+    EXPECT(mizgaure_legacy_transmit(0, 127, &octet, 1, points, 52) == MIZGAURE_BAD_LENGTH && mizgaure_legacy_pilots(0, pilots, 3) == MIZGAURE_BAD_LENGTH);
+    EXPECT(kept(places, sizeof places, 0x55) && kept(points, sizeof points, 0x55) && kept(pilots, sizeof pilots, 0x55));
+}
+
+static void parser(void) {
+    /* Two streams of 64-QAM: s = 3 bits go to a stream at a time (clause 20.3.11.8.2). */
+    enum { N = 624 };
+    bool first[N], bits[N], back[N];
+    for (int k = 0; k < N; k++) first[k] = k * k % 11 < 4;
+    EXPECT(mizgaure_lay(0, 13, first, N, first, 0, bits, N) == MIZGAURE_DONE);
+    for (int k = 0; k < N; k++) EXPECT(bits[k / 3 % 2 * 312 + k / 6 * 3 + k % 3] == first[k]);
+    EXPECT(mizgaure_gather(0, 13, bits, N, back, N, back, 0) == MIZGAURE_DONE && !memcmp(back, first, N));
+    memset(back, 1, N);
+    EXPECT(mizgaure_lay(2, 13, first, N, first, 0, back, N) == MIZGAURE_NO_RATE && mizgaure_lay(0, 13, first, N, first, 1, back, N) == MIZGAURE_BAD_LENGTH);
+    EXPECT(mizgaure_gather(0, 13, bits, N - 1, back, N, back, 0) == MIZGAURE_BAD_LENGTH && mizgaure_gather(0, 99, bits, N, back, N, back, 0) == MIZGAURE_NO_RATE);
+    EXPECT(kept(back, N, 1));
+}
+
+static void detector(void) {
+    mizgaure_channel channel = {{10, 10, 0, 0}, {{1, 2}}};
+    mizgaure_received received = {{{7, -11}, {-10, 10}}};
+    mizgaure_hit hit, hits[6];
+    /* y1 = 10 (1 - i) + (1 + 2i)(-1 + i) and y2 = 10 (-1 + i), exactly. */
+    EXPECT(mizgaure_nearest(0, 9, &channel, &received, &hit) == MIZGAURE_DONE);
+    EXPECT(hit.points[0].i == 1 && hit.points[0].q == -1 && hit.points[1].i == -1 && hit.points[1].q == 1);
+    EXPECT(kept(hit.points + 2, 4, 0) && hit.low == 0 && hit.high == 0);
+    received.samples[1].re += 3;
+    EXPECT(mizgaure_nearest(0, 9, &channel, &received, &hit) == MIZGAURE_DONE && hit.low == 9 && hit.high == 0);
+    /* Without a channel all vectors are as far: eight squares of 2^31 are 2^65, and the lowest levels are first. */
+    mizgaure_channel none = {{0}, {{0, 0}}};
+    mizgaure_received far = {{{INT32_MIN, INT32_MIN}, {INT32_MIN, INT32_MIN}, {INT32_MIN, INT32_MIN}, {INT32_MIN, INT32_MIN}}};
+    EXPECT(mizgaure_nearest(1, 31, &none, &far, &hit) == MIZGAURE_DONE && hit.low == 0 && hit.high == 2);
+    EXPECT(kept(hit.points, 8, (unsigned char)-7));
+
+    mizgaure_channel channels[2] = {channel, none};
+    mizgaure_received samples[6] = {received, far, far, received, received, far};
+    EXPECT(mizgaure_detect_symbols(0, 9, channels, 2, samples, 6, hits, 6) == MIZGAURE_DONE);
+    for (int k = 0; k < 6; k++)
+        EXPECT(mizgaure_nearest(0, 9, channels + k % 2, samples + k, &hit) == MIZGAURE_DONE && !memcmp(&hit, hits + k, sizeof hit));
+    /* Received exactly: of a bit that is 1 the least distance with 0 is that to the next point, at least 400 off. */
+    int32_t weights[8] = {0};
+    mizgaure_received exact = {{{7, -11}, {-10, 10}}};
+    EXPECT(mizgaure_weigh_symbols(0, 9, &channel, 1, &exact, 1, weights, 4) == MIZGAURE_DONE);
+    EXPECT(weights[0] == 400 && weights[1] == -400 && weights[2] < 0 && weights[3] > 0 && weights[4] == 0);
+    memset(weights, 0x55, sizeof weights);
+    EXPECT(mizgaure_weigh_symbols(0, 32, &channel, 1, &exact, 1, weights, 4) == MIZGAURE_NO_RATE);
+    EXPECT(mizgaure_weigh_symbols(0, 9, &channel, 1, &exact, 1, weights, 5) == MIZGAURE_BAD_LENGTH);
+    EXPECT(mizgaure_weigh_symbols(0, 9, &channel, 0, &exact, 1, weights, 4) == MIZGAURE_BAD_LENGTH && kept(weights, sizeof weights, 0x55));
+    memset(hits, 0x55, sizeof hits);
+    EXPECT(mizgaure_nearest(2, 0, &channel, &received, hits) == MIZGAURE_NO_RATE && mizgaure_nearest(0, 32, &channel, &received, hits) == MIZGAURE_NO_RATE);
+    EXPECT(mizgaure_detect_symbols(2, 9, channels, 2, samples, 6, hits, 6) == MIZGAURE_NO_RATE);
+    EXPECT(mizgaure_detect_symbols(0, 9, channels, 0, samples, 6, hits, 6) == MIZGAURE_BAD_LENGTH);
+    EXPECT(mizgaure_detect_symbols(0, 9, channels, 2, samples, 5, hits, 5) == MIZGAURE_BAD_LENGTH);
+    EXPECT(mizgaure_detect_symbols(0, 9, channels, 2, samples, 6, hits, 4) == MIZGAURE_BAD_LENGTH && kept(hits, sizeof hits, 0x55));
+}
+
+/* A frame of two symbols at MCS 1, 20 MHz: sent, its labels read from its points, and decoded. */
+static void frames(void) {
+    enum { OCTETS = 10, SYMBOLS = 2, CARRIERS = 56, DATA = 52 };
+    static const int pilots[4] = {7, 21, 34, 48}; /* -21, -7, 7 and 21 of -28 to 28 without 0 */
+    uint8_t octets[OCTETS], back[OCTETS], labels[SYMBOLS * DATA];
+    mizgaure_point points[SYMBOLS * CARRIERS], data[SYMBOLS * DATA];
+    uint32_t differences = 77;
+    for (int k = 0; k < OCTETS; k++) octets[k] = (uint8_t)(17 * k + 3);
+    EXPECT(mizgaure_transmit(0, 1, 93, octets, OCTETS, points, SYMBOLS * CARRIERS) == MIZGAURE_DONE);
+    for (int k = 0, at = 0, pilot = 0; k < SYMBOLS * CARRIERS; k++) {
+        if (k % CARRIERS == pilots[pilot % 4])
+            pilot++;
+        else
+            data[at++] = points[k];
+    }
+    EXPECT(mizgaure_labels(2, data, SYMBOLS * DATA, labels, SYMBOLS * DATA) == MIZGAURE_DONE);
+    EXPECT(mizgaure_decode_frame(0, 1, 0, 0, labels, SYMBOLS * DATA, back, OCTETS, &differences) == MIZGAURE_DONE);
+    EXPECT(differences == 0 && !memcmp(octets, back, OCTETS));
+    labels[0] ^= 1;
+    EXPECT(mizgaure_decode_frame(0, 1, 0, 0, labels, SYMBOLS * DATA, back, OCTETS, &differences) == MIZGAURE_DONE);
+    EXPECT(differences == 1 && !memcmp(octets, back, OCTETS));
+    /* Where its subcarrier is erased, the wrong label counts for nothing. */
+    EXPECT(mizgaure_decode_frame(0, 1, 1, 0, labels, SYMBOLS * DATA, back, OCTETS, &differences) == MIZGAURE_DONE);
+    EXPECT(differences == 0 && !memcmp(octets, back, OCTETS));
+
+    int32_t weights[2 * SYMBOLS * DATA];
+    mizgaure_cost cost = {77, 77};
+    for (int k = 0; k < SYMBOLS * DATA; k++) {
+        weights[2 * k] = labels[k] & 2 ? 5 : -5;
+        weights[2 * k + 1] = labels[k] & 1 ? 5 : -5;
+    }
+    EXPECT(mizgaure_soft_frame(0, 1, 0, 0, weights, 2 * SYMBOLS * DATA, back, OCTETS, &cost) == MIZGAURE_DONE);
+    EXPECT(cost.low == 5 && cost.high == 0 && !memcmp(octets, back, OCTETS));
+
+    memset(back, 0x55, OCTETS), differences = 77, cost.low = cost.high = 77;
+    uint8_t zeros[SYMBOLS * DATA] = {0};
+    EXPECT(mizgaure_decode_frame(0, 1, 0, 0, zeros, SYMBOLS * DATA, back, OCTETS, &differences) == MIZGAURE_NO_SEED);
+    EXPECT(mizgaure_decode_frame(2, 1, 0, 0, labels, SYMBOLS * DATA, back, OCTETS, &differences) == MIZGAURE_NO_RATE);
+    EXPECT(mizgaure_decode_frame(0, 1, 0, 0, labels, SYMBOLS * DATA - 1, back, OCTETS, &differences) == MIZGAURE_BAD_LENGTH);
+    EXPECT(mizgaure_decode_frame(0, 1, 0, 0, labels, SYMBOLS * DATA, back, 0, &differences) == MIZGAURE_BAD_LENGTH);
+    EXPECT(mizgaure_soft_frame(0, 32, 0, 0, weights, 2 * SYMBOLS * DATA, back, OCTETS, &cost) == MIZGAURE_NO_RATE);
+    EXPECT(mizgaure_soft_frame(0, 1, 0, 0, weights, SYMBOLS * DATA, back, OCTETS, &cost) == MIZGAURE_BAD_LENGTH);
+    memset(weights, 0, sizeof weights);
+    EXPECT(mizgaure_soft_frame(0, 1, 0, 0, weights, 2 * SYMBOLS * DATA, back, OCTETS, &cost) == MIZGAURE_NO_SEED);
+    EXPECT(kept(back, OCTETS, 0x55) && differences == 77 && cost.low == 77 && cost.high == 77);
+    memset(points, 0x55, sizeof points);
+    EXPECT(mizgaure_transmit(2, 1, 93, octets, OCTETS, points, SYMBOLS * CARRIERS) == MIZGAURE_NO_RATE);
+    EXPECT(mizgaure_transmit(0, 1, 0, octets, OCTETS, points, SYMBOLS * CARRIERS) == MIZGAURE_NO_SEED);
+    EXPECT(mizgaure_transmit(0, 1, 93, octets, 0, points, SYMBOLS * CARRIERS) == MIZGAURE_BAD_LENGTH);
+    EXPECT(mizgaure_transmit(0, 1, 93, octets, OCTETS, points, CARRIERS) == MIZGAURE_BAD_LENGTH && kept(points, sizeof points, 0x55));
+}
+
+typedef uint32_t texts(const uint8_t *, size_t, uint8_t *, size_t, uint64_t *, mizgaure_refusal *);
+
+/* A capture of one frame whose samples are 0, two symbols of 56 subcarriers with the diagonal 10 (docs/FORMATS.md). */
+static size_t zero_capture(uint8_t *into) {
+    static const uint8_t head[11] = {'H', 'T', 'C', 'P', 1, 0, 1, 0, 0, 0, 1};
+    memcpy(into, head, sizeof head);
+    size_t n = sizeof head;
+    for (int k = 0; k < 56; k++) into[n++] = 0, into[n++] = 10;
+    memset(into + n, 0, 2 * 56 * 8);
+    return n + 2 * 56 * 8;
+}
+
+static void whole_inputs(void) {
+    static uint8_t capture[2048], text[8192];
+    size_t n = zero_capture(capture);
+    const char *wanted = "frame 0 data 10400 pilot 800 code 0 seed zero\nend 1 frames\n";
+    uint64_t size = 77;
+    mizgaure_refusal refusal = {77, 77};
+    memset(text, 0x55, sizeof text);
+    EXPECT(mizgaure_rx(capture, n, text, sizeof text, &size, &refusal) == MIZGAURE_DONE);
+    EXPECT(size == strlen(wanted) && !memcmp(text, wanted, size) && kept(text + size, sizeof text - size, 0x55));
+    EXPECT(refusal.offset == 77 && refusal.kind == 77);
+    size = 77, memset(text, 0x55, sizeof text);
+    EXPECT(mizgaure_rx(capture, n, text, strlen(wanted) - 1, &size, &refusal) == MIZGAURE_NO_ROOM && size == strlen(wanted));
+    size = 77;
+    capture[7] = 2; /* the bandwidth, kind 3 */
+    EXPECT(mizgaure_rx(capture, n, text, sizeof text, &size, &refusal) == MIZGAURE_REFUSED && refusal.kind == 3 && refusal.offset == 7);
+    capture[7] = 0;
+    static texts *const calls[] = {mizgaure_detect, mizgaure_rx, mizgaure_soft, mizgaure_certify, mizgaure_check, mizgaure_lrx};
+    for (size_t k = 0; k < sizeof calls / sizeof *calls; k++) {
+        /* An input that ends early, kind 6, is refused where it ends; the last call's files begin with L, so their magic is bad. */
+        refusal.offset = refusal.kind = 77;
+        EXPECT(calls[k](capture, 2, text, sizeof text, &size, &refusal) == MIZGAURE_REFUSED);
+        EXPECT(refusal.offset == (k == 5 ? 0 : 2) && refusal.kind == (k == 5 ? 1 : 6));
+    }
+    EXPECT(mizgaure_pass(1, 0, capture, n, text, sizeof text, &size, &refusal) == MIZGAURE_REFUSED && refusal.kind == 1 && refusal.offset == 2);
+    EXPECT(size == 77 && kept(text, sizeof text, 0x55));
+    EXPECT(mizgaure_detect(capture, n, text, sizeof text, &size, &refusal) == MIZGAURE_DONE);
+    EXPECT(size > 112 * 10 && !memcmp(text, "job 0 0 0 100 -1 0\n", 19));
+    EXPECT(mizgaure_soft(capture, n, text, sizeof text, &size, &refusal) == MIZGAURE_DONE && !memcmp(text, "soft 0 cost 0 seed zero\n", 24));
+    /* The certificates of its 104 data jobs hold. */
+    static uint8_t file[65536];
+    const char *end = "end 104 jobs yes 104\n";
+    uint64_t length = 0;
+    EXPECT(mizgaure_certify(capture, n, file, sizeof file, &length, &refusal) == MIZGAURE_DONE && !memcmp(file, "HTCT", 4));
+    EXPECT(mizgaure_check(file, length, text, sizeof text, &size, &refusal) == MIZGAURE_DONE && !memcmp(text + size - strlen(end), end, strlen(end)));
+    /* No frames are passed to no frames. */
+    static const uint8_t symbols[7] = {'H', 'T', 'S', 'Y', 1}, passed_on[7] = {'H', 'T', 'C', 'P', 1};
+    EXPECT(mizgaure_pass(1, 0, symbols, 7, text, sizeof text, &size, &refusal) == MIZGAURE_DONE && size == 7 && !memcmp(text, passed_on, 7));
+}
+
+int main(void) {
+    EXPECT(mizgaure_version() == MIZGAURE_VERSION);
+    EXPECT(!strcmp(mizgaure_fault_name(MIZGAURE_NO_POINT), "NO_POINT") && !strcmp(mizgaure_fault_name(12), "?"));
+    scrambler();
+    code();
+    interleaver();
+    mapping();
+    legacy();
+    parser();
+    detector();
+    frames();
+    whole_inputs();
+    printf("%d facts hold, %d don't\n", passed, failed);
+    return failed > 0;
+}
