@@ -1,5 +1,6 @@
 //! Several captures in this thread, with one crew of workers, or each whole by one worker.
 ghost use Rattle.std.specs.Prelude.{◌≡◌, ◌≢◌, length, Err};
+ghost use Rattle.ht_io.specs.Devices.{IsLater};
 ghost use Rattle.ht_feed.specs.Limits.{IsCrewSize, IsWindowSize};
 ghost use Rattle.ht_runs.specs.declared.faults.RunFault.TheVariants.{Write};
 ghost use Rattle.ht_several.specs.Several.{devices};
@@ -80,6 +81,10 @@ pub fn many_bundle_alone<S: Source, K: Sink, G: Gate>(
     requires window { IsWindowSize window }
     ensures converts { ReceivesBundle (S.shown source.old) (S.shown source.new) (K.shown sink.old) (K.shown sink.new) result }
     ensures writes { result ≢ Err Write → (K.shown sink.new).faults ≡ (K.shown sink.old).faults }
+
+    // However it ends, the devices are the same, and take back no fault.
+    ensures reads_later { IsLater (S.shown source.old) (S.shown source.new) }
+    ensures puts_later { IsLater (K.shown sink.old) (K.shown sink.new) }
 {
     let alone = Alone::new(alloc, window, gate);
     let captures = read_bundle(alloc, source)?;
@@ -107,6 +112,10 @@ pub fn many_bundle<R: Threads + Wait + Sync, S: Source, K: Sink, G: Gate + Sync>
     requires window { IsWindowSize window }
     ensures converts { ReceivesBundle (S.shown source.old) (S.shown source.new) (K.shown sink.old) (K.shown sink.new) result }
     ensures writes { result ≢ Err Write → (K.shown sink.new).faults ≡ (K.shown sink.old).faults }
+
+    // However it ends, the devices are the same, and take back no fault.
+    ensures reads_later { IsLater (S.shown source.old) (S.shown source.new) }
+    ensures puts_later { IsLater (K.shown sink.old) (K.shown sink.new) }
 {
     let crew = Crew::new(rt, alloc, workers, window, gate);
     let captures = read_bundle(alloc, source)?;
