@@ -6,11 +6,11 @@ use crate::detecting::{Axes, Complex, Job, Ladder};
 use crate::random::Random;
 use crate::receiving::{Account, Fault, Input};
 use crate::results::Results;
-use crate::sending::{Words, coded, input, level, output, scrambled};
+use crate::sending::{Words, coded, flip, input, level, output, scrambled};
 use std::io::{BufReader, Read, Write};
 
 /// The bits of a label, the data bits of a symbol and the coding rate of each rate.
-const RATES: [(usize, usize, &str); 8] = [
+pub const RATES: [(usize, usize, &str); 8] = [
     (1, 24, "half"),
     (1, 36, "three_quarters"),
     (2, 48, "half"),
@@ -21,10 +21,10 @@ const RATES: [(usize, usize, &str); 8] = [
     (6, 216, "three_quarters"),
 ];
 
-const PILOTS: [usize; 4] = [5, 19, 32, 46];
+pub const PILOTS: [usize; 4] = [5, 19, 32, 46];
 
 /// The polarity of the pilots, 127 symbols of it: true where it is negative.
-fn polarity() -> Vec<bool> {
+pub fn polarity() -> Vec<bool> {
     scrambled(127, &[], 0, 127)
 }
 
@@ -51,8 +51,9 @@ fn point(label: u8, bits: usize) -> (i32, i32) {
     }
 }
 
-fn lchannel(noise: u16) {
+fn lchannel(noise: u16, wrong: u64) {
     let octets = input();
+    let mut random = Random::new(2);
     let frames = u16::from_be_bytes([octets[5], octets[6]]);
     let mut made = b"LGCP\x01".to_vec();
     made.extend(frames.to_be_bytes());
@@ -69,7 +70,10 @@ fn lchannel(noise: u16) {
         let bits = scrambled(octets[at + 3], psdu, 6, symbols * data_bits);
         at += 4 + length;
         let sources = sources(label_bits);
-        let code = coded(bits.into_iter(), period(rate).unwrap(), symbols * sources.len());
+        let mut code = coded(bits.into_iter(), period(rate).unwrap(), symbols * sources.len());
+        if wrong > 0 {
+            flip(&mut code, wrong, &mut random);
+        }
         let diagonals: Vec<i32> = (0..52).map(|_| 64 + (words.draw() % 192) as i32).collect();
         for diagonal in &diagonals {
             made.extend((*diagonal as u16).to_be_bytes());
@@ -97,7 +101,7 @@ fn lchannel(noise: u16) {
 }
 
 /// How the frames of a rate are coded.
-fn chain(index: u8) -> Chain {
+pub fn chain(index: u8) -> Chain {
     let (bits, _, pattern) = RATES[usize::from(index)];
     let mut spots = vec![Spot { label: 0, shift: 0, lost: false }; 48 * bits];
     for (place, k) in sources(bits).into_iter().enumerate() {
@@ -199,12 +203,13 @@ fn write_frames(frames: u16, rate: u8, length: u16) {
 
 /// Whether the words are a command or a file to be written.
 pub fn run(words: &[String]) -> bool {
-    let number = |at: usize, default: u16| words.get(at).and_then(|word| word.parse().ok()).unwrap_or(default);
+    let number = |at: usize, default: u64| words.get(at).and_then(|word| word.parse().ok()).unwrap_or(default);
     match words.first().map(String::as_str) {
-        Some("lchannel") => lchannel(number(1, 0)),
+        // The noise, and how many of a million coded bits are sent wrong.
+        Some("lchannel") => lchannel(number(1, 0) as u16, number(2, 0)),
         Some("lrx") => receive_on(BufReader::new(std::io::stdin().lock()), std::io::stdout().lock()),
         // The number of frames, the index of the rate and the length.
-        Some("lframes") => write_frames(number(1, 1), number(2, 0) as u8, number(3, 1500)),
+        Some("lframes") => write_frames(number(1, 1) as u16, number(2, 0) as u8, number(3, 1500) as u16),
         _ => return false,
     }
     true

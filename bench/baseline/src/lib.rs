@@ -1,8 +1,10 @@
 //! The lines of `ht_bench` and the commands of `radio` in plain Rust, to compare with.
+mod abreast;
 mod bundling;
 mod capturing;
 mod certifying;
 mod chain;
+mod clean;
 mod decoding;
 mod detecting;
 mod framing;
@@ -12,6 +14,8 @@ mod random;
 mod receiving;
 mod results;
 mod sending;
+mod swift;
+mod walking;
 mod weighing;
 
 pub use bundling::text as text_of_bundle;
@@ -19,10 +23,11 @@ use weighing::{Searches, Weighed};
 
 /// What the words ask for: a command, or a line of `ht_bench`, of which the same checksum is printed.
 pub fn run(words: &[String]) {
-    if receiving::run(words) || certifying::run(words) || sending::run(words) || legacy::run(words) || bundling::run(words) {
+    if receiving::run(words) || certifying::run(words) || sending::run(words) || legacy::run(words) || bundling::run(words) || swift::run(words) {
         return;
     }
-    match decoding::run(words).or_else(|| framing::run(words)).or_else(|| detecting::run(words)).or_else(|| capturing::run(words)) {
+    let lines = [decoding::run, framing::run, detecting::run, capturing::run, abreast::run, clean::run, walking::run];
+    match lines.iter().find_map(|line| line(words)) {
         Some(checksum) => println!("{checksum}"),
         None => println!("these words choose no line"),
     }

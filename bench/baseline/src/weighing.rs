@@ -58,6 +58,13 @@ fn weight(zero: u128, one: u128) -> i32 {
     (zero as i128 - one as i128).clamp(-LARGEST, LARGEST) as i32
 }
 
+/// The weight of a bit of a stream, by the searches of both halves.
+pub fn weight_of_bit(job: &Job, stream: usize, bits: u32, bit: u32) -> i32 {
+    let mut half = *job;
+    let mut distance = |value| distance_of_half(&mut half, stream, bits, bit, value);
+    weight(distance(false), distance(true))
+}
+
 impl<W: Write> Weighed<W> {
     pub fn new(sink: W, searches: Searches) -> Self {
         Weighed {
