@@ -13,14 +13,17 @@ commands=(
   'frames:make a file of frames (HTTX) from MPDUs, as hexadecimal lines or a pcap file'
   'bundle:put captures into a bundle (HTMB), for radio many'
   'unbundle:take the captures out of a bundle (HTMB)'
+  'stages:write what each stage of the chain has for a frame, forwards or backwards'
   'sweep:find error rates over the signal-to-noise ratio, over random channels'
   'merge:put the parts of a sweep together'
   'picture:draw a frame of a capture, a sweep, or a recording'
-  'report:write a page on captures: frames, packets, measures, pictures'
+  'report:write a page on captures, recordings and sweeps: measures, verdicts, pictures'
   'zero-forcing:answer a capture by a zero-forcing detector, as an example of another receiver'
   'waveform:write the packets of a file of symbols as a recording of complex samples'
   'record:make a capture of the packets of a recording'
   'receive:receive the packets of a recording to their octets'
+  'verdict:hold the packets of a recording beside the standard'\''s limits for transmitters'
+  'challenge:write the standard'\''s receiver tests as recordings, and judge what a device answers'
 )
 if (( CURRENT == 2 )); then
   _describe command commands
@@ -38,8 +41,10 @@ case $command in
       '--reference[kept lines of radio detect and radio rx, or with --soft of radio soft, in place of running it]:lines:_files' \
       '--soft[the answers are a soft decoder'\''s\: compare its octets with those of radio soft]' \
       '--json[write all verdicts as JSON lines]:file:_files' \
-      '--list[print at most N of the worst jobs]:n:' \
-      '--complete[end with status 1 also where a job has no answer]' \
+      '--list[print at most N of each kind of mistakes]:n:' \
+      '--complete[end with status 1 also where a job or a frame has no answer]' \
+      '--without[the receiver answers no jobs, or no frames\: none of them is missing]:without:(jobs frames)' \
+      '--stated[end with status 1 also where a distance, a sum or a number of frames is misstated]' \
       '--help[say more]' \
       '1:capture:_files' \
       '2:answers:_files' ;;
@@ -51,7 +56,7 @@ case $command in
     _arguments \
       '--force[overwrite a file that is there already]' \
       {-o,--output}'[the capture (HTCP) to write; - is standard output]:file:_files' \
-      '--gain[what to multiply with before rounding]:gain:' \
+      '--gain[what to multiply with before rounding\: a number, soft, which fits soft decisions, or largest, which is the largest that fits]:gain:' \
       '--format[the version of the capture]:format:(1 2)' \
       '--help[say more]' \
       '*:frame:_files' ;;
@@ -62,7 +67,7 @@ case $command in
       '--mcs[0 to 31]:mcs:' \
       '--length[octets of a frame]:length:' \
       '--antennas[receive antennas]:antennas:' \
-      '--decay[samples by which the taps'\'' power falls by e]:decay:' \
+      '--decay[samples by which the power of the taps of exponential falls by e]:decay:' \
       '--channel[exponential, flat, tapped, tgn-b, tgn-d, awgn, or a function as FILE.py\:NAME]:channel:' \
       '--profile[of the channel tapped, as 0\:0,50\:-3,110\:-7.5]:ns:db,:' \
       '--estimate[what the receiver knows of the channel]:estimate:(perfect ls)' \
@@ -104,7 +109,7 @@ case $command in
       '--force[overwrite a file that is there already]' \
       '--answers[kept lines of radio rx, in place of running it]:lines:_files' \
       '--aggregated[whether the frames are A-MPDUs]:aggregated:(yes no guess)' \
-      {-o,--output}'[write the MPDUs with radiotap headers, as Wireshark reads them]:file:_files' \
+      {-o,--output}'[write the MPDUs with radiotap headers (pcap, or pcapng where it ends in .pcapng), as Wireshark reads them]:file:_files' \
       '--csv[write a table as CSV]:file:_files' \
       '--json[write the same records as JSON lines]:file:_files' \
       '--help[say more]' \
@@ -132,6 +137,16 @@ case $command in
       {-o,--output}'[where to write capture-00.htcp and so on; it is made where it isn'\''t there]:folder:_files' \
       '--help[say more]' \
       '1:file:_files' ;;
+  stages)
+    _arguments \
+      '--force[overwrite a file that is there already]' \
+      '--frame[this frame alone, from 0]:n:' \
+      '--csv[write a row for each value in place of the text]:file:_files' \
+      '--npz[write arrays for numpy]:file:_files' \
+      '--mat[write arrays for MATLAB and Octave]:file:_files' \
+      '--readmemh[write a file of words for each stage, as Verilog reads them]:folder:_files' \
+      '--help[say more]' \
+      '1:file:_files' ;;
   sweep)
     _arguments \
       '--radio[the program radio]:program:_files' \
@@ -140,7 +155,7 @@ case $command in
       '--mcs[0 to 31]:mcs:' \
       '--length[octets of a frame]:length:' \
       '--antennas[receive antennas]:antennas:' \
-      '--decay[samples by which the taps'\'' power falls by e]:decay:' \
+      '--decay[samples by which the power of the taps of exponential falls by e]:decay:' \
       '--channel[exponential, flat, tapped, tgn-b, tgn-d, awgn, or a function as FILE.py\:NAME]:channel:' \
       '--profile[of the channel tapped, as 0\:0,50\:-3,110\:-7.5]:ns:db,:' \
       '--estimate[what the receiver knows of the channel]:estimate:(perfect ls)' \
@@ -175,9 +190,10 @@ case $command in
       '--force[overwrite a file that is there already]' \
       '--frame[the frame to draw]:frame:' \
       '--answers[kept lines of radio detect, in place of running it]:lines:_files' \
-      '--datatype[the file has samples of this type alone, and isn'\''t SigMF]:datatype:(cf32_be cf32_le ci16_be ci16_le ci8 cu8)' \
-      '--sample-rate[samples a second of a file of samples]:rate:' \
+      '--datatype[the file has samples of this type alone, and isn'\''t SigMF]:datatype:(cf32_be cf32_le cf64_be cf64_le ci16_be ci16_le ci32_be ci32_le ci8 cu8)' \
+      '--sample-rate[samples a second of a file of samples, .npy or .mat]:rate:' \
       '--channels[antennas of a file of samples]:channels:' \
+      '--variable[the array of a .mat that has several]:name:' \
       '--help[say more]' \
       '1:kind:(constellation evm residual distances sweep spectrum preamble tracking)' \
       '2:file:_files' \
@@ -188,6 +204,9 @@ case $command in
       '--force[overwrite a file that is there already]' \
       {-o,--output}'[the page (HTML) to write; it has its pictures inside]:file:_files' \
       '--theirs[another receiver'\''s answers, as judge reads them; once for each capture]:lines:_files' \
+      '--sweep[what mizgaure sweep kept; may come again]:file:_files' \
+      '--frequency[of the middle of the recorded band]:hz:' \
+      '--reference-ppm[by how much the recorder'\''s own clock may be wrong]:ppm:' \
       '--pictures[draw the first N frames of each capture]:n:' \
       '--title[the page'\''s title]:text:' \
       '--help[say more]' \
@@ -204,34 +223,95 @@ case $command in
       '--raw[write the samples alone]' \
       '--guard[the guard interval of data symbols]:guard:(long short)' \
       '--aggregated[say in HT-SIG that the octets are an A-MPDU]' \
+      '--stbc[send so many more space-time streams than spatial streams, 1 or 2]:n:(0 1 2)' \
+      '--greenfield[write packets in HT-greenfield format, and not in HT-mixed format]' \
       '--antennas[receive antennas]:antennas:' \
       '--spread[the delay spread in nanoseconds; 0, the default, wires antennas to streams]:ns:' \
       '--offset[of the oscillators, in parts per million]:ppm:' \
       '--frequency[of the carrier]:hz:' \
       '--snr[in dB, or none for no noise]:snr:' \
       '--gap[the silence between packets in microseconds]:us:' \
+      '--rate[million samples a second]:rate:(20 40 60 80 100 120 200)' \
+      '--dc[add a level of so many dB beside a packet]:db:' \
+      '--dc-drift[turn it so often in a second]:hz:' \
+      '--neighbour[add packets of so many dB beside the others in the channel above]:db:' \
+      '--nonadjacent[put them into the channel behind that one]' \
+      '--clock[of the symbol clock, in parts per million]:ppm:' \
+      '--leakage[let the carrier leak with so many dB of a packet'\''s overall power]:db:' \
+      '--filter[weaken what is sent beyond the channel by so many dB]:db:' \
+      '--lost[lose samples in the middle of every packet]:samples:' \
       '--seed[of the random numbers]:seed:' \
       '--help[say more]' \
       '1:symbols:_files' ;;
   record)
     _arguments \
       '--force[overwrite a file that is there already]' \
-      '--datatype[the file has samples of this type alone, and isn'\''t SigMF]:datatype:(cf32_be cf32_le ci16_be ci16_le ci8 cu8)' \
-      '--sample-rate[samples a second of a file of samples]:rate:' \
+      '--datatype[the file has samples of this type alone, and isn'\''t SigMF]:datatype:(cf32_be cf32_le cf64_be cf64_le ci16_be ci16_le ci32_be ci32_le ci8 cu8)' \
+      '--sample-rate[samples a second of a file of samples, .npy or .mat]:rate:' \
       '--channels[antennas of a file of samples]:channels:' \
+      '--variable[the array of a .mat that has several]:name:' \
+      '--shift[where the packets'\'' middle is, from the recording'\''s middle]:hz:' \
+      '--channel[receive this channel, by the frequency that the recording says]:n:' \
+      '--processes[how many look for packets]:n:' \
       {-o,--output}'[the capture (HTCP) to write; - is standard output]:file:_files' \
+      '--gain[what to multiply with before rounding, where the noise at an antenna has mean power 1\: a number, soft, which fits soft decisions]:gain:' \
+      '--legacy[write the packets of clause 18 as a capture (LGCP)]:file:_files' \
+      '--annotate[write the packets into the metadata of a SigMF recording, as annotations]' \
       '--csv[write a table as CSV]:file:_files' \
       '--json[write the same records as JSON lines]:file:_files' \
       '--help[say more]' \
-      '1:recording:_files' ;;
+      '*:recording:_files' ;;
   receive)
     _arguments \
       '--radio[the program radio]:program:_files' \
       '--force[overwrite a file that is there already]' \
-      '--datatype[the file has samples of this type alone, and isn'\''t SigMF]:datatype:(cf32_be cf32_le ci16_be ci16_le ci8 cu8)' \
-      '--sample-rate[samples a second of a file of samples]:rate:' \
+      '--datatype[the file has samples of this type alone, and isn'\''t SigMF]:datatype:(cf32_be cf32_le cf64_be cf64_le ci16_be ci16_le ci32_be ci32_le ci8 cu8)' \
+      '--sample-rate[samples a second of a file of samples, .npy or .mat]:rate:' \
       '--channels[antennas of a file of samples]:channels:' \
-      {-o,--output}'[write the MPDUs with radiotap headers (pcap), as Wireshark reads them]:file:_files' \
+      '--variable[the array of a .mat that has several]:name:' \
+      '--shift[where the packets'\'' middle is, from the recording'\''s middle]:hz:' \
+      '--channel[receive this channel, by the frequency that the recording says]:n:' \
+      '--processes[how many look for packets]:n:' \
+      {-o,--output}'[write the MPDUs with radiotap headers (pcap, or pcapng where it ends in .pcapng), as Wireshark reads them]:file:_files' \
+      '--soft[decode packets in HT-mixed format by soft decisions, and say what they cost]' \
+      '--full-scale[the power at an antenna whose samples have mean power 1; levels are in dBm then]:dbm:' \
+      '--sent[count right, wrong and lost packets of so many that were sent]:n:' \
+      '--truth[count them against these frames (HTTX), which were sent]:file:_files' \
+      '--csv[write a table as CSV]:file:_files' \
+      '--json[write the same records as JSON lines]:file:_files' \
       '--help[say more]' \
-      '1:recording:_files' ;;
+      '*:recording:_files' ;;
+  verdict)
+    _arguments \
+      '--force[overwrite a file that is there already]' \
+      '--datatype[the file has samples of this type alone, and isn'\''t SigMF]:datatype:(cf32_be cf32_le cf64_be cf64_le ci16_be ci16_le ci32_be ci32_le ci8 cu8)' \
+      '--sample-rate[samples a second of a file of samples, .npy or .mat]:rate:' \
+      '--channels[antennas of a file of samples]:channels:' \
+      '--variable[the array of a .mat that has several]:name:' \
+      '--shift[where the packets'\'' middle is, from the recording'\''s middle]:hz:' \
+      '--channel[receive this channel, by the frequency that the recording says]:n:' \
+      '--processes[how many look for packets]:n:' \
+      '--frequency[of the middle of the recorded band]:hz:' \
+      '--reference-ppm[by how much the recorder'\''s own clock may be wrong; without it there is no verdict on frequencies]:ppm:' \
+      '--complete[end with status 1 also where a test has no verdict]' \
+      '--csv[write a table as CSV]:file:_files' \
+      '--json[write the same records as JSON lines]:file:_files' \
+      '--help[say more]' \
+      '*:recording:_files' ;;
+  challenge)
+    _arguments \
+      '--radio[the program radio]:program:_files' \
+      '--force[overwrite a file that is there already]' \
+      '--bandwidth[in MHz]:bandwidth:(20 40)' \
+      '--mcs[a recording for each]:m,:' \
+      '--packets[of each recording]:n:' \
+      '--length[octets of a packet]:l:' \
+      '--full-scale[the power at an antenna whose samples have mean power 1]:dbm:' \
+      '--seed[of the random numbers]:seed:' \
+      '--complete[judge\: end with status 1 also where there is no verdict]' \
+      '--csv[write a table as CSV]:file:_files' \
+      '--json[write the same records as JSON lines]:file:_files' \
+      '--help[say more]' \
+      '1:what:(sensitivity adjacent nonadjacent judge)' \
+      '2:folder:_files' ;;
 esac

@@ -13,7 +13,7 @@ commands=(
   'check:reads a file of certificates (HTCT) as it comes; writes a line for each certificate that says whether it holds'
   'lchannel:reads a file of clause 18 frames (LGTX) whole; writes a capture of them (LGCP), after a random channel'
   'lrx:reads a capture of clause 18 frames (LGCP) as it comes; writes a line for each frame, with its octets'
-  'demo:reads nothing; writes a line of sums over sample frames that it makes, sends and receives'
+  'demo:reads nothing; writes a line of totals for generated test frames, sent and received'
 )
 if (( CURRENT == 2 )); then
   _describe command commands
@@ -27,19 +27,19 @@ case $command in
   detect)
     _arguments \
       '--workers[threads that detect, including the calling one, 1 to 64]:workers:' \
-      '--window[how many jobs may be under way, their answers not taken back yet, 1 to 4096]:window:' ;;
+      '--window[maximum number of jobs in flight, 1 to 4096]:window:' ;;
   rx)
     _arguments \
       '--workers[threads that detect, including the calling one, 1 to 64]:workers:' \
-      '--window[how many jobs may be under way, their answers not taken back yet, 1 to 4096]:window:' ;;
+      '--window[maximum number of jobs in flight, 1 to 4096]:window:' ;;
   soft)
     _arguments \
       '--workers[threads that detect, including the calling one, 1 to 64]:workers:' \
-      '--window[how many jobs may be under way, their answers not taken back yet, 1 to 4096]:window:' ;;
+      '--window[maximum number of jobs in flight, 1 to 4096]:window:' ;;
   many)
     _arguments \
       '--workers[threads that detect, including the calling one, 1 to 64]:workers:' \
-      '--window[how many jobs may be under way, their answers not taken back yet, 1 to 4096]:window:' ;;
+      '--window[maximum number of jobs in flight, 1 to 4096]:window:' ;;
   channel)
     _arguments \
       '--seed[seed of the generator of channels and of sample frames, 0 to 18446744073709551615]:seed:' \
@@ -51,7 +51,7 @@ case $command in
   lrx)
     _arguments \
       '--workers[threads that detect, including the calling one, 1 to 64]:workers:' \
-      '--window[how many jobs may be under way, their answers not taken back yet, 1 to 4096]:window:' ;;
+      '--window[maximum number of jobs in flight, 1 to 4096]:window:' ;;
   demo)
     _arguments \
       '--seed[seed of the generator of channels and of sample frames, 0 to 18446744073709551615]:seed:' \
@@ -61,5 +61,5 @@ case $command in
       '--bandwidth[bandwidth of sample frames in MHz, 20 or 40]:bandwidth:(20 40)' \
       '--length[octets of each sample frame, 1 to 65535]:length:' \
       '--workers[threads that detect, including the calling one, 1 to 64]:workers:' \
-      '--window[how many jobs may be under way, their answers not taken back yet, 1 to 4096]:window:' ;;
+      '--window[maximum number of jobs in flight, 1 to 4096]:window:' ;;
 esac

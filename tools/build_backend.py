@@ -2,6 +2,9 @@
 left in this folder. The package is Python and nothing else; a wheel of it is an archive of its files with a description
 (PEP 427), and an archive of sources has the folder as it is (PEP 517).
 
+Settings of a wheel, all of them files but the last: `version`, which says what it was made of; `library`, the shared library,
+which is put beside the modules; and the `platform` that the library runs on, as manylinux_2_17_x86_64.
+
 Before Python 3.11 there is no reader of TOML in the library, and pip is asked for tomli where it isn't there.
 """
 
@@ -65,21 +68,27 @@ def _sources():
 
 def build_wheel(wheel_directory, config_settings=None, metadata_directory=None):
     """The wheel, for pip: its name, as it stands in the folder."""
-    project = _project()
+    project, settings = _project(), config_settings or {}
     title = f"{project['name']}-{project['version']}"
+    tag = f"py3-none-{settings.get('platform', 'any')}"
     commands = "".join(f"{name} = {function}\n" for name, function in project["scripts"].items())
     members = {name: path.read_bytes() for name, path in _sources().items()}
+    if "library" in settings:
+        members[f"{project['name']}/libmizgaure.so.0"] = Path(settings["library"]).read_bytes()
+    if "version" in settings:
+        members[f"{title}.dist-info/version"] = Path(settings["version"]).read_bytes()
     members[f"{title}.dist-info/METADATA"] = _metadata(project).encode()
-    members[f"{title}.dist-info/WHEEL"] = b"Wheel-Version: 1.0\nGenerator: build_backend\nRoot-Is-Purelib: true\nTag: py3-none-any\n"
+    pure = str("library" not in settings).lower()
+    members[f"{title}.dist-info/WHEEL"] = f"Wheel-Version: 1.0\nGenerator: build_backend\nRoot-Is-Purelib: {pure}\nTag: {tag}\n".encode()
     members[f"{title}.dist-info/entry_points.txt"] = f"[console_scripts]\n{commands}".encode()
     record = f"{title}.dist-info/RECORD"
     members[record] = "".join([*(f"{name},{_digest(octets)},{len(octets)}\n" for name, octets in members.items()), f"{record},,\n"]).encode()
-    with zipfile.ZipFile(Path(wheel_directory) / f"{title}-py3-none-any.whl", "w", zipfile.ZIP_DEFLATED) as archive:
+    with zipfile.ZipFile(Path(wheel_directory) / f"{title}-{tag}.whl", "w", zipfile.ZIP_DEFLATED) as archive:
         for name, octets in members.items():
             member = zipfile.ZipInfo(name, TIME)
             member.external_attr = 0o100644 << 16
             archive.writestr(member, octets, zipfile.ZIP_DEFLATED)
-    return f"{title}-py3-none-any.whl"
+    return f"{title}-{tag}.whl"
 
 
 def _digest(octets):

@@ -9,6 +9,7 @@ import numpy as np
 
 from mizgaure import Rate, SymbolsFrame
 from mizgaure.air import standard
+from mizgaure.air.form import Form
 from mizgaure.air.recording import Layout, Recording, Writer
 from mizgaure.air.signal import HtSignal, LegacySignal, points_of
 from mizgaure.air.simulate import LEVEL, Scene, record_packets
@@ -49,7 +50,7 @@ class SpoiledSignal(HtSignal):
 
 def packet_with(signal: HtSignal, legacy: LegacySignal = LegacySignal(6, 45), symbols: int = 12) -> np.ndarray:
     """A packet of one stream at 20 MHz with any HT-SIG, and data symbols that mean nothing: its samples, (1, n)."""
-    values, guards = preamble(Rate(20, 0), legacy, signal)
+    values, guards = preamble(Form(Rate(20, 0)), legacy, signal)
     return _joined(values, guards, symbols)
 
 

@@ -17,7 +17,7 @@ from mizgaure.air.record import FULL, Spool, packets_in, spooled
 from mizgaure.air.recording import Layout, open_recording
 from mizgaure.air.signal import LONGEST_LEGACY, HtSignal, LegacySignal, coded, crc, decode, points_of, read_ht, read_legacy
 from mizgaure.air.simulate import Scene
-from mizgaure.air.synchronise import PIECE
+from mizgaure.air.pieces import READ
 from mizgaure.air.waveform import Clock, packet, pieces_of
 from mizgaure.distances import residuals, zero_forcing
 from mizgaure.errors import InputError
@@ -279,17 +279,18 @@ def test_a_channel_as_long_as_the_short_guard_interval(bandwidth):
 
 def test_why_a_packet_is_left_out():
     plain = HtSignal(3, False, 30)
-    packets = [air.packet_with(plain), air.packet_with(HtSignal(3, False, 30, ldpc=True)), air.packet_with(HtSignal(3, False, 30, stbc=1)),
+    packets = [air.packet_with(plain), air.packet_with(HtSignal(3, False, 30, ldpc=True)), air.packet_with(HtSignal(3, False, 30, stbc=2)),
                air.packet_with(HtSignal(3, False, 30, extension=1)), air.packet_with(HtSignal(40, False, 30)),
                air.packet_with(HtSignal(32, True, 30)), air.packet_with(HtSignal(100, False, 30)), air.packet_with(HtSignal(3, False, 0)),
                air.packet_with(HtSignal(3, True, 30)), air.packet_with(HtSignal(11, False, 30)), air.packet_with(HtSignal(3, False, 3000)),
-               air.packet_with(air.SpoiledSignal(3, False, 30)), air.greenfield(plain), air.clause_18(LegacySignal(24, 40)),
+               air.packet_with(air.SpoiledSignal(3, False, 30)), air.greenfield(HtSignal(3, False, 30, ldpc=True)),
+               air.clause_18(LegacySignal(24, 40)),
                air.clause_18(LegacySignal(6, 9)), air.clause_18(LegacySignal(6, 9), vht=True), air.packet_with(plain)]
     with air.heard(packets) as recording, Spool() as spool:
         lines = list(spooled(recording, spool))
     assert [line.left_out for line in lines] == [
-        None, "LDPC", "STBC", "extension streams", "unequal modulation", "MCS 32", "reserved MCS", "no data", "40 MHz",
-        "fewer antennas than streams", "longer than L-SIG says", "bad HT-SIG CRC", "greenfield", "clause 18", "clause 18", "VHT", None]
+        None, "LDPC", "reserved STBC", "extension streams", "unequal modulation", "MCS 32", "reserved MCS", "no data", "40 MHz",
+        "fewer antennas than streams", "longer than L-SIG says", "bad HT-SIG CRC", "LDPC", "clause 18", "clause 18", "VHT", None]
     assert [line.frame for line in lines if line.frame is not None] == [0, 1]
     with air.heard(packets) as recording, Spool(most=1) as spool:
         assert list(spooled(recording, spool))[-1].left_out == FULL and spool.frames == 1
@@ -358,7 +359,7 @@ def test_a_recording_is_read_in_pieces(monkeypatch):
     whole = type(recording).read
     monkeypatch.setattr(type(recording), "read", lambda self, first, count: asked.append(count) or whole(self, first, count))
     assert [packet.left_out for packet in packets_in(recording)] == [None] * 3
-    assert recording.length > 4 * PIECE and max(asked) <= PIECE
+    assert recording.length > 4 * READ and max(asked) <= READ
 
 
 # files and commands
@@ -451,10 +452,9 @@ def bad_recordings(folder):
     said = {"core:datatype": "cf32_le", "core:sample_rate": 20e6, "core:num_channels": 1, "core:version": "1.0.0"}
     yield "empty", b"", said, "{}.sigmf-data is empty"
     yield "few", b"abc", said, "{}.sigmf-data has 3 octets, and a sample takes 8"
-    yield "fast", octets, {**said, "core:sample_rate": 25e6}, "{}.sigmf-data has 25000000 samples a second, and 20 or 40 million are asked for"
-    yield "none", octets[:800], said, "{}.sigmf-data: no packet was found in 100 samples, 0.000005 s"
+    yield "slow", octets, {**said, "core:sample_rate": 19e6}, "{}.sigmf-data has 19000000 samples a second, and at least 20 million are asked for"
     yield "type", octets, {**said, "core:datatype": "ri8"}, "{}.sigmf-meta: the samples are ri8, and only " \
-        "cf32_le, cf32_be, ci16_le, ci16_be, ci8, cu8 are known"
+        "cf32_le, cf32_be, cf64_le, cf64_be, ci32_le, ci32_be, ci16_le, ci16_be, ci8, cu8 are known"
     yield "rate", octets, {**said, "core:sample_rate": None}, "{}.sigmf-meta doesn't say how many samples there are in a second (core:sample_rate)"
     yield "channels", octets, {**said, "core:num_channels": 0}, "{}.sigmf-meta: a recording has 1 to 16 channels, and not 0"
     yield "negative", octets, {**said, "core:sample_rate": -1}, "{}.sigmf-meta: -1 samples a second mean nothing"
@@ -495,8 +495,8 @@ def test_bad_waveforms_get_one_sentence(here, tmp_path):
     done = here("waveform", "good.htsy", "-o", "-")
     said = b"mizgaure: a SigMF recording is two files, and so isn't written to standard output; --raw writes the samples alone\n"
     assert (done.returncode, done.stderr) == (2, said)
-    done = here("receive", "-", "--datatype", "cf32_le")
-    assert done.stderr == b"mizgaure: a recording is read at more than one place, and so not from standard input\n"
+    done = here("receive", "-")
+    assert done.stderr == b"mizgaure: samples in standard input are raw, and --datatype says what they are\n"
     assert sorted(tmp_path.iterdir()) == before
 
 
@@ -505,10 +505,11 @@ def test_pictures_of_recordings(here, tmp_path, kind):
     pytest.importorskip("matplotlib")
     write_htsy(tmp_path / "sent.htsy", frames_of(40, [3, 12]))
     assert here("waveform", "sent.htsy", "-o", "air").returncode == 0
-    done = here("picture", kind, "air", "it.png", "--frame", 1)
+    frame = [] if kind == "spectrum" else ["--frame", 1]
+    done = here("picture", kind, "air", "it.png", *frame)
     assert done.returncode == 0 and (tmp_path / "it.png").stat().st_size > 10000, done.stderr
     assert here("waveform", "sent.htsy", "--raw", "-o", "air.raw").returncode == 0
-    done = here("picture", kind, "air.raw", "raw.png", "--frame", 1, "--datatype", "cf32_le", "--sample-rate", "40e6", "--channels", 2)
+    done = here("picture", kind, "air.raw", "raw.png", *frame, "--datatype", "cf32_le", "--sample-rate", "40e6", "--channels", 2)
     assert done.returncode == 0 and (tmp_path / "raw.png").stat().st_size > 10000, done.stderr
     if kind != "spectrum":
         assert here("picture", kind, "air", "no.png", "--frame", 2).stderr == \

@@ -119,7 +119,7 @@ def test_the_judge_takes_certificates(tmp_path):
     octets, records = octets_of(frames), certified(frames, answers)
     found = judge(octets, file_of(records), reference=reference)
     pilots = sum(frame.samples.shape[0] * int((frame.rate.is_pilot & ~frame.erased).sum()) for frame in frames)
-    assert found.job_counts["same"] == len(records) and found.unanswered == pilots and found.misstated == 0
+    assert found.job_counts["same"] == len(records) and found.unanswered == 0 and found.missing == [] and found.misstated == 0
     assert sum(len(places(frame)[0]) for frame in frames) == len(records) + pilots
     other = frames[1].rate.points[0]
     changed = [*records]
@@ -148,6 +148,7 @@ def test_the_commands(command, tmp_path):
     done = command("check", "-", given=spoiled.read_bytes())
     assert (done.returncode, done.stdout, done.stderr) == (2, spoiled.with_suffix(".check").read_bytes(), b"mizgaure: standard input: refused BadMark at 222\n")
     done = command("judge", f"{path}.htcp", f"{path}.htct", "--json", "verdicts")
-    assert done.returncode == 0 and re.match(rb"jobs \d+: \d+ same, 0 tie, 0 worse, 0 outside; \d+ without an answer\n", done.stdout)
+    assert done.returncode == 0 and re.fullmatch(rb"jobs \d+: \d+ same, 0 tie, 0 worse, 0 outside; 0 without an answer\n", done.stdout)
+    assert command("judge", f"{path}.htcp", f"{path}.htct", "--complete").returncode == 0  # of jobs of data subcarriers
     counts = json.loads((tmp_path / "verdicts").read_text().splitlines()[-1])["counts"]
     assert counts["misstated"] == 0

@@ -6,6 +6,7 @@ import signal
 import subprocess
 import sys
 import time
+from pathlib import Path
 
 import numpy as np
 import pytest
@@ -96,7 +97,8 @@ def test_measures_from_kept_lines_and_from_a_pipe(here, tmp_path):
     kept = here("measure", path, "--answers", "lines", "--octets", "sent")
     assert kept.returncode == 0 and kept.stdout.endswith(rates)
     assert here("measure", "-", "--answers", "lines", "--octets", "sent", given=path.read_bytes()).stdout == kept.stdout
-    assert here("judge", path, path.with_suffix(".rx"), "--reference", "lines").stdout == b"frames 1: 1 same, 0 tie, 0 wrong\n"
+    assert here("judge", path, path.with_suffix(".rx"), "--reference", "lines").stdout == (
+        b"jobs 0: 56 without an answer\nframes 1: 1 same, 0 tie, 0 wrong; 0 without an answer\n")
 
 
 def bad_inputs():
@@ -109,8 +111,8 @@ def bad_inputs():
     yield ["answers", "-", "-o", "a.npz"], cut, "standard input: refused Truncated at 500"
     yield ["measure", "-"], cut, "standard input: refused Truncated at 500"
     yield ["judge", "-", Z], b"", None
-    yield ["judge", Z, "-"], b"job 0 0 0 1 0\nwhat\n", "standard input: line 2 is no answer to a job or a frame: 'what'"
-    yield ["judge", Z, "-"], b"job 0 0 56 1 0\n", "standard input: line 1 answers job 0 0 56, which the capture doesn't have"
+    yield ["judge", Z, "-"], b"what\n", "standard input: there is no answer to a job or a frame: line 1 is no answer to a job or a frame: 'what'"
+    yield ["judge", Z, "-", "--soft", "--without", "jobs"], b"", "--without is said of answers to jobs and frames, and with --soft there are frames alone"
     yield ["judge", "-", "-"], b"", "the capture and the answers can't both be standard input"
     yield ["capture", "missing.npz", "-o", "x"], b"", "missing.npz can't be read: No such file or directory"
     yield ["capture", Z, "-o", "x"], b"", f"{Z}: frame 0: this is no archive of arrays (.npz)"
@@ -247,7 +249,7 @@ def test_installed_and_removed(radio, tmp_path):
     run = subprocess.run([str(prefix / "bin" / "mizgaure"), "answers", str(Z)], env={**environment, "MIZGAURE_PYTHON": sys.executable},
                          capture_output=True, check=False)
     assert run.returncode == 0 and run.stdout.endswith(b"end 1 frames\n")
-    assert {path.name for path in prefix.rglob("*.1")} == {"radio.1", "mizgaure.1"} and len(list(prefix.rglob("*radio*"))) == 6
+    assert {path.name for path in prefix.rglob("*.1")} == {"radio.1", "mizgaure.1"} and len(list(prefix.rglob("*radio*"))) == 6 + (prefix / "lib" / "mizgaure" / "x86-64-v3").exists()
     installed = str(prefix / "bin" / "radio")
     done = subprocess.run([installed, "detect"], stdin=Z.open("rb"), env=environment, capture_output=True, check=False)
     assert done.returncode == 0 and done.stdout.endswith(b"end 1 frames\n")
@@ -255,7 +257,14 @@ def test_installed_and_removed(radio, tmp_path):
                     for program in (installed, str(TOP / "radio")))
     assert whole.startswith(asked) and asked.count("\n") > 50 and "The first call" in whole[len(asked) :] and "The first call" not in asked
     said = [subprocess.run([program, "--version"], env=environment, capture_output=True, check=True).stdout for program in (installed, str(TOP / "radio"))]
-    assert said[0] == said[1] and said[0].startswith(b"mizgaure ")
+    commit, built_with, *level = said[0].splitlines()
+    assert said[1].splitlines()[0] == commit and commit.startswith(b"mizgaure ") and level in ([b"runs for x86-64-v2"], [b"runs for x86-64-v3"])
+    if Path(radio.path).resolve() == TOP / "crates" / "ht_radio" / "out" / "ht_radio":
+        assert said[0] == said[1] and built_with.startswith(b"rattle-kit-")
+    forced = subprocess.run([installed, "--version"], env={**environment, "MIZGAURE_CPU": "x86-64-v2"}, capture_output=True, check=True)
+    assert forced.stdout.endswith(b"runs for x86-64-v2\n")
+    wrong = subprocess.run([installed, "detect"], env={**environment, "MIZGAURE_CPU": "x86-64-v9"}, stdin=Z.open("rb"), capture_output=True, check=False)
+    assert wrong.returncode == 125 and b"MIZGAURE_CPU" in wrong.stderr
     (prefix / "bin" / "other").write_text("not ours")
     assert subprocess.run([*install, "--remove"], env=environment, capture_output=True, check=False).returncode == 0
     assert [path.relative_to(prefix).as_posix() for path in prefix.rglob("*")] == ["bin", "bin/other"]

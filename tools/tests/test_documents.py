@@ -65,6 +65,14 @@ def test_the_planted_mistakes():
         assert all((TOP / "tools" / "tests" / f"test_{test}.py").exists() for test in tests.split())
 
 
+def test_the_table_of_soft_decisions():
+    """docs/RECORDINGS.md has the rows that docs/pictures/recorded makes of the results that it keeps."""
+    script = runpy.run_path(str(TOP / "docs" / "pictures" / "recorded"))
+    found = script["kept"]()
+    page = (TOP / "docs" / "RECORDINGS.md").read_text().splitlines()
+    assert all(script["row_of"](found, mcs) in page for mcs in script["POINTS"])
+
+
 def test_each_picture_is_shown_and_is_made_by_a_script():
     """Whatever a page shows is there, and each picture that is there is on a page and in a script beside it."""
     folder = TOP / "docs" / "pictures"

@@ -9,7 +9,7 @@ import numpy as np
 import pytest
 from conftest import VECTORS, octets_of, random_frame, vectors
 
-from mizgaure import InputError, LineError, Rate, judge, read_answers, read_htcp
+from mizgaure import InputError, Rate, judge, read_answers, read_htcp
 from mizgaure.answers import FrameAnswer
 from mizgaure.chain import encode, symbol_landing
 from mizgaure.distances import distances, on_grid, zero_forcing
@@ -106,15 +106,22 @@ def test_the_order_of_lines_makes_no_difference():
         found = judge(octets, Pieces(b"".join(shuffled)), reference=reference)
         assert found.job_counts == ascending.job_counts and found.unanswered == 0
     assert len(found.jobs) > 5  # some came late
-    with pytest.raises(LineError, match=f"line {len(lines) + 1} answers job 0 0 3 a second time"):
-        judge(octets, Pieces(b"".join(lines) + lines[3]), reference=reference)
-    # A further answer among new ones, at once or late.
-    for text in (lines[:9] + [lines[4]] + lines[9:20], lines[:20] + [lines[559]] + lines[20:30] + [lines[4]],
-                 lines[:20] + [lines[559], lines[30], lines[30]]):
-        with pytest.raises(LineError, match="a second time"):
-            judge(octets, Pieces(b"".join(text), 60), reference=reference)
-    with pytest.raises(InputError, match="there is an answer to frame 5, and the capture has 5 frames"):
-        judge(octets, Pieces(b"job 5 0 0 1 1 1 1\n" + b"".join(lines)), reference=reference)
+    found = judge(octets, Pieces(b"".join(lines) + lines[3]), reference=reference)
+    assert told(found) == [f"repeated: line {len(lines) + 1} answers job 0 0 3 a second time"] and found.job_counts == ascending.job_counts
+    # A further answer among new ones, at once or late: the first one counts.
+    for text, line in ((lines[:9] + [lines[4]] + lines[9:20], 10), (lines[:20] + [lines[559]] + lines[20:30] + [lines[4]], 32),
+                       (lines[:20] + [lines[559], lines[30], lines[30]], 23)):
+        other = b" ".join([*text[line - 1].split(b" ")[:4], b"-1 -1 -1 -1\n"])
+        found = judge(octets, Pieces(b"".join([*text[: line - 1], other, *text[line:]]), 60), reference=reference)
+        assert [fault.line for fault in found.faults] == [line] and told(found)[0].endswith("a second time") and not found.is_clean
+        assert found.job_counts["same"] == sum(found.job_counts.values()) == len(text) - 1
+    found = judge(octets, Pieces(b"job 5 0 0 1 1 1 1\n" + b"".join(lines)), reference=reference)
+    assert told(found) == ["misplaced: line 1 answers frame 5, and the capture has 5 frames"] and found.job_counts == ascending.job_counts
+
+
+def told(found):
+    """The lines of a judgement that are no answers."""
+    return list(map(str, found.faults))
 
 
 def test_lines_in_no_order_are_judged_in_one_way_through():
@@ -135,13 +142,14 @@ def test_lines_in_no_order_are_judged_in_one_way_through():
     for jobs in found.jobs:  # in the order of their lines
         order = [numbers[jobs.frame, symbol, carrier] for symbol, carrier in zip(jobs.symbol.tolist(), jobs.carrier.tolist())]
         assert order == sorted(order)
-    # Of several faults in a block the first one is told, whatever their widths.
+    # Faults are told in the order of lines, whatever their widths, and end nothing.
     for first, second in ((b"what\n", b"job 0 0 0 1 x\n"), (b"job 0 0 0 1 x\n", b"what\n")):
-        with pytest.raises(LineError, match=f"line 31 is no answer .*{first.decode()[:4]}"):
-            judge(octets_of(frames), b"".join([*mixed[:30], first, *mixed[30:60], second]), reference=b"".join(reference))
+        found = judge(octets_of(frames), b"".join([*mixed[:30], first, *mixed[30:60], second]), reference=b"".join(reference))
+        assert [(fault.kind, fault.line) for fault in found.faults] == [("unreadable", 31), ("unreadable", 62)]
+        assert told(found)[0].endswith(repr(first.decode().strip()))
     again = mixed[:200] + [next(line for line in mixed[:200] if line.startswith(b"job"))]
-    with pytest.raises(LineError, match="line 201 answers job .* a second time"):
-        judge(octets_of(frames), b"".join(again), reference=b"".join(reference))
+    found = judge(octets_of(frames), b"".join(again), reference=b"".join(reference))
+    assert [(fault.kind, fault.line) for fault in found.faults] == [("repeated", 201)]
 
 
 def stated_lines(jobs):
@@ -240,30 +248,146 @@ def test_octets_as_near_are_a_tie(flipped, verdict):
     assert verdicts[b"123656"].code == 10 - flipped and verdicts[b"123457"].code > 5
 
 
+GOOD = b"job 0 0 0 1 1 1 1\n"
+
+
 @pytest.mark.parametrize("text, said", [
     (b"", "there is no answer to a job or a frame"),
-    (b"job 0 0 0 1 1 1 1\n\njob 0 0 0 1 1\n", "line 3 has another number of streams than the lines of frame 0 before it"),
-    (b"job 0 0 0 1 1 1 1\njob 0 0 0 1 1 -1 1\n", "line 2 answers job 0 0 0 a second time"),
-    (b"frame 0 octets a5\nframe 0 seed zero\n", "line 2 answers frame 0 a second time"),
-    (b"job 0 0 0 1 1\n", "line 1 has 1 streams, and frame 0 has 2"),
-    (b"job 0 0 56 1 1 1 1\n", "line 1 answers job 0 0 56, which the capture doesn't have"),
-    (b"job 0 9 0 1 1 1 1\n", "line 1 answers job 0 9 0, which the capture doesn't have"),
-    (b"job 1 0 0 1 1 1 1\n", "there is an answer to frame 1, and the capture has 1 frames"),
-    (b"job 65536 0 0 1 1 1 1\n", "there is an answer to frame 65536, and the capture has 1 frames"),
-    (b"job 4294967296 0 0 1 1 1 1\n", "there is an answer to frame 4294967296, and the capture has 1 frames"),
-    (b"job 0 65536 0 1 1 1 1\n", "line 1 answers job 0 65536 0, which the capture doesn't have"),
-    (b"job 0 0 65536 1 1 1 1\r\n", "line 1 answers job 0 0 65536, which the capture doesn't have"),
-    (b"job 0 0 1 1 1 1 1\n\njob 0 0 0 1 1\njob 0 0 2 1 1 1 1\n", "line 3 has another number of streams than the lines of frame 0 before it"),
-    (b"job 0 0 0 1 1 1\n", None),
-    (b"nonsense\n", "line 1 is no answer to a job or a frame: 'nonsense'"),
-    (b"frame 0 octets a\n", "line 1 is no answer to a job or a frame: 'frame 0 octets a'"),
+    (b"nonsense\n", "there is no answer to a job or a frame: line 1 is no answer to a job or a frame: 'nonsense'"),
+    (b"\nframe 0 octets a\n", "there is no answer to a job or a frame: line 2 is no answer to a job or a frame: 'frame 0 octets a'"),
 ])
 def test_answers_that_are_none(text, said):
     reference, _ = kept(SMALL)
     with pytest.raises(InputError) as caught:
         judge(SMALL, text, reference=reference)
-    assert said is None or str(caught.value) == said
-    assert isinstance(caught.value, (LineError, InputError))
+    assert str(caught.value) == said
+
+
+@pytest.mark.parametrize("text, said", [
+    (b"\njob 0 0 0 1 1\n", "misplaced: line 3 has 1 stream, and frame 0 has 2"),
+    (b"job 0 0 0 1 1 -1 1\n", "repeated: line 2 answers job 0 0 0 a second time"),
+    (b"frame 0 seed zero\nframe 0 seed zero\n", "repeated: line 3 answers frame 0 a second time"),
+    (b"job 0 0 56 1 1 1 1\n", "misplaced: line 2 answers job 0 0 56, which the capture doesn't have"),
+    (b"job 0 9 0 1 1 1 1\n", "misplaced: line 2 answers job 0 9 0, which the capture doesn't have"),
+    (b"job 1 0 0 1 1 1 1\n", "misplaced: line 2 answers frame 1, and the capture has 1 frame"),
+    (b"frame 1 octets 00\n", "misplaced: line 2 answers frame 1, and the capture has 1 frame"),
+    (b"job 65536 0 0 1 1 1 1\n", "misplaced: line 2 answers frame 65536, and the capture has 1 frame"),
+    (b"job 4294967296 0 0 1 1 1 1\n", "misplaced: line 2 answers frame 4294967296, and the capture has 1 frame"),
+    (b"job 0 65536 0 1 1 1 1\n", "misplaced: line 2 answers job 0 65536 0, which the capture doesn't have"),
+    (b"job 0 0 65536 1 1 1 1\r\n", "misplaced: line 2 answers job 0 0 65536, which the capture doesn't have"),
+    (b"job 0 0 0 1 1 1\n", "misplaced: line 2 has 1 stream, and frame 0 has 2"),
+    (b"nonsense\n", "unreadable: line 2 is no answer to a job or a frame: 'nonsense'"),
+    (b"frame 0 octets a\n", "unreadable: line 2 is no answer to a job or a frame: 'frame 0 octets a'"),
+])
+def test_one_bad_line_is_told_and_ends_nothing(text, said):
+    path, reference = SMALL, SMALL.with_suffix(".detect").read_bytes() + SMALL.with_suffix(".rx").read_bytes()
+    found = judge(path, GOOD + text, reference=reference)
+    assert told(found) == [said] and not found.is_clean
+    assert sum(found.job_counts.values()) == 1 and found.fault_counts[said.partition(":")[0]] == 1 == sum(found.fault_counts.values())
+
+
+def three_frames(radio):
+    """A capture of three frames, the reference's lines of it, and those of its frames alone."""
+    octets = octets_of([random_frame(Rate(20, 9), 20, seed=seed, noise=0) for seed in range(3)])
+    with radio.text("detect", octets) as detected, radio.text("rx", octets) as received:
+        detect, rx = detected.read(), received.read()
+    return octets, detect + rx, rx.splitlines(keepends=True)
+
+
+def test_what_is_missing_is_counted_and_named(here, tmp_path, radio):
+    """Jobs and frames alike, and --complete asks for both but for those that --without names."""
+    octets, reference, rx = three_frames(radio)
+    (tmp_path / "capture").write_bytes(octets)
+    (tmp_path / "lines").write_bytes(reference)
+    jobs = [line for line in reference.splitlines(keepends=True) if line.startswith(b"job")]
+    for theirs, lines, status in (
+        (jobs + rx[1:2], [f"missing: frames 0, 2", f"jobs {len(jobs)}: {len(jobs)} same, 0 tie, 0 worse, 0 outside; 0 without an answer",
+                          "frames 1: 1 same, 0 tie, 0 wrong; 2 without an answer"], 1),
+        (jobs, [f"jobs {len(jobs)}: {len(jobs)} same, 0 tie, 0 worse, 0 outside; 0 without an answer", "frames 0: 3 without an answer"], 1),
+        (rx, [f"jobs 0: {len(jobs)} without an answer", "frames 3: 3 same, 0 tie, 0 wrong; 0 without an answer"], 1),
+        (jobs + rx, [f"jobs {len(jobs)}: {len(jobs)} same, 0 tie, 0 worse, 0 outside; 0 without an answer",
+                     "frames 3: 3 same, 0 tie, 0 wrong; 0 without an answer"], 0),
+    ):
+        done = here("judge", "capture", "-", "--reference", "lines", given=b"".join(theirs))
+        assert done.stdout.decode().splitlines() == lines and done.returncode == 0
+        assert here("judge", "capture", "-", "--reference", "lines", "--complete", given=b"".join(theirs)).returncode == status
+    for theirs, kind in ((jobs, "frames"), (rx, "jobs")):
+        done = here("judge", "capture", "-", "--reference", "lines", "--complete", "--without", kind, given=b"".join(theirs))
+        assert done.returncode == 0 and kind.encode() not in done.stdout
+    done = here("judge", "capture", "-", "--reference", "lines", "--without", "frames", given=b"".join(rx))
+    assert done.returncode == 2 and b"--without frames says that there are no such answers, and there are 3" in done.stderr
+
+
+def test_what_is_misstated_is_named(here, tmp_path, radio):
+    """A distance with its job, the sums of a frame, and the number of frames; only --stated makes the status of it."""
+    octets, reference, rx = three_frames(radio)
+    (tmp_path / "capture").write_bytes(octets)
+    (tmp_path / "lines").write_bytes(reference)
+    job = next(line for line in reference.splitlines(keepends=True) if line.startswith(b"job 0 1 5 "))
+    words = job.split(b" ")
+    _, _, _, data, _, pilot, _, code, *_ = rx[1].split(b" ")
+    frame = rx[1].replace(b"data " + data, b"data 7").replace(b"pilot " + pilot, b"pilot 8").replace(b"code " + code, b"code 9")
+    text = b" ".join([*words[:4], b"1" + words[4], *words[5:]]) + frame + b"end 7 frames\n"
+    distance = words[4].decode()
+    done = here("judge", "capture", "-", "--reference", "lines", "--json", "verdicts", given=text)
+    assert done.returncode == 0 and done.stdout.decode().splitlines()[:5] == [
+        f"misstated: job 0 1 5 states the distance 1{distance}, and that of its vector is {distance}",
+        *(f"misstated: frame 1 states {name} {stated}, and it is {true.decode()}"
+          for name, stated, true in (("data", 7, data), ("pilot", 8, pilot), ("code", 9, code))),
+        "misstated: line 3 says that there are 7 frames, and the capture has 3"]
+    assert done.stdout.decode().splitlines()[-1] == "misstated 5"
+    records = [json.loads(line) for line in (tmp_path / "verdicts").read_text().splitlines()]
+    assert records[0]["stated"] == int("1" + distance) and records[1]["misstated"]["code"] == [9, int(code)]
+    assert records[-1]["counts"]["misstated"] == 5 and records[-1]["counts"]["missing"] == [0, 2]
+    assert here("judge", "capture", "-", "--reference", "lines", "--stated", given=text).returncode == 1
+    assert here("judge", "capture", "-", "--reference", "lines", "--stated", given=job + rx[1] + rx[3]).returncode == 0
+
+
+def changed(jobs, points=None, carrier=None):
+    jobs.points = jobs.points if points is None else points
+    jobs.carrier = jobs.carrier if carrier is None else carrier
+    return jobs
+
+
+@pytest.mark.parametrize("said, change", [
+    ("I and Q of the answers are swapped", lambda jobs, frame: changed(jobs, jobs.points.imag + 1j * jobs.points.real)),
+    ("Q of the answers has the other sign", lambda jobs, frame: changed(jobs, jobs.points.conj())),
+    ("the streams stand in the order 3 1 2", lambda jobs, frame: changed(jobs, jobs.points[:, [2, 0, 1]])),
+    ("subcarriers are counted in the order of the FFT, from the middle up and then from the lowest one",
+     lambda jobs, frame: changed(jobs, carrier=(jobs.carrier + 28) % 56)),
+    (None, lambda jobs, frame: changed(jobs, -jobs.points)),
+    (None, lambda jobs, frame: zero_forcing(frame)),
+])
+def test_a_cause_is_told(said, change, radio):
+    frame = random_frame(Rate(20, 19), 30, seed=5, noise=250)
+    octets = octets_of([frame])
+    (jobs,) = radio.detect(octets)
+    with radio.text("detect", octets) as lines:
+        reference = lines.read()
+    found = judge(octets, lines_of(change(jobs, frame)), reference=reference)
+    assert found.causes == ([said] if said else []) and not found.is_clean
+
+
+def test_a_conjugate_channel_is_told(radio):
+    """The nearest vectors of a capture whose triangles are conjugate, judged beside the capture."""
+    frame = random_frame(Rate(20, 11), 30, seed=6, noise=20)
+    turned = random_frame(Rate(20, 11), 30, seed=6, noise=20)
+    turned.triangles[:] = turned.triangles.conj()
+    (jobs,) = radio.detect(octets_of([turned]))
+    found = judge(octets_of([frame]), lines_of(jobs), radio=radio)
+    assert found.causes == ["the answers are nearest for the conjugate channel"]
+
+
+def test_the_causes_of_wrong_octets(radio):
+    octets, reference, rx = three_frames(radio)
+    reverse = bytes(int(f"{octet:08b}"[::-1], 2) for octet in range(256))
+    lines = [line.split(b" ") for line in rx[:3]]
+    turned = [b"frame %d octets %s\n" % (n, bytes.fromhex(line[-1].decode()).translate(reverse).hex().encode()) for n, line in enumerate(lines)]
+    assert judge(octets, b"".join(turned), reference=reference).causes == ["the bits of each octet are reversed"]
+    shifted = [b"frame %d octets %s" % (n + 1, line[-1]) for n, line in enumerate(lines)]
+    found = judge(octets, b"".join(shifted), reference=reference)
+    assert found.causes == ["frames seem to be numbered from 1"] and found.missing == [0] and found.fault_counts["misplaced"] == 1
+    assert judge(octets, b"".join(shifted[:2]), reference=reference).causes == []
 
 
 def test_lines_may_end_as_on_other_systems():
@@ -326,18 +450,19 @@ def test_the_command(command, tmp_path):
     (tmp_path / "theirs").write_bytes(lines_of(jobs))
     done = command("judge", SMALL, "theirs", "--json", "verdicts.jsonl", "--list", 1)
     assert done.returncode == 1 and done.stderr == b""
-    first, last = done.stdout.decode().splitlines()
+    first, sums, last = done.stdout.decode().splitlines()
     assert first.startswith("outside: job 0 0 7 is outside its grid")
     verdicts = [verdict for verdict, _ in expected.values()]
     counted = ", ".join(f"{verdicts.count(v)} {v}" for v in ("same", "tie", "worse", "outside"))
-    assert last == f"jobs 56: {counted}; 0 without an answer"
+    assert last == "frames 0: 1 without an answer" and sums == f"jobs 56: {counted}; 0 without an answer"
     records = [json.loads(line) for line in (tmp_path / "verdicts.jsonl").read_text().splitlines()]
     assert [record["verdict"] for record in records[:-1]] == verdicts and records[-1]["counts"]["jobs"]["tie"] == verdicts.count("tie")
     again = command("judge", SMALL, "theirs", "--json", "verdicts.jsonl")
     assert again.returncode == 2 and b"is there already" in again.stderr
     text = reference.replace(b"job 0 0 3 ", b"job 0 0 3 1")  # another distance than that of its vector
     done = command("judge", SMALL, "-", given=text)
-    assert done.returncode == 0 and done.stdout == b"jobs 56: 56 same, 0 tie, 0 worse, 0 outside; 0 without an answer; 1 with another distance than stated\n"
+    assert done.returncode == 0 and done.stdout.decode().splitlines()[1:] == [
+        "jobs 56: 56 same, 0 tie, 0 worse, 0 outside; 0 without an answer", "frames 0: 1 without an answer", "misstated 1"]
     part = b"".join(text.splitlines(keepends=True)[:20])
     assert command("judge", SMALL, "-", given=part).returncode == 0
     assert command("judge", SMALL, "-", "--complete", given=part).returncode == 1

@@ -218,8 +218,8 @@ def test_the_verdict_of_the_standard():
     within, above = constellation_tests(rows)
     assert within.frames == 20 and within.is_within and within.is_full and decibels(within.mean) == pytest.approx(-16, abs=0.01)
     assert not above.is_within and not above.is_full
-    assert str(above) == ("EVM of 1 frame at 20 MHz, MCS 4 (16-QAM 3/4, 1 stream): 50.00 % (-6.0 dB), above the limit of -19 dB "
-                          "(the test asks for 20 frames of 16 symbols)")
+    assert str(above) == ("EVM of 1 frame at 20 MHz, MCS 4 (16-QAM 3/4, 1 stream): 50.00 % (-6.0 dB), above the limit of -19 dB; "
+                          "no verdict: 1 of 20 frames, the shortest of 15 of 16 symbols")
 
 
 def test_the_frames_ratio_is_that_of_its_distances():

@@ -120,6 +120,10 @@ def radiotaps():
     yield Radiotap(mcs=9, aggregate=2**32 - 1)
     yield Radiotap(rate=36.0, frequency=2412, has_fcs=False)
     yield Radiotap(rate=54.0, noise=-1, aggregate=3)
+    yield Radiotap(20, 5, False, time=2**63 + 7, signal_level=108, noise_level=0, greenfield=False, ldpc=False, stbc=0, extension=0)
+    yield Radiotap(40, 12, time=1, signal=-30, noise=-95, greenfield=True, ldpc=True, stbc=2, extension=3, frequency=5190)
+    yield Radiotap(20, 0, stbc=1, extension=2)
+    yield Radiotap(20, 0, ldpc=True, stbc=0)
 
 
 @pytest.mark.parametrize("told", radiotaps())
@@ -135,9 +139,11 @@ def test_a_radiotap_header_by_octets():
     """radiotap.org: flags, a hole, MCS with bandwidth and guard interval known, a hole, A-MPDU status."""
     octets = Radiotap(bandwidth=40, mcs=15, short_guard=True, aggregate=1, last=True).octets()
     assert octets.hex() == "00001400" "02001800" "10" "07050f" "01000000" "0c000000"
+    octets = Radiotap(20, 9, time=0x0102030405060708, greenfield=False, ldpc=True, stbc=1, extension=1, signal_level=108).octets()
+    assert octets.hex() == "00001500" "03100800" "0807060504030201" "10" "6c" "7bb009"
     # As other programs write it: two words of presence, and a time in front.
     foreign = bytes.fromhex("00001c00" "03000880" "00000000" "00000000" "1122334455667788" "10" "07050f")
-    assert read_radiotap(foreign + ANNEX) == (Radiotap(bandwidth=40, mcs=15, short_guard=True), 28)
+    assert read_radiotap(foreign + ANNEX) == (Radiotap(bandwidth=40, mcs=15, short_guard=True, time=0x8877665544332211), 28)
 
 
 def test_pcap_files_come_back():
@@ -159,10 +165,56 @@ def test_pcap_files_come_back():
     assert list(read_pcap(big)) == [Packet(ANNEX[:-4], Radiotap(has_fcs=False), 1_000_002_000)]
 
 
+def block(kind, body, order="<"):
+    length = struct.pack(order + "I", 12 + len(body) + -len(body) % 4)
+    return struct.pack(order + "I", kind) + length + body + bytes(-len(body) % 4) + length
+
+
+SECTION = block(0x0A0D0D0A, struct.pack("<IHHq", 0x1A2B3C4D, 1, 0, -1))
+
+
+def test_pcapng_files_come_back(tmp_path):
+    psdu = take_apart(aggregate([data_frame(number=n) for n in range(3)]))
+    packets = [*packets_of(take_apart(ANNEX), Radiotap(rate=36.0), time=1_700_000_000_000_000_007),
+               *packets_of(psdu, Radiotap(20, 9, time=5), time=5, reference=4)]
+    path = tmp_path / "made.pcapng"
+    write_pcap(path, packets)
+    octets = path.read_bytes()
+    assert octets[:28] == SECTION and list(read_pcap(path)) == packets
+    ends = [28]  # where a file may end: behind its section's head, its interface, and each packet
+    while ends[-1] < len(octets):
+        ends.append(ends[-1] + int.from_bytes(octets[ends[-1] + 4 : ends[-1] + 8], "little"))
+    for end in range(4, len(octets)):
+        if end in ends:
+            assert list(read_pcap(octets[:end])) == packets[: max(0, ends.index(end) - 1)]
+        else:
+            with pytest.raises(FormatError, match=f"Truncated at {end}"):
+                list(read_pcap(octets[:end]))
+
+
+def test_a_pcapng_of_another_order_and_unit():
+    """Two sections: one in the other order of octets, with microseconds by default and a block that isn't known; one with binary units."""
+    big = (block(0x0A0D0D0A, struct.pack(">IHHq", 0x1A2B3C4D, 1, 0, -1), ">") + block(1, struct.pack(">HHI", 105, 0, 0), ">") + block(5, bytes(12), ">")
+           + block(6, struct.pack(">IIIII", 0, 1, 2, 10, 10) + ANNEX[:10], ">") + block(3, struct.pack(">I", 9) + ANNEX[:9], ">"))
+    options = struct.pack("<HH4s", 2, 3, b"eth0") + struct.pack("<HHB3x", 9, 1, 0x80 | 10) + struct.pack("<HH", 0, 0)
+    small = SECTION + block(1, struct.pack("<HHI", 105, 0, 0) + options) + block(6, struct.pack("<IIIII", 0, 0, 1536, 4, 4) + ANNEX[:4])
+    bare = Radiotap(has_fcs=False)
+    assert list(read_pcap(big + small)) == [Packet(ANNEX[:10], bare, (2**32 + 2) * 1000), Packet(ANNEX[:9], bare, 0), Packet(ANNEX[:4], bare, 1_500_000_000)]
+
+
 @pytest.mark.parametrize("octets, said", [
     (b"", "refused BadMagic at 0"),
     (b"HTCP", "refused BadMagic at 0"),
-    (bytes.fromhex("0a0d0d0a") + bytes(40), "it is a pcapng file; editcap -F pcap IN OUT, which comes with Wireshark, makes a pcap file of it"),
+    (bytes.fromhex("0a0d0d0a") + bytes(40), "refused BadMagic at 8"),
+    (SECTION[:11], "refused Truncated at 11"), (SECTION[:20], "refused Truncated at 20"),
+    (SECTION[:-4] + bytes(4), "the block at 0 says at its end that it has another length"),
+    (SECTION + struct.pack("<III", 1, 12, 12), "the block at 28 is too short for an interface"),
+    (SECTION + struct.pack("<II", 6, 13), "the block at 28 says that it has 13 octets"),
+    (SECTION + block(6, struct.pack("<IIIII", 0, 0, 0, 0, 0)), "the packet at 28 is of interface 0, and there are 0"),
+    (SECTION + block(1, struct.pack("<HHI", 127, 0, 0)) + block(6, struct.pack("<IIIII", 0, 0, 0, 4, 9) + bytes(4)),
+     "the packet at 48 has 4 of 9 octets, and only whole ones are read"),
+    (SECTION + block(1, struct.pack("<HHI", 1, 0, 0)) + block(3, struct.pack("<I", 1) + bytes(4)),
+     "its link type is 1, and 127 (radiotap) or 105 (IEEE 802.11) is asked for"),
     (struct.pack("<IHHiIII", 0xA1B2C3D4, 2, 4, 0, 0, 65535, 1), "its link type is 1, and 127 (radiotap) or 105 (IEEE 802.11) is asked for"),
     (struct.pack("<IHHiIII", 0xA1B2C3D4, 2, 4, 0, 0, 65535, 127) + struct.pack("<IIII", 0, 0, 4, 9) + bytes(4),
      "record 0 has 4 of 9 octets, and only whole records are read"),
@@ -194,3 +246,27 @@ def test_wireshark_reads_them(tshark, tmp_path):
     assert (first["radiotap.ampdu.flags.last"], second["radiotap.ampdu.flags.last"]) == ("0", "1")
     assert (first["radiotap.flags.badfcs"], second["radiotap.flags.badfcs"], second["wlan.fcs.status"]) == ("0", "1", "0")
     assert (first["wlan.seq"], first["wlan.sa"], first["radiotap.flags.fcs"]) == ("8", OTHER, "1")
+
+
+def test_wireshark_has_nothing_to_note(here, tshark, tmp_path, radio):
+    """Of a recording's packets in either kind of file: no expert note, times since 1970 by core:datetime, and levels."""
+    (tmp_path / "mpdus").write_text("".join(data_frame(number=n)[:-4].hex() + "\n" for n in range(2)))
+    assert here("frames", "mpdus", "--mcs", 9, "-o", "sent.httx").returncode == 0
+    (tmp_path / "sent.htsy").write_bytes(radio.tx((tmp_path / "sent.httx").read_bytes()))
+    assert here("waveform", "sent.htsy", "-o", "air").returncode == 0
+    meta = tmp_path / "air.sigmf-meta"
+    meta.write_text(meta.read_text().replace('"core:sample_start": 0,', '"core:sample_start": 0, "core:datetime": "2026-03-01T12:00:00.25Z",', 1))
+    assert here("receive", "air", "-o", "air.pcapng").returncode == 0
+    assert here("receive", "air", "-o", "air.pcap", "--full-scale", "-20").returncode == 0
+    fields = ["frame.time_epoch", "radiotap.mactime", "radiotap.dbm_antsignal", "radiotap.dbm_antnoise", "radiotap.db_antsignal", "_ws.expert", "_ws.malformed",
+              "wlan_radio.duration", "wlan.fcs.status"]
+    words = [word for name in fields for word in ("-e", name)]
+    for name, signal, level in (("air.pcapng", "", "108"), ("air.pcap", "-40", "")):
+        told = [dict(zip(fields, line.split(";"))) for line in tshark("-o", "wlan.check_checksum:TRUE", "-r", tmp_path / name, "-T", "fields", "-E",
+                                                                      "separator=;", *words)]
+        assert len(told) == 2
+        for packet in told:
+            assert packet["_ws.expert"] == packet["_ws.malformed"] == "" and packet["wlan.fcs.status"] == "1" and int(packet["wlan_radio.duration"]) > 40
+            assert (packet["radiotap.dbm_antsignal"], packet["radiotap.db_antsignal"]) == (signal, level)
+            assert packet["frame.time_epoch"].startswith("1772366400.2500") and packet["radiotap.mactime"].startswith("17723664002500")
+    assert here("receive", "air", "--full-scale", "-20").stderr == b"mizgaure: --full-scale is said of the levels in --output\n"

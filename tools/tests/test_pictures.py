@@ -35,6 +35,8 @@ def test_pictures_of_a_frame(kind, rate, radio, tmp_path):
     figure = draw(frame, jobs, "some.htcp")
     panels = [panel for panel in figure.axes if panel.get_visible()]
     assert len(panels) == (rate.streams if kind == "constellation" else 1)
+    if kind == "distances":
+        assert [line.get_label().partition(",")[0] for line in panels[0].lines] == ["chi-square law"]
     for panel in panels:
         assert (panel.get_xlabel(), panel.get_ylabel()) == (across, up) and panel.has_data()
     assert any("some.htcp" in text and str(rate) in text for text in texts(figure))
@@ -47,6 +49,20 @@ def test_pictures_of_a_frame(kind, rate, radio, tmp_path):
         pictures.save(figure, tmp_path / "picture.png")
     with pytest.raises(InputError, match="a picture's name ends in"):
         pictures.save(figure, tmp_path / "picture.jpg")
+
+
+def test_the_law_of_known_points():
+    """Of distances of mean 3 with one stream the law is 1 - exp(-x / 3), and with two 1 - (1 + x / 1.5) exp(-x / 1.5): in percent a bin."""
+    from matplotlib.figure import Figure
+
+    bins = np.array([0.0, 1.0, 2.5, 7.0])
+    for streams, law in ((1, lambda x: 1 - np.exp(-x / 3)), (2, lambda x: 1 - (1 + x / 1.5) * np.exp(-x / 1.5))):
+        panel = Figure().subplots()
+        pictures.chi_square_law(panel, streams, np.array([1.0, 5.0]), bins)
+        (line,) = panel.lines
+        assert line.get_ydata() == pytest.approx(100 * np.diff(law(bins))) and line.get_label() == f"chi-square law, {2 * streams} degrees, by the pilots' mean"
+        pictures.chi_square_law(panel, streams, np.zeros(3), bins)
+        assert len(panel.lines) == 1
 
 
 def test_points_of_the_constellation_by_hand():

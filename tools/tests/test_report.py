@@ -1,5 +1,6 @@
 """Packets, frames, the report and merged sweeps as a user meets them."""
 
+import hashlib
 import html.parser
 import json
 import re
@@ -7,8 +8,10 @@ import re
 import pytest
 from conftest import TOP, VECTORS
 
+import mizgaure
 from mizgaure import read_htsy, read_httx
 from mizgaure.packets import aggregate, take_apart, with_fcs
+from mizgaure.tracing import program_facts
 
 MPDUS = ["88010000020000000001020000000002020000000003100000006869", "b400000002000000000102:00:00:00:00:02"]
 
@@ -149,8 +152,8 @@ def test_a_report_is_one_page_that_needs_no_net(here, tmp_path):
     (tmp_path / "<&.htcp").write_bytes(path.read_bytes())
     (tmp_path / "theirs").write_bytes(here("zero-forcing", path).stdout)
     done = here("report", "<&.htcp", TOP / "examples" / "z.htcp", "-o", "made.html", "--theirs", "theirs", "--theirs", "theirs")
-    assert done.returncode == 2 and done.stderr.decode().startswith("mizgaure: theirs: ")  # the second capture has other jobs
-    done = here("report", "<&.htcp", "-o", "made.html", "--theirs", "theirs", "--title", "Ours & theirs")
+    assert done.returncode == 0 and "56 misplaced" in (tmp_path / "made.html").read_text()  # the second capture has other jobs
+    done = here("report", "<&.htcp", "-o", "made.html", "--theirs", "theirs", "--title", "Ours & theirs", "--force")
     assert done.returncode == 0 and done.stdout == done.stderr == b""
     made = (tmp_path / "made.html").read_text()
     page = Page()
@@ -190,3 +193,36 @@ def test_answers_in_parts_and_by_processes(here, command):
     assert command("answers", "-", given=path.read_bytes()).stdout == whole
     assert here("answers", path, "--part", "1/2", "-o", "x.npz").stderr == b"mizgaure: a part has lines and no arrays: join the parts first\n"
     assert [frame.length for frame in read_htsy(path.with_suffix(".htsy"))]
+
+
+def test_a_report_that_can_be_traced(here, tmp_path, radio):
+    """Date, versions, command line and digests; a recording with its tests and pictures, a sweep, and a line to sign."""
+    pytest.importorskip("matplotlib")
+    (tmp_path / "sent.htsy").write_bytes((VECTORS / "worked" / "a5.htsy").read_bytes())
+    assert here("waveform", "sent.htsy", "-o", "air", "--offset", 7).returncode == 0
+    assert here("sweep", "--length", 5, "--snr", "9", "--frames", 2, "--processes", 1, "-o", "sweep.json", "--seed", 41).returncode == 0
+    words = ["report", "air", VECTORS / "jobs" / "small-mcs09.htcp", "--sweep", "sweep.json", "-o", "it.html", "--pictures", 0, "--reference-ppm", 1]
+    done = here(*words)
+    assert done.returncode == 0 and done.stdout == done.stderr == b""
+    page = Page()
+    page.feed((tmp_path / "it.html").read_text())
+    page.close()
+    assert page.open == [] and page.images == 7 + 1
+    assert re.search(r"made\s*20\d\d-\d\d-\d\d \d\d:\d\d:\d\d UTC", page.text)
+    assert f"mizgaure tools {mizgaure.__version__}" in page.text and f"mizgaure {' '.join(map(str, words))}" in page.text
+    for path in ("air.sigmf-meta", "air.sigmf-data", "sweep.json", VECTORS / "jobs" / "small-mcs09.htcp", radio.path):
+        assert hashlib.sha256((tmp_path / path).read_bytes()).hexdigest() in page.text
+    for test in ("spectral mask", "spectral flatness", "centre frequency", "symbol clock", "centre frequency leakage", "constellation error"):
+        assert test in page.text
+    assert "no verdict: 1 of 20 frames" in page.text and "signature" in page.text and "noise of a subcarrier" in page.text
+    assert '<span class="open">' in (tmp_path / "it.html").read_text()
+    assert here("report", TOP / "examples" / "z.htcp", "-o", "other.html", "--reference-ppm", 1).stderr == (
+        b"mizgaure: --frequency and --reference-ppm are said of recordings, and there is none\n")
+
+
+def test_what_the_program_says_of_itself(tmp_path):
+    told = tmp_path / "radio"
+    told.write_text("#!/bin/sh\necho mizgaure 1234\necho kit 9\n")
+    told.chmod(0o755)
+    assert dict(program_facts(str(told))) == {"program": str(told), "SHA-256 of the program": hashlib.sha256(told.read_bytes()).hexdigest(),
+                                              "version and toolchain of the program": "mizgaure 1234, kit 9"}

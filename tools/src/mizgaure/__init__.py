@@ -16,11 +16,16 @@ What is here:
 ``tables``         records as JSON lines and as CSV
 ``chain``          from octets to coded bits and where they land, to tell a tie of frames from an error
 ``judge``          another receiver's answers beside the reference
+``theirs``         another receiver's answers as they are read, and what no answer can be
+``causes``         what explains most of what is wrong with them
 ``soft``           another soft decoder's octets beside those of ``radio soft``
 ``bundles``        several captures in one file, for ``radio many``
 ``sweep``          error rates against the signal-to-noise ratio, over random channels
+``library``        the program's layers as functions over arrays, by the proved library ``libmizgaure`` where it is built
 ``air``            packets as complex samples: waveforms, and packets of recordings, in a package of its own
 ``packets``        MPDUs, A-MPDUs, MAC headers, and pcap files for Wireshark
+``pcapng``         the blocks of pcapng files
+``report``         one page on captures, recordings and sweeps; ``tracing`` what makes it evidence
 ``pictures``       all of this drawn; needs matplotlib
 =================  =====================================================================================
 

@@ -32,7 +32,8 @@ from .errors import InputError
 from .rates import Rate
 
 SPACING_HZ = 312.5e3  # between subcarriers
-NAMES = ("exponential", "flat", "tapped", "tgn-b", "tgn-d", "awgn")
+EXPONENTIAL, TAPPED = "exponential", "tapped"
+NAMES = (EXPONENTIAL, "flat", TAPPED, "tgn-b", "tgn-d", "awgn")
 Profile = Tuple[Tuple[float, float], ...]
 
 

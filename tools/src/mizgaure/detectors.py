@@ -33,7 +33,7 @@ from .distances import nearest_points, zero_forcing
 from .errors import InputError, ProgramError
 from .files import naming
 from .formats import CaptureFrame
-from .judge import TheirLines
+from .theirs import TheirLines
 
 ZERO_FORCING = "zero-forcing"
 SOFT = "soft"
@@ -137,8 +137,8 @@ class Detector:
             for number, (frame, value) in enumerate(zip(frames, values)):
                 jobs = lines.jobs_of(number, frame)
                 if jobs is not None:
-                    symbols, carriers, streams = value.shape
-                    if jobs.streams != streams or (jobs.symbol >= symbols).any() or (jobs.carrier >= carriers).any():
+                    symbols, carriers, _ = value.shape
+                    if (jobs.symbol >= symbols).any() or (jobs.carrier >= carriers).any():
                         raise InputError(f"it answers a job of frame {number} that its capture doesn't have")
                     value[jobs.symbol, jobs.carrier] = jobs.levels[:, ::2] + 1j * jobs.levels[:, 1::2]
             if any(number >= len(frames) for number in lines.left()):

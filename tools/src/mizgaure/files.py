@@ -7,11 +7,13 @@ import os
 import stat
 import sys
 import tempfile
-from contextlib import contextmanager
+from contextlib import contextmanager, redirect_stdout
 from pathlib import Path
-from typing import BinaryIO, Iterator, Tuple, Type, Union, cast
+from typing import BinaryIO, Iterator, Optional, TextIO, Tuple, Type, Union, cast
 
 from .errors import InputError
+
+_data: Optional[TextIO] = None  # standard output where text is aside
 
 Source = Union[str, os.PathLike, bytes, BinaryIO]
 Target = Union[str, os.PathLike, BinaryIO]
@@ -68,14 +70,17 @@ class _Rejoined(io.RawIOBase):
         return True
 
     def read(self, count: int = -1) -> bytes:
-        if self._front:
-            piece, self._front = (self._front, b"") if count < 0 else (self._front[:count], self._front[count:])
-            return piece + (self._stream.read() if count < 0 else b"")
-        return self._stream.read(count)
+        piece = self._taken(count)
+        return piece + self._stream.read(count - len(piece) if count >= 0 else -1) if len(piece) != count else piece
 
     def read1(self, count: int = -1) -> bytes:
         """As `read`, from what is there already."""
-        return self.read(count) if self._front else getattr(self._stream, "read1", self._stream.read)(count)
+        return self._taken(count) if self._front else getattr(self._stream, "read1", self._stream.read)(count)
+
+    def _taken(self, count: int) -> bytes:
+        """What is left of the front, at most so many octets."""
+        piece, self._front = (self._front, b"") if count < 0 else (self._front[:count], self._front[count:])
+        return piece
 
 
 @contextmanager
@@ -131,8 +136,9 @@ def writing(target: Target, force: bool = False) -> Iterator[BinaryIO]:
         return
     name = os.fspath(cast(str, target))
     if name == "-":
-        yield sys.stdout.buffer
-        sys.stdout.buffer.flush()
+        stream = (_data or sys.stdout).buffer
+        yield stream
+        stream.flush()
         return
     path = Path(name)
     try:
@@ -144,6 +150,19 @@ def writing(target: Target, force: bool = False) -> Iterator[BinaryIO]:
         yield from _written_aside(path, force)
     except OSError as error:
         raise InputError(f"{name} can't be written: {error.strerror or error}") from error
+
+
+@contextmanager
+def text_aside() -> Iterator[None]:
+    """Until the block is left, what is printed goes to standard error, and what `writing` gets for ``"-"`` to standard output."""
+    global _data
+    _data, before = sys.stdout, _data
+    try:
+        with redirect_stdout(sys.stderr):
+            yield
+        _data.flush()
+    finally:
+        _data = before
 
 
 def refuse_overwriting(path: Target, force: bool) -> None:

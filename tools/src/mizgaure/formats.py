@@ -225,7 +225,7 @@ class Fields:
         return self.number(2, "BadLength", range(1, 65536))
 
 
-class _Reader:
+class FrameReader:
     """An iterator over the frames of a file; ``version`` and ``frames``, the number of frames, are known at once."""
 
     magic = b""
@@ -280,7 +280,7 @@ class _Reader:
         raise NotImplementedError
 
 
-class _CaptureReader(_Reader):
+class _CaptureReader(FrameReader):
     magic = MAGIC["htcp"]
     versions = range(1, 3)
 
@@ -312,7 +312,7 @@ class _CaptureReader(_Reader):
         return erased, np.frombuffer(b"".join(triangles), ">i2")
 
 
-class _SentReader(_Reader):
+class _SentReader(FrameReader):
     magic = MAGIC["httx"]
 
     def _frame(self) -> SentFrame:
@@ -321,7 +321,7 @@ class _SentReader(_Reader):
         return SentFrame(rate, self._fields.octets(length), seed)
 
 
-class _SymbolsReader(_Reader):
+class _SymbolsReader(FrameReader):
     magic = MAGIC["htsy"]
 
     def _frame(self) -> SymbolsFrame:
@@ -417,7 +417,7 @@ def read_htsy(source: Source) -> _SymbolsReader:
     return _SymbolsReader(source)
 
 
-def read_any(source: Source) -> Tuple[str, _Reader]:
+def read_any(source: Source) -> Tuple[str, FrameReader]:
     """Read a file of any of the three formats, told by its magic.
 
     Returns

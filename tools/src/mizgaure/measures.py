@@ -340,9 +340,10 @@ class ConstellationTest:
 
     def __str__(self) -> str:
         count = "1 frame" if self.frames == 1 else f"{self.frames} frames"
-        verdict = "within" if self.is_within else "above"
-        asked = "" if self.is_full else f" (the test asks for {FRAMES_ASKED} frames of {SYMBOLS_ASKED} symbols)"
-        return f"EVM of {count} at {self.rate}: {percent(self.mean)}, {verdict} the limit of {self.rate.error_limit} dB{asked}"
+        verdict = f"{'within' if self.is_within else 'above'} the limit of {self.rate.error_limit} dB"
+        if not self.is_full:
+            verdict += f"; no verdict: {self.frames} of {FRAMES_ASKED} frames, the shortest of {self.shortest} of {SYMBOLS_ASKED} symbols"
+        return f"EVM of {count} at {self.rate}: {percent(self.mean)}, {verdict}"
 
 
 def constellation_tests(magnitudes: Iterable[Tuple[Rate, int, float]]) -> List[ConstellationTest]:
@@ -362,7 +363,7 @@ def constellation_tests(magnitudes: Iterable[Tuple[Rate, int, float]]) -> List[C
 
 def percent(ratio: float) -> str:
     """A magnitude in words, as 14.67 % (-16.7 dB)."""
-    return f"{100 * ratio:.2f} % ({decibels(ratio):.1f} dB)"
+    return "0.00 % (below -200 dB)" if ratio < 1e-10 else f"{100 * ratio:.2f} % ({decibels(ratio):.1f} dB)"
 
 
 def check_jobs(frame: CaptureFrame, jobs: Jobs) -> None:

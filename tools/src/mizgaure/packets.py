@@ -9,8 +9,8 @@ for the last one. A delimiter has four reserved bits, the MPDU's length in 12 bi
 ``4e``. A length of 0 stands for no MPDU. Behind what is no delimiter the next one is looked for four octets further
 (clause 9.12.2).
 
-**pcap**: records of the link type 127, in front of each MPDU a radiotap header with the MCS, the bandwidth, the A-MPDU status
-and whether the FCS is right. Wireshark and tcpdump read them.
+**pcap** and **pcapng**: records of the link type 127, in front of each MPDU a radiotap header with what is known of it: time,
+levels, MCS, bandwidth, format, code, the A-MPDU status and whether the FCS is right. Wireshark and tcpdump read them.
 
 A capture doesn't say whether a PSDU is aggregated; HT-SIG does, for whoever has it. Where nobody says, a PSDU whose last four
 octets are its FCS is an MPDU; otherwise it is an A-MPDU if it begins with a good delimiter, or if behind any good delimiter
@@ -19,13 +19,15 @@ there is an MPDU with a right FCS; and otherwise it is an MPDU with a wrong FCS.
 
 from __future__ import annotations
 
+import os
 import struct
 import zlib
 from dataclasses import dataclass, field, replace
 from typing import BinaryIO, Dict, Iterable, Iterator, List, Optional, Sequence, Tuple
 
+from . import pcapng
 from .errors import FormatError, InputError
-from .files import Source, Target, reading, writing
+from .files import Source, Target, fronted, writing
 
 SIGNATURE = 0x4E
 DELIMITER = 4  # octets
@@ -309,13 +311,14 @@ def _subframes(octets: bytes) -> Psdu:
 # pcap and radiotap
 
 MICROSECONDS, NANOSECONDS = 0xA1B2C3D4, 0xA1B23C4D
-PCAPNG = 0x0A0D0D0A
+PCAPNG = pcapng.SECTION
 RADIOTAP_LINK, BARE_LINK = 127, 105
 LONGEST_RECORD = 1 << 18
 # The fields of a radiotap header that are known here, by bit: size and alignment (radiotap.org).
 FIELDS = {0: (8, 8), 1: (1, 1), 2: (1, 1), 3: (4, 2), 4: (2, 2), 5: (1, 1), 6: (1, 1), 7: (2, 2), 8: (2, 2), 9: (2, 2), 10: (1, 1), 11: (1, 1),
           12: (1, 1), 13: (1, 1), 14: (2, 2), 15: (2, 2), 16: (1, 1), 17: (1, 1), 18: (8, 4), 19: (3, 1), 20: (8, 4)}
-TSFT, FLAGS, RATE, CHANNEL, SIGNAL, NOISE, MCS, AMPDU = 0, 1, 2, 3, 5, 6, 19, 20
+TSFT, FLAGS, RATE, CHANNEL, SIGNAL, NOISE, SIGNAL_LEVEL, NOISE_LEVEL, MCS, AMPDU = 0, 1, 2, 3, 5, 6, 12, 13, 19, 20
+MCS_KNOWN = (0x01, 0x02, 0x04, 0x08, 0x10, 0x20, 0x40)  # bandwidth, index, guard interval, format, code, STBC, extension streams
 FLAG_FCS, FLAG_BAD_FCS = 0x10, 0x40
 CHANNEL_OFDM, CHANNEL_2GHZ, CHANNEL_5GHZ = 0x0040, 0x0080, 0x0100
 
@@ -332,12 +335,20 @@ class Radiotap:
         Of an HT frame.
     short_guard : bool, optional
         Whether an HT frame has the short guard interval.
+    greenfield, ldpc : bool, optional
+        Whether an HT frame is in greenfield format and not in mixed format, and has LDPC and not the convolutional code.
+    stbc, extension : int, optional
+        The streams of space-time block coding, and the extension spatial streams, of an HT frame, each 0 to 3.
     rate : float, optional
         Of a clause 18 frame, in Mbit/s.
     frequency : int, optional
         Of the channel's middle, in MHz.
+    time : int, optional
+        When its first bit came, in microseconds.
     signal, noise : int, optional
         At an antenna, in dBm.
+    signal_level, noise_level : int, optional
+        The same where nobody knows what full scale is: in dB above -128 dB of full scale, 0 to 255.
     has_fcs : bool
         Whether the octets end with the FCS.
     bad_fcs : bool
@@ -362,10 +373,18 @@ class Radiotap:
     aggregate: Optional[int] = None
     last: bool = False
     delimiter_crc: Optional[int] = None
+    greenfield: Optional[bool] = None
+    ldpc: Optional[bool] = None
+    stbc: Optional[int] = None
+    extension: Optional[int] = None
+    time: Optional[int] = None
+    signal_level: Optional[int] = None
+    noise_level: Optional[int] = None
 
     def octets(self) -> bytes:
         """The header as it stands in a file."""
-        fields: List[Tuple[int, bytes]] = [(FLAGS, bytes([FLAG_FCS * self.has_fcs | FLAG_BAD_FCS * self.bad_fcs]))]
+        fields: List[Tuple[int, bytes]] = [] if self.time is None else [(TSFT, struct.pack("<Q", self.time))]
+        fields += [(FLAGS, bytes([FLAG_FCS * self.has_fcs | FLAG_BAD_FCS * self.bad_fcs]))]
         if self.rate is not None:
             fields.append((RATE, bytes([round(2 * self.rate)])))
         if self.frequency is not None:
@@ -374,9 +393,16 @@ class Radiotap:
         for bit, level in ((SIGNAL, self.signal), (NOISE, self.noise)):
             if level is not None:
                 fields.append((bit, struct.pack("<b", level)))
+        for bit, level in ((SIGNAL_LEVEL, self.signal_level), (NOISE_LEVEL, self.noise_level)):
+            if level is not None:
+                fields.append((bit, bytes([level])))
         if self.mcs is not None:
-            known = 0x02 | 0x01 * (self.bandwidth is not None) | 0x04 * (self.short_guard is not None)
-            fields.append((MCS, bytes([known, (self.bandwidth == 40) | 0x04 * bool(self.short_guard), self.mcs])))
+            known = sum(bit for bit, value in zip(MCS_KNOWN, (self.bandwidth, self.mcs, self.short_guard, self.greenfield, self.ldpc, self.stbc,
+                                                             self.extension)) if value is not None)
+            more = self.extension or 0
+            said = ((self.bandwidth == 40) | 0x04 * bool(self.short_guard) | 0x08 * bool(self.greenfield) | 0x10 * bool(self.ldpc)
+                    | (self.stbc or 0) << 5 | (more & 1) << 7)
+            fields.append((MCS, bytes([known | more >> 1 << 7, said, self.mcs])))
         if self.aggregate is not None:
             flags = 0x04 | 0x08 * self.last | 0x20 * (self.delimiter_crc is not None)
             fields.append((AMPDU, struct.pack("<IHBB", self.aggregate & 0xFFFFFFFF, flags, self.delimiter_crc or 0, 0)))
@@ -423,6 +449,12 @@ def read_radiotap(octets: bytes) -> Tuple[Radiotap, int]:
 def _radiotap_of(found: Dict[int, bytes]) -> Radiotap:
     flags = found.get(FLAGS, b"\0")[0]
     made = Radiotap(has_fcs=bool(flags & FLAG_FCS), bad_fcs=bool(flags & FLAG_BAD_FCS))
+    if TSFT in found:
+        made = replace(made, time=int.from_bytes(found[TSFT], "little"))
+    if SIGNAL_LEVEL in found:
+        made = replace(made, signal_level=found[SIGNAL_LEVEL][0])
+    if NOISE_LEVEL in found:
+        made = replace(made, noise_level=found[NOISE_LEVEL][0])
     if RATE in found:
         made = replace(made, rate=found[RATE][0] / 2)
     if CHANNEL in found:
@@ -434,7 +466,9 @@ def _radiotap_of(found: Dict[int, bytes]) -> Radiotap:
     if MCS in found:
         known, said, mcs = found[MCS]
         made = replace(made, bandwidth=(40 if said & 3 == 1 else 20) if known & 0x01 else None, mcs=mcs if known & 0x02 else None,
-                       short_guard=bool(said & 0x04) if known & 0x04 else None)
+                       short_guard=bool(said & 0x04) if known & 0x04 else None, greenfield=bool(said & 0x08) if known & 0x08 else None,
+                       ldpc=bool(said & 0x10) if known & 0x10 else None, stbc=said >> 5 & 3 if known & 0x20 else None,
+                       extension=said >> 7 | known >> 7 << 1 if known & 0x40 else None)
     if AMPDU in found:
         reference, said, crc, _ = struct.unpack("<IHBB", found[AMPDU])
         made = replace(made, aggregate=reference, last=said & 0x0C == 0x0C, delimiter_crc=crc if said & 0x20 else None)
@@ -480,7 +514,7 @@ def packets_of(psdu: Psdu, radiotap: Radiotap, time: int = 0, reference: int = 0
 
 
 def write_pcap(target: Target, packets: Iterable[Packet], force: bool = False) -> None:
-    """Write a pcap file of link type 127, with times in nanoseconds.
+    """Write a pcap file of link type 127, or a pcapng file where its name ends in .pcapng; times are in nanoseconds.
 
     Parameters
     ----------
@@ -494,48 +528,58 @@ def write_pcap(target: Target, packets: Iterable[Packet], force: bool = False) -
     InputError
         If the file is there already or can't be written.
     """
+    newer = isinstance(target, (str, os.PathLike)) and os.fspath(target).endswith(".pcapng")
     with writing(target, force) as stream:
-        stream.write(struct.pack("<IHHiIII", NANOSECONDS, 2, 4, 0, 0, LONGEST_RECORD, RADIOTAP_LINK))
+        stream.write(pcapng.head(RADIOTAP_LINK) if newer else struct.pack("<IHHiIII", NANOSECONDS, 2, 4, 0, 0, LONGEST_RECORD, RADIOTAP_LINK))
         for packet in packets:
             record = packet.radiotap.octets() + packet.octets
             seconds, rest = divmod(packet.time, 10**9)
-            stream.write(struct.pack("<IIII", seconds, rest, len(record), len(record)) + record)
+            stream.write(pcapng.packet(record, packet.time) if newer else struct.pack("<IIII", seconds, rest, len(record), len(record)) + record)
 
 
 def read_pcap(source: Source) -> Iterator[Packet]:
-    """The records of a pcap file of link type 127 (radiotap) or 105 (MPDUs alone, without FCS), in either order of octets.
+    """The records of a pcap or pcapng file of link type 127 (radiotap) or 105 (MPDUs alone, without FCS), in either order of octets.
 
     Raises
     ------
     FormatError
-        ``BadMagic`` where it is no pcap file, ``Truncated`` where it ends in the middle of a record.
+        ``BadMagic`` where it is neither, ``Truncated`` where it ends in the middle of a record.
     InputError
-        If it is a pcapng file, has another link type, holds records that were cut off, or a header of radiotap is at fault.
+        If it has another link type, holds records that were cut off, or a header of radiotap is at fault.
     """
-    with reading(source) as stream:
-        head, order, unit = _pcap_head(stream)
-        link = struct.unpack(order + "I", head[20:24])[0] & 0x0FFFFFFF
-        if link not in (RADIOTAP_LINK, BARE_LINK):
-            raise InputError(f"its link type is {link}, and 127 (radiotap) or 105 (IEEE 802.11) is asked for")
-        at, number = len(head), 0
-        while lead := stream.read(16):
-            if len(lead) < 16:
-                raise FormatError("Truncated", at + len(lead))
-            seconds, rest, taken, full = struct.unpack(order + "IIII", lead)
-            if taken != full or taken > LONGEST_RECORD:
-                raise InputError(f"record {number} has {taken} of {full} octets, and only whole records are read")
-            octets = stream.read(taken)
-            at += 16 + len(octets)
-            if len(octets) < taken:
-                raise FormatError("Truncated", at)
-            radiotap, front = Radiotap(has_fcs=False), 0
+    with fronted(source, 4) as (front, stream):
+        newer = front == pcapng.SECTION.to_bytes(4, "little")
+        for number, (link, octets, time) in enumerate(pcapng.packets(stream) if newer else _records(stream)):
+            if link not in (RADIOTAP_LINK, BARE_LINK):
+                raise InputError(f"its link type is {link}, and 127 (radiotap) or 105 (IEEE 802.11) is asked for")
+            radiotap, first = Radiotap(has_fcs=False), 0
             if link == RADIOTAP_LINK:
                 try:
-                    radiotap, front = read_radiotap(octets)
+                    radiotap, first = read_radiotap(octets)
                 except InputError as error:
                     raise InputError(f"record {number}: {error}") from error
-            yield Packet(octets[front:], radiotap, seconds * 10**9 + rest * unit)
-            number += 1
+            yield Packet(octets[first:], radiotap, time)
+
+
+def _records(stream: BinaryIO) -> Iterator[Tuple[int, bytes, int]]:
+    """The records of a pcap file: link type, octets, and time in nanoseconds."""
+    head, order, unit = _pcap_head(stream)
+    link = struct.unpack(order + "I", head[20:24])[0] & 0x0FFFFFFF
+    at, number = len(head), 0
+    if link not in (RADIOTAP_LINK, BARE_LINK):
+        raise InputError(f"its link type is {link}, and 127 (radiotap) or 105 (IEEE 802.11) is asked for")
+    while lead := stream.read(16):
+        if len(lead) < 16:
+            raise FormatError("Truncated", at + len(lead))
+        seconds, rest, taken, full = struct.unpack(order + "IIII", lead)
+        if taken != full or taken > LONGEST_RECORD:
+            raise InputError(f"record {number} has {taken} of {full} octets, and only whole records are read")
+        octets = stream.read(taken)
+        at += 16 + len(octets)
+        if len(octets) < taken:
+            raise FormatError("Truncated", at)
+        yield link, octets, seconds * 10**9 + rest * unit
+        number += 1
 
 
 def _pcap_head(stream: BinaryIO) -> Tuple[bytes, str, int]:
@@ -543,8 +587,6 @@ def _pcap_head(stream: BinaryIO) -> Tuple[bytes, str, int]:
     head = stream.read(24)
     for order in "<>":
         magic = struct.unpack(order + "I", head[:4].ljust(4, b"\0"))[0]
-        if magic == PCAPNG:
-            raise InputError("it is a pcapng file; editcap -F pcap IN OUT, which comes with Wireshark, makes a pcap file of it")
         if magic in (MICROSECONDS, NANOSECONDS):
             if len(head) < 24:
                 raise FormatError("Truncated", len(head))

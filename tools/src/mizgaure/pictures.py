@@ -262,7 +262,7 @@ def over_subcarriers_panel(panel, frame: CaptureFrame, values: np.ndarray, sums:
 
 
 def distance_histogram(frame: CaptureFrame, jobs: Jobs, name: str = "") -> "Figure":
-    """The least distances of a frame as a histogram, data and pilots apart; parameters as in `constellation`."""
+    """The least distances of a frame as a histogram, data and pilots apart, with the law of known points; parameters as in `constellation`."""
     matplotlib, Figure = matplotlib_of()
     check_jobs(frame, jobs)
     rate = frame.rate
@@ -279,6 +279,7 @@ def distance_histogram(frame: CaptureFrame, jobs: Jobs, name: str = "") -> "Figu
                 panel.hist(part, bins=bins, weights=share, color=colour, alpha=0.18, linewidth=0)
                 panel.hist(part, bins=bins, weights=share, histtype="step", color=colour, linewidth=1.5, linestyle=line,
                            label=f"{label}, {part.size} jobs, mean {part.mean():.4g}")
+        chi_square_law(panel, rate.streams, values[pilot], bins)
         panel.set(xlabel="least distance (squared whole units of the capture)", ylabel="share of the jobs (% a bin)", xlim=(0, top))
         beyond = int(np.count_nonzero(values > top))
         if beyond:
@@ -287,6 +288,30 @@ def distance_histogram(frame: CaptureFrame, jobs: Jobs, name: str = "") -> "Figu
         _legend(figure, *panel.get_legend_handles_labels())
         _titled(figure, "Distances of the nearest vectors", rate, name)
     return figure
+
+
+def chi_square_law(panel, streams: int, distances: np.ndarray, bins: np.ndarray) -> None:
+    """Draw the law of distances to points that are known, in percent a bin, for noise of the mean of some such distances.
+
+    Twice a distance beside the noise's mean power has two degrees of freedom for each stream. Nothing is drawn without
+    distances, or where all are 0.
+
+    Parameters
+    ----------
+    panel : matplotlib.axes.Axes
+    streams : int
+    distances : ndarray
+        Those of pilots.
+    bins : ndarray
+        The edges of the histogram's bins.
+    """
+    from scipy.stats import chi2
+
+    if not distances.size or not distances.mean() > 0:
+        return
+    law = chi2(2 * streams, scale=float(distances.mean()) / (2 * streams))
+    panel.plot((bins[1:] + bins[:-1]) / 2, 100 * np.diff(law.cdf(bins)), color=INK, linewidth=0.9, linestyle=":",
+               label=f"chi-square law, {2 * streams} degrees, by the pilots' mean")
 
 
 def error_curves(sweep: Sweep, name: str = "") -> "Figure":
@@ -323,8 +348,8 @@ def error_curves(sweep: Sweep, name: str = "") -> "Figure":
         _legend(figure, *panel.get_legend_handles_labels())
         antennas = setting.antennas or setting.rate.streams
         known = {"perfect": "channel known", "ls": "channel estimated by least squares"}[setting.estimate]
-        channel = f"decay {setting.decay:g} samples" if setting.channel == "exponential" else f"channel {setting.channel}"
-        detail = f"{setting.frames} frames of {setting.length} octets a point, {antennas} antennas, {channel}, {known}"
+        channel = f"channel {setting.channel}" + (f", decay {setting.decay:g} samples" if setting.channel == "exponential" else "")
+        detail = f"{setting.frames} frames of {setting.length} octets a point, {antennas} antennas, {channel}, {known}, seed {setting.seed}"
         panel.set_title(detail, fontsize=9, color="#555555")
         what = "Error rates over the signal-to-noise ratio" + ("" if sweep.coded else ", points without a code")
         _titled(figure, what, setting.rate, name)

@@ -102,12 +102,26 @@ class Progress:
             print(line)
         sys.stdout.flush()
 
+    @contextmanager
+    def hidden(self) -> Iterator[None]:
+        """Take the bar away for as long as somebody else writes."""
+        if self.bar is not None:
+            self.bar.clear()
+        elif self.percent >= 0:
+            self._wipe()
+        yield
+        if self.bar is not None:
+            self.bar.refresh()
+
+    def _wipe(self) -> None:
+        print("\r" + " " * (len(self.label) + 8) + "\r", end="", file=sys.stderr, flush=True)
+
     def close(self) -> None:
         """Take the bar away."""
         if self.bar is not None:
             self.bar.close()
         elif self.percent >= 0:
-            print("\r" + " " * (len(self.label) + 8) + "\r", end="", file=sys.stderr, flush=True)
+            self._wipe()
 
 
 class Radio:
@@ -265,6 +279,10 @@ class Radio:
     def rx(self, source: Source) -> list:
         """All answers of ``radio rx``: a list of `FrameAnswer`. Raises as `detect`, and where there is no such command."""
         return self._all("rx", source)
+
+    def lrx(self, source: Source) -> list:
+        """All answers of ``radio lrx`` to a capture of clause 18 (LGCP), as `rx`."""
+        return self._all("lrx", source)
 
     def soft(self, source: Source) -> list:
         """All answers of ``radio soft``: a list of `SoftAnswer`. Raises as `rx`."""

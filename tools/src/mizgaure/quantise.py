@@ -21,6 +21,11 @@ from .errors import FitError, InputError
 from .formats import DIAGONAL_LIMIT, ENTRY_LIMITS, SAMPLE_LIMITS, CaptureFrame, check_shape, show
 from .rates import Rate
 
+FOR_SOFT = "soft"  # a gain that fits weights
+SOFT_DIAGONAL = 40.0  # neighbouring points are then 80 apart, and a weight between them is 6400 of the 65535 at which it is cut
+
+Gain = Optional[Union[float, str]]
+
 
 @dataclass(eq=False)
 class MeasuredFrame:
@@ -107,15 +112,16 @@ class Capture:
         return bound * (2 * np.sqrt(np.asarray(distance, float)) + bound)
 
 
-def capture(frames: Iterable[MeasuredFrame], gain: Optional[Union[float, Sequence[float]]] = None, *, first: int = 0) -> Capture:
+def capture(frames: Iterable[MeasuredFrame], gain: Union[Gain, Sequence[Gain]] = None, *, first: int = 0) -> Capture:
     """Make a capture of frames in floating point.
 
     Parameters
     ----------
     frames : iterable of MeasuredFrame
-    gain : float or sequence of float, optional
-        What each frame is multiplied with before it is rounded, one number for all frames or one for each. By default the
-        largest with which nothing of the frame leaves its field.
+    gain : float, ``"soft"`` or a sequence of these, optional
+        What each frame is multiplied with before it is rounded, one for all frames or one for each. By default the largest
+        with which nothing of the frame leaves its field. With ``"soft"`` that at which the median of the diagonals of data
+        subcarriers is `SOFT_DIAGONAL`, which fits weights, or the largest where that is less.
     first : int
         The number of the first frame, for messages.
 
@@ -132,7 +138,7 @@ def capture(frames: Iterable[MeasuredFrame], gain: Optional[Union[float, Sequenc
         If a shape is wrong, all subcarriers of a frame are erased, or a gain isn't above 0.
     """
     frames = list(frames)
-    gains: List[Optional[float]]
+    gains: List[Gain]
     if gain is None or np.ndim(gain) == 0:
         gains = [gain] * len(frames)  # type: ignore[list-item]
     else:
@@ -171,7 +177,7 @@ def _numbers(name: str, given: object, kinds: str) -> np.ndarray:
     return array
 
 
-def _quantised(number: int, frame: MeasuredFrame, gain: Optional[float]):
+def _quantised(number: int, frame: MeasuredFrame, gain: Gain):
     try:
         rate, erased = frame.rate, frame.erased_mask()
         symbols = rate.symbols(frame.length)
@@ -188,8 +194,11 @@ def _quantised(number: int, frame: MeasuredFrame, gain: Optional[float]):
     _check_finite(number, channel, received, erased)
     with np.errstate(all="ignore"):
         triangles, samples = rotate(rate, channel, received, erased)
-        if gain is None:
-            gain = _largest_gain(triangles, samples)
+        if gain is None or gain == FOR_SOFT:
+            largest = _largest_gain(triangles, samples)
+            gain = largest if gain is None else min(largest, _soft_gain(rate, triangles))
+        elif isinstance(gain, str):
+            raise InputError(f"frame {number}: the gain is {gain}, and has to be a number or {FOR_SOFT}")
         elif not (np.isfinite(gain) and gain > 0):
             raise InputError(f"frame {number}: the gain is {gain}, and has to be above 0")
         if not all(np.isfinite(part).all() for part in (triangles, samples, gain)):
@@ -246,6 +255,13 @@ def _largest_gain(triangles: np.ndarray, samples: np.ndarray) -> float:
     above = triangles - np.einsum("ci,ij->cij", diagonal, np.eye(diagonal.shape[-1]))
     used = [np.max(diagonal) / DIAGONAL_LIMIT, _share(above, ENTRY_LIMITS), _share(samples, SAMPLE_LIMITS)]
     return 1 / max(used) if max(used) > 0 else 1.0
+
+
+def _soft_gain(rate: Rate, triangles: np.ndarray) -> float:
+    """The gain at which the median of the diagonals of data subcarriers is `SOFT_DIAGONAL`, of those that aren't 0."""
+    diagonals = np.einsum("cii->ci", triangles).real[~rate.is_pilot]
+    heard = diagonals[diagonals > 0]
+    return SOFT_DIAGONAL / float(np.median(heard)) if heard.size else np.inf
 
 
 def _share(values: np.ndarray, limits) -> float:

@@ -7,7 +7,6 @@ width.
 from __future__ import annotations
 
 import base64
-import hashlib
 import html
 import io
 from contextlib import ExitStack
@@ -18,14 +17,20 @@ import numpy as np
 
 from .answers import FrameAnswer, Jobs
 from .errors import ProgramError
-from .files import naming, reading
+from .files import naming
 from .formats import CaptureFrame, read_htcp
 from .judge import Judgement, judge
+from .air import verdict_pictures
+from .air.limits import EDITION
+from .air.recording import Recording
+from .air.transmitter import PASS, Finding, Measured, findings
 from .measures import Magnitudes, constellation_tests, decibels, evm, percent, residual_ratio
 from .packets import Psdu, take_apart
-from .pictures import BLUE, INK, ORANGE, STYLE, constellation_panel, matplotlib_of, over_subcarriers_panel
+from .pictures import BLUE, INK, ORANGE, STYLE, chi_square_law, constellation_panel, error_curves, matplotlib_of, over_subcarriers_panel
 from .program import Radio
 from .rates import Rate
+from .sweep import Sweep
+from .tracing import digest_of
 
 DOTS_PER_INCH = 170
 
@@ -110,12 +115,7 @@ def examine(path: str, radio: Radio, theirs: Optional[str] = None, pictured: int
     ProgramError
         If the program fails.
     """
-    with reading(path) as stream:
-        digest, octets = hashlib.sha256(), 0
-        while piece := stream.read(1 << 20):
-            digest.update(piece)
-            octets += len(piece)
-    made = CaptureReport(path, octets, digest.hexdigest())
+    made = CaptureReport(path, *digest_of(path))
     with naming(path), ExitStack() as stack:
         detected = stack.enter_context(radio.answers("detect", path))
         decoded = stack.enter_context(radio.answers("rx", path))
@@ -133,6 +133,55 @@ def examine(path: str, radio: Radio, theirs: Optional[str] = None, pictured: int
     return made
 
 
+@dataclass(eq=False)
+class RecordingReport:
+    """What the page says of a recording.
+
+    Parameters
+    ----------
+    name : str
+    facts : list of (str, str)
+    findings : list of Finding
+        Of the standard's transmitter tests.
+    pictures : list of (str, str)
+        As in `FrameReport`.
+    """
+
+    name: str
+    facts: List[Tuple[str, str]]
+    findings: List[Finding]
+    pictures: List[Tuple[str, str]] = field(default_factory=list)
+
+
+def examine_recording(recording: Recording, name: str, packets: Sequence[Measured], frequency: Optional[float],
+                      reference: Optional[float]) -> RecordingReport:
+    """Hold the packets of a recording beside the standard's limits, and draw them.
+
+    Parameters
+    ----------
+    recording : Recording
+    name : str
+    packets : sequence of Measured
+    frequency : float, optional
+        Of the carrier in Hz.
+    reference : float, optional
+        By how many parts per million the recorder's own clock may be wrong.
+    """
+    rate = recording.layout.rate
+    found = findings(packets, frequency, reference, rate)
+    offsets, noises = [packet.offset / 1e3 for packet in packets], [packet.noise for packet in packets]
+    facts = [("samples", f"{recording.length:,} instants of {recording.layout.channels} antennas, {recording.layout.datatype}, "
+                         f"{rate / 1e6:g} million a second, {recording.seconds(recording.length):.6f} s"),
+             ("carrier", "not known" if frequency is None else f"{frequency / 1e6:g} MHz"), ("packets", str(len(packets))),
+             ("offset of the carrier", f"{np.mean(offsets):+.3f} kHz in the mean, {min(offsets):+.3f} to {max(offsets):+.3f} kHz"),
+             ("noise of a subcarrier", f"{np.mean(noises):.1f} dB in the mean, {min(noises):.1f} to {max(noises):.1f} dB")]
+    made = RecordingReport(name, facts, found)
+    for bandwidth in sorted({packet.rate.bandwidth for packet in packets}):
+        alike = [packet for packet in packets if packet.rate.bandwidth == bandwidth]
+        made.pictures += [(f"{what}, {bandwidth} MHz", _png(figure)) for what, figure in verdict_pictures.drawn(alike, frequency, rate)]
+    return made
+
+
 # pictures
 
 def _pictures(frame: CaptureFrame, jobs: Jobs, standard: Magnitudes) -> Iterator[Tuple[str, str]]:
@@ -141,7 +190,9 @@ def _pictures(frame: CaptureFrame, jobs: Jobs, standard: Magnitudes) -> Iterator
     with matplotlib.rc_context({**STYLE, "font.size": 9, "axes.titlesize": 10, "axes.labelsize": 9}):
         for stream in range(frame.rate.streams):
             figure = Figure(figsize=(3.6, 3.7), layout="constrained")
-            constellation_panel(figure.subplots(), frame, jobs, stream)
+            panel = figure.subplots()
+            constellation_panel(panel, frame, jobs, stream)
+            panel.set_title(f"stream {stream + 1}: error {percent(float(standard.streams[stream]))}")
             yield f"stream {stream + 1}: received, after the rotation, and the points decided on", _png(figure)
         figure = Figure(figsize=(4.6, 3.7), layout="constrained")
         _magnitude_panel(figure.subplots(), frame, standard)
@@ -167,6 +218,7 @@ def _distance_panel(panel, frame: CaptureFrame, jobs: Jobs) -> None:
         if part.size:
             panel.hist(part, bins=bins, weights=np.full(part.size, 100 / part.size), histtype="step", color=colour, linewidth=1.4, linestyle=line,
                        label=f"{label}, {part.size} jobs")
+    chi_square_law(panel, frame.rate.streams, values[pilot], bins)
     panel.set(xlabel="least distance (squared units of the capture)", ylabel="share of the jobs (% a bin)", title="distances of the nearest vectors")
     panel.ticklabel_format(axis="x", style="sci", scilimits=(-3, 4), useMathText=True)
     panel.legend(loc="upper right", fontsize=8)
@@ -200,6 +252,8 @@ tr:last-child td { border-bottom: 0; }
 td.number, th.number { text-align: right; }
 td.number { white-space: nowrap; }
 .good::before { content: "\\2713\\00a0"; } .good { color: #00664b; }
+.open::before { content: "?\\00a0"; } .open { color: #555; }
+.sign td { height: 2.5rem; }
 .bad::before { content: "\\2717\\00a0"; } .bad { color: #a63c00; font-weight: 600; }
 .pictures { display: flex; flex-wrap: wrap; gap: .75rem; align-items: flex-start; }
 figure { margin: 0; border: 1px solid #ddd; border-radius: 4px; padding: .25rem; max-width: 100%; }
@@ -216,13 +270,19 @@ figure img { display: block; max-width: 100%; height: auto; }
 """
 
 
-def page(captures: Sequence[CaptureReport], title: str = "Captures, measured") -> str:
+def page(captures: Sequence[CaptureReport], title: str = "Captures, measured", facts: Sequence[Tuple[str, str]] = (),
+         recordings: Sequence[RecordingReport] = (), sweeps: Sequence[Tuple[str, Sweep]] = ()) -> str:
     """The page.
 
     Parameters
     ----------
     captures : sequence of CaptureReport
     title : str
+    facts : sequence of (str, str)
+        When and by what it was made, as from `tracing.facts`.
+    recordings : sequence of RecordingReport
+    sweeps : sequence of (str, Sweep)
+        Each with its name.
 
     Returns
     -------
@@ -234,10 +294,18 @@ def page(captures: Sequence[CaptureReport], title: str = "Captures, measured") -
              "</head>", "<body>", f"<h1>{_text(title)}</h1>",
              '<p class="quiet">Nearest vectors and octets are those that Mizgaure\'s program radio found. The program is proved; '
              "this page and its measures are tested and not proved.</p>"]
+    if facts:
+        parts += ['<dl class="facts">', *(f"<dt>{_text(name)}</dt><dd><code>{_text(value)}</code></dd>" for name, value in facts), "</dl>"]
     if len(captures) > 1:
         parts += _table(("capture", "#frames", "MPDUs with a good FCS", "EVM"), (_overview(each) for each in captures))
     for each in captures:
         parts += _capture_parts(each)
+    for recording in recordings:
+        parts += _recording_parts(recording)
+    for name, found in sweeps:
+        parts += _sweep_parts(name, found)
+    if recordings:
+        parts += ["<h2>Signed</h2>", *_table(("name", "date", "signature"), [["&nbsp;"] * 3])[:-1], "</table></div>"]
     return "\n".join([*parts, "</body>", "</html>", ""])
 
 
@@ -245,8 +313,9 @@ def _text(text: object) -> str:
     return html.escape(str(text))
 
 
-def _verdict(good: bool, text: object) -> str:
-    return f'<span class="{"good" if good else "bad"}">{_text(text)}</span>'
+def _verdict(good: Optional[bool], text: object) -> str:
+    """A text as good, as bad, or as undecided where None."""
+    return f'<span class="{"open" if good is None else "good" if good else "bad"}">{_text(text)}</span>'
 
 
 def _table(names: Sequence[str], rows: Iterable[Sequence[str]]) -> List[str]:
@@ -271,7 +340,7 @@ def _overview(capture: CaptureReport) -> Sequence[str]:
 
 def _tests(capture: CaptureReport) -> List[str]:
     tests = constellation_tests((frame.rate, frame.symbols, frame.standard.frame) for frame in capture.frames)
-    return [_verdict(test.is_within, test) for test in tests]
+    return [_verdict(test.is_within if test.is_full or not test.is_within else None, test) for test in tests]
 
 
 def _capture_parts(capture: CaptureReport) -> List[str]:
@@ -279,11 +348,7 @@ def _capture_parts(capture: CaptureReport) -> List[str]:
     facts = [("octets", f"{capture.octets:,}"), ("SHA-256", f"<code>{capture.digest}</code>"), ("frames", str(len(capture.frames))),
              ("MPDUs", _verdict(good == count, f"{good} of {count} with a good FCS")), ("EVM", "<br>".join(_tests(capture)) or "none")]
     if capture.judgement is not None:
-        jobs, frames = capture.judgement.job_counts, capture.judgement.frame_counts
-        said = "; ".join(f"{what}: " + ", ".join(f"{number} {verdict}" for verdict, number in counts.items())
-                         for what, counts in (("jobs", jobs), ("frames", frames)) if any(counts.values()))
-        facts.append(("the other receiver", f"<code>{_text(capture.theirs)}</code><br>{_verdict(capture.judgement.is_clean, said)}, "
-                                            f"{capture.judgement.unanswered} without an answer"))
+        facts.append(("the other receiver", f"<code>{_text(capture.theirs)}</code><br>{_judged(capture.judgement)}"))
     parts = [f"<h2>{_text(capture.name)}</h2>", '<dl class="facts">', *(f"<dt>{_text(name)}</dt><dd>{what}</dd>" for name, what in facts), "</dl>"]
     names = ["#frame", "rate", "#octets", "#symbols", "EVM", "#limit", "residual ratio", "#code distance", "MPDUs"]
     theirs = _theirs(capture.judgement)
@@ -293,12 +358,49 @@ def _capture_parts(capture: CaptureReport) -> List[str]:
     parts += ["<h3>What they carry</h3>", *_table(("#frame", "#MPDU", "#octets", "FCS", "MAC header"), carried)]
     for frame in capture.frames:
         if frame.pictures:
-            parts += [f"<h3>Frame {frame.number}</h3>", '<div class="pictures">']
-            for what, picture in frame.pictures:
-                name = _text(f"frame {frame.number}, {what}")
-                parts.append(f'<figure><img alt="{name}" title="{name}" src="data:image/png;base64,{picture}" width="{_width(picture)}"></figure>')
-            parts.append("</div>")
+            parts += [f"<h3>Frame {frame.number}</h3>", *_figures((f"frame {frame.number}, {what}", picture) for what, picture in frame.pictures)]
     return parts
+
+
+def _figures(pictures: Iterable[Tuple[str, str]]) -> List[str]:
+    """Pictures beside one another, each with what it shows."""
+    parts = ['<div class="pictures">']
+    for what, picture in pictures:
+        name = _text(what)
+        parts.append(f'<figure><img alt="{name}" title="{name}" src="data:image/png;base64,{picture}" width="{_width(picture)}"></figure>')
+    return [*parts, "</div>"]
+
+
+def _recording_parts(recording: RecordingReport) -> List[str]:
+    names = ("test", "clause", "about", "limit", "#value", "95 %", "frames", "verdict")
+    parts = [f"<h2>{_text(recording.name)}</h2>", '<dl class="facts">', *(f"<dt>{_text(name)}</dt><dd>{_text(what)}</dd>" for name, what in recording.facts),
+             "</dl>", f"<h3>Transmitter tests of {_text(EDITION)}</h3>", *_table(names, map(_finding_row, recording.findings))]
+    return [*parts, *_figures(recording.pictures)]
+
+
+def _finding_row(finding: Finding) -> List[str]:
+    low, high = finding.interval
+    where = f" at {finding.where}" if finding.where else ""
+    good = None if finding.verdict is None else finding.verdict == PASS
+    asked = f"{finding.frames} of {finding.limit.frames}" + ("" if finding.limit.named else "; the clause names no number")
+    return [_text(finding.limit.test), finding.limit.clause, _text(finding.subject + where), _text(finding.bounds), f"{finding.value:.2f} {finding.unit}",
+            f"{low:.2f} to {high:.2f}", asked, _verdict(good, finding.outcome)]
+
+
+def _sweep_parts(name: str, found: Sweep) -> List[str]:
+    matplotlib_of()
+    parts = [f"<h2>{_text(name)}</h2>", f"<p>{_text(found.title())}</p>", *_figures([("error rates over the signal-to-noise ratio", _png(error_curves(found)))])]
+    return parts
+
+
+def _judged(judgement: Judgement) -> str:
+    """What another receiver's answers add up to, in HTML."""
+    kinds = (("jobs", judgement.job_counts), ("frames", judgement.frame_counts), ("lines that are passed over", judgement.fault_counts))
+    said = "; ".join(f"{what}: " + ", ".join(f"{number} {verdict}" for verdict, number in counts.items()) for what, counts in kinds if any(counts.values()))
+    parts = [f"{_verdict(judgement.is_clean, said)}; {judgement.unanswered} jobs and {len(judgement.missing)} frames without an answer"]
+    if judgement.misstated:
+        parts.append(f"misstated: {judgement.misstated}")
+    return "<br>".join([*parts, *(f"cause: {_text(cause)}" for cause in judgement.causes)])
 
 
 def _width(picture: str) -> int:

@@ -15,17 +15,18 @@ from __future__ import annotations
 import re
 from contextlib import contextmanager
 from dataclasses import dataclass
-from typing import Dict, Iterator, Optional, Tuple
+from typing import Dict, Iterator, List, Optional, Tuple, Union
 
 from .answers import NUMBER, PLACE, Refused, SoftAnswer, blocks, read_answers, shortened
-from .errors import FormatError, InputError, LineError
+from .causes import Looks
+from .errors import FormatError, InputError
 from .files import Source, naming
 from .program import Radio
+from .theirs import REPEATED, THEIR_END, UNREADABLE, LineCounts, LineFault, misplaced
 
 SAME, OTHER = "same", "other"
 THEIRS = re.compile(rb"(?:frame (?P<frame>%b)(?: data %b pilot %b code %b)?|soft (?P<soft>%b) cost (?P<cost>%b)) "
                     rb"(?:octets (?P<octets>(?:[0-9a-fA-F]{2})+)|seed zero)" % (PLACE, NUMBER, NUMBER, NUMBER, PLACE, NUMBER))
-THEIR_END = re.compile(rb"end " + NUMBER + rb" frames")
 
 
 @dataclass(frozen=True)
@@ -57,21 +58,34 @@ class SoftVerdict:
 
 
 @dataclass
-class SoftCounts:
+class SoftCounts(LineCounts):
     """What the verdicts add up to."""
 
     same: int = 0
     other: int = 0
-    unanswered: int = 0
-    misstated: int = 0
+
+    def add(self, verdict: Union[SoftVerdict, LineFault]) -> None:
+        """One more verdict on a frame, or a line that is no answer."""
+        if isinstance(verdict, LineFault):
+            self.add_fault(verdict)
+            return
+        self.same += verdict.verdict == SAME
+        self.other += verdict.verdict == OTHER
+        if verdict.misstated:
+            self.misstate(f"frame {verdict.frame} states another cost than {verdict.cost}")
+
+    @property
+    def is_clean(self) -> bool:
+        """Whether all octets are the same, and each line is an answer to be judged."""
+        return not (self.other or any(self.fault_counts.values()))
 
     def record(self) -> dict:
         """The counts as they stand behind the verdicts in a file."""
-        return {"counts": {"frames": {SAME: self.same, OTHER: self.other}, "unanswered": self.unanswered, "misstated": self.misstated}}
+        return {"counts": {"frames": {SAME: self.same, OTHER: self.other}, "unanswered": len(self.missing), **self.line_record()}}
 
 
 def judged_soft(capture: Source, answers: Source, counts: SoftCounts, *, reference: Optional[Source] = None,
-                radio: Optional[Radio] = None) -> Iterator[SoftVerdict]:
+                radio: Optional[Radio] = None) -> Iterator[Union[SoftVerdict, LineFault]]:
     """Judge another soft decoder's octets, in the order of frames.
 
     Parameters
@@ -80,7 +94,7 @@ def judged_soft(capture: Source, answers: Source, counts: SoftCounts, *, referen
     answers : path, ``"-"``, bytes or binary stream
         The other decoder's lines, which are read whole.
     counts : SoftCounts
-        Each verdict is added to it, and so is each frame without one.
+        Each verdict is added to it, and so is each frame without one, and the causes.
     reference : path, bytes or binary stream, optional
         Lines of ``radio soft`` on the capture, where they are kept; otherwise the program is run.
     radio : Radio, optional
@@ -90,35 +104,43 @@ def judged_soft(capture: Source, answers: Source, counts: SoftCounts, *, referen
     ------
     FormatError
         If the capture is none.
-    LineError, InputError
-        If the answers can't be read, or if one is to a frame that the capture doesn't have.
+    InputError
+        If there is no answer at all.
     ProgramError
         If the program isn't there, fails or has no command ``soft``.
     """
+    faults: List[LineFault] = []
+    ends: List[Tuple[int, int]] = []
     with naming(answers):
-        theirs = _theirs(answers)
-    number = -1
+        theirs = _theirs(answers, faults, ends)
+    answered, frames, looks = set(theirs), 0, Looks()
+    for fault in faults:
+        counts.add(fault)
+        yield fault
     with _lines(capture, reference, radio) as lines:
         for answer in lines:
             if not isinstance(answer, SoftAnswer):
                 raise InputError("the reference has a line that isn't one of radio soft")
-            number = answer.frame
-            if number not in theirs:
-                counts.unanswered += 1
+            frames = answer.frame + 1
+            if answer.frame not in theirs:
+                counts.missing.append(answer.frame)
                 continue
-            octets, cost = theirs.pop(number)
+            _, octets, cost = theirs.pop(answer.frame)
             same = octets == answer.octets
-            verdict = SoftVerdict(number, SAME if same else OTHER, answer.cost, same and cost is not None and cost != answer.cost)
-            counts.same += same
-            counts.other += not same
-            counts.misstated += verdict.misstated
+            if not same:
+                looks.at_octets(octets, answer.octets)
+            verdict = SoftVerdict(answer.frame, SAME if same else OTHER, answer.cost, same and cost is not None and cost != answer.cost)
+            counts.add(verdict)
             yield verdict
     if isinstance(lines.last, Refused):
         with naming(capture):
             raise FormatError(lines.last.kind, lines.last.offset)
-    if theirs:
-        with naming(answers):
-            raise InputError(f"there is an answer to frame {min(theirs)}, and the capture has {number + 1} frames")
+    for frame, (line, _, _) in sorted(theirs.items()):
+        fault = misplaced(line, frame, frames)
+        counts.add(fault)
+        yield fault
+    counts.compare_ends(ends, frames)
+    counts.causes += looks.found(frames, answered, theirs)
 
 
 @contextmanager
@@ -131,9 +153,12 @@ def _lines(capture: Source, reference: Optional[Source], radio: Optional[Radio])
             yield read_answers(reference)
 
 
-def _theirs(answers: Source) -> Dict[int, Tuple[Optional[bytes], Optional[int]]]:
-    """Of each frame that is answered the octets, None standing for a seed of zero, and the cost where one is stated."""
-    found: Dict[int, Tuple[Optional[bytes], Optional[int]]] = {}
+Theirs = Dict[int, Tuple[int, Optional[bytes], Optional[int]]]
+
+
+def _theirs(answers: Source, faults: List[LineFault], ends: List[Tuple[int, int]]) -> Theirs:
+    """Of each frame that is answered its line, the octets, None standing for a seed of zero, and the cost where one is stated."""
+    found: Theirs = {}
     number = 0
     for block in blocks(answers):
         for line in block.replace(b"\r\n", b"\n").split(b"\n")[:-1]:
@@ -141,11 +166,14 @@ def _theirs(answers: Source) -> Dict[int, Tuple[Optional[bytes], Optional[int]]]
             if match := THEIRS.fullmatch(line):
                 frame = int(match["frame"] or match["soft"])
                 if frame in found:
-                    raise LineError(number, f"answers frame {frame} a second time")
+                    faults.append(LineFault(REPEATED, number, f"answers frame {frame} a second time"))
+                    continue
                 octets = None if match["octets"] is None else bytes.fromhex(match["octets"].decode())
-                found[frame] = octets, None if match["cost"] is None else int(match["cost"])
-            elif line and not THEIR_END.fullmatch(line):
-                raise LineError(number, f"is no answer to a frame: {shortened(line)}")
+                found[frame] = number, octets, None if match["cost"] is None else int(match["cost"])
+            elif match := THEIR_END.fullmatch(line):
+                ends.append((number, int(match.group(1))))
+            elif line:
+                faults.append(LineFault(UNREADABLE, number, f"is no answer to a frame: {shortened(line)}"))
     if not found:
-        raise InputError("there is no answer to a frame")
+        raise InputError("there is no answer to a frame" + (f": line {faults[0].line} {faults[0].reason}" if faults else ""))
     return found

@@ -17,6 +17,7 @@ broken off goes on from there, and the files of parts are merged by their chunks
 
 from __future__ import annotations
 
+import errno
 import io
 import json
 import os
@@ -35,7 +36,7 @@ from .files import Source, reading, refuse_overwriting
 from .formats import CaptureFrame, SentFrame, SymbolsFrame, read_htsy, write_htcp, write_httx
 from .measures import ErrorRates, FrameProportion, Proportion
 from .program import Radio
-from .quantise import MeasuredFrame, capture
+from .quantise import SOFT_DIAGONAL, MeasuredFrame, capture
 from .rates import Rate, check_length
 from .tables import rate_columns
 from .workers import Workers
@@ -45,7 +46,6 @@ __all__ = ["ESTIMATES", "Chunk", "Journal", "Setting", "Sweep", "gaussian", "lea
 
 TRAINING = np.array([[1, -1, 1, 1], [1, 1, -1, 1], [1, 1, 1, -1], [-1, 1, 1, 1]])
 ESTIMATES = ("perfect", "ls")
-SOFT_DIAGONAL = 40.0  # neighbouring points are then 80 apart, and a weight between them is 6400 of the 65535 at which it is cut
 BY_FRAME = ("bits", "symbols", "octet_bits")  # the rates that are kept with how many frames had how many errors
 NAMES = {"ser": "symbols", "ber": "bits", "octet_ber": "octet_bits", "per": "frames"}  # of rates in tables
 COLUMNS = ("detector", "snr", *(f"{name}{end}" for name in NAMES for end in ("", "_low", "_high", "_errors", "_trials")))
@@ -363,7 +363,12 @@ class Journal:
     def write(self, chunk: Chunk) -> None:
         """Write a chunk: in one piece, so that what is broken off is a last line without an end."""
         assert self._stream is not None
-        self._stream.write(chunk.to_line().encode() + b"\n")
+        line = chunk.to_line().encode() + b"\n"
+        try:
+            if self._stream.write(line) != len(line):
+                raise OSError(errno.ENOSPC, os.strerror(errno.ENOSPC))
+        except OSError as error:
+            raise InputError(f"{self.path} can't be written: {error.strerror}; --resume goes on with it") from error
 
     def close(self) -> None:
         """Close the file."""

@@ -7,10 +7,12 @@ import json
 import math
 import pickle
 import tempfile
+from contextlib import contextmanager
 from typing import Any, BinaryIO, Dict, Iterable, Iterator, Mapping, Sequence
 
 import numpy as np
 
+from .errors import InputError
 from .files import Target, writing
 
 
@@ -25,17 +27,30 @@ def plain(value: Any) -> Any:
     return value
 
 
+@contextmanager
+def _naming_the_folder() -> Iterator[None]:
+    """Name the folder of temporary files where one can't be written."""
+    try:
+        yield
+    except OSError as error:
+        raise InputError(f"a temporary file in {tempfile.gettempdir()} can't be written: {error.strerror}") from error
+
+
 class Records:
     """Records kept in a file of their own until they are written, so that memory doesn't grow with their number."""
 
     def __init__(self) -> None:
-        self._file = tempfile.TemporaryFile()
+        with _naming_the_folder():
+            self._file = tempfile.TemporaryFile()
 
     def append(self, record: Mapping[str, Any]) -> None:
         """Keep one more, behind the others."""
-        pickle.dump(record, self._file)
+        with _naming_the_folder():
+            pickle.dump(record, self._file)
 
     def __iter__(self) -> Iterator[Mapping[str, Any]]:
+        with _naming_the_folder():
+            self._file.flush()
         end = self._file.tell()
         self._file.seek(0)
         while self._file.tell() < end:

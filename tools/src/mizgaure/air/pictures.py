@@ -9,11 +9,12 @@ import numpy as np
 from ..errors import InputError
 from ..pictures import BLUE, INK, ORANGE, PALE, STREAM_STYLES, STYLE, _drawn, _legend, _titled, matplotlib_of
 from ..rates import Rate
+from . import standard
 from .receive import Packet
 from .record import oversampling_of, packets_in
 from .recording import Recording
 from .standard import SHORT_LAG, TRAINING_FIELDS, TRANSFORM
-from .synchronise import ABOVE, WINDOW, long_correlation, periodicity
+from .synchronise import FOUND, WINDOW, long_symbol
 
 if TYPE_CHECKING:
     from matplotlib.figure import Figure
@@ -35,6 +36,8 @@ def frame_of(recording: Recording, number: int) -> Packet:
     for packet in packets_in(recording, keep=True):
         if packet.left_out is None:
             if count == number:
+                if packet.untracked is None:
+                    raise InputError(f"packet {number} of {recording.name} is in greenfield format or has STBC, and isn't drawn")
                 return packet
             count += 1
     frames = "1 packet" if count == 1 else f"{count} packets"
@@ -94,10 +97,14 @@ def preamble(recording: Recording, number: int, name: str = "") -> "Figure":
     count = packet.sample - first + int((fields[-1][2] + 4) * 20 * over)
     samples = recording.read(first, count + 2 * TRANSFORM * over).astype(complex)
     times = (np.arange(count) + first - packet.sample) / (20 * over)
-    short = periodicity(samples, SHORT_LAG * over, WINDOW * over)[:count]
+    lag, window = SHORT_LAG * over, SHORT_LAG * WINDOW * over
+    short = _share(samples[:, lag:], samples[:, :-lag], window)[:count]
     straight = samples * np.exp(-2j * np.pi * packet.offset / recording.layout.rate * np.arange(samples.shape[1]))
-    energy = np.convolve(np.sum(np.abs(straight) ** 2, axis=0), np.ones(TRANSFORM * over), "valid")
-    long = (long_correlation(straight, over).max(axis=0) / np.maximum(energy, 1e-300))[:count]
+    part = standard.halves(rate.bandwidth)[0] if rate.bandwidth == 40 else packet.middles[0]
+    symbol = long_symbol(over, part)
+    energy = np.convolve(np.sum(np.abs(straight) ** 2, axis=0), np.ones(symbol.size), "valid")
+    heard = sum(np.abs(np.correlate(row, symbol, "valid")) ** 2 for row in straight)
+    long = (heard / np.maximum(energy, 1e-300))[:count] * (rate.bandwidth // 20)
     with matplotlib.rc_context(STYLE):
         figure, panels = _drawn(Figure, 2, 1, 7.6, 2.0)
         panels[0].plot(times, np.abs(samples[0, :count]) / np.abs(samples[0, :count]).max(), color=BLUE, linewidth=0.8)
@@ -108,11 +115,19 @@ def preamble(recording: Recording, number: int, name: str = "") -> "Figure":
             panels[0].text((begin + end) / 2, 1.05, field, ha="center", fontsize=7.5, color="#555555")
         panels[1].plot(times[: short.size], short, color=BLUE, linewidth=1.4, label="repeats after 0.8 µs")
         panels[1].plot(times[: long.size], long, color=ORANGE, linewidth=1.0, linestyle="-", label="agrees with a long training symbol")
-        panels[1].axhline(ABOVE, color=INK, linewidth=0.9, linestyle=(0, (4, 3)), label="from here on a packet may begin")
+        panels[1].axhline(FOUND / (SHORT_LAG * WINDOW * len(samples)), color=INK, linewidth=0.9, linestyle=(0, (4, 3)), label="from here on a packet may begin")
         panels[1].set(xlabel="microseconds from the packet's beginning", ylabel="share of the energy", ylim=(0, 1.05), xlim=(times[0], times[-1]))
         _legend(figure, *panels[1].get_legend_handles_labels())
         _titled(figure, "The preamble of a packet", rate, name)
     return figure
+
+
+def _share(samples: np.ndarray, before: np.ndarray, window: int) -> np.ndarray:
+    """The power of a correlation over windows, over all antennas, beside that of what is correlated."""
+    ones = np.ones(window)
+    products = np.convolve(np.sum(samples * before.conj(), axis=0), ones, "valid")
+    energies = [np.convolve(np.sum(np.abs(part) ** 2, axis=0), ones, "valid") for part in (samples, before)]
+    return np.abs(products) ** 2 / np.maximum(energies[0] * energies[1], 1e-300)
 
 
 def _fields(rate: Rate) -> List[Tuple[str, float, float]]:

@@ -1,184 +1,107 @@
-"""Recordings of complex samples: SigMF, and raw files of interleaved I and Q.
+"""Recordings of complex samples, opened and written.
 
-A SigMF recording is a pair of files, NAME.sigmf-meta (JSON) and NAME.sigmf-data. Samples of several channels, one for each
-antenna, stand one behind the other for every instant (``core:num_channels``). A raw file has the samples alone, and its
-type, rate and number of channels are said beside it.
-
-Samples are read in pieces, wherever they stand, so a recording may be of any length.
+A recording is SigMF (`mizgaure.air.sigmf`), an array of another program (`mizgaure.air.arrays`), or a raw file of interleaved I
+and Q, in which the samples of several channels, one for each antenna, stand one behind the other for every instant; the type,
+rate and number of channels of the last are said beside it. Samples are read in pieces, so a recording may be of any length.
 """
 
 from __future__ import annotations
 
 import json
 import os
+import stat
+import sys
 from dataclasses import dataclass, field
-from pathlib import Path
-from typing import Any, BinaryIO, Dict, List, Optional, Tuple
+from typing import Any, BinaryIO, Dict, List, Optional, Sequence, Union
 
 import numpy as np
 
 from .. import __version__
 from ..errors import InputError
 from ..files import refuse_overwriting, writing
+from .arrays import MAT, is_array, open_mat, open_npy
+from .samples import ENDLESS, MOST_CHANNELS, TYPES, Joined, Layout, Piped, Recording, Segment
+from .sigmf import ARCHIVE, COLLECTION, DATA, META, Folder, base_name, empty, name_of, open_archive, open_collection, open_sigmf
 
-META, DATA = ".sigmf-meta", ".sigmf-data"
-# The type of a part, what is full scale, and what is zero.
-TYPES: Dict[str, Tuple[str, float, float]] = {
-    "cf32_le": ("<f4", 1.0, 0.0), "cf32_be": (">f4", 1.0, 0.0), "ci16_le": ("<i2", 32768.0, 0.0), "ci16_be": (">i2", 32768.0, 0.0),
-    "ci8": ("i1", 128.0, 0.0), "cu8": ("u1", 128.0, 127.5),
-}
+__all__ = ["ENDLESS", "MOST_CHANNELS", "TYPES", "WRITTEN", "Joined", "Layout", "Piped", "Recording", "Segment", "Writer", "base_name",
+           "name_of", "open_recording", "write_recording"]
+
 WRITTEN = ("cf32_le", "ci16_le")
-PLAUSIBLE_RATE = 1e12
-MOST_CHANNELS = 16
-LARGEST = 1e15  # of a part in floating point
+USUAL_RATE = 20e6
 
 
-@dataclass(frozen=True)
-class Layout:
-    """How the samples of a recording stand in its file.
-
-    Parameters
-    ----------
-    datatype : str
-        As SigMF names it: cf32_le, ci16_le and the like.
-    rate : float
-        Samples a second.
-    channels : int
-        How many samples stand together for every instant.
-    """
-
-    datatype: str
-    rate: float
-    channels: int = 1
-
-    def check(self, name: str) -> None:
-        """Refuse what can't be read.
-
-        Raises
-        ------
-        InputError
-        """
-        if self.datatype not in TYPES:
-            raise InputError(f"{name}: the samples are {self.datatype}, and only {', '.join(TYPES)} are known")
-        if not (np.isfinite(self.rate) and 0 < self.rate < PLAUSIBLE_RATE):
-            raise InputError(f"{name}: {self.rate:g} samples a second mean nothing")
-        if not 1 <= self.channels <= MOST_CHANNELS:
-            raise InputError(f"{name}: a recording has 1 to {MOST_CHANNELS} channels, and not {self.channels}")
-
-    @property
-    def octets(self) -> int:
-        """The octets of the samples of one instant."""
-        return 2 * self.channels * np.dtype(TYPES[self.datatype][0]).itemsize
-
-
-class Recording:
-    """A recording, open for reading.
-
-    Parameters
-    ----------
-    name : str
-        Of the file of samples, for messages.
-    stream : binary file
-    layout : Layout
-    frequency : float, optional
-        The carrier's, in Hz, where it is known.
-
-    Attributes
-    ----------
-    length : int
-        The number of instants.
-    rest : int
-        Octets behind the last whole one.
-    not_finite : bool
-        Whether the samples that were read last had parts that aren't finite numbers.
-    ever_not_finite : bool
-        Whether any that were read had.
-    """
-
-    def __init__(self, name: str, stream: BinaryIO, layout: Layout, frequency: Optional[float] = None) -> None:
-        layout.check(name)
-        self.name, self.layout, self.frequency = name, layout, frequency
-        self._stream = stream
-        size = stream.seek(0, os.SEEK_END)
-        self.length, self.rest = divmod(size, layout.octets)
-        self.not_finite = self.ever_not_finite = False
-
-    def read(self, first: int, count: int) -> np.ndarray:
-        """Samples from instant ``first`` on, fewer than ``count`` where the recording ends.
-
-        Parts that aren't finite, or above 10**15, are given as 0.
-
-        Returns
-        -------
-        ndarray of complex64, shape (channels, instants)
-            Of full scale 1.
-        """
-        count = max(0, min(count, self.length - first))
-        kind, scale, zero = TYPES[self.layout.datatype]
-        self._stream.seek(first * self.layout.octets)
-        raw = self._stream.read(count * self.layout.octets)
-        count = len(raw) // self.layout.octets
-        parts = np.frombuffer(raw[: count * self.layout.octets], kind).reshape(count, self.layout.channels, 2)
-        made = np.empty((self.layout.channels, count, 2), np.float32)
-        with np.errstate(invalid="ignore", over="ignore"):
-            made[...] = parts.transpose(1, 0, 2)
-        self.not_finite = False
-        if scale != 1:
-            made -= np.float32(zero)
-            made /= np.float32(scale)
-        elif made.size and not np.abs(made).max() < LARGEST:
-            made[~(np.abs(made) < LARGEST)] = 0
-            self.not_finite = self.ever_not_finite = True
-        return made.view(np.complex64)[..., 0]
-
-    def seconds(self, samples: float) -> float:
-        """How long so many instants last."""
-        return samples / self.layout.rate
-
-    def close(self) -> None:
-        """Close the file."""
-        self._stream.close()
-
-    def __enter__(self) -> "Recording":
-        return self
-
-    def __exit__(self, *_: object) -> None:
-        self.close()
-
-
-def open_recording(path: str, raw: Optional[Layout] = None, frequency: Optional[float] = None) -> Recording:
+def open_recording(path: Union[str, Sequence[str]], raw: Optional[Layout] = None, frequency: Optional[float] = None, *,
+                   rate: float = USUAL_RATE, variable: Optional[str] = None) -> Recording:
     """Open a recording.
 
     Parameters
     ----------
-    path : str
-        Of a raw file where ``raw`` is given; otherwise of either file of a SigMF recording, or their name without the ending.
+    path : str or sequence of str
+        Of a raw file where ``raw`` is given, ``"-"`` being standard input; otherwise of either file of a SigMF recording, or
+        their name without the ending, of a SigMF archive or collection, or of an array (.npy or .mat). Several are the
+        antennas of one receiver.
     raw : Layout, optional
     frequency : float, optional
         The carrier's, in Hz, which goes before what the recording says.
+    rate : float
+        Samples a second of an array, which doesn't say it.
+    variable : str, optional
+        The name of an array in a .mat with several.
 
     Raises
     ------
     InputError
         If a file is missing or empty, or what it says of its samples can't be used.
     """
+    if isinstance(path, str):
+        return _open(path, raw, frequency, rate, variable)
+    if len(path) > 1 and "-" in path:
+        raise InputError("standard input is one recording, and so isn't an antenna beside others")
+    opened: List[Recording] = []
+    try:
+        for each in path:
+            opened.append(_open(each, raw, frequency, rate, variable))
+        return opened[0] if len(opened) == 1 else Joined(opened)
+    except BaseException:
+        for recording in opened:
+            recording.close()
+        raise
+
+
+def _open(path: str, raw: Optional[Layout], frequency: Optional[float], rate: float, variable: Optional[str]) -> Recording:
+    if raw is not None:
+        return _open_raw(path, raw, frequency)
     if path == "-":
-        raise InputError("a recording is read at more than one place, and so not from standard input")
-    if raw is None:
-        meta, path = _pair(path)
-        raw, said = read_meta(meta)
-        frequency = said if frequency is None else frequency
+        raise InputError("samples in standard input are raw, and --datatype says what they are")
+    if is_array(path):
+        return open_mat(path, rate, frequency, variable) if path.lower().endswith(MAT) else open_npy(path, rate, frequency)
+    if path.endswith(COLLECTION):
+        return open_collection(Folder(""), path, frequency)
+    if path.endswith(ARCHIVE):
+        return open_archive(path, frequency)
+    base = base_name(path)
+    if base == path and os.path.isfile(path) and not os.path.isfile(base + META):
+        raise InputError(f"{path} is no SigMF recording (there is no {base + META}); "
+                         f"of raw samples --datatype and --sample-rate say what they are")
+    return open_sigmf(Folder(""), base, frequency)
+
+
+def _open_raw(path: str, layout: Layout, frequency: Optional[float]) -> Recording:
+    if path == "-":
+        return Piped("standard input", sys.stdin.buffer, layout, frequency)
     try:
         stream = open(path, "rb")
     except OSError as error:
         raise InputError(f"{path} can't be read: {error.strerror}") from error
     try:
-        if not stream.seekable():
-            raise InputError(f"{path} isn't an ordinary file, and a recording is read at more than one place")
-        recording = Recording(path, stream, raw, frequency)
+        mode = os.fstat(stream.fileno()).st_mode
+        if stat.S_ISFIFO(mode) or stat.S_ISSOCK(mode):
+            return Piped(path, stream, layout, frequency)
+        if not stat.S_ISREG(mode):
+            raise InputError(f"{path} is neither an ordinary file nor a pipe")
+        recording = Recording(path, stream, layout, frequency)
         if not recording.length:
-            raise InputError(f"{path} has {recording.rest} octets, and a sample takes {raw.octets}" if recording.rest
-                             else f"{path} is empty")
+            raise InputError(empty(path, recording.rest, layout))
         return recording
     except OSError as error:
         stream.close()
@@ -186,58 +109,6 @@ def open_recording(path: str, raw: Optional[Layout] = None, frequency: Optional[
     except BaseException:
         stream.close()
         raise
-
-
-def base_name(path: str) -> str:
-    """The common part of the names of a SigMF recording's files."""
-    for ending in (META, DATA):
-        if path.endswith(ending):
-            return path[: -len(ending)]
-    return path
-
-
-def _pair(path: str) -> Tuple[str, str]:
-    base = base_name(path)
-    if base == path and os.path.isfile(path) and not os.path.isfile(base + META):
-        raise InputError(f"{path} is no SigMF recording (there is no {base + META}); "
-                         f"of raw samples --datatype and --sample-rate say what they are")
-    return base + META, base + DATA
-
-
-def read_meta(path: str) -> Tuple[Layout, Optional[float]]:
-    """What the metadata of a SigMF recording say: the layout of its samples, and the carrier's frequency if they do.
-
-    Raises
-    ------
-    InputError
-    """
-    try:
-        with open(path, "rb") as stream:
-            meta = json.loads(stream.read())
-    except OSError as error:
-        raise InputError(f"{path} can't be read: {error.strerror}") from error
-    except (ValueError, RecursionError) as error:
-        raise InputError(f"{path} isn't JSON") from error
-    said = meta.get("global") if isinstance(meta, dict) else None
-    if not isinstance(said, dict):
-        raise InputError(f"{path} has no object global, which the metadata of SigMF have")
-    datatype, rate, channels = said.get("core:datatype"), said.get("core:sample_rate"), said.get("core:num_channels", 1)
-    if not isinstance(datatype, str):
-        raise InputError(f"{path} doesn't say the type of its samples (core:datatype)")
-    if not _is_number(rate):
-        raise InputError(f"{path} doesn't say how many samples there are in a second (core:sample_rate)")
-    if not (_is_number(channels) and channels == int(channels)):
-        raise InputError(f"{path}: core:num_channels isn't a whole number")
-    layout = Layout(datatype, float(rate), int(channels))
-    layout.check(path)
-    captures = meta.get("captures")
-    first = captures[0] if isinstance(captures, list) and captures and isinstance(captures[0], dict) else {}
-    frequency = first.get("core:frequency")
-    return layout, float(frequency) if _is_number(frequency) and frequency > 0 else None
-
-
-def _is_number(value: Any) -> bool:
-    return isinstance(value, (int, float)) and not isinstance(value, bool) and np.isfinite(value) and abs(value) < PLAUSIBLE_RATE
 
 
 @dataclass
@@ -264,12 +135,12 @@ class Writer:
 
 def write_recording(path: str, layout: Layout, fill, *, raw: bool = False, frequency: Optional[float] = None, description: str = "",
                     force: bool = False) -> Writer:
-    """Write a recording: SigMF, or the samples alone.
+    """Write a recording: SigMF, or the samples alone. Either file appears once both are written.
 
     Parameters
     ----------
     path : str
-        As in `open_recording`.
+        Of a raw file, or of a SigMF recording as in `open_recording`.
     layout : Layout
     fill : callable
         Called with a `Writer`, which takes the samples.
@@ -300,16 +171,16 @@ def write_recording(path: str, layout: Layout, fill, *, raw: bool = False, frequ
     with writing(data, force) as stream:
         writer = Writer(stream, layout)
         fill(writer)
-    if meta is not None:
-        capture = {"core:sample_start": 0, **({} if frequency is None else {"core:frequency": frequency})}
-        said = {"core:datatype": layout.datatype, "core:sample_rate": layout.rate, "core:num_channels": layout.channels,
-                "core:version": "1.0.0", "core:description": description, "core:recorder": f"mizgaure tools {__version__}"}
-        text = json.dumps({"global": said, "captures": [capture], "annotations": writer.annotations}, indent=1)
-        with writing(meta, force) as stream:
-            stream.write(text.encode() + b"\n")
+        if meta is not None:
+            stream.flush()  # before the metadata get their name
+            with writing(meta, force) as beside:
+                beside.write(_metadata(writer, frequency, description))
     return writer
 
 
-def name_of(path: str) -> str:
-    """A recording's name for a title."""
-    return Path(base_name(path)).name
+def _metadata(writer: Writer, frequency: Optional[float], description: str) -> bytes:
+    layout = writer.layout
+    capture = {"core:sample_start": 0, **({} if frequency is None else {"core:frequency": frequency})}
+    said = {"core:datatype": layout.datatype, "core:sample_rate": layout.rate, "core:num_channels": layout.channels,
+            "core:version": "1.0.0", "core:description": description, "core:recorder": f"mizgaure tools {__version__}"}
+    return json.dumps({"global": said, "captures": [capture], "annotations": writer.annotations}, indent=1).encode() + b"\n"

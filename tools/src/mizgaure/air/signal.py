@@ -74,6 +74,8 @@ class HtSignal:
     ldpc, short_guard : bool
     extension : int
         The number of extension spatial streams.
+    reserved : bool
+        The reserved bit, which has to be 1.
     """
 
     mcs: int
@@ -86,11 +88,12 @@ class HtSignal:
     ldpc: bool = False
     short_guard: bool = False
     extension: int = 0
+    reserved: bool = True
 
     def bits(self) -> List[int]:
         """Its 48 bits, in the order in which they are sent, with the CRC and the tail."""
         front = [*_number(self.mcs, 7), int(self.wide), *_number(self.length, 16),
-                 int(self.smoothing), int(self.not_sounding), 1, int(self.aggregated), *_number(self.stbc, 2),
+                 int(self.smoothing), int(self.not_sounding), int(self.reserved), int(self.aggregated), *_number(self.stbc, 2),
                  int(self.ldpc), int(self.short_guard), *_number(self.extension, 2)]
         return [*front, *crc(front), *[0] * TAIL]
 
@@ -101,7 +104,7 @@ def read_ht(bits: Sequence[int]) -> Optional[HtSignal]:
     if tuple(bits[34:42]) != crc(bits[:34]) or any(bits[42:]):
         return None
     return HtSignal(_value(bits[:7]), bool(bits[7]), _value(bits[8:24]), bool(bits[24]), bool(bits[25]), bool(bits[27]),
-                    _value(bits[28:30]), bool(bits[30]), bool(bits[31]), _value(bits[32:34]))
+                    _value(bits[28:30]), bool(bits[30]), bool(bits[31]), _value(bits[32:34]), bool(bits[26]))
 
 
 def crc(bits: Iterable[int]) -> Tuple[int, ...]:
@@ -142,14 +145,27 @@ def points_of(bits: Sequence[int]) -> np.ndarray:
 
 
 @lru_cache(maxsize=None)
-def _trellis() -> Tuple[np.ndarray, np.ndarray, np.ndarray]:
-    """For each state its two predecessors and the points that the coder sends on the way from each."""
-    state = np.arange(64)  # bit d is the input d + 1 steps ago, seen from the next step
-    before = np.stack((state >> 1, state >> 1 | 32))  # bit 0 of a state is the step's own input
-    register = (before << 1) | (state & 1)  # bit d is the input d steps ago
-    outputs = [sum(register >> delay & 1 for delay in taps) % 2 * 2.0 - 1 for taps in (TAPS_A, TAPS_B)]
-    # The state behind a step holds the last six inputs: bits 0 to 5 of the register.
-    return before, outputs[0], outputs[1]
+def _uncoding(count: int) -> np.ndarray:
+    """What coded bits have to be multiplied with, modulo 2, to give the bits: uint8, shape (2 * count, count)."""
+    rows = np.concatenate((np.array([coded(row) for row in np.eye(count, dtype=np.uint8)]).T, np.eye(2 * count, dtype=np.uint8)), axis=1)
+    for column in range(count):
+        pivot = column + int(rows[column:, column].argmax())
+        rows[[column, pivot]] = rows[[pivot, column]]
+        others = rows[:, column].astype(bool)
+        others[column] = False
+        rows[others] ^= rows[column]
+    return np.ascontiguousarray(rows[:count, count:].T)
+
+
+@lru_cache(maxsize=None)
+def _outputs() -> np.ndarray:
+    """The points that the coder sends on its way to each state: float64, shape (2 points, 2 ways, 64 states).
+
+    Bit d of a state is the input d steps ago. State s is reached from s >> 1 and from s >> 1 | 32.
+    """
+    state = np.arange(64)
+    register = np.stack((state, state | 64))
+    return np.stack([sum(register >> delay & 1 for delay in taps) % 2 * 2.0 - 1 for taps in (TAPS_A, TAPS_B)])
 
 
 def decode(soft: np.ndarray) -> np.ndarray:
@@ -164,17 +180,22 @@ def decode(soft: np.ndarray) -> np.ndarray:
     -------
     ndarray of uint8, shape (24 * symbols,)
     """
-    values = soft[:, interleaving()].reshape(-1, 2)
-    before, first, second = _trellis()
+    values = soft[:, interleaving()].reshape(-1, 2).astype(float)
+    steps = len(values)
+    hard = (values > 0).reshape(-1).astype(np.uint8)
+    uncoded = hard @ _uncoding(steps) % 2
+    if (coded(uncoded) == hard).all():  # then no other bits can be likelier
+        return uncoded
+    gains = np.tensordot(values, _outputs(), 1).reshape(steps, 2, 32, 2)  # of each way to each state, whose halves are 32 pairs
     metric = np.full(64, -np.inf)
     metric[0] = 0
-    chosen = np.empty((len(values), 64), np.int64)
-    for step, (a, b) in enumerate(values):
-        ways = metric[before] + a * first + b * second
-        chosen[step] = ways.argmax(axis=0)
-        metric = ways.max(axis=0)
-    state, bits = 0, np.empty(len(values), np.uint8)
-    for step in range(len(values) - 1, -1, -1):
+    ways = np.empty((steps, 2, 32, 2))
+    for gain, way in zip(gains, ways):
+        np.add(gain, metric.reshape(2, 32, 1), out=way)
+        metric = np.maximum(way[0], way[1]).reshape(64)
+    later = (ways[:, 1] > ways[:, 0]).reshape(steps, 64).tolist()
+    state, bits = 0, np.empty(steps, np.uint8)
+    for step in range(steps - 1, -1, -1):
         bits[step] = state & 1
-        state = before[chosen[step, state], state]
+        state = state >> 1 | 32 * later[step][state]
     return bits

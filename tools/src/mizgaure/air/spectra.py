@@ -6,11 +6,12 @@ from typing import Optional
 
 import numpy as np
 
-from .recording import Recording
+from .fourier import forward
 from .standard import TRANSFORM
 
 # Samples at 20 MHz from a packet's beginning to its first long symbol, behind that one's guard interval.
 FRONT = 192
+TURNS = 64  # samples whose turns are computed at once
 
 
 class Spectra:
@@ -18,37 +19,37 @@ class Spectra:
 
     Parameters
     ----------
-    recording : Recording
-    begin : int
-        Where that is in the recording.
+    samples : ndarray of complex64, shape (rows, instants)
+    front : int
+        How many of them are in front of that.
     oversampling : int
         1 for 20 million samples a second, 2 for 40 million.
     offset : float
-        The carrier's, in turns a sample. It is taken off what is transformed, and may be changed between calls.
+        The carrier's, in turns a sample, which is taken off what is transformed.
     """
 
-    def __init__(self, recording: Recording, begin: int, oversampling: int, offset: float) -> None:
-        self.recording, self.begin, self.over, self.offset = recording, begin, oversampling, offset
+    def __init__(self, samples: np.ndarray, front: int, oversampling: int, offset: float) -> None:
+        self.samples, self.front, self.over, self.offset = samples, front, oversampling, offset
         self.length = TRANSFORM * oversampling
-        self.samples = np.zeros((recording.layout.channels, 0), np.complex64)
-        self._front = min(begin, FRONT * oversampling)
-
-    def read(self, behind: int) -> bool:
-        """Read up to so many samples behind the beginning, and those of the packet in front of it; whether all are numbers."""
-        self.samples = self.recording.read(self.begin - self._front, self._front + behind)
-        return not self.recording.not_finite
+        self._windows = np.lib.stride_tricks.sliding_window_view(turned(samples, offset, front), self.length, axis=1)
 
     def of(self, begins: np.ndarray) -> Optional[np.ndarray]:
         """The spectra of windows that begin at instants.
 
         Returns
         -------
-        ndarray of complex128, shape (windows, antennas, numbers), or None
+        ndarray of complex64, shape (rows, windows, numbers), or None
             None where one of them isn't whole.
         """
-        times = begins[:, None] + np.arange(self.length)
-        places = times + self._front
-        if not places.size or places.max() >= self.samples.shape[1] or places.min() < 0:
+        places = np.asarray(begins) + self.front
+        if not places.size or places.max() >= self._windows.shape[1] or places.min() < 0:
             return None
-        turned = self.samples[:, places] * np.exp(-2j * np.pi * self.offset * times)
-        return np.fft.fft(turned, axis=-1).transpose(1, 0, 2)
+        return forward(self._windows[:, places])
+
+
+def turned(samples: np.ndarray, offset: float, front: int) -> np.ndarray:
+    """Samples without their carrier's offset, which turns nothing at instant ``front``: complex64, of the same shape."""
+    count = samples.shape[1]
+    coarse = np.exp(-2j * np.pi * ((offset * (np.arange(0, count, TURNS) - front)) % 1))
+    turns = np.outer(coarse, np.exp(-2j * np.pi * offset * np.arange(TURNS))).astype(np.complex64).reshape(-1)
+    return samples * turns[:count]

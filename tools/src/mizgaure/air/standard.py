@@ -1,4 +1,4 @@
-"""What an HT-mixed packet is made of, subcarrier by subcarrier (IEEE Std 802.11-2012, clauses 18.3 and 20.3.9).
+"""What a packet of the HT PHY is made of, subcarrier by subcarrier (IEEE Std 802.11-2012, clauses 18.3 and 20.3.9).
 
 All arrays over subcarriers have one entry for each number of `span`, -28 to 28 at 20 MHz and -58 to 58 at 40 MHz, zeros where
 nothing is sent. Values have mean power 1 on the subcarriers in use, and don't have the rotation of the upper half of a 40 MHz
@@ -128,11 +128,21 @@ def signal_symbol(points: np.ndarray, symbol: int, bandwidth: int) -> np.ndarray
     return made
 
 
-def pilots(rate: Rate, symbols: int) -> np.ndarray:
-    """The standard's pilots of data symbols (clause 20.3.11.10): float64, shape (symbols, pilots, streams), each 1 or -1."""
-    signs = np.array(_PILOTS[rate.bandwidth][rate.streams - 1], float)
+def pilots(rate: Rate, symbols: int, streams: int = 0, first: int = 3) -> np.ndarray:
+    """The standard's pilots of data symbols (clause 20.3.11.10): float64, shape (symbols, pilots, streams), each 1 or -1.
+
+    Parameters
+    ----------
+    rate : Rate
+    symbols : int
+    streams : int
+        Space-time streams; as many as spatial streams where 0.
+    first : int
+        Which polarity is that of the first symbol: 3 in HT-mixed format, 2 in HT-greenfield format.
+    """
+    signs = np.array(_PILOTS[rate.bandwidth][(streams or rate.streams) - 1], float)
     n, k = np.arange(symbols)[:, None], np.arange(rate.pilots)[None, :]
-    return signs[:, (n + k) % rate.pilots].transpose(1, 2, 0) * polarity()[(n + 3) % 127][:, :, None]
+    return signs[:, (n + k) % rate.pilots].transpose(1, 2, 0) * polarity()[(n + first) % 127][:, :, None]
 
 
 def pilot_places(bandwidth: int) -> np.ndarray:
@@ -164,11 +174,6 @@ def signal_octets(microseconds: float) -> int:
         Of the whole packet, its preamble counted.
     """
     return 3 * int(np.ceil((microseconds - 20) / 4 - 1e-9)) - 3
-
-
-def duration(rate: Rate, symbols: int, short_guard: bool) -> float:
-    """How long an HT-mixed packet lasts to the end of its last symbol, in microseconds."""
-    return 32 + 4 * TRAINING_FIELDS[rate.streams - 1] + symbols * (3.6 if short_guard else 4.0)
 
 
 def _kept(array: np.ndarray) -> np.ndarray:

@@ -1,102 +1,131 @@
-"""Where packets are in a recording: the short training by its period, the long training by its signs.
+"""Where packets are in a channel: the short training by its period, the long training by its signs.
 
-The recording is read in pieces. In each the correlation of the samples with those 0.8 microseconds later, over all antennas, is
-compared with their energy; where it stands out for long enough a packet may begin. Then the long training has to be there: its
-two symbols give the timing and the fine carrier offset, and the signs of its neighbouring subcarriers have to agree.
+The samples of all antennas are correlated with those 0.8 microseconds later, each antenna weighed by its noise. Where the sum
+is far larger than samples that have nothing to do with one another would make it, a packet may begin. Then the long training
+has to be there: its two symbols give the timing and the fine carrier offset, and the signs of its neighbouring subcarriers have
+to agree. Both tests compare a sum of products with the root of the sum of their powers, which is what chance makes of it;
+so the same limits serve any number of antennas, and any noise on them.
 """
 
 from __future__ import annotations
 
 from dataclasses import dataclass
 from functools import lru_cache
-from typing import Optional, Tuple
+from typing import Iterator, Optional, Tuple
 
 import numpy as np
 
 from . import standard
-from .recording import Recording
-from .standard import LONG_GUARD, SHORT_LAG, TRANSFORM
+from .channels import Channel
+from .standard import SHORT_LAG, TRANSFORM
 
-PIECE = 1 << 17  # samples at 20 MHz that are read at once, fewer where there are more than three channels
-WINDOW = 6 * SHORT_LAG  # samples at 20 MHz over which the short training is correlated
-ABOVE, RUN = 0.35, 20  # the correlation's share of the energy, and for how many samples at 20 MHz it has to last
-OVERLAP = 512  # samples at 20 MHz that two pieces have in common
-LONG_PERIOD = 0.15  # the least share of the energy that repeats after 3.2 microseconds in the long training
-COHERENCE = 0.35  # the least agreement of neighbouring subcarriers of the long training
-WEAKER_HALF = 0.05  # of the stronger half's energy, where a packet is in both halves of 40 MHz
+BLOCK, WINDOW = SHORT_LAG, 9  # samples whose products are added first, and how many such sums there are in 7.2 microseconds
+FOUND = 12.0  # how many times what chance makes of it, in power, the correlation of the short training has to be
+AGREED = 12.0  # the same for the neighbouring subcarriers of the long training
+NEAR, AROUND = 6, 20  # blocks round a candidate that are no larger, and among which is one much smaller
+SMALLER = 0.6  # than the candidate
+CHUNK = 1 << 10  # blocks that are correlated at once
+QUIET = 0.1  # the share of blocks that are taken to have nothing but noise
 LEAST_NOISE = 1e-4  # of the noise of the antenna with the most, which every antenna is taken to have
-EARLY = 16  # samples at 20 MHz by which the long training is looked at earlier than at its peak
+TO_LONG = 192  # samples from a packet's beginning to its first long symbol, behind that one's guard interval
+REACH = 64  # samples by which that symbol may begin earlier or later than a candidate says
+EARLY = 16  # samples by which the long training is looked at earlier than at its peak
+NUMBERS = np.arange(-26, 27)
 
 
 @dataclass(frozen=True)
-class Run:
-    """Instants at which the samples repeat after 0.8 microseconds: from ``start`` to ``stop``, which is the first without."""
-
-    start: int
-    stop: int
-
-
-class Finder:
-    """Looks for runs in a recording, from its beginning to its end.
+class Candidate:
+    """An instant at which a packet may begin.
 
     Parameters
     ----------
-    recording : Recording
-    oversampling : int
-        1 for 20 million samples a second, 2 for 40 million.
+    instant : int
+        Of the channel, within some samples.
+    offset : float
+        The carrier's, in turns a sample, within some hundredths of a subcarrier's distance.
     """
 
-    def __init__(self, recording: Recording, oversampling: int) -> None:
-        self.recording, self.over = recording, oversampling
-        self.first = self.stop = 0
-        self.runs = np.zeros((0, 2), np.int64)
-
-    def find(self, position: int) -> Optional[Run]:
-        """The first run at ``position`` or behind it, or None."""
-        while position < self.recording.length:
-            if not self.first <= position < self.stop:
-                self._load(position)
-            number = int(np.searchsorted(self.runs[:, 1], position, "right"))
-            if number < len(self.runs) and self.runs[number, 0] < self.stop:
-                return Run(max(int(self.runs[number, 0]), position), int(self.runs[number, 1]))
-            position = self.stop
-        return None
-
-    def _load(self, position: int) -> None:
-        samples = self.recording.read(position, PIECE * self.over // max(1, self.recording.layout.channels // 2))
-        share = periodicity(samples, SHORT_LAG * self.over, WINDOW * self.over)
-        self.first, end = position, position + samples.shape[1]
-        self.stop = end if end == self.recording.length else end - OVERLAP * self.over
-        edges = np.flatnonzero(np.diff(np.concatenate(([False], share > ABOVE, [False]))))
-        runs = edges.reshape(-1, 2)
-        self.runs = runs[runs[:, 1] - runs[:, 0] >= RUN * self.over] + position
+    instant: int
+    offset: float
 
 
-def periodicity(samples: np.ndarray, lag: int, window: int) -> np.ndarray:
-    """What share of the energy repeats: float64 from 0 to 1, one for each instant whose window is whole.
+class Correlation:
+    """The samples of a channel, correlated with those 0.8 microseconds later.
 
     Parameters
     ----------
-    samples : ndarray of complex, shape (channels, instants)
-        Their mean is taken off first.
-    lag, window : int
-        In samples. The window is what is correlated with what is a lag behind it.
+    products : ndarray of complex128, shape (rows, blocks)
+        Sums over 16 samples each.
+    energies : ndarray of float64, shape (rows, blocks + 1)
+        Of the blocks.
+    begin : int
+        The number of the first block in the channel.
     """
-    if samples.shape[1] < lag + window:
-        return np.zeros(0)
-    samples = samples.astype(complex)
-    samples -= samples.mean(axis=1, keepdims=True)
-    products = _running(np.einsum("an,an->n", samples[:, lag:], samples[:, :-lag].conj()), window)
-    energy = _running(np.einsum("an,an->n", samples, samples.conj()).real, window)
-    energies = energy[:-lag] * energy[lag:]
-    least = 1e-12 * max(float(energies.max()), 1e-300)
-    return np.where(energies > least, np.abs(products) ** 2 / np.maximum(energies, least), 0)
+
+    def __init__(self, products: np.ndarray, energies: np.ndarray, begin: int) -> None:
+        self.products, self.energies, self.begin = products, energies, begin
+        self.noise = noise_of(energies)
+
+    def together(self, other: "Correlation") -> "Correlation":
+        """That of two channels, as of one with the rows of both."""
+        return Correlation(np.concatenate((self.products, other.products)), np.concatenate((self.energies, other.energies)), self.begin)
+
+    def beside_chance(self) -> Tuple[np.ndarray, np.ndarray]:
+        """For each block from which a window begins the correlation of all rows, and its power beside what chance makes of it."""
+        weights = 1 / self.noise[:, None]
+        sums = _running(np.sum(weights * self.products, axis=0))
+        energies = _running(self.energies * weights)
+        chance = np.sum(energies[:, :-1] * energies[:, 1:], axis=0) / (WINDOW * BLOCK)
+        least = 1e-9 * max(float(chance.max(initial=0)), 1e-290)
+        return sums, np.abs(sums) ** 2 / np.maximum(chance, least)
+
+    def candidates(self) -> Iterator[Candidate]:
+        """Where packets may begin, in their order."""
+        if self.products.shape[1] < WINDOW:
+            return
+        sums, power = self.beside_chance()
+        size = np.abs(sums)
+        loud = np.where(power > FOUND, size, 0)
+        padded = np.pad(loud, NEAR)
+        highest = np.max([padded[place : place + size.size] for place in range(2 * NEAR + 1)], axis=0)
+        for block in np.flatnonzero((loud > 0) & (loud == highest)).tolist():
+            behind, before = size[block + WINDOW : block + AROUND + 1], size[max(0, block - AROUND) : max(0, block - WINDOW + 1)]
+            if min(behind.min(initial=np.inf), before.min(initial=np.inf)) < SMALLER * size[block]:
+                yield Candidate((self.begin + block) * BLOCK, float(np.angle(sums[block])) / (2 * np.pi * SHORT_LAG))
 
 
-def _running(values: np.ndarray, window: int) -> np.ndarray:
+def correlation_of(channel: Channel, begin: int, end: int) -> Correlation:
+    """The correlation of a channel's samples from an instant to another one, as far as there are samples."""
+    first, stop = begin // BLOCK, min(-(-end // BLOCK), (channel.stop - BLOCK) // BLOCK)
+    count = max(0, stop - first)
+    products = np.zeros((channel.rows, count), complex)
+    energies = np.zeros((channel.rows, count + 1))
+    for place in range(0, count, CHUNK):
+        blocks = min(CHUNK, count - place)
+        samples = np.ascontiguousarray(channel.read((first + place) * BLOCK, (blocks + 1) * BLOCK))
+        parts = samples.reshape(channel.rows, blocks + 1, BLOCK)
+        products[:, place : place + blocks] = np.einsum("rbi->rb", parts[:, 1:] * parts[:, :-1].conj())
+        halves = parts.view(np.float32)
+        energies[:, place : place + blocks + 1] = np.einsum("rbi,rbi->rb", halves, halves)
+    return Correlation(products, energies, first)
+
+
+def noise_of(energies: np.ndarray) -> np.ndarray:
+    """What each row's noise may be beside that of the others, by its quietest blocks: float64, above 0."""
+    if not energies.shape[1]:
+        return np.ones(len(energies))
+    quiet = np.partition(energies, int(QUIET * (energies.shape[1] - 1)), axis=1)[:, int(QUIET * (energies.shape[1] - 1))]
+    if not quiet.any():  # silence without noise
+        quiet = energies.mean(axis=1)
+    return np.maximum(quiet, max(LEAST_NOISE * float(quiet.max()), 1e-290))
+
+
+def _running(values: np.ndarray) -> np.ndarray:
     """Sums over windows."""
-    sums = np.concatenate(([0], np.cumsum(values, dtype=np.result_type(values.dtype, np.float64))))
-    return sums[window:] - sums[:-window]
+    sums = np.cumsum(values, axis=-1)
+    made = sums[..., WINDOW - 1 :].copy()
+    made[..., 1:] -= sums[..., :-WINDOW]
+    return made
 
 
 @dataclass(eq=False)
@@ -109,19 +138,16 @@ class Training:
         Where its first symbol begins behind its guard interval, by the strongest way.
     offset : float
         The carrier's, in turns a sample.
-    middles : tuple of int
-        The middles of the parts of 20 MHz that have a packet, in subcarriers of the recording's band.
-    channel : ndarray of complex128, shape (parts, antennas, 53)
+    channel : ndarray of complex128, shape (rows, 53)
         As seen by a transform that begins `EARLY` samples before the symbol does; 0 on subcarrier 0.
-    noise : ndarray of float64, shape (antennas,)
+    noise : ndarray of float64, shape (rows,)
         The noise's mean power on a subcarrier, above 0.
-    signal : ndarray of float64, shape (antennas,)
+    signal : ndarray of float64, shape (rows,)
         The signal's, over the subcarriers in use.
     """
 
     begin: int
     offset: float
-    middles: Tuple[int, ...]
     channel: np.ndarray
     noise: np.ndarray
     signal: np.ndarray
@@ -132,119 +158,80 @@ class Training:
         return float(10 * np.log10(self.noise.sum() / max(float(self.signal.sum()), 1e-300)))
 
 
-def find_training(recording: Recording, run: Run, oversampling: int) -> Optional[Training]:
-    """The long training behind a run, or None where there is none."""
-    over = oversampling
-    first = max(run.start, run.stop - 170 * over)
-    heard = recording.read(first, 500 * over).astype(complex)
-    if heard.shape[1] < 320 * over:
-        return None
-    samples = heard - heard.mean(axis=1, keepdims=True)
-    offset = _coarse_offset(samples[:, : 300 * over], over)
-    time = np.arange(samples.shape[1])
-    samples *= np.exp(-2j * np.pi * offset * time)
-    begin = _strongest(samples, over)
-    if begin is None:
-        return None
-    length = TRANSFORM * over
-    front = samples[:, begin - LONG_GUARD * over : begin + length]
-    behind = samples[:, begin + length - LONG_GUARD * over : begin + 2 * length]
-    repeated = np.vdot(front, behind)
-    energies = np.vdot(front, front).real * np.vdot(behind, behind).real
-    if not abs(repeated) ** 2 > LONG_PERIOD * energies:
-        return None
-    fine = np.angle(repeated) / (2 * np.pi * length)
-    at = slice(begin - EARLY * over, begin - EARLY * over + 2 * length)
-    # The mean isn't taken off here: of a packet it is something, too, and its tone would be counted as noise.
-    turned = heard[:, at] * np.exp(-2j * np.pi * (offset + fine) * (time[at] - begin))
-    spectra = np.fft.fft(turned.reshape(-1, 2, length), axis=-1)
-    middles = _parts(spectra.mean(axis=1), over)
-    if not middles:
-        return None
-    known = standard.long_training(20)
-    parts = spectra[..., (np.arange(-26, 27) + np.array(middles)[:, None]) % length].transpose(2, 0, 1, 3)  # part, antenna, symbol, number
-    channel = np.where(known[2:-2] != 0, parts.mean(axis=2) * known[2:-2].real, 0)
-    difference = parts[:, :, 0] - parts[:, :, 1]
-    used = known[2:-2] != 0
-    noise = np.mean(np.abs(difference[..., used]) ** 2, axis=(0, 2)) / 2
-    signal = np.maximum(np.mean(np.abs(channel[..., used]) ** 2, axis=(0, 2)) - noise / 2, 0)
-    if not signal.any():
-        return None
-    floor = max(LEAST_NOISE * float(noise.max()), 1e-12 * float(signal.max()))
-    return Training(first + begin, offset + fine, middles, channel, np.maximum(noise, floor), signal)
-
-
-def _coarse_offset(samples: np.ndarray, over: int) -> float:
-    """The carrier offset in turns a sample, by the short training."""
-    lag, window = SHORT_LAG * over, WINDOW * over
-    products = _running(np.einsum("an,an->n", samples[:, lag:], samples[:, :-lag].conj()), window)
-    return float(np.angle(products[np.abs(products).argmax()])) / (2 * np.pi * lag)
-
-
-@lru_cache(maxsize=None)
-def long_symbols(over: int) -> Tuple[Tuple[int, ...], np.ndarray]:
-    """A long training symbol of 20 MHz in time, at every place in the band where it can be.
-
-    Returns
-    -------
-    middles : tuple of int
-    symbols : ndarray of complex128, shape (places, samples)
-    """
-    middles = (0,) if over == 1 else (-32, 32, 0)
-    length = TRANSFORM * over
-    spectra = np.zeros((len(middles), length), complex)
-    for row, middle in enumerate(middles):
-        spectra[row, (standard.span(20) + middle) % length] = standard.long_training(20)
-    return middles, np.fft.ifft(spectra, axis=-1)
-
-
-def long_correlation(samples: np.ndarray, over: int) -> np.ndarray:
-    """How much of the energy from each instant on is a long training symbol's, by the place in the band.
+def find_training(channel: Channel, candidate: Candidate, noise: np.ndarray) -> Optional[Training]:
+    """The long training behind a candidate, or None where there is none.
 
     Parameters
     ----------
-    samples : ndarray of complex, shape (antennas, instants)
+    channel : Channel
+    candidate : Candidate
+    noise : ndarray of float64, shape (rows,)
+        By which rows are weighed.
+    """
+    first = candidate.instant + TO_LONG - REACH - EARLY
+    count = 2 * REACH + EARLY + 2 * TRANSFORM
+    if first < 0 or first + count > channel.stop:
+        return None
+    heard = channel.read(first, count)
+    times = np.arange(count)
+    samples = heard * np.exp(-2j * np.pi * candidate.offset * times) / np.sqrt(noise)[:, None]
+    energy = long_correlation(samples)
+    begin = EARLY + int((energy[EARLY:-TRANSFORM] + energy[EARLY + TRANSFORM :]).argmax())
+    front, behind = samples[:, begin - EARLY : begin + TRANSFORM], samples[:, begin - EARLY + TRANSFORM : begin + 2 * TRANSFORM]
+    offset = candidate.offset + float(np.angle(np.vdot(front, behind))) / (2 * np.pi * TRANSFORM)
+    at = slice(begin - EARLY, begin - EARLY + 2 * TRANSFORM)
+    turned = heard[:, at] * np.exp(-2j * np.pi * offset * (times[at] - begin))
+    symbols = np.fft.fft(turned.reshape(-1, 2, TRANSFORM), axis=-1)[..., NUMBERS % TRANSFORM] * standard.long_training(20)[2:-2].real
+    links = symbols.mean(axis=1)
+    if not agreement(links / np.sqrt(noise)[:, None]) > AGREED:
+        return None
+    used = NUMBERS != 0
+    power = np.mean(np.abs(symbols[:, 0, used] - symbols[:, 1, used]) ** 2, axis=1) / 2
+    signal = np.maximum(np.mean(np.abs(links[:, used]) ** 2, axis=1) - power / 2, 0)
+    if not signal.any():
+        return None
+    floor = max(LEAST_NOISE * float(power.max()), 1e-12 * float(signal.max()))
+    return Training(first + begin, offset, links, np.maximum(power, floor), signal)
+
+
+def agreement(links: np.ndarray) -> float:
+    """How far neighbouring subcarriers agree once the training's signs are taken off, beside what chance makes of it, in power.
+
+    Parameters
+    ----------
+    links : ndarray of complex128, shape (rows, subcarriers)
+    """
+    chance = float(np.sum(np.abs(links[:, :-1]) ** 2 * np.abs(links[:, 1:]) ** 2))
+    return abs(np.vdot(links[:, :-1], links[:, 1:])) ** 2 / chance if chance > 0 else 0.0
+
+
+@lru_cache(maxsize=None)
+def long_symbol(over: int = 1, middle: int = 0) -> np.ndarray:
+    """A long training symbol of 20 MHz in time, of energy 1: complex128, shape (64 * over,).
+
+    Parameters
+    ----------
     over : int
+        The oversampling.
+    middle : int
+        Where it lies in the band, in subcarriers.
+    """
+    spectrum = np.zeros(TRANSFORM * over, complex)
+    spectrum[(standard.span(20) + middle) % spectrum.size] = standard.long_training(20)
+    symbol = np.fft.ifft(spectrum)
+    return symbol / np.sqrt(np.sum(np.abs(symbol) ** 2))
+
+
+def long_correlation(samples: np.ndarray) -> np.ndarray:
+    """How much of the energy from each instant on is a long training symbol's, over all rows.
+
+    Parameters
+    ----------
+    samples : ndarray of complex, shape (rows, instants)
 
     Returns
     -------
-    ndarray of float64, shape (places, instants)
-        In the unit of the samples' energy; the halves of 40 MHz are one place together, the middle is another one.
+    ndarray of float64, shape (instants - 63,)
     """
-    places, symbols = long_symbols(over)
-    symbols = symbols / np.sqrt(np.sum(np.abs(symbols) ** 2, axis=-1, keepdims=True))
-    found = np.array([sum(np.abs(np.correlate(row, symbol, "valid")) ** 2 for row in samples) for symbol in symbols])
-    return found if len(places) == 1 else np.stack((found[0] + found[1], found[2]))
-
-
-def _strongest(samples: np.ndarray, over: int) -> Optional[int]:
-    """Where the first long symbol begins: the correlation of two symbols one behind the other is largest."""
-    length = TRANSFORM * over
-    energy = long_correlation(samples, over)
-    both = (energy[:, :-length] + energy[:, length:]).max(axis=0)
-    low, high = 100 * over, min(320 * over, both.size)
-    if high <= low:
-        return None
-    return low + int(both[low:high].argmax())
-
-
-def _parts(spectra: np.ndarray, over: int) -> Tuple[int, ...]:
-    """Which parts of the band have a long training: spectra of shape (antennas, samples of a symbol)."""
-    places = (0,) if over == 1 else (-32, 32, 0)
-    found = {middle: _agreement(spectra, middle) for middle in places}
-    centre, sides = found[0], [(middle, found[middle]) for middle in places if middle]
-    best = max(found.values(), key=lambda pair: pair[0])
-    if best[0] < COHERENCE:
-        return ()
-    if best == centre:
-        return (0,)
-    most = max(energy for _, (_, energy) in sides)
-    return tuple(middle for middle, (agreement, energy) in sides if agreement >= COHERENCE and energy > WEAKER_HALF * most)
-
-
-def _agreement(spectra: np.ndarray, middle: int) -> Tuple[float, float]:
-    """How far neighbouring subcarriers agree once the training's signs are taken off, from 0 to 1, and their energy."""
-    length = spectra.shape[-1]
-    values = spectra[:, (np.arange(-26, 27) + middle) % length] * standard.long_training(20)[2:-2].real
-    energy = float(np.sum(np.abs(values) ** 2))
-    return (abs(np.vdot(values[:, :-1], values[:, 1:])) / energy if energy > 0 else 0.0), energy
+    windows = np.lib.stride_tricks.sliding_window_view(samples, TRANSFORM, axis=1)
+    return np.sum(np.abs(windows @ long_symbol().conj()) ** 2, axis=0)

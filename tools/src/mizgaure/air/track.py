@@ -9,7 +9,7 @@ from __future__ import annotations
 
 from dataclasses import dataclass
 from functools import lru_cache
-from typing import Tuple
+from typing import Optional, Tuple
 
 import numpy as np
 
@@ -18,9 +18,14 @@ from .standard import TRANSFORM
 MOST_DRIFT, USUAL_DRIFT = 60e-6, 20e-6  # of two clocks against each other
 GRID = 0.2  # samples at the packet's end between the drifts that are tried
 HALF_WIDTHS = (1, 2, 4, 8, 16, 32)  # symbols on each side over which a phase may be averaged
-ROUNDS = 6
+ROUNDS = 4
 PLACES, FINE = (-20, 6), 0.125  # samples at 20 MHz behind a guard interval at which windows may begin, and how finely they are tried
+RATIO = 0.5  # dB from one ratio of a channel to its noise to the next, where its place is sought
 LEAST_ERROR = 1e-4  # of a channel's power, which its estimate is taken to have at least
+LEAST_BEHIND, LEAST_POWER = 4, 8.0  # symbols behind a step, and the pilots' power beside the noise, where one is looked for
+AS_IT_SHOULD, ASTRAY = 0.88, 0.7  # how far pilots agree where all is well, at least, and behind a step, at most
+CLEARLY = 0.02  # by how much they agree better with a step than without, at least
+FARTHEST = 12  # samples of a step whose number is told
 AS_GOOD = (10.0, 2.0)  # what a place's likelihood may miss of the best one's, in its logarithm, and as much for each link
 
 
@@ -99,34 +104,48 @@ def _around(values: np.ndarray, half: int) -> np.ndarray:
     return sums[np.minimum(places + half + 1, values.size)] - sums[np.maximum(places - half, 0)]
 
 
-def smoothed(channel: np.ndarray, numbers: np.ndarray, noise: np.ndarray, delays: np.ndarray, length: int) -> np.ndarray:
+def smoothed(channel: np.ndarray, numbers: np.ndarray, noise: np.ndarray, delays: np.ndarray, length: int, rounds: int = ROUNDS) -> np.ndarray:
     """A channel's likeliest values where its impulse response has independent taps of unknown powers at given delays.
 
-    The powers are found from all links together by expectation and maximisation; then this is Wiener's filter for them.
+    The powers are found from all links together: what is heard of a tap is divided by how certain it is, again and again. Then this
+    is Wiener's filter for them.
 
     Parameters
     ----------
     channel : ndarray of complex128, shape (links, subcarriers)
         With noise on each value.
     numbers : ndarray of int64, shape (subcarriers,)
+        As many below 0 as above, at the same distances.
     noise : ndarray of float64, shape (subcarriers,)
-        Its mean power.
+        Its mean power, the same on both sides of 0.
     delays : ndarray of int64
         In samples.
     length : int
         Of the transform.
+    rounds : int
+        In which the powers are found.
     """
-    waves = np.exp(-2j * np.pi * np.outer(numbers, delays) / length)
-    weighed = waves.conj().T / noise
-    gram, heard = weighed @ waves, weighed @ channel.T
+    waves, gram = _waves(numbers.tobytes(), noise.tobytes(), delays.tobytes(), length)
+    heard = np.ascontiguousarray(waves.conj().T @ (channel / noise).T).view(float)
     powers = np.full(len(delays), max(float(np.mean(np.abs(channel) ** 2)) / len(delays), 1e-30))
-    taps = heard
-    for _ in range(ROUNDS):
+    taps, one = heard, np.eye(len(delays))
+    for _ in range(rounds):
         roots = np.sqrt(powers)
-        inverse = np.linalg.inv(roots[:, None] * gram * roots + np.eye(len(delays)))
+        inverse = np.linalg.inv(roots[:, None] * gram * roots + one)
         taps = roots[:, None] * (inverse @ (roots[:, None] * heard))
-        powers = np.maximum(np.mean(np.abs(taps) ** 2, axis=1) + powers * np.diagonal(inverse).real, 1e-30)
-    return (waves @ taps).T
+        certain = np.maximum(1 - np.diagonal(inverse), 1e-9)
+        powers = np.maximum(np.sum(taps**2, axis=1) / (len(channel) * certain), 1e-30)
+    return (waves @ taps.view(complex)).T
+
+
+@lru_cache(maxsize=32)
+def _waves(numbers: bytes, noise: bytes, delays: bytes, length: int) -> Tuple[np.ndarray, np.ndarray]:
+    """What taps at delays are on subcarriers, (subcarriers, delays), and their products, weighed by the noise, (delays, delays).
+
+    The latter are real numbers, since subcarriers lie alike on both sides.
+    """
+    waves = np.exp(-2j * np.pi * np.outer(np.frombuffer(numbers, np.int64), np.frombuffer(delays, np.int64)) / length)
+    return waves, ((waves.conj().T / np.frombuffer(noise)) @ waves).real
 
 
 @dataclass(frozen=True)
@@ -148,7 +167,8 @@ class Window:
     room: float
 
 
-def window_of(channel: np.ndarray, numbers: np.ndarray, noise: float, guard: int, over: int, early: int) -> Window:
+def window_of(channel: np.ndarray, numbers: np.ndarray, noise: float, guard: int, over: int, early: int,
+              fine: float = FINE) -> Window:
     """The windows whose guard interval in front of them holds a channel's impulse response.
 
     At each of many places the impulse response is taken to lie within a guard interval and to have the same power all over
@@ -167,21 +187,19 @@ def window_of(channel: np.ndarray, numbers: np.ndarray, noise: float, guard: int
         The oversampling.
     early : int
         How many samples behind a symbol's guard interval the windows began through which the channel was seen.
+    fine : float
+        How far apart the places are, in samples.
     """
     length = TRANSFORM * over
-    apart = numbers[:, None] - numbers
-    turns = apart * (guard / length)
-    even = np.sinc(turns) * np.exp(-1j * np.pi * turns)  # the covariance of delays from 0 to the guard interval's end
     power = float(np.mean(np.abs(channel) ** 2))
     noise = max(noise, LEAST_ERROR * power)
-    weights = np.linalg.inv(max(power - noise, noise) * even + noise * np.eye(len(numbers)))
-    seen = channel * np.exp(-2j * np.pi / length * early * numbers)
-    products = (seen.T @ seen.conj()) * weights.T
+    ratio = round(10 / RATIO * np.log10(max(power - noise, noise) / noise))
+    weights, pairs, apart = _fit(numbers.tobytes(), guard / length, ratio)
+    seen = channel * (np.exp(-2j * np.pi / length * (early - guard / 2) * numbers) / np.sqrt(noise))
+    products = (seen.T @ seen.conj()).reshape(-1)[pairs] * weights
     # The misfit is a sum over pairs of subcarriers, and those that are equally far apart turn alike from place to place.
-    widest = int(apart.max())
-    alike = (apart + widest).reshape(-1)
-    sums = np.bincount(alike, products.real.reshape(-1)) + 1j * np.bincount(alike, products.imag.reshape(-1))
-    begins, waves = _places(over, widest)
+    sums = np.bincount(apart, products.real) + 1j * np.bincount(apart, products.imag)
+    begins, waves = _places(over, fine, len(sums))
     misfit = (waves @ sums).real
     best = int(misfit.argmin())
     good = misfit <= misfit[best] + AS_GOOD[0] + AS_GOOD[1] * len(channel)
@@ -195,11 +213,40 @@ def window_of(channel: np.ndarray, numbers: np.ndarray, noise: float, guard: int
     return Window(round(middle), middle - round(middle), float(begins[high] - begins[low]))
 
 
+@lru_cache(maxsize=256)
+def _fit(numbers: bytes, guard: float, ratio: int) -> Tuple[np.ndarray, np.ndarray, np.ndarray]:
+    """How subcarriers weigh in the misfit of a channel whose delays up to half a guard interval have the same power.
+
+    Parameters
+    ----------
+    numbers : bytes
+        Of the subcarriers.
+    guard : float
+        The guard interval's part of a transform.
+    ratio : int
+        The channel's power beside its noise of power 1, in steps of `RATIO` dB.
+
+    Returns
+    -------
+    weights : ndarray of float64, shape (pairs,)
+    pairs, apart : ndarray of int64, shape (pairs,)
+        The place of each pair of a subcarrier and one that isn't above it, and how far apart these are.
+    """
+    places = np.frombuffer(numbers, np.int64)
+    apart = places[:, None] - places
+    inverse = np.linalg.inv(10 ** (0.1 * RATIO * ratio) * np.sinc(apart * guard) + np.eye(len(places)))
+    pairs = np.flatnonzero(apart.reshape(-1) >= 0)
+    return inverse.reshape(-1)[pairs], pairs, apart.reshape(-1)[pairs]
+
+
 @lru_cache(maxsize=None)
-def _places(over: int, widest: int) -> Tuple[np.ndarray, np.ndarray]:
-    """The places that are tried for windows, and by what subcarriers that are up to ``widest`` apart are turned there."""
-    begins = np.arange(PLACES[0] * over, PLACES[1] * over, FINE)
-    return begins, np.exp(2j * np.pi / (TRANSFORM * over) * np.outer(begins, np.arange(-widest, widest + 1)))
+def _places(over: int, fine: float, count: int) -> Tuple[np.ndarray, np.ndarray]:
+    """The places that are tried for windows, and by what products of subcarriers 0 to ``count`` - 1 apart are turned there.
+
+    A pair stands for both of its orders, but for a subcarrier with itself.
+    """
+    begins = np.arange(PLACES[0] * over, PLACES[1] * over, fine)
+    return begins, np.exp(2j * np.pi / (TRANSFORM * over) * np.outer(begins, np.arange(count))) * np.where(np.arange(count) > 0, 2, 1)
 
 
 def shifts_of(drift: float, times: np.ndarray, rest: float) -> Tuple[np.ndarray, np.ndarray]:
@@ -217,3 +264,76 @@ def shifts_of(drift: float, times: np.ndarray, rest: float) -> Tuple[np.ndarray,
     late = drift * times
     shifts = np.rint(rest - late).astype(np.int64)
     return shifts, late + shifts
+
+
+@dataclass(frozen=True)
+class Step:
+    """A place in a packet from which on symbols don't stand where they should, as where a receiver lost samples.
+
+    Parameters
+    ----------
+    symbol : int
+        The first data symbol that is heard elsewhere.
+    samples : int, optional
+        How many samples are missing, below 0 where there are too many; None where that isn't known.
+    """
+
+    symbol: int
+    samples: Optional[int]
+
+    def __str__(self) -> str:
+        if self.samples is None:
+            return f"a step in time at data symbol {self.symbol}"
+        count = "1 sample" if abs(self.samples) == 1 else f"{abs(self.samples)} samples"
+        return f"{count} {'missing' if self.samples > 0 else 'too many'} at data symbol {self.symbol}"
+
+
+def step_of(pilots: np.ndarray, powers: np.ndarray, turns: np.ndarray, times: np.ndarray, drift: float) -> Optional[Step]:
+    """The step in time within a packet, or None where there is none.
+
+    How far pilots agree is the length of the sum of a symbol's pilots beside what it should be. Where that is low at the
+    packet's beginning or end, a step of each number of samples at each symbol is tried with each drift; the one with which
+    pilots agree best is told, if they do so clearly better than without. A step by which they agree nowhere behind it, since
+    symbols run into one another there, is told without its samples.
+
+    Parameters
+    ----------
+    pilots : ndarray of complex128, shape (symbols, pilots)
+        z, as `drift_of` takes it.
+    powers : ndarray of float64, shape (symbols, pilots)
+        w, the power that is expected of each.
+    turns : ndarray of float64, shape (pilots,)
+        By how many turns a pilot is turned where a symbol is heard a sample late.
+    times : ndarray of float64, shape (symbols,)
+        As in `drift_of`.
+    drift : float
+        That was found.
+    """
+    total, count = powers.sum(axis=1), len(pilots)
+    if count < 2 * LEAST_BEHIND or total.mean() < LEAST_POWER:
+        return None
+    agrees = _agreeing(pilots, turns, drift * times)
+    ends = np.cumsum(agrees) / np.cumsum(total), np.cumsum(agrees[::-1]) / np.cumsum(total[::-1])
+    if min(end[LEAST_BEHIND - 1 :].min() for end in ends) > AS_IT_SHOULD:
+        return None
+    best, step, well = float(agrees.sum()) + CLEARLY * float(total.sum()), None, 0.0
+    for tried in np.unique(np.append(np.linspace(-MOST_DRIFT, MOST_DRIFT, 25), drift)):
+        front = np.cumsum(_agreeing(pilots, turns, tried * times))
+        for samples in (*range(-FARTHEST, 0), *range(1, FARTHEST + 1)):
+            behind = _agreeing(pilots, turns, tried * times + samples)
+            sums = front[:-1] + np.cumsum(behind[::-1])[-2::-1]  # with a step in front of symbol 1 and so on
+            place = LEAST_BEHIND - 1 + int(sums[LEAST_BEHIND - 1 : count - LEAST_BEHIND].argmax())
+            if sums[place] > best:
+                best, step = float(sums[place]), Step(place + 1, samples)
+                well = float(behind[place + 1 :].sum() / total[place + 1 :].sum())
+    if step is not None and well > AS_IT_SHOULD:
+        return step
+    places = np.arange(LEAST_BEHIND, count - LEAST_BEHIND + 1)
+    before, after = ends[0][places - 1], ends[1][count - places - 1]
+    place = int(((before - after) * np.sqrt(places * (count - places))).argmax())
+    return Step(int(places[place]), None) if before[place] > AS_IT_SHOULD and after[place] < ASTRAY else None
+
+
+def _agreeing(pilots: np.ndarray, turns: np.ndarray, late: np.ndarray) -> np.ndarray:
+    """The lengths of the sums of symbols' pilots where symbols are so many samples late: float64, shape (symbols,)."""
+    return np.abs(np.sum(pilots * np.exp(-2j * np.pi * np.outer(late, turns)), axis=1))

@@ -15,7 +15,7 @@ from ..files import naming, reading, refuse_overwriting, writing
 from ..program import Progress, Radio
 from ..shards import texts
 from ..workers import Workers
-from .base import Command, add_part, add_workers
+from .base import Command, add_part, add_workers, refuse_both, write_arrays
 
 PIECE = 1 << 16
 
@@ -29,6 +29,7 @@ def words(command: argparse.ArgumentParser) -> None:
 
 
 def run(given: argparse.Namespace) -> None:
+    refuse_both(given)
     refuse_overwriting(given.output, given.force)
     arrays = given.output.endswith(".npz")
     if arrays and given.part[1] > 1:
@@ -37,7 +38,7 @@ def run(given: argparse.Namespace) -> None:
         pieces = _pieces(given)
         with writing(given.output, given.force) as stream:
             if arrays:
-                np.savez(stream, **_arrays(_records(given, pieces)))
+                write_arrays(stream, _arrays(_records(given, pieces)))
                 return
             last = b""
             for piece in pieces:

@@ -3,9 +3,10 @@
 from __future__ import annotations
 
 import argparse
+import io
 from dataclasses import dataclass
 from pathlib import Path
-from typing import Any, Callable, Iterator, List, Mapping, Optional, Sequence, Tuple, Union
+from typing import Any, BinaryIO, Callable, Iterator, List, Mapping, Optional, Sequence, Tuple, Union
 
 import numpy as np
 
@@ -13,8 +14,9 @@ from ..answers import FrameAnswer, Jobs, Refused, read_answers
 from ..errors import InputError
 from ..files import Source, naming, reading, refuse_overwriting
 from ..formats import CaptureFrame, read_htcp
+from ..channels import EXPONENTIAL, TAPPED, profile_of
 from ..channels import NAMES as CHANNELS
-from ..channels import profile_of
+from ..quantise import FOR_SOFT, Gain
 from ..sweep import ESTIMATES, Setting
 from ..tables import Records, write_csv, write_json_lines
 
@@ -83,6 +85,27 @@ def positive(word: str) -> float:
     return number
 
 
+LARGEST = "largest"
+
+
+def gain(word: str) -> Gain:
+    """What to multiply with before rounding: a number above 0, ``soft``, or ``largest``, which is None."""
+    if word in (FOR_SOFT, LARGEST):
+        return FOR_SOFT if word == FOR_SOFT else None
+    return positive(word)
+
+
+def level(word: str) -> float:
+    """A level in dBm."""
+    try:
+        number = float(word)
+    except ValueError:
+        number = float("nan")
+    if not abs(number) <= 300:
+        raise argparse.ArgumentTypeError(f"{word} is no level from -300 to 300 dBm")
+    return number
+
+
 def ratios(text: str) -> Tuple[float, ...]:
     """Ratios in dB, as 0:20:5 or 3,7.5,12."""
     try:
@@ -123,8 +146,8 @@ def add_setting(command: argparse.ArgumentParser) -> None:
     command.add_argument("--bandwidth", type=int, choices=(20, 40), default=setting.bandwidth, help="in MHz (default 20)")
     command.add_argument("--mcs", type=whole, default=setting.mcs, help="0 to 31 (default 9)")
     command.add_argument("--length", type=whole, default=setting.length, help="octets of a frame (default 100)")
-    command.add_argument("--antennas", type=whole, default=setting.antennas, help="receive antennas (default: as many as streams)")
-    command.add_argument("--decay", type=not_negative, default=setting.decay, help="samples by which the taps' power falls by e (default 2)")
+    command.add_argument("--antennas", type=positive_whole, default=setting.antennas, help="receive antennas (default: as many as streams)")
+    command.add_argument("--decay", type=not_negative, help=f"samples by which the power of the taps of {EXPONENTIAL} falls by e (default 2)")
     command.add_argument("--channel", metavar="CHANNEL", default=setting.channel,
                          help=f"{', '.join(CHANNELS)}, or a function as FILE.py:NAME (default {setting.channel})")
     command.add_argument("--profile", metavar="NS:DB,..", type=profile, default=setting.profile, help="of the channel tapped, as 0:0,50:-3,110:-7.5")
@@ -134,7 +157,7 @@ def add_setting(command: argparse.ArgumentParser) -> None:
 
 def add_workers(command: argparse.ArgumentParser) -> None:
     """The options that say who does the work."""
-    command.add_argument("--processes", metavar="N", type=whole, default=0, help="how many share the work (default: one for each processor)")
+    command.add_argument("--processes", metavar="N", type=positive_whole, help="how many share the work (default: one for each processor)")
     command.add_argument("--scheduler", metavar="ADDRESS", help="let the workers of this scheduler of dask.distributed do it, as tcp://HOST:8786")
 
 
@@ -147,6 +170,12 @@ def add_tables(command: argparse.ArgumentParser) -> None:
     """The options that write records."""
     command.add_argument("--csv", metavar="FILE", help="write a table as CSV")
     command.add_argument("--json", metavar="FILE", help="write the same records as JSON lines")
+
+
+def refuse_both(given: argparse.Namespace) -> None:
+    """Refuse a number of processes where a scheduler's workers do the work."""
+    if given.scheduler is not None and given.processes is not None:
+        raise InputError("--processes is said of this machine, and with --scheduler its workers do the work")
 
 
 def refuse_tables(given: argparse.Namespace) -> None:
@@ -166,13 +195,25 @@ def write_tables(given: argparse.Namespace, records: Union[Sequence[Mapping[str,
 
 def setting_of(given: argparse.Namespace, frames: int) -> Setting:
     """The setting that these options give."""
-    setting = Setting(given.bandwidth, given.mcs, given.length, given.snr, frames, given.antennas, given.decay, given.estimate, given.seed,
+    if given.decay is not None and given.channel != EXPONENTIAL:
+        raise InputError(f"--decay is that of the channel {EXPONENTIAL}, and does nothing to {given.channel}")
+    if given.profile and given.channel != TAPPED:
+        raise InputError(f"--profile is that of the channel {TAPPED}, and does nothing to {given.channel}")
+    decay = Setting().decay if given.decay is None else given.decay
+    setting = Setting(given.bandwidth, given.mcs, given.length, given.snr, frames, given.antennas, decay, given.estimate, given.seed,
                       given.channel, given.profile, getattr(given, "errors", 0), getattr(given, "chunk", 1))
     setting.check()
     return setting
 
 
 # files
+
+def write_arrays(stream: BinaryIO, arrays: Mapping[str, Any]) -> None:
+    """Write an archive of arrays (.npz): whole, since an archive that can't be written to its end would complain when it is dropped."""
+    made = io.BytesIO()
+    np.savez(made, **arrays)
+    stream.write(made.getbuffer())
+
 
 def frames_of(source: Source, name: str) -> Iterator[CaptureFrame]:
     """The frames of a capture, with the file's name in front of what is said of it."""
@@ -208,3 +249,8 @@ def name_of(path: Optional[str]) -> str:
 def octets(count: int) -> str:
     """A number of octets in words."""
     return "1 octet" if count == 1 else f"{count} octets"
+
+
+def unheard(frame: CaptureFrame) -> str:
+    """What is to be said of a frame whose diagonals are all 0: every vector of it is as near as some others."""
+    return "" if np.einsum("cii->ci", frame.triangles).any() else ", all diagonals are 0: the numbers are too small, or nothing was received"

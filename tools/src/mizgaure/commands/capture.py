@@ -13,14 +13,15 @@ from ..errors import InputError
 from ..files import naming, reading, refuse_overwriting
 from ..formats import write_htcp
 from ..quantise import MeasuredFrame, capture
-from .base import Command, octets, positive
+from .base import Command, gain, octets, unheard
 
 
 def words(command: argparse.ArgumentParser) -> None:
     command.add_argument("frames", metavar="FRAME.npz", nargs="+",
                          help="a frame each: the arrays channel, received, bandwidth, mcs, length and, if any, erased")
     command.add_argument("-o", "--output", metavar="FILE", required=True, help="the capture (HTCP) to write; - is standard output")
-    command.add_argument("--gain", type=positive, help="what to multiply with before rounding (default: for each frame the largest that fits)")
+    command.add_argument("--gain", type=gain, help="what to multiply with before rounding: a number, soft, which fits soft decisions, or largest, "
+                                                   "which is the largest that fits (default)")
     command.add_argument("--format", type=int, choices=(1, 2), help="the version of the capture (default 1, and 2 where a subcarrier is erased)")
 
 
@@ -34,7 +35,7 @@ def run(given: argparse.Namespace) -> None:
     write_htcp(given.output, frames, version=given.format, force=given.force)
     for path, frame, part in zip(given.frames, frames, made):
         print(f"{path}: {frame.rate}, {octets(frame.length)}, gain {part.gains[0]:.6g}, "
-              f"the root of a distance is off by at most {part.bounds[0]:.3g}", file=sys.stderr)
+              f"the root of a distance is off by at most {part.bounds[0]:.3g}{unheard(frame)}", file=sys.stderr)
 
 
 ASKED = ("channel", "received", "bandwidth", "mcs", "length")

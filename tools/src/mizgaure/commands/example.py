@@ -10,7 +10,7 @@ from ..errors import InputError
 from ..files import refuse_overwriting, writing
 from ..formats import write_htsy
 from ..sweep import random_symbols, received_frame
-from .base import Command, add_setting, ratios, setting_of
+from .base import Command, add_setting, ratios, setting_of, write_arrays
 
 
 def words(command: argparse.ArgumentParser) -> None:
@@ -31,7 +31,8 @@ def run(given: argparse.Namespace) -> None:
     sent = random_symbols(setting.rate, setting.length, generator)
     frame = received_frame(setting, setting.snr[0], sent, generator)
     with writing(given.output, given.force) as stream:
-        np.savez(stream, channel=frame.channel, received=frame.received, bandwidth=frame.bandwidth, mcs=frame.mcs, length=frame.length)
+        write_arrays(stream, {"channel": frame.channel, "received": frame.received, "bandwidth": frame.bandwidth, "mcs": frame.mcs,
+                              "length": frame.length})
     if given.sent:
         write_htsy(given.sent, [sent], force=given.force)
 

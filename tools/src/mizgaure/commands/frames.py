@@ -17,14 +17,14 @@ Mpdus = List[Tuple[bytes, Radiotap]]  # each with its FCS, and what its file say
 
 
 def words(command: argparse.ArgumentParser) -> None:
-    command.add_argument("mpdus", metavar="FILE", help="MPDUs: a pcap file, or a line of hexadecimal digits for each; - is standard input")
+    command.add_argument("mpdus", metavar="FILE", help="MPDUs: a pcap or pcapng file, or a line of hexadecimal digits for each; - is standard input")
     command.add_argument("-o", "--output", metavar="FILE", required=True, help="the file of frames (HTTX) to write; - is standard output")
     command.add_argument("--bandwidth", type=int, choices=(20, 40), help="in MHz (default: as a pcap says, and 20)")
     command.add_argument("--mcs", type=whole, help="0 to 31 (default: as a pcap says, and 0)")
     command.add_argument("--seed", type=whole, help="of the scrambler, 1 to 127 (default: 1, 2 .. 127, 1 ..)")
     command.add_argument("--aggregate", metavar="N", type=positive_whole,
                          help="put N MPDUs in a row into an A-MPDU (default: as a pcap says, and each alone)")
-    command.add_argument("--fcs", choices=("add", "there", "keep"), default="add",
+    command.add_argument("--fcs", choices=("add", "there", "keep"),
                          help="of hexadecimal lines: add it, see that it is there and right, or keep what is there (default add)")
 
 
@@ -33,6 +33,8 @@ def run(given: argparse.Namespace) -> None:
         raise InputError(f"the seed is {given.seed}, and only 1 to 127 are known")
     with naming(given.mpdus):
         groups = list(_grouped(list(_read(given)), given.aggregate))
+        if not groups:
+            raise InputError("there is no MPDU in it")
         if len(groups) > MOST_FRAMES:
             raise InputError(f"it has {len(groups)} frames, and a file of frames has at most {MOST_FRAMES}")
         frames = [_frame(given, number, group, whole_psdu) for number, (group, whole_psdu) in enumerate(groups)]
@@ -44,8 +46,10 @@ def _read(given: argparse.Namespace) -> Iterator[Tuple[bytes, Radiotap]]:
     with reading(source) as stream:
         is_pcap = stream.read(4) in MAGICS
     if not is_pcap:
-        yield from _of_lines(source, given.fcs)
+        yield from _of_lines(source, given.fcs or "add")
         return
+    if given.fcs is not None:
+        raise InputError("--fcs is said of hexadecimal lines, and a pcap file says itself whether there is an FCS")
     for packet in read_pcap(source):
         if not packet.octets:
             raise InputError("it has a record without octets")

@@ -26,7 +26,7 @@ def words(command: argparse.ArgumentParser) -> None:
     command.add_argument("--answers", metavar="LINES", help="kept lines of radio rx, in place of running it")
     command.add_argument("--aggregated", choices=("yes", "no", "guess"), default="guess",
                          help="whether the frames are A-MPDUs (default: guess, by FCS and delimiters)")
-    command.add_argument("-o", "--output", metavar="FILE", help="write the MPDUs with radiotap headers, as Wireshark reads them")
+    command.add_argument("-o", "--output", metavar="FILE", help="write the MPDUs with radiotap headers (pcap, or pcapng where it ends in .pcapng), as Wireshark reads them")
     add_tables(command)
 
 
@@ -51,7 +51,7 @@ def run(given: argparse.Namespace) -> None:
             psdu = take_apart(answer.octets, aggregated)
             _say(answer.frame, psdu)
             records += [_record(answer.frame, rate, psdu, number) for number in range(len(psdu.mpdus))] or [_record(answer.frame, rate, psdu)]
-            radiotap = Radiotap() if rate is None else Radiotap(rate.bandwidth, rate.mcs)
+            radiotap = Radiotap() if rate is None else Radiotap(rate.bandwidth, rate.mcs, ldpc=False, stbc=0, extension=0)
             packets += packets_of(psdu, radiotap, answer.frame * STEP, answer.frame)
             seen, good = seen + len(psdu.mpdus), good + psdu.good
         if isinstance(answers.last, Refused):

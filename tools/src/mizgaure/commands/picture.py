@@ -11,6 +11,7 @@ from typing import Tuple
 from .. import pictures
 from ..air import pictures as air_pictures
 from ..air.recording import name_of as name_of_recording
+from ..air.resampled import fitted
 from ..answers import Jobs
 from ..errors import InputError
 from ..files import naming, refuse_overwriting
@@ -29,7 +30,7 @@ def words(command: argparse.ArgumentParser) -> None:
                          help="constellation, evm, residual, distances, sweep, spectrum, preamble or tracking")
     command.add_argument("file", metavar="FILE", help="a capture, for sweep what mizgaure sweep kept, for the last three a recording")
     command.add_argument("output", metavar="PICTURE", help="ending in .png, .svg or .pdf")
-    command.add_argument("--frame", type=whole, default=0, help="the frame to draw (default 0)")
+    command.add_argument("--frame", type=whole, help="the frame to draw (default 0)")
     command.add_argument("--answers", metavar="LINES", help="kept lines of radio detect, in place of running it")
     add_layout(command)
 
@@ -39,6 +40,11 @@ def run(given: argparse.Namespace) -> None:
     refuse_overwriting(given.output, given.force)
     if given.kind not in air_pictures.KINDS and (given.datatype, given.sample_rate, given.channels) != (None, None, None):
         raise InputError("--datatype, --sample-rate and --channels are said of a recording")
+    if given.answers is not None and given.kind not in KINDS:
+        raise InputError("--answers are those to a capture")
+    if given.frame is not None and given.kind in ("sweep", "spectrum"):
+        raise InputError(f"--frame is said of one frame, and {given.kind} shows all")
+    given.frame = given.frame or 0
     if given.kind == "sweep":
         with naming(given.file):
             kept: Sweep = read_sweep(given.file)
@@ -46,7 +52,8 @@ def run(given: argparse.Namespace) -> None:
         return
     if given.kind in air_pictures.KINDS:
         with opened(given, given.file) as recording:
-            drawn = air_pictures.KINDS[given.kind](recording, given.frame, name_of_recording(given.file))
+            shown = recording if given.kind == "spectrum" else fitted(recording)
+            drawn = air_pictures.KINDS[given.kind](shown, given.frame, name_of_recording(given.file))
         pictures.save(drawn, given.output, given.force)
         return
     frame, jobs = _one_frame(given)

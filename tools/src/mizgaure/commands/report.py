@@ -1,36 +1,75 @@
-"""``mizgaure report``: one page on captures."""
+"""``mizgaure report``: one page on captures, recordings and sweeps."""
 
 from __future__ import annotations
 
 import argparse
+import os
+from typing import List, Tuple
 
+from ..air.recording import base_name, open_recording
+from ..air.resampled import fitted
+from ..air.sigmf import DATA, META
 from ..errors import InputError
-from ..files import refuse_overwriting, writing
-from ..program import Radio
-from .base import Command, whole
+from ..files import naming, refuse_overwriting, writing
+from ..program import Progress, Radio
+from ..sweep import read_sweep
+from .base import Command, not_negative, positive, whole
+from .verdict import measured
 
 
 def words(command: argparse.ArgumentParser) -> None:
-    command.add_argument("captures", metavar="CAPTURE", nargs="+")
+    command.add_argument("captures", metavar="CAPTURE", nargs="+", help="captures (HTCP) and SigMF recordings")
     command.add_argument("-o", "--output", metavar="FILE", required=True, help="the page (HTML) to write; it has its pictures inside")
     command.add_argument("--theirs", metavar="LINES", action="append", help="another receiver's answers, as judge reads them; once for each capture")
+    command.add_argument("--sweep", metavar="FILE", action="append", default=[], help="what mizgaure sweep kept; may come again")
+    command.add_argument("--frequency", metavar="HZ", type=positive, help="of the middle of the recorded band (default: as recordings say)")
+    command.add_argument("--reference-ppm", metavar="PPM", type=not_negative, help="by how much the recorder's own clock may be wrong")
     command.add_argument("--pictures", metavar="N", type=whole, default=2, help="draw the first N frames of each capture (default 2)")
     command.add_argument("--title", metavar="TEXT", default="Captures, measured", help="the page's title")
 
 
 def run(given: argparse.Namespace) -> None:
-    from ..report import examine, page
+    from ..report import examine, examine_recording, page
+    from ..tracing import facts
 
     refuse_overwriting(given.output, given.force)
     if "-" in given.captures:
         raise InputError("a report reads its captures twice, and so not from standard input")
-    if given.theirs and len(given.theirs) != len(given.captures):
-        raise InputError(f"--theirs comes once for each capture: captures {len(given.captures)}, --theirs {len(given.theirs)}")
-    radio = Radio(given.radio)
-    theirs = given.theirs or [None] * len(given.captures)
-    made = page([examine(path, radio, lines, given.pictures) for path, lines in zip(given.captures, theirs)], given.title)
+    recordings, captures = _sorted(given.captures)
+    if given.theirs and len(given.theirs) != len(captures):
+        raise InputError(f"--theirs comes once for each capture: captures {len(captures)}, --theirs {len(given.theirs)}")
+    if not recordings and (given.frequency is not None or given.reference_ppm is not None):
+        raise InputError("--frequency and --reference-ppm are said of recordings, and there is none")
+    radio = Radio(given.radio, progress=False)
+    bar = Progress(len(given.captures) + len(given.sweep), "report", unit=" files")
+    examined, heard, sweeps = [], [], []
+    try:
+        for path, lines in zip(captures, given.theirs or [None] * len(captures)):
+            examined.append(examine(path, radio, lines, given.pictures))
+            bar.add(1)
+        for path in recordings:
+            with open_recording(path) as recording:
+                packets = list(measured(fitted(recording), shown=False))
+                if not packets:
+                    raise InputError(f"{path}: no packet was found in it")
+                heard.append(examine_recording(recording, path, packets, given.frequency or recording.frequency, given.reference_ppm))
+            bar.add(1)
+        for path in given.sweep:
+            with naming(path):
+                sweeps.append((path, read_sweep(path)))
+            bar.add(1)
+    finally:
+        bar.close()
+    inputs = [*captures, *(base_name(path) + ending for path in recordings for ending in (META, DATA)), *(given.theirs or []), *given.sweep]
+    made = page(examined, given.title, facts(given.command_line, radio.path, inputs), heard, sweeps)
     with writing(given.output, given.force) as stream:
         stream.write(made.encode())
 
 
-COMMAND = Command("report", "write a page on captures: frames, packets, measures, pictures", words, run, radio=True, writes=True)
+def _sorted(paths: List[str]) -> Tuple[List[str], List[str]]:
+    """The recordings among some files, and the captures."""
+    recordings = [path for path in paths if path.endswith((META, DATA)) or os.path.isfile(path + META)]
+    return recordings, [path for path in paths if path not in recordings]
+
+
+COMMAND = Command("report", "write a page on captures, recordings and sweeps: measures, verdicts, pictures", words, run, radio=True, writes=True)

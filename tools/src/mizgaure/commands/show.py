@@ -8,7 +8,7 @@ import numpy as np
 
 from ..files import naming
 from ..formats import CaptureFrame, SentFrame, SymbolsFrame, read_any
-from .base import Command, octets
+from .base import Command, octets, unheard
 
 
 def words(command: argparse.ArgumentParser) -> None:
@@ -23,7 +23,7 @@ def run(given: argparse.Namespace) -> None:
         for number, frame in enumerate(frames):
             more = ""
             if isinstance(frame, CaptureFrame):
-                more = f", {_symbols(frame.samples.shape[0])}"
+                more = f", {_symbols(frame.samples.shape[0])}{unheard(frame)}"
                 if frame.erased.any():
                     more += f", {int(frame.erased.sum())} subcarriers erased: {' '.join(map(str, np.flatnonzero(frame.erased)))}"
             elif isinstance(frame, SymbolsFrame):

@@ -12,7 +12,7 @@ from ..errors import InputError
 from ..files import refuse_overwriting, writing
 from ..program import Progress, Radio
 from ..sweep import COLUMNS, Journal, Setting, Sweep, sweep
-from .base import Command, add_part, add_setting, add_tables, add_workers, name_of, ratios, refuse_tables, setting_of, whole, write_tables
+from .base import Command, add_part, add_setting, add_tables, add_workers, name_of, ratios, refuse_both, refuse_tables, setting_of, whole, write_tables
 
 
 def words(command: argparse.ArgumentParser) -> None:
@@ -34,6 +34,7 @@ def words(command: argparse.ArgumentParser) -> None:
 
 
 def run(given: argparse.Namespace) -> None:
+    refuse_both(given)
     for path in (None if given.resume else given.output, given.picture):
         if path:
             refuse_overwriting(path, given.force)

@@ -44,6 +44,9 @@ def words(command: argparse.ArgumentParser) -> None:
     command.add_argument("--raw", action="store_true", help="write the samples alone")
     command.add_argument("--guard", choices=("long", "short"), default="long", help="the guard interval of data symbols (default long)")
     command.add_argument("--aggregated", action="store_true", help="say in HT-SIG that the octets are an A-MPDU")
+    command.add_argument("--stbc", metavar="N", type=int, choices=(0, 1, 2), default=scene.stbc,
+                         help="send so many more space-time streams than spatial streams, 1 or 2 (default 0)")
+    command.add_argument("--greenfield", action="store_true", help="write packets in HT-greenfield format, and not in HT-mixed format")
     command.add_argument("--antennas", type=whole, default=scene.antennas, help="receive antennas (default: as many as streams)")
     command.add_argument("--spread", metavar="NS", type=not_negative, default=scene.spread,
                          help="the delay spread in nanoseconds; 0, the default, wires antennas to streams")
@@ -53,23 +56,40 @@ def words(command: argparse.ArgumentParser) -> None:
     command.add_argument("--snr", type=ratio, default=scene.snr, help="in dB, or none for no noise (default 35)")
     command.add_argument("--gap", metavar="US", type=not_negative, default=scene.gap,
                          help="the silence between packets in microseconds (default 20)")
+    command.add_argument("--rate", type=int, choices=(20, 40, 60, 80, 100, 120, 200),
+                         help="million samples a second (default: as many as packets need)")
+    command.add_argument("--dc", metavar="DB", type=ratio, default=scene.level, help="add a level of so many dB beside a packet (default none)")
+    command.add_argument("--dc-drift", metavar="HZ", type=parts_per_million, default=scene.drift, help="turn it so often in a second (default 0)")
+    command.add_argument("--neighbour", metavar="DB", type=ratio, default=scene.neighbour,
+                         help="add packets of so many dB beside the others in the channel above (default none)")
+    command.add_argument("--nonadjacent", action="store_true", help="put them into the channel behind that one")
+    command.add_argument("--clock", metavar="PPM", type=parts_per_million, default=scene.clock,
+                         help="of the symbol clock, in parts per million (default: as --offset)")
+    command.add_argument("--leakage", metavar="DB", type=ratio, default=scene.leakage,
+                         help="let the carrier leak with so many dB of a packet's overall power (default none)")
+    command.add_argument("--filter", metavar="DB", type=ratio, default=scene.filter,
+                         help="weaken what is sent beyond the channel by so many dB (default none)")
+    command.add_argument("--lost", metavar="SAMPLES", type=whole, default=scene.lost, help="lose samples in the middle of every packet (default 0)")
     command.add_argument("--seed", type=whole, default=scene.seed, help="of the random numbers (default 1)")
 
 
 def run(given: argparse.Namespace) -> None:
     scene = Scene(given.antennas, given.spread, given.offset, given.frequency, given.snr, given.gap, given.guard == "short",
-                  given.aggregated, given.seed)
+                  given.aggregated, given.seed, given.dc, given.dc_drift, given.neighbour, given.lost,
+                  given.stbc, given.greenfield, given.nonadjacent, given.clock, given.leakage, given.filter)
     scene.check()
     source = held(given.symbols)
     with naming(given.symbols):
         rates = [frame.rate for frame in read_htsy(source)]
         if not rates:
             raise InputError("there is no frame in it")
-    oversampling = max(rate.bandwidth for rate in rates) // 20
-    antennas = scene.antennas or max(rate.streams for rate in rates)
+    oversampling = max(given.rate or 20, *(rate.bandwidth for rate in rates)) // 20
+    for rate in rates:
+        scene.check_band(rate.bandwidth, oversampling)
+    antennas = scene.antennas or max(rate.streams for rate in rates) + scene.stbc
     layout = Layout(given.datatype, 20e6 * oversampling, antennas)
     writer = write_recording(given.output, layout, lambda writer: record_packets(read_htsy(source), scene, antennas, oversampling, writer),
-                             raw=given.raw, frequency=scene.frequency, description="Packets of IEEE 802.11n in HT-mixed format",
+                             raw=given.raw, frequency=scene.frequency, description=f"Packets of IEEE 802.11n in HT-{'greenfield' if scene.greenfield else 'mixed'} format",
                              force=given.force)
     clipped = f", {writer.clipped} parts clipped" if writer.clipped else ""
     packets = "1 packet" if len(rates) == 1 else f"{len(rates)} packets"

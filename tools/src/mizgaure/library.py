@@ -1,0 +1,571 @@
+"""The layers of the reference receiver as functions over numpy arrays: the proved library ``libmizgaure``, called in this process.
+
+Each function is one call of the library, which ``mizgaure.h`` and docs/LIBRARY.md describe with their clauses of IEEE Std
+802.11-2012. The library is proved; this module, which hands it arrays, is tested and not proved.
+
+The library is looked for at ``MIZGAURE_LIBRARY``, then beside this file as ``libmizgaure.so.0``, and then by that name as the
+system does. Importing this module fails with an ``ImportError`` where there is none, or one of other calls.
+
+Arrays of the right type, C-contiguous and aligned, are passed as they are; others are converted, but never an ``out``. An ``out``
+may not share memory with another argument. The interpreter's lock is let go during a call, so threads run side by side.
+"""
+
+from __future__ import annotations
+
+import ctypes
+import os
+from pathlib import Path
+from typing import Optional, Union
+
+import numpy as np
+
+from .errors import InputError
+from .rates import Rate
+
+VERSION = 1
+
+#: An entry of a channel above the diagonal.
+TAP = np.dtype([("re", "<i2"), ("im", "<i2")])
+#: The triangular channel of a subcarrier: its diagonal, and the entries above it row by row (32 octets).
+CHANNEL = np.dtype([("diagonal", "<u2", 4), ("above", TAP, 6)])
+#: What was received on the rows of a subcarrier: real and imaginary parts (32 octets).
+RECEIVED = np.dtype([("samples", "<i4", (4, 2))])
+#: What was found for a subcarrier: a point (I, Q) for each stream, and the distance ``low + 2**64 * high`` (24 octets).
+HIT = np.dtype([("points", "i1", (4, 2)), ("low", "<u8"), ("high", "<u8")])
+
+#: What holds octets, as ``bytes`` and arrays of uint8 do.
+Octets = Union[bytes, bytearray, memoryview, np.ndarray]
+
+
+class Fault(InputError):
+    """A call did nothing; its class says why."""
+
+
+class NoMemory(Fault, MemoryError):
+    """Memory ran out."""
+
+
+class NoRate(Fault):
+    """The bandwidth and the MCS index name no rate."""
+
+
+class NoPattern(Fault):
+    """The puncturing pattern is none of 0 to 3."""
+
+
+class NoSeed(Fault):
+    """The seed is outside 1 to 127, or the bits are those of no seed."""
+
+
+class BadLength(Fault):
+    """An array has another length than the call asks for."""
+
+
+class NoStream(Fault):
+    """The rate has no such spatial stream."""
+
+
+class NoRoom(Fault):
+    """The output is longer than its array."""
+
+
+class Refused(Fault):
+    """The input is no file of its format.
+
+    Attributes
+    ----------
+    kind : str
+        The kind of its first fault, as ``Truncated``.
+    offset : int
+        The offset of the field at fault, or the input's length where it ends early.
+    """
+
+    def __init__(self, kind: str, offset: int) -> None:
+        super().__init__(f"refused {kind} at {offset}")
+        self.kind = kind
+        self.offset = offset
+
+
+class NoModulation(Fault):
+    """No constellation has labels of so many bits: there are 1, 2, 4 and 6."""
+
+
+class NoLabel(Fault):
+    """A label has more bits than those of the constellation."""
+
+
+class NoPoint(Fault):
+    """A point is off the constellation."""
+
+
+#: The faults by their numbers; 0 is none.
+FAULTS = (None, NoMemory, NoRate, NoPattern, NoSeed, BadLength, NoStream, NoRoom, Refused, NoModulation, NoLabel, NoPoint)
+
+#: The kinds of refusals by their numbers (docs/FORMATS.md).
+KINDS = (
+    "", "BadMagic", "BadVersion", "BadBandwidth", "BadMcs", "BadLength", "Truncated", "Trailing", "BadSeed", "BadPoint", "BadPilot",
+    "BadErased", "BadModulation", "BadStreams", "BadMark", "BadCount",
+)
+
+
+class _Pair(ctypes.Structure):
+    _fields_ = [("low", ctypes.c_uint64), ("high", ctypes.c_uint64)]
+
+
+class _Refusal(ctypes.Structure):
+    _fields_ = [("offset", ctypes.c_uint64), ("kind", ctypes.c_uint32)]
+
+
+def _opened() -> ctypes.CDLL:
+    name = "libmizgaure.so.0"
+    named = os.environ.get("MIZGAURE_LIBRARY")
+    beside = Path(__file__).with_name(name)
+    path = named or (str(beside) if beside.exists() else name)
+    try:
+        library = ctypes.CDLL(path)
+        version = library.mizgaure_version
+    except (OSError, AttributeError) as error:
+        raise ImportError(f"there is no proved library at {path} (MIZGAURE_LIBRARY names one): {error}") from error
+    version.argtypes, version.restype = (), ctypes.c_uint32
+    if version() != VERSION:
+        raise ImportError(f"the library at {path} has the calls of version {version()}, and this module those of version {VERSION}")
+    return library
+
+
+_library = _opened()
+_P, _N, _U8, _U16, _U32, _U64 = ctypes.c_void_p, ctypes.c_size_t, ctypes.c_uint8, ctypes.c_uint16, ctypes.c_uint32, ctypes.c_uint64
+
+
+def _call(name: str, *types: type):
+    function = getattr(_library, "mizgaure_" + name)
+    function.argtypes, function.restype = types, ctypes.c_uint32
+    return function
+
+
+_nearest = _call("nearest", _U8, _U8, _P, _P, _P)
+_detect_symbols = _call("detect_symbols", _U8, _U8, _P, _N, _P, _N, _P, _N)
+_weigh_symbols = _call("weigh_symbols", _U8, _U8, _P, _N, _P, _N, _P, _N)
+_scramble = _call("scramble", _U8, _P, _N)
+_recover = _call("recover", _P, _N, _P)
+_encode = _call("encode", _U8, _P, _N, _P, _N)
+_decode = _call("decode", _U8, _P, _N, _P, _N, _P)
+_soft_decode = _call("soft_decode", _U8, _P, _N, _P, _N, _P)
+_lay = _call("lay", _U8, _U8, _P, _N, _P, _N, _P, _N)
+_gather = _call("gather", _U8, _U8, _P, _N, _P, _N, _P, _N)
+_places = _call("places", _U8, _U8, _U8, _P, _N)
+_origins = _call("origins", _U8, _U8, _U8, _P, _N)
+_points = _call("points", _U8, _P, _N, _P, _N)
+_labels = _call("labels", _U8, _P, _N, _P, _N)
+_pilots = _call("pilots", _U8, _U8, _U32, _U8, _P, _N)
+_transmit = _call("transmit", _U8, _U8, _U8, _P, _N, _P, _N)
+_decode_frame = _call("decode_frame", _U8, _U8, _U64, _U64, _P, _N, _P, _N, _P)
+_soft_frame = _call("soft_frame", _U8, _U8, _U64, _U64, _P, _N, _P, _N, _P)
+_legacy_transmit = _call("legacy_transmit", _U8, _U8, _P, _N, _P, _N)
+_legacy_places = _call("legacy_places", _U8, _P, _N)
+_legacy_origins = _call("legacy_origins", _U8, _P, _N)
+_legacy_pilots = _call("legacy_pilots", _U32, _P, _N)
+_detect = _call("detect", _P, _N, _P, _N, _P, _P)
+_rx = _call("rx", _P, _N, _P, _N, _P, _P)
+_soft = _call("soft", _P, _N, _P, _N, _P, _P)
+_lrx = _call("lrx", _P, _N, _P, _N, _P, _P)
+_certify = _call("certify", _P, _N, _P, _N, _P, _P)
+_check_file = _call("check", _P, _N, _P, _N, _P, _P)
+_pass = _call("pass", _U64, _U16, _P, _N, _P, _N, _P, _P)
+
+_PERIODS = (1, 2, 3, 5)
+
+
+def _check(fault: int) -> None:
+    if fault:
+        raise FAULTS[fault](FAULTS[fault].__doc__.splitlines()[0].rstrip("."))
+
+
+def _ranged(name: str, value: int, top: int) -> int:
+    """The number, which ctypes would cut to its type's width."""
+    if not 0 <= int(value) <= top:
+        raise InputError(f"{name} is {value}, and only 0 to {top} cross to the library")
+    return int(value)
+
+
+def _fits(array, dtype) -> bool:
+    return type(array) is np.ndarray and array.dtype == dtype and array.flags.c_contiguous and array.flags.aligned
+
+
+def _given(array, dtype) -> np.ndarray:
+    """The array itself where it fits, and else one that does."""
+    if _fits(array, dtype):
+        return array
+    made = np.asarray(array)
+    if made.dtype != dtype and made.dtype.names is None and np.dtype(dtype).names is None:
+        if made.size and made.dtype.kind not in "biu":
+            raise InputError(f"an array of {made.dtype} is no array of {np.dtype(dtype)}")
+        fit = made.astype(dtype)
+        if not np.array_equal(fit, made):
+            raise InputError(f"a number of the array doesn't fit into {np.dtype(dtype)}")
+        made = fit
+    elif made.dtype != dtype:
+        raise InputError(f"an array of {made.dtype} is no array of {np.dtype(dtype)}")
+    return np.require(made, dtype, ("C", "A"))
+
+
+def _samples(received) -> np.ndarray:
+    """Received samples as RECEIVED, also from int32 of shape (.., 4, 2)."""
+    if _fits(received, RECEIVED):
+        return received
+    made = np.asarray(received)
+    if made.dtype == RECEIVED:
+        return np.require(made, RECEIVED, ("C", "A"))
+    if made.ndim < 2 or made.shape[-2:] != (4, 2):
+        raise InputError(f"received samples have the shape (.., 4, 2), and not {made.shape}")
+    return _given(made, np.int32).reshape(made.size // 8, 8).view(RECEIVED).reshape(made.shape[:-2])
+
+
+def _octets(given: Octets) -> np.ndarray:
+    """The octets as they lie in memory."""
+    if isinstance(given, np.ndarray):
+        return _given(given, np.uint8).reshape(-1)
+    return np.frombuffer(given, np.uint8) if len(given) else np.zeros(0, np.uint8)
+
+
+def _out(out: Optional[np.ndarray], shape, dtype) -> np.ndarray:
+    if out is None:
+        return np.empty(shape, dtype)
+    shape = (shape,) if isinstance(shape, int) else tuple(shape)
+    if not isinstance(out, np.ndarray) or out.dtype != dtype or out.shape != shape:
+        raise InputError(f"out is no array of {np.dtype(dtype)} of the shape {shape}")
+    if not (out.flags.c_contiguous and out.flags.aligned and out.flags.writeable):
+        raise InputError("out isn't C-contiguous, aligned and writeable")
+    return out
+
+
+def _at(array: np.ndarray) -> int:
+    return array.ctypes.data
+
+
+def _apart(out: np.ndarray, *others: np.ndarray) -> None:
+    if any(np.may_share_memory(out, other) for other in others):
+        raise InputError("out shares memory with another argument")
+
+
+def _rate(rate: Rate) -> tuple[int, int]:
+    return int(rate.bandwidth == 40), rate.mcs
+
+
+def _erased(erased: int) -> tuple[int, int]:
+    if not 0 <= erased < 1 << 128:
+        raise InputError("the erased subcarriers are no number of 128 bits")
+    return erased & (1 << 64) - 1, erased >> 64
+
+
+def version() -> int:
+    """The version of the library's calls."""
+    return _library.mizgaure_version()
+
+
+def nearest(rate: Rate, channel: np.ndarray, received: np.ndarray) -> np.void:
+    """The first nearest vector of one data subcarrier, as a scalar of HIT.
+
+    Parameters
+    ----------
+    rate : Rate
+    channel : CHANNEL, one element
+    received : RECEIVED, one element, or int32 of shape (4, 2)
+    """
+    channel, received, found = _given(channel, CHANNEL), _samples(received), np.empty((), HIT)
+    if channel.size != 1 or received.size != 1:
+        raise BadLength("a job has one channel and what was received on it")
+    _check(_nearest(*_rate(rate), _at(channel), _at(received), _at(found)))
+    return found[()]
+
+
+def detect_symbols(rate: Rate, channels: np.ndarray, received: np.ndarray, out: Optional[np.ndarray] = None) -> np.ndarray:
+    """The first nearest vector of each data subcarrier of any number of symbols.
+
+    Parameters
+    ----------
+    rate : Rate
+    channels : CHANNEL, shape (subcarriers,)
+    received : RECEIVED, shape (.., subcarriers), or int32 of shape (.., subcarriers, 4, 2)
+    out : HIT, shape (.., subcarriers), optional
+        Where the hits are put.
+
+    Returns
+    -------
+    HIT, shape (.., subcarriers)
+    """
+    channels, received = _given(channels, CHANNEL), _samples(received)
+    hits = _out(out, received.shape, HIT)
+    _apart(hits, channels, received)
+    _check(_detect_symbols(*_rate(rate), _at(channels), channels.size, _at(received), received.size, _at(hits), hits.size))
+    return hits
+
+
+def distances(hits: np.ndarray) -> list[int]:
+    """The squared distances of hits, as Python's whole numbers, which hold all of their 66 bits."""
+    hits = np.asarray(hits).reshape(-1)
+    return [low + (high << 64) for low, high in zip(hits["low"].tolist(), hits["high"].tolist())]
+
+
+def weigh_symbols(rate: Rate, channels: np.ndarray, received: np.ndarray, out: Optional[np.ndarray] = None) -> np.ndarray:
+    """The weights of the label bits of any number of symbols: int32, shape (.., subcarriers, streams, bits).
+
+    A weight is positive where a 1 is likelier: the least distance where the bit is 0 less the least one where it is 1, cut to -65535
+    to 65535. The parameters are those of ``detect_symbols``.
+    """
+    channels, received = _given(channels, CHANNEL), _samples(received)
+    weights = _out(out, (*received.shape, rate.streams, rate.bits_per_point), np.dtype(np.int32))
+    _apart(weights, channels, received)
+    _check(_weigh_symbols(*_rate(rate), _at(channels), channels.size, _at(received), received.size, _at(weights), weights.size))
+    return weights
+
+
+def scramble(seed: int, bits: np.ndarray, out: Optional[np.ndarray] = None) -> np.ndarray:
+    """The bits with the scrambling sequence of a seed added: bool, shape (n,) (clause 18.3.5.5). ``out`` may be ``bits`` itself."""
+    bits = _given(bits, np.bool_)
+    made = _out(out, bits.shape, np.bool_)
+    if made is not bits:
+        _apart(made, bits)
+    seed = _ranged("the seed", seed, 255)
+    if not 1 <= seed <= 127:
+        _check(FAULTS.index(NoSeed))
+    if made is not bits:
+        made[...] = bits
+    _check(_scramble(seed, _at(made), made.size))
+    return made
+
+
+def recover(bits: np.ndarray) -> int:
+    """The seed whose sequence begins with these seven bits (clause 18.3.5.5)."""
+    bits, seed = _given(bits, np.bool_), ctypes.c_uint8()
+    _check(_recover(_at(bits), bits.size, ctypes.addressof(seed)))
+    return seed.value
+
+
+def sent(pattern: int, steps: int) -> int:
+    """How many coded bits are kept of so many steps at a puncturing pattern, 0 to 3 (clause 20.3.11.6)."""
+    if not 0 <= pattern <= 3:
+        _check(FAULTS.index(NoPattern))
+    return steps + -(-steps // _PERIODS[pattern])
+
+
+def encode(pattern: int, bits: np.ndarray, out: Optional[np.ndarray] = None) -> np.ndarray:
+    """The punctured codeword of input bits, tail included: bool, shape (sent(pattern, n),) (clauses 18.3.5.6 and 20.3.11.6)."""
+    bits = _given(bits, np.bool_)
+    coded = _out(out, sent(pattern, bits.size), np.bool_)
+    _apart(coded, bits)
+    _check(_encode(pattern, _at(bits), bits.size, _at(coded), coded.size))
+    return coded
+
+
+def decode(pattern: int, received: np.ndarray, steps: int, out: Optional[np.ndarray] = None) -> tuple[np.ndarray, int]:
+    """The first nearest terminated input of ``steps`` bits, tail included, and at how many places it differs.
+
+    Parameters
+    ----------
+    pattern : int
+        0 to 3, for the coding rates 1/2, 2/3, 3/4 and 5/6.
+    received : uint8, shape (sent(pattern, steps),)
+        0, 1, or any other number where a place is erased.
+    steps : int
+        6 to 524302.
+    out : bool, shape (steps,), optional
+        Where the bits are put.
+    """
+    received, distance = _given(received, np.uint8), ctypes.c_uint32()
+    bits = _out(out, _ranged("the number of steps", steps, 524302), np.bool_)
+    _apart(bits, received)
+    _check(_decode(_ranged("the pattern", pattern, 255), _at(received), received.size, _at(bits), bits.size, ctypes.addressof(distance)))
+    return bits, distance.value
+
+
+def soft_decode(pattern: int, weights: np.ndarray, steps: int, out: Optional[np.ndarray] = None) -> tuple[np.ndarray, int]:
+    """The first terminated input that costs least at weights (int32, positive where a 1 is likelier), and its cost. See ``decode``."""
+    weights, cost = _given(weights, np.int32), ctypes.c_uint64()
+    bits = _out(out, _ranged("the number of steps", steps, 524302), np.bool_)
+    _apart(bits, weights)
+    _check(_soft_decode(_ranged("the pattern", pattern, 255), _at(weights), weights.size, _at(bits), bits.size, ctypes.addressof(cost)))
+    return bits, cost.value
+
+
+def lay(rate: Rate, first: np.ndarray, second: np.ndarray = ()) -> np.ndarray:
+    """A symbol's coded bits of each encoder laid on the streams: bool, shape (streams, N_CBPSS) (clause 20.3.11.8.2).
+
+    ``first`` and ``second`` have N_CBPS / N_ES bits each; ``second`` is empty where the rate has one encoder.
+    """
+    first, second = _given(first, np.bool_), _given(np.zeros(0, np.bool_) if len(second) == 0 else second, np.bool_)
+    bits = np.empty((rate.streams, rate.coded_bits_per_stream), np.bool_)
+    _check(_lay(*_rate(rate), _at(first), first.size, _at(second), second.size, _at(bits), bits.size))
+    return bits
+
+
+def gather(rate: Rate, bits: np.ndarray) -> tuple[np.ndarray, np.ndarray]:
+    """The bits of each encoder of a symbol's, which undoes ``lay``: bool, two arrays."""
+    bits, share = _given(bits, np.bool_), rate.coded_bits // rate.encoders
+    first, second = np.empty(share, np.bool_), np.empty((rate.encoders - 1) * share, np.bool_)
+    _check(_gather(*_rate(rate), _at(bits), bits.size, _at(first), first.size, _at(second), second.size))
+    return first, second
+
+
+def places(rate: Rate, stream: int) -> np.ndarray:
+    """The place behind the interleaver of each bit of a stream's symbol: uint16, shape (N_CBPSS,) (clause 20.3.11.8.3).
+
+    As in the library, the streams count from 1 here.
+    """
+    made = np.empty(rate.coded_bits_per_stream, np.uint16)
+    _check(_places(*_rate(rate), _ranged("the stream", stream, 255), _at(made), made.size))
+    return made
+
+
+def origins(rate: Rate, stream: int) -> np.ndarray:
+    """The bit that stands at each place behind the interleaver: uint16, shape (N_CBPSS,). See ``places``."""
+    made = np.empty(rate.coded_bits_per_stream, np.uint16)
+    _check(_origins(*_rate(rate), _ranged("the stream", stream, 255), _at(made), made.size))
+    return made
+
+
+def points(bits: int, labels: np.ndarray) -> np.ndarray:
+    """The points (I, Q) of labels of 1, 2, 4 or 6 bits: int8, shape (.., 2) (clause 20.3.11.9)."""
+    labels = _given(labels, np.uint8)
+    made = np.empty((*labels.shape, 2), np.int8)
+    _check(_points(_ranged("the number of bits", bits, 255), _at(labels), labels.size, _at(made), labels.size))
+    return made
+
+
+def labels(bits: int, points: np.ndarray) -> np.ndarray:
+    """The labels of 1, 2, 4 or 6 bits of points (I, Q), int8 of shape (.., 2): uint8, shape (..)."""
+    points = _given(points, np.int8)
+    if points.ndim < 1 or points.shape[-1] != 2:
+        raise InputError(f"points have the shape (.., 2), and not {points.shape}")
+    made = np.empty(points.shape[:-1], np.uint8)
+    _check(_labels(_ranged("the number of bits", bits, 255), _at(points), made.size, _at(made), made.size))
+    return made
+
+
+def pilots(rate: Rate, symbol: int, stream: int) -> np.ndarray:
+    """The values of the pilots of a symbol on a stream, which counts from 1: int8, shape (N_SP,), 1 or -1 (clause 20.3.11.10)."""
+    made = np.empty(rate.pilots, np.int8)
+    symbol, stream = _ranged("the symbol", symbol, (1 << 32) - 1), _ranged("the stream", stream, 255)
+    _check(_pilots(*_rate(rate), symbol, stream, _at(made), made.size))
+    return made
+
+
+def transmit(rate: Rate, seed: int, octets: Octets) -> np.ndarray:
+    """The points (I, Q) that are sent for a PSDU: int8, shape (N_SYM, N_ST, N_SS, 2) (clause 20.3.11)."""
+    octets = _octets(octets)
+    made = np.empty((rate.symbols(octets.size), rate.subcarriers, rate.streams, 2), np.int8)
+    _check(_transmit(*_rate(rate), _ranged("the seed", seed, 255), _at(octets), octets.size, _at(made), made.size // 2))
+    return made
+
+
+def decode_frame(rate: Rate, labels: np.ndarray, length: int, erased: int = 0) -> tuple[bytes, int]:
+    """The octets of a frame's PSDU by hard decisions, and at how many places that aren't erased its coded bits differ.
+
+    Parameters
+    ----------
+    rate : Rate
+    labels : uint8, N_SYM * N_SD * N_SS of them in the order symbol, data subcarrier, stream
+    length : int
+        The number of octets, 1 to 65535.
+    erased : int
+        Bit c is set where subcarrier c, pilots counted, is erased.
+    """
+    labels, octets, differences = _given(labels, np.uint8), np.empty(_ranged("the length", length, 65535), np.uint8), ctypes.c_uint32()
+    _check(_decode_frame(*_rate(rate), *_erased(erased), _at(labels), labels.size, _at(octets), octets.size, ctypes.addressof(differences)))
+    return octets.tobytes(), differences.value
+
+
+def soft_frame(rate: Rate, weights: np.ndarray, length: int, erased: int = 0) -> tuple[bytes, int]:
+    """The octets of a frame's PSDU by weights, and their cost: int32, N_SYM * N_CBPS of them in the order of ``weigh_symbols``."""
+    weights, octets, cost = _given(weights, np.int32), np.empty(_ranged("the length", length, 65535), np.uint8), _Pair()
+    _check(_soft_frame(*_rate(rate), *_erased(erased), _at(weights), weights.size, _at(octets), octets.size, ctypes.addressof(cost)))
+    return octets.tobytes(), cost.low + (cost.high << 64)
+
+
+#: N_BPSC and N_DBPS of the rates of clause 18, 6 to 54 Mbit/s (table 18-4).
+_LEGACY = ((1, 24), (1, 36), (2, 48), (2, 72), (4, 96), (4, 144), (6, 192), (6, 216))
+
+
+def _legacy_rate(rate: int) -> int:
+    if not 0 <= rate <= 7:
+        _check(FAULTS.index(NoRate))
+    return rate
+
+
+def legacy_transmit(rate: int, seed: int, octets: Octets) -> np.ndarray:
+    """The points (I, Q) that are sent for a PSDU of clause 18: int8, shape (N_SYM, 52, 2). Rates are 0 to 7, for 6 to 54 Mbit/s."""
+    octets = _octets(octets)
+    symbols = -(-(22 + 8 * octets.size) // _LEGACY[_legacy_rate(rate)][1])
+    made = np.empty((symbols, 52, 2), np.int8)
+    _check(_legacy_transmit(rate, _ranged("the seed", seed, 255), _at(octets), octets.size, _at(made), made.size // 2))
+    return made
+
+
+def legacy_places(rate: int) -> np.ndarray:
+    """The place behind the interleaver of each bit of a symbol of clause 18: uint16, shape (N_CBPS,) (clause 18.3.5.7)."""
+    made = np.empty(48 * _LEGACY[_legacy_rate(rate)][0], np.uint16)
+    _check(_legacy_places(rate, _at(made), made.size))
+    return made
+
+
+def legacy_origins(rate: int) -> np.ndarray:
+    """The bit that stands at each place behind the interleaver of clause 18: uint16, shape (N_CBPS,)."""
+    made = np.empty(48 * _LEGACY[_legacy_rate(rate)][0], np.uint16)
+    _check(_legacy_origins(rate, _at(made), made.size))
+    return made
+
+
+def legacy_pilots(symbol: int) -> np.ndarray:
+    """The values of the pilots of a symbol of clause 18: int8, shape (4,), 1 or -1 (clause 18.3.5.9)."""
+    made = np.empty(4, np.int8)
+    _check(_legacy_pilots(_ranged("the symbol", symbol, (1 << 32) - 1), _at(made), made.size))
+    return made
+
+
+def _written(call, given: Octets, *before: int) -> bytes:
+    given = _octets(given)
+    size, refusal = ctypes.c_uint64(), _Refusal()
+    room = np.empty(max(4096, 2 * given.size), np.uint8)
+    while True:
+        fault = call(*before, _at(given), given.size, _at(room), room.size, ctypes.addressof(size), ctypes.addressof(refusal))
+        if fault == FAULTS.index(NoRoom):
+            room = np.empty(size.value, np.uint8)
+            continue
+        if fault == FAULTS.index(Refused):
+            raise Refused(KINDS[refusal.kind], refusal.offset)
+        _check(fault)
+        return room[: size.value].tobytes()
+
+
+def detect(capture: Octets) -> bytes:
+    """The text of ``radio detect`` for a capture (HTCP) in memory."""
+    return _written(_detect, capture)
+
+
+def rx(capture: Octets) -> bytes:
+    """The text of ``radio rx`` for a capture (HTCP) in memory."""
+    return _written(_rx, capture)
+
+
+def soft(capture: Octets) -> bytes:
+    """The text of ``radio soft`` for a capture (HTCP) in memory."""
+    return _written(_soft, capture)
+
+
+def lrx(capture: Octets) -> bytes:
+    """The text of ``radio lrx`` for a capture of clause 18 frames (LGCP) in memory."""
+    return _written(_lrx, capture)
+
+
+def certify(capture: Octets) -> bytes:
+    """The file of certificates (HTCT) of ``radio certify`` for a capture (HTCP) in memory."""
+    return _written(_certify, capture)
+
+
+def check(certificates: Octets) -> bytes:
+    """The text of ``radio check`` for a file of certificates (HTCT) in memory."""
+    return _written(_check_file, certificates)
+
+
+def channel(symbols: Octets, seed: int = 1, noise: int = 0) -> bytes:
+    """The capture (HTCP) of ``radio channel`` for a file of symbols (HTSY) in memory, with its seed and its noise."""
+    return _written(_pass, symbols, _ranged("the seed", seed, (1 << 64) - 1), _ranged("the noise", noise, 65535))

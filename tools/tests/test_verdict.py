@@ -1,0 +1,314 @@
+"""The standard's transmitter tests: a fault just beyond each limit fails, and one just within passes."""
+
+from __future__ import annotations
+
+import json
+import re
+from dataclasses import replace
+
+import numpy as np
+import pytest
+from air import octets_in, recorded, recording_of
+from conftest import TOP
+from scipy.signal import resample_poly
+
+from mizgaure import Rate, SymbolsFrame, write_htsy
+from mizgaure.air import limits
+from mizgaure.air.recording import Layout
+from mizgaure.air.resampled import Resampled, fitted
+from mizgaure.air.simulate import LEVEL, Scene
+from mizgaure.air.transmitter import Finding, Measured, findings, interval_of, spectrum_of
+from mizgaure.air.waveform import Clock, pieces_of, sampled
+from mizgaure.commands.verdict import measured
+
+CARRIER = 5.18e9
+ENOUGH = 21
+
+
+def frames_of(rate, count, length=500, seed=1):
+    """Frames of random points, of 16 symbols at MCS 7."""
+    random = np.random.default_rng(seed)
+    made = []
+    for _ in range(count):
+        points = rate.points[random.integers(0, rate.points.size, (rate.symbols(length), rate.subcarriers, rate.streams))]
+        points[:, rate.is_pilot] = rate.pilot_signs(len(points))
+        made.append(SymbolsFrame(rate, length, points))
+    return made
+
+
+def faulty(rate=Rate(20, 7), count=ENOUGH, gains=(), leakage=None, carrier=0.0, clock=0.0, error=None, length=500, over=None, snr=45.0):
+    """A recording of packets of a transmitter with a fault, wired to as many antennas as streams.
+
+    Gains are in dB by the number of a subcarrier, the leakage in dB of the overall power of each chain, the carrier's offset
+    and the clock's in parts per million, and the error of points in dB.
+    """
+    random, over = np.random.default_rng(7), over or rate.bandwidth // 20
+    factors = np.ones(2 * (28 if rate.bandwidth == 20 else 58) + 1)
+    for number, gain in dict(gains).items():
+        factors[number + factors.size // 2] = 10 ** (gain / 20)
+    silence = np.zeros((rate.streams, 600 * over), complex)
+    parts, at = [], 0
+    for frame in frames_of(rate, count, length):
+        parts.append(silence)
+        at += silence.shape[1]
+        begin, packet = at * (1 + clock * 1e-6), []
+        for number, pieces in enumerate(pieces_of(frame)):
+            values = pieces.values * factors
+            if error is not None and number:
+                size = 10 ** (error / 20) / np.sqrt(2 * rate.subcarriers * rate.streams)
+                values = values + (values != 0) * size * (random.standard_normal((2, *values.shape)) * [[[[1]]], [[[1j]]]]).sum(axis=0)
+            packet.append(sampled(replace(pieces, values=values), begin, Clock(over, clock * 1e-6)))
+        samples = np.concatenate([made for _, made in packet], axis=1) * np.sqrt(rate.streams)
+        if leakage is not None:
+            part = 10 ** (leakage / 10)
+            samples = samples + np.sqrt(part / (1 - part))
+        parts.append(samples)
+        at += samples.shape[1]
+    whole = np.concatenate([*parts, silence], axis=1) * LEVEL
+    whole = whole * np.exp(2j * np.pi * carrier * 1e-6 * CARRIER / (20e6 * over) * np.arange(whole.shape[1]))
+    noise = random.standard_normal((2, *whole.shape)) * LEVEL * 10 ** (-snr / 20) / np.sqrt(2)
+    return recording_of(octets_in(whole + noise[0] + 1j * noise[1]), Layout("cf32_le", 20e6 * over, rate.streams), CARRIER)
+
+
+def found(recording, test, reference=0.05, frequency=CARRIER):
+    """The first outcome of a test."""
+    packets = list(measured(recording, shown=False))
+    return next(each for each in findings(packets, frequency, reference, recording.layout.rate) if each.limit.test == test)
+
+
+@pytest.mark.parametrize("bandwidth, gains, deviation, verdict", [
+    (20, {10: 4.4}, 4.16, "fail"), (20, {10: 4.0}, 3.8, "pass"), (20, {-5: -4.2}, -4.11, "fail"), (20, {-5: -3.9}, -3.82, "pass"),
+    (20, {17: 4.2}, 4.2, "fail"), (20, {17: 3.8}, 3.8, "pass"), (20, {-28: -6.2}, -6.2, "fail"), (20, {-28: -5.8}, -5.8, "pass"),
+    (40, {42: -4.2}, -4.16, "fail"), (40, {43: -5.8}, -5.8, "pass"), (40, {-58: -6.2}, -6.2, "fail")])
+def test_flatness(bandwidth, gains, deviation, verdict):
+    outcome = found(faulty(Rate(bandwidth, 0), 6, gains, length=30), "spectral flatness")
+    (number,) = gains
+    assert outcome.value == pytest.approx(deviation, abs=0.1) and outcome.where == f"subcarrier {number} of antenna 0"
+    assert outcome.verdict == verdict and outcome.limit.clause == "20.3.20.2"
+
+
+@pytest.mark.parametrize("bandwidth, leakage, carrier, verdict", [(20, -14.7, 0, "fail"), (20, -15.3, 0, "pass"), (20, -14.7, 3, "fail"), (20, -15.3, -3, "pass"),
+                                                                  (40, -19.7, 0, "fail"), (40, -20.3, 0, "pass")])
+def test_leakage(bandwidth, leakage, carrier, verdict):
+    outcome = found(faulty(Rate(bandwidth, 0), 6, leakage=leakage, carrier=carrier, length=30), "centre frequency leakage")
+    assert outcome.value == pytest.approx(leakage, abs=0.1) and outcome.verdict == verdict
+
+
+@pytest.mark.parametrize("test, fault", [("centre frequency", "carrier"), ("symbol clock", "clock")])
+@pytest.mark.parametrize("frequency, limit", [(CARRIER, 20), (2.412e9, 25)])
+def test_tolerances(test, fault, frequency, limit):
+    for sign in (-1, 1):
+        for value, verdict in ((limit + 0.3, "fail"), (limit - 0.3, "pass")):
+            recording = faulty(count=8, **{fault: sign * value * (frequency / CARRIER if fault == "carrier" else 1)})
+            outcome = found(recording, test, frequency=frequency)
+            assert outcome.value == pytest.approx(sign * value, abs=0.1) and outcome.verdict == verdict
+            assert found(recording, test, 1.0, frequency).outcome == "no verdict: the interval has the limit in it"
+    assert found(recording, test, None, frequency).outcome == "no verdict: by how much the recorder's own clock may be wrong isn't said (--reference-ppm)"
+    assert found(recording, test, 0.1, None).outcome == "no verdict: the carrier's frequency isn't known (--frequency)"
+
+
+@pytest.mark.parametrize("rate, limit", [(Rate(20, 7), -28), (Rate(20, 4), -19), (Rate(40, 15), -28)])
+def test_constellation_error(rate, limit):
+    length = 500 * rate.data_bits // Rate(20, 7).data_bits
+    for error, verdict in ((limit + 0.3, "fail"), (limit - 0.3, "pass")):
+        outcome = found(faulty(rate, 20, error=error, length=length, snr=60), "constellation error")
+        assert outcome.value == pytest.approx(error, abs=0.15) and outcome.verdict == verdict and outcome.limit.frames == 20
+    assert found(faulty(rate, 3, error=limit - 3, length=length), "constellation error").outcome == "no verdict: 3 of 20 frames"
+
+
+def test_constellation_error_over_data_pilots_and_all():
+    """By formula 20-89 all subcarriers are summed over; pilots without an error make that less."""
+    recording = faulty(count=2)
+    packet = next(measured(recording, shown=False))
+    pilot = packet.rate.is_pilot
+    packet.errors[:] = np.where(pilot, 0.01, 0.04)[:, None]
+    assert packet.error("data") == pytest.approx(0.2) and packet.error("pilot") == pytest.approx(0.1)
+    assert packet.error("all") == pytest.approx(np.sqrt((52 * 0.04 + 4 * 0.01) / 56))
+
+
+def shaped(offsets_to_db, rate, seed=1, count=1 << 20):
+    """Noise whose density over frequency is what a function says, in dB."""
+    random = np.random.default_rng(seed)
+    levels = 10 ** (offsets_to_db(np.fft.fftfreq(count, 1 / rate)) / 20)
+    return np.fft.ifft(levels * np.exp(2j * np.pi * random.random(count)))[None]
+
+
+def masked(samples, rate, bandwidth, silence=None):
+    """The outcome of the mask alone, for a signal in the middle of its band."""
+    rates = Rate(bandwidth, 0)
+    nothing = np.zeros((1, rates.subcarriers))
+    packet = Measured(rates, 16, 0.0, 0.0, 0.0, np.zeros(1), nothing + 1, np.zeros((16, rates.subcarriers, 1)), spectrum_of(samples, rate),
+                      spectrum_of(np.zeros((1, 0)) if silence is None else silence, rate))
+    return next(each for each in findings([packet] * 2, CARRIER, 0.1, rate) if each.limit.test == "spectral mask")
+
+
+@pytest.mark.parametrize("bandwidth, rate", [(20, 61.44e6), (40, 122.88e6)])
+def test_the_mask(bandwidth, rate):
+    """A hump beyond the mask by 1 dB fails wherever it is, and one 1 dB below it passes."""
+    scale = 1 if bandwidth == 20 else 2
+    for place in (10.0, -15.0, 29.0) if bandwidth == 20 else (-20.0, 58.0):
+        for more, verdict in ((1.0, "fail"), (-1.0, "pass")):
+            def level(offsets, place=place, more=more):
+                hump = np.abs(offsets - place * 1e6) < 3e5
+                mask = limits.mask_at(offsets, bandwidth, "5 GHz")
+                return np.where(np.abs(offsets) < 8.9e6 * scale, 0, np.where(hump, mask + more, mask - 6))
+            outcome = masked(shaped(level, rate, count=1 << 19), rate, bandwidth)
+            assert (outcome.verdict, abs(outcome.value + more) < 0.8) == (verdict, True), (place, outcome)
+
+
+def of_scene(scene, rate=Rate(20, 7), over=1, count=6, length=500):
+    """A recording of packets in a scene of `waveform`."""
+    octets = recorded(frames_of(rate, count, length), replace(scene, snr=scene.snr and 60.0), rate.streams, over)
+    return fitted(recording_of(octets, Layout("cf32_le", 20e6 * over, rate.streams), CARRIER))
+
+
+def unfiltered(offsets, bandwidth, rate, weaker):
+    """The density in dBr of symbols of 4 microseconds without a window, whose part beyond the channel is so much weaker.
+
+    Each subcarrier has the spectrum of a rectangle, sampled; all have the same power and nothing to do with one another.
+    """
+    numbers = Rate(bandwidth, 0).frequencies * 312.5e3
+    turns = np.pi * (offsets[:, None] - numbers) / rate
+    length = 4e-6 * rate
+    density = np.sum((np.sin(length * turns) / np.sin(turns)) ** 2, axis=1) / length**2
+    corner = {20: (9e6, 11e6), 40: (19e6, 21e6)}[bandwidth]
+    return 10 * np.log10(density) - np.interp(np.abs(offsets), corner, (0, weaker))
+
+
+@pytest.mark.parametrize("bandwidth, over", [(20, 4), (40, 10)])
+def test_filters_of_waveform(bandwidth, over):
+    """Without a filter the mask is broken, by as much as the spectrum of rectangles says; with one just too weak still, with one just strong enough not."""
+    rate = 20e6 * over
+    offsets = np.arange(11e6 if bandwidth == 20 else 21e6, 0.49 * rate, 1e5) + 1
+    short = float(np.max(unfiltered(offsets, bandwidth, rate, 0) - limits.mask_at(offsets, bandwidth, "5 GHz")))
+    assert short > 1
+    for filter_, margin in ((None, -short), (short - 1.5, -1.5), (short + 1.5, 1.5)):
+        packets = list(measured(of_scene(Scene(filter=filter_), Rate(bandwidth, 0), over, 4, 1500), shown=False))
+        outcome = next(each for each in findings(packets, CARRIER, 0.1, rate) if each.limit.test == "spectral mask")
+        assert outcome.value == pytest.approx(margin, abs=1.2) and outcome.verdict == ("pass" if margin > 0 else "fail"), (filter_, outcome)
+
+
+@pytest.mark.parametrize("rate, over, subject, limit", [(Rate(20, 8), 1, "20 MHz", -15), (Rate(40, 0), 2, "40 MHz", -20),
+                                                        (Rate(20, 0), 2, "20 MHz in one half of 40 MHz", -17)])
+def test_leakage_of_waveform(rate, over, subject, limit):
+    """It stands in the middle of the band, of both chains, also beside a packet in one half, whose own middle has none."""
+    for leakage, verdict in ((limit + 0.3, "fail"), (limit - 0.3, "pass")):
+        packets = list(measured(of_scene(Scene(leakage=leakage, offset=3.0), rate, over, length=60), shown=False))
+        outcomes = [each for each in findings(packets, CARRIER, 0.1, 20e6 * over) if each.limit.test == "centre frequency leakage"]
+        assert outcomes[-1].subject == subject and outcomes[-1].value == pytest.approx(leakage, abs=0.1) and outcomes[-1].verdict == verdict
+        assert len(outcomes) == 1 if subject != "20 MHz in one half of 40 MHz" else outcomes[0].value < -40 and outcomes[0].verdict == "pass"
+
+
+def test_clocks_of_waveform():
+    """The symbol clock is off by itself, and the carrier by itself."""
+    for clock, offset, outcome in ((20.3, 0.0, ("pass", "fail")), (-19.7, 20.3, ("fail", "pass")), (None, 19.7, ("pass", "pass")), (0.0, -20.3, ("fail", "pass"))):
+        recording = of_scene(Scene(clock=clock, offset=offset))
+        carrier, symbols = (found(recording, test) for test in ("centre frequency", "symbol clock"))
+        assert (carrier.value, symbols.value) == pytest.approx((offset, offset if clock is None else clock), abs=0.1)
+        assert (carrier.verdict, symbols.verdict) == outcome
+
+
+def test_the_mask_by_hand():
+    """The numbers of the page at places between and at its corners."""
+    at = lambda *megahertz, **words: limits.mask_at(np.array(megahertz) * 1e6, words.get("bandwidth", 20), words.get("band", "2.4 GHz")).tolist()  # noqa: E731
+    assert at(0, 9, 10, 11, 15.5, 20, 25, 30, 40) == [0, 0, -10, -20, -24, -28, -36.5, -45, -45] and at(-25, -35) == [-36.5, -45]
+    assert at(25, 30, 50, band="5 GHz") == [-36.5, -40, -40] and at(19, 20, 21, 30.5, 40, 50, 60, bandwidth=40) == [0, -10, -20, -24, -28, -36.5, -45]
+
+
+def test_the_mask_where_it_can_not_be_seen():
+    """Half the rate ends it, and so does the recorder's own noise; what is seen beyond the mask fails all the same."""
+    flat = lambda offsets: np.where(np.abs(offsets) < 8.9e6, 0.0, -50.0)  # noqa: E731
+    seen = masked(shaped(flat, 40e6), 40e6, 20)
+    assert seen.outcome == "no verdict: the rate shows nothing beyond 19.6 MHz, and the mask goes on to 30 MHz"
+    high = lambda offsets: np.where(np.abs(offsets) < 8.9e6, 0.0, -15.0)  # noqa: E731
+    assert masked(shaped(high, 40e6), 40e6, 20).verdict == "fail"
+    noise = shaped(lambda offsets: np.full(offsets.shape, -38.0), 61.44e6, 2)
+    hidden = masked(shaped(flat, 61.44e6) + noise, 61.44e6, 20, noise)
+    assert re.fullmatch(r"no verdict: from 2[4-7]\.\d MHz on the recorder's own noise reaches the mask", hidden.outcome)
+
+
+def test_intervals_and_outcomes():
+    assert interval_of([1.0, 3.0]) == pytest.approx((2 - 12.706, 2 + 12.706), abs=1e-3) and interval_of([5.0], 0.5) == (4.5, 5.5)
+    made = Finding(limits.CLOCK, "20 MHz", (-20.0, 20.0), "ppm", 20.1, (19.9, 20.3), 4)
+    assert made.outcome == "no verdict: the interval has the limit in it" and replace(made, interval=(20.01, 20.3)).verdict == "fail"
+    assert replace(made, interval=(-20, 20)).verdict == "pass" and replace(made, frames=1).outcome == "no verdict: 1 of 2 frames"
+    assert replace(made, interval=(-30, -20.1)).verdict == "fail" and replace(made, interval=(0, 1), unsure="why").outcome == "no verdict: why"
+
+
+def test_the_command(here, tmp_path):
+    """Each test in a line with its clause, limit, value, interval, frames and outcome, and the same as records; the status tells of a failure."""
+    write_htsy("sent.htsy", frames_of(Rate(20, 15), 3, 1100))
+    assert here("waveform", "sent.htsy", "-o", "air", "--offset", "12", "--snr", "45").returncode == 0
+    done = here("verdict", "air", "--reference-ppm", "0.5", "--json", "verdict.jsonl")
+    lines = done.stdout.decode().splitlines()
+    assert done.returncode == 0 and lines[0] == "transmitter tests of IEEE Std 802.11-2012: 3 packets at 5180 MHz, 20 million samples a second"
+    tests = [line.partition(",")[0] for line in lines[1:]]
+    assert tests == ["spectral mask", "spectral flatness", "centre frequency", "symbol clock", "centre frequency leakage", *["constellation error"] * 3]
+    pattern = r".*, clause 20\.3\.20[\d.]*: -?[\d.]+ (dB|ppm)( at .*)? \(95 %: .* to .*\), limit .*; 3 of (2|20) frames asked for.*: (pass|no verdict: .*)"
+    assert all(re.fullmatch(pattern, line) for line in lines[1:])
+    assert lines[6].endswith("; 3 of 20 frames asked for: no verdict: 3 of 20 frames") and "12.0" in lines[3]
+    records = [json.loads(line) for line in (tmp_path / "verdict.jsonl").read_text().splitlines()]
+    assert [record["test"] for record in records] == tests and records[2]["verdict"] == "pass" and records[5]["frames_asked"] == 20
+    assert here("verdict", "air", "--reference-ppm", "0.5", "--complete").returncode == 1
+    assert here("verdict", "air", "--reference-ppm", "0.5", "--frequency", "2e9").returncode == 1  # 31 ppm there
+    write_htsy("slow.htsy", frames_of(Rate(20, 0), 3, 1000))
+    assert here("waveform", "slow.htsy", "-o", "bad", "--rate", "80", "--clock", "-21", "--leakage", "-14", "--filter", "3", "--snr", "60").returncode == 0
+    done = here("verdict", "bad", "--reference-ppm", "0.5")
+    failed = [line.partition(",")[0] for line in done.stdout.decode().splitlines() if line.endswith(": fail")]
+    assert done.returncode == 1 and failed == ["spectral mask", "symbol clock", "centre frequency leakage"]
+
+
+def test_faults_that_waveform_refuses(here):
+    write_htsy("sent.htsy", frames_of(Rate(20, 7), 1, 100))
+    write_htsy("wide.htsy", frames_of(Rate(40, 7), 1, 100))
+    write_htsy("both.htsy", [*frames_of(Rate(20, 7), 1, 100), *frames_of(Rate(40, 7), 1, 100)])
+    asks = "asks for %d million samples a second (--rate), and not %d"
+    for words, said in ((["sent.htsy", "--clock", "201"], "the symbol clock is off by 201 ppm, and has to be by -200 to 200"),
+                        (["sent.htsy", "--leakage", "0"], "the leakage is 0 dB of the overall power, and has to be below 0"),
+                        (["sent.htsy", "--filter", "20"], "a filter is beyond the channel, which 20 million samples a second don't show beside packets of 20 MHz"),
+                        (["sent.htsy", "--nonadjacent"], "a nonadjacent channel is that of a neighbour (--neighbour)"),
+                        (["sent.htsy", "--neighbour", "0"], "a neighbour in the next channel of 20 MHz " + asks % (40, 20)),
+                        (["sent.htsy", "--neighbour", "0", "--nonadjacent", "--rate", "80"], "a neighbour in a nonadjacent channel of 20 MHz " + asks % (100, 80)),
+                        (["wide.htsy", "--neighbour", "0", "--rate", "100"], "a neighbour in the next channel of 40 MHz " + asks % (120, 100)),
+                        (["wide.htsy", "--neighbour", "0", "--nonadjacent", "--rate", "120"], "a neighbour in a nonadjacent channel of 40 MHz " + asks % (200, 120)),
+                        (["both.htsy", "--neighbour", "0", "--rate", "120"], "a neighbour stands beside packets of 20 MHz or of 40, and not of both")):
+        done = here("waveform", *words, "-o", "air")
+        assert (done.returncode, done.stderr.decode()) == (2, f"mizgaure: {said}\n")
+
+
+def test_the_table_of_limits():
+    """docs/TRANSMITTERS.md has each test with its clause, its limit and what it was compared with."""
+    page = (TOP / "docs" / "TRANSMITTERS.md").read_text()
+    for limit in limits.LIMITS:
+        assert f"| {limit.test} | {limit.clause} |" in page
+        assert limit.checked in page
+
+
+def test_the_phase_of_symbols_is_tracked():
+    """Before tracking it turns with what is left of the carrier's offset, and after it stays."""
+    (packet,) = measured(faulty(count=1, carrier=2, clock=2), shown=False)
+    before, after = packet.phases
+    assert before.shape == after.shape == (packet.symbols,) and np.abs(after).max() < 0.02
+
+
+def test_a_packet_of_two_streams_at_40_mhz():
+    recording = faulty(Rate(40, 9), 3, length=100, carrier=5)
+    packets = list(measured(recording, shown=False))
+    assert len(packets) == 3 and packets[0].middle == 0 and packets[0].energies.shape == (2, 114)
+    assert found(recording, "centre frequency").value == pytest.approx(5, abs=0.1)
+
+
+def test_a_recording_at_a_rate_that_shows_all_of_the_mask():
+    """At 61.44 million samples a second packets are received at 20, and the mask is held against what was recorded, also beside the middle."""
+    plain = faulty(count=3, clock=4, carrier=4)
+    samples = resample_poly(plain.read(0, plain.length).astype(complex), 384, 125, axis=1)
+    for shift in (0.0, 5e6):
+        moved = samples * np.exp(2j * np.pi * shift / 61.44e6 * np.arange(samples.shape[1]))
+        recording = Resampled(recording_of(octets_in(moved), Layout("cf32_le", 61.44e6, 1), CARRIER), shift)
+        packets = list(measured(recording, shown=False))
+        assert len(packets) == 3 and packets[0].middle == shift and packets[0].spectrum.powers.shape[1] == 1232
+        outcomes = {each.limit.test: each for each in findings(packets, CARRIER, 0.1, 61.44e6)}
+        mask = outcomes["spectral mask"]
+        assert mask.verdict == "pass" if shift == 0 else mask.outcome == "no verdict: the rate shows nothing beyond 25.1 MHz, and the mask goes on to 30 MHz"
+        assert outcomes["symbol clock"].value == pytest.approx(4, abs=0.5) and outcomes["centre frequency"].value == pytest.approx(4, abs=0.1)
+        assert mask.value > 3 and 9.0 < abs(float(mask.where.split()[0])) < 13
