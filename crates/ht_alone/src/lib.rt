@@ -2,11 +2,11 @@
 //!
 //! A static library is refused where anything that it reaches could start, join or detach a thread, take a lock, wait, sleep
 //! or yield. What is reached is judged over whole dictionaries: each method of each impl that a bound names, whatever the words
-//! and the octets are. So while this crate passes, no command of the program has such a call on its way where it runs with
-//! one worker.
+//! and the octets are. So while this crate passes, no command has such a call on its way where it runs with one worker over
+//! devices in memory.
 //!
-//! That says nothing of `run`, which compares the number of workers before it takes this way, and nothing of the C library
-//! that gives memory. What a run writes is promised by `run_alone`, and not again here.
+//! That says nothing of `run`, which compares the number of workers before it takes this way, nothing of standard input and
+//! output, and nothing of the C library that gives memory. What a run writes is promised by `run_alone`, and not again here.
 #![tactic(auto)]
 
 use ht_cli::run_alone;
