@@ -49,6 +49,8 @@ impl InFrame for CaptureBlock {
 }
 
 impl Shared for CaptureBlock {
+    ghost alike = { λ one other. one.block ≡ other.block };
+
     /// Whether both have the same head, symbol, numbers, subcarriers, triangles and samples.
     fn same(&self, other: &CaptureBlock) -> bool
         ensures { IsTrue result ↔ (self.now.block ≡ other.now.block) }

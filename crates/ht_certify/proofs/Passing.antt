@@ -1,10 +1,10 @@
 -- Octets that pass to a sink by way of others that wait.
-use Rattle.std.proofs.Common.{◌≡◌, ℕ, List, [], ◌++◌, refl, sym, ap, subst, ◌∙◌, append_assoc, append-nil}
+use Rattle.std.proofs.Common.{◌≡◌, ℕ, List, [], ◌++◌, Result, Ok, Err, refl, sym, ap, subst, ◌∙◌, append_assoc, append-nil}
 use Rattle.ht_io.specs.Devices.{Device, Grows, GrowsByPart, IsLater, Rose}
 use Rattle.ht_io.proofs.Calls.{failed-later, grows-append, grows-none, grows_by_part-append, grows_by_part-front, grows_by_part-none, later-later, later-refl}
 use Rattle.ht_runs.specs.declared.faults.RunFault.{RunFault}
 use Rattle.ht_runs.specs.declared.faults.RunFault.TheVariants.{Format, Read, Write, NoMemory}
-use Rattle.ht_certify.specs.Writing.{Breaks, IsCause, PutsThrough, PutsFrontThrough}
+use Rattle.ht_certify.specs.Writing.{Breaks, IsCause, PutsThrough, PutsFrontThrough, Writes}
 
 -- nothing was given
 pub passes_none : (waits : List ℕ) (sink : Device ℕ) → PutsThrough waits sink sink [] waits
@@ -88,3 +88,8 @@ put_breaks w x given a b c p part rose later = record {
 -- the same octets by another name
 pub breaks_as : (w given same : List ℕ) (a b : Device ℕ) (fault : RunFault) → given ≡ same → Breaks w a b given fault → Breaks w a b same fault
 breaks_as w given same a b fault is p = subst (λ z. Breaks w a b z fault) is p
+
+-- however it ends, the sink is the same at a later time
+pub writes_later : (w given x : List ℕ) (a b : Device ℕ) (result : Result (Unit {0}) RunFault) → Writes w a b given x result → IsLater a b
+writes_later w given x a b (Ok done) p = p.later
+writes_later w given x a b (Err fault) p = p.later

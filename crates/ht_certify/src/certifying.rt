@@ -1,5 +1,6 @@
 //! Captures that are certified.
 ghost use Rattle.std.specs.Prelude.{◌≡◌, ◌≢◌, Err};
+ghost use Rattle.ht_io.specs.Devices.{IsLater};
 ghost use Rattle.ht_runs.specs.Converted.{Converted};
 ghost use Rattle.ht_runs.specs.Filters.{SaysNothing};
 ghost use Rattle.ht_certify.specs.Certifying.{certifying};
@@ -22,6 +23,10 @@ pub fn certify_capture<S: Source, K: Sink>(
 ) -> Result<(), RunFault>
     ensures converts { Converted certifying (S.shown source.old) (S.shown source.new) (K.shown sink.old) (K.shown sink.new) SaysNothing result }
     ensures writes { result ≢ Err RunFault.Write → (K.shown sink.new).faults ≡ (K.shown sink.old).faults }
+
+    // However it ends, the devices are the same, and take back no fault.
+    ensures reads_later { IsLater (S.shown source.old) (S.shown source.new) }
+    ensures puts_later { IsLater (K.shown sink.old) (K.shown sink.new) }
 {
     let frames = read_captures(alloc, source)?;
     put_file(alloc, &frames, sink)

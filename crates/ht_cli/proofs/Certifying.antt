@@ -1,37 +1,29 @@
--- What is promised of `certify` and of `check`, in the words of captures and of files of certificates.
+-- What is promised of `certify`, and of `check` behind it, in the words of captures and of files of certificates.
 use Rattle.std.specs.Prelude.{◌≡◌, ◌⊎◌, ℕ, List, [], Option, Some}
 use Rattle.std.proofs.Common.{inl, inr, sym, ap, subst, length}
-use Rattle.ht_io.specs.Devices.{Device, Grows, GrowsByPart, Takes, TakesAll}
+use Rattle.ht_io.specs.Devices.{Device, Grows, GrowsByPart, TakesAll}
 use Rattle.ht_io.specs.Pieces.{KnownGrown}
-use Rattle.ht_io.specs.declared.faults.FormatFault.{FormatFault}
 use Rattle.ht_io.proofs.Calls.{takes_all-known}
 use Rattle.ht_fields.specs.Cases.{File, IsFile}
 use Rattle.ht_fields.specs.Meanings.{Meaning, meaning}
 use Rattle.ht_fields.specs.Tests.{AreBytes}
 use Rattle.ht_fields.proofs.Answered.{met}
-use Rattle.ht_capture.specs.Captures.{capture_of}
-use Rattle.ht_runs.specs.Formats.{IsFaultless, IsWhole}
-use Rattle.ht_runs.specs.Streamed.{line_of_fault}
-use Rattle.ht_runs.proofs.Known.{known_has}
 use Rattle.ht_cert.specs.Files.{certificates_file_of}
 use Rattle.ht_cert.specs.Formats.{certificates}
 use Rattle.ht_cert.specs.declared.record.Record.{Record}
 use Rattle.ht_certify.specs.Certifying.{CertifiesTo, certified}
 use Rattle.ht_check.specs.Checks.{all_yes_text, check_lines, check_text}
 use Rattle.ht_words.specs.declared.asked.Asked.TheVariants.{Certify, Check}
-use Rattle.ht_cli.specs.declared.status.Status.TheVariants.{Done, Refused, ReadFault, WriteFault, NoMemory}
+use Rattle.ht_cli.specs.declared.status.Status.TheVariants.{Done, Refused, NoMemory}
 use Rattle.ht_cli.specs.Streaming.{IsCapture}
 use Rattle.ht_cli.specs.Tasks.{Answered}
 use Rattle.ht_cli.proofs.Certified.{is_accepted, is_file}
+use Rattle.ht_cli.proofs.Saying.{text_known, text_known_refused}
 
 module _ (a b c d : Device ℕ) where
   pub certify_done : Answered (Some Certify) a b c d Done
       → (taken : List ℕ) × TakesAll a b taken × IsCapture taken × Grows c d (certificates_file_of (certified taken))
   certify_done run = (run.taken, run.octets, run.input, subst (λ (xs : List ℕ). Grows c d xs) run.comes run.put)
-
-  pub certify_refused : Answered (Some Certify) a b c d Refused
-      → (taken : List ℕ) × (fault : FormatFault) × Takes a b taken × ((capture_of taken).fault ≡ Some fault) × Grows c d (line_of_fault fault)
-  certify_refused run = (run.taken, run.fault, run.octets, run.refused, run.line)
 
   pub certify_memory : Answered (Some Certify) a b c d NoMemory → (d ≡ c)
       ⊎ ((taken : List ℕ) × TakesAll a b taken × IsCapture taken × GrowsByPart c d (certificates_file_of (certified taken)))
@@ -46,38 +38,6 @@ module _ (a b c d : Device ℕ) where
         subst IsCapture (sym taken.1) run.input,
         subst (λ (octets : List ℕ). Grows c d (certificates_file_of (certified octets))) (sym taken.1) put,
         taken.0,
-      )
-
-  pub check_done : Answered (Some Check) a b c d Done
-      → (taken : List ℕ) × TakesAll a b taken × IsWhole certificates taken × Grows c d (check_text taken)
-  check_done run = (run.taken, run.octets, run.input, run.text)
-
-  pub check_refused : Answered (Some Check) a b c d Refused
-      → (taken : List ℕ) × (fault : FormatFault) × Takes a b taken
-      × ((meaning certificates certificates.start 0 taken).fault ≡ Some fault) × Grows c d (check_text taken)
-  check_refused run = (run.taken, run.fault, run.octets, run.refused, run.text)
-
-  pub check_broken_off : Answered (Some Check) a b c d ReadFault
-      → (taken : List ℕ) × Takes a b taken × IsFaultless certificates taken × Grows c d (check_lines taken)
-  check_broken_off run = (run.taken, run.octets, run.front, run.text)
-
-  pub check_memory : Answered (Some Check) a b c d NoMemory → (taken : List ℕ) × Takes a b taken × GrowsByPart c d (check_lines taken)
-  check_memory run = (run.taken, run.octets, run.text)
-
-  pub check_part : Answered (Some Check) a b c d WriteFault → (taken : List ℕ) × Takes a b taken × GrowsByPart c d (check_text taken)
-  check_part run = (run.0.taken, run.0.octets, run.0.text)
-
-  pub check_known : (all : List ℕ) → a.known ≡ Some all → Answered (Some Check) a b c d Done → IsWhole certificates all × Grows c d (check_text all)
-  check_known all is run =
-      let same = (takes_all-known a b all run.taken run.octets is).1 in
-      (subst (IsWhole certificates) (sym same) run.input, subst (λ (octets : List ℕ). Grows c d (check_text octets)) (sym same) run.text)
-
-  pub check_known_refused : (all : List ℕ) → a.known ≡ Some all → Answered (Some Check) a b c d Refused
-      → (IsWhole certificates all → ⊥) × Grows c d (check_text all)
-  check_known_refused all is run =
-      let same = known_has all a.known (λ octets. check_text octets ≡ check_text run.taken) is run.same_text in (
-        known_has all a.known (λ octets. IsWhole certificates octets → ⊥) is run.no_input,
-        subst (λ (xs : List ℕ). Grows c d xs) (sym same) run.text,
       )
 
   -- an empty sink that is known afterwards holds what was put
@@ -97,7 +57,7 @@ module _ (all output : List ℕ) (a b c d e f g h : Device ℕ) (bytes : AreByte
   pub run_accepted : Answered (Some Check) e f g h Done → Grows g h (all_yes_text (length (certified all)))
   run_accepted second =
       let w = written in
-      subst (λ (xs : List ℕ). Grows g h xs) (is_accepted all output bytes w.0 w.1) (check_known e f g h output read second).1
+      subst (λ (xs : List ℕ). Grows g h xs) (is_accepted all output bytes w.0 w.1) (text_known certificates check_text check_lines e f g h output read second).1
 
   pub run_not_refused : Answered (Some Check) e f g h Refused → ⊥
   run_not_refused second =
@@ -105,4 +65,4 @@ module _ (all output : List ℕ) (a b c d e f g h : Device ℕ) (bytes : AreByte
       let file = is_file all output bytes w.0 w.1 in
       let same : (meaning certificates certificates.start 0 output).items ≡ certified all =
       ap (λ (m : Meaning Record). m.items) (met certificates output (certified all) File file) in
-      (check_known_refused e f g h output read second).0 (subst (λ (rs : List Record). IsFile certificates output rs) (sym same) file)
+      (text_known_refused certificates check_text check_lines e f g h output read second).0 (subst (λ (rs : List Record). IsFile certificates output rs) (sym same) file)

@@ -6,7 +6,7 @@ pub mod Exactly
 pub mod Making
 pub mod Nothing
 pub mod Returning
+pub mod Saying
 pub mod Texts
 pub mod Spelled
-pub mod Transmitting
 pub mod Upgrading

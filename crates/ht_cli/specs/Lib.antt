@@ -1,5 +1,4 @@
 pub mod Commands
-pub mod Converting
 pub mod Exactly
 pub mod Filters
 pub mod Putting

@@ -12,7 +12,7 @@ use Rattle.ht_words.specs.declared.asked.Asked.{Asked}
 use Rattle.ht_words.specs.declared.asked.Asked.TheVariants.{Detect, Rx, Soft, LegacyRx, Many, Tx, Channel, Upgrade, Certify, Check, LegacyChannel, Demo}
 use Rattle.ht_cli.specs.Commands.{Command, Reads, Converts, Makes, Answers, Rejects}
 use Rattle.ht_cli.specs.Filters.{streaming, whole}
-use Rattle.ht_cli.specs.Converting.{SendsTo, UpgradesTo}
+use Rattle.ht_convert.specs.Converting.{SendsTo, UpgradesTo}
 use Rattle.ht_files.specs.Frames.{frames}
 use Rattle.ht_files.specs.Points.{symbols}
 use Rattle.ht_sim.specs.Passing.{PassesTo}

@@ -1,4 +1,4 @@
-//! What the statuses of a run say, spelled out for `detect`, `rx`, `soft`, `upgrade`, `certify`, `check` and `demo`.
+//! What the statuses of a run say, spelled out for each command.
 //!
 //! The clauses of [`run`](crate::run) are the same for every command. Each law is a function with an empty body: its
 //! clauses follow from `Answered`, where a run goes from the source `a` to `b` and from the sink `c` to `d`.
@@ -7,24 +7,32 @@ ghost use Rattle.std.specs.Global.{Global as GlobalValue};
 ghost use Rattle.ht_io.specs.Devices.{Device, Grows, GrowsByPart, Rose, Takes, TakesAll};
 ghost use Rattle.ht_io.specs.declared.faults.FormatFault.{FormatFault};
 ghost use Rattle.ht_fields.specs.Cases.{IsFile};
-ghost use Rattle.ht_fields.specs.Meanings.{meaning};
 ghost use Rattle.ht_fields.specs.Tests.{AreBytes};
-ghost use Rattle.ht_runs.specs.Formats.{IsFaultless, IsWhole};
+ghost use Rattle.ht_runs.specs.Formats.{IsFaultless, IsWhole, fault_in};
 ghost use Rattle.ht_runs.specs.Streamed.{line_of_fault};
 ghost use Rattle.ht_metric.specs.Jobs.{IsJob, IsNear};
 ghost use Rattle.ht_witness.specs.Certificates.{Checked};
 ghost use Rattle.ht_cert.specs.Files.{AreRecords, certificates_file_of};
 ghost use Rattle.ht_cert.specs.Formats.{certificates};
-ghost use Rattle.ht_certify.specs.Certifying.{CertifiesTo, certified};
+ghost use Rattle.ht_certify.specs.Certifying.{CertifiesTo, certified, certifying};
 ghost use Rattle.ht_check.specs.Checks.{all_yes_text, check_lines, check_text};
 ghost use Rattle.ht_capture.specs.declared.frames.CaptureFrame.{CaptureFrame};
 ghost use Rattle.ht_capture.specs.Captures.{capture_of};
 ghost use Rattle.ht_capture.specs.Contents.{AreTyped};
+ghost use Rattle.ht_capture.specs.Fields.{captures};
 ghost use Rattle.ht_capture.specs.Files.{AreCaptureFrames, capture_file_of};
 ghost use Rattle.ht_tx.specs.Frames.{FrameView};
 ghost use Rattle.ht_tx.specs.Symbols.{SymbolsView};
+ghost use Rattle.ht_files.specs.Frames.{frames};
+ghost use Rattle.ht_files.specs.Points.{symbols};
 ghost use Rattle.ht_files.specs.SymbolFiles.{symbols_file_of};
-ghost use Rattle.ht_sim.specs.Passing.{PassesTo};
+ghost use Rattle.ht_sim.specs.Passing.{PassesTo, passing};
+ghost use Rattle.ht_bundles.specs.Formats.{bundles};
+ghost use Rattle.ht_several.specs.Bundles.{ReceivesTo, receiving};
+ghost use Rattle.ht_legacy_files.specs.Formats.{frames as legacy_frames};
+ghost use Rattle.ht_legacy_captures.specs.Formats.{captures as legacy_captures};
+ghost use Rattle.ht_legacy_sim.specs.Passing.{PassesTo as LegacyPassesTo, passing as legacy_passing};
+ghost use Rattle.ht_legacy_rx.specs.Texts.{legacy_lines_of, legacy_text};
 ghost use Rattle.ht_round.specs.Returned.{returned_text};
 ghost use Rattle.ht_text.specs.Lines.{usage_text};
 ghost use Rattle.ht_results.specs.Texts.{frame_lines_of, rx_text};
@@ -34,8 +42,8 @@ ghost use Rattle.ht_rate.specs.declared.rates.Rate.{Rate as RateValue};
 ghost use Rattle.ht_demo.specs.Demos.{Demonstrates, returned_line};
 ghost use Rattle.ht_words.specs.Accepted.{IsAccepted};
 ghost use Rattle.ht_words.specs.Words.{asked};
-ghost use Rattle.ht_cli.specs.Commands.{MakesPart, MakesText};
-ghost use Rattle.ht_cli.specs.Converting.{UpgradesTo};
+ghost use Rattle.ht_cli.specs.Commands.{IsWritten, MakesPart, MakesText};
+ghost use Rattle.ht_convert.specs.Converting.{SendsTo, UpgradesTo, sending, upgrading};
 ghost use Rattle.ht_cli.specs.Returning.{AreReceivedExactly, SendsFrames};
 ghost use Rattle.ht_cli.specs.Streaming.{IsCapture, StreamsAs, StreamsFront, StreamsLines, StreamsPart, StreamsRefused, StreamsWhole};
 ghost use Rattle.ht_cli.specs.Exactly.{WritesExactly, sure_sink, sure_source};
@@ -135,15 +143,61 @@ pub fn clauses_of_streaming()
         → StreamsAs lines text a b c d Status.Refused → (IsCapture all → ⊥) × Grows c d (text all) }
 {}
 
-/// What a status says of `upgrade`.
+/// What a status says of `tx`, which reads a file of frames to its end and then puts the file of their symbols.
+pub fn clauses_of_tx()
+    // Done: what was left is a file of frames, and the file of the symbols that are sent for them was put.
+    ensures done { (a b c d : Device ℕ) → Answered (Some Asked.Tx) a b c d Status.Done
+        → (taken : List ℕ) × (output : List ℕ) × TakesAll a b taken × SendsTo taken output × Grows c d output }
+
+    // Refused: what was left is no such file, and the line of its first fault was put, and nothing else.
+    ensures refused { (a b c d : Device ℕ) → Answered (Some Asked.Tx) a b c d Status.Refused
+        → (taken : List ℕ) × (fault : FormatFault) × Takes a b taken × (fault_in frames taken ≡ Some fault) × Grows c d (line_of_fault fault) }
+
+    // Where the source failed, or memory ran out, nothing was put.
+    ensures read_fault { (a b c d : Device ℕ) → Answered (Some Asked.Tx) a b c d Status.ReadFault → d ≡ c }
+    ensures memory { (a b c d : Device ℕ) → Answered (Some Asked.Tx) a b c d Status.NoMemory → d ≡ c }
+
+    // WriteFault: a part of the file was put, or of the line of the first fault.
+    ensures part { (a b c d : Device ℕ) → Answered (Some Asked.Tx) a b c d Status.WriteFault
+        → (taken : List ℕ) × (text : List ℕ) × Takes a b taken × IsWritten sending taken text × GrowsByPart c d text }
+{}
+
+/// What a status says of `channel`, which reads a file of symbols to its end and then puts the capture that they pass to.
+pub fn clauses_of_channel()
+    // Done: what was left is a file of symbols, and the capture that it passes to was put.
+    ensures done { (seed noise : ℕ) (a b c d : Device ℕ) → Answered (Some (Asked.Channel seed noise)) a b c d Status.Done
+        → (taken : List ℕ) × (output : List ℕ) × TakesAll a b taken × PassesTo seed noise taken output × Grows c d output }
+
+    // Refused: what was left is no such file, and the line of its first fault was put, and nothing else.
+    ensures refused { (seed noise : ℕ) (a b c d : Device ℕ) → Answered (Some (Asked.Channel seed noise)) a b c d Status.Refused
+        → (taken : List ℕ) × (fault : FormatFault) × Takes a b taken × (fault_in symbols taken ≡ Some fault) × Grows c d (line_of_fault fault) }
+
+    // Where the source failed, or memory ran out, nothing was put.
+    ensures read_fault { (seed noise : ℕ) (a b c d : Device ℕ) → Answered (Some (Asked.Channel seed noise)) a b c d Status.ReadFault → d ≡ c }
+    ensures memory { (seed noise : ℕ) (a b c d : Device ℕ) → Answered (Some (Asked.Channel seed noise)) a b c d Status.NoMemory → d ≡ c }
+
+    // WriteFault: a part of the capture was put, or of the line of the first fault.
+    ensures part { (seed noise : ℕ) (a b c d : Device ℕ) → Answered (Some (Asked.Channel seed noise)) a b c d Status.WriteFault
+        → (taken : List ℕ) × (text : List ℕ) × Takes a b taken × IsWritten (passing seed noise) taken text × GrowsByPart c d text }
+{}
+
+/// What a status says of `upgrade`, which reads a capture to its end and then puts it in version 2.
 pub fn clauses_of_upgrade()
     // Done: what was left is a capture, and the capture of version 2 of its frames was put.
     ensures done { (a b c d : Device ℕ) → Answered (Some Asked.Upgrade) a b c d Status.Done
         → (taken : List ℕ) × (output : List ℕ) × TakesAll a b taken × UpgradesTo taken output × Grows c d output }
 
+    // Refused: what was left is no capture, and the line of its first fault was put, and nothing else.
+    ensures refused { (a b c d : Device ℕ) → Answered (Some Asked.Upgrade) a b c d Status.Refused
+        → (taken : List ℕ) × (fault : FormatFault) × Takes a b taken × (fault_in captures taken ≡ Some fault) × Grows c d (line_of_fault fault) }
+
     // Where the source failed, or memory ran out, nothing was put.
     ensures read_fault { (a b c d : Device ℕ) → Answered (Some Asked.Upgrade) a b c d Status.ReadFault → d ≡ c }
     ensures memory { (a b c d : Device ℕ) → Answered (Some Asked.Upgrade) a b c d Status.NoMemory → d ≡ c }
+
+    // WriteFault: a part of that capture was put, or of the line of the first fault.
+    ensures part { (a b c d : Device ℕ) → Answered (Some Asked.Upgrade) a b c d Status.WriteFault
+        → (taken : List ℕ) × (text : List ℕ) × Takes a b taken × IsWritten upgrading taken text × GrowsByPart c d text }
 {}
 
 /// What an upgraded capture means.
@@ -174,6 +228,10 @@ pub fn clauses_of_certify()
     ensures memory { (a b c d : Device ℕ) → Answered (Some Asked.Certify) a b c d Status.NoMemory → (d ≡ c)
         ⊎ ((taken : List ℕ) × TakesAll a b taken × IsCapture taken × GrowsByPart c d (certificates_file_of (certified taken))) }
 
+    // WriteFault: a part of the file was put, or of the line of the first fault.
+    ensures part { (a b c d : Device ℕ) → Answered (Some Asked.Certify) a b c d Status.WriteFault
+        → (taken : List ℕ) × (text : List ℕ) × Takes a b taken × IsWritten certifying taken text × GrowsByPart c d text }
+
     // Where all octets are known that the source had left: Done says that they are a capture, and has all taken.
     ensures known_done { (all : List ℕ) (a b c d : Device ℕ) → a.known ≡ Some all → Answered (Some Asked.Certify) a b c d Status.Done
         → IsCapture all × Grows c d (certificates_file_of (certified all)) × (b.known ≡ Some []) }
@@ -188,7 +246,7 @@ pub fn clauses_of_check()
     // Refused: what was left is no such file, and its text was put, which names its first fault.
     ensures refused { (a b c d : Device ℕ) → Answered (Some Asked.Check) a b c d Status.Refused
         → (taken : List ℕ) × (fault : FormatFault) × Takes a b taken
-        × ((meaning certificates certificates.start 0 taken).fault ≡ Some fault) × Grows c d (check_text taken) }
+        × (fault_in certificates taken ≡ Some fault) × Grows c d (check_text taken) }
 
     // ReadFault: the lines of the certificates read whole were put. NoMemory: a part of them. WriteFault: a part of the text.
     ensures broken_off { (a b c d : Device ℕ) → Answered (Some Asked.Check) a b c d Status.ReadFault
@@ -227,6 +285,82 @@ pub fn certified_is_accepted()
         → Answered (Some Asked.Check) e f g h Status.Done → Grows g h (all_yes_text (length (certified all))) }
     ensures never_refused { (all output : List ℕ) (a b c d e f g h : Device ℕ) → HasCertified all output a b c d → e.known ≡ Some output
         → Answered (Some Asked.Check) e f g h Status.Refused → ⊥ }
+{}
+
+/// What a status says of `lrx`, which puts a line for each frame of a clause 18 capture while it reads.
+pub fn clauses_of_lrx()
+    // Done: what was left is a clause 18 capture, and its text was put.
+    ensures done { (workers window : ℕ) (a b c d : Device ℕ) → Answered (Some (Asked.LegacyRx workers window)) a b c d Status.Done
+        → (taken : List ℕ) × TakesAll a b taken × IsWhole legacy_captures taken × Grows c d (legacy_text taken) }
+
+    // Refused: what was left is no such capture, and its text was put, which names its first fault.
+    ensures refused { (workers window : ℕ) (a b c d : Device ℕ) → Answered (Some (Asked.LegacyRx workers window)) a b c d Status.Refused
+        → (taken : List ℕ) × (fault : FormatFault) × Takes a b taken × (fault_in legacy_captures taken ≡ Some fault) × Grows c d (legacy_text taken) }
+
+    // ReadFault: the lines of the frames read whole were put. NoMemory: a part of them. WriteFault: a part of the text.
+    ensures broken_off { (workers window : ℕ) (a b c d : Device ℕ) → Answered (Some (Asked.LegacyRx workers window)) a b c d Status.ReadFault
+        → (taken : List ℕ) × Takes a b taken × IsFaultless legacy_captures taken × Grows c d (legacy_lines_of taken) }
+    ensures memory { (workers window : ℕ) (a b c d : Device ℕ) → Answered (Some (Asked.LegacyRx workers window)) a b c d Status.NoMemory
+        → (taken : List ℕ) × Takes a b taken × GrowsByPart c d (legacy_lines_of taken) }
+    ensures part { (workers window : ℕ) (a b c d : Device ℕ) → Answered (Some (Asked.LegacyRx workers window)) a b c d Status.WriteFault
+        → (taken : List ℕ) × Takes a b taken × GrowsByPart c d (legacy_text taken) }
+
+    // Where all octets are known that the source had left, Done and Refused put the text of them all.
+    ensures known_done { (workers window : ℕ) (all : List ℕ) (a b c d : Device ℕ) → a.known ≡ Some all
+        → Answered (Some (Asked.LegacyRx workers window)) a b c d Status.Done → IsWhole legacy_captures all × Grows c d (legacy_text all) }
+    ensures known_refused { (workers window : ℕ) (all : List ℕ) (a b c d : Device ℕ) → a.known ≡ Some all
+        → Answered (Some (Asked.LegacyRx workers window)) a b c d Status.Refused
+        → (IsWhole legacy_captures all → ⊥) × Grows c d (legacy_text all) }
+{}
+
+/// What a status says of `lchannel`, which reads a file of clause 18 frames to its end and then puts what they pass to.
+pub fn clauses_of_lchannel()
+    // Done: what was left is a file of frames, and the capture that it passes to was put.
+    ensures done { (seed noise : ℕ) (a b c d : Device ℕ) → Answered (Some (Asked.LegacyChannel seed noise)) a b c d Status.Done
+        → (taken : List ℕ) × (output : List ℕ) × TakesAll a b taken × LegacyPassesTo seed noise taken output × Grows c d output }
+
+    // Refused: what was left is no such file, and the line of its first fault was put, and nothing else.
+    ensures refused { (seed noise : ℕ) (a b c d : Device ℕ) → Answered (Some (Asked.LegacyChannel seed noise)) a b c d Status.Refused
+        → (taken : List ℕ) × (fault : FormatFault) × Takes a b taken × (fault_in legacy_frames taken ≡ Some fault) × Grows c d (line_of_fault fault) }
+
+    // Where the source failed nothing was put. Where memory ran out it was nothing, or a part of the capture from its front.
+    ensures read_fault { (seed noise : ℕ) (a b c d : Device ℕ) → Answered (Some (Asked.LegacyChannel seed noise)) a b c d Status.ReadFault → d ≡ c }
+    ensures memory { (seed noise : ℕ) (a b c d : Device ℕ) → Answered (Some (Asked.LegacyChannel seed noise)) a b c d Status.NoMemory → (d ≡ c)
+        ⊎ ((taken : List ℕ) × (output : List ℕ) × TakesAll a b taken × LegacyPassesTo seed noise taken output × GrowsByPart c d output) }
+
+    // WriteFault: a part of the capture was put, or of the line of the first fault.
+    ensures part { (seed noise : ℕ) (a b c d : Device ℕ) → Answered (Some (Asked.LegacyChannel seed noise)) a b c d Status.WriteFault
+        → (taken : List ℕ) × (text : List ℕ) × Takes a b taken × IsWritten (legacy_passing seed noise) taken text × GrowsByPart c d text }
+
+    // Where all octets are known that the source had left: Done says what they pass to, and has all taken.
+    ensures known_done { (seed noise : ℕ) (all : List ℕ) (a b c d : Device ℕ) → a.known ≡ Some all
+        → Answered (Some (Asked.LegacyChannel seed noise)) a b c d Status.Done
+        → (output : List ℕ) × LegacyPassesTo seed noise all output × Grows c d output × (b.known ≡ Some []) }
+{}
+
+/// What a status says of `many`, which reads a bundle to its end and then puts the texts of its captures.
+pub fn clauses_of_many()
+    // Done: what was left is a bundle, and the text of its captures was put, whatever each of them holds.
+    ensures done { (workers window : ℕ) (a b c d : Device ℕ) → Answered (Some (Asked.Many workers window)) a b c d Status.Done
+        → (taken : List ℕ) × (output : List ℕ) × TakesAll a b taken × ReceivesTo taken output × Grows c d output }
+
+    // Refused: what was left is no bundle, and the line of its first fault was put, and nothing else.
+    ensures refused { (workers window : ℕ) (a b c d : Device ℕ) → Answered (Some (Asked.Many workers window)) a b c d Status.Refused
+        → (taken : List ℕ) × (fault : FormatFault) × Takes a b taken × (fault_in bundles taken ≡ Some fault) × Grows c d (line_of_fault fault) }
+
+    // Where the source failed nothing was put. Where memory ran out it was nothing, or a part of the text from its front.
+    ensures read_fault { (workers window : ℕ) (a b c d : Device ℕ) → Answered (Some (Asked.Many workers window)) a b c d Status.ReadFault → d ≡ c }
+    ensures memory { (workers window : ℕ) (a b c d : Device ℕ) → Answered (Some (Asked.Many workers window)) a b c d Status.NoMemory → (d ≡ c)
+        ⊎ ((taken : List ℕ) × (output : List ℕ) × TakesAll a b taken × ReceivesTo taken output × GrowsByPart c d output) }
+
+    // WriteFault: a part of the text was put, or of the line of the first fault.
+    ensures part { (workers window : ℕ) (a b c d : Device ℕ) → Answered (Some (Asked.Many workers window)) a b c d Status.WriteFault
+        → (taken : List ℕ) × (text : List ℕ) × Takes a b taken × IsWritten receiving taken text × GrowsByPart c d text }
+
+    // Where all octets are known that the source had left: Done says that they are a bundle, and has all taken.
+    ensures known_done { (workers window : ℕ) (all : List ℕ) (a b c d : Device ℕ) → a.known ≡ Some all
+        → Answered (Some (Asked.Many workers window)) a b c d Status.Done
+        → (output : List ℕ) × ReceivesTo all output × Grows c d output × (b.known ≡ Some []) }
 {}
 
 /// What a status says of `demo`, which reads nothing.

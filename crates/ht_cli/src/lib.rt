@@ -26,14 +26,13 @@ ghost use Rattle.std.specs.Prelude.{◌≡◌, ◌≤◌, IfSome};
 ghost use Rattle.ht_words.specs.Words.{IsWithinRanges, asked};
 ghost use Rattle.ht_cli.specs.Tasks.{CarriesOut, plan_of};
 
-mod commands;
 pub mod laws;
 mod lines;
 mod status;
 
-use commands::{send, upgrade};
 use ht_certify::certify_capture;
 use ht_check::check_file;
+use ht_convert::{send, upgrade};
 use ht_demo::{Plan, demo, demo_alone};
 use ht_feed::Gate;
 use ht_io::{Sink, Source};
@@ -59,7 +58,7 @@ use std::thread::Threads;
 /// With two workers or more the jobs run in at most that many threads, the caller's among them, and the call waits for all;
 /// else it is [`run_alone`]. Where memory runs out before the words are known, nothing is read or put.
 ///
-/// `answered` of `CarriesOut` says what each status means; [`laws`] spells it out for some commands.
+/// `answered` of `CarriesOut` says what each status means; [`laws`] spells it out for each command.
 pub fn run<R: Threads + Wait + Sync, S: Source, K: Sink, G: Gate + Sync>(
     rt: &R,
     alloc: Global,
@@ -84,7 +83,7 @@ pub fn run<R: Threads + Wait + Sync, S: Source, K: Sink, G: Gate + Sync>(
             settle(alloc, received, sink)
         }
         Some(Asked::Soft { workers, window }) if workers > 1 => {
-            let received = receive_soft(rt, alloc, workers, halves(window), source, sink, gate);
+            let received = receive_soft(rt, alloc, workers, window, source, sink, gate);
             settle(alloc, received, sink)
         }
         Some(Asked::LegacyRx { workers, window }) if workers > 1 => {
@@ -130,16 +129,6 @@ pub fn run_alone<S: Source, K: Sink, G: Gate>(
     }
 }
 
-// How many halves `soft` has under way for a window of this many jobs: sixteen for each, and at most 4096. Some take a
-// hundred times as long as others, so that a short window would wait for the oldest one.
-fn halves(window: u16) -> u16
-    requires some { 1 ≤ window }
-    ensures some { 1 ≤ result }
-    ensures few { result ≤ 4096 }
-{
-    window.saturating_mul(16).min(4096)
-}
-
 // Does what was asked in this thread, or puts the usage line where nothing was.
 fn carry_out<S: Source, K: Sink, G: Gate>(
     alloc: Global,
@@ -161,7 +150,7 @@ fn carry_out<S: Source, K: Sink, G: Gate>(
             settle(alloc, received, sink)
         }
         Some(Asked::Soft { window, .. }) => {
-            let received = receive_soft_alone(alloc, halves(window), source, sink, gate);
+            let received = receive_soft_alone(alloc, window, source, sink, gate);
             settle(alloc, received, sink)
         }
         Some(Asked::LegacyRx { window, .. }) => {

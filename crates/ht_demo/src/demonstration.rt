@@ -35,7 +35,7 @@ fn demo_line_of(
 ///
 /// Every job runs in this thread, between the two calls of the gate. At most `window` jobs, 1 to 4096, were read and not
 /// yet taken at any moment. The frames' octets, their samples and the capture are kept in memory, about 9 MB a frame at
-/// most. The only error is lack of memory.
+/// most. No clause says how much is due or kept. The only error is lack of memory.
 pub fn demo_alone<G: Gate>(
     alloc: Global,
     window: u16,

@@ -1,5 +1,7 @@
 -- Blocks as the tasks of a pool, and in the window of a drive.
-use Rattle.std.specs.Prelude.{◌≡◌, ◌+◌, ◌<◌, ◌≤◌, ◌^◌, ℕ, List, [], ◌∷◌, ◌++◌, length, Bool, true, if◌then◌else◌}
+use Rattle.std.specs.Prelude.{◌≡◌, ◌≢◌, ◌⊎◌, ◌+◌, ◌-◌, ◌%◌, ◌<◌, ◌≤◌, ◌^◌, ℕ, List, [], ◌∷◌, ◌++◌, length, slice_get, Bool, true, false, if◌then◌else◌}
+use Rattle.std.specs.Prelude.{Option, Some, None, IfSome, IsSome}
+use Rattle.std.specs.Option.{is_some}
 use Rattle.std.specs.List.{sum_by}
 use Rattle.ht_metric.specs.Jobs.{JobView}
 use Rattle.ht_feed.specs.Dues.{NoneEmpty, count_in}
@@ -126,7 +128,54 @@ pub record IsBlockWindow (places held : ℕ) (w : BlockWindow) : Type 0 where
   pub few : w.capacity ≤ 4096
   pub full : NoneEmpty w.due
 
--- there is a first block, and this holds of its jobs
-abbrev pub IsFirst : (List JobView → Type 0) → List (List JobView) → Type 0
-IsFirst P [] = ⊥
-IsFirst P (jobs ∷ blocks) = P jobs
+-- a block that is due, and the answer to it once that has come
+pub record SlotOf (B A : Type 0) : Type 0 where
+  pub block : B
+  pub answer : Option A
+
+abbrev pub slot_of : {B A : Type 0} → B → Option A → SlotOf B A
+slot_of block answer = record { block = block; answer = answer }
+
+-- what a drive keeps of the blocks that are due, in order: the number of jobs for which it has room in all, the place of the
+-- first block in the order of all, and a slot for each
+pub record WindowOf (B A : Type 0) : Type 0 where
+  pub capacity : ℕ
+  pub front : ℕ
+  pub slots : List (SlotOf B A)
+
+abbrev pub window_of : {B A : Type 0} → ℕ → ℕ → List (SlotOf B A) → WindowOf B A
+window_of capacity front slots = record { capacity = capacity; front = front; slots = slots }
+
+module _ {B A : Type 0} (jobs : B → List JobView) where
+  -- the jobs of each block
+  abbrev pub due_in : List (SlotOf B A) → List (List JobView)
+  due_in [] = []
+  due_in (slot ∷ slots) = jobs slot.block ∷ due_in slots
+
+  -- what a feed has to do with of a window
+  abbrev pub seen : WindowOf B A → BlockWindow
+  seen w = block_window w.capacity (due_in w.slots)
+
+-- how many blocks are in front of the one of this place, where the first has the place `front`: places go round
+abbrev pub behind : ℕ → ℕ → ℕ
+behind front place = (place + (2 ^ 64 - front)) % 2 ^ 64
+
+-- the first block has its answer
+abbrev pub first_answered : {B A : Type 0} → List (SlotOf B A) → Bool
+first_answered [] = false
+first_answered (slot ∷ slots) = is_some slot.answer
+
+module _ {B A : Type 0} (Alike : B → B → Type 0) where
+  -- A block has come back with its answer to a slot. That keeps it where it waits and its block is alike, and stays as it is
+  -- where it has an answer; where the blocks aren't alike it may do either.
+  pub record Books (ran : B) (came : A) (old new : SlotOf B A) : Type 0 where
+    pub block : new.block ≡ old.block
+    pub kept : old.answer ≡ None → Alike old.block ran → new.answer ≡ Some came
+    pub stays : IsSome old.answer → new.answer ≡ old.answer
+    pub either : (new.answer ≡ old.answer) ⊎ (new.answer ≡ Some came)
+
+  -- it has come to the slot that has this number of others before it, and all others stay
+  pub record BooksAt (at : ℕ) (ran : B) (came : A) (old new : List (SlotOf B A)) : Type 0 where
+    pub books : (slot : SlotOf B A) → slice_get old at ≡ Some slot → IfSome (slice_get new at) (Books ran came slot)
+    pub others : (k : ℕ) → k ≢ at → slice_get new k ≡ slice_get old k
+    pub length_is : length new ≡ length old

@@ -1,5 +1,6 @@
 //! The caller's part of a drive.
 ghost use Rattle.std.specs.Prelude.{◌⊎◌};
+ghost use Rattle.ht_drive.specs.Blocks.{seen};
 ghost use Rattle.ht_drive.specs.Driving.{HasYetToLead, LeadsBlocks};
 
 use crate::deliver::deliver;
@@ -29,7 +30,7 @@ pub(crate) fn lead<
     helm: &mut BlockHelm<'_, '_, B, A, W>,
     feed: &mut F,
 ) -> Result<Tally, DriveFault<F::Fault>>
-    requires { HasYetToLead window.old helm.old (F.shown feed.old) }
+    requires { HasYetToLead (seen B.jobs window.old) helm.old (F.shown feed.old) }
     ensures { LeadsBlocks F.shown F.leads (A.may_lack ⊎ B.may_lack) window.old.capacity feed.old feed.new helm.old helm.new result }
 {
     let mut tally = Tally { issued: 0, own: 0 };

@@ -4,7 +4,7 @@ ghost use Rattle.ht_metric.specs.Jobs.{JobView};
 ghost use Rattle.ht_feed.specs.OwnNumbers.{AreByNumber};
 ghost use Rattle.ht_feed.specs.Dues.{all_in, count_in};
 ghost use Rattle.ht_feed.specs.Items.{Numbered};
-ghost use Rattle.ht_drive.specs.Blocks.{IsBlock, IsSameHelm, block_window};
+ghost use Rattle.ht_drive.specs.Blocks.{IsBlock, IsSameHelm, block_window, due_in, seen};
 ghost use Rattle.ht_drive.specs.Driving.{Holds, IsLeading, Refuses, Stands, StepsOn, Tallies};
 
 use crate::helm::BlockHelm;
@@ -23,11 +23,11 @@ fn issue<B: Shared + Drop + Send, A: Answer + Drop + Send, W: Work<B, Answer = A
     block: B,
 ) -> Result<(), AllocError>
     requires block { IsBlock (B.jobs block) }
-    requires room { count_in window.old.due + length (B.jobs block) ≤ window.old.capacity }
+    requires room { count_in (due_in B.jobs window.old.slots) + length (B.jobs block) ≤ window.old.capacity }
     requires tallies { Tallies tally.old helm.old }
     requires numbers { Numbered tally.old.issued (B.jobs block) }
     requires last { tally.old.issued + length (B.jobs block) < 2 ^ 64 - 1 }
-    ensures window { window.new ≡ block_window window.old.capacity (window.old.due ++ B.jobs block ∷ []) }
+    ensures window { seen B.jobs window.new ≡ block_window window.old.capacity (due_in B.jobs window.old.slots ++ B.jobs block ∷ []) }
     ensures tallies { OnOk result (Tallies tally.new helm.new) }
     ensures by_number { OnOk result ((all : List JobView) → AreByNumber all (all_in helm.old.given) → AreByNumber all (B.jobs block)
         → AreByNumber all (all_in helm.new.given)) }
@@ -66,15 +66,15 @@ pub(crate) fn supply<
 ) -> Result<bool, DriveFault<F::Fault>>
     requires some { 1 ≤ size }
     requires capacity { window.old.capacity ≤ 4096 }
-    requires stands { Stands running window.old helm.old tally.old (F.shown feed.old) }
+    requires stands { Stands running (seen B.jobs window.old) helm.old tally.old (F.shown feed.old) }
 
     // However it ends.
-    ensures steps { StepsOn F.shown F.leads window.old window.new feed.old feed.new }
-    ensures holds { Holds window.new (F.shown feed.new) }
+    ensures steps { StepsOn F.shown F.leads (seen B.jobs window.old) (seen B.jobs window.new) feed.old feed.new }
+    ensures holds { Holds (seen B.jobs window.new) (F.shown feed.new) }
     ensures issued { tally.new.issued ≡ (F.shown feed.new).count }
     ensures same { IsSameHelm helm.old helm.new }
 
-    ensures goes_on { IfOk result (λ on. IsLeading F.shown F.leads on window.old window.new helm.old helm.new tally.new feed.old feed.new) }
+    ensures goes_on { IfOk result (λ on. IsLeading F.shown F.leads on (seen B.jobs window.old) (seen B.jobs window.new) helm.old helm.new tally.new feed.old feed.new) }
     ensures refuses { IfErr result (Refuses (A.may_lack ⊎ B.may_lack) (F.shown feed.new)) }
 {
     let mut running = running;

@@ -102,7 +102,7 @@ impl<B: Jobs + Drop, A: Answer> Done<B, A> {
     /// The block and the answer to it, or out of memory where the work hasn't answered.
     pub(crate) fn into_parts(self) -> Result<(B, A), AllocError>
         ensures block { IfOk result (λ parts. B.jobs parts.0 ≡ task_of self) }
-        ensures right { IfOk result (λ parts. A.answers parts.1 (task_of self)) }
+        ensures right { IfOk result (λ parts. A.answers parts.1 (B.jobs parts.0)) }
         ensures answered { OnOk result (self.answered ≡ true) }
         ensures lacks { OnErr result A.may_lack }
     {

@@ -69,8 +69,8 @@ where
 }
 
 /// Does as [`tell_alone`](ht_feed::tell_alone), and the blocks are run by 1 to 64 workers, of which the caller is one.
-/// At most `window` jobs, 1 to 4096, were given and not yet taken at any moment. What is put is the same, in the same
-/// order.
+/// The window has room for `window` jobs, 1 to 4096: of those due at any moment [`drive`] has a clause, and this call none.
+/// What is put is the same, in the same order.
 pub fn tell<
     T: Threads + Wait + Sync,
     R: BlockReader + Drop,

@@ -6,7 +6,7 @@ ghost use Rattle.ht_feed.specs.Drives.{DrivesBlocks};
 ghost use Rattle.ht_feed.specs.Feeds.{IsFreshFeed};
 ghost use Rattle.ht_pool.specs.Members.{HasServed, berth_of, berths};
 ghost use Rattle.ht_pool.specs.Pools.{IsOpened, IsVacant};
-ghost use Rattle.ht_drive.specs.Blocks.{IsSettled, jobs_in, task_of};
+ghost use Rattle.ht_drive.specs.Blocks.{IsSettled, due_in, jobs_in, seen, task_of};
 ghost use Rattle.ht_drive.specs.Driving.{HasYetToLead, Tallies};
 ghost use Rattle.ht_drive.specs.Reports.{HasRunInPool, HasRunJobs, blocks_pushed, jobs_reported};
 
@@ -99,7 +99,7 @@ fn in_pool<
     requires opened { IsOpened window.capacity pool }
     requires several { 2 ≤ length pool.post.deques }
     requires capacity { window.capacity ≤ 4096 }
-    requires empty { window.due ≡ [] }
+    requires empty { due_in B.jobs window.slots ≡ [] }
     requires fresh { IsFreshFeed (F.shown feed.old) }
     ensures drives { DrivesBlocks F.shown F.leads (A.may_lack ⊎ B.may_lack) jobs_reported window.capacity feed.old feed.new result }
     ensures ran { IfOk result (HasRunJobs (length pool.post.deques) window.capacity (F.shown feed.old).left) }
@@ -125,7 +125,7 @@ fn in_pool<
         shared,
         members,
         &mut || -> Result<Tally, DriveFault<E>>
-            requires { HasYetToLead window helm (F.shown feed.now) }
+            requires { HasYetToLead (seen B.jobs window) helm (F.shown feed.now) }
         { lead(rt, runner, &mut window, &mut pace, &mut helm, feed) },
     );
     match led {

@@ -1,6 +1,6 @@
 //! What a caller does while it waits.
 ghost use Rattle.std.specs.Prelude.{◌≡◌, OnErr, OnOk};
-ghost use Rattle.ht_drive.specs.Blocks.{IsSameHelm};
+ghost use Rattle.ht_drive.specs.Blocks.{IsSameHelm, seen};
 
 use crate::helm::BlockHelm;
 use crate::window::Window;
@@ -18,7 +18,7 @@ pub(crate) fn turn<B: Shared + Drop + Send, A: Answer + Drop + Send, W: Work<B, 
     helm: &mut BlockHelm<'_, '_, B, A, W>,
     pace: &mut Pace,
 ) -> Result<(), AllocError>
-    ensures window { window.new ≡ window.old }
+    ensures window { seen B.jobs window.new ≡ seen B.jobs window.old }
     ensures given { helm.new.given ≡ helm.old.given }
     ensures same { IsSameHelm helm.old helm.new }
     ensures whole { OnOk result (helm.new.whole ≡ helm.old.whole) }
@@ -26,7 +26,10 @@ pub(crate) fn turn<B: Shared + Drop + Send, A: Answer + Drop + Send, W: Work<B, 
 {
     if let Some(done) = helm.next() {
         pace.see(done.is_hard(work));
-        return window.accept(done);
+        let place = done.number();
+        let (block, answer) = done.into_parts()?;
+        window.accept(place, &block, answer);
+        return Ok(());
     }
     if helm.is_home() {
         return window.answer_first(work);

@@ -1,18 +1,17 @@
 //! The window of a drive.
-ghost use Rattle.std.specs.Prelude.{◌≡◌, ◌+◌, ◌<◌, ◌≤◌, ◌++◌, ◌∷◌, [], length, Some, None, true, IfOk, IfNone, IfSome, IsTrue, OnErr, OnOk};
+ghost use Rattle.std.specs.Prelude.{◌≡◌, ◌+◌, ◌%◌, ◌^◌, ◌<◌, ◌≤◌, ◌++◌, ◌∷◌, [], length, Some, None, false, IfOk, IfNone, IfSome, IsTrue, OnErr};
 ghost use Rattle.circular_buffer.specs.Buffer.{buffer};
 ghost use Rattle.ht_feed.specs.Dues.{count_in};
-ghost use Rattle.ht_drive.specs.Blocks.{IsBlock, IsFirst, IsBlockWindow, block_window};
+ghost use Rattle.ht_drive.specs.Blocks.{BooksAt, IsBlock, behind, block_window, due_in, first_answered, seen, slot_of, window_of};
 
 use crate::slot::Slot;
-use crate::task::Done;
 use circular_buffer::HeapCircularBuffer;
 use ht_feed::{Answer, Shared, Work};
 use std::alloc::{AllocError, Global};
 use std::marker::Model;
 
 /// The blocks that are due, in order, each with its answer once that has come. It has room for a number of jobs.
-/// Contracts see the jobs of each block.
+/// Contracts see these, and the place of the first block in the order of all.
 #[derive(Drop)]
 pub(crate) struct Window<B: Shared, A: Answer> {
     slots: HeapCircularBuffer<Slot<B, A>>,
@@ -24,21 +23,22 @@ pub(crate) struct Window<B: Shared, A: Answer> {
 }
 
 impl<B: Shared, A: Answer> Model for Window<B, A> {
-    ghost use Rattle.ht_drive.specs.Blocks.{IsBlockWindow, BlockWindow, block_window};
+    ghost use Rattle.ht_drive.specs.Blocks.{IsBlockWindow, WindowOf, seen, window_of};
 
-    ghost Value = { BlockWindow };
+    ghost Value = { WindowOf B A };
 
-    ghost view = { λ w. block_window w.capacity w.slots.items };
+    ghost view = { λ w. window_of w.capacity w.front w.slots.items };
 
-    ghost invariant = { λ w. IsBlockWindow w.slots.capacity w.held (block_window w.capacity w.slots.items) };
+    ghost invariant = { λ w. IsBlockWindow w.slots.capacity w.held (seen B.jobs (window_of w.capacity w.front w.slots.items)) };
 }
 
 impl<B: Shared + Drop, A: Answer + Drop> Window<B, A> {
     /// A window in which no block is due, with room for 1 to 4096 jobs.
+    #[tactic(auto, using(crate::proofs::Windows::empty_window))]
     pub(crate) fn new(alloc: Global, capacity: u16) -> Result<Window<B, A>, AllocError>
         requires some { 1 ≤ capacity }
         requires few { capacity ≤ 4096 }
-        ensures { IfOk result (λ window. window ≡ block_window capacity []) }
+        ensures { IfOk result (λ window. window ≡ window_of capacity 0 []) }
     {
         Ok(Window {
             slots: HeapCircularBuffer::with_capacity(alloc, usize::from(capacity))?,
@@ -50,23 +50,27 @@ impl<B: Shared + Drop, A: Answer + Drop> Window<B, A> {
 
     /// The number of jobs for which there is still room.
     pub(crate) fn room(&self) -> u16
-        ensures { result + count_in self.now.due ≡ self.now.capacity }
+        ensures { result + count_in (due_in B.jobs self.now.slots) ≡ self.now.capacity }
     {
         self.capacity - self.held
     }
 
     /// Whether no block is due.
+    #[tactic(auto, using(crate::proofs::Windows::due_none))]
     pub(crate) fn is_empty(&self) -> bool
-        ensures { IsTrue result → self.now.due ≡ [] }
+        ensures { IsTrue result → due_in B.jobs self.now.slots ≡ [] }
     {
         self.slots.is_empty()
     }
 
     /// Puts a block behind the others, where it waits for its answer. Gives its place in the order.
+    #[tactic(auto, using(crate::proofs::Windows::due_more, crate::proofs::Windows::behind_is))]
     pub(crate) fn push(&mut self, block: B) -> u64
         requires block { IsBlock (B.jobs block) }
-        requires room { count_in self.old.due + length (B.jobs block) ≤ self.old.capacity }
-        ensures { self.new ≡ block_window self.old.capacity (self.old.due ++ B.jobs block ∷ []) }
+        requires room { count_in (due_in B.jobs self.old.slots) + length (B.jobs block) ≤ self.old.capacity }
+        ensures window { self.new ≡ window_of self.old.capacity self.old.front (self.old.slots ++ slot_of block None ∷ []) }
+        ensures seen { seen B.jobs self.new ≡ block_window self.old.capacity (due_in B.jobs self.old.slots ++ B.jobs block ∷ []) }
+        ensures place { behind self.old.front result ≡ length self.old.slots }
     {
         let place = self.front.wrapping_add(self.slots.len() as u64);
         let slot = Slot::new(block);
@@ -75,19 +79,19 @@ impl<B: Shared + Drop, A: Answer + Drop> Window<B, A> {
         place
     }
 
-    /// Keeps what came of a task, where its block is due and waits for an answer. The only error is that the work
-    /// lacked memory, and didn't answer.
-    pub(crate) fn accept(&mut self, done: Done<B, A>) -> Result<(), AllocError>
-        ensures same { self.new ≡ self.old }
-        ensures answered { OnOk result (done.answered ≡ true) }
-        ensures lacks { OnErr result A.may_lack }
+    /// Keeps the answer to a block that was run and has this place in the order, where that block is due, is known to be the
+    /// one that was run, and waits.
+    #[tactic(auto, using(crate::proofs::Windows::books_behind))]
+    pub(crate) fn accept(&mut self, place: u64, block: &B, answer: A)
+        requires right { A.answers answer (B.jobs block.now) }
+        ensures same { seen B.jobs self.new ≡ seen B.jobs self.old }
+        ensures front { self.new.front ≡ self.old.front }
+        ensures books { BooksAt B.alike (behind self.old.front place) block.now answer self.old.slots self.new.slots }
     {
-        let at = done.number().wrapping_sub(self.front);
-        let (block, answer) = done.into_parts()?;
+        let at = place.wrapping_sub(self.front);
         if at < self.slots.len() as u64 {
-            book(&mut self.slots, at as usize, &block, answer);
+            book(&mut self.slots, at as usize, block, answer);
         }
-        Ok(())
     }
 
     /// Runs the first block, where one is due that waits for its answer. The only error is lack of memory.
@@ -95,7 +99,7 @@ impl<B: Shared + Drop, A: Answer + Drop> Window<B, A> {
         &mut self,
         work: &W,
     ) -> Result<(), AllocError>
-        ensures same { self.new ≡ self.old }
+        ensures same { seen B.jobs self.new ≡ seen B.jobs self.old }
         ensures lacks { OnErr result A.may_lack }
     {
         answer_first(&mut self.slots, work)
@@ -103,17 +107,22 @@ impl<B: Shared + Drop, A: Answer + Drop> Window<B, A> {
 
     /// Takes the first block out, with its answer. None where no block is due or the first one waits.
     pub(crate) fn emit(&mut self) -> Option<(B, A)>
-        ensures block { IfSome result (λ parts. self.old ≡ block_window self.new.capacity (B.jobs parts.0 ∷ self.new.due)) }
+        ensures first { IfSome result (λ parts. self.old.slots ≡ slot_of parts.0 (Some parts.1) ∷ self.new.slots) }
+        ensures front { IfSome result (λ _. self.new.front ≡ (self.old.front + 1) % 2 ^ 64) }
+        ensures block { IfSome result (λ parts. seen B.jobs self.old ≡ block_window self.new.capacity (B.jobs parts.0 ∷ due_in B.jobs self.new.slots)) }
         ensures right { IfSome result (λ parts. A.answers parts.1 (B.jobs parts.0)) }
+        ensures waits { IfNone result (first_answered self.old.slots ≡ false) }
         ensures none { IfNone result (self.new ≡ self.old) }
     {
-        let answer = take_answer(&mut self.slots)?;
+        if !is_first_answered(&self.slots) {
+            return None;
+        }
         let Some(slot) = self.slots.pop_front() else {
             unreachable!();
         };
         self.front = self.front.wrapping_add(1);
         self.held -= slot.size();
-        Some((slot.into_block(), answer))
+        Some(slot.into_parts())
     }
 }
 
@@ -131,7 +140,7 @@ fn keep<B: Shared + Drop, A: Answer + Drop>(
 }
 
 // Keeps the answer to a block in a slot.
-#[tactic(auto, using(crate::proofs::Windows::put_same))]
+#[tactic(auto, using(crate::proofs::Windows::due_put, crate::proofs::Windows::books_put, crate::proofs::Windows::books_none))]
 fn book<B: Shared + Drop, A: Answer + Drop>(
     slots: &mut HeapCircularBuffer<Slot<B, A>>,
     at: usize,
@@ -139,7 +148,9 @@ fn book<B: Shared + Drop, A: Answer + Drop>(
     answer: A,
 )
     requires right { A.answers answer (B.jobs block.now) }
-    ensures { slots.new ≡ slots.old }
+    ensures capacity { slots.new.capacity ≡ slots.old.capacity }
+    ensures same { due_in B.jobs slots.new.items ≡ due_in B.jobs slots.old.items }
+    ensures books { BooksAt B.alike at block.now answer slots.old.items slots.new.items }
 {
     if let Some(slot) = slots.get_mut(at) {
         slot.book(block, answer);
@@ -147,12 +158,13 @@ fn book<B: Shared + Drop, A: Answer + Drop>(
 }
 
 // Runs the block of the first slot, where that waits.
-#[tactic(auto, using(crate::proofs::Windows::put_same))]
+#[tactic(auto, using(crate::proofs::Windows::due_put))]
 fn answer_first<B: Shared + Drop, A: Answer + Drop, W: Work<B, Answer = A>>(
     slots: &mut HeapCircularBuffer<Slot<B, A>>,
     work: &W,
 ) -> Result<(), AllocError>
-    ensures same { slots.new ≡ slots.old }
+    ensures capacity { slots.new.capacity ≡ slots.old.capacity }
+    ensures same { due_in B.jobs slots.new.items ≡ due_in B.jobs slots.old.items }
     ensures lacks { OnErr result A.may_lack }
 {
     match slots.get_mut(0) {
@@ -161,16 +173,15 @@ fn answer_first<B: Shared + Drop, A: Answer + Drop, W: Work<B, Answer = A>>(
     }
 }
 
-// Takes the answer out of the first slot, where it has come.
-#[tactic(auto, using(crate::proofs::Windows::put_same))]
-fn take_answer<B: Shared + Drop, A: Answer + Drop>(
-    slots: &mut HeapCircularBuffer<Slot<B, A>>,
-) -> Option<A>
-    ensures same { slots.new ≡ slots.old }
-    ensures right { IfSome result (λ answer. IsFirst (A.answers answer) slots.old.items) }
+// Whether there is a first slot, with its answer.
+#[tactic(auto, using(crate::proofs::Windows::first_some, crate::proofs::Windows::first_none))]
+fn is_first_answered<B: Shared + Drop, A: Answer + Drop>(
+    slots: &HeapCircularBuffer<Slot<B, A>>,
+) -> bool
+    ensures { result ≡ first_answered slots.now.items }
 {
-    match slots.get_mut(0) {
-        Some(slot) => slot.take_answer(),
-        None => None,
+    match slots.front() {
+        Some(slot) => slot.is_answered(),
+        None => false,
     }
 }

@@ -41,7 +41,7 @@ impl From<DriveFault<BookFault>> for RunFault {
 /// Runs all blocks of a feed, in this thread, and hands it their answers in the order of the blocks. It answers how
 /// many jobs the feed gave.
 ///
-/// The feed has given nothing yet. One block is due at a time, of at most `window` jobs, 1 to 4096.
+/// The feed has given nothing yet. One block is due at a time, which no clause says, of at most `window` jobs, 1 to 4096.
 ///
 /// It refuses with the feed's fault, or with `Work` where the work was out of memory. It takes no memory of its own.
 pub fn drive_alone<F: BlockFeed, W: Work<F::Block, Answer = F::Answer>>(

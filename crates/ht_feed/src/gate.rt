@@ -7,6 +7,12 @@ pub trait Gate {
 
     /// The job of this number was run.
     fn leave(&self, number: u64);
+
+    /// Whether it does nothing, so that jobs may be run several at a time, without a call. Nothing but the order of work depends
+    /// on it.
+    fn is_open(&self) -> bool {
+        false
+    }
 }
 
 /// A gate that does nothing.
@@ -17,4 +23,8 @@ impl Gate for OpenGate {
     fn enter(&self, _number: u64) {}
 
     fn leave(&self, _number: u64) {}
+
+    fn is_open(&self) -> bool {
+        true
+    }
 }

@@ -10,18 +10,27 @@ pub trait Shared: Jobs {
     /// is ever lacking.
     ghost may_lack: { Type 0 } = { ⊤ };
 
-    /// Whether both are known to stand for the same jobs. Two blocks that do aren't always known to.
+    /// Both are one block, and `same` knows it. It may hold of no two blocks of a type that doesn't say when its blocks are
+    /// known; where it holds of a block and itself, it holds of the block and its copies.
+    ghost alike: { Self → Self → Type 0 } = { λ one other. ⊥ };
+
+    /// Whether both are known to stand for the same jobs. Two blocks that do aren't always known to, but those that are alike
+    /// are.
     fn same(&self, other: &Self) -> bool
-        ensures { IsTrue result → Self.jobs self.now ≡ Self.jobs other.now };
+        ensures jobs { IsTrue result → Self.jobs self.now ≡ Self.jobs other.now }
+        ensures known { alike self.now other.now → IsTrue result };
 
     /// Another block of the same jobs, or none where there is no memory for it.
     fn copy(&self) -> Option<Self>
         ensures copied { IfSome result (λ copy. Self.jobs copy ≡ Self.jobs self.now) }
+        ensures alike { IfSome result (λ copy. alike self.now self.now → alike self.now copy) }
         ensures lacks { IfNone result may_lack };
 }
 
 impl Shared for OneJob {
     ghost may_lack = { ⊥ };
+
+    ghost alike = { λ one other. one ≡ other };
 
     /// Whether both have the same job.
     fn same(&self, other: &OneJob) -> bool

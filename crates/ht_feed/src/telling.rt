@@ -76,7 +76,8 @@ fn run_desk<R: BlockReader + Drop, S: Source, A: Account<R>, W: Work<R::Block, A
 /// Reads the input of a reader that gave nothing yet to its end or its first fault, and hands the hits of its jobs to
 /// the account, which keeps nothing back.
 ///
-/// Every block is run in this thread, by the work, and one block is due at a time, of at most `window` jobs, 1 to 4096.
+/// Every block is run in this thread, by the work, and one block is due at a time, of at most `window` jobs, 1 to 4096; no
+/// clause of this call says so.
 /// What is put for a list of octets is what the account shows at the call, of the jobs that the reader shows. Until a
 /// head comes, `head` stands for the one that came last.
 ///

@@ -1,4 +1,4 @@
-//! Captures through a reader, a desk and an account: job by job, in blocks, and in halves; and the blocks of clause 18.
+//! Captures through a reader, a desk and an account: job by job, and in blocks; and the blocks of clause 18.
 ghost use Rattle.std.specs.Prelude.{◌≡◌, ◌^◌, ◌-◌, ◌<◌, true};
 
 use crate::common::{octets_of, spoiled, whole};
@@ -11,7 +11,6 @@ use ht_io::{FormatFault, GrowSink, Kind};
 use ht_legacy_blocks::{LegacyBlock, LegacyFrameHead, LegacyReader};
 use ht_rate::{Rate, RateFault};
 use ht_runs::RunFault;
-use ht_soft_blocks::HalvesReader;
 use std::alloc::{AllocError, Global};
 use std::process::Abort;
 use std::test::Fail;
@@ -77,48 +76,6 @@ fn a_capture(rt: HostRuntime) -> Result<(), Fail> {
             &rt,
             (ended, put.as_slice()),
             (done(112), [100u8; 112].as_slice()),
-        );
-    }
-    Ok(())
-}
-
-// The same with every sample (10, 0). So the half for 1 has the distance 0 and the half for 0 the distance 400, and so has
-// a pilot of 1 or of -1.
-static ONES: Parts = [
-    (1, b"HTCP\x01\x00\x01\x00\x00\x00\x01"),
-    (56, &[0, 10]),
-    (112, &[0, 0, 0, 10, 0, 0, 0, 0]),
-];
-
-// Each data subcarrier gives 255 (for 400) and 0; the pilots at 7, 21, 34 and 48 are 1, 1, 1 and -1 in symbol 0, and
-// -1, -1, 1 and -1 in symbol 1.
-fn halves(alloc: Global) -> Result<Vec<u8>, AllocError> {
-    let mut octets = Vec::new(alloc);
-    for symbol in 0..2u8 {
-        for carrier in 0..56u8 {
-            match (symbol, carrier) {
-                (0, 48) | (1, 7 | 21 | 48) => octets.push(255)?,
-                (_, 7 | 21 | 34 | 48) => octets.push(0)?,
-                _ => octets.extend_from_slice(&[255, 0])?,
-            }
-        }
-    }
-    Ok(octets)
-}
-
-// Half by half, in blocks that end within a job, and in blocks of a whole symbol.
-#[test]
-fn a_capture_in_halves(rt: HostRuntime) -> Result<(), Fail> {
-    let expected = halves(rt.alloc())?;
-    equal(&rt, expected.len(), 216);
-    for window in [1, 3, 50, 4096] {
-        let reader = HalvesReader::new(rt.alloc(), no_head()?)?;
-        let octets = octets_of(rt.alloc(), &ONES)?;
-        let (ended, put) = told(rt.alloc(), reader, no_head()?, window, octets)?;
-        equal(
-            &rt,
-            (ended, put.as_slice()),
-            (done(216), expected.as_slice()),
         );
     }
     Ok(())

@@ -1,3 +1,4 @@
 pub mod NextDue
 pub mod Taking
 pub mod Gathered
+pub mod Tallying

@@ -1,30 +1,19 @@
 -- Whole frames whose results are still to be booked, and what is booked of them and of the frames that are whole later.
-use Rattle.std.specs.Prelude.{◌≡◌, ℕ, Bool, true, false, Result, OnErr, OnOk, List, [], ◌∷◌, ◌++◌, map, slice_get}
+use Rattle.std.specs.Prelude.{◌≡◌, ℕ, Result, OnErr, OnOk, List, [], ◌∷◌, ◌++◌, map, slice_get}
 use Rattle.std.specs.List.{flat_map}
 use Rattle.std.proofs.Common.{ap, refl, sym, ◌∙◌}
 use Rattle.std.proofs.lemmas.Option.{none-some}
 use Rattle.ht_io.specs.Devices.{Device, Grows, GrowsByPart}
-use Rattle.ht_metric.specs.Jobs.{JobView, near}
-use Rattle.ht_metric.specs.declared.found.Found.{Found}
-use Rattle.ht_metric.specs.declared.place.Place.{Place}
 use Rattle.ht_feed.specs.declared.book_fault.BookFault.{BookFault}
 use Rattle.ht_feed.specs.Accounts.{BooksJobs, CountsFaults}
-use Rattle.ht_feed.specs.Items.{Headed, headed_of}
+use Rattle.ht_feed.specs.Items.{Headed}
+pub use Rattle.ht_results.specs.Plans.{finished}
 
 -- What calls that book these pieces put, by their answer.
 pub record BooksPieces {A P : Type 0} (result : Result A BookFault) (before after : Device P) (pieces : List P) (lent lent' : List ℕ) : Type 0 where
   pub put : OnOk result (Grows before after pieces)
   pub part : OnErr result (GrowsByPart before after pieces)
   pub faults : CountsFaults result before after lent lent'
-
--- What is said of jobs holds of any one job with this place for which this was found, of a frame with this head.
-abbrev pub OfFound : {H : Type 0} → H → Place → Found → (List (Headed H) → Type 0) → Type 0
-OfFound head place found Said = (job : JobView) → job.place ≡ place → found ≡ near job → Said (headed_of head job ∷ [])
-
--- the result of a frame, where its last job came
-abbrev pub finished : {T : Type 0} → Bool → T → List T
-finished true result = result ∷ []
-finished false result = []
 
 -- the results of jobs that still come, behind that of a frame whose last job came
 abbrev pub behind_one : {H T : Type 0} → T → (List (Headed H) → List T) → List (Headed H) → List T

@@ -1,2 +1,4 @@
 pub mod Gathering
 pub mod Decoding
+pub mod Frames
+pub mod Tallies

@@ -4,7 +4,7 @@ ghost use Rattle.ht_metric.specs.Jobs.{near};
 
 use crate::frames::Frames;
 use crate::whole_frame::WholeFrame;
-use ht_feed::{Finder, Gate, Hits, Jobs, Work, detect, hits_of, is_last_hard};
+use ht_feed::{Gate, Jobs, Work, detect};
 use ht_metric::{Found, Job};
 use std::alloc::{AllocError, Global};
 use std::sync::Wait;
@@ -22,35 +22,6 @@ pub fn run_gated<G: Gate>(gate: &G, job: &Job) -> Found
     let found = detect(job);
     gate.leave(number);
     found
-}
-
-/// Finds the hits of any block, each job between the two calls of a gate.
-#[derive(Drop)]
-pub struct HitWork<'g, G> {
-    /// Where the memory for the hits comes from.
-    pub alloc: Global,
-    /// What is called before and after each job.
-    pub gate: &'g G,
-}
-
-impl<'g, G: Gate> Finder for HitWork<'g, G> {
-    #[inline(always)]
-    fn find(&self, job: &Job) -> Found {
-        run_gated(self.gate, job)
-    }
-}
-
-impl<'g, B: Jobs, G: Gate> Work<B> for HitWork<'g, G> {
-    type Answer = Hits;
-
-    fn answer_to(&self, block: &B) -> Result<Hits, AllocError> {
-        hits_of(self.alloc, block, self)
-    }
-
-    /// Whether the last job, which speaks for all, was hard.
-    fn is_hard(&self, block: &B, hits: &Hits) -> bool {
-        is_last_hard(block, hits.found.as_slice())
-    }
 }
 
 /// A work whose workers decode whole frames before they look for blocks.

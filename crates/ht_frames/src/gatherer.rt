@@ -1,19 +1,18 @@
 //! An account that has whole frames decoded while more jobs come.
-ghost use Rattle.std.specs.Prelude.{◌≡◌, ◌-◌, ◌^◌, ◌<◌, ◌∷◌, [], true, drop};
+ghost use Rattle.std.specs.Prelude.{◌≡◌, ◌-◌, ◌∷◌, [], true, drop};
 ghost use Rattle.ht_feed.specs.Dues.{all_due, due_of, headed_due};
 ghost use Rattle.ht_feed.specs.Limits.{IsCrewSize};
-ghost use Rattle.ht_frames.specs.Gathering.{GathersJobs, OfFound, WaitForJobs, behind_one, booked_behind, none_behind, wait_on};
+ghost use Rattle.ht_frames.specs.Gathering.{GathersJobs, WaitForJobs, booked_behind, none_behind, wait_on};
 
 use crate::book::Book;
+use crate::decodes::{Decodes, take_block};
 use crate::decoding::Decoding;
 use crate::frames::Frames;
 use crate::gathering::{book_frames, decode};
-use crate::takes_blocks::{EachFound, TakesBlocks};
-use crate::under_way::UnderWay;
+use crate::under_way::{UnderWay, UnderWayTogether};
 use crate::whole_frame::WholeFrame;
 use circular_buffer::HeapCircularBuffer;
 use ht_feed::{Account, BlockReader, BookFault, DueBlock, Jobs};
-use ht_metric::{Found, Place};
 use std::alloc::Global;
 use std::collections::VecDeque;
 use std::sync::Wait;
@@ -92,57 +91,37 @@ fn another_is_due<R: BlockReader>(due: &HeapCircularBuffer<DueBlock<R>>) -> bool
 #[derive(Drop)]
 struct Decoders<'a, R, W: WholeFrame> {
     rt: &'a R,
-    alloc: Global,
     // Where workers find whole frames.
     frames: &'a Frames<W>,
     // How many whole frames are left at most behind each that becomes whole.
     keep: usize,
 }
 
-// The whole frame leaves, and stands behind the others.
-fn finish_frame<R: Threads + Wait, U: TakesBlocks, B: Book<<U::Whole as WholeFrame>::Result>>(
-    by: &Decoders<'_, R, U::Whole>,
-    under_way: &mut U,
-    queue: &mut VecDeque<Decoding<U::Whole>>,
-    book: &mut B,
-) -> Result<(), BookFault>
-    requires whole { U.is_whole under_way.old }
-    ensures { GathersJobs U.Whole.result_of B.booked B.shown B.lent result book.old book.new queue.old.items queue.new.items
-        (behind_one (U.comes_to under_way.old) (U.results under_way.old)) (U.results under_way.new) [] }
-{
-    let frame = under_way.leave(by.alloc);
-    decode::<R, U>(by.rt, by.alloc, by.frames, queue, frame, by.keep > 0)?;
-    book_frames(by.rt, by.frames, by.keep, queue, book)
-}
+impl<'a, R: Threads + Wait, U: UnderWayTogether> Decodes<U> for Decoders<'a, R, U::Whole> {
+    type Queue = VecDeque<Decoding<U::Whole>>;
 
-// Takes what was found for a job of the frame that is under way, or that begins with this head.
-fn take_found<R: Threads + Wait, U: TakesBlocks, B: Book<<U::Whole as WholeFrame>::Result>>(
-    by: &Decoders<'_, R, U::Whole>,
-    under_way: &mut U,
-    queue: &mut VecDeque<Decoding<U::Whole>>,
-    book: &mut B,
-    head: &U::Head,
-    place: Place,
-    found: &Found,
-) -> Result<(), BookFault>
-    requires below { found.now.distance < 2 ^ 66 }
-    ensures { OfFound head.now place found.now (GathersJobs U.Whole.result_of B.booked B.shown B.lent result book.old book.new
-        queue.old.items queue.new.items (U.results under_way.old) (U.results under_way.new)) }
-{
-    if under_way.take(by.alloc, head, place, found)? {
-        finish_frame(by, under_way, queue, book)
-    } else {
-        Ok(())
+    ghost whole = { λ queue. queue.items };
+
+    fn finish<B: Book<<U::Whole as WholeFrame>::Result>>(
+        &self,
+        alloc: Global,
+        under_way: &mut U,
+        queue: &mut VecDeque<Decoding<U::Whole>>,
+        book: &mut B,
+    ) -> Result<(), BookFault> {
+        let frame = under_way.leave(alloc);
+        decode::<R, U>(self.rt, alloc, self.frames, queue, frame, self.keep > 0)?;
+        book_frames(self.rt, self.frames, self.keep, queue, book)
     }
 }
 
-/// Takes what a worker made of a block of the frame with this head, as a [`Gatherer`] does that keeps whole frames back: of
+/// Takes what the jobs of a block come to, whose frame has this head, as a [`Gatherer`] does that keeps whole frames back: of
 /// those whose results aren't booked at most `keep` are left behind each frame that becomes whole, as [`book_frames`] leaves
 /// them; no clause says so here. Where `keep` is 0 the caller decodes the frame, and all are booked.
 pub fn gather_block<
     J: Jobs,
     R: Threads + Wait,
-    U: TakesBlocks,
+    U: UnderWayTogether,
     B: Book<<U::Whole as WholeFrame>::Result>,
 >(
     rt: &R,
@@ -158,33 +137,18 @@ pub fn gather_block<
 ) -> Result<(), BookFault>
     requires right { U.Answer.answers answer.now (J.jobs block.now) }
     ensures { GathersJobs U.Whole.result_of B.booked B.shown B.lent result book.old book.new queue.old.items queue.new.items
-        (U.results under_way.old) (U.results under_way.new) (headed_due (due_of head.now (J.jobs block.now))) }
+        (U.results under_way.old) (U.results under_way.new)
+        (headed_due (due_of head.now (J.jobs block.now))) }
 {
-    let by = Decoders {
-        rt,
-        alloc,
-        frames,
-        keep,
-    };
-    match under_way.take_block(alloc, head, block, answer)? {
-        Some(true) => finish_frame(&by, under_way, queue, book),
-        Some(false) => Ok(()),
-        None => {
-            for at in 0..answer.size(block) {
-                let place = block.place_at(at);
-                let found = answer.found(block, at);
-                take_found(&by, under_way, queue, book, head, place, &found)?;
-            }
-            Ok(())
-        }
-    }
+    let by = Decoders { rt, frames, keep };
+    take_block(&by, alloc, under_way, queue, book, head, block, answer)
 }
 
 impl<
     'a,
     T: BlockReader<Head = U::Head>,
     R: Threads + Wait,
-    U: TakesBlocks,
+    U: UnderWayTogether,
     B: Book<<U::Whole as WholeFrame>::Result>,
 > Account<T> for Gatherer<'a, R, U, B> {
     type Piece = B::Piece;

@@ -7,7 +7,7 @@ ghost use Rattle.ht_frames.specs.Gathering.{BooksFirst, BooksPieces, booked_whol
 use crate::book::Book;
 use crate::decoding::Decoding;
 use crate::frames::Frames;
-use crate::takes_blocks::TakesBlocks;
+use crate::under_way::UnderWayTogether;
 use crate::whole_frame::WholeFrame;
 use ht_feed::BookFault;
 use std::alloc::{AllocError, Global};
@@ -22,7 +22,7 @@ const LEAST: u16 = 100;
 const MOST: u64 = 131072;
 
 // Has a frame decoded by a worker, if it may be and is worth it, or else in this thread.
-fn decoding<R: Threads + Wait, U: TakesBlocks>(
+fn decoding<R: Threads + Wait, U: UnderWayTogether>(
     rt: &R,
     alloc: Global,
     frames: &Frames<U::Whole>,
@@ -41,7 +41,7 @@ fn decoding<R: Threads + Wait, U: TakesBlocks>(
 
 /// Decodes a whole frame behind the others: by a worker, if it may be and is worth it, or else in this thread. The only
 /// error is lack of memory.
-pub(crate) fn decode<R: Threads + Wait, U: TakesBlocks>(
+pub(crate) fn decode<R: Threads + Wait, U: UnderWayTogether>(
     rt: &R,
     alloc: Global,
     frames: &Frames<U::Whole>,

@@ -2,9 +2,9 @@
 ghost use Rattle.std.specs.Prelude.{◌≡◌, ◌∷◌, [], None};
 
 use crate::book::Book;
-use crate::line::Line;
 use ht_feed::BookFault;
 use ht_io::Sink;
+use ht_results::Line;
 use std::alloc::Global;
 
 /// Puts the line of each result into a sink, each in one put.

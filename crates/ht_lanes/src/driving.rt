@@ -11,8 +11,8 @@ use ht_feed::{Work, drive_alone};
 use std::alloc::{AllocError, Global};
 
 /// Runs all blocks of lanes that gave none yet, in this thread, and hands each lane the answers to its own. Behind the
-/// last one each puts what it keeps back. One block is due at a time, of at most `window` jobs, 1 to 4096. The only error
-/// is lack of memory.
+/// last one each puts what it keeps back. One block is due at a time, of at most `window` jobs, 1 to 4096; no clause says
+/// so. The only error is lack of memory.
 pub fn drive_lanes_alone<L: Lane<S, K>, S, K, W: Work<LaneBlock<L::Block>, Answer = L::Answer>>(
     alloc: Global,
     window: u16,

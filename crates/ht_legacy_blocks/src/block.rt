@@ -4,8 +4,9 @@ ghost use Rattle.std.specs.Arc.{arc_value};
 ghost use Rattle.ht_clause18.specs.Carriers.{carriers};
 ghost use Rattle.ht_legacy_blocks.specs.Jobs.{jobs_between};
 
+use crate::head::LegacyFrameHead;
 use crate::symbol::LegacySymbol;
-use ht_feed::{Jobs, Shared};
+use ht_feed::{InFrame, Jobs, Shared};
 use ht_metric::{Job, Place};
 use std::alloc::Global;
 use std::marker::Model;
@@ -73,6 +74,14 @@ impl Jobs for LegacyBlock {
     #[tactic(auto, using(crate::proofs::Splitting::jobs_length))]
     fn job(&self, at: u16) -> Job {
         self.symbol.job(self.first + at as u8)
+    }
+}
+
+impl InFrame for LegacyBlock {
+    type Head = LegacyFrameHead;
+
+    fn head(&self) -> &LegacyFrameHead {
+        self.symbol.head()
     }
 }
 

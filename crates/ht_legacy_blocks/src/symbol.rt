@@ -101,6 +101,13 @@ impl LegacySymbol {
         }
     }
 
+    /// The head of its frame.
+    pub fn head(&self) -> &LegacyFrameHead
+        ensures { result.now ≡ self.now.head }
+    {
+        &self.head
+    }
+
     /// A copy of the symbol.
     pub fn copy(&self) -> LegacySymbol
         ensures { result ≡ self.now }

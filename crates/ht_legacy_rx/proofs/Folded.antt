@@ -22,7 +22,7 @@ use Rattle.ht_legacy_blocks.specs.declared.head.LegacyFrameHead.{LegacyFrameHead
 use Rattle.ht_legacy_blocks.specs.Frames.{Course, LegacyFrameJobs, at_first, behind_head, behind_symbol, frames_in, given_from as items_from, has_all_jobs}
 use Rattle.ht_legacy_blocks.specs.Frames.{head_of, jobs_first, symbol_at, symbols_in}
 use Rattle.ht_legacy_blocks.specs.Jobs.{jobs_of}
-use Rattle.ht_legacy_rx.specs.Folding.{legacy_fold, legacy_results_from, with_job, with_octets}
+use Rattle.ht_legacy_rx.specs.Folding.{legacy_fold, legacy_results_from, with_octets}
 use Rattle.ht_legacy_rx.specs.Results.{LegacySoFar, legacy_frame_result, legacy_plan}
 use Rattle.ht_legacy_rx.specs.Texts.{legacy_items, legacy_meaning, legacy_results_of}
 use Rattle.ht_legacy_rx.proofs.Framed.{AreFramed, HasOctets, are_framed}
@@ -37,15 +37,13 @@ same_head : (head : LegacyFrameHead) → HasOctets head.length → with_octets h
 same_head head has = ap (λ (n : ℕ). record head { length = n }) (octets_kept head.length has)
 
 first_job : (head : LegacyFrameHead) (job : JobView) (f : LegacySoFar) → HasOctets head.length → f.left ≡ 0
-    → with_job (headed_of head job) f ≡ with_kind_by legacy_plan job (begun_by legacy_plan head)
-unfolding with_job
+    → legacy_fold.step (headed_of head job) f ≡ with_kind_by legacy_plan job (begun_by legacy_plan head)
 first_job head job f has none =
     let over : f.left == 0 ≡ true = grind (arith, nat_tests) in
     ap (λ (b : Bool). with_kind_by legacy_plan job (if b then begun_by legacy_plan (with_octets head) else f)) over
     ∙ ap (λ (h : LegacyFrameHead). with_kind_by legacy_plan job (begun_by legacy_plan h)) (same_head head has)
 
-next_job : (head : LegacyFrameHead) (job : JobView) (f : LegacySoFar) → 1 ≤ f.left → with_job (headed_of head job) f ≡ with_kind_by legacy_plan job f
-unfolding with_job
+next_job : (head : LegacyFrameHead) (job : JobView) (f : LegacySoFar) → 1 ≤ f.left → legacy_fold.step (headed_of head job) f ≡ with_kind_by legacy_plan job f
 next_job head job f some =
     let other : f.left == 0 ≡ false = grind (arith, nat_tests) in
     ap (λ (b : Bool). with_kind_by legacy_plan job (if b then begun_by legacy_plan (with_octets head) else f)) other

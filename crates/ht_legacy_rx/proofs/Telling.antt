@@ -16,7 +16,7 @@ use Rattle.ht_legacy_blocks.specs.declared.head.LegacyFrameHead.{LegacyFrameHead
 use Rattle.ht_receive.specs.Ends.{StreamsText}
 use Rattle.ht_receive.specs.Receiving.{books}
 use Rattle.ht_receive.proofs.Streaming.{streams}
-use Rattle.ht_legacy_rx.specs.Folding.{legacy_results_from, no_frame}
+use Rattle.ht_legacy_rx.specs.Folding.{legacy_results_from}
 use Rattle.ht_legacy_rx.specs.Results.{LegacySoFar}
 use Rattle.ht_legacy_rx.specs.Texts.{end_of_legacy, legacy_items, legacy_lines_of, legacy_meaning, legacy_results_of, legacy_text, lines_in}
 use Rattle.ht_legacy_rx.proofs.Folded.{folds}
@@ -41,10 +41,10 @@ told head f none = record {
 pub streamed : {R : Type 0} {means : R → List ℕ → Meaning (Item LegacyFrameHead)} {at : R → ℕ} {reader : R} {head : LegacyFrameHead} {f : LegacySoFar}
     {source source' sink start mid sink' : Device ℕ} {lent lent' : List ℕ} {ended : Result Ended RunFault} {result : Result ℕ RunFault}
     → TellsInput means at reader head source source' (books result_line (legacy_results_from f) start) (books result_line (legacy_results_from f) mid) lent lent' ended
-    → start ≡ sink → ((octets : List ℕ) → means reader octets ≡ seen_as legacy_items (legacy_meaning octets)) → at reader ≡ 0 → f ≡ no_frame
+    → start ≡ sink → ((octets : List ℕ) → means reader octets ≡ seen_as legacy_items (legacy_meaning octets)) → at reader ≡ 0 → f.left ≡ 0
     → EndsLines ended mid sink' result
     → StreamsText (filter captures legacy_text legacy_lines_of) (MeansFrames captures legacy_items) source source' sink sink' result
 streamed {means = means} {at = at} {reader = reader} {head = head} {f = f} {source = source} {source' = source'} {sink = sink} {start = start} {mid = mid}
     {sink' = sink'} {lent = lent} {lent' = lent'} {ended = ended} {result = result} tells from same zero fresh last =
     streams captures legacy_items means at reader head result_line (legacy_results_from f) legacy_text legacy_lines_of source source' sink start mid sink'
-    lent lent' ended result (told head f (ap (λ (z : LegacySoFar). z.left) fresh)) same zero from tells last
+    lent lent' ended result (told head f fresh) same zero from tells last

@@ -1,4 +1,3 @@
 pub mod Results
 pub mod Folding
 pub mod Texts
-pub mod Frames

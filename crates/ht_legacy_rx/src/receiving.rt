@@ -6,10 +6,10 @@ ghost use Rattle.ht_legacy_captures.specs.Formats.{captures};
 ghost use Rattle.ht_receive.specs.Ends.{StreamsText};
 ghost use Rattle.ht_legacy_rx.specs.Texts.{legacy_items, legacy_lines_of, legacy_text};
 
-use crate::open_frame::{OpenLegacyFrame, first_head};
+use crate::labels::LegacyLabels;
 use ht_endings::put_end;
 use ht_feed::Gate;
-use ht_frames::{BesideFrames, Frames, HitWork, TextBook};
+use ht_frames::{BesideFrames, Frame, Frames, Kind, TallyWork, TextBook};
 use ht_io::{Sink, Source};
 use ht_legacy_blocks::LegacyReader;
 use ht_receive::{receive, receive_alone};
@@ -23,7 +23,7 @@ use std::thread::Threads;
 ///
 /// Every job runs in this thread, between the two calls of the gate. At most `window` jobs, 1 to 4096, were read and not
 /// yet taken at any moment. Nothing of the capture is kept but the diagonals of a frame, the samples of a symbol, these jobs
-/// and the labels of one frame.
+/// and the labels of one frame. No clause says what is due or kept.
 ///
 /// `Format` comes at the first fault of an input that is no capture, `Read` where the source failed, `Write` where the sink
 /// failed, also if the source did, and `NoMemory`. The lines of the frames in front of a fault of the format or of the
@@ -41,9 +41,9 @@ pub fn legacy_receive_alone<S: Source, K: Sink, G: Gate>(
         (K.shown sink.old) (K.shown sink.new) result }
 {
     let reader = LegacyReader::new(alloc)?;
-    let head = first_head();
-    let under_way = OpenLegacyFrame::new(alloc);
-    let work = HitWork { alloc, gate };
+    let head = LegacyLabels::no_head();
+    let under_way = Frame::<LegacyLabels>::new(alloc);
+    let work = TallyWork::new(alloc, gate);
     let mut book = TextBook::new(alloc, sink);
     let ended = receive_alone(
         alloc, reader, head, window, &work, source, under_way, &mut book,
@@ -77,11 +77,11 @@ pub fn legacy_receive<R: Threads + Wait + Sync, S: Source, K: Sink, G: Gate + Sy
         return legacy_receive_alone(alloc, window, source, sink, gate);
     }
     let reader = LegacyReader::new(alloc)?;
-    let head = first_head();
-    let under_way = OpenLegacyFrame::new(alloc);
+    let head = LegacyLabels::no_head();
+    let under_way = Frame::<LegacyLabels>::new(alloc);
     let frames = Frames::new(alloc);
     let work = BesideFrames {
-        work: HitWork { alloc, gate },
+        work: TallyWork::new(alloc, gate),
         frames: &frames,
     };
     let mut book = TextBook::new(alloc, sink);

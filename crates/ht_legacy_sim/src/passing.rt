@@ -1,5 +1,6 @@
 //! Files of frames that pass the channel.
 ghost use Rattle.std.specs.Prelude.{◌≡◌, ◌≢◌, Err};
+ghost use Rattle.ht_io.specs.Devices.{IsLater};
 ghost use Rattle.ht_runs.specs.Converted.{Converted};
 ghost use Rattle.ht_runs.specs.Filters.{SaysNothing};
 ghost use Rattle.ht_runs.specs.declared.faults.RunFault.TheVariants.{Write};
@@ -27,6 +28,10 @@ pub fn legacy_channel<S: Source, K: Sink>(
 ) -> Result<(), RunFault>
     ensures converts { Converted (passing seed noise) (S.shown source.old) (S.shown source.new) (K.shown sink.old) (K.shown sink.new) SaysNothing result }
     ensures writes { result ≢ Err Write → (K.shown sink.new).faults ≡ (K.shown sink.old).faults }
+
+    // However it ends, the devices are the same, and take back no fault.
+    ensures reads_later { IsLater (S.shown source.old) (S.shown source.new) }
+    ensures puts_later { IsLater (K.shown sink.old) (K.shown sink.new) }
 {
     let frames = read_legacy_frames(alloc, source)?;
     put_captures(alloc, seed, noise, &frames, sink)

@@ -1,7 +1,7 @@
 -- How many octets a frame is decoded to.
-use Rattle.std.proofs.Common.{◌≡◌, ℕ, ◌+◌, ◌-◌, ◌*◌, ◌%◌, ℤ, List, [], length, take, drop, map, refl, sym, ◌∙◌, ap, Bool, true, false, true≢false, arith, inl, inr, length-drop}
-use Rattle.std.specs.Prelude.{not, if◌then◌else◌, slice_index_or}
-use Rattle.std.specs.List.{list_all, range_with_len}
+use Rattle.std.proofs.Common.{◌≡◌, ℕ, ◌+◌, ◌-◌, ◌*◌, ℤ, List, [], length, take, drop, sym, ◌∙◌, ap, Bool, true, false, true≢false, arith, inl, inr, length-drop}
+use Rattle.std.specs.Prelude.{not, if◌then◌else◌}
+use Rattle.std.specs.List.{list_all}
 use Rattle.std.proofs.lemmas.Bool.{cases_Bool, cond-false}
 use Rattle.std.proofs.lemmas.List.FromFn.{length-map-range_with_len}
 use Rattle.ht_bits.specs.Bits.{bits_of, octets_of}
@@ -42,7 +42,7 @@ length-behind_service n bits size =
     length-octets_of n (drop 16 (scrambled s bits)) (omega (arith, size, whole, rest))
 
 -- bits that come to octets come to as many as they have behind SERVICE
-length-outcome : (n : ℕ) (bits : List Bool) (octets : List ℕ) → length bits ≡ 16 + 8 * n → outcome_of bits ≡ Octets octets → length octets ≡ n
+pub length-outcome : (n : ℕ) (bits : List Bool) (octets : List ℕ) → length bits ≡ 16 + 8 * n → outcome_of bits ≡ Octets octets → length octets ≡ n
 unfolding outcome_of behind_service octets_in has_octets
 length-outcome n bits octets size is = elim (cases_Bool (list_all not (take 7 bits))) [
   | inl all ↦ absurd (true≢false (sym (ap (λ (o : Outcome). has_octets o) is)

@@ -1,1 +1,4 @@
+mod LegacyLengths
 mod Lengths
+mod Made
+mod Shares

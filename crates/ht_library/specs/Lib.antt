@@ -1,3 +1,4 @@
+pub mod Certified
 pub mod Codes
 pub mod Detected
 pub mod Framed

@@ -36,3 +36,8 @@ pub record AreSymbolBits (rate : Rate) (bits first second : ℕ) : Type 0 where
   pub whole : bits ≡ coded_bits_of rate
   pub share : first ≡ share_of rate
   pub shares : second ≡ (encoders_of rate - 1) * first
+
+-- the bits are shared out among the encoders that the rate has, as many to each
+pub record AreShared (rate : Rate) (bits first second : ℕ) : Type 0 where
+  pub whole : bits ≡ encoders_of rate * first
+  pub shares : second ≡ (encoders_of rate - 1) * first

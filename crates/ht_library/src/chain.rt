@@ -1,14 +1,15 @@
 //! The layers between octets and label bits.
-ghost use Rattle.std.specs.Prelude.{◌≡◌, ◌≢◌, ◌⊎◌, ◌↔◌, ◌<◌, ◌≤◌, ℕ, false, length, slice_index, replicate, IfSome, IsNone, Ok};
-ghost use Rattle.ht_scramble.specs.Sequence.{IsSeed, scrambled, seed_of, first_seven};
+ghost use Rattle.std.specs.Prelude.{◌≡◌, ◌≢◌, ◌⊎◌, ◌↔◌, ◌<◌, ◌≤◌, ◌^◌, ℕ, false, length, slice_index, replicate, IfSome, IsNone, Ok};
+ghost use Rattle.ht_scramble.specs.Sequence.{IsSeed, scrambled, first_seven};
 ghost use Rattle.ht_conv.specs.Code.{sent_bits};
+ghost use Rattle.ht_conv.specs.Puncturing.{sent_count};
 ghost use Rattle.ht_rate.specs.Rates.{rate_of, stream_bits_of, streams_of};
 ghost use Rattle.ht_rate.specs.declared.rates.Rate.{Rate as RateView};
 ghost use Rattle.ht_interleave.specs.Interleaver.{origin_of, place_of};
 ghost use Rattle.ht_library.specs.Codes.{pattern_at};
 
 use crate::fault::{BAD_LENGTH, DONE, NO_MEMORY, NO_PATTERN, NO_RATE, NO_SEED, NO_STREAM};
-use ht_conv::encode;
+use ht_conv::{encode, period};
 use ht_interleave::{origin, place};
 use ht_rate::{Pattern, Rate};
 use ht_scramble::{Seed, recover, scramble};
@@ -63,6 +64,14 @@ pub extern "C" fn mizgaure_recover(bits: &[bool], seed: &mut u8) -> u32
     DONE
 }
 
+// How many bits are sent of an input of so many bits.
+fn sent_of(pattern: Pattern, input: usize) -> usize
+    requires { input < 2 ^ 63 }
+    ensures { result ≡ sent_count pattern input }
+{
+    input + input.div_ceil(period(pattern).len())
+}
+
 /// Encodes input bits by the convolutional code, and punctures what comes out (clauses 18.3.5.6 and 20.3.11.6).
 #[unsafe(no_mangle)]
 pub extern "C" fn mizgaure_encode(
@@ -72,7 +81,7 @@ pub extern "C" fn mizgaure_encode(
     coded: &mut [bool],
 ) -> u32
     ensures no_pattern { (result ≡ 3) ↔ (3 < pattern) }
-    ensures bad_length { (result ≡ 5) → length coded.old ≢ length (sent_bits (pattern_at pattern) input.now) }
+    ensures bad_length { (result ≡ 5) ↔ ((pattern ≤ 3) × (length coded.old ≢ sent_count (pattern_at pattern) (length input.now))) }
     ensures fault { (result ≡ 0) ⊎ (result ≡ 1) ⊎ (result ≡ 3) ⊎ (result ≡ 5) }
     ensures kept { (result ≡ 0 → ⊥) → coded.new ≡ coded.old }
     ensures value { result ≡ 0 → coded.new ≡ sent_bits (pattern_at pattern) input.now }
@@ -80,12 +89,12 @@ pub extern "C" fn mizgaure_encode(
     let Some(pattern) = pattern_of(pattern) else {
         return NO_PATTERN;
     };
+    if coded.len() != sent_of(pattern, input.len()) {
+        return BAD_LENGTH;
+    }
     let Ok(bits) = encode(alloc, input, pattern) else {
         return NO_MEMORY;
     };
-    if bits.len() != coded.len() {
-        return BAD_LENGTH;
-    }
     coded.copy_from_slice(&bits);
     DONE
 }

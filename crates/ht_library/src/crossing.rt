@@ -43,3 +43,13 @@ pub struct MizgaureCost {
     pub low: u64,
     pub high: u64,
 }
+
+/// What is wrong with a certificate, in 24 octets: the number that goes with it, which is `low + 2^64 * high`, and the number of
+/// its kind.
+#[repr(C)]
+#[derive(Clone, Copy)]
+pub struct MizgaureFlaw {
+    pub low: u64,
+    pub high: u64,
+    pub kind: u32,
+}

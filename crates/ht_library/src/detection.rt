@@ -1,7 +1,8 @@
 //! The detector: the first nearest vector of a data subcarrier.
-ghost use Rattle.std.specs.Prelude.{◌≡◌, ◌⊎◌, ◌↔◌, ◌%◌, ◌^◌, ◌<◌, ◌≤◌, length, Ok};
-ghost use Rattle.ht_rate.specs.Rates.{rate_of};
+ghost use Rattle.std.specs.Prelude.{◌≡◌, ◌⊎◌, ◌↔◌, ◌%◌, ◌<◌, ◌≤◌, length, Ok};
+ghost use Rattle.ht_rate.specs.Rates.{rate_of, streams_of};
 ghost use Rattle.ht_rate.specs.declared.rates.Rate.{Rate as RateView};
+ghost use Rattle.ht_map.specs.Constellation.{grid_of};
 ghost use Rattle.ht_metric.specs.Jobs.{near};
 ghost use Rattle.ht_library.specs.Detected.{AreHits, AreSymbols, IsHit, job_of, system_of};
 
@@ -10,7 +11,7 @@ use crate::fault::{BAD_LENGTH, DONE, NO_RATE};
 use ht_feed::detect;
 use ht_map::grid;
 use ht_metric::{Found, Job, Place, Sample, System, Tap, Triangle};
-use ht_pam::Point;
+use ht_pam::{Grid, Point};
 use ht_rate::Rate;
 
 const NO_TAP: Tap = Tap { re: 0, im: 0 };
@@ -24,9 +25,9 @@ pub(crate) fn system(streams: u8, channel: &MizgaureChannel, received: &Mizgaure
     ensures value { result ≡ system_of streams channel.now received.now }
     ensures rows { length result ≡ streams }
 {
-    let [d1, d2, d3, d4] = channel.diagonal;
-    let [a, b, c, d, e, f] = channel.above;
-    let [y1, y2, y3, y4] = received.samples;
+    let [d1, d2, d3, _] = channel.diagonal;
+    let [a, b, c, _, _, _] = channel.above;
+    let [y1, y2, y3, _] = received.samples;
     match streams {
         1 => System::new(
             Triangle::new(1, [d1, 0, 0, 0], [NO_TAP; 6]),
@@ -45,39 +46,48 @@ pub(crate) fn system(streams: u8, channel: &MizgaureChannel, received: &Mizgaure
             [y1, y2, y3, NO_SAMPLE],
         ),
         4 => System::new(
-            Triangle::new(4, [d1, d2, d3, d4], [a, b, c, d, e, f]),
-            [y1, y2, y3, y4],
+            Triangle::new(4, channel.diagonal, channel.above),
+            received.samples,
         ),
         _ => unreachable!(),
     }
 }
 
-// The job of a data subcarrier.
-pub(crate) fn job(rate: &Rate, channel: &MizgaureChannel, received: &MizgaureReceived) -> Job
-    ensures { result ≡ job_of rate.now channel.now received.now }
+// The job of a data subcarrier, whose grid is made once for all of them: made for each it cost as much as the rest of the job.
+#[inline(always)]
+fn job_on(rate: &Rate, grid: &Grid, channel: &MizgaureChannel, received: &MizgaureReceived) -> Job
+    requires { grid.now ≡ grid_of rate.now }
+    ensures value { result ≡ job_of rate.now channel.now received.now }
+    ensures streams { length result.system ≡ streams_of rate.now }
 {
     let place = Place {
         frame: 0,
         symbol: 0,
         carrier: 0,
     };
-    Job::new(
-        0,
-        place,
-        grid(rate),
-        system(rate.streams(), channel, received),
-    )
+    Job::new(0, place, *grid, system(rate.streams(), channel, received))
+}
+
+// The job of a data subcarrier.
+pub(crate) fn job(rate: &Rate, channel: &MizgaureChannel, received: &MizgaureReceived) -> Job
+    ensures value { result ≡ job_of rate.now channel.now received.now }
+    ensures streams { length result.system ≡ streams_of rate.now }
+{
+    job_on(rate, &grid(rate), channel, received)
 }
 
 // What was found, in the form that crosses.
 #[tactic(auto, unfolding(crate::specs::Detected::IsHit))]
-fn hit_of(found: &Found) -> MizgaureHit
-    requires { found.now.distance < 2 ^ 66 }
+pub(crate) fn hit_of(found: &Found) -> MizgaureHit
     ensures { IsHit found.now result }
 {
     let mut points = [Point { i: 0, q: 0 }; 4];
-    for k in 0..found.vector.len() {
-        points[usize::from(k)] = found.vector.point(k + 1);
+    let streams = found.vector.len();
+    // Always four turns: by the number of streams the compiler would copy them by a call.
+    for k in 0..4u8 {
+        if k < streams {
+            points[usize::from(k)] = found.vector.point(k + 1);
+        }
     }
     MizgaureHit {
         points,
@@ -87,10 +97,17 @@ fn hit_of(found: &Found) -> MizgaureHit
 }
 
 // The hit of a data subcarrier.
-fn hit(rate: &Rate, channel: &MizgaureChannel, received: &MizgaureReceived) -> MizgaureHit
+#[inline(always)]
+fn hit(
+    rate: &Rate,
+    grid: &Grid,
+    channel: &MizgaureChannel,
+    received: &MizgaureReceived,
+) -> MizgaureHit
+    requires { grid.now ≡ grid_of rate.now }
     ensures { IsHit (near (job_of rate.now channel.now received.now)) result }
 {
-    hit_of(&detect(&job(rate, channel, received)))
+    hit_of(&detect(&job_on(rate, grid, channel, received)))
 }
 
 /// The first nearest vector of a data subcarrier (clause 20.3.11.9), and its squared distance.
@@ -110,7 +127,7 @@ pub extern "C" fn mizgaure_nearest(
     let Ok(rate) = Rate::of(bandwidth, mcs) else {
         return NO_RATE;
     };
-    *found = hit(&rate, channel, received);
+    *found = hit(&rate, &grid(&rate), channel, received);
     DONE
 }
 
@@ -126,8 +143,9 @@ fn fill_hits(
     ensures length { length hits.new ≡ length hits.old }
     ensures hits { AreHits rate.now channels.now received.now hits.new }
 {
+    let grid = grid(rate);
     for k in 0..hits.len() {
-        hits[k] = hit(rate, &channels[k % channels.len()], &received[k]);
+        hits[k] = hit(rate, &grid, &channels[k % channels.len()], &received[k]);
     }
 }
 

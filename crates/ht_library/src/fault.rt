@@ -35,3 +35,6 @@ pub(crate) const NO_LABEL: u32 = 10;
 
 /// A point is off the constellation.
 pub(crate) const NO_POINT: u32 = 11;
+
+/// A certificate doesn't hold; what is wrong with it is said.
+pub(crate) const NOT_CERTIFIED: u32 = 12;

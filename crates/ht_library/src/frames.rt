@@ -1,5 +1,5 @@
 //! Codewords and frames, sent and decoded.
-ghost use Rattle.std.specs.Prelude.{◌≡◌, ◌≢◌, ◌⊎◌, ◌↔◌, ◌<◌, ◌≤◌, length, map, IfOk, IsTrue};
+ghost use Rattle.std.specs.Prelude.{◌≡◌, ◌⊎◌, ◌↔◌, ◌<◌, ◌≤◌, length, map, IfOk, IsTrue};
 ghost use Rattle.ht_viterbi.specs.Inputs.{IsFound, place_cost, weight_cost};
 ghost use Rattle.ht_viterbi.specs.Received.{known_of};
 ghost use Rattle.ht_library.specs.Codes.{IsCodeword, known_at, pattern_at};

@@ -6,16 +6,23 @@
 #![tactic(auto)]
 
 mod captures;
+mod certificates;
 mod chain;
 mod crossing;
 mod detection;
+mod encoders;
 mod fault;
+mod files;
 mod frames;
+mod handing;
 mod legacy;
+mod legacy_decoding;
 mod mapping;
 mod parsing;
 mod sending;
 mod version;
 mod weights;
 
-pub use crossing::{MizgaureChannel, MizgaureCost, MizgaureHit, MizgaureReceived, MizgaureRefusal};
+pub use crossing::{
+    MizgaureChannel, MizgaureCost, MizgaureFlaw, MizgaureHit, MizgaureReceived, MizgaureRefusal,
+};

@@ -69,7 +69,7 @@ pub extern "C" fn mizgaure_points(bits: u8, labels: &[u8], points: &mut [Point])
     ensures no_modulation { (result ≡ 9) ↔ (modulation_at bits ≡ None) }
     ensures bad_length { (result ≡ 5) ↔ ((modulation_at bits ≢ None) × (length points.old ≢ length labels.now)) }
     ensures no_label { (m : ModulationView) → modulation_at bits ≡ Some m → length points.old ≡ length labels.now
-        → (result ≡ 0) ↔ AreLabels m labels.now }
+        → (result ≡ 10) ↔ (AreLabels m labels.now → ⊥) }
     ensures fault { (result ≡ 0) ⊎ (result ≡ 5) ⊎ (result ≡ 9) ⊎ (result ≡ 10) }
     ensures kept { (result ≡ 0 → ⊥) → points.new ≡ points.old }
     ensures value { result ≡ 0 → (m : ModulationView) → modulation_at bits ≡ Some m → ArePointsBelow (length points.new) m labels.now points.new }
@@ -127,7 +127,7 @@ pub extern "C" fn mizgaure_labels(bits: u8, points: &[Point], labels: &mut [u8])
     ensures no_modulation { (result ≡ 9) ↔ (modulation_at bits ≡ None) }
     ensures bad_length { (result ≡ 5) ↔ ((modulation_at bits ≢ None) × (length labels.old ≢ length points.now)) }
     ensures no_point { (m : ModulationView) → modulation_at bits ≡ Some m → length labels.old ≡ length points.now
-        → (result ≡ 0) ↔ ArePointsOn m points.now }
+        → (result ≡ 11) ↔ (ArePointsOn m points.now → ⊥) }
     ensures fault { (result ≡ 0) ⊎ (result ≡ 5) ⊎ (result ≡ 9) ⊎ (result ≡ 11) }
     ensures kept { (result ≡ 0 → ⊥) → labels.new ≡ labels.old }
     ensures value { result ≡ 0 → (m : ModulationView) → modulation_at bits ≡ Some m → AreLabelsBelow (length labels.new) m points.now labels.new }

@@ -1,5 +1,5 @@
 //! Frames sent, and frames decoded.
-ghost use Rattle.std.specs.Prelude.{◌≡◌, ◌⊎◌, ◌↔◌, ◌+◌, ◌*◌, ◌^◌, ◌<◌, ◌≤◌, length, IfOk, IsTrue, Ok};
+ghost use Rattle.std.specs.Prelude.{◌≡◌, ◌≢◌, ◌⊎◌, ◌↔◌, ◌+◌, ◌*◌, ◌^◌, ◌<◌, ◌≤◌, length, IsTrue, Ok};
 ghost use Rattle.ht_rate.specs.Rates.{rate_of, label_bits_of};
 ghost use Rattle.ht_rate.specs.declared.rates.Rate.{Rate as RateView};
 ghost use Rattle.ht_scramble.specs.Sequence.{IsSeed};
@@ -107,8 +107,9 @@ pub extern "C" fn mizgaure_decode_frame(
         → (result ≡ 5) ↔ (HasFrameOf rate (length octets.old) 1 (length labels.now) → ⊥) }
     ensures fault { (result ≡ 0) ⊎ (result ≡ 1) ⊎ (result ≡ 2) ⊎ (result ≡ 4) ⊎ (result ≡ 5) }
     ensures kept { (result ≡ 0 → ⊥) → (octets.new ≡ octets.old) × (differences.new ≡ differences.old) }
-    ensures no_seed { result ≡ 4 → (rate : RateView) → rate_of bandwidth mcs ≡ Ok rate
-        → (decoded_frame rate (length octets.old) (erased_low + 2 ^ 64 * erased_high) labels.now).outcome ≡ SeedZero }
+    ensures no_seed { (rate : RateView) → rate_of bandwidth mcs ≡ Ok rate → HasFrameOf rate (length octets.old) 1 (length labels.now)
+        → result ≢ 1
+        → (result ≡ 4) ↔ ((decoded_frame rate (length octets.old) (erased_low + 2 ^ 64 * erased_high) labels.now).outcome ≡ SeedZero) }
     ensures value { result ≡ 0 → (rate : RateView) → rate_of bandwidth mcs ≡ Ok rate
         → decoded_frame rate (length octets.old) (erased_low + 2 ^ 64 * erased_high) labels.now
         ≡ record { outcome = Octets octets.new; code = differences.new } }
@@ -150,8 +151,9 @@ pub extern "C" fn mizgaure_soft_frame(
         → (result ≡ 5) ↔ (HasFrameOf rate (length octets.old) (label_bits_of rate) (length weights.now) → ⊥) }
     ensures fault { (result ≡ 0) ⊎ (result ≡ 1) ⊎ (result ≡ 2) ⊎ (result ≡ 4) ⊎ (result ≡ 5) }
     ensures kept { (result ≡ 0 → ⊥) → (octets.new ≡ octets.old) × (cost.new ≡ cost.old) }
-    ensures no_seed { result ≡ 4 → (rate : RateView) → rate_of bandwidth mcs ≡ Ok rate
-        → (soft_decoded_frame rate (length octets.old) (erased_low + 2 ^ 64 * erased_high) weights.now).outcome ≡ SeedZero }
+    ensures no_seed { (rate : RateView) → rate_of bandwidth mcs ≡ Ok rate → HasFrameOf rate (length octets.old) (label_bits_of rate) (length weights.now)
+        → result ≢ 1
+        → (result ≡ 4) ↔ ((soft_decoded_frame rate (length octets.old) (erased_low + 2 ^ 64 * erased_high) weights.now).outcome ≡ SeedZero) }
     ensures value { result ≡ 0 → (rate : RateView) → rate_of bandwidth mcs ≡ Ok rate
         → soft_decoded_frame rate (length octets.old) (erased_low + 2 ^ 64 * erased_high) weights.now
         ≡ record { outcome = Octets octets.new; cost = cost.new.low + 2 ^ 64 * cost.new.high } }

@@ -19,7 +19,7 @@ use Rattle.ht_feed.specs.Telling.{TellsBy, seen_by}
 use Rattle.ht_results.specs.Texts.{frame_lines_of, result_line, rx_text}
 use Rattle.ht_rx.specs.Outcomes.{StopsBy, TellsTo}
 use Rattle.ht_rx.proofs.Blocks.{comes_to}
-use Rattle.ht_rx.proofs.Gathered.{gathered_told}
+use Rattle.ht_rx.proofs.BlockBooking.{gathered_told}
 use Rattle.ht_rx.proofs.Booking.{lines_told}
 use Rattle.ht_lanes.specs.DeskLanes.{lane_telling}
 use Rattle.ht_lanes.specs.Lanes.{AreFinished, AreOver, HaveNone, RunsLanes, Side, Sides, side_at}

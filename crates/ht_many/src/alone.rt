@@ -11,14 +11,14 @@ use crate::capture_lane::{CaptureLane, open_lanes};
 use crate::ending::end_all;
 use ht_bundles::Bundled;
 use ht_feed::Gate;
-use ht_frames::HitWork;
 use ht_io::{GrowSink, Sink, Source};
 use ht_lanes::drive_lanes_alone;
+use ht_rx::LaneWork;
 use ht_several::{ManyEnd, have_text, sinks_of, sources_of};
 use std::alloc::{AllocError, Global};
 
 /// This thread receives captures, and runs every job between the two calls of the gate. At most `window` jobs are due at a
-/// time, of all captures together.
+/// time, of all captures together; no clause says so.
 #[derive(Drop)]
 pub(crate) struct Alone<'g, G> {
     alloc: Global,
@@ -50,11 +50,11 @@ impl<'g, G: Gate> Alone<'g, G> {
         requires { AreOpen lanes.old sources.old sinks.old }
         ensures { ReceivesEach S.shown K.shown result (devices sources.old sinks.old) (devices sources.new sinks.new) }
     {
-        let work = HitWork {
+        let work = LaneWork {
             alloc: self.alloc,
             gate: self.gate,
         };
-        match drive_lanes_alone::<CaptureLane, S, K, HitWork<G>>(
+        match drive_lanes_alone::<CaptureLane, S, K, LaneWork<G>>(
             self.alloc,
             self.window,
             &work,

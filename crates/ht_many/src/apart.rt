@@ -116,7 +116,7 @@ fn texts_of(alloc: Global, all: Vec<Apart>) -> Result<Vec<GrowSink>, AllocError>
 }
 
 // Receives each capture, in at most this many threads, of which this one is one. At most `window` jobs are due at a time
-// in each.
+// in each; no clause says so.
 fn receive_each<R: Threads + Sync, G: Gate + Sync>(
     rt: &R,
     alloc: Global,

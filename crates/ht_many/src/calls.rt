@@ -22,7 +22,7 @@ use std::thread::Threads;
 ///
 /// Blocks of jobs come from the captures in turn; at most `window` jobs, 1 to 4096, of all together are due. Every job runs in
 /// this thread, between the two calls of the gate, by its number among all jobs. The last lines are put once no capture gives
-/// a job.
+/// a job. No clause says what is due, or when.
 ///
 /// A fault of a capture's octets, source or sink ends only that capture. The only error is lack of memory; then a part of each
 /// text was put.
@@ -67,7 +67,7 @@ pub fn many<R: Threads + Wait + Sync, S: Source, K: Sink, G: Gate + Sync>(
 /// Reads a bundle of captures (HTMB) to its end, receives all of them, and puts for each the line `capture K` and what the
 /// command `rx` writes for it, with the line of its fault at the end where it has one.
 ///
-/// Every job runs in this thread, and at most `window` jobs, 1 to 4096, are due at a time. Nothing is put before the last
+/// Every job runs in this thread, and at most `window` jobs, 1 to 4096, are due; no clause says so. Nothing is put before the last
 /// capture was received. `Format` comes at the first fault of the bundle, and `Read` where the source failed before any; what a
 /// capture holds is no fault of the bundle. `Write` comes exactly where the sink failed, and `NoMemory` also within the
 /// output: with both a part of the text was put.

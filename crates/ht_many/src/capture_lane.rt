@@ -8,16 +8,16 @@ use crate::frame_lines::FrameLines;
 use crate::gathered_lines::GatheredLines;
 use ht_capture_blocks::CaptureReader;
 use ht_feed::Ended;
-use ht_frames::Frames;
+use ht_frames::{Frames, Whole};
 use ht_lanes::DeskLane;
 use ht_results::no_head;
 use ht_runs::RunFault;
-use ht_rx::WholeLabels;
+use ht_rx::HardLabels;
 use std::alloc::{AllocError, Global};
 
 /// What receives one capture among several in one thread: the reader of its octets, the blocks that are due, and the
 /// frame under way.
-pub(crate) type CaptureLane = DeskLane<CaptureReader, FrameLines>;
+pub(crate) type CaptureLane = DeskLane<CaptureReader, FrameLines<CaptureReader>>;
 
 /// The same beside workers, who decode whole frames of it.
 pub(crate) type CrewLane<'f, R> = DeskLane<CaptureReader, GatheredLines<'f, R>>;
@@ -46,7 +46,7 @@ fn open_crew_lane<'f, R>(
     rt: &'f R,
     alloc: Global,
     workers: u8,
-    frames: &'f Frames<WholeLabels>,
+    frames: &'f Frames<Whole<HardLabels>>,
 ) -> Result<CrewLane<'f, R>, AllocError>
     requires crew { IsCrewSize workers }
     ensures { IfOk result IsNew }
@@ -62,7 +62,7 @@ pub(crate) fn open_crew_lanes<'f, R>(
     rt: &'f R,
     alloc: Global,
     workers: u8,
-    frames: &'f Frames<WholeLabels>,
+    frames: &'f Frames<Whole<HardLabels>>,
     count: usize,
 ) -> Result<Vec<CrewLane<'f, R>>, AllocError>
     requires crew { IsCrewSize workers }

@@ -16,10 +16,10 @@ use circular_buffer::HeapCircularBuffer;
 use ht_bundles::Bundled;
 use ht_drive::drive;
 use ht_feed::{Gate, Shared, Work};
-use ht_frames::{BesideFrames, Frames};
+use ht_frames::{BesideFrames, Frames, Whole};
 use ht_io::{GrowSink, Sink, Source};
 use ht_lanes::{Lane, LaneBlock, Lanes, finish_lanes};
-use ht_rx::{TallyWork, WholeLabels};
+use ht_rx::{HardLabels, LaneWork};
 use ht_several::{ManyEnd, have_text, sinks_of, sources_of};
 use std::alloc::{AllocError, Global};
 use std::sync::Wait;
@@ -66,7 +66,7 @@ where
 }
 
 /// A crew of workers receives captures, of which the caller is one. At most `window` jobs are due at a time, of all captures
-/// together.
+/// together; no clause says so.
 #[derive(Drop)]
 pub(crate) struct Crew<'c, R, G> {
     rt: &'c R,
@@ -105,7 +105,7 @@ impl<'c, R: Threads + Wait + Sync, G: Gate + Sync> Crew<'c, R, G> {
     // before they look for jobs.
     fn receive_lanes<S: Source, K: Sink>(
         &self,
-        frames: &Frames<WholeLabels>,
+        frames: &Frames<Whole<HardLabels>>,
         lanes: &mut [CrewLane<'_, R>],
         sources: &mut [S],
         sinks: &mut [K],
@@ -114,13 +114,13 @@ impl<'c, R: Threads + Wait + Sync, G: Gate + Sync> Crew<'c, R, G> {
         ensures { ReceivesEach S.shown K.shown result (devices sources.old sinks.old) (devices sources.new sinks.new) }
     {
         let work = BesideFrames {
-            work: TallyWork {
+            work: LaneWork {
                 alloc: self.alloc,
                 gate: self.gate,
             },
             frames,
         };
-        match drive_lanes::<R, CrewLane<R>, S, K, BesideFrames<TallyWork<G>, WholeLabels>>(
+        match drive_lanes::<R, CrewLane<R>, S, K, BesideFrames<LaneWork<G>, Whole<HardLabels>>>(
             self.rt,
             self.alloc,
             self.workers,

@@ -1,32 +1,36 @@
-//! What becomes of the hits of one capture among several, in one thread.
+//! What becomes of the tallies of one capture among several, in one thread.
 ghost use Rattle.std.specs.Prelude.{◌≡◌, [], slice_get, Some};
-ghost use Rattle.ht_feed.specs.Dues.{AreHits, jobs_in};
-ghost use Rattle.ht_capture.specs.Parts.{jobs_of};
+ghost use Rattle.ht_feed.specs.Dues.{jobs_in};
+ghost use Rattle.ht_frames.specs.Tallies.{IsTally};
+ghost use Rattle.ht_results.specs.Folding.{label_plan};
+ghost use Rattle.std.proofs.Common.{refl};
 ghost use Rattle.ht_lanes.specs.Bookings.{BooksFirstDue};
-ghost use Rattle.ht_lanes.proofs.Numbering.{hits_numberless};
+ghost use Rattle.ht_frames.proofs.Tallying.{numberless};
 ghost use Rattle.ht_many.specs.KeptFrames.{booked_left, lines_left};
 
-use ht_capture_blocks::{CaptureBlock, CaptureReader};
-use ht_feed::{BookFault, Desk, Desking, Hits};
-use ht_frames::{Book, Receiver, TextBook};
+use ht_capture::FrameHead;
+use ht_feed::{BlockReader, BookFault, Desk, Desking};
+use ht_frames::{Book, Frame, Receiver, Tally, TextBook};
 use ht_io::Sink;
 use ht_lanes::Booking;
 use ht_results::FrameResult;
-use ht_rx::OpenFrame;
+use ht_rx::HardLabels;
 use std::alloc::Global;
-use std::marker::Model;
+use std::marker::{Model, PhantomData};
 
 /// Puts the line of each frame of a capture into the sink that it is handed, once the hit of its last job was taken.
 ///
 /// Until then it keeps what was found for the jobs of the frame, so that each of several captures has a frame under way.
 /// No whole frame waits.
 #[derive(Drop)]
-pub(crate) struct FrameLines {
+pub(crate) struct FrameLines<R> {
     alloc: Global,
-    under_way: OpenFrame,
+    under_way: Frame<HardLabels>,
+    // Whose blocks it takes.
+    reader: PhantomData<R>,
 }
 
-impl Model for FrameLines {
+impl<R> Model for FrameLines<R> {
     ghost use Rattle.std.specs.Prelude.{[]};
     ghost use Rattle.ht_many.specs.KeptFrames.{KeptFrames, kept_frames};
 
@@ -35,15 +39,16 @@ impl Model for FrameLines {
     ghost view = { λ l. kept_frames l.under_way [] };
 }
 
-impl FrameLines {
+impl<R> FrameLines<R> {
     /// No frame is under way. It takes no memory.
-    pub(crate) fn new(alloc: Global) -> FrameLines
+    pub(crate) fn new(alloc: Global) -> FrameLines<R>
         ensures idle { result.under_way.left ≡ 0 }
         ensures none { result.whole ≡ [] }
     {
         FrameLines {
             alloc,
-            under_way: OpenFrame::new(alloc),
+            under_way: Frame::new(alloc),
+            reader: PhantomData,
         }
     }
 
@@ -54,17 +59,19 @@ impl FrameLines {
         // For the proof alone: its model is known once the body reads it.
         let _alloc = self.alloc;
     }
+}
 
-    // Takes the hits of the first block due, and books the results of frames that are whole with them.
+impl<R: BlockReader<Head = FrameHead> + Drop> FrameLines<R> {
+    // Takes the tally of the first block due, and books the results of frames that are whole with them.
     fn take_into<B: Book<FrameResult>>(
         &mut self,
-        desk: &mut Desk<CaptureReader>,
-        block: &CaptureBlock,
-        hits: &Hits,
+        desk: &mut Desk<R>,
+        block: &R::Block,
+        tally: &Tally<HardLabels>,
         book: &mut B,
     ) -> Result<(), BookFault>
-        requires right { AreHits hits.now.found.items (jobs_of block.now.block) }
-        requires first { slice_get (jobs_in desk.old.due) 0 ≡ Some (jobs_of block.now.block) }
+        requires right { IsTally label_plan tally.now.head (R.Block.jobs block.now) tally.now.jobs tally.now.data_sum tally.now.pilot_sum tally.now.places tally.now.values.items }
+        requires first { slice_get (jobs_in desk.old.due) 0 ≡ Some (R.Block.jobs block.now) }
 
         ensures books { BooksFirstDue result desk.old desk.new (B.shown book.old) (B.shown book.new)
             (booked_left B.booked self.old) (booked_left B.booked self.new) }
@@ -72,24 +79,24 @@ impl FrameLines {
         ensures same { B.lent book.new ≡ B.lent book.old }
     {
         let mut receiver = Receiver::new(self.alloc, &mut self.under_way, book);
-        desk.take(block, hits, &mut receiver)
+        desk.take(block, tally, &mut receiver)
     }
 }
 
-impl<K: Sink> Booking<CaptureReader, K> for FrameLines {
-    type Answer = Hits;
+impl<R: BlockReader<Head = FrameHead> + Drop, K: Sink> Booking<R, K> for FrameLines<R> {
+    type Answer = Tally<HardLabels>;
 
     ghost pieces = { lines_left };
 
     fn take(
         &mut self,
-        desk: &mut Desk<CaptureReader>,
-        block: &CaptureBlock,
-        hits: &Hits,
+        desk: &mut Desk<R>,
+        block: &R::Block,
+        tally: &Tally<HardLabels>,
         sink: &mut K,
     ) -> Result<(), BookFault> {
         let mut book = TextBook::new(self.alloc, sink);
-        self.take_into(desk, block, hits, &mut book)
+        self.take_into(desk, block, tally, &mut book)
     }
 
     fn finish(&mut self, _sink: &mut K) -> Result<(), BookFault> {
@@ -97,5 +104,6 @@ impl<K: Sink> Booking<CaptureReader, K> for FrameLines {
         Ok(())
     }
 
-    ghost numberless = { λ hits n jobs right. hits_numberless hits.found.items n jobs right };
+    ghost numberless = { λ tally n jobs right. numberless label_plan tally.head (λ k job. refl) tally.jobs tally.data_sum tally.pilot_sum tally.places
+        tally.values.items n jobs right };
 }

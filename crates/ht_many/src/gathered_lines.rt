@@ -4,19 +4,21 @@ ghost use Rattle.ht_feed.specs.Accounts.{BooksJobs};
 ghost use Rattle.ht_feed.specs.Dues.{jobs_in};
 ghost use Rattle.ht_feed.specs.Limits.{IsCrewSize};
 ghost use Rattle.ht_capture.specs.Parts.{jobs_of};
-ghost use Rattle.ht_rx.specs.Tallies.{IsTally};
+ghost use Rattle.ht_frames.specs.Tallies.{IsTally};
+ghost use Rattle.ht_results.specs.Folding.{label_plan};
+ghost use Rattle.std.proofs.Common.{refl};
 ghost use Rattle.ht_lanes.specs.Bookings.{BooksFirstDue};
 ghost use Rattle.ht_many.specs.KeptFrames.{booked_left, lines_left};
-ghost use Rattle.ht_rx.proofs.Tallying.{numberless};
+ghost use Rattle.ht_frames.proofs.Tallying.{numberless};
 
 use crate::keeping_lines::KeepingLines;
 use ht_capture_blocks::{CaptureBlock, CaptureReader};
 use ht_feed::{BookFault, Desk, Desking};
-use ht_frames::{Book, Decoding, Frames, TextBook, book_frames};
+use ht_frames::{Book, Decoding, Frame, Frames, Tally, TextBook, Whole, book_frames};
 use ht_io::Sink;
 use ht_lanes::Booking;
 use ht_results::FrameResult;
-use ht_rx::{OpenFrame, Tally, WholeLabels};
+use ht_rx::HardLabels;
 use std::alloc::Global;
 use std::collections::VecDeque;
 use std::marker::Model;
@@ -35,10 +37,10 @@ pub(crate) struct GatheredLines<'f, R> {
     alloc: Global,
     workers: u8,
     // Where workers find whole frames.
-    frames: &'f Frames<WholeLabels>,
-    under_way: OpenFrame,
+    frames: &'f Frames<Whole<HardLabels>>,
+    under_way: Frame<HardLabels>,
     // The whole frames whose lines aren't put, in order.
-    queue: VecDeque<Decoding<WholeLabels>>,
+    queue: VecDeque<Decoding<Whole<HardLabels>>>,
 }
 
 impl<'f, R> Model for GatheredLines<'f, R> {
@@ -59,7 +61,7 @@ impl<'f, R> GatheredLines<'f, R> {
         rt: &'f R,
         alloc: Global,
         workers: u8,
-        frames: &'f Frames<WholeLabels>,
+        frames: &'f Frames<Whole<HardLabels>>,
     ) -> GatheredLines<'f, R>
         requires crew { IsCrewSize workers }
         ensures idle { result.under_way.left ≡ 0 }
@@ -70,7 +72,7 @@ impl<'f, R> GatheredLines<'f, R> {
             alloc,
             workers,
             frames,
-            under_way: OpenFrame::new(alloc),
+            under_way: Frame::new(alloc),
             queue: VecDeque::new(alloc),
         }
     }
@@ -82,10 +84,10 @@ impl<'f, R: Threads + Wait> GatheredLines<'f, R> {
         &mut self,
         desk: &mut Desk<CaptureReader>,
         block: &CaptureBlock,
-        tally: &Tally,
+        tally: &Tally<HardLabels>,
         book: &mut B,
     ) -> Result<(), BookFault>
-        requires right { IsTally tally.now.rate (jobs_of block.now.block) tally.now }
+        requires right { IsTally label_plan tally.now.head (jobs_of block.now.block) tally.now.jobs tally.now.data_sum tally.now.pilot_sum tally.now.places tally.now.values.items }
         requires first { slice_get (jobs_in desk.old.due) 0 ≡ Some (jobs_of block.now.block) }
 
         ensures books { BooksFirstDue result desk.old desk.new (B.shown book.old) (B.shown book.new)
@@ -117,7 +119,7 @@ impl<'f, R: Threads + Wait> GatheredLines<'f, R> {
 }
 
 impl<'f, R: Threads + Wait, K: Sink> Booking<CaptureReader, K> for GatheredLines<'f, R> {
-    type Answer = Tally;
+    type Answer = Tally<HardLabels>;
 
     ghost pieces = { lines_left };
 
@@ -125,7 +127,7 @@ impl<'f, R: Threads + Wait, K: Sink> Booking<CaptureReader, K> for GatheredLines
         &mut self,
         desk: &mut Desk<CaptureReader>,
         block: &CaptureBlock,
-        tally: &Tally,
+        tally: &Tally<HardLabels>,
         sink: &mut K,
     ) -> Result<(), BookFault> {
         let mut book = TextBook::new(self.alloc, sink);
@@ -137,5 +139,6 @@ impl<'f, R: Threads + Wait, K: Sink> Booking<CaptureReader, K> for GatheredLines
         self.finish_into(&mut book)
     }
 
-    ghost numberless = { λ tally n jobs right. numberless tally n jobs right };
+    ghost numberless = { λ tally n jobs right. numberless label_plan tally.head (λ k job. refl) tally.jobs tally.data_sum tally.pilot_sum tally.places
+        tally.values.items n jobs right };
 }

@@ -1,16 +1,17 @@
 //! An account that keeps whole frames back also where no other block is due yet.
 ghost use Rattle.std.specs.Prelude.{◌≡◌, ◌∷◌};
 ghost use Rattle.ht_feed.specs.Limits.{IsCrewSize};
+ghost use Rattle.ht_frames.specs.Frames.{results_by};
 ghost use Rattle.ht_frames.specs.Gathering.{booked_behind};
-ghost use Rattle.ht_results.specs.Folding.{result_of, results_from};
+ghost use Rattle.ht_results.specs.Folding.{label_plan, result_of, with_octets};
 
 use circular_buffer::HeapCircularBuffer;
 use ht_capture::FrameHead;
 use ht_capture_blocks::{CaptureBlock, CaptureReader};
 use ht_feed::{Account, BookFault, DueBlock};
-use ht_frames::{Book, Decoding, Frames, gather_block};
+use ht_frames::{Book, Decoding, Frame, Frames, Tally, Whole, gather_block};
 use ht_results::FrameResult;
-use ht_rx::{OpenFrame, Tally, WholeLabels};
+use ht_rx::HardLabels;
 use std::alloc::Global;
 use std::collections::VecDeque;
 use std::sync::Wait;
@@ -26,14 +27,14 @@ pub(crate) struct KeepingLines<'a, R, B> {
     rt: &'a R,
     alloc: Global,
     // Where workers find whole frames.
-    frames: &'a Frames<WholeLabels>,
+    frames: &'a Frames<Whole<HardLabels>>,
     // How many frames are decoded while tallies are taken.
     beside: u8,
     // Whether its capture is read no more.
     stopped: bool,
-    under_way: &'a mut OpenFrame,
+    under_way: &'a mut Frame<HardLabels>,
     // The whole frames whose results aren't booked, in order.
-    queue: &'a mut VecDeque<Decoding<WholeLabels>>,
+    queue: &'a mut VecDeque<Decoding<Whole<HardLabels>>>,
     book: &'a mut B,
 }
 
@@ -45,9 +46,9 @@ impl<'a, R, B> KeepingLines<'a, R, B> {
         alloc: Global,
         workers: u8,
         stopped: bool,
-        frames: &'a Frames<WholeLabels>,
-        under_way: &'a mut OpenFrame,
-        queue: &'a mut VecDeque<Decoding<WholeLabels>>,
+        frames: &'a Frames<Whole<HardLabels>>,
+        under_way: &'a mut Frame<HardLabels>,
+        queue: &'a mut VecDeque<Decoding<Whole<HardLabels>>>,
         book: &'a mut B,
     ) -> KeepingLines<'a, R, B>
         requires crew { IsCrewSize workers }
@@ -72,13 +73,13 @@ impl<'a, R: Threads + Wait, B: Book<FrameResult>> Account<CaptureReader>
     for KeepingLines<'a, R, B> {
     type Piece = B::Piece;
 
-    type Answer = Tally;
+    type Answer = Tally<HardLabels>;
 
     ghost shown = { λ r. B.shown r.book.now };
 
     ghost lent = { λ r. r.under_way.ghost_name ∷ r.queue.ghost_name ∷ r.book.ghost_name ∷ B.lent r.book.now };
 
-    ghost pieces = { λ r. booked_behind result_of B.booked r.queue.now.items (results_from r.under_way.now) };
+    ghost pieces = { λ r. booked_behind result_of B.booked r.queue.now.items (results_by label_plan with_octets result_of r.under_way.now) };
 
     ghost waits = { λ r due. ⊥ };
 
@@ -86,7 +87,7 @@ impl<'a, R: Threads + Wait, B: Book<FrameResult>> Account<CaptureReader>
         &mut self,
         head: &FrameHead,
         block: &CaptureBlock,
-        tally: &Tally,
+        tally: &Tally<HardLabels>,
         due: &HeapCircularBuffer<DueBlock<CaptureReader>>,
     ) -> Result<(), BookFault> {
         let is_last = self.stopped && due.len() == 1;

@@ -1,10 +1,10 @@
 //! Frames received from an input, of whatever kind.
 //!
-//! A kind of frames is an `UnderWay` of crate `ht_frames`: it says what a frame's head is, what it keeps of its jobs, and
-//! what its result is. Any reader of blocks whose heads are of that kind gives the jobs, and any work of crate `ht_feed` finds
-//! their hits. [`receive_alone`] books the result of each whole frame, and runs every block in the calling thread;
-//! [`receive`] promises the same, and has the blocks run and whole frames decoded by workers, where the frame under way
-//! `TakesBlocks`.
+//! A kind of frames is a `Kind` of crate `ht_frames`: it says what a frame's head is, what is kept of its jobs, and what its
+//! result is; `Frame` is such a frame under way. Any reader of blocks whose heads are of that kind gives the jobs, and any work
+//! whose answers are tallies of that kind runs them, as `TallyWork` does. [`receive_alone`] books the result of each whole frame, and runs every block in the
+//! calling thread; [`receive`] promises the same, and has the blocks run and whole frames decoded by workers, where the kind
+//! is `Together`.
 //!
 //! What is booked for an input is defined by the jobs that its reader gives: `booked_in` of crate `ht_frames`, of the
 //! results that the frame under way makes of them. The caller says which results of the octets these are. Where a `TextBook`

@@ -4,8 +4,8 @@ ghost use Rattle.ht_feed.specs.Reading.{IsFreshReader};
 ghost use Rattle.ht_receive.specs.Receiving.{BooksInput};
 
 use ht_drive::tell;
-use ht_feed::{BlockReader, Ended, Hits, Shared, Work, tell_alone};
-use ht_frames::{Book, Frames, Gatherer, Receiver, TakesBlocks, UnderWay, WholeFrame};
+use ht_feed::{BlockReader, Ended, Shared, Work, tell_alone};
+use ht_frames::{Book, Frames, Gatherer, Receiver, UnderWay, UnderWayTogether, WholeFrame};
 use ht_io::Source;
 use ht_runs::RunFault;
 use std::alloc::Global;
@@ -16,16 +16,17 @@ use std::thread::Threads;
 /// Reads an input from the source, and books the result of each frame that is whole before its first fault.
 ///
 /// The reader gave nothing yet, and until a head comes `head` stands for the one that came last. The results are those that
-/// the frame under way gives of the jobs that the reader means. Every block is run in this thread, by the work, and has at
+/// the frame under way gives of the jobs that the reader means. Every block is tallied in this thread, by the work, and has at
 /// most `window` jobs, 1 to 4096. Of the frames one is kept.
 ///
 /// It answers the numbers of frames and of jobs of a whole input. It refuses with the first fault of another, or with `Read`
 /// where the source failed, having booked the frames that were read whole; with `Write` where the book failed, also if the
 /// source did; and with `NoMemory`. In the last two cases a part of the frames was booked.
+/// No clause says how large a block is, or how many frames are kept.
 pub fn receive_alone<
     U: UnderWay + Drop,
     R: BlockReader<Head = U::Head> + Drop,
-    W: Work<R::Block, Answer = Hits>,
+    W: Work<R::Block, Answer = U::Answer>,
     S: Source,
     B: Book<<U::Whole as WholeFrame>::Result>,
 >(
@@ -48,12 +49,12 @@ pub fn receive_alone<
     tell_alone(alloc, reader, head, window, work, source, &mut receiver)
 }
 
-/// Does as [`receive_alone`], and the blocks are run by 1 to 64 workers, of which the caller is one, while whole frames are
+/// Does as [`receive_alone`], and the blocks are tallied by 1 to 64 workers, of which the caller is one, while whole frames are
 /// decoded as a [`Gatherer`] has it done. The work sends its workers to the frames given here before they look for blocks, as
 /// that of `BesideFrames` does. The results are the same, in the same order.
 pub fn receive<
     T: Threads + Wait + Sync,
-    U: TakesBlocks + Drop,
+    U: UnderWayTogether + Drop,
     R: BlockReader<Head = U::Head> + Drop,
     W: Work<R::Block, Answer = U::Answer> + Sync,
     S: Source,

@@ -2,15 +2,17 @@
 //!
 //! What each command writes for a whole input and for one at fault is tried by `.ci/vectors`, and with many workers and
 //! windows by `checks/stress`.
-use crate::common::{Harm, TWO_FRAMES, zeros};
+use crate::common::{Harm, TWO_FRAMES, push_times, zeros};
 use crate::equal::equal;
 use crate::gate::{Rule, Watch};
 use ht_cli::{Status, laws, run, run_alone};
 use ht_feed::OpenGate;
 use ht_io::{MemSink, MemSource, SureSink, SureSource};
 use std::alloc::{AllocError, Global};
-use std::process::ExitCode;
+use std::process::{Abort, ExitCode};
+use std::sync::Wait;
 use std::test::Fail;
+use std::thread::Threads;
 
 /// The words of a text, in which a space stands between two.
 fn words_of(alloc: Global, text: &str) -> Result<Vec<String>, AllocError> {
@@ -85,34 +87,69 @@ fn sure(rt: HostRuntime) -> Result<(), Fail> {
     Ok(())
 }
 
-// Two workers meet at a gate that one alone can't pass: job 0 is held until 111 others have left. By weights 104 jobs come
-// to two halves each, and eight pilots to one.
+// Asserts that a run by two workers, at a gate that one alone can't pass, puts what one alone puts, and that the same jobs
+// pass both gates.
+fn meets<R: Abort + Threads + Wait + Sync>(
+    rt: &R,
+    alloc: Global,
+    words: &str,
+    octets: &[u8],
+    rule: Rule,
+) -> Result<(), AllocError> {
+    let call = words_of(alloc, words)?;
+    let (gate, open) = (Watch::new(rule), Watch::new(Rule::AtOnce(0)));
+    let mut source = Harm::None.source(alloc, octets)?;
+    let mut again = Harm::None.source(alloc, octets)?;
+    let mut sink = Harm::None.sink(alloc)?;
+    let mut wanted = Harm::None.sink(alloc)?;
+    let status = run(rt, alloc, &call, &mut source, &mut sink, &gate);
+    let alone = run_alone(alloc, &call, &mut again, &mut wanted, &open);
+    let answer = (words, status, alone, sink.held(), gate.counts());
+    let expected = (
+        words,
+        Status::Done,
+        Status::Done,
+        wanted.held(),
+        open.counts(),
+    );
+    equal(rt, answer, expected);
+    Ok(())
+}
+
+// A clause 18 capture of a frame of one octet at 6 Mbit/s: the diagonal 10 on each subcarrier, every sample 0.
+fn legacy_zeros(alloc: Global) -> Result<Vec<u8>, AllocError> {
+    let mut octets = b"LGCP\x01\x00\x01\x00\x00\x01".to_vec(alloc)?;
+    push_times(&mut octets, 52, &[0, 10])?;
+    push_times(&mut octets, 104, &[0; 8])?;
+    Ok(octets)
+}
+
+// The bundle of this number of captures of a frame of one octet, of 1019 octets each.
+fn bundle(alloc: Global, captures: u8) -> Result<Vec<u8>, AllocError> {
+    let mut octets = b"HTMB\x01".to_vec(alloc)?;
+    octets.push(captures)?;
+    let mut capture = b"\x00\x00\x03\xfb".to_vec(alloc)?;
+    capture.extend_from_slice(&zeros(alloc, &[1])?)?;
+    push_times(&mut octets, u32::from(captures), &capture)?;
+    Ok(octets)
+}
+
+// Job 0 is held until the others of a frame have left. The two captures of the last bundle are received apart, so there two
+// jobs must be inside at once.
 #[test]
 fn threads_meet(rt: HostRuntime) -> Result<(), Fail> {
     let alloc = rt.alloc();
-    let octets = zeros(alloc, &[1])?;
-    for (words, jobs) in [
-        ("detect --workers 2", 112),
-        ("rx --workers 2", 112),
-        ("soft --workers 2", 216),
+    let capture = zeros(alloc, &[1])?;
+    let (one, two, legacy) = (bundle(alloc, 1)?, bundle(alloc, 2)?, legacy_zeros(alloc)?);
+    for (words, octets, rule) in [
+        ("detect --workers 2", &capture, Rule::OthersFirst(111)),
+        ("rx --workers 2", &capture, Rule::OthersFirst(111)),
+        ("soft --workers 2", &capture, Rule::OthersFirst(111)),
+        ("lrx --workers 2", &legacy, Rule::OthersFirst(103)),
+        ("many --workers 2", &one, Rule::OthersFirst(111)),
+        ("many --workers 2", &two, Rule::AtOnce(2)),
     ] {
-        let call = words_of(alloc, words)?;
-        let gate = Watch::new(Rule::OthersFirst(111));
-        let mut source = Harm::None.source(alloc, &octets)?;
-        let mut sink = Harm::None.sink(alloc)?;
-        let status = run(&rt, alloc, &call, &mut source, &mut sink, &gate);
-        let mut again = Harm::None.source(alloc, &octets)?;
-        let mut wanted = Harm::None.sink(alloc)?;
-        let alone = run_alone(alloc, &call, &mut again, &mut wanted, &OpenGate);
-        let answer = (words, status, alone, sink.held(), gate.counts());
-        let expected = (
-            words,
-            Status::Done,
-            Status::Done,
-            wanted.held(),
-            [jobs, jobs, 0],
-        );
-        equal(&rt, answer, expected);
+        meets(&rt, alloc, words, octets, rule)?;
     }
     Ok(())
 }

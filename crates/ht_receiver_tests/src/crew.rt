@@ -136,7 +136,7 @@ fn shares(ran: &[u64]) -> (usize, u64) {
 fn threads_meet(rt: HostRuntime) -> Result<(), Fail> {
     for (workers, rule) in [
         (2, Rule::OthersFirst(111)),
-        (4, Rule::FourAtOnce),
+        (4, Rule::AtOnce(4)),
         (64, Rule::OthersFirst(111)),
     ] {
         let gate = Watch::new(rule);

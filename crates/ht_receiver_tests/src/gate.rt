@@ -10,8 +10,8 @@ pub(crate) enum Rule {
     InTurn,
     /// Job 0 is held until this number of others have left.
     OthersFirst(u64),
-    /// Each of the first four to enter is held until four have entered.
-    FourAtOnce,
+    /// Each of the first to enter, as many as this number, is held until that many have entered.
+    AtOnce(u64),
 }
 
 /// Counts who enters and who leaves, and those that break its rule: a job out of turn, or one that was held for a million
@@ -66,7 +66,7 @@ impl Gate for Watch {
             Rule::InTurn if before == number && self.left.load(Ordering::SeqCst) == number => {}
             Rule::InTurn => self.count_stray(),
             Rule::OthersFirst(others) if number == 0 => self.hold(&self.left, others),
-            Rule::FourAtOnce if before < 4 => self.hold(&self.entered, 4),
+            Rule::AtOnce(count) if before < count => self.hold(&self.entered, count),
             _ => {}
         }
     }

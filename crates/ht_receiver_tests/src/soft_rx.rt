@@ -1,7 +1,6 @@
 //! Captures of zeros, where each bit weighs 0, by one worker and by several.
 use crate::common::{Harm, zeros};
 use crate::equal::equal;
-use crate::gate::{Rule, Watch};
 use ht_feed::OpenGate;
 use ht_soft_rx::{receive_soft, receive_soft_alone};
 use std::test::Fail;
@@ -22,20 +21,6 @@ fn a_frame_of_zeros(rt: HostRuntime) -> Result<(), Fail> {
             (window, Ok(1), ONE.as_bytes()),
         );
     }
-    Ok(())
-}
-
-// Two workers meet at a gate that one alone can't pass: job 0 is held until 111 others have left. 104 jobs come to two
-// halves each, and eight pilots to one.
-#[test]
-fn threads_meet(rt: HostRuntime) -> Result<(), Fail> {
-    let alloc = rt.alloc();
-    let gate = Watch::new(Rule::OthersFirst(111));
-    let mut source = Harm::None.source(alloc, &zeros(alloc, &[1])?)?;
-    let mut sink = Harm::None.sink(alloc)?;
-    let ended = receive_soft(&rt, alloc, 2, 512, &mut source, &mut sink, &gate);
-    let answer = (ended, sink.held(), gate.counts());
-    equal(&rt, answer, (Ok(1), ONE.as_bytes(), [216, 216, 0]));
     Ok(())
 }
 

@@ -2,11 +2,10 @@
 use Rattle.std.proofs.Common.{◌≡◌, ℕ, ◌==◌, ◌≤◌, List, [], ◌∷◌, ◌++◌, length, map, Bool, true, false, if◌then◌else◌}
 use Rattle.std.proofs.Common.{refl, sym, ap, ◌∙◌, arith}
 use Rattle.std.proofs.lemmas.Bool.Decides.{nat_tests}
-use Rattle.ht_frames.specs.Gathering.{finished}
 use Rattle.ht_inverse.specs.declared.decoded.Decoded.{Decoded}
 use Rattle.ht_metric.specs.Jobs.{JobView}
 use Rattle.ht_results.specs.declared.frame_result.FrameResult.{FrameResult}
-use Rattle.ht_results.specs.Plans.{Fold, Plan, SoFar, given_from, given_if, with_kind_by}
+use Rattle.ht_results.specs.Plans.{Fold, Plan, SoFar, finished, given_from, given_if, with_kind_by}
 use Rattle.ht_results.proofs.Steps.{left_after, with_all}
 
 pub finished_if : {R : Type 0} (last : Bool) (result : R) → (if last then result ∷ [] else []) ≡ finished last result

@@ -20,7 +20,7 @@ use Rattle.ht_capture_laws.specs.Items.{FrameJobs, whole_frames}
 use Rattle.ht_inverse.specs.declared.outcome.Outcome.TheVariants.{Octets, SeedZero}
 use Rattle.ht_text.specs.Lines.{frame_text, outcome_text, sums_text}
 use Rattle.ht_results.specs.Labels.{frame_label}
-use Rattle.ht_results.specs.PlacedLabels.{placed, placed_by, put_each}
+use Rattle.ht_results.specs.Places.{places_of, put_on}
 use Rattle.ht_results.specs.Results.{data_sum_of, pilot_sum_of}
 use Rattle.ht_results.specs.Texts.{result_line}
 
@@ -68,13 +68,13 @@ seedless_line : result_line (record { frame = 7; data_sum = 0; pilot_sum = 0; co
 unfolding result_line frame_text sums_text outcome_text digits
 seedless_line = refl
 
--- two labels from place 2 on, and one on place 7, which a frame of five places doesn't have
-labels_of_runs : placed_by (record { at = 2; count = 2 } ∷ []) 7 (5 ∷ 6 ∷ 9 ∷ []) ≡ placed 2 5 ∷ placed 3 6 ∷ placed 7 9 ∷ []
-labels_of_runs = refl
+-- two places from 2 on, and place 7, which a frame of five places doesn't have
+places_of_stretches : places_of (record { at = 2; count = 2 } ∷ []) (record { at = 7; count = 1 }) ≡ 2 ∷ 3 ∷ 7 ∷ []
+places_of_stretches = refl
 
-labels_put : put_each (placed 2 5 ∷ placed 3 6 ∷ placed 7 9 ∷ []) (replicate 5 0) ≡ 0 ∷ 0 ∷ 5 ∷ 6 ∷ 0 ∷ []
+labels_put : put_on {V = ℕ} (2 ∷ 3 ∷ 7 ∷ []) (5 ∷ 6 ∷ 9 ∷ []) (replicate 5 0) ≡ 0 ∷ 0 ∷ 5 ∷ 6 ∷ 0 ∷ []
 labels_put = refl
 
 -- of two labels on one place the later one stays
-later_label : put_each (placed 1 3 ∷ placed 1 4 ∷ []) (replicate 3 0) ≡ 0 ∷ 4 ∷ 0 ∷ []
+later_label : put_on {V = ℕ} (1 ∷ 1 ∷ []) (3 ∷ 4 ∷ []) (replicate 3 0) ≡ 0 ∷ 4 ∷ 0 ∷ []
 later_label = refl

@@ -7,4 +7,4 @@ pub mod JobTexts
 pub mod Captured
 pub mod Folding
 pub mod Distances
-pub mod PlacedLabels
+pub mod Places

@@ -89,6 +89,11 @@ abbrev pub under_way : {X H V R : Type 0} → Fold X H V R → SoFar H V → Lis
 under_way fold f [] = f
 under_way fold f (x ∷ xs) = under_way fold (fold.step x f) xs
 
+-- the result of a frame, where its last job came
+abbrev pub finished : {R : Type 0} → Bool → R → List R
+finished true result = result ∷ []
+finished false result = []
+
 -- a job is that of a symbol and of the subcarrier of this index
 abbrev pub stands_at : ℕ → ℕ → JobView → Bool
 stands_at symbol carrier job = (job.place.symbol == symbol) && (job.place.carrier == carrier)

@@ -27,9 +27,10 @@ mod frame_result;
 mod labels;
 pub mod laws;
 mod line;
-mod placed_labels;
+mod placing;
 
 pub use frame_places::{jobs_in, kind, no_head, same_head};
 pub use frame_result::FrameResult;
 pub use labels::{label_for, put_kept, same_labels};
-pub use placed_labels::PlacedLabels;
+pub use line::Line;
+pub use placing::KeptPlaces;

@@ -1,5 +1,5 @@
 -- A job and its lane.
-use Rattle.std.proofs.Common.{◌≡◌, ℕ, zero, suc, ◌+◌, ◌<◌, ◌≤◌, [], ◌∷◌, length, take, replicate, set, slice_index_or, arith, refl, ap, sym, inl, inr, ◌∙◌}
+use Rattle.std.proofs.Common.{◌≡◌, ℕ, zero, suc, ◌+◌, ◌^◌, ◌<◌, ◌≤◌, [], ◌∷◌, length, take, replicate, set, slice_index, slice_index_or, arith, refl, ap, subst, sym, inl, inr, ◌∙◌}
 use Rattle.std.proofs.lemmas.List.{get_or-set_same, get_or-set_other, length-set}
 use Rattle.std.proofs.lemmas.Bool.{cases_lt}
 use Rattle.ht_metric.specs.declared.found.Found.{Found}
@@ -11,9 +11,10 @@ use Rattle.std.specs.Prelude.{List}
 use Rattle.std.proofs.lemmas.Simd.{length-replicate}
 use Rattle.ht_rounding.specs.declared.levels.Levels.{Levels}
 use Rattle.ht_rounding.specs.declared.streams.Channel.{Channel}
+use Rattle.ht_rounding.specs.declared.streams.Four.{Four}
 use Rattle.ht_rounding.specs.declared.streams.Samples.{Samples}
-use Rattle.ht_rounding.specs.InLanes.{AreFew, AreRowsIn, IsInLane, axes_of}
-use Rattle.ht_rounding.specs.Loading.{HaveSmall, no_found, no_job}
+use Rattle.ht_rounding.specs.InLanes.{AreFew, Finds, IsInLane, axes_of, points_at}
+use Rattle.ht_rounding.specs.Loading.{HaveSmall, IsLoaded, IsPlain, no_found, no_job}
 
 pub second-few : (n : ℕ) (a b c d : Point) → 1 < n → AreFew (take n (a ∷ b ∷ c ∷ d ∷ [])) → IsInRange b
 second-few zero a b c d some few = absurd (omega (arith, some))
@@ -27,10 +28,7 @@ third-few (suc (suc zero)) a b c d some few = absurd (omega (arith, some))
 third-few (suc (suc (suc n))) a b c d some few = few.1.1.0
 
 pub in-lane : (i q : Levels) (channel : Channel) (samples : Samples) (k n : ℕ) (job : JobView) (grid : List Axes) → IsJob job → job.grid ≡ grid → grid ≡ replicate n (axes_of i q)
-    → HaveSmall job.system
-    → (length job.system ≤ 4 → HaveSmall job.system → AreRowsIn (channel.first ∷ channel.second ∷ channel.third ∷ channel.fourth ∷ [])
-    (samples.first ∷ samples.second ∷ samples.third ∷ samples.fourth ∷ []) k job.system)
-    → IsInLane i q channel samples k n job
+    → HaveSmall job.system → IsLoaded channel samples k job.system → IsInLane i q channel samples k n job
 in-lane i q channel samples k n job grid valid same full small rows =
     let few = valid.grid.few in
     record {
@@ -62,6 +60,30 @@ one-more jobs founds k job found eight lt before e is = (
   ],
 )
 
-abbrev pub IsLoaded : Channel → Samples → ℕ → JobView → Type 0
-IsLoaded channel samples k job = length job.system ≤ 4 → HaveSmall job.system → AreRowsIn (channel.first ∷ channel.second ∷ channel.third ∷ channel.fourth ∷ [])
-    (samples.first ∷ samples.second ∷ samples.third ∷ samples.fourth ∷ []) k job.system
+-- a job that a lane can answer is in its lane
+pub plain-in-lane : (i q : Levels) (channel : Channel) (samples : Samples) (k n : ℕ) (job : JobView) → IsPlain i q n job → IsLoaded channel samples k job.system
+    → IsInLane i q channel samples k n job
+plain-in-lane i q channel samples k n job plain loaded = in-lane i q channel samples k n job _ plain.valid plain.grid refl plain.small loaded
+
+-- what a lane has of the job with this number it has of the job
+pub plain-job : (jobs : List JobView) (k : ℕ) (job : JobView) (i q : Levels) (n : ℕ) (found : Four) → job ≡ slice_index_or jobs k no_job → job.grid ≡ replicate n (axes_of i q)
+    → IsJob job → HaveSmall job.system
+    → (IsPlain i q n (slice_index_or jobs k no_job) → Finds (points_at n found k) (slice_index found.first.rho k) (slice_index_or jobs k no_job))
+    → Finds (points_at n found k) (slice_index found.first.rho k) job
+plain-job jobs k job i q n found is grid valid small answers =
+    let plain : IsPlain i q n job = record { valid = valid; grid = grid; small = small } in
+    subst (λ (j : JobView). Finds (points_at n found k) (slice_index found.first.rho k) j) (sym is) (answers (subst (λ (j : JobView). IsPlain i q n j) is plain))
+
+-- one more distance
+pub one-below : (founds : List Found) (k : ℕ) (found : Found) → length founds ≡ 8 → k < 8
+    → ((j : ℕ) → j < k → (slice_index_or founds j no_found).distance < 2 ^ 66) → found.distance < 2 ^ 66
+    → (j : ℕ) → j < k + 1 → (slice_index_or (set founds k found) j no_found).distance < 2 ^ 66
+one-below founds k found eight lt before below j less =
+    let IsBelow : Found → Type 0 = λ f. f.distance < 2 ^ 66 in
+    elim (cases_lt j k) [
+      | inl earlier ↦ subst IsBelow (sym (get_or-set_other founds k j found no_found (λ same. omega (arith, same, earlier)))) (before j earlier)
+      | inr later ↦
+          let same : k ≡ j = omega (arith, less, later) in
+          subst (λ (m : ℕ). IsBelow (slice_index_or (set founds k found) m no_found)) same
+          (subst IsBelow (sym (get_or-set_same founds k found no_found (omega (arith, eight, lt)))) below)
+    ]

@@ -1,12 +1,16 @@
 -- The numbers of jobs as words of 32 bits.
-use Rattle.std.specs.Prelude.{◌≡◌, ℕ, ℤ, unsigned_abs, ◌-◌, ◌^◌, ◌<◌, ◌≤◌, List, [], length, slice_index, slice_index_or}
+use Rattle.std.specs.Prelude.{◌≡◌, ℕ, ℤ, unsigned_abs, ◌-◌, ◌^◌, ◌<◌, ◌≤◌, List, [], ◌∷◌, length, replicate, slice_index, slice_index_or}
 use Rattle.std.specs.Int.{cast_signed, w32}
 use Rattle.ht_rounding.specs.Words.{Holds}
 use Rattle.ht_rounding.specs.declared.rows.Parts.{Parts}
 use Rattle.ht_rounding.specs.declared.streams.RowLanes.{RowLanes}
-use Rattle.ht_rounding.specs.InLanes.{IsRowIn}
+use Rattle.ht_rounding.specs.InLanes.{AreRowsIn, Finds, IsRowIn, axes_of, points_at}
 use Rattle.ht_metric.specs.Rows.{Row, no_row, no_tap}
-use Rattle.ht_metric.specs.Jobs.{JobView}
+use Rattle.ht_metric.specs.Jobs.{JobView, IsJob, near}
+use Rattle.ht_rounding.specs.declared.levels.Levels.{Levels}
+use Rattle.ht_rounding.specs.declared.streams.Channel.{Channel}
+use Rattle.ht_rounding.specs.declared.streams.Four.{Four}
+use Rattle.ht_rounding.specs.declared.streams.Samples.{Samples}
 use Rattle.ht_metric.specs.declared.found.Found.{Found}
 use Rattle.ht_rounding.specs.declared.loading.Part.{Part}
 use Rattle.ht_rounding.specs.declared.loading.Part.TheVariants.{Diagonal, SampleRe, SampleIm, EntryRe, EntryIm}
@@ -57,3 +61,31 @@ HaveDiagonals number jobs lanes = (k : ℕ) → k < 8 → (let rows = (slice_ind
 -- what was found where there is nothing
 abbrev pub no_found : Found
 no_found = record { vector = []; distance = 0 }
+
+-- each of eight jobs has so many streams
+abbrev pub HaveStreams : ℕ → List JobView → Type 0
+HaveStreams streams jobs = (k : ℕ) → k < 8 → length (slice_index_or jobs k no_job).system ≡ streams
+
+-- lane k has these rows, at most four, where their diagonals are below 2^14
+abbrev pub IsLoaded : Channel → Samples → ℕ → List Row → Type 0
+IsLoaded channel samples k rows = length rows ≤ 4 → HaveSmall rows → AreRowsIn (channel.first ∷ channel.second ∷ channel.third ∷ channel.fourth ∷ [])
+    (samples.first ∷ samples.second ∷ samples.third ∷ samples.fourth ∷ []) k rows
+
+-- a job that a lane can answer: all these levels are allowed on each of so many streams, and its diagonals are below 2^14
+pub record IsPlain (i q : Levels) (streams : ℕ) (job : JobView) : Type 0 where
+  pub valid : IsJob job
+  pub grid : job.grid ≡ replicate streams (axes_of i q)
+  pub small : HaveSmall job.system
+
+-- where something is to spare in lane k, and a lane can answer job k, it has
+abbrev pub Answers : Levels → Levels → ℕ → List JobView → Four → Type 0
+Answers i q streams jobs found = (k : ℕ) → k < 8 → 0 < slice_index found.first.spare k → IsPlain i q streams (slice_index_or jobs k no_job)
+    → Finds (points_at streams found k) (slice_index found.first.rho k) (slice_index_or jobs k no_job)
+
+-- what was found for each of eight jobs
+abbrev pub AreNear : List Found → List JobView → Type 0
+AreNear founds jobs = (k : ℕ) → k < 8 → slice_index_or founds k no_found ≡ near (slice_index_or jobs k no_job)
+
+-- each distance is below 2^66
+abbrev pub AreBelow : List Found → Type 0
+AreBelow founds = (k : ℕ) → k < 8 → (slice_index_or founds k no_found).distance < 2 ^ 66

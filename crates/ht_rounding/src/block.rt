@@ -1,16 +1,16 @@
 //! Blocks of eight jobs.
 ghost use Rattle.std.specs.Prelude.{◌≡◌, ◌+◌, ◌*◌, ◌^◌, ◌<◌, ◌≤◌, ℕ, true, length, replicate, slice_index, slice_index_or, unsigned_abs};
 ghost use Rattle.std.specs.Int.{cast_signed, w32};
-ghost use Rattle.ht_metric.specs.Jobs.{JobView, IsJob, near};
+ghost use Rattle.ht_metric.specs.Jobs.{IsJob, near};
 ghost use Rattle.ht_metric.specs.Distance.{IsInRange};
 ghost use Rattle.ht_rounding.specs.Proposals.{full};
-ghost use Rattle.ht_rounding.specs.InLanes.{AreFew, Finds, IsInLane, IsSmall, axes_of, point_at, points_at};
-ghost use Rattle.ht_rounding.specs.Loading.{HaveSmall, no_found, no_job};
+ghost use Rattle.ht_rounding.specs.InLanes.{AreFew, Finds, axes_of, point_at, points_at};
+ghost use Rattle.ht_rounding.specs.Loading.{Answers, AreBelow, AreNear, HaveSmall, HaveStreams, no_found, no_job};
 
 use crate::levels::Levels;
 use crate::loading::load;
 use crate::rows::Reached;
-use crate::streams::{Channel, Four, Samples, detect_four, detect_one, detect_three, detect_two};
+use crate::streams::{Four, detect_four, detect_one, detect_three, detect_two};
 use ht_metric::{Found, Job, Vector};
 use ht_pam::{Grid, Ladder, Point, Steps};
 use ht_sphere::find;
@@ -63,42 +63,99 @@ fn has_small_diagonals(job: &Job) -> bool
     true
 }
 
-// What eight lanes propose for so many streams. A stream that isn't there has the numbers of stream 1.
-fn proposed(i: Levels, q: Levels, streams: u8, channel: &Channel, samples: &Samples) -> Four
-    requires small { IsSmall channel.now }
+// Whether each of eight jobs has so many streams.
+fn have_streams(jobs: &[Job], streams: u8) -> bool
+    requires { length jobs.now ≡ 8 }
+    ensures { result ≡ true → HaveStreams streams jobs.now }
+{
+    for k in 0..8 {
+        if jobs[k].system().streams() != streams {
+            return false;
+        }
+    }
+    true
+}
+
+// What eight lanes propose for jobs of one stream. What is written for the streams that aren't there is that of stream 1.
+#[inline(always)]
+fn proposed_one(i: Levels, q: Levels, jobs: &[Job]) -> Four
+    requires jobs { length jobs.now ≡ 8 }
+    requires streams { HaveStreams 1 jobs.now }
+    ensures { Answers i q 1 jobs.now result }
+{
+    let loaded = load(jobs, 1);
+    let first = detect_one(i, q, &loaded.channel, &loaded.samples);
+    Four {
+        first,
+        second: first,
+        third: first,
+        fourth: first,
+    }
+}
+
+// The same for jobs of two streams.
+#[inline(always)]
+fn proposed_two(i: Levels, q: Levels, jobs: &[Job]) -> Four
+    requires jobs { length jobs.now ≡ 8 }
+    requires streams { HaveStreams 2 jobs.now }
+    ensures { Answers i q 2 jobs.now result }
+{
+    let loaded = load(jobs, 2);
+    let found = detect_two(i, q, &loaded.channel, &loaded.samples);
+    Four {
+        first: found.first,
+        second: found.second,
+        third: found.first,
+        fourth: found.first,
+    }
+}
+
+// The same for jobs of three streams.
+#[inline(always)]
+fn proposed_three(i: Levels, q: Levels, jobs: &[Job]) -> Four
+    requires jobs { length jobs.now ≡ 8 }
+    requires streams { HaveStreams 3 jobs.now }
+    ensures { Answers i q 3 jobs.now result }
+{
+    let loaded = load(jobs, 3);
+    let found = detect_three(i, q, &loaded.channel, &loaded.samples);
+    Four {
+        first: found.first,
+        second: found.second,
+        third: found.third,
+        fourth: found.first,
+    }
+}
+
+// The same for jobs of four streams.
+#[inline(always)]
+fn proposed_four(i: Levels, q: Levels, jobs: &[Job]) -> Four
+    requires jobs { length jobs.now ≡ 8 }
+    requires streams { HaveStreams 4 jobs.now }
+    ensures { Answers i q 4 jobs.now result }
+{
+    let loaded = load(jobs, 4);
+    detect_four(i, q, &loaded.channel, &loaded.samples)
+}
+
+// What eight lanes propose for jobs of so many streams.
+fn proposed(i: Levels, q: Levels, jobs: &[Job], streams: u8) -> Four
+    requires jobs { length jobs.now ≡ 8 }
+    requires streams { HaveStreams streams jobs.now }
     requires some { 1 ≤ streams }
     requires few { streams ≤ 4 }
-    ensures { (k : ℕ) (job : JobView) → k < 8 → 0 < slice_index result.first.spare k → IsInLane i q channel.now samples.now k streams job
-        → Finds (points_at streams result k) (slice_index result.first.rho k) job }
+    ensures { Answers i q streams jobs.now result }
 {
     if streams == 1 {
-        let first = detect_one(i, q, channel, samples);
-        return Four {
-            first,
-            second: first,
-            third: first,
-            fourth: first,
-        };
+        return proposed_one(i, q, jobs);
     }
     if streams == 2 {
-        let found = detect_two(i, q, channel, samples);
-        return Four {
-            first: found.first,
-            second: found.second,
-            third: found.first,
-            fourth: found.first,
-        };
+        return proposed_two(i, q, jobs);
     }
     if streams == 3 {
-        let found = detect_three(i, q, channel, samples);
-        return Four {
-            first: found.first,
-            second: found.second,
-            third: found.third,
-            fourth: found.first,
-        };
+        return proposed_three(i, q, jobs);
     }
-    detect_four(i, q, channel, samples)
+    proposed_four(i, q, jobs)
 }
 
 // The level of a lane that has one.
@@ -130,6 +187,7 @@ fn found_at(found: &Four, streams: u8, k: usize) -> Found
     requires few { AreFew (points_at streams found.now k) }
     ensures vector { result.vector ≡ points_at streams found.now k }
     ensures distance { result.distance ≡ slice_index found.now.first.rho k }
+    ensures below { result.distance < 2 ^ 66 }
 {
     let mut vector = Vector::new();
     vector.push(point(&found.first, k));
@@ -148,21 +206,22 @@ fn found_at(found: &Four, streams: u8, k: usize) -> Found
     }
 }
 
-// The levels of a grid of so many streams, where it has all of them: it only chooses what is tried.
-fn levels_of(grid: &Grid, streams: u8) -> (Levels, Levels)
-    requires some { 1 ≤ streams }
-    requires few { streams ≤ 4 }
+// The levels of a grid that has all of them on each stream: it only chooses what is tried.
+fn levels_of(grid: &Grid) -> (Levels, Levels)
+    requires some { 1 ≤ length grid.now }
 {
-    if grid.same(&full_grid(Levels::Two, Levels::One, streams)) {
-        return (Levels::Two, Levels::One);
+    let i = grid.i_ladder(1);
+    if i.has(7) {
+        return (Levels::Eight, Levels::Eight);
     }
-    if grid.same(&full_grid(Levels::Two, Levels::Two, streams)) {
-        return (Levels::Two, Levels::Two);
-    }
-    if grid.same(&full_grid(Levels::Four, Levels::Four, streams)) {
+    if i.has(3) {
         return (Levels::Four, Levels::Four);
     }
-    (Levels::Eight, Levels::Eight)
+    let q = grid.q_ladder(1);
+    (
+        Levels::Two,
+        if q.has(1) { Levels::Two } else { Levels::One },
+    )
 }
 
 // What was found for a job: by its lane, where that is certain, else by the search.
@@ -179,7 +238,8 @@ fn lane_or_search<L: Ledger>(
     requires most { streams ≤ 4 }
     requires certain { IsJob job.now → job.now.grid ≡ grid.now → HaveSmall job.now.system → 0 < slice_index found.now.first.spare k
         → Finds (points_at streams found.now k) (slice_index found.now.first.rho k) job.now }
-    ensures { result ≡ near job.now }
+    ensures found { result ≡ near job.now }
+    ensures below { result.distance < 2 ^ 66 }
 {
     let is_sure = found.first.spare.to_array()[k] > 0;
     if is_sure && job.grid().same(grid) && has_small_diagonals(job) {
@@ -188,21 +248,38 @@ fn lane_or_search<L: Ledger>(
     find(job, steps)
 }
 
-/// Finds the first nearest vectors of eight jobs, each with its distance.
+// The same for eight jobs, each by the search.
+fn find_each<L: Ledger>(jobs: &[Job], founds: &mut [Found], steps: &mut Steps<L>)
+    requires jobs { length jobs.now ≡ 8 }
+    requires founds { length founds.old ≡ 8 }
+    ensures length { length founds.new ≡ 8 }
+    ensures near { AreNear founds.new jobs.now }
+    ensures below { AreBelow founds.new }
+{
+    for k in 0..8 {
+        founds[k] = find(&jobs[k], steps);
+    }
+}
+
+/// Finds the first nearest vectors of eight jobs, each with its squared distance, which is below 2^66.
 ///
-/// Where all points of the first job's constellations are allowed on each stream, the jobs that have the same grid and
-/// diagonals below 2^14 are rounded in lanes. Jobs that a lane isn't sure of, and all others, go to the search.
+/// Where the jobs have the same number of streams, and all points of the first job's constellations are allowed on each stream,
+/// those that have the same grid and diagonals below 2^14 are rounded in lanes. Jobs that a lane isn't sure of, and all others,
+/// go to the search.
 pub fn find_eight<L: Ledger>(jobs: &[Job], founds: &mut [Found], steps: &mut Steps<L>)
     requires jobs { length jobs.now ≡ 8 }
     requires founds { length founds.old ≡ 8 }
     ensures length { length founds.new ≡ 8 }
-    ensures near { (k : ℕ) → k < 8 → slice_index_or founds.new k no_found ≡ near (slice_index_or jobs.now k no_job) }
+    ensures near { AreNear founds.new jobs.now }
+    ensures below { AreBelow founds.new }
 {
-    let loaded = load(jobs);
     let streams = jobs[0].system().streams();
-    let (i, q) = levels_of(jobs[0].grid(), streams);
+    if !have_streams(jobs, streams) {
+        return find_each(jobs, founds, steps);
+    }
+    let (i, q) = levels_of(jobs[0].grid());
     let grid = full_grid(i, q, streams);
-    let found = proposed(i, q, streams, &loaded.channel, &loaded.samples);
+    let found = proposed(i, q, jobs, streams);
     for k in 0..8 {
         founds[k] = lane_or_search(&jobs[k], &grid, streams, &found, k, steps);
     }

@@ -1,9 +1,9 @@
 //! Jobs to lanes.
-ghost use Rattle.std.specs.Prelude.{◌≡◌, ◌<◌, ◌≤◌, ℕ, [], ◌∷◌, length, slice_index_or};
+ghost use Rattle.std.specs.Prelude.{◌≡◌, ◌<◌, ◌≤◌, ℕ, length, slice_index_or};
 ghost use Rattle.ht_rounding.specs.declared.loading.Part.TheVariants.{Diagonal, SampleRe, SampleIm, EntryRe, EntryIm};
-ghost use Rattle.ht_rounding.specs.InLanes.{AreRowsIn, IsSmall};
+ghost use Rattle.ht_rounding.specs.InLanes.{IsSmall};
 ghost use Rattle.ht_rounding.specs.Proposals.{AreSmall};
-ghost use Rattle.ht_rounding.specs.Loading.{HaveDiagonals, HaveParts, HaveSmall, IsPartOf, IsRowOf, IsShort, IsWord, no_job};
+ghost use Rattle.ht_rounding.specs.Loading.{HaveDiagonals, HaveParts, HaveStreams, IsLoaded, IsPartOf, IsRowOf, IsShort, IsWord, no_job};
 
 use crate::rows::Parts;
 use crate::streams::{Channel, RowLanes, Samples};
@@ -42,14 +42,14 @@ fn short(number: i16) -> u32
     i32::from(number).cast_unsigned()
 }
 
-// A part of row `row`, counted from 1, as a word; 0 where the job hasn't it.
+// A part of row `row`, counted from 1, of a job of so many streams, as a word; 0 where the job hasn't it.
 #[inline(always)]
-fn part_of(job: &Job, row: u8, part: Part) -> u32
-    requires { 1 ≤ row }
+fn part_of(job: &Job, streams: u8, row: u8, part: Part) -> u32
+    requires streams { streams ≡ length job.now.system }
+    requires row { 1 ≤ row }
     ensures { IsPartOf part row job.now.system result }
 {
     let system = job.system();
-    let streams = system.streams();
     if row > streams {
         return 0;
     }
@@ -76,61 +76,69 @@ fn part_of(job: &Job, row: u8, part: Part) -> u32
 
 // A part of row `row` of eight jobs.
 #[inline(always)]
-fn lanes_of(jobs: &[Job], row: u8, part: Part) -> u32x8
+fn lanes_of(jobs: &[Job], streams: u8, row: u8, part: Part) -> u32x8
     requires jobs { length jobs.now ≡ 8 }
+    requires streams { HaveStreams streams jobs.now }
     requires row { 1 ≤ row }
     ensures { HaveParts part row jobs.now result }
 {
     let mut lanes = [0u32; 8];
     for k in 0..8 {
-        lanes[k] = part_of(&jobs[k], row, part);
+        lanes[k] = part_of(&jobs[k], streams, row, part);
     }
     u32x8::from_array(lanes)
 }
 
 // The diagonals of row `row` of eight jobs, each cut at 2^14 - 1.
 #[inline(always)]
-fn small_diagonals(jobs: &[Job], row: u8) -> u32x8
+fn small_diagonals(jobs: &[Job], streams: u8, row: u8) -> u32x8
     requires jobs { length jobs.now ≡ 8 }
+    requires streams { HaveStreams streams jobs.now }
     requires row { 1 ≤ row }
     ensures small { AreSmall result }
     ensures diagonal { HaveDiagonals row jobs.now result }
 {
-    lesser(lanes_of(jobs, row, Part::Diagonal), u32x8::splat(16383))
+    lesser(
+        lanes_of(jobs, streams, row, Part::Diagonal),
+        u32x8::splat(16383),
+    )
 }
 
 // The entries of row `row` of eight jobs: at 0 those of the next stream.
 #[inline(always)]
-fn entries_of(jobs: &[Job], row: u8, at: u8) -> Parts
+fn entries_of(jobs: &[Job], streams: u8, row: u8, at: u8) -> Parts
     requires jobs { length jobs.now ≡ 8 }
+    requires streams { HaveStreams streams jobs.now }
     requires row { 1 ≤ row }
     ensures re { HaveParts (EntryRe at) row jobs.now result.re }
     ensures im { HaveParts (EntryIm at) row jobs.now result.im }
 {
     Parts {
-        re: lanes_of(jobs, row, Part::EntryRe(at)),
-        im: lanes_of(jobs, row, Part::EntryIm(at)),
+        re: lanes_of(jobs, streams, row, Part::EntryRe(at)),
+        im: lanes_of(jobs, streams, row, Part::EntryIm(at)),
     }
 }
 
 // The samples of row `row` of eight jobs.
 #[inline(always)]
-fn samples_of(jobs: &[Job], row: u8) -> Parts
+fn samples_of(jobs: &[Job], streams: u8, row: u8) -> Parts
     requires jobs { length jobs.now ≡ 8 }
+    requires streams { HaveStreams streams jobs.now }
     requires row { 1 ≤ row }
     ensures re { HaveParts SampleRe row jobs.now result.re }
     ensures im { HaveParts SampleIm row jobs.now result.im }
 {
     Parts {
-        re: lanes_of(jobs, row, Part::SampleRe),
-        im: lanes_of(jobs, row, Part::SampleIm),
+        re: lanes_of(jobs, streams, row, Part::SampleRe),
+        im: lanes_of(jobs, streams, row, Part::SampleIm),
     }
 }
 
 // Row `row` of eight jobs, without what was received.
 #[inline(always)]
-fn row_of(jobs: &[Job], row: u8) -> RowLanes
+fn row_of(jobs: &[Job], streams: u8, row: u8) -> RowLanes
     requires jobs { length jobs.now ≡ 8 }
+    requires streams { HaveStreams streams jobs.now }
     requires row { 1 ≤ row }
     ensures small { AreSmall result.diagonal }
     ensures diagonal { HaveDiagonals row jobs.now result.diagonal }
@@ -142,10 +150,10 @@ fn row_of(jobs: &[Job], row: u8) -> RowLanes
     ensures third_im { HaveParts (EntryIm 2) row jobs.now result.third.im }
 {
     RowLanes {
-        diagonal: small_diagonals(jobs, row),
-        next: entries_of(jobs, row, 0),
-        second: entries_of(jobs, row, 1),
-        third: entries_of(jobs, row, 2),
+        diagonal: small_diagonals(jobs, streams, row),
+        next: entries_of(jobs, streams, row, 0),
+        second: entries_of(jobs, streams, row, 1),
+        third: entries_of(jobs, streams, row, 2),
     }
 }
 
@@ -158,15 +166,16 @@ struct RowLoad {
 
 // Row `row` of eight jobs.
 #[inline(always)]
-fn load_row(jobs: &[Job], row: u8) -> RowLoad
+fn load_row(jobs: &[Job], streams: u8, row: u8) -> RowLoad
     requires jobs { length jobs.now ≡ 8 }
+    requires streams { HaveStreams streams jobs.now }
     requires row { 1 ≤ row }
     ensures small { AreSmall result.row.diagonal }
     ensures row { (k : ℕ) → k < 8 → IsRowOf result.row result.samples k row (slice_index_or jobs.now k no_job).system }
 {
     RowLoad {
-        row: row_of(jobs, row),
-        samples: samples_of(jobs, row),
+        row: row_of(jobs, streams, row),
+        samples: samples_of(jobs, streams, row),
     }
 }
 
@@ -177,18 +186,18 @@ pub(crate) struct Loaded {
     pub samples: Samples,
 }
 
-// Eight jobs in lanes.
+/// Eight jobs of so many streams in lanes. Rows that they haven't are 0.
 #[inline(always)]
-pub(crate) fn load(jobs: &[Job]) -> Loaded
-    requires { length jobs.now ≡ 8 }
+pub(crate) fn load(jobs: &[Job], streams: u8) -> Loaded
+    requires jobs { length jobs.now ≡ 8 }
+    requires streams { HaveStreams streams jobs.now }
     ensures small { IsSmall result.channel }
-    ensures rows { (k : ℕ) → k < 8 → length (slice_index_or jobs.now k no_job).system ≤ 4 → HaveSmall (slice_index_or jobs.now k no_job).system → AreRowsIn (result.channel.first ∷ result.channel.second ∷ result.channel.third ∷ result.channel.fourth ∷ [])
-        (result.samples.first ∷ result.samples.second ∷ result.samples.third ∷ result.samples.fourth ∷ []) k (slice_index_or jobs.now k no_job).system }
+    ensures rows { (k : ℕ) → k < 8 → IsLoaded result.channel result.samples k (slice_index_or jobs.now k no_job).system }
 {
-    let first = load_row(jobs, 1);
-    let second = load_row(jobs, 2);
-    let third = load_row(jobs, 3);
-    let fourth = load_row(jobs, 4);
+    let first = load_row(jobs, streams, 1);
+    let second = load_row(jobs, streams, 2);
+    let third = load_row(jobs, streams, 3);
+    let fourth = load_row(jobs, streams, 4);
     Loaded {
         channel: Channel {
             first: first.row,

@@ -3,8 +3,7 @@ pub mod Booking
 pub mod Blocks
 pub mod BlockBooking
 pub mod BlockListing
-pub mod Gathered
-pub mod Stamping
+pub mod Labelling
 pub mod Writing
-pub mod Tallying
 pub mod Texts
+mod Eights

@@ -1,5 +1,5 @@
 pub mod Heads
 pub mod Outcomes
 pub mod Frames
-pub mod Tallies
 pub mod Telling
+pub mod InLanes

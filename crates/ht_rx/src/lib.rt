@@ -9,9 +9,8 @@
 //!
 //! A drive of crate `ht_drive` takes blocks of jobs from a capture's reader, and hands the answers in order to an account
 //! (`Account` of crate `ht_feed`): a [`Lister`] puts the lines of each block; the receivers of crate `ht_frames` book a
-//! [`FrameResult`] once the last hit of its frame came. They ask an [`OpenFrame`], which keeps the labels of the frame under
-//! way and decodes them with its last job, or gives the frame away as [`WholeLabels`]. Workers give a block back as its
-//! [`Tally`], with the labels looked up and the distances summed.
+//! [`FrameResult`] once the tally with the last job of its frame came. [`HardLabels`] says what they keep of a job, its labels,
+//! and how these are decoded; a tally has the labels of a block's jobs, with the distances summed. [`LaneWork`] makes tallies.
 //!
 //! Crate `ht_results` defines what must be put, over the octets alone: `lines_of`, and with the last line `detect_text`, in
 //! `specs/JobTexts.antt`; `frame_lines_of` and `rx_text` in `specs/Texts.antt`. What an account puts is a function of the jobs
@@ -35,26 +34,23 @@
 
 mod block_lines;
 mod front;
+mod hard_labels;
+mod in_lanes;
 mod lines;
 mod lister;
 mod listing;
 mod listing_text;
-mod open_frame;
 mod pieces;
 mod receiving;
 mod receiving_text;
-mod tally;
-mod under_way;
-mod whole_labels;
 
 pub use block_lines::Lines;
+pub use hard_labels::HardLabels;
 pub use ht_feed::{BookFault, Ended};
 pub use ht_results::FrameResult;
+pub use in_lanes::LaneWork;
 pub use lister::Lister;
 pub use listing::{list_jobs, list_jobs_alone};
 pub use listing_text::{list_text, list_text_alone};
-pub use open_frame::OpenFrame;
 pub use receiving::{receive, receive_alone};
 pub use receiving_text::{receive_text, receive_text_alone};
-pub use tally::{Tally, TallyWork};
-pub use whole_labels::WholeLabels;

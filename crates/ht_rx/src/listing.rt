@@ -19,7 +19,7 @@ use std::thread::Threads;
 /// of its first nearest vector, and that vector.
 ///
 /// Every job runs in this thread, between the two calls of the gate; at most `window` jobs, 1 to 4096, are due. Only these and
-/// their lines, a frame's triangles and a symbol's samples are kept.
+/// their lines, a frame's triangles and a symbol's samples are kept. No clause says what is due or kept.
 ///
 /// It answers the numbers of frames and of jobs of a capture. It refuses with the first fault of an input that is no capture,
 /// and with `Read` where the source failed, both behind the lines of all symbols read whole; with `Write` where the sink

@@ -4,11 +4,11 @@ ghost use Rattle.ht_feed.specs.Limits.{IsCrewSize, IsWindowSize};
 ghost use Rattle.ht_rx.specs.Frames.{booked_of};
 ghost use Rattle.ht_rx.specs.Telling.{TellsCapture};
 
-use crate::open_frame::OpenFrame;
-use crate::tally::TallyWork;
+use crate::hard_labels::HardLabels;
+use crate::in_lanes::LaneWork;
 use ht_capture_blocks::CaptureReader;
 use ht_feed::{Ended, Gate};
-use ht_frames::{BesideFrames, Book, Frames, HitWork};
+use ht_frames::{BesideFrames, Book, Frame, Frames};
 use ht_io::Source;
 use ht_results::{FrameResult, no_head};
 use ht_runs::RunFault;
@@ -20,7 +20,7 @@ use std::thread::Threads;
 /// what its labels are decoded to, and at how many places the codewords differ from the detected bits.
 ///
 /// Every job runs in this thread, between the two calls of the gate; at most `window` jobs, 1 to 4096, are due. Only these, a
-/// frame's triangles and labels and a symbol's samples are kept.
+/// frame's triangles and labels and a symbol's samples are kept. No clause says what is due or kept.
 ///
 /// It answers the numbers of frames and of jobs of a capture. It refuses with the first fault of an input that is no capture,
 /// and with `Read` where the source failed, both behind all frames read whole; with `Write` where the book failed, even if the
@@ -39,8 +39,8 @@ pub fn receive_alone<S: Source, B: Book<FrameResult>, G: Gate>(
 {
     let reader = CaptureReader::new(alloc)?;
     let head = no_head();
-    let under_way = OpenFrame::new(alloc);
-    let work = HitWork { alloc, gate };
+    let under_way = Frame::<HardLabels>::new(alloc);
+    let work = LaneWork { alloc, gate };
     ht_receive::receive_alone(alloc, reader, head, window, &work, source, under_way, book)
 }
 
@@ -71,10 +71,10 @@ pub fn receive<R: Threads + Wait + Sync, S: Source, B: Book<FrameResult>, G: Gat
     }
     let reader = CaptureReader::new(alloc)?;
     let head = no_head();
-    let under_way = OpenFrame::new(alloc);
+    let under_way = Frame::<HardLabels>::new(alloc);
     let frames = Frames::new(alloc);
     let work = BesideFrames {
-        work: TallyWork { alloc, gate },
+        work: LaneWork { alloc, gate },
         frames: &frames,
     };
     ht_receive::receive(

@@ -161,3 +161,44 @@ pub fn half(modulation: Modulation, job: &Job, number: u64, stream: u8, bit: u8,
     let grid = half_grid(modulation, job.grid(), stream, bit, value);
     Job::new(number, job.place(), grid, *job.system())
 }
+
+// The grid with the points alone on `stream` whose label has `value` at a bit, of any grid. One without this stream stays as it
+// is.
+fn any_half_grid(
+    modulation: Modulation,
+    all: Axes,
+    grid: &Grid,
+    stream: u8,
+    bit: u8,
+    value: bool,
+) -> Grid
+    requires all { all ≡ axes_of modulation }
+    requires first { 1 ≤ stream }
+    requires bit { bit < bits_of modulation }
+    ensures { result ≡ half_grid_of modulation stream bit value grid.now }
+{
+    if stream > grid.streams() {
+        return *grid;
+    }
+    changed(grid, stream, &half_axes(modulation, all, bit, value))
+}
+
+/// The same of a job with any grid: on `stream` it has the points of the modulation whose label has `value` at a bit, and all else
+/// is the job's, its number too. A job without this stream stays as it is. `all` has all points of the modulation.
+#[tactic(auto, unfolding(crate::specs::Halves::half_of))]
+pub fn half_of_any(
+    modulation: Modulation,
+    all: Axes,
+    job: &Job,
+    stream: u8,
+    bit: u8,
+    value: bool,
+) -> Job
+    requires all { all ≡ axes_of modulation }
+    requires first { 1 ≤ stream }
+    requires bit { bit < bits_of modulation }
+    ensures { result ≡ half_of modulation stream bit value job.now.number job.now }
+{
+    let grid = any_half_grid(modulation, all, job.grid(), stream, bit, value);
+    Job::new(job.number(), job.place(), grid, *job.system())
+}

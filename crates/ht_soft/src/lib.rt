@@ -22,7 +22,7 @@ mod soft_decoded;
 mod weights;
 
 pub use frames::soft_frame;
-pub use halves::{half, half_axes, half_grid};
+pub use halves::{half, half_axes, half_grid, half_of_any};
 pub use ht_viterbi::decode_weights as soft_decode;
 pub use soft_decoded::SoftDecoded;
 pub use weights::weight;

@@ -1,23 +1,15 @@
--- How many weights a job and a frame have.
-use Rattle.std.proofs.Common.{◌≡◌, ℕ, ◌*◌, ◌≤◌, sym, ap, ◌∙◌}
-use Rattle.std.proofs.Math.Nat.{mul-le-mul, mul_assoc}
+-- How many weights a frame has.
+use Rattle.std.proofs.Common.{◌≡◌, ℕ, ◌*◌, sym, ap, ◌∙◌}
+use Rattle.std.proofs.Math.Nat.{mul_assoc}
 use Rattle.ht_rate.specs.Rates.{data_carriers_of, label_bits_of, streams_of}
-use Rattle.ht_rate.proofs.RateFacts.{label_bits_of-range, streams_of-range}
 use Rattle.ht_capture.specs.declared.items.FrameHead.{FrameHead}
 use Rattle.ht_capture_laws.specs.Items.{symbols_in}
+use Rattle.ht_frames.specs.Frames.{values_in}
 use Rattle.ht_inverse.specs.Received.{labels_in_frame}
-use Rattle.ht_soft_rx.specs.Folding.{weights_in_frame}
-use Rattle.ht_soft_rx.specs.Weights.{weights_of_job}
-
--- a job has a bit at least
-pub some_bits : (head : FrameHead) → 1 ≤ weights_of_job head
-some_bits head =
-    let streams = streams_of-range head.rate in
-    let bits = label_bits_of-range head.rate in
-    mul-le-mul streams.0 bits.0
+use Rattle.ht_soft_rx.specs.Jobs.{weight_plan}
 
 -- a weight for each bit of each label
-pub weights_count : (head : FrameHead) → weights_in_frame head ≡ labels_in_frame head.rate head.length * label_bits_of head.rate
+pub weights_count : (head : FrameHead) → values_in weight_plan head ≡ labels_in_frame head.rate head.length * label_bits_of head.rate
 weights_count head =
     let carriers : ℕ = data_carriers_of head.rate in
     let streams : ℕ = streams_of head.rate in

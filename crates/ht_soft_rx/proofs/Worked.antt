@@ -1,4 +1,4 @@
--- Weights of a subcarrier, halves of a frame one after another, and lines, by computation. The numbers were worked out by hand.
+-- Weights of a subcarrier, their place, and lines, by computation. The numbers were worked out by hand.
 use Rattle.std.proofs.Common.{◌≡◌, ℕ, ◌*◌, pos, negsuc, [], ◌∷◌, ◌++◌, codes, None, Some, refl}
 use Rattle.std.specs.Fmt.{digits}
 use Rattle.ht_rate.specs.Rates.{data_carriers_of, label_bits_of, modulation_of, rate_at, streams_of}
@@ -9,7 +9,8 @@ use Rattle.ht_inverse.specs.declared.outcome.Outcome.TheVariants.{Octets, SeedZe
 use Rattle.ht_soft.specs.Halves.{cut_axis, half_axes, half_of}
 use Rattle.ht_soft.specs.Weights.{weight_at, weight_of}
 use Rattle.ht_text.specs.Lines.{outcome_text, soft_text}
-use Rattle.ht_soft_rx.specs.Folding.{Weighing, weight_place, weighing, with_distance}
+use Rattle.ht_results.specs.Plans.{place_by}
+use Rattle.ht_soft_rx.specs.Jobs.{weight_plan}
 use Rattle.ht_soft_rx.specs.Texts.{soft_line}
 use Rattle.ht_soft_rx.specs.Weights.{weights_in, weights_of_job}
 
@@ -35,30 +36,14 @@ erased : weights_in (head_at 1) None ≡ pos 0 ∷ pos 0 ∷ []
 unfolding head_at rate_at modulation_of streams_of label_bits_of
 erased = refl
 
--- at MCS 31 a job has 24 weights, and those of data subcarrier 3 in symbol 1 stand behind 55 others' ones
+-- at MCS 31 a job has 24 weights, and those of data subcarrier 3 in symbol 1 stand behind those of 55 others
 of_a_job : weights_of_job (head_at 31) ≡ 24
 unfolding head_at rate_at modulation_of streams_of label_bits_of
 of_a_job = refl
 
-place : weight_place (head_at 31) 1 3 ≡ 55 * 24
+place : place_by weight_plan (head_at 31) 1 3 ≡ 55 * 24
 unfolding head_at rate_at modulation_of streams_of label_bits_of data_carriers_of
 place = refl
-
--- two halves of QPSK at the distances 205 and 85, and two at 85 and 245: behind the second of them a weight is there, and
--- behind the fourth all weights of the job
-abbrev start : Weighing
-start = weighing (head_at 1) (pos 0 ∷ pos 0 ∷ pos 0 ∷ []) 7
-
-abbrev two_of : ℕ → ℕ → Weighing → Weighing
-two_of first second w = let v : Weighing = with_distance 1 first None w in with_distance 1 second v.zero v
-
-one_bit : two_of 205 85 start ≡ record { head = head_at 1; weights = pos 0 ∷ pos 120 ∷ pos 0 ∷ []; left = 7; bits = 1; zero = None }
-unfolding head_at rate_at modulation_of streams_of label_bits_of weight_of
-one_bit = refl
-
-two_bits : two_of 85 245 (two_of 205 85 start) ≡ weighing (head_at 1) (pos 0 ∷ pos 120 ∷ negsuc 159 ∷ []) 6
-unfolding head_at rate_at modulation_of streams_of label_bits_of weight_of
-two_bits = refl
 
 -- the lines of two frames
 decoded_line : soft_line (record { frame = 0; cost = 5; outcome = Octets (165 ∷ 15 ∷ []) }) ≡ codes "soft 0 cost 5 octets a50f" ++ 10 ∷ []

@@ -10,10 +10,9 @@
 //! (`frame_weights` in `specs/Weights.antt`) and decoded (`soft_decoded_frame` of `ht_soft`). `soft_rx_text` in
 //! `specs/Texts.antt` is their text.
 //!
-//! A capture's jobs come as halves (`ht_soft_blocks`): for each label bit of a data job the half where it is 0, and then the
-//! half where it is 1. [`SoftUnderWay`] takes what is found for each, and its [`SoftWhole`] is decoded after the frame's last
-//! job. `results_from` in `specs/Folding.antt` defines that for any halves, and [`laws`] says that both definitions give the
-//! same results, for any octets.
+//! [`Weights`] is the kind of these frames: of each job on a data subcarrier all weights are found by one search (`ht_weigh`),
+//! and kept by their places. `weight_fold` in `specs/Jobs.antt` defines what jobs give so one after another, and [`laws`] says
+//! that both definitions give the same results, for any octets.
 //!
 //! Take a frame at 20 MHz, MCS 0, of one octet, with the diagonal 10 and the sample 0 on each subcarrier. The distances of
 //! both halves of each bit are 100, so each bit weighs 0, and every input costs nothing. The first one, all zeros, has no
@@ -25,16 +24,13 @@
 //! ```
 #![tactic(auto)]
 
+mod kind;
 pub mod laws;
 mod line;
 mod receiving;
 mod soft_result;
-mod under_way;
-mod whole;
-mod work;
+mod weighing;
 
+pub use kind::Weights;
 pub use receiving::{receive_soft, receive_soft_alone};
 pub use soft_result::SoftResult;
-pub use under_way::SoftUnderWay;
-pub use whole::SoftWhole;
-pub use work::HalvesWork;

@@ -6,16 +6,15 @@ ghost use Rattle.ht_results.specs.Texts.{HasFrames};
 ghost use Rattle.ht_runs.specs.Formats.{filter};
 ghost use Rattle.ht_soft_rx.specs.Texts.{soft_lines_of, soft_rx_text};
 
-use crate::under_way::SoftUnderWay;
-use crate::work::HalvesWork;
+use crate::kind::Weights;
+use ht_capture_blocks::CaptureReader;
 use ht_endings::put_end;
 use ht_feed::Gate;
-use ht_frames::{BesideFrames, Frames, HitWork, TextBook};
+use ht_frames::{BesideFrames, Frame, Frames, TallyWork, TextBook};
 use ht_io::{Sink, Source};
 use ht_receive::{receive, receive_alone};
 use ht_results::no_head;
 use ht_runs::RunFault;
-use ht_soft_blocks::HalvesReader;
 use std::alloc::Global;
 use std::sync::Wait;
 use std::thread::Threads;
@@ -23,11 +22,12 @@ use std::thread::Threads;
 /// Reads a capture, and puts `soft N cost C octets HEX`, or `soft N cost C seed zero`, for each whole frame before the first
 /// fault, and `end F frames` behind a whole capture; it answers F.
 ///
-/// A frame is decoded by its weights (IEEE Std 802.11-2012, clause 20.3.11 backwards), four octets each. Pilot jobs and
-/// halves of data jobs run in this thread, between the gate's two calls; at most `window`, 1 to 4096, are due.
+/// A frame is decoded by its weights (IEEE Std 802.11-2012, clause 20.3.11 backwards), four octets each. Every job runs in this
+/// thread, between the gate's two calls; at most `window`, 1 to 4096, are due.
 ///
 /// It refuses with an input's first fault, without its line; with `Read` where the source failed, behind all frames read
 /// whole; with `Write` where the sink failed, even if the source did, and with `NoMemory`, both behind a part of the text.
+/// No clause says how many jobs are due.
 #[tactic(auto, using(ht_receive::proofs::Streaming::lacks))]
 pub fn receive_soft_alone<S: Source, K: Sink, G: Gate>(
     alloc: Global,
@@ -40,12 +40,10 @@ pub fn receive_soft_alone<S: Source, K: Sink, G: Gate>(
     ensures { StreamsText (filter captures soft_rx_text soft_lines_of) HasFrames (S.shown source.old) (S.shown source.new)
         (K.shown sink.old) (K.shown sink.new) result }
 {
+    let reader = CaptureReader::new(alloc)?;
     let head = no_head();
-    let reader = HalvesReader::new(alloc, head)?;
-    let under_way = SoftUnderWay::new(alloc);
-    let work = HalvesWork {
-        work: HitWork { alloc, gate },
-    };
+    let under_way = Frame::<Weights>::new(alloc);
+    let work = TallyWork::<Weights, G>::new(alloc, gate);
     let mut book = TextBook::new(alloc, sink);
     let ended = receive_alone(
         alloc, reader, head, window, &work, source, under_way, &mut book,
@@ -77,14 +75,12 @@ pub fn receive_soft<R: Threads + Wait + Sync, S: Source, K: Sink, G: Gate + Sync
     if workers == 1 {
         return receive_soft_alone(alloc, window, source, sink, gate);
     }
+    let reader = CaptureReader::new(alloc)?;
     let head = no_head();
-    let reader = HalvesReader::new(alloc, head)?;
-    let under_way = SoftUnderWay::new(alloc);
+    let under_way = Frame::<Weights>::new(alloc);
     let frames = Frames::new(alloc);
     let work = BesideFrames {
-        work: HalvesWork {
-            work: HitWork { alloc, gate },
-        },
+        work: TallyWork::<Weights, G>::new(alloc, gate),
         frames: &frames,
     };
     let mut book = TextBook::new(alloc, sink);

@@ -2,7 +2,7 @@
 ghost use Rattle.std.specs.Prelude.{◌≡◌, ◌*◌, ◌+◌, ◌<◌, ◌^◌, ◌≤◌, ℕ, [], pos, length, replicate, slice_index, slice_index_or};
 ghost use Rattle.ht_rate.specs.Schemes.{bits_of};
 ghost use Rattle.ht_map.specs.Constellation.{axes_of};
-ghost use Rattle.ht_metric.specs.Jobs.{IsJob};
+ghost use Rattle.ht_metric.specs.Jobs.{IsJob, near};
 ghost use Rattle.ht_sphere.specs.Coordinates.{from_last};
 ghost use Rattle.ht_sphere.specs.Searching.{leaves};
 ghost use Rattle.ht_soft.specs.Weights.{weight_of};
@@ -24,34 +24,41 @@ use std::sync::ledger::{Blank, Ledger};
 const HEAVIEST: u128 = 65535;
 
 /// Writes the weights of all label bits of a job, in the order stream, bit: for each bit the least distance of the vectors
-/// where it is 0, less the least one of those where it is 1, cut to the range from -65535 to 65535.
+/// where it is 0, less the least one of those where it is 1, cut to the range from -65535 to 65535. It answers the squared
+/// distance of the job's nearest vectors, which is below 2^66.
 ///
 /// The job's grid is the full constellation of `modulation` on each stream, and `weights` has a place for each of the
 /// N_BPSCS bits of each of its streams (IEEE Std 802.11-2012, clause 20.3.11.9). Each weight is the one that
 /// [`weight`](ht_soft::weight) gives of the hits of the bit's two halves, which [`half`](ht_soft::half) makes. Takes no
 /// memory.
-pub fn weigh(modulation: Modulation, job: &Job, weights: &mut [i32])
+pub fn weigh(modulation: Modulation, job: &Job, weights: &mut [i32]) -> u128
     requires full { job.now.grid ≡ replicate (length job.now.grid) (axes_of modulation) }
     requires size { length weights.old ≡ length job.now.system * bits_of modulation }
-    ensures { AreWeights modulation job.now weights.new }
+    ensures weights { AreWeights modulation job.now weights.new }
+    ensures distance { result ≡ (near job.now).distance }
+    ensures below { result < 2 ^ 66 }
 {
-    weigh_by::<Brand>(modulation, job, weights, Blank::new(1));
+    weigh_by::<Brand>(modulation, job, weights, Blank::new(1))
 }
 
 // The same, with a counter of its own for the levels that are tried.
-fn weigh_by<L: Ledger>(modulation: Modulation, job: &Job, weights: &mut [i32], blank: Blank)
+fn weigh_by<L: Ledger>(modulation: Modulation, job: &Job, weights: &mut [i32], blank: Blank) -> u128
     requires name { blank.name ≡ L.name }
     requires parts { blank.parts ≡ L.parts }
     requires some { 0 < blank.parts }
     requires full { job.now.grid ≡ replicate (length job.now.grid) (axes_of modulation) }
     requires size { length weights.old ≡ length job.now.system * bits_of modulation }
-    ensures { AreWeights modulation job.now weights.new }
+    ensures weights { AreWeights modulation job.now weights.new }
+    ensures distance { result ≡ (near job.now).distance }
+    ensures below { result < 2 ^ 66 }
 {
     let mut steps = Steps::<L>::new(blank);
-    let clip = find(job, &mut steps).distance + HEAVIEST;
+    let least = find(job, &mut steps).distance;
+    let clip = least + HEAVIEST;
     let mut leasts = all_at(clip);
     lower_all(modulation, job, clip, &mut leasts, &mut steps);
     write(weights, &leasts);
+    least
 }
 
 // Lowers the least distances to those of all vectors of the job.

@@ -9,7 +9,7 @@ use Rattle.ht_certify.specs.Certifying.{certifying}
 use Rattle.ht_check.specs.Checks.{checking}
 use Rattle.ht_check.proofs.Ending.{checking_ends}
 use Rattle.ht_legacy_sim.specs.Passing.{passing as legacy_passing}
-use Rattle.ht_cli.specs.Converting.{sending, upgrading}
+use Rattle.ht_convert.specs.Converting.{sending, upgrading}
 use Rattle.ht_demo.specs.Demos.{Demonstrates}
 use Rattle.ht_cli.specs.Tasks.{plan_of}
 use Rattle.ht_cli.proofs.Answering.{converts, streams}

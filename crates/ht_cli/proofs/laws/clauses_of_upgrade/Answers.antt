@@ -1,5 +1,12 @@
-use Rattle.ht_cli.proofs.Upgrading.{upgraded_done}
+use Rattle.ht_convert.specs.Converting.{upgrading}
+use Rattle.ht_cli.proofs.Saying.{output_done, output_part, output_refused}
 use Rattle.ht_cli.proofs.laws.clauses_of_upgrade.Goals as goal
 
 pub returns-clause-done : goal.returns-clause-done
-returns-clause-done c = λ a b k l run. upgraded_done a b k l run
+returns-clause-done c = λ a b k l run. output_done upgrading a b k l run
+
+pub returns-clause-refused : goal.returns-clause-refused
+returns-clause-refused c = λ a b k l run. output_refused upgrading a b k l run
+
+pub returns-clause-part : goal.returns-clause-part
+returns-clause-part c = λ a b k l run. output_part upgrading a b k l run

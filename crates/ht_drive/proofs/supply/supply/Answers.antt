@@ -5,7 +5,7 @@ use Rattle.ht_feed.specs.OwnNumbers.{AreByNumber}
 use Rattle.ht_feed.specs.Dues.{all_in, count_in}
 use Rattle.ht_feed.specs.Feeds.{EndsBlocks, GivesBlock}
 use Rattle.ht_feed.proofs.Turning.{along_end, along_more, in_turn_failed}
-use Rattle.ht_drive.specs.Blocks.{BlockWindow}
+use Rattle.ht_drive.specs.Blocks.{BlockWindow, due_in, seen}
 use Rattle.ht_drive.specs.Driving.{Holds, KeepsTurn, Tallies}
 use Rattle.ht_drive.proofs.Giving.{same_on, told_block}
 use Rattle.ht_drive.proofs.Going.{steps_held}
@@ -29,15 +29,15 @@ turn g c = λ known start.
     (c.loop-running.invariant.turn known start) (running g c) (gives g c)
 
 -- the block stands in the window
-holds : (g : _) (c : After-issue g) → Holds c.issue.new.window (g.F.BlockFeed.shown c.next.new.self)
+holds : (g : _) (c : After-issue g) → Holds (seen g.B.Jobs.jobs c.issue.new.window) (g.F.BlockFeed.shown c.next.new.self)
 holds g c =
     let before = c.loop-running in
     let jobs = g.B.Jobs.jobs c.in-Ok-Some.block in
     let few = (gives g c).few in
     let size = c.if-room-size.true in
     let left = c.room.ensures in
-    let room : count_in before.window.due + length jobs ≤ before.window.capacity = omega (arith, few, size, left) in
-    holds_more c.args.size before.window c.issue.new.window (g.F.BlockFeed.shown before.feed) (g.F.BlockFeed.shown c.next.new.self) jobs
+    let room : count_in (due_in g.B.Jobs.jobs before.window.slots) + length jobs ≤ before.window.capacity = omega (arith, few, size, left) in
+    holds_more c.args.size (seen g.B.Jobs.jobs before.window) (seen g.B.Jobs.jobs c.issue.new.window) (g.F.BlockFeed.shown before.feed) (g.F.BlockFeed.shown c.next.new.self) jobs
     before.invariant.stands.holds (gives g c) room c.issue.ensures.window
 
 -- which has the same room
@@ -53,13 +53,13 @@ pub returns-then-is_err-clause-steps : goal.returns-then-is_err-clause-steps
 returns-then-is_err-clause-steps g c =
     let so_far = c.loop-running.invariant in
     let here = (goal.at.returns-then-is_err-clause-steps g c).After-issue in
-    steps_held g.F.BlockFeed.shown g.F.BlockFeed.leads c.args.window.now c.issue.new.window c.args.feed.now c.next.new.self
+    steps_held g.F.BlockFeed.shown g.F.BlockFeed.leads (seen g.B.Jobs.jobs c.args.window.now) (seen g.B.Jobs.jobs c.issue.new.window) c.args.feed.now c.next.new.self
     (g.met.F.BlockFeed.goes_on c.args.feed.now c.loop-running.feed c.next.new.self so_far.leads c.next.ensures.leads)
     (capacity g here) (holds g here) (λ known start. (turn g here known start).in_turn)
 
 pub loop-running-preserved-else-is_err : goal.loop-running-preserved-else-is_err
 loop-running-preserved-else-is_err g c =
-    let seen = g.F.BlockFeed.shown in
+    let shown = g.F.BlockFeed.shown in
     let before = c.loop-running in
     let so_far = before.invariant in
     let jobs = g.B.Jobs.jobs c.in-Ok-Some.block in
@@ -73,7 +73,7 @@ loop-running-preserved-else-is_err g c =
         holds = holds g here;
         tallies = on_ok c.issue.result (Tallies c.issue.new.tally c.issue.new.helm) good c.issue.ensures.tallies;
         issued = omega (arith, c.issue.ensures.issued, so_far.stands.issued, given.count);
-        under_way = goes_on_more c.args.size before.running (seen before.feed) (seen c.next.new.self) jobs c.loop-running-test.true so_far.stands.under_way given;
+        under_way = goes_on_more c.args.size before.running (shown before.feed) (shown c.next.new.self) jobs c.loop-running-test.true so_far.stands.under_way given;
       };
       leads = g.met.F.BlockFeed.goes_on c.args.feed.now c.loop-running.feed c.next.new.self so_far.leads c.next.ensures.leads;
       capacity = capacity g here;
@@ -81,20 +81,20 @@ loop-running-preserved-else-is_err g c =
       whole = c.issue.ensures.whole ∙ so_far.whole;
       turn = turn g here;
       by_number = λ all start first. by_number all (so_far.by_number all start first)
-          (told_block c.args.size all (seen before.feed) (seen c.next.new.self) jobs (so_far.turn (Some all) start) (running g here) given);
+          (told_block c.args.size all (shown before.feed) (shown c.next.new.self) jobs (so_far.turn (Some all) start) (running g here) given);
     }
 
 pub loop-running-preserved : goal.loop-running-preserved
 loop-running-preserved g c =
-    let seen = g.F.BlockFeed.shown in
+    let shown = g.F.BlockFeed.shown in
     let before = c.loop-running in
     let so_far = before.invariant in
-    let old = seen before.feed in
-    let new = seen c.next.new.self in
+    let old = shown before.feed in
+    let new = shown c.next.new.self in
     let ends : EndsBlocks old new = search rules in
     record {
       stands = record {
-        holds = holds_still before.window old new so_far.stands.holds ends.due;
+        holds = holds_still (seen g.B.Jobs.jobs before.window) old new so_far.stands.holds ends.due;
         tallies = so_far.stands.tallies;
         issued = so_far.stands.issued ∙ sym ends.count;
         under_way = goes_on_end before.running old new so_far.stands.under_way ends;
@@ -109,17 +109,17 @@ loop-running-preserved g c =
 
 pub returns-in-Err-clause-steps : goal.returns-in-Err-clause-steps
 returns-in-Err-clause-steps g c =
-    let seen = g.F.BlockFeed.shown in
-    let old = seen c.loop-running.feed in
-    let new = seen c.next.new.self in
+    let shown = g.F.BlockFeed.shown in
+    let old = shown c.loop-running.feed in
+    let new = shown c.next.new.self in
     let so_far = c.loop-running.invariant in
     let fails = c.in-Err.ensures.fault in
-    steps_held seen g.F.BlockFeed.leads c.args.window.now c.loop-running.window c.args.feed.now c.next.new.self
+    steps_held shown g.F.BlockFeed.leads (seen g.B.Jobs.jobs c.args.window.now) (seen g.B.Jobs.jobs c.loop-running.window) c.args.feed.now c.next.new.self
     (g.met.F.BlockFeed.goes_on c.args.feed.now c.loop-running.feed c.next.new.self so_far.leads c.next.ensures.leads) so_far.capacity
-    (holds_still c.loop-running.window old new so_far.stands.holds fails.due)
+    (holds_still (seen g.B.Jobs.jobs c.loop-running.window) old new so_far.stands.holds fails.due)
     (λ known start. in_turn_failed known old new c.in-Err.fault (so_far.turn known start) fails)
 
 pub returns-clause-steps : goal.returns-clause-steps
 returns-clause-steps g c =
     let so_far = c.loop-running.invariant in
-    steps_held g.F.BlockFeed.shown g.F.BlockFeed.leads c.args.window.now c.loop-running.window c.args.feed.now c.loop-running.feed so_far.leads so_far.capacity so_far.stands.holds (λ known start. (so_far.turn known start).in_turn)
+    steps_held g.F.BlockFeed.shown g.F.BlockFeed.leads (seen g.B.Jobs.jobs c.args.window.now) (seen g.B.Jobs.jobs c.loop-running.window) c.args.feed.now c.loop-running.feed so_far.leads so_far.capacity so_far.stands.holds (λ known start. (so_far.turn known start).in_turn)

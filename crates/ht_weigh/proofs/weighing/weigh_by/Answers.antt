@@ -15,16 +15,16 @@ write-requires g c =
     let job = c.lower_all.ensures.job in
     let few = bits_within c.args.modulation (length c.args.job.now.system) (omega (arith, job.streams, job.grid.few)) in
     let start : length c.all_at-leasts.result ≡ 48 =
-    ap (λ (l : List ℕ). length l) c.all_at-leasts.ensures ∙ length-replicate 48 (c.find-clip.result.distance + 65535) in
+    ap (λ (l : List ℕ). length l) c.all_at-leasts.ensures ∙ length-replicate 48 (c.find-least.result.distance + 65535) in
     omega (arith, few, c.requires.size, c.lower_all.ensures.lowered.size, start)
 
-pub returns : goal.returns
-returns g c =
+pub returns-clause-weights : goal.returns-clause-weights
+returns-clause-weights g c =
     let m = c.args.modulation in
     let job = c.args.job.now in
     let is = c.lower_all.ensures.job in
-    let clip = c.find-clip.result.distance + 65535 in
-    let enough : (near job).distance + 65535 ≤ clip = let same = ap (λ (f : Found). f.distance) c.find-clip.ensures.found in omega (arith, same) in
+    let clip = c.find-least.result.distance + 65535 in
+    let enough : (near job).distance + 65535 ≤ clip = let same = ap (λ (f : Found). f.distance) c.find-least.ensures.found in omega (arith, same) in
     let walked : IsLowered (Tells m (leaves (from_last job.system job.grid) [] 0)) (replicate 48 clip) c.lower_all.new.leasts =
     subst (λ (l : List ℕ). IsLowered (Tells m (leaves (from_last job.system job.grid) [] 0)) l c.lower_all.new.leasts) c.all_at-leasts.ensures
     c.lower_all.ensures.lowered in

@@ -1,0 +1,2 @@
+pub mod Transmitting
+pub mod Upgrades

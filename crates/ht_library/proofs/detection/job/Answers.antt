@@ -1,8 +1,0 @@
-use Rattle.std.proofs.Common.{sym, ◌∙◌}
-use Rattle.ht_capture.proofs.Grids.{length-grid_of}
-use Rattle.ht_library.proofs.detection.job.Goals as goal
-
--- A rate's grid has its streams, and so has the system.
-pub new-requires : goal.new-requires
-new-requires c =
-    length-grid_of c.args.rate.now c.grid.result c.grid.ensures ∙ (sym c.streams.ensures.value ∙ sym c.system.ensures.rows)

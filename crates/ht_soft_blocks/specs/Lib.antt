@@ -1,4 +1,0 @@
-pub mod Blocks
-pub mod Halved
-pub mod Readers
-pub mod Turns
