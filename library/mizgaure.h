@@ -3,8 +3,8 @@
  * Clauses named below are those of the standard. docs/LIBRARY.md says what of a call is proved.
  *
  * Answers. A call answers MIZGAURE_DONE (0), or the fault for which it did nothing: each array and each number that it would
- * write is then as it was, but for the size at MIZGAURE_NO_ROOM and the refusal at MIZGAURE_REFUSED. Where several faults are
- * there the answer is the one that its comment names first.
+ * write is then as it was, but for the size at MIZGAURE_NO_ROOM, the refusal at MIZGAURE_REFUSED and the flaw at
+ * MIZGAURE_NOT_CERTIFIED. Where several faults are there the answer is the one that its comment names first.
  *
  * Threads. A call keeps nothing once it has answered, and starts no thread, locks nothing and waits for nothing. So any number of
  * threads may call at a time, each with its own outputs.
@@ -38,7 +38,7 @@ extern "C" {
 #endif
 
 /* The version of these calls, which mizgaure_version() answers too. Until it is 1000 a call may change from version to version. */
-#define MIZGAURE_VERSION 1
+#define MIZGAURE_VERSION 2
 
 enum mizgaure_fault {
     MIZGAURE_DONE = 0,
@@ -52,13 +52,14 @@ enum mizgaure_fault {
     MIZGAURE_REFUSED = 8,       /* the input is no file of its format; its first fault is said */
     MIZGAURE_NO_MODULATION = 9, /* no constellation has labels of so many bits: there are 1, 2, 4 and 6 */
     MIZGAURE_NO_LABEL = 10,     /* a label has more bits than those of the constellation */
-    MIZGAURE_NO_POINT = 11      /* a point is off the constellation */
+    MIZGAURE_NO_POINT = 11,     /* a point is off the constellation */
+    MIZGAURE_NOT_CERTIFIED = 12 /* the certificate doesn't hold; what is wrong with it is said */
 };
 
 /* The answer's name, as "NO_RATE"; "DONE" for 0, and "?" for any other number. */
 static inline const char *mizgaure_fault_name(uint32_t fault) {
     static const char *const names[] = {"DONE", "NO_MEMORY", "NO_RATE", "NO_PATTERN", "NO_SEED", "BAD_LENGTH", "NO_STREAM",
-                                        "NO_ROOM", "REFUSED", "NO_MODULATION", "NO_LABEL", "NO_POINT"};
+                                        "NO_ROOM", "REFUSED", "NO_MODULATION", "NO_LABEL", "NO_POINT", "NOT_CERTIFIED"};
     return fault < sizeof names / sizeof *names ? names[fault] : "?";
 }
 
@@ -101,6 +102,21 @@ uint32_t mizgaure_detect_symbols(uint8_t bandwidth, uint8_t mcs, const mizgaure_
 uint32_t mizgaure_weigh_symbols(uint8_t bandwidth, uint8_t mcs, const mizgaure_channel *channels, size_t channels_n,
                                 const mizgaure_received *received, size_t received_n, int32_t *weights, size_t n);
 
+/* The certificate of a data subcarrier (docs/CERTIFICATES.md): its hit, and the marks of a walk that shows that no vector is nearer,
+ * true where a level is open. They stand at the front of `marks`, and *size is how many there are, at MIZGAURE_NO_ROOM too. NO_RATE;
+ * NO_MEMORY; NO_ROOM where there are more than marks_n. */
+uint32_t mizgaure_certify_job(uint8_t bandwidth, uint8_t mcs, const mizgaure_channel *channel, const mizgaure_received *received,
+                              mizgaure_hit *found, bool *marks, size_t marks_n, uint64_t *size);
+
+/* What is wrong with a certificate, 24 octets: the number of its kind, and the number that goes with it, low + 2^64 * high. The kinds:
+ * 1 OffGrid, the stream; 2 WrongDistance, the distance that the points have; 3 Early, 4 Better, 5 Short and 6 Long, the mark. */
+typedef struct { uint64_t low, high; uint32_t kind; } mizgaure_flaw;
+
+/* Checks a certificate without a search, whoever made it: the hit is the first nearest vector with its distance if this is DONE. The
+ * first N_SS points of the hit count. NO_RATE; NO_MEMORY; NOT_CERTIFIED, and the first flaw is said. */
+uint32_t mizgaure_check_job(uint8_t bandwidth, uint8_t mcs, const mizgaure_channel *channel, const mizgaure_received *received,
+                            const mizgaure_hit *hit, const bool *marks, size_t marks_n, mizgaure_flaw *flaw);
+
 /* -- The coding chain ----------------------------------------------------------------------------------------------------- */
 
 /* Clause 18.3.5.5: adds the scrambling sequence of a seed (1 to 127) to the bits, which descrambles too. Bit i of the seed is the
@@ -110,9 +126,18 @@ uint32_t mizgaure_scramble(uint8_t seed, bool *bits, size_t n);
 /* Clause 18.3.5.5: the seed whose sequence begins with these 7 bits. BAD_LENGTH unless n == 7; NO_SEED where all are 0. */
 uint32_t mizgaure_recover(const bool *bits, size_t n, uint8_t *seed);
 
+/* Clause 20.3.11.5: shares the scrambled bits out among the encoders: bit N_ES * i + j is bit i of encoder j. NO_RATE; BAD_LENGTH
+ * unless N_ES * first_n is n, and second_n is first_n with two encoders and 0 with one; NO_MEMORY. */
+uint32_t mizgaure_split(uint8_t bandwidth, uint8_t mcs, const bool *bits, size_t n, bool *first, size_t first_n, bool *second,
+                        size_t second_n);
+
+/* The inverse: puts the bits of the encoders together again. Faults as above. */
+uint32_t mizgaure_join(uint8_t bandwidth, uint8_t mcs, const bool *first, size_t first_n, const bool *second, size_t second_n,
+                       bool *bits, size_t n);
+
 /* Clauses 18.3.5.6 and 20.3.11.6: the convolutional code, punctured, a step for each bit of the input. The tail is part of the input.
- * Of n steps n + ceil(n / p) bits are kept, where p is 1, 2, 3 or 5 for the patterns 0 to 3. NO_PATTERN; NO_MEMORY; BAD_LENGTH unless
- * coded_n is that number. */
+ * Of n steps n + ceil(n / p) bits are kept, where p is 1, 2, 3 or 5 for the patterns 0 to 3. NO_PATTERN; BAD_LENGTH unless coded_n is
+ * that number; NO_MEMORY. */
 uint32_t mizgaure_encode(uint8_t pattern, const bool *input, size_t n, bool *coded, size_t coded_n);
 
 /* Clauses 18.3.5.6 and 20.3.11.6 backwards, by hard decisions: of the inputs of `steps` bits whose last six are 0, the first of
@@ -179,10 +204,19 @@ uint32_t mizgaure_soft_frame(uint8_t bandwidth, uint8_t mcs, uint64_t erased_low
 
 /* -- Frames of clause 18 -------------------------------------------------------------------------------------------------- */
 
-/* Clause 18.3.5: the points that are sent for a PSDU of 1 to 4095 octets, N_SYM * 52 of them, in the order symbol, subcarrier. Rates
- * are 0 to 7, for 6, 9, 12, 18, 24, 36, 48 and 54 Mbit/s. NO_RATE; NO_SEED; BAD_LENGTH; NO_MEMORY. */
+/* Rates are 0 to 7, for 6, 9, 12, 18, 24, 36, 48 and 54 Mbit/s. N_DBPS is 24 36 48 72 96 144 192 216, N_BPSC 1 1 2 2 4 4 6 6, and
+ * N_CBPS = 48 * N_BPSC. A PSDU of n octets takes N_SYM = (22 + 8 * n) / N_DBPS symbols, rounded up. */
+
+/* Clause 18.3.5: the points that are sent for a PSDU of 1 to 4095 octets, N_SYM * 52 of them, in the order symbol, subcarrier. NO_RATE;
+ * NO_SEED; BAD_LENGTH; NO_MEMORY. */
 uint32_t mizgaure_legacy_transmit(uint8_t rate, uint8_t seed, const uint8_t *octets, size_t n, mizgaure_point *points,
                                   size_t points_n);
+
+/* Clauses 18.3.5.2 to 18.3.5.8 backwards: the labels of a frame, N_SYM * 48 octets in the order symbol, data subcarrier, to the octets
+ * of its PSDU by hard decisions, and at how many places the coded bits of the answer differ. Bits of a label above its own count for
+ * nothing. The PSDU has octets_n octets, 1 to 4095. NO_RATE; BAD_LENGTH; NO_MEMORY; NO_SEED where the bits of SERVICE give no seed. */
+uint32_t mizgaure_legacy_decode_frame(uint8_t rate, const uint8_t *labels, size_t n, uint8_t *octets, size_t octets_n,
+                                      uint32_t *differences);
 
 /* Clause 18.3.5.7: the place behind the interleaver of each of the N_CBPS bits of a symbol, and the inverse. NO_RATE; BAD_LENGTH. */
 uint32_t mizgaure_legacy_places(uint8_t rate, uint16_t *places, size_t n);
@@ -198,23 +232,32 @@ uint32_t mizgaure_legacy_pilots(uint32_t symbol, int8_t *values, size_t n);
  * 9 BadPoint, 10 BadPilot, 11 BadErased, 12 BadModulation, 13 BadStreams, 14 BadMark, 15 BadCount (docs/FORMATS.md). */
 typedef struct { uint64_t offset; uint32_t kind; } mizgaure_refusal;
 
-/* The text of the program's commands detect, rx and soft for a capture (HTCP), and of lrx for a capture of clause 18 frames (LGCP).
- * It stands at the front of `text`, without a 0 behind it, and *size is its length, at MIZGAURE_NO_ROOM too. REFUSED; NO_ROOM
- * where it is longer than text_n; NO_MEMORY. In memory the input is copied once, and the text stands once more. */
+/* The text of the program's commands detect, rx and soft for a capture (HTCP), of lrx for a capture of clause 18 frames (LGCP), and of
+ * many for a bundle of captures (HTMB). It stands at the front of `text`, without a 0 behind it, and *size is its length, at
+ * MIZGAURE_NO_ROOM too. REFUSED; NO_ROOM where it is longer than text_n; NO_MEMORY. In memory the input is copied once, and the text
+ * stands once more. */
 uint32_t mizgaure_detect(const uint8_t *capture, size_t n, uint8_t *text, size_t text_n, uint64_t *size, mizgaure_refusal *refusal);
 uint32_t mizgaure_rx(const uint8_t *capture, size_t n, uint8_t *text, size_t text_n, uint64_t *size, mizgaure_refusal *refusal);
 uint32_t mizgaure_soft(const uint8_t *capture, size_t n, uint8_t *text, size_t text_n, uint64_t *size, mizgaure_refusal *refusal);
 uint32_t mizgaure_lrx(const uint8_t *capture, size_t n, uint8_t *text, size_t text_n, uint64_t *size, mizgaure_refusal *refusal);
+uint32_t mizgaure_many(const uint8_t *bundle, size_t n, uint8_t *text, size_t text_n, uint64_t *size, mizgaure_refusal *refusal);
 
 /* The file of certificates (HTCT) of the command certify for a capture, and the text of the command check for such a file. As
  * above. */
 uint32_t mizgaure_certify(const uint8_t *capture, size_t n, uint8_t *file, size_t file_n, uint64_t *size, mizgaure_refusal *refusal);
 uint32_t mizgaure_check(const uint8_t *file, size_t n, uint8_t *text, size_t text_n, uint64_t *size, mizgaure_refusal *refusal);
 
-/* The capture (HTCP) of the command channel for a file of symbols (HTSY), with its seed, and with noise from -noise to noise in each
- * part of a sample (docs/SIMULATOR.md). As above. */
+/* The file of symbols (HTSY) of the command tx for a file of frames (HTTX), and the capture of version 2 of the command upgrade for a
+ * capture (HTCP) of either version. As above. */
+uint32_t mizgaure_tx(const uint8_t *frames, size_t n, uint8_t *symbols, size_t symbols_n, uint64_t *size, mizgaure_refusal *refusal);
+uint32_t mizgaure_upgrade(const uint8_t *capture, size_t n, uint8_t *newer, size_t newer_n, uint64_t *size, mizgaure_refusal *refusal);
+
+/* The capture (HTCP) of the command channel for a file of symbols (HTSY), and that (LGCP) of lchannel for a file of clause 18 frames
+ * (LGTX), with its seed, and with noise from -noise to noise in each part of a sample (docs/SIMULATOR.md). As above. */
 uint32_t mizgaure_pass(uint64_t seed, uint16_t noise, const uint8_t *symbols, size_t n, uint8_t *capture, size_t capture_n,
                        uint64_t *size, mizgaure_refusal *refusal);
+uint32_t mizgaure_legacy_pass(uint64_t seed, uint16_t noise, const uint8_t *frames, size_t n, uint8_t *capture, size_t capture_n,
+                              uint64_t *size, mizgaure_refusal *refusal);
 
 #ifdef __cplusplus
 }

@@ -22,6 +22,12 @@ struct fault : std::runtime_error {
     explicit fault(std::uint32_t answer) : runtime_error(mizgaure_fault_name(answer)), code(mizgaure_fault(answer)) {}
 };
 
+// A certificate doesn't hold: what is wrong with it.
+struct not_certified : fault {
+    mizgaure_flaw flaw;
+    explicit not_certified(mizgaure_flaw what) : fault(MIZGAURE_NOT_CERTIFIED), flaw(what) {}
+};
+
 // The input is no file of its format: the kind of its first fault, and where it is.
 struct refused : fault {
     mizgaure_refusal where;
@@ -48,6 +54,32 @@ inline void detect_symbols(rate r, std::span<const mizgaure_channel> channels, s
                            std::span<mizgaure_hit> hits) {
     check(mizgaure_detect_symbols(r.bandwidth, r.mcs, channels.data(), channels.size(), received.data(), received.size(),
                                   hits.data(), hits.size()));
+}
+
+// A hit, and the marks that show that it is the nearest, each 1 where a level is open.
+struct certificate {
+    mizgaure_hit hit;
+    std::vector<std::uint8_t> marks;
+};
+
+inline certificate certify_job(rate r, const mizgaure_channel &channel, const mizgaure_received &received) {
+    certificate made{{}, std::vector<std::uint8_t>(256)};
+    for (std::uint64_t size = 0;;) {
+        auto answer = mizgaure_certify_job(r.bandwidth, r.mcs, &channel, &received, &made.hit,
+                                           reinterpret_cast<bool *>(made.marks.data()), made.marks.size(), &size);
+        if (answer != MIZGAURE_NO_ROOM) check(answer);
+        made.marks.resize(size);
+        if (answer == MIZGAURE_DONE) return made;
+    }
+}
+
+// Throws what is wrong where the certificate doesn't hold.
+inline void check_job(rate r, const mizgaure_channel &channel, const mizgaure_received &received, const certificate &shown) {
+    mizgaure_flaw flaw;
+    auto answer = mizgaure_check_job(r.bandwidth, r.mcs, &channel, &received, &shown.hit,
+                                     reinterpret_cast<const bool *>(shown.marks.data()), shown.marks.size(), &flaw);
+    if (answer == MIZGAURE_NOT_CERTIFIED) throw not_certified(flaw);
+    check(answer);
 }
 
 inline void scramble(std::uint8_t seed, std::span<bool> bits) { check(mizgaure_scramble(seed, bits.data(), bits.size())); }
@@ -89,6 +121,13 @@ inline std::uint32_t decode_frame(rate r, std::span<const std::uint8_t> labels, 
     std::uint32_t differences;
     check(mizgaure_decode_frame(r.bandwidth, r.mcs, erased_low, erased_high, labels.data(), labels.size(), octets.data(),
                                 octets.size(), &differences));
+    return differences;
+}
+
+// As decode_frame, at a rate of clause 18, 0 to 7.
+inline std::uint32_t legacy_decode_frame(std::uint8_t r, std::span<const std::uint8_t> labels, std::span<std::uint8_t> octets) {
+    std::uint32_t differences;
+    check(mizgaure_legacy_decode_frame(r, labels.data(), labels.size(), octets.data(), octets.size(), &differences));
     return differences;
 }
 

@@ -79,9 +79,11 @@ static void code(void) {
     EXPECT(mizgaure_decode(4, received, 2 * STEPS, found, STEPS, &distance) == MIZGAURE_NO_PATTERN);
     EXPECT(mizgaure_decode(0, received, 2 * STEPS - 1, found, STEPS, &distance) == MIZGAURE_BAD_LENGTH);
     EXPECT(mizgaure_decode(0, received, 10, found, 5, &distance) == MIZGAURE_BAD_LENGTH);
-    EXPECT(mizgaure_decode(0, received, 2 * 524303, found, 524303, &distance) == MIZGAURE_BAD_LENGTH);
+    static uint8_t long_received[2 * 524303];
+    static bool long_found[524303];
+    EXPECT(mizgaure_decode(0, long_received, sizeof long_received, long_found, sizeof long_found, &distance) == MIZGAURE_BAD_LENGTH);
     EXPECT(mizgaure_soft_decode(4, weights, 2 * STEPS, found, STEPS, &cost) == MIZGAURE_NO_PATTERN);
-    EXPECT(mizgaure_soft_decode(0, weights, 2 * STEPS + 1, found, STEPS, &cost) == MIZGAURE_BAD_LENGTH);
+    EXPECT(mizgaure_soft_decode(0, weights, 2 * STEPS - 1, found, STEPS, &cost) == MIZGAURE_BAD_LENGTH);
     EXPECT(kept(found, STEPS, 1) && distance == 77 && cost == 77);
 }
 
@@ -134,6 +136,20 @@ static void legacy(void) {
     const uint8_t octet = 0xa5;
     mizgaure_point points[104];
     EXPECT(mizgaure_legacy_transmit(0, 127, &octet, 1, points, 104) == MIZGAURE_DONE && points[0].i == -1 && points[0].q == 0);
+    /* In BPSK a label is 1 where I is. The pilots are -21, -7, 7 and 21 of -26 to 26 without 0. */
+    uint8_t labels[96], back = 77;
+    uint32_t differences = 77;
+    for (int k = 0, at = 0; k < 104; k++)
+        if (k % 52 != 5 && k % 52 != 19 && k % 52 != 32 && k % 52 != 46) labels[at++] = points[k].i == 1;
+    EXPECT(mizgaure_legacy_decode_frame(0, labels, 96, &back, 1, &differences) == MIZGAURE_DONE && back == 0xa5 && differences == 0);
+    labels[7] ^= 1;
+    EXPECT(mizgaure_legacy_decode_frame(0, labels, 96, &back, 1, &differences) == MIZGAURE_DONE && back == 0xa5 && differences == 1);
+    back = 77, differences = 77;
+    EXPECT(mizgaure_legacy_decode_frame(8, labels, 96, &back, 1, &differences) == MIZGAURE_NO_RATE);
+    EXPECT(mizgaure_legacy_decode_frame(0, labels, 95, &back, 1, &differences) == MIZGAURE_BAD_LENGTH);
+    EXPECT(mizgaure_legacy_decode_frame(0, labels, 0, &back, 0, &differences) == MIZGAURE_BAD_LENGTH);
+    memset(labels, 0, 96);
+    EXPECT(mizgaure_legacy_decode_frame(0, labels, 96, &back, 1, &differences) == MIZGAURE_NO_SEED && back == 77 && differences == 77);
     memset(places, 0x55, sizeof places), memset(points, 0x55, sizeof points), memset(pilots, 0x55, sizeof pilots);
     EXPECT(mizgaure_legacy_places(8, places, 48) == MIZGAURE_NO_RATE && mizgaure_legacy_places(0, places, 47) == MIZGAURE_BAD_LENGTH);
     EXPECT(mizgaure_legacy_origins(8, places, 48) == MIZGAURE_NO_RATE && mizgaure_legacy_origins(2, places, 48) == MIZGAURE_BAD_LENGTH);
@@ -155,6 +171,55 @@ static void parser(void) {
     EXPECT(mizgaure_lay(2, 13, first, N, first, 0, back, N) == MIZGAURE_NO_RATE && mizgaure_lay(0, 13, first, N, first, 1, back, N) == MIZGAURE_BAD_LENGTH);
     EXPECT(mizgaure_gather(0, 13, bits, N - 1, back, N, back, 0) == MIZGAURE_BAD_LENGTH && mizgaure_gather(0, 99, bits, N, back, N, back, 0) == MIZGAURE_NO_RATE);
     EXPECT(kept(back, N, 1));
+}
+
+/* Two encoders get a bit each in turn, and one gets all (clause 20.3.11.5). */
+static void encoders(void) {
+    const bool bits[6] = {0, 1, 1, 0, 1, 0};
+    bool first[6], second[6], back[6];
+    EXPECT(mizgaure_split(1, 31, bits, 6, first, 3, second, 3) == MIZGAURE_DONE);
+    for (int k = 0; k < 3; k++) EXPECT(first[k] == bits[2 * k] && second[k] == bits[2 * k + 1]);
+    EXPECT(mizgaure_join(1, 31, first, 3, second, 3, back, 6) == MIZGAURE_DONE && !memcmp(back, bits, 6));
+    EXPECT(mizgaure_split(0, 31, bits, 5, first, 5, second, 0) == MIZGAURE_DONE && !memcmp(first, bits, 5));
+    memset(back, 1, 6);
+    EXPECT(mizgaure_join(0, 31, first, 5, second, 0, back, 5) == MIZGAURE_DONE && !memcmp(back, bits, 5) && back[5]);
+    memset(first, 1, 6), memset(second, 1, 6), memset(back, 1, 6);
+    EXPECT(mizgaure_split(2, 31, bits, 6, first, 3, second, 3) == MIZGAURE_NO_RATE && mizgaure_split(1, 32, bits, 6, first, 3, second, 3) == MIZGAURE_NO_RATE);
+    EXPECT(mizgaure_split(1, 31, bits, 5, first, 2, second, 2) == MIZGAURE_BAD_LENGTH && mizgaure_split(1, 31, bits, 6, first, 3, second, 2) == MIZGAURE_BAD_LENGTH);
+    EXPECT(mizgaure_split(0, 31, bits, 6, first, 3, second, 3) == MIZGAURE_BAD_LENGTH && mizgaure_split(0, 31, bits, 6, first, 6, second, 1) == MIZGAURE_BAD_LENGTH);
+    EXPECT(mizgaure_join(2, 31, bits, 3, bits, 3, back, 6) == MIZGAURE_NO_RATE && mizgaure_join(1, 31, bits, 3, bits, 2, back, 6) == MIZGAURE_BAD_LENGTH);
+    EXPECT(mizgaure_join(1, 31, bits, 3, bits, 3, back, 5) == MIZGAURE_BAD_LENGTH && mizgaure_join(1, 31, bits, SIZE_MAX / 2, bits, SIZE_MAX / 2, back, 6) == MIZGAURE_BAD_LENGTH);
+    EXPECT(kept(first, 6, 1) && kept(second, 6, 1) && kept(back, 6, 1));
+}
+
+/* The job that docs/CERTIFICATES.md takes by hand: BPSK through 10, and 3 - 4i was received. */
+static void certificates(void) {
+    mizgaure_channel channel = {{10}, {{0, 0}}};
+    mizgaure_received received = {{{3, -4}}};
+    mizgaure_hit hit;
+    mizgaure_flaw flaw = {77, 77, 77};
+    bool marks[5] = {1, 1, 1, 1, 1};
+    uint64_t size = 77;
+    EXPECT(mizgaure_certify_job(0, 0, &channel, &received, &hit, marks, 5, &size) == MIZGAURE_DONE && size == 3);
+    EXPECT(marks[0] && !marks[1] && marks[2] && marks[3] && marks[4]);
+    EXPECT(hit.points[0].i == 1 && hit.points[0].q == 0 && kept(hit.points + 1, 6, 0) && hit.low == 65 && hit.high == 0);
+    EXPECT(mizgaure_check_job(0, 0, &channel, &received, &hit, marks, 3, &flaw) == MIZGAURE_DONE);
+    EXPECT(mizgaure_check_job(2, 0, &channel, &received, &hit, marks, 3, &flaw) == MIZGAURE_NO_RATE);
+    EXPECT(flaw.kind == 77 && flaw.low == 77 && flaw.high == 77);
+    static const struct { int8_t i; uint64_t distance; bool marks[4]; size_t n; uint32_t kind; uint64_t at; } wrong[] = {
+        {-1, 185, {1, 1, 1}, 3, 4, 2}, {1, 64, {1, 0, 1}, 3, 2, 65},      {1, 65, {0}, 1, 3, 0},
+        {1, 65, {1, 0}, 2, 5, 2},      {1, 65, {1, 0, 1, 1}, 4, 6, 3}, {0, 65, {1, 0, 1}, 3, 1, 1},
+    };
+    for (size_t k = 0; k < sizeof wrong / sizeof *wrong; k++) {
+        mizgaure_hit claimed = {{{wrong[k].i, 0}}, wrong[k].distance, 0};
+        EXPECT(mizgaure_check_job(0, 0, &channel, &received, &claimed, wrong[k].marks, wrong[k].n, &flaw) == MIZGAURE_NOT_CERTIFIED);
+        EXPECT(flaw.kind == wrong[k].kind && flaw.low == wrong[k].at && flaw.high == 0);
+    }
+    memset(&hit, 0x55, sizeof hit), memset(marks, 1, 5), size = 77;
+    EXPECT(mizgaure_certify_job(0, 0, &channel, &received, &hit, marks, 2, &size) == MIZGAURE_NO_ROOM && size == 3);
+    size = 77;
+    EXPECT(mizgaure_certify_job(0, 32, &channel, &received, &hit, marks, 5, &size) == MIZGAURE_NO_RATE && size == 77);
+    EXPECT(kept(&hit, sizeof hit, 0x55) && kept(marks, 5, 1));
 }
 
 static void detector(void) {
@@ -275,13 +340,15 @@ static void whole_inputs(void) {
     capture[7] = 2; /* the bandwidth, kind 3 */
     EXPECT(mizgaure_rx(capture, n, text, sizeof text, &size, &refusal) == MIZGAURE_REFUSED && refusal.kind == 3 && refusal.offset == 7);
     capture[7] = 0;
-    static texts *const calls[] = {mizgaure_detect, mizgaure_rx, mizgaure_soft, mizgaure_certify, mizgaure_check, mizgaure_lrx};
+    static texts *const calls[] = {mizgaure_lrx, mizgaure_detect, mizgaure_rx, mizgaure_soft, mizgaure_certify, mizgaure_check,
+                                   mizgaure_many, mizgaure_tx, mizgaure_upgrade};
     for (size_t k = 0; k < sizeof calls / sizeof *calls; k++) {
-        /* An input that ends early, kind 6, is refused where it ends; the last call's files begin with L, so their magic is bad. */
+        /* An input that ends early, kind 6, is refused where it ends; the first call's files begin with L, so their magic is bad. */
         refusal.offset = refusal.kind = 77;
         EXPECT(calls[k](capture, 2, text, sizeof text, &size, &refusal) == MIZGAURE_REFUSED);
-        EXPECT(refusal.offset == (k == 5 ? 0 : 2) && refusal.kind == (k == 5 ? 1 : 6));
+        EXPECT(refusal.offset == (k == 0 ? 0 : 2) && refusal.kind == (k == 0 ? 1 : 6));
     }
+    EXPECT(mizgaure_legacy_pass(1, 0, capture, n, text, sizeof text, &size, &refusal) == MIZGAURE_REFUSED && refusal.kind == 1 && refusal.offset == 0);
     EXPECT(mizgaure_pass(1, 0, capture, n, text, sizeof text, &size, &refusal) == MIZGAURE_REFUSED && refusal.kind == 1 && refusal.offset == 2);
     EXPECT(size == 77 && kept(text, sizeof text, 0x55));
     EXPECT(mizgaure_detect(capture, n, text, sizeof text, &size, &refusal) == MIZGAURE_DONE);
@@ -296,18 +363,33 @@ static void whole_inputs(void) {
     /* No frames are passed to no frames. */
     static const uint8_t symbols[7] = {'H', 'T', 'S', 'Y', 1}, passed_on[7] = {'H', 'T', 'C', 'P', 1};
     EXPECT(mizgaure_pass(1, 0, symbols, 7, text, sizeof text, &size, &refusal) == MIZGAURE_DONE && size == 7 && !memcmp(text, passed_on, 7));
+    static const uint8_t legacy_frames[7] = {'L', 'G', 'T', 'X', 1}, legacy_passed[7] = {'L', 'G', 'C', 'P', 1};
+    EXPECT(mizgaure_legacy_pass(1, 0, legacy_frames, 7, text, sizeof text, &size, &refusal) == MIZGAURE_DONE && size == 7 && !memcmp(text, legacy_passed, 7));
+    /* The octet a5 is sent in two symbols of 56 points, the first of which is (-1, 0) (docs/FORMATS.md). */
+    static const uint8_t frame[13] = {'H', 'T', 'T', 'X', 1, 0, 1, 0, 0, 0, 1, 127, 0xa5};
+    static const uint8_t sent[13] = {'H', 'T', 'S', 'Y', 1, 0, 1, 0, 0, 0, 1, 255, 0};
+    EXPECT(mizgaure_tx(frame, 13, text, sizeof text, &size, &refusal) == MIZGAURE_DONE && size == 11 + 224 && !memcmp(text, sent, 13));
+    /* In version 2 each subcarrier has a flag (docs/FORMATS.md). */
+    static const uint8_t flagged[14] = {'H', 'T', 'C', 'P', 2, 0, 1, 0, 0, 0, 1, 0, 0, 10};
+    EXPECT(mizgaure_upgrade(capture, n, text, sizeof text, &size, &refusal) == MIZGAURE_DONE && size == 1075 && !memcmp(text, flagged, 14));
+    EXPECT(mizgaure_upgrade(capture, n, text, 1074, &size, &refusal) == MIZGAURE_NO_ROOM && size == 1075);
+    static const uint8_t bundle[12] = {'H', 'T', 'M', 'B', 1, 1, 0, 0, 0, 2, 'H', 'X'};
+    const char *many = "capture 0\nrefused BadMagic at 1\n";
+    EXPECT(mizgaure_many(bundle, 12, text, sizeof text, &size, &refusal) == MIZGAURE_DONE && size == strlen(many) && !memcmp(text, many, size));
 }
 
 int main(void) {
     EXPECT(mizgaure_version() == MIZGAURE_VERSION);
-    EXPECT(!strcmp(mizgaure_fault_name(MIZGAURE_NO_POINT), "NO_POINT") && !strcmp(mizgaure_fault_name(12), "?"));
+    EXPECT(!strcmp(mizgaure_fault_name(MIZGAURE_NOT_CERTIFIED), "NOT_CERTIFIED") && !strcmp(mizgaure_fault_name(13), "?"));
     scrambler();
     code();
     interleaver();
     mapping();
     legacy();
     parser();
+    encoders();
     detector();
+    certificates();
     frames();
     whole_inputs();
     printf("%d facts hold, %d don't\n", passed, failed);

@@ -26,6 +26,15 @@ int main() {
     mizgaure_received received = {{{7, 0}}};
     auto hit = nearest({0, 0}, channel, received);
     expect(hit.points[0].i == 1 && hit.points[0].q == 0 && hit.low == 9, "7 is nearest to 10, at the squared distance 9");
+    auto shown = certify_job({0, 0}, channel, received);
+    check_job({0, 0}, channel, received, shown);
+    shown.hit.low = 8;
+    try {
+        check_job({0, 0}, channel, received, shown);
+        expect(false, "8 is not the distance");
+    } catch (const not_certified &caught) {
+        expect(caught.flaw.kind == 2 && caught.flaw.low == 9, "the distance is 9");
+    }
     bool input[606] = {}, coded[728], found[606];
     for (int k = 0; k < 600; k++) input[k] = k * k % 7 < 3;
     encode(3, input, coded);

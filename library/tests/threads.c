@@ -3,13 +3,13 @@
 
 #include <pthread.h>
 #include <stdio.h>
+#include <stdlib.h>
 #include <string.h>
 
-enum { CARRIERS = 108, SAMPLES = 4 * CARRIERS, STEPS = 606 };
+enum { CARRIERS = 108, SAMPLES = 4 * CARRIERS, STEPS = 606, OCTETS = 10, POINTS = 2 * 56, CAPTURE = 11 + 2 * 56 + 8 * POINTS };
 
 static mizgaure_channel channels[CARRIERS];
 static mizgaure_received received[SAMPLES];
-static mizgaure_hit wanted[SAMPLES];
 static uint32_t state = 1;
 
 static int drawn(int below) {
@@ -17,18 +17,55 @@ static int drawn(int below) {
     return (int)((state >> 8) % (unsigned)below);
 }
 
-static void *work(void *wrong) {
+/* What the calls answer. */
+struct answers {
     mizgaure_hit hits[SAMPLES];
-    bool input[STEPS] = {0}, coded[2 * STEPS], found[STEPS];
-    uint32_t distance;
+    int32_t weights[4 * CARRIERS];
+    bool coded[2 * STEPS], found[STEPS], softly[STEPS];
+    mizgaure_point points[POINTS];
+    uint8_t octets[OCTETS], text[8192], file[16384];
+    uint16_t places[648];
+    uint32_t distance, differences;
+    uint64_t cost, size, length;
+};
+
+/* Calls all; answers how many have a fault. */
+static int fill(struct answers *a) {
+    bool input[STEPS] = {0};
+    uint8_t hard[2 * STEPS], labels[104], capture[CAPTURE] = {'H', 'T', 'C', 'P', 1, 0, 1, 0, 0, 0, 1};
+    int32_t soft[2 * STEPS];
+    mizgaure_refusal refusal;
+    int faults = 0;
     for (int k = 0; k < STEPS - 6; k++) input[k] = k * k % 7 < 3;
-    for (int turn = 0; turn < 20; turn++) {
-        if (mizgaure_detect_symbols(1, 31, channels, CARRIERS, received, SAMPLES, hits, SAMPLES) || memcmp(hits, wanted, sizeof hits))
-            ++*(int *)wrong;
-        if (mizgaure_encode(0, input, STEPS, coded, 2 * STEPS) ||
-            mizgaure_decode(0, (uint8_t *)coded, 2 * STEPS, found, STEPS, &distance) || distance || memcmp(input, found, STEPS))
-            ++*(int *)wrong;
-    }
+    for (int k = 0; k < 56; k++) capture[12 + 2 * k] = 10;
+    memset(a, 0, sizeof *a);
+    faults += mizgaure_detect_symbols(1, 31, channels, CARRIERS, received, SAMPLES, a->hits, SAMPLES) != 0;
+    faults += mizgaure_weigh_symbols(1, 9, channels, CARRIERS, received, CARRIERS, a->weights, 4 * CARRIERS) != 0;
+    faults += mizgaure_encode(0, input, STEPS, a->coded, 2 * STEPS) != 0;
+    for (int k = 0; k < 2 * STEPS; k++) hard[k] = k % 40 ? a->coded[k] : 2, soft[k] = k % 37 ? 20 * a->coded[k] - 10 : 3;
+    faults += mizgaure_decode(0, hard, 2 * STEPS, a->found, STEPS, &a->distance) != 0;
+    faults += mizgaure_soft_decode(0, soft, 2 * STEPS, a->softly, STEPS, &a->cost) != 0;
+    faults += mizgaure_places(1, 31, 4, a->places, 648) != 0;
+    faults += mizgaure_transmit(0, 1, 93, hard, OCTETS, a->points, POINTS) != 0;
+    mizgaure_point data[104];
+    for (int c = 0, at = 0; c < POINTS; c++)
+        if (c % 56 != 7 && c % 56 != 21 && c % 56 != 34 && c % 56 != 48) data[at++] = a->points[c];
+    faults += mizgaure_labels(2, data, 104, labels, 104) != 0;
+    labels[0] ^= 1;
+    faults += mizgaure_decode_frame(0, 1, 0, 0, labels, 104, a->octets, OCTETS, &a->differences) != 0;
+    faults += mizgaure_detect(capture, CAPTURE, a->text, sizeof a->text, &a->size, &refusal) != 0;
+    faults += mizgaure_certify(capture, CAPTURE, a->file, sizeof a->file, &a->length, &refusal) != 0;
+    return faults;
+}
+
+static struct answers wanted;
+
+static void *work(void *wrong) {
+    struct answers *found = malloc(sizeof *found);
+    for (int turn = 0; found && turn < 20; turn++)
+        if (fill(found) || memcmp(found, &wanted, sizeof wanted)) ++*(int *)wrong;
+    if (!found) ++*(int *)wrong;
+    free(found);
     return NULL;
 }
 
@@ -39,7 +76,7 @@ int main(void) {
     }
     for (int c = 0; c < SAMPLES; c++)
         for (int k = 0; k < 4; k++) received[c].samples[k] = (mizgaure_sample){drawn(12001) - 6000, drawn(12001) - 6000};
-    if (mizgaure_detect_symbols(1, 31, channels, CARRIERS, received, SAMPLES, wanted, SAMPLES)) return 2;
+    if (fill(&wanted)) return puts("a call has a fault"), 2;
     pthread_t threads[4];
     int wrong[4] = {0}, all = 0;
     for (int k = 0; k < 4; k++)

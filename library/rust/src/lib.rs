@@ -15,6 +15,8 @@ pub enum Fault {
     NoModulation,
     NoLabel,
     NoPoint,
+    /// A certificate doesn't hold: the number of what is wrong with it, and the number that goes with that.
+    NotCertified { kind: u32, at: u128 },
 }
 
 impl fmt::Display for Fault {
@@ -94,8 +96,16 @@ struct Refusal {
     kind: u32,
 }
 
+#[repr(C)]
+#[derive(Default)]
+struct Flaw {
+    low: u64,
+    high: u64,
+    kind: u32,
+}
+
 mod c {
-    use super::{Channel, Hit, Point, Received, Refusal};
+    use super::{Channel, Flaw, Hit, Point, Received, Refusal};
 
     extern "C" {
         pub fn mizgaure_version() -> u32;
@@ -110,6 +120,17 @@ mod c {
         pub fn mizgaure_transmit(
             bandwidth: u8, mcs: u8, seed: u8, octets: *const u8, n: usize, points: *mut Point, points_n: usize,
         ) -> u32;
+        pub fn mizgaure_certify_job(
+            bandwidth: u8, mcs: u8, channel: *const Channel, received: *const Received, found: *mut Hit, marks: *mut bool,
+            marks_n: usize, size: *mut u64,
+        ) -> u32;
+        pub fn mizgaure_check_job(
+            bandwidth: u8, mcs: u8, channel: *const Channel, received: *const Received, hit: *const Hit, marks: *const bool,
+            marks_n: usize, flaw: *mut Flaw,
+        ) -> u32;
+        pub fn mizgaure_legacy_decode_frame(
+            rate: u8, labels: *const u8, n: usize, octets: *mut u8, octets_n: usize, differences: *mut u32,
+        ) -> u32;
         pub fn mizgaure_rx(capture: *const u8, n: usize, text: *mut u8, text_n: usize, size: *mut u64, refusal: *mut Refusal) -> u32;
     }
 }
@@ -117,6 +138,8 @@ mod c {
 const NO_ROOM: u32 = 7;
 
 const REFUSED: u32 = 8;
+
+const NOT_CERTIFIED: u32 = 12;
 
 fn done(answer: u32) -> Result<(), Fault> {
     Err(match answer {
@@ -134,7 +157,7 @@ fn done(answer: u32) -> Result<(), Fault> {
     })
 }
 
-/// The version of the library's calls; those below are of version 1.
+/// The version of the library's calls; those below are of version 2.
 pub fn version() -> u32 {
     // SAFETY: the call takes nothing.
     unsafe { c::mizgaure_version() }
@@ -208,4 +231,53 @@ pub fn rx(capture: &[u8]) -> Result<Vec<u8>, Fault> {
             }
         }
     }
+}
+
+/// The certificate of a data subcarrier: its hit, and the marks that show that no vector is nearer, `true` where a level is open.
+pub fn certify_job(rate: Rate, channel: &Channel, received: &Received) -> Result<(Hit, Vec<bool>), Fault> {
+    let (mut hit, mut marks) = (Hit::default(), vec![false; 256]);
+    loop {
+        let mut size = 0;
+        // SAFETY: as above.
+        let answer = unsafe {
+            c::mizgaure_certify_job(
+                rate.bandwidth, rate.mcs, channel, received, &mut hit, marks.as_mut_ptr(), marks.len(), &mut size,
+            )
+        };
+        if answer == NO_ROOM {
+            marks.resize(size as usize, false);
+            continue;
+        }
+        done(answer)?;
+        marks.truncate(size as usize);
+        return Ok((hit, marks));
+    }
+}
+
+/// Checks a certificate, whoever made it.
+pub fn check_job(rate: Rate, channel: &Channel, received: &Received, hit: &Hit, marks: &[bool]) -> Result<(), Fault> {
+    let mut flaw = Flaw::default();
+    // SAFETY: as above.
+    let answer = unsafe {
+        c::mizgaure_check_job(rate.bandwidth, rate.mcs, channel, received, hit, marks.as_ptr(), marks.len(), &mut flaw)
+    };
+    match answer {
+        NOT_CERTIFIED => {
+            Err(Fault::NotCertified { kind: flaw.kind, at: u128::from(flaw.low) | u128::from(flaw.high) << 64 })
+        }
+        _ => done(answer),
+    }
+}
+
+/// Decodes the labels of a clause 18 frame into as many octets as there is room for, and answers at how many places the coded bits
+/// differ. Rates are 0 to 7, for 6 to 54 Mbit/s.
+pub fn legacy_decode_frame(rate: u8, labels: &[u8], octets: &mut [u8]) -> Result<u32, Fault> {
+    let mut differences = 0;
+    // SAFETY: as above.
+    done(unsafe {
+        c::mizgaure_legacy_decode_frame(
+            rate, labels.as_ptr(), labels.len(), octets.as_mut_ptr(), octets.len(), &mut differences,
+        )
+    })?;
+    Ok(differences)
 }

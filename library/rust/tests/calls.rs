@@ -3,7 +3,7 @@ use mizgaure::*;
 
 #[test]
 fn calls() {
-    assert_eq!(version(), 1);
+    assert_eq!(version(), 2);
     let mut bits = [false; 127];
     scramble(127, &mut bits).unwrap();
     assert_eq!(bits[..8], [false, false, false, false, true, true, true, false]); // clause 18.3.5.5
@@ -34,4 +34,18 @@ fn faults() {
     assert_eq!(transmit(rate, 1, &[1], &mut []), Err(Fault::NoRate));
     assert_eq!(nearest(rate, &Channel::default(), &Received::default()), Err(Fault::NoRate));
     assert_eq!(rx(b"HT"), Err(Fault::Refused { kind: 6, offset: 2 }));
+}
+
+#[test]
+fn certificates() {
+    let rate = Rate { bandwidth: 0, mcs: 0 };
+    let channel = Channel { diagonal: [10, 0, 0, 0], ..Channel::default() };
+    let mut received = Received::default();
+    received.samples[0] = Sample { re: 3, im: -4 };
+    let (mut hit, marks) = certify_job(rate, &channel, &received).unwrap();
+    assert_eq!((hit.distance(), &marks[..]), (65, &[true, false, true][..]));
+    assert_eq!(check_job(rate, &channel, &received, &hit, &marks), Ok(()));
+    hit.low = 64;
+    assert_eq!(check_job(rate, &channel, &received, &hit, &marks), Err(Fault::NotCertified { kind: 2, at: 65 }));
+    assert_eq!(legacy_decode_frame(0, &[0; 96], &mut [0]), Err(Fault::NoSeed));
 }
